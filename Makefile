@@ -1,0 +1,37 @@
+# Builds, runs, tests and installs rds. Everything goes through the Rattle toolchain's command `rt`, which proves a
+# crate before it builds it.
+RT     ?= rt
+PREFIX ?= /usr/local
+
+SOURCES := crates.txt $(shell find crates -name out -prune -o \( -name '*.rt' -o -name '*.antt' \) -print)
+
+.PHONY: all run test install clean toolchain
+all: build/rds
+
+toolchain:
+	@command -v $(RT) >/dev/null || { \
+	  echo "rds: the Rattle toolchain is missing: there is no '$(RT)' on the PATH (README.md, 'What you need')" >&2; exit 1; }
+
+# A build proves what is missing, runs the program's stored run and keeps the program.
+build/rds: $(SOURCES) | toolchain
+	cd crates/rds && $(RT) run
+	@mkdir -p build
+	cp crates/rds/out/rds $@
+
+run: build/rds
+	@echo "The first rows of the sample recording:"
+	@build/rds list < examples/station.bin | sed -n '1,10p'
+	@echo "Its totals:"
+	@build/rds totals < examples/station.bin
+
+test: toolchain
+	$(RT) ci
+	tests/program.sh crates/rds/out/rds
+
+install: build/rds
+	install -d $(DESTDIR)$(PREFIX)/bin
+	install -m 755 build/rds $(DESTDIR)$(PREFIX)/bin/rds
+
+clean:
+	rm -rf build
+	find crates -name out -prune -exec rm -rf {} +
