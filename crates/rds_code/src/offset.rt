@@ -1,0 +1,75 @@
+ghost use Rattle.std.specs.Prelude.{◌≡◌};
+ghost use Rattle.rds_code.specs.Offsets.{offset_of as the_offset_of};
+
+/// The offset word that was added to a block's checkword, which tells the blocks of a group apart.
+///
+/// EN 50067:1998, section 2.3 and Annex A. `Cx` stands for C'.
+#[derive(Clone, Copy, Debug, PartialEq, Eq, Hash)]
+pub enum Offset {
+    /// Block 1.
+    A,
+    /// Block 2.
+    B,
+    /// Block 3 of a group of version A.
+    C,
+    /// Block 3 of a group of version B: C'.
+    Cx,
+    /// Block 4.
+    D,
+}
+
+impl Offset {
+    ghost use Rattle.rds_code.specs.Offsets.{word, number, name};
+
+    /// The ten bits that are added to the checkword.
+    pub fn word(self) -> u16
+        ensures { result ≡ word self }
+    {
+        match self {
+            Offset::A => 0x0FC,
+            Offset::B => 0x198,
+            Offset::C => 0x168,
+            Offset::Cx => 0x350,
+            Offset::D => 0x1B4,
+        }
+    }
+
+    /// The number of the block in its group, 1 to 4.
+    pub fn number(self) -> u8
+        ensures { result ≡ number self }
+    {
+        match self {
+            Offset::A => 1,
+            Offset::B => 2,
+            Offset::C | Offset::Cx => 3,
+            Offset::D => 4,
+        }
+    }
+
+    /// The offset as this project prints it: `A`, `B`, `C`, `Cx` or `D`.
+    pub fn name(self) -> &'static str
+        ensures { result.now ≡ name self }
+    {
+        match self {
+            Offset::A => "A",
+            Offset::B => "B",
+            Offset::C => "C",
+            Offset::Cx => "Cx",
+            Offset::D => "D",
+        }
+    }
+}
+
+/// The offset whose word is `remainder`, or none.
+pub fn offset_of(remainder: u16) -> Option<Offset>
+    ensures { result ≡ the_offset_of remainder }
+{
+    match remainder {
+        0x0FC => Some(Offset::A),
+        0x198 => Some(Offset::B),
+        0x168 => Some(Offset::C),
+        0x350 => Some(Offset::Cx),
+        0x1B4 => Some(Offset::D),
+        _ => None,
+    }
+}

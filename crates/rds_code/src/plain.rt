@@ -1,0 +1,19 @@
+//! The remainder bit by bit, as it is defined: what `rem26` is compared with.
+ghost use Rattle.std.specs.Prelude.{◌≡◌, ◌^◌, ◌<◌};
+ghost use Rattle.rds_code.specs.Remainder.{rem, IsRemainder};
+
+/// The remainder of the block `w` by the generator, by long division.
+pub fn rem26(w: u32) -> u16
+    requires { w < 2 ^ 26 }
+    ensures value { result ≡ rem w }
+    ensures remainder { IsRemainder w result }
+{
+    let mut left = w;
+    for done in 0..16u32 {
+        let shift = 15 - done;
+        if (left >> (shift + 10)) & 1 == 1 {
+            left ^= 0x5B9 << shift;
+        }
+    }
+    left as u16
+}

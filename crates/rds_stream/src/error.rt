@@ -1,0 +1,62 @@
+// Why a call of this crate refuses.
+ghost use Rattle.std.specs.Prelude.{◌≡◌};
+ghost use Rattle.rds_stream.specs.declared.error.StreamError.TheVariants.{OutOfMemory};
+
+use std::alloc::{AllocError, AllocFailed};
+use thiserror::Error;
+
+/// A refusal, by the number and name that all crates of the project share.
+#[derive(Clone, Copy, Debug, PartialEq, Eq, Error)]
+pub enum StreamError {
+    /// More bits were claimed than the bytes hold.
+    #[error("more bits than the bytes hold")]
+    BitsPastBytes,
+    /// A recording holds at most 2^36 bits.
+    #[error("more than 2^36 bits")]
+    TooLong,
+    /// The system refused memory.
+    #[error("out of memory")]
+    OutOfMemory,
+}
+
+impl StreamError {
+    ghost use Rattle.rds_stream.specs.StreamError.{number as number_of, name as name_of};
+
+    /// 4, 5 or 8.
+    pub fn number(self) -> u8
+        ensures { result ≡ number_of self }
+    {
+        match self {
+            StreamError::BitsPastBytes => 4,
+            StreamError::TooLong => 5,
+            StreamError::OutOfMemory => 8,
+        }
+    }
+
+    /// The variant's name.
+    pub fn name(self) -> &'static str
+        ensures { result.now ≡ name_of self }
+    {
+        match self {
+            StreamError::BitsPastBytes => "BitsPastBytes",
+            StreamError::TooLong => "TooLong",
+            StreamError::OutOfMemory => "OutOfMemory",
+        }
+    }
+}
+
+impl From<AllocError> for StreamError {
+    ghost from_gives = { λ _ e. e ≡ OutOfMemory };
+
+    fn from(_e: AllocError) -> StreamError {
+        StreamError::OutOfMemory
+    }
+}
+
+impl<T: Drop> From<AllocFailed<T>> for StreamError {
+    ghost from_gives = { λ _ e. e ≡ OutOfMemory };
+
+    fn from(_e: AllocFailed<T>) -> StreamError {
+        StreamError::OutOfMemory
+    }
+}

@@ -1,0 +1,88 @@
+// A recording: packed bits with places.
+ghost use Rattle.std.specs.Prelude.{◌≡◌, List, ℕ, ◌+◌, ◌*◌, ◌^◌, ◌<◌, ◌≤◌, ◌↔◌, vec_len, length, slice_index, if◌then◌else◌, IfOk, IsOk};
+ghost use Rattle.rds_stream.specs.declared.error.StreamError.TheVariants.{TooLong, BitsPastBytes};
+ghost use Rattle.rds_stream.specs.Recording.{bits_of, window};
+
+use crate::error::StreamError;
+use std::marker::Model;
+
+/// The most bits that a recording may hold.
+const MOST_BITS: u64 = 1 << 36;
+
+/// The lowest 26 places of a number.
+const BLOCK: u64 = (1 << 26) - 1;
+
+/// Demodulated bits with their places from 0 on. Contracts see the list of the bits, each 0 or 1.
+///
+/// A recording never changes, and threads may share it.
+#[derive(Drop)]
+pub struct Recording {
+    bytes: Vec<u8>,
+    bits: u64,
+}
+
+impl Model for Recording {
+    ghost Value = { List ℕ };
+
+    ghost view = { λ r. bits_of r.bytes.items r.bits };
+
+    ghost invariant = { λ r. (r.bits ≤ 2 ^ 36) × (r.bits ≤ 8 * vec_len r.bytes) };
+}
+
+impl Recording {
+    /// The first `bits` bits of the bytes, the highest bit of a byte first. Bits past them are no part of the recording.
+    ///
+    /// Refuses more than 2^36 bits, and then more than the bytes hold; the bytes come back as they were. Takes no memory.
+    pub fn from_bytes(bytes: Vec<u8>, bits: u64) -> Result<Recording, (StreamError, Vec<u8>)>
+        ensures held { IfOk result (λ recording. recording ≡ bits_of bytes.items bits) }
+        ensures taken { IsOk result ↔ ((bits ≤ 2 ^ 36) × (bits ≤ 8 * vec_len bytes)) }
+
+        // What is too long is refused as such, whether or not the bytes hold it.
+        ensures too_long { (result ≡ Err (TooLong, bytes)) ↔ (2 ^ 36 < bits) }
+        ensures past_bytes { (result ≡ Err (BitsPastBytes, bytes)) ↔ ((bits ≤ 2 ^ 36) × (8 * vec_len bytes < bits)) }
+    {
+        if bits > MOST_BITS {
+            return Err((StreamError::TooLong, bytes));
+        }
+        if bits.div_ceil(8) > bytes.len() as u64 {
+            return Err((StreamError::BitsPastBytes, bytes));
+        }
+        Ok(Recording { bytes, bits })
+    }
+
+    /// The number of bits, at most 2^36.
+    pub fn len(&self) -> u64
+        ensures value { result ≡ length self.now }
+        ensures limit { result ≤ 2 ^ 36 }
+    {
+        self.bits
+    }
+
+    /// Whether the bit at place `i` is a one.
+    pub fn bit(&self, i: u64) -> bool
+        requires { i < length self.now }
+        ensures { slice_index self.now i ≡ (if result then 1 else 0) }
+    {
+        self.bytes[(i / 8) as usize] >> (7 - i % 8) & 1 == 1
+    }
+
+    /// The 26 bits that end at place `i`, the first one highest.
+    pub fn window(&self, i: u64) -> u32
+        requires first { 25 ≤ i }
+        requires last { i < length self.now }
+        ensures value { result ≡ window self.now i }
+        ensures block { result < 2 ^ 26 }
+    {
+        let last = (i / 8) as usize;
+        let bytes = self.bytes.as_slice();
+        let four = [
+            bytes[last - 3],
+            bytes[last - 2],
+            bytes[last - 1],
+            bytes[last],
+        ];
+        let before = if i % 8 == 0 { bytes[last - 4] } else { 0 };
+        let places = (before as u64) << 32 | u32::from_be_bytes(four) as u64;
+        (places >> (7 - i % 8) & BLOCK) as u32
+    }
+}

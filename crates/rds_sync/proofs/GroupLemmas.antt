@@ -1,0 +1,284 @@
+-- What a group says, read off its blocks.
+use Rattle.std.proofs.Common.{◌≡◌, ◌≢◌, ℕ, zero, suc, ◌+◌, ◌-◌, ◌*◌, ◌<◌, ◌≤◌, ◌⊎◌, List, [], ◌∷◌, ◌++◌, length, Bool, true, false, Option, Some, None, refl, sym, ap, ◌∙◌, subst, arith, eqb, inl, inr, ⊎_elim}
+use Rattle.std.proofs.lemmas.Bool.{le-leb, lt-leb, cases_Bool, cases_lt, eqb-true}
+use Rattle.std.specs.Prelude.{◌==◌, ◌&&◌, ◌↔◌, nat_le, IsTrue, is_some, slice_get, option_map}
+use Rattle.rds_code.specs.declared.offset.Offset.{Offset}
+use Rattle.rds_code.specs.declared.offset.Offset.TheVariants.{A as OA, B as OB, C, Cx, D}
+use Rattle.rds_code.specs.declared.reading.Wanted.{Wanted}
+use Rattle.rds_code.specs.declared.reading.Wanted.TheVariants.{OnlyC, OnlyCx, Either}
+use Rattle.rds_code.specs.declared.reading.Reading.{Reading}
+use Rattle.rds_code.specs.declared.reading.Reading.TheVariants.{Valid, Corrected, Lost}
+use Rattle.rds_code.specs.Offsets.{number, offset_of}
+use Rattle.rds_code.specs.Reading.{reading, corrected, by_only, corrections, wanted_offsets, information}
+use Rattle.rds_code.specs.Remainder.{rem}
+use Rattle.rds_stream.specs.Recording.{window}
+use Rattle.rds_sync.specs.declared.Version.{Version}
+use Rattle.rds_sync.specs.declared.Version.TheVariants.{A, B, Unknown}
+use Rattle.rds_sync.specs.declared.Block.{Block}
+use Rattle.rds_sync.specs.declared.Block.TheVariants.{Missing, Read}
+use Rattle.rds_sync.specs.declared.Group.{Group}
+use Rattle.rds_sync.specs.Rules.{RuleNumbers}
+use Rattle.rds_sync.specs.Groups.{info_of, type_in, version_of_bit, version_of_offset, version_by_bit, first_known, version, differ, in_conflict, are_complete, wanted_beside, block_at, group_of, group}
+use Rattle.rds_sync.specs.GroupLaws.{IsBlock, BlocksAreRead, VersionIsRead, VersionsDiffer, GroupIsRead}
+
+-- which of C and C' is wanted matters for block 3 alone
+pub reading-wanted_1 : (w limit : ℕ) (wanted : Wanted) → reading w 1 Either limit ≡ reading w 1 wanted limit
+reading-wanted_1 w limit OnlyC = refl
+reading-wanted_1 w limit OnlyCx = refl
+reading-wanted_1 w limit Either = refl
+
+pub reading-wanted_2 : (w limit : ℕ) (wanted : Wanted) → reading w 2 Either limit ≡ reading w 2 wanted limit
+reading-wanted_2 w limit OnlyC = refl
+reading-wanted_2 w limit OnlyCx = refl
+reading-wanted_2 w limit Either = refl
+
+pub reading-wanted_4 : (w limit : ℕ) (wanted : Wanted) → reading w 4 Either limit ≡ reading w 4 wanted limit
+reading-wanted_4 w limit OnlyC = refl
+reading-wanted_4 w limit OnlyCx = refl
+reading-wanted_4 w limit Either = refl
+
+-- a block that was corrected is not valid
+by_only-valid : (w : ℕ) (pairs : List (Offset × ℕ)) (o : Offset) (info : ℕ) → by_only w pairs ≢ Valid o info
+by_only-valid w [] o info e = cc e
+by_only-valid w (pair ∷ []) o info e = cc e
+by_only-valid w (pair ∷ other ∷ pairs) o info e = cc e
+
+-- a valid block has the number that it is read as
+pub reading-number : (w x limit : ℕ) (wanted : Wanted) (o : Offset) (info : ℕ) → reading w x wanted limit ≡ Valid o info → number o ≡ x
+reading-number w x limit wanted o info e = at_case (offset_of (rem w)) e where
+  at_case : (r : Option Offset)
+      → elim r as (λ _. Reading) [
+          None ↦ corrected w x wanted limit
+        | Some q ↦ elim (number q == x) as (λ _. Reading) [ true ↦ Valid q (information w) | false ↦ corrected w x wanted limit ]
+        ] ≡ Valid o info → number o ≡ x
+  at_case None t = absurd (by_only-valid w (corrections (wanted_offsets x wanted) limit w) o info t)
+  at_case (Some q) t = elim (cases_Bool (number q == x)) [
+      inl same ↦
+      let valid : Valid q (information w) ≡ Valid o info = rw same at t in
+      let q_is : q ≡ o = cc valid in
+      ap number (sym q_is) ∙ eqb-true (number q) x same
+    | inr other ↦
+      let not_valid : corrected w x wanted limit ≡ Valid o info = rw other at t in
+      absurd (by_only-valid w (corrections (wanted_offsets x wanted) limit w) o info not_valid)
+    ]
+
+number_3 : (o : Offset) → number o ≡ 3 → (o ≡ C) ⊎ (o ≡ Cx)
+number_3 OA e = absurd (omega arith)
+number_3 OB e = absurd (omega arith)
+number_3 C e = inl refl
+number_3 Cx e = inr refl
+number_3 D e = absurd (omega arith)
+
+-- versions
+
+bit_says : (second : Block) (word : ℕ) → info_of second ≡ Some word → version_by_bit second ≡ version_of_bit word
+bit_says second word e = ap (λ (o : Option ℕ). elim o as (λ _. Version) [ None ↦ Unknown | Some info ↦ version_of_bit info ]) e
+
+bit_unknown : (second : Block) → info_of second ≡ None → version_by_bit second ≡ Unknown
+bit_unknown second e = ap (λ (o : Option ℕ). elim o as (λ _. Version) [ None ↦ Unknown | Some info ↦ version_of_bit info ]) e
+
+bit_known : (word : ℕ) → (version_of_bit word ≡ A) ⊎ (version_of_bit word ≡ B)
+bit_known word = grind arith
+
+offset_known : (o : Offset) → (o ≡ C) ⊎ (o ≡ Cx) → (version_of_offset o ≡ A) ⊎ (version_of_offset o ≡ B)
+offset_known o (inl c) = inl (ap version_of_offset c)
+offset_known o (inr c) = inr (ap version_of_offset c)
+
+keeps_known : (v w : Version) → (v ≡ A) ⊎ (v ≡ B) → first_known v w ≡ v
+keeps_known v w (inl e) = ap (λ (u : Version). first_known u w) e ∙ sym e
+keeps_known v w (inr e) = ap (λ (u : Version). first_known u w) e ∙ sym e
+
+by_bit : (second third : Block) → ((o : Offset) (info : ℕ) → third ≢ Read (Valid o info)) → (word : ℕ) → info_of second ≡ Some word
+    → version second third ≡ version_of_bit word
+by_bit second Missing not_valid word e = bit_says second word e
+by_bit second (Read (Valid o info)) not_valid word e = absurd (not_valid o info refl)
+by_bit second (Read (Corrected o info burst)) not_valid word e =
+    ap (λ (v : Version). first_known v (version_of_offset o)) (bit_says second word e) ∙ keeps_known (version_of_bit word) (version_of_offset o) (bit_known word)
+by_bit second (Read Lost) not_valid word e = bit_says second word e
+
+by_nothing : (second third : Block) → info_of second ≡ None → info_of third ≡ None → version second third ≡ Unknown
+by_nothing second Missing e t = bit_unknown second e
+by_nothing second (Read (Valid o info)) e t = cc t
+by_nothing second (Read (Corrected o info burst)) e t = cc t
+by_nothing second (Read Lost) e t = bit_unknown second e
+
+by_correction : (second third : Block) (o : Offset) (info burst : ℕ) → info_of second ≡ None → third ≡ Read (Corrected o info burst)
+    → version second third ≡ version_of_offset o
+by_correction second third o info burst e t =
+    ap (version second) t ∙ ap (λ (v : Version). first_known v (version_of_offset o)) (bit_unknown second e)
+
+version_is_read : (second third : Block) → ((o : Offset) (info : ℕ) → third ≡ Read (Valid o info) → number o ≡ 3) → VersionIsRead (version second third) second third
+version_is_read second third only = record {
+    valid_c = λ info e. ap (version second) e;
+    valid_cx = λ info e. ap (version second) e;
+    no_other = λ o info e. number_3 o (only o info e);
+    by_bit = by_bit second third;
+    corrected_c = λ none info burst e. by_correction second third C info burst none e;
+    corrected_cx = λ none info burst e. by_correction second third Cx info burst none e;
+    unknown = by_nothing second third;
+  }
+
+-- conflicts
+
+differ_unknown : (v : Version) → differ Unknown v ≡ false
+differ_unknown A = refl
+differ_unknown B = refl
+differ_unknown Unknown = refl
+
+differ_same : (v w : Version) → differ v w ≡ true → w ≢ v
+differ_same A A t e = cc
+differ_same A B t e = cc
+differ_same A Unknown t e = cc
+differ_same B A t e = cc
+differ_same B B t e = cc
+differ_same B Unknown t e = cc
+differ_same Unknown A t e = cc
+differ_same Unknown B t e = cc
+differ_same Unknown Unknown t e = cc
+
+differ_known : (v w : Version) → (v ≡ A) ⊎ (v ≡ B) → (w ≡ A) ⊎ (w ≡ B) → w ≢ v → differ v w ≡ true
+differ_known v w (inl a) (inl b) ne = absurd (ne (b ∙ sym a))
+differ_known v w (inl a) (inr b) ne = rw (a, b) refl
+differ_known v w (inr a) (inl b) ne = rw (a, b) refl
+differ_known v w (inr a) (inr b) ne = absurd (ne (b ∙ sym a))
+
+conflict_says : (second third : Block) → in_conflict second third ≡ true → VersionsDiffer second third
+conflict_says second Missing t = cc t
+conflict_says second (Read Lost) t = cc t
+conflict_says second (Read (Corrected o info burst)) t = cc t
+conflict_says second (Read (Valid o info)) t = at_case (info_of second) refl where
+  at_case : (w : Option ℕ) → info_of second ≡ w → VersionsDiffer second (Read (Valid o info))
+  at_case None e =
+      let none : differ Unknown (version_of_offset o) ≡ true = ap (λ (v : Version). differ v (version_of_offset o)) (sym (bit_unknown second e)) ∙ t in
+      cc (none, differ_unknown (version_of_offset o))
+  at_case (Some word) e =
+      (o, info, word, refl, e,
+        differ_same (version_of_bit word) (version_of_offset o) (ap (λ (v : Version). differ v (version_of_offset o)) (sym (bit_says second word e)) ∙ t))
+
+says_conflict : (second third : Block) → ((o : Offset) (info : ℕ) → third ≡ Read (Valid o info) → number o ≡ 3) → VersionsDiffer second third → in_conflict second third ≡ true
+says_conflict second third only h =
+    ap (in_conflict second) h.3
+    ∙ ap (λ (v : Version). differ v (version_of_offset h.0)) (bit_says second h.2 h.4)
+    ∙ differ_known (version_of_bit h.2) (version_of_offset h.0) (bit_known h.2) (offset_known h.0 (number_3 h.0 (only h.0 h.1 h.3))) h.5
+
+-- complete groups
+
+and_left : (p q : Bool) → (p && q) ≡ true → p ≡ true
+and_left true q e = refl
+and_left false q e = cc e
+
+and_right : (p q : Bool) → (p && q) ≡ true → q ≡ true
+and_right true q e = e
+and_right false q e = cc e
+
+some_of : (o : Option ℕ) → is_some o ≡ true → (word : ℕ) × (o ≡ Some word)
+some_of None e = cc e
+some_of (Some word) e = (word, refl)
+
+module _ (one two three four : Block) where
+  abbrev blocks : List Block
+  blocks = one ∷ two ∷ three ∷ four ∷ []
+
+  abbrev known : Block → Bool
+  known block = is_some (info_of block)
+
+  complete_says : are_complete blocks ≡ true
+      → (y : ℕ) → 1 ≤ y → y ≤ 4 → (block : Block) × (word : ℕ) × (slice_get blocks (y - 1) ≡ Some block) × (info_of block ≡ Some word)
+  complete_says t zero l h = absurd (omega arith)
+  complete_says t (suc zero) l h = let s = some_of (info_of one) (and_left (known one) _ t) in (one, s.0, refl, s.1)
+  complete_says t (suc (suc zero)) l h = let s = some_of (info_of two) (and_left (known two) _ (and_right (known one) _ t)) in (two, s.0, refl, s.1)
+  complete_says t (suc (suc (suc zero))) l h =
+      let s = some_of (info_of three) (and_left (known three) _ (and_right (known two) _ (and_right (known one) _ t))) in (three, s.0, refl, s.1)
+  complete_says t (suc (suc (suc (suc zero)))) l h =
+      let s = some_of (info_of four) (and_left (known four) _ (and_right (known three) _ (and_right (known two) _ (and_right (known one) _ t)))) in (four, s.0, refl, s.1)
+  complete_says t (suc (suc (suc (suc (suc y))))) l h = absurd (omega arith)
+
+  is_known : (y : ℕ) (block : Block) → slice_get blocks (y - 1) ≡ Some block
+      → ((block : Block) × (word : ℕ) × (slice_get blocks (y - 1) ≡ Some block) × (info_of block ≡ Some word)) → known block ≡ true
+  is_known y block e h =
+      let same : Some h.0 ≡ Some block = sym h.2 ∙ e in
+      let block_is : h.0 ≡ block = cc same in
+      ap known (sym block_is) ∙ ap is_some h.3
+
+  says_complete : ((y : ℕ) → 1 ≤ y → y ≤ 4 → (block : Block) × (word : ℕ) × (slice_get blocks (y - 1) ≡ Some block) × (info_of block ≡ Some word))
+      → are_complete blocks ≡ true
+  says_complete h =
+      let k1 = is_known 1 one refl (h 1 (omega arith) (omega arith)) in
+      let k2 = is_known 2 two refl (h 2 (omega arith) (omega arith)) in
+      let k3 = is_known 3 three refl (h 3 (omega arith) (omega arith)) in
+      let k4 = is_known 4 four refl (h 4 (omega arith) (omega arith)) in
+      rw (k1, k2, k3, k4) refl
+
+-- blocks
+
+and_false : (p : Bool) → (p && false) ≡ false
+and_false true = refl
+and_false false = refl
+
+module _ (b : List ℕ) (rules : RuleNumbers) (f x p : ℕ) where
+  pub block_at-read : (wanted : Wanted) (y : ℕ) → f ≤ y → y ≤ x
+      → block_at b rules f x p wanted y ≡ Read (reading (window b (p - 26 * (x - y))) y wanted rules.burst)
+  block_at-read wanted y low high = rw (le-leb f y low, le-leb y x high) refl
+
+  pub block_at-missing : (wanted : Wanted) (y : ℕ) → (y < f) ⊎ (x < y) → block_at b rules f x p wanted y ≡ Missing
+  block_at-missing wanted y (inl early) = rw (lt-leb f y early) refl
+  block_at-missing wanted y (inr late) = rw (lt-leb y x late, and_false (nat_le f y)) refl
+
+  abbrev second : Block
+  second = block_at b rules f x p Either 2
+
+  abbrev third : Block
+  third = block_at b rules f x p (wanted_beside second) 3
+
+  abbrev the_group : Group
+  the_group = group_of (p - 26 * (x - f) - 25) (block_at b rules f x p Either 1) second third (block_at b rules f x p Either 4)
+
+  -- block 3 was read as number 3
+  third_number : (o : Offset) (info : ℕ) → third ≡ Read (Valid o info) → number o ≡ 3
+  third_number o info e = elim (cases_lt 3 f) [
+      inl early ↦ let none : Missing ≡ Read (Valid o info) = sym (block_at-missing (wanted_beside second) 3 (inl early)) ∙ e in cc none
+    | inr after ↦ elim (cases_lt x 3) [
+        inl late ↦ let none : Missing ≡ Read (Valid o info) = sym (block_at-missing (wanted_beside second) 3 (inr late)) ∙ e in cc none
+      | inr before ↦
+        let is : Read (reading (window b (p - 26 * (x - 3))) 3 (wanted_beside second) rules.burst) ≡ Read (Valid o info) =
+          sym (block_at-read (wanted_beside second) 3 after before) ∙ e in
+        reading-number (window b (p - 26 * (x - 3))) 3 rules.burst (wanted_beside second) o info (cc is)
+      ]
+    ]
+
+  read_as : 1 ≤ f → x ≤ 4 → (y : ℕ) → f ≤ y → y ≤ x
+      → slice_get the_group.blocks (y - 1) ≡ Some (Read (reading (window b (p - 26 * (x - y))) y (wanted_beside second) rules.burst))
+  read_as low high zero after before = absurd (omega arith)
+  read_as low high (suc zero) after before = ap Some (block_at-read Either 1 after before ∙ ap Read (reading-wanted_1 _ rules.burst (wanted_beside second)))
+  read_as low high (suc (suc zero)) after before = ap Some (block_at-read Either 2 after before ∙ ap Read (reading-wanted_2 _ rules.burst (wanted_beside second)))
+  read_as low high (suc (suc (suc zero))) after before = ap Some (block_at-read (wanted_beside second) 3 after before)
+  read_as low high (suc (suc (suc (suc zero)))) after before = ap Some (block_at-read Either 4 after before ∙ ap Read (reading-wanted_4 _ rules.burst (wanted_beside second)))
+  read_as low high (suc (suc (suc (suc (suc y))))) after before = absurd (omega arith)
+
+  is_missing : (y : ℕ) → 1 ≤ y → y ≤ 4 → (y < f) ⊎ (x < y) → slice_get the_group.blocks (y - 1) ≡ Some Missing
+  is_missing zero low high out = absurd (omega arith)
+  is_missing (suc zero) low high out = ap Some (block_at-missing Either 1 out)
+  is_missing (suc (suc zero)) low high out = ap Some (block_at-missing Either 2 out)
+  is_missing (suc (suc (suc zero))) low high out = ap Some (block_at-missing (wanted_beside second) 3 out)
+  is_missing (suc (suc (suc (suc zero)))) low high out = ap Some (block_at-missing Either 4 out)
+  is_missing (suc (suc (suc (suc (suc y))))) low high out = absurd (omega arith)
+
+  pub group-is_read : 1 ≤ f → f ≤ x → x ≤ 4 → 26 * (x - f) + 25 ≤ p → GroupIsRead b rules f x p (group b rules f x p)
+  unfolding group
+  group-is_read low order high room = record {
+      second = second;
+      third = third;
+      is_second = refl;
+      is_third = refl;
+      blocks = record {
+        four = refl;
+        begins = omega arith;
+        read = read_as low high;
+        missing = is_missing;
+      };
+      kind = refl;
+      version = version_is_read second third third_number;
+      conflict = (conflict_says second third, says_conflict second third third_number);
+      complete = (complete_says (block_at b rules f x p Either 1) second third (block_at b rules f x p Either 4),
+        says_complete (block_at b rules f x p Either 1) second third (block_at b rules f x p Either 4));
+    }

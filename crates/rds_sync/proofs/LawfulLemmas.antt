@@ -1,0 +1,206 @@
+-- Where a place acquires, and the states that follow on a lawful one.
+use Rattle.std.proofs.Common.{◌≡◌, ◌≢◌, ℕ, zero, suc, ◌+◌, ◌-◌, ◌*◌, ◌%◌, ◌<◌, ◌≤◌, ◌⊎◌, List, [], ◌∷◌, ◌++◌, Bool, true, false, Option, Some, None, refl, sym, ap, ◌∙◌, subst, arith, eqb, inl, inr, ⊎_elim}
+use Rattle.std.proofs.lemmas.Bool.{ne_eqb, eq-eqb, cases_eq, cases_lt, cases_Bool, eqb-true, lt-ltb, le-ltb}
+use Rattle.std.specs.Prelude.{nat_lt, ◌==◌}
+use Rattle.std.specs.List.{list_any, range_with_len}
+use Rattle.rds_code.specs.declared.offset.Offset.{Offset}
+use Rattle.rds_code.specs.declared.offset.Offset.TheVariants.{A, B, C, Cx, D}
+use Rattle.rds_code.specs.Offsets.{number, offset_of}
+use Rattle.rds_code.specs.Remainder.{rem}
+use Rattle.rds_stream.specs.Recording.{off, window}
+use Rattle.rds_sync.specs.declared.State.{State}
+use Rattle.rds_sync.specs.declared.State.TheVariants.{Searching, Locked}
+use Rattle.rds_sync.specs.declared.Item.{Item}
+use Rattle.rds_sync.specs.declared.Item.TheVariants.{Acquired, Group, LostLock}
+use Rattle.rds_sync.specs.Rules.{RuleNumbers}
+use Rattle.rds_sync.specs.Acquiring.{acquired, has_number, has_partner, with_partner}
+use Rattle.rds_sync.specs.Lawful.{IsLawful, IsLawfulLock, IsBetweenGroups}
+use Rattle.rds_sync.specs.Step.{run, step, items_at, locked_after, bad_after, group_after}
+use Rattle.rds_sync.proofs.RunLemmas.{step-acquiring, step-searching, step-waiting, step-keeping, step-losing, items-acquiring, items-keeping, items-losing}
+
+-- the number of an offset is 1 to 4
+pub number-range : (o : Offset) → (1 ≤ number o) × (number o ≤ 4)
+number-range A = (omega arith, omega arith)
+number-range B = (omega arith, omega arith)
+number-range C = (omega arith, omega arith)
+number-range Cx = (omega arith, omega arith)
+number-range D = (omega arith, omega arith)
+
+module _ (b : List ℕ) where
+  -- no window ends before place 25
+  pub off-place : (i : ℕ) (o : Offset) → off b i ≡ Some o → 25 ≤ i
+  unfolding off
+  off-place i o e = elim (cases_lt i 25) [
+      inl early ↦ let t : None ≡ Some o = rw (lt-ltb i 25 early, off) at e in cc t
+    | inr late ↦ late
+    ]
+
+  -- an offset of number x, as a fact
+  pub has_number-offset : (i x : ℕ) → has_number b i x ≡ true → (o : Offset) × (off b i ≡ Some o) × (number o ≡ x)
+  unfolding has_number
+  has_number-offset i x h = at_case (off b i) refl h where
+    at_case : (w : Option Offset) → off b i ≡ w → elim w as (λ _. Bool) [ None ↦ false | Some o ↦ number o == x ] ≡ true → (o : Offset) × (off b i ≡ Some o) × (number o ≡ x)
+    at_case None e t = cc
+    at_case (Some o) e t = (o, e, eqb-true (number o) x t)
+
+  pub has_number-of : (i : ℕ) (o : Offset) → off b i ≡ Some o → (x : ℕ) → has_number b i x ≡ (number o == x)
+  unfolding has_number
+  has_number-of i o e x = ap (λ (w : Option Offset). elim w as (λ _. Bool) [ None ↦ false | Some o ↦ number o == x ]) e
+
+  pub has_number-none : (i : ℕ) → off b i ≡ None → (x : ℕ) → has_number b i x ≡ false
+  unfolding has_number
+  has_number-none i e x = ap (λ (w : Option Offset). elim w as (λ _. Bool) [ None ↦ false | Some o ↦ number o == x ]) e
+
+  -- a partner, as a fact
+  pub has_partner-offset : (i x k : ℕ) → has_partner b i x k ≡ true → (o : Offset) × (off b (i - 26 * k) ≡ Some o) × ((number o + k) % 4 ≡ x % 4)
+  has_partner-offset i x k h = at_case (off b (i - 26 * k)) refl h where
+    at_case : (w : Option Offset) → off b (i - 26 * k) ≡ w → elim w as (λ _. Bool) [ None ↦ false | Some o ↦ (number o + k) % 4 == x % 4 ] ≡ true
+        → (o : Offset) × (off b (i - 26 * k) ≡ Some o) × ((number o + k) % 4 ≡ x % 4)
+    at_case None e t = cc
+    at_case (Some o) e t = (o, e, eqb-true ((number o + k) % 4) (x % 4) t)
+
+-- a test that some number of a range passes
+pub any-range : (p : ℕ → Bool) (a n : ℕ) → list_any p (range_with_len a n) ≡ true → (k : ℕ) × (a ≤ k) × (k < a + n) × (p k ≡ true)
+any-range p a zero h = cc
+any-range p a (suc n) h = elim (cases_Bool (p a)) [
+    inl here ↦ (a, omega arith, omega arith, here)
+  | inr not_here ↦
+    let later : list_any p (range_with_len (a + 1) n) ≡ true = rw not_here at h in
+    let found = any-range p (a + 1) n later in
+    (found.0, omega (arith, found.1), omega (arith, found.2), found.3)
+  ]
+
+module _ (b : List ℕ) (rules : RuleNumbers) where
+  -- what it is that a place acquires
+  pub record IsAcquired (i x : ℕ) : Type 0 where
+    pub offset : Offset
+    pub here : off b i ≡ Some offset
+    pub number_is : number offset ≡ x
+    pub distance : ℕ
+    pub within_reach : (1 ≤ distance) × (distance ≤ rules.reach)
+    pub partner : has_partner b i x distance ≡ true
+
+  if_partner : (t : Bool) (y x : ℕ) → elim t as (λ _. Option ℕ) [ true ↦ Some y | false ↦ None ] ≡ Some x → (t ≡ true) × (y ≡ x)
+  if_partner true y x e = (refl, cc)
+  if_partner false y x e = cc
+
+  pub acquired-facts : (i x : ℕ) → acquired b rules i ≡ Some x → IsAcquired i x
+  unfolding acquired
+  acquired-facts i x e = at_case (off b i) refl e where
+    at_case : (w : Option Offset) → off b i ≡ w → elim w as (λ _. Option ℕ) [ None ↦ None | Some o ↦ with_partner b rules i (number o) ] ≡ Some x → IsAcquired i x
+    at_case None w t = cc
+    at_case (Some o) w t =
+        let f = if_partner (list_any (has_partner b i (number o)) (range_with_len 1 rules.reach)) (number o) x t in
+        let any = any-range (has_partner b i (number o)) 1 rules.reach f.0 in
+        record { offset = o; here = w; number_is = f.1; distance = any.0; within_reach = (any.1, omega (arith, any.2));
+          partner = subst (λ (y : ℕ). has_partner b i y any.0 ≡ true) f.1 any.3 }
+
+  -- a place acquires with a number from 1 to 4
+  pub acquired-range : (i x : ℕ) → acquired b rules i ≡ Some x → (1 ≤ x) × (x ≤ 4)
+  acquired-range i x e =
+      let f = acquired-facts i x e in
+      let r = number-range f.offset in
+      let n = f.number_is in
+      (omega (arith, r.0, n), omega (arith, r.1, n))
+
+  -- the least place that can acquire is 51
+  pub acquired-place : (i x : ℕ) → acquired b rules i ≡ Some x → 51 ≤ i
+  acquired-place i x e =
+      let f = acquired-facts i x e in
+      let o = has_partner-offset b i x f.distance f.partner in
+      let p : 25 ≤ i - 26 * f.distance = off-place b (i - 26 * f.distance) o.0 o.1 in
+      let w = f.within_reach in
+      omega (arith, p, w)
+
+  -- where the offset at a place is known, acquiring is a matter of its partner
+  pub acquired-none : (i : ℕ) → off b i ≡ None → acquired b rules i ≡ None
+  unfolding acquired
+  acquired-none i e = ap (λ (w : Option Offset). elim w as (λ _. Option ℕ) [ None ↦ None | Some o ↦ with_partner b rules i (number o) ]) e
+
+  pub acquired-some : (i : ℕ) (o : Offset) → off b i ≡ Some o → acquired b rules i ≡ with_partner b rules i (number o)
+  unfolding acquired
+  acquired-some i o e = ap (λ (w : Option Offset). elim w as (λ _. Option ℕ) [ None ↦ None | Some o ↦ with_partner b rules i (number o) ]) e
+
+-- the lock after block x was read at place i, or acquired there
+pub lawful-locked_after : (rules : RuleNumbers) (i x bad first : ℕ) → bad < rules.loss → 26 * (x - first) + 25 ≤ i → 1 ≤ first → first ≤ x → x ≤ 4
+    → IsLawful rules (i + 1) (locked_after i x bad first)
+lawful-locked_after rules i x bad first few enough low order high = elim (cases_eq x 4) [
+    inl four ↦
+    let e : locked_after i x bad first ≡ Locked (i + 26) 1 bad 1 = rw four refl in
+    subst (λ (s : State). IsLawful rules (i + 1) s) (sym e)
+      (record { soon = (omega arith, omega arith); few_bad = few; enough_bits = omega arith; in_order = inl (refl, refl) })
+  | inr less ↦
+    let n : x % 4 + 1 ≡ x + 1 = omega arith in
+    let e : locked_after i x bad first ≡ Locked (i + 26) (x + 1) bad first = rw (ne_eqb x 4 less, n) refl in
+    subst (λ (s : State). IsLawful rules (i + 1) s) (sym e)
+      (record { soon = (omega arith, omega arith); few_bad = few; enough_bits = omega arith; in_order = inr (low, omega arith, omega arith) })
+  ]
+
+-- the numbers of a lawful lock
+pub lawful-numbers : (rules : RuleNumbers) (place due number bad first : ℕ) → IsLawfulLock rules place due number bad first
+    → (1 ≤ first) × (first ≤ number) × (number ≤ 4)
+lawful-numbers rules place due number bad first lawful =
+    ⊎_elim (λ o. (omega (arith, o), omega (arith, o), omega (arith, o))) (λ o. (omega (arith, o), omega (arith, o), omega (arith, o))) lawful.in_order
+
+module _ (b : List ℕ) (rules : RuleNumbers) where
+  -- one bit leads from a lawful state to a lawful state
+  pub lawful-step : 1 ≤ rules.loss → (i : ℕ) (s : State) → IsLawful rules i s → IsLawful rules (i + 1) (step b rules i s)
+  lawful-step loss i Searching lawful = at_case (acquired b rules i) refl where
+    at_case : (w : Option ℕ) → acquired b rules i ≡ w → IsLawful rules (i + 1) (step b rules i Searching)
+    at_case None e = subst (λ (t : State). IsLawful rules (i + 1) t) (sym (step-searching b rules i e)) tt
+    at_case (Some x) e =
+        let r = acquired-range b rules i x e in
+        let p = acquired-place b rules i x e in
+        subst (λ (t : State). IsLawful rules (i + 1) t) (sym (step-acquiring b rules i x e))
+          (lawful-locked_after rules i x 0 x loss (omega arith) (omega (arith, r)) (omega arith) (omega (arith, r)))
+  lawful-step loss i (Locked due number bad first) lawful = elim (cases_eq due i) [
+      inl same ↦
+      let n = lawful-numbers rules i due number bad first lawful in
+      let enough : 26 * (number - first) + 25 ≤ i = omega (arith, lawful.enough_bits) in
+      subst (λ (d : ℕ). IsLawful rules (i + 1) (step b rules i (Locked d number bad first))) (sym same)
+        (elim (cases_lt (bad_after b i number bad) rules.loss) [
+          inl few ↦ subst (λ (t : State). IsLawful rules (i + 1) t) (sym (step-keeping b rules i number bad first few))
+            (lawful-locked_after rules i number (bad_after b i number bad) first few enough n.0 n.1 n.2)
+        | inr many ↦ subst (λ (t : State). IsLawful rules (i + 1) t) (sym (step-losing b rules i number bad first many)) tt
+        ])
+    | inr other ↦
+      let soon = lawful.soon in
+      subst (λ (t : State). IsLawful rules (i + 1) t) (sym (step-waiting b rules due number bad first i other))
+        (record { soon = (omega (arith, soon), omega (arith, soon)); few_bad = lawful.few_bad; enough_bits = lawful.enough_bits; in_order = lawful.in_order })
+    ]
+
+  -- a run leads from a lawful state to a lawful state
+  pub lawful-run : 1 ≤ rules.loss → (s : State) (a n : ℕ) → IsLawful rules a s → IsLawful rules (a + n) (run b rules s a n).0
+  lawful-run loss s a zero lawful = let e : a ≡ a + 0 = omega arith in subst (λ (p : ℕ). IsLawful rules p s) e lawful
+  lawful-run loss s a (suc n) lawful =
+      let e : a + 1 + n ≡ a + suc n = omega arith in
+      subst (λ (p : ℕ). IsLawful rules p (run b rules (step b rules a s) (a + 1) n).0) e
+        (lawful-run loss (step b rules a s) (a + 1) n (lawful-step loss a s lawful))
+
+  pub lawful-run_places : 1 ≤ rules.loss → (s : State) (from to : ℕ) → from ≤ to → IsLawful rules from s → IsLawful rules to (run b rules s from (to - from)).0
+  lawful-run_places loss s from to order lawful =
+      let e : from + (to - from) ≡ to = omega arith in
+      subst (λ (p : ℕ). IsLawful rules p (run b rules s from (to - from)).0) e (lawful-run loss s from (to - from) lawful)
+
+  -- a bit that gives no item and after which no group is in progress leaves the state as it was
+  pub quiet-step : (i : ℕ) (s : State) → IsLawful rules i s → items_at b rules i s ≡ [] → IsBetweenGroups (step b rules i s) → step b rules i s ≡ s
+  quiet-step i Searching lawful none between = at_case (acquired b rules i) refl where
+    at_case : (w : Option ℕ) → acquired b rules i ≡ w → step b rules i Searching ≡ Searching
+    at_case None e = step-searching b rules i e
+    at_case (Some x) e = cc (none, items-acquiring b rules i x e)
+  quiet-step i (Locked due number bad first) lawful none between = elim (cases_eq due i) [
+      inl same ↦ subst (λ (d : ℕ). items_at b rules i (Locked d number bad first) ≡ [] → IsBetweenGroups (step b rules i (Locked d number bad first))
+          → step b rules i (Locked d number bad first) ≡ Locked d number bad first) (sym same)
+        (λ quiet after. elim (cases_lt (bad_after b i number bad) rules.loss) [
+          inl few ↦ absurd (kept few quiet (subst (λ (t : State). IsBetweenGroups t) (step-keeping b rules i number bad first few) after))
+        | inr many ↦ cc (quiet, items-losing b rules i number bad first many)
+        ]) none between
+    | inr other ↦ step-waiting b rules due number bad first i other
+    ] where
+    kept : bad_after b i number bad < rules.loss → items_at b rules i (Locked i number bad first) ≡ [] → IsBetweenGroups (locked_after i number (bad_after b i number bad) first) → ⊥
+    kept few quiet after =
+        let n = lawful-numbers rules i due number bad first lawful in
+        let four : number ≡ 4 = omega (arith, n, after) in
+        let closes : group_after b rules first number i ≡ [] = sym (items-keeping b rules i number bad first few) ∙ quiet in
+        let one : group_after b rules first 4 i ≡ [] = rw four at closes in
+        cc one

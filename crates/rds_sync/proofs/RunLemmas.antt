@@ -1,0 +1,137 @@
+-- Runs: over ranges in a row, while a block is waited for, up to the next block, and through a search.
+use Rattle.std.proofs.Common.{◌≡◌, ◌≢◌, ℕ, zero, suc, ◌+◌, ◌-◌, ◌*◌, ◌%◌, ◌<◌, ◌≤◌, List, [], ◌∷◌, ◌++◌, Bool, true, false, Option, Some, None, refl, sym, ap, ap₂, ◌∙◌, arith, append_assoc, append-nil, add-zero, zero-add, eqb, inl, inr}
+use Rattle.std.proofs.Math.Nat.{suc-add}
+use Rattle.std.proofs.lemmas.Bool.{ne_eqb, eq-eqb, lt-ltb, le-ltb, cases_eq, cases_lt}
+use Rattle.rds_sync.specs.declared.State.{State}
+use Rattle.rds_sync.specs.declared.State.TheVariants.{Searching, Locked}
+use Rattle.rds_sync.specs.declared.Item.{Item}
+use Rattle.rds_sync.specs.declared.Item.TheVariants.{Acquired, Group, LostLock}
+use Rattle.rds_sync.specs.Rules.{RuleNumbers}
+use Rattle.rds_sync.specs.Acquiring.{acquired}
+use Rattle.rds_sync.specs.Groups.{group}
+use Rattle.rds_sync.specs.Step.{run, step, items_at, locked_after, bad_after, group_after}
+
+module _ (b : List ℕ) (rules : RuleNumbers) where
+  -- one bit
+
+  pub step-acquiring : (i x : ℕ) → acquired b rules i ≡ Some x → step b rules i Searching ≡ locked_after i x 0 x
+  step-acquiring i x e = rw (e, step) refl
+
+  pub items-acquiring : (i x : ℕ) → acquired b rules i ≡ Some x → items_at b rules i Searching ≡ Acquired i x ∷ group_after b rules x x i
+  items-acquiring i x e = rw (e, items_at) refl
+
+  pub step-searching : (i : ℕ) → acquired b rules i ≡ None → step b rules i Searching ≡ Searching
+  step-searching i e = rw (e, step) refl
+
+  pub items-searching : (i : ℕ) → acquired b rules i ≡ None → items_at b rules i Searching ≡ []
+  items-searching i e = rw (e, items_at) refl
+
+  pub step-waiting : (due number bad first i : ℕ) → due ≢ i → step b rules i (Locked due number bad first) ≡ Locked due number bad first
+  step-waiting due number bad first i ne = rw (ne_eqb due i ne, step) refl
+
+  pub items-waiting : (due number bad first i : ℕ) → due ≢ i → items_at b rules i (Locked due number bad first) ≡ []
+  items-waiting due number bad first i ne = rw (ne_eqb due i ne, items_at) refl
+
+  pub step-keeping : (i number bad first : ℕ) → bad_after b i number bad < rules.loss
+      → step b rules i (Locked i number bad first) ≡ locked_after i number (bad_after b i number bad) first
+  step-keeping i number bad first h = rw (eq-eqb i i refl, lt-ltb _ _ h, step) refl
+
+  pub items-keeping : (i number bad first : ℕ) → bad_after b i number bad < rules.loss
+      → items_at b rules i (Locked i number bad first) ≡ group_after b rules first number i
+  items-keeping i number bad first h = rw (eq-eqb i i refl, lt-ltb _ _ h, items_at) refl
+
+  pub step-losing : (i number bad first : ℕ) → rules.loss ≤ bad_after b i number bad → step b rules i (Locked i number bad first) ≡ Searching
+  step-losing i number bad first h = rw (eq-eqb i i refl, le-ltb _ _ h, step) refl
+
+  pub items-losing : (i number bad first : ℕ) → rules.loss ≤ bad_after b i number bad
+      → items_at b rules i (Locked i number bad first) ≡ Group (group b rules first number i) ∷ LostLock i ∷ []
+  items-losing i number bad first h = rw (eq-eqb i i refl, le-ltb _ _ h, items_at) refl
+
+  -- the run of one bit
+  pub run-one : (s : State) (a : ℕ) → run b rules s a 1 ≡ (step b rules a s, items_at b rules a s)
+  run-one s a = ap (λ (is : List Item). (step b rules a s, is)) (append-nil (items_at b rules a s))
+
+  -- a run whose first bit leads to state t with the items is
+  pub run-first : (s t : State) (is : List Item) (a n : ℕ) → step b rules a s ≡ t → items_at b rules a s ≡ is
+      → run b rules s a (suc n) ≡ ((run b rules t (a + 1) n).0, is ++ (run b rules t (a + 1) n).1)
+  run-first s t is a n e i = ap₂ (λ (u : State) (js : List Item). ((run b rules u (a + 1) n).0, js ++ (run b rules u (a + 1) n).1)) e i
+
+  -- a run over m bits and then over n
+  pub run_state-append : (s : State) (a m n : ℕ) → (run b rules s a (m + n)).0 ≡ (run b rules (run b rules s a m).0 (a + m) n).0
+  run_state-append s a zero n = rw (add-zero, zero-add) refl
+  run_state-append s a (suc m) n =
+      let e : a + suc m ≡ a + 1 + m = omega arith in
+      rw (suc-add, e) (run_state-append (step b rules a s) (a + 1) m n)
+
+  pub run_items-append : (s : State) (a m n : ℕ) → (run b rules s a (m + n)).1 ≡ (run b rules s a m).1 ++ (run b rules (run b rules s a m).0 (a + m) n).1
+  run_items-append s a zero n = rw (add-zero, zero-add) refl
+  run_items-append s a (suc m) n =
+      let e : a + suc m ≡ a + 1 + m = omega arith in
+      rw (suc-add, e) (ap (λ (is : List Item). items_at b rules a s ++ is) (run_items-append (step b rules a s) (a + 1) m n)
+        ∙ sym (append_assoc (items_at b rules a s) (run b rules (step b rules a s) (a + 1) m).1 _))
+
+  pub run-append : (s : State) (a m n : ℕ)
+      → run b rules s a (m + n) ≡ ((run b rules (run b rules s a m).0 (a + m) n).0, (run b rules s a m).1 ++ (run b rules (run b rules s a m).0 (a + m) n).1)
+  run-append s a m n = ap₂ (λ (t : State) (is : List Item). (t, is)) (run_state-append s a m n) (run_items-append s a m n)
+
+  -- the same, said by places: from `from` to `middle`, then to `to`
+  pub run-places : (s : State) (from middle to : ℕ) → from ≤ middle → middle ≤ to
+      → run b rules s from (to - from)
+        ≡ ((run b rules (run b rules s from (middle - from)).0 middle (to - middle)).0,
+           (run b rules s from (middle - from)).1 ++ (run b rules (run b rules s from (middle - from)).0 middle (to - middle)).1)
+  run-places s from middle to low high =
+      let all : to - from ≡ (middle - from) + (to - middle) = omega arith in
+      let place : from + (middle - from) ≡ middle = omega arith in
+      rw all (run-append s from (middle - from) (to - middle)
+        ∙ ap (λ (p : ℕ). ((run b rules (run b rules s from (middle - from)).0 p (to - middle)).0,
+            (run b rules s from (middle - from)).1 ++ (run b rules (run b rules s from (middle - from)).0 p (to - middle)).1)) place)
+
+  -- two runs that are in one state have one end, and from there on the same items
+  pub runs-merge : (s t : State) (from middle to : ℕ) → from ≤ middle → middle ≤ to
+      → (run b rules s from (middle - from)).0 ≡ (run b rules t from (middle - from)).0
+      → (later : List Item)
+        × ((run b rules s from (to - from)).0 ≡ (run b rules t from (to - from)).0)
+        × ((run b rules s from (to - from)).1 ≡ (run b rules s from (middle - from)).1 ++ later)
+        × ((run b rules t from (to - from)).1 ≡ (run b rules t from (middle - from)).1 ++ later)
+  runs-merge s t from middle to low high same =
+      let one = run-places s from middle to low high in
+      let other = run-places t from middle to low high in
+      ((run b rules (run b rules s from (middle - from)).0 middle (to - middle)).1,
+       ap (λ (r : State × List Item). r.0) one ∙ ap (λ (u : State). (run b rules u middle (to - middle)).0) same ∙ sym (ap (λ (r : State × List Item). r.0) other),
+       ap (λ (r : State × List Item). r.1) one,
+       ap (λ (r : State × List Item). r.1) other
+         ∙ ap (λ (u : State). (run b rules t from (middle - from)).1 ++ (run b rules u middle (to - middle)).1) (sym same))
+
+  -- while a block is waited for, a run changes nothing and gives nothing
+  pub run-waiting : (due number bad first a n : ℕ) → a + n ≤ due → run b rules (Locked due number bad first) a n ≡ (Locked due number bad first, [])
+  run-waiting due number bad first a zero h = refl
+  run-waiting due number bad first a (suc n) h =
+      let late : due ≢ a = λ e. absurd (omega arith) in
+      run-first (Locked due number bad first) (Locked due number bad first) [] a n (step-waiting due number bad first a late) (items-waiting due number bad first a late)
+      ∙ run-waiting due number bad first (a + 1) n (omega arith)
+
+  -- a run up to and including the block that is due is that of its last bit
+  pub run-reading : (due number bad first a n : ℕ) → a + n ≡ due
+      → run b rules (Locked due number bad first) a (n + 1) ≡ (step b rules due (Locked due number bad first), items_at b rules due (Locked due number bad first))
+  run-reading due number bad first a n e =
+      let s : State = Locked due number bad first in
+      run-append s a n 1
+      ∙ ap₂ (λ (r : State × List Item) (p : ℕ). ((run b rules r.0 p 1).0, r.1 ++ (run b rules r.0 p 1).1)) (run-waiting due number bad first a n (omega arith)) e
+      ∙ run-one s due
+
+  -- a search goes on where no place acquires
+  pub run-searching : (a n : ℕ) → ((i : ℕ) → a ≤ i → i < a + n → acquired b rules i ≡ None) → run b rules Searching a n ≡ (Searching, [])
+  run-searching a zero none = refl
+  run-searching a (suc n) none =
+      let here = none a (omega arith) (omega arith) in
+      run-first Searching Searching [] a n (step-searching a here) (items-searching a here)
+      ∙ run-searching (a + 1) n (λ i low high. none i (omega arith) (omega arith))
+
+  -- a search up to and including the first place that acquires
+  pub run-acquiring : (a n i x : ℕ) → a + n ≡ i → ((j : ℕ) → a ≤ j → j < i → acquired b rules j ≡ None) → acquired b rules i ≡ Some x
+      → run b rules Searching a (n + 1) ≡ (locked_after i x 0 x, Acquired i x ∷ group_after b rules x x i)
+  run-acquiring a n i x e none here =
+      run-append Searching a n 1
+      ∙ ap₂ (λ (r : State × List Item) (p : ℕ). ((run b rules r.0 p 1).0, r.1 ++ (run b rules r.0 p 1).1)) (run-searching a n (λ j low high. none j low (omega arith))) e
+      ∙ run-one Searching i
+      ∙ ap₂ (λ (t : State) (is : List Item). (t, is)) (step-acquiring i x here) (items-acquiring i x here)

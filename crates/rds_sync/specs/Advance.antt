@@ -1,0 +1,30 @@
+-- One step of a decoder that takes its windows from a tape. This project's rule.
+use Rattle.std.specs.Prelude.{ℕ, ◌+◌, List, [], ◌∷◌, ◌++◌, Option, Some, None, true, false, nat_lt}
+use Rattle.rds_sync.specs.declared.State.{State}
+use Rattle.rds_sync.specs.declared.State.TheVariants.{Searching, Locked}
+use Rattle.rds_sync.specs.declared.Group.{Group as GroupRecord}
+use Rattle.rds_sync.specs.declared.Item.{Item}
+use Rattle.rds_sync.specs.declared.Item.TheVariants.{Group}
+use Rattle.rds_sync.specs.Rules.{RuleNumbers}
+
+-- the place of the bit after a step from `place` in a range that ends before `to`: a search goes over one bit, a lock up to
+-- and including the block that is due
+abbrev pub next_place : State → ℕ → ℕ → ℕ
+next_place Searching place to = place + 1
+next_place (Locked due number bad first) place to = elim (nat_lt due to) [ true ↦ due + 1 | false ↦ to ]
+
+-- how many windows a step asks for at most: its own and a partner's at each distance, or a group's four blocks
+abbrev pub reads_most : RuleNumbers → State → ℕ → ℕ
+reads_most rules Searching to = rules.reach + 1
+reads_most rules (Locked due number bad first) to = elim (nat_lt due to) [ true ↦ 4 | false ↦ 0 ]
+
+-- the items that are there, in order
+abbrev pub items_in : List (Option Item) → List Item
+items_in [] = []
+items_in (None ∷ slots) = items_in slots
+items_in (Some item ∷ slots) = item ∷ items_in slots
+
+-- the item of the group that is there
+abbrev pub group_item : Option GroupRecord → List Item
+group_item None = []
+group_item (Some group) = Group group ∷ []

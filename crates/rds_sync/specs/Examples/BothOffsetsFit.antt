@@ -1,0 +1,34 @@
+-- A lost block 2 leaves both offsets for block 3: it is corrected only where one pair of an offset and a burst fits.
+use Rattle.std.specs.Prelude.{◌≡◌, ℕ, List, [], ◌∷◌, ◌++◌, refl, Some, None, true, false}
+use Rattle.std.specs.Int.Count.{count_leading_zeros, ones, count_trailing_zeros}
+use Rattle.rds_code.specs.Remainder.{rem}
+use Rattle.rds_code.specs.declared.offset.Offset.TheVariants.{A as OA, B as OB, C, Cx, D}
+use Rattle.rds_stream.specs.Recording.{bits_of, window, off}
+use Rattle.rds_sync.specs.declared.State.TheVariants.{Searching, Locked}
+use Rattle.rds_sync.specs.declared.Version.TheVariants.{A, B, Unknown}
+use Rattle.rds_sync.specs.declared.Item.{Item}
+use Rattle.rds_sync.specs.declared.Item.TheVariants.{Acquired, Group, LostLock}
+use Rattle.rds_sync.specs.Acquiring.{acquired, has_number}
+use Rattle.rds_sync.specs.Groups.{group}
+use Rattle.rds_sync.specs.Step.{run}
+use Rattle.rds_sync.specs.Examples.Words.{zero_group, rules_of, default_rules, missing, valid, corrected, lost, group_at, totals, HasReport}
+use Rattle.rds_sync.specs.Examples.ZeroGroup.{items_of_whole}
+
+-- a zero group, then one whose block 2 is inverted by a burst of span 6, and block 3 by 0x0000038
+abbrev pub bytes : List ℕ
+bytes = zero_group ++ 0x00 ∷ 0x00 ∷ 0x3f ∷ 0x00 ∷ 0x00 ∷ 0x1b ∷ 0x90 ∷ 0x00 ∷ 0x05 ∷ 0x40 ∷ 0x00 ∷ 0x01 ∷ 0xb4 ∷ []
+
+abbrev pub limit_3_items : List Item
+limit_3_items = items_of_whole ++ group_at 104 None Unknown (valid OA 0) lost lost (valid D 0) ∷ []
+
+-- C with the burst 0x0000038 fits, and so does C' with 0x0000200
+pub two_fit : HasReport bytes 208 (rules_of 3 3 10) limit_3_items (totals 5 0 0 0 0 0 2 0 2 0 1 0)
+unfolding acquired has_number group rem window off count_leading_zeros count_trailing_zeros ones
+two_fit = (refl, refl)
+
+abbrev pub limit_2_items : List Item
+limit_2_items = items_of_whole ++ group_at 104 None B (valid OA 0) lost (corrected Cx 0 0x0000200) (valid D 0) ∷ []
+
+pub one_fits : HasReport bytes 208 (rules_of 2 3 10) limit_2_items (totals 5 1 0 0 0 0 1 1 2 0 1 0)
+unfolding acquired has_number group rem window off count_leading_zeros count_trailing_zeros ones
+one_fits = (refl, refl)

@@ -1,0 +1,51 @@
+-- Blocks of a zero group inverted by a burst: corrected where the burst is within the limit, and else lost.
+use Rattle.std.specs.Prelude.{◌≡◌, ℕ, List, [], ◌∷◌, ◌++◌, refl, Some, None, true, false}
+use Rattle.std.specs.Int.Count.{count_leading_zeros, ones, count_trailing_zeros}
+use Rattle.rds_code.specs.Remainder.{rem}
+use Rattle.rds_code.specs.declared.offset.Offset.TheVariants.{A as OA, B as OB, C, Cx, D}
+use Rattle.rds_stream.specs.Recording.{bits_of, window, off}
+use Rattle.rds_sync.specs.declared.State.TheVariants.{Searching, Locked}
+use Rattle.rds_sync.specs.declared.Version.TheVariants.{A, B, Unknown}
+use Rattle.rds_sync.specs.declared.Item.{Item}
+use Rattle.rds_sync.specs.declared.Item.TheVariants.{Acquired, Group, LostLock}
+use Rattle.rds_sync.specs.Acquiring.{acquired, has_number}
+use Rattle.rds_sync.specs.Groups.{group}
+use Rattle.rds_sync.specs.Step.{run}
+use Rattle.rds_sync.specs.Examples.Words.{zero_group, rules_of, default_rules, missing, valid, corrected, lost, group_at, totals, HasReport}
+
+-- bit 15 of block 3 is inverted
+abbrev pub one_bit : List ℕ
+one_bit = 0x00 ∷ 0x00 ∷ 0x3f ∷ 0x00 ∷ 0x00 ∷ 0x19 ∷ 0x80 ∷ 0x02 ∷ 0x05 ∷ 0xa0 ∷ []
+
+abbrev pub one_bit_items : List Item
+one_bit_items = Acquired 51 2 ∷ group_at 26 (Some 0) A missing (valid OB 0) (corrected C 0 0x0008000) missing ∷ []
+
+pub one_bit_is_corrected : HasReport one_bit 78 default_rules one_bit_items (totals 1 1 0 0 0 0 0 1 1 0 1 0)
+unfolding acquired has_number group rem window off count_leading_zeros count_trailing_zeros ones
+one_bit_is_corrected = (refl, refl)
+
+-- block 4 is inverted by a burst of span 5
+abbrev pub span_5 : List ℕ
+span_5 = 0x00 ∷ 0x00 ∷ 0x3f ∷ 0x00 ∷ 0x00 ∷ 0x19 ∷ 0x80 ∷ 0x00 ∷ 0x05 ∷ 0xa0 ∷ 0x00 ∷ 0x01 ∷ 0xa5 ∷ []
+
+abbrev pub span_5_items : List Item
+span_5_items = Acquired 51 2 ∷ group_at 26 (Some 0) A missing (valid OB 0) (valid C 0) (corrected D 0 0x0000011) ∷ []
+
+pub span_5_is_corrected : HasReport span_5 104 (rules_of 5 3 10) span_5_items (totals 2 0 0 0 0 1 0 2 1 0 1 0)
+unfolding acquired has_number group rem window off count_leading_zeros count_trailing_zeros ones
+span_5_is_corrected = (refl, refl)
+
+abbrev pub block_4_lost : List Item
+block_4_lost = Acquired 51 2 ∷ group_at 26 (Some 0) A missing (valid OB 0) (valid C 0) lost ∷ []
+
+pub span_5_is_past_a_limit_of_4 : HasReport span_5 104 (rules_of 4 3 10) block_4_lost (totals 2 0 0 0 0 0 1 0 1 0 1 0)
+unfolding acquired has_number group rem window off count_leading_zeros count_trailing_zeros ones
+span_5_is_past_a_limit_of_4 = (refl, refl)
+
+-- block 4 is inverted by a burst of span 6
+abbrev pub span_6 : List ℕ
+span_6 = 0x00 ∷ 0x00 ∷ 0x3f ∷ 0x00 ∷ 0x00 ∷ 0x19 ∷ 0x80 ∷ 0x00 ∷ 0x05 ∷ 0xa0 ∷ 0x00 ∷ 0x01 ∷ 0x95 ∷ []
+
+pub span_6_is_lost : HasReport span_6 104 (rules_of 5 3 10) block_4_lost (totals 2 0 0 0 0 0 1 0 1 0 1 0)
+unfolding acquired has_number group rem window off count_leading_zeros count_trailing_zeros ones
+span_6_is_lost = (refl, refl)

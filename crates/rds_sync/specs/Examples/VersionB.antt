@@ -1,0 +1,41 @@
+-- Groups whose block 2 says version B.
+use Rattle.std.specs.Prelude.{◌≡◌, ℕ, List, [], ◌∷◌, ◌++◌, refl, Some, None, true, false}
+use Rattle.rds_code.specs.Remainder.{rem}
+use Rattle.rds_code.specs.declared.offset.Offset.TheVariants.{A as OA, B as OB, C, Cx, D}
+use Rattle.rds_stream.specs.Recording.{bits_of, window, off}
+use Rattle.rds_sync.specs.declared.State.TheVariants.{Searching, Locked}
+use Rattle.rds_sync.specs.declared.Version.TheVariants.{A, B, Unknown}
+use Rattle.rds_sync.specs.declared.Item.{Item}
+use Rattle.rds_sync.specs.declared.Item.TheVariants.{Acquired, Group, LostLock}
+use Rattle.rds_sync.specs.Acquiring.{acquired, has_number}
+use Rattle.rds_sync.specs.Groups.{group}
+use Rattle.rds_sync.specs.Step.{run}
+use Rattle.rds_sync.specs.Examples.Words.{zero_group, rules_of, default_rules, missing, valid, corrected, lost, group_at, totals, HasReport}
+
+-- block 3 has the offset C'
+abbrev pub agreed : List ℕ
+agreed = 0x00 ∷ 0x00 ∷ 0x3f ∷ 0x02 ∷ 0x00 ∷ 0x2c ∷ 0x10 ∷ 0x00 ∷ 0x0d ∷ 0x40 ∷ 0x00 ∷ 0x01 ∷ 0xb4 ∷ []
+
+abbrev pub agreed_items : List Item
+agreed_items = Acquired 51 2 ∷ group_at 26 (Some 0) B missing (valid OB 0x0800) (valid Cx 0) (valid D 0) ∷ []
+
+pub blocks_agree : HasReport agreed 104 default_rules agreed_items (totals 3 0 0 0 0 0 0 0 1 0 1 0)
+unfolding acquired has_number group rem window off
+blocks_agree = (refl, refl)
+
+-- block 3 has the offset C: it is valid all the same, the version is its own, and the group is in conflict
+abbrev pub in_conflict : List ℕ
+in_conflict = 0x00 ∷ 0x00 ∷ 0x3f ∷ 0x02 ∷ 0x00 ∷ 0x2c ∷ 0x10 ∷ 0x00 ∷ 0x05 ∷ 0xa0 ∷ 0x00 ∷ 0x01 ∷ 0xb4 ∷ []
+
+abbrev pub in_conflict_items : List Item
+in_conflict_items = Acquired 51 2 ∷ Group (record {
+    place = 26;
+    blocks = missing ∷ valid OB 0x0800 ∷ valid C 0 ∷ valid D 0 ∷ [];
+    kind = Some 0;
+    version = A;
+    conflict = true;
+  }) ∷ []
+
+pub blocks_disagree : HasReport in_conflict 104 default_rules in_conflict_items (totals 3 0 0 0 0 0 0 0 1 0 1 0)
+unfolding acquired has_number group rem window off
+blocks_disagree = (refl, refl)

@@ -1,0 +1,61 @@
+-- What a group says, read off its blocks. The places of the blocks, the type and bit B0 are those of EN 50067:1998, 2.1 and 3.1;
+-- which of two versions holds, and when they are in conflict, is this project's rule.
+use Rattle.std.specs.Prelude.{◌≡◌, ◌≢◌, ◌↔◌, ℕ, ◌+◌, ◌-◌, ◌*◌, ◌/◌, ◌^◌, ◌<◌, ◌≤◌, ◌⊎◌, List, Option, Some, None, IsTrue, length, slice_get, option_map}
+use Rattle.std.specs.Int.{bit_at}
+use Rattle.rds_code.specs.declared.offset.Offset.{Offset}
+use Rattle.rds_code.specs.declared.offset.Offset.TheVariants.{C, Cx}
+use Rattle.rds_code.specs.declared.reading.Reading.TheVariants.{Valid, Corrected}
+use Rattle.rds_code.specs.Reading.{reading}
+use Rattle.rds_stream.specs.Recording.{window}
+use Rattle.rds_sync.specs.declared.Version.{Version}
+use Rattle.rds_sync.specs.declared.Version.TheVariants.{A, B, Unknown}
+use Rattle.rds_sync.specs.declared.Block.{Block}
+use Rattle.rds_sync.specs.declared.Block.TheVariants.{Missing, Read}
+use Rattle.rds_sync.specs.declared.Group.{Group}
+use Rattle.rds_sync.specs.Rules.{RuleNumbers}
+use Rattle.rds_sync.specs.Groups.{info_of, type_in, version_of_bit, version_of_offset, are_complete, wanted_beside, group}
+
+-- block y of the group is this
+abbrev pub IsBlock : Group → ℕ → Block → Type 0
+IsBlock group y block = slice_get group.blocks (y - 1) ≡ Some block
+
+-- block y ends 26 (x - y) places before the last block that was read, and the others are missing
+pub record BlocksAreRead (b : List ℕ) (rules : RuleNumbers) (f x p : ℕ) (group : Group) (second : Block) : Type 0 where
+  pub four : length group.blocks ≡ 4
+  pub begins : group.place + 26 * (x - f) + 25 ≡ p
+  pub read : (y : ℕ) → f ≤ y → y ≤ x → IsBlock group y (Read (reading (window b (p - 26 * (x - y))) y (wanted_beside second) rules.burst))
+  pub missing : (y : ℕ) → 1 ≤ y → y ≤ 4 → (y < f) ⊎ (x < y) → IsBlock group y Missing
+
+-- the version is that of a valid block 3; else that of bit B0, where block 2 has an information word; else that of a corrected
+-- block 3; else it is unknown
+pub record VersionIsRead (version : Version) (second third : Block) : Type 0 where
+  pub valid_c : (info : ℕ) → third ≡ Read (Valid C info) → version ≡ A
+  pub valid_cx : (info : ℕ) → third ≡ Read (Valid Cx info) → version ≡ B
+  pub no_other : (o : Offset) (info : ℕ) → third ≡ Read (Valid o info) → (o ≡ C) ⊎ (o ≡ Cx)
+  pub by_bit : ((o : Offset) (info : ℕ) → third ≢ Read (Valid o info)) → (word : ℕ) → info_of second ≡ Some word
+    → version ≡ version_of_bit word
+  pub corrected_c : info_of second ≡ None → (info burst : ℕ) → third ≡ Read (Corrected C info burst) → version ≡ A
+  pub corrected_cx : info_of second ≡ None → (info burst : ℕ) → third ≡ Read (Corrected Cx info burst) → version ≡ B
+  pub unknown : info_of second ≡ None → info_of third ≡ None → version ≡ Unknown
+
+-- a valid block 3 is of the one version, and block 2 has an information word that says the other
+abbrev pub VersionsDiffer : Block → Block → Type 0
+VersionsDiffer second third = (o : Offset) × (info : ℕ) × (word : ℕ)
+    × (third ≡ Read (Valid o info)) × (info_of second ≡ Some word) × (version_of_offset o ≢ version_of_bit word)
+
+pub record GroupIsRead (b : List ℕ) (rules : RuleNumbers) (f x p : ℕ) (group : Group) : Type 0 where
+  pub second : Block
+  pub third : Block
+  pub is_second : IsBlock group 2 second
+  pub is_third : IsBlock group 3 third
+  pub blocks : BlocksAreRead b rules f x p group second
+  pub kind : group.kind ≡ option_map type_in (info_of second)
+  pub version : VersionIsRead group.version second third
+  pub conflict : IsTrue group.conflict ↔ VersionsDiffer second third
+  pub complete : IsTrue (are_complete group.blocks)
+    ↔ ((y : ℕ) → 1 ≤ y → y ≤ 4 → (block : Block) × (word : ℕ) × IsBlock group y block × (info_of block ≡ Some word))
+
+-- a group says what its blocks say
+abbrev pub GroupsAreRead : Type 0
+GroupsAreRead = (b : List ℕ) (rules : RuleNumbers) (f x p : ℕ) → 1 ≤ f → f ≤ x → x ≤ 4 → 26 * (x - f) + 25 ≤ p
+    → GroupIsRead b rules f x p (group b rules f x p)
