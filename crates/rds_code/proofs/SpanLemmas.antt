@@ -11,7 +11,7 @@ pub record IsShifted (n m t : ℕ) : Type 0 where
   pub whole : n ≡ m * 2 ^ t
   pub odd : m % 2 ≡ 1
 
-at_least : (m x : ℕ) → m % 2 ≡ 1 → x ≤ m * x
+pub at_least : (m x : ℕ) → m % 2 ≡ 1 → x ≤ m * x
 at_least zero x odd = absurd (omega (arith, odd))
 at_least (suc m) x odd = omega (arith, suc-mul m x)
 

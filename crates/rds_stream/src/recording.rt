@@ -1,7 +1,8 @@
 // A recording: packed bits with places.
-ghost use Rattle.std.specs.Prelude.{◌≡◌, List, ℕ, ◌+◌, ◌*◌, ◌^◌, ◌<◌, ◌≤◌, ◌↔◌, vec_len, length, slice_index, if◌then◌else◌, IfOk, IsOk};
+ghost use Rattle.std.specs.Prelude.{◌≡◌, List, ℕ, ◌+◌, ◌*◌, ◌^◌, ◌<◌, ◌≤◌, ◌↔◌, vec_len, length, slice_index, All, if◌then◌else◌, IfOk, IsOk};
 ghost use Rattle.rds_stream.specs.declared.error.StreamError.TheVariants.{TooLong, BitsPastBytes};
-ghost use Rattle.rds_stream.specs.Recording.{bits_of, window};
+ghost use Rattle.rds_stream.specs.Recording.{packed_bit, bits_of, window};
+ghost use Rattle.rds_stream.specs.Sweep.{before};
 
 use crate::error::StreamError;
 use std::marker::Model;
@@ -27,6 +28,15 @@ impl Model for Recording {
     ghost view = { λ r. bits_of r.bytes.items r.bits };
 
     ghost invariant = { λ r. (r.bits ≤ 2 ^ 36) × (r.bits ≤ 8 * vec_len r.bytes) };
+}
+
+/// The bit at place `i` of packed bytes, the highest bit of a byte first.
+fn bit_of(bytes: &[u8], i: u64) -> u8
+    requires { i < 8 * length bytes.now }
+    ensures value { result ≡ packed_bit bytes.now i }
+    ensures digit { result < 2 }
+{
+    bytes[(i / 8) as usize] >> (7 - i % 8) & 1
 }
 
 impl Recording {
@@ -63,7 +73,23 @@ impl Recording {
         requires { i < length self.now }
         ensures { slice_index self.now i ≡ (if result then 1 else 0) }
     {
-        self.bytes[(i / 8) as usize] >> (7 - i % 8) & 1 == 1
+        bit_of(&self.bytes, i) == 1
+    }
+
+    /// The 26 bits before place `i` as a number, or all bits before it where these are fewer.
+    pub(crate) fn bits_before(&self, i: u64) -> u32
+        requires { i ≤ length self.now }
+        ensures value { result ≡ before self.now i }
+        ensures small { result < 2 ^ 26 }
+        ensures limit { length self.now ≤ 2 ^ 36 }
+        ensures digits { All (λ bit. bit < 2) self.now }
+    {
+        let bytes = self.bytes.as_slice();
+        let mut number = 0;
+        for place in i.saturating_sub(26)..i {
+            number = 2 * number + bit_of(bytes, place) as u32;
+        }
+        number
     }
 
     /// The 26 bits that end at place `i`, the first one highest.

@@ -1,4 +1,4 @@
--- What a group says, read off its blocks. The places of the blocks, the type and bit B0 are those of EN 50067:1998, 2.1 and 3.1;
+-- What a group says, read off its blocks. The places of the blocks, the type and bit B0 are those of EN 50067:1998, 2.1 and 3.1.2;
 -- which of two versions holds, and when they are in conflict, is this project's rule.
 use Rattle.std.specs.Prelude.{◌≡◌, ◌≢◌, ◌↔◌, ℕ, ◌+◌, ◌-◌, ◌*◌, ◌/◌, ◌^◌, ◌<◌, ◌≤◌, ◌⊎◌, List, Option, Some, None, IsTrue, length, slice_get, option_map}
 use Rattle.std.specs.Int.{bit_at}

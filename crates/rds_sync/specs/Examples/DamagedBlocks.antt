@@ -49,3 +49,25 @@ span_6 = 0x00 ∷ 0x00 ∷ 0x3f ∷ 0x00 ∷ 0x00 ∷ 0x19 ∷ 0x80 ∷ 0x00 ∷
 pub span_6_is_lost : HasReport span_6 104 (rules_of 5 3 10) block_4_lost (totals 2 0 0 0 0 0 1 0 1 0 1 0)
 unfolding acquired has_number group rem window off count_leading_zeros count_trailing_zeros ones
 span_6_is_lost = (refl, refl)
+
+abbrev pub one_bit_whole : List ℕ
+one_bit_whole = 0x00 ∷ 0x00 ∷ 0x3f ∷ 0x00 ∷ 0x00 ∷ 0x19 ∷ 0x80 ∷ 0x02 ∷ 0x05 ∷ 0xa0 ∷ 0x00 ∷ 0x01 ∷ 0xb4 ∷ []
+
+abbrev pub corrected_is_bad_items : List Item
+corrected_is_bad_items =
+    Acquired 51 2
+  ∷ group_at 26 (Some 0) A missing (valid OB 0) (corrected C 0 0x0008000) missing
+  ∷ LostLock 77
+  ∷ Acquired 103 4
+  ∷ group_at 78 None Unknown missing missing missing (valid D 0)
+  ∷ []
+
+-- a corrected block is a bad one: here the first bad block loses the lock
+pub corrected_is_bad : HasReport one_bit_whole 104 (rules_of 2 3 1) corrected_is_bad_items (totals 2 1 0 0 0 0 0 1 2 0 2 1)
+unfolding acquired has_number group rem window off count_leading_zeros count_trailing_zeros ones
+corrected_is_bad = (refl, refl)
+
+-- a loss at block 4 closes one group
+pub loss_at_block_4 : HasReport span_6 104 (rules_of 5 3 1) (block_4_lost ++ LostLock 103 ∷ []) (totals 2 0 0 0 0 0 1 0 1 0 1 1)
+unfolding acquired has_number group rem window off count_leading_zeros count_trailing_zeros ones
+loss_at_block_4 = (refl, refl)

@@ -43,3 +43,13 @@ pub from_block_3 : run bits default_rules Searching 60 44 ≡ (Locked 129 1 0 1,
     Acquired 77 3 ∷ group_at 52 None A missing missing (valid C 0) (valid D 0) ∷ [])
 unfolding acquired has_number group rem window off
 from_block_3 = refl
+
+-- at the bit of a loss nothing is acquired, though place 51 would be: the next place that acquires is 77
+pub nothing_acquired_at_a_loss : run bits default_rules (Locked 51 1 9 1) 30 74 ≡ (Locked 129 1 0 1,
+    group_at 26 None Unknown (corrected OA 0x0300 0x00c0000) missing missing missing
+  ∷ LostLock 51
+  ∷ Acquired 77 3
+  ∷ group_at 52 None A missing missing (valid C 0) (valid D 0)
+  ∷ [])
+unfolding acquired has_number group rem window off
+nothing_acquired_at_a_loss = refl

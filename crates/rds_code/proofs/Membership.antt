@@ -1,0 +1,148 @@
+-- Lists of numbers, by a test of membership that computes.
+use Rattle.std.proofs.Common.{◌≡◌, ◌≢◌, ℕ, zero, suc, ◌+◌, ◌<◌, List, [], ◌∷◌, Bool, true, false, not, cond, map, refl, sym, ap, ◌∙◌, arith, inl, inr, ⊎_elim, eqb, length, get_or}
+use Rattle.std.specs.List.{filter, list_all, range_with_len, Contains}
+use Rattle.std.proofs.lemmas.Bool.{cases_Bool, eqb-true, eq-eqb, cases_eq, ne_eqb}
+
+-- whether x is among the numbers
+abbrev pub is_among : ℕ → List ℕ → Bool
+is_among x [] = false
+is_among x (y ∷ ys) = cond (eqb x y) true (is_among x ys)
+
+-- whether no number stands among them twice
+abbrev pub all_differ : List ℕ → Bool
+all_differ [] = true
+all_differ (x ∷ xs) = cond (is_among x xs) false (all_differ xs)
+
+pub among_head : (x y : ℕ) (ys : List ℕ) → x ≡ y → is_among x (y ∷ ys) ≡ true
+among_head x y ys e = ap (λ (b : Bool). cond b true (is_among x ys)) (eq-eqb x y e)
+
+pub among_tail : (x y : ℕ) (ys : List ℕ) → (x ≡ y → ⊥) → is_among x (y ∷ ys) ≡ is_among x ys
+among_tail x y ys n = ap (λ (b : Bool). cond b true (is_among x ys)) (ne_eqb x y n)
+
+pub among_more : (x y : ℕ) (ys : List ℕ) → is_among x ys ≡ true → is_among x (y ∷ ys) ≡ true
+among_more x y ys h = elim (cases_eq x y) [ inl e ↦ among_head x y ys e | inr n ↦ among_tail x y ys n ∙ h ]
+
+pub among_map : (f : ℕ → ℕ) (x : ℕ) (xs : List ℕ) → is_among x xs ≡ true → is_among (f x) (map f xs) ≡ true
+among_map f x [] h = cc
+among_map f x (y ∷ ys) h = elim (cases_eq x y) [
+    inl same ↦ among_head (f x) (f y) (map f ys) (ap f same)
+  | inr other ↦ among_more (f x) (f y) (map f ys) (among_map f x ys (sym (among_tail x y ys other) ∙ h))
+  ]
+
+pub differ_tail : (x : ℕ) (xs : List ℕ) → all_differ (x ∷ xs) ≡ true → (is_among x xs ≡ false) × (all_differ xs ≡ true)
+differ_tail x xs h = elim (cases_Bool (is_among x xs)) [
+    inl found ↦ let e : all_differ (x ∷ xs) ≡ false = ap (λ (b : Bool). cond b false (all_differ xs)) found in let no : true ≡ false = sym h ∙ e in absurd (cc no)
+  | inr none ↦ let e : all_differ (x ∷ xs) ≡ all_differ xs = ap (λ (b : Bool). cond b false (all_differ xs)) none in (none, sym e ∙ h)
+  ]
+
+-- where the values of f differ, one value is of one number
+pub one_of_each : (f : ℕ → ℕ) (xs : List ℕ) → all_differ (map f xs) ≡ true → (x y : ℕ) → is_among x xs ≡ true → is_among y xs ≡ true → f x ≡ f y → x ≡ y
+one_of_each f [] h x y hx hy e = cc
+one_of_each f (z ∷ zs) h x y hx hy e =
+    let d = differ_tail (f z) (map f zs) h in
+    elim (cases_eq x z) [
+      inl xz ↦ elim (cases_eq y z) [
+        inl yz ↦ xz ∙ sym yz
+      | inr yo ↦ let t = among_map f y zs (sym (among_tail y z zs yo) ∙ hy) in let no : false ≡ true = sym d.0 ∙ ap (λ (n : ℕ). is_among n (map f zs)) (ap f (sym xz) ∙ e) ∙ t in absurd (cc no)
+      ]
+    | inr xo ↦ elim (cases_eq y z) [
+        inl yz ↦ let t = among_map f x zs (sym (among_tail x z zs xo) ∙ hx) in let no : false ≡ true = sym d.0 ∙ ap (λ (n : ℕ). is_among n (map f zs)) (ap f (sym yz) ∙ sym e) ∙ t in absurd (cc no)
+      | inr yo ↦ one_of_each f zs d.1 x y (sym (among_tail x z zs xo) ∙ hx) (sym (among_tail y z zs yo) ∙ hy) e
+      ]
+    ]
+
+-- whether each number below n passes
+abbrev pub all_below : (ℕ → Bool) → ℕ → Bool
+all_below p zero = true
+all_below p (suc n) = cond (p n) (all_below p n) false
+
+pub both_pass : (a b : Bool) → cond a b false ≡ true → (a ≡ true) × (b ≡ true)
+both_pass true b h = (refl, h)
+both_pass false b h = let no : false ≡ true = h in absurd (cc no)
+
+pub passes_below : (p : ℕ → Bool) (n i : ℕ) → all_below p n ≡ true → i < n → p i ≡ true
+passes_below p zero i all h = absurd (omega arith)
+passes_below p (suc n) i all h =
+    let parts = both_pass (p n) (all_below p n) all in
+    elim (cases_eq i n) [ inl here ↦ ap p here ∙ parts.0 | inr other ↦ passes_below p n i parts.1 (omega arith) ]
+
+-- whether each of the numbers passes
+abbrev pub all_pass : (ℕ → Bool) → List ℕ → Bool
+all_pass p [] = true
+all_pass p (x ∷ xs) = cond (p x) (all_pass p xs) false
+
+pub passes_among : (p : ℕ → Bool) (x : ℕ) (xs : List ℕ) → all_pass p xs ≡ true → is_among x xs ≡ true → p x ≡ true
+passes_among p x [] all h = let no : false ≡ true = h in absurd (cc no)
+passes_among p x (y ∷ ys) all h =
+    let parts = both_pass (p y) (all_pass p ys) all in
+    elim (cases_eq x y) [ inl here ↦ ap p here ∙ parts.0 | inr other ↦ passes_among p x ys parts.1 (sym (among_tail x y ys other) ∙ h) ]
+
+filter_keeps : (p : ℕ → Bool) (y : ℕ) (ys : List ℕ) → p y ≡ true → filter p (y ∷ ys) ≡ y ∷ filter p ys
+filter_keeps p y ys h = ap (λ (b : Bool). cond b (y ∷ filter p ys) (filter p ys)) h
+
+filter_drops : (p : ℕ → Bool) (y : ℕ) (ys : List ℕ) → p y ≡ false → filter p (y ∷ ys) ≡ filter p ys
+filter_drops p y ys h = ap (λ (b : Bool). cond b (y ∷ filter p ys) (filter p ys)) h
+
+-- a filter keeps what stands among the numbers and passes
+pub among_filter : (p : ℕ → Bool) (x : ℕ) (xs : List ℕ) → is_among x xs ≡ true → p x ≡ true → is_among x (filter p xs) ≡ true
+among_filter p x [] h passed = h
+among_filter p x (y ∷ ys) h passed = elim (cases_eq x y) [
+    inl here ↦ ap (is_among x) (filter_keeps p y ys (ap p (sym here) ∙ passed)) ∙ among_head x y (filter p ys) here
+  | inr other ↦
+      let rest = among_filter p x ys (sym (among_tail x y ys other) ∙ h) passed in
+      elim (cases_Bool (p y)) [
+        inl kept ↦ ap (is_among x) (filter_keeps p y ys kept) ∙ among_more x y (filter p ys) rest
+      | inr dropped ↦ ap (is_among x) (filter_drops p y ys dropped) ∙ rest
+      ]
+  ]
+
+-- and nothing else
+pub filter_among : (p : ℕ → Bool) (x : ℕ) (xs : List ℕ) → is_among x (filter p xs) ≡ true → (is_among x xs ≡ true) × (p x ≡ true)
+filter_among p x [] h = let no : false ≡ true = h in absurd (cc no)
+filter_among p x (y ∷ ys) h = elim (cases_Bool (p y)) [
+    inl kept ↦ elim (cases_eq x y) [
+        inl here ↦ (among_head x y ys here, ap p here ∙ kept)
+      | inr other ↦
+          let rest = filter_among p x ys (sym (among_tail x y (filter p ys) other) ∙ ap (is_among x) (sym (filter_keeps p y ys kept)) ∙ h) in
+          (among_more x y ys rest.0, rest.1)
+      ]
+  | inr dropped ↦
+      let rest = filter_among p x ys (ap (is_among x) (sym (filter_drops p y ys dropped)) ∙ h) in
+      (among_more x y ys rest.0, rest.1)
+  ]
+
+-- what no number passes leaves nothing
+pub filter_none : (p : ℕ → Bool) (xs : List ℕ) → ((x : ℕ) → is_among x xs ≡ true → p x ≡ true → ⊥) → filter p xs ≡ []
+filter_none p [] none = refl
+filter_none p (y ∷ ys) none = elim (cases_Bool (p y)) [
+    inl kept ↦ absurd (none y (among_head y y ys refl) kept)
+  | inr dropped ↦ filter_drops p y ys dropped ∙ filter_none p ys (λ x h. none x (among_more x y ys h))
+  ]
+
+-- what one number alone passes leaves that number
+pub filter_one : (p : ℕ → Bool) (x : ℕ) (xs : List ℕ) → all_differ xs ≡ true → is_among x xs ≡ true → p x ≡ true → ((y : ℕ) → is_among y xs ≡ true → p y ≡ true → y ≡ x) → filter p xs ≡ x ∷ []
+filter_one p x [] differ h passed only = let no : false ≡ true = h in absurd (cc no)
+filter_one p x (y ∷ ys) differ h passed only =
+    let apart = differ_tail y ys differ in
+    elim (cases_Bool (p y)) [
+      inl kept ↦
+        let here : y ≡ x = only y (among_head y y ys refl) kept in
+        filter_keeps p y ys kept
+        ∙ ap (λ (zs : List ℕ). y ∷ zs) (filter_none p ys (λ z among pass.
+            let same : z ≡ y = only z (among_more z y ys among) pass ∙ sym here in
+            let no : false ≡ true = sym apart.0 ∙ ap (λ (n : ℕ). is_among n ys) (sym same) ∙ among in cc no))
+        ∙ ap (λ (n : ℕ). n ∷ []) here
+    | inr dropped ↦
+        let other : x ≡ y → ⊥ = λ e. let no : false ≡ true = sym dropped ∙ ap p (sym e) ∙ passed in cc no in
+        filter_drops p y ys dropped
+        ∙ filter_one p x ys apart.1 (sym (among_tail x y ys other) ∙ h) passed (λ z among pass. only z (among_more z y ys among) pass)
+    ]
+
+pub differ_unmap : (f : ℕ → ℕ) (xs : List ℕ) → all_differ (map f xs) ≡ true → all_differ xs ≡ true
+differ_unmap f [] h = refl
+differ_unmap f (x ∷ xs) h =
+    let apart = differ_tail (f x) (map f xs) h in
+    elim (cases_Bool (is_among x xs)) [
+      inl found ↦ let no : false ≡ true = sym apart.0 ∙ among_map f x xs found in absurd (cc no)
+    | inr none ↦ ap (λ (b : Bool). cond b false (all_differ xs)) none ∙ differ_unmap f xs apart.1
+    ]

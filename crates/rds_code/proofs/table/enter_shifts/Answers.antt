@@ -1,0 +1,55 @@
+use Rattle.std.proofs.Common.{◌≡◌, ℕ, ◌+◌, ◌*◌, ◌%◌, ◌^◌, ◌<◌, ◌≤◌, ◌∙◌, sym, ap, subst, arith, pow_mono, List}
+use Rattle.std.proofs.Math.Nat.{mul-le-mul_right}
+use borrow.Author.Count.{below_more}
+use Rattle.rds_code.specs.Bursts.{IsBurst}
+use Rattle.rds_code.specs.BurstTable.{IsSound, HasBurst}
+use Rattle.rds_code.proofs.BurstLemmas.{pattern_is_burst}
+use Rattle.rds_code.proofs.table.enter_shifts.Goals as goal
+use Rattle.rds_code.proofs.table.enter_shifts.Goals.{then-burst, else-burst}
+
+-- so short a pattern loses nothing by a shift
+whole : (m t : ℕ) → m < 32 → t < 26 → m * 2 ^ t % 2 ^ 32 ≡ m * 2 ^ t
+whole m t few shift =
+    let most : m * 2 ^ t ≤ 32 * 2 ^ t = mul-le-mul_right (2 ^ t) (omega (arith, few)) in
+    omega (arith, most, pow_mono {i = t} {j = 25} (omega (arith, shift)))
+
+-- what stands in the table up to a shift, and at it, stands there up to the next
+EnteredAt : List ℕ → ℕ → ℕ → Type 0
+EnteredAt patterns m shift = m * 2 ^ shift < 2 ^ 26 → HasBurst patterns (m * 2 ^ shift)
+
+pub enter-requires-clause-burst : goal.enter-requires-clause-burst
+enter-requires-clause-burst c =
+    let m = c.args.pattern in
+    let t = c.loop-shift.shift in
+    let same = whole m t c.requires.short c.loop-shift-test.true in
+    subst (IsBurst 5) (sym same) (pattern_is_burst m t c.requires.odd c.requires.short c.loop-shift-test.true (omega (arith, same, c.if-burst.true)))
+
+pub loop-shift-preserved : goal.loop-shift-preserved
+unfolding EnteredAt
+loop-shift-preserved c =
+    let m = c.args.pattern in
+    let t = c.loop-shift.shift in
+    let before = c.loop-shift.invariant in
+    let same = whole m t c.requires.short c.loop-shift-test.true in
+    elim c.if-burst.branch [
+      then-burst w ↦ subst (λ (patterns : List ℕ). record {
+          sound : IsSound patterns;
+          entered : (shift : ℕ) → shift < t + 1 → m * 2 ^ shift < 2 ^ 26 → HasBurst patterns (m * 2 ^ shift);
+          kept : (e : ℕ) → IsBurst 5 e → HasBurst c.args.patterns.now e → HasBurst patterns e
+        }) (sym w.patterns-is) record {
+          sound = w.enter.ensures.sound;
+          entered = below_more (EnteredAt w.enter.new.patterns m) t
+            (λ shift less block. w.enter.ensures.kept (m * 2 ^ shift) (pattern_is_burst m shift c.requires.odd c.requires.short (omega (arith, less, c.loop-shift-test.true)) block) (before.entered shift less block))
+            (λ block. subst (HasBurst w.enter.new.patterns) same w.enter.ensures.entered);
+          kept = λ e h stood. w.enter.ensures.kept e h (before.kept e h stood)
+        }
+    | else-burst w ↦ subst (λ (patterns : List ℕ). record {
+          sound : IsSound patterns;
+          entered : (shift : ℕ) → shift < t + 1 → m * 2 ^ shift < 2 ^ 26 → HasBurst patterns (m * 2 ^ shift);
+          kept : (e : ℕ) → IsBurst 5 e → HasBurst c.args.patterns.now e → HasBurst patterns e
+        }) (sym w.patterns-is) record {
+          sound = before.sound;
+          entered = below_more (EnteredAt c.loop-shift.patterns m) t before.entered (λ block. absurd (omega (arith, same, block, w.if-burst.false)));
+          kept = before.kept
+        }
+    ]

@@ -1,0 +1,11 @@
+use Rattle.std.proofs.Common.{ℕ, ◌*◌, ◌^◌, ◌<◌}
+use Rattle.rds_code.specs.Bursts.{IsBurst}
+use Rattle.rds_code.specs.BurstTable.{IsSound, HasBurst}
+use Rattle.rds_code.proofs.table.enter_shifts.Given as goal
+
+abbrev pub invariant-loop-shift : goal.invariant-loop-shift
+invariant-loop-shift l = record {
+  sound : IsSound l.patterns;
+  entered : (shift : ℕ) → shift < l.shift → l.pattern * 2 ^ shift < 2 ^ 26 → HasBurst l.patterns (l.pattern * 2 ^ shift);
+  kept : (e : ℕ) → IsBurst 5 e → HasBurst l.fn.patterns e → HasBurst l.patterns e
+}

@@ -1,0 +1,99 @@
+// The valid windows of a recording, by remainders that roll from place to place.
+ghost use Rattle.std.specs.Prelude.{◌≡◌, List, ℕ, ◌+◌, ◌<◌, ◌≤◌, length, IfOk, IsOkUnless};
+ghost use Rattle.rds_stream.specs.declared.error.StreamError.TheVariants.{OutOfMemory};
+ghost use Rattle.rds_stream.specs.Recording.{off, valid_windows};
+ghost use Rattle.rds_stream.specs.Sweep.{SweepState, IsCarried};
+
+use crate::error::StreamError;
+use crate::recording::Recording;
+use rds_code::{Offset, next_remainder, offset_of, rem26};
+use std::alloc::Global;
+use std::marker::Model;
+
+/// The lowest 26 places of a number.
+const BLOCK: u32 = (1 << 26) - 1;
+
+/// A cursor over the places of a recording that answers the offset of each in turn.
+///
+/// It keeps the 26 bits before its place and their remainder, so a place costs one bit read and one step of the remainder.
+/// It takes no memory.
+#[derive(Drop)]
+pub struct Sweep<'a> {
+    recording: &'a Recording,
+    place: u64,
+    window: u32,
+    remainder: u16,
+}
+
+impl<'a> Model for Sweep<'a> {
+    ghost Value = { SweepState };
+
+    ghost view = { λ s. record { bits = s.recording.now; place = s.place } };
+
+    ghost invariant = { λ s. IsCarried s.recording.now s.place s.window s.remainder };
+}
+
+impl Sweep<'_> {
+    /// A sweep that stands at place `from`.
+    pub fn new(recording: &Recording, from: u64) -> Sweep<'_>
+        requires { from ≤ length recording.now }
+        ensures { result ≡ record { bits = recording.now; place = from } }
+    {
+        let window = recording.bits_before(from);
+        Sweep {
+            recording,
+            place: from,
+            window,
+            remainder: rem26(window),
+        }
+    }
+
+    /// The place at which it stands, at most the number of bits.
+    pub fn place(&self) -> u64
+        ensures value { result ≡ self.now.place }
+        ensures limit { result ≤ length self.now.bits }
+    {
+        self.place
+    }
+
+    /// The offset of the place at which it stands, or none; then it stands one place on.
+    pub fn next_offset(&mut self) -> Option<Offset>
+        requires { self.old.place < length self.old.bits }
+        ensures offset { result ≡ off self.old.bits self.old.place }
+        ensures moved { self.new ≡ record self.old { place = self.old.place + 1 } }
+    {
+        let bit = self.recording.bit(self.place) as u32;
+        self.remainder = next_remainder(self.remainder, self.window, bit);
+        self.window = (2 * self.window + bit) & BLOCK;
+        self.place += 1;
+        if self.place < 26 {
+            None
+        } else {
+            offset_of(self.remainder)
+        }
+    }
+}
+
+/// All valid windows at the places from `from` to before `to`, each with its offset, by rising place.
+///
+/// Windows may begin before `from`, and none before the recording. It refuses only where memory is refused.
+pub fn scan(
+    alloc: Global,
+    recording: &Recording,
+    from: u64,
+    to: u64,
+) -> Result<Vec<(u64, Offset)>, StreamError>
+    requires order { from ≤ to }
+    requires end { to ≤ length recording.now }
+    ensures found { IfOk result (λ found. found.items ≡ valid_windows recording.now from to) }
+    ensures memory { IsOkUnless result OutOfMemory }
+{
+    let mut sweep = Sweep::new(recording, from);
+    let mut found = Vec::new(alloc);
+    for place in from..to {
+        if let Some(offset) = sweep.next_offset() {
+            found.push((place, offset))?;
+        }
+    }
+    Ok(found)
+}
