@@ -1,0 +1,60 @@
+-- What the typed getters read, by the rows of a parse.
+use Rattle.std.proofs.Common.{◌≡◌, ◌∙◌, ◌^◌, ◌<◌, ℕ, List, Option, Some, None, Result, Ok, Err, sym, subst, refl, codes, true, false, Bool, ap}
+use Rattle.std.specs.Prelude.{IfSome, IfNone, IfOk}
+use Rattle.std.specs.Result.{result_ok}
+use Rattle.std.specs.declared.num.ParseIntError.{ParseIntError}
+use Rattle.std.specs.Str.Parse.{ExplainsUnsignedError, HasUnsignedDigitsIfOk, IsNumeral, ParsesUnsigned, digits_value, without_leading_plus}
+use Rattle.clap.specs.Words.{ReadsOne, Row, Text, TriesOne, one_of, one_text, rows_of}
+use Rattle.clap.specs.declared.parser.matches.Found.{Found}
+use Rattle.clap.proofs.WalkLemmas.{one_text-rows}
+use Rattle.rds_tool.specs.CommandLine.{IsFlag, IsInput, IsJob, MaySpell, Spells}
+use Rattle.rds_tool.specs.declared.job.Input.{Input}
+use Rattle.rds_tool.specs.declared.job.Job.{Job}
+use Rattle.rds_tool.specs.declared.job.Job.TheVariants.{Scan}
+
+-- the way in which the unsigned types of std read a number of so many binary digits
+abbrev pub reads_unsigned : ℕ → Text → Result ℕ ParseIntError → Type 0
+reads_unsigned width text r = ParsesUnsigned width 10 text r × ExplainsUnsignedError 10 text r × HasUnsignedDigitsIfOk text r
+
+pub flag_rows : (f : Found) (id : Text) (b : Bool) → IsFlag (one_text f id) b → IsFlag (one_of id (rows_of f)) b
+flag_rows f id b h = subst (λ (o : Option Text). IsFlag o b) (one_text-rows f id) h
+
+spelled : (width : ℕ) (t : Text) (n : ℕ) → reads_unsigned width t (Ok n) → Spells width (Some t) n
+spelled width t n h = (h.0.0.0, h.0.0.1, h.0.1)
+
+refused : (width : ℕ) (t : Text) (e : ParseIntError) → reads_unsigned width t (Err e) → (n : ℕ) → Spells width (Some t) n → ⊥
+refused width t e h n s = h.0 (s.0, s.1)
+
+may_at : (width : ℕ) (o : Option Text) (r : Result (Option ℕ) ParseIntError)
+    → (o ≡ None → r ≡ Ok None) → ((t : Text) → o ≡ Some t → TriesOne (reads_unsigned width) t r) → IfOk r (λ n. MaySpell width o n)
+may_at width o (Err e) none value = tt
+may_at width None (Ok None) none value = refl
+may_at width None (Ok (Some n)) none value = cc (none refl)
+may_at width (Some t) (Ok None) none value = absurd (value t refl)
+may_at width (Some t) (Ok (Some n)) none value = spelled width t n (value t refl)
+
+-- an option without a default is read as it is spelled
+pub may_rows : (width : ℕ) (f : Found) (id : Text) (r : Result (Option ℕ) ParseIntError) (s : Option (Option ℕ)) → s ≡ result_ok r
+    → (one_text f id ≡ None → r ≡ Ok None) → ((t : Text) → one_text f id ≡ Some t → TriesOne (reads_unsigned width) t r)
+    → IfSome s (λ n. MaySpell width (one_of id (rows_of f)) n)
+may_rows width f id (Err e) s is none value = rw is tt
+may_rows width f id (Ok n) s is none value =
+    rw is (subst (λ (o : Option Text). MaySpell width o n) (one_text-rows f id) (may_at width (one_text f id) (Ok n) none value))
+
+may_none_at : (width : ℕ) (o : Option Text) (e : ParseIntError)
+    → (o ≡ None → let r : Result (Option ℕ) ParseIntError = Err e in r ≡ Ok None) → ((t : Text) → o ≡ Some t → reads_unsigned width t (Err e)) → (n : Option ℕ) → MaySpell width o n → ⊥
+may_none_at width None e none value n h = let bad : (let r : Result (Option ℕ) ParseIntError = Err e in r ≡ Ok None) = none refl in cc bad
+may_none_at width (Some t) e none value None h = cc h
+may_none_at width (Some t) e none value (Some n) h = refused width t e (value t refl) n h
+
+-- and where it isn't read, it spells none
+pub may_none : (width : ℕ) (f : Found) (id : Text) (r : Result (Option ℕ) ParseIntError) (s : Option (Option ℕ)) → s ≡ result_ok r
+    → (one_text f id ≡ None → r ≡ Ok None) → ((t : Text) → one_text f id ≡ Some t → TriesOne (reads_unsigned width) t r)
+    → IfNone s ((n : Option ℕ) → MaySpell width (one_of id (rows_of f)) n → ⊥)
+may_none width f id (Ok n) s is none value = rw is tt
+may_none width f id (Err e) s is none value =
+    rw is (λ n h. may_none_at width (one_text f id) e none value n (subst (λ (o : Option Text). MaySpell width o n) (sym (one_text-rows f id)) h))
+
+-- no input, no job
+pub no_job : (name : Text) (rows : List Row) → ((input : Input) → IsInput rows input → ⊥) → (job : Job) → IsJob name rows job → ⊥
+no_job name rows none (Scan input) h = none input h.1

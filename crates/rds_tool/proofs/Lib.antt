@@ -1,0 +1,4 @@
+pub mod Getters
+pub mod Refusing
+pub mod RowText
+pub mod Steps

@@ -1,0 +1,17 @@
+use Rattle.std.proofs.Common.{◌≡◌, ◌∙◌, ap, refl, true, map, List, ℕ, Bor}
+use Rattle.std.proofs.lemmas.Result.{IfOk-weaker}
+use Rattle.clap.specs.Words.{App, is_simple, subcommand_of}
+use Rattle.clap.specs.Faults.{is_simple_and_free}
+use Rattle.clap.proofs.OnLiterals.{clap_on_literals}
+use Rattle.rds_tool.specs.CommandLine.{rds_app}
+use Rattle.rds_tool.proofs.cli.matches_of.Goals as goal
+
+is_simple_app : is_simple rds_app ≡ true
+unfolding clap_on_literals
+is_simple_app = refl
+
+pub returns-clause-entries : goal.returns-clause-entries
+returns-clause-entries c =
+    let e = c.in_ok-rds_command.ensures in
+    let parse = c.try_get_matches_from in
+    IfOk-weaker parse.result _ _ (λ m h. (h (ap is_simple e ∙ is_simple_app)).1 ∙ ap (λ (a : App). subcommand_of a (map (λ (w : Bor (List ℕ)). w.now) c.args.words.now)) e) parse.ensures.matches

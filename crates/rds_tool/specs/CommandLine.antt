@@ -1,0 +1,82 @@
+-- The command line, as `clap` reads it, and the job that its words ask for. This project's rule.
+use Rattle.std.specs.Prelude.{◌≡◌, ◌≢◌, ◌⊎◌, ◌<◌, ◌^◌, ⊤, Bool, List, None, Option, Some, [], codes, false, true, ℕ, ◌∷◌}
+use Rattle.std.specs.Str.Parse.{IsNumeral, digits_value, without_leading_plus}
+use Rattle.clap.specs.Words.{App, IsAmong, Kinds, Row, Rule, Text, fault_of, new_app, new_rule, one_of, subcommand_of, with_rule, with_subcommand}
+use Rattle.clap.specs.declared.builder.action.ArgAction.TheVariants.{Set, SetTrue}
+use Rattle.clap.specs.declared.builder.value_parser.ValueParser.TheVariants as parser
+use Rattle.clap.specs.declared.error.kind.ErrorKind.{ErrorKind}
+use Rattle.clap.specs.declared.error.kind.ErrorKind.TheVariants as kind
+use Rattle.rds_tool.specs.declared.cli.FaultKind.{FaultKind}
+use Rattle.rds_tool.specs.declared.cli.FaultKind.TheVariants.{Help, Memory, Words}
+use Rattle.rds_tool.specs.declared.job.Input.{Input}
+use Rattle.rds_tool.specs.declared.job.Job.{Job}
+use Rattle.rds_tool.specs.declared.job.Job.TheVariants.{Scan}
+
+-- ---- the commands and their options
+
+-- `--hex`, a flag
+abbrev pub hex_rule : Rule
+hex_rule = record (new_rule (codes "hex")) { long = Some (codes "hex"); action = Some SetTrue }
+
+-- `--bits N`, from 0 to 2^40, with no default
+abbrev pub bits_rule : Rule
+bits_rule = record (new_rule (codes "bits")) { long = Some (codes "bits"); action = Some Set; parser = Some (parser.Unsigned 0 1099511627776); value_names = 1 }
+
+-- a command that reads a recording
+abbrev pub recording_app : Text → App
+recording_app name = with_rule (with_rule (new_app name) hex_rule) bits_rule
+
+-- the program, which wants a command
+abbrev pub bare_app : App
+bare_app = let app = new_app (codes "rds") in record app { top = record app.top { subcommand_required = true } }
+
+abbrev pub rds_app : App
+rds_app = with_subcommand bare_app (recording_app (codes "scan")).top
+
+-- ---- what the words give
+
+-- the command that the words name, with the entries of its options, defaults too
+abbrev pub entries_of : List Text → Option (Text × List Row)
+entries_of words = subcommand_of rds_app words
+
+-- the kinds of fault that `clap` finds in the words, none where it takes them
+abbrev pub faults_of : List Text → Kinds
+faults_of words = fault_of rds_app words
+
+-- the entry spells the number in decimal digits, after a plus or not, and the number has at most that many binary digits
+abbrev pub Spells : ℕ → Option Text → ℕ → Type 0
+Spells width None n = ⊥
+Spells width (Some text) n = IsNumeral 10 (without_leading_plus text) × (digits_value 10 (without_leading_plus text) < 2 ^ width)
+    × (n ≡ digits_value 10 (without_leading_plus text))
+
+-- there is no entry and no number, or the entry spells the number
+abbrev pub MaySpell : ℕ → Option Text → Option ℕ → Type 0
+MaySpell width entry None = entry ≡ None
+MaySpell width entry (Some n) = Spells width entry n
+
+-- the flag was given, or not
+abbrev pub IsFlag : Option Text → Bool → Type 0
+IsFlag entry b = (entry ≡ None → b ≡ false) × (entry ≡ Some (codes "true") → b ≡ true) × (entry ≡ Some (codes "false") → b ≡ false)
+
+-- the input that the entries give
+pub record IsInput (rows : List Row) (input : Input) : Type 0 where
+  pub hex : IsFlag (one_of (codes "hex") rows) input.hex
+  pub bits : MaySpell 64 (one_of (codes "bits") rows) input.bits
+
+-- the job that a command and its entries give
+abbrev pub IsJob : Text → List Row → Job → Type 0
+IsJob name rows (Scan input) = (name ≡ codes "scan") × IsInput rows input
+
+abbrev pub IsJobOf : Option (Text × List Row) → Job → Type 0
+IsJobOf None job = ⊥
+IsJobOf (Some entries) job = IsJob entries.0 entries.1 job
+
+-- ---- when there is no job
+
+-- the kind of answer that these faults and entries allow: help where it was asked for; a refusal of the words where
+-- they have another fault, or where none of them is at fault and yet no job has their entries; want of memory ever
+abbrev pub MayAnswer : Kinds → Option (Text × List Row) → FaultKind → Type 0
+MayAnswer faults entries Help = IsAmong kind.DisplayHelp faults
+MayAnswer faults entries Words = ((k : ErrorKind) × (k ≢ kind.DisplayHelp) × IsAmong k faults)
+    ⊎ ((faults ≡ []) × ((job : Job) → IsJobOf entries job → ⊥))
+MayAnswer faults entries Memory = ⊤

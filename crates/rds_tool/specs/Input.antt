@@ -1,0 +1,46 @@
+-- The recording that an input stands for. This project's rule.
+use Rattle.std.specs.Prelude.{◌*◌, ◌==◌, ◌^◌, ◌||◌, ℕ, Bool, Err, List, None, Ok, Option, Result, Some, if◌then◌else◌, length, nat_lt, not}
+use Rattle.std.specs.List.{filter}
+use Rattle.hex.specs.Hex.{decode_of}
+use Rattle.hex.specs.declared.error.FromHexError.{FromHexError}
+use Rattle.rds_stream.specs.Recording.{bits_of}
+use Rattle.rds_tool.specs.declared.error.ToolError.{ToolError}
+use Rattle.rds_tool.specs.declared.error.ToolError.TheVariants.{BitsPastBytes, HexText, TooLong}
+use Rattle.rds_tool.specs.declared.job.Input.{Input}
+
+-- the second step, if the first was not refused
+abbrev pub and_then : {A B : Type 0} → Result A ToolError → (A → Result B ToolError) → Result B ToolError
+and_then (Ok x) step = step x
+and_then (Err e) step = Err e
+
+-- space, tab, carriage return and line feed
+abbrev pub is_blank : ℕ → Bool
+is_blank b = (b == 32) || (b == 9) || (b == 13) || (b == 10)
+
+abbrev pub or_hex_text : Result (List ℕ) FromHexError → Result (List ℕ) ToolError
+or_hex_text (Ok bytes) = Ok bytes
+or_hex_text (Err e) = Err HexText
+
+-- the bytes of hexadecimal text, in which blanks don't count
+abbrev pub decoded : List ℕ → Result (List ℕ) ToolError
+decoded text = or_hex_text (decode_of (filter (λ b. not (is_blank b)) text))
+
+-- the bytes of a recording
+abbrev pub bytes_of : Input → List ℕ → Result (List ℕ) ToolError
+bytes_of input held = if input.hex then decoded held else Ok held
+
+-- how many bits are claimed, where none are all those of the bytes
+abbrev pub claimed : Option ℕ → List ℕ → ℕ
+claimed (Some bits) bytes = bits
+claimed None bytes = 8 * length bytes
+
+-- the first so many bits of the bytes: at most 2^36, and no more than the bytes hold
+abbrev pub first_bits : ℕ → List ℕ → Result (List ℕ) ToolError
+first_bits bits bytes =
+    if nat_lt (2 ^ 36) bits then Err TooLong
+    else if nat_lt (8 * length bytes) bits then Err BitsPastBytes
+    else Ok (bits_of bytes bits)
+
+-- the bits of the recording, by all bytes that the reader held
+abbrev pub recording_of : Input → List ℕ → Result (List ℕ) ToolError
+recording_of input held = and_then (bytes_of input held) (λ bytes. first_bits (claimed input.bits bytes) bytes)

@@ -1,0 +1,92 @@
+//! A command line as a job.
+ghost use Rattle.std.specs.Prelude.{◌≡◌, ◌≢◌, [], IfErr, IfOk, OnOk, map, string_bytes};
+ghost use Rattle.clap.specs.Kinds.{FailsBy};
+ghost use Rattle.clap.specs.Values.{kind_of};
+ghost use Rattle.clap.specs.Words.{subcommand_rows_of};
+ghost use Rattle.rds_tool.specs.CommandLine.{IsJobOf, MayAnswer};
+ghost use Rattle.rds_tool.specs.CommandLine.{entries_of, faults_of};
+
+use crate::Job;
+use crate::commands::rds_command;
+use crate::entries::job_in;
+use clap::ArgMatches;
+use clap::error::ErrorKind;
+use std::alloc::Global;
+
+/// Why words are no job.
+#[derive(Clone, Copy, Debug, PartialEq, Eq)]
+pub enum FaultKind {
+    /// Help was asked for.
+    Help,
+    /// The words aren't a command line.
+    Words,
+    /// A growth of memory was refused.
+    Memory,
+}
+
+/// What to show in place of doing a job.
+#[derive(Debug, Drop)]
+pub struct CliFault {
+    /// Whether that is help that was asked for, or why the words were refused.
+    pub kind: FaultKind,
+    /// The text to show, its line ends included. It is empty where memory was refused.
+    pub text: String,
+}
+
+/// The job that a command line asks for. The words begin with the program's name.
+///
+/// An answer without a job is help where the words ask for it, and a refusal of the words where they
+/// have a fault; either can be want of memory instead.
+pub fn job_of(alloc: Global, words: &[&str]) -> Result<Job, CliFault>
+    ensures entries { IfOk result (IsJobOf (entries_of (map (λ word. word.now) words.now))) }
+    ensures faultless { OnOk result (faults_of (map (λ word. word.now) words.now) ≡ []) }
+    ensures refused { IfErr result (λ fault. MayAnswer (faults_of (map (λ word. word.now) words.now)) (entries_of (map (λ word. word.now) words.now)) fault.kind) }
+    ensures memory { IfErr result (λ fault. fault.kind ≡ FaultKind.Memory → string_bytes fault.text ≡ []) }
+{
+    let matches = match matches_of(alloc, words) {
+        Ok(matches) => matches,
+        Err(error) => return Err(fault_of(alloc, &error)),
+    };
+    match job_in(&matches) {
+        Some(job) => Ok(job),
+        None => Err(CliFault {
+            kind: FaultKind::Words,
+            text: String::new(alloc),
+        }),
+    }
+}
+
+// What `clap` makes of the words.
+fn matches_of<'a>(alloc: Global, words: &'a [&'a str]) -> Result<ArgMatches<'a>, clap::Error>
+    ensures entries { IfOk result (λ matches. subcommand_rows_of matches ≡ entries_of (map (λ word. word.now) words.entry.now)) }
+    ensures faults { FailsBy (faults_of (map (λ word. word.now) words.entry.now)) result }
+{
+    rds_command(alloc)?.try_get_matches_from(words)
+}
+
+// What is shown for an error of `clap`.
+fn fault_of(alloc: Global, error: &clap::Error) -> CliFault
+    ensures help { result.kind ≡ FaultKind.Help → kind_of error.now ≡ ErrorKind.DisplayHelp }
+    ensures words { result.kind ≡ FaultKind.Words → (kind_of error.now ≢ ErrorKind.DisplayHelp) × (kind_of error.now ≢ ErrorKind.OutOfMemory) }
+    ensures memory { result.kind ≡ FaultKind.Memory → string_bytes result.text ≡ [] }
+{
+    let kind = match error.kind() {
+        ErrorKind::OutOfMemory => return out_of_memory(alloc),
+        ErrorKind::DisplayHelp => FaultKind::Help,
+        _ => FaultKind::Words,
+    };
+    match error.to_string(alloc) {
+        Ok(text) => CliFault { kind, text },
+        Err(_) => out_of_memory(alloc),
+    }
+}
+
+fn out_of_memory(alloc: Global) -> CliFault
+    ensures kind { result.kind ≡ FaultKind.Memory }
+    ensures text { string_bytes result.text ≡ [] }
+{
+    CliFault {
+        kind: FaultKind::Memory,
+        text: String::new(alloc),
+    }
+}

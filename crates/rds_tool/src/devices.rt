@@ -1,0 +1,177 @@
+//! The two ends of a transcription: where bytes come from, and where they go.
+ghost use Rattle.std.specs.Prelude.{◌≡◌, ℕ, ◌+◌, ◌^◌, ◌<◌, ◌≤◌, List, Option, length, IfOk};
+ghost use Rattle.std.specs.Io.KnownBytes.{Keeps, ReadConsumes, WriteAppends};
+ghost use Rattle.rds_tool.specs.Devices.{failures_of_flush, failures_of_read, failures_of_write};
+
+use std::io::{Read, Write};
+
+/// A call of a device that went wrong. Why it did is the device's to say.
+#[derive(Clone, Copy, Debug, PartialEq, Eq)]
+pub struct Failed;
+
+/// A reader that counts its failures.
+///
+/// An implementor says by `remaining` which bytes are still to come, or `None` where no contract can
+/// name them, as for a file or a pipe.
+pub trait Source {
+    // The bytes that reads will give from here on, where they are known.
+    ghost remaining: { Self → Option (List ℕ) };
+    // How many calls have failed.
+    ghost failed: { Self → ℕ };
+
+    /// One read: fills the front of `buf` and answers how many bytes that were.
+    ///
+    /// No byte into a buffer that isn't empty is the end of the input.
+    fn read(&mut self, buf: &mut [u8]) -> Result<usize, Failed>
+        requires { failed self.old < 2 ^ 63 }
+        ensures within { IfOk result (λ count. count ≤ length buf.new) }
+        ensures bytes { ReadConsumes (remaining self.old) (remaining self.new) result buf.new }
+        ensures counts { failed self.new ≡ failed self.old + failures_of_read result };
+
+    /// How many reads have failed.
+    fn failures(&self) -> u64
+        ensures { result ≡ failed self.now };
+}
+
+/// A writer that counts its failures.
+///
+/// An implementor says by `contents` which bytes it holds, or `None` where no contract can name them.
+pub trait Sink {
+    // The bytes that were written, where they are known.
+    ghost contents: { Self → Option (List ℕ) };
+    // How many calls have failed.
+    ghost failed: { Self → ℕ };
+
+    /// One write: takes some bytes from the front of `bytes` and answers how many.
+    ///
+    /// To take none of some is a failure, although the call may then answer `Ok(0)`.
+    fn write(&mut self, bytes: &[u8]) -> Result<usize, Failed>
+        requires { failed self.old < 2 ^ 63 }
+        ensures within { IfOk result (λ count. count ≤ length bytes.now) }
+        ensures bytes { WriteAppends (contents self.old) (contents self.new) result bytes.now }
+        ensures counts { failed self.new ≡ failed self.old + failures_of_write result bytes.now };
+
+    /// Hands on what a buffer may still hold.
+    fn flush(&mut self) -> Result<(), Failed>
+        requires { failed self.old < 2 ^ 63 }
+        ensures bytes { Keeps (contents self.old) (contents self.new) }
+        ensures counts { failed self.new ≡ failed self.old + failures_of_flush result };
+
+    /// How many writes and flushes have failed.
+    fn failures(&self) -> u64
+        ensures { result ≡ failed self.now };
+}
+
+/// A source over a reader of std, which knows the bytes to come where that reader does.
+///
+/// Each error of the reader is a failure, an interruption too.
+#[derive(Drop)]
+pub struct FromRead<R> {
+    reader: R,
+    failures: u64,
+}
+
+impl<R: Read> FromRead<R> {
+    ghost use Rattle.rds_tool.specs.Ends.{read_failures, reader_under};
+
+    /// The source over this reader, which has not failed yet.
+    pub fn new(reader: R) -> FromRead<R>
+        ensures reader { reader_under result ≡ reader }
+        ensures failures { read_failures result ≡ 0 }
+    {
+        FromRead {
+            reader,
+            failures: 0,
+        }
+    }
+}
+
+impl<R: Read> Source for FromRead<R> {
+    ghost remaining = { λ source. R.remaining source.reader };
+
+    ghost failed = { λ source. source.failures };
+
+    fn read(&mut self, buf: &mut [u8]) -> Result<usize, Failed> {
+        match self.reader.read(buf) {
+            Ok(count) => Ok(count),
+            Err(_) => {
+                self.failures += 1;
+                Err(Failed)
+            }
+        }
+    }
+
+    fn failures(&self) -> u64 {
+        self.failures
+    }
+}
+
+/// A sink over a writer of std, which knows the bytes written where that writer does.
+///
+/// Each error of the writer is a failure, an interruption too, and so is a write that takes no byte of
+/// some.
+#[derive(Drop)]
+pub struct ToWrite<W> {
+    writer: W,
+    failures: u64,
+}
+
+impl<W: Write> ToWrite<W> {
+    ghost use Rattle.rds_tool.specs.Ends.{write_failures, writer_under};
+
+    /// The sink over this writer, which has not failed yet.
+    pub fn new(writer: W) -> ToWrite<W>
+        ensures writer { writer_under result ≡ writer }
+        ensures failures { write_failures result ≡ 0 }
+    {
+        ToWrite {
+            writer,
+            failures: 0,
+        }
+    }
+
+    /// The writer underneath.
+    pub fn into_inner(self) -> W
+        ensures { result ≡ writer_under self }
+    {
+        let ToWrite {
+            writer,
+            failures: _,
+        } = self;
+        writer
+    }
+}
+
+impl<W: Write> Sink for ToWrite<W> {
+    ghost contents = { λ sink. W.contents sink.writer };
+
+    ghost failed = { λ sink. sink.failures };
+
+    fn write(&mut self, bytes: &[u8]) -> Result<usize, Failed> {
+        match self.writer.write(bytes) {
+            Ok(0) if !bytes.is_empty() => {
+                self.failures += 1;
+                Ok(0)
+            }
+            Ok(count) => Ok(count),
+            Err(_) => {
+                self.failures += 1;
+                Err(Failed)
+            }
+        }
+    }
+
+    fn flush(&mut self) -> Result<(), Failed> {
+        match self.writer.flush() {
+            Ok(()) => Ok(()),
+            Err(_) => {
+                self.failures += 1;
+                Err(Failed)
+            }
+        }
+    }
+
+    fn failures(&self) -> u64 {
+        self.failures
+    }
+}

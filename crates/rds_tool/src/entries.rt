@@ -1,0 +1,51 @@
+//! The entries of a parsed command line, as a job.
+ghost use Rattle.std.specs.Prelude.{◌≡◌, IfNone, IfSome, List, Option, codes, ℕ};
+ghost use Rattle.clap.specs.Words.{found_of, one_of, rows_of, subcommand_rows_of};
+ghost use Rattle.rds_tool.specs.declared.job.Input.{Input};
+ghost use Rattle.rds_tool.specs.declared.job.Job.{Job};
+ghost use Rattle.rds_tool.specs.CommandLine.{IsFlag, IsInput, IsJob, IsJobOf, MaySpell};
+
+use crate::{Input, Job};
+use clap::ArgMatches;
+
+/// The job of a parsed command line, or none where no job has its entries.
+pub fn job_in(matches: &ArgMatches<'_>) -> Option<Job>
+    ensures job { IfSome result (IsJobOf (subcommand_rows_of matches.now)) }
+    ensures none { IfNone result ((job : Job) → IsJobOf (subcommand_rows_of matches.now) job → ⊥) }
+{
+    let (name, entries) = matches.subcommand()?;
+    job_named(name, entries)
+}
+
+fn job_named(name: &str, entries: &ArgMatches<'_>) -> Option<Job>
+    ensures job { IfSome result (IsJob name.now (rows_of (found_of entries.now))) }
+    ensures none { IfNone result ((job : Job) → IsJob name.now (rows_of (found_of entries.now)) job → ⊥) }
+{
+    match name {
+        "scan" => Some(Job::Scan(input_in(entries)?)),
+        _ => None,
+    }
+}
+
+fn input_in(entries: &ArgMatches<'_>) -> Option<Input>
+    ensures input { IfSome result (IsInput (rows_of (found_of entries.now))) }
+    ensures none { IfNone result ((input : Input) → IsInput (rows_of (found_of entries.now)) input → ⊥) }
+{
+    Some(Input {
+        hex: hex_in(entries),
+        bits: bits_in(entries)?,
+    })
+}
+
+fn hex_in(entries: &ArgMatches<'_>) -> bool
+    ensures { IsFlag (one_of (codes "hex") (rows_of (found_of entries.now))) result }
+{
+    entries.get_flag("hex")
+}
+
+fn bits_in(entries: &ArgMatches<'_>) -> Option<Option<u64>>
+    ensures bits { IfSome result (MaySpell 64 (one_of (codes "bits") (rows_of (found_of entries.now)))) }
+    ensures none { IfNone result ((bits : Option ℕ) → MaySpell 64 (one_of (codes "bits") (rows_of (found_of entries.now))) bits → ⊥) }
+{
+    entries.try_get_one::<u64>("bits").ok()
+}

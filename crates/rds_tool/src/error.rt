@@ -1,0 +1,94 @@
+//! Why a transcription is refused.
+ghost use Rattle.std.specs.Prelude.{◌≡◌};
+ghost use Rattle.rds_tool.specs.Refusals.{name_of, number_of, of_stream};
+ghost use Rattle.rds_tool.specs.declared.error.ToolError.TheVariants.{OutOfMemory};
+
+use rds_stream::StreamError;
+use std::alloc::{AllocError, AllocFailed};
+use thiserror::Error;
+
+/// Why a transcription is refused. Each refusal has a number and a name, which the program prints.
+#[derive(Clone, Copy, Debug, PartialEq, Eq, Error)]
+pub enum ToolError {
+    /// More bits are claimed than the bytes hold.
+    #[error("more bits are claimed than the bytes hold")]
+    BitsPastBytes,
+    /// The recording has more than 2^36 bits.
+    #[error("the recording has more than 2^36 bits")]
+    TooLong,
+    /// A growth of memory was refused.
+    #[error("out of memory")]
+    OutOfMemory,
+    /// The reader failed.
+    #[error("the reader failed")]
+    Read,
+    /// The writer failed.
+    #[error("the writer failed")]
+    Write,
+    /// The hexadecimal input has an odd number of digits or a strange byte.
+    #[error("the input is no hexadecimal text")]
+    HexText,
+    /// The reader gave bytes 16,777,216 times, and no end had come.
+    #[error("the input has no end")]
+    TooManyTurns,
+}
+
+impl ToolError {
+    /// The number of the refusal.
+    pub fn number(self) -> u8
+        ensures { result ≡ number_of self }
+    {
+        match self {
+            ToolError::BitsPastBytes => 4,
+            ToolError::TooLong => 5,
+            ToolError::OutOfMemory => 8,
+            ToolError::Read => 9,
+            ToolError::Write => 10,
+            ToolError::HexText => 11,
+            ToolError::TooManyTurns => 13,
+        }
+    }
+
+    /// The name of the refusal, as printed after its number.
+    pub fn name(self) -> &'static str
+        ensures { result.now ≡ name_of self }
+    {
+        match self {
+            ToolError::BitsPastBytes => "BitsPastBytes",
+            ToolError::TooLong => "TooLong",
+            ToolError::OutOfMemory => "OutOfMemory",
+            ToolError::Read => "Read",
+            ToolError::Write => "Write",
+            ToolError::HexText => "HexText",
+            ToolError::TooManyTurns => "TooManyTurns",
+        }
+    }
+}
+
+impl From<AllocError> for ToolError {
+    ghost from_gives = { λ _ error. error ≡ OutOfMemory };
+
+    fn from(_error: AllocError) -> ToolError {
+        ToolError::OutOfMemory
+    }
+}
+
+impl<T: Drop> From<AllocFailed<T>> for ToolError {
+    ghost from_gives = { λ _ error. error ≡ OutOfMemory };
+
+    fn from(_error: AllocFailed<T>) -> ToolError {
+        ToolError::OutOfMemory
+    }
+}
+
+impl From<StreamError> for ToolError {
+    ghost from_gives = { λ below error. error ≡ of_stream below };
+
+    fn from(error: StreamError) -> ToolError {
+        match error {
+            StreamError::TooLong => ToolError::TooLong,
+            StreamError::BitsPastBytes => ToolError::BitsPastBytes,
+            StreamError::OutOfMemory => ToolError::OutOfMemory,
+        }
+    }
+}

@@ -1,0 +1,19 @@
+//! The tool.
+#![tactic(auto)]
+
+mod cli;
+mod commands;
+mod devices;
+mod engine;
+mod entries;
+mod error;
+mod help;
+mod input;
+mod job;
+mod rows;
+
+pub use cli::{CliFault, FaultKind, job_of};
+pub use devices::{Failed, FromRead, Sink, Source, ToWrite};
+pub use engine::transcribe;
+pub use error::ToolError;
+pub use job::{Input, Job};
