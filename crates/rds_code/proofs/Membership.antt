@@ -1,7 +1,7 @@
 -- Lists of numbers, by a test of membership that computes.
-use Rattle.std.proofs.Common.{◌≡◌, ◌≢◌, ℕ, zero, suc, ◌+◌, ◌<◌, List, [], ◌∷◌, Bool, true, false, not, cond, map, refl, sym, ap, ◌∙◌, arith, inl, inr, ⊎_elim, eqb, length, get_or}
-use Rattle.std.specs.List.{filter, list_all, range_with_len, Contains}
-use Rattle.std.proofs.lemmas.Bool.{cases_Bool, eqb-true, eq-eqb, cases_eq, ne_eqb}
+use Rattle.std.proofs.Common.{◌≡◌, ℕ, zero, suc, ◌<◌, List, [], ◌∷◌, Bool, true, false, cond, map, refl, sym, ap, ◌∙◌, arith, inl, inr, eqb}
+use Rattle.std.specs.List.{filter}
+use Rattle.std.proofs.lemmas.Bool.{cases_Bool, eq-eqb, cases_eq, ne_eqb}
 
 -- whether x is among the numbers
 abbrev pub is_among : ℕ → List ℕ → Bool
@@ -25,15 +25,15 @@ among_more x y ys h = elim (cases_eq x y) [ inl e ↦ among_head x y ys e | inr 
 pub among_map : (f : ℕ → ℕ) (x : ℕ) (xs : List ℕ) → is_among x xs ≡ true → is_among (f x) (map f xs) ≡ true
 among_map f x [] h = cc
 among_map f x (y ∷ ys) h = elim (cases_eq x y) [
-    inl same ↦ among_head (f x) (f y) (map f ys) (ap f same)
+  | inl same ↦ among_head (f x) (f y) (map f ys) (ap f same)
   | inr other ↦ among_more (f x) (f y) (map f ys) (among_map f x ys (sym (among_tail x y ys other) ∙ h))
-  ]
+]
 
 pub differ_tail : (x : ℕ) (xs : List ℕ) → all_differ (x ∷ xs) ≡ true → (is_among x xs ≡ false) × (all_differ xs ≡ true)
 differ_tail x xs h = elim (cases_Bool (is_among x xs)) [
-    inl found ↦ let e : all_differ (x ∷ xs) ≡ false = ap (λ (b : Bool). cond b false (all_differ xs)) found in let no : true ≡ false = sym h ∙ e in absurd (cc no)
+  | inl found ↦ let e : all_differ (x ∷ xs) ≡ false = ap (λ (b : Bool). cond b false (all_differ xs)) found in let no : true ≡ false = sym h ∙ e in absurd (cc no)
   | inr none ↦ let e : all_differ (x ∷ xs) ≡ all_differ xs = ap (λ (b : Bool). cond b false (all_differ xs)) none in (none, sym e ∙ h)
-  ]
+]
 
 -- where the values of f differ, one value is of one number
 pub one_of_each : (f : ℕ → ℕ) (xs : List ℕ) → all_differ (map f xs) ≡ true → (x y : ℕ) → is_among x xs ≡ true → is_among y xs ≡ true → f x ≡ f y → x ≡ y
@@ -41,13 +41,13 @@ one_of_each f [] h x y hx hy e = cc
 one_of_each f (z ∷ zs) h x y hx hy e =
     let d = differ_tail (f z) (map f zs) h in
     elim (cases_eq x z) [
-      inl xz ↦ elim (cases_eq y z) [
-        inl yz ↦ xz ∙ sym yz
-      | inr yo ↦ let t = among_map f y zs (sym (among_tail y z zs yo) ∙ hy) in let no : false ≡ true = sym d.0 ∙ ap (λ (n : ℕ). is_among n (map f zs)) (ap f (sym xz) ∙ e) ∙ t in absurd (cc no)
+      | inl xz ↦ elim (cases_eq y z) [
+        | inl yz ↦ xz ∙ sym yz
+        | inr yo ↦ let t = among_map f y zs (sym (among_tail y z zs yo) ∙ hy) in let no : false ≡ true = sym d.0 ∙ ap (λ (n : ℕ). is_among n (map f zs)) (ap f (sym xz) ∙ e) ∙ t in absurd (cc no)
       ]
-    | inr xo ↦ elim (cases_eq y z) [
-        inl yz ↦ let t = among_map f x zs (sym (among_tail x z zs xo) ∙ hx) in let no : false ≡ true = sym d.0 ∙ ap (λ (n : ℕ). is_among n (map f zs)) (ap f (sym yz) ∙ sym e) ∙ t in absurd (cc no)
-      | inr yo ↦ one_of_each f zs d.1 x y (sym (among_tail x z zs xo) ∙ hx) (sym (among_tail y z zs yo) ∙ hy) e
+      | inr xo ↦ elim (cases_eq y z) [
+        | inl yz ↦ let t = among_map f x zs (sym (among_tail x z zs xo) ∙ hx) in let no : false ≡ true = sym d.0 ∙ ap (λ (n : ℕ). is_among n (map f zs)) (ap f (sym yz) ∙ sym e) ∙ t in absurd (cc no)
+        | inr yo ↦ one_of_each f zs d.1 x y (sym (among_tail x z zs xo) ∙ hx) (sym (among_tail y z zs yo) ∙ hy) e
       ]
     ]
 
@@ -87,37 +87,37 @@ filter_drops p y ys h = ap (λ (b : Bool). cond b (y ∷ filter p ys) (filter p 
 pub among_filter : (p : ℕ → Bool) (x : ℕ) (xs : List ℕ) → is_among x xs ≡ true → p x ≡ true → is_among x (filter p xs) ≡ true
 among_filter p x [] h passed = h
 among_filter p x (y ∷ ys) h passed = elim (cases_eq x y) [
-    inl here ↦ ap (is_among x) (filter_keeps p y ys (ap p (sym here) ∙ passed)) ∙ among_head x y (filter p ys) here
+  | inl here ↦ ap (is_among x) (filter_keeps p y ys (ap p (sym here) ∙ passed)) ∙ among_head x y (filter p ys) here
   | inr other ↦
       let rest = among_filter p x ys (sym (among_tail x y ys other) ∙ h) passed in
       elim (cases_Bool (p y)) [
-        inl kept ↦ ap (is_among x) (filter_keeps p y ys kept) ∙ among_more x y (filter p ys) rest
-      | inr dropped ↦ ap (is_among x) (filter_drops p y ys dropped) ∙ rest
+        | inl kept ↦ ap (is_among x) (filter_keeps p y ys kept) ∙ among_more x y (filter p ys) rest
+        | inr dropped ↦ ap (is_among x) (filter_drops p y ys dropped) ∙ rest
       ]
-  ]
+]
 
 -- and nothing else
 pub filter_among : (p : ℕ → Bool) (x : ℕ) (xs : List ℕ) → is_among x (filter p xs) ≡ true → (is_among x xs ≡ true) × (p x ≡ true)
 filter_among p x [] h = let no : false ≡ true = h in absurd (cc no)
 filter_among p x (y ∷ ys) h = elim (cases_Bool (p y)) [
-    inl kept ↦ elim (cases_eq x y) [
-        inl here ↦ (among_head x y ys here, ap p here ∙ kept)
-      | inr other ↦
-          let rest = filter_among p x ys (sym (among_tail x y (filter p ys) other) ∙ ap (is_among x) (sym (filter_keeps p y ys kept)) ∙ h) in
-          (among_more x y ys rest.0, rest.1)
-      ]
+  | inl kept ↦ elim (cases_eq x y) [
+    | inl here ↦ (among_head x y ys here, ap p here ∙ kept)
+    | inr other ↦
+        let rest = filter_among p x ys (sym (among_tail x y (filter p ys) other) ∙ ap (is_among x) (sym (filter_keeps p y ys kept)) ∙ h) in
+        (among_more x y ys rest.0, rest.1)
+  ]
   | inr dropped ↦
       let rest = filter_among p x ys (ap (is_among x) (sym (filter_drops p y ys dropped)) ∙ h) in
       (among_more x y ys rest.0, rest.1)
-  ]
+]
 
 -- what no number passes leaves nothing
 pub filter_none : (p : ℕ → Bool) (xs : List ℕ) → ((x : ℕ) → is_among x xs ≡ true → p x ≡ true → ⊥) → filter p xs ≡ []
 filter_none p [] none = refl
 filter_none p (y ∷ ys) none = elim (cases_Bool (p y)) [
-    inl kept ↦ absurd (none y (among_head y y ys refl) kept)
+  | inl kept ↦ absurd (none y (among_head y y ys refl) kept)
   | inr dropped ↦ filter_drops p y ys dropped ∙ filter_none p ys (λ x h. none x (among_more x y ys h))
-  ]
+]
 
 -- what one number alone passes leaves that number
 pub filter_one : (p : ℕ → Bool) (x : ℕ) (xs : List ℕ) → all_differ xs ≡ true → is_among x xs ≡ true → p x ≡ true → ((y : ℕ) → is_among y xs ≡ true → p y ≡ true → y ≡ x) → filter p xs ≡ x ∷ []
@@ -125,17 +125,17 @@ filter_one p x [] differ h passed only = let no : false ≡ true = h in absurd (
 filter_one p x (y ∷ ys) differ h passed only =
     let apart = differ_tail y ys differ in
     elim (cases_Bool (p y)) [
-      inl kept ↦
-        let here : y ≡ x = only y (among_head y y ys refl) kept in
-        filter_keeps p y ys kept
-        ∙ ap (λ (zs : List ℕ). y ∷ zs) (filter_none p ys (λ z among pass.
-            let same : z ≡ y = only z (among_more z y ys among) pass ∙ sym here in
-            let no : false ≡ true = sym apart.0 ∙ ap (λ (n : ℕ). is_among n ys) (sym same) ∙ among in cc no))
-        ∙ ap (λ (n : ℕ). n ∷ []) here
-    | inr dropped ↦
-        let other : x ≡ y → ⊥ = λ e. let no : false ≡ true = sym dropped ∙ ap p (sym e) ∙ passed in cc no in
-        filter_drops p y ys dropped
-        ∙ filter_one p x ys apart.1 (sym (among_tail x y ys other) ∙ h) passed (λ z among pass. only z (among_more z y ys among) pass)
+      | inl kept ↦
+          let here : y ≡ x = only y (among_head y y ys refl) kept in
+          filter_keeps p y ys kept
+          ∙ ap (λ (zs : List ℕ). y ∷ zs) (filter_none p ys (λ z among pass.
+          let same : z ≡ y = only z (among_more z y ys among) pass ∙ sym here in
+          let no : false ≡ true = sym apart.0 ∙ ap (λ (n : ℕ). is_among n ys) (sym same) ∙ among in cc no))
+          ∙ ap (λ (n : ℕ). n ∷ []) here
+      | inr dropped ↦
+          let other : x ≡ y → ⊥ = λ e. let no : false ≡ true = sym dropped ∙ ap p (sym e) ∙ passed in cc no in
+          filter_drops p y ys dropped
+          ∙ filter_one p x ys apart.1 (sym (among_tail x y ys other) ∙ h) passed (λ z among pass. only z (among_more z y ys among) pass)
     ]
 
 pub differ_unmap : (f : ℕ → ℕ) (xs : List ℕ) → all_differ (map f xs) ≡ true → all_differ xs ≡ true
@@ -143,6 +143,18 @@ differ_unmap f [] h = refl
 differ_unmap f (x ∷ xs) h =
     let apart = differ_tail (f x) (map f xs) h in
     elim (cases_Bool (is_among x xs)) [
-      inl found ↦ let no : false ≡ true = sym apart.0 ∙ among_map f x xs found in absurd (cc no)
-    | inr none ↦ ap (λ (b : Bool). cond b false (all_differ xs)) none ∙ differ_unmap f xs apart.1
+      | inl found ↦ let no : false ≡ true = sym apart.0 ∙ among_map f x xs found in absurd (cc no)
+      | inr none ↦ ap (λ (b : Bool). cond b false (all_differ xs)) none ∙ differ_unmap f xs apart.1
+    ]
+
+pub differ_filter : (p : ℕ → Bool) (xs : List ℕ) → all_differ xs ≡ true → all_differ (filter p xs) ≡ true
+differ_filter p [] h = refl
+differ_filter p (x ∷ xs) h =
+    let apart = differ_tail x xs h in
+    elim (cases_Bool (p x)) [
+      | inl kept ↦ elim (cases_Bool (is_among x (filter p xs))) [
+        | inl found ↦ let no : false ≡ true = sym apart.0 ∙ (filter_among p x xs found).0 in absurd (cc no)
+        | inr none ↦ ap all_differ (filter_keeps p x xs kept) ∙ ap (λ (b : Bool). cond b false (all_differ (filter p xs))) none ∙ differ_filter p xs apart.1
+      ]
+      | inr dropped ↦ ap all_differ (filter_drops p x xs dropped) ∙ differ_filter p xs apart.1
     ]

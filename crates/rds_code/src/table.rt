@@ -55,7 +55,11 @@ impl BurstTable {
             return None;
         }
         let burst = Burst::new(pattern);
-        if burst.span() <= limit { Some(burst) } else { None }
+        if burst.span() <= limit {
+            Some(burst)
+        } else {
+            None
+        }
     }
 }
 

@@ -10,8 +10,8 @@ use std::marker::Model;
 /// The most bits that a recording may hold.
 const MOST_BITS: u64 = 1 << 36;
 
-/// The lowest 26 places of a number.
-const BLOCK: u64 = (1 << 26) - 1;
+/// Ones in the 26 places of a block.
+pub(crate) const BLOCK: u32 = (1 << 26) - 1;
 
 /// Demodulated bits with their places from 0 on. Contracts see the list of the bits, each 0 or 1.
 ///
@@ -99,6 +99,7 @@ impl Recording {
         ensures value { result ≡ window self.now i }
         ensures block { result < 2 ^ 26 }
     {
+        // A window lies in four bytes, or in five where it begins with the last bit of one.
         let last = (i / 8) as usize;
         let bytes = self.bytes.as_slice();
         let four = [
@@ -109,6 +110,6 @@ impl Recording {
         ];
         let before = if i % 8 == 0 { bytes[last - 4] } else { 0 };
         let places = (before as u64) << 32 | u32::from_be_bytes(four) as u64;
-        (places >> (7 - i % 8) & BLOCK) as u32
+        (places >> (7 - i % 8) & BLOCK as u64) as u32
     }
 }

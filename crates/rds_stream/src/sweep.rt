@@ -5,13 +5,10 @@ ghost use Rattle.rds_stream.specs.Recording.{off, valid_windows};
 ghost use Rattle.rds_stream.specs.Sweep.{SweepState, IsCarried};
 
 use crate::error::StreamError;
-use crate::recording::Recording;
+use crate::recording::{BLOCK, Recording};
 use rds_code::{Offset, next_remainder, offset_of, rem26};
 use std::alloc::Global;
 use std::marker::Model;
-
-/// The lowest 26 places of a number.
-const BLOCK: u32 = (1 << 26) - 1;
 
 /// A cursor over the places of a recording that answers the offset of each in turn.
 ///
@@ -46,14 +43,6 @@ impl Sweep<'_> {
             window,
             remainder: rem26(window),
         }
-    }
-
-    /// The place at which it stands, at most the number of bits.
-    pub fn place(&self) -> u64
-        ensures value { result ≡ self.now.place }
-        ensures limit { result ≤ length self.now.bits }
-    {
-        self.place
     }
 
     /// The offset of the place at which it stands, or none; then it stands one place on.

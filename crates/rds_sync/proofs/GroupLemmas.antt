@@ -1,7 +1,7 @@
 -- What a group says, read off its blocks.
-use Rattle.std.proofs.Common.{◌≡◌, ◌≢◌, ℕ, zero, suc, ◌+◌, ◌-◌, ◌*◌, ◌<◌, ◌≤◌, ◌⊎◌, List, [], ◌∷◌, ◌++◌, length, Bool, true, false, Option, Some, None, refl, sym, ap, ◌∙◌, subst, arith, eqb, inl, inr, ⊎_elim}
+use Rattle.std.proofs.Common.{◌≡◌, ◌≢◌, ℕ, zero, suc, ◌+◌, ◌-◌, ◌*◌, ◌<◌, ◌≤◌, ◌⊎◌, List, [], ◌∷◌, Bool, true, false, Option, Some, None, refl, sym, ap, ◌∙◌, arith, inl, inr}
 use Rattle.std.proofs.lemmas.Bool.{le-leb, lt-leb, cases_Bool, cases_lt, eqb-true}
-use Rattle.std.specs.Prelude.{◌==◌, ◌&&◌, ◌↔◌, nat_le, IsTrue, is_some, slice_get, option_map}
+use Rattle.std.specs.Prelude.{◌==◌, ◌&&◌, nat_le, is_some, slice_get}
 use Rattle.rds_code.specs.declared.offset.Offset.{Offset}
 use Rattle.rds_code.specs.declared.offset.Offset.TheVariants.{A as OA, B as OB, C, Cx, D}
 use Rattle.rds_code.specs.declared.reading.Wanted.{Wanted}
@@ -18,8 +18,8 @@ use Rattle.rds_sync.specs.declared.Block.{Block}
 use Rattle.rds_sync.specs.declared.Block.TheVariants.{Missing, Read}
 use Rattle.rds_sync.specs.declared.Group.{Group}
 use Rattle.rds_sync.specs.Rules.{RuleNumbers}
-use Rattle.rds_sync.specs.Groups.{info_of, type_in, version_of_bit, version_of_offset, version_by_bit, first_known, version, differ, in_conflict, are_complete, wanted_beside, block_at, group_of, group}
-use Rattle.rds_sync.specs.GroupLaws.{IsBlock, BlocksAreRead, VersionIsRead, VersionsDiffer, GroupIsRead}
+use Rattle.rds_sync.specs.Groups.{info_of, version_of_bit, version_of_offset, version_by_bit, first_known, version, differ, in_conflict, are_complete, wanted_beside, block_at, group_of, group}
+use Rattle.rds_sync.specs.GroupLaws.{VersionIsRead, VersionsDiffer, GroupIsRead}
 
 -- which of C and C' is wanted matters for block 3 alone
 pub reading-wanted_1 : (w limit : ℕ) (wanted : Wanted) → reading w 1 Either limit ≡ reading w 1 wanted limit
@@ -48,19 +48,19 @@ pub reading-number : (w x limit : ℕ) (wanted : Wanted) (o : Offset) (info : �
 reading-number w x limit wanted o info e = at_case (offset_of (rem w)) e where
   at_case : (r : Option Offset)
       → elim r as (λ _. Reading) [
-          None ↦ corrected w x wanted limit
+        | None ↦ corrected w x wanted limit
         | Some q ↦ elim (number q == x) as (λ _. Reading) [ true ↦ Valid q (information w) | false ↦ corrected w x wanted limit ]
-        ] ≡ Valid o info → number o ≡ x
+      ] ≡ Valid o info → number o ≡ x
   at_case None t = absurd (by_only-valid w (corrections (wanted_offsets x wanted) limit w) o info t)
   at_case (Some q) t = elim (cases_Bool (number q == x)) [
-      inl same ↦
-      let valid : Valid q (information w) ≡ Valid o info = rw same at t in
-      let q_is : q ≡ o = cc valid in
-      ap number (sym q_is) ∙ eqb-true (number q) x same
+    | inl same ↦
+        let valid : Valid q (information w) ≡ Valid o info = rw same at t in
+        let q_is : q ≡ o = cc valid in
+        ap number (sym q_is) ∙ eqb-true (number q) x same
     | inr other ↦
-      let not_valid : corrected w x wanted limit ≡ Valid o info = rw other at t in
-      absurd (by_only-valid w (corrections (wanted_offsets x wanted) limit w) o info not_valid)
-    ]
+        let not_valid : corrected w x wanted limit ≡ Valid o info = rw other at t in
+        absurd (by_only-valid w (corrections (wanted_offsets x wanted) limit w) o info not_valid)
+  ]
 
 number_3 : (o : Offset) → number o ≡ 3 → (o ≡ C) ⊎ (o ≡ Cx)
 number_3 OA e = absurd (omega arith)
@@ -109,14 +109,14 @@ by_correction second third o info burst e t =
 
 version_is_read : (second third : Block) → ((o : Offset) (info : ℕ) → third ≡ Read (Valid o info) → number o ≡ 3) → VersionIsRead (version second third) second third
 version_is_read second third only = record {
-    valid_c = λ info e. ap (version second) e;
-    valid_cx = λ info e. ap (version second) e;
-    no_other = λ o info e. number_3 o (only o info e);
-    by_bit = by_bit second third;
-    corrected_c = λ none info burst e. by_correction second third C info burst none e;
-    corrected_cx = λ none info burst e. by_correction second third Cx info burst none e;
-    unknown = by_nothing second third;
-  }
+  valid_c = λ info e. ap (version second) e;
+  valid_cx = λ info e. ap (version second) e;
+  no_other = λ o info e. number_3 o (only o info e);
+  by_bit = by_bit second third;
+  corrected_c = λ none info burst e. by_correction second third C info burst none e;
+  corrected_cx = λ none info burst e. by_correction second third Cx info burst none e;
+  unknown = by_nothing second third;
+}
 
 -- conflicts
 
@@ -151,9 +151,14 @@ conflict_says second (Read (Valid o info)) t = at_case (info_of second) refl whe
   at_case None e =
       let none : differ Unknown (version_of_offset o) ≡ true = ap (λ (v : Version). differ v (version_of_offset o)) (sym (bit_unknown second e)) ∙ t in
       cc (none, differ_unknown (version_of_offset o))
-  at_case (Some word) e =
-      (o, info, word, refl, e,
-        differ_same (version_of_bit word) (version_of_offset o) (ap (λ (v : Version). differ v (version_of_offset o)) (sym (bit_says second word e)) ∙ t))
+  at_case (Some word) e = (
+    o,
+    info,
+    word,
+    refl,
+    e,
+    differ_same (version_of_bit word) (version_of_offset o) (ap (λ (v : Version). differ v (version_of_offset o)) (sym (bit_says second word e)) ∙ t),
+  )
 
 says_conflict : (second third : Block) → ((o : Offset) (info : ℕ) → third ≡ Read (Valid o info) → number o ≡ 3) → VersionsDiffer second third → in_conflict second third ≡ true
 says_conflict second third only h =
@@ -236,15 +241,15 @@ module _ (b : List ℕ) (rules : RuleNumbers) (f x p : ℕ) where
   -- block 3 was read as number 3
   third_number : (o : Offset) (info : ℕ) → third ≡ Read (Valid o info) → number o ≡ 3
   third_number o info e = elim (cases_lt 3 f) [
-      inl early ↦ let none : Missing ≡ Read (Valid o info) = sym (block_at-missing (wanted_beside second) 3 (inl early)) ∙ e in cc none
+    | inl early ↦ let none : Missing ≡ Read (Valid o info) = sym (block_at-missing (wanted_beside second) 3 (inl early)) ∙ e in cc none
     | inr after ↦ elim (cases_lt x 3) [
-        inl late ↦ let none : Missing ≡ Read (Valid o info) = sym (block_at-missing (wanted_beside second) 3 (inr late)) ∙ e in cc none
+      | inl late ↦ let none : Missing ≡ Read (Valid o info) = sym (block_at-missing (wanted_beside second) 3 (inr late)) ∙ e in cc none
       | inr before ↦
-        let is : Read (reading (window b (p - 26 * (x - 3))) 3 (wanted_beside second) rules.burst) ≡ Read (Valid o info) =
+          let is : Read (reading (window b (p - 26 * (x - 3))) 3 (wanted_beside second) rules.burst) ≡ Read (Valid o info) =
           sym (block_at-read (wanted_beside second) 3 after before) ∙ e in
-        reading-number (window b (p - 26 * (x - 3))) 3 rules.burst (wanted_beside second) o info (cc is)
-      ]
+          reading-number (window b (p - 26 * (x - 3))) 3 rules.burst (wanted_beside second) o info (cc is)
     ]
+  ]
 
   read_as : 1 ≤ f → x ≤ 4 → (y : ℕ) → f ≤ y → y ≤ x
       → slice_get the_group.blocks (y - 1) ≡ Some (Read (reading (window b (p - 26 * (x - y))) y (wanted_beside second) rules.burst))
@@ -266,19 +271,21 @@ module _ (b : List ℕ) (rules : RuleNumbers) (f x p : ℕ) where
   pub group-is_read : 1 ≤ f → f ≤ x → x ≤ 4 → 26 * (x - f) + 25 ≤ p → GroupIsRead b rules f x p (group b rules f x p)
   unfolding group
   group-is_read low order high room = record {
-      second = second;
-      third = third;
-      is_second = refl;
-      is_third = refl;
-      blocks = record {
-        four = refl;
-        begins = omega arith;
-        read = read_as low high;
-        missing = is_missing;
-      };
-      kind = refl;
-      version = version_is_read second third third_number;
-      conflict = (conflict_says second third, says_conflict second third third_number);
-      complete = (complete_says (block_at b rules f x p Either 1) second third (block_at b rules f x p Either 4),
-        says_complete (block_at b rules f x p Either 1) second third (block_at b rules f x p Either 4));
-    }
+    second = second;
+    third = third;
+    is_second = refl;
+    is_third = refl;
+    blocks = record {
+      four = refl;
+      begins = omega arith;
+      read = read_as low high;
+      missing = is_missing;
+    };
+    kind = refl;
+    version = version_is_read second third third_number;
+    conflict = (conflict_says second third, says_conflict second third third_number);
+    complete = (
+      complete_says (block_at b rules f x p Either 1) second third (block_at b rules f x p Either 4),
+      says_complete (block_at b rules f x p Either 1) second third (block_at b rules f x p Either 4),
+    );
+  }

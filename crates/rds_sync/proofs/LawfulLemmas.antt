@@ -1,17 +1,14 @@
 -- Where a place acquires, and the states that follow on a lawful one.
-use Rattle.std.proofs.Common.{◌≡◌, ◌≢◌, ℕ, zero, suc, ◌+◌, ◌-◌, ◌*◌, ◌%◌, ◌<◌, ◌≤◌, ◌⊎◌, List, [], ◌∷◌, ◌++◌, Bool, true, false, Option, Some, None, refl, sym, ap, ◌∙◌, subst, arith, eqb, inl, inr, ⊎_elim}
-use Rattle.std.proofs.lemmas.Bool.{ne_eqb, eq-eqb, cases_eq, cases_lt, cases_Bool, eqb-true, lt-ltb, le-ltb}
-use Rattle.std.specs.Prelude.{nat_lt, ◌==◌}
+use Rattle.std.proofs.Common.{◌≡◌, ℕ, zero, suc, ◌+◌, ◌-◌, ◌*◌, ◌%◌, ◌<◌, ◌≤◌, List, [], Bool, true, false, Option, Some, None, refl, sym, ap, ◌∙◌, subst, arith, inl, inr, ⊎_elim}
+use Rattle.std.proofs.lemmas.Bool.{ne_eqb, cases_eq, cases_lt, cases_Bool, eqb-true, lt-ltb}
+use Rattle.std.specs.Prelude.{◌==◌}
 use Rattle.std.specs.List.{list_any, range_with_len}
 use Rattle.rds_code.specs.declared.offset.Offset.{Offset}
 use Rattle.rds_code.specs.declared.offset.Offset.TheVariants.{A, B, C, Cx, D}
-use Rattle.rds_code.specs.Offsets.{number, offset_of}
-use Rattle.rds_code.specs.Remainder.{rem}
-use Rattle.rds_stream.specs.Recording.{off, window}
+use Rattle.rds_code.specs.Offsets.{number}
+use Rattle.rds_stream.specs.Recording.{off}
 use Rattle.rds_sync.specs.declared.State.{State}
 use Rattle.rds_sync.specs.declared.State.TheVariants.{Searching, Locked}
-use Rattle.rds_sync.specs.declared.Item.{Item}
-use Rattle.rds_sync.specs.declared.Item.TheVariants.{Acquired, Group, LostLock}
 use Rattle.rds_sync.specs.Rules.{RuleNumbers}
 use Rattle.rds_sync.specs.Acquiring.{acquired, has_number, has_partner, with_partner}
 use Rattle.rds_sync.specs.Lawful.{IsLawful, IsLawfulLock, IsBetweenGroups}
@@ -31,9 +28,9 @@ module _ (b : List ℕ) where
   pub off-place : (i : ℕ) (o : Offset) → off b i ≡ Some o → 25 ≤ i
   unfolding off
   off-place i o e = elim (cases_lt i 25) [
-      inl early ↦ let t : None ≡ Some o = rw (lt-ltb i 25 early, off) at e in cc t
+    | inl early ↦ let t : None ≡ Some o = rw (lt-ltb i 25 early, off) at e in cc t
     | inr late ↦ late
-    ]
+  ]
 
   -- an offset of number x, as a fact
   pub has_number-offset : (i x : ℕ) → has_number b i x ≡ true → (o : Offset) × (off b i ≡ Some o) × (number o ≡ x)
@@ -63,12 +60,12 @@ module _ (b : List ℕ) where
 pub any-range : (p : ℕ → Bool) (a n : ℕ) → list_any p (range_with_len a n) ≡ true → (k : ℕ) × (a ≤ k) × (k < a + n) × (p k ≡ true)
 any-range p a zero h = cc
 any-range p a (suc n) h = elim (cases_Bool (p a)) [
-    inl here ↦ (a, omega arith, omega arith, here)
+  | inl here ↦ (a, omega arith, omega arith, here)
   | inr not_here ↦
-    let later : list_any p (range_with_len (a + 1) n) ≡ true = rw not_here at h in
-    let found = any-range p (a + 1) n later in
-    (found.0, omega (arith, found.1), omega (arith, found.2), found.3)
-  ]
+      let later : list_any p (range_with_len (a + 1) n) ≡ true = rw not_here at h in
+      let found = any-range p (a + 1) n later in
+      (found.0, omega (arith, found.1), omega (arith, found.2), found.3)
+]
 
 module _ (b : List ℕ) (rules : RuleNumbers) where
   -- what it is that a place acquires
@@ -92,8 +89,14 @@ module _ (b : List ℕ) (rules : RuleNumbers) where
     at_case (Some o) w t =
         let f = if_partner (list_any (has_partner b i (number o)) (range_with_len 1 rules.reach)) (number o) x t in
         let any = any-range (has_partner b i (number o)) 1 rules.reach f.0 in
-        record { offset = o; here = w; number_is = f.1; distance = any.0; within_reach = (any.1, omega (arith, any.2));
-          partner = subst (λ (y : ℕ). has_partner b i y any.0 ≡ true) f.1 any.3 }
+        record {
+          offset = o;
+          here = w;
+          number_is = f.1;
+          distance = any.0;
+          within_reach = (any.1, omega (arith, any.2));
+          partner = subst (λ (y : ℕ). has_partner b i y any.0 ≡ true) f.1 any.3;
+        }
 
   -- a place acquires with a number from 1 to 4
   pub acquired-range : (i x : ℕ) → acquired b rules i ≡ Some x → (1 ≤ x) × (x ≤ 4)
@@ -125,16 +128,16 @@ module _ (b : List ℕ) (rules : RuleNumbers) where
 pub lawful-locked_after : (rules : RuleNumbers) (i x bad first : ℕ) → bad < rules.loss → 26 * (x - first) + 25 ≤ i → 1 ≤ first → first ≤ x → x ≤ 4
     → IsLawful rules (i + 1) (locked_after i x bad first)
 lawful-locked_after rules i x bad first few enough low order high = elim (cases_eq x 4) [
-    inl four ↦
-    let e : locked_after i x bad first ≡ Locked (i + 26) 1 bad 1 = rw four refl in
-    subst (λ (s : State). IsLawful rules (i + 1) s) (sym e)
+  | inl four ↦
+      let e : locked_after i x bad first ≡ Locked (i + 26) 1 bad 1 = rw four refl in
+      subst (λ (s : State). IsLawful rules (i + 1) s) (sym e)
       (record { soon = (omega arith, omega arith); few_bad = few; enough_bits = omega arith; in_order = inl (refl, refl) })
   | inr less ↦
-    let n : x % 4 + 1 ≡ x + 1 = omega arith in
-    let e : locked_after i x bad first ≡ Locked (i + 26) (x + 1) bad first = rw (ne_eqb x 4 less, n) refl in
-    subst (λ (s : State). IsLawful rules (i + 1) s) (sym e)
+      let n : x % 4 + 1 ≡ x + 1 = omega arith in
+      let e : locked_after i x bad first ≡ Locked (i + 26) (x + 1) bad first = rw (ne_eqb x 4 less, n) refl in
+      subst (λ (s : State). IsLawful rules (i + 1) s) (sym e)
       (record { soon = (omega arith, omega arith); few_bad = few; enough_bits = omega arith; in_order = inr (low, omega arith, omega arith) })
-  ]
+]
 
 -- the numbers of a lawful lock
 pub lawful-numbers : (rules : RuleNumbers) (place due number bad first : ℕ) → IsLawfulLock rules place due number bad first
@@ -152,22 +155,22 @@ module _ (b : List ℕ) (rules : RuleNumbers) where
         let r = acquired-range b rules i x e in
         let p = acquired-place b rules i x e in
         subst (λ (t : State). IsLawful rules (i + 1) t) (sym (step-acquiring b rules i x e))
-          (lawful-locked_after rules i x 0 x loss (omega arith) (omega (arith, r)) (omega arith) (omega (arith, r)))
+        (lawful-locked_after rules i x 0 x loss (omega arith) (omega (arith, r)) (omega arith) (omega (arith, r)))
   lawful-step loss i (Locked due number bad first) lawful = elim (cases_eq due i) [
-      inl same ↦
-      let n = lawful-numbers rules i due number bad first lawful in
-      let enough : 26 * (number - first) + 25 ≤ i = omega (arith, lawful.enough_bits) in
-      subst (λ (d : ℕ). IsLawful rules (i + 1) (step b rules i (Locked d number bad first))) (sym same)
+    | inl same ↦
+        let n = lawful-numbers rules i due number bad first lawful in
+        let enough : 26 * (number - first) + 25 ≤ i = omega (arith, lawful.enough_bits) in
+        subst (λ (d : ℕ). IsLawful rules (i + 1) (step b rules i (Locked d number bad first))) (sym same)
         (elim (cases_lt (bad_after b i number bad) rules.loss) [
-          inl few ↦ subst (λ (t : State). IsLawful rules (i + 1) t) (sym (step-keeping b rules i number bad first few))
-            (lawful-locked_after rules i number (bad_after b i number bad) first few enough n.0 n.1 n.2)
-        | inr many ↦ subst (λ (t : State). IsLawful rules (i + 1) t) (sym (step-losing b rules i number bad first many)) tt
+          | inl few ↦ subst (λ (t : State). IsLawful rules (i + 1) t) (sym (step-keeping b rules i number bad first few))
+              (lawful-locked_after rules i number (bad_after b i number bad) first few enough n.0 n.1 n.2)
+          | inr many ↦ subst (λ (t : State). IsLawful rules (i + 1) t) (sym (step-losing b rules i number bad first many)) tt
         ])
     | inr other ↦
-      let soon = lawful.soon in
-      subst (λ (t : State). IsLawful rules (i + 1) t) (sym (step-waiting b rules due number bad first i other))
+        let soon = lawful.soon in
+        subst (λ (t : State). IsLawful rules (i + 1) t) (sym (step-waiting b rules due number bad first i other))
         (record { soon = (omega (arith, soon), omega (arith, soon)); few_bad = lawful.few_bad; enough_bits = lawful.enough_bits; in_order = lawful.in_order })
-    ]
+  ]
 
   -- a run leads from a lawful state to a lawful state
   pub lawful-run : 1 ≤ rules.loss → (s : State) (a n : ℕ) → IsLawful rules a s → IsLawful rules (a + n) (run b rules s a n).0
@@ -175,7 +178,7 @@ module _ (b : List ℕ) (rules : RuleNumbers) where
   lawful-run loss s a (suc n) lawful =
       let e : a + 1 + n ≡ a + suc n = omega arith in
       subst (λ (p : ℕ). IsLawful rules p (run b rules (step b rules a s) (a + 1) n).0) e
-        (lawful-run loss (step b rules a s) (a + 1) n (lawful-step loss a s lawful))
+      (lawful-run loss (step b rules a s) (a + 1) n (lawful-step loss a s lawful))
 
   pub lawful-run_places : 1 ≤ rules.loss → (s : State) (from to : ℕ) → from ≤ to → IsLawful rules from s → IsLawful rules to (run b rules s from (to - from)).0
   lawful-run_places loss s from to order lawful =
@@ -189,14 +192,14 @@ module _ (b : List ℕ) (rules : RuleNumbers) where
     at_case None e = step-searching b rules i e
     at_case (Some x) e = cc (none, items-acquiring b rules i x e)
   quiet-step i (Locked due number bad first) lawful none between = elim (cases_eq due i) [
-      inl same ↦ subst (λ (d : ℕ). items_at b rules i (Locked d number bad first) ≡ [] → IsBetweenGroups (step b rules i (Locked d number bad first))
-          → step b rules i (Locked d number bad first) ≡ Locked d number bad first) (sym same)
+    | inl same ↦ subst (λ (d : ℕ). items_at b rules i (Locked d number bad first) ≡ [] → IsBetweenGroups (step b rules i (Locked d number bad first))
+        → step b rules i (Locked d number bad first) ≡ Locked d number bad first) (sym same)
         (λ quiet after. elim (cases_lt (bad_after b i number bad) rules.loss) [
-          inl few ↦ absurd (kept few quiet (subst (λ (t : State). IsBetweenGroups t) (step-keeping b rules i number bad first few) after))
-        | inr many ↦ cc (quiet, items-losing b rules i number bad first many)
+          | inl few ↦ absurd (kept few quiet (subst (λ (t : State). IsBetweenGroups t) (step-keeping b rules i number bad first few) after))
+          | inr many ↦ cc (quiet, items-losing b rules i number bad first many)
         ]) none between
     | inr other ↦ step-waiting b rules due number bad first i other
-    ] where
+  ] where
     kept : bad_after b i number bad < rules.loss → items_at b rules i (Locked i number bad first) ≡ [] → IsBetweenGroups (locked_after i number (bad_after b i number bad) first) → ⊥
     kept few quiet after =
         let n = lawful-numbers rules i due number bad first lawful in

@@ -1,7 +1,7 @@
 -- Runs: over ranges in a row, while a block is waited for, up to the next block, and through a search.
-use Rattle.std.proofs.Common.{◌≡◌, ◌≢◌, ℕ, zero, suc, ◌+◌, ◌-◌, ◌*◌, ◌%◌, ◌<◌, ◌≤◌, List, [], ◌∷◌, ◌++◌, Bool, true, false, Option, Some, None, refl, sym, ap, ap₂, ◌∙◌, arith, append_assoc, append-nil, add-zero, zero-add, eqb, inl, inr}
+use Rattle.std.proofs.Common.{◌≡◌, ◌≢◌, ℕ, zero, suc, ◌+◌, ◌-◌, ◌<◌, ◌≤◌, List, [], ◌∷◌, ◌++◌, Some, None, refl, sym, ap, ap₂, ◌∙◌, arith, append_assoc, append-nil, add-zero, zero-add}
 use Rattle.std.proofs.Math.Nat.{suc-add}
-use Rattle.std.proofs.lemmas.Bool.{ne_eqb, eq-eqb, lt-ltb, le-ltb, cases_eq, cases_lt}
+use Rattle.std.proofs.lemmas.Bool.{ne_eqb, eq-eqb, lt-ltb, le-ltb}
 use Rattle.rds_sync.specs.declared.State.{State}
 use Rattle.rds_sync.specs.declared.State.TheVariants.{Searching, Locked}
 use Rattle.rds_sync.specs.declared.Item.{Item}
@@ -68,7 +68,7 @@ module _ (b : List ℕ) (rules : RuleNumbers) where
   run_items-append s a (suc m) n =
       let e : a + suc m ≡ a + 1 + m = omega arith in
       rw (suc-add, e) (ap (λ (is : List Item). items_at b rules a s ++ is) (run_items-append (step b rules a s) (a + 1) m n)
-        ∙ sym (append_assoc (items_at b rules a s) (run b rules (step b rules a s) (a + 1) m).1 _))
+      ∙ sym (append_assoc (items_at b rules a s) (run b rules (step b rules a s) (a + 1) m).1 _))
 
   pub run-append : (s : State) (a m n : ℕ)
       → run b rules s a (m + n) ≡ ((run b rules (run b rules s a m).0 (a + m) n).0, (run b rules s a m).1 ++ (run b rules (run b rules s a m).0 (a + m) n).1)
@@ -77,30 +77,35 @@ module _ (b : List ℕ) (rules : RuleNumbers) where
   -- the same, said by places: from `from` to `middle`, then to `to`
   pub run-places : (s : State) (from middle to : ℕ) → from ≤ middle → middle ≤ to
       → run b rules s from (to - from)
-        ≡ ((run b rules (run b rules s from (middle - from)).0 middle (to - middle)).0,
-           (run b rules s from (middle - from)).1 ++ (run b rules (run b rules s from (middle - from)).0 middle (to - middle)).1)
+      ≡ (
+        (run b rules (run b rules s from (middle - from)).0 middle (to - middle)).0,
+        (run b rules s from (middle - from)).1 ++ (run b rules (run b rules s from (middle - from)).0 middle (to - middle)).1,
+      )
   run-places s from middle to low high =
       let all : to - from ≡ (middle - from) + (to - middle) = omega arith in
       let place : from + (middle - from) ≡ middle = omega arith in
       rw all (run-append s from (middle - from) (to - middle)
-        ∙ ap (λ (p : ℕ). ((run b rules (run b rules s from (middle - from)).0 p (to - middle)).0,
-            (run b rules s from (middle - from)).1 ++ (run b rules (run b rules s from (middle - from)).0 p (to - middle)).1)) place)
+      ∙ ap (λ (p : ℕ). (
+        (run b rules (run b rules s from (middle - from)).0 p (to - middle)).0,
+        (run b rules s from (middle - from)).1 ++ (run b rules (run b rules s from (middle - from)).0 p (to - middle)).1,
+      )) place)
 
   -- two runs that are in one state have one end, and from there on the same items
   pub runs-merge : (s t : State) (from middle to : ℕ) → from ≤ middle → middle ≤ to
       → (run b rules s from (middle - from)).0 ≡ (run b rules t from (middle - from)).0
       → (later : List Item)
-        × ((run b rules s from (to - from)).0 ≡ (run b rules t from (to - from)).0)
-        × ((run b rules s from (to - from)).1 ≡ (run b rules s from (middle - from)).1 ++ later)
-        × ((run b rules t from (to - from)).1 ≡ (run b rules t from (middle - from)).1 ++ later)
+      × ((run b rules s from (to - from)).0 ≡ (run b rules t from (to - from)).0)
+      × ((run b rules s from (to - from)).1 ≡ (run b rules s from (middle - from)).1 ++ later)
+      × ((run b rules t from (to - from)).1 ≡ (run b rules t from (middle - from)).1 ++ later)
   runs-merge s t from middle to low high same =
       let one = run-places s from middle to low high in
-      let other = run-places t from middle to low high in
-      ((run b rules (run b rules s from (middle - from)).0 middle (to - middle)).1,
-       ap (λ (r : State × List Item). r.0) one ∙ ap (λ (u : State). (run b rules u middle (to - middle)).0) same ∙ sym (ap (λ (r : State × List Item). r.0) other),
-       ap (λ (r : State × List Item). r.1) one,
-       ap (λ (r : State × List Item). r.1) other
-         ∙ ap (λ (u : State). (run b rules t from (middle - from)).1 ++ (run b rules u middle (to - middle)).1) (sym same))
+      let other = run-places t from middle to low high in (
+        (run b rules (run b rules s from (middle - from)).0 middle (to - middle)).1,
+        ap (λ (r : State × List Item). r.0) one ∙ ap (λ (u : State). (run b rules u middle (to - middle)).0) same ∙ sym (ap (λ (r : State × List Item). r.0) other),
+        ap (λ (r : State × List Item). r.1) one,
+        ap (λ (r : State × List Item). r.1) other
+            ∙ ap (λ (u : State). (run b rules t from (middle - from)).1 ++ (run b rules u middle (to - middle)).1) (sym same),
+      )
 
   -- while a block is waited for, a run changes nothing and gives nothing
   pub run-waiting : (due number bad first a n : ℕ) → a + n ≤ due → run b rules (Locked due number bad first) a n ≡ (Locked due number bad first, [])

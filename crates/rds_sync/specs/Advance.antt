@@ -1,5 +1,5 @@
 -- One step of a decoder that takes its windows from a tape. This project's rule.
-use Rattle.std.specs.Prelude.{ℕ, ◌+◌, List, [], ◌∷◌, ◌++◌, Option, Some, None, true, false, nat_lt}
+use Rattle.std.specs.Prelude.{ℕ, ◌+◌, List, [], ◌∷◌, Option, Some, None, true, false, nat_lt}
 use Rattle.rds_sync.specs.declared.State.{State}
 use Rattle.rds_sync.specs.declared.State.TheVariants.{Searching, Locked}
 use Rattle.rds_sync.specs.declared.Group.{Group as GroupRecord}

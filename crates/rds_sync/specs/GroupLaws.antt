@@ -1,7 +1,6 @@
 -- What a group says, read off its blocks. The places of the blocks, the type and bit B0 are those of EN 50067:1998, 2.1 and 3.1.2;
 -- which of two versions holds, and when they are in conflict, is this project's rule.
-use Rattle.std.specs.Prelude.{◌≡◌, ◌≢◌, ◌↔◌, ℕ, ◌+◌, ◌-◌, ◌*◌, ◌/◌, ◌^◌, ◌<◌, ◌≤◌, ◌⊎◌, List, Option, Some, None, IsTrue, length, slice_get, option_map}
-use Rattle.std.specs.Int.{bit_at}
+use Rattle.std.specs.Prelude.{◌≡◌, ◌≢◌, ◌↔◌, ℕ, ◌+◌, ◌-◌, ◌*◌, ◌<◌, ◌≤◌, ◌⊎◌, List, Some, None, IsTrue, length, slice_get, option_map}
 use Rattle.rds_code.specs.declared.offset.Offset.{Offset}
 use Rattle.rds_code.specs.declared.offset.Offset.TheVariants.{C, Cx}
 use Rattle.rds_code.specs.declared.reading.Reading.TheVariants.{Valid, Corrected}
@@ -33,7 +32,7 @@ pub record VersionIsRead (version : Version) (second third : Block) : Type 0 whe
   pub valid_cx : (info : ℕ) → third ≡ Read (Valid Cx info) → version ≡ B
   pub no_other : (o : Offset) (info : ℕ) → third ≡ Read (Valid o info) → (o ≡ C) ⊎ (o ≡ Cx)
   pub by_bit : ((o : Offset) (info : ℕ) → third ≢ Read (Valid o info)) → (word : ℕ) → info_of second ≡ Some word
-    → version ≡ version_of_bit word
+      → version ≡ version_of_bit word
   pub corrected_c : info_of second ≡ None → (info burst : ℕ) → third ≡ Read (Corrected C info burst) → version ≡ A
   pub corrected_cx : info_of second ≡ None → (info burst : ℕ) → third ≡ Read (Corrected Cx info burst) → version ≡ B
   pub unknown : info_of second ≡ None → info_of third ≡ None → version ≡ Unknown
@@ -53,7 +52,7 @@ pub record GroupIsRead (b : List ℕ) (rules : RuleNumbers) (f x p : ℕ) (group
   pub version : VersionIsRead group.version second third
   pub conflict : IsTrue group.conflict ↔ VersionsDiffer second third
   pub complete : IsTrue (are_complete group.blocks)
-    ↔ ((y : ℕ) → 1 ≤ y → y ≤ 4 → (block : Block) × (word : ℕ) × IsBlock group y block × (info_of block ≡ Some word))
+      ↔ ((y : ℕ) → 1 ≤ y → y ≤ 4 → (block : Block) × (word : ℕ) × IsBlock group y block × (info_of block ≡ Some word))
 
 -- a group says what its blocks say
 abbrev pub GroupsAreRead : Type 0

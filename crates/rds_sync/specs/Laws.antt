@@ -1,13 +1,12 @@
 -- The laws of runs and reports, over the definitions alone. This project's rules.
-use Rattle.std.specs.Prelude.{◌≡◌, ◌≢◌, ◌↔◌, ℕ, ◌+◌, ◌-◌, ◌*◌, ◌<◌, ◌≤◌, ◌⊎◌, List, [], ◌∷◌, ◌++◌, Option, Some, None, length}
+use Rattle.std.specs.Prelude.{◌≡◌, ◌≢◌, ◌↔◌, ℕ, ◌+◌, ◌-◌, ◌<◌, ◌≤◌, ◌⊎◌, List, [], ◌++◌, Some, None, length}
 use Rattle.rds_sync.specs.declared.State.{State}
 use Rattle.rds_sync.specs.declared.State.TheVariants.{Searching, Locked}
 use Rattle.rds_sync.specs.declared.Item.{Item}
-use Rattle.rds_sync.specs.declared.Item.TheVariants.{Acquired}
 use Rattle.rds_sync.specs.Rules.{RuleNumbers}
 use Rattle.rds_sync.specs.Acquiring.{acquired}
 use Rattle.rds_sync.specs.Lawful.{IsLawful, IsBetweenGroups}
-use Rattle.rds_sync.specs.Step.{step, items_at, run, items_of_end, locked_after, group_after}
+use Rattle.rds_sync.specs.Step.{step, items_at, run, items_of_end}
 use Rattle.rds_sync.specs.Report.{report_items}
 
 -- the items of the run over a whole recording, with those of its end, are the report's
@@ -19,8 +18,8 @@ RunsAreReports = (b : List ℕ) (rules : RuleNumbers) → 1 ≤ rules.loss
 abbrev pub RunsJoin : Type 0
 RunsJoin = (b : List ℕ) (rules : RuleNumbers) (s : State) (from middle to : ℕ) → from ≤ middle → middle ≤ to
     → let first = run b rules s from (middle - from) in
-      let next = run b rules first.0 middle (to - middle) in
-      run b rules s from (to - from) ≡ (next.0, first.1 ++ next.1)
+    let next = run b rules first.0 middle (to - middle) in
+    run b rules s from (to - from) ≡ (next.0, first.1 ++ next.1)
 
 -- one bit leads from a lawful state to a lawful state
 abbrev pub StepsAreLawful : Type 0
@@ -36,12 +35,12 @@ RunsAreLawful = (b : List ℕ) (rules : RuleNumbers) → 1 ≤ rules.loss
 abbrev pub RunsMerge : Type 0
 RunsMerge = (b : List ℕ) (rules : RuleNumbers) (s t : State) (from middle to : ℕ) → from ≤ middle → middle ≤ to
     → let one = run b rules s from in
-      let other = run b rules t from in
-      (one (middle - from)).0 ≡ (other (middle - from)).0
+    let other = run b rules t from in
+    (one (middle - from)).0 ≡ (other (middle - from)).0
     → (later : List Item)
-      × ((one (to - from)).0 ≡ (other (to - from)).0)
-      × ((one (to - from)).1 ≡ (one (middle - from)).1 ++ later)
-      × ((other (to - from)).1 ≡ (other (middle - from)).1 ++ later)
+    × ((one (to - from)).0 ≡ (other (to - from)).0)
+    × ((one (to - from)).1 ≡ (one (middle - from)).1 ++ later)
+    × ((other (to - from)).1 ≡ (other (middle - from)).1 ++ later)
 
 -- a run over one bit is that bit
 abbrev pub OneBitRuns : Type 0

@@ -7,65 +7,54 @@ ghost use Rattle.rds_sync.specs.Laws.{RunsAreReports, RunsJoin, StepsAreLawful, 
 /// The items of the run over a whole recording, with those of its end, are those of its locks.
 pub fn runs_are_reports()
     ensures { RunsAreReports }
-{
-}
+{}
 
 /// A run over a range, and then from its end over the next, is the run over both.
 pub fn runs_join()
     ensures { RunsJoin }
-{
-}
+{}
 
 /// One bit leads from a lawful state to a lawful state.
 pub fn steps_are_lawful()
     ensures { StepsAreLawful }
-{
-}
+{}
 
 /// A run leads from a lawful state to a lawful state.
 pub fn runs_are_lawful()
     ensures { RunsAreLawful }
-{
-}
+{}
 
 /// Two runs over one range that are in one state before some bit have one end, and from there on the same items.
 pub fn runs_merge()
     ensures { RunsMerge }
-{
-}
+{}
 
 /// A run over one bit is that bit.
 pub fn one_bit_runs()
     ensures { OneBitRuns }
-{
-}
+{}
 
 /// While a block is waited for, a run changes nothing and gives nothing.
 pub fn locks_wait()
     ensures { LocksWait }
-{
-}
+{}
 
 /// While no place acquires, a search changes nothing and gives nothing.
 pub fn searches_go_on()
     ensures { SearchesGoOn }
-{
-}
+{}
 
 /// A bit gives an item exactly where it changes the state, and the state was a search or is between groups afterwards.
 pub fn items_mark_changes()
     ensures { ItemsMarkChanges }
-{
-}
+{}
 
 /// No place before 51 acquires, and each acquires with a number from 1 to 4.
 pub fn acquisitions_are_late()
     ensures { AcquisitionsAreLate }
-{
-}
+{}
 
 /// A group says what its blocks say: their places, its type, its version, whether it is in conflict, whether it is complete.
 pub fn groups_are_read()
     ensures { GroupsAreRead }
-{
-}
+{}

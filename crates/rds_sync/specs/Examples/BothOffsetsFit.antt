@@ -1,17 +1,14 @@
 -- A lost block 2 leaves both offsets for block 3: it is corrected only where one pair of an offset and a burst fits.
-use Rattle.std.specs.Prelude.{◌≡◌, ℕ, List, [], ◌∷◌, ◌++◌, refl, Some, None, true, false}
+use Rattle.std.specs.Prelude.{ℕ, List, [], ◌∷◌, ◌++◌, refl, None}
 use Rattle.std.specs.Int.Count.{count_leading_zeros, ones, count_trailing_zeros}
 use Rattle.rds_code.specs.Remainder.{rem}
-use Rattle.rds_code.specs.declared.offset.Offset.TheVariants.{A as OA, B as OB, C, Cx, D}
-use Rattle.rds_stream.specs.Recording.{bits_of, window, off}
-use Rattle.rds_sync.specs.declared.State.TheVariants.{Searching, Locked}
-use Rattle.rds_sync.specs.declared.Version.TheVariants.{A, B, Unknown}
+use Rattle.rds_code.specs.declared.offset.Offset.TheVariants.{A as OA, Cx, D}
+use Rattle.rds_stream.specs.Recording.{window, off}
+use Rattle.rds_sync.specs.declared.Version.TheVariants.{B, Unknown}
 use Rattle.rds_sync.specs.declared.Item.{Item}
-use Rattle.rds_sync.specs.declared.Item.TheVariants.{Acquired, Group, LostLock}
 use Rattle.rds_sync.specs.Acquiring.{acquired, has_number}
 use Rattle.rds_sync.specs.Groups.{group}
-use Rattle.rds_sync.specs.Step.{run}
-use Rattle.rds_sync.specs.Examples.Words.{zero_group, rules_of, default_rules, missing, valid, corrected, lost, group_at, totals, HasReport}
+use Rattle.rds_sync.specs.Examples.Words.{zero_group, rules_of, valid, corrected, lost, group_at, totals, HasReport}
 use Rattle.rds_sync.specs.Examples.ZeroGroup.{items_of_whole}
 
 -- a zero group, then one whose block 2 is inverted by a burst of span 6, and block 3 by 0x0000038

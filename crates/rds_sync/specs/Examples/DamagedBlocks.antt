@@ -1,17 +1,15 @@
 -- Blocks of a zero group inverted by a burst: corrected where the burst is within the limit, and else lost.
-use Rattle.std.specs.Prelude.{◌≡◌, ℕ, List, [], ◌∷◌, ◌++◌, refl, Some, None, true, false}
+use Rattle.std.specs.Prelude.{ℕ, List, [], ◌∷◌, ◌++◌, refl, Some, None}
 use Rattle.std.specs.Int.Count.{count_leading_zeros, ones, count_trailing_zeros}
 use Rattle.rds_code.specs.Remainder.{rem}
-use Rattle.rds_code.specs.declared.offset.Offset.TheVariants.{A as OA, B as OB, C, Cx, D}
-use Rattle.rds_stream.specs.Recording.{bits_of, window, off}
-use Rattle.rds_sync.specs.declared.State.TheVariants.{Searching, Locked}
-use Rattle.rds_sync.specs.declared.Version.TheVariants.{A, B, Unknown}
+use Rattle.rds_code.specs.declared.offset.Offset.TheVariants.{B as OB, C, D}
+use Rattle.rds_stream.specs.Recording.{window, off}
+use Rattle.rds_sync.specs.declared.Version.TheVariants.{A, Unknown}
 use Rattle.rds_sync.specs.declared.Item.{Item}
-use Rattle.rds_sync.specs.declared.Item.TheVariants.{Acquired, Group, LostLock}
+use Rattle.rds_sync.specs.declared.Item.TheVariants.{Acquired, LostLock}
 use Rattle.rds_sync.specs.Acquiring.{acquired, has_number}
 use Rattle.rds_sync.specs.Groups.{group}
-use Rattle.rds_sync.specs.Step.{run}
-use Rattle.rds_sync.specs.Examples.Words.{zero_group, rules_of, default_rules, missing, valid, corrected, lost, group_at, totals, HasReport}
+use Rattle.rds_sync.specs.Examples.Words.{rules_of, default_rules, missing, valid, corrected, lost, group_at, totals, HasReport}
 
 -- bit 15 of block 3 is inverted
 abbrev pub one_bit : List ℕ
@@ -56,11 +54,11 @@ one_bit_whole = 0x00 ∷ 0x00 ∷ 0x3f ∷ 0x00 ∷ 0x00 ∷ 0x19 ∷ 0x80 ∷ 0
 abbrev pub corrected_is_bad_items : List Item
 corrected_is_bad_items =
     Acquired 51 2
-  ∷ group_at 26 (Some 0) A missing (valid OB 0) (corrected C 0 0x0008000) missing
-  ∷ LostLock 77
-  ∷ Acquired 103 4
-  ∷ group_at 78 None Unknown missing missing missing (valid D 0)
-  ∷ []
+    ∷ group_at 26 (Some 0) A missing (valid OB 0) (corrected C 0 0x0008000) missing
+    ∷ LostLock 77
+    ∷ Acquired 103 4
+    ∷ group_at 78 None Unknown missing missing missing (valid D 0)
+    ∷ []
 
 -- a corrected block is a bad one: here the first bad block loses the lock
 pub corrected_is_bad : HasReport one_bit_whole 104 (rules_of 2 3 1) corrected_is_bad_items (totals 2 1 0 0 0 0 0 1 2 0 2 1)

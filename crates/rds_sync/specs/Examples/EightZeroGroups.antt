@@ -1,16 +1,13 @@
 -- Eight zero groups: one lock, by either reach.
-use Rattle.std.specs.Prelude.{◌≡◌, ℕ, List, [], ◌∷◌, ◌++◌, refl, Some, None, true, false}
+use Rattle.std.specs.Prelude.{ℕ, List, ◌++◌, refl, Some}
 use Rattle.rds_code.specs.Remainder.{rem}
-use Rattle.rds_code.specs.declared.offset.Offset.TheVariants.{A as OA, B as OB, C, Cx, D}
-use Rattle.rds_stream.specs.Recording.{bits_of, window, off}
-use Rattle.rds_sync.specs.declared.State.TheVariants.{Searching, Locked}
-use Rattle.rds_sync.specs.declared.Version.TheVariants.{A, B, Unknown}
+use Rattle.rds_code.specs.declared.offset.Offset.TheVariants.{A as OA, B as OB, C, D}
+use Rattle.rds_stream.specs.Recording.{window, off}
+use Rattle.rds_sync.specs.declared.Version.TheVariants.{A}
 use Rattle.rds_sync.specs.declared.Item.{Item}
-use Rattle.rds_sync.specs.declared.Item.TheVariants.{Acquired, Group, LostLock}
 use Rattle.rds_sync.specs.Acquiring.{acquired, has_number}
 use Rattle.rds_sync.specs.Groups.{group}
-use Rattle.rds_sync.specs.Step.{run}
-use Rattle.rds_sync.specs.Examples.Words.{zero_group, rules_of, default_rules, missing, valid, corrected, lost, group_at, totals, HasReport}
+use Rattle.rds_sync.specs.Examples.Words.{zero_group, rules_of, valid, group_at, totals, HasReport}
 use Rattle.std.specs.Prelude.{◌+◌, ◌*◌, map}
 use Rattle.std.specs.List.{range_with_len}
 use Rattle.rds_sync.specs.Examples.ZeroGroup.{items_of_whole}

@@ -1,17 +1,16 @@
 -- Runs over eight zero groups that begin with a search at place 190. A window at a false phase is valid as block 2 once in
 -- each group, at places 96, 200, 304 and so on.
-use Rattle.std.specs.Prelude.{◌≡◌, ℕ, List, [], ◌∷◌, ◌++◌, refl, Some, None, true, false}
+use Rattle.std.specs.Prelude.{◌≡◌, ℕ, List, [], ◌∷◌, refl, None}
 use Rattle.rds_code.specs.Remainder.{rem}
-use Rattle.rds_code.specs.declared.offset.Offset.TheVariants.{A as OA, B as OB, C, Cx, D}
+use Rattle.rds_code.specs.declared.offset.Offset.TheVariants.{D}
 use Rattle.rds_stream.specs.Recording.{bits_of, window, off}
 use Rattle.rds_sync.specs.declared.State.TheVariants.{Searching, Locked}
-use Rattle.rds_sync.specs.declared.Version.TheVariants.{A, B, Unknown}
-use Rattle.rds_sync.specs.declared.Item.{Item}
-use Rattle.rds_sync.specs.declared.Item.TheVariants.{Acquired, Group, LostLock}
+use Rattle.rds_sync.specs.declared.Version.TheVariants.{Unknown}
+use Rattle.rds_sync.specs.declared.Item.TheVariants.{Acquired}
 use Rattle.rds_sync.specs.Acquiring.{acquired, has_number}
 use Rattle.rds_sync.specs.Groups.{group}
 use Rattle.rds_sync.specs.Step.{run}
-use Rattle.rds_sync.specs.Examples.Words.{zero_group, rules_of, default_rules, missing, valid, corrected, lost, group_at, totals, HasReport}
+use Rattle.rds_sync.specs.Examples.Words.{rules_of, missing, valid, group_at}
 use Rattle.rds_sync.specs.Examples.EightZeroGroups.{bytes}
 
 abbrev pub bits : List ℕ

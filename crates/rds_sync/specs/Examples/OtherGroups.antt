@@ -1,16 +1,14 @@
 -- A lock that begins with block 4, and a group of a real programme.
-use Rattle.std.specs.Prelude.{◌≡◌, ℕ, List, [], ◌∷◌, ◌++◌, refl, Some, None, true, false}
+use Rattle.std.specs.Prelude.{ℕ, List, [], ◌∷◌, refl, Some, None}
 use Rattle.rds_code.specs.Remainder.{rem}
-use Rattle.rds_code.specs.declared.offset.Offset.TheVariants.{A as OA, B as OB, C, Cx, D}
-use Rattle.rds_stream.specs.Recording.{bits_of, window, off}
-use Rattle.rds_sync.specs.declared.State.TheVariants.{Searching, Locked}
-use Rattle.rds_sync.specs.declared.Version.TheVariants.{A, B, Unknown}
+use Rattle.rds_code.specs.declared.offset.Offset.TheVariants.{B as OB, C, D}
+use Rattle.rds_stream.specs.Recording.{window, off}
+use Rattle.rds_sync.specs.declared.Version.TheVariants.{A, Unknown}
 use Rattle.rds_sync.specs.declared.Item.{Item}
-use Rattle.rds_sync.specs.declared.Item.TheVariants.{Acquired, Group, LostLock}
+use Rattle.rds_sync.specs.declared.Item.TheVariants.{Acquired}
 use Rattle.rds_sync.specs.Acquiring.{acquired, has_number}
 use Rattle.rds_sync.specs.Groups.{group}
-use Rattle.rds_sync.specs.Step.{run}
-use Rattle.rds_sync.specs.Examples.Words.{zero_group, rules_of, default_rules, missing, valid, corrected, lost, group_at, totals, HasReport}
+use Rattle.rds_sync.specs.Examples.Words.{default_rules, missing, valid, group_at, totals, HasReport}
 
 -- blocks 3 and 4 alone
 abbrev pub blocks_3_and_4 : List ℕ

@@ -1,16 +1,15 @@
 -- Runs over ranges of one zero group, from states of their own.
-use Rattle.std.specs.Prelude.{◌≡◌, ℕ, List, [], ◌∷◌, ◌++◌, refl, Some, None, true, false}
+use Rattle.std.specs.Prelude.{◌≡◌, ℕ, List, [], ◌∷◌, refl, None}
 use Rattle.rds_code.specs.Remainder.{rem}
-use Rattle.rds_code.specs.declared.offset.Offset.TheVariants.{A as OA, B as OB, C, Cx, D}
+use Rattle.rds_code.specs.declared.offset.Offset.TheVariants.{A as OA, C, D}
 use Rattle.rds_stream.specs.Recording.{bits_of, window, off}
 use Rattle.rds_sync.specs.declared.State.TheVariants.{Searching, Locked}
-use Rattle.rds_sync.specs.declared.Version.TheVariants.{A, B, Unknown}
-use Rattle.rds_sync.specs.declared.Item.{Item}
-use Rattle.rds_sync.specs.declared.Item.TheVariants.{Acquired, Group, LostLock}
+use Rattle.rds_sync.specs.declared.Version.TheVariants.{A, Unknown}
+use Rattle.rds_sync.specs.declared.Item.TheVariants.{Acquired, LostLock}
 use Rattle.rds_sync.specs.Acquiring.{acquired, has_number}
 use Rattle.rds_sync.specs.Groups.{group}
 use Rattle.rds_sync.specs.Step.{run}
-use Rattle.rds_sync.specs.Examples.Words.{zero_group, rules_of, default_rules, missing, valid, corrected, lost, group_at, totals, HasReport}
+use Rattle.rds_sync.specs.Examples.Words.{zero_group, default_rules, missing, valid, corrected, lost, group_at}
 use Rattle.rds_sync.specs.Examples.ZeroGroup.{items_of_whole}
 
 abbrev pub bits : List ℕ
@@ -29,8 +28,10 @@ unfolding acquired has_number group rem window off
 whole = refl
 
 -- a tenth bad block at place 30 loses the lock, and the search after it acquires at place 51
-pub lost_and_found : run bits default_rules (Locked 30 1 9 1) 20 84 ≡ (Locked 129 1 0 1,
-    group_at 5 None Unknown lost missing missing missing ∷ LostLock 30 ∷ items_of_whole)
+pub lost_and_found : run bits default_rules (Locked 30 1 9 1) 20 84 ≡ (
+  Locked 129 1 0 1,
+  group_at 5 None Unknown lost missing missing missing ∷ LostLock 30 ∷ items_of_whole,
+)
 unfolding acquired has_number group rem window off
 lost_and_found = refl
 
@@ -39,17 +40,21 @@ pub past_block_3 : run bits default_rules Searching 60 18 ≡ (Locked 103 4 0 3,
 unfolding acquired has_number group rem window off
 past_block_3 = refl
 
-pub from_block_3 : run bits default_rules Searching 60 44 ≡ (Locked 129 1 0 1,
-    Acquired 77 3 ∷ group_at 52 None A missing missing (valid C 0) (valid D 0) ∷ [])
+pub from_block_3 : run bits default_rules Searching 60 44 ≡ (
+  Locked 129 1 0 1,
+  Acquired 77 3 ∷ group_at 52 None A missing missing (valid C 0) (valid D 0) ∷ [],
+)
 unfolding acquired has_number group rem window off
 from_block_3 = refl
 
 -- at the bit of a loss nothing is acquired, though place 51 would be: the next place that acquires is 77
-pub nothing_acquired_at_a_loss : run bits default_rules (Locked 51 1 9 1) 30 74 ≡ (Locked 129 1 0 1,
-    group_at 26 None Unknown (corrected OA 0x0300 0x00c0000) missing missing missing
-  ∷ LostLock 51
-  ∷ Acquired 77 3
-  ∷ group_at 52 None A missing missing (valid C 0) (valid D 0)
-  ∷ [])
+pub nothing_acquired_at_a_loss : run bits default_rules (Locked 51 1 9 1) 30 74 ≡ (
+  Locked 129 1 0 1,
+  group_at 26 None Unknown (corrected OA 0x0300 0x00c0000) missing missing missing
+      ∷ LostLock 51
+      ∷ Acquired 77 3
+      ∷ group_at 52 None A missing missing (valid C 0) (valid D 0)
+      ∷ [],
+)
 unfolding acquired has_number group rem window off
 nothing_acquired_at_a_loss = refl

@@ -1,11 +1,9 @@
 -- Short words for the examples.
-use Rattle.std.specs.Prelude.{◌≡◌, ℕ, List, [], ◌∷◌, Option, Some, None, Bool, false}
+use Rattle.std.specs.Prelude.{◌≡◌, ℕ, List, [], ◌∷◌, Option, false}
 use Rattle.rds_code.specs.declared.offset.Offset.{Offset}
 use Rattle.rds_code.specs.declared.reading.Reading.TheVariants.{Valid, Corrected, Lost}
 use Rattle.rds_stream.specs.Recording.{bits_of}
 use Rattle.rds_sync.specs.Rules.{RuleNumbers}
-use Rattle.rds_sync.specs.declared.State.{State}
-use Rattle.rds_sync.specs.declared.State.TheVariants.{Searching}
 use Rattle.rds_sync.specs.declared.Block.{Block}
 use Rattle.rds_sync.specs.declared.Block.TheVariants.{Missing, Read}
 use Rattle.rds_sync.specs.declared.Version.{Version}
@@ -40,25 +38,25 @@ lost = Read Lost
 -- a group that is not in conflict
 abbrev pub group_at : ℕ → Option ℕ → Version → Block → Block → Block → Block → Item
 group_at place kind version one two three four = Group (record {
-    place = place;
-    blocks = one ∷ two ∷ three ∷ four ∷ [];
-    kind = kind;
-    version = version;
-    conflict = false;
-  })
+  place = place;
+  blocks = one ∷ two ∷ three ∷ four ∷ [];
+  kind = kind;
+  version = version;
+  conflict = false;
+})
 
 -- the twelve totals, in the order of the listing
 abbrev pub totals : ℕ → ℕ → ℕ → ℕ → ℕ → ℕ → ℕ → ℕ → ℕ → ℕ → ℕ → ℕ → Totals
 totals valid burst1 burst2 burst3 burst4 burst5 lost bits groups complete acquired losses = record {
-    valid = valid;
-    bursts = burst1 ∷ burst2 ∷ burst3 ∷ burst4 ∷ burst5 ∷ [];
-    lost = lost;
-    bits = bits;
-    groups = groups;
-    complete = complete;
-    acquired = acquired;
-    losses = losses;
-  }
+  valid = valid;
+  bursts = burst1 ∷ burst2 ∷ burst3 ∷ burst4 ∷ burst5 ∷ [];
+  lost = lost;
+  bits = bits;
+  groups = groups;
+  complete = complete;
+  acquired = acquired;
+  losses = losses;
+}
 
 -- the first bits of these bytes have a report of these items and totals
 abbrev pub HasReport : List ℕ → ℕ → RuleNumbers → List Item → Totals → Type 0

@@ -1,16 +1,14 @@
 -- One zero group, whole and cut short: its block 1 is not reported, since block 2 is the first that can acquire.
-use Rattle.std.specs.Prelude.{◌≡◌, ℕ, List, [], ◌∷◌, ◌++◌, refl, Some, None, true, false}
+use Rattle.std.specs.Prelude.{List, [], ◌∷◌, refl, Some}
 use Rattle.rds_code.specs.Remainder.{rem}
-use Rattle.rds_code.specs.declared.offset.Offset.TheVariants.{A as OA, B as OB, C, Cx, D}
-use Rattle.rds_stream.specs.Recording.{bits_of, window, off}
-use Rattle.rds_sync.specs.declared.State.TheVariants.{Searching, Locked}
-use Rattle.rds_sync.specs.declared.Version.TheVariants.{A, B, Unknown}
+use Rattle.rds_code.specs.declared.offset.Offset.TheVariants.{B as OB, C, D}
+use Rattle.rds_stream.specs.Recording.{window, off}
+use Rattle.rds_sync.specs.declared.Version.TheVariants.{A}
 use Rattle.rds_sync.specs.declared.Item.{Item}
-use Rattle.rds_sync.specs.declared.Item.TheVariants.{Acquired, Group, LostLock}
+use Rattle.rds_sync.specs.declared.Item.TheVariants.{Acquired}
 use Rattle.rds_sync.specs.Acquiring.{acquired, has_number}
 use Rattle.rds_sync.specs.Groups.{group}
-use Rattle.rds_sync.specs.Step.{run}
-use Rattle.rds_sync.specs.Examples.Words.{zero_group, rules_of, default_rules, missing, valid, corrected, lost, group_at, totals, HasReport}
+use Rattle.rds_sync.specs.Examples.Words.{zero_group, default_rules, missing, valid, group_at, totals, HasReport}
 
 pub no_bits : HasReport [] 0 default_rules [] (totals 0 0 0 0 0 0 0 0 0 0 0 0)
 unfolding acquired has_number group rem window off

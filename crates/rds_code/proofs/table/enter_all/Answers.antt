@@ -1,8 +1,7 @@
-use Rattle.std.proofs.Common.{◌≡◌, ℕ, ◌+◌, ◌*◌, ◌/◌, ◌%◌, ◌^◌, ◌<◌, ◌∙◌, sym, ap, subst, arith, inl, inr, List}
+use Rattle.std.proofs.Common.{◌≡◌, ℕ, ◌+◌, ◌*◌, ◌/◌, ◌^◌, ◌<◌, ◌∙◌, sym, ap, subst, arith, List}
 use Rattle.std.specs.Int.Count.{count_trailing_zeros}
 use borrow.Author.Count.{below_more}
-use Rattle.rds_code.specs.Bursts.{IsBurst}
-use Rattle.rds_code.specs.BurstTable.{IsSound, HasBurst}
+use Rattle.rds_code.specs.BurstTable.{HasBurst}
 use Rattle.rds_code.proofs.BurstLemmas.{pattern_is_burst, small_pattern}
 use Rattle.rds_code.proofs.table.enter_all.Goals as goal
 
@@ -15,11 +14,11 @@ unfolding Entered
 loop-half-preserved c =
     let now = c.enter_shifts.new.patterns in
     let all = below_more (Entered now) c.loop-half.half
-      (λ half less shift within block.
-        c.enter_shifts.ensures.kept ((2 * half + 1) * 2 ^ shift)
-          (pattern_is_burst (2 * half + 1) shift (omega arith) (omega (arith, less, c.loop-half-test.true)) within block)
-          (c.loop-half.invariant.entered half shift less within block))
-      c.enter_shifts.ensures.entered in
+    (λ half less shift within block.
+    c.enter_shifts.ensures.kept ((2 * half + 1) * 2 ^ shift)
+    (pattern_is_burst (2 * half + 1) shift (omega arith) (omega (arith, less, c.loop-half-test.true)) within block)
+    (c.loop-half.invariant.entered half shift less within block))
+    c.enter_shifts.ensures.entered in
     record { sound = c.enter_shifts.ensures.sound; entered = λ half shift less. all half less shift }
 
 pub returns-clause-complete : goal.returns-clause-complete

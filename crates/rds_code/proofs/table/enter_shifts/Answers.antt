@@ -1,4 +1,4 @@
-use Rattle.std.proofs.Common.{◌≡◌, ℕ, ◌+◌, ◌*◌, ◌%◌, ◌^◌, ◌<◌, ◌≤◌, ◌∙◌, sym, ap, subst, arith, pow_mono, List}
+use Rattle.std.proofs.Common.{◌≡◌, ℕ, ◌+◌, ◌*◌, ◌%◌, ◌^◌, ◌<◌, ◌≤◌, sym, subst, arith, pow_mono, List}
 use Rattle.std.proofs.Math.Nat.{mul-le-mul_right}
 use borrow.Author.Count.{below_more}
 use Rattle.rds_code.specs.Bursts.{IsBurst}
@@ -32,24 +32,24 @@ loop-shift-preserved c =
     let before = c.loop-shift.invariant in
     let same = whole m t c.requires.short c.loop-shift-test.true in
     elim c.if-burst.branch [
-      then-burst w ↦ subst (λ (patterns : List ℕ). record {
-          sound : IsSound patterns;
-          entered : (shift : ℕ) → shift < t + 1 → m * 2 ^ shift < 2 ^ 26 → HasBurst patterns (m * 2 ^ shift);
-          kept : (e : ℕ) → IsBurst 5 e → HasBurst c.args.patterns.now e → HasBurst patterns e
-        }) (sym w.patterns-is) record {
-          sound = w.enter.ensures.sound;
-          entered = below_more (EnteredAt w.enter.new.patterns m) t
+      | then-burst w ↦ subst (λ (patterns : List ℕ). record {
+        sound : IsSound patterns;
+        entered : (shift : ℕ) → shift < t + 1 → m * 2 ^ shift < 2 ^ 26 → HasBurst patterns (m * 2 ^ shift);
+        kept : (e : ℕ) → IsBurst 5 e → HasBurst c.args.patterns.now e → HasBurst patterns e;
+      }) (sym w.patterns-is) record {
+        sound = w.enter.ensures.sound;
+        entered = below_more (EnteredAt w.enter.new.patterns m) t
             (λ shift less block. w.enter.ensures.kept (m * 2 ^ shift) (pattern_is_burst m shift c.requires.odd c.requires.short (omega (arith, less, c.loop-shift-test.true)) block) (before.entered shift less block))
             (λ block. subst (HasBurst w.enter.new.patterns) same w.enter.ensures.entered);
-          kept = λ e h stood. w.enter.ensures.kept e h (before.kept e h stood)
-        }
-    | else-burst w ↦ subst (λ (patterns : List ℕ). record {
-          sound : IsSound patterns;
-          entered : (shift : ℕ) → shift < t + 1 → m * 2 ^ shift < 2 ^ 26 → HasBurst patterns (m * 2 ^ shift);
-          kept : (e : ℕ) → IsBurst 5 e → HasBurst c.args.patterns.now e → HasBurst patterns e
-        }) (sym w.patterns-is) record {
-          sound = before.sound;
-          entered = below_more (EnteredAt c.loop-shift.patterns m) t before.entered (λ block. absurd (omega (arith, same, block, w.if-burst.false)));
-          kept = before.kept
-        }
+        kept = λ e h stood. w.enter.ensures.kept e h (before.kept e h stood);
+      }
+      | else-burst w ↦ subst (λ (patterns : List ℕ). record {
+        sound : IsSound patterns;
+        entered : (shift : ℕ) → shift < t + 1 → m * 2 ^ shift < 2 ^ 26 → HasBurst patterns (m * 2 ^ shift);
+        kept : (e : ℕ) → IsBurst 5 e → HasBurst c.args.patterns.now e → HasBurst patterns e;
+      }) (sym w.patterns-is) record {
+        sound = before.sound;
+        entered = below_more (EnteredAt c.loop-shift.patterns m) t before.entered (λ block. absurd (omega (arith, same, block, w.if-burst.false)));
+        kept = before.kept;
+      }
     ]

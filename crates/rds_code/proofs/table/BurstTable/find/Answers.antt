@@ -1,4 +1,4 @@
-use Rattle.std.proofs.Common.{◌≡◌, ℕ, ◌<◌, ◌∙◌, sym, ap, arith, List, length, get_or, subst}
+use Rattle.std.proofs.Common.{◌≡◌, ◌∙◌, arith, get_or}
 use Rattle.std.proofs.lemmas.List.{get_or_default}
 use Rattle.rds_code.proofs.BurstLemmas.{rem-burst}
 use Rattle.rds_code.proofs.table.BurstTable.find.Goals as goal

@@ -1,4 +1,4 @@
-use Rattle.std.proofs.Common.{◌≡◌, ℕ, ◌<◌, ◌∙◌, sym, ap, subst, arith, List, length, get_or, replicate, take, drop, ◌++◌}
+use Rattle.std.proofs.Common.{◌≡◌, ℕ, ◌∙◌, sym, ap, subst, arith, List, length, get_or, replicate, take, drop, ◌++◌}
 use Rattle.std.proofs.lemmas.List.{get_or-replicate, take-append-le, take_all, length-replicate}
 use Rattle.rds_code.specs.BurstTable.{IsSound, IsBurstTable}
 use Rattle.rds_code.proofs.table.BurstTable.new.Goals as goal
@@ -24,4 +24,4 @@ invariant_of-result c =
     let first : length c.deref_mut.result.now ≡ 1024 = long_at_first 1024 c.deref_mut.result.now (c.deref_mut.ensures.value ∙ c.in_ok-patterns.ensures) in
     let long : length new ≡ 1024 = omega (arith, c.enter_all.auto.patterns, first) in
     subst IsBurstTable (sym (written c.in_ok-patterns.patterns.len new (drop (length new) c.in_ok-patterns.patterns.items) (omega (arith, c.enter_all.auto.patterns, c.deref_mut.ensures.len))))
-      record { long = long; sound = c.enter_all.ensures.sound; complete = c.enter_all.ensures.complete }
+    record { long = long; sound = c.enter_all.ensures.sound; complete = c.enter_all.ensures.complete }

@@ -1,0 +1,16 @@
+use Rattle.std.proofs.Common.{◌∙◌, ap, refl, sym, subst}
+use Rattle.rds_code.specs.Offsets.{offset_of}
+use Rattle.rds_code.specs.Reading.{IsReading}
+use Rattle.rds_code.proofs.ReadingLemmas.{reads_corrected, reading_is}
+use Rattle.rds_code.proofs.reading.read_block.Goals as goal
+
+pub returns-clause-value : goal.returns-clause-value
+returns-clause-value c =
+    c.corrected.ensures
+    ∙ sym (reads_corrected c.args.w c.args.number c.args.wanted c.args.limit
+    (λ o valid. c.in_default.ensures.none refl o (ap offset_of c.rem26-remainder.ensures.value ∙ valid.offset) valid.own))
+
+pub returns-clause-rule : goal.returns-clause-rule
+returns-clause-rule c =
+    subst (IsReading c.args.w c.args.number c.args.wanted c.args.limit) (sym (returns-clause-value c))
+    (reading_is c.args.w c.args.number c.args.wanted c.args.limit c.requires.first c.requires.last c.requires.limit)
