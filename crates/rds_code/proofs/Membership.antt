@@ -1,6 +1,7 @@
 -- Lists of numbers, by a test of membership that computes.
 use Rattle.std.proofs.Common.{◌≡◌, ℕ, zero, suc, ◌<◌, List, [], ◌∷◌, Bool, true, false, cond, map, refl, sym, ap, ◌∙◌, arith, inl, inr, eqb}
-use Rattle.std.specs.List.{filter}
+use Rattle.std.specs.List.{filter, Contains}
+use Rattle.std.proofs.lemmas.List.Elements.{Contains-append_right}
 use Rattle.std.proofs.lemmas.Bool.{cases_Bool, eq-eqb, cases_eq, ne_eqb}
 
 -- whether x is among the numbers
@@ -158,3 +159,16 @@ differ_filter p (x ∷ xs) h =
       ]
       | inr dropped ↦ ap all_differ (filter_drops p x xs dropped) ∙ differ_filter p xs apart.1
     ]
+
+-- the test of membership and the fact
+pub among_contains : (x : ℕ) (xs : List ℕ) → is_among x xs ≡ true → Contains xs x
+among_contains x [] h = let no : false ≡ true = h in absurd (cc no)
+among_contains x (y ∷ ys) h = elim (cases_eq x y) [
+  | inl here ↦ (0, omega arith, sym here)
+  | inr other ↦ Contains-append_right (y ∷ []) ys x (among_contains x ys (sym (among_tail x y ys other) ∙ h))
+]
+
+pub contains_among : (x : ℕ) (xs : List ℕ) → Contains xs x → is_among x xs ≡ true
+contains_among x [] h = absurd (omega (arith, h.1))
+contains_among x (y ∷ ys) (zero, within, here) = among_head x y ys (sym here)
+contains_among x (y ∷ ys) (suc k, within, here) = among_more x y ys (contains_among x ys (k, omega arith, here))

@@ -10,6 +10,9 @@ use rds_code::{Offset, next_remainder, offset_of, rem26};
 use std::alloc::Global;
 use std::marker::Model;
 
+/// The place of the last bit of the first window.
+const FIRST_WINDOW: u64 = 25;
+
 /// A cursor over the places of a recording that answers the offset of each in turn.
 ///
 /// It keeps the 26 bits before its place and their remainder, so a place costs one bit read and one step of the remainder.
@@ -54,8 +57,9 @@ impl Sweep<'_> {
         let bit = self.recording.bit(self.place) as u32;
         self.remainder = next_remainder(self.remainder, self.window, bit);
         self.window = (2 * self.window + bit) & BLOCK;
+        let place = self.place;
         self.place += 1;
-        if self.place < 26 {
+        if place < FIRST_WINDOW {
             None
         } else {
             offset_of(self.remainder)

@@ -12,11 +12,11 @@ use Rattle.rds_code.specs.Offsets.{number, offset_of}
 use Rattle.rds_code.specs.Reading.{reading, corrected, by_only, corrections, wanted_offsets, information}
 use Rattle.rds_code.specs.Remainder.{rem}
 use Rattle.rds_stream.specs.Recording.{window}
-use Rattle.rds_sync.specs.declared.Version.{Version}
-use Rattle.rds_sync.specs.declared.Version.TheVariants.{A, B, Unknown}
-use Rattle.rds_sync.specs.declared.Block.{Block}
-use Rattle.rds_sync.specs.declared.Block.TheVariants.{Missing, Read}
-use Rattle.rds_sync.specs.declared.Group.{Group}
+use Rattle.rds_sync.specs.declared.item.Version.{Version}
+use Rattle.rds_sync.specs.declared.item.Version.TheVariants.{A, B, Unknown}
+use Rattle.rds_sync.specs.declared.item.Block.{Block}
+use Rattle.rds_sync.specs.declared.item.Block.TheVariants.{Missing, Read}
+use Rattle.rds_sync.specs.declared.item.Group.{Group}
 use Rattle.rds_sync.specs.Rules.{RuleNumbers}
 use Rattle.rds_sync.specs.Groups.{info_of, version_of_bit, version_of_offset, version_by_bit, first_known, version, differ, in_conflict, are_complete, wanted_beside, block_at, group_of, group}
 use Rattle.rds_sync.specs.GroupLaws.{VersionIsRead, VersionsDiffer, GroupIsRead}

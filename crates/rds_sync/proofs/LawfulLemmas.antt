@@ -7,8 +7,8 @@ use Rattle.rds_code.specs.declared.offset.Offset.{Offset}
 use Rattle.rds_code.specs.declared.offset.Offset.TheVariants.{A, B, C, Cx, D}
 use Rattle.rds_code.specs.Offsets.{number}
 use Rattle.rds_stream.specs.Recording.{off}
-use Rattle.rds_sync.specs.declared.State.{State}
-use Rattle.rds_sync.specs.declared.State.TheVariants.{Searching, Locked}
+use Rattle.rds_sync.specs.declared.state.State.{State}
+use Rattle.rds_sync.specs.declared.state.State.TheVariants.{Searching, Locked}
 use Rattle.rds_sync.specs.Rules.{RuleNumbers}
 use Rattle.rds_sync.specs.Acquiring.{acquired, has_number, has_partner, with_partner}
 use Rattle.rds_sync.specs.Lawful.{IsLawful, IsLawfulLock, IsBetweenGroups}

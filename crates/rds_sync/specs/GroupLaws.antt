@@ -6,11 +6,11 @@ use Rattle.rds_code.specs.declared.offset.Offset.TheVariants.{C, Cx}
 use Rattle.rds_code.specs.declared.reading.Reading.TheVariants.{Valid, Corrected}
 use Rattle.rds_code.specs.Reading.{reading}
 use Rattle.rds_stream.specs.Recording.{window}
-use Rattle.rds_sync.specs.declared.Version.{Version}
-use Rattle.rds_sync.specs.declared.Version.TheVariants.{A, B, Unknown}
-use Rattle.rds_sync.specs.declared.Block.{Block}
-use Rattle.rds_sync.specs.declared.Block.TheVariants.{Missing, Read}
-use Rattle.rds_sync.specs.declared.Group.{Group}
+use Rattle.rds_sync.specs.declared.item.Version.{Version}
+use Rattle.rds_sync.specs.declared.item.Version.TheVariants.{A, B, Unknown}
+use Rattle.rds_sync.specs.declared.item.Block.{Block}
+use Rattle.rds_sync.specs.declared.item.Block.TheVariants.{Missing, Read}
+use Rattle.rds_sync.specs.declared.item.Group.{Group}
 use Rattle.rds_sync.specs.Rules.{RuleNumbers}
 use Rattle.rds_sync.specs.Groups.{info_of, type_in, version_of_bit, version_of_offset, are_complete, wanted_beside, group}
 

@@ -1,14 +1,15 @@
--- A lost block 2 leaves both offsets for block 3: it is corrected only where one pair of an offset and a burst fits.
-use Rattle.std.specs.Prelude.{ℕ, List, [], ◌∷◌, ◌++◌, refl, None}
+-- A block 3 that both offsets fit: it is corrected only where one pair of an offset that is tried and a burst fits.
+use Rattle.std.specs.Prelude.{ℕ, List, [], ◌∷◌, ◌++◌, refl, Some, None}
 use Rattle.std.specs.Int.Count.{count_leading_zeros, ones, count_trailing_zeros}
 use Rattle.rds_code.specs.Remainder.{rem}
-use Rattle.rds_code.specs.declared.offset.Offset.TheVariants.{A as OA, Cx, D}
+use Rattle.rds_code.specs.declared.offset.Offset.TheVariants.{A as OA, B as OB, C, Cx, D}
 use Rattle.rds_stream.specs.Recording.{window, off}
-use Rattle.rds_sync.specs.declared.Version.TheVariants.{B, Unknown}
-use Rattle.rds_sync.specs.declared.Item.{Item}
+use Rattle.rds_sync.specs.declared.item.Version.TheVariants.{A, B, Unknown}
+use Rattle.rds_sync.specs.declared.item.Item.{Item}
+use Rattle.rds_sync.specs.declared.item.Item.TheVariants.{Acquired}
 use Rattle.rds_sync.specs.Acquiring.{acquired, has_number}
 use Rattle.rds_sync.specs.Groups.{group}
-use Rattle.rds_sync.specs.Examples.Words.{zero_group, rules_of, valid, corrected, lost, group_at, totals, HasReport}
+use Rattle.rds_sync.specs.Examples.Words.{zero_group, rules_of, missing, valid, corrected, lost, group_at, totals, HasReport}
 use Rattle.rds_sync.specs.Examples.ZeroGroup.{items_of_whole}
 
 -- a zero group, then one whose block 2 is inverted by a burst of span 6, and block 3 by 0x0000038
@@ -29,3 +30,21 @@ limit_2_items = items_of_whole ++ group_at 104 None B (valid OA 0) lost (correct
 pub one_fits : HasReport bytes 208 (rules_of 2 3 10) limit_2_items (totals 5 1 0 0 0 0 1 1 2 0 1 0)
 unfolding acquired has_number group rem window off count_leading_zeros count_trailing_zeros ones
 one_fits = (refl, refl)
+
+-- the same block 3 beside a valid block 2 of version A: C alone is tried
+abbrev pub beside_version_a : List ℕ
+beside_version_a = 0x00 ∷ 0x00 ∷ 0x3f ∷ 0x00 ∷ 0x00 ∷ 0x19 ∷ 0x80 ∷ 0x00 ∷ 0x05 ∷ 0x40 ∷ 0x00 ∷ 0x01 ∷ 0xb4 ∷ []
+
+abbrev pub fits_c : List Item
+fits_c = Acquired 51 2 ∷ group_at 26 (Some 0) A missing (valid OB 0) (corrected C 0 0x0000038) (valid D 0) ∷ []
+
+pub c_fits : HasReport beside_version_a 104 (rules_of 3 3 10) fits_c (totals 2 0 0 1 0 0 0 3 1 0 1 0)
+unfolding acquired has_number group rem window off count_leading_zeros count_trailing_zeros ones
+c_fits = (refl, refl)
+
+abbrev pub fits_nothing : List Item
+fits_nothing = Acquired 51 2 ∷ group_at 26 (Some 0) A missing (valid OB 0) lost (valid D 0) ∷ []
+
+pub cx_is_not_tried : HasReport beside_version_a 104 (rules_of 2 3 10) fits_nothing (totals 2 0 0 0 0 0 1 0 1 0 1 0)
+unfolding acquired has_number group rem window off count_leading_zeros count_trailing_zeros ones
+cx_is_not_tried = (refl, refl)

@@ -4,9 +4,9 @@ use Rattle.std.specs.Int.Count.{count_leading_zeros, ones, count_trailing_zeros}
 use Rattle.rds_code.specs.Remainder.{rem}
 use Rattle.rds_code.specs.declared.offset.Offset.TheVariants.{B as OB, C, D}
 use Rattle.rds_stream.specs.Recording.{window, off}
-use Rattle.rds_sync.specs.declared.Version.TheVariants.{A, Unknown}
-use Rattle.rds_sync.specs.declared.Item.{Item}
-use Rattle.rds_sync.specs.declared.Item.TheVariants.{Acquired, LostLock}
+use Rattle.rds_sync.specs.declared.item.Version.TheVariants.{A, Unknown}
+use Rattle.rds_sync.specs.declared.item.Item.{Item}
+use Rattle.rds_sync.specs.declared.item.Item.TheVariants.{Acquired, LostLock}
 use Rattle.rds_sync.specs.Acquiring.{acquired, has_number}
 use Rattle.rds_sync.specs.Groups.{group}
 use Rattle.rds_sync.specs.Examples.Words.{rules_of, default_rules, missing, valid, corrected, lost, group_at, totals, HasReport}

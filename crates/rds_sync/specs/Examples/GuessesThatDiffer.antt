@@ -4,9 +4,9 @@ use Rattle.std.specs.Prelude.{◌≡◌, ℕ, List, [], ◌∷◌, refl, None}
 use Rattle.rds_code.specs.Remainder.{rem}
 use Rattle.rds_code.specs.declared.offset.Offset.TheVariants.{D}
 use Rattle.rds_stream.specs.Recording.{bits_of, window, off}
-use Rattle.rds_sync.specs.declared.State.TheVariants.{Searching, Locked}
-use Rattle.rds_sync.specs.declared.Version.TheVariants.{Unknown}
-use Rattle.rds_sync.specs.declared.Item.TheVariants.{Acquired}
+use Rattle.rds_sync.specs.declared.state.State.TheVariants.{Searching, Locked}
+use Rattle.rds_sync.specs.declared.item.Version.TheVariants.{Unknown}
+use Rattle.rds_sync.specs.declared.item.Item.TheVariants.{Acquired}
 use Rattle.rds_sync.specs.Acquiring.{acquired, has_number}
 use Rattle.rds_sync.specs.Groups.{group}
 use Rattle.rds_sync.specs.Step.{run}

@@ -3,9 +3,9 @@ use Rattle.std.specs.Prelude.{ℕ, List, [], ◌∷◌, refl, Some, None}
 use Rattle.rds_code.specs.Remainder.{rem}
 use Rattle.rds_code.specs.declared.offset.Offset.TheVariants.{B as OB, C, D}
 use Rattle.rds_stream.specs.Recording.{window, off}
-use Rattle.rds_sync.specs.declared.Version.TheVariants.{A, Unknown}
-use Rattle.rds_sync.specs.declared.Item.{Item}
-use Rattle.rds_sync.specs.declared.Item.TheVariants.{Acquired}
+use Rattle.rds_sync.specs.declared.item.Version.TheVariants.{A, Unknown}
+use Rattle.rds_sync.specs.declared.item.Item.{Item}
+use Rattle.rds_sync.specs.declared.item.Item.TheVariants.{Acquired}
 use Rattle.rds_sync.specs.Acquiring.{acquired, has_number}
 use Rattle.rds_sync.specs.Groups.{group}
 use Rattle.rds_sync.specs.Examples.Words.{default_rules, missing, valid, group_at, totals, HasReport}

@@ -1,14 +1,14 @@
 -- Runs over ranges of one zero group, from states of their own.
-use Rattle.std.specs.Prelude.{◌≡◌, ℕ, List, [], ◌∷◌, refl, None}
+use Rattle.std.specs.Prelude.{◌≡◌, ℕ, List, [], ◌∷◌, refl, Some, None}
 use Rattle.rds_code.specs.Remainder.{rem}
-use Rattle.rds_code.specs.declared.offset.Offset.TheVariants.{A as OA, C, D}
+use Rattle.rds_code.specs.declared.offset.Offset.TheVariants.{A as OA, B as OB, C, D}
 use Rattle.rds_stream.specs.Recording.{bits_of, window, off}
-use Rattle.rds_sync.specs.declared.State.TheVariants.{Searching, Locked}
-use Rattle.rds_sync.specs.declared.Version.TheVariants.{A, Unknown}
-use Rattle.rds_sync.specs.declared.Item.TheVariants.{Acquired, LostLock}
+use Rattle.rds_sync.specs.declared.state.State.TheVariants.{Searching, Locked}
+use Rattle.rds_sync.specs.declared.item.Version.TheVariants.{A, Unknown}
+use Rattle.rds_sync.specs.declared.item.Item.TheVariants.{Acquired, LostLock}
 use Rattle.rds_sync.specs.Acquiring.{acquired, has_number}
 use Rattle.rds_sync.specs.Groups.{group}
-use Rattle.rds_sync.specs.Step.{run}
+use Rattle.rds_sync.specs.Step.{run, items_of_end}
 use Rattle.rds_sync.specs.Examples.Words.{zero_group, default_rules, missing, valid, corrected, lost, group_at}
 use Rattle.rds_sync.specs.Examples.ZeroGroup.{items_of_whole}
 
@@ -58,3 +58,8 @@ pub nothing_acquired_at_a_loss : run bits default_rules (Locked 51 1 9 1) 30 74 
 )
 unfolding acquired has_number group rem window off
 nothing_acquired_at_a_loss = refl
+
+-- the end of the recording closes the group in progress
+pub closed_by_the_end : items_of_end bits default_rules (Locked 103 4 0 2) ≡ group_at 26 (Some 0) A missing (valid OB 0) (valid C 0) missing ∷ []
+unfolding acquired has_number group rem window off
+closed_by_the_end = refl

@@ -4,12 +4,12 @@ use Rattle.rds_code.specs.declared.offset.Offset.{Offset}
 use Rattle.rds_code.specs.declared.reading.Reading.TheVariants.{Valid, Corrected, Lost}
 use Rattle.rds_stream.specs.Recording.{bits_of}
 use Rattle.rds_sync.specs.Rules.{RuleNumbers}
-use Rattle.rds_sync.specs.declared.Block.{Block}
-use Rattle.rds_sync.specs.declared.Block.TheVariants.{Missing, Read}
-use Rattle.rds_sync.specs.declared.Version.{Version}
-use Rattle.rds_sync.specs.declared.Item.{Item}
-use Rattle.rds_sync.specs.declared.Item.TheVariants.{Group}
-use Rattle.rds_sync.specs.declared.Totals.{Totals}
+use Rattle.rds_sync.specs.declared.item.Block.{Block}
+use Rattle.rds_sync.specs.declared.item.Block.TheVariants.{Missing, Read}
+use Rattle.rds_sync.specs.declared.item.Version.{Version}
+use Rattle.rds_sync.specs.declared.item.Item.{Item}
+use Rattle.rds_sync.specs.declared.item.Item.TheVariants.{Group}
+use Rattle.rds_sync.specs.declared.totals.Totals.{Totals}
 use Rattle.rds_sync.specs.Report.{report_items}
 use Rattle.rds_sync.specs.Totals.{totals_of}
 

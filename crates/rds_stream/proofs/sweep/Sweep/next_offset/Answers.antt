@@ -5,7 +5,7 @@ use Rattle.rds_code.specs.Remainder.{rem}
 use Rattle.rds_stream.specs.Recording.{off}
 use Rattle.rds_stream.proofs.Sweeps.{carried_more, off_early, off_carried}
 use Rattle.rds_stream.proofs.sweep.Sweep.next_offset.Goals as goal
-use Rattle.rds_stream.proofs.sweep.Sweep.next_offset.Goals.{then-self-lt26, else-self-lt26}
+use Rattle.rds_stream.proofs.sweep.Sweep.next_offset.Goals.{then-place-lt-FIRST_WINDOW, else-place-lt-FIRST_WINDOW}
 
 digit_of : (bit : Bool) → from_bool bit ≡ (if bit then 1 else 0)
 digit_of true = refl
@@ -26,8 +26,8 @@ pub returns-clause-offset : goal.returns-clause-offset
 returns-clause-offset c =
     let b = c.self.inside.recording.now in
     let p = c.self.inside.place in
-    let here : c.if-self-lt26.result ≡ off b p = elim c.if-self-lt26.branch [
-      | then-self-lt26 w ↦ w.result-is ∙ sym (off_early b p (omega arith))
-      | else-self-lt26 w ↦ w.result-is ∙ w.offset_of.ensures ∙ sym (off_carried b p _ c.next_remainder-self-inside.result (invariant_of-self c) (omega arith))
+    let here : c.if-place-lt-FIRST_WINDOW.result ≡ off b p = elim c.if-place-lt-FIRST_WINDOW.branch [
+      | then-place-lt-FIRST_WINDOW w ↦ w.result-is ∙ sym (off_early b p (omega arith))
+      | else-place-lt-FIRST_WINDOW w ↦ w.result-is ∙ w.offset_of.ensures ∙ sym (off_carried b p _ c.next_remainder-self-inside.result (invariant_of-self c) (omega arith))
     ] in
     here ∙ ap (λ s. off s.bits s.place) c.self.view_is

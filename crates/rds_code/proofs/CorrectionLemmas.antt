@@ -1,0 +1,152 @@
+-- A damaged block is corrected: the burst that damaged it is the only one that fits.
+use Rattle.std.proofs.Common.{◌≡◌, ◌≢◌, ℕ, ◌≤◌, List, [], ◌∷◌, Bool, cond, refl, sym, ap, ◌∙◌, arith, inl, inr, ◌⊎◌, bit_xor, Option, Some, None, find, eqb, subst, lit<, lit≤}
+use Rattle.std.specs.Int.Bits.{xor_assoc, xor_self, xor_zero_r}
+use Rattle.std.specs.Int.Count.{count_leading_zeros, count_trailing_zeros}
+use Rattle.std.proofs.lemmas.Bool.{cases_Bool, eqb-true}
+use Rattle.rds_code.specs.declared.offset.Offset.{Offset}
+use Rattle.rds_code.specs.declared.offset.Offset.TheVariants.{A, B, C, Cx, D}
+use Rattle.rds_code.specs.declared.reading.Wanted.{Wanted}
+use Rattle.rds_code.specs.declared.reading.Reading.TheVariants.{Valid, Corrected}
+use Rattle.rds_code.specs.Remainder.{rem}
+use Rattle.rds_code.specs.Offsets.{word, number, all_offsets, offset_of}
+use Rattle.rds_code.specs.Bursts.{IsBurst}
+use Rattle.rds_code.specs.Reading.{information, IsValid, wanted_offsets, corrections, by_only, reading}
+use Rattle.rds_code.specs.Encoding.{IsBlockOf}
+use Rattle.rds_code.specs.Correction.{alone, other_version, version_burst, ReadsAsSent, CorrectsBurst, CorrectsThird, TakesOtherVersion}
+use Rattle.rds_code.proofs.RemainderLemmas.{rem-xor, twice}
+use Rattle.rds_code.proofs.BurstLemmas.{burst_is_one, rem-burst, longer}
+use Rattle.rds_code.proofs.ReadingLemmas.{one_fits, corrections_one, reads_valid, reads_corrected, only_A, only_B, only_D, third, wanted_1, wanted_2, wanted_4}
+
+-- damage done twice is undone
+undone : (w e : ℕ) → bit_xor (bit_xor w e) e ≡ w
+undone w e = xor_assoc w e e ∙ ap (bit_xor w) (xor_self e) ∙ xor_zero_r w
+
+found_word : (os : List Offset) (r : ℕ) (p : Offset) → find (λ o. eqb (word o) r) os ≡ Some p → word p ≡ r
+found_word [] r p e = let no : ◌≡◌ {A = Option Offset} None (Some p) = e in absurd (cc no)
+found_word (o ∷ os) r p e = elim (cases_Bool (eqb (word o) r)) [
+  | inl here ↦
+      let found : find (λ q. eqb (word q) r) (o ∷ os) ≡ Some o = ap (λ (b : Bool). cond b (Some o) (find (λ q. eqb (word q) r) os)) here in
+      let same : ◌≡◌ {A = Option Offset} (Some o) (Some p) = sym found ∙ e in
+      let one : o ≡ p = cc same in
+      ap word (sym one) ∙ eqb-true (word o) r here
+  | inr other ↦
+      let rest : find (λ q. eqb (word q) r) (o ∷ os) ≡ find (λ q. eqb (word q) r) os = ap (λ (b : Bool). cond b (Some o) (find (λ q. eqb (word q) r) os)) other in
+      found_word os r p (sym rest ∙ e)
+]
+
+pub valid_word : (r : ℕ) (p : Offset) → offset_of r ≡ Some p → word p ≡ r
+valid_word r p e = found_word all_offsets r p e
+
+pub word_offset : (o : Offset) → offset_of (word o) ≡ Some o
+word_offset A = refl
+word_offset B = refl
+word_offset C = refl
+word_offset Cx = refl
+word_offset D = refl
+
+-- a block as it was sent
+pub reads_as_sent : ReadsAsSent
+reads_as_sent w info o wanted limit h =
+    reads_valid w (number o) wanted limit o record { offset = ap offset_of h.remainder ∙ word_offset o; own = refl } ∙ ap (Valid o) h.above
+
+-- what damage leaves of the remainder
+damaged : (w info e : ℕ) (o : Offset) → IsBlockOf w info o → rem (bit_xor w e) ≡ bit_xor (word o) (rem e)
+damaged w info e o h = rem-xor w e ∙ ap (λ (n : ℕ). bit_xor n (rem e)) h.remainder
+
+-- a damaged block that has an offset p after all: the burst has the sum of the words as its remainder
+became : (w info e x : ℕ) (o p : Offset) → IsBlockOf w info o → IsValid (bit_xor w e) x p → rem e ≡ bit_xor (word o) (word p)
+became w info e x o p h valid =
+    sym (twice (word o) (rem e)) ∙ ap (bit_xor (word o)) (sym (damaged w info e o h) ∙ sym (valid_word (rem (bit_xor w e)) p valid.offset))
+
+not_itself : (w info e x : ℕ) (o : Offset) → IsBlockOf w info o → IsBurst 5 e → IsValid (bit_xor w e) x o → ⊥
+not_itself w info e x o h burst valid = rem-burst e burst (became w info e x o o h valid ∙ xor_self (word o))
+
+-- where one offset alone is tried and the damaged block is not valid, the burst is found
+found_again : (w info x : ℕ) (o : Offset) (wanted : Wanted) (limit e : ℕ) → IsBlockOf w info o → limit ≤ 5 → IsBurst limit e → wanted_offsets x wanted ≡ o ∷ []
+    → ((p : Offset) → IsValid (bit_xor w e) x p → ⊥) → reading (bit_xor w e) x wanted limit ≡ Corrected o info e
+found_again w info x o wanted limit e h few burst list not_valid =
+    let v : ℕ = bit_xor w e in
+    let fits : rem (bit_xor v e) ≡ word o = ap rem (undone w e) ∙ h.remainder in
+    let one = one_fits limit v o e few burst fits in
+    reads_corrected v x wanted limit not_valid
+    ∙ ap (λ (os : List Offset). by_only v (corrections os limit v)) list
+    ∙ ap (by_only v) (corrections_one limit v o e one)
+    ∙ ap (λ (n : ℕ). Corrected o n e) (ap information (undone w e) ∙ h.above)
+
+pub corrects_burst : CorrectsBurst
+corrects_burst w info A wanted limit e h not_third few burst =
+    found_again w info 1 A wanted limit e h few burst (wanted_1 wanted).0 (λ p valid. not_itself w info e 1 A h (longer limit e few burst) (subst (IsValid (bit_xor w e) 1) (only_A p valid.own) valid))
+corrects_burst w info B wanted limit e h not_third few burst =
+    found_again w info 2 B wanted limit e h few burst (wanted_2 wanted).0 (λ p valid. not_itself w info e 2 B h (longer limit e few burst) (subst (IsValid (bit_xor w e) 2) (only_B p valid.own) valid))
+corrects_burst w info D wanted limit e h not_third few burst =
+    found_again w info 4 D wanted limit e h few burst (wanted_4 wanted).0 (λ p valid. not_itself w info e 4 D h (longer limit e few burst) (subst (IsValid (bit_xor w e) 4) (only_D p valid.own) valid))
+corrects_burst w info C wanted limit e h not_third few burst = absurd (not_third refl)
+corrects_burst w info Cx wanted limit e h not_third few burst = absurd (not_third refl)
+
+version_is_burst : IsBurst 5 version_burst
+unfolding count_leading_zeros count_trailing_zeros
+version_is_burst = record { is_block = lit< tt; not_zero = lit< tt; short = lit≤ tt }
+
+version_remainder : rem version_burst ≡ bit_xor (word C) (word Cx)
+unfolding rem
+version_remainder = refl
+
+version_remainder_back : rem version_burst ≡ bit_xor (word Cx) (word C)
+unfolding rem
+version_remainder_back = refl
+
+-- the burst that takes block 3 over to the other version
+takes_over : (e : ℕ) (o : Offset) → number o ≡ 3 → IsBurst 5 e → rem e ≡ bit_xor (word o) (word (other_version o)) → e ≡ version_burst
+takes_over e C third burst same = burst_is_one e version_burst burst version_is_burst (same ∙ sym version_remainder)
+takes_over e Cx third burst same = burst_is_one e version_burst burst version_is_burst (same ∙ sym version_remainder_back)
+takes_over e A third burst same = absurd (omega (arith, third))
+takes_over e B third burst same = absurd (omega (arith, third))
+takes_over e D third burst same = absurd (omega (arith, third))
+
+taken_over : (o : Offset) → number o ≡ 3 → rem version_burst ≡ bit_xor (word o) (word (other_version o))
+taken_over C third = version_remainder
+taken_over Cx third = version_remainder_back
+taken_over A third = absurd (omega (arith, third))
+taken_over B third = absurd (omega (arith, third))
+taken_over D third = absurd (omega (arith, third))
+
+other_number : (o : Offset) → number (other_version o) ≡ 3
+other_number A = refl
+other_number B = refl
+other_number C = refl
+other_number Cx = refl
+other_number D = refl
+
+pub takes_other_version : TakesOtherVersion
+takes_other_version w info o e h own burst = (
+  λ valid. takes_over e o own burst (became w info e 3 o (other_version o) h valid),
+  λ same.
+      let left : rem (bit_xor w e) ≡ word (other_version o) =
+      damaged w info e o h ∙ ap (λ (n : ℕ). bit_xor (word o) (rem n)) same ∙ ap (bit_xor (word o)) (taken_over o own) ∙ twice (word o) (word (other_version o)) in
+      record { offset = ap offset_of left ∙ word_offset (other_version o); own = other_number o },
+)
+
+-- a valid block 3 has its own offset or the other
+own_or_other : (o p : Offset) → number o ≡ 3 → number p ≡ 3 → (p ≡ o) ⊎ (p ≡ other_version o)
+own_or_other C p ho hp = third p hp
+own_or_other Cx p ho hp = elim (third p hp) [ inl c ↦ inr c | inr cx ↦ inl cx ]
+own_or_other A p ho hp = absurd (omega (arith, ho))
+own_or_other B p ho hp = absurd (omega (arith, ho))
+own_or_other D p ho hp = absurd (omega (arith, ho))
+
+third_not_valid : (w info : ℕ) (o : Offset) (e : ℕ) → IsBlockOf w info o → number o ≡ 3 → IsBurst 5 e → e ≢ version_burst → (p : Offset) → IsValid (bit_xor w e) 3 p → ⊥
+third_not_valid w info o e h own burst apart p valid = elim (own_or_other o p own valid.own) [
+  | inl same ↦ not_itself w info e 3 o h burst (subst (IsValid (bit_xor w e) 3) same valid)
+  | inr other ↦ apart (takes_over e o own burst (became w info e 3 o (other_version o) h (subst (IsValid (bit_xor w e) 3) other valid)))
+]
+
+alone_wanted : (o : Offset) → number o ≡ 3 → wanted_offsets 3 (alone o) ≡ o ∷ []
+alone_wanted C h = refl
+alone_wanted Cx h = refl
+alone_wanted A h = absurd (omega (arith, h))
+alone_wanted B h = absurd (omega (arith, h))
+alone_wanted D h = absurd (omega (arith, h))
+
+pub corrects_third : CorrectsThird
+corrects_third w info o limit e h own few burst apart =
+    found_again w info 3 o (alone o) limit e h few burst (alone_wanted o own) (third_not_valid w info o e h own (longer limit e few burst) apart)

@@ -1,0 +1,44 @@
+-- Blocks and groups as they are sent (EN 50067:1998, sections 2.1 and 2.3; block 3 by the version bit, section 3.1.2).
+use Rattle.std.specs.Prelude.{◌≡◌, ℕ, zero, suc, ◌+◌, ◌*◌, ◌^◌, ◌<◌, List, [], ◌∷◌, length, slice_index, bit_xor}
+use Rattle.std.specs.Int.{bit_at}
+use Rattle.rds_code.specs.declared.offset.Offset.{Offset}
+use Rattle.rds_code.specs.declared.offset.Offset.TheVariants.{A, B, C, Cx, D}
+use Rattle.rds_code.specs.Remainder.{rem}
+use Rattle.rds_code.specs.Offsets.{word}
+use Rattle.rds_code.specs.Reading.{information}
+
+-- w is the block that carries the information word info with the offset o: info above, and the word of o as its remainder
+pub record IsBlockOf (w info : ℕ) (o : Offset) : Type 0 where
+  pub is_block : w < 2 ^ 26
+  pub above : information w ≡ info
+  pub remainder : rem w ≡ word o
+
+-- the offset of block 3, by the version bit of block 2: bit 11 of its information word
+abbrev pub offset_by_version : ℕ → Offset
+offset_by_version zero = C
+offset_by_version (suc bit) = Cx
+
+abbrev pub third_offset : ℕ → Offset
+third_offset second = offset_by_version (bit_at second 11)
+
+-- the blocks carry the four words of a group
+pub record IsGroupOf (blocks words : List ℕ) : Type 0 where
+  pub four : length blocks ≡ 4
+  pub first : IsBlockOf (slice_index blocks 0) (slice_index words 0) A
+  pub second : IsBlockOf (slice_index blocks 1) (slice_index words 1) B
+  pub third : IsBlockOf (slice_index blocks 2) (slice_index words 2) (third_offset (slice_index words 1))
+  pub fourth : IsBlockOf (slice_index blocks 3) (slice_index words 3) D
+
+-- ---- the same, computed
+
+-- the information word, then the checkword: the remainder of what stands before it, plus the offset word
+abbrev pub encoded : ℕ → Offset → ℕ
+encoded info o = info * 2 ^ 10 + bit_xor (rem (info * 2 ^ 10)) (word o)
+
+abbrev pub encoded_group : List ℕ → List ℕ
+encoded_group words =
+    encoded (slice_index words 0) A
+    ∷ encoded (slice_index words 1) B
+    ∷ encoded (slice_index words 2) (third_offset (slice_index words 1))
+    ∷ encoded (slice_index words 3) D
+    ∷ []

@@ -1,0 +1,44 @@
+//! Laws of the block code. Each call does nothing: its contract is a law of the definitions, whoever reads or writes.
+ghost use Rattle.rds_code.specs.Laws.{HasRemainder, HasOneRemainder, IsLinear, ListsBursts, TellsBursts, DetectsBursts, ReadsByRule, HasOneBlock};
+ghost use Rattle.rds_code.specs.Correction.{ReadsAsSent, CorrectsBurst, CorrectsThird, TakesOtherVersion};
+
+/// Each block has one remainder, the one that is computed.
+pub fn blocks_have_one_remainder()
+    ensures some { HasRemainder }
+    ensures one { HasOneRemainder }
+{}
+
+/// The remainder of a sum of words is the sum of their remainders.
+pub fn remainders_are_linear()
+    ensures { IsLinear }
+{}
+
+/// The definition of a burst by its highest and lowest one, and the list of bursts, agree.
+pub fn bursts_are_listed()
+    ensures { ListsBursts }
+{}
+
+/// A remainder tells its burst of up to five bits, and shows that there is one: EN 50067:1998, Annex B.
+pub fn bursts_have_their_remainders()
+    ensures told { TellsBursts }
+    ensures detected { DetectsBursts }
+{}
+
+/// The rule of reading gives one reading, the one that is computed.
+pub fn readings_follow_the_rule()
+    ensures { ReadsByRule }
+{}
+
+/// An information word with an offset has one block, and it is read as it was sent.
+pub fn blocks_are_read_as_sent()
+    ensures one { HasOneBlock }
+    ensures valid { ReadsAsSent }
+{}
+
+/// A block that one burst within the limit damaged is corrected: for block 3 where its own offset alone is wanted, and
+/// but for the one burst that makes of it a valid block 3 of the other version.
+pub fn damaged_blocks_are_corrected()
+    ensures corrected { CorrectsBurst }
+    ensures third { CorrectsThird }
+    ensures but_one { TakesOtherVersion }
+{}

@@ -1,0 +1,50 @@
+-- Totals of two lists of items together, and of one block.
+use Rattle.std.specs.Prelude.{ℕ, ◌+◌, ◌≤◌, [], ◌∷◌, slice_index, if◌then◌else◌}
+use Rattle.rds_sync.specs.declared.item.Block.{Block}
+use Rattle.rds_sync.specs.declared.totals.Totals.{Totals}
+use Rattle.rds_sync.specs.Totals.{is_valid, is_lost, is_corrected_by, bits_corrected}
+
+-- each count is the sum of the two
+abbrev pub plus : Totals → Totals → Totals
+plus t u = record {
+  valid = t.valid + u.valid;
+  bursts = (slice_index t.bursts 0 + slice_index u.bursts 0) ∷ (slice_index t.bursts 1 + slice_index u.bursts 1)
+    ∷ (slice_index t.bursts 2 + slice_index u.bursts 2) ∷ (slice_index t.bursts 3 + slice_index u.bursts 3)
+    ∷ (slice_index t.bursts 4 + slice_index u.bursts 4) ∷ [];
+  lost = t.lost + u.lost;
+  bits = t.bits + u.bits;
+  groups = t.groups + u.groups;
+  complete = t.complete + u.complete;
+  acquired = t.acquired + u.acquired;
+  losses = t.losses + u.losses;
+}
+
+-- the totals of a block alone
+abbrev pub block_totals : Block → Totals
+block_totals block = record {
+  valid = if is_valid block then 1 else 0;
+  bursts = (if is_corrected_by 1 block then 1 else 0) ∷ (if is_corrected_by 2 block then 1 else 0)
+    ∷ (if is_corrected_by 3 block then 1 else 0) ∷ (if is_corrected_by 4 block then 1 else 0)
+    ∷ (if is_corrected_by 5 block then 1 else 0) ∷ [];
+  lost = if is_lost block then 1 else 0;
+  bits = bits_corrected block;
+  groups = 0;
+  complete = 0;
+  acquired = 0;
+  losses = 0;
+}
+
+-- no count is above n
+pub record IsAtMost (n : ℕ) (t : Totals) : Type 0 where
+  pub valid : t.valid ≤ n
+  pub burst1 : slice_index t.bursts 0 ≤ n
+  pub burst2 : slice_index t.bursts 1 ≤ n
+  pub burst3 : slice_index t.bursts 2 ≤ n
+  pub burst4 : slice_index t.bursts 3 ≤ n
+  pub burst5 : slice_index t.bursts 4 ≤ n
+  pub lost : t.lost ≤ n
+  pub bits : t.bits ≤ n
+  pub groups : t.groups ≤ n
+  pub complete : t.complete ≤ n
+  pub acquired : t.acquired ≤ n
+  pub losses : t.losses ≤ n

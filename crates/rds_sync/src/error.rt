@@ -1,0 +1,75 @@
+//! What the calls of this crate refuse.
+
+ghost use Rattle.std.specs.Prelude.{◌≡◌};
+ghost use Rattle.rds_sync.specs.declared.error.SyncError.TheVariants.{OutOfMemory};
+
+use rds_code::CodeError;
+use std::alloc::{AllocError, AllocFailed};
+use thiserror::Error;
+
+/// A refusal. Each has a number and a name that do not change.
+#[derive(Clone, Copy, Debug, PartialEq, Eq, Error)]
+pub enum SyncError {
+    #[error("the burst limit is above 5")]
+    BurstRange,
+    #[error("the reach is not 1 to 8")]
+    ReachRange,
+    #[error("the loss is not 1 to 64")]
+    LossRange,
+    #[error("out of memory")]
+    OutOfMemory,
+}
+
+impl SyncError {
+    ghost use Rattle.rds_sync.specs.Refusals.{number_of, name_of};
+
+    /// The refusal's number, the same in every crate and listing.
+    pub fn number(&self) -> u8
+        ensures { result ≡ number_of self.now }
+    {
+        match self {
+            SyncError::BurstRange => 1,
+            SyncError::ReachRange => 2,
+            SyncError::LossRange => 3,
+            SyncError::OutOfMemory => 8,
+        }
+    }
+
+    /// The refusal's name.
+    pub fn name(&self) -> &'static str
+        ensures { result.now ≡ name_of self.now }
+    {
+        match self {
+            SyncError::BurstRange => "BurstRange",
+            SyncError::ReachRange => "ReachRange",
+            SyncError::LossRange => "LossRange",
+            SyncError::OutOfMemory => "OutOfMemory",
+        }
+    }
+}
+
+impl From<AllocError> for SyncError {
+    ghost from_gives = { λ _ e. e ≡ OutOfMemory };
+
+    fn from(_error: AllocError) -> SyncError {
+        SyncError::OutOfMemory
+    }
+}
+
+impl<T: Drop> From<AllocFailed<T>> for SyncError {
+    ghost from_gives = { λ _ e. e ≡ OutOfMemory };
+
+    fn from(_error: AllocFailed<T>) -> SyncError {
+        SyncError::OutOfMemory
+    }
+}
+
+impl From<CodeError> for SyncError {
+    ghost from_gives = { λ _ e. e ≡ OutOfMemory };
+
+    fn from(error: CodeError) -> SyncError {
+        match error {
+            CodeError::OutOfMemory => SyncError::OutOfMemory,
+        }
+    }
+}

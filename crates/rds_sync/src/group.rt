@@ -1,0 +1,193 @@
+//! How a group is read: block by block from its windows, and what its blocks say of it.
+
+ghost use Rattle.std.specs.Prelude.{◌≡◌, ◌≤◌, ◌<◌, ◌+◌, ◌-◌, ◌*◌, ◌^◌, ◌&&◌, nat_le, nat_lt, if◌then◌else◌};
+ghost use Rattle.rds_code.specs.Remainder.{rem};
+ghost use Rattle.rds_code.specs.Offsets.{offset_of as the_offset_of};
+ghost use Rattle.rds_stream.specs.Recording.{window as the_window};
+ghost use Rattle.rds_sync.specs.Groups.{info_of, are_complete, version_by_bit, version_of_offset, version, differ, in_conflict, wanted_beside, group_of, block_at, group};
+ghost use Rattle.rds_sync.specs.Reads.{is_numbered};
+ghost use Rattle.rds_sync.specs.Spans.{IsSpan};
+
+use rds_code::{Offset, Reading, Wanted, offset_of, rem26};
+use rds_stream::Tape;
+
+use crate::item::{Block, Group, Version};
+use crate::rules::Rules;
+
+/// Whether a window is valid, with an offset of this number.
+fn is_numbered(window: u32, number: u8) -> bool
+    requires { window < 2 ^ 26 }
+    ensures { result ≡ is_numbered window number }
+{
+    match offset_of(rem26(window)) {
+        Some(offset) => offset.number() == number,
+        None => false,
+    }
+}
+
+/// The bad blocks in a row, with the block that has this window: a valid one ends them, any other
+/// is one more, corrected or not.
+pub(crate) fn bad_with(window: u32, number: u8, bad: u8) -> u8
+    requires block { window < 2 ^ 26 }
+    requires few { bad < 255 }
+    ensures { result ≡ (if is_numbered window number then 0 else bad + 1) }
+{
+    if is_numbered(window, number) { 0 } else { bad + 1 }
+}
+
+impl Version {
+    fn of_offset(offset: Offset) -> Version
+        ensures { result ≡ version_of_offset offset }
+    {
+        match offset {
+            Offset::C => Version::A,
+            Offset::Cx => Version::B,
+            _ => Version::Unknown,
+        }
+    }
+
+    fn differs(self, other: Version) -> bool
+        ensures { result ≡ differ self other }
+    {
+        match (self, other) {
+            (Version::A, Version::B) => true,
+            (Version::B, Version::A) => true,
+            _ => false,
+        }
+    }
+}
+
+impl Block {
+    /// The information word, where the block is valid or corrected.
+    pub fn info(&self) -> Option<u16>
+        ensures { result ≡ info_of self.now }
+    {
+        match *self {
+            Block::Read(Reading::Valid { info, .. }) => Some(info),
+            Block::Read(Reading::Corrected { info, .. }) => Some(info),
+            _ => None,
+        }
+    }
+
+    /// What the version bit says, this being a block 2.
+    fn version_by_bit(&self) -> Version
+        ensures { result ≡ version_by_bit self.now }
+    {
+        match self.info() {
+            None => Version::Unknown,
+            Some(info) if (info >> 11) & 1 == 0 => Version::A,
+            Some(_) => Version::B,
+        }
+    }
+
+    /// The offsets that are tried for block 3, this being the block 2 before it.
+    fn wanted_beside(&self) -> Wanted
+        ensures { result ≡ wanted_beside self.now }
+    {
+        match self.version_by_bit() {
+            Version::A => Wanted::OnlyC,
+            Version::B => Wanted::OnlyCx,
+            Version::Unknown => Wanted::Either,
+        }
+    }
+}
+
+/// The version that blocks 2 and 3 of a group give it.
+fn version_of(second: Block, third: Block) -> Version
+    ensures { result ≡ version second third }
+{
+    let by_bit = second.version_by_bit();
+    match third {
+        Block::Read(Reading::Valid { offset, .. }) => Version::of_offset(offset),
+        Block::Read(Reading::Corrected { offset, .. }) => match by_bit {
+            Version::Unknown => Version::of_offset(offset),
+            known => known,
+        },
+        _ => by_bit,
+    }
+}
+
+/// Whether a valid block 3 and block 2 name different versions.
+fn is_in_conflict(second: Block, third: Block) -> bool
+    ensures { result ≡ in_conflict second third }
+{
+    match third {
+        Block::Read(Reading::Valid { offset, .. }) => {
+            second.version_by_bit().differs(Version::of_offset(offset))
+        }
+        _ => false,
+    }
+}
+
+impl Group {
+    /// Whether all four blocks are valid or corrected.
+    pub fn is_complete(&self) -> bool
+        ensures { result ≡ are_complete self.now.blocks }
+    {
+        self.blocks.iter().all(|block| block.info().is_some())
+    }
+
+    /// The group of four blocks whose first read bit is at `place`.
+    fn of_blocks(place: u64, one: Block, two: Block, three: Block, four: Block) -> Group
+        ensures { result ≡ group_of place one two three four }
+    {
+        Group {
+            place,
+            blocks: [one, two, three, four],
+            kind: match two.info() {
+                Some(info) => Some((info >> 12) as u8),
+                None => None,
+            },
+            version: version_of(two, three),
+            conflict: is_in_conflict(two, three),
+        }
+    }
+}
+
+/// The blocks of a group that are read: `first` to `last`. The last one ends at `place` and has
+/// this window.
+#[derive(Clone, Copy)]
+pub(crate) struct Span {
+    pub first: u8,
+    pub last: u8,
+    pub place: u64,
+    pub window: u32,
+}
+
+/// Block `number` of such a group. Only a block before the last takes a window from the tape.
+fn read_at<T: Tape>(tape: &mut T, rules: &Rules, span: Span, number: u8, wanted: Wanted) -> Block
+    requires number { (1 ≤ number) × (number ≤ 4) }
+    requires span { IsSpan (T.bits tape.old) span }
+    requires counted { T.reads_made tape.old < 2 ^ 63 }
+    ensures value { result
+        ≡ block_at (T.bits tape.old) rules.now span.first span.last span.place wanted number }
+    ensures same { T.bits tape.new ≡ T.bits tape.old }
+    ensures reads { T.reads_made tape.new
+        ≡ T.reads_made tape.old + (if nat_le span.first number && nat_lt number span.last then 1 else 0) }
+{
+    if number < span.first || span.last < number {
+        return Block::Missing;
+    }
+    let window = if number == span.last {
+        span.window
+    } else {
+        tape.window(span.place - 26 * u64::from(span.last - number))
+    };
+    Block::Read(rules.read(window, number, wanted))
+}
+
+/// The group of these blocks. Each block before the last takes one window from the tape.
+pub(crate) fn read_group<T: Tape>(tape: &mut T, rules: &Rules, span: Span) -> Group
+    requires span { IsSpan (T.bits tape.old) span }
+    requires counted { T.reads_made tape.old + 4 ≤ 2 ^ 63 }
+    ensures value { result ≡ group (T.bits tape.old) rules.now span.first span.last span.place }
+    ensures same { T.bits tape.new ≡ T.bits tape.old }
+    ensures reads { T.reads_made tape.new ≡ T.reads_made tape.old + (span.last - span.first) }
+{
+    let one = read_at(tape, rules, span, 1, Wanted::Either);
+    let two = read_at(tape, rules, span, 2, Wanted::Either);
+    let three = read_at(tape, rules, span, 3, two.wanted_beside());
+    let four = read_at(tape, rules, span, 4, Wanted::Either);
+    let blocks_before = u64::from(span.last - span.first);
+    Group::of_blocks(span.place - 26 * blocks_before - 25, one, two, three, four)
+}

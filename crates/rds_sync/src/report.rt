@@ -1,0 +1,51 @@
+//! The report of a recording, by one thread.
+
+ghost use Rattle.std.specs.Prelude.{◌≡◌, ◌≤◌, ◌++◌, IfOk, OnOk, IsOkUnless};
+ghost use Rattle.rds_sync.specs.Advance.{group_item};
+ghost use Rattle.rds_sync.specs.Report.{report_items};
+ghost use Rattle.rds_sync.specs.Totals.{totals_of};
+
+use rds_stream::{Counted, Recording};
+use std::alloc::Global;
+
+use crate::error::SyncError;
+use crate::item::{Group, Item};
+use crate::range::run;
+use crate::rules::Rules;
+use crate::state::State;
+use crate::step::finish;
+use crate::totals::Totals;
+
+/// What was found in a recording: its items, in order of place, and their totals.
+#[derive(Debug, Drop)]
+pub struct Report {
+    pub items: Vec<Item>,
+    pub totals: Totals,
+}
+
+/// The report of a recording: the items of its locks, in order, with that of its end, and their
+/// totals. Refuses only want of memory for the list of items.
+pub fn decode_plain(alloc: Global, rec: &Recording, rules: &Rules) -> Result<Report, SyncError>
+    ensures items { IfOk result (λ report. report.items.items ≡ report_items rec.now rules.now) }
+    ensures totals { IfOk result (λ report. report.totals
+        ≡ totals_of (report_items rec.now rules.now)) }
+    ensures only_memory { IsOkUnless result SyncError.OutOfMemory }
+{
+    prove!(1 <= rules.loss());
+    let (end, mut items) = run(alloc, rec, rules, State::Searching, 0, rec.len())?;
+    let mut tape = Counted::new(rec);
+    push_group(&mut items, finish(&mut tape, rules, end))?;
+    let totals = Totals::of(&items);
+    Ok(Report { items, totals })
+}
+
+/// Appends the item of the group at the recording's end, if there is one.
+fn push_group(items: &mut Vec<Item>, group: Option<Group>) -> Result<(), SyncError>
+    ensures ok { OnOk result (items.new.items ≡ items.old.items ++ group_item group) }
+    ensures only_memory { IsOkUnless result SyncError.OutOfMemory }
+{
+    if let Some(group) = group {
+        items.push(Item::Group(group))?;
+    }
+    Ok(())
+}

@@ -1,0 +1,62 @@
+//! What a synchroniser knows between two bits.
+
+ghost use Rattle.std.specs.Prelude.{◌≡◌, ◌≤◌, ◌<◌, ◌^◌, ◌↔◌, IsTrue};
+ghost use Rattle.rds_sync.specs.Rules.{RuleNumbers};
+
+use crate::rules::Rules;
+
+/// The state before a bit.
+#[derive(Clone, Copy, Debug, PartialEq, Eq)]
+pub enum State {
+    /// No block is known: each bit is tried as the last of a block that acquires.
+    Searching,
+    /// The next block ends at place `due` and is read as block `number` (1 to 4). The last `bad`
+    /// blocks in a row were not valid, and the group in progress began with block `first`.
+    Locked {
+        due: u64,
+        number: u8,
+        bad: u8,
+        first: u8,
+    },
+}
+
+impl State {
+    ghost use Rattle.rds_sync.specs.Lawful.{IsLawful};
+    ghost use Rattle.rds_sync.specs.Step.{locked_after};
+
+    /// Whether a run by these rules can be in this state before the bit at `place`.
+    pub fn is_lawful(&self, rules: &Rules, place: u64) -> bool
+        ensures { IsTrue result ↔ IsLawful rules.now place self.now }
+    {
+        match *self {
+            State::Searching => true,
+            State::Locked {
+                due,
+                number,
+                bad,
+                first,
+            } => {
+                place <= due
+                    && due - place <= 25
+                    && u32::from(bad) < rules.loss()
+                    && 26 * u64::from(number.saturating_sub(first)) + 25 <= due
+                    && (number == 1 && first == 1 || 1 <= first && first < number && number <= 4)
+            }
+        }
+    }
+
+    /// The lock after block `number` was read at `place`: after block 4 comes block 1, of a new
+    /// group.
+    pub(crate) fn after_block(place: u64, number: u8, bad: u8, first: u8) -> State
+        requires place { place < 2 ^ 36 }
+        requires number { number ≤ 4 }
+        ensures { result ≡ locked_after place number bad first }
+    {
+        State::Locked {
+            due: place + 26,
+            number: number % 4 + 1,
+            bad,
+            first: if number == 4 { 1 } else { first },
+        }
+    }
+}

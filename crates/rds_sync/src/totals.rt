@@ -1,0 +1,144 @@
+//! The totals of a report.
+
+ghost use Rattle.std.specs.Prelude.{◌≡◌, ◌≤◌, ◌<◌, ◌^◌, [], ◌∷◌, length};
+
+use rds_code::Reading;
+
+use crate::item::{Block, Group, Item};
+
+/// Twelve counts over a list of items. Blocks that are missing are not counted.
+#[derive(Clone, Copy, Debug, PartialEq, Eq)]
+pub struct Totals {
+    /// Valid blocks.
+    pub valid: u64,
+    /// Corrected blocks, by the span of their burst: 1 to 5 bits.
+    pub bursts: [u64; 5],
+    /// Blocks that were read and are neither valid nor corrected.
+    pub lost: u64,
+    /// Bits corrected: the ones of all bursts.
+    pub bits: u64,
+    /// Groups.
+    pub groups: u64,
+    /// Groups of which all four blocks are valid or corrected.
+    pub complete: u64,
+    /// Acquisitions.
+    pub acquired: u64,
+    /// Losses.
+    pub losses: u64,
+}
+
+impl Totals {
+    ghost use Rattle.rds_sync.specs.Totals.{totals_of};
+    ghost use Rattle.rds_sync.specs.Counting.{plus, block_totals, IsAtMost};
+
+    const NONE: Totals = Totals {
+        valid: 0,
+        bursts: [0; 5],
+        lost: 0,
+        bits: 0,
+        groups: 0,
+        complete: 0,
+        acquired: 0,
+        losses: 0,
+    };
+
+    /// The totals of a list of at most 2^40 items. Takes no memory.
+    pub fn of(items: &[Item]) -> Totals
+        requires { length items.now ≤ 2 ^ 40 }
+        ensures { result ≡ totals_of items.now }
+    {
+        let mut totals = Totals::NONE;
+        for item in items {
+            totals = totals.plus(Totals::of_item(item));
+        }
+        totals
+    }
+
+    fn of_item(item: &Item) -> Totals
+        ensures value { result ≡ totals_of (item.now ∷ []) }
+        ensures small { IsAtMost (2 ^ 10) result }
+    {
+        match item {
+            Item::Acquired { .. } => Totals {
+                acquired: 1,
+                ..Totals::NONE
+            },
+            Item::Group(group) => Totals::of_group(group),
+            Item::LostLock { .. } => Totals {
+                losses: 1,
+                ..Totals::NONE
+            },
+        }
+    }
+
+    fn of_group(group: &Group) -> Totals
+        ensures value { result ≡ totals_of (Item.Group group.now ∷ []) }
+        ensures small { IsAtMost (2 ^ 10) result }
+    {
+        let [one, two, three, four] = &group.blocks;
+        let blocks = Totals::of_block(one)
+            .plus(Totals::of_block(two))
+            .plus(Totals::of_block(three))
+            .plus(Totals::of_block(four));
+        Totals {
+            groups: 1,
+            complete: u64::from(group.is_complete()),
+            ..blocks
+        }
+    }
+
+    fn of_block(block: &Block) -> Totals
+        ensures value { result ≡ block_totals block.now }
+        ensures small { IsAtMost 255 result }
+    {
+        match block {
+            Block::Missing => Totals::NONE,
+            Block::Read(Reading::Valid { .. }) => Totals {
+                valid: 1,
+                ..Totals::NONE
+            },
+            Block::Read(Reading::Corrected { burst, .. }) => {
+                let span = burst.span();
+                Totals {
+                    bursts: [
+                        u64::from(span == 1),
+                        u64::from(span == 2),
+                        u64::from(span == 3),
+                        u64::from(span == 4),
+                        u64::from(span == 5),
+                    ],
+                    bits: u64::from(burst.ones()),
+                    ..Totals::NONE
+                }
+            }
+            Block::Read(Reading::Lost) => Totals {
+                lost: 1,
+                ..Totals::NONE
+            },
+        }
+    }
+
+    /// The totals of two lists, one after the other.
+    fn plus(self, other: Totals) -> Totals
+        requires self_small { IsAtMost (2 ^ 60) self }
+        requires other_small { IsAtMost (2 ^ 60) other }
+        ensures { result ≡ plus self other }
+    {
+        Totals {
+            valid: self.valid + other.valid,
+            bursts: [
+                self.bursts[0] + other.bursts[0],
+                self.bursts[1] + other.bursts[1],
+                self.bursts[2] + other.bursts[2],
+                self.bursts[3] + other.bursts[3],
+                self.bursts[4] + other.bursts[4],
+            ],
+            lost: self.lost + other.lost,
+            bits: self.bits + other.bits,
+            groups: self.groups + other.groups,
+            complete: self.complete + other.complete,
+            acquired: self.acquired + other.acquired,
+            losses: self.losses + other.losses,
+        }
+    }
+}
