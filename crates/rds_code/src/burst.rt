@@ -51,7 +51,8 @@ impl Burst {
         ensures least { 1 ≤ result }
         ensures most { result ≤ 5 }
     {
-        (32 - self.pattern.leading_zeros() - self.pattern.trailing_zeros()) as u8
+        let Burst { pattern } = self;
+        (32 - pattern.leading_zeros() - pattern.trailing_zeros()) as u8
     }
 
     /// How many bits it inverts: 1 to 5.
@@ -60,6 +61,7 @@ impl Burst {
         ensures least { 1 ≤ result }
         ensures most { result ≤ 5 }
     {
-        self.pattern.count_ones() as u8
+        let Burst { pattern } = self;
+        pattern.count_ones() as u8
     }
 }

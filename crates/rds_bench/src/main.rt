@@ -1,0 +1,44 @@
+//! `rds_bench`: how fast the parts of `rds` are.
+//!
+//! Each measurement is a function in a file of its own. It times the forms of one task in the same run, one after the
+//! other, over the same bits, and shows each as a ratio to the first: times of two runs say little of one another.
+#![tactic(auto)]
+
+mod remainders;
+mod sample;
+mod timing;
+mod windows;
+
+use anyhow::{Context, Result};
+use std::env;
+
+const USAGE: &str = "usage: rds_bench MEASUREMENT [BITS]
+
+  scan       the scan by rolling remainders, and a remainder anew for each window
+  remainder  the remainder by tables, and by long division
+
+BITS is the length of the recording that is made up for it, 100000000 where it is not given.
+";
+
+/// The length of a recording where none is given.
+const BITS: u64 = 100_000_000;
+
+fn main(rt: HostRuntime) -> Result<()> {
+    let mut words = env::args(&rt)?.skip(1);
+    let Some(measurement) = words.next() else {
+        print!(rt; "{USAGE}")?;
+        return Ok(());
+    };
+    let bits = match words.next() {
+        Some(text) => text.parse::<u64>().context("BITS is no number")?,
+        None => BITS,
+    };
+    match measurement.as_str() {
+        "scan" => windows::measure(&rt, bits),
+        "remainder" => remainders::measure(&rt, bits),
+        _ => {
+            print!(rt; "{USAGE}")?;
+            Ok(())
+        }
+    }
+}

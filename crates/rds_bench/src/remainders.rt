@@ -1,0 +1,25 @@
+// The remainder of a block: from tables, and by long division.
+use crate::timing::Timing;
+use anyhow::Result;
+use rds_code::{plain, rem26};
+use std::time::Instant;
+
+/// As many blocks as bits, one after the other, so that no recording is read.
+pub fn measure(rt: &HostRuntime, blocks: u64) -> Result<()> {
+    let mut timing = Timing::new(blocks);
+
+    let start = Instant::now(rt)?;
+    let mut found = 0u64;
+    for block in 0..blocks {
+        found ^= rem26((block % (1 << 26)) as u32) as u64;
+    }
+    timing.show(rt, "by tables", start, found)?;
+
+    let start = Instant::now(rt)?;
+    let mut found = 0u64;
+    for block in 0..blocks {
+        found ^= plain::rem26((block % (1 << 26)) as u32) as u64;
+    }
+    timing.show(rt, "by long division", start, found)?;
+    Ok(())
+}

@@ -1,0 +1,46 @@
+// The valid windows of a recording: by a remainder that rolls from place to place, and by a remainder anew at each.
+use crate::sample::noise;
+use crate::timing::Timing;
+use anyhow::Result;
+use rds_code::{Offset, offset_of, plain, rem26};
+use rds_stream::{Recording, scan};
+use std::alloc::{Global, AllocError};
+use std::time::Instant;
+
+pub fn measure(rt: &HostRuntime, bits: u64) -> Result<()> {
+    let recording = noise(rt.alloc(), bits)?;
+    let mut timing = Timing::new(bits);
+
+    let start = Instant::now(rt)?;
+    let found = scan(rt.alloc(), &recording, 0, recording.len())?;
+    timing.show(rt, "rolling", start, found.len() as u64)?;
+
+    let start = Instant::now(rt)?;
+    let found = by_tables(rt.alloc(), &recording)?;
+    timing.show(rt, "anew by tables", start, found.len() as u64)?;
+
+    let start = Instant::now(rt)?;
+    let found = by_division(rt.alloc(), &recording)?;
+    timing.show(rt, "anew by long division", start, found.len() as u64)?;
+    Ok(())
+}
+
+fn by_tables(alloc: Global, recording: &Recording) -> Result<Vec<(u64, Offset)>, AllocError> {
+    let mut found = Vec::new(alloc);
+    for place in 25..recording.len() {
+        if let Some(offset) = offset_of(rem26(recording.window(place))) {
+            found.push((place, offset))?;
+        }
+    }
+    Ok(found)
+}
+
+fn by_division(alloc: Global, recording: &Recording) -> Result<Vec<(u64, Offset)>, AllocError> {
+    let mut found = Vec::new(alloc);
+    for place in 25..recording.len() {
+        if let Some(offset) = offset_of(plain::rem26(recording.window(place))) {
+            found.push((place, offset))?;
+        }
+    }
+    Ok(found)
+}

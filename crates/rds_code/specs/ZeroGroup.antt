@@ -1,0 +1,78 @@
+-- Worked example: the group whose four information words are 0, sent again and again. The valid windows end at its four blocks, and at two false phases of offset B.
+use Rattle.std.specs.Prelude.{◌≡◌, ℕ, ◌+◌, ◌-◌, ◌*◌, ◌/◌, ◌%◌, ◌^◌, List, [], ◌∷◌, Option, Some, None, map, refl, zero}
+use Rattle.std.specs.List.{range_with_len, filter_map}
+use Rattle.rds_code.specs.declared.offset.Offset.{Offset}
+use Rattle.rds_code.specs.declared.offset.Offset.TheVariants.{A, B, C, Cx, D}
+use Rattle.rds_code.specs.Remainder.{rem}
+use Rattle.rds_code.specs.Offsets.{word, offset_of}
+use Rattle.rds_code.specs.Encoding.{encoded_group}
+
+-- the bits of one group: its information words are 0, so its checkwords are the offset words
+abbrev pub one_group : ℕ
+one_group = ((word A * 2 ^ 26 + word B) * 2 ^ 26 + word C) * 2 ^ 26 + word D
+
+-- three groups in a row, first bit highest
+abbrev pub three_groups : ℕ
+three_groups = (one_group * 2 ^ 104 + one_group) * 2 ^ 104 + one_group
+
+-- the window whose last bit stands at place i
+abbrev pub window_at : ℕ → ℕ
+window_at i = three_groups / 2 ^ (311 - i) % 2 ^ 26
+
+-- the blocks of the group are its offset words
+pub blocks : encoded_group (0 ∷ 0 ∷ 0 ∷ 0 ∷ []) ≡ 0x00000FC ∷ 0x0000198 ∷ 0x0000168 ∷ 0x00001B4 ∷ []
+unfolding rem
+blocks = refl
+
+-- the remainders of the windows from place 25 on; they come again after 104 places
+pub remainders_25 : map (λ i. rem (window_at i)) (range_with_len 25 5) ≡ 0x0FC ∷ 0x1F8 ∷ 0x3F0 ∷ 0x259 ∷ 0x10B ∷ []
+unfolding rem
+remainders_25 = refl
+
+pub remainders_30 : map (λ i. rem (window_at i)) (range_with_len 30 10) ≡ 0x216 ∷ 0x195 ∷ 0x32A ∷ 0x3ED ∷ 0x263 ∷ 0x17F ∷ 0x2FE ∷ 0x045 ∷ 0x08A ∷ 0x114 ∷ []
+unfolding rem
+remainders_30 = refl
+
+pub remainders_40 : map (λ i. rem (window_at i)) (range_with_len 40 10) ≡ 0x228 ∷ 0x1E9 ∷ 0x3D2 ∷ 0x21C ∷ 0x16E ∷ 0x232 ∷ 0x133 ∷ 0x289 ∷ 0x044 ∷ 0x066 ∷ []
+unfolding rem
+remainders_40 = refl
+
+pub remainders_50 : map (λ i. rem (window_at i)) (range_with_len 50 10) ≡ 0x0CC ∷ 0x198 ∷ 0x330 ∷ 0x3D9 ∷ 0x20B ∷ 0x1AF ∷ 0x35E ∷ 0x305 ∷ 0x3B3 ∷ 0x2DF ∷ []
+unfolding rem
+remainders_50 = refl
+
+pub remainders_60 : map (λ i. rem (window_at i)) (range_with_len 60 10) ≡ 0x007 ∷ 0x00E ∷ 0x01C ∷ 0x038 ∷ 0x070 ∷ 0x0E0 ∷ 0x1C0 ∷ 0x380 ∷ 0x2B9 ∷ 0x024 ∷ []
+unfolding rem
+remainders_60 = refl
+
+pub remainders_70 : map (λ i. rem (window_at i)) (range_with_len 70 10) ≡ 0x0A6 ∷ 0x14D ∷ 0x29B ∷ 0x061 ∷ 0x02D ∷ 0x05A ∷ 0x0B4 ∷ 0x168 ∷ 0x2D0 ∷ 0x019 ∷ []
+unfolding rem
+remainders_70 = refl
+
+pub remainders_80 : map (λ i. rem (window_at i)) (range_with_len 80 10) ≡ 0x032 ∷ 0x064 ∷ 0x0C8 ∷ 0x190 ∷ 0x320 ∷ 0x3F9 ∷ 0x24B ∷ 0x12F ∷ 0x25E ∷ 0x105 ∷ []
+unfolding rem
+remainders_80 = refl
+
+pub remainders_90 : map (λ i. rem (window_at i)) (range_with_len 90 10) ≡ 0x20A ∷ 0x1AD ∷ 0x35A ∷ 0x30D ∷ 0x3A3 ∷ 0x210 ∷ 0x198 ∷ 0x3DE ∷ 0x2EA ∷ 0x06C ∷ []
+unfolding rem
+remainders_90 = refl
+
+pub remainders_100 : map (λ i. rem (window_at i)) (range_with_len 100 10) ≡ 0x036 ∷ 0x06D ∷ 0x0DA ∷ 0x1B4 ∷ 0x368 ∷ 0x369 ∷ 0x36B ∷ 0x36F ∷ 0x367 ∷ 0x377 ∷ []
+unfolding rem
+remainders_100 = refl
+
+pub remainders_110 : map (λ i. rem (window_at i)) (range_with_len 110 10) ≡ 0x357 ∷ 0x317 ∷ 0x397 ∷ 0x297 ∷ 0x097 ∷ 0x12E ∷ 0x25C ∷ 0x101 ∷ 0x202 ∷ 0x1BD ∷ []
+unfolding rem
+remainders_110 = refl
+
+pub remainders_120 : map (λ i. rem (window_at i)) (range_with_len 120 10) ≡ 0x37A ∷ 0x3A3 ∷ 0x210 ∷ 0x198 ∷ 0x3DF ∷ 0x2E8 ∷ 0x068 ∷ 0x03F ∷ 0x07E ∷ 0x0FC ∷ []
+unfolding rem
+remainders_120 = refl
+
+-- each valid window of the second and third group
+abbrev pub valid_at : ℕ → Option (ℕ × Offset)
+valid_at i = elim (offset_of (rem (window_at i))) [ None ↦ None | Some o ↦ Some (i, o) ]
+
+pub valid_windows : filter_map valid_at (range_with_len 104 104) ≡ (123, B) ∷ (129, A) ∷ (155, B) ∷ (181, C) ∷ (200, B) ∷ (207, D) ∷ []
+unfolding rem
+valid_windows = refl
