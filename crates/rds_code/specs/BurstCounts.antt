@@ -1,5 +1,5 @@
 -- Worked example: how many bursts there are, by span. A span of s has 2 ^ (s - 2) patterns from 2 on, at 27 - s places each.
-use Rattle.std.specs.Prelude.{◌≡◌, ℕ, List, [], ◌∷◌, map, length, refl}
+use Rattle.std.specs.Prelude.{◌≡◌, [], ◌∷◌, map, length, refl}
 use Rattle.rds_code.specs.Bursts.{patterns, bursts_of_span, bursts}
 
 pub patterns_by_span : map (λ s. length (patterns s)) (1 ∷ 2 ∷ 3 ∷ 4 ∷ 5 ∷ []) ≡ 1 ∷ 1 ∷ 2 ∷ 4 ∷ 8 ∷ []

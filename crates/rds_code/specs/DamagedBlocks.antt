@@ -1,7 +1,7 @@
 -- Worked examples: damaged blocks of the group whose information words are 0, and how they are read.
 use Rattle.std.specs.Prelude.{◌≡◌, ℕ, ◌*◌, ◌==◌, List, [], ◌∷◌, map, filter, refl, bit_xor}
 use Rattle.rds_code.specs.declared.offset.Offset.TheVariants.{A, B, C, Cx, D}
-use Rattle.rds_code.specs.declared.reading.Wanted.TheVariants.{OnlyC, OnlyCx, Either}
+use Rattle.rds_code.specs.declared.reading.Wanted.TheVariants.{OnlyC, Either}
 use Rattle.rds_code.specs.declared.reading.Reading.TheVariants.{Valid, Corrected, Lost}
 use Rattle.rds_code.specs.Remainder.{rem}
 use Rattle.rds_code.specs.Offsets.{word}

@@ -1,5 +1,5 @@
 -- Worked examples: what the powers of x leave, by the generator. Below x^10 a power is its own remainder.
-use Rattle.std.specs.Prelude.{◌≡◌, ℕ, ◌*◌, ◌^◌, List, [], ◌∷◌, map, refl}
+use Rattle.std.specs.Prelude.{◌≡◌, ◌*◌, ◌^◌, [], ◌∷◌, map, refl}
 use Rattle.std.specs.List.{range_with_len}
 use Rattle.rds_code.specs.Remainder.{rem}
 

@@ -1,8 +1,8 @@
 -- Worked example: the group whose four information words are 0, sent again and again. The valid windows end at its four blocks, and at two false phases of offset B.
-use Rattle.std.specs.Prelude.{◌≡◌, ℕ, ◌+◌, ◌-◌, ◌*◌, ◌/◌, ◌%◌, ◌^◌, List, [], ◌∷◌, Option, Some, None, map, refl, zero}
+use Rattle.std.specs.Prelude.{◌≡◌, ℕ, ◌+◌, ◌-◌, ◌*◌, ◌/◌, ◌%◌, ◌^◌, [], ◌∷◌, Option, Some, None, map, refl}
 use Rattle.std.specs.List.{range_with_len, filter_map}
 use Rattle.rds_code.specs.declared.offset.Offset.{Offset}
-use Rattle.rds_code.specs.declared.offset.Offset.TheVariants.{A, B, C, Cx, D}
+use Rattle.rds_code.specs.declared.offset.Offset.TheVariants.{A, B, C, D}
 use Rattle.rds_code.specs.Remainder.{rem}
 use Rattle.rds_code.specs.Offsets.{word, offset_of}
 use Rattle.rds_code.specs.Encoding.{encoded_group}

@@ -1,7 +1,7 @@
 ghost use Rattle.std.specs.Prelude.{◌≡◌, codes};
 ghost use Rattle.rds_code.specs.declared.error.CodeError.TheVariants.{OutOfMemory};
 
-use std::alloc::{AllocError, AllocFailed};
+use std::alloc::AllocError;
 use thiserror::Error;
 
 /// Why a call of this crate is refused.
@@ -36,14 +36,6 @@ impl From<AllocError> for CodeError {
     ghost from_gives = { λ _ error. error ≡ OutOfMemory };
 
     fn from(_refused: AllocError) -> CodeError {
-        CodeError::OutOfMemory
-    }
-}
-
-impl<T: Drop> From<AllocFailed<T>> for CodeError {
-    ghost from_gives = { λ _ error. error ≡ OutOfMemory };
-
-    fn from(_refused: AllocFailed<T>) -> CodeError {
         CodeError::OutOfMemory
     }
 }

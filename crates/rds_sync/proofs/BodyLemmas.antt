@@ -1,29 +1,34 @@
 -- Lemmas on the bodies of the synchroniser.
-use Rattle.std.proofs.Common.{◌≡◌, ℕ, zero, suc, ◌+◌, ◌-◌, ◌*◌, ◌<◌, ◌≤◌, List, [], ◌∷◌, ◌++◌, length, Bool, true, false, Option, Some, None, refl, sym, ap, ap₂, ◌∙◌, subst, arith, length-append, inl, inr, cond, eqb, leb, ltb}
+use Rattle.std.proofs.Common.{◌≡◌, ◌≢◌, ℕ, zero, suc, ◌+◌, ◌-◌, ◌*◌, ◌<◌, ◌≤◌, List, [], ◌∷◌, ◌++◌, length, Bool, true, false, Option, Some, None, refl, sym, ap, ap₂, ◌∙◌, subst, arith, length-append, get_or, set, inl, inr, cond, eqb, leb, ltb, ◌%◌, append-nil, append_assoc}
 use Rattle.std.proofs.lemmas.Bool.{le-leb, lt-leb, le-ltb, lt-ltb, eq-eqb, ne_eqb, cases_lt, cases_eq}
 use Rattle.std.specs.Prelude.{◌&&◌}
 use Rattle.rds_code.specs.declared.reading.Wanted.{Wanted}
-use Rattle.rds_code.specs.Reading.{reading}
+use Rattle.rds_code.specs.declared.reading.Reading.{Reading}
+use Rattle.rds_code.specs.declared.reading.Reading.TheVariants.{Valid}
+use Rattle.rds_code.specs.Reading.{reading, read_from, information, corrected, corrections, wanted_offsets, by_only}
+use Rattle.rds_sync.specs.Totals.{is_valid}
 use Rattle.rds_code.specs.declared.offset.Offset.{Offset}
 use Rattle.rds_code.specs.Remainder.{rem}
 use Rattle.rds_code.specs.Offsets.{number, offset_of}
 use Rattle.rds_stream.specs.Recording.{window, off}
 use Rattle.rds_sync.specs.Acquiring.{acquired, has_number, has_partner}
+use Rattle.rds_sync.specs.Locks.{blocks_at}
 use Rattle.rds_sync.specs.Reads.{is_numbered}
 use Rattle.rds_sync.specs.Step.{bad_after, step, run, items_at, items_of_end, locked_after, group_after}
 use Rattle.rds_sync.specs.declared.state.State.{State}
 use Rattle.rds_sync.specs.declared.state.State.TheVariants.{Searching, Locked}
 use Rattle.rds_sync.specs.declared.item.Item.TheVariants.{Group, LostLock}
 use Rattle.rds_sync.specs.Lawful.{IsLawful, IsLawfulLock}
-use Rattle.rds_sync.proofs.RunLemmas.{step-keeping, items-keeping, step-losing, items-losing, run-one, run-waiting, run-reading, run-places, items-searching, items-acquiring, items-waiting}
+use Rattle.rds_sync.proofs.RunLemmas.{step-keeping, items-keeping, step-losing, items-losing, run-one, run-append, run-searching, run-waiting, run-reading, run-places, items-searching, items-acquiring, items-waiting}
 use Rattle.rds_sync.specs.Advance.{items_in, reads_most}
 use Rattle.rds_sync.specs.Report.{report_items}
 use Rattle.rds_sync.proofs.Locks.{run_is_report}
+use Rattle.rds_sync.specs.declared.item.Group.{Group as GroupRecord}
 use Rattle.rds_sync.specs.declared.item.Item.{Item}
 use Rattle.std.specs.List.{list_any, range_with_len}
 use Rattle.rds_sync.proofs.LawfulLemmas.{acquired-none, acquired-some, lawful-step}
 use Rattle.rds_sync.specs.declared.item.Block.{Block}
-use Rattle.rds_sync.specs.declared.item.Block.TheVariants.{Read}
+use Rattle.rds_sync.specs.declared.item.Block.TheVariants.{Missing, Read}
 use Rattle.rds_sync.specs.Rules.{RuleNumbers}
 use Rattle.rds_code.specs.declared.reading.Wanted.TheVariants.{Either}
 use Rattle.rds_sync.specs.Groups.{block_at, group, group_of, wanted_beside}
@@ -67,18 +72,101 @@ blocks_before f x from order to =
         below_all f from (omega arith), below_all x (omega arith) to) in
     omega arith
 
--- a group is its blocks, read one by one
-pub group-blocks : (b : List ℕ) (rules : RuleNumbers) (f x p : ℕ) (one two three four : Block)
+-- the blocks of a group, read one by one
+pub blocks_at-read : (b : List ℕ) (rules : RuleNumbers) (f x p : ℕ) (one two three four : Block)
     → one ≡ block_at b rules f x p Either 1 → two ≡ block_at b rules f x p Either 2
     → three ≡ block_at b rules f x p (wanted_beside two) 3 → four ≡ block_at b rules f x p Either 4
-    → group_of (p - 26 * (x - f) - 25) one two three four ≡ group b rules f x p
-unfolding group
-group-blocks b rules f x p one two three four is_one is_two is_three is_four =
+    → one ∷ two ∷ three ∷ four ∷ [] ≡ blocks_at b rules f x p
+blocks_at-read b rules f x p one two three four is_one is_two is_three is_four =
     let third : three ≡ block_at b rules f x p (wanted_beside (block_at b rules f x p Either 2)) 3 =
       is_three ∙ ap (λ (second : Block). block_at b rules f x p (wanted_beside second) 3) is_two in
-    ap (λ (block : Block). group_of (p - 26 * (x - f) - 25) block two three four) is_one
-    ∙ ap (λ (block : Block). group_of (p - 26 * (x - f) - 25) (block_at b rules f x p Either 1) block three four) is_two
-    ∙ ap₂ (λ (one_more last : Block). group_of (p - 26 * (x - f) - 25) (block_at b rules f x p Either 1) (block_at b rules f x p Either 2) one_more last) third is_four
+    ap₂ (λ (first_read second_read : Block). first_read ∷ second_read ∷ three ∷ four ∷ []) is_one is_two
+    ∙ ap₂ (λ (third_read last_read : Block). block_at b rules f x p Either 1 ∷ block_at b rules f x p Either 2 ∷ third_read ∷ last_read ∷ []) third is_four
+
+-- the group of these blocks
+pub group-blocks : (b : List ℕ) (rules : RuleNumbers) (f x p : ℕ) (blocks : List Block) (d₀ d₁ d₂ d₃ : Block) → blocks ≡ blocks_at b rules f x p
+    → group_of (p - 26 * (x - f) - 25) (get_or blocks 0 d₀) (get_or blocks 1 d₁) (get_or blocks 2 d₂) (get_or blocks 3 d₃) ≡ group b rules f x p
+unfolding group
+group-blocks b rules f x p blocks d₀ d₁ d₂ d₃ are =
+    ap (λ (bs : List Block). group_of (p - 26 * (x - f) - 25) (get_or bs 0 d₀) (get_or bs 1 d₁) (get_or bs 2 d₂) (get_or bs 3 d₃)) are
+
+-- a block before the last one is that of the group one block shorter
+block_at-earlier : (b : List ℕ) (rules : RuleNumbers) (f x p : ℕ) (wanted : Wanted) (y : ℕ) → y < x
+    → block_at b rules f (x - 1) (p - 26) wanted y ≡ block_at b rules f x p wanted y
+block_at-earlier b rules f x p wanted y before =
+    let place : p - 26 - 26 * (x - 1 - y) ≡ p - 26 * (x - y) = omega arith in
+    rw (le-leb y (x - 1) (omega arith), le-leb y x (omega arith), place) refl
+
+-- a block after the last one is missing
+block_at-later : (b : List ℕ) (rules : RuleNumbers) (f x p : ℕ) (wanted : Wanted) (y : ℕ) → x < y → block_at b rules f x p wanted y ≡ Missing
+block_at-later b rules f x p wanted y after = rw (lt-leb y x after) (missing (leb f y)) where
+  missing : (t : Bool) → cond (t && false) (Read (reading (window b (p - 26 * (x - y))) y wanted rules.burst)) Missing ≡ Missing
+  missing true = refl
+  missing false = refl
+
+block_at-later_both : (b : List ℕ) (rules : RuleNumbers) (f x p : ℕ) (one other : Wanted) (y : ℕ) → x < y
+    → block_at b rules f (x - 1) (p - 26) one y ≡ block_at b rules f x p other y
+block_at-later_both b rules f x p one other y after =
+    block_at-later b rules f (x - 1) (p - 26) one y (omega arith) ∙ sym (block_at-later b rules f x p other y after)
+
+-- the last block is its window, read
+block_at-last : (b : List ℕ) (rules : RuleNumbers) (f x p : ℕ) (wanted : Wanted) → f ≤ x → Read (reading (window b p) x wanted rules.burst) ≡ block_at b rules f x p wanted x
+block_at-last b rules f x p wanted from =
+    let place : p ≡ p - 26 * (x - x) = omega arith in
+    block_at-read b rules f x p wanted x (window b p) from (omega arith) (ap (λ (i : ℕ). window b i) place)
+
+-- with the next block read, the blocks are those of the group one block longer
+pub blocks_at-next : (b : List ℕ) (rules : RuleNumbers) (f x p : ℕ) (wanted : Wanted) (block : Block) → 1 ≤ f → f ≤ x → x ≤ 4
+    → block ≡ Read (reading (window b p) x wanted rules.burst) → (x ≢ 3 → wanted ≡ Either)
+    → (x ≡ 3 → wanted ≡ wanted_beside (block_at b rules f 2 (p - 26) Either 2))
+    → set (blocks_at b rules f (x - 1) (p - 26)) (x - 1) block ≡ blocks_at b rules f x p
+blocks_at-next b rules f zero p wanted block low from high is other third = absurd (omega arith)
+blocks_at-next b rules f (suc zero) p wanted block low from high is other third =
+    let own : wanted ≡ Either = other (λ e. omega arith) in
+    let one = is ∙ ap (λ (w : Wanted). Read (reading (window b p) 1 w rules.burst)) own ∙ block_at-last b rules f 1 p Either from in
+    let two = block_at-later_both b rules f 1 p Either Either 2 (omega arith) in
+    let three = block_at-later_both b rules f 1 p (wanted_beside (block_at b rules f 0 (p - 26) Either 2)) (wanted_beside (block_at b rules f 1 p Either 2)) 3 (omega arith) in
+    let four = block_at-later_both b rules f 1 p Either Either 4 (omega arith) in
+    cc
+blocks_at-next b rules f (suc (suc zero)) p wanted block low from high is other third =
+    let own : wanted ≡ Either = other (λ e. omega arith) in
+    let one = block_at-earlier b rules f 2 p Either 1 (omega arith) in
+    let two = is ∙ ap (λ (w : Wanted). Read (reading (window b p) 2 w rules.burst)) own ∙ block_at-last b rules f 2 p Either from in
+    let three = block_at-later_both b rules f 2 p (wanted_beside (block_at b rules f 1 (p - 26) Either 2)) (wanted_beside (block_at b rules f 2 p Either 2)) 3 (omega arith) in
+    let four = block_at-later_both b rules f 2 p Either Either 4 (omega arith) in
+    cc
+blocks_at-next b rules f (suc (suc (suc zero))) p wanted block low from high is other third =
+    let one = block_at-earlier b rules f 3 p Either 1 (omega arith) in
+    let two = block_at-earlier b rules f 3 p Either 2 (omega arith) in
+    let own : wanted ≡ wanted_beside (block_at b rules f 3 p Either 2) = third refl ∙ ap (λ (second : Block). wanted_beside second) two in
+    let three = is ∙ ap (λ (w : Wanted). Read (reading (window b p) 3 w rules.burst)) own
+      ∙ block_at-last b rules f 3 p (wanted_beside (block_at b rules f 3 p Either 2)) from in
+    let four = block_at-later_both b rules f 3 p Either Either 4 (omega arith) in
+    cc
+blocks_at-next b rules f (suc (suc (suc (suc zero)))) p wanted block low from high is other third =
+    let own : wanted ≡ Either = other (λ e. omega arith) in
+    let one = block_at-earlier b rules f 4 p Either 1 (omega arith) in
+    let two = block_at-earlier b rules f 4 p Either 2 (omega arith) in
+    let three = block_at-earlier b rules f 4 p (wanted_beside (block_at b rules f 3 (p - 26) Either 2)) 3 (omega arith)
+      ∙ ap (λ (second : Block). block_at b rules f 4 p (wanted_beside second) 3) two in
+    let four = is ∙ ap (λ (w : Wanted). Read (reading (window b p) 4 w rules.burst)) own ∙ block_at-last b rules f 4 p Either from in
+    cc
+blocks_at-next b rules f (suc (suc (suc (suc (suc x))))) p wanted block low from high is other third = absurd (omega arith)
+
+-- a reading is valid where its window has an offset of the number
+valid-by_only : (w : ℕ) (pairs : List (Offset × ℕ)) → is_valid (Read (by_only w pairs)) ≡ false
+valid-by_only w [] = refl
+valid-by_only w ((o, e) ∷ []) = refl
+valid-by_only w (one ∷ two ∷ pairs) = refl
+
+valid-reading : (w x : ℕ) (wanted : Wanted) (limit : ℕ) → is_valid (Read (reading w x wanted limit)) ≡ is_numbered w x
+valid-reading w x wanted limit = at_case (offset_of (rem w)) where
+  own : (o : Offset) (t : Bool) → is_valid (Read (elim t as (λ _. Reading) [ true ↦ Valid o (information w) | false ↦ corrected w x wanted limit ])) ≡ t
+  own o true = refl
+  own o false = valid-by_only w (corrections (wanted_offsets x wanted) limit w)
+  at_case : (o : Option Offset) → is_valid (Read (read_from w x wanted limit o)) ≡ elim o as (λ _. Bool) [ None ↦ false | Some p ↦ eqb (number p) x ]
+  at_case None = valid-by_only w (corrections (wanted_offsets x wanted) limit w)
+  at_case (Some o) = own o (eqb (number o) x)
 
 -- no window ends before place 25
 pub off-early : (b : List ℕ) (i : ℕ) → i < 25 → off b i ≡ None
@@ -135,27 +223,44 @@ pub items_in-last : (slot : Option Item) → items_in (slot ∷ None ∷ []) ≡
 items_in-last None = refl
 items_in-last (Some item) = refl
 
-module _ (b : List ℕ) (rules : RuleNumbers) (due number bad first w now : ℕ)
-    (late : 25 ≤ due) (last : w ≡ window b due) (counted : now ≡ cond (is_numbered w number) 0 (bad + 1)) where
-  bad_after-counted : bad_after b due number bad ≡ now
-  bad_after-counted = bad_after-window b due number bad late
-      ∙ ap (λ (v : ℕ). cond (is_numbered v number) 0 (bad + 1)) (sym last) ∙ sym counted
+-- the bad blocks in a row, counted by a window
+pub bad_after-counted : (b : List ℕ) (due number bad w now : ℕ) (good : Bool) → 25 ≤ due → w ≡ window b due → good ≡ is_numbered w number
+    → now ≡ cond good 0 (bad + 1) → bad_after b due number bad ≡ now
+bad_after-counted b due number bad w now good late last good_is counted =
+    bad_after-window b due number bad late
+    ∙ ap (λ (v : ℕ). cond (is_numbered v number) 0 (bad + 1)) (sym last)
+    ∙ ap (λ (t : Bool). cond t 0 (bad + 1)) (sym good_is) ∙ sym counted
 
+module _ (b : List ℕ) (rules : RuleNumbers) (due number bad first now : ℕ) (counted : bad_after b due number bad ≡ now) where
   -- the block that is due was read, and the lock goes on
   pub step-kept : now < rules.loss → step b rules due (Locked due number bad first) ≡ locked_after due number now first
-  step-kept few =
-      let same = bad_after-counted in
-      step-keeping b rules due number bad first (omega arith) ∙ ap (λ (n : ℕ). locked_after due number n first) same
+  step-kept few = step-keeping b rules due number bad first (omega arith) ∙ ap (λ (n : ℕ). locked_after due number n first) counted
 
   pub items-kept : now < rules.loss → items_at b rules due (Locked due number bad first) ≡ group_after b rules first number due
-  items-kept few = let same = bad_after-counted in items-keeping b rules due number bad first (omega arith)
+  items-kept few = items-keeping b rules due number bad first (omega arith)
 
   -- the block that is due was read, and the lock is lost
   pub step-lost : rules.loss ≤ now → step b rules due (Locked due number bad first) ≡ Searching
-  step-lost many = let same = bad_after-counted in step-losing b rules due number bad first (omega arith)
+  step-lost many = step-losing b rules due number bad first (omega arith)
 
   pub items-lost : rules.loss ≤ now → items_at b rules due (Locked due number bad first) ≡ Group (group b rules first number due) ∷ LostLock due ∷ []
-  items-lost many = let same = bad_after-counted in items-losing b rules due number bad first (omega arith)
+  items-lost many = items-losing b rules due number bad first (omega arith)
+
+-- which lock goes on after a block: on block 4 follows block 1, of a new group
+pub locked_after-inside : (due number now first : ℕ) → number < 4 → locked_after due number now first ≡ Locked (due + 26) (number + 1) now first
+locked_after-inside due number now first inside =
+    let next : number % 4 + 1 ≡ number + 1 = omega arith in
+    rw (ne_eqb number 4 (λ e. omega arith), next) refl
+
+pub locked_after-four : (due number now first : ℕ) → number ≡ 4 → locked_after due number now first ≡ Locked (due + 26) 1 now 1
+locked_after-four due number now first four = rw four refl
+
+pub group_after-inside : (b : List ℕ) (rules : RuleNumbers) (first number due : ℕ) → number < 4 → group_after b rules first number due ≡ []
+group_after-inside b rules first number due inside = rw (ne_eqb number 4 (λ e. omega arith), group_after) refl
+
+pub group_after-four : (b : List ℕ) (rules : RuleNumbers) (first number due : ℕ) → number ≡ 4
+    → group_after b rules first number due ≡ Group (group b rules first number due) ∷ []
+group_after-four b rules first number due four = rw (eq-eqb number 4 four, group_after) refl
 
 -- a step, by its first state and its places
 module _ (b : List ℕ) (rules : RuleNumbers) (s : State) (place after : ℕ) where
@@ -259,3 +364,47 @@ pub report-few : (b : List ℕ) (rules : RuleNumbers) (n : ℕ) (s : State) (ite
 report-few b rules n s items ended items_are end_is =
     omega (arith, length-append items ended, ap (λ (is : List Item). length is) items_are, ap (λ (is : List Item). length is) end_is,
       run_items-few b rules Searching 0 (n - 0), items_of_end-few b rules s)
+
+-- the same, at a place
+pub good-reading : (b : List ℕ) (i x w : ℕ) (wanted : Wanted) (limit : ℕ) (read : Reading) → 25 ≤ i → w ≡ window b i → read ≡ reading w x wanted limit
+    → is_valid (Read read) ≡ has_number b i x
+good-reading b i x w wanted limit read late window_is read_is =
+    ap (λ (r : Reading). is_valid (Read r)) read_is ∙ valid-reading w x wanted limit
+    ∙ ap (λ (v : ℕ). is_numbered v x) window_is ∙ sym (has_number-window b i x late)
+
+-- the bad blocks in a row, counted by a block
+pub bad_after-valid : (b : List ℕ) (due number bad now : ℕ) (valid : Bool) → valid ≡ has_number b due number → now ≡ cond valid 0 (bad + 1)
+    → bad_after b due number bad ≡ now
+bad_after-valid b due number bad now valid valid_is counted = ap (λ (t : Bool). cond t 0 (bad + 1)) (sym valid_is) ∙ sym counted
+
+-- a group made of its blocks
+pub closed-group : (b : List ℕ) (rules : RuleNumbers) (f x p : ℕ) (closed : GroupRecord)
+    → ((one two three four : Block) → blocks_at b rules f x p ≡ one ∷ two ∷ three ∷ four ∷ [] → closed ≡ group_of (p - 26 * (x - f) - 25) one two three four)
+    → closed ≡ group b rules f x p
+closed-group b rules f x p closed is =
+    is _ _ _ _ refl ∙ group-blocks b rules f x p (blocks_at b rules f x p) Missing Missing Missing Missing refl
+
+-- whether a place with an offset acquires is a matter of its partner
+pub acquired-offset : (b later : List ℕ) (rules : RuleNumbers) (i n : ℕ) (o : Offset) (found : Bool) → off b i ≡ Some o → n ≡ number o → later ≡ b
+    → found ≡ list_any (has_partner later i n) (range_with_len 1 rules.reach)
+    → elim found as (λ _. Option ℕ) [ true ↦ Some n | false ↦ None ] ≡ acquired b rules i
+acquired-offset b later rules i n o found here is_number same is_found =
+    ap₂ (λ (t : Bool) (x : ℕ). elim t as (λ _. Option ℕ) [ true ↦ Some x | false ↦ None ])
+      (is_found ∙ ap₂ (λ (bits : List ℕ) (x : ℕ). list_any (has_partner bits i x) (range_with_len 1 rules.reach)) same is_number) is_number
+    ∙ sym (acquired-some b rules i o here)
+
+-- a search up to and including one place
+pub run-found : (b : List ℕ) (rules : RuleNumbers) (place here : ℕ) → place ≤ here → ((j : ℕ) → place ≤ j → j < here → acquired b rules j ≡ None)
+    → run b rules Searching place (here + 1 - place) ≡ (step b rules here Searching, items_at b rules here Searching)
+run-found b rules place here order none =
+    let bits : here + 1 - place ≡ (here - place) + 1 = omega arith in
+    let at : place + (here - place) ≡ here = omega arith in
+    let later : (j : ℕ) → place ≤ j → j < place + (here - place) → acquired b rules j ≡ None = λ j low high. none j low (omega arith) in
+    rw bits (run-append b rules Searching place (here - place) 1
+      ∙ ap₂ (λ (r : State × List Item) (p : ℕ). ((run b rules r.0 p 1).0, r.1 ++ (run b rules r.0 p 1).1)) (run-searching b rules place (here - place) later) at
+      ∙ run-one b rules Searching here)
+
+-- a search of all places of a range
+pub run-unfound : (b : List ℕ) (rules : RuleNumbers) (place to : ℕ) → place ≤ to → ((j : ℕ) → place ≤ j → j < to → acquired b rules j ≡ None)
+    → run b rules Searching place (to - place) ≡ (Searching, [])
+run-unfound b rules place to order none = run-searching b rules place (to - place) (λ j low high. none j low (omega arith))

@@ -6,6 +6,7 @@ ghost use Rattle.rds_code.specs.Offsets.{offset_of as the_offset_of};
 ghost use Rattle.rds_stream.specs.Recording.{window as the_window};
 ghost use Rattle.rds_sync.specs.Groups.{info_of, are_complete, version_by_bit, version_of_offset, version, differ, in_conflict, wanted_beside, group_of, block_at, group};
 ghost use Rattle.rds_sync.specs.Reads.{is_numbered};
+ghost use Rattle.rds_sync.specs.Locks.{blocks_at};
 ghost use Rattle.rds_sync.specs.Spans.{IsSpan};
 
 use rds_code::{Offset, Reading, Wanted, offset_of, rem26};
@@ -15,7 +16,7 @@ use crate::item::{Block, Group, Version};
 use crate::rules::Rules;
 
 /// Whether a window is valid, with an offset of this number.
-fn is_numbered(window: u32, number: u8) -> bool
+pub(crate) fn is_numbered(window: u32, number: u8) -> bool
     requires { window < 2 ^ 26 }
     ensures { result ≡ is_numbered window number }
 {
@@ -25,14 +26,13 @@ fn is_numbered(window: u32, number: u8) -> bool
     }
 }
 
-/// The bad blocks in a row, with the block that has this window: a valid one ends them, any other
-/// is one more, corrected or not.
-pub(crate) fn bad_with(window: u32, number: u8, bad: u8) -> u8
-    requires block { window < 2 ^ 26 }
-    requires few { bad < 255 }
-    ensures { result ≡ (if is_numbered window number then 0 else bad + 1) }
+/// The bad blocks in a row after one more block: a valid one ends them, any other is one more,
+/// corrected or not.
+pub(crate) fn bad_with(valid: bool, bad: u8) -> u8
+    requires { bad < 255 }
+    ensures { result ≡ (if valid then 0 else bad + 1) }
 {
-    if is_numbered(window, number) { 0 } else { bad + 1 }
+    if valid { 0 } else { bad + 1 }
 }
 
 impl Version {
@@ -81,7 +81,7 @@ impl Block {
     }
 
     /// The offsets that are tried for block 3, this being the block 2 before it.
-    fn wanted_beside(&self) -> Wanted
+    pub(crate) fn wanted_beside(&self) -> Wanted
         ensures { result ≡ wanted_beside self.now }
     {
         match self.version_by_bit() {
@@ -128,7 +128,7 @@ impl Group {
     }
 
     /// The group of four blocks whose first read bit is at `place`.
-    fn of_blocks(place: u64, one: Block, two: Block, three: Block, four: Block) -> Group
+    pub(crate) fn of_blocks(place: u64, one: Block, two: Block, three: Block, four: Block) -> Group
         ensures { result ≡ group_of place one two three four }
     {
         Group {
@@ -176,11 +176,11 @@ fn read_at<T: Tape>(tape: &mut T, rules: &Rules, span: Span, number: u8, wanted:
     Block::Read(rules.read(window, number, wanted))
 }
 
-/// The group of these blocks. Each block before the last takes one window from the tape.
-pub(crate) fn read_group<T: Tape>(tape: &mut T, rules: &Rules, span: Span) -> Group
+/// The blocks of such a group. Each block before the last takes one window from the tape.
+pub(crate) fn read_blocks<T: Tape>(tape: &mut T, rules: &Rules, span: Span) -> [Block; 4]
     requires span { IsSpan (T.bits tape.old) span }
     requires counted { T.reads_made tape.old + 4 ≤ 2 ^ 63 }
-    ensures value { result ≡ group (T.bits tape.old) rules.now span.first span.last span.place }
+    ensures value { result ≡ blocks_at (T.bits tape.old) rules.now span.first span.last span.place }
     ensures same { T.bits tape.new ≡ T.bits tape.old }
     ensures reads { T.reads_made tape.new ≡ T.reads_made tape.old + (span.last - span.first) }
 {
@@ -188,6 +188,18 @@ pub(crate) fn read_group<T: Tape>(tape: &mut T, rules: &Rules, span: Span) -> Gr
     let two = read_at(tape, rules, span, 2, Wanted::Either);
     let three = read_at(tape, rules, span, 3, two.wanted_beside());
     let four = read_at(tape, rules, span, 4, Wanted::Either);
-    let blocks_before = u64::from(span.last - span.first);
-    Group::of_blocks(span.place - 26 * blocks_before - 25, one, two, three, four)
+    [one, two, three, four]
+}
+
+/// Such a group, read from the tape.
+pub(crate) fn read_group<T: Tape>(tape: &mut T, rules: &Rules, span: Span) -> Group
+    requires span { IsSpan (T.bits tape.old) span }
+    requires counted { T.reads_made tape.old + 4 ≤ 2 ^ 63 }
+    ensures value { result ≡ group (T.bits tape.old) rules.now span.first span.last span.place }
+    ensures same { T.bits tape.new ≡ T.bits tape.old }
+    ensures reads { T.reads_made tape.new ≡ T.reads_made tape.old + (span.last - span.first) }
+{
+    let [one, two, three, four] = read_blocks(tape, rules, span);
+    let place = span.place - 26 * u64::from(span.last - span.first) - 25;
+    Group::of_blocks(place, one, two, three, four)
 }

@@ -12,7 +12,7 @@ ghost use Rattle.rds_sync.specs.Step.{step, items_at, run, items_of_end, locked_
 use rds_code::{Offset, offset_of, rem26};
 use rds_stream::Tape;
 
-use crate::group::{Span, bad_with, read_group};
+use crate::group::{Span, bad_with, is_numbered, read_group};
 use crate::item::{Group, Item};
 use crate::rules::Rules;
 use crate::state::State;
@@ -162,7 +162,8 @@ fn read_due<T: Tape>(
         window,
     };
     let loss = rules.loss();
-    let bad_now = bad_with(window, number, bad);
+    let valid = is_numbered(window, number);
+    let bad_now = bad_with(valid, bad);
     if u32::from(bad_now) < loss {
         Step {
             place: due + 1,
@@ -180,7 +181,7 @@ fn read_due<T: Tape>(
 }
 
 /// The group that a block closes, which it does as block 4.
-fn closed_group<T: Tape>(tape: &mut T, rules: &Rules, span: Span) -> Option<Item>
+pub(crate) fn closed_group<T: Tape>(tape: &mut T, rules: &Rules, span: Span) -> Option<Item>
     requires span { IsSpan (T.bits tape.old) span }
     requires counted { T.reads_made tape.old + 4 ≤ 2 ^ 63 }
     ensures value { items_in (result ∷ [])
@@ -230,7 +231,7 @@ fn acquire<T: Tape>(tape: &mut T, rules: &Rules, place: u64) -> Option<Acquiring
 }
 
 /// Whether a block of this number at a place has a partner within reach.
-fn has_partner<T: Tape>(tape: &mut T, rules: &Rules, place: u64, number: u8) -> bool
+pub(crate) fn has_partner<T: Tape>(tape: &mut T, rules: &Rules, place: u64, number: u8) -> bool
     requires within { place < length (T.bits tape.old) }
     requires counted { T.reads_made tape.old + 8 ≤ 2 ^ 63 }
     ensures value { result

@@ -1,4 +1,4 @@
-use Rattle.std.proofs.Common.{◌≡◌, ◌≤◌, ◌-◌, ◌*◌, ℕ, List}
+use Rattle.std.proofs.Common.{◌≡◌, ◌≤◌, ◌-◌, ℕ, List}
 use Rattle.rds_sync.specs.declared.state.State.{State}
 use Rattle.rds_sync.specs.declared.item.Item.{Item}
 use Rattle.rds_sync.specs.Rules.{RuleNumbers}
@@ -7,16 +7,14 @@ use Rattle.rds_sync.specs.Step.{run}
 use Rattle.rds_sync.proofs.range.run.Given as goal
 
 -- the run has come to this place
-pub record HasRun (b : List ℕ) (rules : RuleNumbers) (s : State) (from to place : ℕ) (now : State) (items : List Item) (tape : List ℕ) (reads : ℕ) : Type 0 where
+pub record HasRun (b : List ℕ) (rules : RuleNumbers) (s : State) (from to place : ℕ) (now : State) (items : List Item) : Type 0 where
   pub from_on : from ≤ place
   pub before : place ≤ to
   pub lawful : IsLawful rules place now
   pub so_far : run b rules s from (place - from) ≡ (now, items)
-  pub same : tape ≡ b
-  pub reads_few : reads ≤ 9 * (place - from)
 
 abbrev pub invariant-loop-place : goal.invariant-loop-place
-invariant-loop-place l = HasRun l.rec l.rules l.fn.state l.from l.to l.place l.now l.items.items l.tape.bits l.tape.reads
+invariant-loop-place l = HasRun l.rec l.rules l.fn.state l.from l.to l.place l.now l.items.items
 
 abbrev pub decreases-loop-place : goal.decreases-loop-place
 decreases-loop-place l = l.to - l.place

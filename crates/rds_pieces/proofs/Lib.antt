@@ -1,0 +1,8 @@
+mod CuttingLemmas
+mod GuessLemmas
+mod MeetingLemmas
+mod StepLemmas
+mod SeamLemmas
+mod ReadsLemmas
+mod StitchLemmas
+mod RowLemmas

@@ -1,0 +1,137 @@
+-- A run that goes on step by step: only the last bit of a step gives items.
+use Rattle.std.proofs.Common.{◌≡◌, ◌≢◌, ℕ, zero, suc, ◌+◌, ◌-◌, ◌*◌, ◌<◌, ◌≤◌, ◌^◌, List, [], ◌∷◌, ◌++◌, length, Bool, true, false, refl, sym, ap, ap₂, ◌∙◌, subst, arith, append_assoc, append-nil, length-append, add-zero, inl, inr}
+use Rattle.std.specs.Prelude.{⊤, nat_lt}
+use Rattle.std.proofs.lemmas.Bool.{cases_lt, lt-ltb, le-ltb}
+use Rattle.rds_sync.specs.declared.state.State.{State}
+use Rattle.rds_sync.specs.declared.state.State.TheVariants.{Searching, Locked}
+use Rattle.rds_sync.specs.declared.item.Item.{Item}
+use Rattle.rds_sync.specs.Rules.{RuleNumbers}
+use Rattle.rds_sync.specs.Lawful.{IsLawful}
+use Rattle.rds_sync.specs.Step.{run, step, items_at}
+use Rattle.rds_sync.proofs.RunLemmas.{run-append, run-places, run-one, run-waiting}
+use Rattle.rds_pieces.specs.declared.run.Mark.{Mark}
+use Rattle.rds_sync.specs.Advance.{next_place, reads_most}
+use Rattle.rds_pieces.specs.Advance.{IsStepTo}
+use Rattle.rds_pieces.specs.Guess.{guess, mark_at, marks}
+use Rattle.rds_pieces.proofs.GuessLemmas.{marks-quiet, marks-some}
+
+-- a step goes over one bit where it searches, and at most up to and including the block that is due where it is locked
+abbrev pub IsOneStep : State → ℕ → ℕ → Type 0
+IsOneStep Searching place next = next ≡ place + 1
+IsOneStep (Locked due number bad first) place next = next ≤ due + 1
+
+pub one_step : (s : State) (place to next : ℕ) → next ≡ next_place s place to → IsOneStep s place next
+one_step Searching place to next e = e
+one_step (Locked due number bad first) place to next e = elim (cases_lt due to) [
+  | inl soon ↦ let n : next ≡ due + 1 = e ∙ rw (lt-ltb due to soon, next_place) refl in omega arith
+  | inr late ↦ let n : next ≡ to = e ∙ rw (le-ltb due to late, next_place) refl in omega arith
+]
+
+module _ (b : List ℕ) (rules : RuleNumbers) where
+  -- before the last bit of a step nothing changes
+  pub waits : (s : State) (place next n : ℕ) → IsOneStep s place next → place + n < next → run b rules s place n ≡ (s, [])
+  waits Searching place next zero one h = refl
+  waits Searching place next (suc n) one h = absurd (omega arith)
+  waits (Locked due number bad first) place next n one h = run-waiting b rules due number bad first place n (omega arith)
+
+  -- so its items are those of its last bit
+  last_bit : (s : State) (place next n : ℕ) → IsOneStep s place next → place + suc n ≡ next
+      → run b rules s place (suc n) ≡ (step b rules (place + n) s, items_at b rules (place + n) s)
+  last_bit s place next n one e =
+      let count : suc n ≡ n + 1 = omega arith in
+      ap (λ (m : ℕ). run b rules s place m) count
+      ∙ run-append b rules s place n 1
+      ∙ ap (λ (r : State × List Item). ((run b rules r.0 (place + n) 1).0, r.1 ++ (run b rules r.0 (place + n) 1).1)) (waits s place next n one (omega arith))
+      ∙ run-one b rules s (place + n)
+
+  module _ (from : ℕ) where
+    -- a guess that goes one step on
+    module _ (place next n m : ℕ) (s : State) (at : place ≡ from + n) (end : next ≡ place + suc m) (is : s ≡ (guess b rules from n).0) (one : IsOneStep s place next) where
+      last_of_guess : (guess b rules from (n + m)).0 ≡ s
+      last_of_guess =
+          ap (λ (r : State × List Item). r.0) (run-append b rules _ from n m)
+          ∙ ap₂ (λ (t : State) (p : ℕ). (run b rules t p m).0) (sym is) (sym at)
+          ∙ ap (λ (r : State × List Item). r.0) (waits s place next m one (omega arith))
+
+      marks_wait : marks b rules from (n + m) ≡ marks b rules from n
+      marks_wait = marks-quiet b rules from n m (ap₂ (λ (t : State) (p : ℕ). (run b rules t p m).1) (sym is) (sym at) ∙ ap (λ (r : State × List Item). r.1) (waits s place next m one (omega arith)))
+
+      -- no mark more where the step gave nothing
+      pub marks-step_none : (run b rules s place (suc m)).1 ≡ [] → marks b rules from (n + suc m) ≡ marks b rules from n
+      marks-step_none none = marks-quiet b rules from n (suc m) (ap₂ (λ (t : State) (p : ℕ). (run b rules t p (suc m)).1) (sym is) (sym at) ∙ none)
+
+      -- and else one at its end
+      pub marks-step_some : (i : Item) (rest : List Item) → (run b rules s place (suc m)).1 ≡ i ∷ rest
+          → marks b rules from (n + suc m) ≡ marks b rules from n ++ mark_at b rules from (n + suc m) ∷ []
+      marks-step_some i rest some =
+          let same : n + m + 1 ≡ n + suc m = omega arith in
+          let spot : from + (n + m) ≡ place + m = omega (arith, at) in
+          let gives : items_at b rules (from + (n + m)) (guess b rules from (n + m)).0 ≡ i ∷ rest =
+          ap₂ (λ (p : ℕ) (t : State). items_at b rules p t) spot last_of_guess ∙ sym (ap (λ (r : State × List Item). r.1) (last_bit s place next m one (sym end))) ∙ some in
+          ap (λ (k : ℕ). marks b rules from k) (sym same)
+          ∙ marks-some b rules from (n + m) i rest gives
+          ∙ ap₂ (λ (ms : List Mark) (k : ℕ). ms ++ mark_at b rules from k ∷ []) marks_wait same
+
+    -- what a guess has made before place `place`
+    pub record IsSoFar (place : ℕ) (state : State) (items : List Item) (found : List Mark) : Type 0 where
+      pub state_is : state ≡ (guess b rules from (place - from)).0
+      pub items_are : items ≡ (guess b rules from (place - from)).1
+      pub marks_are : found ≡ marks b rules from (place - from)
+
+    module _ (place to next : ℕ) (s after : State) (items items2 : List Item) (found found2 : List Mark)
+        (low : from ≤ place) (so_far : IsSoFar place s items found) (goes : IsStepTo b rules s place to next after)
+        (more : items2 ≡ items ++ (run b rules s place (next - place)).1) where
+      whole : guess b rules from (next - from) ≡ (after, items2)
+      whole =
+          run-places b rules _ from place next low (let h = goes.moved in omega (arith, h))
+          ∙ ap₂ (λ (t : State) (is : List Item). ((run b rules t place (next - place)).0, is ++ (run b rules t place (next - place)).1)) (sym so_far.state_is) (sym so_far.items_are)
+          ∙ ap₂ (λ (t : State) (is : List Item). (t, is)) (sym goes.state_is) (sym more)
+
+      grown : length items2 ≡ length items + length (run b rules s place (next - place)).1
+      grown = ap (λ (is : List Item). length is) more ∙ length-append items _
+
+      pub so_far_on : ((length items < length items2) → found2 ≡ found ++ record { place = next; state = after; items = length items2 } ∷ [])
+          → ((length items2 ≤ length items) → found2 ≡ found) → IsSoFar next after items2 found2
+      so_far_on some none =
+          let h = goes.moved in
+          let n : ℕ = place - from in
+          let m : ℕ = next - place - 1 in
+          let count : next - place ≡ suc m = omega (arith, h) in
+          let sum : n + suc m ≡ next - from = omega (arith, h) in
+          record {
+            state_is = sym (ap (λ (r : State × List Item). r.0) whole);
+            items_are = sym (ap (λ (r : State × List Item). r.1) whole);
+            marks_are = at_case (run b rules s place (suc m)).1 n m refl (omega arith) (omega (arith, h)) count sum refl;
+          } where
+            at_case : (is : List Item) → (n m : ℕ) → (run b rules s place (suc m)).1 ≡ is → place ≡ from + n → next ≡ place + suc m → next - place ≡ suc m → n + suc m ≡ next - from
+                → n ≡ place - from → found2 ≡ marks b rules from (next - from)
+            at_case [] n m e at end count sum is =
+                let grew : length (run b rules s place (next - place)).1 ≡ 0 = ap (λ (k : ℕ). length (run b rules s place k).1) count ∙ ap (λ (js : List Item). length js) e in
+                none (omega (arith, grown, grew)) ∙ so_far.marks_are ∙ ap (λ (k : ℕ). marks b rules from k) (sym is)
+                ∙ sym (marks-step_none place next n m s at end (so_far.state_is ∙ ap (λ (k : ℕ). (guess b rules from k).0) (sym is)) (one_step s place to next goes.place_is) e)
+                ∙ ap (λ (k : ℕ). marks b rules from k) sum
+            at_case (i ∷ rest) n m e at end count sum is =
+                let grew : length (run b rules s place (next - place)).1 ≡ length (i ∷ rest) = ap (λ (k : ℕ). length (run b rules s place k).1) count ∙ ap (λ (js : List Item). length js) e in
+                let spot : from + (next - from) ≡ next = omega (arith, at, end) in
+                let mark : mark_at b rules from (next - from) ≡ record { place = next; state = after; items = length items2 } =
+                ap₂ (λ (p : ℕ) (r : State × List Item). record { place = p; state = r.0; items = length r.1 }) spot whole in
+                some (omega (arith, grown, grew))
+                ∙ ap₂ (λ (ms : List Mark) (k : Mark). ms ++ k ∷ []) (so_far.marks_are ∙ ap (λ (k : ℕ). marks b rules from k) (sym is)) (sym mark)
+                ∙ ap (λ (k : ℕ). marks b rules from n ++ mark_at b rules from k ∷ []) (sym sum)
+                ∙ sym (marks-step_some place next n m s at end (so_far.state_is ∙ ap (λ (k : ℕ). (guess b rules from k).0) (sym is)) (one_step s place to next goes.place_is) i rest e)
+                ∙ ap (λ (k : ℕ). marks b rules from k) sum
+
+    pub so_far_start : (items : List Item) (found : List Mark) → items ≡ [] → found ≡ record { place = from; state = Searching; items = 0 } ∷ [] → IsSoFar from Searching items found
+    so_far_start items found e f =
+        let none : 0 ≡ from - from = omega arith in
+        let spot : from ≡ from + 0 = omega arith in
+        record {
+          state_is = ap (λ (n : ℕ). (guess b rules from n).0) none;
+          items_are = e ∙ ap (λ (n : ℕ). (guess b rules from n).1) none;
+          marks_are = f ∙ ap (λ (p : ℕ). record { place = p; state = Searching; items = 0 } ∷ []) spot ∙ ap (λ (n : ℕ). marks b rules from n) none;
+        }
+
+-- a step reads at most 9 windows
+pub few_reads : (rules : RuleNumbers) (s : State) (to : ℕ) → rules.reach ≤ 8 → reads_most rules s to ≤ 9
+few_reads rules Searching to h = omega arith
+few_reads rules (Locked due number bad first) to h = elim (nat_lt due to) as (λ (t : Bool). elim t as (λ _. ℕ) [ true ↦ 4 | false ↦ 0 ] ≤ 9) [ true ↦ omega arith | false ↦ omega arith ]

@@ -1,0 +1,178 @@
+-- A run that is carried over runs that follow each other, from place 0 to the recording's end.
+use Rattle.std.proofs.Common.{◌≡◌, ℕ, zero, suc, ◌+◌, ◌-◌, ◌*◌, ◌<◌, ◌≤◌, ◌^◌, List, [], ◌∷◌, ◌++◌, length, get_or, drop, Option, Some, None, refl, sym, ap, ap₂, ◌∙◌, subst, arith}
+use Rattle.std.specs.Prelude.{MatchOption}
+use Rattle.std.proofs.lemmas.Nat.{mul-le}
+use Rattle.std.proofs.lemmas.List.{drop_more, drop_all, nil_from_length}
+use Rattle.rds_sync.specs.declared.state.State.{State}
+use Rattle.rds_sync.specs.declared.state.State.TheVariants.{Searching}
+use Rattle.rds_sync.specs.declared.item.Group.{Group}
+use Rattle.rds_sync.specs.declared.item.Item.{Item}
+use Rattle.rds_sync.specs.Rules.{RuleNumbers}
+use Rattle.rds_sync.specs.Ranges.{IsInRange}
+use Rattle.rds_sync.specs.Lawful.{IsLawful}
+use Rattle.rds_sync.specs.Advance.{group_item}
+use Rattle.rds_sync.specs.Report.{report_items}
+use Rattle.rds_sync.specs.Step.{run, items_of_end}
+use Rattle.rds_sync.proofs.BodyLemmas.{run_items-few}
+use Rattle.rds_sync.proofs.Locks.{run_is_report}
+use Rattle.rds_sync.proofs.RunLemmas.{run-places}
+use Rattle.rds_sync.proofs.LawfulLemmas.{lawful-run_places}
+use Rattle.rds_pieces.specs.Meeting.{MeetAt, MeetFirstAt, IsMeeting, distance}
+use Rattle.rds_pieces.specs.RunOf.{RunOf, run_over, FollowEachOther}
+use Rattle.rds_pieces.specs.Seams.{seam_reads, state_after, IsSumOfReads}
+
+-- the end closes one group at most
+pub group_item-few : (g : Option Group) → length (group_item g) ≤ 1
+group_item-few None = omega arith
+group_item-few (Some g) = omega arith
+
+-- runs that follow each other lie between the places
+pub follow_inside : (b : List ℕ) (rules : RuleNumbers) (from to : ℕ) (runs : List RunOf) → FollowEachOther b rules from to runs → from ≤ to
+follow_inside b rules from to [] h = omega (arith, h)
+follow_inside b rules from to (r ∷ rs) h = let l = follow_inside b rules r.to to rs h.2 in omega (arith, h.1, l)
+
+-- a meeting lies in the range
+distance_inside : (b : List ℕ) (rules : RuleNumbers) (s t : State) (from to : ℕ) (met : Option ℕ) → IsMeeting b rules s t from to met → distance from to met ≤ to - from
+distance_inside b rules s t from to None h = omega arith
+distance_inside b rules s t from to (Some p) h = let i = h.here.inside in omega (arith, i)
+
+-- so a seam over some place reads at most 20 windows a place
+few_reads : (b : List ℕ) (rules : RuleNumbers) (s : State) (from to : ℕ) (met : Option ℕ) → rules.reach ≤ 8 → from < to → IsMeeting b rules s Searching from to met
+    → seam_reads rules from to met ≤ 20 * (to - from)
+few_reads b rules s from to met reach some h =
+    let d = distance_inside b rules s Searching from to met h in
+    let most = mul-le (rules.reach + 2) (distance from to met + 1) 10 (to - from + 1) (omega arith) (omega (arith, d)) in
+    omega (arith, most)
+
+module _ (b : List ℕ) (rules : RuleNumbers) (runs : List RunOf) where
+  -- what was done once the state was carried over the first k runs
+  pub record IsStitched (base k : ℕ) (state : State) (items : List Item) (reads : ℕ) : Type 0 where
+    pub place : ℕ
+    pub sum : ℕ
+    pub follow : FollowEachOther b rules place (length b) (drop k runs)
+    pub state_is : state ≡ (run b rules Searching 0 (place - 0)).0
+    pub items_are : items ≡ (run b rules Searching 0 (place - 0)).1
+    pub lawful : IsLawful rules place state
+    pub reads_most : reads ≤ base + sum
+    pub few : sum ≤ 20 * place
+    pub sums : (n : ℕ) → IsSumOfReads b rules state (drop k runs) n → IsSumOfReads b rules Searching runs (sum + n)
+
+  pub stitched_start : (base : ℕ) (items : List Item) → FollowEachOther b rules 0 (length b) runs → length items ≡ 0 → IsStitched base 0 Searching items base
+  stitched_start base items follow empty = record {
+    place = 0;
+    sum = 0;
+    follow = follow;
+    state_is = refl;
+    items_are = nil_from_length items empty;
+    lawful = tt;
+    reads_most = omega arith;
+    few = omega arith;
+    sums = λ n h. subst (λ (m : ℕ). IsSumOfReads b rules Searching runs m) (let e : n ≡ 0 + n = omega arith in e) h;
+  }
+
+  module _ (base k : ℕ) (state : State) (items : List Item) (reads : ℕ) (done : IsStitched base k state items reads) (r d : RunOf) (inside : k < length runs) (is : r ≡ get_or runs k d) where
+    -- the runs that are left begin with run k
+    left : drop k runs ≡ r ∷ drop (k + 1) runs
+    left = drop_more runs k d inside ∙ ap (λ (x : RunOf). x ∷ drop (k + 1) runs) (sym is)
+
+    abbrev pub Next : Type 0
+    Next = FollowEachOther b rules done.place (length b) (r ∷ drop (k + 1) runs)
+
+    pub next_follows : Next
+    next_follows = subst (λ (rs : List RunOf). FollowEachOther b rules done.place (length b) rs) left done.follow
+
+    -- what a seam asks of run k
+    pub source_is : r.source ≡ b
+    source_is = ap (λ (x : RunOf). x.source) next_follows.0
+
+    pub rules_are : r.rules ≡ rules
+    rules_are = ap (λ (x : RunOf). x.rules) next_follows.0
+
+    pub from_is : r.from ≡ done.place
+    from_is = ap (λ (x : RunOf). x.from) next_follows.0
+
+    pub to_inside : r.to ≤ length b
+    to_inside = follow_inside b rules r.to (length b) (drop (k + 1) runs) next_follows.2
+
+    pub lawful_here : IsLawful rules r.from state
+    lawful_here = subst (λ (p : ℕ). IsLawful rules p state) (sym from_is) done.lawful
+
+    pub reads_few : length b ≤ 2 ^ 36 → base ≤ 2 ^ 61 → reads ≤ 2 ^ 62
+    reads_few bits room =
+        let t = to_inside in
+        let f = from_is in
+        let n = next_follows.1 in
+        let m = done.reads_most in
+        let l = done.few in
+        omega (arith, t, f, n, m, l)
+
+    pub stitched_on : IsInRange rules → (after : State) (items2 : List Item) (reads2 : ℕ) (met : Option ℕ)
+        → after ≡ (run b rules state r.from (r.to - r.from)).0 → items2 ≡ items ++ (run b rules state r.from (r.to - r.from)).1
+        → IsMeeting b rules state Searching r.from r.to met → reads2 ≤ reads + seam_reads rules r.from r.to met → IsStitched base (k + 1) after items2 reads2
+    stitched_on range after items2 reads2 met after_is items2_are meeting read =
+        let n = next_follows.1 in
+        let f = from_is in
+        let whole = run-places b rules Searching 0 done.place r.to (omega arith) (omega (arith, n, f)) in
+        let most = few_reads b rules state r.from r.to met range.reach (omega (arith, n, f)) meeting in
+        let state_on : after ≡ (run b rules Searching 0 (r.to - 0)).0 =
+        after_is ∙ ap₂ (λ (s : State) (p : ℕ). (run b rules s p (r.to - p)).0) done.state_is f ∙ sym (ap (λ (x : State × List Item). x.0) whole) in
+        record {
+          place = r.to;
+          sum = done.sum + seam_reads rules r.from r.to met;
+          follow = next_follows.2;
+          state_is = state_on;
+          items_are = items2_are ∙ ap₂ (λ (is js : List Item). is ++ js) done.items_are (ap₂ (λ (s : State) (p : ℕ). (run b rules s p (r.to - p)).1) done.state_is f)
+              ∙ sym (ap (λ (x : State × List Item). x.1) whole);
+          lawful = subst (λ (s : State). IsLawful rules r.to s) (sym after_is) (lawful-run_places b rules range.some_loss state r.from r.to (omega (arith, n, f)) lawful_here);
+          reads_most = let m = done.reads_most in omega (arith, m, read);
+          few = let l = done.few in omega (arith, l, most, n, f);
+          sums = λ m h.
+              let total : done.sum + (seam_reads rules r.from r.to met + m) ≡ done.sum + seam_reads rules r.from r.to met + m = omega arith in
+              let rest = subst (λ (s : State). IsSumOfReads b rules s (drop (k + 1) runs) m) after_is h in
+              let here : IsSumOfReads b rules state (r ∷ drop (k + 1) runs) (seam_reads rules r.from r.to met + m) = (met, m, meeting, rest, refl) in
+              subst (λ (t : ℕ). IsSumOfReads b rules Searching runs t) total
+              (done.sums (seam_reads rules r.from r.to met + m) (subst (λ (rs : List RunOf). IsSumOfReads b rules state rs (seam_reads rules r.from r.to met + m)) (sym left) here));
+        }
+
+  -- once it was carried over all
+  module _ (base k : ℕ) (state : State) (items : List Item) (reads : ℕ) (done : IsStitched base k state items reads) (all : length runs ≤ k) where
+    none_left : drop k runs ≡ []
+    none_left = drop_all k runs all
+
+    pub end_is : done.place ≡ length b
+    end_is = subst (λ (rs : List RunOf). FollowEachOther b rules done.place (length b) rs) none_left done.follow
+
+    pub state_at_end : state ≡ (run b rules Searching 0 (length b - 0)).0
+    state_at_end = done.state_is ∙ ap (λ (p : ℕ). (run b rules Searching 0 (p - 0)).0) end_is
+
+    pub items_at_end : items ≡ (run b rules Searching 0 (length b - 0)).1
+    items_at_end = done.items_are ∙ ap (λ (p : ℕ). (run b rules Searching 0 (p - 0)).1) end_is
+
+    -- with the item of the end they are the report's
+    pub whole_at_end : 1 ≤ rules.loss → items ++ items_of_end b rules state ≡ report_items b rules
+    whole_at_end loss =
+        let bits : length b - 0 ≡ length b = omega arith in
+        ap₂ (λ (is : List Item) (s : State). is ++ items_of_end b rules s) items_at_end state_at_end
+        ∙ ap (λ (n : ℕ). (run b rules Searching 0 n).1 ++ items_of_end b rules (run b rules Searching 0 n).0) bits
+        ∙ run_is_report b rules loss
+
+    pub few_at_end : length b ≤ 2 ^ 36 → length items ≤ 2 ^ 37
+    few_at_end bits =
+        let e = ap (λ (is : List Item). length is) items_at_end in
+        let l = run_items-few b rules Searching 0 (length b - 0) in
+        omega (arith, e, l)
+
+    pub lawful_at_end : IsLawful rules (length b) state
+    lawful_at_end = subst (λ (p : ℕ). IsLawful rules p state) end_is done.lawful
+
+    pub sum_at_end : IsSumOfReads b rules Searching runs done.sum
+    sum_at_end =
+        let e : done.sum + 0 ≡ done.sum = omega arith in
+        subst (λ (t : ℕ). IsSumOfReads b rules Searching runs t) e (done.sums 0 (subst (λ (rs : List RunOf). IsSumOfReads b rules state rs 0) (sym none_left) refl))
+
+  pub stitched_few : (base k : ℕ) (state : State) (items : List Item) (reads : ℕ) → IsStitched base k state items reads → length b ≤ 2 ^ 36 → base ≤ 2 ^ 61 → reads ≤ 2 ^ 62
+  stitched_few base k state items reads done bits room =
+      let t = follow_inside b rules done.place (length b) (drop k runs) done.follow in
+      let m = done.reads_most in
+      let l = done.few in
+      omega (arith, t, m, l)

@@ -1,0 +1,6 @@
+use Rattle.std.proofs.Common.{◌≡◌, ◌*◌, map}
+use Rattle.std.specs.List.{range_with_len}
+use Rattle.rds_pieces.proofs.cutting.Cutting.even.Given as goal
+
+abbrev pub invariant-loop-piece : goal.invariant-loop-piece
+invariant-loop-piece l = l.places.items ≡ map (λ k. k * l.bits) (range_with_len 0 l.piece)

@@ -1,0 +1,54 @@
+use Rattle.std.proofs.Common.{◌≡◌, ℕ, List, ◌++◌, ◌+◌, ◌-◌, ◌<◌, ◌≤◌, length, ap, ◌∙◌, subst, arith}
+use Rattle.rds_sync.specs.declared.state.State.{State}
+use Rattle.rds_sync.specs.declared.state.State.TheVariants.{Searching}
+use Rattle.rds_sync.specs.declared.item.Item.{Item}
+use Rattle.rds_sync.specs.Step.{run}
+use Rattle.rds_pieces.specs.Meeting.{IsMeeting}
+use Rattle.rds_pieces.proofs.StitchLemmas.{stitched_on, stitched_few, sum_at_end, whole_at_end, few_at_end}
+use Rattle.rds_pieces.proofs.stitching.carry_over_all.Goals as goal
+
+pub carry_over-requires-clause-room : goal.carry_over-requires-clause-room
+carry_over-requires-clause-room g c =
+    let l = c.len-len.ensures.limit in
+    let v = c.len-len.ensures.value in
+    stitched_few (g.T.Tape.bits c.args.tape.now) c.args.rules.now c.args.runs.now (g.T.Tape.reads_made c.args.tape.now) c.loop-run.run-index c.loop-run.state c.loop-run.items.items
+    (g.T.Tape.reads_made c.loop-run.tape) c.loop-run.invariant.stitched (omega (arith, l, v)) c.requires.room
+
+pub loop-run-preserved : goal.loop-run-preserved
+loop-run-preserved g c =
+    let r = c.run-item.result in
+    let b : List ℕ = g.T.Tape.bits c.args.tape.now in
+    let rules = c.args.rules.now in
+    let here = c.loop-run.state in
+    let same = c.loop-run.invariant.same in
+    record {
+      stitched = stitched_on b rules c.args.runs.now (g.T.Tape.reads_made c.args.tape.now) c.loop-run.run-index here c.loop-run.items.items (g.T.Tape.reads_made c.loop-run.tape)
+          c.loop-run.invariant.stitched r r c.loop-run-test.true c.run-item.is c.loss-loss.ensures.range
+          c.in_ok-end_state.end_state c.carry_over.new.items.items (g.T.Tape.reads_made c.carry_over.new.tape) c.in_ok-end_state._met_at
+          (c.in_ok-end_state.ensures.end ∙ ap (λ (x : List ℕ). (run x rules here r.from (r.to - r.from)).0) same)
+          (c.in_ok-end_state.ensures.items ∙ ap (λ (x : List ℕ). c.loop-run.items.items ++ (run x rules here r.from (r.to - r.from)).1) same)
+          (subst (λ (x : List ℕ). IsMeeting x rules here Searching r.from r.to c.in_ok-end_state._met_at) same c.in_ok-end_state.ensures.met)
+          c.in_ok-end_state.ensures.reads;
+      same = c.carry_over.ensures.same ∙ same;
+    }
+
+pub returns-clause-reads : goal.returns-clause-reads
+returns-clause-reads g c =
+    let done = c.loop-run.invariant.stitched in (
+      done.sum,
+      sum_at_end (g.T.Tape.bits c.args.tape.now) c.args.rules.now c.args.runs.now (g.T.Tape.reads_made c.args.tape.now) c.loop-run.run-index c.loop-run.state c.loop-run.items.items
+          (g.T.Tape.reads_made c.loop-run.tape) done c.loop-run-test.false,
+      done.reads_most,
+    )
+
+pub returns-clause-whole : goal.returns-clause-whole
+returns-clause-whole g c =
+    whole_at_end (g.T.Tape.bits c.args.tape.now) c.args.rules.now c.args.runs.now (g.T.Tape.reads_made c.args.tape.now) c.loop-run.run-index c.loop-run.state c.loop-run.items.items
+    (g.T.Tape.reads_made c.loop-run.tape) c.loop-run.invariant.stitched c.loop-run-test.false
+    (let r = c.loss-loss.ensures.range.some_loss in r)
+
+pub returns-clause-few : goal.returns-clause-few
+returns-clause-few g c =
+    few_at_end (g.T.Tape.bits c.args.tape.now) c.args.rules.now c.args.runs.now (g.T.Tape.reads_made c.args.tape.now) c.loop-run.run-index c.loop-run.state c.loop-run.items.items
+    (g.T.Tape.reads_made c.loop-run.tape) c.loop-run.invariant.stitched c.loop-run-test.false
+    (let l = c.len-len.ensures.limit in let v = c.len-len.ensures.value in omega (arith, l, v))

@@ -1,0 +1,24 @@
+-- How a recording is cut into pieces: this project's rule.
+use Rattle.std.specs.Prelude.{◌≡◌, ℕ, ◌+◌, ◌-◌, ◌*◌, ◌<◌, List, [], ◌∷◌, ◌++◌, length, map, slice_index}
+use Rattle.std.specs.Int.{div_ceil}
+use Rattle.std.specs.List.{range_with_len}
+use Rattle.std.specs.List.Sorted.{IsStrictlyIncreasing}
+
+-- a strictly rising list of places that begins with 0 and ends with n; for n = 0 it is the list of 0 alone
+pub record IsCutting (n : ℕ) (places : List ℕ) : Type 0 where
+  pub some : 0 < length places
+  pub begins : slice_index places 0 ≡ 0
+  pub ends : slice_index places (length places - 1) ≡ n
+  pub rising : IsStrictlyIncreasing places
+
+-- how many pieces a cutting has: piece j is that of the places from its place j up to its place j + 1
+abbrev pub pieces_of : List ℕ → ℕ
+pieces_of places = length places - 1
+
+-- the multiples of s below n, then n
+abbrev pub every : ℕ → ℕ → List ℕ
+every s n = map (λ k. k * s) (range_with_len 0 (div_ceil n s)) ++ n ∷ []
+
+-- the even cutting of n places into that many pieces or fewer, each but the last of n / pieces places, rounded up
+abbrev pub even_places : ℕ → ℕ → List ℕ
+even_places n pieces = every (div_ceil n pieces) n

@@ -1,0 +1,12 @@
+-- The numbers and names of this crate's refusals.
+use Rattle.std.specs.Prelude.{ℕ, List, codes}
+use Rattle.rds_pieces.specs.declared.error.PieceError.{PieceError}
+use Rattle.rds_pieces.specs.declared.error.PieceError.TheVariants.{BadCutting, OutOfMemory}
+
+abbrev pub number_of : PieceError → ℕ
+number_of BadCutting = 6
+number_of OutOfMemory = 8
+
+abbrev pub name_of : PieceError → List ℕ
+name_of BadCutting = codes "BadCutting"
+name_of OutOfMemory = codes "OutOfMemory"

@@ -1,0 +1,18 @@
+-- The laws of pieces, over the definitions alone.
+use Rattle.std.specs.Prelude.{◌≡◌, ℕ, ◌≤◌, List, [], ◌∷◌, ◌++◌, length}
+use Rattle.rds_sync.specs.Rules.{RuleNumbers}
+use Rattle.rds_pieces.specs.Cutting.{IsCutting, pieces_of}
+use Rattle.rds_pieces.specs.RunOf.{RunOf, run_over, runs_of, FollowEachOther}
+
+-- a cutting has at most as many pieces as there are bits
+abbrev pub PiecesAreFew : Type 0
+PiecesAreFew = (n : ℕ) (places : List ℕ) → IsCutting n places → pieces_of places ≤ n
+
+-- the runs of all pieces of a cutting follow each other
+abbrev pub PiecesFollow : Type 0
+PiecesFollow = (b : List ℕ) (rules : RuleNumbers) (places : List ℕ) → IsCutting (length b) places → FollowEachOther b rules 0 (length b) (runs_of b rules places)
+
+-- where two neighbours are joined, the runs follow each other as before
+abbrev pub JoinedRunsFollow : Type 0
+JoinedRunsFollow = (b : List ℕ) (rules : RuleNumbers) (from to : ℕ) (before : List RunOf) (left right : RunOf) (after : List RunOf)
+    → FollowEachOther b rules from to (before ++ left ∷ right ∷ after) → FollowEachOther b rules from to (before ++ run_over b rules left.from right.to ∷ after)

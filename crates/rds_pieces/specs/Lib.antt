@@ -1,0 +1,14 @@
+pub use Rattle.rds_stream.specs.Recording
+pub use Rattle.rds_sync.specs.Rules
+pub use Rattle.rds_sync.specs.Step
+pub use Rattle.rds_sync.specs.Lawful
+pub mod Cutting
+pub mod Guess
+pub mod RunOf
+pub mod Meeting
+pub mod Seams
+pub mod WorkOf
+pub mod Laws
+pub mod Errors
+pub mod RunInside
+pub mod Advance

@@ -1,0 +1,13 @@
+-- What the type of a piece's run keeps.
+use Rattle.std.specs.Prelude.{◌^◌, ◌≤◌, List, length}
+use Rattle.rds_sync.specs.declared.state.State.{State}
+use Rattle.rds_sync.specs.declared.item.Item.{Item}
+use Rattle.rds_sync.specs.Ranges.{IsInRange}
+use Rattle.rds_pieces.specs.declared.run.Mark.{Mark}
+use Rattle.rds_pieces.specs.RunOf.{RunOf, IsGuess}
+
+-- it is the guess of its range, of a recording that has at most 2^36 bits, by rules that are in range
+pub record IsKept (r : RunOf) (items : List Item) (end_state : State) (found : List Mark) : Type 0 where
+  pub guessed : IsGuess r items end_state found
+  pub few : length r.source ≤ 2 ^ 36
+  pub rules : IsInRange r.rules

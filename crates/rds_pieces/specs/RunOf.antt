@@ -1,0 +1,41 @@
+-- What the run of a piece is a run of.
+use Rattle.std.specs.Prelude.{◌≡◌, ℕ, ◌+◌, ◌-◌, ◌≤◌, ◌<◌, List, [], ◌∷◌, length, map, slice_index, ⊤}
+use Rattle.std.specs.List.{range_with_len}
+use Rattle.rds_sync.specs.declared.state.State.{State}
+use Rattle.rds_sync.specs.declared.item.Item.{Item}
+use Rattle.rds_sync.specs.Rules.{RuleNumbers}
+use Rattle.rds_pieces.specs.declared.run.Mark.{Mark}
+use Rattle.rds_pieces.specs.Cutting.{pieces_of}
+use Rattle.rds_pieces.specs.Guess.{guess, marks}
+
+-- a run is named by its recording, its rules and its range: the places from `from` to `to` - 1
+pub record RunOf : Type 0 where
+  pub source : List ℕ
+  pub rules : RuleNumbers
+  pub from : ℕ
+  pub to : ℕ
+
+-- the items, the end state and the marks are those of the guess of the range
+pub record IsGuess (r : RunOf) (items : List Item) (end_state : State) (found : List Mark) : Type 0 where
+  pub inside : (r.from ≤ r.to) × (r.to ≤ length r.source)
+  pub items_are : items ≡ (guess r.source r.rules r.from (r.to - r.from)).1
+  pub ends : end_state ≡ (guess r.source r.rules r.from (r.to - r.from)).0
+  pub marks_are : found ≡ marks r.source r.rules r.from (r.to - r.from)
+
+module _ (b : List ℕ) (rules : RuleNumbers) where
+  -- the run of a range
+  abbrev pub run_over : ℕ → ℕ → RunOf
+  run_over from to = record { source = b; rules = rules; from = from; to = to }
+
+  -- the run of piece j of a cutting
+  abbrev pub run_at : List ℕ → ℕ → RunOf
+  run_at places j = run_over (slice_index places j) (slice_index places (j + 1))
+
+  -- the runs of all pieces, in order
+  abbrev pub runs_of : List ℕ → List RunOf
+  runs_of places = map (run_at places) (range_with_len 0 (pieces_of places))
+
+  -- the runs follow each other from one place to another, each over some place
+  abbrev pub FollowEachOther : ℕ → ℕ → List RunOf → Type 0
+  FollowEachOther from to [] = from ≡ to
+  FollowEachOther from to (r ∷ rs) = (r ≡ run_over from r.to) × (from < r.to) × FollowEachOther r.to to rs

@@ -1,0 +1,18 @@
+//! The laws of pieces, over the definitions alone. Each function here does nothing: its contract is a law, which the check of
+//! this crate proves, and which a proof above it may cite.
+ghost use Rattle.rds_pieces.specs.Laws.{PiecesAreFew, PiecesFollow, JoinedRunsFollow};
+
+/// A cutting has at most as many pieces as there are bits.
+pub fn pieces_are_few()
+    ensures { PiecesAreFew }
+{}
+
+/// The runs of all pieces of a cutting follow each other from place 0 to the recording's end.
+pub fn pieces_follow()
+    ensures { PiecesFollow }
+{}
+
+/// Where two neighbours are joined, the runs follow each other as before.
+pub fn joined_runs_follow()
+    ensures { JoinedRunsFollow }
+{}

@@ -1,0 +1,183 @@
+//! The run of a piece.
+ghost use Rattle.std.specs.Prelude.{◌≡◌, ℕ, List, ◌+◌, ◌-◌, ◌<◌, ◌≤◌, ◌^◌, IfOk, IfErr, length, drop};
+ghost use Rattle.rds_sync.specs.Ranges.{IsInRange};
+ghost use Rattle.rds_pieces.specs.Cutting.{IsCutting, pieces_of};
+ghost use Rattle.rds_pieces.specs.Guess.{guess, marks};
+ghost use Rattle.rds_pieces.specs.RunOf.{run_at};
+ghost use Rattle.rds_pieces.specs.declared.error.PieceError.TheVariants.{OutOfMemory};
+
+use crate::advance::advance_onto;
+use crate::cutting::Cutting;
+use crate::error::PieceError;
+use rds_stream::{Counted, Recording, Tape};
+use rds_sync::{Item, Rules, State};
+use std::alloc::Global;
+use std::marker::Model;
+use std::snapshot::Snapshot;
+
+/// A place of a run at which another run may meet it: the piece's first place, and each place after a bit that gave an item.
+#[derive(Clone, Copy, Debug, PartialEq, Eq)]
+pub struct Mark {
+    /// The next bit.
+    pub place: u64,
+    /// The state before that bit.
+    pub state: State,
+    /// How many of the run's items stand before that bit.
+    pub items: u64,
+}
+
+/// The run of a piece.
+#[derive(Drop)]
+pub struct PieceRun {
+    source: Snapshot<Recording>,
+    burst: u32,
+    reach: u32,
+    loss: u32,
+    from: u64,
+    to: u64,
+    items: Vec<Item>,
+    end_state: State,
+    marks: Vec<Mark>,
+}
+
+impl Model for PieceRun {
+    ghost use Rattle.rds_pieces.specs.RunOf.{RunOf, IsGuess, run_over};
+    ghost use Rattle.rds_pieces.specs.RunInside.{IsKept};
+
+    ghost Value = { RunOf };
+
+    ghost view = { λ r. run_over r.source.value (record { burst = r.burst; reach = r.reach; loss = r.loss }) r.from r.to };
+
+    ghost invariant = { λ r. IsKept (run_over r.source.value (record { burst = r.burst; reach = r.reach; loss = r.loss }) r.from r.to) r.items.items r.end_state r.marks.items };
+}
+
+impl PieceRun {
+    /// The piece's first place.
+    pub fn from(&self) -> u64
+        ensures { result ≡ self.now.from }
+    {
+        self.from
+    }
+
+    /// The place after the piece's last.
+    pub fn to(&self) -> u64
+        ensures { result ≡ self.now.to }
+    {
+        self.to
+    }
+
+    /// The range, with what bounds the reads over it.
+    pub(crate) fn range(&self) -> (u64, u64)
+        ensures first { result.0 ≡ self.now.from }
+        ensures end { result.1 ≡ self.now.to }
+        ensures inside { (self.now.from ≤ self.now.to) × (self.now.to ≤ length self.now.source) }
+        ensures few { length self.now.source ≤ 2 ^ 36 }
+        ensures rules { IsInRange self.now.rules }
+    {
+        (self.from, self.to)
+    }
+
+    /// The items that the bits of the piece give, in order of place.
+    pub fn items(&self) -> &[Item]
+        ensures { result.now ≡ (guess self.now.source self.now.rules self.now.from (self.now.to - self.now.from)).1 }
+    {
+        self.items.as_slice()
+    }
+
+    /// The items that stand behind a mark.
+    pub(crate) fn items_after(&self, mark: &Mark) -> &[Item]
+        requires { mark.now.items ≤ length (guess self.now.source self.now.rules self.now.from (self.now.to - self.now.from)).1 }
+        ensures { result.now ≡ drop mark.now.items (guess self.now.source self.now.rules self.now.from (self.now.to - self.now.from)).1 }
+    {
+        &self.items()[mark.items as usize..]
+    }
+
+    /// The state after the piece's last bit.
+    pub fn end_state(&self) -> State
+        ensures { result ≡ (guess self.now.source self.now.rules self.now.from (self.now.to - self.now.from)).0 }
+    {
+        self.end_state
+    }
+
+    /// The marks, by rising place.
+    pub fn marks(&self) -> &[Mark]
+        ensures { result.now ≡ marks self.now.source self.now.rules self.now.from (self.now.to - self.now.from) }
+    {
+        self.marks.as_slice()
+    }
+}
+
+/// Guesses piece `j` of a cutting: runs from Searching at its first place to its end, as if nothing stood before. Its windows
+/// may look before that place. Refuses `OutOfMemory` alone.
+pub fn speculate(
+    alloc: Global,
+    rec: &Recording,
+    rules: &Rules,
+    cutting: &Cutting,
+    j: u64,
+) -> Result<PieceRun, PieceError>
+    requires fits { IsCutting (length rec.now) cutting.now }
+    requires piece { j < pieces_of cutting.now }
+    ensures ok { IfOk result (λ r. r ≡ run_at rec.now rules.now cutting.now j) }
+    ensures err { IfErr result (λ e. e ≡ OutOfMemory) }
+{
+    let (from, to) = (cutting.from(j), cutting.to(j));
+    let len = rec.len();
+    prove!(to <= len);
+    let mut tape = Counted::new(rec);
+    let (end_state, items, marks) = guess_over(alloc, &mut tape, rules, from, to)?;
+    Ok(PieceRun {
+        source: Snapshot::of(rec),
+        burst: rules.burst(),
+        reach: rules.reach(),
+        loss: rules.loss(),
+        from,
+        to,
+        items,
+        end_state,
+        marks,
+    })
+}
+
+/// The end state, the items and the marks of the guess of a range.
+fn guess_over<T: Tape>(
+    alloc: Global,
+    tape: &mut T,
+    rules: &Rules,
+    from: u64,
+    to: u64,
+) -> Result<(State, Vec<Item>, Vec<Mark>), PieceError>
+    requires range { from ≤ to }
+    requires inside { to ≤ length (T.bits tape.old) }
+    requires room { T.reads_made tape.old ≤ 2 ^ 62 }
+    ensures state { IfOk result (λ r. r.0 ≡ (guess (T.bits tape.old) rules.now from (to - from)).0) }
+    ensures items { IfOk result (λ r. r.1.items ≡ (guess (T.bits tape.old) rules.now from (to - from)).1) }
+    ensures marks { IfOk result (λ r. r.2.items ≡ marks (T.bits tape.old) rules.now from (to - from)) }
+    ensures err { IfErr result (λ e. e ≡ OutOfMemory) }
+{
+    let (len, reach) = (tape.len(), rules.reach());
+    prove!(to <= len && reach <= 8);
+    let mut items = Vec::new(alloc);
+    let mut marks = Vec::new(alloc);
+    let mut place = from;
+    let mut state = State::Searching;
+    marks.push(Mark {
+        place,
+        state,
+        items: 0,
+    })?;
+    while place < to {
+        let before = items.len();
+        let (next, after) = advance_onto(tape, rules, state, place, to, &mut items)?;
+        place = next;
+        state = after;
+        if items.len() > before {
+            marks.push(Mark {
+                place,
+                state,
+                items: items.len() as u64,
+            })?;
+        }
+    }
+    Ok((state, items, marks))
+}

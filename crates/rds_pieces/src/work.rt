@@ -1,0 +1,120 @@
+//! The only way of a crew to the bits.
+ghost use Rattle.std.specs.Prelude.{◌≡◌, ℕ, List, ◌<◌, length, IfOk, IfErr};
+ghost use Rattle.rds_sync.specs.Report.{report_items};
+ghost use Rattle.rds_sync.specs.Rules.{RuleNumbers};
+ghost use Rattle.rds_sync.specs.Totals.{totals_of};
+ghost use Rattle.rds_pieces.specs.Cutting.{IsCutting, pieces_of};
+ghost use Rattle.rds_pieces.specs.RunOf.{FollowEachOther, run_at};
+ghost use Rattle.rds_pieces.specs.declared.error.PieceError.TheVariants.{OutOfMemory};
+
+use crate::cutting::Cutting;
+use crate::error::PieceError;
+use crate::run::{PieceRun, speculate};
+use crate::stitching::stitch;
+use rds_stream::{Counted, Recording};
+use rds_sync::{Report, Rules};
+use std::alloc::Global;
+use std::marker::Model;
+use std::snapshot::Snapshot;
+
+/// The decoding of one recording by one set of rules, piece by piece. Who is lent a work has no other way to the bits.
+pub trait Work {
+    /// The bits of the recording that it names.
+    ghost recording: { Self → List ℕ };
+
+    /// The rules that it names.
+    ghost rule_set: { Self → RuleNumbers };
+
+    /// The places of the cutting that it names.
+    ghost places: { Self → List ℕ };
+
+    /// The recording, for contracts alone.
+    fn source(&self) -> Snapshot<Recording>
+        ensures { result.value ≡ recording self.now };
+
+    /// The rules.
+    fn rules(&self) -> &Rules
+        ensures { result.now ≡ rule_set self.now };
+
+    /// The cutting.
+    fn cutting(&self) -> &Cutting
+        ensures { result.now ≡ places self.now };
+
+    /// The guess of piece `j`. Refuses `OutOfMemory` alone.
+    fn guess(&self, alloc: Global, j: u64) -> Result<PieceRun, PieceError>
+        requires fits { IsCutting (length (recording self.now)) (places self.now) }
+        requires piece { j < pieces_of (places self.now) }
+        ensures ok { IfOk result (λ r. r ≡ run_at (recording self.now) (rule_set self.now) (places self.now) j) }
+        ensures err { IfErr result (λ e. e ≡ OutOfMemory) };
+
+    /// The report, from runs that follow each other from place 0 to the recording's end. Refuses `OutOfMemory` alone.
+    fn report(&self, alloc: Global, runs: &[PieceRun]) -> Result<Report, PieceError>
+        requires in_a_row { FollowEachOther (recording self.now) (rule_set self.now) 0 (length (recording self.now)) runs.now }
+        ensures items { IfOk result (λ report. report.items.items ≡ report_items (recording self.now) (rule_set self.now)) }
+        ensures totals { IfOk result (λ report. report.totals ≡ totals_of (report_items (recording self.now) (rule_set self.now))) }
+        ensures err { IfErr result (λ e. e ≡ OutOfMemory) };
+}
+
+/// The work over a recording that is lent to it: `guess` is `speculate`, and `report` is `stitch` on a tape of its own. It can
+/// be shared between threads.
+#[derive(Drop)]
+pub struct RecordingWork<'a> {
+    recording: &'a Recording,
+    rules: &'a Rules,
+    cutting: &'a Cutting,
+}
+
+impl<'a> Model for RecordingWork<'a> {
+    ghost use Rattle.rds_pieces.specs.WorkOf.{WorkOf};
+
+    ghost Value = { WorkOf };
+
+    ghost view = { λ w. record { recording = w.recording.now; rules = w.rules.now; places = w.cutting.now } };
+}
+
+impl<'a> RecordingWork<'a> {
+    /// The work over these. Takes no memory.
+    pub fn new(
+        recording: &'a Recording,
+        rules: &'a Rules,
+        cutting: &'a Cutting,
+    ) -> RecordingWork<'a>
+        requires { IsCutting (length recording.now) cutting.now }
+        ensures { result ≡ record { recording = recording.now; rules = rules.now; places = cutting.now } }
+    {
+        RecordingWork {
+            recording,
+            rules,
+            cutting,
+        }
+    }
+}
+
+impl Work for RecordingWork<'_> {
+    ghost recording = { λ w. w.recording };
+
+    ghost rule_set = { λ w. w.rules };
+
+    ghost places = { λ w. w.places };
+
+    fn source(&self) -> Snapshot<Recording> {
+        Snapshot::of(self.recording)
+    }
+
+    fn rules(&self) -> &Rules {
+        self.rules
+    }
+
+    fn cutting(&self) -> &Cutting {
+        self.cutting
+    }
+
+    fn guess(&self, alloc: Global, j: u64) -> Result<PieceRun, PieceError> {
+        speculate(alloc, self.recording, self.rules, self.cutting, j)
+    }
+
+    fn report(&self, alloc: Global, runs: &[PieceRun]) -> Result<Report, PieceError> {
+        let mut tape = Counted::new(self.recording);
+        stitch(alloc, &mut tape, self.rules, runs)
+    }
+}

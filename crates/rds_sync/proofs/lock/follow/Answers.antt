@@ -1,0 +1,95 @@
+use Rattle.std.proofs.Common.{◌≡◌, ◌≢◌, ◌≤◌, ◌<◌, ◌+◌, ◌-◌, ◌*◌, ℕ, Bool, List, [], ◌∷◌, ◌++◌, refl, ap, ap₂, sym, ◌∙◌, arith, append_assoc, append-nil, cond}
+use Rattle.rds_sync.specs.declared.item.Block.{Block}
+use Rattle.rds_sync.specs.declared.item.Group.{Group as GroupRecord}
+use Rattle.rds_sync.specs.declared.item.Item.{Item}
+use Rattle.rds_sync.specs.declared.item.Item.TheVariants.{Group, LostLock}
+use Rattle.rds_sync.specs.Groups.{group}
+use Rattle.rds_sync.specs.Locks.{blocks_at}
+use Rattle.rds_sync.specs.Rules.{RuleNumbers}
+use Rattle.rds_sync.specs.Step.{bad_after, items_at}
+use Rattle.rds_sync.specs.declared.state.State.TheVariants.{Locked}
+use Rattle.rds_sync.proofs.BodyLemmas.{bad_after-valid, step-kept, items-kept, step-lost, items-lost, locked_after-inside, locked_after-four, group_after-inside, group_after-four, closed-group}
+use Rattle.rds_sync.proofs.lock.follow.Goals as goal
+
+-- the items with a group and then a loss
+with_loss : (xs ys zs found : List Item) (closed closing : GroupRecord) (due : ℕ) → ys ≡ xs ++ Group closed ∷ [] → zs ≡ ys ++ LostLock due ∷ []
+    → closed ≡ closing → found ≡ Group closing ∷ LostLock due ∷ [] → zs ≡ xs ++ found
+with_loss xs ys zs found closed closing due pushed lost same found_is =
+    lost ∙ ap (λ (is : List Item). is ++ LostLock due ∷ []) pushed
+    ∙ append_assoc xs (Group closed ∷ []) (LostLock due ∷ [])
+    ∙ ap (λ (group_closed : GroupRecord). xs ++ (Group group_closed ∷ LostLock due ∷ [])) same
+    ∙ ap (λ (is : List Item). xs ++ is) (sym found_is)
+
+pub returns-then-from-loss-clause-state : goal.returns-then-from-loss-clause-state
+returns-then-from-loss-clause-state c =
+    let b = c.args.rec.now in
+    let l = c.args.lock in
+    sym (step-lost b c.args.rules.now l.due l.number l.bad l.first c.bad_with-bad.result
+      (bad_after-valid b l.due l.number l.bad c.bad_with-bad.result c.read_due-valid.result c.read_due-valid.ensures.valid c.bad_with-bad.ensures)
+      (omega (arith, c.if-from-loss.true, c.from.ensures, c.loss-loss.ensures.value)))
+
+pub returns-then-from-loss-clause-items : goal.returns-then-from-loss-clause-items
+returns-then-from-loss-clause-items c =
+    let b = c.args.rec.now in
+    let rules = c.args.rules.now in
+    let l = c.args.lock in
+    with_loss c.args.items.now.items c.push.new.self.items c.push-then-from-loss.new.self.items
+      (items_at b rules l.due (Locked l.due l.number l.bad l.first)) c.closed.result (group b rules l.first l.number l.due) l.due
+      (c.in_ok-push.ensures.items) (c.in_ok-push-2.ensures.items)
+      (closed-group b rules l.first l.number l.due c.closed.result (λ one two three four e. c.closed.ensures one two three four (c.read_due-valid.ensures.blocks ∙ e)))
+      (items-lost b rules l.due l.number l.bad l.first c.bad_with-bad.result
+        (bad_after-valid b l.due l.number l.bad c.bad_with-bad.result c.read_due-valid.result c.read_due-valid.ensures.valid c.bad_with-bad.ensures)
+        (omega (arith, c.if-from-loss.true, c.from.ensures, c.loss-loss.ensures.value)))
+
+pub returns-then-lock-lt4-clause-state : goal.returns-then-lock-lt4-clause-state
+returns-then-lock-lt4-clause-state c =
+    let b = c.args.rec.now in
+    let l = c.args.lock in
+    sym (step-kept b c.args.rules.now l.due l.number l.bad l.first c.bad_with-bad.result
+        (bad_after-valid b l.due l.number l.bad c.bad_with-bad.result c.read_due-valid.result c.read_due-valid.ensures.valid c.bad_with-bad.ensures)
+        (omega (arith, c.if-from-loss.false, c.from.ensures, c.loss-loss.ensures.value))
+      ∙ locked_after-inside l.due l.number c.bad_with-bad.result l.first c.if-lock-lt4.true)
+
+pub returns-then-lock-lt4-clause-items : goal.returns-then-lock-lt4-clause-items
+returns-then-lock-lt4-clause-items c =
+    let b = c.args.rec.now in
+    let rules = c.args.rules.now in
+    let l = c.args.lock in
+    sym (ap (λ (is : List Item). c.args.items.now.items ++ is)
+        (items-kept b rules l.due l.number l.bad l.first c.bad_with-bad.result
+          (bad_after-valid b l.due l.number l.bad c.bad_with-bad.result c.read_due-valid.result c.read_due-valid.ensures.valid c.bad_with-bad.ensures)
+          (omega (arith, c.if-from-loss.false, c.from.ensures, c.loss-loss.ensures.value))
+        ∙ group_after-inside b rules l.first l.number l.due c.if-lock-lt4.true)
+      ∙ append-nil c.args.items.now.items)
+
+pub returns-then-lock-lt4-clause-in_progress : goal.returns-then-lock-lt4-clause-in_progress
+returns-then-lock-lt4-clause-in_progress c =
+    let b = c.args.rec.now in
+    let rules = c.args.rules.now in
+    let l = c.args.lock in
+    let same : l.number ≡ l.number + 1 - 1 = omega arith in
+    let place : l.due ≡ l.due + 26 - 26 = omega arith in
+    c.read_due-valid.ensures.blocks ∙ ap₂ (λ (x p : ℕ). blocks_at b rules l.first x p) same place
+
+pub returns-clause-state : goal.returns-clause-state
+returns-clause-state c =
+    let b = c.args.rec.now in
+    let l = c.args.lock in
+    sym (step-kept b c.args.rules.now l.due l.number l.bad l.first c.bad_with-bad.result
+        (bad_after-valid b l.due l.number l.bad c.bad_with-bad.result c.read_due-valid.result c.read_due-valid.ensures.valid c.bad_with-bad.ensures)
+        (omega (arith, c.if-from-loss.false, c.from.ensures, c.loss-loss.ensures.value))
+      ∙ locked_after-four l.due l.number c.bad_with-bad.result l.first (omega (arith, c.if-lock-lt4.false, c.requires.readable.in_order)))
+
+pub returns-clause-items : goal.returns-clause-items
+returns-clause-items c =
+    let b = c.args.rec.now in
+    let rules = c.args.rules.now in
+    let l = c.args.lock in
+    c.in_ok-push-3.ensures.items
+    ∙ ap (λ (closed : GroupRecord). c.args.items.now.items ++ Group closed ∷ [])
+      (closed-group b rules l.first l.number l.due c.closed-2.result (λ one two three four e. c.closed-2.ensures one two three four (c.read_due-valid.ensures.blocks ∙ e)))
+    ∙ ap (λ (is : List Item). c.args.items.now.items ++ is)
+      (sym (items-kept b rules l.due l.number l.bad l.first c.bad_with-bad.result
+          (bad_after-valid b l.due l.number l.bad c.bad_with-bad.result c.read_due-valid.result c.read_due-valid.ensures.valid c.bad_with-bad.ensures)
+          (omega (arith, c.if-from-loss.false, c.from.ensures, c.loss-loss.ensures.value))
+        ∙ group_after-four b rules l.first l.number l.due (omega (arith, c.if-lock-lt4.false, c.requires.readable.in_order))))
