@@ -15,13 +15,18 @@ impl Timing {
     }
 
     /// Shows the time since `start` and how many the form found, which is the same for each form of a task.
-    pub fn show(&mut self, rt: &HostRuntime, form: &str, start: Instant, found: u64) -> io::Result<()> {
+    pub fn show(
+        &mut self,
+        rt: &HostRuntime,
+        form: &str,
+        start: Instant,
+        found: u64,
+    ) -> io::Result<()> {
         let nanos = u64::try_from(start.elapsed(rt)?.as_nanos()).unwrap_or(u64::MAX);
         let first = *self.first.get_or_insert(nanos);
         let hundredths = nanos as u128 * 100 / self.bits.max(1) as u128;
         let ratio = nanos as u128 * 100 / first.max(1) as u128;
-        println!(
-            rt;
+        println!(rt;
             "{form:<24} {}.{:02} ns a bit, {}.{:02} times the first, {found} found",
             hundredths / 100,
             hundredths % 100,

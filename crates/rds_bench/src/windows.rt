@@ -4,7 +4,7 @@ use crate::timing::Timing;
 use anyhow::Result;
 use rds_code::{Offset, offset_of, plain, rem26};
 use rds_stream::{Recording, scan};
-use std::alloc::{Global, AllocError};
+use std::alloc::{AllocError, Global};
 use std::time::Instant;
 
 pub fn measure(rt: &HostRuntime, bits: u64) -> Result<()> {
