@@ -1,5 +1,5 @@
 -- What the typed getters read, by the rows of a parse.
-use Rattle.std.proofs.Common.{◌≡◌, ◌∙◌, ◌^◌, ◌<◌, ℕ, List, Option, Some, None, Result, Ok, Err, sym, subst, refl, codes, true, false, Bool, ap}
+use Rattle.std.proofs.Common.{◌≡◌, ◌≢◌, ◌⊎◌, inl, inr, arith, slice_index, ◌∙◌, ◌^◌, ◌<◌, ℕ, List, Option, Some, None, Result, Ok, Err, sym, subst, refl, codes, true, false, Bool, ap}
 use Rattle.std.specs.Prelude.{IfSome, IfNone, IfOk}
 use Rattle.std.specs.Result.{result_ok}
 use Rattle.std.specs.declared.num.ParseIntError.{ParseIntError}
@@ -7,10 +7,11 @@ use Rattle.std.specs.Str.Parse.{ExplainsUnsignedError, HasUnsignedDigitsIfOk, Is
 use Rattle.clap.specs.Words.{ReadsOne, Row, Text, TriesOne, one_of, one_text, rows_of}
 use Rattle.clap.specs.declared.parser.matches.Found.{Found}
 use Rattle.clap.proofs.WalkLemmas.{one_text-rows}
-use Rattle.rds_tool.specs.CommandLine.{IsFlag, IsInput, IsJob, MaySpell, Spells}
+use Rattle.rds_tool.specs.CommandLine.{AreSettings, IsFlag, IsInput, IsJob, MaySpell, Spells}
 use Rattle.rds_tool.specs.declared.job.Input.{Input}
 use Rattle.rds_tool.specs.declared.job.Job.{Job}
-use Rattle.rds_tool.specs.declared.job.Job.TheVariants.{Scan}
+use Rattle.rds_tool.specs.declared.job.Job.TheVariants.{Encode, List as ListJob, Scan, Totals}
+use Rattle.rds_tool.specs.declared.job.Settings.{Settings}
 
 -- the way in which the unsigned types of std read a number of so many binary digits
 abbrev pub reads_unsigned : ℕ → Text → Result ℕ ParseIntError → Type 0
@@ -55,6 +56,59 @@ may_none width f id (Ok n) s is none value = rw is tt
 may_none width f id (Err e) s is none value =
     rw is (λ n h. may_none_at width (one_text f id) e none value n (subst (λ (o : Option Text). MaySpell width o n) (sym (one_text-rows f id)) h))
 
--- no input, no job
-pub no_job : (name : Text) (rows : List Row) → ((input : Input) → IsInput rows input → ⊥) → (job : Job) → IsJob name rows job → ⊥
-no_job name rows none (Scan input) h = none input h.1
+number_at : (width : ℕ) (o : Option Text) (r : Option ℕ)
+    → (o ≡ None → r ≡ None) → ((t : Text) → o ≡ Some t → ReadsOne (reads_unsigned width) t r) → IfSome r (λ n. Spells width o n)
+number_at width o None none value = tt
+number_at width None (Some n) none value = cc (none refl)
+number_at width (Some t) (Some n) none value = spelled width t n (value t refl)
+
+-- an option with a default is read as it is spelled
+pub number_rows : (width : ℕ) (f : Found) (id : Text) (r : Option ℕ)
+    → (one_text f id ≡ None → r ≡ None) → ((t : Text) → one_text f id ≡ Some t → ReadsOne (reads_unsigned width) t r)
+    → IfSome r (λ n. Spells width (one_of id (rows_of f)) n)
+number_rows width f id r none value =
+    subst (λ (o : Option Text). IfSome r (λ n. Spells width o n)) (one_text-rows f id) (number_at width (one_text f id) r none value)
+
+number_none_at : (width : ℕ) (o : Option Text) → ((t : Text) → o ≡ Some t → (e : ParseIntError) × reads_unsigned width t (Err e)) → (n : ℕ) → Spells width o n → ⊥
+number_none_at width None value n h = h
+number_none_at width (Some t) value n h = let e = value t refl in refused width t e.0 e.1 n h
+
+-- and where it isn't read, it spells none
+pub number_none : (width : ℕ) (f : Found) (id : Text) (r : Option ℕ)
+    → ((t : Text) → one_text f id ≡ Some t → ReadsOne (reads_unsigned width) t r)
+    → IfNone r ((n : ℕ) → Spells width (one_of id (rows_of f)) n → ⊥)
+number_none width f id (Some n) value = tt
+number_none width f id None value =
+    λ n h. number_none_at width (one_text f id) value n (subst (λ (o : Option Text). Spells width o n) (sym (one_text-rows f id)) h)
+
+-- ---- entries that give no job
+
+-- no input, no job but one to encode
+pub no_input : (name : Text) (rows : List Row) → name ≢ codes "encode" → ((input : Input) → IsInput rows input → ⊥) → (job : Job) → IsJob name rows job → ⊥
+no_input name rows other none (Scan input) h = none input h.1
+no_input name rows other none (ListJob input settings) h = none input h.1
+no_input name rows other none (Totals input settings) h = none input h.1
+no_input name rows other none (Encode hex) h = other h.0
+
+-- no settings, no job but a scan or one to encode
+pub no_settings : (name : Text) (rows : List Row) → name ≢ codes "scan" → name ≢ codes "encode" → ((settings : Settings) → AreSettings rows settings → ⊥)
+    → (job : Job) → IsJob name rows job → ⊥
+no_settings name rows scan encode none (Scan input) h = scan h.0
+no_settings name rows scan encode none (ListJob input settings) h = none settings h.2
+no_settings name rows scan encode none (Totals input settings) h = none settings h.2
+no_settings name rows scan encode none (Encode hex) h = encode h.0
+
+first_is : (name word : Text) (b : ℕ) → name ≡ word → slice_index word 0 ≡ b → slice_index name 0 ≡ b
+first_is name word b p q = ap (λ (t : Text). slice_index t 0) p ∙ q
+
+-- the other commands have other names: their first letters differ
+pub not_encode : (name : Text) → (name ≡ codes "scan") ⊎ ((name ≡ codes "list") ⊎ (name ≡ codes "totals")) → name ≢ codes "encode"
+not_encode name (inl p) e =
+    let a : slice_index name 0 ≡ 115 = first_is name (codes "scan") 115 p refl in
+    let b : slice_index name 0 ≡ 101 = first_is name (codes "encode") 101 e refl in omega arith
+not_encode name (inr (inl p)) e =
+    let a : slice_index name 0 ≡ 108 = first_is name (codes "list") 108 p refl in
+    let b : slice_index name 0 ≡ 101 = first_is name (codes "encode") 101 e refl in omega arith
+not_encode name (inr (inr p)) e =
+    let a : slice_index name 0 ≡ 116 = first_is name (codes "totals") 116 p refl in
+    let b : slice_index name 0 ≡ 101 = first_is name (codes "encode") 101 e refl in omega arith

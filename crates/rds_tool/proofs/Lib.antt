@@ -2,3 +2,5 @@ pub mod Getters
 pub mod Refusing
 pub mod RowText
 pub mod Steps
+pub mod Encoding
+pub mod Texts

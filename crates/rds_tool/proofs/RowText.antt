@@ -1,18 +1,25 @@
 -- What `csv` writes of fields that need no quotes.
-use Rattle.std.proofs.Common.{◌+◌, ◌++◌, ◌<◌, ◌^◌, ◌∙◌, ◌∷◌, ◌≡◌, ◌≤◌, List, [], ap, append-nil, append_assoc, arith, false, length, map, refl, sym, ℕ, Bor}
-use Rattle.std.specs.Prelude.{decimal}
+use Rattle.std.proofs.Common.{◌/◌, ◌%◌, ◌||◌, Bool, Option, Some, None, get_or, slice_index, suc, true, zero, ◌+◌, ◌++◌, ◌<◌, ◌^◌, ◌∙◌, ◌∷◌, ◌≡◌, ◌≤◌, List, [], ap, append-nil, append_assoc, arith, false, length, map, refl, sym, ℕ, Bor}
+use Rattle.std.specs.Prelude.{IfSome, decimal}
 use Rattle.std.specs.Char.{digit_value}
 use Rattle.std.specs.List.{AllByRecursion, flat_map, join_with_byte}
 use Rattle.std.specs.Str.Parse.{AllDigits}
 use Rattle.std.proofs.lemmas.Bool.Decides.{nat_tests}
 use Rattle.std.proofs.lemmas.Fmt.{decimal_is_IsNumeral}
 use Rattle.std.proofs.lemmas.List.{length-map}
+use Rattle.std.proofs.lemmas.List.Folds.{list_any-append}
 use Rattle.std.proofs.lemmas.Str.Parse.{digit_from_value}
 use Rattle.csv.specs.Writing.{default_writer, field_text, fields_text, is_blank, needs_byte, row_body, row_text}
 use Rattle.rds_code.specs.Offsets.{name}
 use Rattle.rds_code.specs.declared.offset.Offset.{Offset}
 use Rattle.rds_code.specs.declared.offset.Offset.TheVariants.{A, B, C, Cx, D}
-use Rattle.rds_tool.specs.Listing.{row}
+use Rattle.hex.specs.Hex.{upper_digits}
+use Rattle.rds_code.specs.declared.reading.Reading.TheVariants.{Corrected, Lost, Valid}
+use Rattle.rds_sync.specs.declared.item.Block.{Block}
+use Rattle.rds_sync.specs.declared.item.Block.TheVariants.{Missing, Read}
+use Rattle.rds_sync.specs.declared.item.Version.{Version}
+use Rattle.rds_sync.specs.declared.item.Version.TheVariants.{A as VA, B as VB, Unknown}
+use Rattle.rds_tool.specs.Listing.{block_text, hex_digits, kind_text, row, version_text, word_text}
 use Rattle.rds_tool.specs.RowWriter.{IsPlain}
 
 -- ---- fields without quotes
@@ -63,3 +70,53 @@ name_plain B = refl
 name_plain C = refl
 name_plain Cx = refl
 name_plain D = refl
+
+or_first : (a b : Bool) → (a || b) ≡ false → a ≡ false
+or_first true b h = cc h
+or_first false b h = refl
+
+or_second : (a b : Bool) → (a || b) ≡ false → b ≡ false
+or_second true b h = cc h
+or_second false b h = h
+
+plain_append : (xs ys : List ℕ) → IsPlain xs → IsPlain ys → IsPlain (xs ++ ys)
+plain_append xs ys p q = rw (list_any-append, p, q) refl
+
+plain_at : (ds : List ℕ) (i : ℕ) → IsPlain ds → i < length ds → needs_byte default_writer (slice_index ds i) ≡ false
+plain_at [] i p h = absurd (omega arith)
+plain_at (d ∷ ds) zero p h = or_first _ _ p
+plain_at (d ∷ ds) (suc i) p h = plain_at ds i (or_second _ _ p) (omega arith)
+
+hex_plain : (width n : ℕ) → IsPlain (hex_digits width n)
+hex_plain zero n = refl
+hex_plain (suc width) n = plain_append (hex_digits width (n / 16)) _ (hex_plain width (n / 16)) (rw (plain_at upper_digits (n % 16) refl (omega arith)) refl)
+
+word_plain : (o : Offset) (info : ℕ) → IsPlain (word_text o info)
+word_plain o info = plain_append (name o) _ (name_plain o) (hex_plain 4 info)
+
+pub block_plain : (b : Block) → IsPlain (block_text b)
+block_plain Missing = refl
+block_plain (Read Lost) = refl
+block_plain (Read (Valid o info)) = word_plain o info
+block_plain (Read (Corrected o info burst)) = plain_append (word_text o info) _ (word_plain o info) (hex_plain 7 burst)
+
+pub kind_plain : (kind : Option ℕ) → IfSome kind (λ k. k < 2 ^ 64) → IsPlain (kind_text kind)
+kind_plain None h = refl
+kind_plain (Some k) h = decimal_plain k h
+
+pub version_plain : (v : Version) (conflict : Bool) → IsPlain (version_text v conflict)
+version_plain VA false = refl
+version_plain VA true = refl
+version_plain VB false = refl
+version_plain VB true = refl
+version_plain Unknown conflict = refl
+
+-- the four blocks of a group, one by one
+pub four_blocks : (bs : List Block) (a b c d : Block) → length bs ≡ 4
+    → map block_text bs ≡ block_text (get_or bs 0 a) ∷ block_text (get_or bs 1 b) ∷ block_text (get_or bs 2 c) ∷ block_text (get_or bs 3 d) ∷ []
+four_blocks (x ∷ y ∷ z ∷ w ∷ []) a b c d n = refl
+four_blocks [] a b c d n = absurd (omega arith)
+four_blocks (x ∷ []) a b c d n = absurd (omega arith)
+four_blocks (x ∷ y ∷ []) a b c d n = absurd (omega arith)
+four_blocks (x ∷ y ∷ z ∷ []) a b c d n = absurd (omega arith)
+four_blocks (x ∷ y ∷ z ∷ w ∷ v ∷ rest) a b c d n = absurd (omega arith)

@@ -1,5 +1,5 @@
 -- The command line, as `clap` reads it, and the job that its words ask for. This project's rule.
-use Rattle.std.specs.Prelude.{◌≡◌, ◌≢◌, ◌⊎◌, ◌<◌, ◌^◌, ⊤, Bool, List, None, Option, Some, [], codes, false, true, ℕ, ◌∷◌}
+use Rattle.std.specs.Prelude.{◌≡◌, ◌≢◌, ◌⊎◌, ◌<◌, ◌^◌, ⊤, Bool, List, None, Option, Some, [], codes, false, pos, true, ℕ, ◌∷◌}
 use Rattle.std.specs.Str.Parse.{IsNumeral, digits_value, without_leading_plus}
 use Rattle.clap.specs.Words.{App, IsAmong, Kinds, Row, Rule, Text, fault_of, new_app, new_rule, one_of, subcommand_of, with_rule, with_subcommand}
 use Rattle.clap.specs.declared.builder.action.ArgAction.TheVariants.{Set, SetTrue}
@@ -10,7 +10,8 @@ use Rattle.rds_tool.specs.declared.cli.FaultKind.{FaultKind}
 use Rattle.rds_tool.specs.declared.cli.FaultKind.TheVariants.{Help, Memory, Words}
 use Rattle.rds_tool.specs.declared.job.Input.{Input}
 use Rattle.rds_tool.specs.declared.job.Job.{Job}
-use Rattle.rds_tool.specs.declared.job.Job.TheVariants.{Scan}
+use Rattle.rds_tool.specs.declared.job.Settings.{Settings}
+use Rattle.rds_tool.specs.declared.job.Job.TheVariants.{Encode, List as ListJob, Scan, Totals}
 
 -- ---- the commands and their options
 
@@ -22,16 +23,36 @@ hex_rule = record (new_rule (codes "hex")) { long = Some (codes "hex"); action =
 abbrev pub bits_rule : Rule
 bits_rule = record (new_rule (codes "bits")) { long = Some (codes "bits"); action = Some Set; parser = Some (parser.Unsigned 0 1099511627776); value_names = 1 }
 
--- a command that reads a recording
+-- an option for a number below 2^32, with a default
+abbrev pub number_rule : Text → Text → Rule
+number_rule name default =
+    record (new_rule name) { long = Some name; action = Some Set; parser = Some (parser.Signed (pos 0) (pos 4294967295)); defaults = default ∷ []; value_names = 1 }
+
+-- the options of a command that reads a recording
+abbrev pub with_input : App → App
+with_input command = with_rule (with_rule command hex_rule) bits_rule
+
+-- the options of one that reads it by the rules of a synchroniser
+abbrev pub with_rules : App → App
+with_rules command = with_rule (with_rule (with_rule command
+    (number_rule (codes "burst") (codes "2"))) (number_rule (codes "reach") (codes "3"))) (number_rule (codes "loss") (codes "10"))
+
 abbrev pub recording_app : Text → App
-recording_app name = with_rule (with_rule (new_app name) hex_rule) bits_rule
+recording_app name = with_input (new_app name)
+
+abbrev pub ruled_app : Text → App
+ruled_app name = with_rules (with_input (new_app name))
+
+abbrev pub encode_app : App
+encode_app = with_rule (new_app (codes "encode")) hex_rule
 
 -- the program, which wants a command
 abbrev pub bare_app : App
 bare_app = let app = new_app (codes "rds") in record app { top = record app.top { subcommand_required = true } }
 
 abbrev pub rds_app : App
-rds_app = with_subcommand bare_app (recording_app (codes "scan")).top
+rds_app = with_subcommand (with_subcommand (with_subcommand (with_subcommand bare_app
+    (recording_app (codes "scan")).top) (ruled_app (codes "list")).top) (ruled_app (codes "totals")).top) encode_app.top
 
 -- ---- what the words give
 
@@ -63,9 +84,18 @@ pub record IsInput (rows : List Row) (input : Input) : Type 0 where
   pub hex : IsFlag (one_of (codes "hex") rows) input.hex
   pub bits : MaySpell 64 (one_of (codes "bits") rows) input.bits
 
+-- the settings that the entries give
+pub record AreSettings (rows : List Row) (settings : Settings) : Type 0 where
+  pub burst : Spells 32 (one_of (codes "burst") rows) settings.burst
+  pub reach : Spells 32 (one_of (codes "reach") rows) settings.reach
+  pub loss : Spells 32 (one_of (codes "loss") rows) settings.loss
+
 -- the job that a command and its entries give
 abbrev pub IsJob : Text → List Row → Job → Type 0
 IsJob name rows (Scan input) = (name ≡ codes "scan") × IsInput rows input
+IsJob name rows (ListJob input settings) = (name ≡ codes "list") × IsInput rows input × AreSettings rows settings
+IsJob name rows (Totals input settings) = (name ≡ codes "totals") × IsInput rows input × AreSettings rows settings
+IsJob name rows (Encode hex) = (name ≡ codes "encode") × IsFlag (one_of (codes "hex") rows) hex
 
 abbrev pub IsJobOf : Option (Text × List Row) → Job → Type 0
 IsJobOf None job = ⊥

@@ -3,6 +3,9 @@ pub mod Devices
 pub mod Ends
 pub mod CommandLine
 pub mod Input
+pub mod Rules
+pub mod Tasks
 pub mod Listing
+pub mod GroupText
 pub mod Outcome
 pub mod RowWriter

@@ -1,13 +1,30 @@
 -- The rows of a listing, as bytes. This project's rule.
-use Rattle.std.specs.Prelude.{◌++◌, ◌∷◌, ℕ, List, [], decimal, length}
+use Rattle.std.specs.Prelude.{◌++◌, ◌/◌, ◌%◌, ◌∷◌, ℕ, Bool, List, None, Option, Some, [], codes, decimal, false, length, map, slice_index, suc, true, zero}
 use Rattle.std.specs.List.{flat_map, join_with_byte}
+use Rattle.hex.specs.Hex.{upper_digits}
 use Rattle.rds_code.specs.Offsets.{name}
 use Rattle.rds_code.specs.declared.offset.Offset.{Offset}
+use Rattle.rds_code.specs.declared.reading.Reading.TheVariants.{Corrected, Lost, Valid}
 use Rattle.rds_stream.specs.Recording.{valid_windows}
+use Rattle.rds_sync.specs.declared.item.Block.{Block}
+use Rattle.rds_sync.specs.declared.item.Block.TheVariants.{Missing, Read}
+use Rattle.rds_sync.specs.declared.item.Item.{Item}
+use Rattle.rds_sync.specs.declared.item.Item.TheVariants.{Acquired, Group, LostLock}
+use Rattle.rds_sync.specs.declared.item.Version.{Version}
+use Rattle.rds_sync.specs.declared.item.Version.TheVariants.{A, B, Unknown}
+use Rattle.rds_sync.specs.declared.totals.Totals.{Totals}
+
+-- ---- rows
 
 -- fields joined by commas and ended by one line feed
 abbrev pub row : List (List ℕ) → List ℕ
 row fields = join_with_byte 44 fields ++ 10 ∷ []
+
+-- a field that says nothing
+abbrev pub dash : List ℕ
+dash = codes "-"
+
+-- ---- the valid windows
 
 -- a valid window: its place and its offset
 abbrev pub window_row : ℕ × Offset → List ℕ
@@ -16,3 +33,76 @@ window_row w = row (decimal w.0 ∷ name w.1 ∷ [])
 -- the rows of the valid windows of a recording, by rising place
 abbrev pub scan_text : List ℕ → List ℕ
 scan_text bits = flat_map window_row (valid_windows bits 0 (length bits))
+
+-- ---- the fields of a group
+
+-- the last digits of a number to the base 16, that many, highest first and in upper case
+abbrev pub hex_digits : ℕ → ℕ → List ℕ
+hex_digits zero n = []
+hex_digits (suc width) n = hex_digits width (n / 16) ++ slice_index upper_digits (n % 16) ∷ []
+
+-- a block that was read and is not lost: its offset and its information word
+abbrev pub word_text : Offset → ℕ → List ℕ
+word_text offset info = name offset ++ 58 ∷ hex_digits 4 info
+
+-- a block; a corrected one ends in the burst
+abbrev pub block_text : Block → List ℕ
+block_text Missing = codes "none"
+block_text (Read Lost) = codes "lost"
+block_text (Read (Valid offset info)) = word_text offset info
+block_text (Read (Corrected offset info burst)) = word_text offset info ++ 126 ∷ hex_digits 7 burst
+
+-- a group's type, where it is known
+abbrev pub kind_text : Option ℕ → List ℕ
+kind_text None = dash
+kind_text (Some kind) = decimal kind
+
+-- a group's version, where it is known, and whether its blocks are in conflict over it
+abbrev pub version_text : Version → Bool → List ℕ
+version_text A false = codes "A"
+version_text A true = codes "A!"
+version_text B false = codes "B"
+version_text B true = codes "B!"
+version_text Unknown conflict = codes "?"
+
+-- ---- the items of a report
+
+abbrev pub item_fields : Item → List (List ℕ)
+item_fields (Acquired place number) = codes "acquired" ∷ decimal place ∷ decimal number ∷ dash ∷ dash ∷ dash ∷ dash ∷ dash ∷ []
+item_fields (LostLock place) = codes "lost" ∷ decimal place ∷ dash ∷ dash ∷ dash ∷ dash ∷ dash ∷ dash ∷ []
+item_fields (Group group) =
+    codes "group" ∷ decimal group.place ∷ kind_text group.kind ∷ version_text group.version group.conflict ∷ map block_text group.blocks
+
+abbrev pub item_row : Item → List ℕ
+item_row item = row (item_fields item)
+
+-- ---- the totals
+
+abbrev pub total_row : List ℕ × ℕ → List ℕ
+total_row total = row (codes "total" ∷ total.0 ∷ decimal total.1 ∷ dash ∷ dash ∷ dash ∷ dash ∷ dash ∷ [])
+
+-- the twelve totals, each with its name
+abbrev pub named_totals : Totals → List (List ℕ × ℕ)
+named_totals totals =
+      (codes "valid", totals.valid)
+    ∷ (codes "burst1", slice_index totals.bursts 0)
+    ∷ (codes "burst2", slice_index totals.bursts 1)
+    ∷ (codes "burst3", slice_index totals.bursts 2)
+    ∷ (codes "burst4", slice_index totals.bursts 3)
+    ∷ (codes "burst5", slice_index totals.bursts 4)
+    ∷ (codes "lost", totals.lost)
+    ∷ (codes "bits", totals.bits)
+    ∷ (codes "groups", totals.groups)
+    ∷ (codes "complete", totals.complete)
+    ∷ (codes "acquired", totals.acquired)
+    ∷ (codes "losses", totals.losses)
+    ∷ []
+
+abbrev pub totals_text : Totals → List ℕ
+totals_text totals = flat_map total_row (named_totals totals)
+
+-- ---- a whole report
+
+-- the items in order, and then the totals
+abbrev pub report_text : List Item → Totals → List ℕ
+report_text items totals = flat_map item_row items ++ totals_text totals

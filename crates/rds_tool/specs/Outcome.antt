@@ -2,16 +2,37 @@
 -- project's rule.
 use Rattle.std.specs.Prelude.{◌++◌, ◌≡◌, ◌⊎◌, ℕ, Err, List, Ok, Option, Result}
 use Rattle.std.specs.Io.KnownBytes.{Appends}
+use Rattle.rds_sync.specs.Report.{report_items}
+use Rattle.rds_sync.specs.Rules.{RuleNumbers}
+use Rattle.rds_sync.specs.Totals.{totals_of}
+use Rattle.rds_tool.specs.GroupText.{encoded_text}
 use Rattle.rds_tool.specs.Input.{and_then, recording_of}
-use Rattle.rds_tool.specs.Listing.{scan_text}
+use Rattle.rds_tool.specs.Listing.{report_text, scan_text, totals_text}
+use Rattle.rds_tool.specs.Tasks.{task_of}
 use Rattle.rds_tool.specs.declared.error.ToolError.{ToolError}
 use Rattle.rds_tool.specs.declared.error.ToolError.TheVariants.{OutOfMemory, Read, TooManyTurns, Write}
 use Rattle.rds_tool.specs.declared.job.Job.{Job}
-use Rattle.rds_tool.specs.declared.job.Job.TheVariants.{Scan}
+use Rattle.rds_tool.specs.declared.task.Task.{Task}
+use Rattle.rds_tool.specs.declared.task.Task.TheVariants as task
 
--- the text of a job over the bytes held, or its refusal
+-- the listing of the report of a recording
+abbrev pub list_text : RuleNumbers → List ℕ → List ℕ
+list_text rules bits = report_text (report_items bits rules) (totals_of (report_items bits rules))
+
+-- the listing of its totals alone
+abbrev pub totals_list : RuleNumbers → List ℕ → List ℕ
+totals_list rules bits = totals_text (totals_of (report_items bits rules))
+
+-- the text of a task over the bytes held, or the refusal of these bytes
+abbrev pub text_of_task : Task → List ℕ → Result (List ℕ) ToolError
+text_of_task (task.Scan input) held = and_then (recording_of input held) (λ bits. Ok (scan_text bits))
+text_of_task (task.List input rules) held = and_then (recording_of input held) (λ bits. Ok (list_text rules bits))
+text_of_task (task.Totals input rules) held = and_then (recording_of input held) (λ bits. Ok (totals_list rules bits))
+text_of_task (task.Encode hex) held = encoded_text hex held
+
+-- the text of a job over the bytes held, or its refusal; the settings are looked at first
 abbrev pub outcome : Job → List ℕ → Result (List ℕ) ToolError
-outcome (Scan input) held = and_then (recording_of input held) (λ bits. Ok (scan_text bits))
+outcome job held = and_then (task_of job) (λ task. text_of_task task held)
 
 -- the refusals that the job and the bytes don't decide
 abbrev pub IsOutside : ToolError → Type 0

@@ -2,27 +2,37 @@
 use Rattle.std.specs.Prelude.{ℕ, List, codes}
 use Rattle.rds_stream.specs.declared.error.StreamError.{StreamError}
 use Rattle.rds_stream.specs.declared.error.StreamError.TheVariants as stream
+use Rattle.rds_sync.specs.declared.error.SyncError.{SyncError}
+use Rattle.rds_sync.specs.declared.error.SyncError.TheVariants as sync
 use Rattle.rds_tool.specs.declared.error.ToolError.{ToolError}
-use Rattle.rds_tool.specs.declared.error.ToolError.TheVariants.{BitsPastBytes, HexText, OutOfMemory, Read, TooLong, TooManyTurns, Write}
+use Rattle.rds_tool.specs.declared.error.ToolError.TheVariants.{BitsPastBytes, BurstRange, GroupText, HexText, LossRange, OutOfMemory, ReachRange, Read, TooLong, TooManyTurns, Write}
 
 -- the number of a refusal
 abbrev pub number_of : ToolError → ℕ
+number_of BurstRange = 1
+number_of ReachRange = 2
+number_of LossRange = 3
 number_of BitsPastBytes = 4
 number_of TooLong = 5
 number_of OutOfMemory = 8
 number_of Read = 9
 number_of Write = 10
 number_of HexText = 11
+number_of GroupText = 12
 number_of TooManyTurns = 13
 
 -- the name of a refusal
 abbrev pub name_of : ToolError → List ℕ
+name_of BurstRange = codes "BurstRange"
+name_of ReachRange = codes "ReachRange"
+name_of LossRange = codes "LossRange"
 name_of BitsPastBytes = codes "BitsPastBytes"
 name_of TooLong = codes "TooLong"
 name_of OutOfMemory = codes "OutOfMemory"
 name_of Read = codes "Read"
 name_of Write = codes "Write"
 name_of HexText = codes "HexText"
+name_of GroupText = codes "GroupText"
 name_of TooManyTurns = codes "TooManyTurns"
 
 -- the refusals of the layers below
@@ -30,3 +40,9 @@ abbrev pub of_stream : StreamError → ToolError
 of_stream stream.TooLong = TooLong
 of_stream stream.BitsPastBytes = BitsPastBytes
 of_stream stream.OutOfMemory = OutOfMemory
+
+abbrev pub of_sync : SyncError → ToolError
+of_sync sync.BurstRange = BurstRange
+of_sync sync.ReachRange = ReachRange
+of_sync sync.LossRange = LossRange
+of_sync sync.OutOfMemory = OutOfMemory

@@ -1,12 +1,11 @@
 //! From a reader to a writer.
 ghost use Rattle.std.specs.Prelude.{◌+◌, ◌++◌, ◌<◌, ◌^◌, ◌≡◌, ◌≢◌, ◌≤◌, ◌⊎◌, ◌↔◌, Err, IfErr, IfOk, IfSome, IsErrOf, List, Ok, OnErr, OnOk, Option, length, ℕ};
 ghost use Rattle.std.specs.Io.KnownBytes.{Appends, Consumes, IsAtEnd};
-ghost use Rattle.rds_tool.specs.Outcome.{IsOutside, Writes, WritesFront, outcome};
+ghost use Rattle.rds_tool.specs.Outcome.{IsOutside, Writes, WritesFront, outcome, text_of_task};
+ghost use Rattle.rds_tool.specs.Tasks.{task_of};
 
-use crate::input::recording_of;
-use crate::rows::window_rows;
+use crate::task::Task;
 use crate::{Failed, Job, Sink, Source, ToolError};
-use rds_stream::scan;
 use std::alloc::{AllocError, Global};
 
 /// How many reads may give bytes before the end comes.
@@ -17,8 +16,9 @@ const CHUNK: usize = 65_536;
 
 /// Reads all bytes of the reader, does the job, writes the whole text and flushes.
 ///
-/// Refusals come in this order: those of the reader (`Read`, `TooManyTurns`), those of the job and the
-/// bytes (`HexText`, `TooLong`, `BitsPastBytes`), those of the writer (`Write`). `OutOfMemory` may come
+/// Refusals come in this order: those of the settings (`BurstRange`, `ReachRange`, `LossRange`), before
+/// anything is read, those of the reader (`Read`, `TooManyTurns`), those of the job and the
+/// bytes (`HexText`, `TooLong`, `BitsPastBytes`, or `GroupText`), those of the writer (`Write`). `OutOfMemory` may come
 /// wherever memory is taken. The text is complete before its first byte is written.
 pub fn transcribe<S: Source, K: Sink>(
     alloc: Global,
@@ -39,27 +39,26 @@ pub fn transcribe<S: Source, K: Sink>(
     ensures turns { IsErrOf result ToolError.TooManyTurns → IfSome (S.remaining reader.old) (λ held. 16777216 ≤ length held) }
     ensures refused { IfErr result (λ error. IsOutside error ⊎ IfSome (S.remaining reader.old) (λ held. outcome job.now held ≡ Err error)) }
 
+    // Settings out of their range are refused as such before anything is read.
+    ensures settings { IfErr (task_of job.now) (λ error. (result ≡ Err error) × (reader.new ≡ reader.old)) }
+
     // What the writer has after a refusal.
     ensures untouched { IfErr result (λ error. error ≢ ToolError.Write → writer.new ≡ writer.old) }
     ensures front { IsErrOf result ToolError.Write → IfSome (S.remaining reader.old) (λ held. WritesFront (K.contents writer.old) (K.contents writer.new) (outcome job.now held)) }
 {
+    let task = Task::of(alloc, job)?;
     let held = read_all(alloc, reader)?;
-    let text = text_of(alloc, job, held)?;
+    let text = text_of(alloc, &task, held)?;
     write_all(writer, text.as_slice())
 }
 
-// The text of a job over the bytes that the reader held.
-fn text_of(alloc: Global, job: &Job, held: Vec<u8>) -> Result<Vec<u8>, ToolError>
-    ensures ok { IfOk result (λ text. outcome job.now held.items ≡ Ok text.items) }
-    ensures refused { IfErr result (λ error. (error ≡ ToolError.OutOfMemory) ⊎ (outcome job.now held.items ≡ Err error)) }
+// The text of a task over the bytes that the reader held. No refusal here is a device's.
+fn text_of(alloc: Global, task: &Task, held: Vec<u8>) -> Result<Vec<u8>, ToolError>
+    ensures ok { IfOk result (λ text. text_of_task task.now held.items ≡ Ok text.items) }
+    ensures refused { IfErr result (λ error. (error ≡ ToolError.OutOfMemory) ⊎ (text_of_task task.now held.items ≡ Err error)) }
+    ensures inside { IfErr result (λ error. (error ≢ ToolError.Read) × (error ≢ ToolError.Write) × (error ≢ ToolError.TooManyTurns)) }
 {
-    match job {
-        Job::Scan(input) => {
-            let recording = recording_of(alloc, input, held)?;
-            let windows = scan(alloc, &recording, 0, recording.len())?;
-            window_rows(alloc, windows.as_slice())
-        }
-    }
+    task.text(alloc, held)
 }
 
 // All bytes of the reader, to its end.
@@ -97,7 +96,7 @@ fn write_all<K: Sink>(writer: &mut K, text: &[u8]) -> Result<(), ToolError>
     ensures ok { OnOk result (Appends (K.contents writer.old) (K.contents writer.new) text.now) }
     ensures write { IsErrOf result ToolError.Write ↔ (K.failed writer.old < K.failed writer.new) }
     ensures kinds { IfErr result (λ error. error ≡ ToolError.Write) }
-    ensures front { OnErr result ((front rest : List ℕ) × (text.now ≡ front ++ rest) × Appends (K.contents writer.old) (K.contents writer.new) front) }
+    ensures front { OnErr result (WritesFront (K.contents writer.old) (K.contents writer.new) (Ok text.now)) }
 {
     let mut at = 0;
     while at < text.len() {

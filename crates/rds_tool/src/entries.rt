@@ -3,9 +3,10 @@ ghost use Rattle.std.specs.Prelude.{◌≡◌, IfNone, IfSome, List, Option, cod
 ghost use Rattle.clap.specs.Words.{found_of, one_of, rows_of, subcommand_rows_of};
 ghost use Rattle.rds_tool.specs.declared.job.Input.{Input};
 ghost use Rattle.rds_tool.specs.declared.job.Job.{Job};
-ghost use Rattle.rds_tool.specs.CommandLine.{IsFlag, IsInput, IsJob, IsJobOf, MaySpell};
+ghost use Rattle.rds_tool.specs.declared.job.Settings.{Settings};
+ghost use Rattle.rds_tool.specs.CommandLine.{AreSettings, IsFlag, IsInput, IsJob, IsJobOf, MaySpell, Spells};
 
-use crate::{Input, Job};
+use crate::{Input, Job, Settings};
 use clap::ArgMatches;
 
 /// The job of a parsed command line, or none where no job has its entries.
@@ -23,6 +24,11 @@ fn job_named(name: &str, entries: &ArgMatches<'_>) -> Option<Job>
 {
     match name {
         "scan" => Some(Job::Scan(input_in(entries)?)),
+        "list" => Some(Job::List(input_in(entries)?, settings_in(entries)?)),
+        "totals" => Some(Job::Totals(input_in(entries)?, settings_in(entries)?)),
+        "encode" => Some(Job::Encode {
+            hex: hex_in(entries),
+        }),
         _ => None,
     }
 }
@@ -35,6 +41,24 @@ fn input_in(entries: &ArgMatches<'_>) -> Option<Input>
         hex: hex_in(entries),
         bits: bits_in(entries)?,
     })
+}
+
+fn settings_in(entries: &ArgMatches<'_>) -> Option<Settings>
+    ensures settings { IfSome result (AreSettings (rows_of (found_of entries.now))) }
+    ensures none { IfNone result ((settings : Settings) → AreSettings (rows_of (found_of entries.now)) settings → ⊥) }
+{
+    Some(Settings {
+        burst: number_in(entries, "burst")?,
+        reach: number_in(entries, "reach")?,
+        loss: number_in(entries, "loss")?,
+    })
+}
+
+fn number_in(entries: &ArgMatches<'_>, name: &str) -> Option<u32>
+    ensures number { IfSome result (Spells 32 (one_of name.now (rows_of (found_of entries.now)))) }
+    ensures none { IfNone result ((n : ℕ) → Spells 32 (one_of name.now (rows_of (found_of entries.now))) n → ⊥) }
+{
+    entries.get_one::<u32>(name)
 }
 
 fn hex_in(entries: &ArgMatches<'_>) -> bool

@@ -1,15 +1,25 @@
 //! Why a transcription is refused.
 ghost use Rattle.std.specs.Prelude.{◌≡◌};
-ghost use Rattle.rds_tool.specs.Refusals.{name_of, number_of, of_stream};
+ghost use Rattle.rds_tool.specs.Refusals.{name_of, number_of, of_stream, of_sync};
 ghost use Rattle.rds_tool.specs.declared.error.ToolError.TheVariants.{OutOfMemory};
 
 use rds_stream::StreamError;
+use rds_sync::SyncError;
 use std::alloc::{AllocError, AllocFailed};
 use thiserror::Error;
 
 /// Why a transcription is refused. Each refusal has a number and a name, which the program prints.
 #[derive(Clone, Copy, Debug, PartialEq, Eq, Error)]
 pub enum ToolError {
+    /// The longest burst to be corrected is above 5 bits.
+    #[error("the burst is above 5 bits")]
+    BurstRange,
+    /// The reach of acquiring is not 1 to 8 blocks.
+    #[error("the reach is not 1 to 8 blocks")]
+    ReachRange,
+    /// The loss is not 1 to 64 blocks.
+    #[error("the loss is not 1 to 64 blocks")]
+    LossRange,
     /// More bits are claimed than the bytes hold.
     #[error("more bits are claimed than the bytes hold")]
     BitsPastBytes,
@@ -28,6 +38,9 @@ pub enum ToolError {
     /// The hexadecimal input has an odd number of digits or a strange byte.
     #[error("the input is no hexadecimal text")]
     HexText,
+    /// A line to be encoded isn't empty and isn't sixteen hexadecimal digits.
+    #[error("a line is no group of sixteen digits")]
+    GroupText,
     /// The reader gave bytes 16,777,216 times, and no end had come.
     #[error("the input has no end")]
     TooManyTurns,
@@ -39,12 +52,16 @@ impl ToolError {
         ensures { result ≡ number_of self }
     {
         match self {
+            ToolError::BurstRange => 1,
+            ToolError::ReachRange => 2,
+            ToolError::LossRange => 3,
             ToolError::BitsPastBytes => 4,
             ToolError::TooLong => 5,
             ToolError::OutOfMemory => 8,
             ToolError::Read => 9,
             ToolError::Write => 10,
             ToolError::HexText => 11,
+            ToolError::GroupText => 12,
             ToolError::TooManyTurns => 13,
         }
     }
@@ -54,12 +71,16 @@ impl ToolError {
         ensures { result.now ≡ name_of self }
     {
         match self {
+            ToolError::BurstRange => "BurstRange",
+            ToolError::ReachRange => "ReachRange",
+            ToolError::LossRange => "LossRange",
             ToolError::BitsPastBytes => "BitsPastBytes",
             ToolError::TooLong => "TooLong",
             ToolError::OutOfMemory => "OutOfMemory",
             ToolError::Read => "Read",
             ToolError::Write => "Write",
             ToolError::HexText => "HexText",
+            ToolError::GroupText => "GroupText",
             ToolError::TooManyTurns => "TooManyTurns",
         }
     }
@@ -89,6 +110,19 @@ impl From<StreamError> for ToolError {
             StreamError::TooLong => ToolError::TooLong,
             StreamError::BitsPastBytes => ToolError::BitsPastBytes,
             StreamError::OutOfMemory => ToolError::OutOfMemory,
+        }
+    }
+}
+
+impl From<SyncError> for ToolError {
+    ghost from_gives = { λ below error. error ≡ of_sync below };
+
+    fn from(error: SyncError) -> ToolError {
+        match error {
+            SyncError::BurstRange => ToolError::BurstRange,
+            SyncError::ReachRange => ToolError::ReachRange,
+            SyncError::LossRange => ToolError::LossRange,
+            SyncError::OutOfMemory => ToolError::OutOfMemory,
         }
     }
 }

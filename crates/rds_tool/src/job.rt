@@ -10,9 +10,28 @@ pub struct Input {
     pub bits: Option<u64>,
 }
 
+/// How synchronism is acquired, kept and lost. Settings outside their range are refused, not clipped.
+#[derive(Clone, Copy, Debug, PartialEq, Eq)]
+pub struct Settings {
+    /// The longest burst of errors that is corrected, in bits: 0 to 5.
+    pub burst: u32,
+    /// How many blocks back an acquiring block looks for another that fits it: 1 to 8.
+    pub reach: u32,
+    /// After how many blocks in a row that are not valid the lock is lost: 1 to 64.
+    pub loss: u32,
+}
+
 /// What is to be made of the bytes that a reader holds.
 #[derive(Clone, Copy, Debug, PartialEq, Eq)]
 pub enum Job {
     /// A row for each valid window of a recording: its place and its offset.
     Scan(Input),
+    /// A row for each item of the recording's report, by rising place, and then its twelve totals.
+    List(Input, Settings),
+    /// The twelve totals alone.
+    Totals(Input, Settings),
+    /// The blocks of groups that are given as lines of sixteen hexadecimal digits, four words each;
+    /// spaces, tabs and carriage returns don't count, and empty lines are skipped. A group is 13 bytes,
+    /// or with `hex` a line of 26 lower-case digits.
+    Encode { hex: bool },
 }

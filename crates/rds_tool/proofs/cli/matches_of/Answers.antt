@@ -1,7 +1,8 @@
-use Rattle.std.proofs.Common.{◌≡◌, ◌∙◌, ap, refl, true, map, List, ℕ, Bor}
+use Rattle.std.proofs.Common.{◌≡◌, ◌∙◌, ap, refl, subst, true, map, List, ℕ, Bor}
 use Rattle.std.proofs.lemmas.Result.{IfOk-weaker}
 use Rattle.clap.specs.Words.{App, is_simple, subcommand_of}
-use Rattle.clap.specs.Faults.{is_simple_and_free}
+use Rattle.clap.specs.Faults.{fault_of, is_simple_and_free}
+use Rattle.clap.specs.Kinds.{FailsBy}
 use Rattle.clap.proofs.OnLiterals.{clap_on_literals}
 use Rattle.rds_tool.specs.CommandLine.{rds_app}
 use Rattle.rds_tool.proofs.cli.matches_of.Goals as goal
@@ -15,3 +16,13 @@ returns-clause-entries c =
     let e = c.in_ok-rds_command.ensures in
     let parse = c.try_get_matches_from in
     IfOk-weaker parse.result _ _ (λ m h. (h (ap is_simple e ∙ is_simple_app)).1 ∙ ap (λ (a : App). subcommand_of a (map (λ (w : Bor (List ℕ)). w.now) c.args.words.now)) e) parse.ensures.matches
+
+is_free_app : is_simple_and_free rds_app ≡ true
+unfolding clap_on_literals
+is_free_app = refl
+
+pub returns-clause-faults : goal.returns-clause-faults
+returns-clause-faults c =
+    let e = c.in_ok-rds_command.ensures in
+    let words = map (λ (w : Bor (List ℕ)). w.now) c.args.words.now in
+    subst (λ (a : App). FailsBy (fault_of a words) c.try_get_matches_from.result) e (c.try_get_matches_from.ensures.kinds (ap is_simple_and_free e ∙ is_free_app))

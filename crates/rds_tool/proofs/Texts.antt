@@ -1,0 +1,132 @@
+-- The texts of the tasks, and what they can't be refused for.
+use Rattle.std.proofs.Common.{◌++◌, ◌∙◌, ◌*◌, ◌^◌, length, not, nat_lt, ◌≡◌, ◌≢◌, ◌⊎◌, Bool, Err, List, None, Ok, Option, Result, Some, [], ◌∷◌, ap, ap₂, false, if◌then◌else◌, inl, inr, refl, subst, sym, true, ℕ}
+use Rattle.std.specs.Prelude.{IfErr, IfSome, OnErr}
+use Rattle.std.specs.List.{filter}
+use Rattle.hex.specs.Hex.{decode_of, decode_sized}
+use Rattle.rds_stream.specs.Recording.{bits_of}
+use Rattle.hex.specs.declared.error.FromHexError.{FromHexError}
+use Rattle.rds_sync.specs.Report.{report_items}
+use Rattle.rds_sync.specs.Rules.{RuleNumbers}
+use Rattle.rds_sync.specs.Totals.{totals_of}
+use Rattle.rds_sync.specs.declared.item.Item.{Item}
+use Rattle.rds_sync.specs.declared.totals.Totals.{Totals}
+use Rattle.rds_tool.specs.GroupText.{line_text, lines_of, lines_text, words_of, words_or_refusal, group_text}
+use Rattle.rds_tool.specs.Input.{and_then, bytes_of, claimed, decoded, first_bits, is_blank, or_hex_text, recording_of}
+use Rattle.rds_tool.specs.Listing.{report_text, totals_text}
+use Rattle.rds_tool.specs.Outcome.{WritesFront, list_text, outcome, text_of_task, totals_list}
+use Rattle.rds_tool.specs.Tasks.{task_of}
+use Rattle.rds_tool.specs.declared.error.ToolError.{ToolError}
+use Rattle.rds_tool.specs.declared.error.ToolError.TheVariants.{BitsPastBytes, BurstRange, GroupText, HexText, LossRange, OutOfMemory, Read, ReachRange, TooLong, TooManyTurns, Write}
+use Rattle.rds_tool.specs.declared.job.Input.{Input}
+use Rattle.rds_tool.specs.declared.job.Job.{Job}
+use Rattle.rds_tool.specs.declared.task.Task.{Task}
+use Rattle.rds_tool.specs.declared.task.Task.TheVariants as task
+
+-- ---- the texts
+
+pub list_made : (t : Task) (input : Input) (rules : RuleNumbers) (held bits : List ℕ) (items : List Item) (totals : Totals) (text : List ℕ)
+    → t ≡ task.List input rules → recording_of input held ≡ Ok bits → items ≡ report_items bits rules → totals ≡ totals_of (report_items bits rules)
+    → text ≡ report_text items totals → text_of_task t held ≡ Ok text
+list_made t input rules held bits items totals text is recorded i o made =
+    ap (λ k. text_of_task k held) is
+    ∙ ap (λ r. and_then r (λ b. Ok (list_text rules b))) recorded
+    ∙ ap (λ x. Ok x) (ap₂ report_text (sym i) (sym o) ∙ sym made)
+
+pub totals_made : (t : Task) (input : Input) (rules : RuleNumbers) (held bits : List ℕ) (totals : Totals) (text : List ℕ)
+    → t ≡ task.Totals input rules → recording_of input held ≡ Ok bits → totals ≡ totals_of (report_items bits rules)
+    → text ≡ totals_text totals → text_of_task t held ≡ Ok text
+totals_made t input rules held bits totals text is recorded o made =
+    ap (λ k. text_of_task k held) is
+    ∙ ap (λ r. and_then r (λ b. Ok (totals_list rules b))) recorded
+    ∙ ap (λ x. Ok x) (ap totals_text (sym o) ∙ sym made)
+
+-- ---- the refusals
+
+-- a refusal of the bytes
+abbrev pub IsOfBytes : ToolError → Type 0
+IsOfBytes BitsPastBytes = Unit {0}
+IsOfBytes TooLong = Unit {0}
+IsOfBytes HexText = Unit {0}
+IsOfBytes GroupText = Unit {0}
+IsOfBytes e = ⊥
+
+-- neither refusal is a device's
+abbrev pub IsInside : ToolError → Type 0
+IsInside e = (e ≢ Read) × (e ≢ Write) × (e ≢ TooManyTurns)
+
+inside : (e : ToolError) → IsOfBytes e → IsInside e
+inside e h = (λ p. subst IsOfBytes p h, λ p. subst IsOfBytes p h, λ p. subst IsOfBytes p h)
+
+memory_inside : (e : ToolError) → e ≡ OutOfMemory → IsInside e
+memory_inside e m =
+    ( λ p. let bad : OutOfMemory ≡ Read = sym m ∙ p in cc bad
+    , λ p. let bad : OutOfMemory ≡ Write = sym m ∙ p in cc bad
+    , λ p. let bad : OutOfMemory ≡ TooManyTurns = sym m ∙ p in cc bad
+    )
+
+module _ {A B : Type 0} where
+  then_errs : (P : ToolError → Type 0) (r : Result A ToolError) (step : A → Result B ToolError) → IfErr r P → ((x : A) → IfErr (step x) P) → IfErr (and_then r step) P
+  then_errs P (Ok x) step h k = k x
+  then_errs P (Err e) step h k = h
+
+bytes_errs : (hex : Bool) (decoded held : Result (List ℕ) ToolError) → IfErr decoded IsOfBytes → IfErr held IsOfBytes → IfErr (if hex then decoded else held) IsOfBytes
+bytes_errs true decoded held h k = h
+bytes_errs false decoded held h k = k
+
+first_errs : (long past : Bool) (bits : List ℕ)
+    → let r : Result (List ℕ) ToolError = if long then Err TooLong else if past then Err BitsPastBytes else Ok bits in IfErr r IsOfBytes
+first_errs true past bits = tt
+first_errs false true bits = tt
+first_errs false false bits = tt
+
+hex_errs : (r : Result (List ℕ) FromHexError) → IfErr (or_hex_text r) IsOfBytes
+hex_errs (Ok bytes) = tt
+hex_errs (Err e) = tt
+
+recording_errs : (input : Input) (held : List ℕ) → IfErr (recording_of input held) IsOfBytes
+recording_errs input held =
+    then_errs IsOfBytes (bytes_of input held) (λ bytes. first_bits (claimed input.bits bytes) bytes)
+    (bytes_errs input.hex (decoded held) (Ok held) (hex_errs (decode_of (filter (λ b. not (is_blank b)) held))) tt)
+    (λ bytes. let n = claimed input.bits bytes in first_errs (nat_lt (2 ^ 36) n) (nat_lt (8 * length bytes) n) (bits_of bytes n))
+
+words_errs : (r : Result (List ℕ) FromHexError) → IfErr (words_or_refusal r) IsOfBytes
+words_errs (Ok bytes) = tt
+words_errs (Err e) = tt
+
+line_errs : (hex : Bool) (line : List ℕ) → IfErr (line_text hex line) IsOfBytes
+line_errs hex [] = tt
+line_errs hex (digit ∷ digits) = then_errs IsOfBytes (words_of (digit ∷ digits)) (λ words. Ok (group_text hex words)) (words_errs (decode_sized (digit ∷ digits) 8)) (λ words. tt)
+
+lines_errs : (hex : Bool) (lines : List (List ℕ)) → IfErr (lines_text hex lines) IsOfBytes
+lines_errs hex [] = tt
+lines_errs hex (line ∷ lines) =
+    then_errs IsOfBytes (line_text hex line) (λ first. and_then (lines_text hex lines) (λ others. Ok (first ++ others))) (line_errs hex line)
+    (λ first. then_errs IsOfBytes (lines_text hex lines) (λ others. Ok (first ++ others)) (lines_errs hex lines) (λ others. tt))
+
+task_errs : (t : Task) (held : List ℕ) → IfErr (text_of_task t held) IsOfBytes
+task_errs (task.Scan input) held = then_errs IsOfBytes (recording_of input held) _ (recording_errs input held) (λ bits. tt)
+task_errs (task.List input rules) held = then_errs IsOfBytes (recording_of input held) _ (recording_errs input held) (λ bits. tt)
+task_errs (task.Totals input rules) held = then_errs IsOfBytes (recording_of input held) _ (recording_errs input held) (λ bits. tt)
+task_errs (task.Encode hex) held = lines_errs hex (lines_of held)
+
+-- a text is refused for want of memory or for its bytes
+pub refused_inside : (t : Task) (held : List ℕ) (e : ToolError) → (e ≡ OutOfMemory) ⊎ (text_of_task t held ≡ Err e) → IsInside e
+refused_inside t held e (inl m) = memory_inside e m
+refused_inside t held e (inr p) = inside e (let P : Result (List ℕ) ToolError → Type 0 = λ r. IfErr r IsOfBytes in subst P p (task_errs t held))
+
+-- ---- the outcome
+
+pub outcome_is : (job : Job) (t : Task) (held bytes text : List ℕ) → task_of job ≡ Ok t → text_of_task t bytes ≡ Ok text → bytes ≡ held → outcome job held ≡ Ok text
+outcome_is job t held bytes text p q h = ap (λ r. and_then r (λ k. text_of_task k held)) p ∙ ap (text_of_task t) (sym h) ∙ q
+
+on_err : (X : Type 0) (r : Result (Unit {0}) ToolError) (e : ToolError) → r ≡ Err e → OnErr r X → X
+on_err X r e p h = let P : Result (Unit {0}) ToolError → Type 0 = λ x. OnErr x X in subst P p h
+
+-- what a failed writing leaves is a front of the outcome's text
+pub front_is : (o : Option (List ℕ)) (job : Job) (t : Task) (bytes text : List ℕ) (r : Result (Unit {0}) ToolError) (old new : Option (List ℕ))
+    → IfSome o (λ held. bytes ≡ held) → task_of job ≡ Ok t → text_of_task t bytes ≡ Ok text → OnErr r (WritesFront old new (Ok text)) → r ≡ Err Write
+    → IfSome o (λ held. WritesFront old new (outcome job held))
+front_is None job t bytes text r old new h p q w e = tt
+front_is (Some held) job t bytes text r old new h p q w e =
+    let P : Result (List ℕ) ToolError → Type 0 = λ x. WritesFront old new x in
+    subst P (sym (outcome_is job t held bytes text p q h)) (on_err (WritesFront old new (Ok text)) r Write e w)

@@ -1,0 +1,10 @@
+use Rattle.std.proofs.Common.{refl, rules}
+use Rattle.rds_tool.specs.RowWriter.{IsPlain}
+use Rattle.rds_tool.proofs.RowText.{decimal_plain}
+use Rattle.rds_tool.proofs.listing.push_total.Goals as goal
+
+pub push_row-requires-clause-plain : goal.push_row-requires-clause-plain
+push_row-requires-clause-plain c =
+    let name : IsPlain c.as_bytes.result.now = rw c.as_bytes.ensures.value c.requires.plain in
+    let value : IsPlain c.as_bytes-value.result.now = rw (c.as_bytes-value.ensures.value, c.format.ensures.text) (decimal_plain c.args.value (search rules)) in
+    rw c.as_slice.ensures (refl, (name, (value, (refl, (refl, (refl, (refl, (refl, tt))))))))

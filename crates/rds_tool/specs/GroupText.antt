@@ -1,0 +1,61 @@
+-- Groups to be encoded: lines of digits in, packed blocks out. This project's rule.
+use Rattle.std.specs.Prelude.{◌*◌, ◌+◌, ◌++◌, ◌==◌, ◌^◌, ◌||◌, ◌∷◌, Bool, Err, List, Ok, Result, [], drop, if◌then◌else◌, not, slice_index, ℕ}
+use Rattle.std.specs.Int.{to_be_bytes, w128}
+use Rattle.std.specs.List.{filter, slice_split}
+use Rattle.hex.specs.Hex.{decode_sized, encode_lower}
+use Rattle.hex.specs.declared.error.FromHexError.{FromHexError}
+use Rattle.rds_code.specs.Encoding.{encoded_group}
+use Rattle.rds_tool.specs.Input.{and_then}
+use Rattle.rds_tool.specs.declared.error.ToolError.{ToolError}
+use Rattle.rds_tool.specs.declared.error.ToolError.TheVariants.{GroupText}
+
+-- ---- from digits to words
+
+-- space, tab and carriage return
+abbrev pub is_space : ℕ → Bool
+is_space b = (b == 32) || (b == 9) || (b == 13)
+
+-- the digits of each line; lines are parted by line feeds, and spaces don't count
+abbrev pub lines_of : List ℕ → List (List ℕ)
+lines_of text = slice_split (λ b. b == 10) (filter (λ b. not (is_space b)) text)
+
+-- the word of two bytes, the higher one first
+abbrev pub word_at : List ℕ → ℕ → ℕ
+word_at bytes i = 256 * slice_index bytes i + slice_index bytes (i + 1)
+
+abbrev pub words_or_refusal : Result (List ℕ) FromHexError → Result (List ℕ) ToolError
+words_or_refusal (Ok bytes) = Ok (word_at bytes 0 ∷ word_at bytes 2 ∷ word_at bytes 4 ∷ word_at bytes 6 ∷ [])
+words_or_refusal (Err e) = Err GroupText
+
+-- the four words of sixteen hexadecimal digits of either case
+abbrev pub words_of : List ℕ → Result (List ℕ) ToolError
+words_of digits = words_or_refusal (decode_sized digits 8)
+
+-- ---- from words to bytes
+
+-- the bits of four blocks, one block after the other, as a number of 104 bits
+abbrev pub joined : List ℕ → ℕ
+joined blocks = ((slice_index blocks 0 * 2 ^ 26 + slice_index blocks 1) * 2 ^ 26 + slice_index blocks 2) * 2 ^ 26 + slice_index blocks 3
+
+-- the 13 bytes of a group, the first bit highest
+abbrev pub group_bytes : List ℕ → List ℕ
+group_bytes words = drop 3 (to_be_bytes w128 (joined (encoded_group words)))
+
+-- a group as it is written: its bytes, or their digits in lower case on a line of their own
+abbrev pub group_text : Bool → List ℕ → List ℕ
+group_text hex words = if hex then encode_lower (group_bytes words) ++ 10 ∷ [] else group_bytes words
+
+-- ---- from lines to text
+
+-- what is written for a line: nothing where it is empty
+abbrev pub line_text : Bool → List ℕ → Result (List ℕ) ToolError
+line_text hex [] = Ok []
+line_text hex (digit ∷ digits) = and_then (words_of (digit ∷ digits)) (λ words. Ok (group_text hex words))
+
+-- what is written for lines, or the refusal of the first that is faulty
+abbrev pub lines_text : Bool → List (List ℕ) → Result (List ℕ) ToolError
+lines_text hex [] = Ok []
+lines_text hex (line ∷ lines) = and_then (line_text hex line) (λ first. and_then (lines_text hex lines) (λ others. Ok (first ++ others)))
+
+abbrev pub encoded_text : Bool → List ℕ → Result (List ℕ) ToolError
+encoded_text hex text = lines_text hex (lines_of text)

@@ -1,0 +1,178 @@
+#!/usr/bin/env bash
+# End-to-end tests of the program: tests/program.sh PATH-TO-RDS
+#
+# Each case runs the program on some input and compares its exit status, its standard output and its standard error.
+# The last line is 'N passed, M failed', and the exit status says whether all passed.
+
+set -u
+
+rds=${1:?"usage: tests/program.sh PATH-TO-RDS"}
+work=$(mktemp -d)
+trap 'rm -rf "$work"' EXIT
+passed=0
+failed=0
+
+# check NAME STATUS STDOUT STDERR INPUT WORDS..
+#
+# STDOUT and STDERR are the bytes that are wanted, in printf's notation; '*TEXT' wants TEXT somewhere in them.
+# INPUT is in printf's notation too.
+check() {
+    local name=$1 status=$2 out=$3 err=$4 input=$5
+    shift 5
+    printf "$input" >"$work/in"
+    "$rds" "$@" <"$work/in" >"$work/out" 2>"$work/err"
+    judge "$name" "$status" $? "$out" "$err"
+}
+
+# judge NAME WANTED-STATUS STATUS STDOUT STDERR: compares what a run left in the work folder
+judge() {
+    local name=$1
+    if [ "$2" = "$3" ] && matches "$4" "$work/out" && matches "$5" "$work/err"; then
+        passed=$((passed + 1))
+    else
+        failed=$((failed + 1))
+        printf 'FAILED: %s (status %s, wanted %s)\n' "$name" "$3" "$2"
+        sed 's/^/    out: /' "$work/out" | head -20
+        sed 's/^/    err: /' "$work/err" | head -20
+    fi
+}
+
+matches() {
+    case $1 in
+        '*'*) grep -qF -- "${1#\*}" "$2" ;;
+        *) printf "$1" | cmp -s - "$2" ;;
+    esac
+}
+
+# totals VALID BURST1 .. LOSSES: the twelve rows
+totals() {
+    local name
+    for name in valid burst1 burst2 burst3 burst4 burst5 lost bits groups complete acquired losses; do
+        printf 'total,%s,%s,-,-,-,-,-\\n' "$name" "$1"
+        shift
+    done
+}
+
+zero=00003f000019800005a00001b4
+zero_bytes='\x00\x00\x3f\x00\x00\x19\x80\x00\x05\xa0\x00\x01\xb4'
+rows='25,A\n51,B\n77,C\n96,B\n103,D\n'
+acquired='acquired,51,2,-,-,-,-,-\n'
+first="${acquired}group,26,0,A,none,B:0000,C:0000,D:0000\n"
+
+# ---- the command line
+
+check 'help of the program' 0 '*Usage: rds <COMMAND>' '' '' --help
+check 'help lists the refusals' 0 '*13 TooManyTurns' '' '' --help
+check 'the command help' 0 '*Commands:' '' '' help
+for command in scan list totals encode; do
+    check "help of $command" 0 "*Usage: rds $command" '' '' "$command" --help
+    check "help on $command" 0 '*--hex' '' '' help "$command"
+done
+check 'help names defaults' 0 '*[default: 10]' '' '' list --help
+check 'no command' 2 '' '*Usage: rds <COMMAND>' ''
+check 'no such command' 2 '' '*tune' '' tune
+check 'no such option' 2 '' "*unexpected argument '--speed'" '' list --speed 3
+check 'a stray word' 2 '' '*stray' '' scan stray
+check 'a flag twice' 2 '' '*--hex' '' scan --hex --hex
+check 'bits above 2^40' 2 '' '*1099511627777' '' scan --bits 1099511627777
+check 'bits that are no number' 2 '' '*--bits' '' scan --bits ten
+check 'a setting above 32 bits' 2 '' '*4294967296' '' list --burst 4294967296
+check 'rules for a scan' 2 '' '*--burst' '' scan --burst 2
+check 'bits for encode' 2 '' '*--bits' '' encode --bits 104
+check 'an argument that is no text' 2 '' 'error: an argument is no text\n' '' $'\xff'
+
+# ---- scan
+
+check 'scan of hexadecimal text' 0 "$rows" '' "$zero" scan --hex
+check 'scan of bytes' 0 "$rows" '' "$zero_bytes" scan
+check 'scan of upper case on lines' 0 "$rows" '' '00\n00\n3F\n00\n00\n19\n80\n00\n05\nA0\n00\n01\nB4\n' scan --hex
+check 'scan of two groups' 0 "${rows}123,B\n129,A\n155,B\n181,C\n200,B\n207,D\n" '' "$zero$zero" scan --hex
+check 'scan of 25 bits' 0 '' '' "$zero" scan --hex --bits 25
+check 'scan of nothing' 0 '' '' '' scan
+
+# ---- list and totals
+
+check 'list of nothing' 0 "$(totals 0 0 0 0 0 0 0 0 0 0 0 0)" '' '' list
+check 'list of 25 bits' 0 "$(totals 0 0 0 0 0 0 0 0 0 0 0 0)" '' "$zero" list --hex --bits 25
+check 'list of two blocks' 0 "${acquired}group,26,0,A,none,B:0000,none,none\n$(totals 1 0 0 0 0 0 0 0 1 0 1 0)" '' \
+    00003f00001980 list --hex --bits 52
+check 'list of three blocks' 0 "${acquired}group,26,0,A,none,B:0000,C:0000,none\n$(totals 2 0 0 0 0 0 0 0 1 0 1 0)" '' \
+    00003f000019800005a0 list --hex --bits 78
+check 'list of a group' 0 "$first$(totals 3 0 0 0 0 0 0 0 1 0 1 0)" '' "$zero" list --hex
+check 'list of a group but its last bit' 0 \
+    "${acquired}group,26,0,A,none,B:0000,C:0000,none\n$(totals 2 0 0 0 0 0 0 0 1 0 1 0)" '' "$zero" list --hex --bits 103
+check 'list of a corrected block' 0 \
+    "${acquired}group,26,0,A,none,B:0000,C:0000~0008000,none\n$(totals 1 1 0 0 0 0 0 1 1 0 1 0)" '' \
+    00003f000019800205a0 list --hex --bits 78
+check 'list of a burst of five' 0 \
+    "${acquired}group,26,0,A,none,B:0000,C:0000,D:0000~0000011\n$(totals 2 0 0 0 0 1 0 2 1 0 1 0)" '' \
+    00003f000019800005a00001a5 list --hex --burst 5
+check 'list of a burst above the limit' 0 \
+    "${acquired}group,26,0,A,none,B:0000,C:0000,lost\n$(totals 2 0 0 0 0 0 1 0 1 0 1 0)" '' \
+    00003f000019800005a00001a5 list --hex --burst 4
+check 'list of a block past correction' 0 \
+    "${acquired}group,26,0,A,none,B:0000,C:0000,lost\n$(totals 2 0 0 0 0 0 1 0 1 0 1 0)" '' \
+    00003f000019800005a0000195 list --hex --burst 5
+check 'list of a loss' 0 \
+    "${first}group,104,-,?,lost,none,none,none\nlost,129,-,-,-,-,-,-\nacquired,155,2,-,-,-,-,-\ngroup,130,0,A,none,B:0000,C:0000,D:0000\n$(totals 6 0 0 0 0 0 1 0 3 0 2 1)" '' \
+    "${zero}000037400019800005a00001b4" list --hex --loss 1
+check 'list of version B' 0 \
+    "${acquired}group,26,0,B,none,B:0800,Cx:0000,D:0000\n$(totals 3 0 0 0 0 0 0 0 1 0 1 0)" '' \
+    00003f02002c10000d400001b4 list --hex
+check 'list of a conflict' 0 \
+    "${acquired}group,26,0,A!,none,B:0800,C:0000,D:0000\n$(totals 3 0 0 0 0 0 0 0 1 0 1 0)" '' \
+    00003f02002c100005a00001b4 list --hex
+check 'list of two bursts that fit' 0 \
+    "${first}group,104,-,?,A:0000,lost,lost,D:0000\n$(totals 5 0 0 0 0 0 2 0 2 0 1 0)" '' \
+    "${zero}00003f00001b900005400001b4" list --hex --burst 3
+check 'list of one burst that fits' 0 \
+    "${first}group,104,-,B,A:0000,lost,Cx:0000~0000200,D:0000\n$(totals 5 1 0 0 0 0 1 1 2 0 1 0)" '' \
+    "${zero}00003f00001b900005400001b4" list --hex --burst 2
+check 'list of a block 4 that acquires' 0 \
+    "acquired,51,4,-,-,-,-,-\ngroup,26,-,?,none,none,none,D:0000\n$(totals 1 0 0 0 0 0 0 0 1 0 1 0)" '' \
+    00005a00001b40 list --hex --bits 52
+check 'list of a text group' 0 \
+    "${acquired}group,26,2,A,none,B:2540,C:5244,D:5320\n$(totals 3 0 0 0 0 0 0 0 1 0 1 0)" '' \
+    12341a89501ac52449594c83fb list --hex
+check 'totals alone' 0 "$(totals 2 0 0 0 0 1 0 2 1 0 1 0)" '' 00003f000019800005a00001a5 totals --hex --burst 5
+
+# ---- encode
+
+check 'encode to digits' 0 '12341a89501ac52449594c83fb\n' '' '1234 2540 5244 5320' encode --hex
+check 'encode of version B' 0 '00003f02002c10000d400001b4\n' '' '0000 0800 0000 0000\n' encode --hex
+check 'encode of two groups' 0 '12341a89501ac52449594c83fb\n00003f02002c10000d400001b4\n' '' \
+    '1234 2540 5244 5320\n\n   \n0000\t0800 0000 0000\r\n' encode --hex
+check 'encode to bytes' 0 '\x12\x34\x1a\x89\x50\x1a\xc5\x24\x49\x59\x4c\x83\xfb' '' '1234254052445320' encode
+check 'encode of nothing' 0 '' '' '' encode
+
+# ---- refusals
+
+check 'burst out of its range' 1 '' 'refused 1 BurstRange\n' '' list --burst 6
+check 'burst before reach' 1 '' 'refused 1 BurstRange\n' '' list --burst 6 --reach 0
+check 'reach out of its range' 1 '' 'refused 2 ReachRange\n' '' totals --reach 0
+check 'loss out of its range' 1 '' 'refused 3 LossRange\n' '' list --loss 65
+check 'more bits than the bytes hold' 1 '' 'refused 4 BitsPastBytes\n' '1234567' scan --bits 57
+check 'too many bits' 1 '' 'refused 5 TooLong\n' '' scan --bits 68719476737
+check 'an odd number of digits' 1 '' 'refused 11 HexText\n' '000' list --hex
+check 'a strange byte' 1 '' 'refused 11 HexText\n' '0g' scan --hex
+check 'fifteen digits' 1 '' 'refused 12 GroupText\n' '1234 2540 5244 532' encode
+check 'seventeen digits after a good line' 1 '' 'refused 12 GroupText\n' '1234254052445320\n12342540524453201\n' encode --hex
+check 'a strange byte in a line' 1 '' 'refused 12 GroupText\n' '1234 2540 5244 53-0' encode
+
+# ---- devices
+
+"$rds" scan --hex <&- >"$work/out" 2>"$work/err"
+judge 'closed input' 1 $? '' 'refused 9 Read\n'
+"$rds" list --loss 0 <&- >"$work/out" 2>"$work/err"
+judge 'settings before closed input' 1 $? '' 'refused 3 LossRange\n'
+printf '%s' "$zero" >"$work/in"
+: >"$work/out"
+"$rds" scan --hex <"$work/in" >&- 2>"$work/err"
+judge 'closed output' 1 $? '' 'refused 10 Write\n'
+if [ -c /dev/full ]; then
+    "$rds" scan --hex <"$work/in" >/dev/full 2>"$work/err"
+    judge 'full output' 1 $? '' 'refused 10 Write\n'
+fi
+
+printf '%d passed, %d failed\n' "$passed" "$failed"
+[ "$failed" -eq 0 ]
