@@ -12,9 +12,9 @@ toolchain:
 	@command -v $(RT) >/dev/null || { \
 	  echo "rds: the Rattle toolchain is missing: there is no '$(RT)' on the PATH (README.md, 'What you need')" >&2; exit 1; }
 
-# A build proves what is missing, runs the program's stored run and keeps the program.
+# `rt run` proves and builds what is missing, keeps the program, and runs it: here for its help alone.
 build/rds: $(SOURCES) | toolchain
-	cd crates/rds && $(RT) run
+	cd crates/rds && $(RT) run -- --help >/dev/null
 	@mkdir -p build
 	cp crates/rds/out/rds $@
 

@@ -22,7 +22,7 @@ has() { command -v "$1" >/dev/null || { echo "skipped: the recipe that needs $1"
 zero_group=00003f000019800005a00001b4
 station() { "$program" list < examples/station.bin; }
 
-same 'a first decode' 'acquired,51,2,-,-,-,-,-' "$(station | head -n 1)"
+same 'a first decode' 'acquired,51,2,-,-,-,-,-' "$(station | sed -n 1p)"
 same 'groups of the station recording' 1923 "$(station | grep -c '^group,')"
 same 'complete groups' 'total,complete,1922,-,-,-,-,-' "$(station | grep '^total,complete,')"
 same 'valid blocks' 'total,valid,7691,-,-,-,-,-' "$(station | grep '^total,valid,')"
@@ -39,7 +39,7 @@ if has perl && has xxd; then
 fi
 
 if has awk; then
-  same 'groups as lines of hexadecimal words' '---- 0548 E100 5041' "$(station | examples/hex_groups.sh | head -n 1)"
+  same 'groups as lines of hexadecimal words' '---- 0548 E100 5041' "$(station | examples/hex_groups.sh | sed -n 1p)"
   same 'as many lines as groups' 1923 "$(station | examples/hex_groups.sh | wc -l | tr -d ' ')"
 fi
 

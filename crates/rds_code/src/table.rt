@@ -33,7 +33,7 @@ impl BurstTable {
     ghost use Rattle.rds_code.specs.Remainder.{rem};
     ghost use Rattle.rds_code.specs.Bursts.{IsBurst};
 
-    /// The table, in 4,096 bytes of `alloc`. It is refused only where memory is.
+    /// The table, in one growth of 4,096 bytes. What it holds its type keeps; it is refused only where memory is.
     pub fn new(alloc: Global) -> Result<BurstTable, CodeError> {
         let mut patterns = no_bursts(alloc)?;
         enter_all(&mut patterns);

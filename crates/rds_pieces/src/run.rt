@@ -26,7 +26,9 @@ pub struct Mark {
     pub items: u64,
 }
 
-/// The run of a piece.
+/// The guess of a range of places, for the recording and the rules that it names: what a run from Searching at the range's first
+/// place gives, with its marks. Contracts see what it is a run of: the recording's bits, the rules' numbers and the range. It
+/// borrows nothing and holds nothing of the recording.
 #[derive(Drop)]
 pub struct PieceRun {
     source: Snapshot<Recording>,
@@ -56,14 +58,14 @@ impl PieceRun {
     pub fn from(&self) -> u64
         ensures { result ≡ self.now.from }
     {
-        self.from
+        self.range().0
     }
 
     /// The place after the piece's last.
     pub fn to(&self) -> u64
         ensures { result ≡ self.now.to }
     {
-        self.to
+        self.range().1
     }
 
     /// The range, with what bounds the reads over it.

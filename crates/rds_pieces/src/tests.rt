@@ -1,8 +1,10 @@
-ghost use Rattle.std.specs.Prelude.{◌≡◌, ℕ, List, ◌<◌, length, IfOk};
+ghost use Rattle.std.specs.Prelude.{◌<◌, length, IfOk};
 ghost use Rattle.rds_pieces.specs.Cutting.{IsCutting, pieces_of};
-ghost use Rattle.rds_pieces.specs.RunOf.{runs_of};
+ghost use Rattle.rds_pieces.specs.RunOf.{FollowEachOther};
 
-use crate::{Cutting, Mark, PieceError, PieceRun, RecordingWork, Seam, Work, seam, speculate, stitch};
+use crate::{
+    Cutting, Mark, PieceError, PieceRun, RecordingWork, Seam, Work, seam, speculate, stitch,
+};
 use rds_code::{Offset, Reading};
 use rds_stream::{Counted, Recording, StreamError, Tape};
 use rds_sync::{Block, Group, Item, Report, Rules, State, Totals, Version, decode_plain, run};
@@ -16,7 +18,9 @@ const ZERO_GROUP: [u8; 13] = [
 ];
 
 /// That many zero groups, one after the other.
-fn zero_groups(alloc: Global, groups: u64) -> Result<Recording, Fail> {
+fn zero_groups(alloc: Global, groups: u64) -> Result<Recording, Fail>
+    requires { groups < 1000 }
+{
     let mut bytes = Vec::new(alloc);
     for _ in 0..groups {
         bytes.extend_from_slice(&ZERO_GROUP)?;
@@ -36,18 +40,14 @@ fn cut_at(alloc: Global, rec: &Recording, inner: &[u64]) -> Result<Cutting, Fail
 }
 
 /// The guesses of all pieces, in order.
-fn guesses(
-    alloc: Global,
-    rec: &Recording,
-    rules: &Rules,
-    cutting: &Cutting,
-) -> Result<Vec<PieceRun>, PieceError>
-    requires { IsCutting (length rec.now) cutting.now }
-    ensures { IfOk result (λ v. v.items ≡ runs_of rec.now rules.now cutting.now) }
+fn guesses<W: Work>(alloc: Global, work: &W) -> Result<Vec<PieceRun>, PieceError>
+    requires { IsCutting (length (W.recording work.now)) (W.places work.now) }
+    ensures { IfOk result (λ v. FollowEachOther (W.recording work.now) (W.rule_set work.now) 0 (length (W.recording work.now)) v.items) }
 {
     let mut runs = Vec::new(alloc);
-    for j in 0..cutting.pieces() {
-        runs.push(speculate(alloc, rec, rules, cutting, j)?)?;
+    for j in 0..work.cutting().pieces() {
+        let run = work.guess(alloc, j)?;
+        runs.push(run)?;
     }
     Ok(runs)
 }
@@ -61,7 +61,7 @@ fn by_pieces(
 ) -> Result<(Report, u64), PieceError>
     requires { IsCutting (length rec.now) cutting.now }
 {
-    let runs = guesses(alloc, rec, rules, cutting)?;
+    let runs = guesses(alloc, &RecordingWork::new(rec, rules, cutting))?;
     let mut tape = Counted::new(rec);
     let report = stitch(alloc, &mut tape, rules, runs.as_slice())?;
     Ok((report, tape.reads()))
@@ -152,13 +152,11 @@ fn even_cuttings_have_pieces_of_one_length_but_the_last(rt: HostRuntime) -> Resu
 fn what_is_no_cutting_is_given_back(rt: HostRuntime) -> Result<(), Fail> {
     let rows: [&[u64]; 5] = [&[0, 5, 5, 10], &[5, 10], &[0, 5, 9], &[0, 5, 3, 10], &[]];
     for places in rows {
-        match Cutting::new(places.to_vec(rt.alloc())?, 10) {
-            Ok(_) => assert!(rt; false, "{places:?} is no cutting of 10 bits"),
-            Err((error, back)) => {
-                assert_eq!(rt; error, PieceError::BadCutting);
-                assert_eq!(rt; back.as_slice(), places);
-            }
-        }
+        let Err((error, back)) = Cutting::new(places.to_vec(rt.alloc())?, 10) else {
+            return Err("taken as a cutting")?;
+        };
+        assert_eq!(rt; error, PieceError::BadCutting);
+        assert_eq!(rt; back.as_slice(), places);
     }
     assert_eq!(rt; PieceError::BadCutting.number(), 6);
     assert_eq!(rt; PieceError::OutOfMemory.name(), "OutOfMemory");
@@ -170,7 +168,7 @@ fn marks_stand_at_the_first_place_and_after_items(rt: HostRuntime) -> Result<(),
     let rec = zero_groups(rt.alloc(), 2)?;
     let rules = Rules::new(rt.alloc(), 2, 3, 10)?;
     let cutting = cut_at(rt.alloc(), &rec, &[104])?;
-    let runs = guesses(rt.alloc(), &rec, &rules, &cutting)?;
+    let runs = guesses(rt.alloc(), &RecordingWork::new(&rec, &rules, &cutting))?;
     let locked = |due, number, first| State::Locked {
         due,
         number,
@@ -179,14 +177,38 @@ fn marks_stand_at_the_first_place_and_after_items(rt: HostRuntime) -> Result<(),
     };
     let marks: [[Mark; 3]; 2] = [
         [
-            Mark { place: 0, state: State::Searching, items: 0 },
-            Mark { place: 52, state: locked(77, 3, 2), items: 1 },
-            Mark { place: 104, state: locked(129, 1, 1), items: 2 },
+            Mark {
+                place: 0,
+                state: State::Searching,
+                items: 0,
+            },
+            Mark {
+                place: 52,
+                state: locked(77, 3, 2),
+                items: 1,
+            },
+            Mark {
+                place: 104,
+                state: locked(129, 1, 1),
+                items: 2,
+            },
         ],
         [
-            Mark { place: 104, state: State::Searching, items: 0 },
-            Mark { place: 130, state: locked(155, 2, 1), items: 1 },
-            Mark { place: 208, state: locked(233, 1, 1), items: 2 },
+            Mark {
+                place: 104,
+                state: State::Searching,
+                items: 0,
+            },
+            Mark {
+                place: 130,
+                state: locked(155, 2, 1),
+                items: 1,
+            },
+            Mark {
+                place: 208,
+                state: locked(233, 1, 1),
+                items: 2,
+            },
         ],
     ];
     assert_eq!(rt; runs.len(), 2);
@@ -194,7 +216,11 @@ fn marks_stand_at_the_first_place_and_after_items(rt: HostRuntime) -> Result<(),
         assert_eq!(rt; run.marks(), wanted.as_slice());
         assert_eq!(rt; run.items().len(), 2);
     }
-    assert_eq!(rt; runs[1].items()[0], Item::Acquired { place: 129, number: 1 });
+    let acquired = Item::Acquired {
+        place: 129,
+        number: 1,
+    };
+    assert_eq!(rt; runs[1].items().first(), Some(&acquired));
     assert_eq!(rt; (runs[1].from(), runs[1].to()), (104, 208));
     assert_eq!(rt; runs[1].end_state(), locked(233, 1, 1));
     Ok(())
@@ -256,7 +282,10 @@ fn a_guess_at_a_false_phase_is_never_met(rt: HostRuntime) -> Result<(), Fail> {
     assert!(rt; reads <= 6 * 643);
     let (report, reads) = by_pieces(rt.alloc(), &rec, &rules, &cutting)?;
     assert!(rt; reads <= 6 * 643 + 6 + 3);
-    assert_eq!(rt; report.items.as_slice(), items_of_zero_groups(rt.alloc(), 8)?.as_slice());
+    assert_eq!(rt;
+        report.items.as_slice(),
+        items_of_zero_groups(rt.alloc(), 8)?.as_slice()
+    );
     assert_eq!(rt; report.totals, totals_of_zero_groups(8));
     Ok(())
 }
@@ -272,7 +301,10 @@ fn a_guess_on_the_true_phase_is_met_after_its_first_group(rt: HostRuntime) -> Re
     assert!(rt; reads <= 5 * 19);
     let (report, reads) = by_pieces(rt.alloc(), &rec, &rules, &cutting)?;
     assert!(rt; reads <= 5 * 19 + 5 + 3);
-    assert_eq!(rt; report.items.as_slice(), items_of_zero_groups(rt.alloc(), 8)?.as_slice());
+    assert_eq!(rt;
+        report.items.as_slice(),
+        items_of_zero_groups(rt.alloc(), 8)?.as_slice()
+    );
     assert_eq!(rt; report.totals, totals_of_zero_groups(8));
     Ok(())
 }
@@ -293,10 +325,7 @@ fn silence_is_met_at_once_and_read_by_no_seam(rt: HostRuntime) -> Result<(), Fai
 fn by_work<W: Work + Sync>(alloc: Global, work: &W) -> Result<Report, PieceError>
     requires { IsCutting (length (W.recording work.now)) (W.places work.now) }
 {
-    let mut runs = Vec::new(alloc);
-    for j in 0..work.cutting().pieces() {
-        runs.push(work.guess(alloc, j)?)?;
-    }
+    let runs = guesses(alloc, work)?;
     work.report(alloc, runs.as_slice())
 }
 
@@ -306,7 +335,10 @@ fn a_work_over_a_recording_gives_its_report(rt: HostRuntime) -> Result<(), Fail>
     let rules = Rules::new(rt.alloc(), 2, 3, 10)?;
     let cutting = cut_at(rt.alloc(), &rec, &[1, 52, 104, 190])?;
     let report = by_work(rt.alloc(), &RecordingWork::new(&rec, &rules, &cutting))?;
-    assert_eq!(rt; report.items.as_slice(), items_of_zero_groups(rt.alloc(), 3)?.as_slice());
+    assert_eq!(rt;
+        report.items.as_slice(),
+        items_of_zero_groups(rt.alloc(), 3)?.as_slice()
+    );
     assert_eq!(rt; report.totals, totals_of_zero_groups(3));
     Ok(())
 }

@@ -56,20 +56,27 @@ below_all (suc (suc (suc (suc (suc x))))) from to = absurd (omega arith)
 
 is_earlier-below : (f x y : ℕ) → f ≤ x → is_earlier f x y + below f y ≡ below x y
 is_earlier-below f x y order = elim (cases_lt y f) [
-    inl early ↦ let later : y < x = omega arith in rw (lt-leb f y early, lt-ltb y f early, lt-ltb y x later) refl
+  | inl early ↦ let later : y < x = omega arith in rw (lt-leb f y early, lt-ltb y f early, lt-ltb y x later) refl
   | inr late ↦ elim (cases_lt y x) [
-      inl before ↦ rw (le-leb f y late, le-ltb y f late, lt-ltb y x before) refl
+    | inl before ↦ rw (le-leb f y late, le-ltb y f late, lt-ltb y x before) refl
     | inr past ↦ rw (le-leb f y late, le-ltb y f late, le-ltb y x past) refl
-    ]
   ]
+]
 
 -- the blocks before the last, counted one by one
 pub blocks_before : (f x : ℕ) → 1 ≤ f → f ≤ x → x ≤ 4
     → is_earlier f x 1 + is_earlier f x 2 + is_earlier f x 3 + is_earlier f x 4 ≡ x - f
 blocks_before f x from order to =
     let all : is_earlier f x 1 + is_earlier f x 2 + is_earlier f x 3 + is_earlier f x 4 + (f - 1) ≡ x - 1 =
-      omega (arith, is_earlier-below f x 1 order, is_earlier-below f x 2 order, is_earlier-below f x 3 order, is_earlier-below f x 4 order,
-        below_all f from (omega arith), below_all x (omega arith) to) in
+    omega (
+      arith,
+      is_earlier-below f x 1 order,
+      is_earlier-below f x 2 order,
+      is_earlier-below f x 3 order,
+      is_earlier-below f x 4 order,
+      below_all f from (omega arith),
+      below_all x (omega arith) to,
+    ) in
     omega arith
 
 -- the blocks of a group, read one by one
@@ -79,7 +86,7 @@ pub blocks_at-read : (b : List ℕ) (rules : RuleNumbers) (f x p : ℕ) (one two
     → one ∷ two ∷ three ∷ four ∷ [] ≡ blocks_at b rules f x p
 blocks_at-read b rules f x p one two three four is_one is_two is_three is_four =
     let third : three ≡ block_at b rules f x p (wanted_beside (block_at b rules f x p Either 2)) 3 =
-      is_three ∙ ap (λ (second : Block). block_at b rules f x p (wanted_beside second) 3) is_two in
+    is_three ∙ ap (λ (second : Block). block_at b rules f x p (wanted_beside second) 3) is_two in
     ap₂ (λ (first_read second_read : Block). first_read ∷ second_read ∷ three ∷ four ∷ []) is_one is_two
     ∙ ap₂ (λ (third_read last_read : Block). block_at b rules f x p Either 1 ∷ block_at b rules f x p Either 2 ∷ third_read ∷ last_read ∷ []) third is_four
 
@@ -140,7 +147,7 @@ blocks_at-next b rules f (suc (suc (suc zero))) p wanted block low from high is 
     let two = block_at-earlier b rules f 3 p Either 2 (omega arith) in
     let own : wanted ≡ wanted_beside (block_at b rules f 3 p Either 2) = third refl ∙ ap (λ (second : Block). wanted_beside second) two in
     let three = is ∙ ap (λ (w : Wanted). Read (reading (window b p) 3 w rules.burst)) own
-      ∙ block_at-last b rules f 3 p (wanted_beside (block_at b rules f 3 p Either 2)) from in
+    ∙ block_at-last b rules f 3 p (wanted_beside (block_at b rules f 3 p Either 2)) from in
     let four = block_at-later_both b rules f 3 p Either Either 4 (omega arith) in
     cc
 blocks_at-next b rules f (suc (suc (suc (suc zero)))) p wanted block low from high is other third =
@@ -148,7 +155,7 @@ blocks_at-next b rules f (suc (suc (suc (suc zero)))) p wanted block low from hi
     let one = block_at-earlier b rules f 4 p Either 1 (omega arith) in
     let two = block_at-earlier b rules f 4 p Either 2 (omega arith) in
     let three = block_at-earlier b rules f 4 p (wanted_beside (block_at b rules f 3 (p - 26) Either 2)) 3 (omega arith)
-      ∙ ap (λ (second : Block). block_at b rules f 4 p (wanted_beside second) 3) two in
+    ∙ ap (λ (second : Block). block_at b rules f 4 p (wanted_beside second) 3) two in
     let four = is ∙ ap (λ (w : Wanted). Read (reading (window b p) 4 w rules.burst)) own ∙ block_at-last b rules f 4 p Either from in
     cc
 blocks_at-next b rules f (suc (suc (suc (suc (suc x))))) p wanted block low from high is other third = absurd (omega arith)
@@ -164,6 +171,7 @@ valid-reading w x wanted limit = at_case (offset_of (rem w)) where
   own : (o : Offset) (t : Bool) → is_valid (Read (elim t as (λ _. Reading) [ true ↦ Valid o (information w) | false ↦ corrected w x wanted limit ])) ≡ t
   own o true = refl
   own o false = valid-by_only w (corrections (wanted_offsets x wanted) limit w)
+
   at_case : (o : Option Offset) → is_valid (Read (read_from w x wanted limit o)) ≡ elim o as (λ _. Bool) [ None ↦ false | Some p ↦ eqb (number p) x ]
   at_case None = valid-by_only w (corrections (wanted_offsets x wanted) limit w)
   at_case (Some o) = own o (eqb (number o) x)
@@ -295,7 +303,7 @@ pub lawful-due : (b : List ℕ) (rules : RuleNumbers) (place due number bad firs
     → IsLawful rules (due + 1) (step b rules due (Locked due number bad first))
 lawful-due b rules place due number bad first loss lawful =
     lawful-step b rules loss due (Locked due number bad first)
-      (lawful-waiting rules place due due number bad first lawful lawful.soon.0 (omega arith))
+    (lawful-waiting rules place due due number bad first lawful lawful.soon.0 (omega arith))
 
 -- a run over a range and its next, each as a state and items
 pub run-further : (b : List ℕ) (rules : RuleNumbers) (s now t : State) (items found : List Item) (from place after : ℕ)
@@ -311,9 +319,9 @@ run-further b rules s now t items found from place after low high so_far state_i
 pub reads_most-few : (rules : RuleNumbers) (s : State) (to : ℕ) → rules.reach ≤ 8 → reads_most rules s to ≤ 9
 reads_most-few rules Searching to near = omega arith
 reads_most-few rules (Locked due number bad first) to near = elim (cases_lt due to) [
-    inl early ↦ rw (lt-ltb due to early, reads_most) (omega arith)
+  | inl early ↦ rw (lt-ltb due to early, reads_most) (omega arith)
   | inr late ↦ rw (le-ltb due to late, reads_most) (omega arith)
-  ]
+]
 
 -- a bit gives at most two items
 items_at-few : (b : List ℕ) (rules : RuleNumbers) (i : ℕ) (s : State) → length (items_at b rules i s) ≤ 2
@@ -321,33 +329,37 @@ items_at-few b rules i Searching = at_case (acquired b rules i) refl where
   at_case : (w : Option ℕ) → acquired b rules i ≡ w → length (items_at b rules i Searching) ≤ 2
   at_case None e = rw (items-searching b rules i e) (omega arith)
   at_case (Some x) e = rw (items-acquiring b rules i x e) (elim (cases_eq x 4) [
-      inl four ↦ rw (eq-eqb x 4 four, group_after) (omega arith)
+    | inl four ↦ rw (eq-eqb x 4 four, group_after) (omega arith)
     | inr fewer ↦ rw (ne_eqb x 4 fewer, group_after) (omega arith)
-    ])
+  ])
 items_at-few b rules i (Locked due x bad f) = elim (cases_eq due i) [
-    inl same ↦ rw same (elim (cases_lt (bad_after b i x bad) rules.loss) [
-      inl few ↦ rw (items-keeping b rules i x bad f few) (elim (cases_eq x 4) [
-          inl four ↦ rw (eq-eqb x 4 four, group_after) (omega arith)
-        | inr fewer ↦ rw (ne_eqb x 4 fewer, group_after) (omega arith)
-        ])
-    | inr many ↦ rw (items-losing b rules i x bad f many) (omega arith)
+  | inl same ↦ rw same (elim (cases_lt (bad_after b i x bad) rules.loss) [
+    | inl few ↦ rw (items-keeping b rules i x bad f few) (elim (cases_eq x 4) [
+      | inl four ↦ rw (eq-eqb x 4 four, group_after) (omega arith)
+      | inr fewer ↦ rw (ne_eqb x 4 fewer, group_after) (omega arith)
     ])
+    | inr many ↦ rw (items-losing b rules i x bad f many) (omega arith)
+  ])
   | inr other ↦ rw (items-waiting b rules due x bad f i other) (omega arith)
-  ]
+]
 
 -- so a run gives at most two a bit
 pub run_items-few : (b : List ℕ) (rules : RuleNumbers) (s : State) (a n : ℕ) → length (run b rules s a n).1 ≤ 2 * n
 run_items-few b rules s a zero = omega arith
 run_items-few b rules s a (suc n) =
-    omega (arith, items_at-few b rules a s, run_items-few b rules (step b rules a s) (a + 1) n,
-      length-append (items_at b rules a s) (run b rules (step b rules a s) (a + 1) n).1)
+    omega (
+      arith,
+      items_at-few b rules a s,
+      run_items-few b rules (step b rules a s) (a + 1) n,
+      length-append (items_at b rules a s) (run b rules (step b rules a s) (a + 1) n).1,
+    )
 
 items_of_end-few : (b : List ℕ) (rules : RuleNumbers) (s : State) → length (items_of_end b rules s) ≤ 1
 items_of_end-few b rules Searching = omega arith
 items_of_end-few b rules (Locked due x bad f) = elim (cases_eq x 1) [
-    inl one ↦ rw (eq-eqb x 1 one, items_of_end) (omega arith)
+  | inl one ↦ rw (eq-eqb x 1 one, items_of_end) (omega arith)
   | inr more ↦ rw (ne_eqb x 1 more, items_of_end) (omega arith)
-  ]
+]
 
 -- the items of a run over a whole recording, with those of its end
 pub report-run : (b : List ℕ) (rules : RuleNumbers) (n : ℕ) (s : State) (items : List Item) → 1 ≤ rules.loss → n ≡ length b
@@ -362,8 +374,14 @@ report-run b rules n s items loss whole state_is items_are =
 pub report-few : (b : List ℕ) (rules : RuleNumbers) (n : ℕ) (s : State) (items ended : List Item)
     → items ≡ (run b rules Searching 0 (n - 0)).1 → ended ≡ items_of_end b rules s → length (items ++ ended) ≤ 2 * n + 1
 report-few b rules n s items ended items_are end_is =
-    omega (arith, length-append items ended, ap (λ (is : List Item). length is) items_are, ap (λ (is : List Item). length is) end_is,
-      run_items-few b rules Searching 0 (n - 0), items_of_end-few b rules s)
+    omega (
+      arith,
+      length-append items ended,
+      ap (λ (is : List Item). length is) items_are,
+      ap (λ (is : List Item). length is) end_is,
+      run_items-few b rules Searching 0 (n - 0),
+      items_of_end-few b rules s,
+    )
 
 -- the same, at a place
 pub good-reading : (b : List ℕ) (i x w : ℕ) (wanted : Wanted) (limit : ℕ) (read : Reading) → 25 ≤ i → w ≡ window b i → read ≡ reading w x wanted limit
@@ -390,7 +408,7 @@ pub acquired-offset : (b later : List ℕ) (rules : RuleNumbers) (i n : ℕ) (o 
     → elim found as (λ _. Option ℕ) [ true ↦ Some n | false ↦ None ] ≡ acquired b rules i
 acquired-offset b later rules i n o found here is_number same is_found =
     ap₂ (λ (t : Bool) (x : ℕ). elim t as (λ _. Option ℕ) [ true ↦ Some x | false ↦ None ])
-      (is_found ∙ ap₂ (λ (bits : List ℕ) (x : ℕ). list_any (has_partner bits i x) (range_with_len 1 rules.reach)) same is_number) is_number
+    (is_found ∙ ap₂ (λ (bits : List ℕ) (x : ℕ). list_any (has_partner bits i x) (range_with_len 1 rules.reach)) same is_number) is_number
     ∙ sym (acquired-some b rules i o here)
 
 -- a search up to and including one place
@@ -401,8 +419,8 @@ run-found b rules place here order none =
     let at : place + (here - place) ≡ here = omega arith in
     let later : (j : ℕ) → place ≤ j → j < place + (here - place) → acquired b rules j ≡ None = λ j low high. none j low (omega arith) in
     rw bits (run-append b rules Searching place (here - place) 1
-      ∙ ap₂ (λ (r : State × List Item) (p : ℕ). ((run b rules r.0 p 1).0, r.1 ++ (run b rules r.0 p 1).1)) (run-searching b rules place (here - place) later) at
-      ∙ run-one b rules Searching here)
+    ∙ ap₂ (λ (r : State × List Item) (p : ℕ). ((run b rules r.0 p 1).0, r.1 ++ (run b rules r.0 p 1).1)) (run-searching b rules place (here - place) later) at
+    ∙ run-one b rules Searching here)
 
 -- a search of all places of a range
 pub run-unfound : (b : List ℕ) (rules : RuleNumbers) (place to : ℕ) → place ≤ to → ((j : ℕ) → place ≤ j → j < to → acquired b rules j ≡ None)

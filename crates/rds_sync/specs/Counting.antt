@@ -9,8 +9,8 @@ abbrev pub plus : Totals → Totals → Totals
 plus t u = record {
   valid = t.valid + u.valid;
   bursts = (slice_index t.bursts 0 + slice_index u.bursts 0) ∷ (slice_index t.bursts 1 + slice_index u.bursts 1)
-    ∷ (slice_index t.bursts 2 + slice_index u.bursts 2) ∷ (slice_index t.bursts 3 + slice_index u.bursts 3)
-    ∷ (slice_index t.bursts 4 + slice_index u.bursts 4) ∷ [];
+      ∷ (slice_index t.bursts 2 + slice_index u.bursts 2) ∷ (slice_index t.bursts 3 + slice_index u.bursts 3)
+      ∷ (slice_index t.bursts 4 + slice_index u.bursts 4) ∷ [];
   lost = t.lost + u.lost;
   bits = t.bits + u.bits;
   groups = t.groups + u.groups;
@@ -24,8 +24,8 @@ abbrev pub block_totals : Block → Totals
 block_totals block = record {
   valid = if is_valid block then 1 else 0;
   bursts = (if is_corrected_by 1 block then 1 else 0) ∷ (if is_corrected_by 2 block then 1 else 0)
-    ∷ (if is_corrected_by 3 block then 1 else 0) ∷ (if is_corrected_by 4 block then 1 else 0)
-    ∷ (if is_corrected_by 5 block then 1 else 0) ∷ [];
+      ∷ (if is_corrected_by 3 block then 1 else 0) ∷ (if is_corrected_by 4 block then 1 else 0)
+      ∷ (if is_corrected_by 5 block then 1 else 0) ∷ [];
   lost = if is_lost block then 1 else 0;
   bits = bits_corrected block;
   groups = 0;

@@ -9,11 +9,10 @@ ghost use Rattle.rds_sync.specs.Reads.{is_numbered};
 ghost use Rattle.rds_sync.specs.Locks.{blocks_at};
 ghost use Rattle.rds_sync.specs.Spans.{IsSpan};
 
-use rds_code::{Offset, Reading, Wanted, offset_of, rem26};
-use rds_stream::Tape;
-
 use crate::item::{Block, Group, Version};
 use crate::rules::Rules;
+use rds_code::{Offset, Reading, Wanted, offset_of, rem26};
+use rds_stream::Tape;
 
 /// Whether a window is valid, with an offset of this number.
 pub(crate) fn is_numbered(window: u32, number: u8) -> bool

@@ -12,14 +12,13 @@ ghost use Rattle.rds_sync.specs.Totals.{is_valid};
 ghost use Rattle.rds_sync.specs.declared.item.Block.TheVariants.{Read};
 ghost use Rattle.rds_sync.specs.declared.state.State.TheVariants.{Locked};
 
-use rds_code::{Reading, Wanted};
-use rds_stream::{Counted, Recording};
-
 use crate::error::SyncError;
 use crate::group::{Span, bad_with, read_blocks};
 use crate::item::{Block, Group, Item};
 use crate::rules::Rules;
 use crate::state::State;
+use rds_code::{Reading, Wanted};
+use rds_stream::{Counted, Recording};
 
 /// The blocks of a group of which none was read.
 const NO_BLOCKS: [Block; 4] = [Block::Missing; 4];

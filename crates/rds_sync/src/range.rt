@@ -10,10 +10,6 @@ ghost use Rattle.rds_sync.specs.Acquiring.{acquired};
 ghost use Rattle.rds_sync.specs.Step.{run, items_at};
 ghost use Rattle.rds_sync.specs.declared.state.State.TheVariants.{Searching, Locked};
 
-use rds_code::Offset;
-use rds_stream::{Counted, Recording, Sweep};
-use std::alloc::Global;
-
 use crate::error::SyncError;
 use crate::group::Span;
 use crate::item::Item;
@@ -21,6 +17,9 @@ use crate::lock::{Lock, blocks_before, follow};
 use crate::rules::Rules;
 use crate::state::State;
 use crate::step::{closed_group, has_partner};
+use rds_code::Offset;
+use rds_stream::{Counted, Recording, Sweep};
+use std::alloc::Global;
 
 /// The run from `state` over the bits at `from` to `to` - 1: the state after them, and what they
 /// gave, in order. Windows may begin before `from`.
@@ -196,7 +195,7 @@ fn keep_lock(
     requires within { to ≤ length rec.now }
     ensures reached { IfOk result (λ reached.
         Reaches rec.now rules.now (Locked lock.due lock.number lock.bad lock.first) place to
-            items.old.items reached items.new.items) }
+        items.old.items reached items.new.items) }
     ensures only_memory { IsOkUnless result SyncError.OutOfMemory }
 {
     let mut blocks = blocks_before(rec, rules, lock);

@@ -5,9 +5,6 @@ ghost use Rattle.rds_sync.specs.Advance.{group_item};
 ghost use Rattle.rds_sync.specs.Report.{report_items};
 ghost use Rattle.rds_sync.specs.Totals.{totals_of};
 
-use rds_stream::{Counted, Recording};
-use std::alloc::Global;
-
 use crate::error::SyncError;
 use crate::item::{Group, Item};
 use crate::range::run;
@@ -15,6 +12,8 @@ use crate::rules::Rules;
 use crate::state::State;
 use crate::step::finish;
 use crate::totals::Totals;
+use rds_stream::{Counted, Recording};
+use std::alloc::Global;
 
 /// What was found in a recording: its items, in order of place, and their totals.
 #[derive(Debug, Drop)]

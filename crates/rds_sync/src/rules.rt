@@ -4,11 +4,10 @@ ghost use Rattle.std.specs.Prelude.{◌≡◌, ◌<◌, ◌≤◌, ◌⊎◌, �
 ghost use Rattle.rds_code.specs.Reading.{reading};
 ghost use Rattle.rds_sync.specs.Ranges.{IsInRange};
 
+use crate::error::SyncError;
 use rds_code::{BurstTable, Reading, Wanted, read_block};
 use std::alloc::Global;
 use std::marker::Model;
-
-use crate::error::SyncError;
 
 /// The three numbers of a synchroniser, with the table of bursts that its corrections are looked
 /// up in. Building one takes memory; using it takes none.

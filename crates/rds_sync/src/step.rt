@@ -9,13 +9,12 @@ ghost use Rattle.rds_sync.specs.Lawful.{IsLawful, IsLawfulLock};
 ghost use Rattle.rds_sync.specs.Spans.{IsSpan};
 ghost use Rattle.rds_sync.specs.Step.{step, items_at, run, items_of_end, locked_after, group_after};
 
-use rds_code::{Offset, offset_of, rem26};
-use rds_stream::Tape;
-
 use crate::group::{Span, bad_with, is_numbered, read_group};
 use crate::item::{Group, Item};
 use crate::rules::Rules;
 use crate::state::State;
+use rds_code::{Offset, offset_of, rem26};
+use rds_stream::Tape;
 
 /// Where a run is after a step, and what the step found.
 #[derive(Clone, Copy, Debug, PartialEq, Eq)]
@@ -81,7 +80,10 @@ pub fn finish<T: Tape>(tape: &mut T, rules: &Rules, state: State) -> Option<Grou
 {
     match state {
         State::Locked {
-            due, number, first, ..
+            due,
+            number,
+            first,
+            ..
         } if number != 1 => {
             let place = due - 26;
             let window = tape.window(place);
@@ -125,21 +127,17 @@ fn search<T: Tape>(tape: &mut T, rules: &Rules, place: u64) -> Step
             Step {
                 place: place + 1,
                 state: State::after_block(place, number, 0, number),
-                items: [Some(Item::Acquired { place, number }), closed_group(tape, rules, span)],
+                items: [
+                    Some(Item::Acquired { place, number }),
+                    closed_group(tape, rules, span),
+                ],
             }
         }
     }
 }
 
 /// The block that is due, while locked.
-fn read_due<T: Tape>(
-    tape: &mut T,
-    rules: &Rules,
-    due: u64,
-    number: u8,
-    bad: u8,
-    first: u8,
-) -> Step
+fn read_due<T: Tape>(tape: &mut T, rules: &Rules, due: u64, number: u8, bad: u8, first: u8) -> Step
     requires numbers { (1 ≤ first) × (first ≤ number) × (number ≤ 4) }
     requires few_bad { bad < rules.now.loss }
     requires start { 26 * (number - first) + 25 ≤ due }
@@ -175,7 +173,10 @@ fn read_due<T: Tape>(
         Step {
             place: due + 1,
             state: State::Searching,
-            items: [Some(Item::Group(group)), Some(Item::LostLock { place: due })],
+            items: [
+                Some(Item::Group(group)),
+                Some(Item::LostLock { place: due }),
+            ],
         }
     }
 }

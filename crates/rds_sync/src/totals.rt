@@ -2,9 +2,8 @@
 
 ghost use Rattle.std.specs.Prelude.{◌≡◌, ◌≤◌, ◌<◌, ◌^◌, [], ◌∷◌, length};
 
-use rds_code::Reading;
-
 use crate::item::{Block, Group, Item};
+use rds_code::Reading;
 
 /// Twelve counts over a list of items. Blocks that are missing are not counted.
 #[derive(Clone, Copy, Debug, PartialEq, Eq)]

@@ -18,22 +18,28 @@ all_read b after_one after_two after_three rules f x p one two three four wanted
     let two_same : after_two ≡ b = same_two ∙ same_one in
     let three_same : after_three ≡ b = same_three ∙ two_same in
     blocks_at-read b rules f x p one two three four is_one
-      (is_two ∙ ap (λ (bits : List ℕ). block_at bits rules f x p Either 2) same_one)
-      (is_three ∙ ap (λ (bits : List ℕ). block_at bits rules f x p wanted 3) two_same ∙ ap (λ (w : Wanted). block_at b rules f x p w 3) wanted_is)
-      (is_four ∙ ap (λ (bits : List ℕ). block_at bits rules f x p Either 4) three_same)
+    (is_two ∙ ap (λ (bits : List ℕ). block_at bits rules f x p Either 2) same_one)
+    (is_three ∙ ap (λ (bits : List ℕ). block_at bits rules f x p wanted 3) two_same ∙ ap (λ (w : Wanted). block_at b rules f x p w 3) wanted_is)
+    (is_four ∙ ap (λ (bits : List ℕ). block_at bits rules f x p Either 4) three_same)
 
 pub returns-clause-value : goal.returns-clause-value
 returns-clause-value g c =
     let bits = g.T.Tape.bits in
     let s = c.args.span in
     all_read (bits c.args.tape.now) (bits c.read_at-one.new.tape) (bits c.read_at-two.new.tape) (bits c.read_at-three.new.tape)
-      c.args.rules.now s.first s.last s.place c.read_at-one.result c.read_at-two.result c.read_at-three.result c.read_at-four.result c.wanted_beside.result
-      c.read_at-one.ensures.same c.read_at-two.ensures.same c.read_at-three.ensures.same c.wanted_beside.ensures
-      c.read_at-one.ensures.value c.read_at-two.ensures.value c.read_at-three.ensures.value c.read_at-four.ensures.value
+    c.args.rules.now s.first s.last s.place c.read_at-one.result c.read_at-two.result c.read_at-three.result c.read_at-four.result c.wanted_beside.result
+    c.read_at-one.ensures.same c.read_at-two.ensures.same c.read_at-three.ensures.same c.wanted_beside.ensures
+    c.read_at-one.ensures.value c.read_at-two.ensures.value c.read_at-three.ensures.value c.read_at-four.ensures.value
 
 pub returns-clause-reads : goal.returns-clause-reads
 returns-clause-reads g c =
     let s = c.args.span in
     let r = c.requires.span in
-    omega (arith, blocks_before s.first s.last r.first r.in_order r.last, c.read_at-one.ensures.reads, c.read_at-two.ensures.reads,
-      c.read_at-three.ensures.reads, c.read_at-four.ensures.reads)
+    omega (
+      arith,
+      blocks_before s.first s.last r.first r.in_order r.last,
+      c.read_at-one.ensures.reads,
+      c.read_at-two.ensures.reads,
+      c.read_at-three.ensures.reads,
+      c.read_at-four.ensures.reads,
+    )

@@ -10,6 +10,6 @@ returns-clause-value g c =
     let place : s.place - 26 * c.from.result - 25 ≡ s.place - 26 * (s.last - s.first) - 25 = omega (arith, c.from.ensures) in
     c.of_blocks.ensures
     ∙ ap (λ (p : ℕ). group_of p (get_or blocks 0 c.index-read_blocks-0.result) (get_or blocks 1 c.index-read_blocks-1.result)
-        (get_or blocks 2 c.index-read_blocks-2.result) (get_or blocks 3 c.index-read_blocks-3.result)) place
+    (get_or blocks 2 c.index-read_blocks-2.result) (get_or blocks 3 c.index-read_blocks-3.result)) place
     ∙ group-blocks (g.T.Tape.bits c.args.tape.now) c.args.rules.now s.first s.last s.place blocks c.index-read_blocks-0.result c.index-read_blocks-1.result
-      c.index-read_blocks-2.result c.index-read_blocks-3.result c.read_blocks.ensures.value
+    c.index-read_blocks-2.result c.index-read_blocks-3.result c.read_blocks.ensures.value

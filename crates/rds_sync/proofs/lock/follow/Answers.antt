@@ -25,8 +25,8 @@ returns-then-from-loss-clause-state c =
     let b = c.args.rec.now in
     let l = c.args.lock in
     sym (step-lost b c.args.rules.now l.due l.number l.bad l.first c.bad_with-bad.result
-      (bad_after-valid b l.due l.number l.bad c.bad_with-bad.result c.read_due-valid.result c.read_due-valid.ensures.valid c.bad_with-bad.ensures)
-      (omega (arith, c.if-from-loss.true, c.from.ensures, c.loss-loss.ensures.value)))
+    (bad_after-valid b l.due l.number l.bad c.bad_with-bad.result c.read_due-valid.result c.read_due-valid.ensures.valid c.bad_with-bad.ensures)
+    (omega (arith, c.if-from-loss.true, c.from.ensures, c.loss-loss.ensures.value)))
 
 pub returns-then-from-loss-clause-items : goal.returns-then-from-loss-clause-items
 returns-then-from-loss-clause-items c =
@@ -34,21 +34,21 @@ returns-then-from-loss-clause-items c =
     let rules = c.args.rules.now in
     let l = c.args.lock in
     with_loss c.args.items.now.items c.push.new.self.items c.push-then-from-loss.new.self.items
-      (items_at b rules l.due (Locked l.due l.number l.bad l.first)) c.closed.result (group b rules l.first l.number l.due) l.due
-      (c.in_ok-push.ensures.items) (c.in_ok-push-2.ensures.items)
-      (closed-group b rules l.first l.number l.due c.closed.result (λ one two three four e. c.closed.ensures one two three four (c.read_due-valid.ensures.blocks ∙ e)))
-      (items-lost b rules l.due l.number l.bad l.first c.bad_with-bad.result
-        (bad_after-valid b l.due l.number l.bad c.bad_with-bad.result c.read_due-valid.result c.read_due-valid.ensures.valid c.bad_with-bad.ensures)
-        (omega (arith, c.if-from-loss.true, c.from.ensures, c.loss-loss.ensures.value)))
+    (items_at b rules l.due (Locked l.due l.number l.bad l.first)) c.closed.result (group b rules l.first l.number l.due) l.due
+    (c.in_ok-push.ensures.items) (c.in_ok-push-2.ensures.items)
+    (closed-group b rules l.first l.number l.due c.closed.result (λ one two three four e. c.closed.ensures one two three four (c.read_due-valid.ensures.blocks ∙ e)))
+    (items-lost b rules l.due l.number l.bad l.first c.bad_with-bad.result
+    (bad_after-valid b l.due l.number l.bad c.bad_with-bad.result c.read_due-valid.result c.read_due-valid.ensures.valid c.bad_with-bad.ensures)
+    (omega (arith, c.if-from-loss.true, c.from.ensures, c.loss-loss.ensures.value)))
 
 pub returns-then-lock-lt4-clause-state : goal.returns-then-lock-lt4-clause-state
 returns-then-lock-lt4-clause-state c =
     let b = c.args.rec.now in
     let l = c.args.lock in
     sym (step-kept b c.args.rules.now l.due l.number l.bad l.first c.bad_with-bad.result
-        (bad_after-valid b l.due l.number l.bad c.bad_with-bad.result c.read_due-valid.result c.read_due-valid.ensures.valid c.bad_with-bad.ensures)
-        (omega (arith, c.if-from-loss.false, c.from.ensures, c.loss-loss.ensures.value))
-      ∙ locked_after-inside l.due l.number c.bad_with-bad.result l.first c.if-lock-lt4.true)
+    (bad_after-valid b l.due l.number l.bad c.bad_with-bad.result c.read_due-valid.result c.read_due-valid.ensures.valid c.bad_with-bad.ensures)
+    (omega (arith, c.if-from-loss.false, c.from.ensures, c.loss-loss.ensures.value))
+    ∙ locked_after-inside l.due l.number c.bad_with-bad.result l.first c.if-lock-lt4.true)
 
 pub returns-then-lock-lt4-clause-items : goal.returns-then-lock-lt4-clause-items
 returns-then-lock-lt4-clause-items c =
@@ -56,11 +56,11 @@ returns-then-lock-lt4-clause-items c =
     let rules = c.args.rules.now in
     let l = c.args.lock in
     sym (ap (λ (is : List Item). c.args.items.now.items ++ is)
-        (items-kept b rules l.due l.number l.bad l.first c.bad_with-bad.result
-          (bad_after-valid b l.due l.number l.bad c.bad_with-bad.result c.read_due-valid.result c.read_due-valid.ensures.valid c.bad_with-bad.ensures)
-          (omega (arith, c.if-from-loss.false, c.from.ensures, c.loss-loss.ensures.value))
-        ∙ group_after-inside b rules l.first l.number l.due c.if-lock-lt4.true)
-      ∙ append-nil c.args.items.now.items)
+    (items-kept b rules l.due l.number l.bad l.first c.bad_with-bad.result
+    (bad_after-valid b l.due l.number l.bad c.bad_with-bad.result c.read_due-valid.result c.read_due-valid.ensures.valid c.bad_with-bad.ensures)
+    (omega (arith, c.if-from-loss.false, c.from.ensures, c.loss-loss.ensures.value))
+    ∙ group_after-inside b rules l.first l.number l.due c.if-lock-lt4.true)
+    ∙ append-nil c.args.items.now.items)
 
 pub returns-then-lock-lt4-clause-in_progress : goal.returns-then-lock-lt4-clause-in_progress
 returns-then-lock-lt4-clause-in_progress c =
@@ -76,9 +76,9 @@ returns-clause-state c =
     let b = c.args.rec.now in
     let l = c.args.lock in
     sym (step-kept b c.args.rules.now l.due l.number l.bad l.first c.bad_with-bad.result
-        (bad_after-valid b l.due l.number l.bad c.bad_with-bad.result c.read_due-valid.result c.read_due-valid.ensures.valid c.bad_with-bad.ensures)
-        (omega (arith, c.if-from-loss.false, c.from.ensures, c.loss-loss.ensures.value))
-      ∙ locked_after-four l.due l.number c.bad_with-bad.result l.first (omega (arith, c.if-lock-lt4.false, c.requires.readable.in_order)))
+    (bad_after-valid b l.due l.number l.bad c.bad_with-bad.result c.read_due-valid.result c.read_due-valid.ensures.valid c.bad_with-bad.ensures)
+    (omega (arith, c.if-from-loss.false, c.from.ensures, c.loss-loss.ensures.value))
+    ∙ locked_after-four l.due l.number c.bad_with-bad.result l.first (omega (arith, c.if-lock-lt4.false, c.requires.readable.in_order)))
 
 pub returns-clause-items : goal.returns-clause-items
 returns-clause-items c =
@@ -87,9 +87,9 @@ returns-clause-items c =
     let l = c.args.lock in
     c.in_ok-push-3.ensures.items
     ∙ ap (λ (closed : GroupRecord). c.args.items.now.items ++ Group closed ∷ [])
-      (closed-group b rules l.first l.number l.due c.closed-2.result (λ one two three four e. c.closed-2.ensures one two three four (c.read_due-valid.ensures.blocks ∙ e)))
+    (closed-group b rules l.first l.number l.due c.closed-2.result (λ one two three four e. c.closed-2.ensures one two three four (c.read_due-valid.ensures.blocks ∙ e)))
     ∙ ap (λ (is : List Item). c.args.items.now.items ++ is)
-      (sym (items-kept b rules l.due l.number l.bad l.first c.bad_with-bad.result
-          (bad_after-valid b l.due l.number l.bad c.bad_with-bad.result c.read_due-valid.result c.read_due-valid.ensures.valid c.bad_with-bad.ensures)
-          (omega (arith, c.if-from-loss.false, c.from.ensures, c.loss-loss.ensures.value))
-        ∙ group_after-four b rules l.first l.number l.due (omega (arith, c.if-lock-lt4.false, c.requires.readable.in_order))))
+    (sym (items-kept b rules l.due l.number l.bad l.first c.bad_with-bad.result
+    (bad_after-valid b l.due l.number l.bad c.bad_with-bad.result c.read_due-valid.result c.read_due-valid.ensures.valid c.bad_with-bad.ensures)
+    (omega (arith, c.if-from-loss.false, c.from.ensures, c.loss-loss.ensures.value))
+    ∙ group_after-four b rules l.first l.number l.due (omega (arith, c.if-lock-lt4.false, c.requires.readable.in_order))))

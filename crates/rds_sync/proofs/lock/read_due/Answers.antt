@@ -12,7 +12,7 @@ pub returns-clause-valid : goal.returns-clause-valid
 returns-clause-valid c =
     c.is_valid-valid.ensures
     ∙ good-reading c.args.rec.now c.args.lock.due c.args.lock.number c.window.result c.if-lock-eq3.wanted c.args.rules.now.burst c.read-reading.result
-      (omega arith) c.window.ensures.value c.read-reading.ensures
+    (omega arith) c.window.ensures.value c.read-reading.ensures
 
 pub returns-clause-blocks : goal.returns-clause-blocks
 returns-clause-blocks c =
@@ -21,18 +21,18 @@ returns-clause-blocks c =
     let rules = c.args.rules.now in
     ap (λ (blocks : List Block). set blocks (l.number - 1) (Read c.read-reading.result)) c.requires.in_progress
     ∙ blocks_at-next b rules l.first l.number l.due c.if-lock-eq3.wanted (Read c.read-reading.result) (omega arith) (omega arith) (omega arith)
-      (ap Read c.read-reading.ensures
-        ∙ ap (λ (w : ℕ). Read (reading w l.number c.if-lock-eq3.wanted rules.burst)) c.window.ensures.value)
-      (λ other. elim c.if-lock-eq3.branch [
-          then-lock-eq3 w ↦ absurd (other w.if-lock-eq3.true)
-        | else-lock-eq3 w ↦ w.wanted-is
-        ])
-      (λ third. elim c.if-lock-eq3.branch [
-          then-lock-eq3 w ↦
+    (ap Read c.read-reading.ensures
+    ∙ ap (λ (w : ℕ). Read (reading w l.number c.if-lock-eq3.wanted rules.burst)) c.window.ensures.value)
+    (λ other. elim c.if-lock-eq3.branch [
+      | then-lock-eq3 w ↦ absurd (other w.if-lock-eq3.true)
+      | else-lock-eq3 w ↦ w.wanted-is
+    ])
+    (λ third. elim c.if-lock-eq3.branch [
+      | then-lock-eq3 w ↦
           let two : l.number - 1 ≡ 2 = omega (arith, third) in
           w.wanted-is ∙ w.wanted_beside-wanted.ensures
           ∙ ap (λ (second : Block). wanted_beside second)
-            (ap (λ (blocks : List Block). get_or blocks 1 w.index-blocks-1.result) c.requires.in_progress)
+          (ap (λ (blocks : List Block). get_or blocks 1 w.index-blocks-1.result) c.requires.in_progress)
           ∙ ap (λ (n : ℕ). wanted_beside (block_at b rules l.first n (l.due - 26) Either 2)) two
-        | else-lock-eq3 w ↦ absurd (w.if-lock-eq3.false third)
-        ])
+      | else-lock-eq3 w ↦ absurd (w.if-lock-eq3.false third)
+    ])

@@ -11,10 +11,10 @@ pub returns-then-has_partner : goal.returns-then-has_partner
 returns-then-has_partner c =
     ap (λ (t : Bool). elim t as (λ _. Option ℕ) [ true ↦ Some c.number-number.result | false ↦ None ]) (sym c.if-has_partner.true)
     ∙ acquired-offset c.args.rec.now c.new.result.bits c.args.rules.now c.args.place c.number-number.result c.in-Some.offset c.has_partner.result
-      (sym c.requires.offset ∙ c.in-Some.is) c.number-number.ensures (ap (λ (t : TapeState). t.bits) c.new.ensures) c.has_partner.ensures.value
+    (sym c.requires.offset ∙ c.in-Some.is) c.number-number.ensures (ap (λ (t : TapeState). t.bits) c.new.ensures) c.has_partner.ensures.value
 
 pub returns-else-has_partner : goal.returns-else-has_partner
 returns-else-has_partner c =
     ap (λ (t : Bool). elim t as (λ _. Option ℕ) [ true ↦ Some c.number-number.result | false ↦ None ]) (sym c.if-has_partner.false)
     ∙ acquired-offset c.args.rec.now c.new.result.bits c.args.rules.now c.args.place c.number-number.result c.in-Some.offset c.has_partner.result
-      (sym c.requires.offset ∙ c.in-Some.is) c.number-number.ensures (ap (λ (t : TapeState). t.bits) c.new.ensures) c.has_partner.ensures.value
+    (sym c.requires.offset ∙ c.in-Some.is) c.number-number.ensures (ap (λ (t : TapeState). t.bits) c.new.ensures) c.has_partner.ensures.value

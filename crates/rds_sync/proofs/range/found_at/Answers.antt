@@ -19,5 +19,5 @@ closed_group-group-requires-clause-span c =
       start = omega (arith, late);
       within = omega (arith, c.requires.within, ap (λ (t : TapeState). length t.bits) c.new.ensures);
       window = c.window.ensures.value ∙ ap (λ (t : TapeState). window t.bits c.args.place) (sym c.new.ensures);
-      block = c.window.ensures.block
+      block = c.window.ensures.block;
     }

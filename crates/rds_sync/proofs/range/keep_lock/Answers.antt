@@ -22,7 +22,7 @@ module _ (b : List ℕ) (rules : RuleNumbers) (s : State) (place to : ℕ) (now 
       let soon = followed.lawful.soon in
       let next_run = run-due b rules (Locked now.due now.number now.bad now.first) followed.next (now.due + 1) now.due now.number now.bad now.first refl soon.0 refl in
       run-further b rules s (Locked now.due now.number now.bad now.first) _ followed.found _ place followed.next (now.due + 1) followed.from_on (omega (arith, soon.0))
-        followed.so_far (sym (ap (λ (r : State × List Item). r.0) next_run)) (sym (ap (λ (r : State × List Item). r.1) next_run))
+      followed.so_far (sym (ap (λ (r : State × List Item). r.0) next_run)) (sym (ap (λ (r : State × List Item). r.1) next_run))
 
   all_items : after ≡ before ++ (followed.found ++ items_at b rules now.due (Locked now.due now.number now.bad now.first))
   all_items =
@@ -39,7 +39,7 @@ module _ (b : List ℕ) (rules : RuleNumbers) (s : State) (place to : ℕ) (now 
   waited low high =
       let wait = run-early b rules (Locked now.due now.number now.bad now.first) followed.next to now.due now.number now.bad now.first refl low high in
       run-further b rules s (Locked now.due now.number now.bad now.first) _ followed.found [] place followed.next to followed.from_on low followed.so_far
-        (sym (ap (λ (r : State × List Item). r.0) wait)) (sym (ap (λ (r : State × List Item). r.1) wait))
+      (sym (ap (λ (r : State × List Item). r.0) wait)) (sym (ap (λ (r : State × List Item). r.1) wait))
       ∙ ap (λ (is : List Item). (Locked now.due now.number now.bad now.first, is)) (append-nil followed.found)
 
 pub loop-now-preserved : goal.loop-now-preserved
@@ -59,11 +59,11 @@ loop-now-preserved c =
       from_on = omega (arith, followed.from_on, soon.0);
       limit = omega (arith, c.loop-now-test.true);
       lawful = subst (λ (t : State). IsLawful rules (now.due + 1) t) (sym state_is)
-        (lawful_after b rules s c.args.place c.args.to now c.args.items.now.items l.items.items c.follow.new.items.items l.blocks followed (c.in_ok-next.ensures.items));
+          (lawful_after b rules s c.args.place c.args.to now c.args.items.now.items l.items.items c.follow.new.items.items l.blocks followed (c.in_ok-next.ensures.items));
       in_progress = subst (λ (o : Option Lock). IfSome o (λ after. IsInProgress b rules after c.follow.new.blocks)) c.in-Some.is (c.in_ok-next.ensures.in_progress);
       so_far = one_more b rules s c.args.place c.args.to now c.args.items.now.items l.items.items c.follow.new.items.items l.blocks followed (c.in_ok-next.ensures.items)
-        ∙ ap (λ (t : State). (t, followed.found ++ items_at b rules now.due (Locked now.due now.number now.bad now.first))) (sym state_is);
-      items_are = all_items b rules s c.args.place c.args.to now c.args.items.now.items l.items.items c.follow.new.items.items l.blocks followed (c.in_ok-next.ensures.items)
+          ∙ ap (λ (t : State). (t, followed.found ++ items_at b rules now.due (Locked now.due now.number now.bad now.first))) (sym state_is);
+      items_are = all_items b rules s c.args.place c.args.to now c.args.items.now.items l.items.items c.follow.new.items.items l.blocks followed (c.in_ok-next.ensures.items);
     }
 
 pub returns-in-None-clause-reached : goal.returns-in-None-clause-reached
@@ -82,8 +82,8 @@ returns-in-None-clause-reached c =
       limit = omega (arith, c.loop-now-test.true);
       state = ap (λ (o : Option Lock). state_of o) (sym c.in-None.is) ∙ c.in_ok-next.ensures.state ∙ sym (ap (λ (r : State × List Item). r.0) more);
       items = all_items b rules s c.args.place c.args.to now c.args.items.now.items l.items.items c.follow.new.items.items l.blocks followed (c.in_ok-next.ensures.items)
-        ∙ ap (λ (is : List Item). c.args.items.now.items ++ is) (sym (ap (λ (r : State × List Item). r.1) more));
-      lawful = tt
+          ∙ ap (λ (is : List Item). c.args.items.now.items ++ is) (sym (ap (λ (r : State × List Item). r.1) more));
+      lawful = tt;
     }
 
 pub returns-clause-reached : goal.returns-clause-reached
@@ -96,12 +96,12 @@ returns-clause-reached c =
     let now = l.now in
     let followed = l.invariant in
     let wait = waited b rules s c.args.place c.args.to now c.args.items.now.items l.items.items (l.items.items ++ items_at b rules now.due (Locked now.due now.number now.bad now.first))
-      l.blocks followed refl followed.limit c.loop-now-test.false in
+    l.blocks followed refl followed.limit c.loop-now-test.false in
     record {
       forward = c.requires.order;
       limit = omega arith;
       state = c.state.ensures ∙ sym (ap (λ (r : State × List Item). r.0) wait);
       items = followed.items_are ∙ ap (λ (is : List Item). c.args.items.now.items ++ is) (sym (ap (λ (r : State × List Item). r.1) wait));
       lawful = subst (λ (t : State). IsLawful rules c.args.to t) (sym c.state.ensures)
-        (lawful-waiting rules followed.next c.args.to now.due now.number now.bad now.first followed.lawful followed.limit c.loop-now-test.false)
+          (lawful-waiting rules followed.next c.args.to now.due now.number now.bad now.first followed.lawful followed.limit c.loop-now-test.false);
     }

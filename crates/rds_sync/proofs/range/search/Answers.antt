@@ -25,16 +25,16 @@ returns-in-Some-clause-reached c =
     let e : acquired b rules here ≡ Some c.in-Some.number = sym c.acquires.ensures ∙ c.in-Some.is in
     let run_is = run-found b rules c.args.place here (omega arith) searched.none in
     let state_is : c.after_block.result ≡ step b rules here Searching =
-      c.after_block.ensures ∙ sym (step-acquiring b rules here c.in-Some.number e) in
+    c.after_block.ensures ∙ sym (step-acquiring b rules here c.in-Some.number e) in
     record {
       forward = omega arith;
       limit = omega arith;
       state = state_is ∙ sym (ap (λ (r : State × List Item). r.0) run_is);
       items = c.in_ok-push_found.ensures.ok
-        ∙ ap (λ (is : List Item). is ++ items_in c.found_at.result) searched.nothing
-        ∙ ap (λ (is : List Item). c.args.items.now.items ++ is) (c.found_at.ensures ∙ sym (ap (λ (r : State × List Item). r.1) run_is));
+          ∙ ap (λ (is : List Item). is ++ items_in c.found_at.result) searched.nothing
+          ∙ ap (λ (is : List Item). c.args.items.now.items ++ is) (c.found_at.ensures ∙ sym (ap (λ (r : State × List Item). r.1) run_is));
       lawful = subst (λ (t : State). IsLawful rules (here + 1) t) (sym state_is)
-        (lawful-step b rules (omega (arith, c.loss.ensures.range.some_loss)) here Searching tt)
+          (lawful-step b rules (omega (arith, c.loss.ensures.range.some_loss)) here Searching tt);
     }
 
 pub returns-clause-reached : goal.returns-clause-reached
@@ -43,11 +43,11 @@ returns-clause-reached c =
     let rules = c.args.rules.now in
     let searched = c.loop-here.invariant in
     let run_is = run-unfound b rules c.args.place c.args.to (omega arith)
-      (λ j low high. searched.none j low (omega (arith, high, c.loop-here-test.false))) in
+    (λ j low high. searched.none j low (omega (arith, high, c.loop-here-test.false))) in
     record {
       forward = c.requires.order;
       limit = omega arith;
       state = sym (ap (λ (r : State × List Item). r.0) run_is);
       items = searched.nothing ∙ sym (ap (λ (r : State × List Item). c.args.items.now.items ++ r.1) run_is ∙ append-nil c.args.items.now.items);
-      lawful = tt
+      lawful = tt;
     }

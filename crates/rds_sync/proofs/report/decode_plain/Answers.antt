@@ -1,6 +1,8 @@
-use Rattle.std.proofs.Common.{◌≡◌, ◌++◌, List, length, ap, ◌∙◌, arith}
+use Rattle.std.proofs.Common.{◌≡◌, ◌++◌, ℕ, List, length, ap, ◌∙◌, arith}
 use Rattle.rds_stream.specs.Tape.{TapeState}
+use Rattle.rds_sync.specs.Rules.{RuleNumbers}
 use Rattle.rds_sync.specs.declared.item.Item.{Item}
+use Rattle.rds_sync.specs.declared.state.State.{State}
 use Rattle.rds_sync.specs.Advance.{group_item}
 use Rattle.rds_sync.specs.Step.{items_of_end}
 use Rattle.rds_sync.specs.Report.{report_items}
@@ -8,27 +10,34 @@ use Rattle.rds_sync.specs.Totals.{totals_of}
 use Rattle.rds_sync.proofs.BodyLemmas.{report-run, report-few}
 use Rattle.rds_sync.proofs.report.decode_plain.Goals as goal
 
-ended : (c : goal.After-deref) → group_item c.finish.result ≡ items_of_end c.args.rec.now c.args.rules.now c.in_ok-end.end
-ended c =
-    c.finish.ensures.group
-    ∙ ap (λ (t : TapeState). items_of_end t.bits c.args.rules.now c.in_ok-end.end) c.new-tape.ensures
-
-found : (c : goal.After-deref) → c.push_group.new.items.items ≡ report_items c.args.rec.now c.args.rules.now
-found c =
-    c.in_ok-push_group.ensures.ok ∙ ap (λ (is : List Item). c.in_ok-end.items.items ++ is) (ended c)
-    ∙ report-run c.args.rec.now c.args.rules.now c.len.result c.in_ok-end.end c.in_ok-end.items.items
-      (omega (arith, c.loss.ensures.range.some_loss)) c.len.ensures.value c.in_ok-end.ensures.state c.in_ok-end.ensures.items
+-- the item of the end, by a tape of the recording
+ended : (b : List ℕ) (rules : RuleNumbers) (end : State) (tape : TapeState) (item : List Item) → tape ≡ record { bits = b; reads = 0 }
+    → item ≡ items_of_end tape.bits rules end → item ≡ items_of_end b rules end
+ended b rules end tape item made is = is ∙ ap (λ (t : TapeState). items_of_end t.bits rules end) made
 
 pub of-totals-requires : goal.of-totals-requires
 of-totals-requires c =
-    omega (arith, ap (λ (is : List Item). length is) c.deref.ensures.value, ap (λ (is : List Item). length is) (c.in_ok-push_group.ensures.ok),
+    let item_is = ended c.args.rec.now c.args.rules.now c.in_ok-end.end c.new-tape.result (group_item c.finish.result) c.new-tape.ensures c.finish.ensures.group in
+    omega (
+      arith,
+      ap (λ (is : List Item). length is) c.deref.ensures.value,
+      ap (λ (is : List Item). length is) (c.in_ok-push_group.ensures.ok),
       report-few c.args.rec.now c.args.rules.now c.len.result c.in_ok-end.end c.in_ok-end.items.items (group_item c.finish.result)
-        c.in_ok-end.ensures.items (ended c),
-      c.len.ensures.limit)
+          c.in_ok-end.ensures.items item_is,
+      c.len.ensures.limit,
+    )
 
 pub returns-clause-items : goal.returns-clause-items
-returns-clause-items c = found c.before
+returns-clause-items c =
+    let item_is = ended c.args.rec.now c.args.rules.now c.in_ok-end.end c.new-tape.result (group_item c.finish.result) c.new-tape.ensures c.finish.ensures.group in
+    c.in_ok-push_group.ensures.ok ∙ ap (λ (is : List Item). c.in_ok-end.items.items ++ is) item_is
+    ∙ report-run c.args.rec.now c.args.rules.now c.len.result c.in_ok-end.end c.in_ok-end.items.items
+    (omega (arith, c.loss.ensures.range.some_loss)) c.len.ensures.value c.in_ok-end.ensures.state c.in_ok-end.ensures.items
 
 pub returns-clause-totals : goal.returns-clause-totals
 returns-clause-totals c =
-    c.of-totals.ensures ∙ ap (λ (is : List Item). totals_of is) (c.deref.ensures.value ∙ found c.before)
+    let item_is = ended c.args.rec.now c.args.rules.now c.in_ok-end.end c.new-tape.result (group_item c.finish.result) c.new-tape.ensures c.finish.ensures.group in
+    c.of-totals.ensures ∙ ap (λ (is : List Item). totals_of is) (c.deref.ensures.value ∙ c.in_ok-push_group.ensures.ok
+    ∙ ap (λ (is : List Item). c.in_ok-end.items.items ++ is) item_is
+    ∙ report-run c.args.rec.now c.args.rules.now c.len.result c.in_ok-end.end c.in_ok-end.items.items
+    (omega (arith, c.loss.ensures.range.some_loss)) c.len.ensures.value c.in_ok-end.ensures.state c.in_ok-end.ensures.items)

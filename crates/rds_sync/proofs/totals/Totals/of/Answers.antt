@@ -21,7 +21,7 @@ loop-item-preserved c =
     let l = c.loop-item in
     record {
       so_far = c.plus-totals.ensures
-        ∙ counted c.args.items.now l.item-index c.item-item.result l.totals c.of_item.result (omega arith) c.item-item.is l.invariant.so_far c.of_item.ensures.value;
+          ∙ counted c.args.items.now l.item-index c.item-item.result l.totals c.of_item.result (omega arith) c.item-item.is l.invariant.so_far c.of_item.ensures.value;
       small = subst (λ (t : Totals). IsAtMost (2 ^ 10 * (l.item-index + 1)) t) (sym c.plus-totals.ensures)
-        (IsAtMost-plus (2 ^ 10 * l.item-index) (2 ^ 10) (2 ^ 10 * (l.item-index + 1)) l.totals c.of_item.result (omega arith) l.invariant.small c.of_item.ensures.small)
+          (IsAtMost-plus (2 ^ 10 * l.item-index) (2 ^ 10) (2 ^ 10 * (l.item-index + 1)) l.totals c.of_item.result (omega arith) l.invariant.small c.of_item.ensures.small);
     }

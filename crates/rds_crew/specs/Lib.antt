@@ -1,0 +1,3 @@
+pub mod CrewError
+pub mod Numbered
+pub mod Shares

@@ -1,0 +1,37 @@
+//! The report of one decoder, made by a crew of threads.
+//!
+//! A recording is cut into pieces, and each piece is guessed by a worker that knows nothing of the bits before it. The
+//! guesses are then put in the order of their pieces and stitched into the report that one decoder gives, reading from
+//! the first bit. What the pieces are, how one is guessed and how they are stitched is the business of a
+//! [`rds_pieces::Work`]; this crate shares the pieces out, waits for its workers and puts what they made in order.
+//!
+//! ```text
+//! let work = RecordingWork::new(&recording, &rules, &cutting);
+//! let report = decode_crew(&rt, alloc, &work, 4, &OpenGate)?;
+//! ```
+//!
+//! What callers may rely on:
+//!
+//! - Where [`decode_crew`] answers a report, it is that of the work's recording and rules, whatever the cutting, however
+//!   many workers there were and in whatever order they ended. It is lent no recording: bits reach it by the work alone.
+//! - It refuses a number of workers outside 1 to 256 exactly as [`CrewError::CrewRange`], and answers
+//!   [`CrewError::NoWorker`] only where there are two pieces and two workers or more.
+//! - No thread outlives the call.
+//!
+//! What it leaves to others: that memory and threads are there, that the calls of the work and of the gate return, and
+//! which thread ends first. That the workers run at the same time, and that the report is made of their runs, no contract
+//! can say; the crate's tests show it.
+#![tactic(auto)]
+
+mod crew;
+mod error;
+mod gate;
+mod order;
+mod share;
+
+pub use crew::decode_crew;
+pub use error::CrewError;
+pub use gate::{Gate, OpenGate};
+
+#[cfg(test)]
+mod tests;
