@@ -1,6 +1,5 @@
 -- A run that is carried over a piece beside the piece's guess, from mark to mark, until the two meet.
-use Rattle.std.proofs.Common.{◌≡◌, ◌≢◌, ℕ, zero, suc, ◌+◌, ◌-◌, ◌<◌, ◌≤◌, List, [], ◌∷◌, ◌++◌, length, get_or, refl, sym, ap, ap₂, ◌∙◌, subst, arith, append-nil, length-append, drop, inl, inr}
-use Rattle.std.specs.Prelude.{⊤}
+use Rattle.std.proofs.Common.{◌≡◌, ◌≢◌, ℕ, ◌+◌, ◌-◌, ◌<◌, ◌≤◌, List, [], ◌++◌, length, get_or, refl, sym, ap, ap₂, ◌∙◌, subst, arith, append-nil, length-append, drop, inl, inr}
 use Rattle.std.proofs.lemmas.Bool.{cases_eq, cases_lt}
 use Rattle.std.proofs.lemmas.List.{append_cancel_left, drop_at, get_or_default}
 use Rattle.rds_sync.specs.declared.state.State.{State}
@@ -9,15 +8,15 @@ use Rattle.rds_sync.specs.declared.item.Item.{Item}
 use Rattle.rds_sync.specs.Rules.{RuleNumbers}
 use Rattle.rds_sync.specs.Lawful.{IsLawful, IsBetweenGroups}
 use Rattle.rds_sync.specs.Step.{run}
-use Rattle.rds_sync.proofs.RunLemmas.{run-append, run_state-append, run_items-append, run-places}
+use Rattle.rds_sync.proofs.RunLemmas.{run_state-append, run_items-append, run-places}
 use Rattle.rds_sync.proofs.LawfulLemmas.{lawful-run}
 use Rattle.rds_pieces.specs.declared.run.Mark.{Mark}
 use Rattle.rds_pieces.specs.Advance.{IsStepTo}
 use Rattle.rds_pieces.specs.Guess.{guess, mark_at, marks}
 use Rattle.rds_pieces.specs.Meeting.{MeetAt, MeetFirstAt}
-use Rattle.rds_pieces.proofs.GuessLemmas.{IsMark, Marked, marked}
+use Rattle.rds_pieces.proofs.GuessLemmas.{Marked, marked}
 use Rattle.rds_pieces.proofs.MeetingLemmas.{IsNotDueBefore, run_state-between, run_state-quiet}
-use Rattle.rds_pieces.proofs.StepLemmas.{IsOneStep, one_step, waits}
+use Rattle.rds_pieces.proofs.StepLemmas.{one_step, waits}
 
 -- a lawful state's block is not due before its place
 not_due : (rules : RuleNumbers) (place : ℕ) (s : State) → IsLawful rules place s → IsNotDueBefore place s

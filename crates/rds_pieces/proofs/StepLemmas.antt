@@ -1,17 +1,18 @@
 -- A run that goes on step by step: only the last bit of a step gives items.
-use Rattle.std.proofs.Common.{◌≡◌, ◌≢◌, ℕ, zero, suc, ◌+◌, ◌-◌, ◌*◌, ◌<◌, ◌≤◌, ◌^◌, List, [], ◌∷◌, ◌++◌, length, Bool, true, false, refl, sym, ap, ap₂, ◌∙◌, subst, arith, append_assoc, append-nil, length-append, add-zero, inl, inr}
-use Rattle.std.specs.Prelude.{⊤, nat_lt}
+use Rattle.std.proofs.Common.{◌≡◌, ℕ, zero, suc, ◌+◌, ◌-◌, ◌<◌, ◌≤◌, List, [], ◌∷◌, ◌++◌, length, None, Result, Ok, Err, IfOk, Bool, true, false, refl, sym, ap, ap₂, ◌∙◌, arith, length-append, inl, inr}
+use Rattle.std.specs.Prelude.{nat_lt}
 use Rattle.std.proofs.lemmas.Bool.{cases_lt, lt-ltb, le-ltb}
 use Rattle.rds_sync.specs.declared.state.State.{State}
 use Rattle.rds_sync.specs.declared.state.State.TheVariants.{Searching, Locked}
 use Rattle.rds_sync.specs.declared.item.Item.{Item}
 use Rattle.rds_sync.specs.Rules.{RuleNumbers}
-use Rattle.rds_sync.specs.Lawful.{IsLawful}
-use Rattle.rds_sync.specs.Step.{run, step, items_at}
-use Rattle.rds_sync.proofs.RunLemmas.{run-append, run-places, run-one, run-waiting}
+use Rattle.rds_sync.specs.Step.{run, items_at}
+use Rattle.rds_stream.specs.Recording.{off}
+use Rattle.rds_sync.proofs.LawfulLemmas.{acquired-none}
+use Rattle.rds_sync.proofs.RunLemmas.{run-searching, run-append, run-places, run-one, run-waiting}
 use Rattle.rds_pieces.specs.declared.run.Mark.{Mark}
 use Rattle.rds_sync.specs.Advance.{next_place, reads_most}
-use Rattle.rds_pieces.specs.Advance.{IsStepTo}
+use Rattle.rds_pieces.specs.Advance.{IsStepTo, IsStretchTo}
 use Rattle.rds_pieces.specs.Guess.{guess, mark_at, marks}
 use Rattle.rds_pieces.proofs.GuessLemmas.{marks-quiet, marks-some}
 
@@ -34,31 +35,29 @@ module _ (b : List ℕ) (rules : RuleNumbers) where
   waits Searching place next (suc n) one h = absurd (omega arith)
   waits (Locked due number bad first) place next n one h = run-waiting b rules due number bad first place n (omega arith)
 
-  -- so its items are those of its last bit
-  last_bit : (s : State) (place next n : ℕ) → IsOneStep s place next → place + suc n ≡ next
-      → run b rules s place (suc n) ≡ (step b rules (place + n) s, items_at b rules (place + n) s)
-  last_bit s place next n one e =
-      let count : suc n ≡ n + 1 = omega arith in
-      ap (λ (m : ℕ). run b rules s place m) count
-      ∙ run-append b rules s place n 1
-      ∙ ap (λ (r : State × List Item). ((run b rules r.0 (place + n) 1).0, r.1 ++ (run b rules r.0 (place + n) 1).1)) (waits s place next n one (omega arith))
-      ∙ run-one b rules s (place + n)
-
   module _ (from : ℕ) where
-    -- a guess that goes one step on
-    module _ (place next n m : ℕ) (s : State) (at : place ≡ from + n) (end : next ≡ place + suc m) (is : s ≡ (guess b rules from n).0) (one : IsOneStep s place next) where
-      last_of_guess : (guess b rules from (n + m)).0 ≡ s
+    -- a guess that goes one stretch on, of m bits that give nothing and one more
+    module _ (place n m : ℕ) (s : State) (at : place ≡ from + n) (is : s ≡ (guess b rules from n).0) (quiet : (run b rules s place m).1 ≡ []) where
+      last_of_guess : (guess b rules from (n + m)).0 ≡ (run b rules s place m).0
       last_of_guess =
           ap (λ (r : State × List Item). r.0) (run-append b rules _ from n m)
           ∙ ap₂ (λ (t : State) (p : ℕ). (run b rules t p m).0) (sym is) (sym at)
-          ∙ ap (λ (r : State × List Item). r.0) (waits s place next m one (omega arith))
 
       marks_wait : marks b rules from (n + m) ≡ marks b rules from n
-      marks_wait = marks-quiet b rules from n m (ap₂ (λ (t : State) (p : ℕ). (run b rules t p m).1) (sym is) (sym at) ∙ ap (λ (r : State × List Item). r.1) (waits s place next m one (omega arith)))
+      marks_wait = marks-quiet b rules from n m (ap₂ (λ (t : State) (p : ℕ). (run b rules t p m).1) (sym is) (sym at) ∙ quiet)
 
-      -- no mark more where the step gave nothing
+      -- no mark more where the stretch gave nothing
       pub marks-step_none : (run b rules s place (suc m)).1 ≡ [] → marks b rules from (n + suc m) ≡ marks b rules from n
       marks-step_none none = marks-quiet b rules from n (suc m) (ap₂ (λ (t : State) (p : ℕ). (run b rules t p (suc m)).1) (sym is) (sym at) ∙ none)
+
+      -- the items of the stretch are those of its last bit
+      last_bit : (run b rules s place (suc m)).1 ≡ items_at b rules (place + m) (run b rules s place m).0
+      last_bit =
+          let count : suc m ≡ m + 1 = omega arith in
+          ap (λ (k : ℕ). (run b rules s place k).1) count
+          ∙ ap (λ (r : State × List Item). r.1) (run-append b rules s place m 1)
+          ∙ ap (λ (is : List Item). is ++ (run b rules (run b rules s place m).0 (place + m) 1).1) quiet
+          ∙ ap (λ (r : State × List Item). r.1) (run-one b rules (run b rules s place m).0 (place + m))
 
       -- and else one at its end
       pub marks-step_some : (i : Item) (rest : List Item) → (run b rules s place (suc m)).1 ≡ i ∷ rest
@@ -67,7 +66,7 @@ module _ (b : List ℕ) (rules : RuleNumbers) where
           let same : n + m + 1 ≡ n + suc m = omega arith in
           let spot : from + (n + m) ≡ place + m = omega (arith, at) in
           let gives : items_at b rules (from + (n + m)) (guess b rules from (n + m)).0 ≡ i ∷ rest =
-          ap₂ (λ (p : ℕ) (t : State). items_at b rules p t) spot last_of_guess ∙ sym (ap (λ (r : State × List Item). r.1) (last_bit s place next m one (sym end))) ∙ some in
+          ap₂ (λ (p : ℕ) (t : State). items_at b rules p t) spot last_of_guess ∙ sym last_bit ∙ some in
           ap (λ (k : ℕ). marks b rules from k) (sym same)
           ∙ marks-some b rules from (n + m) i rest gives
           ∙ ap₂ (λ (ms : List Mark) (k : ℕ). ms ++ mark_at b rules from k ∷ []) marks_wait same
@@ -79,7 +78,7 @@ module _ (b : List ℕ) (rules : RuleNumbers) where
       pub marks_are : found ≡ marks b rules from (place - from)
 
     module _ (place to next : ℕ) (s after : State) (items items2 : List Item) (found found2 : List Mark)
-        (low : from ≤ place) (so_far : IsSoFar place s items found) (goes : IsStepTo b rules s place to next after)
+        (low : from ≤ place) (so_far : IsSoFar place s items found) (goes : IsStretchTo b rules s place to next after)
         (more : items2 ≡ items ++ (run b rules s place (next - place)).1) where
       whole : guess b rules from (next - from) ≡ (after, items2)
       whole =
@@ -89,6 +88,9 @@ module _ (b : List ℕ) (rules : RuleNumbers) where
 
       grown : length items2 ≡ length items + length (run b rules s place (next - place)).1
       grown = ap (λ (is : List Item). length is) more ∙ length-append items _
+
+      still : (m : ℕ) → next ≡ place + suc m → (run b rules s place m).1 ≡ []
+      still m end = let e : m ≡ next - 1 - place = omega (arith, end) in ap (λ (k : ℕ). (run b rules s place k).1) e ∙ goes.quiet
 
       pub so_far_on : ((length items < length items2) → found2 ≡ found ++ record { place = next; state = after; items = length items2 } ∷ [])
           → ((length items2 ≤ length items) → found2 ≡ found) → IsSoFar next after items2 found2
@@ -108,7 +110,7 @@ module _ (b : List ℕ) (rules : RuleNumbers) where
             at_case [] n m e at end count sum is =
                 let grew : length (run b rules s place (next - place)).1 ≡ 0 = ap (λ (k : ℕ). length (run b rules s place k).1) count ∙ ap (λ (js : List Item). length js) e in
                 none (omega (arith, grown, grew)) ∙ so_far.marks_are ∙ ap (λ (k : ℕ). marks b rules from k) (sym is)
-                ∙ sym (marks-step_none place next n m s at end (so_far.state_is ∙ ap (λ (k : ℕ). (guess b rules from k).0) (sym is)) (one_step s place to next goes.place_is) e)
+                ∙ sym (marks-step_none place n m s at (so_far.state_is ∙ ap (λ (k : ℕ). (guess b rules from k).0) (sym is)) (still m end) e)
                 ∙ ap (λ (k : ℕ). marks b rules from k) sum
             at_case (i ∷ rest) n m e at end count sum is =
                 let grew : length (run b rules s place (next - place)).1 ≡ length (i ∷ rest) = ap (λ (k : ℕ). length (run b rules s place k).1) count ∙ ap (λ (js : List Item). length js) e in
@@ -118,7 +120,7 @@ module _ (b : List ℕ) (rules : RuleNumbers) where
                 some (omega (arith, grown, grew))
                 ∙ ap₂ (λ (ms : List Mark) (k : Mark). ms ++ k ∷ []) (so_far.marks_are ∙ ap (λ (k : ℕ). marks b rules from k) (sym is)) (sym mark)
                 ∙ ap (λ (k : ℕ). marks b rules from n ++ mark_at b rules from k ∷ []) (sym sum)
-                ∙ sym (marks-step_some place next n m s at end (so_far.state_is ∙ ap (λ (k : ℕ). (guess b rules from k).0) (sym is)) (one_step s place to next goes.place_is) i rest e)
+                ∙ sym (marks-step_some place n m s at (so_far.state_is ∙ ap (λ (k : ℕ). (guess b rules from k).0) (sym is)) (still m end) i rest e)
                 ∙ ap (λ (k : ℕ). marks b rules from k) sum
 
     pub so_far_start : (items : List Item) (found : List Mark) → items ≡ [] → found ≡ record { place = from; state = Searching; items = 0 } ∷ [] → IsSoFar from Searching items found
@@ -135,3 +137,57 @@ module _ (b : List ℕ) (rules : RuleNumbers) where
 pub few_reads : (rules : RuleNumbers) (s : State) (to : ℕ) → rules.reach ≤ 8 → reads_most rules s to ≤ 9
 few_reads rules Searching to h = omega arith
 few_reads rules (Locked due number bad first) to h = elim (nat_lt due to) as (λ (t : Bool). elim t as (λ _. ℕ) [ true ↦ 4 | false ↦ 0 ] ≤ 9) [ true ↦ omega arith | false ↦ omega arith ]
+
+-- what two facts of a result that is Ok give
+pub ok_both : {A E : Type 0} (r : Result A E) (P Q R : A → Type 0) → ((x : A) → P x → Q x → R x) → IfOk r P → IfOk r Q → IfOk r R
+ok_both (Ok x) P Q R f p q = f x p q
+ok_both (Err e) P Q R f p q = tt
+
+module _ (b : List ℕ) (rules : RuleNumbers) where
+  -- a step is a stretch
+  pub stretch_step : (s after : State) (place to next : ℕ) → IsStepTo b rules s place to next after → IsStretchTo b rules s place to next after
+  stretch_step s after place to next goes =
+      let m = goes.moved in
+      record {
+        moved = m;
+        state_is = goes.state_is;
+        quiet = ap (λ (r : State × List Item). r.1) (waits b rules s place next (next - 1 - place) (one_step s place to next goes.place_is) (omega (arith, m)));
+        lawful = goes.lawful;
+      }
+
+  -- a search over places whose windows are not valid
+  module _ (place valid to : ℕ) (low : place ≤ valid) (none : (i : ℕ) → place ≤ i → i < valid → off b i ≡ None) where
+    searched : (n : ℕ) → place + n ≤ valid → run b rules Searching place n ≡ (Searching, [])
+    searched n h = run-searching b rules place n (λ i l u. acquired-none b rules i (none i l (omega arith)))
+
+    pub searched_all : run b rules Searching place (valid - place) ≡ (Searching, [])
+    searched_all = searched (valid - place) (omega arith)
+
+    pub searched_end : valid ≡ to → (run b rules Searching place (to - place)).1 ≡ []
+    searched_end e = ap (λ (r : State × List Item). r.1) (searched (to - place) (omega (arith, e)))
+
+    pub stretch_end : valid ≡ to → place < to → IsStretchTo b rules Searching place to to Searching
+    stretch_end e ahead =
+        record {
+          moved = (ahead, omega arith);
+          state_is = sym (ap (λ (r : State × List Item). r.0) (searched (to - place) (omega (arith, e))));
+          quiet = ap (λ (r : State × List Item). r.1) (searched (to - 1 - place) (omega (arith, e)));
+          lawful = tt;
+        }
+
+    -- and one bit more
+    pub searched_on : (next : ℕ) → valid ≤ next → run b rules Searching place (next - place) ≡ run b rules Searching valid (next - valid)
+    searched_on next high =
+        run-places b rules Searching place valid next low high
+        ∙ ap (λ (r : State × List Item). ((run b rules r.0 valid (next - valid)).0, r.1 ++ (run b rules r.0 valid (next - valid)).1)) searched_all
+
+    pub stretch_on : (next : ℕ) (after : State) → IsStepTo b rules Searching valid to next after → IsStretchTo b rules Searching place to next after
+    stretch_on next after goes =
+        let m = goes.moved in
+        let n : next ≡ valid + 1 = goes.place_is in
+        record {
+          moved = (omega (arith, m), omega (arith, m));
+          state_is = goes.state_is ∙ sym (ap (λ (r : State × List Item). r.0) (searched_on next (omega (arith, m))));
+          quiet = ap (λ (r : State × List Item). r.1) (searched (next - 1 - place) (omega (arith, n)));
+          lawful = goes.lawful;
+        }

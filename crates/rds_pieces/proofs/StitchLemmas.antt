@@ -1,6 +1,5 @@
 -- A run that is carried over runs that follow each other, from place 0 to the recording's end.
-use Rattle.std.proofs.Common.{◌≡◌, ℕ, zero, suc, ◌+◌, ◌-◌, ◌*◌, ◌<◌, ◌≤◌, ◌^◌, List, [], ◌∷◌, ◌++◌, length, get_or, drop, Option, Some, None, refl, sym, ap, ap₂, ◌∙◌, subst, arith}
-use Rattle.std.specs.Prelude.{MatchOption}
+use Rattle.std.proofs.Common.{◌≡◌, ℕ, ◌+◌, ◌-◌, ◌*◌, ◌<◌, ◌≤◌, ◌^◌, List, [], ◌∷◌, ◌++◌, length, get_or, drop, Option, Some, None, refl, sym, ap, ap₂, ◌∙◌, subst, arith}
 use Rattle.std.proofs.lemmas.Nat.{mul-le}
 use Rattle.std.proofs.lemmas.List.{drop_more, drop_all, nil_from_length}
 use Rattle.rds_sync.specs.declared.state.State.{State}
@@ -17,9 +16,9 @@ use Rattle.rds_sync.proofs.BodyLemmas.{run_items-few}
 use Rattle.rds_sync.proofs.Locks.{run_is_report}
 use Rattle.rds_sync.proofs.RunLemmas.{run-places}
 use Rattle.rds_sync.proofs.LawfulLemmas.{lawful-run_places}
-use Rattle.rds_pieces.specs.Meeting.{MeetAt, MeetFirstAt, IsMeeting, distance}
-use Rattle.rds_pieces.specs.RunOf.{RunOf, run_over, FollowEachOther}
-use Rattle.rds_pieces.specs.Seams.{seam_reads, state_after, IsSumOfReads}
+use Rattle.rds_pieces.specs.Meeting.{IsMeeting, distance}
+use Rattle.rds_pieces.specs.RunOf.{RunOf, FollowEachOther}
+use Rattle.rds_pieces.specs.Seams.{seam_reads, IsSumOfReads}
 
 -- the end closes one group at most
 pub group_item-few : (g : Option Group) → length (group_item g) ≤ 1

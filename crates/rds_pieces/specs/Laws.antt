@@ -1,5 +1,5 @@
 -- The laws of pieces, over the definitions alone.
-use Rattle.std.specs.Prelude.{◌≡◌, ℕ, ◌≤◌, List, [], ◌∷◌, ◌++◌, length}
+use Rattle.std.specs.Prelude.{ℕ, ◌≤◌, List, ◌∷◌, ◌++◌, length}
 use Rattle.rds_sync.specs.Rules.{RuleNumbers}
 use Rattle.rds_pieces.specs.Cutting.{IsCutting, pieces_of}
 use Rattle.rds_pieces.specs.RunOf.{RunOf, run_over, runs_of, FollowEachOther}

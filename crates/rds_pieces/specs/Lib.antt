@@ -12,3 +12,4 @@ pub mod Laws
 pub mod Errors
 pub mod RunInside
 pub mod Advance
+pub mod Examples

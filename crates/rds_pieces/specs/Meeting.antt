@@ -1,5 +1,5 @@
 -- Where two runs meet: this project's rule.
-use Rattle.std.specs.Prelude.{◌≡◌, ℕ, ◌+◌, ◌-◌, ◌<◌, ◌≤◌, List, Option, Some, None, MatchOption}
+use Rattle.std.specs.Prelude.{◌≡◌, ℕ, ◌-◌, ◌<◌, ◌≤◌, List, Option, Some, None, MatchOption}
 use Rattle.rds_sync.specs.declared.state.State.{State}
 use Rattle.rds_sync.specs.Rules.{RuleNumbers}
 use Rattle.rds_sync.specs.Lawful.{IsBetweenGroups}

@@ -6,9 +6,9 @@ use Rattle.rds_pieces.proofs.run.guess_over.Given as goal
 abbrev pub invariant-loop-place : goal.invariant-loop-place
 invariant-loop-place g l = record {
   inside : (l.from ≤ l.place) × (l.place ≤ l.to);
-  so_far : IsSoFar (g.T.Tape.bits l.fn.tape) l.rules l.from l.place l.state l.items.items l.marks.items;
+  so_far : IsSoFar l.rec l.rules l.from l.place l.state l.items.items l.marks.items;
   lawful : IsLawful l.rules l.place l.state;
-  same : g.T.Tape.bits l.tape ≡ g.T.Tape.bits l.fn.tape;
+  same : g.T.Tape.bits l.tape ≡ l.rec;
   reads : g.T.Tape.reads_made l.tape ≤ g.T.Tape.reads_made l.fn.tape + 9 * (l.place - l.from);
 }
 

@@ -1,5 +1,4 @@
-use Rattle.std.proofs.Common.{◌≡◌, ℕ, List, ◌-◌, ◌<◌, ◌≤◌, length, ◌∙◌, sym, ap, subst, arith}
-use Rattle.rds_pieces.specs.Guess.{guess, marks}
+use Rattle.std.proofs.Common.{length, arith}
 use Rattle.rds_pieces.proofs.CuttingLemmas.{range_inside}
 use Rattle.rds_pieces.proofs.run.speculate.Goals as goal
 
@@ -10,21 +9,17 @@ pub guess_over-requires-clause-range : goal.guess_over-requires-clause-range
 guess_over-requires-clause-range c = let r = range_inside (length c.args.rec.now) c.args.cutting.now c.requires.fits c.args.j c.from-from.result c.to-to.result c.requires.piece c.from-from.ensures c.to-to.ensures in omega (arith, r.0)
 
 pub guess_over-requires-clause-inside : goal.guess_over-requires-clause-inside
-guess_over-requires-clause-inside c =
-    let r = range_inside (length c.args.rec.now) c.args.cutting.now c.requires.fits c.args.j c.from-from.result c.to-to.result c.requires.piece c.from-from.ensures c.to-to.ensures in
-    let e = ap (λ t. length t.bits) c.new-tape.ensures in
-    omega (arith, r.1, e)
+guess_over-requires-clause-inside c = let r = range_inside (length c.args.rec.now) c.args.cutting.now c.requires.fits c.args.j c.from-from.result c.to-to.result c.requires.piece c.from-from.ensures c.to-to.ensures in omega (arith, r.1)
 
 pub invariant_of-result : goal.invariant_of-result
 invariant_of-result c =
-    let e = ap (λ t. t.bits) c.new-tape.ensures in
     let r = range_inside (length c.args.rec.now) c.args.cutting.now c.requires.fits c.args.j c.from-from.result c.to-to.result c.requires.piece c.from-from.ensures c.to-to.ensures in
     rw (c.of.ensures, c.burst.ensures.value, c.reach.ensures.value, c.loss.ensures.value) (record {
       guessed = record {
         inside = (omega (arith, r.0), r.1);
-        items_are = c.in_ok-end_state.ensures.items ∙ ap (λ (b : List ℕ). (guess b c.args.rules.now c.from-from.result (c.to-to.result - c.from-from.result)).1) e;
-        ends = c.in_ok-end_state.ensures.state ∙ ap (λ (b : List ℕ). (guess b c.args.rules.now c.from-from.result (c.to-to.result - c.from-from.result)).0) e;
-        marks_are = c.in_ok-end_state.ensures.marks ∙ ap (λ (b : List ℕ). marks b c.args.rules.now c.from-from.result (c.to-to.result - c.from-from.result)) e;
+        items_are = c.in_ok-end_state.ensures.items;
+        ends = c.in_ok-end_state.ensures.state;
+        marks_are = c.in_ok-end_state.ensures.marks;
       };
       few = let l = c.len-len.ensures.limit in let v = c.len-len.ensures.value in omega (arith, l, v);
       rules = c.burst.ensures.range;

@@ -1,4 +1,4 @@
-use Rattle.std.proofs.Common.{◌≡◌, ◌≢◌, ℕ, List, [], ◌∷◌, ◌++◌, ◌+◌, ◌-◌, ◌<◌, ◌≤◌, length, get_or, refl, sym, ap, ◌∙◌, subst, arith, append_assoc, append-nil, drop, ap₂, ◌*◌}
+use Rattle.std.proofs.Common.{◌≡◌, ◌≢◌, ℕ, List, ◌++◌, ◌+◌, ◌-◌, ◌<◌, ◌≤◌, length, get_or, sym, ap, ◌∙◌, subst, arith, append_assoc, append-nil, drop, ap₂, ◌*◌}
 use Rattle.rds_sync.specs.declared.state.State.{State}
 use Rattle.rds_sync.specs.declared.state.State.TheVariants.{Searching}
 use Rattle.rds_sync.specs.declared.item.Item.{Item}
@@ -9,8 +9,8 @@ use Rattle.rds_sync.specs.Step.{run}
 use Rattle.rds_pieces.specs.declared.run.Mark.{Mark}
 use Rattle.rds_pieces.specs.Advance.{IsStepTo}
 use Rattle.rds_pieces.specs.Meeting.{MeetAt, MeetFirstAt}
-use Rattle.rds_pieces.proofs.ReadsLemmas.{IsPaid, paid_start, paid_on, paid_room, paid_step, paid_all, paid_most}
-use Rattle.rds_pieces.proofs.SeamLemmas.{renamed, run_over, unread, found, own, read_mark, place_after_is, IsCarried, IsPlaceAfter, carried_start, carried_near, carried_up_to, own_items_on, limit_ahead, limit_inside, met_first, rest_is, items_within, never_met}
+use Rattle.rds_pieces.proofs.ReadsLemmas.{paid_start, paid_on, paid_step, paid_all}
+use Rattle.rds_pieces.proofs.SeamLemmas.{renamed, run_over, unread, found, own, read_mark, place_after_is, IsCarried, carried_start, carried_near, carried_up_to, own_items_on, limit_ahead, limit_inside, met_first, rest_is, items_within, never_met}
 use Rattle.rds_pieces.proofs.seams.carry_over.Goals as goal
 use Rattle.rds_pieces.proofs.seams.carry_over.Goals.{else-place-limit-via-then-place-limit+else-mark-marks, else-place-limit-via-else-place-limit}
 

@@ -1,7 +1,5 @@
-use Rattle.std.proofs.Common.{◌≡◌, ℕ, List, ◌++◌, ◌+◌, ◌-◌, ◌<◌, ◌≤◌, length, ap, ◌∙◌, subst, arith}
-use Rattle.rds_sync.specs.declared.state.State.{State}
+use Rattle.std.proofs.Common.{ℕ, List, ◌++◌, ◌-◌, ap, ◌∙◌, subst, arith}
 use Rattle.rds_sync.specs.declared.state.State.TheVariants.{Searching}
-use Rattle.rds_sync.specs.declared.item.Item.{Item}
 use Rattle.rds_sync.specs.Step.{run}
 use Rattle.rds_pieces.specs.Meeting.{IsMeeting}
 use Rattle.rds_pieces.proofs.StitchLemmas.{stitched_on, stitched_few, sum_at_end, whole_at_end, few_at_end}

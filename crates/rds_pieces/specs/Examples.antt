@@ -1,0 +1,3 @@
+-- Cuttings and guesses with what the definitions give for them: theorems that the checker computes.
+pub mod EvenCuttings
+pub mod GuessesOfTwoPieces
