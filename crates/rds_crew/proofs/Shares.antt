@@ -1,5 +1,5 @@
 -- The shares of workers: how one grows, and that all of them together have each piece.
-use Rattle.std.proofs.Common.{◌≡◌, ◌==◌, ℕ, ◌+◌, ◌-◌, ◌*◌, ◌/◌, ◌%◌, ◌<◌, ◌≤◌, List, [], ◌∷◌, ◌++◌, suc, Bool, true, sym, ◌∙◌, ap, arith, refl, map, filter, All, Contains, slice_index, zero, ⊎_elim}
+use Rattle.std.proofs.Common.{◌≡◌, ◌==◌, ℕ, ◌+◌, ◌-◌, ◌*◌, ◌/◌, ◌%◌, ◌<◌, ◌≤◌, List, [], ◌∷◌, ◌++◌, suc, Bool, true, sym, ◌∙◌, ap, arith, refl, map, filter, All, Contains, ⊎_elim}
 use Rattle.std.specs.List.{range_with_len}
 use Rattle.std.proofs.Math.Nat.{mod-add-div', mul-le-mul_left, mod-le}
 use Rattle.std.proofs.lemmas.Bool.{cases_lt, eq-eqb, ne_eqb}
@@ -7,8 +7,8 @@ use Rattle.std.proofs.lemmas.List.{append-nil, map-append}
 use Rattle.std.proofs.lemmas.List.Elements.{All-filter, All-map, All-weaker, filter-append}
 use Rattle.std.proofs.lemmas.List.Folds.{flat_map-map}
 use Rattle.rds_sync.specs.Rules.{RuleNumbers}
-use Rattle.rds_pieces.specs.Cutting.{IsCutting, pieces_of}
-use Rattle.rds_pieces.specs.RunOf.{RunOf, run_at, runs_of, FollowEachOther}
+use Rattle.rds_pieces.specs.Cutting.{pieces_of}
+use Rattle.rds_pieces.specs.RunOf.{RunOf, run_at, runs_of}
 use Rattle.rds_crew.specs.Numbered.{IsWhole, IsInOrder}
 use Rattle.rds_crew.specs.Shares.{share_of, shares, share_runs, crew_runs}
 use Rattle.rds_crew.proofs.Lists.{All-flat_map, All-range_with_len, Contains-filter, Contains-flat_map, Contains-map, Contains-range_with_len, filter_none, in_order_is, range_split}
@@ -91,11 +91,3 @@ module _ (source : List ℕ) (rules : RuleNumbers) (places : List ℕ) where
   -- one worker has all the pieces
   pub lone_share : share_runs (share_of source rules places 1 0) ≡ crew_runs source rules places 1
   lone_share = sym (append-nil (share_runs (share_of source rules places 1 0)))
-
-  -- the runs of the pieces from piece j on follow each other to the end
-  pieces_follow : (n j left : ℕ) → IsCutting n places → j + left ≡ pieces_of places → FollowEachOther source rules (slice_index places j) n (map (run_at source rules places) (range_with_len j left))
-  pieces_follow n j zero cut at = let last : j ≡ pieces_of places = omega arith in rw last cut.ends
-  pieces_follow n j (suc left) cut at = (refl, cut.rising j (omega (arith, cut.some)), pieces_follow n (j + 1) left cut (omega arith))
-
-  pub runs_follow : (n : ℕ) → IsCutting n places → FollowEachOther source rules 0 n (runs_of source rules places)
-  runs_follow n cut = rw cut.begins at (pieces_follow n 0 (pieces_of places) cut (omega arith))

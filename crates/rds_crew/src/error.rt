@@ -1,4 +1,4 @@
-// Why a call of this crate refuses.
+//! Why a call of this crate refuses.
 ghost use Rattle.std.specs.Prelude.{◌≡◌};
 ghost use Rattle.rds_crew.specs.declared.error.CrewError.TheVariants.{OutOfMemory};
 

@@ -1,16 +1,16 @@
-// What a caller may hear of the workers while they run.
+//! What a caller hears of the workers while they run.
 use rds_pieces::PieceRun;
 
 /// What the workers call round each piece, so that a caller can watch them or hold them up.
 ///
-/// A gate is lent to all workers at once, and its calls are made in their threads. That each call returns is the gate's to
-/// see to: a worker waits for it, and the crew for the worker.
+/// A gate is lent to all workers at once, and its calls are made in their threads. A worker waits
+/// for each call to return, and the crew for its workers: that the calls return is the gate's part.
 pub trait Gate {
     /// Called by the worker of piece `j` before it guesses the piece.
     fn begin(&self, j: u64);
 
-    /// Called by the same worker once piece `j` is guessed, with the run that it goes on to hand back. Not called where
-    /// the guess was refused memory.
+    /// Called by the same worker once piece `j` is guessed, with the run that it goes on to hand
+    /// back. Not called where the guess was refused memory.
     fn done(&self, j: u64, run: &PieceRun);
 }
 

@@ -1,26 +1,30 @@
 //! The report of one decoder, made by a crew of threads.
 //!
-//! A recording is cut into pieces, and each piece is guessed by a worker that knows nothing of the bits before it. The
-//! guesses are then put in the order of their pieces and stitched into the report that one decoder gives, reading from
-//! the first bit. What the pieces are, how one is guessed and how they are stitched is the business of a
-//! [`rds_pieces::Work`]; this crate shares the pieces out, waits for its workers and puts what they made in order.
+//! A recording is cut into pieces, and each piece is guessed by a worker that knows nothing of what
+//! the bits before it did. The guesses are then put in the order of their pieces and made into the
+//! report that one decoder gives, reading from the first bit. What a piece is, how it is guessed and
+//! how guesses become a report is the business of a [`Work`](rds_pieces::Work). This crate shares
+//! the pieces out, waits for its workers, and puts in order what they made.
 //!
 //! ```text
+//! let cutting = Cutting::even(alloc, recording.len(), 16)?;
 //! let work = RecordingWork::new(&recording, &rules, &cutting);
 //! let report = decode_crew(&rt, alloc, &work, 4, &OpenGate)?;
 //! ```
 //!
 //! What callers may rely on:
 //!
-//! - Where [`decode_crew`] answers a report, it is that of the work's recording and rules, whatever the cutting, however
-//!   many workers there were and in whatever order they ended. It is lent no recording: bits reach it by the work alone.
-//! - It refuses a number of workers outside 1 to 256 exactly as [`CrewError::CrewRange`], and answers
-//!   [`CrewError::NoWorker`] only where there are two pieces and two workers or more.
-//! - No thread outlives the call.
+//! - Where [`decode_crew`] answers a report, it is that of the work's recording and rules, whatever
+//!   the cutting, however many workers there were, and in whatever order they ended. It is lent no
+//!   recording: bits reach it by the work alone.
+//! - It refuses a number of workers outside 1 to 256 exactly as [`CrewError::CrewRange`], and
+//!   answers [`CrewError::NoWorker`] only where there are two pieces or more and two workers or more.
+//! - No thread that it started outlives the call.
 //!
-//! What it leaves to others: that memory and threads are there, that the calls of the work and of the gate return, and
-//! which thread ends first. That the workers run at the same time, and that the report is made of their runs, no contract
-//! can say; the crate's tests show it.
+//! What it leaves to others: that memory and threads are there, that the calls of the work and of
+//! the gate return, and which thread ends first. That the workers run at the same time, and that the
+//! report is made of their runs and of no others, no contract can say: the crate's tests show it, by
+//! a [`Gate`] that holds one worker up until the other has begun.
 #![tactic(auto)]
 
 mod crew;

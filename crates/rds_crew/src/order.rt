@@ -1,4 +1,4 @@
-// Numbered values put back in order.
+//! Numbered values, put back in order.
 ghost use Rattle.std.specs.Prelude.{◌≡◌, ℕ, ◌<◌, All, Contains, IfOk, IsSome, Some, map, slice_get, length};
 ghost use Rattle.rds_crew.specs.Numbered.{IsWhole, IsInOrder};
 
@@ -33,7 +33,8 @@ fn empty_slots<T: Drop>(alloc: Global, count: u64) -> Result<Vec<Option<T>>, All
 fn fill<T: Drop>(slots: &mut Vec<Option<T>>, numbered: Vec<(u64, T)>)
     requires { IsWhole (length slots.old.items) numbered.items }
     ensures len { length slots.new.items ≡ length slots.old.items }
-    ensures full { (j : ℕ) → j < length slots.old.items → (x : _) × (slice_get slots.new.items j ≡ Some (Some x)) × Contains numbered.items (j, x) }
+    ensures full { (j : ℕ) → j < length slots.old.items
+        → (x : _) × (slice_get slots.new.items j ≡ Some (Some x)) × Contains numbered.items (j, x) }
 {
     for (number, value) in numbered {
         slots[number as usize] = Some(value);

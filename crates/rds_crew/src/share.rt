@@ -1,4 +1,4 @@
-// The share of one worker: which pieces it makes, and what its thread promises of them.
+//! The share of one worker: which pieces it makes, and what its thread promises of them.
 ghost use Rattle.std.specs.Prelude.{◌≡◌, ◌<◌, ◌≤◌, length, IfOk, IfErr};
 ghost use Rattle.rds_pieces.specs.Cutting.{IsCutting};
 ghost use Rattle.rds_pieces.specs.declared.error.PieceError.TheVariants.{OutOfMemory};
@@ -16,7 +16,8 @@ use std::thread::Promise;
 /// Runs beside the numbers of their pieces.
 pub(crate) type NumberedRuns = Vec<(u64, PieceRun)>;
 
-/// Makes the pieces of one worker's share, in rising order: those whose number leaves `worker` when divided by `workers`.
+/// Makes the pieces of one worker's share, in rising order: those whose number, divided by
+/// `workers`, leaves `worker`. Stops at the first that is refused memory.
 pub(crate) fn make_share<W: Work, G: Gate>(
     alloc: Global,
     work: &W,
@@ -26,7 +27,8 @@ pub(crate) fn make_share<W: Work, G: Gate>(
 ) -> Result<NumberedRuns, PieceError>
     requires fits { IsCutting (length (W.recording work.now)) (W.places work.now) }
     requires member { worker < workers }
-    ensures made { IfOk result (λ runs. runs.items ≡ share_runs (share_of (W.recording work.now) (W.rule_set work.now) (W.places work.now) workers worker)) }
+    ensures made { IfOk result (λ runs. runs.items ≡ share_runs
+        (share_of (W.recording work.now) (W.rule_set work.now) (W.places work.now) workers worker)) }
     ensures err { IfErr result (λ e. e ≡ OutOfMemory) }
 {
     let pieces = work.cutting().pieces();
@@ -38,14 +40,14 @@ pub(crate) fn make_share<W: Work, G: Gate>(
         gate.done(j, &run);
         runs.push((j, run))?;
 
-        // Past the last number there is no piece, so a sum that is cut short there ends the share too.
+        // No piece has the greatest number, so a sum that is cut short there ends the share too.
         j = j.saturating_add(workers);
     }
     Ok(runs)
 }
 
-/// What the thread of a worker promises: that its runs are those of its own share, of this recording, these rules and this
-/// cutting. Contracts see what the share is named by; of the rest there are no bytes.
+/// What the thread of a worker promises: that the runs it hands back are those of its own share, of
+/// this recording, these rules and this cutting. Contracts see the name of the share.
 #[derive(Drop)]
 pub(crate) struct SharePromise {
     source: Snapshot<Recording>,
@@ -64,7 +66,8 @@ impl Model for SharePromise {
 impl SharePromise {
     /// The promise of that worker.
     pub(crate) fn new<W: Work>(work: &W, workers: u64, worker: u64) -> SharePromise
-        ensures { result ≡ share_of (W.recording work.now) (W.rule_set work.now) (W.places work.now) workers worker }
+        ensures { result
+            ≡ share_of (W.recording work.now) (W.rule_set work.now) (W.places work.now) workers worker }
     {
         SharePromise {
             source: work.source(),

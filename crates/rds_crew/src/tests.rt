@@ -1,4 +1,5 @@
-// What no contract says: that the calls succeed, that the workers run at the same time, and that their runs are used.
+//! What no contract says: that calls succeed, that the workers run at the same time, and that the
+//! report is made of their runs.
 ghost use Rattle.std.specs.Prelude.{◌≡◌, ◌<◌, IfOk, length};
 ghost use Rattle.rds_pieces.specs.Cutting.{IsCutting};
 
@@ -18,7 +19,7 @@ use std::test::Fail;
 
 /// The group of four zero words: 104 bits.
 const ZERO_GROUP: [u8; 13] = [
-    0x00, 0x00, 0x3F, 0x00, 0x00, 0x19, 0x80, 0x00, 0x5A, 0x00, 0x00, 0x1B, 0x4,
+    0x00, 0x00, 0x3F, 0x00, 0x00, 0x19, 0x80, 0x00, 0x05, 0xA0, 0x00, 0x01, 0xB4,
 ];
 
 /// The turns after which a worker no longer waits for the other.
@@ -65,7 +66,8 @@ fn zero_group(place: u64, first: Block) -> Item {
     })
 }
 
-/// Asserts that the report is that of so many zero groups: acquired at the first block 2, whose group lacks its block 1.
+/// Asserts that the report is that of so many zero groups: acquired at the first block 2, whose group
+/// lacks its block 1.
 fn assert_report_of<R: Abort>(
     rt: &R,
     alloc: Global,
@@ -120,8 +122,8 @@ fn every_cutting_and_number_of_workers_gives_one_report(rt: HostRuntime) -> Resu
     Ok(())
 }
 
-// With reach 4 the guess of the second piece locks on a wrong phase and never meets the run from the first bit; with
-// reach 3 it meets it at 208.
+// With reach 4 the guess of the second piece locks on a wrong phase and never meets the run from the
+// first bit; with reach 3 it meets it at 208.
 #[test]
 fn a_guess_that_never_meets_gives_the_same_report(rt: HostRuntime) -> Result<(), Fail> {
     let alloc = rt.alloc();
@@ -295,8 +297,8 @@ impl<'a, R: Wait, W: Work> Work for Noted<'a, R, W> {
     }
 }
 
-// One thread that makes both pieces in turn would miss: piece 0 waits for piece 1. A crew that drops the runs of its workers
-// would guess again, or report other runs than the gate was shown.
+// One thread that makes both pieces in turn would miss, since piece 0 waits for piece 1. A crew that
+// drops the runs of its workers would guess again, or report other runs than the gate was shown.
 #[test]
 fn two_workers_run_at_the_same_time_and_their_runs_make_the_report(
     rt: HostRuntime,
@@ -323,12 +325,18 @@ fn two_workers_run_at_the_same_time_and_their_runs_make_the_report(
     assert_eq!(&rt; work.reports.load(Ordering::SeqCst), 1);
     let reported = work.reported.lock(&rt);
     assert_eq!(&rt; reported.len(), 2);
-    let all_shown = &watch.shown;
-    for (j, (from, to)) in [(0, 104), (104, 208)].into_iter().enumerate() {
-        let shown = all_shown[j].lock(&rt);
+    assert_eq!(&rt;
+        reported.first().map(|run| (run.from, run.to)),
+        Some((0, 104))
+    );
+    assert_eq!(&rt;
+        reported.last().map(|run| (run.from, run.to)),
+        Some((104, 208))
+    );
+    for (shown, reported) in watch.shown.iter().zip(reported.iter()) {
+        let shown = shown.lock(&rt);
         let shown = shown.as_ref().expect(&rt, "a run that was made");
-        assert_eq!(&rt; (shown.from, shown.to), (from, to));
-        assert_eq!(&rt; shown, &reported[j]);
+        assert_eq!(&rt; shown, reported);
     }
     Ok(())
 }
