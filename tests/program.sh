@@ -69,6 +69,7 @@ for command in scan list totals encode; do
     check "help on $command" 0 '*--hex' '' '' help "$command"
 done
 check 'help names defaults' 0 '*[default: 10]' '' '' list --help
+check 'help names the default of the pieces' 0 '*[default: 16]' '' '' totals --help
 check 'no command' 2 '' '*Usage: rds <COMMAND>' ''
 check 'no such command' 2 '' '*tune' '' tune
 check 'no such option' 2 '' "*unexpected argument '--speed'" '' list --speed 3
@@ -134,6 +135,11 @@ check 'list of a block 4 that acquires' 0 \
 check 'list of a text group' 0 \
     "${acquired}group,26,2,A,none,B:2540,C:5244,D:5320\n$(totals 3 0 0 0 0 0 0 0 1 0 1 0)" '' \
     12341a89501ac52449594c83fb list --hex
+for crew in '1 1' '2 2' '208 256' '4294967295 3'; do
+    check "list by pieces and workers $crew" 0 \
+        "${first}group,104,0,A,A:0000,B:0000,C:0000,D:0000\n$(totals 7 0 0 0 0 0 0 0 2 1 1 0)" '' \
+        "$zero$zero" list --hex --pieces "${crew% *}" --workers "${crew#* }"
+done
 check 'totals alone' 0 "$(totals 2 0 0 0 0 1 0 2 1 0 1 0)" '' 00003f000019800005a00001a5 totals --hex --burst 5
 
 # ---- encode
@@ -151,6 +157,11 @@ check 'burst out of its range' 1 '' 'refused 1 BurstRange\n' '' list --burst 6
 check 'burst before reach' 1 '' 'refused 1 BurstRange\n' '' list --burst 6 --reach 0
 check 'reach out of its range' 1 '' 'refused 2 ReachRange\n' '' totals --reach 0
 check 'loss out of its range' 1 '' 'refused 3 LossRange\n' '' list --loss 65
+check 'no worker' 1 '' 'refused 7 CrewRange\n' '' list --workers 0
+check 'too many workers' 1 '' 'refused 7 CrewRange\n' '' totals --workers 257
+check 'no piece' 1 '' 'refused 6 BadCutting\n' '000' list --hex --pieces 0
+check 'loss before workers' 1 '' 'refused 3 LossRange\n' '' list --loss 65 --pieces 0
+check 'workers before pieces' 1 '' 'refused 7 CrewRange\n' '' list --pieces 0 --workers 0
 check 'more bits than the bytes hold' 1 '' 'refused 4 BitsPastBytes\n' '1234567' scan --bits 57
 check 'too many bits' 1 '' 'refused 5 TooLong\n' '' scan --bits 68719476737
 check 'an odd number of digits' 1 '' 'refused 11 HexText\n' '000' list --hex

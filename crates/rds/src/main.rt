@@ -8,10 +8,12 @@ use rds_tool::{CliFault, FaultKind, FromRead, Job, ToWrite, ToolError, job_of, t
 use std::env;
 use std::io::ErrorKind;
 use std::process::ExitCode;
+use std::sync::Wait;
+use std::thread::Threads;
 
 fn main(rt: HostRuntime) -> ExitCode {
     match asked_for(&rt) {
-        Ok(job) => run(&rt, &job),
+        Ok(job) => run(&rt, &rt, &job),
         Err(fault) => show(&rt, &fault),
     }
 }
@@ -47,10 +49,11 @@ fn fault(rt: &HostRuntime, kind: FaultKind, text: &str) -> CliFault {
     }
 }
 
-fn run(rt: &HostRuntime, job: &Job) -> ExitCode {
+// Does the job from standard input to standard output, with the threads of its crew.
+fn run<R: Threads + Wait>(rt: &HostRuntime, crew: &R, job: &Job) -> ExitCode {
     let mut reader = FromRead::new(rt.stdin());
     let mut writer = ToWrite::new(rt.stdout());
-    match transcribe(rt.alloc(), &mut reader, &mut writer, job) {
+    match transcribe(crew, rt.alloc(), &mut reader, &mut writer, job) {
         Ok(()) => ExitCode::SUCCESS,
         Err(error) => refuse(rt, error),
     }

@@ -51,7 +51,7 @@ pub group_as_digits : (old digits bytes middle new : List ℕ) (hex : Bool) (wor
     → middle ≡ old ++ digits → new ≡ middle ++ 10 ∷ [] → new ≡ old ++ group_text hex words
 group_as_digits old digits bytes middle new hex words h b d m n =
     n ∙ ap (λ t. t ++ 10 ∷ []) m ∙ append_assoc old digits (10 ∷ [])
-      ∙ ap (λ t. old ++ t) (ap (λ t. t ++ 10 ∷ []) (d ∙ ap encode_lower b) ∙ sym (ap (λ x. group_text x words) h))
+    ∙ ap (λ t. old ++ t) (ap (λ t. t ++ 10 ∷ []) (d ∙ ap encode_lower b) ∙ sym (ap (λ x. group_text x words) h))
 
 -- a group as bytes
 pub group_as_bytes : (old bytes new : List ℕ) (hex : Bool) (words : List ℕ) → hex ≡ false → bytes ≡ group_bytes words → new ≡ old ++ bytes → new ≡ old ++ group_text hex words

@@ -4,3 +4,4 @@ pub mod RowText
 pub mod Steps
 pub mod Encoding
 pub mod Texts
+pub mod Cuttings

@@ -1,8 +1,8 @@
 -- What `csv` writes of fields that need no quotes.
-use Rattle.std.proofs.Common.{◌/◌, ◌%◌, ◌||◌, Bool, Option, Some, None, get_or, slice_index, suc, true, zero, ◌+◌, ◌++◌, ◌<◌, ◌^◌, ◌∙◌, ◌∷◌, ◌≡◌, ◌≤◌, List, [], ap, append-nil, append_assoc, arith, false, length, map, refl, sym, ℕ, Bor}
+use Rattle.std.proofs.Common.{◌/◌, ◌%◌, ◌||◌, Bool, Option, Some, None, get_or, slice_index, suc, true, zero, ◌++◌, ◌<◌, ◌^◌, ◌∙◌, ◌∷◌, ◌≡◌, ◌≤◌, List, [], ap, append-nil, arith, false, length, map, refl, ℕ, Bor}
 use Rattle.std.specs.Prelude.{IfSome, decimal}
 use Rattle.std.specs.Char.{digit_value}
-use Rattle.std.specs.List.{AllByRecursion, flat_map, join_with_byte}
+use Rattle.std.specs.List.{AllByRecursion, join_with_byte}
 use Rattle.std.specs.Str.Parse.{AllDigits}
 use Rattle.std.proofs.lemmas.Bool.Decides.{nat_tests}
 use Rattle.std.proofs.lemmas.Fmt.{decimal_is_IsNumeral}

@@ -1,5 +1,5 @@
 -- The texts of the tasks, and what they can't be refused for.
-use Rattle.std.proofs.Common.{◌++◌, ◌∙◌, ◌*◌, ◌^◌, length, not, nat_lt, ◌≡◌, ◌≢◌, ◌⊎◌, Bool, Err, List, None, Ok, Option, Result, Some, [], ◌∷◌, ap, ap₂, false, if◌then◌else◌, inl, inr, refl, subst, sym, true, ℕ}
+use Rattle.std.proofs.Common.{◌++◌, ◌∙◌, ◌*◌, ◌^◌, length, not, nat_lt, ◌≡◌, ◌≢◌, ◌⊎◌, Bool, Err, List, None, Ok, Option, Result, Some, [], ◌∷◌, ap, ap₂, false, if◌then◌else◌, inl, inr, subst, sym, true, ℕ}
 use Rattle.std.specs.Prelude.{IfErr, IfSome, OnErr}
 use Rattle.std.specs.List.{filter}
 use Rattle.hex.specs.Hex.{decode_of, decode_sized}
@@ -10,13 +10,16 @@ use Rattle.rds_sync.specs.Rules.{RuleNumbers}
 use Rattle.rds_sync.specs.Totals.{totals_of}
 use Rattle.rds_sync.specs.declared.item.Item.{Item}
 use Rattle.rds_sync.specs.declared.totals.Totals.{Totals}
+use Rattle.rds_tool.specs.Cuts.{cuts_bits}
 use Rattle.rds_tool.specs.GroupText.{line_text, lines_of, lines_text, words_of, words_or_refusal, group_text}
 use Rattle.rds_tool.specs.Input.{and_then, bytes_of, claimed, decoded, first_bits, is_blank, or_hex_text, recording_of}
 use Rattle.rds_tool.specs.Listing.{report_text, totals_text}
-use Rattle.rds_tool.specs.Outcome.{WritesFront, list_text, outcome, text_of_task, totals_list}
+use Rattle.rds_tool.specs.Outcome.{WritesFront, cut_recording, list_text, outcome, text_of_task, totals_list}
+use Rattle.rds_tool.specs.Plans.{PlanOf, cut_by}
 use Rattle.rds_tool.specs.Tasks.{task_of}
 use Rattle.rds_tool.specs.declared.error.ToolError.{ToolError}
-use Rattle.rds_tool.specs.declared.error.ToolError.TheVariants.{BitsPastBytes, BurstRange, GroupText, HexText, LossRange, OutOfMemory, Read, ReachRange, TooLong, TooManyTurns, Write}
+use Rattle.rds_tool.specs.declared.error.ToolError.TheVariants.{BadCutting, BitsPastBytes, GroupText, HexText, NoWorker, OutOfMemory, Read, TooLong, TooManyTurns, Write}
+use Rattle.rds_tool.specs.declared.job.Cuts.{Cuts}
 use Rattle.rds_tool.specs.declared.job.Input.{Input}
 use Rattle.rds_tool.specs.declared.job.Job.{Job}
 use Rattle.rds_tool.specs.declared.task.Task.{Task}
@@ -24,21 +27,29 @@ use Rattle.rds_tool.specs.declared.task.Task.TheVariants as task
 
 -- ---- the texts
 
-pub list_made : (t : Task) (input : Input) (rules : RuleNumbers) (held bits : List ℕ) (items : List Item) (totals : Totals) (text : List ℕ)
-    → t ≡ task.List input rules → recording_of input held ≡ Ok bits → items ≡ report_items bits rules → totals ≡ totals_of (report_items bits rules)
-    → text ≡ report_text items totals → text_of_task t held ≡ Ok text
-list_made t input rules held bits items totals text is recorded i o made =
-    ap (λ k. text_of_task k held) is
-    ∙ ap (λ r. and_then r (λ b. Ok (list_text rules b))) recorded
-    ∙ ap (λ x. Ok x) (ap₂ report_text (sym i) (sym o) ∙ sym made)
+module _ (input : Input) (plan : PlanOf) (held bits : List ℕ) where
+  cut : recording_of input held ≡ Ok bits → cut_by plan.cuts bits ≡ Ok bits → cut_recording input plan.cuts held ≡ Ok bits
+  cut recorded fits = ap (λ r. and_then r (cut_by plan.cuts)) recorded ∙ fits
 
-pub totals_made : (t : Task) (input : Input) (rules : RuleNumbers) (held bits : List ℕ) (totals : Totals) (text : List ℕ)
-    → t ≡ task.Totals input rules → recording_of input held ≡ Ok bits → totals ≡ totals_of (report_items bits rules)
-    → text ≡ totals_text totals → text_of_task t held ≡ Ok text
-totals_made t input rules held bits totals text is recorded o made =
-    ap (λ k. text_of_task k held) is
-    ∙ ap (λ r. and_then r (λ b. Ok (totals_list rules b))) recorded
-    ∙ ap (λ x. Ok x) (ap totals_text (sym o) ∙ sym made)
+  pub list_made : (t : Task) (items : List Item) (totals : Totals) (text : List ℕ)
+      → t ≡ task.List input plan → recording_of input held ≡ Ok bits → cut_by plan.cuts bits ≡ Ok bits → items ≡ report_items bits plan.rules
+      → totals ≡ totals_of (report_items bits plan.rules) → text ≡ report_text items totals → text_of_task t held ≡ Ok text
+  list_made t items totals text is recorded fits i o made =
+      ap (λ k. text_of_task k held) is
+      ∙ ap (λ r. and_then r (λ b. Ok (list_text plan.rules b))) (cut recorded fits)
+      ∙ ap (λ x. Ok x) (ap₂ report_text (sym i) (sym o) ∙ sym made)
+
+  pub totals_made : (t : Task) (totals : Totals) (text : List ℕ)
+      → t ≡ task.Totals input plan → recording_of input held ≡ Ok bits → cut_by plan.cuts bits ≡ Ok bits → totals ≡ totals_of (report_items bits plan.rules)
+      → text ≡ totals_text totals → text_of_task t held ≡ Ok text
+  totals_made t totals text is recorded fits o made =
+      ap (λ k. text_of_task k held) is
+      ∙ ap (λ r. and_then r (λ b. Ok (totals_list plan.rules b))) (cut recorded fits)
+      ∙ ap (λ x. Ok x) (ap totals_text (sym o) ∙ sym made)
+
+pub totals_counted : (totals : Totals) (work bits : List ℕ) (given rules : RuleNumbers)
+    → totals ≡ totals_of (report_items work given) → work ≡ bits → given ≡ rules → totals ≡ totals_of (report_items bits rules)
+totals_counted totals work bits given rules counted same_bits same_rules = counted ∙ ap₂ (λ b r. totals_of (report_items b r)) same_bits same_rules
 
 -- ---- the refusals
 
@@ -48,6 +59,7 @@ IsOfBytes BitsPastBytes = Unit {0}
 IsOfBytes TooLong = Unit {0}
 IsOfBytes HexText = Unit {0}
 IsOfBytes GroupText = Unit {0}
+IsOfBytes BadCutting = Unit {0}
 IsOfBytes e = ⊥
 
 -- neither refusal is a device's
@@ -58,10 +70,17 @@ inside : (e : ToolError) → IsOfBytes e → IsInside e
 inside e h = (λ p. subst IsOfBytes p h, λ p. subst IsOfBytes p h, λ p. subst IsOfBytes p h)
 
 memory_inside : (e : ToolError) → e ≡ OutOfMemory → IsInside e
-memory_inside e m =
-    ( λ p. let bad : OutOfMemory ≡ Read = sym m ∙ p in cc bad
-    , λ p. let bad : OutOfMemory ≡ Write = sym m ∙ p in cc bad
-    , λ p. let bad : OutOfMemory ≡ TooManyTurns = sym m ∙ p in cc bad
+memory_inside e m = (
+  λ p. let bad : OutOfMemory ≡ Read = sym m ∙ p in cc bad,
+  λ p. let bad : OutOfMemory ≡ Write = sym m ∙ p in cc bad,
+  λ p. let bad : OutOfMemory ≡ TooManyTurns = sym m ∙ p in cc bad,
+)
+
+threads_inside : (e : ToolError) → e ≡ NoWorker → IsInside e
+threads_inside e m =
+    ( λ p. let bad : NoWorker ≡ Read = sym m ∙ p in cc bad
+    , λ p. let bad : NoWorker ≡ Write = sym m ∙ p in cc bad
+    , λ p. let bad : NoWorker ≡ TooManyTurns = sym m ∙ p in cc bad
     )
 
 module _ {A B : Type 0} where
@@ -89,6 +108,14 @@ recording_errs input held =
     (bytes_errs input.hex (decoded held) (Ok held) (hex_errs (decode_of (filter (λ b. not (is_blank b)) held))) tt)
     (λ bytes. let n = claimed input.bits bytes in first_errs (nat_lt (2 ^ 36) n) (nat_lt (8 * length bytes) n) (bits_of bytes n))
 
+cut_by_errs : (fits : Bool) (bits : List ℕ) → let r : Result (List ℕ) ToolError = if fits then Ok bits else Err BadCutting in IfErr r IsOfBytes
+cut_by_errs true bits = tt
+cut_by_errs false bits = tt
+
+cut_errs : (input : Input) (cuts : Cuts) (held : List ℕ) → IfErr (cut_recording input cuts held) IsOfBytes
+cut_errs input cuts held =
+    then_errs IsOfBytes (recording_of input held) (cut_by cuts) (recording_errs input held) (λ bits. cut_by_errs (cuts_bits cuts (length bits)) bits)
+
 words_errs : (r : Result (List ℕ) FromHexError) → IfErr (words_or_refusal r) IsOfBytes
 words_errs (Ok bytes) = tt
 words_errs (Err e) = tt
@@ -105,14 +132,15 @@ lines_errs hex (line ∷ lines) =
 
 task_errs : (t : Task) (held : List ℕ) → IfErr (text_of_task t held) IsOfBytes
 task_errs (task.Scan input) held = then_errs IsOfBytes (recording_of input held) _ (recording_errs input held) (λ bits. tt)
-task_errs (task.List input rules) held = then_errs IsOfBytes (recording_of input held) _ (recording_errs input held) (λ bits. tt)
-task_errs (task.Totals input rules) held = then_errs IsOfBytes (recording_of input held) _ (recording_errs input held) (λ bits. tt)
+task_errs (task.List input plan) held = then_errs IsOfBytes (cut_recording input plan.cuts held) _ (cut_errs input plan.cuts held) (λ bits. tt)
+task_errs (task.Totals input plan) held = then_errs IsOfBytes (cut_recording input plan.cuts held) _ (cut_errs input plan.cuts held) (λ bits. tt)
 task_errs (task.Encode hex) held = lines_errs hex (lines_of held)
 
--- a text is refused for want of memory or for its bytes
-pub refused_inside : (t : Task) (held : List ℕ) (e : ToolError) → (e ≡ OutOfMemory) ⊎ (text_of_task t held ≡ Err e) → IsInside e
+-- a text is refused for want of memory or threads, or for its bytes
+pub refused_inside : (t : Task) (held : List ℕ) (e : ToolError) → (e ≡ OutOfMemory) ⊎ ((e ≡ NoWorker) ⊎ (text_of_task t held ≡ Err e)) → IsInside e
 refused_inside t held e (inl m) = memory_inside e m
-refused_inside t held e (inr p) = inside e (let P : Result (List ℕ) ToolError → Type 0 = λ r. IfErr r IsOfBytes in subst P p (task_errs t held))
+refused_inside t held e (inr (inl m)) = threads_inside e m
+refused_inside t held e (inr (inr p)) = inside e (let P : Result (List ℕ) ToolError → Type 0 = λ r. IfErr r IsOfBytes in subst P p (task_errs t held))
 
 -- ---- the outcome
 

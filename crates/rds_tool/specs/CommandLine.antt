@@ -8,6 +8,8 @@ use Rattle.clap.specs.declared.error.kind.ErrorKind.{ErrorKind}
 use Rattle.clap.specs.declared.error.kind.ErrorKind.TheVariants as kind
 use Rattle.rds_tool.specs.declared.cli.FaultKind.{FaultKind}
 use Rattle.rds_tool.specs.declared.cli.FaultKind.TheVariants.{Help, Memory, Words}
+use Rattle.rds_tool.specs.declared.job.Cuts.{Cuts}
+use Rattle.rds_tool.specs.declared.job.Cuts.TheVariants.{At, Even}
 use Rattle.rds_tool.specs.declared.job.Input.{Input}
 use Rattle.rds_tool.specs.declared.job.Job.{Job}
 use Rattle.rds_tool.specs.declared.job.Settings.{Settings}
@@ -32,10 +34,11 @@ number_rule name default =
 abbrev pub with_input : App → App
 with_input command = with_rule (with_rule command hex_rule) bits_rule
 
--- the options of one that reads it by the rules of a synchroniser
+-- the options of one that reads it by the rules of a synchroniser, piece by piece
 abbrev pub with_rules : App → App
-with_rules command = with_rule (with_rule (with_rule command
-    (number_rule (codes "burst") (codes "2"))) (number_rule (codes "reach") (codes "3"))) (number_rule (codes "loss") (codes "10"))
+with_rules command = with_rule (with_rule (with_rule (with_rule (with_rule command
+    (number_rule (codes "burst") (codes "2"))) (number_rule (codes "reach") (codes "3"))) (number_rule (codes "loss") (codes "10")))
+    (number_rule (codes "pieces") (codes "16"))) (number_rule (codes "workers") (codes "4"))
 
 abbrev pub recording_app : Text → App
 recording_app name = with_input (new_app name)
@@ -84,11 +87,18 @@ pub record IsInput (rows : List Row) (input : Input) : Type 0 where
   pub hex : IsFlag (one_of (codes "hex") rows) input.hex
   pub bits : MaySpell 64 (one_of (codes "bits") rows) input.bits
 
+-- the entry spells how many pieces an even cutting has at most
+abbrev pub SpellsPieces : Option Text → Cuts → Type 0
+SpellsPieces entry (Even pieces) = Spells 32 entry pieces
+SpellsPieces entry (At cuts) = ⊥
+
 -- the settings that the entries give
 pub record AreSettings (rows : List Row) (settings : Settings) : Type 0 where
   pub burst : Spells 32 (one_of (codes "burst") rows) settings.burst
   pub reach : Spells 32 (one_of (codes "reach") rows) settings.reach
   pub loss : Spells 32 (one_of (codes "loss") rows) settings.loss
+  pub workers : Spells 32 (one_of (codes "workers") rows) settings.workers
+  pub cuts : SpellsPieces (one_of (codes "pieces") rows) settings.cuts
 
 -- the job that a command and its entries give
 abbrev pub IsJob : Text → List Row → Job → Type 0

@@ -4,6 +4,8 @@ pub mod Ends
 pub mod CommandLine
 pub mod Input
 pub mod Rules
+pub mod Cuts
+pub mod Plans
 pub mod Tasks
 pub mod Listing
 pub mod GroupText

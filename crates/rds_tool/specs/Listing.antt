@@ -84,7 +84,7 @@ total_row total = row (codes "total" ∷ total.0 ∷ decimal total.1 ∷ dash �
 -- the twelve totals, each with its name
 abbrev pub named_totals : Totals → List (List ℕ × ℕ)
 named_totals totals =
-      (codes "valid", totals.valid)
+    (codes "valid", totals.valid)
     ∷ (codes "burst1", slice_index totals.bursts 0)
     ∷ (codes "burst2", slice_index totals.bursts 1)
     ∷ (codes "burst3", slice_index totals.bursts 2)

@@ -8,9 +8,12 @@ use Rattle.rds_sync.specs.Totals.{totals_of}
 use Rattle.rds_tool.specs.GroupText.{encoded_text}
 use Rattle.rds_tool.specs.Input.{and_then, recording_of}
 use Rattle.rds_tool.specs.Listing.{report_text, scan_text, totals_text}
+use Rattle.rds_tool.specs.Plans.{cut_by}
 use Rattle.rds_tool.specs.Tasks.{task_of}
 use Rattle.rds_tool.specs.declared.error.ToolError.{ToolError}
-use Rattle.rds_tool.specs.declared.error.ToolError.TheVariants.{OutOfMemory, Read, TooManyTurns, Write}
+use Rattle.rds_tool.specs.declared.error.ToolError.TheVariants.{NoWorker, OutOfMemory, Read, TooManyTurns, Write}
+use Rattle.rds_tool.specs.declared.job.Cuts.{Cuts}
+use Rattle.rds_tool.specs.declared.job.Input.{Input}
 use Rattle.rds_tool.specs.declared.job.Job.{Job}
 use Rattle.rds_tool.specs.declared.task.Task.{Task}
 use Rattle.rds_tool.specs.declared.task.Task.TheVariants as task
@@ -23,11 +26,15 @@ list_text rules bits = report_text (report_items bits rules) (totals_of (report_
 abbrev pub totals_list : RuleNumbers → List ℕ → List ℕ
 totals_list rules bits = totals_text (totals_of (report_items bits rules))
 
--- the text of a task over the bytes held, or the refusal of these bytes
+-- the bits of the recording, if they can be cut so
+abbrev pub cut_recording : Input → Cuts → List ℕ → Result (List ℕ) ToolError
+cut_recording input cuts held = and_then (recording_of input held) (cut_by cuts)
+
+-- the text of a task over the bytes held, or the refusal of these bytes; no text depends on the cuts or the workers
 abbrev pub text_of_task : Task → List ℕ → Result (List ℕ) ToolError
 text_of_task (task.Scan input) held = and_then (recording_of input held) (λ bits. Ok (scan_text bits))
-text_of_task (task.List input rules) held = and_then (recording_of input held) (λ bits. Ok (list_text rules bits))
-text_of_task (task.Totals input rules) held = and_then (recording_of input held) (λ bits. Ok (totals_list rules bits))
+text_of_task (task.List input plan) held = and_then (cut_recording input plan.cuts held) (λ bits. Ok (list_text plan.rules bits))
+text_of_task (task.Totals input plan) held = and_then (cut_recording input plan.cuts held) (λ bits. Ok (totals_list plan.rules bits))
 text_of_task (task.Encode hex) held = encoded_text hex held
 
 -- the text of a job over the bytes held, or its refusal; the settings are looked at first
@@ -36,7 +43,7 @@ outcome job held = and_then (task_of job) (λ task. text_of_task task held)
 
 -- the refusals that the job and the bytes don't decide
 abbrev pub IsOutside : ToolError → Type 0
-IsOutside e = (e ≡ OutOfMemory) ⊎ ((e ≡ Read) ⊎ ((e ≡ Write) ⊎ (e ≡ TooManyTurns)))
+IsOutside e = (e ≡ OutOfMemory) ⊎ ((e ≡ NoWorker) ⊎ ((e ≡ Read) ⊎ ((e ≡ Write) ⊎ (e ≡ TooManyTurns))))
 
 -- the writer has got the whole text
 abbrev pub Writes : Option (List ℕ) → Option (List ℕ) → Result (List ℕ) ToolError → Type 0

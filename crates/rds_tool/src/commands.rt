@@ -47,7 +47,10 @@ fn totals_command<'a>(alloc: Global) -> Result<Command<'a>, AllocError>
     ensures app { IfOk result (λ command. app_of command ≡ ruled_app (codes "totals")) }
     ensures local { IfOk result (λ command. (fields_of command).has_globals ≡ false) }
 {
-    ruled_command(alloc, named(alloc, "totals", help::TOTALS, help::TOTALS_AFTER))
+    ruled_command(
+        alloc,
+        named(alloc, "totals", help::TOTALS, help::TOTALS_AFTER),
+    )
 }
 
 fn encode_command<'a>(alloc: Global) -> Result<Command<'a>, AllocError>
@@ -75,7 +78,7 @@ fn recording_command<'a>(alloc: Global, command: Command<'a>) -> Result<Command<
     Ok(command)
 }
 
-// Such a command with the rules of the synchroniser too.
+// Such a command with the rules of the synchroniser and the size of its crew too.
 fn ruled_command<'a>(alloc: Global, command: Command<'a>) -> Result<Command<'a>, AllocError>
     ensures app { IfOk result (λ r. app_of r ≡ with_rules (with_input (app_of command.entry))) }
     ensures local { IfOk result (λ r. (fields_of r).has_globals ≡ (fields_of command.entry).has_globals) }
@@ -84,6 +87,8 @@ fn ruled_command<'a>(alloc: Global, command: Command<'a>) -> Result<Command<'a>,
     let command = with_option(command, number_option(alloc, "burst", "2", help::BURST))?;
     let command = with_option(command, number_option(alloc, "reach", "3", help::REACH))?;
     let command = with_option(command, number_option(alloc, "loss", "10", help::LOSS))?;
+    let command = with_option(command, number_option(alloc, "pieces", "16", help::PIECES))?;
+    let command = with_option(command, number_option(alloc, "workers", "4", help::WORKERS))?;
     Ok(command)
 }
 

@@ -97,7 +97,8 @@ fn bytes_of_group(words: [u16; 4]) -> [u8; 13]
 {
     const BLOCK: u128 = 1 << 26;
     let [one, two, three, four] = encode_group(words);
-    let bits = ((u128::from(one) * BLOCK + u128::from(two)) * BLOCK + u128::from(three)) * BLOCK + u128::from(four);
+    let bits = ((u128::from(one) * BLOCK + u128::from(two)) * BLOCK + u128::from(three)) * BLOCK
+        + u128::from(four);
     let mut bytes = [0; 13];
     bytes.copy_from_slice(&bits.to_be_bytes()[3..]);
     bytes

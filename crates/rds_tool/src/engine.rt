@@ -6,7 +6,10 @@ ghost use Rattle.rds_tool.specs.Tasks.{task_of};
 
 use crate::task::Task;
 use crate::{Failed, Job, Sink, Source, ToolError};
+use rds_crew::{Gate, OpenGate};
 use std::alloc::{AllocError, Global};
+use std::sync::Wait;
+use std::thread::Threads;
 
 /// How many reads may give bytes before the end comes.
 const TURNS: u64 = 16_777_216;
@@ -16,11 +19,18 @@ const CHUNK: usize = 65_536;
 
 /// Reads all bytes of the reader, does the job, writes the whole text and flushes.
 ///
-/// Refusals come in this order: those of the settings (`BurstRange`, `ReachRange`, `LossRange`), before
-/// anything is read, those of the reader (`Read`, `TooManyTurns`), those of the job and the
-/// bytes (`HexText`, `TooLong`, `BitsPastBytes`, or `GroupText`), those of the writer (`Write`). `OutOfMemory` may come
-/// wherever memory is taken. The text is complete before its first byte is written.
-pub fn transcribe<S: Source, K: Sink>(
+/// Where a list is asked for and the answer is `Ok`, the bytes written are the listing of the report that one decoder
+/// gives, reading bit by bit from the first: for every recording, all rules, every cutting and 1 to 256 workers, in
+/// whatever order their threads ended. The premise is that reader and writer tell their bytes, as those over memory do.
+/// The listing and the report are defined over whole locks, with no word of pieces or workers.
+///
+/// Refusals come in this order: those of the settings (`BurstRange`, `ReachRange`, `LossRange`, `CrewRange`, and
+/// `BadCutting` for no piece), before anything is read, those of the reader (`Read`, `TooManyTurns`), those of the job and
+/// the bytes (`HexText`, `TooLong`, `BitsPastBytes`, `BadCutting`, or `GroupText`), `NoWorker`, where the system started
+/// no thread for a worker, and those of the writer (`Write`). `OutOfMemory` may come wherever memory is taken. The text is
+/// complete before its first byte is written, and no thread outlives the call.
+pub fn transcribe<R: Threads + Wait, S: Source, K: Sink>(
+    rt: &R,
     alloc: Global,
     reader: &mut S,
     writer: &mut K,
@@ -46,19 +56,57 @@ pub fn transcribe<S: Source, K: Sink>(
     ensures untouched { IfErr result (λ error. error ≢ ToolError.Write → writer.new ≡ writer.old) }
     ensures front { IsErrOf result ToolError.Write → IfSome (S.remaining reader.old) (λ held. WritesFront (K.contents writer.old) (K.contents writer.new) (outcome job.now held)) }
 {
+    transcribe_gated(rt, alloc, reader, writer, job, &OpenGate)
+}
+
+/// [`transcribe`] with a gate, which the crew of a list or of totals calls round each piece.
+pub fn transcribe_gated<R: Threads + Wait, S: Source, K: Sink, G: Gate + Sync>(
+    rt: &R,
+    alloc: Global,
+    reader: &mut S,
+    writer: &mut K,
+    job: &Job,
+    gate: &G,
+) -> Result<(), ToolError>
+    requires reads { S.failed reader.old < 2 ^ 63 }
+    requires writes { K.failed writer.old < 2 ^ 63 }
+
+    // The whole input was read, and the text that the job makes of it was written.
+    ensures end { OnOk result (IsAtEnd (S.remaining reader.new)) }
+    ensures ok { OnOk result (IfSome (S.remaining reader.old) (λ held. Writes (K.contents writer.old) (K.contents writer.new) (outcome job.now held))) }
+
+    // A refusal for the devices' sake comes exactly where one failed, and another is that of the job.
+    ensures read { IsErrOf result ToolError.Read ↔ (S.failed reader.old < S.failed reader.new) }
+    ensures write { IsErrOf result ToolError.Write ↔ (K.failed writer.old < K.failed writer.new) }
+    ensures turns { IsErrOf result ToolError.TooManyTurns → IfSome (S.remaining reader.old) (λ held. 16777216 ≤ length held) }
+    ensures refused { IfErr result (λ error. IsOutside error ⊎ IfSome (S.remaining reader.old) (λ held. outcome job.now held ≡ Err error)) }
+
+    // Settings out of their range are refused as such before anything is read.
+    ensures settings { IfErr (task_of job.now) (λ error. (result ≡ Err error) × (reader.new ≡ reader.old)) }
+
+    // What the writer has after a refusal.
+    ensures untouched { IfErr result (λ error. error ≢ ToolError.Write → writer.new ≡ writer.old) }
+    ensures front { IsErrOf result ToolError.Write → IfSome (S.remaining reader.old) (λ held. WritesFront (K.contents writer.old) (K.contents writer.new) (outcome job.now held)) }
+{
     let task = Task::of(alloc, job)?;
     let held = read_all(alloc, reader)?;
-    let text = text_of(alloc, &task, held)?;
+    let text = text_of(rt, alloc, &task, held, gate)?;
     write_all(writer, text.as_slice())
 }
 
 // The text of a task over the bytes that the reader held. No refusal here is a device's.
-fn text_of(alloc: Global, task: &Task, held: Vec<u8>) -> Result<Vec<u8>, ToolError>
+fn text_of<R: Threads + Wait, G: Gate + Sync>(
+    rt: &R,
+    alloc: Global,
+    task: &Task<'_>,
+    held: Vec<u8>,
+    gate: &G,
+) -> Result<Vec<u8>, ToolError>
     ensures ok { IfOk result (λ text. text_of_task task.now held.items ≡ Ok text.items) }
-    ensures refused { IfErr result (λ error. (error ≡ ToolError.OutOfMemory) ⊎ (text_of_task task.now held.items ≡ Err error)) }
+    ensures refused { IfErr result (λ error. (error ≡ ToolError.OutOfMemory) ⊎ ((error ≡ ToolError.NoWorker) ⊎ (text_of_task task.now held.items ≡ Err error))) }
     ensures inside { IfErr result (λ error. (error ≢ ToolError.Read) × (error ≢ ToolError.Write) × (error ≢ ToolError.TooManyTurns)) }
 {
-    task.text(alloc, held)
+    task.text(rt, alloc, held, gate)
 }
 
 // All bytes of the reader, to its end.

@@ -1,12 +1,13 @@
 //! The entries of a parsed command line, as a job.
 ghost use Rattle.std.specs.Prelude.{◌≡◌, IfNone, IfSome, List, Option, codes, ℕ};
 ghost use Rattle.clap.specs.Words.{found_of, one_of, rows_of, subcommand_rows_of};
+ghost use Rattle.rds_tool.specs.declared.job.Cuts.{Cuts};
 ghost use Rattle.rds_tool.specs.declared.job.Input.{Input};
 ghost use Rattle.rds_tool.specs.declared.job.Job.{Job};
 ghost use Rattle.rds_tool.specs.declared.job.Settings.{Settings};
-ghost use Rattle.rds_tool.specs.CommandLine.{AreSettings, IsFlag, IsInput, IsJob, IsJobOf, MaySpell, Spells};
+ghost use Rattle.rds_tool.specs.CommandLine.{AreSettings, IsFlag, IsInput, IsJob, IsJobOf, MaySpell, Spells, SpellsPieces};
 
-use crate::{Input, Job, Settings};
+use crate::{Cuts, Input, Job, Settings};
 use clap::ArgMatches;
 
 /// The job of a parsed command line, or none where no job has its entries.
@@ -51,7 +52,17 @@ fn settings_in(entries: &ArgMatches<'_>) -> Option<Settings>
         burst: number_in(entries, "burst")?,
         reach: number_in(entries, "reach")?,
         loss: number_in(entries, "loss")?,
+        workers: number_in(entries, "workers")?,
+        cuts: cuts_in(entries)?,
     })
+}
+
+fn cuts_in(entries: &ArgMatches<'_>) -> Option<Cuts>
+    ensures cuts { IfSome result (SpellsPieces (one_of (codes "pieces") (rows_of (found_of entries.now)))) }
+    ensures none { IfNone result ((cuts : Cuts) → SpellsPieces (one_of (codes "pieces") (rows_of (found_of entries.now))) cuts → ⊥) }
+{
+    let pieces = number_in(entries, "pieces")?;
+    Some(Cuts::Even(u64::from(pieces)))
 }
 
 fn number_in(entries: &ArgMatches<'_>, name: &str) -> Option<u32>

@@ -1,8 +1,10 @@
 //! Why a transcription is refused.
 ghost use Rattle.std.specs.Prelude.{◌≡◌};
-ghost use Rattle.rds_tool.specs.Refusals.{name_of, number_of, of_stream, of_sync};
+ghost use Rattle.rds_tool.specs.Refusals.{name_of, number_of, of_crew, of_piece, of_stream, of_sync};
 ghost use Rattle.rds_tool.specs.declared.error.ToolError.TheVariants.{OutOfMemory};
 
+use rds_crew::CrewError;
+use rds_pieces::PieceError;
 use rds_stream::StreamError;
 use rds_sync::SyncError;
 use std::alloc::{AllocError, AllocFailed};
@@ -26,6 +28,12 @@ pub enum ToolError {
     /// The recording has more than 2^36 bits.
     #[error("the recording has more than 2^36 bits")]
     TooLong,
+    /// The places of the cuts don't cut the recording, or an even cutting is asked for with no piece.
+    #[error("the cuts are no cutting of the recording")]
+    BadCutting,
+    /// The workers are not 1 to 256.
+    #[error("the workers are not 1 to 256")]
+    CrewRange,
     /// A growth of memory was refused.
     #[error("out of memory")]
     OutOfMemory,
@@ -44,6 +52,9 @@ pub enum ToolError {
     /// The reader gave bytes 16,777,216 times, and no end had come.
     #[error("the input has no end")]
     TooManyTurns,
+    /// The system refused to start a thread.
+    #[error("a thread was not started")]
+    NoWorker,
 }
 
 impl ToolError {
@@ -57,12 +68,15 @@ impl ToolError {
             ToolError::LossRange => 3,
             ToolError::BitsPastBytes => 4,
             ToolError::TooLong => 5,
+            ToolError::BadCutting => 6,
+            ToolError::CrewRange => 7,
             ToolError::OutOfMemory => 8,
             ToolError::Read => 9,
             ToolError::Write => 10,
             ToolError::HexText => 11,
             ToolError::GroupText => 12,
             ToolError::TooManyTurns => 13,
+            ToolError::NoWorker => 14,
         }
     }
 
@@ -76,12 +90,15 @@ impl ToolError {
             ToolError::LossRange => "LossRange",
             ToolError::BitsPastBytes => "BitsPastBytes",
             ToolError::TooLong => "TooLong",
+            ToolError::BadCutting => "BadCutting",
+            ToolError::CrewRange => "CrewRange",
             ToolError::OutOfMemory => "OutOfMemory",
             ToolError::Read => "Read",
             ToolError::Write => "Write",
             ToolError::HexText => "HexText",
             ToolError::GroupText => "GroupText",
             ToolError::TooManyTurns => "TooManyTurns",
+            ToolError::NoWorker => "NoWorker",
         }
     }
 }
@@ -123,6 +140,29 @@ impl From<SyncError> for ToolError {
             SyncError::ReachRange => ToolError::ReachRange,
             SyncError::LossRange => ToolError::LossRange,
             SyncError::OutOfMemory => ToolError::OutOfMemory,
+        }
+    }
+}
+
+impl From<PieceError> for ToolError {
+    ghost from_gives = { λ below error. error ≡ of_piece below };
+
+    fn from(error: PieceError) -> ToolError {
+        match error {
+            PieceError::BadCutting => ToolError::BadCutting,
+            PieceError::OutOfMemory => ToolError::OutOfMemory,
+        }
+    }
+}
+
+impl From<CrewError> for ToolError {
+    ghost from_gives = { λ below error. error ≡ of_crew below };
+
+    fn from(error: CrewError) -> ToolError {
+        match error {
+            CrewError::CrewRange => ToolError::CrewRange,
+            CrewError::OutOfMemory => ToolError::OutOfMemory,
+            CrewError::NoWorker => ToolError::NoWorker,
         }
     }
 }

@@ -34,11 +34,13 @@ impl Field {
             Block::Missing => Field::of(b"none"),
             Block::Read(Reading::Lost) => Field::of(b"lost"),
             Block::Read(Reading::Valid { offset, info }) => Field::of_word(offset, info),
-            Block::Read(Reading::Corrected {
-                offset,
-                info,
-                burst,
-            }) => {
+            Block::Read(
+                Reading::Corrected {
+                    offset,
+                    info,
+                    burst,
+                },
+            ) => {
                 let mut field = Field::of_word(offset, info);
                 field.push(b'~');
                 field.push_all(&seven_digits(burst.pattern()));

@@ -10,8 +10,19 @@ pub struct Input {
     pub bits: Option<u64>,
 }
 
-/// How synchronism is acquired, kept and lost. Settings outside their range are refused, not clipped.
-#[derive(Clone, Copy, Debug, PartialEq, Eq)]
+/// Where a recording is cut into pieces. The listing doesn't depend on it.
+#[derive(Debug, PartialEq, Eq, Drop)]
+pub enum Cuts {
+    /// Pieces of one length but for the last, at most so many, 1 or more.
+    Even(u64),
+    /// The places of the cuts: each is that of the bit before which it lies. They rise strictly, above 0
+    /// and below the number of bits; where there are no bits, there are none.
+    At(Vec<u64>),
+}
+
+/// How synchronism is acquired, kept and lost, and who does the work. Settings outside their range are
+/// refused, not clipped.
+#[derive(Debug, PartialEq, Eq, Drop)]
 pub struct Settings {
     /// The longest burst of errors that is corrected, in bits: 0 to 5.
     pub burst: u32,
@@ -19,10 +30,14 @@ pub struct Settings {
     pub reach: u32,
     /// After how many blocks in a row that are not valid the lock is lost: 1 to 64.
     pub loss: u32,
+    /// By how many threads at most the pieces are decoded: 1 to 256. The listing doesn't depend on it.
+    pub workers: u32,
+    /// Where the recording is cut into pieces, each of which is decoded by one thread.
+    pub cuts: Cuts,
 }
 
 /// What is to be made of the bytes that a reader holds.
-#[derive(Clone, Copy, Debug, PartialEq, Eq)]
+#[derive(Debug, PartialEq, Eq, Drop)]
 pub enum Job {
     /// A row for each valid window of a recording: its place and its offset.
     Scan(Input),

@@ -1,4 +1,33 @@
-//! The tool.
+//! The tool behind the program `rds`: words become a job, and a job makes text of what a reader holds.
+//!
+//! [`job_of`] reads a command line. [`transcribe`] reads all bytes of a [`Source`], works, by threads where there are
+//! pieces and workers for them, and writes the whole text to a [`Sink`]. [`FromRead`] and [`ToWrite`] make these of a reader and a writer of std:
+//!
+//! ```text
+//! let job = Job::Scan(Input { hex: true, bits: None });
+//! let mut reader = FromRead::new(b"00003f000019800005a00001b4".as_slice());
+//! let mut writer = ToWrite::new(Vec::new(alloc));
+//! transcribe(&rt, alloc, &mut reader, &mut writer, &job)?;
+//! // The writer holds "25,A\n51,B\n77,C\n96,B\n103,D\n".
+//! ```
+//!
+//! # What callers may rely on
+//!
+//! - Where `transcribe` answers `Ok`, the reader is at its end, and what was written is the text that the job makes of all
+//!   bytes that the reader held, if reader and writer tell their bytes. Of a `List` that is the listing of the report of
+//!   the recording, lock by lock, for every cutting and any number of workers; `specs/Outcome.antt` says it for each job.
+//!   [`transcribe_gated`] is the same with a gate, by which a caller hears of the workers.
+//! - Each refusal is a [`ToolError`] and comes where it should: `Read` and `Write` exactly where a call of the device
+//!   failed, settings out of their range before anything is read, `TooManyTurns` only after 16,777,216 bytes, and any other
+//!   but `OutOfMemory` and `NoWorker` exactly where the job and the bytes call for it.
+//! - After a refusal the writer is as it was, but after `Write`: then what it has more is a front of the text.
+//! - Where `job_of` answers `Ok`, the job holds the entries that `clap` read, defaults too. Where it answers a fault, it is
+//!   help that was asked for, or `clap` finds a fault in the words, or memory was refused.
+//!
+//! # What it leaves to others
+//!
+//! What a block, a recording and a report are is said below, in `rds_code`, `rds_stream` and `rds_sync`. No contract says
+//! when memory or a thread is refused, that workers run at the same time, what a file or a pipe holds, or what the texts of help and faults are: these are for tests.
 #![tactic(auto)]
 
 mod cli;
@@ -13,11 +42,12 @@ mod help;
 mod input;
 mod job;
 mod listing;
+mod plan;
 mod rows;
 mod task;
 
 pub use cli::{CliFault, FaultKind, job_of};
 pub use devices::{Failed, FromRead, Sink, Source, ToWrite};
-pub use engine::transcribe;
+pub use engine::{transcribe, transcribe_gated};
 pub use error::ToolError;
-pub use job::{Input, Job, Settings};
+pub use job::{Cuts, Input, Job, Settings};

@@ -197,6 +197,15 @@ fn push_total(rows: &mut Rows, name: &str, value: u64) -> Result<(), ToolError>
 {
     let mut digits = Buffer::new();
     let value = digits.format(value).as_bytes();
-    let fields = [b"total", name.as_bytes(), value, DASH, DASH, DASH, DASH, DASH];
+    let fields = [
+        b"total",
+        name.as_bytes(),
+        value,
+        DASH,
+        DASH,
+        DASH,
+        DASH,
+        DASH,
+    ];
     push_row(rows, fields.as_slice())
 }

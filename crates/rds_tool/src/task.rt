@@ -1,46 +1,54 @@
 //! A job whose settings were looked at.
 ghost use Rattle.std.specs.Prelude.{◌≡◌, ◌⊎◌, Err, IfErr, IfOk, Ok};
-ghost use Rattle.rds_tool.specs.Rules.{rules_of as the_rules_of};
 
 use crate::encode::encode_lines;
 use crate::input::recording_of;
 use crate::listing::{report_rows, totals_rows, window_rows};
-use crate::{Input, Job, Settings, ToolError};
+use crate::plan::Plan;
+use crate::{Input, Job, ToolError};
+use rds_crew::Gate;
 use rds_stream::scan;
-use rds_sync::{Rules, decode_plain};
 use std::alloc::Global;
+use std::sync::Wait;
+use std::thread::Threads;
 
-/// A job with the rules that its settings give.
+/// A job with the plan that its settings give.
 #[derive(Drop)]
-pub enum Task {
+pub enum Task<'a> {
     Scan(Input),
-    List(Input, Rules),
-    Totals(Input, Rules),
+    List(Input, Plan<'a>),
+    Totals(Input, Plan<'a>),
     Encode { hex: bool },
 }
 
-impl Task {
+impl<'a> Task<'a> {
     ghost use Rattle.rds_tool.specs.Outcome.{text_of_task};
     ghost use Rattle.rds_tool.specs.Tasks.{task_of};
 
     /// The task of a job. A setting out of its range is refused before any memory is taken.
-    pub fn of(alloc: Global, job: &Job) -> Result<Task, ToolError>
+    pub fn of(alloc: Global, job: &'a Job) -> Result<Task<'a>, ToolError>
         ensures ok { IfOk result (λ task. task_of job.now ≡ Ok task) }
         ensures refused { IfErr result (λ error. (error ≡ ToolError.OutOfMemory) ⊎ (task_of job.now ≡ Err error)) }
         ensures settings { IfErr (task_of job.now) (λ error. result ≡ Err error) }
     {
         match job {
             Job::Scan(input) => Ok(Task::Scan(*input)),
-            Job::List(input, settings) => Ok(Task::List(*input, rules_of(alloc, settings)?)),
-            Job::Totals(input, settings) => Ok(Task::Totals(*input, rules_of(alloc, settings)?)),
+            Job::List(input, settings) => Ok(Task::List(*input, Plan::of(alloc, settings)?)),
+            Job::Totals(input, settings) => Ok(Task::Totals(*input, Plan::of(alloc, settings)?)),
             Job::Encode { hex } => Ok(Task::Encode { hex: *hex }),
         }
     }
 
-    /// The text that the task makes of the bytes that a reader held.
-    pub fn text(&self, alloc: Global, held: Vec<u8>) -> Result<Vec<u8>, ToolError>
+    /// The text that the task makes of the bytes that a reader held. A crew calls the gate.
+    pub fn text<R: Threads + Wait, G: Gate + Sync>(
+        &self,
+        rt: &R,
+        alloc: Global,
+        held: Vec<u8>,
+        gate: &G,
+    ) -> Result<Vec<u8>, ToolError>
         ensures ok { IfOk result (λ text. text_of_task self.now held.items ≡ Ok text.items) }
-        ensures refused { IfErr result (λ error. (error ≡ ToolError.OutOfMemory) ⊎ (text_of_task self.now held.items ≡ Err error)) }
+        ensures refused { IfErr result (λ error. (error ≡ ToolError.OutOfMemory) ⊎ ((error ≡ ToolError.NoWorker) ⊎ (text_of_task self.now held.items ≡ Err error))) }
     {
         match self {
             Task::Scan(input) => {
@@ -48,26 +56,17 @@ impl Task {
                 let windows = scan(alloc, &recording, 0, recording.len())?;
                 window_rows(alloc, windows.as_slice())
             }
-            Task::List(input, rules) => {
+            Task::List(input, plan) => {
                 let recording = recording_of(alloc, input, held)?;
-                let report = decode_plain(alloc, &recording, rules)?;
+                let report = plan.report(rt, alloc, &recording, gate)?;
                 report_rows(alloc, &report)
             }
-            Task::Totals(input, rules) => {
+            Task::Totals(input, plan) => {
                 let recording = recording_of(alloc, input, held)?;
-                let report = decode_plain(alloc, &recording, rules)?;
+                let report = plan.report(rt, alloc, &recording, gate)?;
                 totals_rows(alloc, &report.totals)
             }
             Task::Encode { hex } => encode_lines(alloc, *hex, held.as_slice()),
         }
     }
-}
-
-fn rules_of(alloc: Global, settings: &Settings) -> Result<Rules, ToolError>
-    ensures ok { IfOk result (λ rules. the_rules_of settings.now ≡ Ok rules) }
-    ensures refused { IfErr result (λ error. (error ≡ ToolError.OutOfMemory) ⊎ (the_rules_of settings.now ≡ Err error)) }
-    ensures settings { IfErr (the_rules_of settings.now) (λ error. result ≡ Err error) }
-{
-    let rules = Rules::new(alloc, settings.burst, settings.reach, settings.loss)?;
-    Ok(rules)
 }

@@ -1,7 +1,7 @@
-use Rattle.std.proofs.Common.{take, drop, sym, arith, length, ◌≤◌, ◌+◌}
+use Rattle.std.proofs.Common.{take, drop, sym, arith}
 use Rattle.std.proofs.lemmas.Grind.{common_steps}
 use Rattle.std.proofs.lemmas.List.{take-append-drop}
-use Rattle.rds_tool.proofs.Steps.{appends_kept, rest_whole, wrote, wrote_none}
+use Rattle.rds_tool.proofs.Steps.{appends_kept, wrote, wrote_none}
 use Rattle.rds_tool.proofs.engine.write_all.Goals as goal
 
 pub returns-in-Ok-eq0-clause-front : goal.returns-in-Ok-eq0-clause-front

@@ -21,7 +21,21 @@ returns-clause-text c =
     let four : length g.blocks ≡ 4 = search rules in
     let blocks = four_blocks g.blocks c.index-group-0.result c.index-group-1.result c.index-group-2.result c.index-group-3.result four in
     let shown : map (λ (f : Bor (List ℕ)). f.now) c.as_slice.result.now ≡ item_fields (Group g) =
-      rw (c.as_slice.ensures, c.as_bytes-place.ensures.value, c.format.ensures.text, c.kind_digits-kind.ensures.value, c.as_bytes-version.ensures.value, c.version_name.ensures,
-        c.as_bytes.ensures, c.of_block-one.ensures, c.as_bytes-2.ensures, c.of_block-two.ensures, c.as_bytes-3.ensures, c.of_block-three.ensures, c.as_bytes-4.ensures,
-        c.of_block-four.ensures, blocks) refl in
+    rw (
+      c.as_slice.ensures,
+      c.as_bytes-place.ensures.value,
+      c.format.ensures.text,
+      c.kind_digits-kind.ensures.value,
+      c.as_bytes-version.ensures.value,
+      c.version_name.ensures,
+      c.as_bytes.ensures,
+      c.of_block-one.ensures,
+      c.as_bytes-2.ensures,
+      c.of_block-two.ensures,
+      c.as_bytes-3.ensures,
+      c.of_block-three.ensures,
+      c.as_bytes-4.ensures,
+      c.of_block-four.ensures,
+      blocks,
+    ) refl in
     rw shown at c.push_row.ensures.text

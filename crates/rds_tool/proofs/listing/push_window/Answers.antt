@@ -1,5 +1,4 @@
 use Rattle.std.proofs.Common.{rules}
-use Rattle.rds_code.specs.declared.offset.Offset.TheVariants.{A, B, C, Cx, D}
 use Rattle.rds_tool.specs.RowWriter.{IsPlain}
 use Rattle.rds_tool.proofs.RowText.{decimal_plain, name_plain}
 use Rattle.rds_tool.proofs.listing.push_window.Goals as goal

@@ -1,6 +1,6 @@
 use Rattle.std.proofs.Common.{Ok, ap, sym, ◌∙◌}
 use Rattle.rds_tool.proofs.Texts.{front_is}
-use Rattle.rds_tool.proofs.engine.transcribe.Goals as goal
+use Rattle.rds_tool.proofs.engine.transcribe_gated.Goals as goal
 
 pub returns-clause-front : goal.returns-clause-front
 returns-clause-front g c =

@@ -1,0 +1,12 @@
+use Rattle.std.proofs.Common.{ap}
+use Rattle.rds_pieces.specs.WorkOf.{WorkOf}
+use Rattle.rds_tool.specs.Plans.{PlanOf}
+use Rattle.rds_tool.proofs.Texts.{totals_counted}
+use Rattle.rds_tool.proofs.plan.Plan.report.Goals as goal
+
+pub returns-clause-totals : goal.returns-clause-totals
+returns-clause-totals g c =
+    let recording = ap (λ (w : WorkOf). w.recording) c.new-work.ensures in
+    let rules = ap (λ (w : WorkOf). w.rules) c.new-work.ensures in
+    let own = ap (λ (p : PlanOf). p.rules) c.self.view_is in
+    totals_counted _ _ _ _ _ c.in_ok-decode_crew.ensures.totals recording (cc)

@@ -1,0 +1,40 @@
+-- What settings say of a synchroniser and its crew, once they are in their ranges. This project's rule.
+use Rattle.std.specs.Prelude.{◌≡◌, ◌≤◌, ◌||◌, ℕ, Err, List, Ok, Result, if◌then◌else◌, length, nat_lt, not, true}
+use Rattle.rds_sync.specs.Rules.{RuleNumbers}
+use Rattle.rds_tool.specs.Cuts.{cuts_bits, has_pieces}
+use Rattle.rds_tool.specs.Input.{and_then}
+use Rattle.rds_tool.specs.Rules.{rules_of}
+use Rattle.rds_tool.specs.declared.error.ToolError.{ToolError}
+use Rattle.rds_tool.specs.declared.error.ToolError.TheVariants.{BadCutting, CrewRange}
+use Rattle.rds_tool.specs.declared.job.Cuts.{Cuts}
+use Rattle.rds_tool.specs.declared.job.Settings.{Settings}
+
+-- the rules, the number of workers and the cuts
+pub record PlanOf : Type 0 where
+  pub rules : RuleNumbers
+  pub workers : ℕ
+  pub cuts : Cuts
+
+-- there are 1 to 256 workers, and pieces for them
+pub record IsPlan (plan : PlanOf) : Type 0 where
+  pub some : 1 ≤ plan.workers
+  pub few : plan.workers ≤ 256
+  pub pieces : has_pieces plan.cuts ≡ true
+
+-- what is wrong with the crew that is asked for, if anything: its workers, and then its pieces
+abbrev pub crew_of : Settings → Result (Unit {0}) ToolError
+crew_of settings =
+    if nat_lt settings.workers 1 || nat_lt 256 settings.workers then Err CrewRange
+    else if not (has_pieces settings.cuts) then Err BadCutting
+    else Ok tt
+
+-- the plan of these settings, or the first that is out of its range: of the rules, and then of the crew
+abbrev pub plan_of : Settings → Result PlanOf ToolError
+plan_of settings =
+    and_then (rules_of settings) (λ rules.
+    and_then (crew_of settings) (λ _.
+    Ok (record { rules = rules; workers = settings.workers; cuts = settings.cuts })))
+
+-- the bits, if they can be cut so
+abbrev pub cut_by : Cuts → List ℕ → Result (List ℕ) ToolError
+cut_by cuts bits = if cuts_bits cuts (length bits) then Ok bits else Err BadCutting

@@ -1,0 +1,145 @@
+//! By which rules, by how many workers and in which pieces a recording is decoded.
+ghost use Rattle.std.specs.Prelude.{◌≡◌, ◌≢◌, ◌⊎◌, Err, IfErr, IfOk, IsErrOf, List, Ok, OnOk, false, length, true};
+ghost use Rattle.rds_pieces.specs.Cutting.{IsCutting};
+ghost use Rattle.rds_sync.specs.Report.{report_items};
+ghost use Rattle.rds_sync.specs.Totals.{totals_of};
+ghost use Rattle.rds_tool.specs.Cuts.{are_inner, cuts_bits, has_pieces, places_at};
+ghost use Rattle.rds_tool.specs.Plans.{crew_of, cut_by};
+ghost use Rattle.rds_tool.specs.Rules.{rules_of as the_rules_of};
+
+use crate::{Cuts, Settings, ToolError};
+use rds_crew::{Gate, decode_crew};
+use rds_pieces::{Cutting, RecordingWork};
+use rds_stream::Recording;
+use rds_sync::{Report, Rules};
+use std::alloc::{AllocError, Global};
+use std::marker::Model;
+use std::sync::Wait;
+use std::thread::Threads;
+
+/// The most workers that a crew may have.
+const MOST_WORKERS: u32 = 256;
+
+/// Settings in their ranges, with the rules that they give.
+#[derive(Drop)]
+pub struct Plan<'a> {
+    rules: Rules,
+    workers: u32,
+    cuts: &'a Cuts,
+}
+
+impl<'a> Model for Plan<'a> {
+    ghost use Rattle.rds_tool.specs.Plans.{IsPlan, PlanOf};
+
+    ghost Value = { PlanOf };
+
+    ghost view = { λ p. record { rules = p.rules; workers = p.workers; cuts = p.cuts.now } };
+
+    ghost invariant = { λ p. IsPlan (record { rules = p.rules; workers = p.workers; cuts = p.cuts.now }) };
+}
+
+impl<'a> Plan<'a> {
+    ghost use Rattle.rds_tool.specs.Plans.{plan_of};
+
+    /// The plan of these settings. One out of its range is refused as such, whether or not memory is.
+    pub fn of(alloc: Global, settings: &'a Settings) -> Result<Plan<'a>, ToolError>
+        ensures ok { IfOk result (λ plan. plan_of settings.now ≡ Ok plan) }
+        ensures refused { IfErr result (λ error. (error ≡ ToolError.OutOfMemory) ⊎ (plan_of settings.now ≡ Err error)) }
+        ensures settings { IfErr (plan_of settings.now) (λ error. result ≡ Err error) }
+    {
+        match rules_of(alloc, settings) {
+            Ok(rules) => {
+                check_crew(settings)?;
+                Ok(Plan {
+                    rules,
+                    workers: settings.workers,
+                    cuts: &settings.cuts,
+                })
+            }
+            Err(ToolError::OutOfMemory) => {
+                check_crew(settings)?;
+                Err(ToolError::OutOfMemory)
+            }
+            Err(error) => Err(error),
+        }
+    }
+
+    /// The report of the recording, made by the crew piece by piece.
+    pub fn report<R: Threads + Wait, G: Gate + Sync>(
+        &self,
+        rt: &R,
+        alloc: Global,
+        recording: &Recording,
+        gate: &G,
+    ) -> Result<Report, ToolError>
+        ensures items { IfOk result (λ report. report.items.items ≡ report_items recording.now self.now.rules) }
+        ensures totals { IfOk result (λ report. report.totals ≡ totals_of (report_items recording.now self.now.rules)) }
+        ensures fits { OnOk result (cut_by self.now.cuts recording.now ≡ Ok recording.now) }
+        ensures refused { IfErr result (λ error. (error ≡ ToolError.OutOfMemory) ⊎ ((error ≡ ToolError.NoWorker)
+            ⊎ (cut_by self.now.cuts recording.now ≡ Err error))) }
+    {
+        let cutting = cutting_of(alloc, self.cuts, recording.len())?;
+        let work = RecordingWork::new(recording, &self.rules, &cutting);
+        Ok(decode_crew(rt, alloc, &work, self.workers, gate)?)
+    }
+}
+
+fn rules_of(alloc: Global, settings: &Settings) -> Result<Rules, ToolError>
+    ensures ok { IfOk result (λ rules. the_rules_of settings.now ≡ Ok rules) }
+    ensures refused { IfErr result (λ error. (error ≡ ToolError.OutOfMemory) ⊎ (the_rules_of settings.now ≡ Err error)) }
+    ensures settings { IfErr (the_rules_of settings.now) (λ error. result ≡ Err error) }
+{
+    let rules = Rules::new(alloc, settings.burst, settings.reach, settings.loss)?;
+    Ok(rules)
+}
+
+fn check_crew(settings: &Settings) -> Result<(), ToolError>
+    ensures { result ≡ crew_of settings.now }
+{
+    if settings.workers < 1 || settings.workers > MOST_WORKERS {
+        return Err(ToolError::CrewRange);
+    }
+    match settings.cuts {
+        Cuts::Even(0) => Err(ToolError::BadCutting),
+        _ => Ok(()),
+    }
+}
+
+// The cutting of so many bits.
+fn cutting_of(alloc: Global, cuts: &Cuts, len: u64) -> Result<Cutting, ToolError>
+    requires { has_pieces cuts.now ≡ true }
+    ensures cutting { IfOk result (λ cutting. IsCutting len cutting) }
+    ensures fits { OnOk result (cuts_bits cuts.now len ≡ true) }
+    ensures refused { IfErr result (λ error. (error ≡ ToolError.OutOfMemory) ⊎ ((error ≡ ToolError.BadCutting) × (cuts_bits cuts.now len ≡ false))) }
+{
+    match cuts {
+        Cuts::Even(pieces) => Ok(Cutting::even(alloc, len, *pieces)?),
+        Cuts::At(cuts) => cutting_at(alloc, cuts.as_slice(), len),
+    }
+}
+
+// The cutting of so many bits at these inner cuts.
+fn cutting_at(alloc: Global, cuts: &[u64], len: u64) -> Result<Cutting, ToolError>
+    ensures cutting { IfOk result (λ cutting. IsCutting len cutting) }
+    ensures fits { OnOk result (are_inner len cuts.now ≡ true) }
+    ensures refused { IfErr result (λ error. (error ≡ ToolError.OutOfMemory) ⊎ ((error ≡ ToolError.BadCutting) × (are_inner len cuts.now ≡ false))) }
+{
+    let places = places_of(alloc, cuts, len)?;
+    match Cutting::new(places, len) {
+        Ok(cutting) => Ok(cutting),
+        Err((error, _places)) => Err(ToolError::from(error)),
+    }
+}
+
+// The cuts with the two ends of the recording.
+fn places_of(alloc: Global, cuts: &[u64], len: u64) -> Result<Vec<u64>, AllocError>
+    ensures { IfOk result (λ places. places.items ≡ places_at len cuts.now) }
+{
+    let mut places = Vec::new(alloc);
+    places.push(0)?;
+    places.extend_from_slice(cuts)?;
+    if len > 0 {
+        places.push(len)?;
+    }
+    Ok(places)
+}

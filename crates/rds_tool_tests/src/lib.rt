@@ -1,0 +1,17 @@
+//! Tests of `rds_tool` from outside: worked examples from bytes to bytes, and devices that fail.
+#![tactic(auto)]
+
+#[cfg(test)]
+mod crew;
+#[cfg(test)]
+mod devices;
+#[cfg(test)]
+mod encoding;
+#[cfg(test)]
+mod failing;
+#[cfg(test)]
+mod lines;
+#[cfg(test)]
+mod reporting;
+#[cfg(test)]
+mod scanning;
