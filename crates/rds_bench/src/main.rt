@@ -5,10 +5,8 @@
 #![tactic(auto)]
 
 mod remainders;
-mod runs;
 mod sample;
 mod timing;
-mod transcripts;
 mod windows;
 
 use anyhow::{Context, Result};
@@ -18,9 +16,6 @@ const USAGE: &str = "usage: rds_bench MEASUREMENT [BITS]
 
   scan       the scan by rolling remainders, and a remainder anew for each window
   remainder  the remainder by tables, and by long division
-  run        the report of one decoder, and of sixteen pieces by one thread
-  totals     from bytes to the text of the totals, by one, two and four workers
-  list       from bytes to the text of the listing, by one, two and four workers
 
 BITS is the length of the recording that is made up for it, 100000000 where it is not given.
 ";
@@ -41,9 +36,6 @@ fn main(rt: HostRuntime) -> Result<()> {
     match measurement.as_str() {
         "scan" => windows::measure(&rt, bits),
         "remainder" => remainders::measure(&rt, bits),
-        "run" => runs::measure(&rt, bits),
-        "totals" => transcripts::measure(&rt, bits, false),
-        "list" => transcripts::measure(&rt, bits, true),
         _ => {
             print!(rt; "{USAGE}")?;
             Ok(())

@@ -63,7 +63,7 @@ not_to_none cut cuts h =
     let places : List ℕ = 0 ∷ cut ∷ cuts in
     let e : length cuts + 1 ≡ length places - 1 = omega arith in
     let g : get_or places (length cuts) 0 < get_or places (length places - 1) 0 =
-        subst (λ (m : ℕ). get_or places (length cuts) 0 < get_or places m 0) e (h.rising (length cuts) (omega arith)) in
+    subst (λ (m : ℕ). get_or places (length cuts) 0 < get_or places m 0) e (h.rising (length cuts) (omega arith)) in
     let ends : get_or places (length places - 1) 0 ≡ 0 = h.ends in
     omega (arith, g, ends)
 

@@ -77,11 +77,11 @@ memory_inside e m = (
 )
 
 threads_inside : (e : ToolError) → e ≡ NoWorker → IsInside e
-threads_inside e m =
-    ( λ p. let bad : NoWorker ≡ Read = sym m ∙ p in cc bad
-    , λ p. let bad : NoWorker ≡ Write = sym m ∙ p in cc bad
-    , λ p. let bad : NoWorker ≡ TooManyTurns = sym m ∙ p in cc bad
-    )
+threads_inside e m = (
+  λ p. let bad : NoWorker ≡ Read = sym m ∙ p in cc bad,
+  λ p. let bad : NoWorker ≡ Write = sym m ∙ p in cc bad,
+  λ p. let bad : NoWorker ≡ TooManyTurns = sym m ∙ p in cc bad,
+)
 
 module _ {A B : Type 0} where
   then_errs : (P : ToolError → Type 0) (r : Result A ToolError) (step : A → Result B ToolError) → IfErr r P → ((x : A) → IfErr (step x) P) → IfErr (and_then r step) P

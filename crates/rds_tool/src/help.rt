@@ -99,6 +99,8 @@ pub const REACH: &str = "Acquire where a block that fits lies up to N blocks bac
 
 pub const LOSS: &str = "Lose synchronism after N blocks in a row that aren't valid, 1 to 64";
 
-pub const PIECES: &str = "Cut the recording into up to N pieces, 1 or more; the output stays the same";
+pub const PIECES: &str =
+    "Cut the recording into up to N pieces, 1 or more; the output stays the same";
 
-pub const WORKERS: &str = "Decode the pieces by up to N threads, 1 to 256; the output stays the same";
+pub const WORKERS: &str =
+    "Decode the pieces by up to N threads, 1 to 256; the output stays the same";

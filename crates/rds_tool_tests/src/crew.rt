@@ -10,10 +10,12 @@ use std::test::Fail;
 /// The group of four zero words, twice: 208 bits.
 const TWO_GROUPS: &[u8] = b"00003f000019800005a00001b4 00003f000019800005a00001b4";
 
-const TWO_GROUPS_LISTED: &[u8] = b"acquired,51,2,-,-,-,-,-\ngroup,26,0,A,none,B:0000,C:0000,D:0000\ngroup,104,0,A,A:0000,B:0000,C:0000,D:0000\ntotal,valid,7,-,-,-,-,-\ntotal,burst1,0,-,-,-,-,-\ntotal,burst2,0,-,-,-,-,-\ntotal,burst3,0,-,-,-,-,-\ntotal,burst4,0,-,-,-,-,-\ntotal,burst5,0,-,-,-,-,-\ntotal,lost,0,-,-,-,-,-\ntotal,bits,0,-,-,-,-,-\ntotal,groups,2,-,-,-,-,-\ntotal,complete,1,-,-,-,-,-\ntotal,acquired,1,-,-,-,-,-\ntotal,losses,0,-,-,-,-,-\n";
+const TWO_GROUPS_LISTED: &[u8] =
+    b"acquired,51,2,-,-,-,-,-\ngroup,26,0,A,none,B:0000,C:0000,D:0000\ngroup,104,0,A,A:0000,B:0000,C:0000,D:0000\ntotal,valid,7,-,-,-,-,-\ntotal,burst1,0,-,-,-,-,-\ntotal,burst2,0,-,-,-,-,-\ntotal,burst3,0,-,-,-,-,-\ntotal,burst4,0,-,-,-,-,-\ntotal,burst5,0,-,-,-,-,-\ntotal,lost,0,-,-,-,-,-\ntotal,bits,0,-,-,-,-,-\ntotal,groups,2,-,-,-,-,-\ntotal,complete,1,-,-,-,-,-\ntotal,acquired,1,-,-,-,-,-\ntotal,losses,0,-,-,-,-,-\n";
 
 /// The listing of a report without items.
-const NOTHING_LISTED: &[u8] = b"total,valid,0,-,-,-,-,-\ntotal,burst1,0,-,-,-,-,-\ntotal,burst2,0,-,-,-,-,-\ntotal,burst3,0,-,-,-,-,-\ntotal,burst4,0,-,-,-,-,-\ntotal,burst5,0,-,-,-,-,-\ntotal,lost,0,-,-,-,-,-\ntotal,bits,0,-,-,-,-,-\ntotal,groups,0,-,-,-,-,-\ntotal,complete,0,-,-,-,-,-\ntotal,acquired,0,-,-,-,-,-\ntotal,losses,0,-,-,-,-,-\n";
+const NOTHING_LISTED: &[u8] =
+    b"total,valid,0,-,-,-,-,-\ntotal,burst1,0,-,-,-,-,-\ntotal,burst2,0,-,-,-,-,-\ntotal,burst3,0,-,-,-,-,-\ntotal,burst4,0,-,-,-,-,-\ntotal,burst5,0,-,-,-,-,-\ntotal,lost,0,-,-,-,-,-\ntotal,bits,0,-,-,-,-,-\ntotal,groups,0,-,-,-,-,-\ntotal,complete,0,-,-,-,-,-\ntotal,acquired,0,-,-,-,-,-\ntotal,losses,0,-,-,-,-,-\n";
 
 /// The turns after which a worker no longer waits for the other.
 const MOST_TURNS: u64 = 1_000_000_000;
@@ -110,16 +112,56 @@ fn two_workers_run_at_the_same_time(rt: HostRuntime) -> Result<(), Fail> {
 fn refuses_crews_and_cuts_in_order(rt: HostRuntime) -> Result<(), Fail> {
     let alloc = rt.alloc();
     let refused: [(Job, &[u8], ToolError); 10] = [
-        (list(65, 0, Cuts::Even(0)), b"no digits", ToolError::LossRange),
-        (list(10, 0, Cuts::Even(0)), b"no digits", ToolError::CrewRange),
-        (list(10, 257, Cuts::Even(16)), b"no digits", ToolError::CrewRange),
-        (list(10, 1, Cuts::Even(0)), b"no digits", ToolError::BadCutting),
-        (list(10, 1, cut_at(alloc, &[3])?), b"no digits", ToolError::HexText),
-        (list(10, 1, cut_at(alloc, &[3])?), b"", ToolError::BadCutting),
-        (list(10, 1, cut_at(alloc, &[5, 5])?), TWO_GROUPS, ToolError::BadCutting),
-        (list(10, 1, cut_at(alloc, &[0])?), TWO_GROUPS, ToolError::BadCutting),
-        (list(10, 1, cut_at(alloc, &[208])?), TWO_GROUPS, ToolError::BadCutting),
-        (list(10, 256, cut_at(alloc, &[207, 1])?), TWO_GROUPS, ToolError::BadCutting),
+        (
+            list(65, 0, Cuts::Even(0)),
+            b"no digits",
+            ToolError::LossRange,
+        ),
+        (
+            list(10, 0, Cuts::Even(0)),
+            b"no digits",
+            ToolError::CrewRange,
+        ),
+        (
+            list(10, 257, Cuts::Even(16)),
+            b"no digits",
+            ToolError::CrewRange,
+        ),
+        (
+            list(10, 1, Cuts::Even(0)),
+            b"no digits",
+            ToolError::BadCutting,
+        ),
+        (
+            list(10, 1, cut_at(alloc, &[3])?),
+            b"no digits",
+            ToolError::HexText,
+        ),
+        (
+            list(10, 1, cut_at(alloc, &[3])?),
+            b"",
+            ToolError::BadCutting,
+        ),
+        (
+            list(10, 1, cut_at(alloc, &[5, 5])?),
+            TWO_GROUPS,
+            ToolError::BadCutting,
+        ),
+        (
+            list(10, 1, cut_at(alloc, &[0])?),
+            TWO_GROUPS,
+            ToolError::BadCutting,
+        ),
+        (
+            list(10, 1, cut_at(alloc, &[208])?),
+            TWO_GROUPS,
+            ToolError::BadCutting,
+        ),
+        (
+            list(10, 256, cut_at(alloc, &[207, 1])?),
+            TWO_GROUPS,
+            ToolError::BadCutting,
+        ),
     ];
     for (job, input, error) in refused {
         let answer = written(&rt, alloc, &job, input);
@@ -134,13 +176,28 @@ fn no_cuts_and_no_bits_are_a_cutting(rt: HostRuntime) -> Result<(), Fail> {
     let listed: [(Job, &[u8], &[u8]); 5] = [
         (list(10, 4, Cuts::Even(16)), b"", NOTHING_LISTED),
         (list(10, 4, cut_at(alloc, &[])?), b"", NOTHING_LISTED),
-        (list(10, 4, cut_at(alloc, &[])?), TWO_GROUPS, TWO_GROUPS_LISTED),
-        (list(10, 1, cut_at(alloc, &[1, 25, 26, 51, 207])?), TWO_GROUPS, TWO_GROUPS_LISTED),
-        (list(10, 256, Cuts::Even(4_294_967_295)), TWO_GROUPS, TWO_GROUPS_LISTED),
+        (
+            list(10, 4, cut_at(alloc, &[])?),
+            TWO_GROUPS,
+            TWO_GROUPS_LISTED,
+        ),
+        (
+            list(10, 1, cut_at(alloc, &[1, 25, 26, 51, 207])?),
+            TWO_GROUPS,
+            TWO_GROUPS_LISTED,
+        ),
+        (
+            list(10, 256, Cuts::Even(4_294_967_295)),
+            TWO_GROUPS,
+            TWO_GROUPS_LISTED,
+        ),
     ];
     for (job, input, text) in listed {
         let rows = written(&rt, alloc, &job, input);
-        assert!(rt; matches!(&rows, Ok(rows) if rows.as_slice() == text), "{job:?}");
+        assert!(rt;
+            matches!(&rows, Ok(rows) if rows.as_slice() == text),
+            "{job:?}"
+        );
     }
     Ok(())
 }

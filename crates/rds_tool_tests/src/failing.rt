@@ -25,7 +25,10 @@ fn a_failing_read_ends_the_reading(rt: HostRuntime) -> Result<(), Fail> {
         let answer = transcribe(&rt, rt.alloc(), &mut reader, &mut writer, &HEX);
         assert!(rt; answer == Err(ToolError::Read), "at {k}");
         assert!(rt; reader.failures() == 1 && reader.reads == k, "at {k}");
-        assert!(rt; writer.failures() == 0 && writer.into_inner().is_empty(), "at {k}");
+        assert!(rt;
+            writer.failures() == 0 && writer.into_inner().is_empty(),
+            "at {k}"
+        );
     }
     Ok(())
 }
@@ -39,7 +42,10 @@ fn a_failing_write_leaves_a_front(rt: HostRuntime) -> Result<(), Fail> {
             let answer = transcribe(&rt, rt.alloc(), &mut reader, &mut writer, &HEX);
             assert!(rt; answer == Err(ToolError::Write), "at {k}");
             assert!(rt; writer.failures() == 1 && writer.writes == k, "at {k}");
-            assert!(rt; writer.held.len() as u64 == k - 1 && ROWS.starts_with(writer.held.as_slice()), "at {k}");
+            assert!(rt;
+                writer.held.len() as u64 == k - 1 && ROWS.starts_with(writer.held.as_slice()),
+                "at {k}"
+            );
         }
     }
     Ok(())
@@ -62,7 +68,10 @@ fn a_writer_may_take_the_text_in_parts(rt: HostRuntime) -> Result<(), Fail> {
         let mut reader = SlowReader::new(ZERO_GROUP, step, 0);
         let mut writer = SlowWriter::new(rt.alloc(), step, 0, Failure::Refuses);
         let answer = transcribe(&rt, rt.alloc(), &mut reader, &mut writer, &HEX);
-        assert!(rt; answer.is_ok() && writer.held.as_slice() == ROWS, "{step} bytes a call");
+        assert!(rt;
+            answer.is_ok() && writer.held.as_slice() == ROWS,
+            "{step} bytes a call"
+        );
     }
     Ok(())
 }

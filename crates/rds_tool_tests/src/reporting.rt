@@ -42,9 +42,15 @@ fn lists_items_and_totals(rt: HostRuntime) -> Result<(), Fail> {
     ];
     for (input, rules, text) in texts {
         let list = written(&rt, rt.alloc(), &Job::List(HEX, settings(rules)), input);
-        assert!(rt; matches!(&list, Ok(rows) if rows.as_slice() == text), "{rules:?}");
+        assert!(rt;
+            matches!(&list, Ok(rows) if rows.as_slice() == text),
+            "{rules:?}"
+        );
         let totals = written(&rt, rt.alloc(), &Job::Totals(HEX, settings(rules)), input);
-        assert!(rt; matches!(&totals, Ok(rows) if !rows.is_empty() && text.ends_with(rows.as_slice())), "{rules:?}");
+        assert!(rt;
+            matches!(&totals, Ok(rows) if !rows.is_empty() && text.ends_with(rows.as_slice())),
+            "{rules:?}"
+        );
     }
     Ok(())
 }
@@ -60,9 +66,19 @@ fn refuses_settings_first(rt: HostRuntime) -> Result<(), Fail> {
         ([2, 3, 65], ToolError::LossRange),
     ];
     for (rules, error) in refused {
-        let answer = written(&rt, rt.alloc(), &Job::List(HEX, settings(rules)), b"no digits");
+        let answer = written(
+            &rt,
+            rt.alloc(),
+            &Job::List(HEX, settings(rules)),
+            b"no digits",
+        );
         assert!(rt; matches!(&answer, Err(e) if *e == error), "{rules:?}");
-        let answer = written(&rt, rt.alloc(), &Job::Totals(HEX, settings(rules)), b"no digits");
+        let answer = written(
+            &rt,
+            rt.alloc(),
+            &Job::Totals(HEX, settings(rules)),
+            b"no digits",
+        );
         assert!(rt; matches!(&answer, Err(e) if *e == error), "{rules:?}");
     }
     Ok(())

@@ -30,19 +30,30 @@ fn lists_the_valid_windows(rt: HostRuntime) -> Result<(), Fail> {
     let texts: [(Job, &[u8], &str); 7] = [
         (HEX, b"00003f000019800005a00001b4", ROWS),
         (RAW, &ZERO_GROUP, ROWS),
-        (HEX, b"00\n00\n3F\n00\n00\n19\n80\n00\n05\nA0\n00\n01\nB4\n", ROWS),
+        (
+            HEX,
+            b"00\n00\n3F\n00\n00\n19\n80\n00\n05\nA0\n00\n01\nB4\n",
+            ROWS,
+        ),
         (
             HEX,
             b"00003f000019800005a00001b4 00003f000019800005a00001b4",
             "25,A\n51,B\n77,C\n96,B\n103,D\n123,B\n129,A\n155,B\n181,C\n200,B\n207,D\n",
         ),
         (first_bits(true, 25), b"00003f000019800005a00001b4", ""),
-        (first_bits(false, 103), &ZERO_GROUP, "25,A\n51,B\n77,C\n96,B\n"),
+        (
+            first_bits(false, 103),
+            &ZERO_GROUP,
+            "25,A\n51,B\n77,C\n96,B\n",
+        ),
         (HEX, b" \t\r\n", ""),
     ];
     for (job, input, text) in texts {
         let rows = written(&rt, rt.alloc(), &job, input);
-        assert!(rt; matches!(&rows, Ok(rows) if rows.as_slice() == text.as_bytes()), "{text}");
+        assert!(rt;
+            matches!(&rows, Ok(rows) if rows.as_slice() == text.as_bytes()),
+            "{text}"
+        );
     }
     Ok(())
 }
@@ -54,7 +65,11 @@ fn refuses_what_is_no_recording(rt: HostRuntime) -> Result<(), Fail> {
         (HEX, b"0x00", ToolError::HexText),
         (first_bits(false, 57), b"1234567", ToolError::BitsPastBytes),
         (first_bits(false, 68_719_476_737), b"", ToolError::TooLong),
-        (first_bits(false, 68_719_476_736), b"", ToolError::BitsPastBytes),
+        (
+            first_bits(false, 68_719_476_736),
+            b"",
+            ToolError::BitsPastBytes,
+        ),
         (first_bits(true, 68_719_476_737), b"0", ToolError::HexText),
     ];
     for (job, input, error) in refused {
@@ -80,7 +95,10 @@ fn refusals_have_numbers_and_names(rt: HostRuntime) -> Result<(), Fail> {
         (ToolError::TooManyTurns, 13, b"TooManyTurns"),
     ];
     for (error, number, name) in refusals {
-        assert!(rt; error.number() == number && error.name().as_bytes() == name, "{error:?}");
+        assert!(rt;
+            error.number() == number && error.name().as_bytes() == name,
+            "{error:?}"
+        );
     }
     Ok(())
 }

@@ -16,5 +16,5 @@ returns-in-Err-clause-refused c =
     inr (
       cc (c.from.ensures, named),
       not_inner c.args.len c.args.cuts.now
-      (λ h. err.2 (subst (λ (places : List ℕ). IsCutting c.args.len places) (sym c.in_ok-places.ensures) h)),
+          (λ h. err.2 (subst (λ (places : List ℕ). IsCutting c.args.len places) (sym c.in_ok-places.ensures) h)),
     )
