@@ -5,8 +5,10 @@
 #![tactic(auto)]
 
 mod remainders;
+mod runs;
 mod sample;
 mod timing;
+mod transcripts;
 mod windows;
 
 use anyhow::{Context, Result};
@@ -16,6 +18,9 @@ const USAGE: &str = "usage: rds_bench MEASUREMENT [BITS]
 
   scan       the scan by rolling remainders, and a remainder anew for each window
   remainder  the remainder by tables, and by long division
+  run        the report of one decoder, and of sixteen pieces by one thread
+  totals     from bytes to the text of the totals, by one, two and four workers
+  list       from bytes to the text of the listing, by one, two and four workers
 
 BITS is the length of the recording that is made up for it, 100000000 where it is not given.
 ";
@@ -36,6 +41,9 @@ fn main(rt: HostRuntime) -> Result<()> {
     match measurement.as_str() {
         "scan" => windows::measure(&rt, bits),
         "remainder" => remainders::measure(&rt, bits),
+        "run" => runs::measure(&rt, &rt, bits),
+        "totals" => transcripts::measure(&rt, &rt, bits, false),
+        "list" => transcripts::measure(&rt, &rt, bits, true),
         _ => {
             print!(rt; "{USAGE}")?;
             Ok(())

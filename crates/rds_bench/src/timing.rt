@@ -14,7 +14,7 @@ impl Timing {
         Timing { bits, first: None }
     }
 
-    /// Shows the time since `start` and how many the form found, which is the same for each form of a task.
+    /// Shows the time since `start` and what the form counted, which is the same for each form of a task.
     pub fn show(
         &mut self,
         rt: &HostRuntime,
@@ -27,7 +27,7 @@ impl Timing {
         let hundredths = nanos as u128 * 100 / self.bits.max(1) as u128;
         let ratio = nanos as u128 * 100 / first.max(1) as u128;
         println!(rt;
-            "{form:<24} {}.{:02} ns a bit, {}.{:02} times the first, {found} found",
+            "{form:<24} {}.{:02} ns a bit, {}.{:02} times the first, count {found}",
             hundredths / 100,
             hundredths % 100,
             ratio / 100,

@@ -1,0 +1,32 @@
+// The report of one decoder, of a recording in which it stays locked.
+use crate::sample::station;
+use crate::timing::Timing;
+use anyhow::Result;
+use rds_crew::{OpenGate, decode_crew};
+use rds_pieces::{Cutting, RecordingWork};
+use rds_stream::Recording;
+use rds_sync::{Rules, decode_plain};
+use std::sync::Wait;
+use std::thread::Threads;
+use std::time::Instant;
+
+/// One decoder, and one thread that guesses sixteen pieces and stitches them.
+pub fn measure<T: Threads + Wait>(rt: &HostRuntime, threads: &T, bits: u64) -> Result<()> {
+    let alloc = rt.alloc();
+    let bytes = station(alloc, bits)?;
+    let held = (bytes.len() as u64).saturating_mul(8);
+    let recording = Recording::from_bytes(bytes, held).map_err(|refused| refused.0)?;
+    let rules = Rules::new(alloc, 2, 3, 10)?;
+    let mut timing = Timing::new(held);
+
+    let start = Instant::now(rt)?;
+    let report = decode_plain(alloc, &recording, &rules)?;
+    timing.show(rt, "one decoder", start, report.totals.valid)?;
+
+    let start = Instant::now(rt)?;
+    let cutting = Cutting::even(alloc, recording.len(), 16)?;
+    let work = RecordingWork::new(&recording, &rules, &cutting);
+    let report = decode_crew(threads, alloc, &work, 1, &OpenGate)?;
+    timing.show(rt, "sixteen pieces", start, report.totals.valid)?;
+    Ok(())
+}

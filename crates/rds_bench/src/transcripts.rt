@@ -1,0 +1,47 @@
+// From the bytes of a recording to the text of a listing, by one, two and four workers over sixteen pieces.
+use crate::sample::station;
+use crate::timing::Timing;
+use anyhow::Result;
+use rds_tool::{Cuts, FromRead, Input, Job, Settings, ToWrite, transcribe};
+use std::sync::Wait;
+use std::thread::Threads;
+use std::time::Instant;
+
+/// The whole way, reading and writing memory: a listing, or its totals alone.
+pub fn measure<T: Threads + Wait>(
+    rt: &HostRuntime,
+    threads: &T,
+    bits: u64,
+    listing: bool,
+) -> Result<()> {
+    let bytes = station(rt.alloc(), bits)?;
+    let mut timing = Timing::new(bits / 104 * 104);
+    for (workers, form) in [(1, "one worker"), (2, "two workers"), (4, "four workers")] {
+        let job = job_of(workers, listing);
+        let mut reader = FromRead::new(bytes.as_slice());
+        let mut writer = ToWrite::new(Vec::new(rt.alloc()));
+        let start = Instant::now(rt)?;
+        transcribe(threads, rt.alloc(), &mut reader, &mut writer, &job)?;
+        timing.show(rt, form, start, writer.into_inner().len() as u64)?;
+    }
+    Ok(())
+}
+
+fn job_of(workers: u32, listing: bool) -> Job {
+    let input = Input {
+        hex: false,
+        bits: None,
+    };
+    let settings = Settings {
+        burst: 2,
+        reach: 3,
+        loss: 10,
+        workers,
+        cuts: Cuts::Even(16),
+    };
+    if listing {
+        Job::List(input, settings)
+    } else {
+        Job::Totals(input, settings)
+    }
+}
