@@ -1,59 +1,61 @@
 //! Command lines, as jobs and as faults.
 use rds_tool::{Cuts, FaultKind, Input, Job, Settings, job_of};
+use std::alloc::Global;
 use std::test::Fail;
 
 #[test]
-fn words_are_jobs(rt: HostRuntime) -> Result<(), Fail> {
-    let lines: [(&[&str], Job); 9] = [
-        (&["rds", "scan"], scan(false, None)),
-        (&["rds", "scan", "--hex"], scan(true, None)),
-        (
-            &["rds", "scan", "--bits", "104", "--hex"],
-            scan(true, Some(104)),
-        ),
-        (
-            &["rds", "scan", "--bits=1099511627776"],
-            scan(false, Some(1_099_511_627_776)),
-        ),
-        (
-            &["rds", "list", "--hex"],
-            Job::List(HEX, settings([2, 3, 10], 16, 4)),
-        ),
-        (
-            &[
-                "rds",
-                "totals",
-                "--hex",
-                "--loss=4294967295",
-                "--burst",
-                "0",
-                "--reach",
-                "+7",
-            ],
-            Job::Totals(HEX, settings([0, 7, 4_294_967_295], 16, 4)),
-        ),
-        (
-            &[
-                "rds",
-                "list",
-                "--hex",
-                "--pieces",
-                "4294967295",
-                "--workers",
-                "0",
-            ],
-            Job::List(HEX, settings([2, 3, 10], 4_294_967_295, 0)),
-        ),
-        (&["rds", "encode"], Job::Encode { hex: false }),
-        (&["rds", "encode", "--hex"], Job::Encode { hex: true }),
+fn words_are_jobs(rt: HostRuntime) {
+    assert!(rt; gives(rt.alloc(), &["rds", "scan"], &scan(false, None)));
+    assert!(rt; gives(rt.alloc(), &["rds", "scan", "--hex"], &scan(true, None)));
+    let words = ["rds", "scan", "--bits", "104", "--hex"];
+    assert!(rt; gives(rt.alloc(), &words, &scan(true, Some(104))));
+    let words = ["rds", "scan", "--bits=1099511627776"];
+    assert!(rt; gives(rt.alloc(), &words, &scan(false, Some(1_099_511_627_776))));
+}
+
+#[test]
+fn words_are_jobs_with_settings(rt: HostRuntime) {
+    let job = Job::List(HEX, settings([2, 3, 10], 16, 4));
+    assert!(rt; gives(rt.alloc(), &["rds", "list", "--hex"], &job));
+    let job = Job::Totals(HEX, settings([0, 7, 4_294_967_295], 16, 4));
+    let words = [
+        "rds",
+        "totals",
+        "--hex",
+        "--loss=4294967295",
+        "--burst",
+        "0",
+        "--reach",
+        "+7",
     ];
-    for (words, job) in lines {
-        assert!(rt;
-            matches!(job_of(rt.alloc(), words), Ok(given) if given == job),
-            "{words:?}"
-        );
+    assert!(rt; gives(rt.alloc(), &words, &job));
+    let job = Job::List(HEX, settings([2, 3, 10], 4_294_967_295, 0));
+    let words = [
+        "rds",
+        "list",
+        "--hex",
+        "--pieces",
+        "4294967295",
+        "--workers",
+        "0",
+    ];
+    assert!(rt; gives(rt.alloc(), &words, &job));
+    assert!(rt; gives(rt.alloc(), &["rds", "encode"], &Job::Encode { hex: false }));
+    assert!(rt;
+        gives(
+            rt.alloc(),
+            &["rds", "encode", "--hex"],
+            &Job::Encode { hex: true }
+        )
+    );
+}
+
+// Whether the words are taken as the job.
+fn gives(alloc: Global, words: &[&str], job: &Job) -> bool {
+    match job_of(alloc, words) {
+        Ok(given) => given == *job,
+        Err(_fault) => false,
     }
-    Ok(())
 }
 
 const HEX: Input = Input {
