@@ -11,18 +11,10 @@ use Rattle.rds_sync.specs.declared.state.State.TheVariants.{Searching}
 use Rattle.rds_sync.specs.declared.item.Item.{Item}
 use Rattle.rds_sync.specs.Rules.{RuleNumbers}
 use Rattle.rds_sync.specs.Step.{run, step, items_at}
+use Rattle.rds_sync.proofs.BodyLemmas.{none_first, none_rest}
 use Rattle.rds_sync.proofs.RunLemmas.{run_state-append, run_items-append}
 use Rattle.rds_pieces.specs.declared.run.Mark.{Mark}
 use Rattle.rds_pieces.specs.Guess.{guess, mark_at, mark_after, marks}
-
--- two lists that make none are none
-pub none_first : {A : Type 0} → (xs ys : List A) → xs ++ ys ≡ [] → xs ≡ []
-none_first [] ys e = refl
-none_first (x ∷ xs) ys e = cc
-
-pub none_rest : {A : Type 0} → (xs ys : List A) → xs ++ ys ≡ [] → ys ≡ []
-none_rest [] ys e = e
-none_rest (x ∷ xs) ys e = cc
 
 range_more : (c n : ℕ) → range_with_len c (n + 1) ≡ range_with_len c n ++ (c + n) ∷ []
 range_more c n =

@@ -10,7 +10,7 @@ use Rattle.rds_sync.specs.Lawful.{IsLawful, IsBetweenGroups}
 use Rattle.rds_sync.specs.Step.{run, step, items_at}
 use Rattle.rds_sync.proofs.RunLemmas.{items-acquiring, step-searching, run-waiting}
 use Rattle.rds_sync.proofs.LawfulLemmas.{lawful-step, quiet-step}
-use Rattle.rds_pieces.proofs.GuessLemmas.{none_first, none_rest}
+use Rattle.rds_sync.proofs.BodyLemmas.{none_first, none_rest}
 
 -- the block of this state is not due before place p
 abbrev pub IsNotDueBefore : ℕ → State → Type 0

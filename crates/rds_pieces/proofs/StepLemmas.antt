@@ -1,18 +1,15 @@
--- A run that goes on step by step: only the last bit of a step gives items.
-use Rattle.std.proofs.Common.{◌≡◌, ℕ, zero, suc, ◌+◌, ◌-◌, ◌<◌, ◌≤◌, List, [], ◌∷◌, ◌++◌, length, None, Result, Ok, Err, IfOk, Bool, true, false, refl, sym, ap, ap₂, ◌∙◌, arith, length-append, inl, inr}
-use Rattle.std.specs.Prelude.{nat_lt}
+-- A run that goes on step by step, or stretch by stretch: only the last bit gives items.
+use Rattle.std.proofs.Common.{◌≡◌, ℕ, zero, suc, ◌+◌, ◌-◌, ◌<◌, ◌≤◌, List, [], ◌∷◌, ◌++◌, length, refl, sym, ap, ap₂, ◌∙◌, arith, length-append, inl, inr}
 use Rattle.std.proofs.lemmas.Bool.{cases_lt, lt-ltb, le-ltb}
 use Rattle.rds_sync.specs.declared.state.State.{State}
 use Rattle.rds_sync.specs.declared.state.State.TheVariants.{Searching, Locked}
 use Rattle.rds_sync.specs.declared.item.Item.{Item}
 use Rattle.rds_sync.specs.Rules.{RuleNumbers}
 use Rattle.rds_sync.specs.Step.{run, items_at}
-use Rattle.rds_stream.specs.Recording.{off}
-use Rattle.rds_sync.proofs.LawfulLemmas.{acquired-none}
-use Rattle.rds_sync.proofs.RunLemmas.{run-searching, run-append, run-places, run-one, run-waiting}
+use Rattle.rds_sync.proofs.RunLemmas.{run-append, run-places, run-one, run-waiting}
 use Rattle.rds_pieces.specs.declared.run.Mark.{Mark}
-use Rattle.rds_sync.specs.Advance.{next_place, reads_most}
-use Rattle.rds_pieces.specs.Advance.{IsStepTo, IsStretchTo}
+use Rattle.rds_sync.specs.Advance.{next_place}
+use Rattle.rds_sync.specs.Stretch.{IsStretch}
 use Rattle.rds_pieces.specs.Guess.{guess, mark_at, marks}
 use Rattle.rds_pieces.proofs.GuessLemmas.{marks-quiet, marks-some}
 
@@ -78,13 +75,13 @@ module _ (b : List ℕ) (rules : RuleNumbers) where
       pub marks_are : found ≡ marks b rules from (place - from)
 
     module _ (place to next : ℕ) (s after : State) (items items2 : List Item) (found found2 : List Mark)
-        (low : from ≤ place) (so_far : IsSoFar place s items found) (goes : IsStretchTo b rules s place to next after)
+        (low : from ≤ place) (so_far : IsSoFar place s items found) (goes : IsStretch b rules s place to (record { place = next; state = after }))
         (more : items2 ≡ items ++ (run b rules s place (next - place)).1) where
       whole : guess b rules from (next - from) ≡ (after, items2)
       whole =
-          run-places b rules _ from place next low (let h = goes.moved in omega (arith, h))
+          run-places b rules _ from place next low (let h = goes.forward in omega (arith, h))
           ∙ ap₂ (λ (t : State) (is : List Item). ((run b rules t place (next - place)).0, is ++ (run b rules t place (next - place)).1)) (sym so_far.state_is) (sym so_far.items_are)
-          ∙ ap₂ (λ (t : State) (is : List Item). (t, is)) (sym goes.state_is) (sym more)
+          ∙ ap₂ (λ (t : State) (is : List Item). (t, is)) (sym goes.state) (sym more)
 
       grown : length items2 ≡ length items + length (run b rules s place (next - place)).1
       grown = ap (λ (is : List Item). length is) more ∙ length-append items _
@@ -95,7 +92,7 @@ module _ (b : List ℕ) (rules : RuleNumbers) where
       pub so_far_on : ((length items < length items2) → found2 ≡ found ++ record { place = next; state = after; items = length items2 } ∷ [])
           → ((length items2 ≤ length items) → found2 ≡ found) → IsSoFar next after items2 found2
       so_far_on some none =
-          let h = goes.moved in
+          let h = goes.forward in
           let n : ℕ = place - from in
           let m : ℕ = next - place - 1 in
           let count : next - place ≡ suc m = omega (arith, h) in
@@ -131,63 +128,4 @@ module _ (b : List ℕ) (rules : RuleNumbers) where
           state_is = ap (λ (n : ℕ). (guess b rules from n).0) none;
           items_are = e ∙ ap (λ (n : ℕ). (guess b rules from n).1) none;
           marks_are = f ∙ ap (λ (p : ℕ). record { place = p; state = Searching; items = 0 } ∷ []) spot ∙ ap (λ (n : ℕ). marks b rules from n) none;
-        }
-
--- a step reads at most 9 windows
-pub few_reads : (rules : RuleNumbers) (s : State) (to : ℕ) → rules.reach ≤ 8 → reads_most rules s to ≤ 9
-few_reads rules Searching to h = omega arith
-few_reads rules (Locked due number bad first) to h = elim (nat_lt due to) as (λ (t : Bool). elim t as (λ _. ℕ) [ true ↦ 4 | false ↦ 0 ] ≤ 9) [ true ↦ omega arith | false ↦ omega arith ]
-
--- what two facts of a result that is Ok give
-pub ok_both : {A E : Type 0} (r : Result A E) (P Q R : A → Type 0) → ((x : A) → P x → Q x → R x) → IfOk r P → IfOk r Q → IfOk r R
-ok_both (Ok x) P Q R f p q = f x p q
-ok_both (Err e) P Q R f p q = tt
-
-module _ (b : List ℕ) (rules : RuleNumbers) where
-  -- a step is a stretch
-  pub stretch_step : (s after : State) (place to next : ℕ) → IsStepTo b rules s place to next after → IsStretchTo b rules s place to next after
-  stretch_step s after place to next goes =
-      let m = goes.moved in
-      record {
-        moved = m;
-        state_is = goes.state_is;
-        quiet = ap (λ (r : State × List Item). r.1) (waits b rules s place next (next - 1 - place) (one_step s place to next goes.place_is) (omega (arith, m)));
-        lawful = goes.lawful;
-      }
-
-  -- a search over places whose windows are not valid
-  module _ (place valid to : ℕ) (low : place ≤ valid) (none : (i : ℕ) → place ≤ i → i < valid → off b i ≡ None) where
-    searched : (n : ℕ) → place + n ≤ valid → run b rules Searching place n ≡ (Searching, [])
-    searched n h = run-searching b rules place n (λ i l u. acquired-none b rules i (none i l (omega arith)))
-
-    pub searched_all : run b rules Searching place (valid - place) ≡ (Searching, [])
-    searched_all = searched (valid - place) (omega arith)
-
-    pub searched_end : valid ≡ to → (run b rules Searching place (to - place)).1 ≡ []
-    searched_end e = ap (λ (r : State × List Item). r.1) (searched (to - place) (omega (arith, e)))
-
-    pub stretch_end : valid ≡ to → place < to → IsStretchTo b rules Searching place to to Searching
-    stretch_end e ahead =
-        record {
-          moved = (ahead, omega arith);
-          state_is = sym (ap (λ (r : State × List Item). r.0) (searched (to - place) (omega (arith, e))));
-          quiet = ap (λ (r : State × List Item). r.1) (searched (to - 1 - place) (omega (arith, e)));
-          lawful = tt;
-        }
-
-    -- and one bit more
-    pub searched_on : (next : ℕ) → valid ≤ next → run b rules Searching place (next - place) ≡ run b rules Searching valid (next - valid)
-    searched_on next high =
-        run-places b rules Searching place valid next low high
-        ∙ ap (λ (r : State × List Item). ((run b rules r.0 valid (next - valid)).0, r.1 ++ (run b rules r.0 valid (next - valid)).1)) searched_all
-
-    pub stretch_on : (next : ℕ) (after : State) → IsStepTo b rules Searching valid to next after → IsStretchTo b rules Searching place to next after
-    stretch_on next after goes =
-        let m = goes.moved in
-        let n : next ≡ valid + 1 = goes.place_is in
-        record {
-          moved = (omega (arith, m), omega (arith, m));
-          state_is = goes.state_is ∙ sym (ap (λ (r : State × List Item). r.0) (searched_on next (omega (arith, m))));
-          quiet = ap (λ (r : State × List Item). r.1) (searched (next - 1 - place) (omega (arith, n)));
-          lawful = goes.lawful;
         }

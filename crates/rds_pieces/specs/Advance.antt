@@ -1,5 +1,5 @@
--- One step of a run towards a place, and a stretch of it.
-use Rattle.std.specs.Prelude.{◌≡◌, ℕ, ◌-◌, ◌<◌, ◌≤◌, List, []}
+-- One step of a run towards a place.
+use Rattle.std.specs.Prelude.{◌≡◌, ℕ, ◌-◌, ◌<◌, ◌≤◌, List}
 use Rattle.rds_sync.specs.declared.state.State.{State}
 use Rattle.rds_sync.specs.Rules.{RuleNumbers}
 use Rattle.rds_sync.specs.Lawful.{IsLawful}
@@ -11,11 +11,4 @@ pub record IsStepTo (b : List ℕ) (rules : RuleNumbers) (state : State) (place 
   pub place_is : next ≡ next_place state place to
   pub moved : (place < next) × (next ≤ to)
   pub state_is : after ≡ (run b rules state place (next - place)).0
-  pub lawful : IsLawful rules next after
-
--- a stretch leads from a state before `place` to the state before `next`, and gives no item before its last bit
-pub record IsStretchTo (b : List ℕ) (rules : RuleNumbers) (state : State) (place to next : ℕ) (after : State) : Type 0 where
-  pub moved : (place < next) × (next ≤ to)
-  pub state_is : after ≡ (run b rules state place (next - place)).0
-  pub quiet : (run b rules state place (next - 1 - place)).1 ≡ []
   pub lawful : IsLawful rules next after

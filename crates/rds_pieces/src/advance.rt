@@ -3,12 +3,11 @@ ghost use Rattle.std.specs.Prelude.{◌≡◌, ℕ, List, ◌+◌, ◌-◌, ◌+
 ghost use Rattle.rds_sync.specs.Lawful.{IsLawful};
 ghost use Rattle.rds_sync.specs.Advance.{group_item, items_in, reads_most};
 ghost use Rattle.rds_sync.specs.Step.{run};
-ghost use Rattle.rds_stream.specs.Recording.{off};
-ghost use Rattle.rds_pieces.specs.Advance.{IsStepTo, IsStretchTo};
+ghost use Rattle.rds_pieces.specs.Advance.{IsStepTo};
 ghost use Rattle.rds_pieces.specs.declared.error.PieceError.TheVariants.{OutOfMemory};
 
 use crate::error::PieceError;
-use rds_stream::{Recording, Sweep, Tape};
+use rds_stream::Tape;
 use rds_sync::{Group, Item, Rules, State, advance};
 
 /// Goes one step on from a state before `place` towards `to`: one bit where it searches, up to and including the block that
@@ -59,80 +58,4 @@ pub fn push_group(items: &mut Vec<Item>, group: Option<Group>) -> Result<(), Pie
         items.push(Item::Group(group))?;
     }
     Ok(())
-}
-
-/// Goes on from a state before `place` towards `to` up to the next bit that can give an item: where it searches, over all
-/// places whose windows are not valid, by rolling remainders and without the tape. Else like `advance_onto`.
-pub fn stretch_onto<T: Tape>(
-    rec: &Recording,
-    tape: &mut T,
-    rules: &Rules,
-    state: State,
-    place: u64,
-    to: u64,
-    items: &mut Vec<Item>,
-) -> Result<(u64, State), PieceError>
-    requires source { T.bits tape.old ≡ rec.now }
-    requires ahead { place < to }
-    requires inside { to ≤ length rec.now }
-    requires lawful { IsLawful rules.now place state }
-    requires few { T.reads_made tape.old + 16 ≤ 2 ^ 63 }
-    ensures stretch { IfOk result (λ r. IsStretchTo rec.now rules.now state place to r.0 r.1) }
-    ensures items { IfOk result (λ r. items.new.items ≡ items.old.items ++ (run rec.now rules.now state place (r.0 - place)).1) }
-    ensures err { IfErr result (λ e. e ≡ OutOfMemory) }
-    ensures same { T.bits tape.new ≡ T.bits tape.old }
-    ensures reads { T.reads_made tape.new ≤ T.reads_made tape.old + 9 }
-{
-    match state {
-        State::Searching => search_onto(rec, tape, rules, place, to, items),
-        State::Locked { .. } => {
-            let reach = rules.reach();
-            prove!(reach <= 8);
-            advance_onto(tape, rules, state, place, to, items)
-        }
-    }
-}
-
-/// A stretch of a search: `stretch_onto` from Searching.
-fn search_onto<T: Tape>(
-    rec: &Recording,
-    tape: &mut T,
-    rules: &Rules,
-    place: u64,
-    to: u64,
-    items: &mut Vec<Item>,
-) -> Result<(u64, State), PieceError>
-    requires source { T.bits tape.old ≡ rec.now }
-    requires ahead { place < to }
-    requires inside { to ≤ length rec.now }
-    requires few { T.reads_made tape.old + 16 ≤ 2 ^ 63 }
-    ensures stretch { IfOk result (λ r. IsStretchTo rec.now rules.now State.Searching place to r.0 r.1) }
-    ensures items { IfOk result (λ r. items.new.items ≡ items.old.items ++ (run rec.now rules.now State.Searching place (r.0 - place)).1) }
-    ensures err { IfErr result (λ e. e ≡ OutOfMemory) }
-    ensures same { T.bits tape.new ≡ T.bits tape.old }
-    ensures reads { T.reads_made tape.new ≤ T.reads_made tape.old + 9 }
-{
-    let reach = rules.reach();
-    prove!(reach <= 8);
-    let valid = next_valid(rec, place, to);
-    if valid == to {
-        return Ok((to, State::Searching));
-    }
-    advance_onto(tape, rules, State::Searching, valid, to, items)
-}
-
-/// The least place from `place` on whose window is valid, or `to` where there is none before it.
-fn next_valid(rec: &Recording, place: u64, to: u64) -> u64
-    requires order { place ≤ to }
-    requires inside { to ≤ length rec.now }
-    ensures inside { (place ≤ result) × (result ≤ to) }
-    ensures none { (i : ℕ) → place ≤ i → i < result → off rec.now i ≡ None }
-{
-    let mut sweep = Sweep::new(rec, place);
-    for here in place..to {
-        if sweep.next_offset().is_some() {
-            return here;
-        }
-    }
-    to
 }

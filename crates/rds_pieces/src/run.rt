@@ -6,11 +6,10 @@ ghost use Rattle.rds_pieces.specs.Guess.{guess, marks};
 ghost use Rattle.rds_pieces.specs.RunOf.{run_at};
 ghost use Rattle.rds_pieces.specs.declared.error.PieceError.TheVariants.{OutOfMemory};
 
-use crate::advance::stretch_onto;
 use crate::cutting::Cutting;
 use crate::error::PieceError;
-use rds_stream::{Counted, Recording, Tape};
-use rds_sync::{Item, Rules, State};
+use rds_stream::Recording;
+use rds_sync::{Item, Rules, State, stretch};
 use std::alloc::Global;
 use std::marker::Model;
 use std::snapshot::Snapshot;
@@ -126,8 +125,7 @@ pub fn speculate(
     let (from, to) = (cutting.from(j), cutting.to(j));
     let len = rec.len();
     prove!(to <= len);
-    let mut tape = Counted::new(rec);
-    let (end_state, items, marks) = guess_over(alloc, rec, &mut tape, rules, from, to)?;
+    let (end_state, items, marks) = guess_over(alloc, rec, rules, from, to)?;
     Ok(PieceRun {
         source: Snapshot::of(rec),
         burst: rules.burst(),
@@ -142,25 +140,20 @@ pub fn speculate(
 }
 
 /// The end state, the items and the marks of the guess of a range.
-fn guess_over<T: Tape>(
+fn guess_over(
     alloc: Global,
     rec: &Recording,
-    tape: &mut T,
     rules: &Rules,
     from: u64,
     to: u64,
 ) -> Result<(State, Vec<Item>, Vec<Mark>), PieceError>
-    requires source { T.bits tape.old ≡ rec.now }
     requires range { from ≤ to }
     requires inside { to ≤ length rec.now }
-    requires room { T.reads_made tape.old ≤ 2 ^ 62 }
     ensures state { IfOk result (λ r. r.0 ≡ (guess rec.now rules.now from (to - from)).0) }
     ensures items { IfOk result (λ r. r.1.items ≡ (guess rec.now rules.now from (to - from)).1) }
     ensures marks { IfOk result (λ r. r.2.items ≡ marks rec.now rules.now from (to - from)) }
     ensures err { IfErr result (λ e. e ≡ OutOfMemory) }
 {
-    let len = rec.len();
-    prove!(to <= len);
     let mut items = Vec::new(alloc);
     let mut marks = Vec::new(alloc);
     let mut place = from;
@@ -172,9 +165,11 @@ fn guess_over<T: Tape>(
     })?;
     while place < to {
         let before = items.len();
-        let (next, after) = stretch_onto(rec, tape, rules, state, place, to, &mut items)?;
-        place = next;
-        state = after;
+        let Ok(reached) = stretch(rec, rules, state, place, to, &mut items) else {
+            return Err(PieceError::OutOfMemory);
+        };
+        place = reached.place;
+        state = reached.state;
         if items.len() > before {
             marks.push(Mark {
                 place,

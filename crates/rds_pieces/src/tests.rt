@@ -17,6 +17,30 @@ const ZERO_GROUP: [u8; 13] = [
     0x00, 0x00, 0x3F, 0x00, 0x00, 0x19, 0x80, 0x00, 0x05, 0xA0, 0x00, 0x01, 0xB4,
 ];
 
+/// The first groups of a station's recording, 104 bits each.
+const STATION: [u128; 20] = [
+    0xD3_93464152_100E1002_2D4105D6,
+    0xD3_93464152_4B9E1002_2D613DA3,
+    0xD3_93464152_A72E1002_2D3125F7,
+    0xD3_93464153_C96E1002_2D11554F,
+    0xD3_93464550_10880E0E_040001B4,
+    0xD3_93464950_1AC56659_61C9A605,
+    0xD3_93464950_4156669A_899592FD,
+    0xD3_93464950_ADE20528_F5114D60,
+    0xD3_93464950_F672064D_A9958F6B,
+    0xD3_93464951_2F16F643_01A5BAA5,
+    0xD3_93464951_748672C2_B4819D7D,
+    0xD3_93464951_983726FB_D9D5C114,
+    0xD3_93464951_C3A2062D_15E482B5,
+    0xD3_93464952_2AF67720_25BDD61A,
+    0xD3_93464952_716702C6_C881A651,
+    0xD3_93464952_9DD6E20D_D985CFA4,
+    0xD3_93464952_C64206D7_4185B9FC,
+    0xD3_93464953_1F279209_A5D1A174,
+    0xD3_93464953_44B7265A_1D85918D,
+    0xD3_93464953_A8073202_2185CFA4,
+];
+
 /// That many zero groups, one after the other.
 fn zero_groups(alloc: Global, groups: u64) -> Result<Recording, Fail>
     requires { groups < 1000 }
@@ -236,6 +260,61 @@ fn two_zero_groups_cut_at_every_place_give_one_report(rt: HostRuntime) -> Result
         let (report, _reads) = by_pieces(rt.alloc(), &rec, &rules, &cutting)?;
         assert_eq!(rt; report.items.as_slice(), items.as_slice(), "cut at {cut}");
         assert_eq!(rt; report.totals, totals_of_zero_groups(2), "cut at {cut}");
+    }
+    Ok(())
+}
+
+/// The recording of a station's groups, with every bit of one group turned.
+fn station(alloc: Global) -> Result<Recording, Fail> {
+    let mut bytes = Vec::new(alloc);
+    for (number, group) in STATION.iter().enumerate() {
+        let sent = if number == 9 { !*group } else { *group };
+        for byte in 0..13u32 {
+            bytes.push((sent >> (96 - 8 * byte) & 255) as u8)?;
+        }
+    }
+    let bits = 104 * STATION.len() as u64;
+    Ok(Recording::from_bytes(bytes, bits).map_err(|refused| refused.0)?)
+}
+
+/// The next of a row of numbers that look random and are the same in each run.
+fn next_random(number: u64) -> u64 {
+    let number = number ^ (number << 13);
+    let number = number ^ (number >> 7);
+    number ^ (number << 17)
+}
+
+/// A cutting with a cut at one place of so many, where `seed` says which.
+fn random_cutting(alloc: Global, rec: &Recording, one_of: u64, seed: u64) -> Result<Cutting, Fail>
+    requires { 0 < one_of }
+    ensures { IfOk result (λ c. IsCutting (length rec.now) c) }
+{
+    let mut inner = Vec::new(alloc);
+    let mut number = seed;
+    for place in 1..rec.len() {
+        number = next_random(number);
+        if number % one_of == 0 {
+            inner.push(place)?;
+        }
+    }
+    cut_at(alloc, rec, inner.as_slice())
+}
+
+#[test]
+fn random_cuts_of_a_station_give_the_report_of_one_decoder(rt: HostRuntime) -> Result<(), Fail> {
+    let alloc = rt.alloc();
+    let rec = station(alloc)?;
+    let rules = Rules::new(alloc, 2, 3, 3)?;
+    let plain = decode_plain(alloc, &rec, &rules)?;
+    assert_eq!(rt; plain.totals.losses, 1);
+    assert_eq!(rt; plain.totals.acquired, 2);
+    for one_of in [2, 7, 26, 60, 104, 500] {
+        for seed in 1..21u64 {
+            let cutting = random_cutting(alloc, &rec, one_of, seed * 0x9E37_79B9)?;
+            let (report, _reads) = by_pieces(alloc, &rec, &rules, &cutting)?;
+            assert!(rt; report.items == plain.items);
+            assert_eq!(rt; report.totals, plain.totals);
+        }
     }
     Ok(())
 }

@@ -1,5 +1,5 @@
 -- Lemmas on the bodies of the synchroniser.
-use Rattle.std.proofs.Common.{◌≡◌, ◌≢◌, ℕ, zero, suc, ◌+◌, ◌-◌, ◌*◌, ◌<◌, ◌≤◌, List, [], ◌∷◌, ◌++◌, length, Bool, true, false, Option, Some, None, refl, sym, ap, ap₂, ◌∙◌, subst, arith, length-append, get_or, set, inl, inr, cond, eqb, leb, ltb, ◌%◌, append-nil, append_assoc}
+use Rattle.std.proofs.Common.{◌≡◌, ◌≢◌, ℕ, zero, suc, ◌+◌, ◌-◌, ◌*◌, ◌<◌, ◌≤◌, List, [], ◌∷◌, ◌++◌, length, Bool, true, false, Option, Some, None, refl, sym, ap, ap₂, ◌∙◌, subst, arith, length-append, get_or, set, inl, inr, cond, eqb, leb, ltb, ◌%◌}
 use Rattle.std.proofs.lemmas.Bool.{le-leb, lt-leb, le-ltb, lt-ltb, eq-eqb, ne_eqb, cases_lt, cases_eq}
 use Rattle.std.specs.Prelude.{◌&&◌}
 use Rattle.rds_code.specs.declared.reading.Wanted.{Wanted}
@@ -19,7 +19,7 @@ use Rattle.rds_sync.specs.declared.state.State.{State}
 use Rattle.rds_sync.specs.declared.state.State.TheVariants.{Searching, Locked}
 use Rattle.rds_sync.specs.declared.item.Item.TheVariants.{Group, LostLock}
 use Rattle.rds_sync.specs.Lawful.{IsLawful, IsLawfulLock}
-use Rattle.rds_sync.proofs.RunLemmas.{step-keeping, items-keeping, step-losing, items-losing, run-one, run-append, run-searching, run-waiting, run-reading, run-places, items-searching, items-acquiring, items-waiting}
+use Rattle.rds_sync.proofs.RunLemmas.{step-keeping, items-keeping, step-losing, items-losing, run-one, run-append, run_items-append, run-searching, run-waiting, run-reading, run-places, items-searching, items-acquiring, items-waiting}
 use Rattle.rds_sync.specs.Advance.{items_in, reads_most}
 use Rattle.rds_sync.specs.Report.{report_items}
 use Rattle.rds_sync.proofs.Locks.{run_is_report}
@@ -32,6 +32,19 @@ use Rattle.rds_sync.specs.declared.item.Block.TheVariants.{Missing, Read}
 use Rattle.rds_sync.specs.Rules.{RuleNumbers}
 use Rattle.rds_code.specs.declared.reading.Wanted.TheVariants.{Either}
 use Rattle.rds_sync.specs.Groups.{block_at, group, group_of, wanted_beside}
+
+-- a list with a first item is not empty
+pub some_given : (given : List Item) (item : Item) (others : List Item) → given ≡ item ∷ others → given ≢ []
+some_given given item others is none = cc
+
+-- two lists that make none are none
+pub none_first : {A : Type 0} → (xs ys : List A) → xs ++ ys ≡ [] → xs ≡ []
+none_first [] ys e = refl
+none_first (x ∷ xs) ys e = cc
+
+pub none_rest : {A : Type 0} → (xs ys : List A) → xs ++ ys ≡ [] → ys ≡ []
+none_rest [] ys e = e
+none_rest (x ∷ xs) ys e = cc
 
 -- a block of a group is its window, read
 pub block_at-read : (b : List ℕ) (rules : RuleNumbers) (f x p : ℕ) (wanted : Wanted) (y w : ℕ)
@@ -426,3 +439,10 @@ run-found b rules place here order none =
 pub run-unfound : (b : List ℕ) (rules : RuleNumbers) (place to : ℕ) → place ≤ to → ((j : ℕ) → place ≤ j → j < to → acquired b rules j ≡ None)
     → run b rules Searching place (to - place) ≡ (Searching, [])
 run-unfound b rules place to order none = run-searching b rules place (to - place) (λ j low high. none j low (omega arith))
+
+-- a run that gives nothing gave nothing before its last bit
+pub run-quiet : (b : List ℕ) (rules : RuleNumbers) (s : State) (place to : ℕ) → place < to → (run b rules s place (to - place)).1 ≡ []
+    → (run b rules s place (to - 1 - place)).1 ≡ []
+run-quiet b rules s place to order nothing =
+    let bits : to - place ≡ (to - 1 - place) + 1 = omega arith in
+    none_first _ _ (sym (run_items-append b rules s place (to - 1 - place) 1) ∙ rw (← bits) nothing)

@@ -1,12 +1,15 @@
 -- A lock that is followed from block to block, with the blocks of the group in progress.
-use Rattle.std.specs.Prelude.{◌≡◌, ℕ, ◌+◌, ◌-◌, ◌*◌, ◌<◌, ◌≤◌, ◌⊎◌, List, [], ◌∷◌, Option, Some, None, length}
+use Rattle.std.specs.Prelude.{◌≡◌, ◌≢◌, ℕ, ◌+◌, ◌-◌, ◌*◌, ◌<◌, ◌≤◌, ◌⊎◌, List, [], ◌∷◌, length}
 use Rattle.rds_code.specs.declared.reading.Wanted.TheVariants.{Either}
 use Rattle.rds_sync.specs.declared.item.Block.{Block}
+use Rattle.rds_sync.specs.declared.lock.Followed.{Followed}
+use Rattle.rds_sync.specs.declared.lock.Followed.TheVariants.{Inside, Closed}
 use Rattle.rds_sync.specs.declared.lock.Lock.{Lock}
 use Rattle.rds_sync.specs.declared.state.State.{State}
-use Rattle.rds_sync.specs.declared.state.State.TheVariants.{Searching, Locked}
+use Rattle.rds_sync.specs.declared.state.State.TheVariants.{Locked}
 use Rattle.rds_sync.specs.Groups.{block_at, wanted_beside}
 use Rattle.rds_sync.specs.Rules.{RuleNumbers}
+use Rattle.rds_sync.specs.Step.{items_at}
 
 -- the four blocks of the group whose blocks f to x were read, the last of them at place p
 abbrev pub blocks_at : List ℕ → RuleNumbers → ℕ → ℕ → ℕ → List Block
@@ -25,7 +28,18 @@ pub record IsReadable (b : List ℕ) (rules : RuleNumbers) (lock : Lock) : Type 
   pub reached : lock.due < length b + 26
   pub in_order : ((lock.number ≡ 1) × (lock.first ≡ 1)) ⊎ ((1 ≤ lock.first) × (lock.first < lock.number) × (lock.number ≤ 4))
 
--- the state of a lock, or of a search where there is none
-abbrev pub state_of : Option Lock → State
-state_of None = Searching
-state_of (Some lock) = Locked lock.due lock.number lock.bad lock.first
+-- the state to which the block that was due led
+abbrev pub state_of : Followed → State
+state_of (Inside next) = Locked next.due next.number next.bad next.first
+state_of (Closed after) = after
+
+-- where the group goes on, nothing was given, the next block is due after 26 places, and the blocks are those read so far
+pub record GoesOn (b : List ℕ) (rules : RuleNumbers) (lock next : Lock) (blocks : List Block) : Type 0 where
+  pub nothing : items_at b rules lock.due (Locked lock.due lock.number lock.bad lock.first) ≡ []
+  pub due : next.due ≡ lock.due + 26
+  pub in_progress : IsInProgress b rules next blocks
+
+-- and where the block closed it, an item was given
+abbrev pub IsFollowed : List ℕ → RuleNumbers → Lock → List Block → Followed → Type 0
+IsFollowed b rules lock blocks (Inside next) = GoesOn b rules lock next blocks
+IsFollowed b rules lock blocks (Closed after) = items_at b rules lock.due (Locked lock.due lock.number lock.bad lock.first) ≢ []

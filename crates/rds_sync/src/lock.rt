@@ -3,10 +3,10 @@
 //! A good block costs one window, one remainder and one comparison: it is read once, where it is
 //! due, and kept until its group closes. Nothing is read in between.
 
-ghost use Rattle.std.specs.Prelude.{◌≡◌, ◌≤◌, ◌<◌, ◌+◌, ◌-◌, ◌*◌, ◌^◌, ◌++◌, [], ◌∷◌, List, length, IfOk, OnOk, IfSome, IsOkUnless};
+ghost use Rattle.std.specs.Prelude.{◌≡◌, ◌≤◌, ◌<◌, ◌+◌, ◌-◌, ◌*◌, ◌^◌, ◌++◌, [], ◌∷◌, List, length, IfOk, OnOk, IsOkUnless};
 ghost use Rattle.rds_sync.specs.Acquiring.{has_number};
 ghost use Rattle.rds_sync.specs.Groups.{group_of};
-ghost use Rattle.rds_sync.specs.Locks.{blocks_at, state_of, IsInProgress, IsReadable};
+ghost use Rattle.rds_sync.specs.Locks.{blocks_at, state_of, IsFollowed, IsInProgress, IsReadable};
 ghost use Rattle.rds_sync.specs.Step.{step, items_at};
 ghost use Rattle.rds_sync.specs.Totals.{is_valid};
 ghost use Rattle.rds_sync.specs.declared.item.Block.TheVariants.{Read};
@@ -102,24 +102,30 @@ fn closed(lock: Lock, blocks: &[Block; 4]) -> Group
     Group::of_blocks(place, one, two, three, four)
 }
 
-/// Follows a lock by the block that is due, and answers the lock on the next one, if it goes on.
+/// What the block that was due led to.
+pub(crate) enum Followed {
+    /// Its group goes on with the block that is due next, and nothing was given.
+    Inside(Lock),
+    /// It closed its group, and the lock was kept or lost.
+    Closed(State),
+}
+
+/// Follows a lock by the block that is due.
 pub(crate) fn follow(
     rec: &Recording,
     rules: &Rules,
     lock: Lock,
     blocks: &mut [Block; 4],
     items: &mut Vec<Item>,
-) -> Result<Option<Lock>, SyncError>
+) -> Result<Followed, SyncError>
     requires readable { IsReadable rec.now rules.now lock }
     requires within { lock.due < length rec.now }
     requires in_progress { IsInProgress rec.now rules.now lock blocks.old }
-    ensures state { IfOk result (λ next. state_of next
+    ensures state { IfOk result (λ followed. state_of followed
         ≡ step rec.now rules.now lock.due (Locked lock.due lock.number lock.bad lock.first)) }
     ensures items { OnOk result (items.new.items ≡ items.old.items
         ++ items_at rec.now rules.now lock.due (Locked lock.due lock.number lock.bad lock.first)) }
-    ensures due { IfOk result (λ next. IfSome next (λ after. after.due ≡ lock.due + 26)) }
-    ensures in_progress { IfOk result (λ next. IfSome next (λ after.
-        IsInProgress rec.now rules.now after blocks.new)) }
+    ensures followed { IfOk result (IsFollowed rec.now rules.now lock blocks.new) }
     ensures only_memory { IsOkUnless result SyncError.OutOfMemory }
 {
     prove!(lock.due < rec.len());
@@ -129,23 +135,16 @@ pub(crate) fn follow(
     if u32::from(bad) >= loss {
         items.push(Item::Group(closed(lock, blocks)))?;
         items.push(Item::LostLock { place: lock.due })?;
-        return Ok(None);
+        return Ok(Followed::Closed(State::Searching));
     }
-    let due = lock.due + 26;
     if lock.number < 4 {
-        return Ok(Some(Lock {
-            due,
+        return Ok(Followed::Inside(Lock {
+            due: lock.due + 26,
             number: lock.number + 1,
             bad,
             first: lock.first,
         }));
     }
     items.push(Item::Group(closed(lock, blocks)))?;
-    *blocks = NO_BLOCKS;
-    Ok(Some(Lock {
-        due,
-        number: 1,
-        bad,
-        first: 1,
-    }))
+    Ok(Followed::Closed(State::after_block(lock.due, 4, bad, lock.first)))
 }

@@ -1,16 +1,14 @@
-use Rattle.std.proofs.Common.{◌≡◌, ◌+◌, ◌-◌, ◌*◌, ◌≤◌}
+use Rattle.std.proofs.Common.{◌-◌, ◌≤◌}
 use Rattle.rds_sync.specs.Lawful.{IsLawful}
 use Rattle.rds_pieces.proofs.StepLemmas.{IsSoFar}
 use Rattle.rds_pieces.proofs.run.guess_over.Given as goal
 
 abbrev pub invariant-loop-place : goal.invariant-loop-place
-invariant-loop-place g l = record {
+invariant-loop-place l = record {
   inside : (l.from ≤ l.place) × (l.place ≤ l.to);
   so_far : IsSoFar l.rec l.rules l.from l.place l.state l.items.items l.marks.items;
   lawful : IsLawful l.rules l.place l.state;
-  same : g.T.Tape.bits l.tape ≡ l.rec;
-  reads : g.T.Tape.reads_made l.tape ≤ g.T.Tape.reads_made l.fn.tape + 9 * (l.place - l.from);
 }
 
 abbrev pub decreases-loop-place : goal.decreases-loop-place
-decreases-loop-place g l = l.to - l.place
+decreases-loop-place l = l.to - l.place

@@ -1,4 +1,4 @@
-use Rattle.std.proofs.Common.{◌≡◌, ◌≤◌, ◌<◌, ◌+◌, ◌-◌, ◌*◌, ℕ, List, get_or, ap, sym, ◌∙◌, arith}
+use Rattle.std.proofs.Common.{◌≡◌, ◌-◌, ◌*◌, ℕ, get_or, ap, ◌∙◌, arith}
 use Rattle.rds_sync.specs.Groups.{group_of}
 use Rattle.rds_sync.proofs.BodyLemmas.{group-blocks}
 use Rattle.rds_sync.proofs.group.read_group.Goals as goal

@@ -1,14 +1,12 @@
-use Rattle.std.proofs.Common.{◌≡◌, ◌≢◌, ◌≤◌, ◌<◌, ◌+◌, ◌-◌, ◌*◌, ℕ, Bool, List, [], ◌∷◌, ◌++◌, refl, ap, ap₂, sym, ◌∙◌, arith, append_assoc, append-nil, cond}
-use Rattle.rds_sync.specs.declared.item.Block.{Block}
+use Rattle.std.proofs.Common.{◌≡◌, ◌+◌, ◌-◌, ℕ, List, [], ◌∷◌, ◌++◌, refl, ap, ap₂, sym, ◌∙◌, arith, append_assoc, append-nil}
 use Rattle.rds_sync.specs.declared.item.Group.{Group as GroupRecord}
 use Rattle.rds_sync.specs.declared.item.Item.{Item}
 use Rattle.rds_sync.specs.declared.item.Item.TheVariants.{Group, LostLock}
 use Rattle.rds_sync.specs.Groups.{group}
 use Rattle.rds_sync.specs.Locks.{blocks_at}
-use Rattle.rds_sync.specs.Rules.{RuleNumbers}
-use Rattle.rds_sync.specs.Step.{bad_after, items_at}
+use Rattle.rds_sync.specs.Step.{items_at, locked_after}
 use Rattle.rds_sync.specs.declared.state.State.TheVariants.{Locked}
-use Rattle.rds_sync.proofs.BodyLemmas.{bad_after-valid, step-kept, items-kept, step-lost, items-lost, locked_after-inside, locked_after-four, group_after-inside, group_after-four, closed-group}
+use Rattle.rds_sync.proofs.BodyLemmas.{bad_after-valid, step-kept, items-kept, step-lost, items-lost, locked_after-inside, group_after-inside, group_after-four, closed-group, some_given}
 use Rattle.rds_sync.proofs.lock.follow.Goals as goal
 
 -- the items with a group and then a loss
@@ -41,6 +39,16 @@ returns-then-from-loss-clause-items c =
     (bad_after-valid b l.due l.number l.bad c.bad_with-bad.result c.read_due-valid.result c.read_due-valid.ensures.valid c.bad_with-bad.ensures)
     (omega (arith, c.if-from-loss.true, c.from.ensures, c.loss-loss.ensures.value)))
 
+pub returns-then-from-loss-clause-followed : goal.returns-then-from-loss-clause-followed
+returns-then-from-loss-clause-followed c =
+    let b = c.args.rec.now in
+    let rules = c.args.rules.now in
+    let l = c.args.lock in
+    some_given (items_at b rules l.due (Locked l.due l.number l.bad l.first)) _ _
+    (items-lost b rules l.due l.number l.bad l.first c.bad_with-bad.result
+    (bad_after-valid b l.due l.number l.bad c.bad_with-bad.result c.read_due-valid.result c.read_due-valid.ensures.valid c.bad_with-bad.ensures)
+    (omega (arith, c.if-from-loss.true, c.from.ensures, c.loss-loss.ensures.value)))
+
 pub returns-then-lock-lt4-clause-state : goal.returns-then-lock-lt4-clause-state
 returns-then-lock-lt4-clause-state c =
     let b = c.args.rec.now in
@@ -62,23 +70,31 @@ returns-then-lock-lt4-clause-items c =
     ∙ group_after-inside b rules l.first l.number l.due c.if-lock-lt4.true)
     ∙ append-nil c.args.items.now.items)
 
-pub returns-then-lock-lt4-clause-in_progress : goal.returns-then-lock-lt4-clause-in_progress
-returns-then-lock-lt4-clause-in_progress c =
+pub returns-then-lock-lt4-clause-followed : goal.returns-then-lock-lt4-clause-followed
+returns-then-lock-lt4-clause-followed c =
     let b = c.args.rec.now in
     let rules = c.args.rules.now in
     let l = c.args.lock in
     let same : l.number ≡ l.number + 1 - 1 = omega arith in
     let place : l.due ≡ l.due + 26 - 26 = omega arith in
-    c.read_due-valid.ensures.blocks ∙ ap₂ (λ (x p : ℕ). blocks_at b rules l.first x p) same place
+    record {
+      nothing = items-kept b rules l.due l.number l.bad l.first c.bad_with-bad.result
+          (bad_after-valid b l.due l.number l.bad c.bad_with-bad.result c.read_due-valid.result c.read_due-valid.ensures.valid c.bad_with-bad.ensures)
+          (omega (arith, c.if-from-loss.false, c.from.ensures, c.loss-loss.ensures.value))
+          ∙ group_after-inside b rules l.first l.number l.due c.if-lock-lt4.true;
+      due = refl;
+      in_progress = c.read_due-valid.ensures.blocks ∙ ap₂ (λ (x p : ℕ). blocks_at b rules l.first x p) same place;
+    }
 
 pub returns-clause-state : goal.returns-clause-state
 returns-clause-state c =
     let b = c.args.rec.now in
     let l = c.args.lock in
-    sym (step-kept b c.args.rules.now l.due l.number l.bad l.first c.bad_with-bad.result
+    let four : 4 ≡ l.number = omega (arith, c.if-lock-lt4.false, c.requires.readable.in_order) in
+    c.after_block.ensures ∙ ap (λ (x : ℕ). locked_after l.due x c.bad_with-bad.result l.first) four
+    ∙ sym (step-kept b c.args.rules.now l.due l.number l.bad l.first c.bad_with-bad.result
     (bad_after-valid b l.due l.number l.bad c.bad_with-bad.result c.read_due-valid.result c.read_due-valid.ensures.valid c.bad_with-bad.ensures)
-    (omega (arith, c.if-from-loss.false, c.from.ensures, c.loss-loss.ensures.value))
-    ∙ locked_after-four l.due l.number c.bad_with-bad.result l.first (omega (arith, c.if-lock-lt4.false, c.requires.readable.in_order)))
+    (omega (arith, c.if-from-loss.false, c.from.ensures, c.loss-loss.ensures.value)))
 
 pub returns-clause-items : goal.returns-clause-items
 returns-clause-items c =
@@ -93,3 +109,14 @@ returns-clause-items c =
     (bad_after-valid b l.due l.number l.bad c.bad_with-bad.result c.read_due-valid.result c.read_due-valid.ensures.valid c.bad_with-bad.ensures)
     (omega (arith, c.if-from-loss.false, c.from.ensures, c.loss-loss.ensures.value))
     ∙ group_after-four b rules l.first l.number l.due (omega (arith, c.if-lock-lt4.false, c.requires.readable.in_order))))
+
+pub returns-clause-followed : goal.returns-clause-followed
+returns-clause-followed c =
+    let b = c.args.rec.now in
+    let rules = c.args.rules.now in
+    let l = c.args.lock in
+    some_given (items_at b rules l.due (Locked l.due l.number l.bad l.first)) _ _
+    (items-kept b rules l.due l.number l.bad l.first c.bad_with-bad.result
+    (bad_after-valid b l.due l.number l.bad c.bad_with-bad.result c.read_due-valid.result c.read_due-valid.ensures.valid c.bad_with-bad.ensures)
+    (omega (arith, c.if-from-loss.false, c.from.ensures, c.loss-loss.ensures.value))
+    ∙ group_after-four b rules l.first l.number l.due (omega (arith, c.if-lock-lt4.false, c.requires.readable.in_order)))

@@ -5,7 +5,6 @@ use Rattle.rds_sync.specs.declared.item.Item.{Item}
 use Rattle.rds_sync.specs.declared.state.State.{State}
 use Rattle.rds_sync.specs.Advance.{group_item}
 use Rattle.rds_sync.specs.Step.{items_of_end}
-use Rattle.rds_sync.specs.Report.{report_items}
 use Rattle.rds_sync.specs.Totals.{totals_of}
 use Rattle.rds_sync.proofs.BodyLemmas.{report-run, report-few}
 use Rattle.rds_sync.proofs.report.decode_plain.Goals as goal

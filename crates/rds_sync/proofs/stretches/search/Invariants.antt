@@ -1,8 +1,8 @@
-use Rattle.std.proofs.Common.{◌≡◌, ◌≤◌, ◌<◌, ℕ, List, Option, None}
+use Rattle.std.proofs.Common.{◌≡◌, ◌≤◌, ◌<◌, ℕ, List, None}
 use Rattle.rds_sync.specs.declared.item.Item.{Item}
 use Rattle.rds_sync.specs.Acquiring.{acquired}
 use Rattle.rds_sync.specs.Rules.{RuleNumbers}
-use Rattle.rds_sync.proofs.range.search.Given as goal
+use Rattle.rds_sync.proofs.stretches.search.Given as goal
 
 -- no place from the one up to before the other acquires
 pub record HasSearched (b : List ℕ) (rules : RuleNumbers) (place here : ℕ) (swept : List ℕ) (at : ℕ) (before items : List Item) : Type 0 where

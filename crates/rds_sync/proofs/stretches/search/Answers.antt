@@ -1,4 +1,4 @@
-use Rattle.std.proofs.Common.{◌≡◌, ◌≤◌, ◌<◌, ◌+◌, ◌-◌, ◌*◌, ◌++◌, ℕ, List, Some, refl, ap, sym, subst, ◌∙◌, arith, append-nil}
+use Rattle.std.proofs.Common.{◌≡◌, ◌+◌, ◌-◌, ◌++◌, List, Some, refl, ap, sym, subst, ◌∙◌, arith, append-nil, inl, inr}
 use Rattle.rds_sync.specs.declared.item.Item.{Item}
 use Rattle.rds_sync.specs.declared.state.State.{State}
 use Rattle.rds_sync.specs.declared.state.State.TheVariants.{Searching}
@@ -6,10 +6,10 @@ use Rattle.rds_sync.specs.Acquiring.{acquired}
 use Rattle.rds_sync.specs.Advance.{items_in}
 use Rattle.rds_sync.specs.Lawful.{IsLawful}
 use Rattle.rds_sync.specs.Step.{step}
-use Rattle.rds_sync.proofs.RunLemmas.{step-acquiring}
+use Rattle.rds_sync.proofs.RunLemmas.{step-acquiring, items-acquiring}
 use Rattle.rds_sync.proofs.LawfulLemmas.{acquired-range, lawful-step}
-use Rattle.rds_sync.proofs.BodyLemmas.{run-found, run-unfound}
-use Rattle.rds_sync.proofs.range.search.Goals as goal
+use Rattle.rds_sync.proofs.BodyLemmas.{run-found, run-quiet, run-unfound, some_given}
+use Rattle.rds_sync.proofs.stretches.search.Goals as goal
 
 pub after_block-requires-clause-number : goal.after_block-requires-clause-number
 after_block-requires-clause-number c =
@@ -26,16 +26,20 @@ returns-in-Some-clause-reached c =
     let run_is = run-found b rules c.args.place here (omega arith) searched.none in
     let state_is : c.after_block.result ≡ step b rules here Searching =
     c.after_block.ensures ∙ sym (step-acquiring b rules here c.in-Some.number e) in
-    record {
-      forward = omega arith;
-      limit = omega arith;
-      state = state_is ∙ sym (ap (λ (r : State × List Item). r.0) run_is);
-      items = c.in_ok-push_found.ensures.ok
+    let last : here + 1 - 1 ≡ here = omega arith in (
+      record {
+        forward = omega arith;
+        limit = omega arith;
+        state = state_is ∙ sym (ap (λ (r : State × List Item). r.0) run_is);
+        quiet = rw last (ap (λ (r : State × List Item). r.1) (run-unfound b rules c.args.place here (omega arith) searched.none));
+        ended = inr (some_given _ _ _ (ap (λ (r : State × List Item). r.1) run_is ∙ items-acquiring b rules here c.in-Some.number e));
+        lawful = subst (λ (t : State). IsLawful rules (here + 1) t) (sym state_is)
+            (lawful-step b rules (omega (arith, c.loss.ensures.range.some_loss)) here Searching tt);
+      },
+      c.in_ok-push_found.ensures.ok
           ∙ ap (λ (is : List Item). is ++ items_in c.found_at.result) searched.nothing
-          ∙ ap (λ (is : List Item). c.args.items.now.items ++ is) (c.found_at.ensures ∙ sym (ap (λ (r : State × List Item). r.1) run_is));
-      lawful = subst (λ (t : State). IsLawful rules (here + 1) t) (sym state_is)
-          (lawful-step b rules (omega (arith, c.loss.ensures.range.some_loss)) here Searching tt);
-    }
+          ∙ ap (λ (is : List Item). c.args.items.now.items ++ is) (c.found_at.ensures ∙ sym (ap (λ (r : State × List Item). r.1) run_is)),
+    )
 
 pub returns-clause-reached : goal.returns-clause-reached
 returns-clause-reached c =
@@ -44,10 +48,14 @@ returns-clause-reached c =
     let searched = c.loop-here.invariant in
     let run_is = run-unfound b rules c.args.place c.args.to (omega arith)
     (λ j low high. searched.none j low (omega (arith, high, c.loop-here-test.false))) in
-    record {
-      forward = c.requires.order;
-      limit = omega arith;
-      state = sym (ap (λ (r : State × List Item). r.0) run_is);
-      items = searched.nothing ∙ sym (ap (λ (r : State × List Item). c.args.items.now.items ++ r.1) run_is ∙ append-nil c.args.items.now.items);
-      lawful = tt;
-    }
+    let nothing = ap (λ (r : State × List Item). r.1) run_is in (
+      record {
+        forward = c.requires.order;
+        limit = omega arith;
+        state = sym (ap (λ (r : State × List Item). r.0) run_is);
+        quiet = run-quiet b rules Searching c.args.place c.args.to c.requires.order nothing;
+        ended = inl refl;
+        lawful = tt;
+      },
+      searched.nothing ∙ sym (ap (λ (is : List Item). c.args.items.now.items ++ is) nothing ∙ append-nil c.args.items.now.items),
+    )

@@ -1,8 +1,8 @@
-use Rattle.std.proofs.Common.{◌≡◌, ◌≤◌, ◌<◌, ◌+◌, ◌-◌, ◌*◌, ℕ, length, ap, sym, ◌∙◌, arith}
+use Rattle.std.proofs.Common.{length, ap, sym, ◌∙◌, arith}
 use Rattle.rds_stream.specs.Recording.{window}
 use Rattle.rds_stream.specs.Tape.{TapeState}
 use Rattle.rds_sync.proofs.LawfulLemmas.{acquired-place, acquired-range}
-use Rattle.rds_sync.proofs.range.found_at.Goals as goal
+use Rattle.rds_sync.proofs.stretches.found_at.Goals as goal
 
 pub window-requires-clause-first : goal.window-requires-clause-first
 window-requires-clause-first c =

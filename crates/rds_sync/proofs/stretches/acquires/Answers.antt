@@ -1,8 +1,8 @@
-use Rattle.std.proofs.Common.{◌≡◌, ◌≤◌, ◌<◌, ℕ, List, Bool, true, false, Option, Some, None, ap, sym, ◌∙◌, arith}
+use Rattle.std.proofs.Common.{ℕ, Bool, true, false, Option, Some, None, ap, sym, ◌∙◌}
 use Rattle.rds_stream.specs.Tape.{TapeState}
 use Rattle.rds_sync.proofs.LawfulLemmas.{acquired-none}
 use Rattle.rds_sync.proofs.BodyLemmas.{acquired-offset}
-use Rattle.rds_sync.proofs.range.acquires.Goals as goal
+use Rattle.rds_sync.proofs.stretches.acquires.Goals as goal
 
 pub returns-in_default : goal.returns-in_default
 returns-in_default c = sym (acquired-none c.args.rec.now c.args.rules.now c.args.place (sym c.requires.offset ∙ c.in_default.is))

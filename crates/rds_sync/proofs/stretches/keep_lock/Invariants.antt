@@ -1,4 +1,4 @@
-use Rattle.std.proofs.Common.{◌≡◌, ◌≤◌, ◌<◌, ◌-◌, ◌+◌, ◌++◌, ℕ, List}
+use Rattle.std.proofs.Common.{◌≡◌, ◌≤◌, ◌-◌, ℕ, List, []}
 use Rattle.rds_sync.specs.declared.item.Block.{Block}
 use Rattle.rds_sync.specs.declared.item.Item.{Item}
 use Rattle.rds_sync.specs.declared.lock.Lock.{Lock}
@@ -8,18 +8,17 @@ use Rattle.rds_sync.specs.Lawful.{IsLawfulLock}
 use Rattle.rds_sync.specs.Locks.{IsInProgress}
 use Rattle.rds_sync.specs.Rules.{RuleNumbers}
 use Rattle.rds_sync.specs.Step.{run}
-use Rattle.rds_sync.proofs.range.keep_lock.Given as goal
+use Rattle.rds_sync.proofs.stretches.keep_lock.Given as goal
 
--- the run from state s is in this lock before the bit at some place, with the blocks of its group and its items
+-- the run from state s is in this lock before the bit at some place, with the blocks of its group, and gave nothing
 pub record HasFollowed (b : List ℕ) (rules : RuleNumbers) (s : State) (place to : ℕ) (before : List Item) (now : Lock) (blocks : List Block) (items : List Item) : Type 0 where
   pub next : ℕ
-  pub found : List Item
   pub from_on : place ≤ next
   pub limit : next ≤ to
   pub lawful : IsLawfulLock rules next now.due now.number now.bad now.first
   pub in_progress : IsInProgress b rules now blocks
-  pub so_far : run b rules s place (next - place) ≡ (Locked now.due now.number now.bad now.first, found)
-  pub items_are : items ≡ before ++ found
+  pub so_far : run b rules s place (next - place) ≡ (Locked now.due now.number now.bad now.first, [])
+  pub items_are : items ≡ before
 
 abbrev pub invariant-loop-now : goal.invariant-loop-now
 invariant-loop-now l = HasFollowed l.rec l.rules (Locked l.fn.lock.due l.fn.lock.number l.fn.lock.bad l.fn.lock.first) l.place l.to l.initial.items.items l.now l.blocks l.items.items

@@ -1,0 +1,117 @@
+use Rattle.std.proofs.Common.{◌≡◌, ◌≤◌, ◌+◌, ◌-◌, ◌++◌, ℕ, List, [], refl, ap, ap₂, sym, subst, ◌∙◌, arith, append-nil, inl, inr}
+use Rattle.rds_sync.specs.declared.item.Block.{Block}
+use Rattle.rds_sync.specs.declared.item.Item.{Item}
+use Rattle.rds_sync.specs.declared.lock.Followed.{Followed}
+use Rattle.rds_sync.specs.declared.lock.Lock.{Lock}
+use Rattle.rds_sync.specs.declared.state.State.{State}
+use Rattle.rds_sync.specs.declared.state.State.TheVariants.{Locked}
+use Rattle.rds_sync.specs.Lawful.{IsLawful}
+use Rattle.rds_sync.specs.Locks.{state_of, IsFollowed}
+use Rattle.rds_sync.specs.Rules.{RuleNumbers}
+use Rattle.rds_sync.specs.Step.{step, items_at, run}
+use Rattle.rds_sync.proofs.BodyLemmas.{run-further, run-due, run-early, run-quiet, lawful-due, lawful-waiting}
+use Rattle.rds_sync.proofs.stretches.keep_lock.Invariants.{HasFollowed}
+use Rattle.rds_sync.proofs.stretches.keep_lock.Goals as goal
+
+module _ (b : List ℕ) (rules : RuleNumbers) (s : State) (place to : ℕ) (now : Lock) (before items : List Item) (blocks : List Block)
+    (followed : HasFollowed b rules s place to before now blocks items) where
+  abbrev lock : State
+  lock = Locked now.due now.number now.bad now.first
+
+  -- the run up to and including the block that is due
+  one_more : run b rules s place (now.due + 1 - place) ≡ (step b rules now.due lock, items_at b rules now.due lock)
+  one_more =
+      let soon = followed.lawful.soon in
+      let next_run = run-due b rules lock followed.next (now.due + 1) now.due now.number now.bad now.first refl soon.0 refl in
+      run-further b rules s lock _ [] _ place followed.next (now.due + 1) followed.from_on (omega (arith, soon.0))
+      followed.so_far (sym (ap (λ (r : State × List Item). r.0) next_run)) (sym (ap (λ (r : State × List Item). r.1) next_run))
+
+  lawful_after : IsLawful rules (now.due + 1) (step b rules now.due lock)
+  lawful_after =
+      let few = followed.lawful.few_bad in
+      lawful-due b rules followed.next now.due now.number now.bad now.first (omega arith) followed.lawful
+
+  -- the run up to a place before the block that is due
+  waited : (later : ℕ) → followed.next ≤ later → later ≤ now.due → run b rules s place (later - place) ≡ (lock, [])
+  waited later low high =
+      let wait = run-early b rules lock followed.next later now.due now.number now.bad now.first refl low high in
+      run-further b rules s lock _ [] [] place followed.next later followed.from_on low followed.so_far
+      (sym (ap (λ (r : State × List Item). r.0) wait)) (sym (ap (λ (r : State × List Item). r.1) wait))
+
+pub loop-now-preserved : goal.loop-now-preserved
+loop-now-preserved c =
+    let b = c.args.rec.now in
+    let rules = c.args.rules.now in
+    let a = c.args.lock in
+    let s : State = Locked a.due a.number a.bad a.first in
+    let l = c.loop-now in
+    let now = l.now in
+    let followed = l.invariant in
+    let soon = followed.lawful.soon in
+    let more = one_more b rules s c.args.place c.args.to now c.args.items.now.items l.items.items l.blocks followed in
+    let state_is = ap (λ (o : Followed). state_of o) (sym c.in-Inside.is) ∙ c.in_ok-next.ensures.state in
+    let goes = subst (λ (o : Followed). IsFollowed b rules now c.follow.new.blocks o) c.in-Inside.is c.in_ok-next.ensures.followed in
+    record {
+      next = now.due + 1;
+      from_on = omega (arith, followed.from_on, soon.0);
+      limit = omega (arith, c.loop-now-test.true);
+      lawful = subst (λ (t : State). IsLawful rules (now.due + 1) t) (sym state_is)
+          (lawful_after b rules s c.args.place c.args.to now c.args.items.now.items l.items.items l.blocks followed);
+      in_progress = goes.in_progress;
+      so_far = more ∙ ap₂ (λ (t : State) (is : List Item). (t, is)) (sym state_is) goes.nothing;
+      items_are = c.in_ok-next.ensures.items ∙ ap₂ (λ (is js : List Item). is ++ js) followed.items_are goes.nothing ∙ append-nil c.args.items.now.items;
+    }
+
+pub loop-now-smaller : goal.loop-now-smaller
+loop-now-smaller c =
+    let goes = subst (λ (o : Followed). IsFollowed c.args.rec.now c.args.rules.now c.loop-now.now c.follow.new.blocks o) c.in-Inside.is c.in_ok-next.ensures.followed in
+    omega (arith, goes.due, c.loop-now-test.true)
+
+pub returns-in-Closed-clause-reached : goal.returns-in-Closed-clause-reached
+returns-in-Closed-clause-reached c =
+    let b = c.args.rec.now in
+    let rules = c.args.rules.now in
+    let a = c.args.lock in
+    let s : State = Locked a.due a.number a.bad a.first in
+    let l = c.loop-now in
+    let now = l.now in
+    let followed = l.invariant in
+    let soon = followed.lawful.soon in
+    let more = one_more b rules s c.args.place c.args.to now c.args.items.now.items l.items.items l.blocks followed in
+    let state_is = ap (λ (o : Followed). state_of o) (sym c.in-Closed.is) ∙ c.in_ok-next.ensures.state in
+    let given = subst (λ (o : Followed). IsFollowed b rules now c.follow.new.blocks o) c.in-Closed.is c.in_ok-next.ensures.followed in
+    let last : now.due + 1 - 1 ≡ now.due = omega arith in (
+      record {
+        forward = omega (arith, followed.from_on, soon.0);
+        limit = omega (arith, c.loop-now-test.true);
+        state = state_is ∙ sym (ap (λ (r : State × List Item). r.0) more);
+        quiet = rw last (ap (λ (r : State × List Item). r.1) (waited b rules s c.args.place c.args.to now c.args.items.now.items l.items.items l.blocks followed now.due soon.0 (omega arith)));
+        ended = inr (λ none. given (sym (ap (λ (r : State × List Item). r.1) more) ∙ none));
+        lawful = subst (λ (t : State). IsLawful rules (now.due + 1) t) (sym state_is)
+            (lawful_after b rules s c.args.place c.args.to now c.args.items.now.items l.items.items l.blocks followed);
+      },
+      c.in_ok-next.ensures.items ∙ ap₂ (λ (is js : List Item). is ++ js) followed.items_are (sym (ap (λ (r : State × List Item). r.1) more)),
+    )
+
+pub returns-clause-reached : goal.returns-clause-reached
+returns-clause-reached c =
+    let b = c.args.rec.now in
+    let rules = c.args.rules.now in
+    let a = c.args.lock in
+    let s : State = Locked a.due a.number a.bad a.first in
+    let l = c.loop-now in
+    let now = l.now in
+    let followed = l.invariant in
+    let wait = waited b rules s c.args.place c.args.to now c.args.items.now.items l.items.items l.blocks followed c.args.to followed.limit c.loop-now-test.false in
+    let nothing = ap (λ (r : State × List Item). r.1) wait in (
+      record {
+        forward = c.requires.order;
+        limit = omega arith;
+        state = c.state.ensures ∙ sym (ap (λ (r : State × List Item). r.0) wait);
+        quiet = run-quiet b rules s c.args.place c.args.to c.requires.order nothing;
+        ended = inl refl;
+        lawful = subst (λ (t : State). IsLawful rules c.args.to t) (sym c.state.ensures)
+            (lawful-waiting rules followed.next c.args.to now.due now.number now.bad now.first followed.lawful followed.limit c.loop-now-test.false);
+      },
+      followed.items_are ∙ sym (append-nil c.args.items.now.items) ∙ ap (λ (is : List Item). c.args.items.now.items ++ is) (sym nothing),
+    )

@@ -1,0 +1,192 @@
+//! A stretch of a run over a recording: a search by rolling remainders, or a lock from block to
+//! block, up to the next bit that gives an item.
+
+ghost use Rattle.std.specs.Prelude.{◌≡◌, ◌≤◌, ◌<◌, ◌-◌, ◌++◌, length, IfOk, OnOk, IsOkUnless};
+ghost use Rattle.rds_sync.specs.Advance.{items_in};
+ghost use Rattle.rds_sync.specs.Lawful.{IsLawful, IsLawfulLock};
+ghost use Rattle.rds_sync.specs.Stretch.{IsStretch, IsStretchOnto};
+ghost use Rattle.rds_stream.specs.Recording.{off};
+ghost use Rattle.rds_sync.specs.Acquiring.{acquired};
+ghost use Rattle.rds_sync.specs.Step.{run, items_at};
+ghost use Rattle.rds_sync.specs.declared.state.State.TheVariants.{Searching, Locked};
+
+use crate::error::SyncError;
+use crate::group::Span;
+use crate::item::Item;
+use crate::lock::{Followed, Lock, blocks_before, follow};
+use crate::rules::Rules;
+use crate::state::State;
+use crate::step::{closed_group, has_partner};
+use rds_code::Offset;
+use rds_stream::{Counted, Recording, Sweep};
+
+/// How far a run came, and the state there.
+#[derive(Clone, Copy, Debug, PartialEq, Eq)]
+pub struct Reached {
+    /// The place of the next bit.
+    pub place: u64,
+    /// The state before that bit.
+    pub state: State,
+}
+
+/// Goes on with a run from `state` before the bit at `place`, up to and including the next bit
+/// that gives an item, or up to `to` where none before it does; what that bit gives is appended
+/// to `items`.
+///
+/// A run over a range is made of stretches, and so is a decoder that notes where items are given.
+/// Windows may begin before `place`. Refuses only want of memory for the list of items.
+pub fn stretch(
+    rec: &Recording,
+    rules: &Rules,
+    state: State,
+    place: u64,
+    to: u64,
+    items: &mut Vec<Item>,
+) -> Result<Reached, SyncError>
+    requires lawful { IsLawful rules.now place state }
+    requires order { place < to }
+    requires within { to ≤ length rec.now }
+    ensures reached { IfOk result (λ reached. IsStretch rec.now rules.now state place to reached) }
+    ensures items { IfOk result (λ reached. items.new.items
+        ≡ items.old.items ++ (run rec.now rules.now state place (reached.place - place)).1) }
+    ensures only_memory { IsOkUnless result SyncError.OutOfMemory }
+{
+    match state {
+        State::Searching => search(rec, rules, place, to, items),
+        State::Locked {
+            due,
+            number,
+            bad,
+            first,
+        } => {
+            let lock = Lock {
+                due,
+                number,
+                bad,
+                first,
+            };
+            keep_lock(rec, rules, lock, place, to, items)
+        }
+    }
+}
+
+/// Searches up to and including the first place that acquires, or up to `to`.
+fn search(
+    rec: &Recording,
+    rules: &Rules,
+    place: u64,
+    to: u64,
+    items: &mut Vec<Item>,
+) -> Result<Reached, SyncError>
+    requires order { place < to }
+    requires within { to ≤ length rec.now }
+    ensures reached { IfOk result (λ reached.
+        IsStretchOnto rec.now rules.now Searching place to items.old.items reached items.new.items) }
+    ensures only_memory { IsOkUnless result SyncError.OutOfMemory }
+{
+    prove!(1 <= rules.loss() && to <= rec.len());
+    let mut sweep = Sweep::new(rec, place);
+    for here in place..to {
+        let offset = sweep.next_offset();
+        if let Some(number) = acquires(rec, rules, here, offset) {
+            push_found(items, found_at(rec, rules, here, number))?;
+            return Ok(Reached {
+                place: here + 1,
+                state: State::after_block(here, number, 0, number),
+            });
+        }
+    }
+    Ok(Reached {
+        place: to,
+        state: State::Searching,
+    })
+}
+
+/// The number with which a place of this offset acquires, or none.
+///
+/// A window is valid by chance at one place in two hundred: so its partners are looked up in the
+/// recording, where that is asked, and the search keeps none of the windows behind it.
+fn acquires(rec: &Recording, rules: &Rules, place: u64, offset: Option<Offset>) -> Option<u8>
+    requires within { place < length rec.now }
+    requires offset { offset ≡ off rec.now place }
+    ensures { result ≡ acquired rec.now rules.now place }
+{
+    let Some(offset) = offset else {
+        return None;
+    };
+    let number = offset.number();
+    if has_partner(&mut Counted::new(rec), rules, place, number) {
+        Some(number)
+    } else {
+        None
+    }
+}
+
+/// What is found at a place that acquires with this number.
+fn found_at(rec: &Recording, rules: &Rules, place: u64, number: u8) -> [Option<Item>; 2]
+    requires within { place < length rec.now }
+    requires acquires { acquired rec.now rules.now place ≡ Some number }
+    ensures { items_in result ≡ items_at rec.now rules.now place Searching }
+{
+    let span = Span {
+        first: number,
+        last: number,
+        place,
+        window: rec.window(place),
+    };
+    let group = closed_group(&mut Counted::new(rec), rules, span);
+    [Some(Item::Acquired { place, number }), group]
+}
+
+/// Appends what was found.
+fn push_found(items: &mut Vec<Item>, found: [Option<Item>; 2]) -> Result<(), SyncError>
+    ensures ok { OnOk result (items.new.items ≡ items.old.items ++ items_in found) }
+    ensures only_memory { IsOkUnless result SyncError.OutOfMemory }
+{
+    let [first, second] = found;
+    if let Some(item) = first {
+        items.push(item)?;
+    }
+    if let Some(item) = second {
+        items.push(item)?;
+    }
+    Ok(())
+}
+
+/// Follows a lock from block to block, up to and including the next block that closes a group, or
+/// up to `to` where none is due before it.
+fn keep_lock(
+    rec: &Recording,
+    rules: &Rules,
+    lock: Lock,
+    place: u64,
+    to: u64,
+    items: &mut Vec<Item>,
+) -> Result<Reached, SyncError>
+    requires lawful { IsLawfulLock rules.now place lock.due lock.number lock.bad lock.first }
+    requires order { place < to }
+    requires within { to ≤ length rec.now }
+    ensures reached { IfOk result (λ reached.
+        IsStretchOnto rec.now rules.now (Locked lock.due lock.number lock.bad lock.first) place to
+        items.old.items reached items.new.items) }
+    ensures only_memory { IsOkUnless result SyncError.OutOfMemory }
+{
+    let mut blocks = blocks_before(rec, rules, lock);
+    let mut now = lock;
+    while now.due < to {
+        let due = now.due;
+        match follow(rec, rules, now, &mut blocks, items)? {
+            Followed::Inside(next) => now = next,
+            Followed::Closed(state) => {
+                return Ok(Reached {
+                    place: due + 1,
+                    state,
+                });
+            }
+        }
+    }
+    Ok(Reached {
+        place: to,
+        state: now.state(),
+    })
+}
