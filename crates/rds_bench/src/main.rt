@@ -12,9 +12,10 @@ mod transcripts;
 mod windows;
 
 use anyhow::{Context, Result};
+use sample::Sample;
 use std::env;
 
-const USAGE: &str = "usage: rds_bench MEASUREMENT [BITS]
+const USAGE: &str = "usage: rds_bench MEASUREMENT [BITS [SAMPLE]]
 
   scan       the scan by rolling remainders, and a remainder anew for each window
   remainder  the remainder by tables, and by long division
@@ -22,7 +23,9 @@ const USAGE: &str = "usage: rds_bench MEASUREMENT [BITS]
   totals     from bytes to the text of the totals, by one, two and four workers
   list       from bytes to the text of the listing, by one, two and four workers
 
-BITS is the length of the recording that is made up for it, 100000000 where it is not given.
+BITS is the length of the recording that is made up for it, 100000000 where it is not given. SAMPLE is what
+'run', 'totals' and 'list' decode: 'station', a station's groups as they were sent, where it is not given,
+'damaged', with one bit of about 500 turned, or 'noise'.
 ";
 
 /// The length of a recording where none is given.
@@ -38,12 +41,16 @@ fn main(rt: HostRuntime) -> Result<()> {
         Some(text) => text.parse::<u64>().context("BITS is no number")?,
         None => BITS,
     };
+    let sample = match words.next() {
+        Some(name) => Sample::named(&name).context("SAMPLE is no sample")?,
+        None => Sample::Station,
+    };
     match measurement.as_str() {
         "scan" => windows::measure(&rt, bits),
         "remainder" => remainders::measure(&rt, bits),
-        "run" => runs::measure(&rt, &rt, bits),
-        "totals" => transcripts::measure(&rt, &rt, bits, false),
-        "list" => transcripts::measure(&rt, &rt, bits, true),
+        "run" => runs::measure(&rt, &rt, bits, sample),
+        "totals" => transcripts::measure(&rt, &rt, bits, sample, false),
+        "list" => transcripts::measure(&rt, &rt, bits, sample, true),
         _ => {
             print!(rt; "{USAGE}")?;
             Ok(())

@@ -1,23 +1,25 @@
-// The report of one decoder, of a recording in which it stays locked.
-use crate::sample::station;
+// The report of one decoder, and of pieces that are stitched.
+use crate::sample::Sample;
 use crate::timing::Timing;
 use anyhow::Result;
 use rds_crew::{OpenGate, decode_crew};
 use rds_pieces::{Cutting, RecordingWork};
-use rds_stream::Recording;
 use rds_sync::{Rules, decode_plain};
 use std::sync::Wait;
 use std::thread::Threads;
 use std::time::Instant;
 
 /// One decoder, and one thread that guesses sixteen pieces and stitches them.
-pub fn measure<T: Threads + Wait>(rt: &HostRuntime, threads: &T, bits: u64) -> Result<()> {
+pub fn measure<T: Threads + Wait>(
+    rt: &HostRuntime,
+    threads: &T,
+    bits: u64,
+    sample: Sample,
+) -> Result<()> {
     let alloc = rt.alloc();
-    let bytes = station(alloc, bits)?;
-    let held = (bytes.len() as u64).saturating_mul(8);
-    let recording = Recording::from_bytes(bytes, held).map_err(|refused| refused.0)?;
+    let recording = sample.recording(alloc, bits)?;
     let rules = Rules::new(alloc, 2, 3, 10)?;
-    let mut timing = Timing::new(held);
+    let mut timing = Timing::new(recording.len());
 
     let start = Instant::now(rt)?;
     let report = decode_plain(alloc, &recording, &rules)?;

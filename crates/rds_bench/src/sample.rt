@@ -1,25 +1,69 @@
-// A recording that is made up, the same in each run.
-use anyhow::{Context, Result};
+// Recordings that are made up, the same in each run.
+use anyhow::Result;
 use rds_code::encode_group;
 use rds_stream::Recording;
 use std::alloc::{AllocError, Global};
 
-/// So many bits of noise. A window of them is valid about once in two hundred places.
-pub fn noise(alloc: Global, bits: u64) -> Result<Recording> {
-    let mut bytes = Vec::new(alloc);
-    let mut state = 88_172_645_463_325_252u64;
-    for _ in 0..bits.div_ceil(8) {
-        state ^= state << 13;
-        state ^= state >> 7;
-        state ^= state << 17;
-        bytes.push((state >> 20 & 255) as u8)?;
-    }
-    Ok(Recording::from_bytes(bytes, bits).map_err(|refused| refused.0)?)
+/// What a recording is made of.
+#[derive(Clone, Copy)]
+pub enum Sample {
+    /// A station's groups: a decoder locks on the second block and stays locked.
+    Station,
+    /// A station's groups with one bit of about 500 turned, as in fair reception.
+    Damaged,
+    /// Noise: a window of it is valid about once in two hundred places.
+    Noise,
 }
 
-/// The bytes of a station's groups, as many as whole groups fit into so many bits: a decoder locks on the second block
-/// and stays locked.
-pub fn station(alloc: Global, bits: u64) -> Result<Vec<u8>, AllocError> {
+impl Sample {
+    /// The sample of this name.
+    pub fn named(name: &str) -> Option<Sample> {
+        match name {
+            "station" => Some(Sample::Station),
+            "damaged" => Some(Sample::Damaged),
+            "noise" => Some(Sample::Noise),
+            _ => None,
+        }
+    }
+
+    /// About so many bits of it, as bytes: for a station as many as whole groups fit into.
+    pub fn bytes(self, alloc: Global, bits: u64) -> Result<Vec<u8>, AllocError> {
+        match self {
+            Sample::Station => station(alloc, bits),
+            Sample::Damaged => Ok(damaged(station(alloc, bits)?)),
+            Sample::Noise => noise(alloc, bits),
+        }
+    }
+
+    /// The recording of these bytes.
+    pub fn recording(self, alloc: Global, bits: u64) -> Result<Recording> {
+        let bytes = self.bytes(alloc, bits)?;
+        let held = (bytes.len() as u64).saturating_mul(8);
+        Ok(Recording::from_bytes(bytes, held).map_err(|refused| refused.0)?)
+    }
+}
+
+/// The first of a row of numbers that look random.
+const SEED: u64 = 88_172_645_463_325_252;
+
+/// The next of that row.
+fn next_random(number: u64) -> u64 {
+    let number = number ^ (number << 13);
+    let number = number ^ (number >> 7);
+    number ^ (number << 17)
+}
+
+fn noise(alloc: Global, bits: u64) -> Result<Vec<u8>, AllocError> {
+    let mut bytes = Vec::new(alloc);
+    let mut number = SEED;
+    for _ in 0..bits / 8 {
+        number = next_random(number);
+        bytes.push((number >> 20 & 255) as u8)?;
+    }
+    Ok(bytes)
+}
+
+fn station(alloc: Global, bits: u64) -> Result<Vec<u8>, AllocError> {
     let mut bytes = Vec::new(alloc);
     for group in 0..bits / 104 {
         let low = (group & 0xFFFF) as u16;
@@ -38,4 +82,17 @@ pub fn station(alloc: Global, bits: u64) -> Result<Vec<u8>, AllocError> {
         }
     }
     Ok(bytes)
+}
+
+/// The bytes with a bit turned in about one of 63.
+fn damaged(bytes: Vec<u8>) -> Vec<u8> {
+    let mut bytes = bytes;
+    let mut number = SEED;
+    for byte in bytes.iter_mut() {
+        number = next_random(number);
+        if number % 63 == 0 {
+            *byte = *byte ^ 1 << (number >> 40 & 7);
+        }
+    }
+    bytes
 }

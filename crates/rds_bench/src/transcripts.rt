@@ -1,5 +1,5 @@
 // From the bytes of a recording to the text of a listing, by one, two and four workers over sixteen pieces.
-use crate::sample::station;
+use crate::sample::Sample;
 use crate::timing::Timing;
 use anyhow::Result;
 use rds_tool::{Cuts, FromRead, Input, Job, Settings, ToWrite, transcribe};
@@ -12,10 +12,11 @@ pub fn measure<T: Threads + Wait>(
     rt: &HostRuntime,
     threads: &T,
     bits: u64,
+    sample: Sample,
     listing: bool,
 ) -> Result<()> {
-    let bytes = station(rt.alloc(), bits)?;
-    let mut timing = Timing::new(bits / 104 * 104);
+    let bytes = sample.bytes(rt.alloc(), bits)?;
+    let mut timing = Timing::new((bytes.len() as u64).saturating_mul(8));
     for (workers, form) in [(1, "one worker"), (2, "two workers"), (4, "four workers")] {
         let job = job_of(workers, listing);
         let mut reader = FromRead::new(bytes.as_slice());

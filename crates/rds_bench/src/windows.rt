@@ -1,5 +1,5 @@
 // The valid windows of a recording: by a remainder that rolls from place to place, and by a remainder anew at each.
-use crate::sample::noise;
+use crate::sample::Sample;
 use crate::timing::Timing;
 use anyhow::Result;
 use rds_code::{Offset, offset_of, plain, rem26};
@@ -8,8 +8,8 @@ use std::alloc::{AllocError, Global};
 use std::time::Instant;
 
 pub fn measure(rt: &HostRuntime, bits: u64) -> Result<()> {
-    let recording = noise(rt.alloc(), bits)?;
-    let mut timing = Timing::new(bits);
+    let recording = Sample::Noise.recording(rt.alloc(), bits)?;
+    let mut timing = Timing::new(recording.len());
 
     let start = Instant::now(rt)?;
     let found = scan(rt.alloc(), &recording, 0, recording.len())?;
