@@ -1,0 +1,96 @@
+#!/usr/bin/env bash
+# Refused calls: tests/refusals.sh PATH-TO-RDS
+#
+# Each allocation, read, write and start of a thread of some jobs is refused in turn, and then that one and all after it.
+# The answer has to be the job's own, or the refusal's with nothing written (with a front of the text, where a write is
+# refused), and never another. The calls are refused by a small library, which the C compiler makes of tests/refuse.c.
+# The last line is 'N passed, M failed', and the exit status says whether all passed.
+
+set -u
+
+rds=$(realpath "${1:?"usage: tests/refusals.sh PATH-TO-RDS"}")
+here=$(dirname "$0")
+work=$(mktemp -d)
+trap 'rm -rf "$work"' EXIT
+passed=0
+failed=0
+
+${CC:-cc} -O1 -shared -fPIC -o "$work/refuse.so" "$here/refuse.c" -ldl || exit 1
+
+# run CALL AT WORDS..: the program on the input in the work folder, with its call AT of that kind refused
+run() {
+    local call=$1 at=$2
+    shift 2
+    REFUSE_CALL=$call REFUSE_AT=$at REFUSE_COUNT="$work/count" LD_PRELOAD="$work/refuse.so" \
+        "$rds" "$@" <"$work/in" >"$work/out" 2>"$work/err"
+}
+
+# is_refusal NAME..: whether the last run, whose status is given first, answered with one of these refusals
+is_refusal() {
+    local status=$1 name
+    shift
+    [ "$status" = 1 ] || return 1
+    for name in "$@"; do
+        [ "$(cat "$work/err")" = "refused $name" ] && return 0
+    done
+    return 1
+}
+
+is_whole() { [ "$1" = 0 ] && cmp -s "$work/out" "$work/wanted"; }
+is_front() { cmp -s -n "$(stat -c %s "$work/out")" "$work/out" "$work/wanted"; }
+wrote_nothing() { [ ! -s "$work/out" ]; }
+
+# judge CALL STATUS: whether the last run answered as it may where such a call is refused
+judge() {
+    case $1 in
+        alloc) is_whole "$2" || { is_refusal "$2" '8 OutOfMemory' '14 NoWorker' && wrote_nothing; } ;;
+        read) is_refusal "$2" '9 Read' && wrote_nothing ;;
+        write) is_refusal "$2" '10 Write' && is_front ;;
+        thread) is_refusal "$2" '14 NoWorker' && wrote_nothing ;;
+    esac
+}
+
+# each CALL WORDS..: refuses each such call of this job in turn
+each() {
+    local call=$1 count at status
+    shift
+    run "$call" 0 "$@"
+    count=$(cat "$work/count")
+    for at in $(seq "$count"); do
+        for on in '' 1; do
+            if [ -n "$on" ]; then export REFUSE_ON=1; else unset REFUSE_ON; fi
+            run "$call" "$at" "$@"
+            status=$?
+            if judge "$call" "$status"; then
+                passed=$((passed + 1))
+            else
+                failed=$((failed + 1))
+                echo "FAILED: $* with $call $at of $count refused${on:+, and all after it} (status $status)"
+            fi
+        done
+    done
+    unset REFUSE_ON
+}
+
+# job INPUT WORDS..: refuses each call of this job; INPUT is in printf's notation
+job() {
+    printf "$1" >"$work/in"
+    shift
+    "$rds" "$@" <"$work/in" >"$work/wanted" || exit 1
+    each alloc "$@"
+    each read "$@"
+    each write "$@"
+    each thread "$@"
+}
+
+zero=00003f000019800005a00001b4
+damaged=00003f000019800005a00001b400003f000019800025a00001b4
+
+job "$zero" scan --hex
+job "$zero" list --hex --pieces 1 --workers 1
+job "$damaged" list --hex --pieces 2 --workers 2
+job "$damaged" totals --hex --pieces 16 --workers 4
+job '0000 0000 0000 0000\n' encode --hex
+
+echo "$passed passed, $failed failed"
+[ "$failed" = 0 ]

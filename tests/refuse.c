@@ -1,0 +1,134 @@
+/* Refuses one call of a program to the C library, for tests/refusals.sh, which preloads this library.
+ *
+ * REFUSE_CALL names the call: alloc, read, write or thread. REFUSE_AT is the number of the call that is refused, from 1 on
+ * (0 refuses none); where REFUSE_ON is set, all after it are refused too. REFUSE_COUNT names a file to which the number
+ * of such calls is written when the program ends. Reads are those of standard input, writes those of standard output.
+ */
+#define _GNU_SOURCE
+#include <dlfcn.h>
+#include <errno.h>
+#include <pthread.h>
+#include <stdatomic.h>
+#include <stdio.h>
+#include <stdlib.h>
+#include <sys/syscall.h>
+#include <unistd.h>
+
+static atomic_long calls;
+static long refused_at;
+static int refused_on;
+static char refused_call;
+
+static int is_refused(char call)
+{
+    if (call != refused_call)
+        return 0;
+    long now = atomic_fetch_add(&calls, 1) + 1;
+    return refused_at && (now == refused_at || (refused_on && now > refused_at));
+}
+
+__attribute__((constructor)) static void start(void)
+{
+    const char *call = getenv("REFUSE_CALL"), *at = getenv("REFUSE_AT");
+    refused_at = at ? atol(at) : 0;
+    refused_on = getenv("REFUSE_ON") != NULL;
+    refused_call = call ? call[0] : 0;
+}
+
+static void tell(void)
+{
+    const char *path = getenv("REFUSE_COUNT");
+    refused_call = 0;
+    FILE *file = path ? fopen(path, "w") : NULL;
+    if (file) {
+        fprintf(file, "%ld\n", (long)calls);
+        fclose(file);
+    }
+}
+
+/* The program ends by this call, which runs no destructors. */
+void _exit(int status)
+{
+    tell();
+    syscall(SYS_exit_group, status);
+    __builtin_unreachable();
+}
+
+extern void *__libc_malloc(size_t);
+extern void *__libc_calloc(size_t, size_t);
+extern void *__libc_realloc(void *, size_t);
+extern void *__libc_memalign(size_t, size_t);
+
+void *malloc(size_t size)
+{
+    if (!is_refused('a'))
+        return __libc_malloc(size);
+    errno = ENOMEM;
+    return NULL;
+}
+
+void *calloc(size_t count, size_t size)
+{
+    if (!is_refused('a'))
+        return __libc_calloc(count, size);
+    errno = ENOMEM;
+    return NULL;
+}
+
+void *realloc(void *old, size_t size)
+{
+    if (!is_refused('a'))
+        return __libc_realloc(old, size);
+    errno = ENOMEM;
+    return NULL;
+}
+
+void *aligned_alloc(size_t align, size_t size)
+{
+    if (!is_refused('a'))
+        return __libc_memalign(align, size);
+    errno = ENOMEM;
+    return NULL;
+}
+
+int posix_memalign(void **out, size_t align, size_t size)
+{
+    if (is_refused('a'))
+        return ENOMEM;
+    *out = __libc_memalign(align, size);
+    return *out ? 0 : ENOMEM;
+}
+
+ssize_t read(int from, void *buffer, size_t size)
+{
+    static ssize_t (*real)(int, void *, size_t);
+    if (!real)
+        real = (ssize_t (*)(int, void *, size_t))dlsym(RTLD_NEXT, "read");
+    if (from == STDIN_FILENO && is_refused('r')) {
+        errno = EIO;
+        return -1;
+    }
+    return real(from, buffer, size);
+}
+
+ssize_t write(int to, const void *buffer, size_t size)
+{
+    static ssize_t (*real)(int, const void *, size_t);
+    if (!real)
+        real = (ssize_t (*)(int, const void *, size_t))dlsym(RTLD_NEXT, "write");
+    if (to == STDOUT_FILENO && is_refused('w')) {
+        errno = EIO;
+        return -1;
+    }
+    return real(to, buffer, size);
+}
+
+int pthread_create(pthread_t *thread, const pthread_attr_t *attributes, void *(*body)(void *), void *argument)
+{
+    static int (*real)(pthread_t *, const pthread_attr_t *, void *(*)(void *), void *);
+    if (!real)
+        real = (int (*)(pthread_t *, const pthread_attr_t *, void *(*)(void *), void *))dlsym(RTLD_NEXT, "pthread_create");
+    if (is_refused('t'))
+        return EAGAIN;
+    return real(thread, attributes, body, argument);
+}
