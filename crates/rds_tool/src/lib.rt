@@ -27,7 +27,8 @@
 //! # What it leaves to others
 //!
 //! What a block, a recording and a report are is said below, in `rds_code`, `rds_stream` and `rds_sync`. No contract says
-//! when memory or a thread is refused, that workers run at the same time, what a file or a pipe holds, or what the texts of help and faults are: these are for tests.
+//! when memory or a thread is refused, that workers run at the same time, that a [`ToWrite`] flushes its writer (std says
+//! nothing of what a flush does), what a file or a pipe holds, or what the texts of help and faults are: these are for tests.
 #![tactic(auto)]
 
 mod cli;
