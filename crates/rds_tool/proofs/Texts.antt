@@ -136,11 +136,29 @@ task_errs (task.List input plan) held = then_errs IsOfBytes (cut_recording input
 task_errs (task.Totals input plan) held = then_errs IsOfBytes (cut_recording input plan.cuts held) _ (cut_errs input plan.cuts held) (λ bits. tt)
 task_errs (task.Encode hex) held = lines_errs hex (lines_of held)
 
+of_bytes : (t : Task) (held : List ℕ) (e : ToolError) → text_of_task t held ≡ Err e → IsOfBytes e
+of_bytes t held e q = let P : Result (List ℕ) ToolError → Type 0 = λ r. IfErr r IsOfBytes in subst P q (task_errs t held)
+
+-- what a text is refused for: want of memory, a thread that is not started, in this case, or the bytes
+abbrev pub MayRefuse : Type 0 → Task → List ℕ → ToolError → Type 0
+MayRefuse X t held e = (e ≡ OutOfMemory) ⊎ (((e ≡ NoWorker) × X) ⊎ (text_of_task t held ≡ Err e))
+
+started : (X : Type 0) (t : Task) (held : List ℕ) (e : ToolError) → MayRefuse X t held e → e ≡ NoWorker → X
+started X t held e (inl m) p = let bad : OutOfMemory ≡ NoWorker = sym m ∙ p in cc bad
+started X t held e (inr (inl h)) p = h.1
+started X t held e (inr (inr q)) p = absurd (subst IsOfBytes p (of_bytes t held e q))
+
+-- a thread is not started in this case alone
+pub no_worker_of : {A : Type 0} (X : Type 0) (t : Task) (held : List ℕ) (r : Result A ToolError) → IfErr r (MayRefuse X t held) → r ≡ Err NoWorker → X
+no_worker_of X t held (Ok x) h p = cc p
+no_worker_of X t held (Err e) h p = started X t held e h (cc p)
+
 -- a text is refused for want of memory or threads, or for its bytes
-pub refused_inside : (t : Task) (held : List ℕ) (e : ToolError) → (e ≡ OutOfMemory) ⊎ ((e ≡ NoWorker) ⊎ (text_of_task t held ≡ Err e)) → IsInside e
-refused_inside t held e (inl m) = memory_inside e m
-refused_inside t held e (inr (inl m)) = threads_inside e m
-refused_inside t held e (inr (inr p)) = inside e (let P : Result (List ℕ) ToolError → Type 0 = λ r. IfErr r IsOfBytes in subst P p (task_errs t held))
+pub refused_inside : (X : Type 0) (t : Task) (held : List ℕ) (e : ToolError)
+    → MayRefuse X t held e → IsInside e
+refused_inside X t held e (inl m) = memory_inside e m
+refused_inside X t held e (inr (inl h)) = threads_inside e h.0
+refused_inside X t held e (inr (inr p)) = inside e (of_bytes t held e p)
 
 -- ---- the outcome
 

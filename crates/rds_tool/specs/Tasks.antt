@@ -1,5 +1,5 @@
 -- A job whose settings are in their ranges. This project's rule.
-use Rattle.std.specs.Prelude.{Ok, Result}
+use Rattle.std.specs.Prelude.{◌<◌, Ok, Result}
 use Rattle.rds_tool.specs.Input.{and_then}
 use Rattle.rds_tool.specs.Plans.{plan_of}
 use Rattle.rds_tool.specs.declared.error.ToolError.{ToolError}
@@ -14,3 +14,15 @@ task_of (job.Scan input) = Ok (task.Scan input)
 task_of (job.List input settings) = and_then (plan_of settings) (λ plan. Ok (task.List input plan))
 task_of (job.Totals input settings) = and_then (plan_of settings) (λ plan. Ok (task.Totals input plan))
 task_of (job.Encode hex) = Ok (task.Encode hex)
+
+-- more than one worker is asked for
+abbrev pub AsksForThreads : Job → Type 0
+AsksForThreads (job.List input settings) = 1 < settings.workers
+AsksForThreads (job.Totals input settings) = 1 < settings.workers
+AsksForThreads other = ⊥
+
+-- more than one worker may be started
+abbrev pub MayStartThreads : Task → Type 0
+MayStartThreads (task.List input plan) = 1 < plan.workers
+MayStartThreads (task.Totals input plan) = 1 < plan.workers
+MayStartThreads other = ⊥

@@ -2,7 +2,7 @@
 ghost use Rattle.std.specs.Prelude.{◌+◌, ◌++◌, ◌<◌, ◌^◌, ◌≡◌, ◌≢◌, ◌≤◌, ◌⊎◌, ◌↔◌, Err, IfErr, IfOk, IfSome, IsErrOf, List, Ok, OnErr, OnOk, Option, length, ℕ};
 ghost use Rattle.std.specs.Io.KnownBytes.{Appends, Consumes, IsAtEnd};
 ghost use Rattle.rds_tool.specs.Outcome.{IsOutside, Writes, WritesFront, outcome, text_of_task};
-ghost use Rattle.rds_tool.specs.Tasks.{task_of};
+ghost use Rattle.rds_tool.specs.Tasks.{AsksForThreads, MayStartThreads, task_of};
 
 use crate::task::Task;
 use crate::{Failed, Job, Sink, Source, ToolError};
@@ -26,9 +26,9 @@ const CHUNK: usize = 65_536;
 ///
 /// Refusals come in this order: those of the settings (`BurstRange`, `ReachRange`, `LossRange`, `CrewRange`, and
 /// `BadCutting` for no piece), before anything is read, those of the reader (`Read`, `TooManyTurns`), those of the job and
-/// the bytes (`HexText`, `TooLong`, `BitsPastBytes`, `BadCutting`, or `GroupText`), `NoWorker`, where the system started
-/// no thread for a worker, and those of the writer (`Write`). `OutOfMemory` may come wherever memory is taken. The text is
-/// complete before its first byte is written, and no thread outlives the call.
+/// the bytes (`HexText`, `TooLong`, `BitsPastBytes`, `BadCutting`, or `GroupText`), `NoWorker`, where more than one worker
+/// is asked for and the system started no thread for one, and those of the writer (`Write`). `OutOfMemory` may come wherever
+/// memory is taken. The text is complete before its first byte is written, and no thread outlives the call.
 pub fn transcribe<R: Threads + Wait, S: Source, K: Sink>(
     rt: &R,
     alloc: Global,
@@ -43,10 +43,12 @@ pub fn transcribe<R: Threads + Wait, S: Source, K: Sink>(
     ensures end { OnOk result (IsAtEnd (S.remaining reader.new)) }
     ensures ok { OnOk result (IfSome (S.remaining reader.old) (λ held. Writes (K.contents writer.old) (K.contents writer.new) (outcome job.now held))) }
 
-    // A refusal for the devices' sake comes exactly where one failed, and another is that of the job.
+    // A refusal for the devices' sake comes exactly where one failed, one for a thread's only where there may be some, and
+    // another is that of the job.
     ensures read { IsErrOf result ToolError.Read ↔ (S.failed reader.old < S.failed reader.new) }
     ensures write { IsErrOf result ToolError.Write ↔ (K.failed writer.old < K.failed writer.new) }
     ensures turns { IsErrOf result ToolError.TooManyTurns → IfSome (S.remaining reader.old) (λ held. 16777216 ≤ length held) }
+    ensures no_worker { IsErrOf result ToolError.NoWorker → AsksForThreads job.now }
     ensures refused { IfErr result (λ error. IsOutside error ⊎ IfSome (S.remaining reader.old) (λ held. outcome job.now held ≡ Err error)) }
 
     // Settings out of their range are refused as such before anything is read.
@@ -75,10 +77,12 @@ pub fn transcribe_gated<R: Threads + Wait, S: Source, K: Sink, G: Gate + Sync>(
     ensures end { OnOk result (IsAtEnd (S.remaining reader.new)) }
     ensures ok { OnOk result (IfSome (S.remaining reader.old) (λ held. Writes (K.contents writer.old) (K.contents writer.new) (outcome job.now held))) }
 
-    // A refusal for the devices' sake comes exactly where one failed, and another is that of the job.
+    // A refusal for the devices' sake comes exactly where one failed, one for a thread's only where there may be some, and
+    // another is that of the job.
     ensures read { IsErrOf result ToolError.Read ↔ (S.failed reader.old < S.failed reader.new) }
     ensures write { IsErrOf result ToolError.Write ↔ (K.failed writer.old < K.failed writer.new) }
     ensures turns { IsErrOf result ToolError.TooManyTurns → IfSome (S.remaining reader.old) (λ held. 16777216 ≤ length held) }
+    ensures no_worker { IsErrOf result ToolError.NoWorker → AsksForThreads job.now }
     ensures refused { IfErr result (λ error. IsOutside error ⊎ IfSome (S.remaining reader.old) (λ held. outcome job.now held ≡ Err error)) }
 
     // Settings out of their range are refused as such before anything is read.
@@ -104,6 +108,7 @@ fn text_of<R: Threads + Wait, G: Gate + Sync>(
 ) -> Result<Vec<u8>, ToolError>
     ensures ok { IfOk result (λ text. text_of_task task.now held.items ≡ Ok text.items) }
     ensures refused { IfErr result (λ error. (error ≡ ToolError.OutOfMemory) ⊎ ((error ≡ ToolError.NoWorker) ⊎ (text_of_task task.now held.items ≡ Err error))) }
+    ensures no_worker { IsErrOf result ToolError.NoWorker → MayStartThreads task.now }
     ensures inside { IfErr result (λ error. (error ≢ ToolError.Read) × (error ≢ ToolError.Write) × (error ≢ ToolError.TooManyTurns)) }
 {
     task.text(rt, alloc, held, gate)
@@ -116,7 +121,7 @@ fn read_all<S: Source>(alloc: Global, reader: &mut S) -> Result<Vec<u8>, ToolErr
     ensures end { OnOk result (IsAtEnd (S.remaining reader.new)) }
     ensures read { IsErrOf result ToolError.Read ↔ (S.failed reader.old < S.failed reader.new) }
     ensures kinds { IfErr result IsOutside }
-    ensures not_write { IfErr result (λ error. error ≢ ToolError.Write) }
+    ensures not_theirs { IfErr result (λ error. (error ≢ ToolError.Write) × (error ≢ ToolError.NoWorker)) }
     ensures turns { IsErrOf result ToolError.TooManyTurns → IfSome (S.remaining reader.old) (λ held. 16777216 ≤ length held) }
 {
     let mut bytes = Vec::new(alloc);

@@ -18,8 +18,8 @@
 //!   the recording, lock by lock, for every cutting and any number of workers; `specs/Outcome.antt` says it for each job.
 //!   [`transcribe_gated`] is the same with a gate, by which a caller hears of the workers.
 //! - Each refusal is a [`ToolError`] and comes where it should: `Read` and `Write` exactly where a call of the device
-//!   failed, settings out of their range before anything is read, `TooManyTurns` only after 16,777,216 bytes, and any other
-//!   but `OutOfMemory` and `NoWorker` exactly where the job and the bytes call for it.
+//!   failed, settings out of their range before anything is read, `TooManyTurns` only after 16,777,216 bytes, `NoWorker` only
+//!   where more than one worker is asked for, and any other but `OutOfMemory` exactly where the job and the bytes call for it.
 //! - After a refusal the writer is as it was, but after `Write`: then what it has more is a front of the text.
 //! - Where `job_of` answers `Ok`, the job holds the entries that `clap` read, defaults too. Where it answers a fault, it is
 //!   help that was asked for, or `clap` finds a fault in the words, or memory was refused.
@@ -27,7 +27,8 @@
 //! # What it leaves to others
 //!
 //! What a block, a recording and a report are is said below, in `rds_code`, `rds_stream` and `rds_sync`. No contract says
-//! when memory or a thread is refused, that workers run at the same time, what a file or a pipe holds, or what the texts of help and faults are: these are for tests.
+//! when memory or a thread is refused, that workers run at the same time, that a [`ToWrite`] flushes its writer (std says
+//! nothing of what a flush does), what a file or a pipe holds, or what the texts of help and faults are: these are for tests.
 #![tactic(auto)]
 
 mod cli;

@@ -1,5 +1,5 @@
 //! By which rules, by how many workers and in which pieces a recording is decoded.
-ghost use Rattle.std.specs.Prelude.{◌≡◌, ◌≢◌, ◌⊎◌, Err, IfErr, IfOk, IsErrOf, List, Ok, OnOk, false, length, true};
+ghost use Rattle.std.specs.Prelude.{◌<◌, ◌≡◌, ◌≢◌, ◌⊎◌, Err, IfErr, IfOk, IsErrOf, List, Ok, OnOk, false, length, true};
 ghost use Rattle.rds_pieces.specs.Cutting.{IsCutting};
 ghost use Rattle.rds_sync.specs.Report.{report_items};
 ghost use Rattle.rds_sync.specs.Totals.{totals_of};
@@ -77,6 +77,7 @@ impl<'a> Plan<'a> {
         ensures fits { OnOk result (cut_by self.now.cuts recording.now ≡ Ok recording.now) }
         ensures refused { IfErr result (λ error. (error ≡ ToolError.OutOfMemory) ⊎ ((error ≡ ToolError.NoWorker)
             ⊎ (cut_by self.now.cuts recording.now ≡ Err error))) }
+        ensures no_worker { IsErrOf result ToolError.NoWorker → 1 < self.now.workers }
     {
         let cutting = cutting_of(alloc, self.cuts, recording.len())?;
         let work = RecordingWork::new(recording, &self.rules, &cutting);

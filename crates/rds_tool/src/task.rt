@@ -23,7 +23,7 @@ pub enum Task<'a> {
 
 impl<'a> Task<'a> {
     ghost use Rattle.rds_tool.specs.Outcome.{text_of_task};
-    ghost use Rattle.rds_tool.specs.Tasks.{task_of};
+    ghost use Rattle.rds_tool.specs.Tasks.{MayStartThreads, task_of};
 
     /// The task of a job. A setting out of its range is refused before any memory is taken.
     pub fn of(alloc: Global, job: &'a Job) -> Result<Task<'a>, ToolError>
@@ -48,7 +48,8 @@ impl<'a> Task<'a> {
         gate: &G,
     ) -> Result<Vec<u8>, ToolError>
         ensures ok { IfOk result (λ text. text_of_task self.now held.items ≡ Ok text.items) }
-        ensures refused { IfErr result (λ error. (error ≡ ToolError.OutOfMemory) ⊎ ((error ≡ ToolError.NoWorker) ⊎ (text_of_task self.now held.items ≡ Err error))) }
+        ensures refused { IfErr result (λ error. (error ≡ ToolError.OutOfMemory) ⊎ (((error ≡ ToolError.NoWorker) × MayStartThreads self.now)
+            ⊎ (text_of_task self.now held.items ≡ Err error))) }
     {
         match self {
             Task::Scan(input) => {

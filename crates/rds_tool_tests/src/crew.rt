@@ -1,44 +1,14 @@
 //! Workers, seen at their work and refused.
-use crate::devices::written;
+use crate::devices::{SlowReader, written};
+use crate::samples::{Crew, Pieces, TWO_GROUPS};
 use rds_crew::Gate;
 use rds_pieces::PieceRun;
-use rds_tool::{Cuts, FromRead, Input, Job, Settings, ToWrite, ToolError, transcribe_gated};
-use std::alloc::{AllocError, Global};
+use rds_tool::{FromRead, Input, Job, ToWrite, ToolError, transcribe, transcribe_gated};
 use std::sync::atomic::{AtomicU64, Ordering};
 use std::test::Fail;
 
-/// The group of four zero words, twice: 208 bits.
-const TWO_GROUPS: &[u8] = b"00003f000019800005a00001b4 00003f000019800005a00001b4";
-
-const TWO_GROUPS_LISTED: &[u8] =
-    b"acquired,51,2,-,-,-,-,-\ngroup,26,0,A,none,B:0000,C:0000,D:0000\ngroup,104,0,A,A:0000,B:0000,C:0000,D:0000\ntotal,valid,7,-,-,-,-,-\ntotal,burst1,0,-,-,-,-,-\ntotal,burst2,0,-,-,-,-,-\ntotal,burst3,0,-,-,-,-,-\ntotal,burst4,0,-,-,-,-,-\ntotal,burst5,0,-,-,-,-,-\ntotal,lost,0,-,-,-,-,-\ntotal,bits,0,-,-,-,-,-\ntotal,groups,2,-,-,-,-,-\ntotal,complete,1,-,-,-,-,-\ntotal,acquired,1,-,-,-,-,-\ntotal,losses,0,-,-,-,-,-\n";
-
-/// The listing of a report without items.
-const NOTHING_LISTED: &[u8] =
-    b"total,valid,0,-,-,-,-,-\ntotal,burst1,0,-,-,-,-,-\ntotal,burst2,0,-,-,-,-,-\ntotal,burst3,0,-,-,-,-,-\ntotal,burst4,0,-,-,-,-,-\ntotal,burst5,0,-,-,-,-,-\ntotal,lost,0,-,-,-,-,-\ntotal,bits,0,-,-,-,-,-\ntotal,groups,0,-,-,-,-,-\ntotal,complete,0,-,-,-,-,-\ntotal,acquired,0,-,-,-,-,-\ntotal,losses,0,-,-,-,-,-\n";
-
 /// The turns after which a worker no longer waits for the other.
 const MOST_TURNS: u64 = 1_000_000_000;
-
-/// A list of hexadecimal input, by the default rules but for the loss.
-fn list(loss: u32, workers: u32, cuts: Cuts) -> Job {
-    let input = Input {
-        hex: true,
-        bits: None,
-    };
-    let settings = Settings {
-        burst: 2,
-        reach: 3,
-        loss,
-        workers,
-        cuts,
-    };
-    Job::List(input, settings)
-}
-
-fn cut_at(alloc: Global, places: &[u64]) -> Result<Cuts, AllocError> {
-    Ok(Cuts::At(places.to_vec(alloc)?))
-}
 
 /// A gate at which piece 0 waits until piece 1 is begun, and which notes the range of each run that it is shown.
 #[derive(Drop)]
@@ -92,12 +62,17 @@ impl Gate for Watch {
 // One thread that makes both pieces in turn would miss: piece 0 waits for piece 1.
 #[test]
 fn two_workers_run_at_the_same_time(rt: HostRuntime) -> Result<(), Fail> {
-    let job = list(10, 2, cut_at(rt.alloc(), &[104])?);
+    let crew = Crew {
+        rules: TWO_GROUPS.rules,
+        workers: 2,
+        pieces: Pieces::At(&[104]),
+    };
+    let job = crew.list(rt.alloc())?;
     let watch = Watch::new();
-    let mut reader = FromRead::new(TWO_GROUPS);
+    let mut reader = FromRead::new(TWO_GROUPS.digits);
     let mut writer = ToWrite::new(Vec::new(rt.alloc()));
-    let answer = transcribe_gated(&rt, rt.alloc(), &mut reader, &mut writer, &job, &watch);
-    assert!(rt; answer.is_ok() && writer.into_inner().as_slice() == TWO_GROUPS_LISTED);
+    transcribe_gated(&rt, rt.alloc(), &mut reader, &mut writer, &job, &watch)?;
+    assert_eq!(&rt; writer.into_inner(), TWO_GROUPS.texts(rt.alloc())?.list);
     assert_eq!(&rt; watch.misses.load(Ordering::SeqCst), 0);
     let from = &watch.from;
     let to = &watch.to;
@@ -108,96 +83,133 @@ fn two_workers_run_at_the_same_time(rt: HostRuntime) -> Result<(), Fail> {
     Ok(())
 }
 
+/// A crew by the default rules but for the loss.
+fn crew(loss: u32, workers: u32, pieces: Pieces<'_>) -> Crew<'_> {
+    Crew {
+        rules: [2, 3, loss],
+        workers,
+        pieces,
+    }
+}
+
 #[test]
 fn refuses_crews_and_cuts_in_order(rt: HostRuntime) -> Result<(), Fail> {
     let alloc = rt.alloc();
-    let refused: [(Job, &[u8], ToolError); 10] = [
+    let digits = TWO_GROUPS.digits;
+    let refused: [(Crew<'_>, &[u8], ToolError); 15] = [
         (
-            list(65, 0, Cuts::Even(0)),
+            crew(65, 0, Pieces::Even(0)),
             b"no digits",
             ToolError::LossRange,
         ),
         (
-            list(10, 0, Cuts::Even(0)),
+            crew(65, 1, Pieces::Even(0)),
+            b"no digits",
+            ToolError::LossRange,
+        ),
+        (
+            crew(10, 0, Pieces::Even(0)),
             b"no digits",
             ToolError::CrewRange,
         ),
         (
-            list(10, 257, Cuts::Even(16)),
+            crew(10, 257, Pieces::Even(0)),
             b"no digits",
             ToolError::CrewRange,
         ),
         (
-            list(10, 1, Cuts::Even(0)),
+            crew(10, 257, Pieces::Even(16)),
+            b"no digits",
+            ToolError::CrewRange,
+        ),
+        (
+            crew(10, 0, Pieces::At(&[5, 5])),
+            digits,
+            ToolError::CrewRange,
+        ),
+        (
+            crew(10, 257, Pieces::At(&[0])),
+            digits,
+            ToolError::CrewRange,
+        ),
+        (
+            crew(10, 1, Pieces::Even(0)),
             b"no digits",
             ToolError::BadCutting,
         ),
         (
-            list(10, 1, cut_at(alloc, &[3])?),
+            crew(10, 1, Pieces::At(&[3])),
             b"no digits",
             ToolError::HexText,
         ),
+        (crew(10, 1, Pieces::At(&[3])), b"", ToolError::BadCutting),
         (
-            list(10, 1, cut_at(alloc, &[3])?),
-            b"",
+            crew(10, 1, Pieces::At(&[5, 5])),
+            digits,
+            ToolError::BadCutting,
+        ),
+        (crew(10, 1, Pieces::At(&[0])), digits, ToolError::BadCutting),
+        (
+            crew(10, 1, Pieces::At(&[208])),
+            digits,
             ToolError::BadCutting,
         ),
         (
-            list(10, 1, cut_at(alloc, &[5, 5])?),
-            TWO_GROUPS,
+            crew(10, 2, Pieces::At(&[104, 209])),
+            digits,
             ToolError::BadCutting,
         ),
         (
-            list(10, 1, cut_at(alloc, &[0])?),
-            TWO_GROUPS,
-            ToolError::BadCutting,
-        ),
-        (
-            list(10, 1, cut_at(alloc, &[208])?),
-            TWO_GROUPS,
-            ToolError::BadCutting,
-        ),
-        (
-            list(10, 256, cut_at(alloc, &[207, 1])?),
-            TWO_GROUPS,
+            crew(10, 256, Pieces::At(&[207, 1])),
+            digits,
             ToolError::BadCutting,
         ),
     ];
-    for (job, input, error) in refused {
-        let answer = written(&rt, alloc, &job, input);
-        assert!(rt; matches!(&answer, Err(e) if *e == error), "{job:?}");
+    for (crew, input, error) in refused {
+        for job in [crew.list(alloc)?, crew.totals(alloc)?] {
+            let answer = written(&rt, alloc, &job, input);
+            assert!(rt; matches!(&answer, Err(e) if *e == error), "{job:?}");
+        }
     }
     Ok(())
 }
 
+// No piece and no worker are refused before the reader is asked, and places that are no cutting once it is at its end.
 #[test]
-fn no_cuts_and_no_bits_are_a_cutting(rt: HostRuntime) -> Result<(), Fail> {
-    let alloc = rt.alloc();
-    let listed: [(Job, &[u8], &[u8]); 5] = [
-        (list(10, 4, Cuts::Even(16)), b"", NOTHING_LISTED),
-        (list(10, 4, cut_at(alloc, &[])?), b"", NOTHING_LISTED),
-        (
-            list(10, 4, cut_at(alloc, &[])?),
-            TWO_GROUPS,
-            TWO_GROUPS_LISTED,
-        ),
-        (
-            list(10, 1, cut_at(alloc, &[1, 25, 26, 51, 207])?),
-            TWO_GROUPS,
-            TWO_GROUPS_LISTED,
-        ),
-        (
-            list(10, 256, Cuts::Even(4_294_967_295)),
-            TWO_GROUPS,
-            TWO_GROUPS_LISTED,
-        ),
+fn refuses_cuttings_before_or_after_reading(rt: HostRuntime) -> Result<(), Fail> {
+    let answers: [(u32, Pieces<'_>, ToolError, u64); 4] = [
+        (0, Pieces::At(&[5, 5]), ToolError::CrewRange, 0),
+        (1, Pieces::Even(0), ToolError::BadCutting, 0),
+        (1, Pieces::At(&[5, 5]), ToolError::Read, 2),
+        (1, Pieces::At(&[]), ToolError::Read, 2),
     ];
-    for (job, input, text) in listed {
-        let rows = written(&rt, alloc, &job, input);
-        assert!(rt;
-            matches!(&rows, Ok(rows) if rows.as_slice() == text),
-            "{job:?}"
-        );
+    for (workers, pieces, error, reads) in answers {
+        let job = crew(10, workers, pieces).list(rt.alloc())?;
+        let mut reader = SlowReader::new(TWO_GROUPS.digits, 1, 2);
+        let mut writer = ToWrite::new(Vec::new(rt.alloc()));
+        let answer = transcribe(&rt, rt.alloc(), &mut reader, &mut writer, &job);
+        assert!(rt; answer == Err(error) && reader.reads == reads, "{job:?}");
+        assert!(rt; writer.into_inner().is_empty(), "{job:?}");
+    }
+    Ok(())
+}
+
+// The bytes have to hold the bits before the cuts are looked at.
+#[test]
+fn refuses_what_is_no_recording_before_its_cutting(rt: HostRuntime) -> Result<(), Fail> {
+    let claimed = [
+        (209, ToolError::BitsPastBytes),
+        (68_719_476_737, ToolError::TooLong),
+        (208, ToolError::BadCutting),
+    ];
+    for (bits, error) in claimed {
+        let input = Input {
+            hex: true,
+            bits: Some(bits),
+        };
+        let job = Job::List(input, crew(10, 1, Pieces::At(&[0])).settings(rt.alloc())?);
+        let answer = written(&rt, rt.alloc(), &job, TWO_GROUPS.digits);
+        assert!(rt; matches!(&answer, Err(e) if *e == error), "{bits} bits");
     }
     Ok(())
 }

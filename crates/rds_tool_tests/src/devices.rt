@@ -2,7 +2,9 @@
 ghost use Rattle.std.specs.Prelude.{◌≡◌, Some};
 
 use rds_tool::{Failed, FromRead, Job, Sink, Source, ToWrite, ToolError, transcribe};
-use std::alloc::Global;
+use std::alloc::{AllocError, Global};
+use std::io;
+use std::io::Write;
 use std::sync::Wait;
 use std::thread::Threads;
 
@@ -129,6 +131,39 @@ impl Sink for SlowWriter {
 
     fn failures(&self) -> u64 {
         self.failures
+    }
+}
+
+/// A writer of std that hands on what was written only where it is flushed.
+#[derive(Drop)]
+pub struct Withholding {
+    pub waiting: Vec<u8>,
+    pub handed_on: Vec<u8>,
+    pub flush_fails: bool,
+}
+
+impl Withholding {
+    pub fn new(alloc: Global, flush_fails: bool) -> Withholding {
+        Withholding {
+            waiting: Vec::new(alloc),
+            handed_on: Vec::new(alloc),
+            flush_fails,
+        }
+    }
+}
+
+impl Write for Withholding {
+    fn write(&mut self, bytes: &[u8]) -> io::Result<usize> {
+        self.waiting.extend_from_slice(bytes)?;
+        Ok(bytes.len())
+    }
+
+    fn flush(&mut self) -> io::Result<()> {
+        if self.flush_fails {
+            return Err(io::Error::from(AllocError));
+        }
+        self.handed_on.append(&mut self.waiting)?;
+        Ok(())
     }
 }
 

@@ -1,5 +1,5 @@
 //! Devices that give or take little, fail, or have no end.
-use crate::devices::{Failure, SlowReader, SlowWriter};
+use crate::devices::{Failure, SlowReader, SlowWriter, Withholding};
 use rds_tool::{FromRead, Input, Job, Sink, Source, ToWrite, ToolError, transcribe};
 use std::test::Fail;
 
@@ -59,6 +59,30 @@ fn a_failing_flush_is_a_refusal(rt: HostRuntime) -> Result<(), Fail> {
     let answer = transcribe(&rt, rt.alloc(), &mut reader, &mut writer, &HEX);
     assert!(rt; answer == Err(ToolError::Write) && writer.failures() == 1);
     assert!(rt; writer.held.as_slice() == ROWS);
+    Ok(())
+}
+
+// No contract of std says what a flush does, so none of ours can: a writer that waits for it tells.
+#[test]
+fn a_flush_reaches_the_writer_of_std(rt: HostRuntime) -> Result<(), Fail> {
+    for flush_fails in [false, true] {
+        let mut reader = FromRead::new(ZERO_GROUP);
+        let mut writer = ToWrite::new(Withholding::new(rt.alloc(), flush_fails));
+        let answer = transcribe(&rt, rt.alloc(), &mut reader, &mut writer, &HEX);
+        let failures = writer.failures();
+        let Withholding {
+            waiting,
+            handed_on,
+            ..
+        } = writer.into_inner();
+        if flush_fails {
+            assert!(rt; answer == Err(ToolError::Write) && failures == 1);
+            assert!(rt; waiting.as_slice() == ROWS && handed_on.is_empty());
+        } else {
+            assert!(rt; answer.is_ok() && failures == 0);
+            assert!(rt; handed_on.as_slice() == ROWS && waiting.is_empty());
+        }
+    }
     Ok(())
 }
 

@@ -4,6 +4,8 @@
 #[cfg(test)]
 mod crew;
 #[cfg(test)]
+mod cutting;
+#[cfg(test)]
 mod devices;
 #[cfg(test)]
 mod encoding;
@@ -13,5 +15,7 @@ mod failing;
 mod lines;
 #[cfg(test)]
 mod reporting;
+#[cfg(test)]
+mod samples;
 #[cfg(test)]
 mod scanning;
