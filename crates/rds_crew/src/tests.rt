@@ -340,3 +340,101 @@ fn two_workers_run_at_the_same_time_and_their_runs_make_the_report(
     }
     Ok(())
 }
+
+/// What happens to a piece.
+#[derive(Clone, Copy, Debug, PartialEq, Eq)]
+enum Event {
+    Begun(u64),
+    Guessed(u64),
+    Done(u64),
+}
+
+/// A gate that keeps what happens, in order.
+#[derive(Drop)]
+struct Journal<'a, R> {
+    rt: &'a R,
+    events: Mutex<Vec<Event>>,
+}
+
+impl<'a, R: Wait> Journal<'a, R> {
+    /// Keeps the event. One that there is no memory for is missing in the end.
+    fn keep(&self, event: Event) {
+        let mut events = self.events.lock(self.rt);
+        let _kept = events.push(event);
+    }
+}
+
+impl<'a, R: Wait> Gate for Journal<'a, R> {
+    fn begin(&self, j: u64) {
+        self.keep(Event::Begun(j));
+    }
+
+    fn done(&self, j: u64, _run: &PieceRun) {
+        self.keep(Event::Done(j));
+    }
+}
+
+/// A work that keeps its guesses in a journal.
+#[derive(Drop)]
+struct Journaled<'a, R, W> {
+    journal: &'a Journal<'a, R>,
+    inner: W,
+}
+
+impl<'a, R: Wait, W: Work> Work for Journaled<'a, R, W> {
+    ghost recording = { λ w. W.recording w.inner };
+
+    ghost rule_set = { λ w. W.rule_set w.inner };
+
+    ghost places = { λ w. W.places w.inner };
+
+    fn source(&self) -> Snapshot<Recording> {
+        self.inner.source()
+    }
+
+    fn rules(&self) -> &Rules {
+        self.inner.rules()
+    }
+
+    fn cutting(&self) -> &Cutting {
+        self.inner.cutting()
+    }
+
+    fn guess(&self, alloc: Global, j: u64) -> Result<PieceRun, PieceError> {
+        self.journal.keep(Event::Guessed(j));
+        self.inner.guess(alloc, j)
+    }
+
+    fn report(&self, alloc: Global, runs: &[PieceRun]) -> Result<Report, PieceError> {
+        self.inner.report(alloc, runs)
+    }
+}
+
+#[test]
+fn the_gate_is_called_before_and_after_each_piece(rt: HostRuntime) -> Result<(), Fail> {
+    let alloc = rt.alloc();
+    let recording = zero_groups(&rt, alloc, 2)?;
+    let rules = Rules::new(alloc, 2, 3, 10)?;
+    let cutting = cut_at(&rt, alloc, &recording, &[104])?;
+    let journal = Journal {
+        rt: &rt,
+        events: Mutex::new(Vec::new(alloc)),
+    };
+    let work = Journaled {
+        journal: &journal,
+        inner: RecordingWork::new(&recording, &rules, &cutting),
+    };
+    let report = decode_crew(&rt, alloc, &work, 1, &journal)?;
+    assert_report_of(&rt, alloc, &report, 2)?;
+    let events = journal.events.lock(&rt);
+    let wanted = [
+        Event::Begun(0),
+        Event::Guessed(0),
+        Event::Done(0),
+        Event::Begun(1),
+        Event::Guessed(1),
+        Event::Done(1),
+    ];
+    assert_eq!(&rt; events.as_slice(), wanted.as_slice());
+    Ok(())
+}

@@ -57,14 +57,14 @@ impl PieceRun {
     pub fn from(&self) -> u64
         ensures { result ≡ self.now.from }
     {
-        self.range().0
+        self.from
     }
 
     /// The place after the piece's last.
     pub fn to(&self) -> u64
         ensures { result ≡ self.now.to }
     {
-        self.range().1
+        self.to
     }
 
     /// The range, with what bounds the reads over it.
