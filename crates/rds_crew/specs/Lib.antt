@@ -1,3 +1,3 @@
-pub mod CrewError
+pub mod Refusals
 pub mod Numbered
 pub mod Shares

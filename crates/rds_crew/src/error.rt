@@ -21,7 +21,7 @@ pub enum CrewError {
 }
 
 impl CrewError {
-    ghost use Rattle.rds_crew.specs.CrewError.{number as number_of, name as name_of};
+    ghost use Rattle.rds_crew.specs.Refusals.{number_of, name_of};
 
     /// 7, 8 or 14.
     pub fn number(self) -> u8

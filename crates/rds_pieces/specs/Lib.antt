@@ -9,7 +9,7 @@ pub mod Meeting
 pub mod Seams
 pub mod WorkOf
 pub mod Laws
-pub mod Errors
+pub mod Refusals
 pub mod RunInside
 pub mod Advance
 pub mod Examples

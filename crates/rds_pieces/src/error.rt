@@ -1,6 +1,6 @@
 //! Why a call of this crate is refused.
 ghost use Rattle.std.specs.Prelude.{◌≡◌};
-ghost use Rattle.rds_pieces.specs.Errors.{number_of, name_of};
+ghost use Rattle.rds_pieces.specs.Refusals.{number_of, name_of};
 ghost use Rattle.rds_pieces.specs.declared.error.PieceError.TheVariants.{OutOfMemory};
 
 use std::alloc::{AllocError, AllocFailed};
@@ -19,8 +19,8 @@ pub enum PieceError {
 
 impl PieceError {
     /// The number of the refusal: 6 or 8.
-    pub fn number(&self) -> u8
-        ensures { result ≡ number_of self.now }
+    pub fn number(self) -> u8
+        ensures { result ≡ number_of self }
     {
         match self {
             PieceError::BadCutting => 6,
@@ -29,8 +29,8 @@ impl PieceError {
     }
 
     /// The name of the refusal, as written after its number.
-    pub fn name(&self) -> &'static str
-        ensures { result.now ≡ name_of self.now }
+    pub fn name(self) -> &'static str
+        ensures { result.now ≡ name_of self }
     {
         match self {
             PieceError::BadCutting => "BadCutting",

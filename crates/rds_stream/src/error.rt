@@ -20,7 +20,7 @@ pub enum StreamError {
 }
 
 impl StreamError {
-    ghost use Rattle.rds_stream.specs.StreamError.{number as number_of, name as name_of};
+    ghost use Rattle.rds_stream.specs.Refusals.{number_of, name_of};
 
     /// 4, 5 or 8.
     pub fn number(self) -> u8

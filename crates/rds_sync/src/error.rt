@@ -24,8 +24,8 @@ impl SyncError {
     ghost use Rattle.rds_sync.specs.Refusals.{number_of, name_of};
 
     /// The refusal's number, the same in every crate and listing.
-    pub fn number(&self) -> u8
-        ensures { result ≡ number_of self.now }
+    pub fn number(self) -> u8
+        ensures { result ≡ number_of self }
     {
         match self {
             SyncError::BurstRange => 1,
@@ -36,8 +36,8 @@ impl SyncError {
     }
 
     /// The refusal's name.
-    pub fn name(&self) -> &'static str
-        ensures { result.now ≡ name_of self.now }
+    pub fn name(self) -> &'static str
+        ensures { result.now ≡ name_of self }
     {
         match self {
             SyncError::BurstRange => "BurstRange",

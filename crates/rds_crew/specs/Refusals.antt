@@ -3,12 +3,12 @@ use Rattle.std.specs.Prelude.{ℕ, List, codes}
 use Rattle.rds_crew.specs.declared.error.CrewError.{CrewError}
 use Rattle.rds_crew.specs.declared.error.CrewError.TheVariants.{CrewRange, OutOfMemory, NoWorker}
 
-abbrev pub number : CrewError → ℕ
-number CrewRange = 7
-number OutOfMemory = 8
-number NoWorker = 14
+abbrev pub number_of : CrewError → ℕ
+number_of CrewRange = 7
+number_of OutOfMemory = 8
+number_of NoWorker = 14
 
-abbrev pub name : CrewError → List ℕ
-name CrewRange = codes "CrewRange"
-name OutOfMemory = codes "OutOfMemory"
-name NoWorker = codes "NoWorker"
+abbrev pub name_of : CrewError → List ℕ
+name_of CrewRange = codes "CrewRange"
+name_of OutOfMemory = codes "OutOfMemory"
+name_of NoWorker = codes "NoWorker"

@@ -3,12 +3,12 @@ use Rattle.std.specs.Prelude.{ℕ, List, codes}
 use Rattle.rds_stream.specs.declared.error.StreamError.{StreamError}
 use Rattle.rds_stream.specs.declared.error.StreamError.TheVariants.{BitsPastBytes, TooLong, OutOfMemory}
 
-abbrev pub number : StreamError → ℕ
-number BitsPastBytes = 4
-number TooLong = 5
-number OutOfMemory = 8
+abbrev pub number_of : StreamError → ℕ
+number_of BitsPastBytes = 4
+number_of TooLong = 5
+number_of OutOfMemory = 8
 
-abbrev pub name : StreamError → List ℕ
-name BitsPastBytes = codes "BitsPastBytes"
-name TooLong = codes "TooLong"
-name OutOfMemory = codes "OutOfMemory"
+abbrev pub name_of : StreamError → List ℕ
+name_of BitsPastBytes = codes "BitsPastBytes"
+name_of TooLong = codes "TooLong"
+name_of OutOfMemory = codes "OutOfMemory"
