@@ -11,7 +11,7 @@ IsSound patterns = (r : ℕ) → r < 1024 → 0 < slice_index patterns r → IsB
 abbrev pub HasBurst : List ℕ → ℕ → Type 0
 HasBurst patterns e = slice_index patterns (rem e) ≡ e
 
--- a place for each remainder, with the burst that has it, or 0
+-- an entry for each remainder: the burst that has it, or 0 where none has
 pub record IsBurstTable (patterns : List ℕ) : Type 0 where
   pub long : length patterns ≡ 1024
   pub sound : IsSound patterns

@@ -10,13 +10,13 @@ use Rattle.rds_code.specs.Bursts.{IsBurst}
 use Rattle.rds_code.specs.Reading.{IsValid, reading}
 use Rattle.rds_code.specs.Encoding.{IsBlockOf}
 
--- the offset alone is wanted
+-- what is wanted where this offset alone is to be tried; for A, B and D it is not looked at
 abbrev pub alone : Offset → Wanted
 alone C = OnlyC
 alone Cx = OnlyCx
 alone o = Either
 
--- the other offset of block 3
+-- the offset of block 3 in a group of the other version
 abbrev pub other_version : Offset → Offset
 other_version C = Cx
 other_version o = C

@@ -9,7 +9,7 @@ use Rattle.rds_code.specs.Bursts.{bursts}
 use Rattle.rds_code.specs.Reading.{reading}
 use Rattle.rds_code.specs.Correction.{version_burst}
 
--- what is left of blocks 3, 4, 4, 1, 2 and 3 once they are damaged
+-- the remainders of damaged blocks 3, 4, 4, 1, 2 and 3
 pub remainders : map rem (bit_xor (word C) 0x0008000 ∷ bit_xor (word D) 0x0000011 ∷ bit_xor (word D) 0x0000021 ∷ bit_xor (word A) 0x0000021 ∷ bit_xor (word B) 0x0000021 ∷ bit_xor (word C) 0x0000038 ∷ [])
     ≡ 0x3AF ∷ 0x1A5 ∷ 0x195 ∷ 0x0DD ∷ 0x1B9 ∷ 0x150 ∷ []
 unfolding rem
@@ -46,7 +46,7 @@ pub no_burst_leaves_0x021 : filter (λ e. rem e == 0x021) (bursts 5) ≡ []
 unfolding rem
 no_burst_leaves_0x021 = refl
 
--- 0x021 divided by x again and again, by the generator: none of it is an odd pattern of up to five bits
+-- 0x021 divided by x once, twice and so on up to 25 times, modulo the generator: none of these is an odd pattern of up to five bits
 abbrev pub quotients : List ℕ
 quotients =
     0x2CC ∷ 0x166 ∷ 0x0B3 ∷ 0x285 ∷ 0x39E ∷ 0x1CF ∷ 0x23B ∷ 0x3C1 ∷ 0x33C ∷ 0x19E ∷ 0x0CF ∷ 0x2BB ∷ 0x381 ∷ 0x31C ∷ 0x18E ∷ 0x0C7 ∷ 0x2BF ∷ 0x383 ∷ 0x31D ∷ 0x352 ∷ 0x1A9 ∷ 0x208 ∷ 0x104 ∷ 0x082
@@ -57,7 +57,7 @@ pub times_x : map (λ n. rem (2 * n)) quotients
 unfolding rem
 times_x = refl
 
--- block 3 where both of its offsets are wanted: up to three bits a burst fits each, up to two bits one alone
+-- block 3 where both of its offsets are wanted: with limit 3 a burst fits each of them, with limit 2 one fits C' alone
 pub both_fit : reading (bit_xor (word C) 0x0000038) 3 Either 3 ≡ Lost
 unfolding rem
 both_fit = refl

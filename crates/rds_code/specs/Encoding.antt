@@ -13,11 +13,12 @@ pub record IsBlockOf (w info : ℕ) (o : Offset) : Type 0 where
   pub above : information w ≡ info
   pub remainder : rem w ≡ word o
 
--- the offset of block 3, by the version bit of block 2: bit 11 of its information word
+-- the offset of block 3, by the version bit
 abbrev pub offset_by_version : ℕ → Offset
 offset_by_version zero = C
 offset_by_version (suc bit) = Cx
 
+-- the offset of block 3, by the information word of block 2, whose bit 11 is the version bit
 abbrev pub third_offset : ℕ → Offset
 third_offset second = offset_by_version (bit_at second 11)
 

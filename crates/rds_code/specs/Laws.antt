@@ -12,7 +12,7 @@ use Rattle.rds_code.specs.Encoding.{IsBlockOf, encoded}
 abbrev pub HasRemainder : Type 0
 HasRemainder = (w : ℕ) → w < 2 ^ 26 → IsRemainder w (rem w)
 
--- and no other
+-- and no block has two
 abbrev pub HasOneRemainder : Type 0
 HasOneRemainder = (w r s : ℕ) → IsRemainder w r → IsRemainder w s → r ≡ s
 
@@ -20,7 +20,7 @@ HasOneRemainder = (w r s : ℕ) → IsRemainder w r → IsRemainder w s → r �
 abbrev pub IsLinear : Type 0
 IsLinear = (u v : ℕ) → rem (bit_xor u v) ≡ bit_xor (rem u) (rem v)
 
--- the list of bursts is exactly they
+-- the list of bursts of a limit holds the bursts of that limit, and nothing else
 abbrev pub ListsBursts : Type 0
 ListsBursts = (limit e : ℕ) → limit ≤ 5 → IsBurst limit e ↔ Contains (bursts limit) e
 

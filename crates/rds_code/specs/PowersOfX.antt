@@ -1,4 +1,4 @@
--- Worked examples: what the powers of x leave, by the generator. Below x^10 a power is its own remainder.
+-- Worked examples: the remainders of the powers of x by the generator. Below x^10 a power is its own remainder.
 use Rattle.std.specs.Prelude.{◌≡◌, ◌*◌, ◌^◌, [], ◌∷◌, map, refl}
 use Rattle.std.specs.List.{range_with_len}
 use Rattle.rds_code.specs.Remainder.{rem}
@@ -13,7 +13,7 @@ pub high_powers : map (λ t. rem (2 ^ t)) (range_with_len 10 16)
 unfolding rem
 high_powers = refl
 
--- x^26, which a one that leaves the window stands for
+-- x^26: what a one stands for that has left the window at its highest place
 pub power_26 : rem (2 * rem (2 ^ 25)) ≡ 0x0EE
 unfolding rem
 power_26 = refl

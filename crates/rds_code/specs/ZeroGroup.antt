@@ -1,4 +1,4 @@
--- Worked example: the group whose four information words are 0, sent again and again. The valid windows end at its four blocks, and at two false phases of offset B.
+-- Worked example: the group whose four information words are 0, sent again and again. The valid windows end at its four blocks, and at two places inside blocks, both with offset B.
 use Rattle.std.specs.Prelude.{◌≡◌, ℕ, ◌+◌, ◌-◌, ◌*◌, ◌/◌, ◌%◌, ◌^◌, [], ◌∷◌, Option, Some, None, map, refl}
 use Rattle.std.specs.List.{range_with_len, filter_map}
 use Rattle.rds_code.specs.declared.offset.Offset.{Offset}
@@ -69,10 +69,11 @@ pub remainders_120 : map (λ i. rem (window_at i)) (range_with_len 120 10) ≡ 0
 unfolding rem
 remainders_120 = refl
 
--- each valid window of the second and third group
+-- a place with its offset, where it has one
 abbrev pub valid_at : ℕ → Option (ℕ × Offset)
 valid_at i = elim (offset_of (rem (window_at i))) [ None ↦ None | Some o ↦ Some (i, o) ]
 
+-- the valid windows that end in the second group
 pub valid_windows : filter_map valid_at (range_with_len 104 104) ≡ (123, B) ∷ (129, A) ∷ (155, B) ∷ (181, C) ∷ (200, B) ∷ (207, D) ∷ []
 unfolding rem
 valid_windows = refl

@@ -9,11 +9,11 @@ use Rattle.rds_sync.specs.Step.{run, items_at}
 use Rattle.rds_pieces.specs.declared.run.Mark.{Mark}
 
 module _ (b : List ℕ) (rules : RuleNumbers) (from : ℕ) where
-  -- the state and the items after the first bits of the piece
+  -- the state and the items after so many bits of the piece
   abbrev pub guess : ℕ → State × List Item
   guess bits = run b rules Searching from bits
 
-  -- the mark after the first bits of the piece: the next place, the state before it, and how many items stand before it
+  -- the mark after so many bits of the piece: the next place, the state before it, and how many items stand before it
   abbrev pub mark_at : ℕ → Mark
   mark_at bits = record { place = from + bits; state = (guess bits).0; items = length (guess bits).1 }
 
@@ -21,6 +21,6 @@ module _ (b : List ℕ) (rules : RuleNumbers) (from : ℕ) where
   abbrev pub mark_after : ℕ → Option Mark
   mark_after k = elim (items_at b rules (from + k) (guess k).0) [ [] ↦ None | i ∷ is ↦ Some (mark_at (k + 1)) ]
 
-  -- a mark at the first place and after every bit that gave an item
+  -- the marks of so many bits: at the first place, and after every bit that gave an item
   abbrev pub marks : ℕ → List Mark
   marks bits = mark_at 0 ∷ filter_map mark_after (range_with_len 0 bits)

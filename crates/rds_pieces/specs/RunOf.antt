@@ -35,7 +35,7 @@ module _ (b : List ℕ) (rules : RuleNumbers) where
   abbrev pub runs_of : List ℕ → List RunOf
   runs_of places = map (run_at places) (range_with_len 0 (pieces_of places))
 
-  -- the runs follow each other from one place to another, each over some place
+  -- the runs follow each other from `from` to `to`, and none of them is empty
   abbrev pub FollowEachOther : ℕ → ℕ → List RunOf → Type 0
   FollowEachOther from to [] = from ≡ to
   FollowEachOther from to (r ∷ rs) = (r ≡ run_over from r.to) × (from < r.to) × FollowEachOther r.to to rs

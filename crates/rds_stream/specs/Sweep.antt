@@ -12,7 +12,7 @@ pub record SweepState : Type 0 where
 unfoldable pub before : List ℕ → ℕ → ℕ
 before b p = number_from_digits 2 (slice_range b (p - 26) p)
 
--- the window and the remainder are those of the bits before place p
+-- what a sweep keeps at place p of the bits b: the window of the 26 bits before it, and that window's remainder
 pub record IsCarried (b : List ℕ) (p window remainder : ℕ) : Type 0 where
   pub reached : p ≤ length b
   pub limit : length b ≤ 2 ^ 36

@@ -1,4 +1,4 @@
--- The group of four zero words, sent once and twice: its windows, computed. Two of them are valid between the blocks.
+-- The group of four zero words, sent once and twice: its windows, computed. Some that end inside a block are valid too.
 use Rattle.std.specs.Prelude.{◌≡◌, ℕ, List, [], ◌∷◌, ◌++◌, map, refl}
 use Rattle.std.specs.List.{range_with_len}
 use Rattle.rds_code.specs.Remainder.{rem}
@@ -14,7 +14,7 @@ once = bits_of zero_group 104
 abbrev pub twice : List ℕ
 twice = bits_of (zero_group ++ zero_group) 208
 
--- from place 25 to place 129, after which they come again
+-- from place 25 to place 129, from where on they come again
 pub remainders : map (λ i. rem (window twice i)) (range_with_len 25 105) ≡
     0x0FC ∷ 0x1F8 ∷ 0x3F0 ∷ 0x259 ∷ 0x10B ∷
     0x216 ∷ 0x195 ∷ 0x32A ∷ 0x3ED ∷ 0x263 ∷ 0x17F ∷ 0x2FE ∷ 0x045 ∷ 0x08A ∷ 0x114 ∷

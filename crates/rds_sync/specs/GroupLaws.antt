@@ -42,6 +42,7 @@ abbrev pub VersionsDiffer : Block → Block → Type 0
 VersionsDiffer second third = (o : Offset) × (info : ℕ) × (word : ℕ)
     × (third ≡ Read (Valid o info)) × (info_of second ≡ Some word) × (version_of_offset o ≢ version_of_bit word)
 
+-- what the group says of its blocks f to x, of which the last ends at place p
 pub record GroupIsRead (b : List ℕ) (rules : RuleNumbers) (f x p : ℕ) (group : Group) : Type 0 where
   pub second : Block
   pub third : Block

@@ -21,7 +21,7 @@ blocks_at b rules f x p =
 abbrev pub IsInProgress : List ℕ → RuleNumbers → Lock → List Block → Type 0
 IsInProgress b rules lock blocks = blocks ≡ blocks_at b rules lock.first (lock.number - 1) (lock.due - 26)
 
--- the blocks of the group lie in the recording, and those before the one that is due were read
+-- a lock that can be followed: it is not lost, and the blocks of its group that are read already lie in the recording
 pub record IsReadable (b : List ℕ) (rules : RuleNumbers) (lock : Lock) : Type 0 where
   pub few_bad : lock.bad < rules.loss
   pub start : 26 * (lock.number - lock.first) + 25 ≤ lock.due

@@ -8,8 +8,8 @@ use Rattle.rds_sync.specs.Rules.{RuleNumbers}
 use Rattle.rds_sync.specs.Step.{run}
 
 module _ (b : List ℕ) (rules : RuleNumbers) (s : State) (place to : ℕ) where
-  -- the run from state s at this place came on towards place `to`: nothing was given before its last bit, and that bit gave an
-  -- item if it is not the last of the range
+  -- how far the run from state s before `place` came: nothing was given before the last bit that it went over, and that bit
+  -- gave an item or is the last before `to`
   pub record IsStretch (reached : Reached) : Type 0 where
     pub forward : place < reached.place
     pub limit : reached.place ≤ to
@@ -18,6 +18,6 @@ module _ (b : List ℕ) (rules : RuleNumbers) (s : State) (place to : ℕ) where
     pub ended : (reached.place ≡ to) ⊎ ((run b rules s place (reached.place - place)).1 ≢ [])
     pub lawful : IsLawful rules reached.place reached.state
 
-  -- and what it gave was appended
+  -- such a stretch, with what it gave appended to the items before
   abbrev pub IsStretchOnto : List Item → Reached → List Item → Type 0
   IsStretchOnto before reached after = IsStretch reached × (after ≡ before ++ (run b rules s place (reached.place - place)).1)

@@ -24,7 +24,7 @@ abbrev pub has_pieces : Cuts → Bool
 has_pieces (Even pieces) = nat_le 1 pieces
 has_pieces (At cuts) = true
 
--- it cuts n bits
+-- it can cut n bits
 abbrev pub cuts_bits : Cuts → ℕ → Bool
 cuts_bits (Even pieces) n = true
 cuts_bits (At cuts) n = are_inner n cuts.items

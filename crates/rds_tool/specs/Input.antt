@@ -17,6 +17,7 @@ and_then (Err e) step = Err e
 abbrev pub is_blank : ℕ → Bool
 is_blank b = (b == 32) || (b == 9) || (b == 13) || (b == 10)
 
+-- the bytes, or the refusal of what is no hexadecimal text
 abbrev pub or_hex_text : Result (List ℕ) FromHexError → Result (List ℕ) ToolError
 or_hex_text (Ok bytes) = Ok bytes
 or_hex_text (Err e) = Err HexText
@@ -29,7 +30,7 @@ decoded text = or_hex_text (decode_of (filter (λ b. not (is_blank b)) text))
 abbrev pub bytes_of : Input → List ℕ → Result (List ℕ) ToolError
 bytes_of input held = if input.hex then decoded held else Ok held
 
--- how many bits are claimed, where none are all those of the bytes
+-- how many bits the recording has: as many as are claimed, or else all those of the bytes
 abbrev pub claimed : Option ℕ → List ℕ → ℕ
 claimed (Some bits) bytes = bits
 claimed None bytes = 8 * length bytes

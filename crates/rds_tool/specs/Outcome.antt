@@ -45,12 +45,12 @@ outcome job held = and_then (task_of job) (λ task. text_of_task task held)
 abbrev pub IsOutside : ToolError → Type 0
 IsOutside e = (e ≡ OutOfMemory) ⊎ ((e ≡ NoWorker) ⊎ ((e ≡ Read) ⊎ ((e ≡ Write) ⊎ (e ≡ TooManyTurns))))
 
--- the writer has got the whole text
+-- the whole text was added to what the writer held; where the outcome is a refusal, this can't be
 abbrev pub Writes : Option (List ℕ) → Option (List ℕ) → Result (List ℕ) ToolError → Type 0
 Writes old new (Ok text) = Appends old new text
 Writes old new (Err e) = ⊥
 
--- the writer has got a front of the text
+-- a front of the text was added to what the writer held
 abbrev pub WritesFront : Option (List ℕ) → Option (List ℕ) → Result (List ℕ) ToolError → Type 0
 WritesFront old new (Ok text) = (front : List ℕ) × (rest : List ℕ) × (text ≡ front ++ rest) × Appends old new front
 WritesFront old new (Err e) = ⊥
