@@ -2,9 +2,10 @@ ghost use Rattle.std.specs.Prelude.{◌≡◌};
 
 use std::marker::Model;
 
-/// A burst of errors in a block: a word of 26 bits whose highest and lowest one lie fewer than five places apart.
+/// A burst of errors in a block: a word of 26 bits, not 0, whose highest and lowest ones lie fewer than five places
+/// apart. Clauses see its pattern.
 ///
-/// Clauses see its pattern.
+/// EN 50067:1998, Annex B: the code corrects any single burst of up to five bits.
 #[derive(Clone, Copy, Debug, PartialEq, Eq, Hash)]
 pub struct Burst {
     pattern: u32,

@@ -21,7 +21,7 @@ pub enum Offset {
 impl Offset {
     ghost use Rattle.rds_code.specs.Offsets.{word, number, name};
 
-    /// The ten bits that are added to the checkword.
+    /// The ten bits that are added to the checkword, and so the remainder of an undamaged block.
     pub fn word(self) -> u16
         ensures { result ≡ word self }
     {
@@ -60,7 +60,7 @@ impl Offset {
     }
 }
 
-/// The offset whose word is `remainder`, or none.
+/// The offset whose word is `remainder`, or none. A window whose remainder has an offset is called valid.
 pub fn offset_of(remainder: u16) -> Option<Offset>
     ensures { result ≡ the_offset_of remainder }
 {

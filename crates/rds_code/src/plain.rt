@@ -1,8 +1,8 @@
-//! The remainder bit by bit, as it is defined: what `rem26` is compared with.
+//! The remainder bit by bit: what the one from tables is compared with.
 ghost use Rattle.std.specs.Prelude.{◌≡◌, ◌^◌, ◌<◌};
 ghost use Rattle.rds_code.specs.Remainder.{rem, IsRemainder};
 
-/// The remainder of the block `w` by the generator, by long division.
+/// The remainder of the block `w`, a word of 26 bits, by the generator, by long division: below 1024.
 pub fn rem26(w: u32) -> u16
     requires { w < 2 ^ 26 }
     ensures value { result ≡ rem w }

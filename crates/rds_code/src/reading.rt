@@ -23,12 +23,12 @@ pub enum Wanted {
 /// What a window says where it is read as a block.
 #[derive(Clone, Copy, Debug, PartialEq, Eq, Hash)]
 pub enum Reading {
-    /// The window is the block as it was sent.
+    /// The window is a block with this offset; `info` is its information word.
     Valid {
         offset: Offset,
         info: u16,
     },
-    /// The window is the block but for `burst`; `info` is the information word without it.
+    /// The window is a block with this offset once `burst` is taken off; `info` is the information word then.
     Corrected {
         offset: Offset,
         info: u16,

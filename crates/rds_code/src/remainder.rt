@@ -7,7 +7,9 @@ ghost use Rattle.rds_code.specs.Remainder.{rem, IsRemainder};
 
 use crate::byte_remainders::{of_high, of_middle};
 
-/// The remainder of the block `w` by the generator.
+/// The remainder of the block `w`, a word of 26 bits, by the generator: below 1024.
+///
+/// EN 50067:1998, section 2.3 and Annex B. It takes no memory.
 pub fn rem26(w: u32) -> u16
     requires { w < 2 ^ 26 }
     ensures value { result ≡ rem w }
@@ -23,7 +25,8 @@ pub fn rem26(w: u32) -> u16
 /// and the remainder of place 26 where a one leaves the window.
 static CARRIED: [u16; 4] = [0, 0x5B9, 0x0EE, 0x557];
 
-/// The remainder of the window one place on, whose new lowest bit is `bit`, from the `window` and its remainder.
+/// The remainder of the window one place on, whose new lowest bit is `bit`, 0 or 1, from the `window` of 26 bits and its
+/// remainder. It takes no memory.
 pub fn next_remainder(remainder: u16, window: u32, bit: u32) -> u16
     requires block { window < 2 ^ 26 }
     requires of_window { remainder ≡ rem window }

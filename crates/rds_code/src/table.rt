@@ -33,14 +33,15 @@ impl BurstTable {
     ghost use Rattle.rds_code.specs.Remainder.{rem};
     ghost use Rattle.rds_code.specs.Bursts.{IsBurst};
 
-    /// The table, in one growth of 4,096 bytes. What it holds its type keeps; it is refused only where memory is.
+    /// The table, in one growth of 4,096 bytes. What it holds its type keeps. Refuses want of memory alone.
     pub fn new(alloc: Global) -> Result<BurstTable, CodeError> {
         let mut patterns = no_bursts(alloc)?;
         enter_all(&mut patterns);
         Ok(BurstTable { patterns })
     }
 
-    /// The burst of up to `limit` bits whose remainder is `remainder`. It takes no memory.
+    /// The burst of up to `limit` bits, 0 to 5, whose remainder is `remainder`, below 1024, or none. There is none for
+    /// limit 0, nor for remainder 0. It takes no memory.
     pub fn find(&self, remainder: u16, limit: u8) -> Option<Burst>
         requires remainder { remainder < 1024 }
         requires limit { limit ≤ 5 }

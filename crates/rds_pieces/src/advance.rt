@@ -1,4 +1,4 @@
-//! One step of a run, with its items put behind those before.
+//! One step of a run over a tape, with its items appended to those before.
 ghost use Rattle.std.specs.Prelude.{◌≡◌, ℕ, List, ◌+◌, ◌-◌, ◌++◌, ◌<◌, ◌≤◌, ◌^◌, IfOk, IfErr, length};
 ghost use Rattle.rds_sync.specs.Lawful.{IsLawful};
 ghost use Rattle.rds_sync.specs.Advance.{group_item, items_in, reads_most};

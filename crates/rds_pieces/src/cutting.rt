@@ -40,7 +40,8 @@ impl Cutting {
     }
 
     /// The even cutting of `len` bits: places 0, s, 2s and so on below `len`, then `len`, where s is `len` divided by
-    /// `pieces`, rounded up. It has at most `pieces` pieces, and each but the last is of s bits. Refuses `OutOfMemory` alone.
+    /// `pieces`, 1 or more, rounded up. It has at most `pieces` pieces, and each but the last is of s bits. Refuses
+    /// `OutOfMemory` alone.
     pub fn even(alloc: Global, len: u64, pieces: u64) -> Result<Cutting, PieceError>
         requires { 1 ≤ pieces }
         ensures ok { IfOk result (λ c. c ≡ even_places len pieces) }
@@ -64,7 +65,7 @@ impl Cutting {
         self.places.len() as u64 - 1
     }
 
-    /// The first place of piece `j`.
+    /// The first place of piece `j`, from 0 on.
     pub fn from(&self, j: u64) -> u64
         requires { j < pieces_of self.now }
         ensures { result ≡ slice_index self.now j }
@@ -72,7 +73,7 @@ impl Cutting {
         self.places[j as usize]
     }
 
-    /// The place after the last of piece `j`.
+    /// The place after the last of piece `j`, from 0 on.
     pub fn to(&self, j: u64) -> u64
         requires { j < pieces_of self.now }
         ensures { result ≡ slice_index self.now (j + 1) }

@@ -1,10 +1,10 @@
 //! Decoding in pieces: a recording is cut, each piece is guessed as if nothing stood before it, and the guesses are put together
 //! into the report that one decoder gives which reads from the first bit.
 //!
-//! A [`Cutting`] names the places. [`speculate`] runs over a piece from Searching and keeps, beside the items and the end state,
-//! a [`Mark`] after every bit that gave an item. [`seam`] carries the true state over a piece, step by step, until it is at a
-//! mark in the guess's state with no group in progress; from there on the guess is right, and nothing more is read. [`stitch`]
-//! does so for all runs in order. The pieces can be guessed in any order and at the same time:
+//! A [`Cutting`] names the places. [`speculate`] runs over a piece from Searching and keeps, beside the items and the end
+//! state, a [`Mark`] at the first place and after every bit that gave an item. [`seam`] carries the true state over a piece,
+//! step by step, until it is at a mark in the guess's state with no group in progress; from there on the guess is right, and
+//! nothing more is read. [`stitch`] does so for all runs in order. The pieces can be guessed in any order and at the same time:
 //!
 //! ```text
 //! let cutting = Cutting::even(alloc, rec.len(), 16)?;

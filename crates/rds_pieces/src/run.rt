@@ -17,7 +17,7 @@ use std::snapshot::Snapshot;
 /// A place of a run at which another run may meet it: the piece's first place, and each place after a bit that gave an item.
 #[derive(Clone, Copy, Debug, PartialEq, Eq)]
 pub struct Mark {
-    /// The next bit.
+    /// The place of the next bit.
     pub place: u64,
     /// The state before that bit.
     pub state: State,

@@ -1,4 +1,4 @@
-// Why a call of this crate refuses.
+//! Why a call of this crate is refused.
 ghost use Rattle.std.specs.Prelude.{◌≡◌};
 ghost use Rattle.rds_stream.specs.declared.error.StreamError.TheVariants.{OutOfMemory};
 
@@ -22,7 +22,7 @@ pub enum StreamError {
 impl StreamError {
     ghost use Rattle.rds_stream.specs.Refusals.{number_of, name_of};
 
-    /// 4, 5 or 8.
+    /// The number of the refusal: 4, 5 or 8.
     pub fn number(self) -> u8
         ensures { result ≡ number_of self }
     {
@@ -33,7 +33,7 @@ impl StreamError {
         }
     }
 
-    /// The variant's name.
+    /// The name of the refusal.
     pub fn name(self) -> &'static str
         ensures { result.now ≡ name_of self }
     {

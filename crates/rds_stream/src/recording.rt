@@ -1,4 +1,4 @@
-// A recording: packed bits with places.
+//! A recording: packed bits with places.
 ghost use Rattle.std.specs.Prelude.{◌≡◌, List, ℕ, ◌+◌, ◌*◌, ◌^◌, ◌<◌, ◌≤◌, ◌↔◌, vec_len, length, slice_index, All, if◌then◌else◌, IfOk, IsOk};
 ghost use Rattle.rds_stream.specs.declared.error.StreamError.TheVariants.{TooLong, BitsPastBytes};
 ghost use Rattle.rds_stream.specs.Recording.{packed_bit, bits_of, window};
@@ -68,7 +68,7 @@ impl Recording {
         self.bits
     }
 
-    /// Whether the bit at place `i` is a one.
+    /// Whether the bit at place `i`, which is below the length, is a one.
     pub fn bit(&self, i: u64) -> bool
         requires { i < length self.now }
         ensures { slice_index self.now i ≡ (if result then 1 else 0) }
@@ -92,7 +92,7 @@ impl Recording {
         number
     }
 
-    /// The 26 bits that end at place `i`, the first one highest.
+    /// The 26 bits that end at place `i`, the first one highest (EN 50067:1998, 2.1). `i` is at least 25, and below the length.
     pub fn window(&self, i: u64) -> u32
         requires first { 25 ≤ i }
         requires last { i < length self.now }

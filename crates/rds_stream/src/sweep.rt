@@ -1,4 +1,4 @@
-// The valid windows of a recording, by remainders that roll from place to place.
+//! The valid windows of a recording, by remainders that roll from place to place.
 ghost use Rattle.std.specs.Prelude.{◌≡◌, List, ℕ, ◌+◌, ◌<◌, ◌≤◌, length, IfOk, IsOkUnless};
 ghost use Rattle.rds_stream.specs.declared.error.StreamError.TheVariants.{OutOfMemory};
 ghost use Rattle.rds_code.specs.Offsets.{offset_of as the_offset_of};
@@ -55,7 +55,7 @@ impl<'a> Model for Sweep<'a> {
 }
 
 impl Sweep<'_> {
-    /// A sweep that stands at place `from`.
+    /// A sweep that stands at place `from`, which is at most the length.
     pub fn new(recording: &Recording, from: u64) -> Sweep<'_>
         requires { from ≤ length recording.now }
         ensures { result ≡ record { bits = recording.now; place = from } }
@@ -69,7 +69,7 @@ impl Sweep<'_> {
         }
     }
 
-    /// The offset of the place at which it stands, or none; then it stands one place on.
+    /// The offset of the place at which it stands, which is below the length, or none; then it stands one place on.
     pub fn next_offset(&mut self) -> Option<Offset>
         requires { self.old.place < length self.old.bits }
         ensures offset { result ≡ off self.old.bits self.old.place }

@@ -1,4 +1,4 @@
-// A tape: the bits of a recording, and a count of the windows that were read.
+//! A tape: the bits of a recording, and a count of the windows that were read.
 ghost use Rattle.std.specs.Prelude.{◌≡◌, List, ℕ, ◌+◌, ◌^◌, ◌<◌, ◌≤◌, length};
 ghost use Rattle.rds_stream.specs.Recording.{window};
 ghost use Rattle.rds_stream.specs.Tape.{TapeState};
@@ -30,7 +30,8 @@ pub trait Tape {
     fn source(&self) -> Snapshot<Recording>
         ensures { result.value ≡ bits self.now };
 
-    /// The 26 bits that end at place `i`, the first one highest. It counts as one reading.
+    /// The 26 bits that end at place `i`, the first one highest; `i` is at least 25, and below the length. It counts as one
+    /// reading, of which there are at most 2^63.
     fn window(&mut self, i: u64) -> u32
         requires first { 25 ≤ i }
         requires last { i < length (bits self.old) }

@@ -18,7 +18,9 @@ use std::alloc::Global;
 /// What was found in a recording: its items, in order of place, and their totals.
 #[derive(Debug, Drop)]
 pub struct Report {
+    /// Acquisitions, groups and losses, in order of place.
     pub items: Vec<Item>,
+    /// The twelve totals of these items.
     pub totals: Totals,
 }
 

@@ -11,7 +11,9 @@ pub enum State {
     /// No block is known: each bit is tried as the last of a block that acquires.
     Searching,
     /// The next block ends at place `due` and is read as block `number` (1 to 4). The last `bad`
-    /// blocks in a row were not valid, and the group in progress began with block `first`.
+    /// blocks in a row were not valid, fewer than the rules' `loss`. The first block that was read
+    /// in the group in progress has number `first`, which is below `number`; both are 1 where no
+    /// group is in progress.
     Locked {
         due: u64,
         number: u8,
@@ -24,7 +26,9 @@ impl State {
     ghost use Rattle.rds_sync.specs.Lawful.{IsLawful};
     ghost use Rattle.rds_sync.specs.Step.{locked_after};
 
-    /// Whether a run by these rules can be in this state before the bit at `place`.
+    /// Whether the state is lawful before the bit at `place`, by these rules: a search, or a lock
+    /// whose block is due within 26 places, whose bad blocks do not lose it, whose group lies in
+    /// the recording, and whose numbers are in order. Runs lead from lawful states to lawful ones.
     pub fn is_lawful(&self, rules: &Rules, place: u64) -> bool
         ensures { IsTrue result ↔ IsLawful rules.now place self.now }
     {

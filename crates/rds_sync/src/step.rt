@@ -27,8 +27,9 @@ pub struct Step {
     pub items: [Option<Item>; 2],
 }
 
-/// One step of a run from `place` towards `to`: a bit while searching; while locked, up to and
-/// including the block that is due, or up to `to` where that comes first.
+/// One step of a run from a state that is lawful before `place`, towards `to`: a bit while
+/// searching; while locked, up to and including the block that is due, or up to `to` where that
+/// comes first.
 ///
 /// It asks the tape for at most `reach` + 1 windows while searching, and at most four while
 /// locked; for none where no block is due before `to`. Takes no memory.
@@ -67,8 +68,8 @@ pub fn advance<T: Tape>(tape: &mut T, rules: &Rules, state: State, place: u64, t
     }
 }
 
-/// The group in progress at the end of the recording, as far as it was read. Asks the tape for at
-/// most three windows, and takes no memory.
+/// The group in progress at the end of the recording, where the run ended in `state`, as far as it
+/// was read, or none. Asks the tape for at most three windows, and takes no memory.
 pub fn finish<T: Tape>(tape: &mut T, rules: &Rules, state: State) -> Option<Group>
     requires lawful { IsLawful rules.now (length (T.bits tape.old)) state }
     requires counted { T.reads_made tape.old + 16 ≤ 2 ^ 63 }

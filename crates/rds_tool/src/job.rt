@@ -13,10 +13,10 @@ pub struct Input {
 /// Where a recording is cut into pieces. The listing doesn't depend on it.
 #[derive(Debug, PartialEq, Eq, Drop)]
 pub enum Cuts {
-    /// Pieces of one length but for the last, at most so many, 1 or more.
+    /// Pieces of one length but for the last, at most so many. None is refused as `BadCutting`.
     Even(u64),
     /// The places of the cuts: each is that of the bit before which it lies. They rise strictly, above 0
-    /// and below the number of bits; where there are no bits, there are none.
+    /// and below the number of bits; where there are no bits, there are none. Others are `BadCutting`.
     At(Vec<u64>),
 }
 

@@ -1,7 +1,8 @@
 //! The tool behind the program `rds`: words become a job, and a job makes text of what a reader holds.
 //!
 //! [`job_of`] reads a command line. [`transcribe`] reads all bytes of a [`Source`], works, by threads where there are
-//! pieces and workers for them, and writes the whole text to a [`Sink`]. [`FromRead`] and [`ToWrite`] make these of a reader and a writer of std:
+//! pieces and workers for them, and writes the whole text to a [`Sink`]. [`FromRead`] and [`ToWrite`] make these of a
+//! reader and a writer of std:
 //!
 //! ```text
 //! let job = Job::Scan(Input { hex: true, bits: None });
