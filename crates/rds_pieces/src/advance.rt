@@ -35,6 +35,7 @@ pub fn advance_onto<T: Tape>(
     Ok((step.place, step.state))
 }
 
+/// Appends the items that are there.
 fn push_items(items: &mut Vec<Item>, given: [Option<Item>; 2]) -> Result<(), PieceError>
     ensures ok { IfOk result (λ _. items.new.items ≡ items.old.items ++ items_in given) }
     ensures err { IfErr result (λ e. e ≡ OutOfMemory) }

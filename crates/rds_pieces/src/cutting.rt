@@ -82,6 +82,7 @@ impl Cutting {
     }
 }
 
+/// Whether the places begin with 0, end with `len` and rise strictly.
 fn is_cutting(places: &[u64], len: u64) -> bool
     ensures { IsTrue result ↔ IsCutting len places.now }
 {

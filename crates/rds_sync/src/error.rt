@@ -10,12 +10,16 @@ use thiserror::Error;
 /// A refusal. Each has a number and a name that do not change.
 #[derive(Clone, Copy, Debug, PartialEq, Eq, Error)]
 pub enum SyncError {
+    /// The longest burst to be corrected is above 5 bits.
     #[error("the burst limit is above 5")]
     BurstRange,
+    /// The reach is not 1 to 8 blocks.
     #[error("the reach is not 1 to 8")]
     ReachRange,
+    /// The loss is not 1 to 64 blocks.
     #[error("the loss is not 1 to 64")]
     LossRange,
+    /// Memory was refused.
     #[error("out of memory")]
     OutOfMemory,
 }

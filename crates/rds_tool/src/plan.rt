@@ -85,6 +85,7 @@ impl<'a> Plan<'a> {
     }
 }
 
+// The rules of these settings.
 fn rules_of(alloc: Global, settings: &Settings) -> Result<Rules, ToolError>
     ensures ok { IfOk result (λ rules. the_rules_of settings.now ≡ Ok rules) }
     ensures refused { IfErr result (λ error. (error ≡ ToolError.OutOfMemory) ⊎ (the_rules_of settings.now ≡ Err error)) }
@@ -94,6 +95,7 @@ fn rules_of(alloc: Global, settings: &Settings) -> Result<Rules, ToolError>
     Ok(rules)
 }
 
+// Refuses a number of workers out of its range, and then a cutting into no piece.
 fn check_crew(settings: &Settings) -> Result<(), ToolError>
     ensures { result ≡ crew_of settings.now }
 {
