@@ -1,7 +1,6 @@
 //! The valid windows of a recording, by remainders that roll from place to place.
 ghost use Rattle.std.specs.Prelude.{◌≡◌, List, ℕ, ◌+◌, ◌<◌, ◌≤◌, length, IfOk, IsOkUnless};
 ghost use Rattle.rds_stream.specs.declared.error.StreamError.TheVariants.{OutOfMemory};
-ghost use Rattle.rds_code.specs.Offsets.{offset_of as the_offset_of};
 ghost use Rattle.rds_stream.specs.Recording.{off, valid_windows};
 ghost use Rattle.rds_stream.specs.Sweep.{SweepState, IsCarried};
 
@@ -13,26 +12,6 @@ use std::marker::Model;
 
 /// The place of the last bit of the first window.
 const FIRST_WINDOW: u64 = 25;
-
-/// No remainder.
-const NONE: u16 = 0xFFFF;
-
-/// The offset words by their bits 2 to 4, in which no two of them are alike.
-static CANDIDATES: [u16; 8] = [NONE, NONE, 0x168, NONE, 0x350, 0x1B4, 0x198, 0x0FC];
-
-/// The offset whose word is `remainder`, or none.
-///
-/// Nearly all remainders are no offset word. One comparison tells, so that the processor foresees the branch.
-fn offset_at(remainder: u16) -> Option<Offset>
-    ensures { result ≡ the_offset_of remainder }
-{
-    let candidate = CANDIDATES[(remainder >> 2 & 7) as usize];
-    if candidate == remainder {
-        offset_of(remainder)
-    } else {
-        None
-    }
-}
 
 /// A cursor over the places of a recording that answers the offset of each in turn.
 ///
@@ -83,7 +62,7 @@ impl Sweep<'_> {
         if place < FIRST_WINDOW {
             None
         } else {
-            offset_at(self.remainder)
+            offset_of(self.remainder)
         }
     }
 }

@@ -1,5 +1,5 @@
 //! A command line as a job.
-ghost use Rattle.std.specs.Prelude.{◌≡◌, ◌≢◌, [], IfErr, IfOk, OnOk, map, string_bytes};
+ghost use Rattle.std.specs.Prelude.{◌≡◌, ◌≢◌, ◌⊎◌, [], IfErr, IfOk, OnOk, map, string_bytes};
 ghost use Rattle.clap.specs.Kinds.{FailsBy};
 ghost use Rattle.clap.specs.Values.{kind_of};
 ghost use Rattle.clap.specs.Words.{subcommand_rows_of};
@@ -49,10 +49,7 @@ pub fn job_of(alloc: Global, words: &[&str]) -> Result<Job, CliFault>
     };
     match job_in(&matches) {
         Some(job) => Ok(job),
-        None => Err(CliFault {
-            kind: FaultKind::Words,
-            text: String::new(alloc),
-        }),
+        None => Err(no_job(alloc)),
     }
 }
 
@@ -77,6 +74,20 @@ fn fault_of(alloc: Global, error: &clap::Error) -> CliFault
     };
     match error.to_string(alloc) {
         Ok(text) => CliFault { kind, text },
+        Err(_) => out_of_memory(alloc),
+    }
+}
+
+// What is shown where the words are parsed and yet no job has their entries.
+fn no_job(alloc: Global) -> CliFault
+    ensures kind { (result.kind ≡ FaultKind.Words) ⊎ (result.kind ≡ FaultKind.Memory) }
+    ensures memory { result.kind ≡ FaultKind.Memory → string_bytes result.text ≡ [] }
+{
+    match "error: these words ask for no job\n".to_string(alloc) {
+        Ok(text) => CliFault {
+            kind: FaultKind::Words,
+            text,
+        },
         Err(_) => out_of_memory(alloc),
     }
 }

@@ -28,6 +28,6 @@ returns-clause-offset c =
     let p = c.self.inside.place in
     let here : c.if-place-lt-FIRST_WINDOW.result ≡ off b p = elim c.if-place-lt-FIRST_WINDOW.branch [
       | then-place-lt-FIRST_WINDOW w ↦ w.result-is ∙ sym (off_early b p (omega arith))
-      | else-place-lt-FIRST_WINDOW w ↦ w.result-is ∙ w.offset_at.ensures ∙ sym (off_carried b p _ c.next_remainder-self-inside.result (invariant_of-self c) (omega arith))
+      | else-place-lt-FIRST_WINDOW w ↦ w.result-is ∙ w.offset_of.ensures ∙ sym (off_carried b p _ c.next_remainder-self-inside.result (invariant_of-self c) (omega arith))
     ] in
     here ∙ ap (λ s. off s.bits s.place) c.self.view_is

@@ -1,7 +1,7 @@
 use Rattle.std.proofs.Common.{◌≡◌, ◌≢◌, ℕ, ◌/◌, subst, sym, refl, None, bit_and, get_or, [], ◌∷◌}
 use Rattle.std.proofs.lemmas.Bool.{ne_eqb}
 use Rattle.rds_code.specs.Offsets.{offset_of}
-use Rattle.rds_stream.proofs.sweep.offset_at.Goals as goal
+use Rattle.rds_code.proofs.offset.offset_of.Goals as goal
 
 candidate : ℕ → ℕ
 candidate r = get_or (0xFFFF ∷ 0xFFFF ∷ 0x168 ∷ 0xFFFF ∷ 0x350 ∷ 0x1B4 ∷ 0x198 ∷ 0x0FC ∷ []) (bit_and (r / 4) 7) 0
@@ -15,6 +15,6 @@ no_candidate r other =
     let P : ℕ → Type 0 = λ x. candidate x ≡ x in
     no_word r (λ e. other (subst P e refl)) (λ e. other (subst P e refl)) (λ e. other (subst P e refl)) (λ e. other (subst P e refl)) (λ e. other (subst P e refl))
 
-pub returns-else-candidate-remainder : goal.returns-else-candidate-remainder
+pub returns-then-candidate-remainder : goal.returns-then-candidate-remainder
 unfolding candidate
-returns-else-candidate-remainder c = sym (no_candidate c.args.remainder c.if-candidate-remainder.false)
+returns-then-candidate-remainder c = sym (no_candidate c.args.remainder c.if-candidate-remainder.true)
