@@ -21,9 +21,11 @@ pub fn rem26(w: u32) -> u16
     low ^ of_middle(middle) ^ of_high(high)
 }
 
-/// What is added to a remainder that moves one place on: the generator where its highest bit goes past place 9,
-/// and the remainder of place 26 where a one leaves the window.
-static CARRIED: [u16; 4] = [0, 0x5B9, 0x0EE, 0x557];
+/// The generator: what is added to a remainder that moves one place on, where its highest bit goes past place 9.
+const GENERATOR: u16 = 0x5B9;
+
+/// The remainder of place 26: what is added where a one leaves the window.
+const LEAVING: u16 = 0x0EE;
 
 /// The remainder of the window one place on, whose new lowest bit is `bit`, 0 or 1, from the `window` of 26 bits and its
 /// remainder. It takes no memory.
@@ -33,7 +35,7 @@ pub fn next_remainder(remainder: u16, window: u32, bit: u32) -> u16
     requires bit { bit < 2 }
     ensures { result ≡ rem ((2 * window + bit) % 2 ^ 26) }
 {
-    let leaving = (window >> 25) as usize;
-    let carried = 2 * leaving + (remainder >> 9) as usize;
-    (2 * remainder + bit as u16) ^ CARRIED[carried]
+    let carried = remainder >> 9;
+    let leaving = (window >> 25) as u16;
+    (2 * remainder + bit as u16) ^ (carried * GENERATOR ^ leaving * LEAVING)
 }
