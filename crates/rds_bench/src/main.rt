@@ -17,7 +17,7 @@ use std::env;
 
 const USAGE: &str = "usage: rds_bench MEASUREMENT [BITS [SAMPLE]]
 
-  scan       the scan by rolling remainders, and a remainder anew for each window
+  scan       the scan, and a long division of each window
   remainder  the remainder by tables, and by long division
   run        the report of one decoder, and of sixteen pieces by one thread
   totals     from bytes to the text of the totals, by one, two and four workers

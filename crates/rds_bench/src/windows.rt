@@ -1,8 +1,8 @@
-// The valid windows of a recording: by a remainder that rolls from place to place, and by a remainder anew at each.
+// The valid windows of a recording: by the scan, and by long division of each window.
 use crate::sample::Sample;
 use crate::timing::Timing;
 use anyhow::Result;
-use rds_code::{Offset, offset_of, plain, rem26};
+use rds_code::{Offset, offset_of, plain};
 use rds_stream::{Recording, scan};
 use std::alloc::{AllocError, Global};
 use std::time::Instant;
@@ -13,26 +13,12 @@ pub fn measure(rt: &HostRuntime, bits: u64) -> Result<()> {
 
     let start = Instant::now(rt)?;
     let found = scan(rt.alloc(), &recording, 0, recording.len())?;
-    timing.show(rt, "rolling", start, found.len() as u64)?;
-
-    let start = Instant::now(rt)?;
-    let found = by_tables(rt.alloc(), &recording)?;
-    timing.show(rt, "anew by tables", start, found.len() as u64)?;
+    timing.show(rt, "the scan", start, found.len() as u64)?;
 
     let start = Instant::now(rt)?;
     let found = by_division(rt.alloc(), &recording)?;
-    timing.show(rt, "anew by long division", start, found.len() as u64)?;
+    timing.show(rt, "by long division", start, found.len() as u64)?;
     Ok(())
-}
-
-fn by_tables(alloc: Global, recording: &Recording) -> Result<Vec<(u64, Offset)>, AllocError> {
-    let mut found = Vec::new(alloc);
-    for place in 25..recording.len() {
-        if let Some(offset) = offset_of(rem26(recording.window(place))) {
-            found.push((place, offset))?;
-        }
-    }
-    Ok(found)
 }
 
 fn by_division(alloc: Global, recording: &Recording) -> Result<Vec<(u64, Offset)>, AllocError> {

@@ -1,7 +1,7 @@
 //! The code against vectors that were made without it.
 use crate::{
     BurstTable, CodeError, Offset, Reading, Wanted, encode_block, encode_group, is_block, laws,
-    next_remainder, offset_of, plain, read_block, rem26,
+    offset_of, plain, read_block, rem26,
 };
 use std::process::Abort;
 use std::test::Fail;
@@ -29,11 +29,6 @@ fn windows_of_the_zero_group_have_their_remainders(rt: HostRuntime) {
         let bit = ((ZERO_GROUP >> (103 - place % 104)) % 2) as u32;
         let next = (window << 1 | bit) % (1 << 26);
         assert!(&rt; is_block(window));
-        assert_eq!(rt;
-            next_remainder(rem26(window), window, bit),
-            rem26(next),
-            "at {place}"
-        );
         assert_eq!(rt; plain::rem26(next), rem26(next), "at {place}");
         if place >= 25 {
             assert_eq!(rt;

@@ -1,5 +1,5 @@
 -- Numbers whose binary digits are neighbouring places.
-use Rattle.std.proofs.Common.{◌≡◌, ◌≢◌, ℕ, zero, suc, ◌+◌, ◌-◌, ◌*◌, ◌/◌, ◌%◌, ◌^◌, ◌<◌, ◌≤◌, refl, sym, ap, ◌∙◌, subst, All, pow_mono, arith, bit_and, bit_or, ⊎_elim, List, length, get_or, take, drop, length-drop, add-one}
+use Rattle.std.proofs.Common.{◌≡◌, ◌≢◌, ℕ, zero, suc, ◌+◌, ◌-◌, ◌*◌, ◌/◌, ◌%◌, ◌^◌, ◌<◌, ◌≤◌, refl, sym, ap, ◌∙◌, arith, bit_and, bit_or, ⊎_elim, List, length, get_or, take, drop, length-drop, add-one}
 use mathlib.Core.Path.{ap₂}
 use Rattle.std.specs.Int.{bit_at}
 use Rattle.std.specs.Int.Digits.{number_from_digits}
@@ -8,7 +8,6 @@ use Rattle.std.proofs.lemmas.Bool.{cases_eq}
 use Rattle.std.proofs.lemmas.Nat.{shr_high, mod_low, or_shifted, and_mask}
 use Rattle.std.proofs.lemmas.Nat.Bits.{bit_at-lt}
 use Rattle.std.proofs.lemmas.List.{get_or-drop}
-use Rattle.std.proofs.lemmas.List.Elements.{All-from_get_or}
 use Rattle.std.proofs.lemmas.List.FromFn.{get_or-map-range_with_len, length-map-range_with_len}
 use Rattle.std.proofs.lemmas.Int.Digits.{number_more as digits_more}
 use Rattle.rds_stream.specs.Recording.{packed_bit, bits_of, window}
@@ -82,19 +81,11 @@ window_is b i first last =
 pub packed_bit-lt : (bytes : List ℕ) (i : ℕ) → packed_bit bytes i < 2
 packed_bit-lt bytes i = bit_at-lt (get_or bytes (i / 8) 0) (7 - i % 8)
 
-pub packed-lt : (bytes : List ℕ) (n i : ℕ) → n ≤ 26 → number (packed_bit bytes) n i < 2 ^ 26
-packed-lt bytes n i few = omega (arith, number-lt (packed_bit bytes) n i (packed_bit-lt bytes), pow_mono {i = n} {j = 26} few)
-
 pub length-bits_of : (bytes : List ℕ) (n : ℕ) → length (bits_of bytes n) ≡ n
 length-bits_of bytes n = length-map-range_with_len (packed_bit bytes) 0 n
 
 pub get_or-bits_of : (bytes : List ℕ) (n i : ℕ) → i < n → get_or (bits_of bytes n) i 0 ≡ packed_bit bytes i
 get_or-bits_of bytes n i held = get_or-map-range_with_len (packed_bit bytes) 0 n i i 0 held (omega arith)
-
-pub digits-bits_of : (bytes : List ℕ) (n : ℕ) → All (λ bit. bit < 2) (bits_of bytes n)
-digits-bits_of bytes n =
-    All-from_get_or (λ bit. bit < 2) (bits_of bytes n) 0
-    (λ i l. subst (λ bit. bit < 2) (sym (get_or-bits_of bytes n i (omega (arith, l, length-bits_of bytes n)))) (packed_bit-lt bytes i))
 
 -- a window of the first n bits of the bytes
 pub packed_window : (bytes : List ℕ) (n i : ℕ) → 25 ≤ i → i < n → window (bits_of bytes n) i ≡ number (packed_bit bytes) 26 i

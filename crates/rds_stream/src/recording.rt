@@ -2,7 +2,6 @@
 ghost use Rattle.std.specs.Prelude.{◌≡◌, List, ℕ, ◌+◌, ◌*◌, ◌^◌, ◌<◌, ◌≤◌, ◌↔◌, vec_len, length, slice_index, All, if◌then◌else◌, IfOk, IsOk};
 ghost use Rattle.rds_stream.specs.declared.error.StreamError.TheVariants.{TooLong, BitsPastBytes};
 ghost use Rattle.rds_stream.specs.Recording.{packed_bit, bits_of, window};
-ghost use Rattle.rds_stream.specs.Sweep.{before};
 
 use crate::error::StreamError;
 use std::marker::Model;
@@ -11,7 +10,7 @@ use std::marker::Model;
 const MOST_BITS: u64 = 1 << 36;
 
 /// Ones in the 26 places of a block.
-pub(crate) const BLOCK: u32 = (1 << 26) - 1;
+const BLOCK: u32 = (1 << 26) - 1;
 
 /// Demodulated bits with their places from 0 on. Contracts see the list of the bits, each 0 or 1.
 ///
@@ -74,22 +73,6 @@ impl Recording {
         ensures { slice_index self.now i ≡ (if result then 1 else 0) }
     {
         bit_of(&self.bytes, i) == 1
-    }
-
-    /// The 26 bits before place `i` as a number, or all bits before it where these are fewer.
-    pub(crate) fn bits_before(&self, i: u64) -> u32
-        requires { i ≤ length self.now }
-        ensures value { result ≡ before self.now i }
-        ensures small { result < 2 ^ 26 }
-        ensures limit { length self.now ≤ 2 ^ 36 }
-        ensures digits { All (λ bit. bit < 2) self.now }
-    {
-        let bytes = self.bytes.as_slice();
-        let mut number = 0;
-        for place in i.saturating_sub(26)..i {
-            number = 2 * number + bit_of(bytes, place) as u32;
-        }
-        number
     }
 
     /// The 26 bits that end at place `i`, the first one highest (EN 50067:1998, 2.1). `i` is at least 25, and below the length.

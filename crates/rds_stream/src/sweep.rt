@@ -1,12 +1,12 @@
-//! The valid windows of a recording, by remainders that roll from place to place.
+//! The valid windows of a recording, place by place.
 ghost use Rattle.std.specs.Prelude.{◌≡◌, List, ℕ, ◌+◌, ◌<◌, ◌≤◌, length, IfOk, IsOkUnless};
 ghost use Rattle.rds_stream.specs.declared.error.StreamError.TheVariants.{OutOfMemory};
 ghost use Rattle.rds_stream.specs.Recording.{off, valid_windows};
-ghost use Rattle.rds_stream.specs.Sweep.{SweepState, IsCarried};
+ghost use Rattle.rds_stream.specs.Sweep.{SweepState};
 
 use crate::error::StreamError;
-use crate::recording::{BLOCK, Recording};
-use rds_code::{Offset, next_remainder, offset_of, rem26};
+use crate::recording::Recording;
+use rds_code::{Offset, offset_of, rem26};
 use std::alloc::Global;
 use std::marker::Model;
 
@@ -15,22 +15,17 @@ const FIRST_WINDOW: u64 = 25;
 
 /// A cursor over the places of a recording that answers the offset of each in turn.
 ///
-/// It keeps the 26 bits before its place and their remainder, so a place costs one bit read and one step of the remainder.
 /// It takes no memory.
 #[derive(Drop)]
 pub struct Sweep<'a> {
     recording: &'a Recording,
     place: u64,
-    window: u32,
-    remainder: u16,
 }
 
 impl<'a> Model for Sweep<'a> {
     ghost Value = { SweepState };
 
     ghost view = { λ s. record { bits = s.recording.now; place = s.place } };
-
-    ghost invariant = { λ s. IsCarried s.recording.now s.place s.window s.remainder };
 }
 
 impl Sweep<'_> {
@@ -39,12 +34,9 @@ impl Sweep<'_> {
         requires { from ≤ length recording.now }
         ensures { result ≡ record { bits = recording.now; place = from } }
     {
-        let window = recording.bits_before(from);
         Sweep {
             recording,
             place: from,
-            window,
-            remainder: rem26(window),
         }
     }
 
@@ -54,15 +46,13 @@ impl Sweep<'_> {
         ensures offset { result ≡ off self.old.bits self.old.place }
         ensures moved { self.new ≡ record self.old { place = self.old.place + 1 } }
     {
-        let bit = self.recording.bit(self.place) as u32;
-        self.remainder = next_remainder(self.remainder, self.window, bit);
-        self.window = (2 * self.window + bit) & BLOCK;
         let place = self.place;
+        prove!(place < self.recording.len());
         self.place += 1;
         if place < FIRST_WINDOW {
             None
         } else {
-            offset_of(self.remainder)
+            offset_of(rem26(self.recording.window(place)))
         }
     }
 }

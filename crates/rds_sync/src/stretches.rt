@@ -1,5 +1,5 @@
-//! A stretch of a run over a recording: a search by rolling remainders, or a lock from block to
-//! block, up to the next bit that gives an item.
+//! A stretch of a run over a recording: a search from place to place, or a lock from block to block,
+//! up to the next bit that gives an item.
 
 ghost use Rattle.std.specs.Prelude.{◌≡◌, ◌≤◌, ◌<◌, ◌-◌, ◌++◌, length, IfOk, OnOk, IsOkUnless};
 ghost use Rattle.rds_sync.specs.Advance.{items_in};
