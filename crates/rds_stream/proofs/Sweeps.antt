@@ -1,5 +1,5 @@
 -- The offsets of places, and the valid windows one place on.
-use Rattle.std.proofs.Common.{◌≡◌, ℕ, ◌+◌, ◌-◌, ◌<◌, ◌≤◌, refl, sym, ap, ◌∙◌, arith, List, [], ◌∷◌, ◌++◌, Some, None, option_map, true, false}
+use Rattle.std.proofs.Common.{suc, zero, ◌≡◌, ℕ, ◌+◌, ◌-◌, ◌<◌, ◌≤◌, refl, sym, ap, ◌∙◌, arith, List, [], ◌∷◌, ◌++◌, Some, None, option_map, true, false}
 use Rattle.std.proofs.lemmas.Bool.{lt-ltb, le-ltb}
 use Rattle.std.specs.List.{range_with_len, filter_map, cons_option}
 use Rattle.std.proofs.lemmas.List.{map-id, append-nil}
@@ -37,3 +37,18 @@ pub valid_with : (b : List ℕ) (from p : ℕ) (offset : Offset) → from ≤ p 
     valid_windows b from p ++ (p, offset) ∷ [] ≡ valid_windows b from (p + 1)
 valid_with b from p offset order some =
     sym (valid_more b from p order ∙ ap (λ o. valid_windows b from p ++ cons_option (option_map (λ x. (p, x)) o) []) some)
+
+-- no place before 25 has a window
+pub valid_early : (b : List ℕ) (from n : ℕ) → from + n ≤ 25 → valid_windows b from (from + n) ≡ []
+valid_early b from zero h =
+    let none : from + 0 - from ≡ 0 = omega arith in
+    rw none refl
+valid_early b from (suc n) h =
+    let next : from + suc n ≡ from + n + 1 = omega arith in
+    ap (λ p. valid_windows b from p) next ∙ sym (valid_without b from (from + n) (omega arith) (off_early b (from + n) (omega arith)))
+    ∙ valid_early b from n (omega arith)
+
+pub valid_before : (b : List ℕ) (from p : ℕ) → from ≤ p → p ≤ 25 → valid_windows b from p ≡ []
+valid_before b from p order early =
+    let sum : p ≡ from + (p - from) = omega arith in
+    ap (λ q. valid_windows b from q) sum ∙ valid_early b from (p - from) (omega arith)

@@ -71,10 +71,10 @@ pub fn scan(
     ensures found { IfOk result (λ found. found.items ≡ valid_windows recording.now from to) }
     ensures memory { IsOkUnless result OutOfMemory }
 {
-    let mut sweep = Sweep::new(recording, from);
     let mut found = Vec::new(alloc);
-    for place in from..to {
-        if let Some(offset) = sweep.next_offset() {
+    let first = from.max(FIRST_WINDOW.min(to));
+    for place in first..to {
+        if let Some(offset) = offset_of(rem26(recording.window(place))) {
             found.push((place, offset))?;
         }
     }

@@ -1,24 +1,42 @@
-use Rattle.std.proofs.Common.{◌≡◌, ◌+◌, ◌∙◌, sym, ap, arith, [], ◌∷◌, ◌++◌}
-use Rattle.rds_stream.specs.Recording.{off}
-use Rattle.rds_stream.specs.Sweep.{SweepState}
-use Rattle.rds_stream.proofs.Sweeps.{valid_without, valid_with}
+use Rattle.std.proofs.Common.{◌≡◌, ℕ, ◌-◌, ◌∙◌, sym, ap, arith, [], ◌∷◌, ◌++◌, inl, inr, ◌≤◌, refl}
+use Rattle.std.proofs.lemmas.Bool.{cases_lt}
+use Rattle.rds_code.specs.Remainder.{rem}
+use Rattle.rds_code.specs.Offsets.{offset_of}
+use Rattle.rds_stream.specs.Recording.{off, valid_windows}
+use Rattle.rds_stream.proofs.Sweeps.{valid_before, valid_without, valid_with, off_late}
 use Rattle.rds_stream.proofs.sweep.scan.Goals as goal
 use Rattle.rds_stream.proofs.sweep.scan.Goals.{in-Some+in_ok-push, in_default}
+
+pub loop-place-init : goal.loop-place-init
+loop-place-init c =
+    let b = c.args.recording.now in
+    let from = c.args.from in
+    let start = c.max-first.result in
+    let low : from ≤ start = omega (arith, c.max-first.ensures) in
+    c.new-found.ensures.items ∙ sym (elim (cases_lt 25 start) [
+      | inl late ↦
+          let here : start ≡ from = omega (arith, c.max-first.ensures, c.min.ensures) in
+          let none : start - from ≡ 0 = omega arith in
+          rw none refl
+      | inr early ↦ valid_before b from start low early
+    ])
 
 pub loop-place-preserved : goal.loop-place-preserved
 loop-place-preserved c =
     let b = c.args.recording.now in
     let from = c.args.from in
     let p = c.loop-place.place in
-    let next : SweepState → SweepState = λ s. record { bits = s.bits; place = s.place + 1 } in
-    let moved = c.next_offset.ensures.moved ∙ ap next c.loop-place.invariant.0 in
-    let offset : c.next_offset.result ≡ off b p = c.next_offset.ensures.offset ∙ ap (λ (s : SweepState). off s.bits s.place) c.loop-place.invariant.0 in
-    let before = c.loop-place.invariant.1 in
-    elim c.match-next_offset.branch [
-      | in-Some+in_ok-push w ↦ (
-        moved,
-        ap (λ v. v.items) w.found-is ∙ w.in_ok-push.ensures.items ∙ ap (λ xs. xs ++ (p, w.in-Some.offset) ∷ []) before
-            ∙ valid_with b from p w.in-Some.offset (omega arith) (sym offset ∙ w.in-Some.is),
-      )
-      | in_default w ↦ (moved, ap (λ v. v.items) w.found-is ∙ before ∙ valid_without b from p (omega arith) (sym offset ∙ w.in_default.is))
+    let offset : c.offset_of.result ≡ off b p =
+    c.offset_of.ensures ∙ ap (λ (r : ℕ). offset_of r) c.rem26.ensures.value ∙ ap (λ (v : ℕ). offset_of (rem v)) c.window.ensures.value ∙ sym (off_late b p (omega arith)) in
+    let before = c.loop-place.invariant in
+    elim c.match-offset_of.branch [
+      | in-Some+in_ok-push w ↦
+          ap (λ v. v.items) w.found-is ∙ w.in_ok-push.ensures.items ∙ ap (λ xs. xs ++ (p, w.in-Some.offset) ∷ []) before
+          ∙ valid_with b from p w.in-Some.offset (omega arith) (sym offset ∙ w.in-Some.is)
+      | in_default w ↦ ap (λ v. v.items) w.found-is ∙ before ∙ valid_without b from p (omega arith) (sym offset ∙ w.in_default.is)
     ]
+
+pub returns-clause-found : goal.returns-clause-found
+returns-clause-found c =
+    let end : c.loop-place.place ≡ c.args.to = omega (arith, c.loop-place-test.false, c.max-first.ensures, c.min.ensures) in
+    c.loop-place.invariant ∙ ap (λ (p : ℕ). valid_windows c.args.recording.now c.args.from p) end

@@ -2,6 +2,6 @@ use Rattle.std.proofs.Common.{◌≡◌}
 use Rattle.rds_stream.specs.Recording.{valid_windows}
 use Rattle.rds_stream.proofs.sweep.scan.Given as goal
 
--- the sweep keeps pace, and what was found so far is all that is valid so far
+-- what was found so far is all that is valid so far
 abbrev pub invariant-loop-place : goal.invariant-loop-place
-invariant-loop-place l = (l.sweep ≡ record { bits = l.recording; place = l.place }) × (l.found.items ≡ valid_windows l.recording l.from l.place)
+invariant-loop-place l = l.found.items ≡ valid_windows l.recording l.from l.place
