@@ -11,10 +11,10 @@ use Rattle.rds_sync.specs.declared.state.State.TheVariants.{Searching}
 use Rattle.rds_sync.specs.declared.item.Item.{Item}
 use Rattle.rds_sync.specs.Rules.{RuleNumbers}
 use Rattle.rds_sync.specs.Step.{run, step, items_at}
-use Rattle.rds_sync.proofs.BodyLemmas.{none_first, none_rest}
-use Rattle.rds_sync.proofs.RunLemmas.{run_state-append, run_items-append}
 use Rattle.rds_pieces.specs.declared.run.Mark.{Mark}
 use Rattle.rds_pieces.specs.Guess.{guess, mark_at, mark_after, marks}
+use Rattle.rds_pieces.specs.RunLaws.{RunLaws}
+use Rattle.rds_pieces.proofs.RunFacts.{none_first, none_rest, run_state-append, run_items-append}
 
 range_more : (c n : ℕ) → range_with_len c (n + 1) ≡ range_with_len c n ++ (c + n) ∷ []
 range_more c n =
@@ -23,11 +23,11 @@ range_more c n =
 
 module _ (b : List ℕ) (rules : RuleNumbers) (from : ℕ) where
   -- one bit more of the guess
-  pub guess_state-more : (n : ℕ) → (guess b rules from (n + 1)).0 ≡ step b rules (from + n) (guess b rules from n).0
-  guess_state-more n = run_state-append b rules Searching from n 1
+  pub guess_state-more : RunLaws → (n : ℕ) → (guess b rules from (n + 1)).0 ≡ step b rules (from + n) (guess b rules from n).0
+  guess_state-more laws n = run_state-append laws b rules Searching from n 1
 
-  pub guess_items-more : (n : ℕ) → (guess b rules from (n + 1)).1 ≡ (guess b rules from n).1 ++ items_at b rules (from + n) (guess b rules from n).0
-  guess_items-more n = run_items-append b rules Searching from n 1 ∙ ap (λ (is : List Item). (guess b rules from n).1 ++ is) (append-nil _)
+  pub guess_items-more : RunLaws → (n : ℕ) → (guess b rules from (n + 1)).1 ≡ (guess b rules from n).1 ++ items_at b rules (from + n) (guess b rules from n).0
+  guess_items-more laws n = run_items-append laws b rules Searching from n 1 ∙ ap (λ (is : List Item). (guess b rules from n).1 ++ is) (append-nil _)
 
   -- the marks of one bit more: the same where it gave nothing, else one mark more
   marks-more : (n : ℕ) → marks b rules from (n + 1) ≡ marks b rules from n ++ filter_map (mark_after b rules from) (n ∷ [])
@@ -43,16 +43,16 @@ module _ (b : List ℕ) (rules : RuleNumbers) (from : ℕ) where
   marks-some n i is e = marks-more n ∙ rw (e, mark_after) refl
 
   -- the marks of bits that gave nothing
-  pub marks-quiet : (n d : ℕ) → (run b rules (guess b rules from n).0 (from + n) d).1 ≡ [] → marks b rules from (n + d) ≡ marks b rules from n
-  marks-quiet n zero e = ap (λ (m : ℕ). marks b rules from m) (add-zero n)
-  marks-quiet n (suc d) e =
+  pub marks-quiet : RunLaws → (n d : ℕ) → (run b rules (guess b rules from n).0 (from + n) d).1 ≡ [] → marks b rules from (n + d) ≡ marks b rules from n
+  marks-quiet laws n zero e = ap (λ (m : ℕ). marks b rules from m) (add-zero n)
+  marks-quiet laws n (suc d) e =
       let here = none_first (items_at b rules (from + n) (guess b rules from n).0) _ e in
       let there = none_rest (items_at b rules (from + n) (guess b rules from n).0) _ e in
       let place : from + n + 1 ≡ from + (n + 1) = omega arith in
       let moved : n + suc d ≡ n + 1 + d = omega arith in
       let rest : (run b rules (guess b rules from (n + 1)).0 (from + (n + 1)) d).1 ≡ [] =
-      ap₂ (λ (s : State) (a : ℕ). (run b rules s a d).1) (guess_state-more n) (sym place) ∙ there in
-      rw moved (marks-quiet (n + 1) d rest ∙ marks-none n here)
+      ap₂ (λ (s : State) (a : ℕ). (run b rules s a d).1) (guess_state-more laws n) (sym place) ∙ there in
+      rw moved (marks-quiet laws (n + 1) d rest ∙ marks-none n here)
 
   -- mark k of the marks ms of n bits: it stands after `bits` of them, and none gave an item from there to the next mark
   pub record IsMark (n k : ℕ) (ms : List Mark) (bits : ℕ) : Type 0 where
@@ -137,8 +137,8 @@ module _ (b : List ℕ) (rules : RuleNumbers) (from : ℕ) where
       )
 
   -- each mark of a guess
-  pub marked : (n k : ℕ) → k < length (marks b rules from n) → Marked n k (marks b rules from n)
-  marked zero k h =
+  pub marked : RunLaws → (n k : ℕ) → k < length (marks b rules from n) → Marked n k (marks b rules from n)
+  marked laws zero k h =
       let z : k ≡ 0 = omega arith in
       rw z (
         0,
@@ -149,15 +149,15 @@ module _ (b : List ℕ) (rules : RuleNumbers) (from : ℕ) where
           next = λ l. absurd (omega arith);
         },
       )
-  marked (suc n) k h = subst (λ (m : ℕ). k < length (marks b rules from m) → Marked m k (marks b rules from m)) (add-one n)
-      (at_case (marked n) (items_at b rules (from + n) (guess b rules from n).0) refl) h where
+  marked laws (suc n) k h = subst (λ (m : ℕ). k < length (marks b rules from m) → Marked m k (marks b rules from m)) (add-one n)
+      (at_case (marked laws n) (items_at b rules (from + n) (guess b rules from n).0) refl) h where
         at_case : ((j : ℕ) → j < length (marks b rules from n) → Marked n j (marks b rules from n))
             → (is : List Item) → items_at b rules (from + n) (guess b rules from n).0 ≡ is → k < length (marks b rules from (n + 1)) → Marked (n + 1) k (marks b rules from (n + 1))
         at_case before [] e l =
             let same = marks-none n e in
             let count : length (marks b rules from (n + 1)) ≡ length (marks b rules from n) = ap (λ (ms : List Mark). length ms) same in
             let l2 : k < length (marks b rules from n) = omega (arith, count, l) in
-            let kept = guess_items-more n ∙ ap (λ (is : List Item). (guess b rules from n).1 ++ is) e ∙ append-nil (guess b rules from n).1 in
+            let kept = guess_items-more laws n ∙ ap (λ (is : List Item). (guess b rules from n).1 ++ is) e ∙ append-nil (guess b rules from n).1 in
             subst (λ (ms : List Mark). Marked (n + 1) k ms) (sym same) (kept_on n k (marks b rules from n) kept (before k l2))
         at_case before (i ∷ is) e l =
             let more = marks-some n i is e in

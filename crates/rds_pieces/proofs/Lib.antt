@@ -1,4 +1,5 @@
 mod CuttingLemmas
+mod RunFacts
 mod GuessLemmas
 mod MeetingLemmas
 mod StepLemmas

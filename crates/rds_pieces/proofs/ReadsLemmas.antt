@@ -12,8 +12,9 @@ use Rattle.rds_sync.specs.Acquiring.{acquired}
 use Rattle.rds_sync.specs.Advance.{next_place, reads_most}
 use Rattle.rds_sync.specs.Lawful.{IsLawful}
 use Rattle.rds_sync.specs.Step.{run, step, bad_after}
-use Rattle.rds_sync.proofs.RunLemmas.{step-acquiring, step-searching, step-keeping, step-losing, run-waiting, run-one, run-reading}
 use Rattle.rds_pieces.specs.Advance.{IsStepTo}
+use Rattle.rds_pieces.specs.RunLaws.{RunLaws}
+use Rattle.rds_pieces.proofs.RunFacts.{step-acquiring, step-searching, step-keeping, step-losing, run-waiting, run-reading}
 
 mul_more : (r n k : ℕ) → r * (n + k) ≡ r * n + r * k
 mul_more r n k = grind arith
@@ -62,19 +63,19 @@ module _ (b : List ℕ) (rules : RuleNumbers) where
         let sum : due + 1 - from ≡ (i + 1 - from) + 26 = omega arith in
         record { so_far = so_far; ahead = rw (sum, more) (omega arith) }
 
-    pub paid_on : (reads reads2 place to next : ℕ) (s after : State) → from ≤ place → IsLawful rules place s → IsPaid reads place s → IsStepTo b rules s place to next after
+    pub paid_on : RunLaws → (reads reads2 place to next : ℕ) (s after : State) → from ≤ place → IsLawful rules place s → IsPaid reads place s → IsStepTo b rules s place to next after
         → reads2 ≤ reads + reads_most rules s to → IsPaid reads2 next after
-    paid_on reads reads2 place to next Searching after low lawful paid goes few =
+    paid_on laws reads reads2 place to next Searching after low lawful paid goes few =
         let n : next ≡ place + 1 = goes.place_is in
         let one : next - place ≡ 1 = omega arith in
         let is : after ≡ step b rules place Searching =
-        goes.state_is ∙ ap (λ (k : ℕ). (run b rules Searching place k).0) one ∙ ap (λ (r : State × List Item). r.0) (run-one b rules Searching place) in
+        goes.state_is ∙ ap (λ (k : ℕ). (run b rules Searching place k).0) one ∙ ap (λ (r : State × List Item). r.0) (laws.one_bit b rules Searching place) in
         let more = mul_more (rules.reach + 2) (place - from) 1 in
         let sum : place + 1 - from ≡ (place - from) + 1 = omega arith in
         let so_far = paid.so_far in
         let enough : reads2 ≤ base + ((rules.reach + 2) * (place + 1 - from) + 1) = rw (sum, more) (omega arith) in
         rw (n, is) (paid_after reads2 place (step b rules place Searching) low enough (search_then place))
-    paid_on reads reads2 place to next (Locked due number bad first) after low lawful paid goes few =
+    paid_on laws reads reads2 place to next (Locked due number bad first) after low lawful paid goes few =
         elim (cases_lt due to) [
           | inl soon ↦
               let n : next ≡ due + 1 = goes.place_is ∙ rw (lt-ltb due to soon, next_place) refl in
@@ -83,7 +84,7 @@ module _ (b : List ℕ) (rules : RuleNumbers) where
               let all : next - place ≡ due - place + 1 = omega arith in
               let is : after ≡ step b rules due (Locked due number bad first) =
               goes.state_is ∙ ap (λ (k : ℕ). (run b rules (Locked due number bad first) place k).0) all
-              ∙ ap (λ (r : State × List Item). r.0) (run-reading b rules due number bad first place (due - place) (omega arith)) in
+              ∙ ap (λ (r : State × List Item). r.0) (run-reading laws b rules due number bad first place (due - place) (omega arith)) in
               let ahead = paid.ahead in
               rw (n, is) (paid_after reads2 due (step b rules due (Locked due number bad first)) (omega (arith, l)) (omega (arith, four, ahead, few)) (block_then due number bad first))
           | inr late ↦
@@ -91,7 +92,7 @@ module _ (b : List ℕ) (rules : RuleNumbers) where
               let none : reads_most rules (Locked due number bad first) to ≡ 0 = rw (le-ltb due to late, reads_most) refl in
               let m = goes.moved in
               let is : after ≡ Locked due number bad first =
-              goes.state_is ∙ ap (λ (r : State × List Item). r.0) (run-waiting b rules due number bad first place (next - place) (omega arith)) in
+              goes.state_is ∙ ap (λ (r : State × List Item). r.0) (run-waiting laws b rules due number bad first place (next - place) (omega arith)) in
               let so_far = paid.so_far in
               let ahead = paid.ahead in
               let grows = mul-le (rules.reach + 2) (place - from) (rules.reach + 2) (next - from) (omega arith) (omega arith) in

@@ -8,12 +8,12 @@ use Rattle.rds_sync.specs.declared.item.Item.{Item}
 use Rattle.rds_sync.specs.Rules.{RuleNumbers}
 use Rattle.rds_sync.specs.Lawful.{IsLawful, IsBetweenGroups}
 use Rattle.rds_sync.specs.Step.{run}
-use Rattle.rds_sync.proofs.RunLemmas.{run_state-append, run_items-append, run-places}
-use Rattle.rds_sync.proofs.LawfulLemmas.{lawful-run}
 use Rattle.rds_pieces.specs.declared.run.Mark.{Mark}
 use Rattle.rds_pieces.specs.Advance.{IsStepTo}
 use Rattle.rds_pieces.specs.Guess.{guess, mark_at, marks}
 use Rattle.rds_pieces.specs.Meeting.{MeetAt, MeetFirstAt}
+use Rattle.rds_pieces.specs.RunLaws.{RunLaws}
+use Rattle.rds_pieces.proofs.RunFacts.{run_state-append, run_items-append, lawful-run}
 use Rattle.rds_pieces.proofs.GuessLemmas.{Marked, marked}
 use Rattle.rds_pieces.proofs.MeetingLemmas.{IsNotDueBefore, run_state-between, run_state-quiet}
 use Rattle.rds_pieces.proofs.StepLemmas.{one_step, waits}
@@ -72,15 +72,6 @@ module _ (b : List ℕ) (rules : RuleNumbers) (from to : ℕ) where
     end = λ none. last (subst (λ (xs : List Mark). length xs ≤ mark + 1) (sym e) none) ∙ t;
   }
 
-  -- the place of the next mark, inside the piece
-  pub next_mark : (mark : ℕ) → mark + 1 < length found → ((get_or found mark unread).place < (get_or found (mark + 1) unread).place) × ((get_or found (mark + 1) unread).place ≤ to - from + from)
-  next_mark mark h = at_mark (marked b rules from (to - from) mark (omega arith)) where
-    at_mark : Marked b rules from (to - from) mark found → ((get_or found mark unread).place < (get_or found (mark + 1) unread).place) × ((get_or found (mark + 1) unread).place ≤ to - from + from)
-    at_mark (n, m) =
-        let is : (get_or found mark unread).place ≡ from + n = ap (λ (k : Mark). k.place) m.is in
-        let next = m.next h in
-        (omega (arith, is, next.0), omega (arith, next.1))
-
   -- the run from s0 before place `place`
   abbrev pub own : State → ℕ → State × List Item
   own s0 place = run b rules s0 from (place - from)
@@ -93,26 +84,35 @@ module _ (b : List ℕ) (rules : RuleNumbers) (from to : ℕ) where
     pub lawful : IsLawful rules place state
     pub none_yet : (q : ℕ) → q < place → ¬ MeetAt b rules s0 Searching from to q
 
-  module _ (some : 1 ≤ rules.loss) where
+  module _ (laws : RunLaws) (some : 1 ≤ rules.loss) where
+    -- the place of the next mark, inside the piece
+    pub next_mark : (mark : ℕ) → mark + 1 < length found → ((get_or found mark unread).place < (get_or found (mark + 1) unread).place) × ((get_or found (mark + 1) unread).place ≤ to - from + from)
+    next_mark mark h = at_mark (marked b rules from laws (to - from) mark (omega arith)) where
+      at_mark : Marked b rules from (to - from) mark found → ((get_or found mark unread).place < (get_or found (mark + 1) unread).place) × ((get_or found (mark + 1) unread).place ≤ to - from + from)
+      at_mark (n, m) =
+          let is : (get_or found mark unread).place ≡ from + n = ap (λ (k : Mark). k.place) m.is in
+          let next = m.next h in
+          (omega (arith, is, next.0), omega (arith, next.1))
+
     -- where the first bits gave as much as some more
     said_after : (n q : ℕ) → n ≤ q → (guess b rules from q).1 ≡ (guess b rules from n).1 → (place : ℕ) → place - from ≡ q → from + q ≡ place → IsSaid (mark_at b rules from n) place
     said_after n q h quiet place count spot =
         let more : n + (q - n) ≡ q = omega arith in
         let sum : from + n + (q - n) ≡ place = omega arith in
         let state : (guess b rules from q).0 ≡ (run b rules (guess b rules from n).0 (from + n) (q - n)).0 =
-        ap (λ (k : ℕ). (guess b rules from k).0) (sym more) ∙ run_state-append b rules Searching from n (q - n) in
+        ap (λ (k : ℕ). (guess b rules from k).0) (sym more) ∙ run_state-append laws b rules Searching from n (q - n) in
         let none : (run b rules (guess b rules from n).0 (from + n) (q - n)).1 ≡ [] =
         append_cancel_left (guess b rules from n).1 _ []
-        (sym (run_items-append b rules Searching from n (q - n)) ∙ ap (λ (k : ℕ). (guess b rules from k).1) more ∙ quiet ∙ sym (append-nil (guess b rules from n).1)) in
+        (sym (run_items-append laws b rules Searching from n (q - n)) ∙ ap (λ (k : ℕ). (guess b rules from k).1) more ∙ quiet ∙ sym (append-nil (guess b rules from n).1)) in
         let here : (guess_at place).0 ≡ (run b rules (guess b rules from n).0 (from + n) (q - n)).0 = ap (λ (k : ℕ). (guess b rules from k).0) count ∙ state in
         record {
-          between = λ i. here ∙ run_state-between b rules some (guess b rules from n).0 (from + n) (q - n) (lawful-run b rules some Searching from n tt) none (subst IsBetweenGroups here i);
-          same = λ i. here ∙ run_state-quiet b rules (guess b rules from n).0 (from + n) (q - n) (subst (λ (p : ℕ). IsNotDueBefore p (guess b rules from n).0) (sym sum) i) none;
+          between = λ i. here ∙ run_state-between b rules laws some (guess b rules from n).0 (from + n) (q - n) (lawful-run laws b rules some Searching from n tt) none (subst IsBetweenGroups here i);
+          same = λ i. here ∙ run_state-quiet b rules laws (guess b rules from n).0 (from + n) (q - n) (subst (λ (p : ℕ). IsNotDueBefore p (guess b rules from n).0) (sym sum) i) none;
           count = ap (λ (is : List Item). length is) (sym quiet ∙ ap (λ (k : ℕ). (guess b rules from k).1) (sym count));
         }
 
     pub said : (mark place : ℕ) → from ≤ place → place ≤ to → IsLastMark mark place → IsSaid (get_or found mark unread) place
-    said mark place low high last = at_mark (marked b rules from (to - from) mark last.within) where
+    said mark place low high last = at_mark (marked b rules from laws (to - from) mark last.within) where
       at_mark : Marked b rules from (to - from) mark found → IsSaid (get_or found mark unread) place
       at_mark (n, m) =
           let spot : from + (place - from) ≡ place = omega arith in
@@ -150,9 +150,9 @@ module _ (b : List ℕ) (rules : RuleNumbers) (from to : ℕ) where
         own_keeps q l h =
             let i = c.inside in
             let spot : place + (q - place) ≡ q = omega arith in
-            sym (ap (λ (r : State × List Item). r.0) (run-places b rules s0 from place q i.0 l)
+            sym (ap (λ (r : State × List Item). r.0) (laws.join b rules s0 from place q i.0 l)
             ∙ ap (λ (t : State). (run b rules t place (q - place)).0) (sym c.state_is)
-            ∙ ap (λ (r : State × List Item). r.0) (waits b rules state place next (q - place) (one_step state place limit next goes.place_is) (omega arith)))
+            ∙ ap (λ (r : State × List Item). r.0) (waits b rules laws state place next (q - place) (one_step state place limit next goes.place_is) (omega arith)))
 
         none_on : (q : ℕ) → q < next → ¬ MeetAt b rules s0 Searching from to q
         none_on q h meet = elim (cases_lt q place) [
@@ -173,7 +173,7 @@ module _ (b : List ℕ) (rules : RuleNumbers) (from to : ℕ) where
             let m = goes.moved in
             let i = c.inside in
             goes.state_is ∙ ap (λ (t : State). (run b rules t place (next - place)).0) c.state_is
-            ∙ sym (ap (λ (r : State × List Item). r.0) (run-places b rules s0 from place next i.0 (omega (arith, m))))
+            ∙ sym (ap (λ (r : State × List Item). r.0) (laws.join b rules s0 from place next i.0 (omega (arith, m))))
 
         pub carried_on : (mark + 1 < length found → next < (get_or found (mark + 1) unread).place) → IsCarried s0 next mark after
         carried_on before =
@@ -236,7 +236,7 @@ module _ (b : List ℕ) (rules : RuleNumbers) (from to : ℕ) where
         own_items_on =
             let m = goes.moved in
             let i = c.inside in
-            ap (λ (r : State × List Item). r.1) (run-places b rules s0 from place next i.0 (omega (arith, m)))
+            ap (λ (r : State × List Item). r.1) (laws.join b rules s0 from place next i.0 (omega (arith, m)))
             ∙ ap (λ (t : State). (own s0 place).1 ++ (run b rules t place (next - place)).1) (sym c.state_is)
 
       -- at the first place, beside the first mark
@@ -267,8 +267,8 @@ module _ (b : List ℕ) (rules : RuleNumbers) (from to : ℕ) where
       rest_is place mark state c e between =
           let meet = meets_here place mark state c e between in
           let i = c.inside in
-          let ours = run-places b rules s0 from place to i.0 i.1 in
-          let theirs = run-places b rules Searching from place to i.0 i.1 in
+          let ours = laws.join b rules s0 from place to i.0 i.1 in
+          let theirs = laws.join b rules Searching from place to i.0 i.1 in
           let s = said mark place i.0 i.1 c.last in
           let tail : List Item = (run b rules (own s0 place).0 place (to - place)).1 in
           let guessed : (guess_at to).1 ≡ (guess_at place).1 ++ tail =
@@ -284,7 +284,7 @@ module _ (b : List ℕ) (rules : RuleNumbers) (from to : ℕ) where
       items_within place mark state c =
           let i = c.inside in
           let s = said mark place i.0 i.1 c.last in
-          let l = ap (λ (r : State × List Item). length r.1) (run-places b rules Searching from place to i.0 i.1) ∙ length-append (guess_at place).1 _ in
+          let l = ap (λ (r : State × List Item). length r.1) (laws.join b rules Searching from place to i.0 i.1) ∙ length-append (guess_at place).1 _ in
           let count = s.count in
           omega (arith, l, count)
 

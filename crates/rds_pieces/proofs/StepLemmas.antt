@@ -6,11 +6,12 @@ use Rattle.rds_sync.specs.declared.state.State.TheVariants.{Searching, Locked}
 use Rattle.rds_sync.specs.declared.item.Item.{Item}
 use Rattle.rds_sync.specs.Rules.{RuleNumbers}
 use Rattle.rds_sync.specs.Step.{run, items_at}
-use Rattle.rds_sync.proofs.RunLemmas.{run-append, run-places, run-one, run-waiting}
 use Rattle.rds_pieces.specs.declared.run.Mark.{Mark}
 use Rattle.rds_sync.specs.Advance.{next_place}
 use Rattle.rds_sync.specs.Stretch.{IsStretch}
 use Rattle.rds_pieces.specs.Guess.{guess, mark_at, marks}
+use Rattle.rds_pieces.specs.RunLaws.{RunLaws}
+use Rattle.rds_pieces.proofs.RunFacts.{run-append, run-waiting}
 use Rattle.rds_pieces.proofs.GuessLemmas.{marks-quiet, marks-some}
 
 -- a step goes over one bit where it searches, and at most up to and including the block that is due where it is locked
@@ -27,34 +28,34 @@ one_step (Locked due number bad first) place to next e = elim (cases_lt due to) 
 
 module _ (b : List ℕ) (rules : RuleNumbers) where
   -- before the last bit of a step nothing changes
-  pub waits : (s : State) (place next n : ℕ) → IsOneStep s place next → place + n < next → run b rules s place n ≡ (s, [])
-  waits Searching place next zero one h = refl
-  waits Searching place next (suc n) one h = absurd (omega arith)
-  waits (Locked due number bad first) place next n one h = run-waiting b rules due number bad first place n (omega arith)
+  pub waits : RunLaws → (s : State) (place next n : ℕ) → IsOneStep s place next → place + n < next → run b rules s place n ≡ (s, [])
+  waits laws Searching place next zero one h = refl
+  waits laws Searching place next (suc n) one h = absurd (omega arith)
+  waits laws (Locked due number bad first) place next n one h = run-waiting laws b rules due number bad first place n (omega arith)
 
   module _ (from : ℕ) where
     -- a guess that goes one stretch on, of m bits that give nothing and one more
-    module _ (place n m : ℕ) (s : State) (at : place ≡ from + n) (is : s ≡ (guess b rules from n).0) (quiet : (run b rules s place m).1 ≡ []) where
+    module _ (laws : RunLaws) (place n m : ℕ) (s : State) (at : place ≡ from + n) (is : s ≡ (guess b rules from n).0) (quiet : (run b rules s place m).1 ≡ []) where
       last_of_guess : (guess b rules from (n + m)).0 ≡ (run b rules s place m).0
       last_of_guess =
-          ap (λ (r : State × List Item). r.0) (run-append b rules _ from n m)
+          ap (λ (r : State × List Item). r.0) (run-append laws b rules _ from n m)
           ∙ ap₂ (λ (t : State) (p : ℕ). (run b rules t p m).0) (sym is) (sym at)
 
       marks_wait : marks b rules from (n + m) ≡ marks b rules from n
-      marks_wait = marks-quiet b rules from n m (ap₂ (λ (t : State) (p : ℕ). (run b rules t p m).1) (sym is) (sym at) ∙ quiet)
+      marks_wait = marks-quiet b rules from laws n m (ap₂ (λ (t : State) (p : ℕ). (run b rules t p m).1) (sym is) (sym at) ∙ quiet)
 
       -- no mark more where the stretch gave nothing
       pub marks-step_none : (run b rules s place (suc m)).1 ≡ [] → marks b rules from (n + suc m) ≡ marks b rules from n
-      marks-step_none none = marks-quiet b rules from n (suc m) (ap₂ (λ (t : State) (p : ℕ). (run b rules t p (suc m)).1) (sym is) (sym at) ∙ none)
+      marks-step_none none = marks-quiet b rules from laws n (suc m) (ap₂ (λ (t : State) (p : ℕ). (run b rules t p (suc m)).1) (sym is) (sym at) ∙ none)
 
       -- the items of the stretch are those of its last bit
       last_bit : (run b rules s place (suc m)).1 ≡ items_at b rules (place + m) (run b rules s place m).0
       last_bit =
           let count : suc m ≡ m + 1 = omega arith in
           ap (λ (k : ℕ). (run b rules s place k).1) count
-          ∙ ap (λ (r : State × List Item). r.1) (run-append b rules s place m 1)
+          ∙ ap (λ (r : State × List Item). r.1) (run-append laws b rules s place m 1)
           ∙ ap (λ (is : List Item). is ++ (run b rules (run b rules s place m).0 (place + m) 1).1) quiet
-          ∙ ap (λ (r : State × List Item). r.1) (run-one b rules (run b rules s place m).0 (place + m))
+          ∙ ap (λ (r : State × List Item). r.1) (laws.one_bit b rules (run b rules s place m).0 (place + m))
 
       -- and else one at its end
       pub marks-step_some : (i : Item) (rest : List Item) → (run b rules s place (suc m)).1 ≡ i ∷ rest
@@ -74,12 +75,12 @@ module _ (b : List ℕ) (rules : RuleNumbers) where
       pub items_are : items ≡ (guess b rules from (place - from)).1
       pub marks_are : found ≡ marks b rules from (place - from)
 
-    module _ (place to next : ℕ) (s after : State) (items items2 : List Item) (found found2 : List Mark)
+    module _ (laws : RunLaws) (place to next : ℕ) (s after : State) (items items2 : List Item) (found found2 : List Mark)
         (low : from ≤ place) (so_far : IsSoFar place s items found) (goes : IsStretch b rules s place to (record { place = next; state = after }))
         (more : items2 ≡ items ++ (run b rules s place (next - place)).1) where
       whole : guess b rules from (next - from) ≡ (after, items2)
       whole =
-          run-places b rules _ from place next low (let h = goes.forward in omega (arith, h))
+          laws.join b rules _ from place next low (let h = goes.forward in omega (arith, h))
           ∙ ap₂ (λ (t : State) (is : List Item). ((run b rules t place (next - place)).0, is ++ (run b rules t place (next - place)).1)) (sym so_far.state_is) (sym so_far.items_are)
           ∙ ap₂ (λ (t : State) (is : List Item). (t, is)) (sym goes.state) (sym more)
 
@@ -107,7 +108,7 @@ module _ (b : List ℕ) (rules : RuleNumbers) where
             at_case [] n m e at end count sum is =
                 let grew : length (run b rules s place (next - place)).1 ≡ 0 = ap (λ (k : ℕ). length (run b rules s place k).1) count ∙ ap (λ (js : List Item). length js) e in
                 none (omega (arith, grown, grew)) ∙ so_far.marks_are ∙ ap (λ (k : ℕ). marks b rules from k) (sym is)
-                ∙ sym (marks-step_none place n m s at (so_far.state_is ∙ ap (λ (k : ℕ). (guess b rules from k).0) (sym is)) (still m end) e)
+                ∙ sym (marks-step_none laws place n m s at (so_far.state_is ∙ ap (λ (k : ℕ). (guess b rules from k).0) (sym is)) (still m end) e)
                 ∙ ap (λ (k : ℕ). marks b rules from k) sum
             at_case (i ∷ rest) n m e at end count sum is =
                 let grew : length (run b rules s place (next - place)).1 ≡ length (i ∷ rest) = ap (λ (k : ℕ). length (run b rules s place k).1) count ∙ ap (λ (js : List Item). length js) e in
@@ -117,7 +118,7 @@ module _ (b : List ℕ) (rules : RuleNumbers) where
                 some (omega (arith, grown, grew))
                 ∙ ap₂ (λ (ms : List Mark) (k : Mark). ms ++ k ∷ []) (so_far.marks_are ∙ ap (λ (k : ℕ). marks b rules from k) (sym is)) (sym mark)
                 ∙ ap (λ (k : ℕ). marks b rules from n ++ mark_at b rules from k ∷ []) (sym sum)
-                ∙ sym (marks-step_some place n m s at (so_far.state_is ∙ ap (λ (k : ℕ). (guess b rules from k).0) (sym is)) (still m end) i rest e)
+                ∙ sym (marks-step_some laws place n m s at (so_far.state_is ∙ ap (λ (k : ℕ). (guess b rules from k).0) (sym is)) (still m end) i rest e)
                 ∙ ap (λ (k : ℕ). marks b rules from k) sum
 
     pub so_far_start : (items : List Item) (found : List Mark) → items ≡ [] → found ≡ record { place = from; state = Searching; items = 0 } ∷ [] → IsSoFar from Searching items found

@@ -12,12 +12,9 @@ use Rattle.rds_sync.specs.Lawful.{IsLawful}
 use Rattle.rds_sync.specs.Advance.{group_item}
 use Rattle.rds_sync.specs.Report.{report_items}
 use Rattle.rds_sync.specs.Step.{run, items_of_end}
-use Rattle.rds_sync.proofs.BodyLemmas.{run_items-few}
-use Rattle.rds_sync.proofs.Locks.{run_is_report}
-use Rattle.rds_sync.proofs.RunLemmas.{run-places}
-use Rattle.rds_sync.proofs.LawfulLemmas.{lawful-run_places}
 use Rattle.rds_pieces.specs.Meeting.{IsMeeting, distance}
 use Rattle.rds_pieces.specs.RunOf.{RunOf, FollowEachOther}
+use Rattle.rds_pieces.specs.RunLaws.{RunLaws}
 use Rattle.rds_pieces.specs.Seams.{seam_reads, IsSumOfReads}
 
 -- the end closes one group at most
@@ -105,13 +102,13 @@ module _ (b : List ℕ) (rules : RuleNumbers) (runs : List RunOf) where
         let l = done.few in
         omega (arith, t, f, n, m, l)
 
-    pub stitched_on : IsInRange rules → (after : State) (items2 : List Item) (reads2 : ℕ) (met : Option ℕ)
+    pub stitched_on : RunLaws → IsInRange rules → (after : State) (items2 : List Item) (reads2 : ℕ) (met : Option ℕ)
         → after ≡ (run b rules state r.from (r.to - r.from)).0 → items2 ≡ items ++ (run b rules state r.from (r.to - r.from)).1
         → IsMeeting b rules state Searching r.from r.to met → reads2 ≤ reads + seam_reads rules r.from r.to met → IsStitched base (k + 1) after items2 reads2
-    stitched_on range after items2 reads2 met after_is items2_are meeting read =
+    stitched_on laws range after items2 reads2 met after_is items2_are meeting read =
         let n = next_follows.1 in
         let f = from_is in
-        let whole = run-places b rules Searching 0 done.place r.to (omega arith) (omega (arith, n, f)) in
+        let whole = laws.join b rules Searching 0 done.place r.to (omega arith) (omega (arith, n, f)) in
         let most = few_reads b rules state r.from r.to met range.reach (omega (arith, n, f)) meeting in
         let state_on : after ≡ (run b rules Searching 0 (r.to - 0)).0 =
         after_is ∙ ap₂ (λ (s : State) (p : ℕ). (run b rules s p (r.to - p)).0) done.state_is f ∙ sym (ap (λ (x : State × List Item). x.0) whole) in
@@ -122,7 +119,7 @@ module _ (b : List ℕ) (rules : RuleNumbers) (runs : List RunOf) where
           state_is = state_on;
           items_are = items2_are ∙ ap₂ (λ (is js : List Item). is ++ js) done.items_are (ap₂ (λ (s : State) (p : ℕ). (run b rules s p (r.to - p)).1) done.state_is f)
               ∙ sym (ap (λ (x : State × List Item). x.1) whole);
-          lawful = subst (λ (s : State). IsLawful rules r.to s) (sym after_is) (lawful-run_places b rules range.some_loss state r.from r.to (omega (arith, n, f)) lawful_here);
+          lawful = subst (λ (s : State). IsLawful rules r.to s) (sym after_is) (laws.lawful_runs b rules range.some_loss state r.from r.to (omega (arith, n, f)) lawful_here);
           reads_most = let m = done.reads_most in omega (arith, m, read);
           few = let l = done.few in omega (arith, l, most, n, f);
           sums = λ m h.
@@ -148,17 +145,17 @@ module _ (b : List ℕ) (rules : RuleNumbers) (runs : List RunOf) where
     items_at_end = done.items_are ∙ ap (λ (p : ℕ). (run b rules Searching 0 (p - 0)).1) end_is
 
     -- with the item of the end they are the report's
-    pub whole_at_end : 1 ≤ rules.loss → items ++ items_of_end b rules state ≡ report_items b rules
-    whole_at_end loss =
+    pub whole_at_end : RunLaws → 1 ≤ rules.loss → items ++ items_of_end b rules state ≡ report_items b rules
+    whole_at_end laws loss =
         let bits : length b - 0 ≡ length b = omega arith in
         ap₂ (λ (is : List Item) (s : State). is ++ items_of_end b rules s) items_at_end state_at_end
         ∙ ap (λ (n : ℕ). (run b rules Searching 0 n).1 ++ items_of_end b rules (run b rules Searching 0 n).0) bits
-        ∙ run_is_report b rules loss
+        ∙ laws.reports b rules loss
 
-    pub few_at_end : length b ≤ 2 ^ 36 → length items ≤ 2 ^ 37
-    few_at_end bits =
+    pub few_at_end : RunLaws → length b ≤ 2 ^ 36 → length items ≤ 2 ^ 37
+    few_at_end laws bits =
         let e = ap (λ (is : List Item). length is) items_at_end in
-        let l = run_items-few b rules Searching 0 (length b - 0) in
+        let l = laws.few_items b rules Searching 0 (length b) (omega arith) in
         omega (arith, e, l)
 
     pub lawful_at_end : IsLawful rules (length b) state

@@ -9,6 +9,7 @@ pub mod Meeting
 pub mod Seams
 pub mod WorkOf
 pub mod Laws
+pub mod RunLaws
 pub mod Refusals
 pub mod RunInside
 pub mod Advance

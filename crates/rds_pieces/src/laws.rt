@@ -1,6 +1,9 @@
 //! The laws of pieces, over the definitions alone. Each function here does nothing: its contract is a law, which the check of
 //! this crate proves, and which a proof above it may cite.
 ghost use Rattle.rds_pieces.specs.Laws.{PiecesAreFew, PiecesFollow, JoinedRunsFollow};
+ghost use Rattle.rds_pieces.specs.RunLaws.{RunLaws};
+
+use rds_sync::laws;
 
 /// A cutting has at most as many pieces as there are bits.
 pub fn pieces_are_few()
@@ -16,3 +19,17 @@ pub fn pieces_follow()
 pub fn joined_runs_follow()
     ensures { JoinedRunsFollow }
 {}
+
+/// The laws of runs that `rds_sync` promises, for the proofs of this crate: a body calls this to have them at hand.
+pub(crate) fn run_laws()
+    ensures { RunLaws }
+{
+    laws::runs_are_reports();
+    laws::runs_join();
+    laws::steps_are_lawful();
+    laws::runs_are_lawful();
+    laws::one_bit_runs();
+    laws::locks_wait();
+    laws::items_mark_changes();
+    laws::runs_give_few_items();
+}

@@ -8,6 +8,7 @@ ghost use Rattle.rds_pieces.specs.declared.error.PieceError.TheVariants.{OutOfMe
 
 use crate::cutting::Cutting;
 use crate::error::PieceError;
+use crate::laws::run_laws;
 use rds_stream::Recording;
 use rds_sync::{Item, Rules, State, stretch};
 use std::alloc::Global;
@@ -154,6 +155,8 @@ fn guess_over(
     ensures marks { IfOk result (λ r. r.2.items ≡ marks rec.now rules.now from (to - from)) }
     ensures err { IfErr result (λ e. e ≡ OutOfMemory) }
 {
+    // Stretches in a row are one run.
+    run_laws();
     let mut items = Vec::new(alloc);
     let mut marks = Vec::new(alloc);
     let mut place = from;

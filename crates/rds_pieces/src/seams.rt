@@ -8,6 +8,7 @@ ghost use Rattle.rds_pieces.specs.declared.error.PieceError.TheVariants.{OutOfMe
 
 use crate::advance::advance_onto;
 use crate::error::PieceError;
+use crate::laws::run_laws;
 use crate::meeting::{Seam, meets};
 use crate::run::{Mark, PieceRun};
 use rds_stream::Tape;
@@ -75,6 +76,8 @@ pub(crate) fn carry_over<T: Tape>(
     ensures reads_most { T.reads_made tape.new
         ≤ T.reads_made tape.old + (rules.now.reach + 2) * (run.now.to - run.now.from + 1) }
 {
+    // Steps in a row are one run, and a run and the guess that are in one state go on as one.
+    run_laws();
     let (from, to) = run.range();
     let marks = run.marks();
     let (mut place, mut state, mut mark) = (from, state, 0);

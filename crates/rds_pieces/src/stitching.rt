@@ -10,6 +10,7 @@ ghost use Rattle.rds_pieces.specs.declared.error.PieceError.TheVariants.{OutOfMe
 
 use crate::advance::push_group;
 use crate::error::PieceError;
+use crate::laws::run_laws;
 use crate::run::PieceRun;
 use crate::seams::carry_over;
 use rds_stream::Tape;
@@ -66,6 +67,8 @@ fn carry_over_all<T: Tape>(
     ensures err { IfErr result (λ e. e ≡ OutOfMemory) }
     ensures same { T.bits tape.new ≡ T.bits tape.old }
 {
+    // Runs in a row are one run, and that over the whole recording is the report.
+    run_laws();
     let (len, loss) = (tape.len(), rules.loss());
     prove!(len <= 1 << 36 && 1 <= loss);
     let mut state = State::Searching;

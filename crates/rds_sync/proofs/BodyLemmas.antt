@@ -38,13 +38,9 @@ pub some_given : (given : List Item) (item : Item) (others : List Item) → give
 some_given given item others is none = cc
 
 -- two lists that make none are none
-pub none_first : {A : Type 0} → (xs ys : List A) → xs ++ ys ≡ [] → xs ≡ []
+none_first : {A : Type 0} → (xs ys : List A) → xs ++ ys ≡ [] → xs ≡ []
 none_first [] ys e = refl
 none_first (x ∷ xs) ys e = cc
-
-pub none_rest : {A : Type 0} → (xs ys : List A) → xs ++ ys ≡ [] → ys ≡ []
-none_rest [] ys e = e
-none_rest (x ∷ xs) ys e = cc
 
 -- a block of a group is its window, read
 pub block_at-read : (b : List ℕ) (rules : RuleNumbers) (f x p : ℕ) (wanted : Wanted) (y w : ℕ)

@@ -1,5 +1,5 @@
 -- Where a place acquires, and the states that follow on a lawful one.
-use Rattle.std.proofs.Common.{◌≡◌, ℕ, zero, suc, ◌+◌, ◌-◌, ◌*◌, ◌%◌, ◌<◌, ◌≤◌, List, [], Bool, true, false, Option, Some, None, refl, sym, ap, ◌∙◌, subst, arith, inl, inr, ⊎_elim}
+use Rattle.std.proofs.Common.{◌≡◌, ℕ, zero, suc, ◌+◌, ◌-◌, ◌*◌, ◌%◌, ◌<◌, ◌≤◌, List, Bool, true, false, Option, Some, None, refl, sym, ap, subst, arith, inl, inr, ⊎_elim}
 use Rattle.std.proofs.lemmas.Bool.{ne_eqb, cases_eq, cases_lt, cases_Bool, eqb-true, lt-ltb}
 use Rattle.std.specs.Prelude.{◌==◌}
 use Rattle.std.specs.List.{list_any, range_with_len}
@@ -11,9 +11,9 @@ use Rattle.rds_sync.specs.declared.state.State.{State}
 use Rattle.rds_sync.specs.declared.state.State.TheVariants.{Searching, Locked}
 use Rattle.rds_sync.specs.Rules.{RuleNumbers}
 use Rattle.rds_sync.specs.Acquiring.{acquired, has_number, has_partner, with_partner}
-use Rattle.rds_sync.specs.Lawful.{IsLawful, IsLawfulLock, IsBetweenGroups}
-use Rattle.rds_sync.specs.Step.{run, step, items_at, locked_after, bad_after, group_after}
-use Rattle.rds_sync.proofs.RunLemmas.{step-acquiring, step-searching, step-waiting, step-keeping, step-losing, items-acquiring, items-keeping, items-losing}
+use Rattle.rds_sync.specs.Lawful.{IsLawful, IsLawfulLock}
+use Rattle.rds_sync.specs.Step.{run, step, locked_after, bad_after}
+use Rattle.rds_sync.proofs.RunLemmas.{step-acquiring, step-searching, step-waiting, step-keeping, step-losing}
 
 -- the number of an offset is 1 to 4
 pub number-range : (o : Offset) → (1 ≤ number o) × (number o ≤ 4)
@@ -184,26 +184,3 @@ module _ (b : List ℕ) (rules : RuleNumbers) where
   lawful-run_places loss s from to order lawful =
       let e : from + (to - from) ≡ to = omega arith in
       subst (λ (p : ℕ). IsLawful rules p (run b rules s from (to - from)).0) e (lawful-run loss s from (to - from) lawful)
-
-  -- a bit that gives no item and after which no group is in progress leaves the state as it was
-  pub quiet-step : (i : ℕ) (s : State) → IsLawful rules i s → items_at b rules i s ≡ [] → IsBetweenGroups (step b rules i s) → step b rules i s ≡ s
-  quiet-step i Searching lawful none between = at_case (acquired b rules i) refl where
-    at_case : (w : Option ℕ) → acquired b rules i ≡ w → step b rules i Searching ≡ Searching
-    at_case None e = step-searching b rules i e
-    at_case (Some x) e = cc (none, items-acquiring b rules i x e)
-  quiet-step i (Locked due number bad first) lawful none between = elim (cases_eq due i) [
-    | inl same ↦ subst (λ (d : ℕ). items_at b rules i (Locked d number bad first) ≡ [] → IsBetweenGroups (step b rules i (Locked d number bad first))
-        → step b rules i (Locked d number bad first) ≡ Locked d number bad first) (sym same)
-        (λ quiet after. elim (cases_lt (bad_after b i number bad) rules.loss) [
-          | inl few ↦ absurd (kept few quiet (subst (λ (t : State). IsBetweenGroups t) (step-keeping b rules i number bad first few) after))
-          | inr many ↦ cc (quiet, items-losing b rules i number bad first many)
-        ]) none between
-    | inr other ↦ step-waiting b rules due number bad first i other
-  ] where
-    kept : bad_after b i number bad < rules.loss → items_at b rules i (Locked i number bad first) ≡ [] → IsBetweenGroups (locked_after i number (bad_after b i number bad) first) → ⊥
-    kept few quiet after =
-        let n = lawful-numbers rules i due number bad first lawful in
-        let four : number ≡ 4 = omega (arith, n, after) in
-        let closes : group_after b rules first number i ≡ [] = sym (items-keeping b rules i number bad first few) ∙ quiet in
-        let one : group_after b rules first 4 i ≡ [] = rw four at closes in
-        cc one

@@ -1,5 +1,5 @@
 -- The laws of runs and reports, over the definitions alone. This project's rules.
-use Rattle.std.specs.Prelude.{◌≡◌, ◌≢◌, ◌↔◌, ℕ, ◌+◌, ◌-◌, ◌<◌, ◌≤◌, ◌⊎◌, List, [], ◌++◌, Some, None, length}
+use Rattle.std.specs.Prelude.{◌≡◌, ◌≢◌, ◌↔◌, ℕ, ◌+◌, ◌-◌, ◌*◌, ◌<◌, ◌≤◌, ◌⊎◌, List, [], ◌++◌, Some, None, length}
 use Rattle.rds_sync.specs.declared.state.State.{State}
 use Rattle.rds_sync.specs.declared.state.State.TheVariants.{Searching, Locked}
 use Rattle.rds_sync.specs.declared.item.Item.{Item}
@@ -62,6 +62,11 @@ SearchesGoOn = (b : List ℕ) (rules : RuleNumbers) (from to : ℕ) → from ≤
 abbrev pub ItemsMarkChanges : Type 0
 ItemsMarkChanges = (b : List ℕ) (rules : RuleNumbers) (place : ℕ) (s : State) → IsLawful rules place s
     → (items_at b rules place s ≢ []) ↔ ((step b rules place s ≢ s) × ((s ≡ Searching) ⊎ IsBetweenGroups (step b rules place s)))
+
+-- a run gives at most two items a bit
+abbrev pub RunsGiveFewItems : Type 0
+RunsGiveFewItems = (b : List ℕ) (rules : RuleNumbers) (s : State) (from to : ℕ) → from ≤ to
+    → length (run b rules s from (to - from)).1 ≤ 2 * (to - from)
 
 -- no place before 51 acquires, and each acquires with a number from 1 to 4
 abbrev pub AcquisitionsAreLate : Type 0

@@ -2,7 +2,7 @@
 //! check of this crate proves, and which a proof above it may cite.
 
 ghost use Rattle.rds_sync.specs.GroupLaws.{GroupsAreRead};
-ghost use Rattle.rds_sync.specs.Laws.{RunsAreReports, RunsJoin, StepsAreLawful, RunsAreLawful, RunsMerge, OneBitRuns, LocksWait, SearchesGoOn, ItemsMarkChanges, AcquisitionsAreLate};
+ghost use Rattle.rds_sync.specs.Laws.{RunsAreReports, RunsJoin, StepsAreLawful, RunsAreLawful, RunsMerge, OneBitRuns, LocksWait, SearchesGoOn, ItemsMarkChanges, RunsGiveFewItems, AcquisitionsAreLate};
 
 /// The items of the run over a whole recording, with those of its end, are those of its locks.
 pub fn runs_are_reports()
@@ -47,6 +47,11 @@ pub fn searches_go_on()
 /// A bit gives an item exactly where it changes the state, and the state was a search or is between groups afterwards.
 pub fn items_mark_changes()
     ensures { ItemsMarkChanges }
+{}
+
+/// A run gives at most two items a bit.
+pub fn runs_give_few_items()
+    ensures { RunsGiveFewItems }
 {}
 
 /// No place before 51 acquires, and each acquires with a number from 1 to 4.

@@ -27,7 +27,7 @@ loop-place-preserved-in-Continue-branch-2 c =
     let is = c.stretch.new.items.ok.0 in
     record {
       inside = (omega (arith, goes.forward, before.inside), goes.limit);
-      so_far = so_far_on c.args.rec.now c.args.rules.now c.args.from c.loop-place.place c.args.to reached.place c.loop-place.state reached.state
+      so_far = so_far_on c.args.rec.now c.args.rules.now c.args.from c.run_laws.ensures c.loop-place.place c.args.to reached.place c.loop-place.state reached.state
           c.loop-place.items.items c.stretch.new.items.items c.loop-place.marks.items c.push-then-len-before.new.self.items
           before.inside.0 before.so_far goes gave
           (λ h. c.in_ok-push-2.ensures.items ∙ ap (λ (n : ℕ). c.loop-place.marks.items ++ record { place = reached.place; state = reached.state; items = n } ∷ []) (c.len-then-len-before.ensures ∙ is))
@@ -46,7 +46,7 @@ loop-place-preserved c =
     let is = c.stretch.new.items.ok.0 in
     record {
       inside = (omega (arith, goes.forward, before.inside), goes.limit);
-      so_far = so_far_on c.args.rec.now c.args.rules.now c.args.from c.loop-place.place c.args.to reached.place c.loop-place.state reached.state
+      so_far = so_far_on c.args.rec.now c.args.rules.now c.args.from c.run_laws.ensures c.loop-place.place c.args.to reached.place c.loop-place.state reached.state
           c.loop-place.items.items c.stretch.new.items.items c.loop-place.marks.items c.loop-place.marks.items
           before.inside.0 before.so_far goes gave
           (λ h. absurd (omega (arith, h, was, is))) (λ h. refl);

@@ -24,7 +24,7 @@ along-init g c =
     let range = c.range-from.ensures in
     let lawful : IsLawful r.rules r.from c.args.state = subst (λ (y : RuleNumbers). IsLawful y r.from c.args.state) (sym c.requires.rules) c.requires.lawful in
     rw range.first (record {
-      carried = carried_start r.source r.rules r.from r.to range.rules.some_loss c.args.state range.inside.0 lawful;
+      carried = carried_start r.source r.rules r.from r.to c.run_laws.ensures range.rules.some_loss c.args.state range.inside.0 lawful;
       items_are = let z : 0 ≡ r.from - r.from = omega arith in sym (append-nil c.args.items.now.items) ∙ ap (λ (n : ℕ). c.args.items.now.items ++ (run r.source r.rules c.args.state r.from n).1) z;
       paid = paid_start r.source r.rules (g.T.Tape.reads_made c.args.tape.now) r.from c.args.state (let x = range.rules.some_reach in x) lawful;
       same = sym c.requires.source;
@@ -35,7 +35,7 @@ items_after-requires g c =
     let r = c.args.run.now in
     let inv = c.along.invariant in
     let e = ap (λ (m : Mark). m.items) (read_mark r.source r.rules r.from r.to c.marks-marks.result.now c.along.mark none c.marks-marks.ensures inv.carried.last.within) in
-    let w = items_within r.source r.rules r.from r.to c.range-from.ensures.rules.some_loss c.args.state c.along.place c.along.mark c.along.state inv.carried in
+    let w = items_within r.source r.rules r.from r.to c.run_laws.ensures c.range-from.ensures.rules.some_loss c.args.state c.along.place c.along.mark c.along.state inv.carried in
     omega (arith, e, w)
 
 pub returns-in_err-extend_from_slice-clause-reads_most : goal.returns-in_err-extend_from_slice-clause-reads_most
@@ -52,7 +52,7 @@ returns-then-meets-clause-items g c =
     let some = c.range-from.ensures.rules.some_loss in
     let read = read_mark r.source r.rules r.from r.to c.marks-marks.result.now c.along.mark none c.marks-marks.ensures inv.carried.last.within in
     let met = c.meets.ensures.0 c.if-meets.true in
-    let rest = rest_is r.source r.rules r.from r.to some c.args.state c.along.place c.along.mark c.along.state inv.carried (met.0 ∙ ap (λ (m : Mark). m.state) read) met.1 in
+    let rest = rest_is r.source r.rules r.from r.to c.run_laws.ensures some c.args.state c.along.place c.along.mark c.along.state inv.carried (met.0 ∙ ap (λ (m : Mark). m.state) read) met.1 in
     let later : c.items_after.result.now ≡ drop (get_or (found r.source r.rules r.from r.to) c.along.mark (unread r.source r.rules r.from r.to)).items (run r.source r.rules Searching r.from (r.to - r.from)).1 =
     c.items_after.ensures ∙ ap (λ (m : Mark). drop m.items (run r.source r.rules Searching r.from (r.to - r.from)).1) read in
     c.in_ok-extend_from_slice.ensures.items
@@ -68,7 +68,7 @@ returns-then-meets-clause-end g c =
     let some = c.range-from.ensures.rules.some_loss in
     let read = read_mark r.source r.rules r.from r.to c.marks-marks.result.now c.along.mark none c.marks-marks.ensures inv.carried.last.within in
     let met = c.meets.ensures.0 c.if-meets.true in
-    let rest = rest_is r.source r.rules r.from r.to some c.args.state c.along.place c.along.mark c.along.state inv.carried (met.0 ∙ ap (λ (m : Mark). m.state) read) met.1 in
+    let rest = rest_is r.source r.rules r.from r.to c.run_laws.ensures some c.args.state c.along.place c.along.mark c.along.state inv.carried (met.0 ∙ ap (λ (m : Mark). m.state) read) met.1 in
     c.end_state.ensures ∙ sym rest.0
     ∙ ap (λ (x : State × List Item). x.0) (run_over r.source (g.T.Tape.bits c.args.tape.now) r.rules c.args.rules.now c.args.state r.from (r.to - r.from) c.requires.source c.requires.rules)
 
@@ -80,7 +80,7 @@ returns-then-meets-clause-met g c =
     let read = read_mark r.source r.rules r.from r.to c.marks-marks.result.now c.along.mark none c.marks-marks.ensures inv.carried.last.within in
     let met = c.meets.ensures.0 c.if-meets.true in
     renamed (λ b rules. MeetFirstAt b rules c.args.state Searching r.from r.to c.along.place) r.source (g.T.Tape.bits c.args.tape.now) r.rules c.args.rules.now c.requires.source c.requires.rules
-    (met_first r.source r.rules r.from r.to some c.args.state c.along.place c.along.mark c.along.state inv.carried (met.0 ∙ ap (λ (m : Mark). m.state) read) met.1)
+    (met_first r.source r.rules r.from r.to c.run_laws.ensures some c.args.state c.along.place c.along.mark c.along.state inv.carried (met.0 ∙ ap (λ (m : Mark). m.state) read) met.1)
 
 pub returns-then-meets-clause-reads_most : goal.returns-then-meets-clause-reads_most
 returns-then-meets-clause-reads_most g c =
@@ -100,7 +100,7 @@ returns-then-place-to-clause-met g c =
     let end : c.along.place ≡ r.to = c.if-place-to.true ∙ c.range-from.ensures.end in
     let there = subst (λ (p : ℕ). IsCarried r.source r.rules r.from r.to c.args.state p c.along.mark c.along.state) end inv.carried in
     renamed (λ b rules. (q : ℕ) → ¬ MeetAt b rules c.args.state Searching r.from r.to q) r.source (g.T.Tape.bits c.args.tape.now) r.rules c.args.rules.now c.requires.source c.requires.rules
-    (never_met r.source r.rules r.from r.to some c.args.state c.along.mark c.along.state there apart)
+    (never_met r.source r.rules r.from r.to c.run_laws.ensures some c.args.state c.along.mark c.along.state there apart)
 
 pub advance_onto-requires-clause-ahead : goal.advance_onto-requires-clause-ahead
 advance_onto-requires-clause-ahead g c =
@@ -111,7 +111,7 @@ advance_onto-requires-clause-ahead g c =
     let after_mark = place_after_is r.source r.rules r.from r.to c.marks-marks.result.now c.along.mark limit c.range-from.result.1 c.marks-marks.ensures
     c.place_after-limit.ensures.next c.place_after-limit.ensures.end c.range-from.ensures.end in
     let other : c.along.place ≢ r.to = λ e. c.if-place-to.false (e ∙ sym c.range-from.ensures.end) in
-    limit_ahead r.source r.rules r.from r.to some c.args.state c.along.place c.along.mark limit c.along.state inv.carried other after_mark
+    limit_ahead r.source r.rules r.from r.to c.run_laws.ensures some c.args.state c.along.place c.along.mark limit c.along.state inv.carried other after_mark
 
 pub advance_onto-requires-clause-inside : goal.advance_onto-requires-clause-inside
 advance_onto-requires-clause-inside g c =
@@ -121,7 +121,7 @@ advance_onto-requires-clause-inside g c =
     let limit = c.place_after-limit.result in
     let after_mark = place_after_is r.source r.rules r.from r.to c.marks-marks.result.now c.along.mark limit c.range-from.result.1 c.marks-marks.ensures
     c.place_after-limit.ensures.next c.place_after-limit.ensures.end c.range-from.ensures.end in
-    let high = limit_inside r.source r.rules r.from r.to some c.args.state c.along.place c.along.mark limit c.along.state inv.carried after_mark in
+    let high = limit_inside r.source r.rules r.from r.to c.run_laws.ensures some c.args.state c.along.place c.along.mark limit c.along.state inv.carried after_mark in
     let all = c.range-from.ensures.inside.1 in
     let bits = ap (λ (b : List ℕ). length b) inv.same in
     omega (arith, high, all, bits)
@@ -135,8 +135,8 @@ returns-in_err-next-clause-reads_most g c =
     let after_mark = place_after_is r.source r.rules r.from r.to c.marks-marks.result.now c.along.mark limit c.range-from.result.1 c.marks-marks.ensures
     c.place_after-limit.ensures.next c.place_after-limit.ensures.end c.range-from.ensures.end in
     let other : c.along.place ≢ r.to = λ e. c.if-place-to.false (e ∙ sym c.range-from.ensures.end) in
-    let ahead = limit_ahead r.source r.rules r.from r.to some c.args.state c.along.place c.along.mark limit c.along.state inv.carried other after_mark in
-    let high = limit_inside r.source r.rules r.from r.to some c.args.state c.along.place c.along.mark limit c.along.state inv.carried after_mark in
+    let ahead = limit_ahead r.source r.rules r.from r.to c.run_laws.ensures some c.args.state c.along.place c.along.mark limit c.along.state inv.carried other after_mark in
+    let high = limit_inside r.source r.rules r.from r.to c.run_laws.ensures some c.args.state c.along.place c.along.mark limit c.along.state inv.carried after_mark in
     let few = subst (λ (y : RuleNumbers). g.T.Tape.reads_made c.advance_onto.new.tape ≤ g.T.Tape.reads_made c.along.tape + reads_most y c.along.state limit) (sym c.requires.rules) c.advance_onto.ensures.reads in
     let most = paid_step r.source r.rules (g.T.Tape.reads_made c.args.tape.now) r.from (g.T.Tape.reads_made c.along.tape) (g.T.Tape.reads_made c.advance_onto.new.tape) c.along.place limit r.to c.along.state
     inv.carried.inside.0 (omega (arith, ahead, high)) high inv.carried.lawful inv.paid few in
@@ -162,12 +162,12 @@ along-preserved-then-mark-marks g c =
     let few = subst (λ (y : RuleNumbers). g.T.Tape.reads_made c.advance_onto.new.tape ≤ g.T.Tape.reads_made c.along.tape + reads_most y c.along.state limit) (sym c.requires.rules) c.advance_onto.ensures.reads in
     let more = subst (λ (ms : List Mark). c.along.mark + 1 < length ms) c.marks-marks.ensures c.if-mark-marks.true in
     record {
-      carried = carried_up_to r.source r.rules r.from r.to some c.args.state c.along.place c.along.mark limit c.in_ok-next.next c.along.state c.in_ok-next.after inv.carried apart goes after_mark c.if-place-limit.true more;
+      carried = carried_up_to r.source r.rules r.from r.to c.run_laws.ensures some c.args.state c.along.place c.along.mark limit c.in_ok-next.next c.along.state c.in_ok-next.after inv.carried apart goes after_mark c.if-place-limit.true more;
       items_are = given ∙ ap (λ (is : List Item). is ++ (run r.source r.rules c.along.state c.along.place (c.in_ok-next.next - c.along.place)).1) inv.items_are
           ∙ append_assoc c.args.items.now.items (own r.source r.rules r.from r.to c.args.state c.along.place).1 _
           ∙ ap (λ (is : List Item). c.args.items.now.items ++ is)
-          (sym (own_items_on r.source r.rules r.from r.to some c.args.state c.along.place c.along.mark limit c.in_ok-next.next c.along.state c.in_ok-next.after inv.carried apart goes after_mark));
-      paid = paid_on r.source r.rules (g.T.Tape.reads_made c.args.tape.now) r.from (g.T.Tape.reads_made c.along.tape) (g.T.Tape.reads_made c.advance_onto.new.tape)
+          (sym (own_items_on r.source r.rules r.from r.to c.run_laws.ensures some c.args.state c.along.place c.along.mark limit c.in_ok-next.next c.along.state c.in_ok-next.after inv.carried apart goes after_mark));
+      paid = paid_on r.source r.rules (g.T.Tape.reads_made c.args.tape.now) r.from c.run_laws.ensures (g.T.Tape.reads_made c.along.tape) (g.T.Tape.reads_made c.advance_onto.new.tape)
           c.along.place limit c.in_ok-next.next c.along.state c.in_ok-next.after inv.carried.inside.0 inv.carried.lawful inv.paid goes few;
       same = c.advance_onto.ensures.same ∙ inv.same;
     }
@@ -196,12 +196,12 @@ along-preserved g c =
       | else-place-limit-via-else-place-limit w ↦ w.if-place-limit.false p.0
     ] in
     record {
-      carried = carried_near r.source r.rules r.from r.to some c.args.state c.along.place c.along.mark limit c.in_ok-next.next c.along.state c.in_ok-next.after inv.carried apart goes after_mark other;
+      carried = carried_near r.source r.rules r.from r.to c.run_laws.ensures some c.args.state c.along.place c.along.mark limit c.in_ok-next.next c.along.state c.in_ok-next.after inv.carried apart goes after_mark other;
       items_are = given ∙ ap (λ (is : List Item). is ++ (run r.source r.rules c.along.state c.along.place (c.in_ok-next.next - c.along.place)).1) inv.items_are
           ∙ append_assoc c.args.items.now.items (own r.source r.rules r.from r.to c.args.state c.along.place).1 _
           ∙ ap (λ (is : List Item). c.args.items.now.items ++ is)
-          (sym (own_items_on r.source r.rules r.from r.to some c.args.state c.along.place c.along.mark limit c.in_ok-next.next c.along.state c.in_ok-next.after inv.carried apart goes after_mark));
-      paid = paid_on r.source r.rules (g.T.Tape.reads_made c.args.tape.now) r.from (g.T.Tape.reads_made c.along.tape) (g.T.Tape.reads_made c.advance_onto.new.tape)
+          (sym (own_items_on r.source r.rules r.from r.to c.run_laws.ensures some c.args.state c.along.place c.along.mark limit c.in_ok-next.next c.along.state c.in_ok-next.after inv.carried apart goes after_mark));
+      paid = paid_on r.source r.rules (g.T.Tape.reads_made c.args.tape.now) r.from c.run_laws.ensures (g.T.Tape.reads_made c.along.tape) (g.T.Tape.reads_made c.advance_onto.new.tape)
           c.along.place limit c.in_ok-next.next c.along.state c.in_ok-next.after inv.carried.inside.0 inv.carried.lawful inv.paid goes few;
       same = c.advance_onto.ensures.same ∙ inv.same;
     }

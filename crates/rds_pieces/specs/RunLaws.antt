@@ -1,0 +1,12 @@
+-- The laws of runs that the proofs of this crate rest on: those that rds_sync promises.
+use Rattle.rds_sync.specs.Laws.{RunsAreReports, RunsJoin, StepsAreLawful, RunsAreLawful, OneBitRuns, LocksWait, ItemsMarkChanges, RunsGiveFewItems}
+
+pub record RunLaws : Type 0 where
+  pub reports : RunsAreReports
+  pub join : RunsJoin
+  pub lawful_steps : StepsAreLawful
+  pub lawful_runs : RunsAreLawful
+  pub one_bit : OneBitRuns
+  pub wait : LocksWait
+  pub changes : ItemsMarkChanges
+  pub few_items : RunsGiveFewItems
