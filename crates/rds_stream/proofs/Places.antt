@@ -188,3 +188,60 @@ window_of_bytes bytes n i before four first last small zeroth_fits first_fits se
     masked 32 (joined ∙ omega (arith, before_is, low)) (omega arith))
     (cases_eq (i % 8) 0) in
     number_is ∙ sym (packed_window bytes n i first last)
+
+-- the places of eight bytes
+number_eight : (bytes : List ℕ) (j : ℕ) → ((k : ℕ) → get_or bytes k 0 < 256) → number (packed_bit bytes) 64 (8 * (j + 7) + 7)
+    ≡ (((get_or bytes j 0 * 256 + get_or bytes (j + 1) 0) * 256 + get_or bytes (j + 2) 0) * 256 + get_or bytes (j + 3) 0) * 2 ^ 32
+    + (((get_or bytes (j + 4) 0 * 256 + get_or bytes (j + 5) 0) * 256 + get_or bytes (j + 6) 0) * 256 + get_or bytes (j + 7) 0)
+number_eight bytes j small =
+    let f = packed_bit bytes in
+    let back : 8 * (j + 7) + 7 - 32 ≡ 8 * (j + 3) + 7 = omega arith in
+    let five : j + 4 + 1 ≡ j + 5 = omega arith in
+    let six : j + 4 + 2 ≡ j + 6 = omega arith in
+    let seven : j + 4 + 3 ≡ j + 7 = omega arith in
+    let high = ap (number f 32) back ∙ number_four bytes j (small j) (small (j + 1)) (small (j + 2)) (small (j + 3)) in
+    let low = number_four bytes (j + 4) (small (j + 4)) (small (j + 4 + 1)) (small (j + 4 + 2)) (small (j + 4 + 3)) in
+    number_split f 32 32 (8 * (j + 7) + 7)
+    ∙ omega (
+      arith,
+      high,
+      low,
+      ap (λ k. number f 32 (8 * k + 7)) seven,
+      ap (λ k. get_or bytes k 0) five,
+      ap (λ k. get_or bytes k 0) six,
+      ap (λ k. get_or bytes k 0) seven,
+    )
+
+-- what the code makes of the eight bytes up to that of place i
+pub window_of_eight : (bytes : List ℕ) (n i eight : ℕ) → 25 ≤ i → i < n → 7 ≤ i / 8 → ((k : ℕ) → get_or bytes k 0 < 256) →
+    eight ≡ get_or bytes (i / 8 - 7) 0 * 72057594037927936 + get_or bytes (i / 8 - 6) 0 * 281474976710656 + get_or bytes (i / 8 - 5) 0 * 1099511627776
+    + get_or bytes (i / 8 - 4) 0 * 4294967296 + get_or bytes (i / 8 - 3) 0 * 16777216 + get_or bytes (i / 8 - 2) 0 * 65536
+    + get_or bytes (i / 8 - 1) 0 * 256 + get_or bytes (i / 8) 0 →
+    bit_and (eight / 2 ^ (7 - i % 8)) (2 ^ 26 - 1) ≡ window (bits_of bytes n) i
+window_of_eight bytes n i eight first last late small eight_is =
+    let f = packed_bit bytes in
+    let e = 7 - i % 8 in
+    let byte = i / 8 - 7 in
+    let one : i / 8 - 6 ≡ byte + 1 = omega arith in
+    let two : i / 8 - 5 ≡ byte + 2 = omega arith in
+    let three : i / 8 - 4 ≡ byte + 3 = omega arith in
+    let four : i / 8 - 3 ≡ byte + 4 = omega arith in
+    let five : i / 8 - 2 ≡ byte + 5 = omega arith in
+    let six : i / 8 - 1 ≡ byte + 6 = omega arith in
+    let seven : i / 8 ≡ byte + 7 = omega arith in
+    let end : 8 * (byte + 7) + 7 ≡ i + e = omega arith in
+    let whole : eight ≡ number f 64 (i + e) = omega (
+      arith,
+      eight_is,
+      ap (λ k. get_or bytes k 0) one,
+      ap (λ k. get_or bytes k 0) two,
+      ap (λ k. get_or bytes k 0) three,
+      ap (λ k. get_or bytes k 0) four,
+      ap (λ k. get_or bytes k 0) five,
+      ap (λ k. get_or bytes k 0) six,
+      ap (λ k. get_or bytes k 0) seven,
+      ap (number f 64) end,
+      number_eight bytes byte small,
+    ) in
+    and_mask (eight / 2 ^ e) 26 ∙ ap (λ x. x / 2 ^ e % 2 ^ 26) whole ∙ number_part f 64 e i (packed_bit-lt bytes) (omega arith)
+    ∙ sym (packed_window bytes n i first last)

@@ -82,6 +82,32 @@ impl Recording {
         ensures value { result ≡ window self.now i }
         ensures block { result < 2 ^ 26 }
     {
+        // A window lies in the eight bytes up to that of its last bit, or begins with the first ones.
+        let last = (i / 8) as usize;
+        if last < 7 {
+            return self.early_window(i);
+        }
+        let bytes = self.bytes.as_slice();
+        let eight = [
+            bytes[last - 7],
+            bytes[last - 6],
+            bytes[last - 5],
+            bytes[last - 4],
+            bytes[last - 3],
+            bytes[last - 2],
+            bytes[last - 1],
+            bytes[last],
+        ];
+        (u64::from_be_bytes(eight) >> (7 - i % 8) & BLOCK as u64) as u32
+    }
+
+    /// `window` at a place that may have fewer than seven bytes before its own.
+    fn early_window(&self, i: u64) -> u32
+        requires first { 25 ≤ i }
+        requires last { i < length self.now }
+        ensures value { result ≡ window self.now i }
+        ensures block { result < 2 ^ 26 }
+    {
         // A window lies in four bytes, or in five where it begins with the last bit of one.
         let last = (i / 8) as usize;
         let bytes = self.bytes.as_slice();
