@@ -14,6 +14,7 @@ work=$(mktemp -d)
 trap 'rm -rf "$work"' EXIT
 passed=0
 failed=0
+declare -A tried=([alloc]=0 [read]=0 [write]=0 [thread]=0)
 
 ${CC:-cc} -O1 -shared -fPIC -o "$work/refuse.so" "$here/refuse.c" -ldl || exit 1
 
@@ -54,8 +55,10 @@ judge() {
 each() {
     local call=$1 count at status
     shift
+    rm -f "$work/count"
     run "$call" 0 "$@"
-    count=$(cat "$work/count")
+    count=$(cat "$work/count") || exit 1
+    tried[$call]=$((tried[$call] + count))
     for at in $(seq "$count"); do
         for on in '' 1; do
             if [ -n "$on" ]; then export REFUSE_ON=1; else unset REFUSE_ON; fi
@@ -91,6 +94,13 @@ job "$zero" list --hex --pieces 1 --workers 1
 job "$damaged" list --hex --pieces 2 --workers 2
 job "$damaged" totals --hex --pieces 16 --workers 4
 job '0000 0000 0000 0000\n' encode --hex
+
+for call in "${!tried[@]}"; do
+    if [ "${tried[$call]}" = 0 ]; then
+        failed=$((failed + 1))
+        echo "FAILED: no job makes a call of the kind $call"
+    fi
+done
 
 echo "$passed passed, $failed failed"
 [ "$failed" = 0 ]
