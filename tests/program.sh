@@ -184,6 +184,13 @@ if [ -c /dev/full ]; then
     "$rds" scan --hex <"$work/in" >/dev/full 2>"$work/err"
     judge 'full output' 1 $? '' 'refused 10 Write\n'
 fi
+: >"$work/out"
+"$rds" --help >&- 2>"$work/err"
+judge 'help into closed output' 0 $? '' ''
+# more than a pipe holds, so that the program still writes when `head` has left
+station=$(dirname "$0")/../examples/station.bin
+{ cat "$station" "$station" "$station" | "$rds" list 2>"$work/err"; echo $? >"$work/status"; } | head -n 1 >"$work/out"
+judge 'output to a reader that leaves early' 1 "$(cat "$work/status")" "$acquired" 'refused 10 Write\n'
 
 printf '%d passed, %d failed\n' "$passed" "$failed"
 [ "$failed" -eq 0 ]

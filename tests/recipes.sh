@@ -22,7 +22,10 @@ has() { command -v "$1" >/dev/null || { echo "skipped: the recipe that needs $1"
 zero_group=00003f000019800005a00001b4
 station() { "$program" list < examples/station.bin; }
 
-same 'a first decode' 'acquired,51,2,-,-,-,-,-' "$(station | sed -n 1p)"
+same 'a first decode' "acquired,51,2,-,-,-,-,-
+group,26,0,A,none,B:0548,C:E100,D:5041
+group,104,0,A,A:D393,B:0549,C:E100,D:584F
+group,208,0,A,A:D393,B:054A,C:E100,D:4C49" "$(station | sed -n 1,4p)"
 same 'groups of the station recording' 1923 "$(station | grep -c '^group,')"
 same 'complete groups' 'total,complete,1922,-,-,-,-,-' "$(station | grep '^total,complete,')"
 same 'valid blocks' 'total,valid,7691,-,-,-,-,-' "$(station | grep '^total,valid,')"
