@@ -3,7 +3,7 @@ use Rattle.std.proofs.Common.{◌≡◌, ◌==◌, ℕ, ◌+◌, ◌-◌, ◌*�
 use Rattle.std.specs.List.{range_with_len}
 use Rattle.std.proofs.Math.Nat.{mod-add-div', mul-le-mul_left, mod-le}
 use Rattle.std.proofs.lemmas.Bool.{cases_lt, eq-eqb, ne_eqb}
-use Rattle.std.proofs.lemmas.List.{append-nil, map-append}
+use Rattle.std.proofs.lemmas.List.{map-append}
 use Rattle.std.proofs.lemmas.List.Elements.{All-filter, All-map, All-weaker, filter-append}
 use Rattle.std.proofs.lemmas.List.Folds.{flat_map-map}
 use Rattle.rds_sync.specs.Rules.{RuleNumbers}
@@ -87,7 +87,3 @@ module _ (source : List ℕ) (rules : RuleNumbers) (places : List ℕ) where
   crew_in_order workers runs order =
       in_order_is (run_at source rules places) (pieces_of places) (crew_runs source rules places workers) runs
       (All-weaker IsRunOfPiece (λ entry. entry.1 ≡ run_at source rules places entry.0) (λ entry is. is.1) (crew_runs source rules places workers) (crew_each workers)) order
-
-  -- one worker has all the pieces
-  pub lone_share : share_runs (share_of source rules places 1 0) ≡ crew_runs source rules places 1
-  lone_share = sym (append-nil (share_runs (share_of source rules places 1 0)))

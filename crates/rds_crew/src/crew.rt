@@ -19,7 +19,7 @@ use std::thread;
 use std::thread::{PromisedHandle, Scope, Threads};
 
 /// The most workers that a crew may have.
-const MOST_WORKERS: u32 = 256;
+pub const MOST_WORKERS: u32 = 256;
 
 /// The thread of one worker.
 type Worker = PromisedHandle<Result<NumberedRuns, PieceError>, SharePromise>;
@@ -57,7 +57,10 @@ pub fn decode_crew<R: Threads + Wait, W: Work + Sync, G: Gate + Sync>(
 
     // In order they follow each other from the first bit to the last, as the report asks of them.
     laws::pieces_follow();
-    Ok(work.report(alloc, runs.as_slice())?)
+    let Ok(report) = work.report(alloc, runs.as_slice()) else {
+        return Err(CrewError::OutOfMemory);
+    };
+    Ok(report)
 }
 
 /// The runs of all pieces in order, made by threads where there is work for two or more.
@@ -80,11 +83,28 @@ fn all_runs<R: Threads + Wait, W: Work + Sync, G: Gate + Sync>(
     let pieces = work.cutting().pieces();
     let threads = pieces.min(workers);
     let made = if threads <= 1 {
-        make_share(alloc, work, gate, 1, 0)?
+        make_alone(alloc, work, gate)?
     } else {
         make_by_threads(rt, alloc, work, gate, threads)?
     };
     Ok(in_order(alloc, pieces, made)?)
+}
+
+/// The runs of all pieces, made by the calling thread.
+fn make_alone<W: Work, G: Gate>(
+    alloc: Global,
+    work: &W,
+    gate: &G,
+) -> Result<NumberedRuns, CrewError>
+    requires fits { IsCutting (length (W.recording work.now)) (W.places work.now) }
+    ensures made { IfOk result (λ runs. runs.items
+        ≡ crew_runs (W.recording work.now) (W.rule_set work.now) (W.places work.now) 1) }
+    ensures err { IfErr result (λ e. e ≡ CrewError.OutOfMemory) }
+{
+    let Ok(made) = make_share(alloc, work, gate, 1, 0) else {
+        return Err(CrewError::OutOfMemory);
+    };
+    Ok(made)
 }
 
 /// The runs of all shares, each made by a thread of its own.

@@ -2,7 +2,6 @@
 ghost use Rattle.std.specs.Prelude.{◌≡◌};
 ghost use Rattle.rds_crew.specs.declared.error.CrewError.TheVariants.{OutOfMemory};
 
-use rds_pieces::PieceError;
 use std::alloc::{AllocError, AllocFailed};
 use thiserror::Error;
 
@@ -23,7 +22,7 @@ pub enum CrewError {
 impl CrewError {
     ghost use Rattle.rds_crew.specs.Refusals.{number_of, name_of};
 
-    /// 7, 8 or 14.
+    /// The number of the refusal: 7, 8 or 14.
     pub fn number(self) -> u8
         ensures { result ≡ number_of self }
     {
@@ -34,7 +33,7 @@ impl CrewError {
         }
     }
 
-    /// The variant's name.
+    /// Its name, as the program shows it.
     pub fn name(self) -> &'static str
         ensures { result.now ≡ name_of self }
     {
@@ -58,15 +57,6 @@ impl<T: Drop> From<AllocFailed<T>> for CrewError {
     ghost from_gives = { λ _ e. e ≡ OutOfMemory };
 
     fn from(_e: AllocFailed<T>) -> CrewError {
-        CrewError::OutOfMemory
-    }
-}
-
-/// The calls of a work refuse for want of memory alone.
-impl From<PieceError> for CrewError {
-    ghost from_gives = { λ _ e. e ≡ OutOfMemory };
-
-    fn from(_e: PieceError) -> CrewError {
         CrewError::OutOfMemory
     }
 }

@@ -17,8 +17,10 @@ use std::alloc::Global;
 
 /// Carries the run on from `state`, lawful at the piece's first place, over the piece that `run` guessed, of the tape's
 /// recording and by these rules: step by step over the tape until it meets the guess, in one state with it and with no group
-/// in progress; from there on it takes the guess's items and reads nothing. It reads at most reach + 2 windows for each place
-/// up to the meeting, or up to the piece's end where they do not meet, and as many once more. Refuses `OutOfMemory` alone.
+/// in progress; from there on it takes the guess's items and reads nothing.
+///
+/// It reads at most (reach + 2)(d + 1) windows of the tape, which has counted at most 2^62 before; d is the number of bits up
+/// to the meeting, or to the piece's end where there is none. Fails with `OutOfMemory` alone.
 pub fn seam<T: Tape>(
     alloc: Global,
     tape: &mut T,

@@ -19,8 +19,10 @@ use std::alloc::Global;
 
 /// The report of the tape's recording: carries the state over the runs in order, from Searching at its first bit, and ends with
 /// the group in progress at its end. The runs follow each other from place 0 to the recording's end, one a piece or more of
-/// them joined; there is none where the recording is empty. It reads what the seams may read, and at most three windows more.
-/// Refuses `OutOfMemory` alone.
+/// them joined; there is none where the recording is empty.
+///
+/// It reads what the seams may read, and at most three windows more; the tape has counted at most 2^61 before. Fails with
+/// `OutOfMemory` alone.
 pub fn stitch<T: Tape>(
     alloc: Global,
     tape: &mut T,
