@@ -2,7 +2,7 @@
 # Refused calls: tests/refusals.sh PATH-TO-RDS
 #
 # Each allocation, read, write and start of a thread of some jobs is refused in turn, and then that one and all after it.
-# The answer has to be the job's own, or the refusal's with nothing written (with a front of the text, where a write is
+# The answer has to be the job's own, or the refusal's with nothing written (with a prefix of the text, where a write is
 # refused), and never another. The calls are refused by a small library, which the C compiler makes of tests/refuse.c.
 # The last line is 'N passed, M failed', and the exit status says whether all passed.
 
@@ -38,7 +38,7 @@ is_refusal() {
 }
 
 is_whole() { [ "$1" = 0 ] && cmp -s "$work/out" "$work/wanted"; }
-is_front() { cmp -s -n "$(stat -c %s "$work/out")" "$work/out" "$work/wanted"; }
+is_prefix() { cmp -s -n "$(stat -c %s "$work/out")" "$work/out" "$work/wanted"; }
 wrote_nothing() { [ ! -s "$work/out" ]; }
 
 # judge CALL STATUS: whether the last run answered as it may where such a call is refused
@@ -46,7 +46,7 @@ judge() {
     case $1 in
         alloc) is_whole "$2" || { is_refusal "$2" '8 OutOfMemory' '14 NoWorker' && wrote_nothing; } ;;
         read) is_refusal "$2" '9 Read' && wrote_nothing ;;
-        write) is_refusal "$2" '10 Write' && is_front ;;
+        write) is_refusal "$2" '10 Write' && is_prefix ;;
         thread) is_refusal "$2" '14 NoWorker' && wrote_nothing ;;
     esac
 }

@@ -110,7 +110,7 @@ impl PieceRun {
 }
 
 /// Guesses piece `j` of a cutting: runs from Searching at its first place to its end, as if nothing stood before. Its windows
-/// may look before that place. Refuses `OutOfMemory` alone.
+/// may look before that place. Fails with `OutOfMemory` alone.
 pub fn speculate(
     alloc: Global,
     rec: &Recording,

@@ -40,14 +40,14 @@ pub trait Work {
     fn cutting(&self) -> &Cutting
         ensures { result.now ≡ places self.now };
 
-    /// The guess of piece `j`. Refuses `OutOfMemory` alone.
+    /// The guess of piece `j`. Fails with `OutOfMemory` alone.
     fn guess(&self, alloc: Global, j: u64) -> Result<PieceRun, PieceError>
         requires fits { IsCutting (length (recording self.now)) (places self.now) }
         requires piece { j < pieces_of (places self.now) }
         ensures ok { IfOk result (λ r. r ≡ run_at (recording self.now) (rule_set self.now) (places self.now) j) }
         ensures err { IfErr result (λ e. e ≡ OutOfMemory) };
 
-    /// The report, from runs that follow each other from place 0 to the recording's end. Refuses `OutOfMemory` alone.
+    /// The report, from runs that follow each other from place 0 to the recording's end. Fails with `OutOfMemory` alone.
     fn report(&self, alloc: Global, runs: &[PieceRun]) -> Result<Report, PieceError>
         requires in_a_row { FollowEachOther (recording self.now) (rule_set self.now) 0 (length (recording self.now)) runs.now }
         ensures items { IfOk result (λ report. report.items.items ≡ report_items (recording self.now) (rule_set self.now)) }
