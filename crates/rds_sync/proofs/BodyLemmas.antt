@@ -1,5 +1,5 @@
 -- Lemmas on the bodies of the synchroniser.
-use Rattle.std.proofs.Common.{◌≡◌, ◌≢◌, ℕ, zero, suc, ◌+◌, ◌-◌, ◌*◌, ◌<◌, ◌≤◌, List, [], ◌∷◌, ◌++◌, length, Bool, true, false, Option, Some, None, refl, sym, ap, ap₂, ◌∙◌, subst, arith, length-append, get_or, set, inl, inr, cond, eqb, leb, ltb, ◌%◌}
+use Rattle.std.proofs.Common.{◌≡◌, ◌≢◌, ℕ, zero, suc, ◌+◌, ◌-◌, ◌*◌, ◌<◌, ◌≤◌, List, [], ◌∷◌, ◌++◌, length, Bool, true, false, Option, Some, None, refl, sym, ap, ap₂, ◌∙◌, subst, arith, length-append, set, inl, inr, cond, eqb, leb, ltb, ◌%◌}
 use Rattle.std.proofs.lemmas.Bool.{le-leb, lt-leb, le-ltb, lt-ltb, eq-eqb, ne_eqb, cases_lt, cases_eq}
 use Rattle.std.specs.Prelude.{◌&&◌}
 use Rattle.rds_code.specs.declared.reading.Wanted.{Wanted}
@@ -22,7 +22,6 @@ use Rattle.rds_sync.proofs.RunLemmas.{step-keeping, items-keeping, step-losing, 
 use Rattle.rds_sync.specs.Advance.{items_in, reads_most}
 use Rattle.rds_sync.specs.Report.{report_items}
 use Rattle.rds_sync.proofs.Locks.{run_is_report}
-use Rattle.rds_sync.specs.declared.item.Group.{Group as GroupRecord}
 use Rattle.rds_sync.specs.declared.item.Item.{Item}
 use Rattle.std.specs.List.{list_any, range_with_len}
 use Rattle.rds_sync.proofs.LawfulLemmas.{acquired-none, acquired-some, lawful-step}

@@ -34,6 +34,7 @@ pub(crate) fn bad_with(valid: bool, bad: u8) -> u8
 }
 
 impl Version {
+    /// The version that a block 3 with this offset names.
     fn of_offset(offset: Offset) -> Version
         ensures { result ≡ version_of_offset offset }
     {
@@ -44,6 +45,7 @@ impl Version {
         }
     }
 
+    /// Whether one of the two is A and the other B.
     fn differs(self, other: Version) -> bool
         ensures { result ≡ differ self other }
     {

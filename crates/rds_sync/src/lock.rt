@@ -33,6 +33,7 @@ pub(crate) struct Lock {
 }
 
 impl Lock {
+    /// The state of a run that is in this lock.
     pub fn state(self) -> State
         ensures { result ≡ Locked self.due self.number self.bad self.first }
     {
