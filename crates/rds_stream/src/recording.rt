@@ -1,10 +1,14 @@
 //! A recording: packed bits with places.
 ghost use Rattle.std.specs.Prelude.{◌≡◌, List, ℕ, ◌+◌, ◌*◌, ◌^◌, ◌<◌, ◌≤◌, ◌↔◌, vec_len, length, slice_index, All, if◌then◌else◌, IfOk, IsOk};
 ghost use Rattle.rds_stream.specs.declared.error.StreamError.TheVariants.{TooLong, BitsPastBytes};
-ghost use Rattle.rds_stream.specs.Recording.{packed_bit, bits_of, window};
+ghost use Rattle.rds_stream.specs.Recording.{packed_bit, bits_of, window, off};
 
 use crate::error::StreamError;
+use rds_code::{Offset, offset_of, rem26};
 use std::marker::Model;
+
+/// The first place at which a window ends: 26 bits lead up to it.
+pub const FIRST_WINDOW: u64 = 25;
 
 /// The most bits that a recording may hold.
 const MOST_BITS: u64 = 1 << 36;
@@ -29,13 +33,13 @@ impl Model for Recording {
     ghost invariant = { λ r. (r.bits ≤ 2 ^ 36) × (r.bits ≤ 8 * vec_len r.bytes) };
 }
 
-/// The bit at place `i` of packed bytes, the highest bit of a byte first.
-fn bit_of(bytes: &[u8], i: u64) -> u8
-    requires { i < 8 * length bytes.now }
-    ensures value { result ≡ packed_bit bytes.now i }
+/// The bit at a place of packed bytes, the highest bit of a byte first.
+fn bit_of(bytes: &[u8], place: u64) -> u8
+    requires { place < 8 * length bytes.now }
+    ensures value { result ≡ packed_bit bytes.now place }
     ensures digit { result < 2 }
 {
-    bytes[(i / 8) as usize] >> (7 - i % 8) & 1
+    bytes[(place / 8) as usize] >> (7 - place % 8) & 1
 }
 
 impl Recording {
@@ -67,25 +71,26 @@ impl Recording {
         self.bits
     }
 
-    /// Whether the bit at place `i`, which is below the length, is a one.
-    pub fn bit(&self, i: u64) -> bool
-        requires { i < length self.now }
-        ensures { slice_index self.now i ≡ (if result then 1 else 0) }
+    /// Whether the bit at `place`, which is below the length, is a one.
+    pub fn bit(&self, place: u64) -> bool
+        requires { place < length self.now }
+        ensures { slice_index self.now place ≡ (if result then 1 else 0) }
     {
-        bit_of(&self.bytes, i) == 1
+        bit_of(&self.bytes, place) == 1
     }
 
-    /// The 26 bits that end at place `i`, the first one highest (EN 50067:1998, 2.1). `i` is at least 25, and below the length.
-    pub fn window(&self, i: u64) -> u32
-        requires first { 25 ≤ i }
-        requires last { i < length self.now }
-        ensures value { result ≡ window self.now i }
+    /// The 26 bits that end at `place`, the first one highest (EN 50067:1998, 2.1). `place` is at least 25, and below the
+    /// length.
+    pub fn window(&self, place: u64) -> u32
+        requires first { 25 ≤ place }
+        requires last { place < length self.now }
+        ensures value { result ≡ window self.now place }
         ensures block { result < 2 ^ 26 }
     {
         // A window lies in the eight bytes up to that of its last bit, or begins with the first ones.
-        let last = (i / 8) as usize;
+        let last = (place / 8) as usize;
         if last < 7 {
-            return self.early_window(i);
+            return self.early_window(place);
         }
         let bytes = self.bytes.as_slice();
         let eight = [
@@ -98,18 +103,30 @@ impl Recording {
             bytes[last - 1],
             bytes[last],
         ];
-        (u64::from_be_bytes(eight) >> (7 - i % 8) & BLOCK as u64) as u32
+        (u64::from_be_bytes(eight) >> (7 - place % 8) & BLOCK as u64) as u32
+    }
+
+    /// The offset of the 26 bits that end at `place`: the one whose word is their remainder (EN 50067:1998, 2.3 and annex A),
+    /// or none. `place` is at least 25, and below the length.
+    ///
+    /// A window that has an offset is called valid, and may still be no block.
+    pub fn offset(&self, place: u64) -> Option<Offset>
+        requires first { 25 ≤ place }
+        requires last { place < length self.now }
+        ensures { result ≡ off self.now place }
+    {
+        offset_of(rem26(self.window(place)))
     }
 
     /// `window` at a place that may have fewer than seven bytes before its own.
-    fn early_window(&self, i: u64) -> u32
-        requires first { 25 ≤ i }
-        requires last { i < length self.now }
-        ensures value { result ≡ window self.now i }
+    fn early_window(&self, place: u64) -> u32
+        requires first { 25 ≤ place }
+        requires last { place < length self.now }
+        ensures value { result ≡ window self.now place }
         ensures block { result < 2 ^ 26 }
     {
         // A window lies in four bytes, or in five where it begins with the last bit of one.
-        let last = (i / 8) as usize;
+        let last = (place / 8) as usize;
         let bytes = self.bytes.as_slice();
         let four = [
             bytes[last - 3],
@@ -117,8 +134,8 @@ impl Recording {
             bytes[last - 1],
             bytes[last],
         ];
-        let before = if i % 8 == 0 { bytes[last - 4] } else { 0 };
+        let before = if place % 8 == 0 { bytes[last - 4] } else { 0 };
         let places = (before as u64) << 32 | u32::from_be_bytes(four) as u64;
-        (places >> (7 - i % 8) & BLOCK as u64) as u32
+        (places >> (7 - place % 8) & BLOCK as u64) as u32
     }
 }

@@ -30,13 +30,13 @@ pub trait Tape {
     fn source(&self) -> Snapshot<Recording>
         ensures { result.value ≡ bits self.now };
 
-    /// The 26 bits that end at place `i`, the first one highest; `i` is at least 25, and below the length. It counts as one
+    /// The 26 bits that end at `place`, the first one highest; `place` is at least 25, and below the length. It counts as one
     /// reading, of which there are at most 2^63.
-    fn window(&mut self, i: u64) -> u32
-        requires first { 25 ≤ i }
-        requires last { i < length (bits self.old) }
+    fn window(&mut self, place: u64) -> u32
+        requires first { 25 ≤ place }
+        requires last { place < length (bits self.old) }
         requires room { reads_made self.old < 2 ^ 63 }
-        ensures value { result ≡ window (bits self.old) i }
+        ensures value { result ≡ window (bits self.old) place }
         ensures block { result < 2 ^ 26 }
         ensures counts { reads_made self.new ≡ reads_made self.old + 1 }
         ensures same { bits self.new ≡ bits self.old };
@@ -84,8 +84,8 @@ impl Tape for Counted<'_> {
         Snapshot::of(self.recording)
     }
 
-    fn window(&mut self, i: u64) -> u32 {
+    fn window(&mut self, place: u64) -> u32 {
         self.reads += 1;
-        self.recording.window(i)
+        self.recording.window(place)
     }
 }

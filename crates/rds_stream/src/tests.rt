@@ -1,4 +1,4 @@
-use crate::{Counted, Recording, StreamError, Sweep, Tape, scan};
+use crate::{Counted, FIRST_WINDOW, Recording, StreamError, Tape, scan};
 use rds_code::{Offset, offset_of, rem26};
 use std::alloc::Global;
 use std::process::Abort;
@@ -182,13 +182,12 @@ fn a_tape_counts_its_readings(rt: HostRuntime) -> Result<(), Fail> {
 }
 
 #[test]
-fn a_sweep_goes_on_place_by_place(rt: HostRuntime) -> Result<(), Fail> {
+fn a_window_tells_its_offset(rt: HostRuntime) -> Result<(), Fail> {
     let once = zero_groups(rt.alloc(), 104, &[])?;
     assert_eq!(rt; once.len(), 104);
-    let mut sweep = Sweep::new(&once, 24);
-    assert_eq!(rt; sweep.next_offset(), None);
-    assert_eq!(rt; sweep.next_offset(), Some(Offset::A));
-    assert_eq!(rt; sweep.next_offset(), None);
+    assert_eq!(rt; once.offset(FIRST_WINDOW), Some(Offset::A));
+    assert_eq!(rt; once.offset(26), None);
+    assert_eq!(rt; once.offset(103), Some(Offset::D));
     Ok(())
 }
 

@@ -1,5 +1,5 @@
 -- Lemmas on the bodies of the synchroniser.
-use Rattle.std.proofs.Common.{◌≡◌, ◌≢◌, ℕ, zero, suc, ◌+◌, ◌-◌, ◌*◌, ◌<◌, ◌≤◌, List, [], ◌∷◌, ◌++◌, length, Bool, true, false, Option, Some, None, refl, sym, ap, ap₂, ◌∙◌, subst, arith, length-append, get_or, set, inl, inr, cond, eqb, leb, ltb, ◌%◌}
+use Rattle.std.proofs.Common.{◌≡◌, ◌≢◌, ℕ, zero, suc, ◌+◌, ◌-◌, ◌*◌, ◌<◌, ◌≤◌, List, [], ◌∷◌, ◌++◌, length, Bool, true, false, Option, Some, None, refl, sym, ap, ap₂, ◌∙◌, subst, arith, length-append, set, inl, inr, cond, eqb, leb, ltb, ◌%◌}
 use Rattle.std.proofs.lemmas.Bool.{le-leb, lt-leb, le-ltb, lt-ltb, eq-eqb, ne_eqb, cases_lt, cases_eq}
 use Rattle.std.specs.Prelude.{◌&&◌}
 use Rattle.rds_code.specs.declared.reading.Wanted.{Wanted}
@@ -12,7 +12,6 @@ use Rattle.rds_code.specs.Remainder.{rem}
 use Rattle.rds_code.specs.Offsets.{number, offset_of}
 use Rattle.rds_stream.specs.Recording.{window, off}
 use Rattle.rds_sync.specs.Acquiring.{acquired, has_number, has_partner}
-use Rattle.rds_sync.specs.Locks.{blocks_at}
 use Rattle.rds_sync.specs.Reads.{is_numbered}
 use Rattle.rds_sync.specs.Step.{bad_after, step, run, items_at, items_of_end, locked_after, group_after}
 use Rattle.rds_sync.specs.declared.state.State.{State}
@@ -23,7 +22,6 @@ use Rattle.rds_sync.proofs.RunLemmas.{step-keeping, items-keeping, step-losing, 
 use Rattle.rds_sync.specs.Advance.{items_in, reads_most}
 use Rattle.rds_sync.specs.Report.{report_items}
 use Rattle.rds_sync.proofs.Locks.{run_is_report}
-use Rattle.rds_sync.specs.declared.item.Group.{Group as GroupRecord}
 use Rattle.rds_sync.specs.declared.item.Item.{Item}
 use Rattle.std.specs.List.{list_any, range_with_len}
 use Rattle.rds_sync.proofs.LawfulLemmas.{acquired-none, acquired-some, lawful-step}
@@ -31,7 +29,7 @@ use Rattle.rds_sync.specs.declared.item.Block.{Block}
 use Rattle.rds_sync.specs.declared.item.Block.TheVariants.{Missing, Read}
 use Rattle.rds_sync.specs.Rules.{RuleNumbers}
 use Rattle.rds_code.specs.declared.reading.Wanted.TheVariants.{Either}
-use Rattle.rds_sync.specs.Groups.{block_at, group, group_of, wanted_beside}
+use Rattle.rds_sync.specs.Groups.{block_at, blocks_at, group, group_of, wanted_beside}
 
 -- a list with a first item is not empty
 pub some_given : (given : List Item) (item : Item) (others : List Item) → given ≡ item ∷ others → given ≢ []
@@ -100,11 +98,10 @@ blocks_at-read b rules f x p one two three four is_one is_two is_three is_four =
     ∙ ap₂ (λ (third_read last_read : Block). block_at b rules f x p Either 1 ∷ block_at b rules f x p Either 2 ∷ third_read ∷ last_read ∷ []) third is_four
 
 -- the group of these blocks
-pub group-blocks : (b : List ℕ) (rules : RuleNumbers) (f x p : ℕ) (blocks : List Block) (d₀ d₁ d₂ d₃ : Block) → blocks ≡ blocks_at b rules f x p
-    → group_of (p - 26 * (x - f) - 25) (get_or blocks 0 d₀) (get_or blocks 1 d₁) (get_or blocks 2 d₂) (get_or blocks 3 d₃) ≡ group b rules f x p
+pub group-blocks : (b : List ℕ) (rules : RuleNumbers) (f x p : ℕ) (blocks : List Block) → blocks ≡ blocks_at b rules f x p
+    → group_of (p - 26 * (x - f) - 25) blocks ≡ group b rules f x p
 unfolding group
-group-blocks b rules f x p blocks d₀ d₁ d₂ d₃ are =
-    ap (λ (bs : List Block). group_of (p - 26 * (x - f) - 25) (get_or bs 0 d₀) (get_or bs 1 d₁) (get_or bs 2 d₂) (get_or bs 3 d₃)) are
+group-blocks b rules f x p blocks are = ap (group_of (p - 26 * (x - f) - 25)) are
 
 -- a block before the last one is that of the group one block shorter
 block_at-earlier : (b : List ℕ) (rules : RuleNumbers) (f x p : ℕ) (wanted : Wanted) (y : ℕ) → y < x
@@ -404,21 +401,14 @@ pub bad_after-valid : (b : List ℕ) (due number bad now : ℕ) (valid : Bool) �
     → bad_after b due number bad ≡ now
 bad_after-valid b due number bad now valid valid_is counted = ap (λ (t : Bool). cond t 0 (bad + 1)) (sym valid_is) ∙ sym counted
 
--- a group made of its blocks
-pub closed-group : (b : List ℕ) (rules : RuleNumbers) (f x p : ℕ) (closed : GroupRecord)
-    → ((one two three four : Block) → blocks_at b rules f x p ≡ one ∷ two ∷ three ∷ four ∷ [] → closed ≡ group_of (p - 26 * (x - f) - 25) one two three four)
-    → closed ≡ group b rules f x p
-closed-group b rules f x p closed is =
-    is _ _ _ _ refl ∙ group-blocks b rules f x p (blocks_at b rules f x p) Missing Missing Missing Missing refl
-
 -- whether a place with an offset acquires is a matter of its partner
-pub acquired-offset : (b later : List ℕ) (rules : RuleNumbers) (i n : ℕ) (o : Offset) (found : Bool) → off b i ≡ Some o → n ≡ number o → later ≡ b
-    → found ≡ list_any (has_partner later i n) (range_with_len 1 rules.reach)
-    → elim found as (λ _. Option ℕ) [ true ↦ Some n | false ↦ None ] ≡ acquired b rules i
-acquired-offset b later rules i n o found here is_number same is_found =
-    ap₂ (λ (t : Bool) (x : ℕ). elim t as (λ _. Option ℕ) [ true ↦ Some x | false ↦ None ])
-    (is_found ∙ ap₂ (λ (bits : List ℕ) (x : ℕ). list_any (has_partner bits i x) (range_with_len 1 rules.reach)) same is_number) is_number
-    ∙ sym (acquired-some b rules i o here)
+pub acquired-offset : (b later : List ℕ) (rules : RuleNumbers) (i n : ℕ) (o : Offset) (found answer : Bool) → off b i ≡ Some o → n ≡ number o → later ≡ b
+    → found ≡ list_any (has_partner later i n) (range_with_len 1 rules.reach) → found ≡ answer
+    → acquired b rules i ≡ elim answer as (λ _. Option ℕ) [ true ↦ Some n | false ↦ None ]
+acquired-offset b later rules i n o found answer here is_number same is_found answered =
+    acquired-some b rules i o here
+    ∙ sym (ap₂ (λ (t : Bool) (x : ℕ). elim t as (λ _. Option ℕ) [ true ↦ Some x | false ↦ None ])
+    (sym answered ∙ is_found ∙ ap₂ (λ (bits : List ℕ) (x : ℕ). list_any (has_partner bits i x) (range_with_len 1 rules.reach)) same is_number) is_number)
 
 -- a search up to and including one place
 pub run-found : (b : List ℕ) (rules : RuleNumbers) (place here : ℕ) → place ≤ here → ((j : ℕ) → place ≤ j → j < here → acquired b rules j ≡ None)

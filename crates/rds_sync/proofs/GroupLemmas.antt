@@ -18,7 +18,7 @@ use Rattle.rds_sync.specs.declared.item.Block.{Block}
 use Rattle.rds_sync.specs.declared.item.Block.TheVariants.{Missing, Read}
 use Rattle.rds_sync.specs.declared.item.Group.{Group}
 use Rattle.rds_sync.specs.Rules.{RuleNumbers}
-use Rattle.rds_sync.specs.Groups.{info_of, version_of_bit, version_of_offset, version_by_bit, first_known, version, differ, in_conflict, are_complete, wanted_beside, block_at, group_of, group}
+use Rattle.rds_sync.specs.Groups.{info_of, version_of_bit, version_of_offset, version_by_bit, first_known, version, differ, in_conflict, are_complete, wanted_beside, block_at, blocks_at, group_of, group}
 use Rattle.rds_sync.specs.GroupLaws.{VersionIsRead, VersionsDiffer, GroupIsRead}
 
 -- which of C and C' is wanted matters for block 3 alone
@@ -236,7 +236,7 @@ module _ (b : List ℕ) (rules : RuleNumbers) (f x p : ℕ) where
   third = block_at b rules f x p (wanted_beside second) 3
 
   abbrev the_group : Group
-  the_group = group_of (p - 26 * (x - f) - 25) (block_at b rules f x p Either 1) second third (block_at b rules f x p Either 4)
+  the_group = group_of (p - 26 * (x - f) - 25) (blocks_at b rules f x p)
 
   -- block 3 was read as number 3
   third_number : (o : Offset) (info : ℕ) → third ≡ Read (Valid o info) → number o ≡ 3

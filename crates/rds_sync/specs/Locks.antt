@@ -1,21 +1,14 @@
 -- A lock that is followed from block to block, with the blocks of the group in progress.
-use Rattle.std.specs.Prelude.{◌≡◌, ◌≢◌, ℕ, ◌+◌, ◌-◌, ◌*◌, ◌<◌, ◌≤◌, ◌⊎◌, List, [], ◌∷◌, length}
-use Rattle.rds_code.specs.declared.reading.Wanted.TheVariants.{Either}
+use Rattle.std.specs.Prelude.{◌≡◌, ◌≢◌, ℕ, ◌+◌, ◌-◌, ◌*◌, ◌<◌, ◌≤◌, ◌⊎◌, List, [], length}
 use Rattle.rds_sync.specs.declared.item.Block.{Block}
 use Rattle.rds_sync.specs.declared.lock.Followed.{Followed}
 use Rattle.rds_sync.specs.declared.lock.Followed.TheVariants.{Inside, Closed}
 use Rattle.rds_sync.specs.declared.lock.Lock.{Lock}
 use Rattle.rds_sync.specs.declared.state.State.{State}
 use Rattle.rds_sync.specs.declared.state.State.TheVariants.{Locked}
-use Rattle.rds_sync.specs.Groups.{block_at, wanted_beside}
+use Rattle.rds_sync.specs.Groups.{blocks_at}
 use Rattle.rds_sync.specs.Rules.{RuleNumbers}
 use Rattle.rds_sync.specs.Step.{items_at}
-
--- the four blocks of the group whose blocks f to x were read, the last of them at place p
-abbrev pub blocks_at : List ℕ → RuleNumbers → ℕ → ℕ → ℕ → List Block
-blocks_at b rules f x p =
-    block_at b rules f x p Either 1 ∷ block_at b rules f x p Either 2
-    ∷ block_at b rules f x p (wanted_beside (block_at b rules f x p Either 2)) 3 ∷ block_at b rules f x p Either 4 ∷ []
 
 -- these are the blocks of the group in progress
 abbrev pub IsInProgress : List ℕ → RuleNumbers → Lock → List Block → Type 0

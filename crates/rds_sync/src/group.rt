@@ -4,9 +4,8 @@ ghost use Rattle.std.specs.Prelude.{◌≡◌, ◌≤◌, ◌<◌, ◌+◌, ◌-
 ghost use Rattle.rds_code.specs.Remainder.{rem};
 ghost use Rattle.rds_code.specs.Offsets.{offset_of as the_offset_of};
 ghost use Rattle.rds_stream.specs.Recording.{window as the_window};
-ghost use Rattle.rds_sync.specs.Groups.{info_of, are_complete, version_by_bit, version_of_offset, version, differ, in_conflict, wanted_beside, group_of, block_at, group};
+ghost use Rattle.rds_sync.specs.Groups.{info_of, are_complete, version_by_bit, version_of_offset, version, differ, in_conflict, wanted_beside, group_of, block_at, blocks_at, group};
 ghost use Rattle.rds_sync.specs.Reads.{is_numbered};
-ghost use Rattle.rds_sync.specs.Locks.{blocks_at};
 ghost use Rattle.rds_sync.specs.Spans.{IsSpan};
 
 use crate::item::{Block, Group, Version};
@@ -35,6 +34,7 @@ pub(crate) fn bad_with(valid: bool, bad: u8) -> u8
 }
 
 impl Version {
+    /// The version that a block 3 with this offset names.
     fn of_offset(offset: Offset) -> Version
         ensures { result ≡ version_of_offset offset }
     {
@@ -45,6 +45,7 @@ impl Version {
         }
     }
 
+    /// Whether one of the two is A and the other B.
     fn differs(self, other: Version) -> bool
         ensures { result ≡ differ self other }
     {
@@ -127,18 +128,19 @@ impl Group {
     }
 
     /// The group of four blocks whose first read bit is at `place`.
-    pub(crate) fn of_blocks(place: u64, one: Block, two: Block, three: Block, four: Block) -> Group
-        ensures { result ≡ group_of place one two three four }
+    pub(crate) fn of_blocks(place: u64, blocks: [Block; 4]) -> Group
+        ensures { result ≡ group_of place blocks }
     {
+        let [_, second, third, _] = blocks;
         Group {
             place,
-            blocks: [one, two, three, four],
-            kind: match two.info() {
+            blocks,
+            kind: match second.info() {
                 Some(info) => Some((info >> 12) as u8),
                 None => None,
             },
-            version: version_of(two, three),
-            conflict: is_in_conflict(two, three),
+            version: version_of(second, third),
+            conflict: is_in_conflict(second, third),
         }
     }
 }
@@ -198,7 +200,7 @@ pub(crate) fn read_group<T: Tape>(tape: &mut T, rules: &Rules, span: Span) -> Gr
     ensures same { T.bits tape.new ≡ T.bits tape.old }
     ensures reads { T.reads_made tape.new ≡ T.reads_made tape.old + (span.last - span.first) }
 {
-    let [one, two, three, four] = read_blocks(tape, rules, span);
+    let blocks = read_blocks(tape, rules, span);
     let place = span.place - 26 * u64::from(span.last - span.first) - 25;
-    Group::of_blocks(place, one, two, three, four)
+    Group::of_blocks(place, blocks)
 }

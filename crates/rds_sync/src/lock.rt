@@ -5,8 +5,8 @@
 
 ghost use Rattle.std.specs.Prelude.{◌≡◌, ◌≤◌, ◌<◌, ◌+◌, ◌-◌, ◌*◌, ◌^◌, ◌++◌, [], ◌∷◌, List, length, IfOk, OnOk, IsOkUnless};
 ghost use Rattle.rds_sync.specs.Acquiring.{has_number};
-ghost use Rattle.rds_sync.specs.Groups.{group_of};
-ghost use Rattle.rds_sync.specs.Locks.{blocks_at, state_of, IsFollowed, IsInProgress, IsReadable};
+ghost use Rattle.rds_sync.specs.Groups.{blocks_at, group_of};
+ghost use Rattle.rds_sync.specs.Locks.{state_of, IsFollowed, IsInProgress, IsReadable};
 ghost use Rattle.rds_sync.specs.Step.{step, items_at};
 ghost use Rattle.rds_sync.specs.Totals.{is_valid};
 ghost use Rattle.rds_sync.specs.declared.item.Block.TheVariants.{Read};
@@ -33,6 +33,7 @@ pub(crate) struct Lock {
 }
 
 impl Lock {
+    /// The state of a run that is in this lock.
     pub fn state(self) -> State
         ensures { result ≡ Locked self.due self.number self.bad self.first }
     {
@@ -94,12 +95,11 @@ fn is_valid(reading: &Reading) -> bool
 fn closed(lock: Lock, blocks: &[Block; 4]) -> Group
     requires order { lock.first ≤ lock.number }
     requires start { 26 * (lock.number - lock.first) + 25 ≤ lock.due }
-    ensures { (one two three four : _) → blocks.now ≡ one ∷ two ∷ three ∷ four ∷ []
-        → result ≡ group_of (lock.due - 26 * (lock.number - lock.first) - 25) one two three four }
+    ensures { result ≡ group_of (lock.due - 26 * (lock.number - lock.first) - 25) blocks.now }
 {
     let [one, two, three, four] = *blocks;
     let place = lock.due - 26 * u64::from(lock.number - lock.first) - 25;
-    Group::of_blocks(place, one, two, three, four)
+    Group::of_blocks(place, [one, two, three, four])
 }
 
 /// What the block that was due led to.

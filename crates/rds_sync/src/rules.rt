@@ -32,10 +32,11 @@ impl Model for Rules {
 
 impl Rules {
     /// Rules that correct bursts of up to `burst` bits (0 to 5), acquire where a fitting block
-    /// stands up to `reach` blocks back (1 to 8), and are lost after `loss` bad blocks in a row
+    /// stands up to `reach` blocks back (1 to 8), and lose a lock after `loss` bad blocks in a row
     /// (1 to 64).
     ///
-    /// Refuses a burst, then a reach, then a loss out of its range; and else only want of memory.
+    /// Refuses a burst, then a reach, then a loss out of its range, and otherwise only want of
+    /// memory.
     pub fn new(alloc: Global, burst: u32, reach: u32, loss: u32) -> Result<Rules, SyncError>
         ensures numbers { IfOk result (λ rules. (rules.burst ≡ burst) × (rules.reach ≡ reach) × (rules.loss ≡ loss)) }
 

@@ -14,7 +14,7 @@ use crate::item::{Group, Item};
 use crate::rules::Rules;
 use crate::state::State;
 use rds_code::{Offset, offset_of, rem26};
-use rds_stream::Tape;
+use rds_stream::{FIRST_WINDOW, Tape};
 
 /// Where a run is after a step, and what the step found.
 #[derive(Clone, Copy, Debug, PartialEq, Eq)]
@@ -217,7 +217,7 @@ fn acquire<T: Tape>(tape: &mut T, rules: &Rules, place: u64) -> Option<Acquiring
     ensures reads { T.reads_made tape.new ≤ T.reads_made tape.old + (rules.now.reach + 1) }
     ensures few { T.reads_made tape.new ≤ T.reads_made tape.old + 9 }
 {
-    if place < 25 {
+    if place < FIRST_WINDOW {
         return None;
     }
     let window = tape.window(place);
@@ -273,7 +273,7 @@ fn offset_at<T: Tape>(tape: &mut T, place: u64) -> Option<Offset>
     ensures same { T.bits tape.new ≡ T.bits tape.old }
     ensures reads { T.reads_made tape.new ≤ T.reads_made tape.old + 1 }
 {
-    if place < 25 {
+    if place < FIRST_WINDOW {
         None
     } else {
         offset_of(rem26(tape.window(place)))

@@ -5,7 +5,6 @@ ghost use Rattle.std.specs.Prelude.{◌≡◌, ◌≤◌, ◌<◌, ◌-◌, ◌+
 ghost use Rattle.rds_sync.specs.Advance.{items_in};
 ghost use Rattle.rds_sync.specs.Lawful.{IsLawful, IsLawfulLock};
 ghost use Rattle.rds_sync.specs.Stretch.{IsStretch, IsStretchOnto};
-ghost use Rattle.rds_stream.specs.Recording.{off};
 ghost use Rattle.rds_sync.specs.Acquiring.{acquired};
 ghost use Rattle.rds_sync.specs.Step.{run, items_at};
 ghost use Rattle.rds_sync.specs.declared.state.State.TheVariants.{Searching, Locked};
@@ -17,8 +16,7 @@ use crate::lock::{Followed, Lock, blocks_before, follow};
 use crate::rules::Rules;
 use crate::state::State;
 use crate::step::{closed_group, has_partner};
-use rds_code::Offset;
-use rds_stream::{Counted, Recording, Sweep};
+use rds_stream::{Counted, FIRST_WINDOW, Recording};
 
 /// How far a run came, and the state there.
 #[derive(Clone, Copy, Debug, PartialEq, Eq)]
@@ -85,10 +83,14 @@ fn search(
     ensures only_memory { IsOkUnless result SyncError.OutOfMemory }
 {
     prove!(1 <= rules.loss() && to <= rec.len());
-    let mut sweep = Sweep::new(rec, place);
-    for here in place..to {
-        let offset = sweep.next_offset();
-        if let Some(number) = acquires(rec, rules, here, offset) {
+    for here in place.max(FIRST_WINDOW)..to {
+        let Some(offset) = rec.offset(here) else {
+            continue;
+        };
+        // A window is valid by chance at one place in two hundred: so its partners are looked up in
+        // the recording, and the search keeps none of the windows behind it.
+        let number = offset.number();
+        if has_partner(&mut Counted::new(rec), rules, here, number) {
             push_found(items, found_at(rec, rules, here, number))?;
             return Ok(Reached {
                 place: here + 1,
@@ -100,26 +102,6 @@ fn search(
         place: to,
         state: State::Searching,
     })
-}
-
-/// The number with which a place of this offset acquires, or none.
-///
-/// A window is valid by chance at one place in two hundred: so its partners are looked up in the
-/// recording, where that is asked, and the search keeps none of the windows behind it.
-fn acquires(rec: &Recording, rules: &Rules, place: u64, offset: Option<Offset>) -> Option<u8>
-    requires within { place < length rec.now }
-    requires offset { offset ≡ off rec.now place }
-    ensures { result ≡ acquired rec.now rules.now place }
-{
-    let Some(offset) = offset else {
-        return None;
-    };
-    let number = offset.number();
-    if has_partner(&mut Counted::new(rec), rules, place, number) {
-        Some(number)
-    } else {
-        None
-    }
 }
 
 /// What is found at a place that acquires with this number.

@@ -2,11 +2,10 @@ use Rattle.std.proofs.Common.{◌≡◌, ◌+◌, ◌-◌, ℕ, List, [], ◌∷
 use Rattle.rds_sync.specs.declared.item.Group.{Group as GroupRecord}
 use Rattle.rds_sync.specs.declared.item.Item.{Item}
 use Rattle.rds_sync.specs.declared.item.Item.TheVariants.{Group, LostLock}
-use Rattle.rds_sync.specs.Groups.{group}
-use Rattle.rds_sync.specs.Locks.{blocks_at}
+use Rattle.rds_sync.specs.Groups.{blocks_at, group}
 use Rattle.rds_sync.specs.Step.{items_at, locked_after}
 use Rattle.rds_sync.specs.declared.state.State.TheVariants.{Locked}
-use Rattle.rds_sync.proofs.BodyLemmas.{bad_after-valid, step-kept, items-kept, step-lost, items-lost, locked_after-inside, group_after-inside, group_after-four, closed-group, some_given}
+use Rattle.rds_sync.proofs.BodyLemmas.{bad_after-valid, step-kept, items-kept, step-lost, items-lost, locked_after-inside, group_after-inside, group_after-four, group-blocks, some_given}
 use Rattle.rds_sync.proofs.lock.follow.Goals as goal
 
 -- the items with a group and then a loss
@@ -34,7 +33,7 @@ returns-then-from-loss-clause-items c =
     with_loss c.args.items.now.items c.push.new.self.items c.push-then-from-loss.new.self.items
     (items_at b rules l.due (Locked l.due l.number l.bad l.first)) c.closed.result (group b rules l.first l.number l.due) l.due
     (c.in_ok-push.ensures.items) (c.in_ok-push-2.ensures.items)
-    (closed-group b rules l.first l.number l.due c.closed.result (λ one two three four e. c.closed.ensures one two three four (c.read_due-valid.ensures.blocks ∙ e)))
+    (c.closed.ensures ∙ group-blocks b rules l.first l.number l.due c.read_due-valid.new.blocks c.read_due-valid.ensures.blocks)
     (items-lost b rules l.due l.number l.bad l.first c.bad_with-bad.result
     (bad_after-valid b l.due l.number l.bad c.bad_with-bad.result c.read_due-valid.result c.read_due-valid.ensures.valid c.bad_with-bad.ensures)
     (omega (arith, c.if-from-loss.true, c.from.ensures, c.loss-loss.ensures.value)))
@@ -103,7 +102,7 @@ returns-clause-items c =
     let l = c.args.lock in
     c.in_ok-push-3.ensures.items
     ∙ ap (λ (closed : GroupRecord). c.args.items.now.items ++ Group closed ∷ [])
-    (closed-group b rules l.first l.number l.due c.closed-2.result (λ one two three four e. c.closed-2.ensures one two three four (c.read_due-valid.ensures.blocks ∙ e)))
+    (c.closed-2.ensures ∙ group-blocks b rules l.first l.number l.due c.read_due-valid.new.blocks c.read_due-valid.ensures.blocks)
     ∙ ap (λ (is : List Item). c.args.items.now.items ++ is)
     (sym (items-kept b rules l.due l.number l.bad l.first c.bad_with-bad.result
     (bad_after-valid b l.due l.number l.bad c.bad_with-bad.result c.read_due-valid.result c.read_due-valid.ensures.valid c.bad_with-bad.ensures)

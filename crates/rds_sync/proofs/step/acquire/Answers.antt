@@ -9,9 +9,9 @@ use Rattle.rds_sync.specs.Acquiring.{acquired, has_partner}
 use Rattle.rds_sync.proofs.BodyLemmas.{acquired-early, acquired-invalid, acquired-window}
 use Rattle.rds_sync.proofs.step.acquire.Goals as goal
 
-pub returns-then-place-lt25-clause-number : goal.returns-then-place-lt25-clause-number
-returns-then-place-lt25-clause-number g c =
-    sym (acquired-early (g.T.Tape.bits c.args.tape.now) c.args.rules.now c.args.place c.if-place-lt25.true)
+pub returns-then-place-lt-FIRST_WINDOW-clause-number : goal.returns-then-place-lt-FIRST_WINDOW-clause-number
+returns-then-place-lt-FIRST_WINDOW-clause-number g c =
+    sym (acquired-early (g.T.Tape.bits c.args.tape.now) c.args.rules.now c.args.place c.if-place-lt-FIRST_WINDOW.true)
 
 pub returns-in_default-clause-number : goal.returns-in_default-clause-number
 returns-in_default-clause-number g c =
@@ -19,7 +19,7 @@ returns-in_default-clause-number g c =
     let invalid : offset_of (rem (window b c.args.place)) ≡ None =
     ap (λ (w : ℕ). offset_of (rem w)) (sym c.window-window.ensures.value) ∙ ap (λ (r : ℕ). offset_of r) (sym c.rem26.ensures.value)
     ∙ sym c.offset_of.ensures ∙ c.in_default.is in
-    sym (acquired-invalid b c.args.rules.now c.args.place c.if-place-lt25.false invalid)
+    sym (acquired-invalid b c.args.rules.now c.args.place c.if-place-lt-FIRST_WINDOW.false invalid)
 
 -- the number of the offset that was found, where there is a partner
 answer : (b : List ℕ) (rules : RuleNumbers) (place w r number_read : ℕ) (o : Offset) (read : Option Offset) (found : Bool) (later : List ℕ)
@@ -37,7 +37,7 @@ pub returns-then-has_partner-clause-number : goal.returns-then-has_partner-claus
 returns-then-has_partner-clause-number g c =
     ap (λ (t : Bool). elim t as (λ _. Option ℕ) [ true ↦ Some c.number-number.result | false ↦ None ]) (sym c.if-has_partner.true)
     ∙ answer (g.T.Tape.bits c.args.tape.now) c.args.rules.now c.args.place c.window-window.result c.rem26.result c.number-number.result
-    c.in-Some.offset c.offset_of.result c.has_partner.result (g.T.Tape.bits c.window-window.new.self) c.if-place-lt25.false
+    c.in-Some.offset c.offset_of.result c.has_partner.result (g.T.Tape.bits c.window-window.new.self) c.if-place-lt-FIRST_WINDOW.false
     c.window-window.ensures.value c.rem26.ensures.value c.offset_of.ensures c.in-Some.is c.number-number.ensures c.window-window.ensures.same
     c.has_partner.ensures.value
 
@@ -45,6 +45,6 @@ pub returns-else-has_partner-clause-number : goal.returns-else-has_partner-claus
 returns-else-has_partner-clause-number g c =
     ap (λ (t : Bool). elim t as (λ _. Option ℕ) [ true ↦ Some c.number-number.result | false ↦ None ]) (sym c.if-has_partner.false)
     ∙ answer (g.T.Tape.bits c.args.tape.now) c.args.rules.now c.args.place c.window-window.result c.rem26.result c.number-number.result
-    c.in-Some.offset c.offset_of.result c.has_partner.result (g.T.Tape.bits c.window-window.new.self) c.if-place-lt25.false
+    c.in-Some.offset c.offset_of.result c.has_partner.result (g.T.Tape.bits c.window-window.new.self) c.if-place-lt-FIRST_WINDOW.false
     c.window-window.ensures.value c.rem26.ensures.value c.offset_of.ensures c.in-Some.is c.number-number.ensures c.window-window.ensures.same
     c.has_partner.ensures.value

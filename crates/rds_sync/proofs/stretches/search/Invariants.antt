@@ -5,11 +5,9 @@ use Rattle.rds_sync.specs.Rules.{RuleNumbers}
 use Rattle.rds_sync.proofs.stretches.search.Given as goal
 
 -- no place from the one up to before the other acquires
-pub record HasSearched (b : List ℕ) (rules : RuleNumbers) (place here : ℕ) (swept : List ℕ) (at : ℕ) (before items : List Item) : Type 0 where
+pub record HasSearched (b : List ℕ) (rules : RuleNumbers) (place here : ℕ) (before items : List Item) : Type 0 where
   pub none : (j : ℕ) → place ≤ j → j < here → acquired b rules j ≡ None
-  pub same : swept ≡ b
-  pub here_is : at ≡ here
   pub nothing : items ≡ before
 
 abbrev pub invariant-loop-here : goal.invariant-loop-here
-invariant-loop-here l = HasSearched l.rec l.rules l.place l.here l.sweep.bits l.sweep.place l.initial.items.items l.items.items
+invariant-loop-here l = HasSearched l.rec l.rules l.place l.here l.initial.items.items l.items.items

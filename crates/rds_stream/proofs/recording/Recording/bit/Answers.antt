@@ -15,7 +15,7 @@ tested (suc (suc d)) p = absurd (omega arith)
 pub returns : goal.returns
 returns c =
     let bytes = c.self.inside.bytes.items in
-    let i = c.args.i in
+    let i = c.args.place in
     let held : i < c.self.inside.bits = omega (arith, length-bits_of bytes c.self.inside.bits, ap length c.self.view_is) in
     ap (λ b. get_or b i 0) (sym c.self.view_is) ∙ get_or-bits_of bytes c.self.inside.bits i held
     ∙ sym (c.bit_of.ensures.value ∙ ap (λ b. packed_bit b i) c.deref.ensures.value) ∙ tested c.bit_of.result c.bit_of.ensures.digit

@@ -31,7 +31,7 @@ pub returns-clause-value : goal.returns-clause-value
 returns-clause-value c =
     let bytes = c.as_slice-bytes.result.now in
     let bits = c.self.inside.bits in
-    let i = c.args.i in
+    let i = c.args.place in
     let held : i < bits = omega (arith, length-bits_of c.self.inside.bytes.items bits, ap length c.self.view_is) in
     let fits : (k : ℕ) → Fits w8 (get_or bytes k 0) = search rules in
     window_of_eight bytes bits i c.from_be_bytes.result c.requires.first held (omega arith) (λ k. (fits k).fits) c.from_be_bytes.ensures

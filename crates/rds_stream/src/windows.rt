@@ -1,0 +1,32 @@
+//! The valid windows of a range of places.
+ghost use Rattle.std.specs.Prelude.{◌≡◌, ◌≤◌, length, IfOk, IsOkUnless};
+ghost use Rattle.rds_stream.specs.declared.error.StreamError.TheVariants.{OutOfMemory};
+ghost use Rattle.rds_stream.specs.Recording.{valid_windows};
+
+use crate::error::StreamError;
+use crate::recording::{FIRST_WINDOW, Recording};
+use rds_code::Offset;
+use std::alloc::Global;
+
+/// All valid windows at the places from `from` to before `to`, each with its offset, by rising place.
+///
+/// Windows may begin before `from`, and none before the recording. It refuses only where memory is refused.
+pub fn scan(
+    alloc: Global,
+    recording: &Recording,
+    from: u64,
+    to: u64,
+) -> Result<Vec<(u64, Offset)>, StreamError>
+    requires order { from ≤ to }
+    requires end { to ≤ length recording.now }
+    ensures found { IfOk result (λ found. found.items ≡ valid_windows recording.now from to) }
+    ensures memory { IsOkUnless result OutOfMemory }
+{
+    let mut found = Vec::new(alloc);
+    for place in from.max(FIRST_WINDOW)..to {
+        if let Some(offset) = recording.offset(place) {
+            found.push((place, offset))?;
+        }
+    }
+    Ok(found)
+}
