@@ -1,7 +1,7 @@
 -- A burst is an odd pattern, shifted: its lowest one stands at the shift, and the pattern is as long as the span.
 use Rattle.std.proofs.Common.{◌≡◌, ℕ, zero, suc, ◌+◌, ◌*◌, ◌/◌, ◌%◌, ◌^◌, ◌<◌, ◌≤◌, sym, ap, ◌∙◌, arith, inl, inr, pow-add, pow_mono, lit<}
 use Rattle.std.proofs.Math.Nat.{pow-suc, suc-mul, mul_assoc, mul-le-mul_right}
-use Rattle.std.specs.Int.Count.{count_leading_zeros, count_trailing_zeros, under, leading_top, ones, ones_step, ones_cat, ones-le}
+use Rattle.std.specs.Int.Count.{count_trailing_zeros, under, leading_top, ones, ones_step, ones_cat, ones-le}
 use Rattle.std.proofs.lemmas.Nat.{pow_pos}
 use Rattle.std.proofs.lemmas.Bool.{cases_eq, cases_lt}
 use Rattle.rds_code.specs.Bursts.{span, IsBurst}
@@ -38,12 +38,11 @@ shifted_by_trailing (suc k) n pos small = elim (cases_eq (n % 2) 0) [
       (n, record { whole = omega arith ∙ ap (λ (x : ℕ). n * 2 ^ x) (sym (trailing_next k n 1 one)); odd = one })
 ]
 
--- e is an odd pattern m, shifted up by t, and as long as the span of e
+-- e is an odd pattern m, shifted up by t, and no longer than the span of e
 pub record HasPattern (e m t : ℕ) : Type 0 where
   pub whole : e ≡ m * 2 ^ t
   pub odd : m % 2 ≡ 1
   pub within : m < 2 ^ span e
-  pub places : span e + t + count_leading_zeros 32 e ≡ 32
 
 pub pattern_of : (e : ℕ) → 0 < e → e < 2 ^ 32 → (m : ℕ) × HasPattern e m (count_trailing_zeros 32 e)
 pattern_of e pos small =
@@ -61,7 +60,6 @@ pattern_of e pos small =
         whole = low.1.whole;
         odd = low.1.odd;
         within = below m (2 ^ span e) (2 ^ t) (omega (arith, low.1.whole, top.3, grown));
-        places = omega (arith, top.1);
       },
     )
 
@@ -73,17 +71,6 @@ ones-pattern m t =
 -- the pattern of a burst
 pub burst_pattern : (limit e : ℕ) → IsBurst limit e → (m : ℕ) × HasPattern e m (count_trailing_zeros 32 e)
 burst_pattern limit e h = pattern_of e h.not_zero (omega (arith, h.is_block))
-
-pub span_pos : (limit e : ℕ) → IsBurst limit e → 1 ≤ span e
-span_pos limit e h =
-    let part = burst_pattern limit e h in
-    elim (cases_eq (span e) 0) [
-      | inl none ↦ let one : 2 ^ span e ≡ 1 = ap (λ (x : ℕ). 2 ^ x) none in absurd (omega (arith, part.1.odd, part.1.within, one))
-      | inr some ↦ omega arith
-    ]
-
-pub zeros-le : (limit e : ℕ) → IsBurst limit e → count_leading_zeros 32 e + count_trailing_zeros 32 e ≤ 32
-zeros-le limit e h = omega (arith, (burst_pattern limit e h).1.places)
 
 -- a burst inverts as many bits as it spans, at most, and at least one
 pub ones_pos : (limit e : ℕ) → IsBurst limit e → 1 ≤ ones e

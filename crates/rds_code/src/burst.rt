@@ -1,28 +1,37 @@
-ghost use Rattle.std.specs.Prelude.{◌≡◌};
+ghost use Rattle.std.specs.Prelude.{◌≡◌, ◌==◌};
+ghost use Rattle.std.proofs.Common.{rules};
+ghost use Rattle.std.specs.Cmp.Rules.{comparing, hashing};
+ghost use Rattle.std.specs.Hash as fed;
 
+use std::hash::{Hash, Hasher};
 use std::marker::Model;
 
 /// A burst of errors in a block: a word of 26 bits, not 0, whose highest and lowest ones lie fewer than five places
 /// apart. Clauses see its pattern.
 ///
-/// EN 50067:1998, Annex B: the code corrects any single burst of up to five bits.
-#[derive(Clone, Copy, Debug, PartialEq, Eq, Hash)]
+/// It takes two bytes, since every block that a decoder keeps has room for one. EN 50067:1998, Annex B: the code
+/// corrects any single burst of up to five bits.
+#[derive(Clone, Copy, Debug)]
 pub struct Burst {
-    pattern: u32,
+    /// The pattern, shifted down until its lowest bit is a one.
+    shape: u8,
+    /// The place of the pattern's lowest one.
+    shift: u8,
 }
 
 impl Model for Burst {
-    ghost use Rattle.std.specs.Prelude.{ℕ};
+    ghost use Rattle.std.specs.Prelude.{ℕ, ◌*◌, ◌^◌};
+    ghost use Rattle.rds_code.specs.BurstShape.{IsShape, shape_of, shift_of};
 
     ghost Value = { ℕ };
 
-    ghost view = { λ b. b.pattern };
+    ghost view = { λ b. b.shape * 2 ^ b.shift };
 
-    ghost use Rattle.rds_code.specs.Bursts.{IsBurst};
+    ghost invariant = { λ b. IsShape b.shape b.shift };
 
-    ghost invariant = { λ b. IsBurst 5 b.pattern };
+    ghost inverse = { λ p. record { shape = shape_of p; shift = shift_of p } };
 
-    ghost inverse = { λ p. record { pattern = p } };
+    ghost inverse_ok = { λ b h i. record { shape = h.shape_again i; shift = h.shift_again i } };
 }
 
 impl Burst {
@@ -35,7 +44,11 @@ impl Burst {
         requires { IsBurst 5 pattern }
         ensures { result ≡ pattern }
     {
-        Burst { pattern }
+        let shift = pattern.trailing_zeros();
+        Burst {
+            shape: (pattern >> shift) as u8,
+            shift: shift as u8,
+        }
     }
 
     /// The places that it inverts, as the ones of a word of 26 bits.
@@ -43,7 +56,7 @@ impl Burst {
         ensures value { result ≡ self }
         ensures burst { IsBurst 5 self }
     {
-        self.pattern
+        u32::from(self.shape) << self.shift
     }
 
     /// How many places it spans, from its highest one to its lowest: 1 to 5.
@@ -52,8 +65,7 @@ impl Burst {
         ensures least { 1 ≤ result }
         ensures most { result ≤ 5 }
     {
-        let Burst { pattern } = self;
-        (32 - pattern.leading_zeros() - pattern.trailing_zeros()) as u8
+        (8 - self.shape.leading_zeros()) as u8
     }
 
     /// How many bits it inverts: 1 to 5.
@@ -62,7 +74,31 @@ impl Burst {
         ensures least { 1 ≤ result }
         ensures most { result ≤ 5 }
     {
-        let Burst { pattern } = self;
-        pattern.count_ones() as u8
+        self.shape.count_ones() as u8
+    }
+}
+
+// Equality and hashing go by the pattern, as clauses do.
+impl PartialEq for Burst {
+    ghost eq = { ◌==◌ };
+
+    ghost laws = { Prim.search (comparing, rules) };
+
+    fn eq(&self, other: &Burst) -> bool {
+        self.pattern() == other.pattern()
+    }
+}
+
+impl Eq for Burst {
+    ghost laws = { Prim.search (comparing, rules) };
+}
+
+impl Hash for Burst {
+    ghost hash_input = { fed.u32 };
+
+    ghost respects_eq = { Prim.search (hashing, rules) };
+
+    fn hash<H: Hasher>(&self, state: &mut H) {
+        self.pattern().hash(state);
     }
 }

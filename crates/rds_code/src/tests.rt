@@ -3,6 +3,7 @@ use crate::{
     BurstTable, CodeError, Offset, Reading, Wanted, encode_block, encode_group, is_block, laws,
     offset_of, plain, read_block, rem26,
 };
+use std::mem::size_of;
 use std::process::Abort;
 use std::test::Fail;
 
@@ -169,6 +170,11 @@ fn damaged_blocks_are_read(rt: HostRuntime) -> Result<(), Fail> {
         );
     }
     Ok(())
+}
+
+#[test]
+fn a_reading_is_small(rt: HostRuntime) {
+    assert!(rt; size_of::<Reading>() <= 6);
 }
 
 #[test]

@@ -1,9 +1,10 @@
-use Rattle.std.proofs.Common.{arith}
-use Rattle.rds_code.proofs.SpanLemmas.{span_pos, zeros-le}
+use Rattle.std.proofs.Common.{◌∙◌, sym, ap, arith}
+use Rattle.rds_code.specs.Bursts.{span}
+use Rattle.rds_code.proofs.ShapeLemmas.{span_of_shape}
 use Rattle.rds_code.proofs.burst.Burst.span.Goals as goal
 
-pub overflow_sub-result-2 : goal.overflow_sub-result-2
-overflow_sub-result-2 c = omega (arith, zeros-le 5 c.self.inside.pattern c.self.invariant)
+pub returns-clause-value : goal.returns-clause-value
+returns-clause-value c = sym (span_of_shape c.self.inside.shape c.self.inside.shift c.self.invariant) ∙ ap span c.self.view_is
 
-pub returns-clause-least : goal.returns-clause-least
-returns-clause-least c = span_pos 5 c.self.inside.pattern c.self.invariant
+pub returns-clause-most : goal.returns-clause-most
+returns-clause-most c = omega (arith, span_of_shape c.self.inside.shape c.self.inside.shift c.self.invariant, c.self.invariant.burst.short)

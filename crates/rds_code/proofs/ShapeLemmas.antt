@@ -1,0 +1,51 @@
+-- The shape and the shift of a burst of up to five bits.
+use Rattle.std.proofs.Common.{◌≡◌, ℕ, ◌+◌, ◌-◌, ◌*◌, ◌/◌, ◌^◌, Bool, true, refl, sym, ap, ◌∙◌, arith, eqb, subst}
+use Rattle.std.proofs.Math.Nat.{mul-div_cancel}
+use Rattle.std.specs.Int.Count.{count_leading_zeros, count_trailing_zeros}
+use Rattle.std.proofs.lemmas.Bool.{eqb-true}
+use Rattle.std.proofs.lemmas.Nat.{pow_pos}
+use Rattle.rds_code.specs.Bursts.{IsBurst, span}
+use Rattle.rds_code.specs.BurstShape.{shape_of, shift_of, IsShape}
+use Rattle.rds_code.proofs.Membership.{all_below, passes_below}
+use Rattle.rds_code.proofs.BurstLemmas.{IsSmallPattern, small_pattern}
+
+unshifted : (e m t : ℕ) → e ≡ m * 2 ^ t → e / 2 ^ t ≡ m
+unshifted e m t whole = ap (λ (n : ℕ). n / 2 ^ t) whole ∙ mul-div_cancel m (pow_pos t)
+
+-- a burst is its shape, an odd number of up to five places, shifted up
+pub shape_is_pattern : (e : ℕ) → IsBurst 5 e → IsSmallPattern e (shape_of e) (shift_of e)
+shape_is_pattern e h =
+    let part = small_pattern e h in
+    subst (λ (m : ℕ). IsSmallPattern e m (shift_of e)) (sym (unshifted e part.0 (shift_of e) part.1.whole)) part.1
+
+pub shape_kept : (e : ℕ) → IsBurst 5 e → IsShape (shape_of e) (shift_of e)
+shape_kept e h =
+    let same : e ≡ shape_of e * 2 ^ shift_of e = (shape_is_pattern e h).whole in record {
+      burst = subst (IsBurst 5) same h;
+      shape_again = ap shape_of (sym same);
+      shift_again = ap shift_of (sym same);
+    }
+
+-- what is kept is such a pattern
+kept_pattern : (m t : ℕ) → IsShape m t → IsSmallPattern (m * 2 ^ t) m t
+kept_pattern m t h =
+    let e : ℕ = m * 2 ^ t in
+    subst (λ (n : ℕ). IsSmallPattern e n t) h.shape_again
+    (subst (λ (n : ℕ). IsSmallPattern e (shape_of e) n) h.shift_again (shape_is_pattern e h.burst))
+
+-- whether the shape m, shifted up by t, spans the length of m
+spans : ℕ → ℕ → Bool
+spans m t = eqb (span (m * 2 ^ t)) (8 - count_leading_zeros 8 m)
+
+all_span : all_below (λ half. all_below (spans (2 * half + 1)) 26) 16 ≡ true
+unfolding spans count_leading_zeros count_trailing_zeros
+all_span = refl
+
+pub span_of_shape : (m t : ℕ) → IsShape m t → span (m * 2 ^ t) ≡ 8 - count_leading_zeros 8 m
+unfolding spans
+span_of_shape m t h =
+    let small = kept_pattern m t h in
+    let half : 2 * (m / 2) + 1 ≡ m = omega (arith, small.odd) in
+    let row = passes_below (λ n. all_below (spans (2 * n + 1)) 26) 16 (m / 2) all_span (omega (arith, small.few)) in
+    let here = subst (λ (n : ℕ). spans n t ≡ true) half (passes_below (spans (2 * (m / 2) + 1)) 26 t row small.shift) in
+    eqb-true (span (m * 2 ^ t)) (8 - count_leading_zeros 8 m) here
