@@ -1,8 +1,10 @@
 -- The command line, as `clap` reads it, and the job that its words ask for. This project's rule.
-use Rattle.std.specs.Prelude.{◌≡◌, ◌≢◌, ◌⊎◌, ◌<◌, ◌^◌, ⊤, Bool, List, None, Option, Some, [], codes, false, pos, true, ℕ, ◌∷◌}
+use Rattle.std.specs.Prelude.{◌≡◌, ◌≢◌, ◌⊎◌, ◌<◌, ◌^◌, ⊤, Bool, IfOk, List, None, Option, Result, Some, [], codes, false, pos, true, ℕ, ◌∷◌}
 use Rattle.std.specs.Str.Parse.{IsNumeral, digits_value, without_leading_plus}
-use Rattle.clap.specs.Words.{App, IsAmong, Kinds, Row, Rule, Text, fault_of, new_app, new_rule, one_of, subcommand_of, with_rule, with_subcommand}
+use Rattle.clap.specs.Words.{App, IsAmong, Kinds, Row, Rule, Text, app_of, fault_of, new_app, new_rule, one_of, subcommand_of, with_rule, with_subcommand}
 use Rattle.clap.specs.declared.builder.action.ArgAction.TheVariants.{Set, SetTrue}
+use Rattle.clap.specs.declared.builder.command.Command.{Command}
+use Rattle.clap.specs.declared.builder.command.Command.TheViews.{out-Command as fields_of}
 use Rattle.clap.specs.declared.builder.value_parser.ValueParser.TheVariants as parser
 use Rattle.clap.specs.declared.error.kind.ErrorKind.{ErrorKind}
 use Rattle.clap.specs.declared.error.kind.ErrorKind.TheVariants as kind
@@ -15,20 +17,34 @@ use Rattle.rds_tool.specs.declared.job.Job.{Job}
 use Rattle.rds_tool.specs.declared.job.Settings.{Settings}
 use Rattle.rds_tool.specs.declared.job.Job.TheVariants.{Encode, List as ListJob, Scan, Totals}
 
+-- ---- what a command reads
+
+-- it reads the words so, and none of its options is for its subcommands too
+pub record ReadsAs (command : Command) (reads : App) : Type 0 where
+  pub app : app_of command ≡ reads
+  pub local : (fields_of command).has_globals ≡ false
+
+-- the command that was made reads so, if one was made
+abbrev pub Makes : {E : Type 0} → Result Command E → App → Type 0
+Makes made app = IfOk made (λ command. ReadsAs command app)
+
 -- ---- the commands and their options
 
 -- `--hex`, a flag
 abbrev pub hex_rule : Rule
 hex_rule = record (new_rule (codes "hex")) { long = Some (codes "hex"); action = Some SetTrue }
 
+-- an option with one value, as yet of any text
+abbrev pub value_rule : Text → Rule
+value_rule name = record (new_rule name) { long = Some name; action = Some Set; value_names = 1 }
+
 -- `--bits N`, from 0 to 2^40, with no default
 abbrev pub bits_rule : Rule
-bits_rule = record (new_rule (codes "bits")) { long = Some (codes "bits"); action = Some Set; parser = Some (parser.Unsigned 0 1099511627776); value_names = 1 }
+bits_rule = record (value_rule (codes "bits")) { parser = Some (parser.Unsigned 0 1099511627776) }
 
 -- an option for a number below 2^32, with a default
 abbrev pub number_rule : Text → Text → Rule
-number_rule name default =
-    record (new_rule name) { long = Some name; action = Some Set; parser = Some (parser.Signed (pos 0) (pos 4294967295)); defaults = default ∷ []; value_names = 1 }
+number_rule name default = record (value_rule name) { parser = Some (parser.Signed (pos 0) (pos 4294967295)); defaults = default ∷ [] }
 
 -- the options of a command that reads a recording
 abbrev pub with_input : App → App

@@ -1,9 +1,9 @@
 //! Workers, seen at their work and refused.
-use crate::devices::{SlowReader, written};
+use crate::devices::{SlowReader, written, written_gated};
 use crate::samples::{Crew, Pieces, TWO_GROUPS};
 use rds_crew::Gate;
 use rds_pieces::PieceRun;
-use rds_tool::{FromRead, Input, Job, ToWrite, ToolError, transcribe, transcribe_gated};
+use rds_tool::{Input, Job, ToWrite, ToolError, transcribe};
 use std::sync::atomic::{AtomicU64, Ordering};
 use std::test::Fail;
 
@@ -27,6 +27,22 @@ impl Watch {
             from: [AtomicU64::new(0), AtomicU64::new(0)],
             to: [AtomicU64::new(0), AtomicU64::new(0)],
         }
+    }
+
+    fn misses(&self) -> u64 {
+        self.misses.load(Ordering::SeqCst)
+    }
+
+    /// From where to where each run goes, one run after the other.
+    fn ends(&self) -> [u64; 4] {
+        let from = &self.from;
+        let to = &self.to;
+        [
+            from[0].load(Ordering::SeqCst),
+            to[0].load(Ordering::SeqCst),
+            from[1].load(Ordering::SeqCst),
+            to[1].load(Ordering::SeqCst),
+        ]
     }
 
     /// Turns until piece 1 is begun, and notes a miss at the limit.
@@ -69,17 +85,10 @@ fn two_workers_run_at_the_same_time(rt: HostRuntime) -> Result<(), Fail> {
     };
     let job = crew.list(rt.alloc())?;
     let watch = Watch::new();
-    let mut reader = FromRead::new(TWO_GROUPS.digits);
-    let mut writer = ToWrite::new(Vec::new(rt.alloc()));
-    transcribe_gated(&rt, rt.alloc(), &mut reader, &mut writer, &job, &watch)?;
-    assert_eq!(&rt; writer.into_inner(), TWO_GROUPS.texts(rt.alloc())?.list);
-    assert_eq!(&rt; watch.misses.load(Ordering::SeqCst), 0);
-    let from = &watch.from;
-    let to = &watch.to;
-    assert_eq!(&rt; from[0].load(Ordering::SeqCst), 0);
-    assert_eq!(&rt; to[0].load(Ordering::SeqCst), 104);
-    assert_eq!(&rt; from[1].load(Ordering::SeqCst), 104);
-    assert_eq!(&rt; to[1].load(Ordering::SeqCst), 208);
+    let list = written_gated(&rt, rt.alloc(), &job, TWO_GROUPS.digits, &watch)?;
+    assert_eq!(&rt; list, TWO_GROUPS.texts(rt.alloc())?.list);
+    assert_eq!(&rt; watch.misses(), 0);
+    assert_eq!(&rt; watch.ends(), [0, 104, 104, 208]);
     Ok(())
 }
 
@@ -94,7 +103,6 @@ fn crew(loss: u32, workers: u32, pieces: Pieces<'_>) -> Crew<'_> {
 
 #[test]
 fn refuses_crews_and_cuts_in_order(rt: HostRuntime) -> Result<(), Fail> {
-    let alloc = rt.alloc();
     let digits = TWO_GROUPS.digits;
     let refused: [(Crew<'_>, &[u8], ToolError); 15] = [
         (
@@ -166,10 +174,7 @@ fn refuses_crews_and_cuts_in_order(rt: HostRuntime) -> Result<(), Fail> {
         ),
     ];
     for (crew, input, error) in refused {
-        for job in [crew.list(alloc)?, crew.totals(alloc)?] {
-            let answer = written(&rt, alloc, &job, input);
-            assert!(rt; matches!(&answer, Err(e) if *e == error), "{job:?}");
-        }
+        crew.assert_refused(&rt, rt.alloc(), input, error)?;
     }
     Ok(())
 }

@@ -1,7 +1,10 @@
 //! Readers and writers over memory that give and take as little as they are told, and fail on demand.
 ghost use Rattle.std.specs.Prelude.{◌≡◌, Some};
 
-use rds_tool::{Failed, FromRead, Job, Sink, Source, ToWrite, ToolError, transcribe};
+use rds_crew::Gate;
+use rds_tool::{
+    Failed, FromRead, Job, Sink, Source, ToWrite, ToolError, transcribe, transcribe_gated,
+};
 use std::alloc::{AllocError, Global};
 use std::io;
 use std::io::Write;
@@ -177,5 +180,19 @@ pub fn written<R: Threads + Wait>(
     let mut reader = FromRead::new(input);
     let mut writer = ToWrite::new(Vec::new(alloc));
     transcribe(rt, alloc, &mut reader, &mut writer, job)?;
+    Ok(writer.into_inner())
+}
+
+/// What a job writes for an input in memory where its crew calls this gate, or its refusal.
+pub fn written_gated<R: Threads + Wait, G: Gate + Sync>(
+    rt: &R,
+    alloc: Global,
+    job: &Job,
+    input: &[u8],
+    gate: &G,
+) -> Result<Vec<u8>, ToolError> {
+    let mut reader = FromRead::new(input);
+    let mut writer = ToWrite::new(Vec::new(alloc));
+    transcribe_gated(rt, alloc, &mut reader, &mut writer, job, gate)?;
     Ok(writer.into_inner())
 }

@@ -1,5 +1,4 @@
 //! Lists and totals, from digits to rows.
-use crate::devices::written;
 use crate::samples::{A_BURST, A_LOSS, Crew, NOTHING, Pieces};
 use rds_tool::ToolError;
 use std::test::Fail;
@@ -29,10 +28,7 @@ fn refuses_settings_first(rt: HostRuntime) -> Result<(), Fail> {
             workers: 4,
             pieces: Pieces::Even(16),
         };
-        for job in [crew.list(rt.alloc())?, crew.totals(rt.alloc())?] {
-            let answer = written(&rt, rt.alloc(), &job, b"no digits");
-            assert!(rt; matches!(&answer, Err(e) if *e == error), "{rules:?}");
-        }
+        crew.assert_refused(&rt, rt.alloc(), b"no digits", error)?;
     }
     Ok(())
 }

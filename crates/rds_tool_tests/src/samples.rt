@@ -2,6 +2,7 @@
 use crate::devices::written;
 use rds_tool::{Cuts, Input, Job, Settings, ToolError};
 use std::alloc::{AllocError, Global};
+use std::process::Abort;
 use std::sync::Wait;
 use std::thread::Threads;
 
@@ -124,6 +125,21 @@ impl Crew<'_> {
 
     pub fn totals(&self, alloc: Global) -> Result<Job, AllocError> {
         Ok(Job::Totals(HEX, self.settings(alloc)?))
+    }
+
+    /// Asserts that a list and totals of the input are refused so.
+    pub fn assert_refused<R: Abort + Threads + Wait>(
+        &self,
+        rt: &R,
+        alloc: Global,
+        input: &[u8],
+        error: ToolError,
+    ) -> Result<(), AllocError> {
+        for job in [self.list(alloc)?, self.totals(alloc)?] {
+            let answer = written(rt, alloc, &job, input);
+            assert!(rt; matches!(&answer, Err(e) if *e == error), "{job:?}");
+        }
+        Ok(())
     }
 
     pub fn settings(&self, alloc: Global) -> Result<Settings, AllocError> {

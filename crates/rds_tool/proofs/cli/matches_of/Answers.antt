@@ -13,7 +13,7 @@ is_simple_app = refl
 
 pub returns-clause-entries : goal.returns-clause-entries
 returns-clause-entries c =
-    let e = c.in_ok-rds_command.ensures in
+    let e = c.in_ok-rds_command.ensures.app in
     let parse = c.try_get_matches_from in
     IfOk-weaker parse.result _ _ (λ m h. (h (ap is_simple e ∙ is_simple_app)).1 ∙ ap (λ (a : App). subcommand_of a (map (λ (w : Bor (List ℕ)). w.now) c.args.words.now)) e) parse.ensures.matches
 
@@ -23,6 +23,6 @@ is_free_app = refl
 
 pub returns-clause-faults : goal.returns-clause-faults
 returns-clause-faults c =
-    let e = c.in_ok-rds_command.ensures in
+    let e = c.in_ok-rds_command.ensures.app in
     let words = map (λ (w : Bor (List ℕ)). w.now) c.args.words.now in
     subst (λ (a : App). FailsBy (fault_of a words) c.try_get_matches_from.result) e (c.try_get_matches_from.ensures.kinds (ap is_simple_and_free e ∙ is_free_app))
