@@ -1,2 +1,5 @@
 pub mod Places
 pub mod Sweeps
+pub mod BitOrder
+pub mod RemainderBits
+pub mod WindowBits
