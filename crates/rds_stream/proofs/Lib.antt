@@ -3,3 +3,5 @@ pub mod Sweeps
 pub mod BitOrder
 pub mod RemainderBits
 pub mod WindowBits
+pub mod Agreement
+pub mod Scans

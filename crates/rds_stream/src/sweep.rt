@@ -1,13 +1,10 @@
 //! The valid windows of a recording, place by place.
-ghost use Rattle.std.specs.Prelude.{◌≡◌, List, ℕ, ◌+◌, ◌<◌, ◌≤◌, length, IfOk, IsOkUnless};
-ghost use Rattle.rds_stream.specs.declared.error.StreamError.TheVariants.{OutOfMemory};
-ghost use Rattle.rds_stream.specs.Recording.{off, valid_windows};
+ghost use Rattle.std.specs.Prelude.{◌≡◌, ◌+◌, ◌<◌, ◌≤◌, length};
+ghost use Rattle.rds_stream.specs.Recording.{off};
 ghost use Rattle.rds_stream.specs.Sweep.{SweepState};
 
-use crate::error::StreamError;
 use crate::recording::Recording;
 use rds_code::{Offset, offset_of, rem26};
-use std::alloc::Global;
 use std::marker::Model;
 
 /// The place of the last bit of the first window.
@@ -55,28 +52,4 @@ impl Sweep<'_> {
             offset_of(rem26(self.recording.window(place)))
         }
     }
-}
-
-/// All valid windows at the places from `from` to before `to`, each with its offset, by rising place.
-///
-/// Windows may begin before `from`, and none before the recording. It refuses only where memory is refused.
-pub fn scan(
-    alloc: Global,
-    recording: &Recording,
-    from: u64,
-    to: u64,
-) -> Result<Vec<(u64, Offset)>, StreamError>
-    requires order { from ≤ to }
-    requires end { to ≤ length recording.now }
-    ensures found { IfOk result (λ found. found.items ≡ valid_windows recording.now from to) }
-    ensures memory { IsOkUnless result OutOfMemory }
-{
-    let mut found = Vec::new(alloc);
-    let first = from.max(FIRST_WINDOW.min(to));
-    for place in first..to {
-        if let Some(offset) = offset_of(rem26(recording.window(place))) {
-            found.push((place, offset))?;
-        }
-    }
-    Ok(found)
 }
