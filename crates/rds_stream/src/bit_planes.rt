@@ -30,16 +30,17 @@ fn planes_of(places: u128) -> [u64; 10]
 {
     laws::remainders_are_linear();
 
-    // The highest plane: the sums of two runs of five places and of one place more.
+    // Sums of two, four and five places in a row, and of two such fives nine places apart. With one place more these are the
+    // highest bits of the remainders.
     let pairs = places ^ places >> 1;
     let fours = pairs ^ pairs >> 2;
     let fives = fours ^ places >> 4;
     let tens = fives ^ fives >> 9;
     let nine = (tens ^ places >> 15) >> 1;
 
-    // Division goes from a window to that of the next place by one step, and this is the step taken back: a plane is the
-    // one above it a place on, with the highest plane where the generator has a one, and the window's first place where
-    // x^26 leaves one.
+    // From a window to that of the next place division goes on by one step. Here each step is taken back: a plane is the
+    // one above it, a place on, and to that come the highest plane where the generator has a one, and the first places of
+    // the windows where x^26 leaves a one.
     let both = nine ^ places;
     let eight = nine >> 1;
     let seven = eight >> 1 ^ nine;
