@@ -1,4 +1,4 @@
--- The group of four zero words, sent once and twice: its windows, computed. Some that end inside a block are valid too.
+-- The group of four zero words, sent once, twice and five times: its windows, computed. Some that end inside a block are valid too.
 use Rattle.std.specs.Prelude.{◌≡◌, ℕ, List, [], ◌∷◌, ◌++◌, map, refl}
 use Rattle.std.specs.List.{range_with_len}
 use Rattle.rds_code.specs.Remainder.{rem}
@@ -28,6 +28,17 @@ pub twice_valid : valid_windows twice 0 208 ≡
     (25, A) ∷ (51, B) ∷ (77, C) ∷ (96, B) ∷ (103, D) ∷ (123, B) ∷ (129, A) ∷ (155, B) ∷ (181, C) ∷ (200, B) ∷ (207, D) ∷ []
 unfolding rem window off
 twice_valid = refl
+
+-- sent five times: a word of 64 places begins at another place of each group
+abbrev pub five_times : List ℕ
+five_times = bits_of (zero_group ++ zero_group ++ zero_group ++ zero_group ++ zero_group) 520
+
+pub five_valid : valid_windows five_times 0 520 ≡
+    (25, A) ∷ (51, B) ∷ (77, C) ∷ (96, B) ∷ (103, D) ∷ (123, B) ∷ (129, A) ∷ (155, B) ∷ (181, C) ∷ (200, B) ∷ (207, D) ∷
+    (227, B) ∷ (233, A) ∷ (259, B) ∷ (285, C) ∷ (304, B) ∷ (311, D) ∷ (331, B) ∷ (337, A) ∷ (363, B) ∷ (389, C) ∷ (408, B) ∷ (415, D) ∷
+    (435, B) ∷ (441, A) ∷ (467, B) ∷ (493, C) ∷ (512, B) ∷ (519, D) ∷ []
+unfolding rem window off
+five_valid = refl
 
 -- one place, the places before the first window, and no place
 pub one_place : valid_windows once 96 97 ≡ (96, B) ∷ []

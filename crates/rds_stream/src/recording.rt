@@ -1,8 +1,10 @@
 //! A recording: packed bits with places.
 ghost use Rattle.std.specs.Prelude.{◌≡◌, List, ℕ, ◌+◌, ◌*◌, ◌^◌, ◌<◌, ◌≤◌, ◌↔◌, vec_len, length, slice_index, All, if◌then◌else◌, IfOk, IsOk};
 ghost use Rattle.rds_stream.specs.declared.error.StreamError.TheVariants.{TooLong, BitsPastBytes};
+ghost use Rattle.std.specs.Int.{bit_at};
 ghost use Rattle.rds_stream.specs.Recording.{packed_bit, bits_of, window, off};
 
+use crate::bit_order::lowest_first;
 use crate::error::StreamError;
 use rds_code::{Offset, offset_of, rem26};
 use std::marker::Model;
@@ -137,5 +139,36 @@ impl Recording {
         let before = if place % 8 == 0 { bytes[last - 4] } else { 0 };
         let places = (before as u64) << 32 | u32::from_be_bytes(four) as u64;
         (places >> (7 - place % 8) & BLOCK as u64) as u32
+    }
+
+    /// The bits at the 89 places from `from` on, the first one lowest: the windows at 64 places lie in them.
+    pub(crate) fn places(&self, from: u64) -> u128
+        requires { from + 89 ≤ length self.now }
+        ensures { (k : ℕ) → k < 89 → bit_at result k ≡ slice_index self.now (from + k) }
+    {
+        // They lie in twelve bytes.
+        let first = (from / 8) as usize;
+        let bytes = self.bytes.as_slice();
+        let low = lowest_first([
+            bytes[first],
+            bytes[first + 1],
+            bytes[first + 2],
+            bytes[first + 3],
+            bytes[first + 4],
+            bytes[first + 5],
+            bytes[first + 6],
+            bytes[first + 7],
+        ]);
+        let high = lowest_first([
+            bytes[first + 8],
+            bytes[first + 9],
+            bytes[first + 10],
+            bytes[first + 11],
+            0,
+            0,
+            0,
+            0,
+        ]);
+        ((high as u128) << 64 | low as u128) >> (from % 8)
     }
 }

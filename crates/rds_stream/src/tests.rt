@@ -1,4 +1,4 @@
-use crate::{Counted, FIRST_WINDOW, Recording, StreamError, Tape, scan};
+use crate::{Counted, FIRST_WINDOW, Recording, StreamError, Tape, planes, scan};
 use rds_code::{Offset, offset_of, rem26};
 use std::alloc::Global;
 use std::process::Abort;
@@ -97,6 +97,56 @@ fn a_scan_finds_the_valid_windows(rt: HostRuntime) -> Result<(), Fail> {
     ] {
         let found = scan(rt.alloc(), &twice, from, to)?;
         assert_eq!(rt; found.as_slice(), &all[first..last], "from {from} to {to}");
+    }
+    Ok(())
+}
+
+/// The group five times: two words of 64 places lie in a group's length, so words begin at many places of it.
+#[test]
+fn a_scan_goes_over_words_and_the_places_left(rt: HostRuntime) -> Result<(), Fail> {
+    use Offset::{A, B, C, D};
+    let five = zero_groups(rt.alloc(), 520, &[])?;
+    assert_eq!(rt; five.len(), 520);
+    let mut wanted = Vec::new(rt.alloc());
+    for group in 0..5u64 {
+        let start = 104 * group;
+        // Between groups a window ends inside a block and is valid too.
+        if group > 0 {
+            wanted.push((start + 19, B))?;
+        }
+        wanted.extend_from_slice(&[
+            (start + 25, A),
+            (start + 51, B),
+            (start + 77, C),
+            (start + 96, B),
+            (start + 103, D),
+        ])?;
+    }
+    let found = scan(rt.alloc(), &five, 0, 520)?;
+    assert_eq!(rt; found.len(), 29);
+    assert_eq!(rt; found, wanted);
+    let one = scan(rt.alloc(), &five, 129, 130)?;
+    assert_eq!(rt; one.as_slice(), [(129, A)].as_slice());
+    Ok(())
+}
+
+#[test]
+fn planes_hold_the_remainders_of_the_vectors(rt: HostRuntime) -> Result<(), Fail> {
+    let twice = zero_groups(rt.alloc(), 208, &[])?;
+    assert_eq!(rt; twice.len(), 208);
+    for at in [25, 26, 31, 32, 66] {
+        let ten = planes(&twice, at);
+        for k in 0..64u64 {
+            let mut remainder = 0;
+            for r in 0..10usize {
+                remainder |= ((ten[r] >> k & 1) as u16) << r;
+            }
+            assert_eq!(rt;
+                remainder,
+                REMAINDERS[(at - 25 + k) as usize],
+                "at {at} + {k}"
+            );
+        }
     }
     Ok(())
 }

@@ -1,0 +1,13 @@
+-- Remainders of many places at once, bit by bit.
+use Rattle.std.specs.Prelude.{◌≡◌, ℕ, ◌+◌, ◌-◌, ◌^◌, ◌<◌, List, slice_index}
+use Rattle.std.specs.Int.{bit_at}
+
+-- the window that begins at bit k of the places, the first place lowest, is the block w: its lowest bit is that of its last place
+pub record IsWindowAt (places k w : ℕ) : Type 0 where
+  pub block : w < 2 ^ 26
+  pub bits : (t : ℕ) → t < 26 → bit_at w t ≡ bit_at places (k + (25 - t))
+
+-- at bit k the ten planes hold a remainder: bit k of plane r is its bit r
+pub record Hold (planes : List ℕ) (k remainder : ℕ) : Type 0 where
+  pub small : remainder < 2 ^ 10
+  pub bits : (r : ℕ) → r < 10 → bit_at (slice_index planes r) k ≡ bit_at remainder r
