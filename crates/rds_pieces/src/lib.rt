@@ -41,6 +41,3 @@ pub use run::{Mark, PieceRun, speculate};
 pub use seams::seam;
 pub use stitching::stitch;
 pub use work::{RecordingWork, Work};
-
-#[cfg(test)]
-mod tests;

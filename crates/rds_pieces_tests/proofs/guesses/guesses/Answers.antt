@@ -3,8 +3,7 @@ use Rattle.std.specs.List.{range_with_len}
 use Rattle.std.proofs.lemmas.List.FromFn.{map-range_with_len_more}
 use Rattle.rds_pieces.specs.Cutting.{pieces_of}
 use Rattle.rds_pieces.specs.RunOf.{RunOf, run_at, FollowEachOther}
-use Rattle.rds_pieces.proofs.RowLemmas.{pieces_in_a_row}
-use Rattle.rds_pieces.proofs.tests.guesses.Goals as goal
+use Rattle.rds_pieces_tests.proofs.guesses.guesses.Goals as goal
 
 pub loop-j-preserved : goal.loop-j-preserved
 loop-j-preserved g c =
@@ -20,4 +19,4 @@ returns g c =
     let all : c.loop-j.j ≡ pieces_of (g.W.Work.places c.args.work.now) = omega arith in
     subst (λ (rs : List RunOf). FollowEachOther b rules 0 (length b) rs)
     (sym (c.loop-j.invariant ∙ ap (λ (n : ℕ). map (run_at b rules (g.W.Work.places c.args.work.now)) (range_with_len 0 n)) all))
-    (pieces_in_a_row b rules (g.W.Work.places c.args.work.now) c.requires)
+    (c.pieces_follow.ensures b rules (g.W.Work.places c.args.work.now) c.requires)

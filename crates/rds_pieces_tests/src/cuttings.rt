@@ -1,0 +1,67 @@
+//! Cuttings: even ones, and what is none.
+use rds_pieces::{Cutting, PieceError};
+use std::alloc::{AllocError, Global};
+use std::process::Abort;
+use std::test::Fail;
+
+/// Asserts that the even cutting has these places.
+fn assert_even<R: Abort>(
+    rt: &R,
+    alloc: Global,
+    len: u64,
+    pieces: u64,
+    places: &[u64],
+) -> Result<(), PieceError> {
+    assert!(rt; pieces >= 1);
+    let cutting = Cutting::even(alloc, len, pieces)?;
+    assert!(rt;
+        places.len().checked_sub(1) == Some(cutting.pieces() as usize),
+        "{places:?}"
+    );
+    for j in 0..cutting.pieces() {
+        let next = j as usize + 1;
+        assert!(rt;
+            places.get(j as usize) == Some(&cutting.from(j)),
+            "{places:?}"
+        );
+        assert!(rt; places.get(next) == Some(&cutting.to(j)), "{places:?}");
+    }
+    Ok(())
+}
+
+#[test]
+fn even_cuttings_have_pieces_of_one_length_but_the_last(rt: HostRuntime) -> Result<(), Fail> {
+    let rows: [(u64, u64, &[u64]); 4] = [
+        (10, 4, &[0, 3, 6, 9, 10]),
+        (10, 6, &[0, 2, 4, 6, 8, 10]),
+        (10, 1, &[0, 10]),
+        (0, 16, &[0]),
+    ];
+    for (len, pieces, places) in rows {
+        assert_even(&rt, rt.alloc(), len, pieces, places)?;
+    }
+    Ok(())
+}
+
+/// Whether these places are refused as a cutting of 10 bits, and given back.
+fn is_given_back(alloc: Global, places: &[u64]) -> Result<bool, AllocError> {
+    match Cutting::new(places.to_vec(alloc)?, 10) {
+        Ok(_cutting) => Ok(false),
+        Err((error, back)) => Ok(error == PieceError::BadCutting && back.as_slice() == places),
+    }
+}
+
+#[test]
+fn what_is_no_cutting_is_given_back(rt: HostRuntime) -> Result<(), Fail> {
+    let rows: [&[u64]; 5] = [&[0, 5, 5, 10], &[5, 10], &[0, 5, 9], &[0, 5, 3, 10], &[]];
+    for places in rows {
+        assert!(rt; is_given_back(rt.alloc(), places)?, "{places:?}");
+    }
+    Ok(())
+}
+
+#[test]
+fn refusals_have_a_number_and_a_name(rt: HostRuntime) {
+    assert!(rt; PieceError::BadCutting.number() == 6);
+    assert!(rt; PieceError::OutOfMemory.name() == "OutOfMemory");
+}
