@@ -80,7 +80,7 @@ check 'bits that are no number' 2 '' '*--bits' '' scan --bits ten
 check 'a setting above 32 bits' 2 '' '*4294967296' '' list --burst 4294967296
 check 'rules for a scan' 2 '' '*--burst' '' scan --burst 2
 check 'bits for encode' 2 '' '*--bits' '' encode --bits 104
-check 'an argument that is no text' 2 '' 'error: an argument is no text\n' '' $'\xff'
+check 'an argument that is not UTF-8' 2 '' 'error: an argument is not valid UTF-8\n' '' $'\xff'
 
 # ---- scan
 

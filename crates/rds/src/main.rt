@@ -23,7 +23,7 @@ fn asked_for(rt: &HostRuntime) -> Result<Job, CliFault> {
     let given = match env::args(rt) {
         Ok(given) => given,
         Err(error) if error.kind() == ErrorKind::InvalidData => {
-            return Err(fault(rt, FaultKind::Words, "error: an argument is no text\n"));
+            return Err(fault(rt, FaultKind::Words, "error: an argument is not valid UTF-8\n"));
         }
         Err(_) => return Err(fault(rt, FaultKind::Memory, "")),
     };

@@ -1,4 +1,4 @@
-// The remainder of a block: from tables, and by long division.
+//! The remainder of a block: from tables, and by long division.
 use crate::timing::Timing;
 use anyhow::Result;
 use rds_code::{plain, rem26};

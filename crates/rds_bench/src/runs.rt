@@ -1,4 +1,4 @@
-// The report of one decoder, and of pieces that are stitched.
+//! The report of one decoder, and of pieces that are stitched.
 use crate::sample::Sample;
 use crate::timing::Timing;
 use anyhow::Result;

@@ -1,4 +1,4 @@
-// Recordings that are made up, the same in each run.
+//! Recordings that are made up, the same in each run.
 use anyhow::Result;
 use rds_code::encode_group;
 use rds_stream::Recording;

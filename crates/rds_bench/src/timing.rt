@@ -1,4 +1,4 @@
-// Times of the forms of one task, beside one another.
+//! Times of the forms of one task, beside one another.
 use std::io;
 use std::time::Instant;
 

@@ -1,4 +1,4 @@
-// From the bytes of a recording to the text of a listing, by one, two and four workers over sixteen pieces.
+//! From the bytes of a recording to the text of a listing, by one, two and four workers over sixteen pieces.
 use crate::sample::Sample;
 use crate::timing::Timing;
 use anyhow::Result;

@@ -1,4 +1,4 @@
-// The valid windows of a recording: by the scan, and by long division of each window.
+//! The valid windows of a recording: by the scan, and by long division of each window.
 use crate::sample::Sample;
 use crate::timing::Timing;
 use anyhow::Result;

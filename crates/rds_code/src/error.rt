@@ -13,7 +13,7 @@ pub enum CodeError {
 }
 
 impl CodeError {
-    /// The refusal's number: 8.
+    /// The number of the refusal: 8.
     pub fn number(self) -> u8
         ensures { result ≡ 8 }
     {
@@ -22,7 +22,7 @@ impl CodeError {
         }
     }
 
-    /// The refusal's name.
+    /// The name of the refusal.
     pub fn name(self) -> &'static str
         ensures { result.now ≡ codes "OutOfMemory" }
     {

@@ -33,7 +33,7 @@ impl BurstTable {
     ghost use Rattle.rds_code.specs.Remainder.{rem};
     ghost use Rattle.rds_code.specs.Bursts.{IsBurst};
 
-    /// The table, in one growth of 4,096 bytes. What it holds its type keeps. Refuses want of memory alone.
+    /// The table, in one growth of 4,096 bytes. What it holds its type keeps. Fails with `OutOfMemory` alone.
     pub fn new(alloc: Global) -> Result<BurstTable, CodeError> {
         let mut patterns = no_bursts(alloc)?;
         enter_all(&mut patterns);

@@ -33,7 +33,7 @@ impl CrewError {
         }
     }
 
-    /// Its name, as the program shows it.
+    /// The name of the refusal.
     pub fn name(self) -> &'static str
         ensures { result.now ≡ name_of self }
     {

@@ -28,7 +28,7 @@ impl PieceError {
         }
     }
 
-    /// The name of the refusal, as written after its number.
+    /// The name of the refusal.
     pub fn name(self) -> &'static str
         ensures { result.now ≡ name_of self }
     {

@@ -27,7 +27,7 @@ pub enum SyncError {
 impl SyncError {
     ghost use Rattle.rds_sync.specs.Refusals.{number_of, name_of};
 
-    /// The refusal's number, the same in every crate and listing.
+    /// The number of the refusal: 1, 2, 3 or 8.
     pub fn number(self) -> u8
         ensures { result ≡ number_of self }
     {
@@ -39,7 +39,7 @@ impl SyncError {
         }
     }
 
-    /// The refusal's name.
+    /// The name of the refusal.
     pub fn name(self) -> &'static str
         ensures { result.now ≡ name_of self }
     {

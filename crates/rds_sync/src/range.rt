@@ -15,8 +15,8 @@ use std::alloc::Global;
 /// The run from `state` over the bits at `from` to `to` - 1: the state after them, and what they
 /// gave, in order. Windows may begin before `from`.
 ///
-/// The item of the recording's end is not among them: see [`finish`](crate::finish). Refuses only
-/// want of memory for the list of items.
+/// The item of the recording's end is not among them: see [`finish`](crate::finish). Fails
+/// with `OutOfMemory` alone.
 pub fn run(
     alloc: Global,
     rec: &Recording,

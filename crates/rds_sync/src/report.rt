@@ -25,7 +25,7 @@ pub struct Report {
 }
 
 /// The report of a recording: the items of its locks, in order, with that of its end, and their
-/// totals. Refuses only want of memory for the list of items.
+/// totals. Fails with `OutOfMemory` alone.
 pub fn decode_plain(alloc: Global, rec: &Recording, rules: &Rules) -> Result<Report, SyncError>
     ensures items { IfOk result (λ report. report.items.items ≡ report_items rec.now rules.now) }
     ensures totals { IfOk result (λ report. report.totals

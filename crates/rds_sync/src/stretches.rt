@@ -32,7 +32,7 @@ pub struct Reached {
 /// to `items`.
 ///
 /// A run over a range is made of stretches, and so is a decoder that notes where items are given.
-/// Windows may begin before `place`. Refuses only want of memory for the list of items.
+/// Windows may begin before `place`. Fails with `OutOfMemory` alone.
 pub fn stretch(
     rec: &Recording,
     rules: &Rules,

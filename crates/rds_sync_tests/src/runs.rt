@@ -80,34 +80,20 @@ fn stretches_end_at_the_bits_that_give_items(rt: HostRuntime) -> Result<(), Fail
     let rec = zero_groups(alloc, 208)?;
     assert_eq!(rt; rec.len(), 208);
     let rules = default_rules(alloc)?;
-    for (place, state, end, after, found) in [
-        (
-            0,
-            State::Searching,
-            52,
-            locked(77, 3, 0, 2),
-            "acquired 51 2",
-        ),
-        (
-            52,
-            locked(77, 3, 0, 2),
-            104,
-            locked(129, 1, 0, 1),
-            "group 26 0 A none B:0000 C:0000 D:0000",
-        ),
-        (
-            104,
-            locked(129, 1, 0, 1),
-            208,
-            locked(233, 1, 0, 1),
-            "group 104 0 A A:0000 B:0000 C:0000 D:0000",
-        ),
+    let (mut place, mut state) = (0, State::Searching);
+    for (end, found) in [
+        (52, "acquired 51 2"),
+        (104, "group 26 0 A none B:0000 C:0000 D:0000"),
+        (208, "group 104 0 A A:0000 B:0000 C:0000 D:0000"),
     ] {
-        assert!(rt; state.is_lawful(&rules, place));
+        assert!(rt; place < 208 && state.is_lawful(&rules, place));
         let mut items = Vec::new(alloc);
         let reached = stretch(&rec, &rules, state, place, 208, &mut items)?;
-        assert_eq!(rt; (reached.place, reached.state), (end, after));
+        assert_eq!(rt; reached.place, end);
         assert_eq!(rt; items_text(alloc, &items)?.as_str(), found);
+        place = reached.place;
+        state = reached.state;
     }
+    assert_eq!(rt; state, locked(233, 1, 0, 1));
     Ok(())
 }

@@ -50,7 +50,7 @@ abbrev pub Writes : Option (List ℕ) → Option (List ℕ) → Result (List ℕ
 Writes old new (Ok text) = Appends old new text
 Writes old new (Err e) = ⊥
 
--- a front of the text was added to what the writer held
+-- a prefix of the text was added to what the writer held
 abbrev pub WritesFront : Option (List ℕ) → Option (List ℕ) → Result (List ℕ) ToolError → Type 0
 WritesFront old new (Ok text) = (front : List ℕ) × (rest : List ℕ) × (text ≡ front ++ rest) × Appends old new front
 WritesFront old new (Err e) = ⊥

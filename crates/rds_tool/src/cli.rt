@@ -35,8 +35,8 @@ pub struct CliFault {
 
 /// The job that a command line asks for. The words begin with the program's name.
 ///
-/// An answer without a job is help where the words ask for it, and a refusal of the words where they
-/// have a fault; either can be want of memory instead.
+/// Without a job, the answer is help where it was asked for, or a fault where `clap` finds one in the words or no job has their
+/// entries. Either can be want of memory instead.
 pub fn job_of(alloc: Global, words: &[&str]) -> Result<Job, CliFault>
     ensures entries { IfOk result (IsJobOf (entries_of (map (λ word. word.now) words.now))) }
     ensures faultless { OnOk result (faults_of (map (λ word. word.now) words.now) ≡ []) }

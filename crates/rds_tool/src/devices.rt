@@ -21,7 +21,7 @@ pub trait Source {
 
     /// One read: fills the front of `buf` and answers how many bytes that were.
     ///
-    /// No byte into a buffer that isn't empty is the end of the input.
+    /// `Ok(0)` for a buffer that isn't empty is the end of the input.
     fn read(&mut self, buf: &mut [u8]) -> Result<usize, Failed>
         requires { failed self.old < 2 ^ 63 }
         ensures within { IfOk result (λ count. count ≤ length buf.new) }
@@ -44,7 +44,7 @@ pub trait Sink {
 
     /// One write: takes some bytes from the front of `bytes` and answers how many.
     ///
-    /// To take none of some is a failure, although the call may then answer `Ok(0)`.
+    /// Taking no byte of some counts as a failure, even where the call answers `Ok(0)`.
     fn write(&mut self, bytes: &[u8]) -> Result<usize, Failed>
         requires { failed self.old < 2 ^ 63 }
         ensures within { IfOk result (λ count. count ≤ length bytes.now) }

@@ -58,7 +58,7 @@ pub enum ToolError {
 }
 
 impl ToolError {
-    /// The number of the refusal.
+    /// The number of the refusal: 1 to 14.
     pub fn number(self) -> u8
         ensures { result ≡ number_of self }
     {
@@ -80,7 +80,7 @@ impl ToolError {
         }
     }
 
-    /// The name of the refusal, as printed after its number.
+    /// The name of the refusal, as the program prints it after the number.
     pub fn name(self) -> &'static str
         ensures { result.now ≡ name_of self }
     {

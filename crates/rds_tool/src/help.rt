@@ -20,7 +20,7 @@ words aren't a command line, 1 for a refusal. A refusal writes nothing, but for
    7 CrewRange      --workers is not 1 to 256
    8 OutOfMemory    memory was refused
    9 Read           reading failed
-  10 Write          writing failed; a front of the text may stand there
+  10 Write          writing failed; a part of the text may have been written
   11 HexText        hexadecimal input with an odd number of digits or a strange byte
   12 GroupText      a line for 'encode' that is neither empty nor 16 digits
   13 TooManyTurns   16777216 reads gave bytes and no end had come
@@ -91,7 +91,7 @@ pub const HEX_INPUT: &str =
 pub const HEX_OUTPUT: &str = "Write each group as a line of 26 lower-case hexadecimal digits";
 
 pub const BITS: &str =
-    "Length of the recording in bits, 0 to 1099511627776 [default: all of the input]";
+    "Length of the recording in bits, 0 to 68719476736 [default: all of the input]";
 
 pub const BURST: &str = "Correct bursts of errors of up to N bits, 0 to 5";
 

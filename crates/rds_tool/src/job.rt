@@ -6,17 +6,18 @@ pub struct Input {
     /// Whether the input is hexadecimal text, in which space, tab, carriage return and line feed don't
     /// count; else it is the recording's bytes themselves.
     pub hex: bool,
-    /// How many bits the recording has; without it, all those of its bytes.
+    /// How many bits the recording has; without it, all those of its bytes. More than 2^36 is refused as `TooLong`, more
+    /// than the bytes hold as `BitsPastBytes`.
     pub bits: Option<u64>,
 }
 
 /// Where a recording is cut into pieces. The listing doesn't depend on it.
 #[derive(Debug, PartialEq, Eq, Drop)]
 pub enum Cuts {
-    /// Pieces of one length but for the last, at most so many. None is refused as `BadCutting`.
+    /// At most so many pieces, of one length but for the last. `Even(0)` is refused as `BadCutting`.
     Even(u64),
-    /// The places of the cuts: each is that of the bit before which it lies. They rise strictly, above 0
-    /// and below the number of bits; where there are no bits, there are none. Others are `BadCutting`.
+    /// The places of the cuts: a cut at place p lies before bit p. They rise strictly, above 0 and below the number of
+    /// bits, so a recording of at most one bit has none. Anything else is refused as `BadCutting`.
     At(Vec<u64>),
 }
 

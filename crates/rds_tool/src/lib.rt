@@ -19,11 +19,13 @@
 //!   the recording, lock by lock, for every cutting and any number of workers; `specs/Outcome.antt` says it for each job.
 //!   [`transcribe_gated`] is the same with a gate, by which a caller hears of the workers.
 //! - Each refusal is a [`ToolError`] and comes where it should: `Read` and `Write` exactly where a call of the device
-//!   failed, settings out of their range before anything is read, `TooManyTurns` only after 16,777,216 bytes, `NoWorker` only
-//!   where more than one worker is asked for, and any other but `OutOfMemory` exactly where the job and the bytes call for it.
-//! - After a refusal the writer is as it was, but after `Write`: then what it has more is a front of the text.
+//!   failed, settings out of their range before anything is read, `NoWorker` only where more than one worker is asked for. If
+//!   the reader tells its bytes, `TooManyTurns` comes only after 16,777,216 of them, and any other but `OutOfMemory` exactly
+//!   where the job and the bytes call for it.
+//! - After any refusal but `Write` the writer is as it was; after `Write`, if reader and writer tell their bytes, what was
+//!   written is a prefix of the text.
 //! - Where `job_of` answers `Ok`, the job holds the entries that `clap` read, defaults too. Where it answers a fault, it is
-//!   help that was asked for, or `clap` finds a fault in the words, or memory was refused.
+//!   help that was asked for, or `clap` finds a fault in the words, or no job has their entries, or memory was refused.
 //!
 //! # What it leaves to others
 //!

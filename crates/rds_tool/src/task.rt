@@ -25,7 +25,7 @@ impl<'a> Task<'a> {
     ghost use Rattle.rds_tool.specs.Outcome.{text_of_task};
     ghost use Rattle.rds_tool.specs.Tasks.{MayStartThreads, task_of};
 
-    /// The task of a job. A setting out of its range is refused before any memory is taken.
+    /// The task of a job. A setting out of its range is refused as such, whether or not there is memory.
     pub fn of(alloc: Global, job: &'a Job) -> Result<Task<'a>, ToolError>
         ensures ok { IfOk result (λ task. task_of job.now ≡ Ok task) }
         ensures refused { IfErr result (λ error. (error ≡ ToolError.OutOfMemory) ⊎ (task_of job.now ≡ Err error)) }
