@@ -42,6 +42,8 @@ pub enum Reading {
 ///
 /// The window is valid where its remainder is an offset word of that number, whatever is wanted. Else it is corrected
 /// where one pair alone of a wanted offset and a burst fits, and else lost: this project's rule. It takes no memory.
+// In line: a valid block then stays in registers, and is not stored and loaded again where it is kept.
+#[inline(always)]
 pub fn read_block(table: &BurstTable, w: u32, number: u8, wanted: Wanted, limit: u8) -> Reading
     requires block { w < 2 ^ 26 }
     requires first { 1 ≤ number }
@@ -73,6 +75,7 @@ fn own_offset(remainder: u16, number: u8) -> Option<Offset>
 }
 
 /// The window corrected as block `number`.
+#[cold]
 fn corrected(
     table: &BurstTable,
     w: u32,

@@ -88,8 +88,7 @@ impl Rules {
     }
 
     /// The window read as the block of this number, corrected where these rules allow it.
-    // In line, so that what is read need not be stored and loaded again at each block.
-    #[inline(always)]
+    #[inline]
     pub(crate) fn read(&self, window: u32, number: u8, wanted: Wanted) -> Reading
         requires block { window < 2 ^ 26 }
         requires number { (1 ≤ number) × (number ≤ 4) }
