@@ -36,6 +36,3 @@ mod share;
 pub use crew::decode_crew;
 pub use error::CrewError;
 pub use gate::{Gate, OpenGate};
-
-#[cfg(test)]
-mod tests;

@@ -1,15 +1,28 @@
 //! Seams: where the true state meets a guess, and how much is read until then.
+ghost use Rattle.std.specs.Prelude.{◌≤◌, length, IfOk};
+ghost use Rattle.rds_sync.specs.Lawful.{IsLawful};
+
 use crate::samples::{Cuts, Sample};
 use crate::stitching::assert_stitched;
 use rds_pieces::{seam, speculate};
 use rds_stream::{Counted, Tape};
-use rds_sync::{State, run};
+use rds_sync::{State, SyncError, run};
 use std::alloc::Global;
 use std::process::Abort;
 use std::test::Fail;
 
 /// The one cut of the eight zero groups here.
 const CUT: Cuts<'_> = Cuts::At(&[190]);
+
+/// The state of one decoder before the bit at that place.
+fn state_before(alloc: Global, sample: &Sample, place: u64) -> Result<State, SyncError>
+    requires { place ≤ length sample.now.recording }
+    ensures { IfOk result (λ s. IsLawful sample.now.rules place s) }
+{
+    let (recording, rules) = (&sample.recording, &sample.rules);
+    let (state, _items) = run(alloc, recording, rules, State::Searching, 0, place)?;
+    Ok(state)
+}
 
 /// Where the true state meets the guess of the second piece, and how many windows that seam read.
 fn second_seam<R: Abort>(
@@ -21,7 +34,7 @@ fn second_seam<R: Abort>(
     assert!(rt; cutting.pieces() == 2);
     let (recording, rules) = (&sample.recording, &sample.rules);
     let guess = speculate(alloc, recording, rules, &cutting, 1)?;
-    let (state, _items) = run(alloc, recording, rules, State::Searching, 0, guess.from())?;
+    let state = state_before(alloc, sample, guess.from())?;
     let mut tape = Counted::new(recording);
     let seam = seam(alloc, &mut tape, rules, state, &guess)?;
     Ok((seam.met_at, tape.reads()))

@@ -1,0 +1,107 @@
+//! What crews answer: one report whatever the pieces and the workers, and refusals.
+ghost use Rattle.std.specs.Prelude.{length};
+ghost use Rattle.rds_pieces.specs.Cutting.{IsCutting};
+
+use crate::samples::{Cuts, Sample};
+use rds_crew::{CrewError, Gate, OpenGate, decode_crew};
+use rds_pieces::{RecordingWork, Work};
+use std::alloc::Global;
+use std::process::Abort;
+use std::sync::Wait;
+use std::test::Fail;
+use std::thread::Threads;
+
+/// Asserts that a crew of so many workers answers the sample's report.
+pub fn assert_decoded<R: Abort + Threads + Wait, W: Work + Sync, G: Gate + Sync>(
+    rt: &R,
+    alloc: Global,
+    sample: &Sample,
+    work: &W,
+    workers: u32,
+    gate: &G,
+) -> Result<(), CrewError>
+    requires { IsCutting (length (W.recording work.now)) (W.places work.now) }
+{
+    let report = decode_crew(rt, alloc, work, workers, gate)?;
+    assert!(rt; sample.gives(&report), "{workers} workers");
+    Ok(())
+}
+
+/// Asserts that crews of one, two and 256 workers answer the sample's report.
+fn assert_all_crews<R: Abort + Threads + Wait>(
+    rt: &R,
+    alloc: Global,
+    sample: &Sample,
+    cuts: Cuts<'_>,
+) -> Result<(), Fail> {
+    let cutting = sample.cut(alloc, cuts)?;
+    let work = RecordingWork::new(&sample.recording, &sample.rules, &cutting);
+    for workers in [1, 2, 256] {
+        assert_decoded(rt, alloc, sample, &work, workers, &OpenGate)?;
+    }
+    Ok(())
+}
+
+#[test]
+fn every_cutting_and_number_of_workers_gives_one_report(rt: HostRuntime) -> Result<(), Fail> {
+    let sample = Sample::zero_groups(rt.alloc(), 2, 3)?;
+    for cut in [1, 25, 26, 51] {
+        assert_all_crews(&rt, rt.alloc(), &sample, Cuts::At(&[cut]))?;
+    }
+    Ok(())
+}
+
+#[test]
+fn pieces_of_one_bit_give_the_report_too(rt: HostRuntime) -> Result<(), Fail> {
+    let sample = Sample::zero_groups(rt.alloc(), 2, 3)?;
+    assert_all_crews(&rt, rt.alloc(), &sample, Cuts::Even(208))
+}
+
+// With reach 4 the guess of the second piece locks on a wrong phase and never meets the run from the
+// first bit; with reach 3 it meets it at 208.
+#[test]
+fn a_guess_that_never_meets_gives_the_same_report(rt: HostRuntime) -> Result<(), Fail> {
+    for reach in [3, 4] {
+        let sample = Sample::zero_groups(rt.alloc(), 8, reach)?;
+        assert_all_crews(&rt, rt.alloc(), &sample, Cuts::At(&[190]))?;
+    }
+    Ok(())
+}
+
+/// What a crew of so many workers answers for two zero groups in two pieces.
+fn answer_of<R: Threads + Wait>(
+    rt: &R,
+    alloc: Global,
+    workers: u32,
+) -> Result<Option<CrewError>, Fail> {
+    let sample = Sample::zero_groups(alloc, 2, 3)?;
+    let cutting = sample.cut(alloc, Cuts::Even(2))?;
+    let work = RecordingWork::new(&sample.recording, &sample.rules, &cutting);
+    match decode_crew(rt, alloc, &work, workers, &OpenGate) {
+        Ok(_report) => Ok(None),
+        Err(error) => Ok(Some(error)),
+    }
+}
+
+#[test]
+fn refuses_crews_of_no_workers_and_of_too_many(rt: HostRuntime) -> Result<(), Fail> {
+    for workers in [0, 257] {
+        let answer = answer_of(&rt, rt.alloc(), workers)?;
+        assert!(rt; answer == Some(CrewError::CrewRange), "{workers} workers");
+    }
+    Ok(())
+}
+
+#[test]
+fn refusals_have_a_number_and_a_name(rt: HostRuntime) {
+    for (refusal, number, name) in [
+        (CrewError::CrewRange, 7, "CrewRange"),
+        (CrewError::OutOfMemory, 8, "OutOfMemory"),
+        (CrewError::NoWorker, 14, "NoWorker"),
+    ] {
+        assert!(rt;
+            refusal.number() == number && refusal.name() == name,
+            "{refusal:?}"
+        );
+    }
+}

@@ -1,0 +1,170 @@
+//! Recordings of zero groups with the report that they have to give, and cuttings of them.
+ghost use Rattle.std.specs.Prelude.{◌<◌, length, IfOk};
+ghost use Rattle.rds_pieces.specs.Cutting.{IsCutting};
+
+use rds_code::{Offset, Reading};
+use rds_pieces::{Cutting, PieceError};
+use rds_stream::{Recording, StreamError};
+use rds_sync::{Block, Group, Item, Report, Rules, Totals, Version};
+use std::alloc::{AllocError, Global};
+use std::test::Fail;
+
+/// The group of four zero words, 104 bits.
+const ZERO_GROUP: [u8; 13] = [
+    0x00, 0x00, 0x3F, 0x00, 0x00, 0x19, 0x80, 0x00, 0x05, 0xA0, 0x00, 0x01, 0xB4,
+];
+
+/// The totals of no items.
+const NOTHING: Totals = Totals {
+    valid: 0,
+    bursts: [0; 5],
+    lost: 0,
+    bits: 0,
+    groups: 0,
+    complete: 0,
+    acquired: 0,
+    losses: 0,
+};
+
+/// A recording, the rules that it is read by, and the report that they have to give.
+#[derive(Drop)]
+pub struct Sample {
+    pub recording: Recording,
+    pub rules: Rules,
+    pub report: Report,
+}
+
+impl Sample {
+    /// So many zero groups, one after the other.
+    pub fn zero_groups(alloc: Global, groups: u8, reach: u32) -> Result<Sample, Fail> {
+        let mut bytes = Vec::new(alloc);
+        for _ in 0..groups {
+            bytes.extend_from_slice(&ZERO_GROUP)?;
+        }
+        Ok(Sample {
+            recording: recording_of(bytes, 104 * u64::from(groups))?,
+            rules: Rules::new(alloc, 2, reach, 10)?,
+            report: Report {
+                items: items_of_zero_groups(alloc, u64::from(groups))?,
+                totals: totals_of_zero_groups(u64::from(groups)),
+            },
+        })
+    }
+
+    /// No bits.
+    pub fn nothing(alloc: Global) -> Result<Sample, Fail> {
+        Ok(Sample {
+            recording: recording_of(Vec::new(alloc), 0)?,
+            rules: Rules::new(alloc, 2, 3, 10)?,
+            report: Report {
+                items: Vec::new(alloc),
+                totals: NOTHING,
+            },
+        })
+    }
+
+    /// Its recording, cut.
+    pub fn cut(&self, alloc: Global, cuts: Cuts<'_>) -> Result<Cutting, PieceError>
+        ensures { IfOk result (λ c. IsCutting (length self.now.recording) c) }
+    {
+        match cuts {
+            Cuts::Even(pieces) => Cutting::even(alloc, self.recording.len(), pieces.max(1)),
+            Cuts::At(inner) => cutting_at(alloc, self.recording.len(), inner),
+        }
+    }
+
+    /// Whether that is its report.
+    pub fn gives(&self, report: &Report) -> bool {
+        report.items.as_slice() == self.report.items.as_slice()
+            && report.totals == self.report.totals
+    }
+}
+
+/// Where a recording is cut.
+#[derive(Clone, Copy, Debug)]
+pub enum Cuts<'a> {
+    /// Into at most so many pieces of one length, 1 or more.
+    Even(u64),
+    /// At these places inside it.
+    At(&'a [u64]),
+}
+
+fn cutting_at(alloc: Global, len: u64, inner: &[u64]) -> Result<Cutting, PieceError>
+    ensures { IfOk result (λ c. IsCutting len c) }
+{
+    let mut places = Vec::new(alloc);
+    places.push(0)?;
+    places.extend_from_slice(inner)?;
+    places.push(len)?;
+    match Cutting::new(places, len) {
+        Ok(cutting) => Ok(cutting),
+        Err((error, _places)) => Err(error),
+    }
+}
+
+fn recording_of(bytes: Vec<u8>, bits: u64) -> Result<Recording, StreamError> {
+    match Recording::from_bytes(bytes, bits) {
+        Ok(recording) => Ok(recording),
+        Err((error, _bytes)) => Err(error),
+    }
+}
+
+/// Block 2 of the first group acquires, and the rest of it is its group; then come whole groups.
+fn items_of_zero_groups(alloc: Global, groups: u64) -> Result<Vec<Item>, AllocError>
+    requires { groups < 256 }
+{
+    let mut items = Vec::new(alloc);
+    items.push(Item::Acquired {
+        place: 51,
+        number: 2,
+    })?;
+    items.push(Item::Group(Group {
+        place: 26,
+        blocks: [
+            Block::Missing,
+            valid(Offset::B),
+            valid(Offset::C),
+            valid(Offset::D),
+        ],
+        kind: Some(0),
+        version: Version::A,
+        conflict: false,
+    }))?;
+    for group in 1..groups {
+        items.push(zero_group(104 * group))?;
+    }
+    Ok(items)
+}
+
+/// A whole zero group at that place.
+fn zero_group(place: u64) -> Item {
+    Item::Group(Group {
+        place,
+        blocks: [
+            valid(Offset::A),
+            valid(Offset::B),
+            valid(Offset::C),
+            valid(Offset::D),
+        ],
+        kind: Some(0),
+        version: Version::A,
+        conflict: false,
+    })
+}
+
+fn totals_of_zero_groups(groups: u64) -> Totals
+    requires { groups < 256 }
+{
+    Totals {
+        valid: (4 * groups).saturating_sub(1),
+        groups,
+        complete: groups.saturating_sub(1),
+        acquired: 1,
+        ..NOTHING
+    }
+}
+
+/// A valid block of a zero word.
+fn valid(offset: Offset) -> Block {
+    Block::Read(Reading::Valid { offset, info: 0 })
+}
