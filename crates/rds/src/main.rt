@@ -18,12 +18,16 @@ fn main(rt: HostRuntime) -> ExitCode {
     }
 }
 
-// The job that the command line asks for.
+/// The job that the command line asks for.
 fn asked_for(rt: &HostRuntime) -> Result<Job, CliFault> {
     let given = match env::args(rt) {
         Ok(given) => given,
         Err(error) if error.kind() == ErrorKind::InvalidData => {
-            return Err(fault(rt, FaultKind::Words, "error: an argument is not valid UTF-8\n"));
+            return Err(fault(
+                rt,
+                FaultKind::Words,
+                "error: an argument is not valid UTF-8\n",
+            ));
         }
         Err(_) => return Err(fault(rt, FaultKind::Memory, "")),
     };
@@ -49,7 +53,7 @@ fn fault(rt: &HostRuntime, kind: FaultKind, text: &str) -> CliFault {
     }
 }
 
-// Does the job from standard input to standard output, with the threads of its crew.
+/// Does the job from standard input to standard output, with the threads of its crew.
 fn run<R: Threads + Wait>(rt: &HostRuntime, crew: &R, job: &Job) -> ExitCode {
     let mut reader = FromRead::new(rt.stdin());
     let mut writer = ToWrite::new(rt.stdout());

@@ -6,7 +6,7 @@ use crate::remainder::rem26;
 
 /// The block that carries the information word `info` with the offset `o`.
 ///
-/// EN 50067:1998, section 2.3. It takes no memory.
+/// EN 50067:1998, section 2.3.
 pub fn encode_block(info: u16, o: Offset) -> u32
     ensures value { result ≡ encoded info o }
     ensures block { IsBlockOf result info o }
@@ -19,7 +19,7 @@ pub fn encode_block(info: u16, o: Offset) -> u32
 /// The four blocks of a group, from its information words. Block 3 has C' where bit 11 of the second word, the
 /// version bit, is set, and else C.
 ///
-/// EN 50067:1998, sections 2.1 and 3.1.2. It takes no memory.
+/// EN 50067:1998, sections 2.1 and 3.1.2.
 pub fn encode_group(words: [u16; 4]) -> [u32; 4]
     ensures value { result ≡ encoded_group words }
     ensures group { IsGroupOf result words }

@@ -41,7 +41,7 @@ pub enum Reading {
 /// Reads the window `w` as block `number`, 1 to 4, and corrects a burst of up to `limit` bits, 0 to 5.
 ///
 /// The window is valid where its remainder is an offset word of that number, whatever is wanted. Else it is corrected
-/// where one pair alone of a wanted offset and a burst fits, and else lost: this project's rule. It takes no memory.
+/// where one pair alone of a wanted offset and a burst fits, and else lost: this project's rule.
 // In line: a valid block then stays in registers, and is not stored and loaded again where it is kept.
 #[inline(always)]
 pub fn read_block(table: &BurstTable, w: u32, number: u8, wanted: Wanted, limit: u8) -> Reading

@@ -9,7 +9,7 @@ use crate::byte_remainders::{of_high, of_middle};
 
 /// The remainder of the block `w`, a word of 26 bits, by the generator: below 1024.
 ///
-/// EN 50067:1998, section 2.3 and Annex B. It takes no memory.
+/// EN 50067:1998, section 2.3 and Annex B.
 pub fn rem26(w: u32) -> u16
     requires { w < 2 ^ 26 }
     ensures value { result ≡ rem w }

@@ -41,7 +41,7 @@ impl BurstTable {
     }
 
     /// The burst of up to `limit` bits, 0 to 5, whose remainder is `remainder`, below 1024, or none. There is none for
-    /// limit 0, nor for remainder 0. It takes no memory.
+    /// limit 0, nor for remainder 0.
     pub fn find(&self, remainder: u16, limit: u8) -> Option<Burst>
         requires remainder { remainder < 1024 }
         requires limit { limit ≤ 5 }

@@ -23,8 +23,8 @@
 //!
 //! What it leaves to others: that memory and threads are there, that the calls of the work and of
 //! the gate return, and which thread ends first. That the workers run at the same time, and that the
-//! report is made of their runs and of no others, no contract can say: the crate's tests show it, by
-//! a [`Gate`] that holds one worker up until the other has begun.
+//! report is made of their runs and of no others, no contract can say: the tests in `rds_crew_tests`
+//! show it, by a [`Gate`] that holds one worker up until the other has begun.
 #![tactic(auto)]
 
 mod crew;
@@ -33,6 +33,6 @@ mod gate;
 mod order;
 mod share;
 
-pub use crew::decode_crew;
+pub use crew::{MOST_WORKERS, decode_crew};
 pub use error::CrewError;
 pub use gate::{Gate, OpenGate};

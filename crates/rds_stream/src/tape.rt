@@ -30,8 +30,8 @@ pub trait Tape {
     fn source(&self) -> Snapshot<Recording>
         ensures { result.value ≡ bits self.now };
 
-    /// The 26 bits that end at `place`, the first one highest; `place` is at least 25, and below the length. It counts as one
-    /// reading, of which there are at most 2^63.
+    /// The 26 bits that end at `place`, the first one highest; `place` is at least 25, and below the length. It adds one
+    /// to `reads`, which is below 2^63 before the call.
     fn window(&mut self, place: u64) -> u32
         requires first { 25 ≤ place }
         requires last { place < length (bits self.old) }

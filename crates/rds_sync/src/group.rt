@@ -6,7 +6,7 @@ ghost use Rattle.rds_code.specs.Offsets.{offset_of as the_offset_of};
 ghost use Rattle.rds_stream.specs.Recording.{window as the_window};
 ghost use Rattle.rds_sync.specs.Groups.{info_of, are_complete, version_by_bit, version_of_offset, version, differ, in_conflict, wanted_beside, group_of, block_at, blocks_at, group};
 ghost use Rattle.rds_sync.specs.Reads.{is_numbered};
-ghost use Rattle.rds_sync.specs.Spans.{IsSpan};
+ghost use Rattle.rds_sync.specs.GroupParts.{IsGroupPart};
 
 use crate::item::{Block, Group, Version};
 use crate::rules::Rules;
@@ -148,59 +148,66 @@ impl Group {
 /// The blocks of a group that are read: `first` to `last`. The last one ends at `place` and has
 /// this window.
 #[derive(Clone, Copy)]
-pub(crate) struct Span {
+pub(crate) struct GroupPart {
     pub first: u8,
     pub last: u8,
     pub place: u64,
     pub window: u32,
 }
 
-/// Block `number` of such a group. Only a block before the last takes a window from the tape.
-fn read_at<T: Tape>(tape: &mut T, rules: &Rules, span: Span, number: u8, wanted: Wanted) -> Block
+/// Block `number`, 1 to 4, of the group that `part` describes; `Missing` outside it. Only a block before the last takes a
+/// window from the tape.
+fn read_at<T: Tape>(
+    tape: &mut T,
+    rules: &Rules,
+    part: GroupPart,
+    number: u8,
+    wanted: Wanted,
+) -> Block
     requires number { (1 ≤ number) × (number ≤ 4) }
-    requires span { IsSpan (T.bits tape.old) span }
+    requires part { IsGroupPart (T.bits tape.old) part }
     requires counted { T.reads_made tape.old < 2 ^ 63 }
     ensures value { result
-        ≡ block_at (T.bits tape.old) rules.now span.first span.last span.place wanted number }
+        ≡ block_at (T.bits tape.old) rules.now part.first part.last part.place wanted number }
     ensures same { T.bits tape.new ≡ T.bits tape.old }
     ensures reads { T.reads_made tape.new
-        ≡ T.reads_made tape.old + (if nat_le span.first number && nat_lt number span.last then 1 else 0) }
+        ≡ T.reads_made tape.old + (if nat_le part.first number && nat_lt number part.last then 1 else 0) }
 {
-    if number < span.first || span.last < number {
+    if number < part.first || part.last < number {
         return Block::Missing;
     }
-    let window = if number == span.last {
-        span.window
+    let window = if number == part.last {
+        part.window
     } else {
-        tape.window(span.place - 26 * u64::from(span.last - number))
+        tape.window(part.place - 26 * u64::from(part.last - number))
     };
     Block::Read(rules.read(window, number, wanted))
 }
 
-/// The blocks of such a group. Each block before the last takes one window from the tape.
-pub(crate) fn read_blocks<T: Tape>(tape: &mut T, rules: &Rules, span: Span) -> [Block; 4]
-    requires span { IsSpan (T.bits tape.old) span }
+/// The four blocks of the group that `part` describes. Each block before the last takes one window from the tape.
+pub(crate) fn read_blocks<T: Tape>(tape: &mut T, rules: &Rules, part: GroupPart) -> [Block; 4]
+    requires part { IsGroupPart (T.bits tape.old) part }
     requires counted { T.reads_made tape.old + 4 ≤ 2 ^ 63 }
-    ensures value { result ≡ blocks_at (T.bits tape.old) rules.now span.first span.last span.place }
+    ensures value { result ≡ blocks_at (T.bits tape.old) rules.now part.first part.last part.place }
     ensures same { T.bits tape.new ≡ T.bits tape.old }
-    ensures reads { T.reads_made tape.new ≡ T.reads_made tape.old + (span.last - span.first) }
+    ensures reads { T.reads_made tape.new ≡ T.reads_made tape.old + (part.last - part.first) }
 {
-    let one = read_at(tape, rules, span, 1, Wanted::Either);
-    let two = read_at(tape, rules, span, 2, Wanted::Either);
-    let three = read_at(tape, rules, span, 3, two.wanted_beside());
-    let four = read_at(tape, rules, span, 4, Wanted::Either);
+    let one = read_at(tape, rules, part, 1, Wanted::Either);
+    let two = read_at(tape, rules, part, 2, Wanted::Either);
+    let three = read_at(tape, rules, part, 3, two.wanted_beside());
+    let four = read_at(tape, rules, part, 4, Wanted::Either);
     [one, two, three, four]
 }
 
-/// Such a group, read from the tape.
-pub(crate) fn read_group<T: Tape>(tape: &mut T, rules: &Rules, span: Span) -> Group
-    requires span { IsSpan (T.bits tape.old) span }
+/// The group that `part` describes, read from the tape.
+pub(crate) fn read_group<T: Tape>(tape: &mut T, rules: &Rules, part: GroupPart) -> Group
+    requires part { IsGroupPart (T.bits tape.old) part }
     requires counted { T.reads_made tape.old + 4 ≤ 2 ^ 63 }
-    ensures value { result ≡ group (T.bits tape.old) rules.now span.first span.last span.place }
+    ensures value { result ≡ group (T.bits tape.old) rules.now part.first part.last part.place }
     ensures same { T.bits tape.new ≡ T.bits tape.old }
-    ensures reads { T.reads_made tape.new ≡ T.reads_made tape.old + (span.last - span.first) }
+    ensures reads { T.reads_made tape.new ≡ T.reads_made tape.old + (part.last - part.first) }
 {
-    let blocks = read_blocks(tape, rules, span);
-    let place = span.place - 26 * u64::from(span.last - span.first) - 25;
+    let blocks = read_blocks(tape, rules, part);
+    let place = part.place - 26 * u64::from(part.last - part.first) - 25;
     Group::of_blocks(place, blocks)
 }

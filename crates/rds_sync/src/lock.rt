@@ -13,7 +13,7 @@ ghost use Rattle.rds_sync.specs.declared.item.Block.TheVariants.{Read};
 ghost use Rattle.rds_sync.specs.declared.state.State.TheVariants.{Locked};
 
 use crate::error::SyncError;
-use crate::group::{Span, bad_with, read_blocks};
+use crate::group::{GroupPart, bad_with, read_blocks};
 use crate::item::{Block, Group, Item};
 use crate::rules::Rules;
 use crate::state::State;
@@ -55,13 +55,13 @@ pub(crate) fn blocks_before(rec: &Recording, rules: &Rules, lock: Lock) -> [Bloc
         return NO_BLOCKS;
     }
     let place = lock.due - 26;
-    let span = Span {
+    let part = GroupPart {
         first: lock.first,
         last: lock.number - 1,
         place,
         window: rec.window(place),
     };
-    read_blocks(&mut Counted::new(rec), rules, span)
+    read_blocks(&mut Counted::new(rec), rules, part)
 }
 
 /// Reads the block that is due into its group, and tells whether it is valid.

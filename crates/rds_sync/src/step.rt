@@ -6,10 +6,10 @@ ghost use Rattle.rds_stream.specs.Recording.{window, off};
 ghost use Rattle.rds_sync.specs.Acquiring.{acquired, has_partner};
 ghost use Rattle.rds_sync.specs.Advance.{next_place, reads_most, items_in, group_item};
 ghost use Rattle.rds_sync.specs.Lawful.{IsLawful, IsLawfulLock};
-ghost use Rattle.rds_sync.specs.Spans.{IsSpan};
+ghost use Rattle.rds_sync.specs.GroupParts.{IsGroupPart};
 ghost use Rattle.rds_sync.specs.Step.{step, items_at, run, items_of_end, locked_after, group_after};
 
-use crate::group::{Span, bad_with, is_numbered, read_group};
+use crate::group::{GroupPart, bad_with, is_numbered, read_group};
 use crate::item::{Group, Item};
 use crate::rules::Rules;
 use crate::state::State;
@@ -32,7 +32,8 @@ pub struct Step {
 /// comes first.
 ///
 /// It asks the tape for at most `reach` + 1 windows while searching, and at most four while
-/// locked; for none where no block is due before `to`. Takes no memory.
+/// locked; for none where no block is due before `to`. The tape has counted at most 2^63 - 16
+/// windows before. Takes no memory.
 pub fn advance<T: Tape>(tape: &mut T, rules: &Rules, state: State, place: u64, to: u64) -> Step
     requires lawful { IsLawful rules.now place state }
     requires before { place < to }
@@ -69,7 +70,8 @@ pub fn advance<T: Tape>(tape: &mut T, rules: &Rules, state: State, place: u64, t
 }
 
 /// The group in progress at the end of the recording, where the run ended in `state`, as far as it
-/// was read, or none. Asks the tape for at most three windows, and takes no memory.
+/// was read, or none. Asks the tape, which has counted at most 2^63 - 16 windows before, for at
+/// most three, and takes no memory.
 pub fn finish<T: Tape>(tape: &mut T, rules: &Rules, state: State) -> Option<Group>
     requires lawful { IsLawful rules.now (length (T.bits tape.old)) state }
     requires counted { T.reads_made tape.old + 16 ≤ 2 ^ 63 }
@@ -88,13 +90,13 @@ pub fn finish<T: Tape>(tape: &mut T, rules: &Rules, state: State) -> Option<Grou
         } if number != 1 => {
             let place = due - 26;
             let window = tape.window(place);
-            let span = Span {
+            let part = GroupPart {
                 first,
                 last: number - 1,
                 place,
                 window,
             };
-            Some(read_group(tape, rules, span))
+            Some(read_group(tape, rules, part))
         }
         _ => None,
     }
@@ -119,7 +121,7 @@ fn search<T: Tape>(tape: &mut T, rules: &Rules, place: u64) -> Step
             items: [None, None],
         },
         Some(Acquiring { number, window }) => {
-            let span = Span {
+            let part = GroupPart {
                 first: number,
                 last: number,
                 place,
@@ -130,7 +132,7 @@ fn search<T: Tape>(tape: &mut T, rules: &Rules, place: u64) -> Step
                 state: State::after_block(place, number, 0, number),
                 items: [
                     Some(Item::Acquired { place, number }),
-                    closed_group(tape, rules, span),
+                    closed_group(tape, rules, part),
                 ],
             }
         }
@@ -154,7 +156,7 @@ fn read_due<T: Tape>(tape: &mut T, rules: &Rules, due: u64, number: u8, bad: u8,
     ensures reads { T.reads_made tape.new ≤ T.reads_made tape.old + 4 }
 {
     let window = tape.window(due);
-    let span = Span {
+    let part = GroupPart {
         first,
         last: number,
         place: due,
@@ -167,10 +169,10 @@ fn read_due<T: Tape>(tape: &mut T, rules: &Rules, due: u64, number: u8, bad: u8,
         Step {
             place: due + 1,
             state: State::after_block(due, number, bad_now, first),
-            items: [closed_group(tape, rules, span), None],
+            items: [closed_group(tape, rules, part), None],
         }
     } else {
-        let group = read_group(tape, rules, span);
+        let group = read_group(tape, rules, part);
         Step {
             place: due + 1,
             state: State::Searching,
@@ -183,16 +185,16 @@ fn read_due<T: Tape>(tape: &mut T, rules: &Rules, due: u64, number: u8, bad: u8,
 }
 
 /// The group that a block closes, which it does as block 4.
-pub(crate) fn closed_group<T: Tape>(tape: &mut T, rules: &Rules, span: Span) -> Option<Item>
-    requires span { IsSpan (T.bits tape.old) span }
+pub(crate) fn closed_group<T: Tape>(tape: &mut T, rules: &Rules, part: GroupPart) -> Option<Item>
+    requires part { IsGroupPart (T.bits tape.old) part }
     requires counted { T.reads_made tape.old + 4 ≤ 2 ^ 63 }
     ensures value { items_in (result ∷ [])
-        ≡ group_after (T.bits tape.old) rules.now span.first span.last span.place }
+        ≡ group_after (T.bits tape.old) rules.now part.first part.last part.place }
     ensures same { T.bits tape.new ≡ T.bits tape.old }
-    ensures reads { T.reads_made tape.new ≤ T.reads_made tape.old + (span.last - span.first) }
+    ensures reads { T.reads_made tape.new ≤ T.reads_made tape.old + (part.last - part.first) }
 {
-    if span.last == 4 {
-        Some(Item::Group(read_group(tape, rules, span)))
+    if part.last == 4 {
+        Some(Item::Group(read_group(tape, rules, part)))
     } else {
         None
     }

@@ -10,7 +10,7 @@ ghost use Rattle.rds_sync.specs.Step.{run, items_at};
 ghost use Rattle.rds_sync.specs.declared.state.State.TheVariants.{Searching, Locked};
 
 use crate::error::SyncError;
-use crate::group::Span;
+use crate::group::GroupPart;
 use crate::item::Item;
 use crate::lock::{Followed, Lock, blocks_before, follow};
 use crate::rules::Rules;
@@ -110,13 +110,13 @@ fn found_at(rec: &Recording, rules: &Rules, place: u64, number: u8) -> [Option<I
     requires acquires { acquired rec.now rules.now place ≡ Some number }
     ensures { items_in result ≡ items_at rec.now rules.now place Searching }
 {
-    let span = Span {
+    let part = GroupPart {
         first: number,
         last: number,
         place,
         window: rec.window(place),
     };
-    let group = closed_group(&mut Counted::new(rec), rules, span);
+    let group = closed_group(&mut Counted::new(rec), rules, part);
     [Some(Item::Acquired { place, number }), group]
 }
 

@@ -53,7 +53,7 @@ pub fn job_of(alloc: Global, words: &[&str]) -> Result<Job, CliFault>
     }
 }
 
-// What `clap` makes of the words.
+/// What `clap` makes of the words.
 fn matches_of<'a>(alloc: Global, words: &'a [&'a str]) -> Result<ArgMatches<'a>, clap::Error>
     ensures entries { IfOk result (λ matches. subcommand_rows_of matches ≡ entries_of (map (λ word. word.now) words.entry.now)) }
     ensures faults { FailsBy (faults_of (map (λ word. word.now) words.entry.now)) result }
@@ -61,7 +61,7 @@ fn matches_of<'a>(alloc: Global, words: &'a [&'a str]) -> Result<ArgMatches<'a>,
     rds_command(alloc)?.try_get_matches_from(words)
 }
 
-// What is shown for an error of `clap`.
+/// What is shown for an error of `clap`.
 fn fault_of(alloc: Global, error: &clap::Error) -> CliFault
     ensures help { result.kind ≡ FaultKind.Help → kind_of error.now ≡ ErrorKind.DisplayHelp }
     ensures words { result.kind ≡ FaultKind.Words → (kind_of error.now ≢ ErrorKind.DisplayHelp) × (kind_of error.now ≢ ErrorKind.OutOfMemory) }
@@ -78,7 +78,7 @@ fn fault_of(alloc: Global, error: &clap::Error) -> CliFault
     }
 }
 
-// What is shown where the words are parsed and yet no job has their entries.
+/// What is shown where the words are parsed and yet no job has their entries.
 fn no_job(alloc: Global) -> CliFault
     ensures kind { (result.kind ≡ FaultKind.Words) ⊎ (result.kind ≡ FaultKind.Memory) }
     ensures memory { result.kind ≡ FaultKind.Memory → string_bytes result.text ≡ [] }

@@ -62,7 +62,7 @@ fn named<'a>(alloc: Global, name: &'a str, about: &'a str, after: &'a str) -> Co
     Command::new(alloc, name).about(about).after_help(after)
 }
 
-// A command that reads a recording, with the options that say how.
+/// A command that reads a recording, with the options that say how.
 fn recording_command<'a>(alloc: Global, command: Command<'a>) -> Made<'a>
     ensures { (app : App) → ReadsAs command.entry app → Makes result (with_input app) }
 {
@@ -70,7 +70,7 @@ fn recording_command<'a>(alloc: Global, command: Command<'a>) -> Made<'a>
     with_option(command, bits_option(alloc))
 }
 
-// Such a command with the rules of the synchroniser and the size of its crew too.
+/// Such a command with the rules of the synchroniser and the size of its crew too.
 fn ruled_command<'a>(alloc: Global, command: Command<'a>) -> Made<'a>
     ensures { (app : App) → ReadsAs command.entry app → Makes result (with_rules (with_input app)) }
 {
@@ -109,7 +109,7 @@ fn number_option<'a>(alloc: Global, name: &'a str, default: &'a str, help: &'a s
         .default_value(default)
 }
 
-// An option with one value, which any parser may still read.
+/// An option with one value, which any parser may still read.
 fn value_option<'a>(alloc: Global, name: &'a str, help: &'a str) -> Arg<'a>
     ensures rule { rule_of result ≡ value_rule name.entry.now }
     ensures local { result.global ≡ false }

@@ -39,7 +39,7 @@ fn text_of_lines(alloc: Global, hex: bool, lines: &[&[u8]]) -> Result<Vec<u8>, T
     Ok(text)
 }
 
-// What is written for one line.
+/// What is written for one line.
 fn push_line(text: &mut Vec<u8>, hex: bool, line: &[u8]) -> Result<(), ToolError>
     ensures ok { OnOk result ((more : List ℕ) × (line_text hex line.now ≡ Ok more) × (text.new.items ≡ text.old.items ++ more)) }
     ensures refused { IfErr result (λ error. (error ≡ ToolError.OutOfMemory) ⊎ (line_text hex line.now ≡ Err error)) }
@@ -69,7 +69,7 @@ fn push_group(text: &mut Vec<u8>, hex: bool, words: [u16; 4]) -> Result<(), Allo
     Ok(())
 }
 
-// The words of sixteen digits.
+/// The words of sixteen digits.
 fn words_of(digits: &[u8]) -> Result<[u16; 4], ToolError>
     ensures { result ≡ the_words_of digits.now }
 {
@@ -91,7 +91,7 @@ fn word(high: u8, low: u8) -> u16
     256 * u16::from(high) + u16::from(low)
 }
 
-// The bytes of a group, the first bit highest.
+/// The bytes of a group, the first bit highest.
 fn bytes_of_group(words: [u16; 4]) -> [u8; 13]
     ensures { result ≡ group_bytes words }
 {

@@ -12,7 +12,7 @@ use std::sync::Wait;
 use std::thread::Threads;
 
 /// How many reads may give bytes before the end comes.
-const TURNS: u64 = 16_777_216;
+const MOST_READS: u64 = 16_777_216;
 
 /// How many bytes a read asks for.
 const CHUNK: usize = 65_536;
@@ -28,7 +28,8 @@ const CHUNK: usize = 65_536;
 /// `BadCutting` for no piece), before anything is read, those of the reader (`Read`, `TooManyTurns`), those of the job and
 /// the bytes (`HexText`, `TooLong`, `BitsPastBytes`, `BadCutting`, or `GroupText`), `NoWorker`, where more than one worker
 /// is asked for and the system started no thread for one, and those of the writer (`Write`). `OutOfMemory` may come wherever
-/// memory is taken. The text is complete before its first byte is written, and no thread outlives the call.
+/// memory is taken. The text is complete before its first byte is written, and no thread outlives the call. Reader and writer
+/// have counted fewer than 2^63 failures before.
 pub fn transcribe<R: Threads + Wait, S: Source, K: Sink>(
     rt: &R,
     alloc: Global,
@@ -73,22 +74,15 @@ pub fn transcribe_gated<R: Threads + Wait, S: Source, K: Sink, G: Gate + Sync>(
     requires reads { S.failed reader.old < 2 ^ 63 }
     requires writes { K.failed writer.old < 2 ^ 63 }
 
-    // The whole input was read, and the text that the job makes of it was written.
+    // Clause by clause as `transcribe`.
     ensures end { OnOk result (IsAtEnd (S.remaining reader.new)) }
     ensures ok { OnOk result (IfSome (S.remaining reader.old) (λ held. Writes (K.contents writer.old) (K.contents writer.new) (outcome job.now held))) }
-
-    // A refusal for the devices' sake comes exactly where one failed, one for a thread's only where there may be some, and
-    // another is that of the job.
     ensures read { IsErrOf result ToolError.Read ↔ (S.failed reader.old < S.failed reader.new) }
     ensures write { IsErrOf result ToolError.Write ↔ (K.failed writer.old < K.failed writer.new) }
     ensures turns { IsErrOf result ToolError.TooManyTurns → IfSome (S.remaining reader.old) (λ held. 16777216 ≤ length held) }
     ensures no_worker { IsErrOf result ToolError.NoWorker → AsksForThreads job.now }
     ensures refused { IfErr result (λ error. IsOutside error ⊎ IfSome (S.remaining reader.old) (λ held. outcome job.now held ≡ Err error)) }
-
-    // Settings out of their range are refused as such before anything is read.
     ensures settings { IfErr (task_of job.now) (λ error. (result ≡ Err error) × (reader.new ≡ reader.old)) }
-
-    // What the writer has after a refusal.
     ensures untouched { IfErr result (λ error. error ≢ ToolError.Write → writer.new ≡ writer.old) }
     ensures front { IsErrOf result ToolError.Write → IfSome (S.remaining reader.old) (λ held. WritesFront (K.contents writer.old) (K.contents writer.new) (outcome job.now held)) }
 {
@@ -98,7 +92,7 @@ pub fn transcribe_gated<R: Threads + Wait, S: Source, K: Sink, G: Gate + Sync>(
     write_all(writer, text.as_slice())
 }
 
-// The text of a task over the bytes that the reader held. No refusal here is a device's.
+/// The text of a task over the bytes that the reader held. No refusal here is a device's.
 fn text_of<R: Threads + Wait, G: Gate + Sync>(
     rt: &R,
     alloc: Global,
@@ -114,7 +108,7 @@ fn text_of<R: Threads + Wait, G: Gate + Sync>(
     task.text(rt, alloc, held, gate)
 }
 
-// All bytes of the reader, to its end.
+/// All bytes of the reader, to its end.
 fn read_all<S: Source>(alloc: Global, reader: &mut S) -> Result<Vec<u8>, ToolError>
     requires { S.failed reader.old < 2 ^ 63 }
     ensures ok { IfOk result (λ bytes. IfSome (S.remaining reader.old) (λ held. bytes.items ≡ held)) }
@@ -126,7 +120,7 @@ fn read_all<S: Source>(alloc: Global, reader: &mut S) -> Result<Vec<u8>, ToolErr
 {
     let mut bytes = Vec::new(alloc);
     let mut buf = zeros(alloc, CHUNK)?;
-    'turns: for _ in 0..TURNS {
+    'turns: for _ in 0..MOST_READS {
         match reader.read(buf.as_mut_slice()) {
             Ok(0) => return Ok(bytes),
             Ok(count) => bytes.extend_from_slice(&buf[..count])?,
@@ -136,14 +130,14 @@ fn read_all<S: Source>(alloc: Global, reader: &mut S) -> Result<Vec<u8>, ToolErr
     Err(ToolError::TooManyTurns)
 }
 
-// Zero bytes, as many as asked for.
+/// Zero bytes, as many as asked for.
 fn zeros(alloc: Global, len: usize) -> Result<Vec<u8>, AllocError>
     ensures { IfOk result (λ v. length v.items ≡ len) }
 {
     vec![in alloc; 0u8; len]
 }
 
-// Writes the whole text, and flushes.
+/// Writes the whole text, and flushes.
 fn write_all<K: Sink>(writer: &mut K, text: &[u8]) -> Result<(), ToolError>
     requires { K.failed writer.old < 2 ^ 63 }
     ensures ok { OnOk result (Appends (K.contents writer.old) (K.contents writer.new) text.now) }

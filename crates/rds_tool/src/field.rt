@@ -97,7 +97,7 @@ impl Field {
     }
 }
 
-// The four digits of an information word.
+/// The four digits of an information word.
 fn four_digits(n: u16) -> [u8; 4]
     ensures { result ≡ hex_digits 4 n }
 {
@@ -110,7 +110,7 @@ fn four_digits(n: u16) -> [u8; 4]
     ]
 }
 
-// The seven digits of a burst, which has 26 bits.
+/// The seven digits of a burst, which has 26 bits.
 fn seven_digits(n: u32) -> [u8; 7]
     ensures { result ≡ hex_digits 7 n }
 {
@@ -125,7 +125,7 @@ fn seven_digits(n: u32) -> [u8; 7]
     ]
 }
 
-// The last digit of a number to the base 16, in upper case.
+/// The last digit of a number to the base 16, in upper case.
 fn digit(n: u32) -> u8
     ensures { result ≡ slice_index upper_digits (n % 16) }
 {

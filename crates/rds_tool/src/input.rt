@@ -25,7 +25,7 @@ pub fn recording_of(alloc: Global, input: &Input, held: Vec<u8>) -> Result<Recor
     }
 }
 
-// The bytes of hexadecimal text, in which blanks don't count.
+/// The bytes of hexadecimal text, in which blanks don't count.
 fn hex_bytes(alloc: Global, text: &[u8]) -> Result<Vec<u8>, ToolError>
     ensures ok { IfOk result (λ bytes. decoded text.now ≡ Ok bytes.items) }
     ensures refused { IfErr result (λ error. (error ≡ ToolError.OutOfMemory) ⊎ (decoded text.now ≡ Err error)) }

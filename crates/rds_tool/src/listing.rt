@@ -128,7 +128,7 @@ fn push_group(rows: &mut Rows, group: &Group) -> Result<(), ToolError>
     push_row(rows, fields.as_slice())
 }
 
-// A group's type, where it is known.
+/// A group's type, where it is known.
 fn kind_digits(kind: Option<u8>, digits: &mut Buffer) -> &[u8]
     ensures value { result.now ≡ kind_text kind }
     ensures plain { IsPlain result.now }
@@ -174,7 +174,7 @@ fn push_totals(rows: &mut Rows, totals: &Totals) -> Result<(), ToolError>
     push_named(rows, &named)
 }
 
-// A row for each of these totals.
+/// A row for each of these totals.
 fn push_named(rows: &mut Rows, totals: &[(&str, u64)]) -> Result<(), ToolError>
     requires between { IsBetween rows.old }
     requires plain { All (λ total. IsPlain total.0.now) totals.now }

@@ -8,7 +8,7 @@ ghost use Rattle.rds_tool.specs.Plans.{crew_of, cut_by};
 ghost use Rattle.rds_tool.specs.Rules.{rules_of as the_rules_of};
 
 use crate::{Cuts, Settings, ToolError};
-use rds_crew::{Gate, decode_crew};
+use rds_crew::{Gate, MOST_WORKERS, decode_crew};
 use rds_pieces::{Cutting, RecordingWork};
 use rds_stream::Recording;
 use rds_sync::{Report, Rules};
@@ -16,9 +16,6 @@ use std::alloc::{AllocError, Global};
 use std::marker::Model;
 use std::sync::Wait;
 use std::thread::Threads;
-
-/// The most workers that a crew may have.
-const MOST_WORKERS: u32 = 256;
 
 /// Settings in their ranges, with the rules that they give.
 #[derive(Drop)]
@@ -85,7 +82,7 @@ impl<'a> Plan<'a> {
     }
 }
 
-// The rules of these settings.
+/// The rules of these settings.
 fn rules_of(alloc: Global, settings: &Settings) -> Result<Rules, ToolError>
     ensures ok { IfOk result (λ rules. the_rules_of settings.now ≡ Ok rules) }
     ensures refused { IfErr result (λ error. (error ≡ ToolError.OutOfMemory) ⊎ (the_rules_of settings.now ≡ Err error)) }
@@ -95,7 +92,7 @@ fn rules_of(alloc: Global, settings: &Settings) -> Result<Rules, ToolError>
     Ok(rules)
 }
 
-// Refuses a number of workers out of its range, and then a cutting into no piece.
+/// Refuses a number of workers out of its range, and then a cutting into no piece.
 fn check_crew(settings: &Settings) -> Result<(), ToolError>
     ensures { result ≡ crew_of settings.now }
 {
@@ -108,7 +105,7 @@ fn check_crew(settings: &Settings) -> Result<(), ToolError>
     }
 }
 
-// The cutting of so many bits.
+/// The cutting of so many bits.
 fn cutting_of(alloc: Global, cuts: &Cuts, len: u64) -> Result<Cutting, ToolError>
     requires { has_pieces cuts.now ≡ true }
     ensures cutting { IfOk result (λ cutting. IsCutting len cutting) }
@@ -121,7 +118,7 @@ fn cutting_of(alloc: Global, cuts: &Cuts, len: u64) -> Result<Cutting, ToolError
     }
 }
 
-// The cutting of so many bits at these inner cuts.
+/// The cutting of so many bits at these inner cuts.
 fn cutting_at(alloc: Global, cuts: &[u64], len: u64) -> Result<Cutting, ToolError>
     ensures cutting { IfOk result (λ cutting. IsCutting len cutting) }
     ensures fits { OnOk result (are_inner len cuts.now ≡ true) }
@@ -134,7 +131,7 @@ fn cutting_at(alloc: Global, cuts: &[u64], len: u64) -> Result<Cutting, ToolErro
     }
 }
 
-// The cuts with the two ends of the recording.
+/// The cuts with the two ends of the recording.
 fn places_of(alloc: Global, cuts: &[u64], len: u64) -> Result<Vec<u64>, AllocError>
     ensures { IfOk result (λ places. places.items ≡ places_at len cuts.now) }
 {

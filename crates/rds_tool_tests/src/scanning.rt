@@ -81,18 +81,21 @@ fn refuses_what_is_no_recording(rt: HostRuntime) -> Result<(), Fail> {
 
 #[test]
 fn refusals_have_numbers_and_names(rt: HostRuntime) -> Result<(), Fail> {
-    let refusals: [(ToolError, u8, &[u8]); 11] = [
+    let refusals: [(ToolError, u8, &[u8]); 14] = [
         (ToolError::BurstRange, 1, b"BurstRange"),
         (ToolError::ReachRange, 2, b"ReachRange"),
         (ToolError::LossRange, 3, b"LossRange"),
         (ToolError::BitsPastBytes, 4, b"BitsPastBytes"),
         (ToolError::TooLong, 5, b"TooLong"),
+        (ToolError::BadCutting, 6, b"BadCutting"),
+        (ToolError::CrewRange, 7, b"CrewRange"),
         (ToolError::OutOfMemory, 8, b"OutOfMemory"),
         (ToolError::Read, 9, b"Read"),
         (ToolError::Write, 10, b"Write"),
         (ToolError::HexText, 11, b"HexText"),
         (ToolError::GroupText, 12, b"GroupText"),
         (ToolError::TooManyTurns, 13, b"TooManyTurns"),
+        (ToolError::NoWorker, 14, b"NoWorker"),
     ];
     for (error, number, name) in refusals {
         assert!(rt;

@@ -24,7 +24,7 @@ all_read b after_one after_two after_three rules f x p one two three four wanted
 pub returns-clause-value : goal.returns-clause-value
 returns-clause-value g c =
     let bits = g.T.Tape.bits in
-    let s = c.args.span in
+    let s = c.args.part in
     all_read (bits c.args.tape.now) (bits c.read_at-one.new.tape) (bits c.read_at-two.new.tape) (bits c.read_at-three.new.tape)
     c.args.rules.now s.first s.last s.place c.read_at-one.result c.read_at-two.result c.read_at-three.result c.read_at-four.result c.wanted_beside.result
     c.read_at-one.ensures.same c.read_at-two.ensures.same c.read_at-three.ensures.same c.wanted_beside.ensures
@@ -32,8 +32,8 @@ returns-clause-value g c =
 
 pub returns-clause-reads : goal.returns-clause-reads
 returns-clause-reads g c =
-    let s = c.args.span in
-    let r = c.requires.span in
+    let s = c.args.part in
+    let r = c.requires.part in
     omega (
       arith,
       blocks_before s.first s.last r.first r.in_order r.last,

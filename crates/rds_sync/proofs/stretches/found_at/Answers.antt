@@ -8,8 +8,8 @@ pub window-requires-clause-first : goal.window-requires-clause-first
 window-requires-clause-first c =
     omega (arith, acquired-place c.args.rec.now c.args.rules.now c.args.place c.args.number c.requires.acquires)
 
-pub closed_group-group-requires-clause-span : goal.closed_group-group-requires-clause-span
-closed_group-group-requires-clause-span c =
+pub closed_group-group-requires-clause-part : goal.closed_group-group-requires-clause-part
+closed_group-group-requires-clause-part c =
     let late = acquired-place c.args.rec.now c.args.rules.now c.args.place c.args.number c.requires.acquires in
     let range = acquired-range c.args.rec.now c.args.rules.now c.args.place c.args.number c.requires.acquires in
     record {
