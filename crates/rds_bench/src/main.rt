@@ -14,6 +14,8 @@ mod windows;
 use anyhow::{Context, Result};
 use sample::Sample;
 use std::env;
+use std::sync::Wait;
+use std::thread::Threads;
 
 const USAGE: &str = "usage: rds_bench MEASUREMENT [BITS [SAMPLE]]
 
@@ -31,11 +33,26 @@ BITS is the length of the recording that is made up for it, 100000000 where it i
 /// The length of a recording where none is given.
 const BITS: u64 = 100_000_000;
 
+/// What the words of the command line ask for.
+#[derive(Drop)]
+struct Asked {
+    measurement: String,
+    bits: u64,
+    sample: Sample,
+}
+
 fn main(rt: HostRuntime) -> Result<()> {
-    let mut words = env::args(&rt)?.skip(1);
+    match asked_for(&rt)? {
+        Some(asked) => measure(&rt, &rt, &asked),
+        None => show_usage(&rt),
+    }
+}
+
+/// What is asked for, if anything is.
+fn asked_for(rt: &HostRuntime) -> Result<Option<Asked>> {
+    let mut words = env::args(rt)?.skip(1);
     let Some(measurement) = words.next() else {
-        print!(rt; "{USAGE}")?;
-        return Ok(());
+        return Ok(None);
     };
     let bits = match words.next() {
         Some(text) => text.parse::<u64>().context("BITS is no number")?,
@@ -45,15 +62,26 @@ fn main(rt: HostRuntime) -> Result<()> {
         Some(name) => Sample::named(&name).context("SAMPLE is no sample")?,
         None => Sample::Station,
     };
-    match measurement.as_str() {
-        "scan" => windows::measure(&rt, bits),
-        "remainder" => remainders::measure(&rt, bits),
-        "run" => runs::measure(&rt, &rt, bits, sample),
-        "totals" => transcripts::measure(&rt, &rt, bits, sample, false),
-        "list" => transcripts::measure(&rt, &rt, bits, sample, true),
-        _ => {
-            print!(rt; "{USAGE}")?;
-            Ok(())
-        }
+    Ok(Some(Asked {
+        measurement,
+        bits,
+        sample,
+    }))
+}
+
+fn measure<T: Threads + Wait>(rt: &HostRuntime, threads: &T, asked: &Asked) -> Result<()> {
+    let (bits, sample) = (asked.bits, asked.sample);
+    match asked.measurement.as_str() {
+        "scan" => windows::measure(rt, bits),
+        "remainder" => remainders::measure(rt, bits),
+        "run" => runs::measure(rt, threads, bits, sample),
+        "totals" => transcripts::measure(rt, threads, bits, sample, false),
+        "list" => transcripts::measure(rt, threads, bits, sample, true),
+        _ => show_usage(rt),
     }
+}
+
+fn show_usage(rt: &HostRuntime) -> Result<()> {
+    print!(rt; "{USAGE}")?;
+    Ok(())
 }

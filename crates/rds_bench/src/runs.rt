@@ -4,7 +4,9 @@ use crate::timing::Timing;
 use anyhow::Result;
 use rds_crew::{OpenGate, decode_crew};
 use rds_pieces::{Cutting, RecordingWork};
+use rds_stream::Recording;
 use rds_sync::{Rules, decode_plain};
+use std::alloc::Global;
 use std::sync::Wait;
 use std::thread::Threads;
 use std::time::Instant;
@@ -16,19 +18,45 @@ pub fn measure<T: Threads + Wait>(
     bits: u64,
     sample: Sample,
 ) -> Result<()> {
-    let alloc = rt.alloc();
-    let recording = sample.recording(alloc, bits)?;
-    let rules = Rules::new(alloc, 2, 3, 10)?;
+    let recording = sample.recording(rt.alloc(), bits)?;
+    let rules = Rules::new(rt.alloc(), 2, 3, 10)?;
+    time_both(rt, threads, &recording, &rules)
+}
+
+fn time_both<T: Threads + Wait>(
+    rt: &HostRuntime,
+    threads: &T,
+    recording: &Recording,
+    rules: &Rules,
+) -> Result<()> {
     let mut timing = Timing::new(recording.len());
 
     let start = Instant::now(rt)?;
-    let report = decode_plain(alloc, &recording, &rules)?;
-    timing.show(rt, "one decoder", start, report.totals.valid)?;
+    let valid = one_decoder(rt.alloc(), recording, rules)?;
+    timing.show(rt, "one decoder", start, valid)?;
 
     let start = Instant::now(rt)?;
+    let valid = sixteen_pieces(threads, rt.alloc(), recording, rules)?;
+    timing.show(rt, "sixteen pieces", start, valid)
+}
+
+/// How many valid blocks the report of one decoder counts.
+fn one_decoder(alloc: Global, recording: &Recording, rules: &Rules) -> Result<u64> {
+    Ok(decode_plain(alloc, recording, rules)?.totals.valid)
+}
+
+/// How many the report of sixteen pieces counts, made by the calling thread alone.
+fn sixteen_pieces<T: Threads + Wait>(
+    threads: &T,
+    alloc: Global,
+    recording: &Recording,
+    rules: &Rules,
+) -> Result<u64> {
     let cutting = Cutting::even(alloc, recording.len(), 16)?;
-    let work = RecordingWork::new(&recording, &rules, &cutting);
-    let report = decode_crew(threads, alloc, &work, 1, &OpenGate)?;
-    timing.show(rt, "sixteen pieces", start, report.totals.valid)?;
-    Ok(())
+    let work = RecordingWork::new(recording, rules, &cutting);
+    Ok(
+        decode_crew(threads, alloc, &work, 1, &OpenGate)?
+            .totals
+            .valid,
+    )
 }

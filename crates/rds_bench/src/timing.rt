@@ -1,5 +1,5 @@
 //! Times of the forms of one task, beside one another.
-use std::io;
+use anyhow::Result;
 use std::time::Instant;
 
 /// The times of one task's forms over so many bits, each shown as it comes.
@@ -15,13 +15,7 @@ impl Timing {
     }
 
     /// Shows the time since `start` and what the form counted, which is the same for each form of a task.
-    pub fn show(
-        &mut self,
-        rt: &HostRuntime,
-        form: &str,
-        start: Instant,
-        found: u64,
-    ) -> io::Result<()> {
+    pub fn show(&mut self, rt: &HostRuntime, form: &str, start: Instant, found: u64) -> Result<()> {
         let nanos = u64::try_from(start.elapsed(rt)?.as_nanos()).unwrap_or(u64::MAX);
         let first = *self.first.get_or_insert(nanos);
         let hundredths = nanos as u128 * 100 / self.bits.max(1) as u128;
@@ -32,6 +26,7 @@ impl Timing {
             hundredths % 100,
             ratio / 100,
             ratio % 100
-        )
+        )?;
+        Ok(())
     }
 }

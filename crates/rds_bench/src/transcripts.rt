@@ -3,6 +3,7 @@ use crate::sample::Sample;
 use crate::timing::Timing;
 use anyhow::Result;
 use rds_tool::{Cuts, FromRead, Input, Job, Settings, ToWrite, transcribe};
+use std::alloc::Global;
 use std::sync::Wait;
 use std::thread::Threads;
 use std::time::Instant;
@@ -16,16 +17,36 @@ pub fn measure<T: Threads + Wait>(
     listing: bool,
 ) -> Result<()> {
     let bytes = sample.bytes(rt.alloc(), bits)?;
+    time_crews(rt, threads, &bytes, listing)
+}
+
+fn time_crews<T: Threads + Wait>(
+    rt: &HostRuntime,
+    threads: &T,
+    bytes: &[u8],
+    listing: bool,
+) -> Result<()> {
     let mut timing = Timing::new((bytes.len() as u64).saturating_mul(8));
     for (workers, form) in [(1, "one worker"), (2, "two workers"), (4, "four workers")] {
         let job = job_of(workers, listing);
-        let mut reader = FromRead::new(bytes.as_slice());
-        let mut writer = ToWrite::new(Vec::new(rt.alloc()));
         let start = Instant::now(rt)?;
-        transcribe(threads, rt.alloc(), &mut reader, &mut writer, &job)?;
-        timing.show(rt, form, start, writer.into_inner().len() as u64)?;
+        let written = written_by(threads, rt.alloc(), bytes, &job)?;
+        timing.show(rt, form, start, written)?;
     }
     Ok(())
+}
+
+/// How many bytes the job writes of these.
+fn written_by<T: Threads + Wait>(
+    threads: &T,
+    alloc: Global,
+    bytes: &[u8],
+    job: &Job,
+) -> Result<u64> {
+    let mut reader = FromRead::new(bytes);
+    let mut writer = ToWrite::new(Vec::new(alloc));
+    transcribe(threads, alloc, &mut reader, &mut writer, job)?;
+    Ok(writer.into_inner().len() as u64)
 }
 
 fn job_of(workers: u32, listing: bool) -> Job {

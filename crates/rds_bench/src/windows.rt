@@ -9,16 +9,19 @@ use std::time::Instant;
 
 pub fn measure(rt: &HostRuntime, bits: u64) -> Result<()> {
     let recording = Sample::Noise.recording(rt.alloc(), bits)?;
+    time_both(rt, &recording)
+}
+
+fn time_both(rt: &HostRuntime, recording: &Recording) -> Result<()> {
     let mut timing = Timing::new(recording.len());
 
     let start = Instant::now(rt)?;
-    let found = scan(rt.alloc(), &recording, 0, recording.len())?;
-    timing.show(rt, "the scan", start, found.len() as u64)?;
+    let found = scan(rt.alloc(), recording, 0, recording.len())?.len();
+    timing.show(rt, "the scan", start, found as u64)?;
 
     let start = Instant::now(rt)?;
-    let found = by_division(rt.alloc(), &recording)?;
-    timing.show(rt, "by long division", start, found.len() as u64)?;
-    Ok(())
+    let found = by_division(rt.alloc(), recording)?.len();
+    timing.show(rt, "by long division", start, found as u64)
 }
 
 fn by_division(alloc: Global, recording: &Recording) -> Result<Vec<(u64, Offset)>, AllocError> {
