@@ -4,6 +4,7 @@ use Rattle.std.specs.Int.{div_ceil}
 use Rattle.std.specs.List.{range_with_len}
 use Rattle.std.proofs.lemmas.Bool.{cases_eq}
 use Rattle.std.proofs.lemmas.Grind.{div_ceil_times}
+use Rattle.std.proofs.lemmas.Nat.{mul-le}
 use Rattle.std.proofs.lemmas.List.{length_push, get_or_push, get_or_append_left}
 use Rattle.std.proofs.lemmas.List.FromFn.{length-map-range_with_len, get_or-map-range_with_len}
 use Rattle.rds_pieces.specs.Cutting.{IsCutting, pieces_of, even_places}
@@ -39,6 +40,16 @@ module _ (s n c : ℕ) where
 
 mul_next : (k s : ℕ) → (k + 1) * s ≡ k * s + s
 mul_next k s = grind arith
+
+-- a multiple below the last place is inside
+pub multiple_inside : (n s k : ℕ) → k < div_ceil n s → k * s ≤ n
+multiple_inside n s k h = elim (cases_eq s 0) [
+  | inl none ↦ rw none (omega arith)
+  | inr some ↦
+      let most = div_ceil_times n s (omega arith) in
+      let up = mul-le (k + 1) s (div_ceil n s) s (omega arith) (omega arith) in
+      omega (arith, most.1, up, mul_next k s)
+]
 
 pub even_is_cutting : (n pieces : ℕ) → 1 ≤ pieces → IsCutting n (even_places n pieces)
 even_is_cutting n pieces h = elim (cases_eq n 0) [

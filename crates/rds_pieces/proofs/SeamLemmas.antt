@@ -1,5 +1,5 @@
 -- A run that is carried over a piece beside the piece's guess, from mark to mark, until the two meet.
-use Rattle.std.proofs.Common.{◌≡◌, ◌≢◌, ℕ, ◌+◌, ◌-◌, ◌<◌, ◌≤◌, List, [], ◌++◌, length, get_or, refl, sym, ap, ap₂, ◌∙◌, subst, arith, append-nil, length-append, drop, inl, inr}
+use Rattle.std.proofs.Common.{◌≡◌, ◌≢◌, ℕ, ◌+◌, ◌-◌, ◌<◌, ◌≤◌, List, [], ◌++◌, length, get_or, refl, sym, ap, ap₂, ◌∙◌, subst, arith, append_assoc, append-nil, length-append, drop, inl, inr}
 use Rattle.std.proofs.lemmas.Bool.{cases_eq, cases_lt}
 use Rattle.std.proofs.lemmas.List.{append_cancel_left, drop_at, get_or_default}
 use Rattle.rds_sync.specs.declared.state.State.{State}
@@ -239,6 +239,13 @@ module _ (b : List ℕ) (rules : RuleNumbers) (from to : ℕ) where
             ap (λ (r : State × List Item). r.1) (laws.join b rules s0 from place next i.0 (omega (arith, m)))
             ∙ ap (λ (t : State). (own s0 place).1 ++ (run b rules t place (next - place)).1) (sym c.state_is)
 
+        pub items_on : (before items more : List Item) → items ≡ before ++ (own s0 place).1 → more ≡ items ++ (run b rules state place (next - place)).1
+            → more ≡ before ++ (own s0 next).1
+        items_on before items more is given =
+            given ∙ ap (λ (xs : List Item). xs ++ (run b rules state place (next - place)).1) is
+            ∙ append_assoc before (own s0 place).1 (run b rules state place (next - place)).1
+            ∙ ap (λ (xs : List Item). before ++ xs) (sym own_items_on)
+
       -- at the first place, beside the first mark
       pub carried_start : from ≤ to → IsLawful rules from s0 → IsCarried s0 from 0 s0
       carried_start h lawful =
@@ -278,6 +285,14 @@ module _ (b : List ℕ) (rules : RuleNumbers) (from to : ℕ) where
             ap (λ (r : State × List Item). r.0) ours ∙ ap (λ (t : State). (run b rules t place (to - place)).0) meet.same ∙ sym (ap (λ (r : State × List Item). r.0) theirs),
             ap (λ (r : State × List Item). r.1) ours ∙ ap (λ (is : List Item). (own s0 place).1 ++ is) (sym left),
           )
+
+      pub items_met : (place mark : ℕ) (state : State) → IsCarried s0 place mark state → state ≡ (get_or found mark unread).state → IsBetweenGroups state
+          → (before items rest more : List Item) → items ≡ before ++ (own s0 place).1 → rest ≡ drop (get_or found mark unread).items (guess_at to).1 → more ≡ items ++ rest
+          → more ≡ before ++ (own s0 to).1
+      items_met place mark state c e between before items rest more is left given =
+          given ∙ ap₂ (λ (xs ys : List Item). xs ++ ys) is left
+          ∙ append_assoc before (own s0 place).1 (drop (get_or found mark unread).items (guess_at to).1)
+          ∙ ap (λ (xs : List Item). before ++ xs) (sym (rest_is place mark state c e between).1)
 
       -- the mark does not point past the guess's items
       pub items_within : (place mark : ℕ) (state : State) → IsCarried s0 place mark state → (get_or found mark unread).items ≤ length (guess_at to).1

@@ -1,10 +1,14 @@
 -- Totals of a list that grows.
-use Rattle.std.proofs.Common.{◌≡◌, ℕ, ◌+◌, ◌≤◌, List, ◌++◌, arith}
+use Rattle.std.proofs.Common.{◌≡◌, ℕ, ◌+◌, ◌≤◌, Bool, List, [], ◌∷◌, ◌++◌, length, get_or, refl, arith}
+use Rattle.std.specs.Prelude.{count_by, if◌then◌else◌}
 use Rattle.std.proofs.lemmas.List.Sums.{sum_by-append}
+use Rattle.rds_sync.specs.declared.item.Block.{Block}
+use Rattle.rds_sync.specs.declared.item.Group.{Group}
 use Rattle.rds_sync.specs.declared.item.Item.{Item}
+use Rattle.rds_sync.specs.declared.item.Item.TheVariants.{Group as GroupItem}
 use Rattle.rds_sync.specs.declared.totals.Totals.{Totals}
-use Rattle.rds_sync.specs.Totals.{totals_of}
-use Rattle.rds_sync.specs.Counting.{plus, IsAtMost}
+use Rattle.rds_sync.specs.Totals.{totals_of, sum_blocks, count_blocks, is_valid, is_lost, is_corrected_by, bits_corrected, is_complete}
+use Rattle.rds_sync.specs.Counting.{plus, block_totals, IsAtMost}
 
 -- the totals of two lists, one after the other
 pub totals_of-append : (xs ys : List Item) → totals_of (xs ++ ys) ≡ plus (totals_of xs) (totals_of ys)
@@ -42,3 +46,59 @@ IsAtMost-more m n t h a = record {
   acquired = omega (arith, a.acquired);
   losses = omega (arith, a.losses);
 }
+
+-- and so are they with a group's own counts
+pub IsAtMost-group : (t : Totals) (complete : ℕ) → complete ≤ 1 → IsAtMost 1020 t
+    → IsAtMost 1024 (record {
+      valid = t.valid;
+      bursts = t.bursts;
+      lost = t.lost;
+      bits = t.bits;
+      groups = 1;
+      complete = complete;
+      acquired = t.acquired;
+      losses = t.losses;
+    })
+IsAtMost-group t complete h a = record {
+  valid = omega (arith, a.valid);
+  burst1 = omega (arith, a.burst1);
+  burst2 = omega (arith, a.burst2);
+  burst3 = omega (arith, a.burst3);
+  burst4 = omega (arith, a.burst4);
+  burst5 = omega (arith, a.burst5);
+  lost = omega (arith, a.lost);
+  bits = omega (arith, a.bits);
+  groups = omega arith;
+  complete = omega arith;
+  acquired = omega (arith, a.acquired);
+  losses = omega (arith, a.losses);
+}
+
+-- four blocks, one by one
+pub four_blocks : (bs : List Block) (a b c d : Block) → length bs ≡ 4
+    → bs ≡ get_or bs 0 a ∷ get_or bs 1 b ∷ get_or bs 2 c ∷ get_or bs 3 d ∷ []
+four_blocks [] a b c d h = absurd (omega (arith, h))
+four_blocks (w ∷ []) a b c d h = absurd (omega (arith, h))
+four_blocks (w ∷ x ∷ []) a b c d h = absurd (omega (arith, h))
+four_blocks (w ∷ x ∷ y ∷ []) a b c d h = absurd (omega (arith, h))
+four_blocks (w ∷ x ∷ y ∷ z ∷ []) a b c d h = refl
+four_blocks (w ∷ x ∷ y ∷ z ∷ v ∷ bs) a b c d h = absurd (omega (arith, h))
+
+-- the totals of a group from those of its blocks, one after the other
+pub group_totals : (g : Group) (a b c d : Block) (n : ℕ) → g.blocks ≡ a ∷ b ∷ c ∷ d ∷ [] → n ≡ count_by is_complete (GroupItem g ∷ [])
+    → (t : Totals) → t ≡ plus (plus (plus (block_totals a) (block_totals b)) (block_totals c)) (block_totals d)
+    → record { valid = t.valid; bursts = t.bursts; lost = t.lost; bits = t.bits; groups = 1; complete = n; acquired = t.acquired; losses = t.losses }
+    ≡ totals_of (GroupItem g ∷ [])
+group_totals g a b c d n blocks complete t is =
+    rw is (same (count is_valid) (count (is_corrected_by 1)) (count (is_corrected_by 2)) (count (is_corrected_by 3)) (count (is_corrected_by 4))
+    (count (is_corrected_by 5)) (count is_lost) (four bits_corrected) complete) where
+      four : (f : Block → ℕ) → f a + f b + f c + f d ≡ sum_blocks f (GroupItem g ∷ [])
+      four f = rw blocks (omega arith)
+
+      count : (p : Block → Bool) → (if p a then 1 else 0) + (if p b then 1 else 0) + (if p c then 1 else 0) + (if p d then 1 else 0) ≡ count_blocks p (GroupItem g ∷ [])
+      count p = four (λ (block : Block). if p block then 1 else 0)
+
+      same : {v v2 p p2 q q2 r r2 s s2 u u2 l l2 i i2 k k2 : ℕ} → v ≡ v2 → p ≡ p2 → q ≡ q2 → r ≡ r2 → s ≡ s2 → u ≡ u2 → l ≡ l2 → i ≡ i2 → k ≡ k2
+          → ◌≡◌ {A = Totals} (record { valid = v; bursts = p ∷ q ∷ r ∷ s ∷ u ∷ []; lost = l; bits = i; groups = 1; complete = k; acquired = 0; losses = 0 })
+          (record { valid = v2; bursts = p2 ∷ q2 ∷ r2 ∷ s2 ∷ u2 ∷ []; lost = l2; bits = i2; groups = 1; complete = k2; acquired = 0; losses = 0 })
+      same h1 h2 h3 h4 h5 h6 h7 h8 h9 = cc

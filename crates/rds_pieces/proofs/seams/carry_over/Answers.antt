@@ -1,4 +1,4 @@
-use Rattle.std.proofs.Common.{◌≡◌, ◌≢◌, ℕ, List, ◌++◌, ◌+◌, ◌-◌, ◌<◌, ◌≤◌, length, get_or, sym, ap, ◌∙◌, subst, arith, append_assoc, append-nil, drop, ap₂, ◌*◌}
+use Rattle.std.proofs.Common.{◌≡◌, ◌≢◌, ℕ, List, ◌++◌, ◌+◌, ◌-◌, ◌<◌, ◌≤◌, length, get_or, sym, ap, ◌∙◌, subst, arith, refl, append-nil, drop, ◌*◌}
 use Rattle.rds_sync.specs.declared.state.State.{State}
 use Rattle.rds_sync.specs.declared.state.State.TheVariants.{Searching}
 use Rattle.rds_sync.specs.declared.item.Item.{Item}
@@ -9,8 +9,8 @@ use Rattle.rds_sync.specs.Step.{run}
 use Rattle.rds_pieces.specs.declared.run.Mark.{Mark}
 use Rattle.rds_pieces.specs.Advance.{IsStepTo}
 use Rattle.rds_pieces.specs.Meeting.{MeetAt, MeetFirstAt}
-use Rattle.rds_pieces.proofs.ReadsLemmas.{paid_start, paid_on, paid_step, paid_all}
-use Rattle.rds_pieces.proofs.SeamLemmas.{renamed, run_over, unread, found, own, read_mark, place_after_is, IsCarried, carried_start, carried_near, carried_up_to, own_items_on, limit_ahead, limit_inside, met_first, rest_is, items_within, never_met}
+use Rattle.rds_pieces.proofs.ReadsLemmas.{paid_room, paid_most, paid_start, paid_on, paid_step, paid_all}
+use Rattle.rds_pieces.proofs.SeamLemmas.{renamed, run_over, unread, found, own, read_mark, place_after_is, IsCarried, carried_start, carried_near, carried_up_to, items_on, limit_ahead, limit_inside, met_first, rest_is, items_met, items_within, never_met}
 use Rattle.rds_pieces.proofs.seams.carry_over.Goals as goal
 use Rattle.rds_pieces.proofs.seams.carry_over.Goals.{else-place-limit-via-then-place-limit+else-mark-marks, else-place-limit-via-else-place-limit}
 
@@ -52,14 +52,12 @@ returns-then-meets-clause-items g c =
     let some = c.range-from.ensures.rules.some_loss in
     let read = read_mark r.source r.rules r.from r.to c.marks-marks.result.now c.along.mark none c.marks-marks.ensures inv.carried.last.within in
     let met = c.meets.ensures.0 c.if-meets.true in
-    let rest = rest_is r.source r.rules r.from r.to c.run_laws.ensures some c.args.state c.along.place c.along.mark c.along.state inv.carried (met.0 ∙ ap (λ (m : Mark). m.state) read) met.1 in
     let later : c.items_after.result.now ≡ drop (get_or (found r.source r.rules r.from r.to) c.along.mark (unread r.source r.rules r.from r.to)).items (run r.source r.rules Searching r.from (r.to - r.from)).1 =
     c.items_after.ensures ∙ ap (λ (m : Mark). drop m.items (run r.source r.rules Searching r.from (r.to - r.from)).1) read in
-    c.in_ok-extend_from_slice.ensures.items
-    ∙ ap₂ (λ (is js : List Item). is ++ js) inv.items_are later
-    ∙ append_assoc c.args.items.now.items (own r.source r.rules r.from r.to c.args.state c.along.place).1 _
-    ∙ ap (λ (is : List Item). c.args.items.now.items ++ is)
-    (sym rest.1 ∙ ap (λ (x : State × List Item). x.1) (run_over r.source (g.T.Tape.bits c.args.tape.now) r.rules c.args.rules.now c.args.state r.from (r.to - r.from) c.requires.source c.requires.rules))
+    let all = items_met r.source r.rules r.from r.to c.run_laws.ensures some c.args.state c.along.place c.along.mark c.along.state inv.carried (met.0 ∙ ap (λ (m : Mark). m.state) read) met.1
+    c.args.items.now.items c.along.items.items c.items_after.result.now c.extend_from_slice.new.self.items inv.items_are later c.in_ok-extend_from_slice.ensures.items in
+    all ∙ ap (λ (x : State × List Item). c.args.items.now.items ++ x.1)
+    (run_over r.source (g.T.Tape.bits c.args.tape.now) r.rules c.args.rules.now c.args.state r.from (r.to - r.from) c.requires.source c.requires.rules)
 
 pub returns-then-meets-clause-end : goal.returns-then-meets-clause-end
 returns-then-meets-clause-end g c =
@@ -163,10 +161,8 @@ along-preserved-then-mark-marks g c =
     let more = subst (λ (ms : List Mark). c.along.mark + 1 < length ms) c.marks-marks.ensures c.if-mark-marks.true in
     record {
       carried = carried_up_to r.source r.rules r.from r.to c.run_laws.ensures some c.args.state c.along.place c.along.mark limit c.in_ok-next.next c.along.state c.in_ok-next.after inv.carried apart goes after_mark c.if-place-limit.true more;
-      items_are = given ∙ ap (λ (is : List Item). is ++ (run r.source r.rules c.along.state c.along.place (c.in_ok-next.next - c.along.place)).1) inv.items_are
-          ∙ append_assoc c.args.items.now.items (own r.source r.rules r.from r.to c.args.state c.along.place).1 _
-          ∙ ap (λ (is : List Item). c.args.items.now.items ++ is)
-          (sym (own_items_on r.source r.rules r.from r.to c.run_laws.ensures some c.args.state c.along.place c.along.mark limit c.in_ok-next.next c.along.state c.in_ok-next.after inv.carried apart goes after_mark));
+      items_are = items_on r.source r.rules r.from r.to c.run_laws.ensures some c.args.state c.along.place c.along.mark limit c.in_ok-next.next c.along.state c.in_ok-next.after inv.carried apart goes after_mark
+          c.args.items.now.items c.along.items.items c.advance_onto.new.items.items inv.items_are given;
       paid = paid_on r.source r.rules (g.T.Tape.reads_made c.args.tape.now) r.from c.run_laws.ensures (g.T.Tape.reads_made c.along.tape) (g.T.Tape.reads_made c.advance_onto.new.tape)
           c.along.place limit c.in_ok-next.next c.along.state c.in_ok-next.after inv.carried.inside.0 inv.carried.lawful inv.paid goes few;
       same = c.advance_onto.ensures.same ∙ inv.same;
@@ -197,11 +193,57 @@ along-preserved g c =
     ] in
     record {
       carried = carried_near r.source r.rules r.from r.to c.run_laws.ensures some c.args.state c.along.place c.along.mark limit c.in_ok-next.next c.along.state c.in_ok-next.after inv.carried apart goes after_mark other;
-      items_are = given ∙ ap (λ (is : List Item). is ++ (run r.source r.rules c.along.state c.along.place (c.in_ok-next.next - c.along.place)).1) inv.items_are
-          ∙ append_assoc c.args.items.now.items (own r.source r.rules r.from r.to c.args.state c.along.place).1 _
-          ∙ ap (λ (is : List Item). c.args.items.now.items ++ is)
-          (sym (own_items_on r.source r.rules r.from r.to c.run_laws.ensures some c.args.state c.along.place c.along.mark limit c.in_ok-next.next c.along.state c.in_ok-next.after inv.carried apart goes after_mark));
+      items_are = items_on r.source r.rules r.from r.to c.run_laws.ensures some c.args.state c.along.place c.along.mark limit c.in_ok-next.next c.along.state c.in_ok-next.after inv.carried apart goes after_mark
+          c.args.items.now.items c.along.items.items c.advance_onto.new.items.items inv.items_are given;
       paid = paid_on r.source r.rules (g.T.Tape.reads_made c.args.tape.now) r.from c.run_laws.ensures (g.T.Tape.reads_made c.along.tape) (g.T.Tape.reads_made c.advance_onto.new.tape)
           c.along.place limit c.in_ok-next.next c.along.state c.in_ok-next.after inv.carried.inside.0 inv.carried.lawful inv.paid goes few;
       same = c.advance_onto.ensures.same ∙ inv.same;
     }
+
+pub returns-then-meets-clause-reads : goal.returns-then-meets-clause-reads
+returns-then-meets-clause-reads g c =
+    let r = c.args.run.now in
+    let most = paid_most r.source r.rules (g.T.Tape.reads_made c.args.tape.now) r.from (g.T.Tape.reads_made c.along.tape) c.along.place (c.along.place - r.from) c.along.state refl c.along.invariant.paid in
+    subst (λ (y : RuleNumbers). g.T.Tape.reads_made c.along.tape ≤ g.T.Tape.reads_made c.args.tape.now + (y.reach + 2) * (c.along.place - r.from + 1)) c.requires.rules most
+
+pub returns-then-place-to-clause-items : goal.returns-then-place-to-clause-items
+returns-then-place-to-clause-items g c =
+    let r = c.args.run.now in
+    c.along.invariant.items_are
+    ∙ ap (λ (p : ℕ). c.args.items.now.items ++ (own r.source r.rules r.from r.to c.args.state p).1) (c.if-place-to.true ∙ c.range-from.ensures.end)
+    ∙ ap (λ (x : State × List Item). c.args.items.now.items ++ x.1)
+    (run_over r.source (g.T.Tape.bits c.args.tape.now) r.rules c.args.rules.now c.args.state r.from (r.to - r.from) c.requires.source c.requires.rules)
+
+pub returns-then-place-to-clause-end : goal.returns-then-place-to-clause-end
+returns-then-place-to-clause-end g c =
+    let r = c.args.run.now in
+    c.along.invariant.carried.state_is
+    ∙ ap (λ (p : ℕ). (own r.source r.rules r.from r.to c.args.state p).0) (c.if-place-to.true ∙ c.range-from.ensures.end)
+    ∙ ap (λ (x : State × List Item). x.0)
+    (run_over r.source (g.T.Tape.bits c.args.tape.now) r.rules c.args.rules.now c.args.state r.from (r.to - r.from) c.requires.source c.requires.rules)
+
+pub returns-then-place-to-clause-reads : goal.returns-then-place-to-clause-reads
+returns-then-place-to-clause-reads g c =
+    let r = c.args.run.now in
+    let end : c.along.place - r.from ≡ r.to - r.from = ap (λ (p : ℕ). p - r.from) (c.if-place-to.true ∙ c.range-from.ensures.end) in
+    let here = paid_most r.source r.rules (g.T.Tape.reads_made c.args.tape.now) r.from (g.T.Tape.reads_made c.along.tape) c.along.place (r.to - r.from) c.along.state end c.along.invariant.paid in
+    subst (λ (y : RuleNumbers). g.T.Tape.reads_made c.along.tape ≤ g.T.Tape.reads_made c.args.tape.now + (y.reach + 2) * (r.to - r.from + 1)) c.requires.rules here
+
+pub returns-then-place-to-clause-reads_most : goal.returns-then-place-to-clause-reads_most
+returns-then-place-to-clause-reads_most g c =
+    let r = c.args.run.now in
+    let end : c.along.place - r.from ≡ r.to - r.from = ap (λ (p : ℕ). p - r.from) (c.if-place-to.true ∙ c.range-from.ensures.end) in
+    let here = paid_most r.source r.rules (g.T.Tape.reads_made c.args.tape.now) r.from (g.T.Tape.reads_made c.along.tape) c.along.place (r.to - r.from) c.along.state end c.along.invariant.paid in
+    subst (λ (y : RuleNumbers). g.T.Tape.reads_made c.along.tape ≤ g.T.Tape.reads_made c.args.tape.now + (y.reach + 2) * (r.to - r.from + 1)) c.requires.rules here
+
+pub advance_onto-requires-clause-lawful : goal.advance_onto-requires-clause-lawful
+advance_onto-requires-clause-lawful g c = subst (λ (y : RuleNumbers). IsLawful y c.along.place c.along.state) c.requires.rules c.along.invariant.carried.lawful
+
+pub advance_onto-requires-clause-few : goal.advance_onto-requires-clause-few
+advance_onto-requires-clause-few g c =
+    let r = c.args.run.now in
+    let inside = c.along.invariant.carried.inside.1 in
+    let end = c.range-from.ensures.inside.1 in
+    let few = c.range-from.ensures.few in
+    paid_room r.source r.rules (g.T.Tape.reads_made c.args.tape.now) r.from (g.T.Tape.reads_made c.along.tape) c.along.place c.along.state
+    c.range-from.ensures.rules (omega (arith, inside, end, few)) c.requires.room c.along.invariant.paid

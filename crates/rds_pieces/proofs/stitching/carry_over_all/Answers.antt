@@ -1,9 +1,31 @@
-use Rattle.std.proofs.Common.{ℕ, List, ◌++◌, ◌-◌, ap, ◌∙◌, subst, arith}
+use Rattle.std.proofs.Common.{ℕ, List, ◌++◌, ◌-◌, refl, sym, ap, ◌∙◌, subst, arith}
 use Rattle.rds_sync.specs.declared.state.State.TheVariants.{Searching}
 use Rattle.rds_sync.specs.Step.{run}
 use Rattle.rds_pieces.specs.Meeting.{IsMeeting}
-use Rattle.rds_pieces.proofs.StitchLemmas.{stitched_on, stitched_few, sum_at_end, whole_at_end, few_at_end}
+use Rattle.rds_pieces.proofs.StitchLemmas.{stitched_start, source_is, rules_are, lawful_here, stitched_on, stitched_few, sum_at_end, whole_at_end, few_at_end, lawful_at_end}
 use Rattle.rds_pieces.proofs.stitching.carry_over_all.Goals as goal
+
+pub loop-run-init : goal.loop-run-init
+loop-run-init g c = record {
+  stitched = stitched_start (g.T.Tape.bits c.args.tape.now) c.args.rules.now c.args.runs.now (g.T.Tape.reads_made c.args.tape.now) c.args.items.now.items c.requires.in_a_row c.requires.empty;
+  same = refl;
+}
+
+pub carry_over-requires-clause-lawful : goal.carry_over-requires-clause-lawful
+carry_over-requires-clause-lawful g c =
+    lawful_here (g.T.Tape.bits c.args.tape.now) c.args.rules.now c.args.runs.now (g.T.Tape.reads_made c.args.tape.now) c.loop-run.run-index c.loop-run.state c.loop-run.items.items
+    (g.T.Tape.reads_made c.loop-run.tape) c.loop-run.invariant.stitched c.run-item.result c.run-item.result c.loop-run-test.true c.run-item.is
+
+pub carry_over-requires-clause-source : goal.carry_over-requires-clause-source
+carry_over-requires-clause-source g c =
+    source_is (g.T.Tape.bits c.args.tape.now) c.args.rules.now c.args.runs.now (g.T.Tape.reads_made c.args.tape.now) c.loop-run.run-index c.loop-run.state c.loop-run.items.items
+    (g.T.Tape.reads_made c.loop-run.tape) c.loop-run.invariant.stitched c.run-item.result c.run-item.result c.loop-run-test.true c.run-item.is
+    ∙ sym c.loop-run.invariant.same
+
+pub carry_over-requires-clause-rules : goal.carry_over-requires-clause-rules
+carry_over-requires-clause-rules g c =
+    rules_are (g.T.Tape.bits c.args.tape.now) c.args.rules.now c.args.runs.now (g.T.Tape.reads_made c.args.tape.now) c.loop-run.run-index c.loop-run.state c.loop-run.items.items
+    (g.T.Tape.reads_made c.loop-run.tape) c.loop-run.invariant.stitched c.run-item.result c.run-item.result c.loop-run-test.true c.run-item.is
 
 pub carry_over-requires-clause-room : goal.carry_over-requires-clause-room
 carry_over-requires-clause-room g c =
@@ -50,3 +72,14 @@ returns-clause-few g c =
     few_at_end (g.T.Tape.bits c.args.tape.now) c.args.rules.now c.args.runs.now (g.T.Tape.reads_made c.args.tape.now) c.loop-run.run-index c.loop-run.state c.loop-run.items.items
     (g.T.Tape.reads_made c.loop-run.tape) c.loop-run.invariant.stitched c.loop-run-test.false c.run_laws.ensures
     (let l = c.len-len.ensures.limit in let v = c.len-len.ensures.value in omega (arith, l, v))
+
+pub returns-clause-lawful : goal.returns-clause-lawful
+returns-clause-lawful g c =
+    lawful_at_end (g.T.Tape.bits c.args.tape.now) c.args.rules.now c.args.runs.now (g.T.Tape.reads_made c.args.tape.now) c.loop-run.run-index c.loop-run.state c.loop-run.items.items
+    (g.T.Tape.reads_made c.loop-run.tape) c.loop-run.invariant.stitched c.loop-run-test.false
+
+pub returns-clause-room : goal.returns-clause-room
+returns-clause-room g c =
+    let few = stitched_few (g.T.Tape.bits c.args.tape.now) c.args.rules.now c.args.runs.now (g.T.Tape.reads_made c.args.tape.now) c.loop-run.run-index c.loop-run.state c.loop-run.items.items
+    (g.T.Tape.reads_made c.loop-run.tape) c.loop-run.invariant.stitched (let l = c.len-len.ensures.limit in let v = c.len-len.ensures.value in omega (arith, l, v)) c.requires.room in
+    omega (arith, few)

@@ -1,4 +1,4 @@
-use Rattle.std.proofs.Common.{◌≡◌, ◌∙◌, sym, ap, ◌++◌, append-nil}
+use Rattle.std.proofs.Common.{◌∙◌, sym, ap, ◌++◌, append-nil}
 use Rattle.rds_stream.proofs.Scans.{valid_one, valid_no}
 use Rattle.rds_stream.proofs.scanning.push_place.Goals as goal
 

@@ -1,4 +1,5 @@
-use Rattle.std.proofs.Common.{◌≡◌, ℕ, List, [], ◌∷◌, ap, ◌∙◌, arith}
+use Rattle.std.proofs.Common.{◌≡◌, ◌+◌, ◌≤◌, ℕ, Bool, true, false, List, [], ◌∷◌, ap, ◌∙◌, arith}
+use Rattle.std.specs.Prelude.{if◌then◌else◌, nat_le, nat_lt, ◌&&◌}
 use Rattle.rds_code.specs.declared.reading.Wanted.{Wanted}
 use Rattle.rds_code.specs.declared.reading.Wanted.TheVariants.{Either}
 use Rattle.rds_sync.specs.declared.item.Block.{Block}
@@ -42,3 +43,32 @@ returns-clause-reads g c =
       c.read_at-three.ensures.reads,
       c.read_at-four.ensures.reads,
     )
+
+-- a block asks for one window at most
+one_at_most : (before after : ℕ) (asked : Bool) → after ≡ before + (if asked then 1 else 0) → after ≤ before + 1
+one_at_most before after true e = omega (arith, e)
+one_at_most before after false e = omega (arith, e)
+
+pub read_at-two-requires-clause-counted : goal.read_at-two-requires-clause-counted
+read_at-two-requires-clause-counted g c =
+    let s = c.args.part in
+    let one = one_at_most _ _ (nat_le s.first 1 && nat_lt 1 s.last) c.read_at-one.ensures.reads in
+    let room = c.requires.counted in
+    omega (arith, one, room)
+
+pub read_at-three-requires-clause-counted : goal.read_at-three-requires-clause-counted
+read_at-three-requires-clause-counted g c =
+    let s = c.args.part in
+    let one = one_at_most _ _ (nat_le s.first 1 && nat_lt 1 s.last) c.read_at-one.ensures.reads in
+    let two = one_at_most _ _ (nat_le s.first 2 && nat_lt 2 s.last) c.read_at-two.ensures.reads in
+    let room = c.requires.counted in
+    omega (arith, one, two, room)
+
+pub read_at-four-requires-clause-counted : goal.read_at-four-requires-clause-counted
+read_at-four-requires-clause-counted g c =
+    let s = c.args.part in
+    let one = one_at_most _ _ (nat_le s.first 1 && nat_lt 1 s.last) c.read_at-one.ensures.reads in
+    let two = one_at_most _ _ (nat_le s.first 2 && nat_lt 2 s.last) c.read_at-two.ensures.reads in
+    let three = one_at_most _ _ (nat_le s.first 3 && nat_lt 3 s.last) c.read_at-three.ensures.reads in
+    let room = c.requires.counted in
+    omega (arith, one, two, three, room)

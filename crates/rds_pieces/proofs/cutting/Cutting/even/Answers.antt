@@ -3,9 +3,15 @@ use Rattle.std.specs.Int.{div_ceil}
 use Rattle.std.specs.List.{range_with_len}
 use Rattle.std.proofs.lemmas.List.FromFn.{map-range_with_len_more}
 use Rattle.rds_pieces.specs.Cutting.{even_places, every}
-use Rattle.rds_pieces.proofs.CuttingLemmas.{even_is_cutting, is_own_cutting}
+use Rattle.rds_pieces.proofs.CuttingLemmas.{even_is_cutting, is_own_cutting, multiple_inside}
 use Rattle.rds_pieces.proofs.cutting.Cutting.even.Goals as goal
 use Rattle.rds_pieces.proofs.cutting.Cutting.even.Goals.{then-len-eq0, else-len-eq0}
+
+pub overflow_mul-piece : goal.overflow_mul-piece
+overflow_mul-piece c = elim c.if-len-eq0.branch [
+  | then-len-eq0 w ↦ absurd (omega arith)
+  | else-len-eq0 w ↦ let below = multiple_inside c.args.len c.div_ceil-bits.result c.loop-piece.piece (omega arith) in let fits = c.ranges.len in omega (arith, below, fits)
+]
 
 pub loop-piece-preserved : goal.loop-piece-preserved
 loop-piece-preserved c = c.in_ok-push.ensures.items ∙ ap (λ (xs : List ℕ). xs ++ c.loop-piece.piece * c.div_ceil-bits.result ∷ []) c.loop-piece.invariant
