@@ -14,7 +14,7 @@ use Rattle.rds_tool.specs.Cuts.{cuts_bits}
 use Rattle.rds_tool.specs.GroupText.{line_text, lines_of, lines_text, words_of, words_or_refusal, group_text}
 use Rattle.rds_tool.specs.Input.{and_then, bytes_of, claimed, decoded, first_bits, is_blank, or_hex_text, recording_of}
 use Rattle.rds_tool.specs.Listing.{report_text, totals_text}
-use Rattle.rds_tool.specs.Outcome.{WritesFront, cut_recording, list_text, outcome, text_of_task, totals_list}
+use Rattle.rds_tool.specs.Outcome.{WritesPrefix, cut_recording, list_text, outcome, text_of_task, totals_list}
 use Rattle.rds_tool.specs.Plans.{PlanOf, cut_by}
 use Rattle.rds_tool.specs.Tasks.{task_of}
 use Rattle.rds_tool.specs.declared.error.ToolError.{ToolError}
@@ -53,91 +53,70 @@ totals_counted totals work bits given rules counted same_bits same_rules = count
 
 -- ---- the refusals
 
--- a refusal of the bytes
-abbrev pub IsOfBytes : ToolError → Type 0
-IsOfBytes BitsPastBytes = Unit {0}
-IsOfBytes TooLong = Unit {0}
-IsOfBytes HexText = Unit {0}
-IsOfBytes GroupText = Unit {0}
-IsOfBytes BadCutting = Unit {0}
-IsOfBytes e = ⊥
-
--- neither refusal is a device's
-abbrev pub IsInside : ToolError → Type 0
-IsInside e = (e ≢ Read) × (e ≢ Write) × (e ≢ TooManyTurns)
-
-inside : (e : ToolError) → IsOfBytes e → IsInside e
-inside e h = (λ p. subst IsOfBytes p h, λ p. subst IsOfBytes p h, λ p. subst IsOfBytes p h)
-
-memory_inside : (e : ToolError) → e ≡ OutOfMemory → IsInside e
-memory_inside e m = (
-  λ p. let bad : OutOfMemory ≡ Read = sym m ∙ p in cc bad,
-  λ p. let bad : OutOfMemory ≡ Write = sym m ∙ p in cc bad,
-  λ p. let bad : OutOfMemory ≡ TooManyTurns = sym m ∙ p in cc bad,
-)
-
-threads_inside : (e : ToolError) → e ≡ NoWorker → IsInside e
-threads_inside e m = (
-  λ p. let bad : NoWorker ≡ Read = sym m ∙ p in cc bad,
-  λ p. let bad : NoWorker ≡ Write = sym m ∙ p in cc bad,
-  λ p. let bad : NoWorker ≡ TooManyTurns = sym m ∙ p in cc bad,
-)
+-- a refusal that the job or the bytes decide
+abbrev pub IsOfOutcome : ToolError → Type 0
+IsOfOutcome OutOfMemory = ⊥
+IsOfOutcome NoWorker = ⊥
+IsOfOutcome Read = ⊥
+IsOfOutcome Write = ⊥
+IsOfOutcome TooManyTurns = ⊥
+IsOfOutcome e = Unit {0}
 
 module _ {A B : Type 0} where
   then_errs : (P : ToolError → Type 0) (r : Result A ToolError) (step : A → Result B ToolError) → IfErr r P → ((x : A) → IfErr (step x) P) → IfErr (and_then r step) P
   then_errs P (Ok x) step h k = k x
   then_errs P (Err e) step h k = h
 
-bytes_errs : (hex : Bool) (decoded held : Result (List ℕ) ToolError) → IfErr decoded IsOfBytes → IfErr held IsOfBytes → IfErr (if hex then decoded else held) IsOfBytes
+bytes_errs : (hex : Bool) (decoded held : Result (List ℕ) ToolError) → IfErr decoded IsOfOutcome → IfErr held IsOfOutcome → IfErr (if hex then decoded else held) IsOfOutcome
 bytes_errs true decoded held h k = h
 bytes_errs false decoded held h k = k
 
 first_errs : (long past : Bool) (bits : List ℕ)
-    → let r : Result (List ℕ) ToolError = if long then Err TooLong else if past then Err BitsPastBytes else Ok bits in IfErr r IsOfBytes
+    → let r : Result (List ℕ) ToolError = if long then Err TooLong else if past then Err BitsPastBytes else Ok bits in IfErr r IsOfOutcome
 first_errs true past bits = tt
 first_errs false true bits = tt
 first_errs false false bits = tt
 
-hex_errs : (r : Result (List ℕ) FromHexError) → IfErr (or_hex_text r) IsOfBytes
+hex_errs : (r : Result (List ℕ) FromHexError) → IfErr (or_hex_text r) IsOfOutcome
 hex_errs (Ok bytes) = tt
 hex_errs (Err e) = tt
 
-recording_errs : (input : Input) (held : List ℕ) → IfErr (recording_of input held) IsOfBytes
+recording_errs : (input : Input) (held : List ℕ) → IfErr (recording_of input held) IsOfOutcome
 recording_errs input held =
-    then_errs IsOfBytes (bytes_of input held) (λ bytes. first_bits (claimed input.bits bytes) bytes)
+    then_errs IsOfOutcome (bytes_of input held) (λ bytes. first_bits (claimed input.bits bytes) bytes)
     (bytes_errs input.hex (decoded held) (Ok held) (hex_errs (decode_of (filter (λ b. not (is_blank b)) held))) tt)
     (λ bytes. let n = claimed input.bits bytes in first_errs (nat_lt (2 ^ 36) n) (nat_lt (8 * length bytes) n) (bits_of bytes n))
 
-cut_by_errs : (fits : Bool) (bits : List ℕ) → let r : Result (List ℕ) ToolError = if fits then Ok bits else Err BadCutting in IfErr r IsOfBytes
+cut_by_errs : (fits : Bool) (bits : List ℕ) → let r : Result (List ℕ) ToolError = if fits then Ok bits else Err BadCutting in IfErr r IsOfOutcome
 cut_by_errs true bits = tt
 cut_by_errs false bits = tt
 
-cut_errs : (input : Input) (cuts : Cuts) (held : List ℕ) → IfErr (cut_recording input cuts held) IsOfBytes
+cut_errs : (input : Input) (cuts : Cuts) (held : List ℕ) → IfErr (cut_recording input cuts held) IsOfOutcome
 cut_errs input cuts held =
-    then_errs IsOfBytes (recording_of input held) (cut_by cuts) (recording_errs input held) (λ bits. cut_by_errs (cuts_bits cuts (length bits)) bits)
+    then_errs IsOfOutcome (recording_of input held) (cut_by cuts) (recording_errs input held) (λ bits. cut_by_errs (cuts_bits cuts (length bits)) bits)
 
-words_errs : (r : Result (List ℕ) FromHexError) → IfErr (words_or_refusal r) IsOfBytes
+words_errs : (r : Result (List ℕ) FromHexError) → IfErr (words_or_refusal r) IsOfOutcome
 words_errs (Ok bytes) = tt
 words_errs (Err e) = tt
 
-line_errs : (hex : Bool) (line : List ℕ) → IfErr (line_text hex line) IsOfBytes
+line_errs : (hex : Bool) (line : List ℕ) → IfErr (line_text hex line) IsOfOutcome
 line_errs hex [] = tt
-line_errs hex (digit ∷ digits) = then_errs IsOfBytes (words_of (digit ∷ digits)) (λ words. Ok (group_text hex words)) (words_errs (decode_sized (digit ∷ digits) 8)) (λ words. tt)
+line_errs hex (digit ∷ digits) = then_errs IsOfOutcome (words_of (digit ∷ digits)) (λ words. Ok (group_text hex words)) (words_errs (decode_sized (digit ∷ digits) 8)) (λ words. tt)
 
-lines_errs : (hex : Bool) (lines : List (List ℕ)) → IfErr (lines_text hex lines) IsOfBytes
+lines_errs : (hex : Bool) (lines : List (List ℕ)) → IfErr (lines_text hex lines) IsOfOutcome
 lines_errs hex [] = tt
 lines_errs hex (line ∷ lines) =
-    then_errs IsOfBytes (line_text hex line) (λ first. and_then (lines_text hex lines) (λ others. Ok (first ++ others))) (line_errs hex line)
-    (λ first. then_errs IsOfBytes (lines_text hex lines) (λ others. Ok (first ++ others)) (lines_errs hex lines) (λ others. tt))
+    then_errs IsOfOutcome (line_text hex line) (λ first. and_then (lines_text hex lines) (λ others. Ok (first ++ others))) (line_errs hex line)
+    (λ first. then_errs IsOfOutcome (lines_text hex lines) (λ others. Ok (first ++ others)) (lines_errs hex lines) (λ others. tt))
 
-task_errs : (t : Task) (held : List ℕ) → IfErr (text_of_task t held) IsOfBytes
-task_errs (task.Scan input) held = then_errs IsOfBytes (recording_of input held) _ (recording_errs input held) (λ bits. tt)
-task_errs (task.List input plan) held = then_errs IsOfBytes (cut_recording input plan.cuts held) _ (cut_errs input plan.cuts held) (λ bits. tt)
-task_errs (task.Totals input plan) held = then_errs IsOfBytes (cut_recording input plan.cuts held) _ (cut_errs input plan.cuts held) (λ bits. tt)
+task_errs : (t : Task) (held : List ℕ) → IfErr (text_of_task t held) IsOfOutcome
+task_errs (task.Scan input) held = then_errs IsOfOutcome (recording_of input held) _ (recording_errs input held) (λ bits. tt)
+task_errs (task.List input plan) held = then_errs IsOfOutcome (cut_recording input plan.cuts held) _ (cut_errs input plan.cuts held) (λ bits. tt)
+task_errs (task.Totals input plan) held = then_errs IsOfOutcome (cut_recording input plan.cuts held) _ (cut_errs input plan.cuts held) (λ bits. tt)
 task_errs (task.Encode hex) held = lines_errs hex (lines_of held)
 
-of_bytes : (t : Task) (held : List ℕ) (e : ToolError) → text_of_task t held ≡ Err e → IsOfBytes e
-of_bytes t held e q = let P : Result (List ℕ) ToolError → Type 0 = λ r. IfErr r IsOfBytes in subst P q (task_errs t held)
+of_bytes : (t : Task) (held : List ℕ) (e : ToolError) → text_of_task t held ≡ Err e → IsOfOutcome e
+of_bytes t held e q = let P : Result (List ℕ) ToolError → Type 0 = λ r. IfErr r IsOfOutcome in subst P q (task_errs t held)
 
 -- what a text is refused for: want of memory, a thread that is not started, in this case, or the bytes
 abbrev pub MayRefuse : Type 0 → Task → List ℕ → ToolError → Type 0
@@ -146,7 +125,7 @@ MayRefuse X t held e = (e ≡ OutOfMemory) ⊎ (((e ≡ NoWorker) × X) ⊎ (tex
 started : (X : Type 0) (t : Task) (held : List ℕ) (e : ToolError) → MayRefuse X t held e → e ≡ NoWorker → X
 started X t held e (inl m) p = let bad : OutOfMemory ≡ NoWorker = sym m ∙ p in cc bad
 started X t held e (inr (inl h)) p = h.1
-started X t held e (inr (inr q)) p = absurd (subst IsOfBytes p (of_bytes t held e q))
+started X t held e (inr (inr q)) p = absurd (subst IsOfOutcome p (of_bytes t held e q))
 
 -- a thread is not started in this case alone
 pub no_worker_of : {A : Type 0} (X : Type 0) (t : Task) (held : List ℕ) (r : Result A ToolError) → IfErr r (MayRefuse X t held) → r ≡ Err NoWorker → X
@@ -168,11 +147,11 @@ outcome_is job t held bytes text p q h = ap (λ r. and_then r (λ k. text_of_tas
 on_err : (X : Type 0) (r : Result (Unit {0}) ToolError) (e : ToolError) → r ≡ Err e → OnErr r X → X
 on_err X r e p h = let P : Result (Unit {0}) ToolError → Type 0 = λ x. OnErr x X in subst P p h
 
--- what a failed writing leaves is a front of the outcome's text
-pub front_is : (o : Option (List ℕ)) (job : Job) (t : Task) (bytes text : List ℕ) (r : Result (Unit {0}) ToolError) (old new : Option (List ℕ))
-    → IfSome o (λ held. bytes ≡ held) → task_of job ≡ Ok t → text_of_task t bytes ≡ Ok text → OnErr r (WritesFront old new (Ok text)) → r ≡ Err Write
-    → IfSome o (λ held. WritesFront old new (outcome job held))
-front_is None job t bytes text r old new h p q w e = tt
-front_is (Some held) job t bytes text r old new h p q w e =
-    let P : Result (List ℕ) ToolError → Type 0 = λ x. WritesFront old new x in
-    subst P (sym (outcome_is job t held bytes text p q h)) (on_err (WritesFront old new (Ok text)) r Write e w)
+-- what a failed writing leaves is a prefix of the outcome's text
+pub prefix_is : (o : Option (List ℕ)) (job : Job) (t : Task) (bytes text : List ℕ) (r : Result (Unit {0}) ToolError) (old new : Option (List ℕ))
+    → IfSome o (λ held. bytes ≡ held) → task_of job ≡ Ok t → text_of_task t bytes ≡ Ok text → OnErr r (WritesPrefix old new (Ok text)) → r ≡ Err Write
+    → IfSome o (λ held. WritesPrefix old new (outcome job held))
+prefix_is None job t bytes text r old new h p q w e = tt
+prefix_is (Some held) job t bytes text r old new h p q w e =
+    let P : Result (List ℕ) ToolError → Type 0 = λ x. WritesPrefix old new x in
+    subst P (sym (outcome_is job t held bytes text p q h)) (on_err (WritesPrefix old new (Ok text)) r Write e w)

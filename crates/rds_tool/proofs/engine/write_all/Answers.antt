@@ -4,8 +4,8 @@ use Rattle.std.proofs.lemmas.List.{take-append-drop}
 use Rattle.rds_tool.proofs.Steps.{appends_kept, wrote, wrote_none}
 use Rattle.rds_tool.proofs.engine.write_all.Goals as goal
 
-pub returns-in-Ok-eq0-clause-front : goal.returns-in-Ok-eq0-clause-front
-returns-in-Ok-eq0-clause-front g c = (
+pub returns-in-Ok-eq0-clause-prefix : goal.returns-in-Ok-eq0-clause-prefix
+returns-in-Ok-eq0-clause-prefix g c = (
   take c.loop-at.at c.args.text.now,
   drop c.loop-at.at c.args.text.now,
   sym (take-append-drop c.loop-at.at c.args.text.now),
@@ -19,8 +19,8 @@ loop-at-preserved g c = record {
   within = grind (arith, common_steps);
 }
 
-pub returns-in-Err-clause-front : goal.returns-in-Err-clause-front
-returns-in-Err-clause-front g c = (
+pub returns-in-Err-clause-prefix : goal.returns-in-Err-clause-prefix
+returns-in-Err-clause-prefix g c = (
   take c.loop-at.at c.args.text.now,
   drop c.loop-at.at c.args.text.now,
   sym (take-append-drop c.loop-at.at c.args.text.now),
