@@ -1,6 +1,7 @@
 -- The texts of the tasks, and what they can't be refused for.
-use Rattle.std.proofs.Common.{◌++◌, ◌∙◌, ◌*◌, ◌^◌, length, not, nat_lt, ◌≡◌, ◌≢◌, ◌⊎◌, Bool, Err, List, None, Ok, Option, Result, Some, [], ◌∷◌, ap, ap₂, false, if◌then◌else◌, inl, inr, subst, sym, true, ℕ}
-use Rattle.std.specs.Prelude.{IfErr, IfSome, OnErr}
+use Rattle.std.proofs.Common.{◌++◌, ◌∙◌, ◌*◌, ◌^◌, length, not, nat_lt, ◌≡◌, ◌<◌, ◌≢◌, ◌⊎◌, Bool, Err, List, None, Ok, Option, Result, Some, [], ◌∷◌, ap, ap₂, false, if◌then◌else◌, inl, inr, refl, subst, sym, true, ℕ}
+use Rattle.std.specs.Prelude.{IfErr, IfOk, IfSome, OnErr}
+use Rattle.std.specs.Result.{IsErr, IsErrAnd}
 use Rattle.std.specs.List.{filter}
 use Rattle.hex.specs.Hex.{decode_of, decode_sized}
 use Rattle.rds_stream.specs.Recording.{bits_of}
@@ -9,19 +10,22 @@ use Rattle.rds_sync.specs.Report.{report_items}
 use Rattle.rds_sync.specs.Rules.{RuleNumbers}
 use Rattle.rds_sync.specs.Totals.{totals_of}
 use Rattle.rds_sync.specs.declared.item.Item.{Item}
-use Rattle.rds_sync.specs.declared.totals.Totals.{Totals}
+use Rattle.rds_sync.specs.declared.totals.Totals.{Totals as TotalsOf}
 use Rattle.rds_tool.specs.Cuts.{cuts_bits}
 use Rattle.rds_tool.specs.GroupText.{line_text, lines_of, lines_text, words_of, words_or_refusal, group_text}
 use Rattle.rds_tool.specs.Input.{and_then, bytes_of, claimed, decoded, first_bits, is_blank, or_hex_text, recording_of}
 use Rattle.rds_tool.specs.Listing.{report_text, totals_text}
 use Rattle.rds_tool.specs.Outcome.{WritesPrefix, cut_recording, list_text, outcome, text_of_task, totals_list}
-use Rattle.rds_tool.specs.Plans.{PlanOf, cut_by}
-use Rattle.rds_tool.specs.Tasks.{task_of}
+use Rattle.rds_tool.specs.Plans.{PlanOf, crew_of, cut_by, plan_of}
+use Rattle.rds_tool.specs.Rules.{rules_of}
+use Rattle.rds_tool.specs.Tasks.{AsksForThreads, MayStartThreads, task_of}
 use Rattle.rds_tool.specs.declared.error.ToolError.{ToolError}
 use Rattle.rds_tool.specs.declared.error.ToolError.TheVariants.{BadCutting, BitsPastBytes, GroupText, HexText, NoWorker, OutOfMemory, Read, TooLong, TooManyTurns, Write}
 use Rattle.rds_tool.specs.declared.job.Cuts.{Cuts}
 use Rattle.rds_tool.specs.declared.job.Input.{Input}
 use Rattle.rds_tool.specs.declared.job.Job.{Job}
+use Rattle.rds_tool.specs.declared.job.Job.TheVariants.{Encode, List as ListJob, Scan, Totals}
+use Rattle.rds_tool.specs.declared.job.Settings.{Settings}
 use Rattle.rds_tool.specs.declared.task.Task.{Task}
 use Rattle.rds_tool.specs.declared.task.Task.TheVariants as task
 
@@ -31,7 +35,7 @@ module _ (input : Input) (plan : PlanOf) (held bits : List ℕ) where
   cut : recording_of input held ≡ Ok bits → cut_by plan.cuts bits ≡ Ok bits → cut_recording input plan.cuts held ≡ Ok bits
   cut recorded fits = ap (λ r. and_then r (cut_by plan.cuts)) recorded ∙ fits
 
-  pub list_made : (t : Task) (items : List Item) (totals : Totals) (text : List ℕ)
+  pub list_made : (t : Task) (items : List Item) (totals : TotalsOf) (text : List ℕ)
       → t ≡ task.List input plan → recording_of input held ≡ Ok bits → cut_by plan.cuts bits ≡ Ok bits → items ≡ report_items bits plan.rules
       → totals ≡ totals_of (report_items bits plan.rules) → text ≡ report_text items totals → text_of_task t held ≡ Ok text
   list_made t items totals text is recorded fits i o made =
@@ -39,7 +43,7 @@ module _ (input : Input) (plan : PlanOf) (held bits : List ℕ) where
       ∙ ap (λ r. and_then r (λ b. Ok (list_text plan.rules b))) (cut recorded fits)
       ∙ ap (λ x. Ok x) (ap₂ report_text (sym i) (sym o) ∙ sym made)
 
-  pub totals_made : (t : Task) (totals : Totals) (text : List ℕ)
+  pub totals_made : (t : Task) (totals : TotalsOf) (text : List ℕ)
       → t ≡ task.Totals input plan → recording_of input held ≡ Ok bits → cut_by plan.cuts bits ≡ Ok bits → totals ≡ totals_of (report_items bits plan.rules)
       → text ≡ totals_text totals → text_of_task t held ≡ Ok text
   totals_made t totals text is recorded fits o made =
@@ -47,7 +51,7 @@ module _ (input : Input) (plan : PlanOf) (held bits : List ℕ) where
       ∙ ap (λ r. and_then r (λ b. Ok (totals_list plan.rules b))) (cut recorded fits)
       ∙ ap (λ x. Ok x) (ap totals_text (sym o) ∙ sym made)
 
-pub totals_counted : (totals : Totals) (work bits : List ℕ) (given rules : RuleNumbers)
+pub totals_counted : (totals : TotalsOf) (work bits : List ℕ) (given rules : RuleNumbers)
     → totals ≡ totals_of (report_items work given) → work ≡ bits → given ≡ rules → totals ≡ totals_of (report_items bits rules)
 totals_counted totals work bits given rules counted same_bits same_rules = counted ∙ ap₂ (λ b r. totals_of (report_items b r)) same_bits same_rules
 
@@ -61,6 +65,27 @@ IsOfOutcome Read = ⊥
 IsOfOutcome Write = ⊥
 IsOfOutcome TooManyTurns = ⊥
 IsOfOutcome e = Unit {0}
+
+-- neither refusal is a device's
+abbrev pub IsInside : ToolError → Type 0
+IsInside e = (e ≢ Read) × (e ≢ Write) × (e ≢ TooManyTurns)
+
+inside : (e : ToolError) → IsOfOutcome e → IsInside e
+inside e h = (λ p. subst IsOfOutcome p h, λ p. subst IsOfOutcome p h, λ p. subst IsOfOutcome p h)
+
+memory_inside : (e : ToolError) → e ≡ OutOfMemory → IsInside e
+memory_inside e m = (
+  λ p. let bad : OutOfMemory ≡ Read = sym m ∙ p in cc bad,
+  λ p. let bad : OutOfMemory ≡ Write = sym m ∙ p in cc bad,
+  λ p. let bad : OutOfMemory ≡ TooManyTurns = sym m ∙ p in cc bad,
+)
+
+threads_inside : (e : ToolError) → e ≡ NoWorker → IsInside e
+threads_inside e m = (
+  λ p. let bad : NoWorker ≡ Read = sym m ∙ p in cc bad,
+  λ p. let bad : NoWorker ≡ Write = sym m ∙ p in cc bad,
+  λ p. let bad : NoWorker ≡ TooManyTurns = sym m ∙ p in cc bad,
+)
 
 module _ {A B : Type 0} where
   then_errs : (P : ToolError → Type 0) (r : Result A ToolError) (step : A → Result B ToolError) → IfErr r P → ((x : A) → IfErr (step x) P) → IfErr (and_then r step) P
@@ -138,6 +163,50 @@ pub refused_inside : (X : Type 0) (t : Task) (held : List ℕ) (e : ToolError)
 refused_inside X t held e (inl m) = memory_inside e m
 refused_inside X t held e (inr (inl h)) = threads_inside e h.0
 refused_inside X t held e (inr (inr p)) = inside e (of_bytes t held e p)
+
+passed_at : {T : Type 0} (r : Result T ToolError) (e : ToolError) → IsErr r × IsErrAnd r (λ x. x ≡ e) → r ≡ Err e
+passed_at (Ok x) e h = cc h.0
+passed_at (Err x) e h = ap (λ y. Err y) h.1
+
+module _ {T : Type 0} (r : Result T ToolError) (e : ToolError) where
+  -- a refusal that `?` passes on
+  pub passed : IsErr r × IsErrAnd r (λ x. x ≡ e) → r ≡ Err e
+  passed h = passed_at r e h
+
+  -- and what it is not, where it is no device's
+  pub passed_inside : r ≡ Err e → IsInside e → (r ≢ Err Read) × (r ≢ Err Write) × (r ≢ Err TooManyTurns)
+  passed_inside p h = (
+    λ q. let same : e ≡ Read = cc in h.0 same,
+    λ q. let same : e ≡ Write = cc in h.1 same,
+    λ q. let same : e ≡ TooManyTurns = cc in h.2 same,
+  )
+
+-- ---- the threads
+
+module _ {A B : Type 0} (Q : A → Type 0) (P : B → Type 0) (step : A → Result B ToolError) where
+  then_oks : (r : Result A ToolError) → IfOk r Q → ((x : A) → Q x → IfOk (step x) P) → IfOk (and_then r step) P
+  then_oks (Ok x) h k = k x h
+  then_oks (Err e) h k = tt
+
+any_ok : {A : Type 0} (r : Result A ToolError) → IfOk r (λ _. Unit {0})
+any_ok (Ok x) = tt
+any_ok (Err e) = tt
+
+-- a plan has the workers of its settings
+planned : (settings : Settings) → IfOk (plan_of settings) (λ plan. plan.workers ≡ settings.workers)
+planned settings =
+    then_oks _ _ _ (rules_of settings) (any_ok (rules_of settings))
+    (λ rules _. then_oks _ _ _ (crew_of settings) (any_ok (crew_of settings)) (λ _ _. refl))
+
+asks : (job : Job) → IfOk (task_of job) (λ t. MayStartThreads t → AsksForThreads job)
+asks (Scan input) = λ h. h
+asks (ListJob input settings) = then_oks _ _ _ (plan_of settings) (planned settings) (λ plan same h. subst (λ n. 1 < n) same h)
+asks (Totals input settings) = then_oks _ _ _ (plan_of settings) (planned settings) (λ plan same h. subst (λ n. 1 < n) same h)
+asks (Encode hex) = λ h. h
+
+-- a task that may start threads is of a job that asks for them
+pub asked : (job : Job) (t : Task) → task_of job ≡ Ok t → MayStartThreads t → AsksForThreads job
+asked job t p = let P : Result Task ToolError → Type 0 = λ r. IfOk r (λ t. MayStartThreads t → AsksForThreads job) in subst P p (asks job)
 
 -- ---- the outcome
 

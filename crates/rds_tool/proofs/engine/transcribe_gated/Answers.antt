@@ -1,6 +1,36 @@
-use Rattle.std.proofs.Common.{Ok, ap, sym, ◌∙◌}
-use Rattle.rds_tool.proofs.Texts.{prefix_is}
+use Rattle.std.proofs.Common.{Err, Ok, ap, arith, sym, ◌≢◌, ◌∙◌}
+use Rattle.rds_tool.specs.Tasks.{MayStartThreads}
+use Rattle.rds_tool.specs.declared.error.ToolError.TheVariants.{Read, TooManyTurns, Write}
+use Rattle.rds_tool.proofs.Texts.{asked, no_worker_of, passed, passed_inside, prefix_is, refused_inside}
+use Rattle.rds_tool.proofs.engine.transcribe_gated.Given.{Over}
 use Rattle.rds_tool.proofs.engine.transcribe_gated.Goals as goal
+
+-- the refusal of a text is no device's
+text_inside : (g : Over) (c : goal.Joined-task-2 g)
+    → (c.from_residual-in_err-text.result ≢ Err Read) × (c.from_residual-in_err-text.result ≢ Err Write) × (c.from_residual-in_err-text.result ≢ Err TooManyTurns)
+text_inside g c =
+    let task = c.in_ok-task.task in
+    passed_inside _ _ (passed _ _ c.from_residual-in_err-text.ensures)
+    (refused_inside (MayStartThreads task) task c.in_ok-held.held.items c.in_err-text.field-0.0 c.in_err-text.ensures.refused)
+
+pub returns-in_err-text-clause-read : goal.returns-in_err-text-clause-read
+returns-in_err-text-clause-read g c = (λ p. absurd ((text_inside g c).0 p), λ q. cc (c.in_ok-held.ensures.read.1 q))
+
+pub returns-in_err-text-clause-write : goal.returns-in_err-text-clause-write
+returns-in_err-text-clause-write g c = (λ p. absurd ((text_inside g c).1 p), λ q. absurd (omega arith))
+
+pub returns-in_err-text-clause-turns : goal.returns-in_err-text-clause-turns
+returns-in_err-text-clause-turns g c = λ p. absurd ((text_inside g c).2 p)
+
+pub returns-in_err-text-clause-no_worker : goal.returns-in_err-text-clause-no_worker
+returns-in_err-text-clause-no_worker g c = λ p.
+    let task = c.in_ok-task.task in
+    let same = passed _ _ c.from_residual-in_err-text.ensures in
+    asked c.args.job.now task c.in_ok-task.ensures.ok
+    (no_worker_of (MayStartThreads task) task c.in_ok-held.held.items c.text.result c.text.ensures.refused (cc (c.in_err-text.was, same, p)))
+
+pub returns-in_err-text-clause-prefix : goal.returns-in_err-text-clause-prefix
+returns-in_err-text-clause-prefix g c = λ p. absurd ((text_inside g c).1 p)
 
 pub returns-clause-prefix : goal.returns-clause-prefix
 returns-clause-prefix g c =
