@@ -1,5 +1,5 @@
 -- The texts of the tasks, and what they can't be refused for.
-use Rattle.std.proofs.Common.{◌++◌, ◌∙◌, ◌*◌, ◌^◌, length, not, nat_lt, ◌≡◌, ◌<◌, ◌≢◌, ◌⊎◌, Bool, Err, List, None, Ok, Option, Result, Some, [], ◌∷◌, ap, ap₂, false, if◌then◌else◌, inl, inr, refl, subst, sym, true, ℕ}
+use Rattle.std.proofs.Common.{◌↔◌, arith, ◌++◌, ◌∙◌, ◌*◌, ◌^◌, length, not, nat_lt, ◌≡◌, ◌<◌, ◌≢◌, ◌⊎◌, Bool, Err, List, None, Ok, Option, Result, Some, [], ◌∷◌, ap, ap₂, false, if◌then◌else◌, inl, inr, refl, subst, sym, true, ℕ}
 use Rattle.std.specs.Prelude.{IfErr, IfOk, IfSome, OnErr}
 use Rattle.std.specs.Result.{IsErr, IsErrAnd}
 use Rattle.std.specs.List.{filter}
@@ -147,15 +147,11 @@ of_bytes t held e q = let P : Result (List ℕ) ToolError → Type 0 = λ r. IfE
 abbrev pub MayRefuse : Type 0 → Task → List ℕ → ToolError → Type 0
 MayRefuse X t held e = (e ≡ OutOfMemory) ⊎ (((e ≡ NoWorker) × X) ⊎ (text_of_task t held ≡ Err e))
 
-started : (X : Type 0) (t : Task) (held : List ℕ) (e : ToolError) → MayRefuse X t held e → e ≡ NoWorker → X
+-- a thread is not started in this case alone
+pub started : (X : Type 0) (t : Task) (held : List ℕ) (e : ToolError) → MayRefuse X t held e → e ≡ NoWorker → X
 started X t held e (inl m) p = let bad : OutOfMemory ≡ NoWorker = sym m ∙ p in cc bad
 started X t held e (inr (inl h)) p = h.1
 started X t held e (inr (inr q)) p = absurd (subst IsOfOutcome p (of_bytes t held e q))
-
--- a thread is not started in this case alone
-pub no_worker_of : {A : Type 0} (X : Type 0) (t : Task) (held : List ℕ) (r : Result A ToolError) → IfErr r (MayRefuse X t held) → r ≡ Err NoWorker → X
-no_worker_of X t held (Ok x) h p = cc p
-no_worker_of X t held (Err e) h p = started X t held e h (cc p)
 
 -- a text is refused for want of memory or threads, or for its bytes
 pub refused_inside : (X : Type 0) (t : Task) (held : List ℕ) (e : ToolError)
@@ -173,13 +169,21 @@ module _ {T : Type 0} (r : Result T ToolError) (e : ToolError) where
   pub passed : IsErr r × IsErrAnd r (λ x. x ≡ e) → r ≡ Err e
   passed h = passed_at r e h
 
+  -- which is of one kind alone
+  pub passed_kind : (k : ToolError) → r ≡ Err e → r ≡ Err k → e ≡ k
+  passed_kind k p q = cc
+
   -- and what it is not, where it is no device's
   pub passed_inside : r ≡ Err e → IsInside e → (r ≢ Err Read) × (r ≢ Err Write) × (r ≢ Err TooManyTurns)
-  passed_inside p h = (
-    λ q. let same : e ≡ Read = cc in h.0 same,
-    λ q. let same : e ≡ Write = cc in h.1 same,
-    λ q. let same : e ≡ TooManyTurns = cc in h.2 same,
-  )
+  passed_inside p h = (λ q. h.0 (passed_kind Read p q), λ q. h.1 (passed_kind Write p q), λ q. h.2 (passed_kind TooManyTurns p q))
+
+-- a call that succeeded counted no failure
+pub no_failure : {T X : Type 0} (x : T) (a b : ℕ) → let r : Result T ToolError = Ok x in (r ≡ Err Read ↔ a < b) → a < b → X
+no_failure x a b h q = cc (h.1 q)
+
+-- what was not called counted none
+pub not_called : {X : Type 0} (n : ℕ) → n < n → X
+not_called n h = absurd (omega arith)
 
 -- ---- the threads
 

@@ -1,7 +1,7 @@
-use Rattle.std.proofs.Common.{Err, Ok, ap, arith, sym, ◌≢◌, ◌∙◌}
+use Rattle.std.proofs.Common.{Err, Ok, ap, sym, ◌≢◌, ◌∙◌}
 use Rattle.rds_tool.specs.Tasks.{MayStartThreads}
-use Rattle.rds_tool.specs.declared.error.ToolError.TheVariants.{Read, TooManyTurns, Write}
-use Rattle.rds_tool.proofs.Texts.{asked, no_worker_of, passed, passed_inside, prefix_is, refused_inside}
+use Rattle.rds_tool.specs.declared.error.ToolError.TheVariants.{NoWorker, Read, TooManyTurns, Write}
+use Rattle.rds_tool.proofs.Texts.{asked, no_failure, not_called, passed, passed_inside, passed_kind, prefix_is, refused_inside, started}
 use Rattle.rds_tool.proofs.engine.transcribe_gated.Given.{Over}
 use Rattle.rds_tool.proofs.engine.transcribe_gated.Goals as goal
 
@@ -14,10 +14,10 @@ text_inside g c =
     (refused_inside (MayStartThreads task) task c.in_ok-held.held.items c.in_err-text.field-0.0 c.in_err-text.ensures.refused)
 
 pub returns-in_err-text-clause-read : goal.returns-in_err-text-clause-read
-returns-in_err-text-clause-read g c = (λ p. absurd ((text_inside g c).0 p), λ q. cc (c.in_ok-held.ensures.read.1 q))
+returns-in_err-text-clause-read g c = (λ p. absurd ((text_inside g c).0 p), no_failure c.in_ok-held.held _ _ c.in_ok-held.ensures.read)
 
 pub returns-in_err-text-clause-write : goal.returns-in_err-text-clause-write
-returns-in_err-text-clause-write g c = (λ p. absurd ((text_inside g c).1 p), λ q. absurd (omega arith))
+returns-in_err-text-clause-write g c = (λ p. absurd ((text_inside g c).1 p), not_called _)
 
 pub returns-in_err-text-clause-turns : goal.returns-in_err-text-clause-turns
 returns-in_err-text-clause-turns g c = λ p. absurd ((text_inside g c).2 p)
@@ -27,7 +27,7 @@ returns-in_err-text-clause-no_worker g c = λ p.
     let task = c.in_ok-task.task in
     let same = passed _ _ c.from_residual-in_err-text.ensures in
     asked c.args.job.now task c.in_ok-task.ensures.ok
-    (no_worker_of (MayStartThreads task) task c.in_ok-held.held.items c.text.result c.text.ensures.refused (cc (c.in_err-text.was, same, p)))
+    (started (MayStartThreads task) task c.in_ok-held.held.items c.in_err-text.field-0.0 c.in_err-text.ensures.refused (passed_kind _ _ NoWorker same p))
 
 pub returns-in_err-text-clause-prefix : goal.returns-in_err-text-clause-prefix
 returns-in_err-text-clause-prefix g c = λ p. absurd ((text_inside g c).1 p)
