@@ -1,3 +1,4 @@
+pub mod Options
 pub mod Getters
 pub mod Refusing
 pub mod RowText
