@@ -6,3 +6,4 @@ pub mod Steps
 pub mod Encoding
 pub mod Texts
 pub mod Cuttings
+pub mod Passing

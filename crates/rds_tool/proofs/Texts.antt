@@ -1,7 +1,6 @@
 -- The texts of the tasks, and what they can't be refused for.
 use Rattle.std.proofs.Common.{◌↔◌, arith, ◌++◌, ◌∙◌, ◌*◌, ◌^◌, length, not, nat_lt, ◌≡◌, ◌<◌, ◌≢◌, ◌⊎◌, Bool, Err, List, None, Ok, Option, Result, Some, [], ◌∷◌, ap, ap₂, false, if◌then◌else◌, inl, inr, refl, subst, sym, true, ℕ}
 use Rattle.std.specs.Prelude.{IfErr, IfOk, IfSome, OnErr}
-use Rattle.std.specs.Result.{IsErr, IsErrAnd}
 use Rattle.std.specs.List.{filter}
 use Rattle.hex.specs.Hex.{decode_of, decode_sized}
 use Rattle.rds_stream.specs.Recording.{bits_of}
@@ -28,6 +27,7 @@ use Rattle.rds_tool.specs.declared.job.Job.TheVariants.{Encode, List as ListJob,
 use Rattle.rds_tool.specs.declared.job.Settings.{Settings}
 use Rattle.rds_tool.specs.declared.task.Task.{Task}
 use Rattle.rds_tool.specs.declared.task.Task.TheVariants as task
+use Rattle.rds_tool.proofs.Passing.{passed_kind}
 
 -- ---- the texts
 
@@ -160,22 +160,10 @@ refused_inside X t held e (inl m) = memory_inside e m
 refused_inside X t held e (inr (inl h)) = threads_inside e h.0
 refused_inside X t held e (inr (inr p)) = inside e (of_bytes t held e p)
 
-passed_at : {T : Type 0} (r : Result T ToolError) (e : ToolError) → IsErr r × IsErrAnd r (λ x. x ≡ e) → r ≡ Err e
-passed_at (Ok x) e h = cc h.0
-passed_at (Err x) e h = ap (λ y. Err y) h.1
-
-module _ {T : Type 0} (r : Result T ToolError) (e : ToolError) where
-  -- a refusal that `?` passes on
-  pub passed : IsErr r × IsErrAnd r (λ x. x ≡ e) → r ≡ Err e
-  passed h = passed_at r e h
-
-  -- which is of one kind alone
-  pub passed_kind : (k : ToolError) → r ≡ Err e → r ≡ Err k → e ≡ k
-  passed_kind k p q = cc
-
-  -- and what it is not, where it is no device's
-  pub passed_inside : r ≡ Err e → IsInside e → (r ≢ Err Read) × (r ≢ Err Write) × (r ≢ Err TooManyTurns)
-  passed_inside p h = (λ q. h.0 (passed_kind Read p q), λ q. h.1 (passed_kind Write p q), λ q. h.2 (passed_kind TooManyTurns p q))
+-- what a refusal that is no device's is not
+pub passed_inside : {T : Type 0} (r : Result T ToolError) (e : ToolError) → r ≡ Err e → IsInside e
+    → (r ≢ Err Read) × (r ≢ Err Write) × (r ≢ Err TooManyTurns)
+passed_inside r e p h = (λ q. h.0 (passed_kind r e Read p q), λ q. h.1 (passed_kind r e Write p q), λ q. h.2 (passed_kind r e TooManyTurns p q))
 
 -- a call that succeeded counted no failure
 pub no_failure : {T X : Type 0} (x : T) (a b : ℕ) → let r : Result T ToolError = Ok x in (r ≡ Err Read ↔ a < b) → a < b → X

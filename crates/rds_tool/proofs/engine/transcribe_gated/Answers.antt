@@ -1,7 +1,8 @@
 use Rattle.std.proofs.Common.{Err, Ok, ap, sym, ◌≢◌, ◌∙◌}
 use Rattle.rds_tool.specs.Tasks.{MayStartThreads}
 use Rattle.rds_tool.specs.declared.error.ToolError.TheVariants.{NoWorker, Read, TooManyTurns, Write}
-use Rattle.rds_tool.proofs.Texts.{asked, no_failure, not_called, passed, passed_inside, passed_kind, prefix_is, refused_inside, started}
+use Rattle.rds_tool.proofs.Passing.{passed, passed_kind}
+use Rattle.rds_tool.proofs.Texts.{asked, no_failure, not_called, passed_inside, prefix_is, refused_inside, started}
 use Rattle.rds_tool.proofs.engine.transcribe_gated.Given.{Over}
 use Rattle.rds_tool.proofs.engine.transcribe_gated.Goals as goal
 
