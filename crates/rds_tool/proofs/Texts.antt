@@ -1,5 +1,5 @@
 -- The texts of the tasks, and what they can't be refused for.
-use Rattle.std.proofs.Common.{◌↔◌, arith, ◌++◌, ◌∙◌, ◌*◌, ◌^◌, length, not, nat_lt, ◌≡◌, ◌<◌, ◌≢◌, ◌⊎◌, Bool, Err, List, None, Ok, Option, Result, Some, [], ◌∷◌, ap, ap₂, false, if◌then◌else◌, inl, inr, refl, subst, sym, true, ℕ}
+use Rattle.std.proofs.Common.{◌↔◌, ◌||◌, arith, ◌++◌, ◌∙◌, ◌*◌, ◌^◌, length, not, nat_lt, ◌≡◌, ◌<◌, ◌≢◌, ◌⊎◌, Bool, Err, List, None, Ok, Option, Result, Some, [], ◌∷◌, ap, ap₂, false, if◌then◌else◌, inl, inr, refl, subst, sym, true, ℕ}
 use Rattle.std.specs.Prelude.{IfErr, IfOk, IfSome, OnErr}
 use Rattle.std.specs.List.{filter}
 use Rattle.hex.specs.Hex.{decode_of, decode_sized}
@@ -10,7 +10,7 @@ use Rattle.rds_sync.specs.Rules.{RuleNumbers}
 use Rattle.rds_sync.specs.Totals.{totals_of}
 use Rattle.rds_sync.specs.declared.item.Item.{Item}
 use Rattle.rds_sync.specs.declared.totals.Totals.{Totals as TotalsOf}
-use Rattle.rds_tool.specs.Cuts.{cuts_bits}
+use Rattle.rds_tool.specs.Cuts.{cuts_bits, has_pieces}
 use Rattle.rds_tool.specs.GroupText.{line_text, lines_of, lines_text, words_of, words_or_refusal, group_text}
 use Rattle.rds_tool.specs.Input.{and_then, bytes_of, claimed, decoded, first_bits, is_blank, or_hex_text, recording_of}
 use Rattle.rds_tool.specs.Listing.{report_text, totals_text}
@@ -19,7 +19,7 @@ use Rattle.rds_tool.specs.Plans.{PlanOf, crew_of, cut_by, plan_of}
 use Rattle.rds_tool.specs.Rules.{rules_of}
 use Rattle.rds_tool.specs.Tasks.{AsksForThreads, MayStartThreads, task_of}
 use Rattle.rds_tool.specs.declared.error.ToolError.{ToolError}
-use Rattle.rds_tool.specs.declared.error.ToolError.TheVariants.{BadCutting, BitsPastBytes, GroupText, HexText, NoWorker, OutOfMemory, Read, TooLong, TooManyTurns, Write}
+use Rattle.rds_tool.specs.declared.error.ToolError.TheVariants.{BadCutting, BitsPastBytes, BurstRange, CrewRange, GroupText, HexText, LossRange, NoWorker, OutOfMemory, ReachRange, Read, TooLong, TooManyTurns, Write}
 use Rattle.rds_tool.specs.declared.job.Cuts.{Cuts}
 use Rattle.rds_tool.specs.declared.job.Input.{Input}
 use Rattle.rds_tool.specs.declared.job.Job.{Job}
@@ -159,6 +159,38 @@ pub refused_inside : (X : Type 0) (t : Task) (held : List ℕ) (e : ToolError)
 refused_inside X t held e (inl m) = memory_inside e m
 refused_inside X t held e (inr (inl h)) = threads_inside e h.0
 refused_inside X t held e (inr (inr p)) = inside e (of_bytes t held e p)
+
+rules_at : (burst reach loss : Bool) (rules : RuleNumbers)
+    → let r : Result RuleNumbers ToolError = if burst then Err BurstRange else if reach then Err ReachRange else if loss then Err LossRange else Ok rules in
+    IfErr r IsOfOutcome
+rules_at true reach loss rules = tt
+rules_at false true loss rules = tt
+rules_at false false true rules = tt
+rules_at false false false rules = tt
+
+crew_at : (workers pieces : Bool) → let r : Result (Unit {0}) ToolError = if workers then Err CrewRange else if pieces then Err BadCutting else Ok tt in IfErr r IsOfOutcome
+crew_at true pieces = tt
+crew_at false true = tt
+crew_at false false = tt
+
+plan_errs : (settings : Settings) → IfErr (plan_of settings) IsOfOutcome
+plan_errs settings =
+    then_errs IsOfOutcome (rules_of settings) _
+    (rules_at (nat_lt 5 settings.burst) (nat_lt settings.reach 1 || nat_lt 8 settings.reach) (nat_lt settings.loss 1 || nat_lt 64 settings.loss) _)
+    (λ rules. then_errs IsOfOutcome (crew_of settings) _ (crew_at (nat_lt settings.workers 1 || nat_lt 256 settings.workers) (not (has_pieces settings.cuts))) (λ _. tt))
+
+settings_errs : (job : Job) → IfErr (task_of job) IsOfOutcome
+settings_errs (Scan input) = tt
+settings_errs (ListJob input settings) = then_errs IsOfOutcome (plan_of settings) _ (plan_errs settings) (λ plan. tt)
+settings_errs (Totals input settings) = then_errs IsOfOutcome (plan_of settings) _ (plan_errs settings) (λ plan. tt)
+settings_errs (Encode hex) = tt
+
+-- settings are refused for want of memory, or as such
+pub settings_inside : (job : Job) (e : ToolError) → (e ≡ OutOfMemory) ⊎ (task_of job ≡ Err e) → IsInside e × (e ≢ NoWorker)
+settings_inside job e (inl m) = (memory_inside e m, λ p. let bad : OutOfMemory ≡ NoWorker = sym m ∙ p in cc bad)
+settings_inside job e (inr q) =
+    let P : Result Task ToolError → Type 0 = λ r. IfErr r IsOfOutcome in
+    let h : IsOfOutcome e = subst P q (settings_errs job) in (inside e h, λ p. subst IsOfOutcome p h)
 
 -- what a refusal that is no device's is not
 pub passed_inside : {T : Type 0} (r : Result T ToolError) (e : ToolError) → r ≡ Err e → IsInside e

@@ -2,9 +2,32 @@ use Rattle.std.proofs.Common.{Err, Ok, ap, sym, ◌≢◌, ◌∙◌}
 use Rattle.rds_tool.specs.Tasks.{MayStartThreads}
 use Rattle.rds_tool.specs.declared.error.ToolError.TheVariants.{NoWorker, Read, TooManyTurns, Write}
 use Rattle.rds_tool.proofs.Passing.{passed, passed_kind}
-use Rattle.rds_tool.proofs.Texts.{asked, no_failure, not_called, passed_inside, prefix_is, refused_inside, started}
+use Rattle.rds_tool.proofs.Texts.{asked, no_failure, not_called, passed_inside, prefix_is, refused_inside, settings_inside, started}
 use Rattle.rds_tool.proofs.engine.transcribe_gated.Given.{Over}
 use Rattle.rds_tool.proofs.engine.transcribe_gated.Goals as goal
+
+-- the refusal of a task is neither a device's nor a thread's
+task_inside : (g : Over) (c : goal.After-from_residual g)
+    → (c.from_residual.result ≢ Err Read) × (c.from_residual.result ≢ Err Write) × (c.from_residual.result ≢ Err TooManyTurns)
+task_inside g c =
+    passed_inside _ _ (passed _ _ c.from_residual.ensures) (settings_inside c.args.job.now c.in_err-task.field-0.0 c.in_err-task.ensures.refused).0
+
+pub returns-in_err-task-clause-read : goal.returns-in_err-task-clause-read
+returns-in_err-task-clause-read g c = (λ p. absurd ((task_inside g c).0 p), not_called _)
+
+pub returns-in_err-task-clause-write : goal.returns-in_err-task-clause-write
+returns-in_err-task-clause-write g c = (λ p. absurd ((task_inside g c).1 p), not_called _)
+
+pub returns-in_err-task-clause-turns : goal.returns-in_err-task-clause-turns
+returns-in_err-task-clause-turns g c = λ p. absurd ((task_inside g c).2 p)
+
+pub returns-in_err-task-clause-no_worker : goal.returns-in_err-task-clause-no_worker
+returns-in_err-task-clause-no_worker g c = λ p.
+    let same = passed _ _ c.from_residual.ensures in
+    absurd ((settings_inside c.args.job.now c.in_err-task.field-0.0 c.in_err-task.ensures.refused).1 (passed_kind _ _ NoWorker same p))
+
+pub returns-in_err-task-clause-prefix : goal.returns-in_err-task-clause-prefix
+returns-in_err-task-clause-prefix g c = λ p. absurd ((task_inside g c).1 p)
 
 -- the refusal of a text is no device's
 text_inside : (g : Over) (c : goal.Joined-task-2 g)
