@@ -7,3 +7,4 @@ pub mod Encoding
 pub mod Texts
 pub mod Cuttings
 pub mod Passing
+pub mod Reading

@@ -113,7 +113,11 @@ fn read_all<S: Source>(alloc: Global, reader: &mut S) -> Result<Vec<u8>, ToolErr
 }
 
 /// One read, whose bytes are added. Answers whether the reader was at its end.
-fn read_some<S: Source>(reader: &mut S, buf: &mut [u8], bytes: &mut Vec<u8>) -> Result<bool, ToolError>
+fn read_some<S: Source>(
+    reader: &mut S,
+    buf: &mut [u8],
+    bytes: &mut Vec<u8>,
+) -> Result<bool, ToolError>
     requires count { S.failed reader.old < 2 ^ 63 }
     requires room { 0 < length buf.old }
     ensures taken { OnOk result ((more : List ℕ) × Consumes (S.remaining reader.old) (S.remaining reader.new) more × (bytes.new.items ≡ bytes.old.items ++ more)) }

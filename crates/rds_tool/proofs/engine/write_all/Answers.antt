@@ -14,8 +14,7 @@ returns-in-Ok-eq0-clause-prefix g c = (
 pub returns-in-Ok-eq0-clause-write : goal.returns-in-Ok-eq0-clause-write
 returns-in-Ok-eq0-clause-write g c =
     let failed = g.K.Sink.failed c.write.new.self in
-    let left = some_left c.args.text.now c.loop-at.at c.loop-at-test.true in
-    (
+    let left = some_left c.args.text.now c.loop-at.at c.loop-at-test.true in (
       λ _. subst (λ n. n < failed) c.loop-at.invariant.count (took_none _ failed c.in-Ok-eq0.field-0 _ c.in-Ok-eq0.field-0-test left c.in-Ok-eq0.ensures.counts),
       λ _. refl,
     )
