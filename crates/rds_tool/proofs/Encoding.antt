@@ -1,10 +1,11 @@
 -- Lines encoded one after the other.
-use Rattle.std.proofs.Common.{◌+◌, ◌++◌, ◌<◌, ◌∙◌, ◌∷◌, ◌≡◌, ◌≢◌, Bool, Bor, Err, List, Ok, Result, [], add-one, ap, append_assoc, drop, false, get_or, length, map, refl, slice_index_or, suc, sym, true, ℕ}
+use Rattle.std.proofs.Common.{◌+◌, ◌++◌, ◌<◌, ◌∙◌, ◌∷◌, ◌≡◌, ◌≢◌, ◌⊎◌, Bool, Bor, Err, List, Ok, Result, [], add-one, ap, append_assoc, drop, false, get_or, length, map, refl, inl, inr, sym, true, ℕ}
 use Rattle.std.proofs.Math.Seq.{drop-cons}
 use Rattle.rds_tool.specs.GroupText.{group_bytes, group_text, line_text, lines_text, words_of}
 use Rattle.hex.specs.Hex.{encode_lower}
 use Rattle.rds_tool.specs.Input.{and_then}
 use Rattle.rds_tool.specs.declared.error.ToolError.{ToolError}
+use Rattle.rds_tool.specs.declared.error.ToolError.TheVariants.{OutOfMemory}
 
 -- the text so far, and then what is made of the lines that are left
 abbrev pub with_rest : Bool → List ℕ → List (List ℕ) → Result (List ℕ) ToolError
@@ -38,13 +39,24 @@ pub line_of_digits : (hex : Bool) (line : List ℕ) → length line ≢ 0 → li
 line_of_digits hex [] h = absurd (h refl)
 line_of_digits hex (digit ∷ digits) h = refl
 
--- one line more of those that are left
-pub next_line : (lines : List (Bor (List ℕ))) (i : ℕ) (line : Bor (List ℕ)) → i < length lines → line ≡ slice_index_or lines i line
-    → map (λ l. l.now) (drop i lines) ≡ line.now ∷ map (λ l. l.now) (drop (i + 1) lines)
-next_line lines i line h is = ap (map (λ (l : Bor (List ℕ)). l.now)) (drop-cons lines i line h ∙ here)
-  where
-    here : get_or lines i line ∷ drop (suc i) lines ≡ line ∷ drop (i + 1) lines
-    here = rw (← is, add-one) refl
+-- a line more is taken, or decides
+module _ (hex : Bool) (lines : List (Bor (List ℕ))) (i : ℕ) (none : Bor (List ℕ)) (text : List ℕ) (whole : Result (List ℕ) ToolError)
+    (so_far : whole ≡ with_rest hex text (map (λ l. l.now) (drop i lines))) (within : i < length lines) where
+  next : drop i lines ≡ get_or lines i none ∷ drop (i + 1) lines
+  next = rw add-one (drop-cons lines i none within)
+
+  here : whole ≡ with_rest hex text ((get_or lines i none).now ∷ map (λ l. l.now) (drop (i + 1) lines))
+  here = so_far ∙ ap (λ ls. with_rest hex text (map (λ l. l.now) ls)) next
+
+  pub one_more : (more new : List ℕ) → line_text hex (get_or lines i none).now ≡ Ok more → new ≡ text ++ more
+      → whole ≡ with_rest hex new (map (λ l. l.now) (drop (i + 1) lines))
+  one_more more new taken is_new =
+      let rest = map (λ (l : Bor (List ℕ)). l.now) (drop (i + 1) lines) in
+      here ∙ line_taken hex text (get_or lines i none).now rest more taken ∙ ap (λ t. with_rest hex t rest) (sym is_new)
+
+  pub one_refused : (error : ToolError) → (error ≡ OutOfMemory) ⊎ (line_text hex (get_or lines i none).now ≡ Err error) → (error ≡ OutOfMemory) ⊎ (whole ≡ Err error)
+  one_refused error (inl memory) = inl memory
+  one_refused error (inr refused) = inr (here ∙ line_refused hex text (get_or lines i none).now (map (λ (l : Bor (List ℕ)). l.now) (drop (i + 1) lines)) error refused)
 
 -- a group as a line of digits
 pub group_as_digits : (old digits bytes middle new : List ℕ) (hex : Bool) (words : List ℕ) → hex ≡ true → bytes ≡ group_bytes words → digits ≡ encode_lower bytes

@@ -1,3 +1,4 @@
+pub mod Options
 pub mod Getters
 pub mod Refusing
 pub mod RowText
@@ -5,3 +6,5 @@ pub mod Steps
 pub mod Encoding
 pub mod Texts
 pub mod Cuttings
+pub mod Passing
+pub mod Reading

@@ -1,6 +1,6 @@
 -- The texts of the tasks, and what they can't be refused for.
-use Rattle.std.proofs.Common.{◌++◌, ◌∙◌, ◌*◌, ◌^◌, length, not, nat_lt, ◌≡◌, ◌≢◌, ◌⊎◌, Bool, Err, List, None, Ok, Option, Result, Some, [], ◌∷◌, ap, ap₂, false, if◌then◌else◌, inl, inr, subst, sym, true, ℕ}
-use Rattle.std.specs.Prelude.{IfErr, IfSome, OnErr}
+use Rattle.std.proofs.Common.{◌↔◌, ◌||◌, arith, ◌++◌, ◌∙◌, ◌*◌, ◌^◌, length, not, nat_lt, ◌≡◌, ◌<◌, ◌≢◌, ◌⊎◌, Bool, Err, List, None, Ok, Option, Result, Some, [], ◌∷◌, ap, ap₂, false, if◌then◌else◌, inl, inr, refl, subst, sym, true, ℕ}
+use Rattle.std.specs.Prelude.{IfErr, IfOk, IfSome, OnErr}
 use Rattle.std.specs.List.{filter}
 use Rattle.hex.specs.Hex.{decode_of, decode_sized}
 use Rattle.rds_stream.specs.Recording.{bits_of}
@@ -9,21 +9,25 @@ use Rattle.rds_sync.specs.Report.{report_items}
 use Rattle.rds_sync.specs.Rules.{RuleNumbers}
 use Rattle.rds_sync.specs.Totals.{totals_of}
 use Rattle.rds_sync.specs.declared.item.Item.{Item}
-use Rattle.rds_sync.specs.declared.totals.Totals.{Totals}
-use Rattle.rds_tool.specs.Cuts.{cuts_bits}
+use Rattle.rds_sync.specs.declared.totals.Totals.{Totals as TotalsOf}
+use Rattle.rds_tool.specs.Cuts.{cuts_bits, has_pieces}
 use Rattle.rds_tool.specs.GroupText.{line_text, lines_of, lines_text, words_of, words_or_refusal, group_text}
 use Rattle.rds_tool.specs.Input.{and_then, bytes_of, claimed, decoded, first_bits, is_blank, or_hex_text, recording_of}
 use Rattle.rds_tool.specs.Listing.{report_text, totals_text}
-use Rattle.rds_tool.specs.Outcome.{WritesFront, cut_recording, list_text, outcome, text_of_task, totals_list}
-use Rattle.rds_tool.specs.Plans.{PlanOf, cut_by}
-use Rattle.rds_tool.specs.Tasks.{task_of}
+use Rattle.rds_tool.specs.Outcome.{WritesPrefix, cut_recording, list_text, outcome, text_of_task, totals_list}
+use Rattle.rds_tool.specs.Plans.{PlanOf, crew_of, cut_by, plan_of}
+use Rattle.rds_tool.specs.Rules.{rules_of}
+use Rattle.rds_tool.specs.Tasks.{AsksForThreads, MayStartThreads, task_of}
 use Rattle.rds_tool.specs.declared.error.ToolError.{ToolError}
-use Rattle.rds_tool.specs.declared.error.ToolError.TheVariants.{BadCutting, BitsPastBytes, GroupText, HexText, NoWorker, OutOfMemory, Read, TooLong, TooManyTurns, Write}
+use Rattle.rds_tool.specs.declared.error.ToolError.TheVariants.{BadCutting, BitsPastBytes, BurstRange, CrewRange, LossRange, NoWorker, OutOfMemory, ReachRange, Read, TooLong, TooManyTurns, Write}
 use Rattle.rds_tool.specs.declared.job.Cuts.{Cuts}
 use Rattle.rds_tool.specs.declared.job.Input.{Input}
 use Rattle.rds_tool.specs.declared.job.Job.{Job}
+use Rattle.rds_tool.specs.declared.job.Job.TheVariants.{Encode, List as ListJob, Scan, Totals}
+use Rattle.rds_tool.specs.declared.job.Settings.{Settings}
 use Rattle.rds_tool.specs.declared.task.Task.{Task}
 use Rattle.rds_tool.specs.declared.task.Task.TheVariants as task
+use Rattle.rds_tool.proofs.Passing.{passed_kind}
 
 -- ---- the texts
 
@@ -31,7 +35,7 @@ module _ (input : Input) (plan : PlanOf) (held bits : List ℕ) where
   cut : recording_of input held ≡ Ok bits → cut_by plan.cuts bits ≡ Ok bits → cut_recording input plan.cuts held ≡ Ok bits
   cut recorded fits = ap (λ r. and_then r (cut_by plan.cuts)) recorded ∙ fits
 
-  pub list_made : (t : Task) (items : List Item) (totals : Totals) (text : List ℕ)
+  pub list_made : (t : Task) (items : List Item) (totals : TotalsOf) (text : List ℕ)
       → t ≡ task.List input plan → recording_of input held ≡ Ok bits → cut_by plan.cuts bits ≡ Ok bits → items ≡ report_items bits plan.rules
       → totals ≡ totals_of (report_items bits plan.rules) → text ≡ report_text items totals → text_of_task t held ≡ Ok text
   list_made t items totals text is recorded fits i o made =
@@ -39,7 +43,7 @@ module _ (input : Input) (plan : PlanOf) (held bits : List ℕ) where
       ∙ ap (λ r. and_then r (λ b. Ok (list_text plan.rules b))) (cut recorded fits)
       ∙ ap (λ x. Ok x) (ap₂ report_text (sym i) (sym o) ∙ sym made)
 
-  pub totals_made : (t : Task) (totals : Totals) (text : List ℕ)
+  pub totals_made : (t : Task) (totals : TotalsOf) (text : List ℕ)
       → t ≡ task.Totals input plan → recording_of input held ≡ Ok bits → cut_by plan.cuts bits ≡ Ok bits → totals ≡ totals_of (report_items bits plan.rules)
       → text ≡ totals_text totals → text_of_task t held ≡ Ok text
   totals_made t totals text is recorded fits o made =
@@ -47,27 +51,27 @@ module _ (input : Input) (plan : PlanOf) (held bits : List ℕ) where
       ∙ ap (λ r. and_then r (λ b. Ok (totals_list plan.rules b))) (cut recorded fits)
       ∙ ap (λ x. Ok x) (ap totals_text (sym o) ∙ sym made)
 
-pub totals_counted : (totals : Totals) (work bits : List ℕ) (given rules : RuleNumbers)
+pub totals_counted : (totals : TotalsOf) (work bits : List ℕ) (given rules : RuleNumbers)
     → totals ≡ totals_of (report_items work given) → work ≡ bits → given ≡ rules → totals ≡ totals_of (report_items bits rules)
 totals_counted totals work bits given rules counted same_bits same_rules = counted ∙ ap₂ (λ b r. totals_of (report_items b r)) same_bits same_rules
 
 -- ---- the refusals
 
--- a refusal of the bytes
-abbrev pub IsOfBytes : ToolError → Type 0
-IsOfBytes BitsPastBytes = Unit {0}
-IsOfBytes TooLong = Unit {0}
-IsOfBytes HexText = Unit {0}
-IsOfBytes GroupText = Unit {0}
-IsOfBytes BadCutting = Unit {0}
-IsOfBytes e = ⊥
+-- a refusal that the job or the bytes decide
+abbrev pub IsOfOutcome : ToolError → Type 0
+IsOfOutcome OutOfMemory = ⊥
+IsOfOutcome NoWorker = ⊥
+IsOfOutcome Read = ⊥
+IsOfOutcome Write = ⊥
+IsOfOutcome TooManyTurns = ⊥
+IsOfOutcome e = Unit {0}
 
 -- neither refusal is a device's
 abbrev pub IsInside : ToolError → Type 0
 IsInside e = (e ≢ Read) × (e ≢ Write) × (e ≢ TooManyTurns)
 
-inside : (e : ToolError) → IsOfBytes e → IsInside e
-inside e h = (λ p. subst IsOfBytes p h, λ p. subst IsOfBytes p h, λ p. subst IsOfBytes p h)
+inside : (e : ToolError) → IsOfOutcome e → IsInside e
+inside e h = (λ p. subst IsOfOutcome p h, λ p. subst IsOfOutcome p h, λ p. subst IsOfOutcome p h)
 
 memory_inside : (e : ToolError) → e ≡ OutOfMemory → IsInside e
 memory_inside e m = (
@@ -88,70 +92,66 @@ module _ {A B : Type 0} where
   then_errs P (Ok x) step h k = k x
   then_errs P (Err e) step h k = h
 
-bytes_errs : (hex : Bool) (decoded held : Result (List ℕ) ToolError) → IfErr decoded IsOfBytes → IfErr held IsOfBytes → IfErr (if hex then decoded else held) IsOfBytes
+bytes_errs : (hex : Bool) (decoded held : Result (List ℕ) ToolError) → IfErr decoded IsOfOutcome → IfErr held IsOfOutcome → IfErr (if hex then decoded else held) IsOfOutcome
 bytes_errs true decoded held h k = h
 bytes_errs false decoded held h k = k
 
 first_errs : (long past : Bool) (bits : List ℕ)
-    → let r : Result (List ℕ) ToolError = if long then Err TooLong else if past then Err BitsPastBytes else Ok bits in IfErr r IsOfBytes
+    → let r : Result (List ℕ) ToolError = if long then Err TooLong else if past then Err BitsPastBytes else Ok bits in IfErr r IsOfOutcome
 first_errs true past bits = tt
 first_errs false true bits = tt
 first_errs false false bits = tt
 
-hex_errs : (r : Result (List ℕ) FromHexError) → IfErr (or_hex_text r) IsOfBytes
+hex_errs : (r : Result (List ℕ) FromHexError) → IfErr (or_hex_text r) IsOfOutcome
 hex_errs (Ok bytes) = tt
 hex_errs (Err e) = tt
 
-recording_errs : (input : Input) (held : List ℕ) → IfErr (recording_of input held) IsOfBytes
+recording_errs : (input : Input) (held : List ℕ) → IfErr (recording_of input held) IsOfOutcome
 recording_errs input held =
-    then_errs IsOfBytes (bytes_of input held) (λ bytes. first_bits (claimed input.bits bytes) bytes)
+    then_errs IsOfOutcome (bytes_of input held) (λ bytes. first_bits (claimed input.bits bytes) bytes)
     (bytes_errs input.hex (decoded held) (Ok held) (hex_errs (decode_of (filter (λ b. not (is_blank b)) held))) tt)
     (λ bytes. let n = claimed input.bits bytes in first_errs (nat_lt (2 ^ 36) n) (nat_lt (8 * length bytes) n) (bits_of bytes n))
 
-cut_by_errs : (fits : Bool) (bits : List ℕ) → let r : Result (List ℕ) ToolError = if fits then Ok bits else Err BadCutting in IfErr r IsOfBytes
+cut_by_errs : (fits : Bool) (bits : List ℕ) → let r : Result (List ℕ) ToolError = if fits then Ok bits else Err BadCutting in IfErr r IsOfOutcome
 cut_by_errs true bits = tt
 cut_by_errs false bits = tt
 
-cut_errs : (input : Input) (cuts : Cuts) (held : List ℕ) → IfErr (cut_recording input cuts held) IsOfBytes
+cut_errs : (input : Input) (cuts : Cuts) (held : List ℕ) → IfErr (cut_recording input cuts held) IsOfOutcome
 cut_errs input cuts held =
-    then_errs IsOfBytes (recording_of input held) (cut_by cuts) (recording_errs input held) (λ bits. cut_by_errs (cuts_bits cuts (length bits)) bits)
+    then_errs IsOfOutcome (recording_of input held) (cut_by cuts) (recording_errs input held) (λ bits. cut_by_errs (cuts_bits cuts (length bits)) bits)
 
-words_errs : (r : Result (List ℕ) FromHexError) → IfErr (words_or_refusal r) IsOfBytes
+words_errs : (r : Result (List ℕ) FromHexError) → IfErr (words_or_refusal r) IsOfOutcome
 words_errs (Ok bytes) = tt
 words_errs (Err e) = tt
 
-line_errs : (hex : Bool) (line : List ℕ) → IfErr (line_text hex line) IsOfBytes
+line_errs : (hex : Bool) (line : List ℕ) → IfErr (line_text hex line) IsOfOutcome
 line_errs hex [] = tt
-line_errs hex (digit ∷ digits) = then_errs IsOfBytes (words_of (digit ∷ digits)) (λ words. Ok (group_text hex words)) (words_errs (decode_sized (digit ∷ digits) 8)) (λ words. tt)
+line_errs hex (digit ∷ digits) = then_errs IsOfOutcome (words_of (digit ∷ digits)) (λ words. Ok (group_text hex words)) (words_errs (decode_sized (digit ∷ digits) 8)) (λ words. tt)
 
-lines_errs : (hex : Bool) (lines : List (List ℕ)) → IfErr (lines_text hex lines) IsOfBytes
+lines_errs : (hex : Bool) (lines : List (List ℕ)) → IfErr (lines_text hex lines) IsOfOutcome
 lines_errs hex [] = tt
 lines_errs hex (line ∷ lines) =
-    then_errs IsOfBytes (line_text hex line) (λ first. and_then (lines_text hex lines) (λ others. Ok (first ++ others))) (line_errs hex line)
-    (λ first. then_errs IsOfBytes (lines_text hex lines) (λ others. Ok (first ++ others)) (lines_errs hex lines) (λ others. tt))
+    then_errs IsOfOutcome (line_text hex line) (λ first. and_then (lines_text hex lines) (λ others. Ok (first ++ others))) (line_errs hex line)
+    (λ first. then_errs IsOfOutcome (lines_text hex lines) (λ others. Ok (first ++ others)) (lines_errs hex lines) (λ others. tt))
 
-task_errs : (t : Task) (held : List ℕ) → IfErr (text_of_task t held) IsOfBytes
-task_errs (task.Scan input) held = then_errs IsOfBytes (recording_of input held) _ (recording_errs input held) (λ bits. tt)
-task_errs (task.List input plan) held = then_errs IsOfBytes (cut_recording input plan.cuts held) _ (cut_errs input plan.cuts held) (λ bits. tt)
-task_errs (task.Totals input plan) held = then_errs IsOfBytes (cut_recording input plan.cuts held) _ (cut_errs input plan.cuts held) (λ bits. tt)
+task_errs : (t : Task) (held : List ℕ) → IfErr (text_of_task t held) IsOfOutcome
+task_errs (task.Scan input) held = then_errs IsOfOutcome (recording_of input held) _ (recording_errs input held) (λ bits. tt)
+task_errs (task.List input plan) held = then_errs IsOfOutcome (cut_recording input plan.cuts held) _ (cut_errs input plan.cuts held) (λ bits. tt)
+task_errs (task.Totals input plan) held = then_errs IsOfOutcome (cut_recording input plan.cuts held) _ (cut_errs input plan.cuts held) (λ bits. tt)
 task_errs (task.Encode hex) held = lines_errs hex (lines_of held)
 
-of_bytes : (t : Task) (held : List ℕ) (e : ToolError) → text_of_task t held ≡ Err e → IsOfBytes e
-of_bytes t held e q = let P : Result (List ℕ) ToolError → Type 0 = λ r. IfErr r IsOfBytes in subst P q (task_errs t held)
+of_bytes : (t : Task) (held : List ℕ) (e : ToolError) → text_of_task t held ≡ Err e → IsOfOutcome e
+of_bytes t held e q = let P : Result (List ℕ) ToolError → Type 0 = λ r. IfErr r IsOfOutcome in subst P q (task_errs t held)
 
 -- what a text is refused for: want of memory, a thread that is not started, in this case, or the bytes
 abbrev pub MayRefuse : Type 0 → Task → List ℕ → ToolError → Type 0
 MayRefuse X t held e = (e ≡ OutOfMemory) ⊎ (((e ≡ NoWorker) × X) ⊎ (text_of_task t held ≡ Err e))
 
-started : (X : Type 0) (t : Task) (held : List ℕ) (e : ToolError) → MayRefuse X t held e → e ≡ NoWorker → X
+-- a thread is not started in this case alone
+pub started : (X : Type 0) (t : Task) (held : List ℕ) (e : ToolError) → MayRefuse X t held e → e ≡ NoWorker → X
 started X t held e (inl m) p = let bad : OutOfMemory ≡ NoWorker = sym m ∙ p in cc bad
 started X t held e (inr (inl h)) p = h.1
-started X t held e (inr (inr q)) p = absurd (subst IsOfBytes p (of_bytes t held e q))
-
--- a thread is not started in this case alone
-pub no_worker_of : {A : Type 0} (X : Type 0) (t : Task) (held : List ℕ) (r : Result A ToolError) → IfErr r (MayRefuse X t held) → r ≡ Err NoWorker → X
-no_worker_of X t held (Ok x) h p = cc p
-no_worker_of X t held (Err e) h p = started X t held e h (cc p)
+started X t held e (inr (inr q)) p = absurd (subst IsOfOutcome p (of_bytes t held e q))
 
 -- a text is refused for want of memory or threads, or for its bytes
 pub refused_inside : (X : Type 0) (t : Task) (held : List ℕ) (e : ToolError)
@@ -159,6 +159,78 @@ pub refused_inside : (X : Type 0) (t : Task) (held : List ℕ) (e : ToolError)
 refused_inside X t held e (inl m) = memory_inside e m
 refused_inside X t held e (inr (inl h)) = threads_inside e h.0
 refused_inside X t held e (inr (inr p)) = inside e (of_bytes t held e p)
+
+rules_at : (burst reach loss : Bool) (rules : RuleNumbers)
+    → let r : Result RuleNumbers ToolError = if burst then Err BurstRange else if reach then Err ReachRange else if loss then Err LossRange else Ok rules in
+    IfErr r IsOfOutcome
+rules_at true reach loss rules = tt
+rules_at false true loss rules = tt
+rules_at false false true rules = tt
+rules_at false false false rules = tt
+
+crew_at : (workers pieces : Bool) → let r : Result (Unit {0}) ToolError = if workers then Err CrewRange else if pieces then Err BadCutting else Ok tt in IfErr r IsOfOutcome
+crew_at true pieces = tt
+crew_at false true = tt
+crew_at false false = tt
+
+plan_errs : (settings : Settings) → IfErr (plan_of settings) IsOfOutcome
+plan_errs settings =
+    then_errs IsOfOutcome (rules_of settings) _
+    (rules_at (nat_lt 5 settings.burst) (nat_lt settings.reach 1 || nat_lt 8 settings.reach) (nat_lt settings.loss 1 || nat_lt 64 settings.loss) _)
+    (λ rules. then_errs IsOfOutcome (crew_of settings) _ (crew_at (nat_lt settings.workers 1 || nat_lt 256 settings.workers) (not (has_pieces settings.cuts))) (λ _. tt))
+
+settings_errs : (job : Job) → IfErr (task_of job) IsOfOutcome
+settings_errs (Scan input) = tt
+settings_errs (ListJob input settings) = then_errs IsOfOutcome (plan_of settings) _ (plan_errs settings) (λ plan. tt)
+settings_errs (Totals input settings) = then_errs IsOfOutcome (plan_of settings) _ (plan_errs settings) (λ plan. tt)
+settings_errs (Encode hex) = tt
+
+-- settings are refused for want of memory, or as such
+pub settings_inside : (job : Job) (e : ToolError) → (e ≡ OutOfMemory) ⊎ (task_of job ≡ Err e) → IsInside e × (e ≢ NoWorker)
+settings_inside job e (inl m) = (memory_inside e m, λ p. let bad : OutOfMemory ≡ NoWorker = sym m ∙ p in cc bad)
+settings_inside job e (inr q) =
+    let P : Result Task ToolError → Type 0 = λ r. IfErr r IsOfOutcome in
+    let h : IsOfOutcome e = subst P q (settings_errs job) in (inside e h, λ p. subst IsOfOutcome p h)
+
+-- what a refusal that is no device's is not
+pub passed_inside : {T : Type 0} (r : Result T ToolError) (e : ToolError) → r ≡ Err e → IsInside e
+    → (r ≢ Err Read) × (r ≢ Err Write) × (r ≢ Err TooManyTurns)
+passed_inside r e p h = (λ q. h.0 (passed_kind r e Read p q), λ q. h.1 (passed_kind r e Write p q), λ q. h.2 (passed_kind r e TooManyTurns p q))
+
+-- a call that succeeded counted no failure
+pub no_failure : {T X : Type 0} (x : T) (a b : ℕ) → let r : Result T ToolError = Ok x in (r ≡ Err Read ↔ a < b) → a < b → X
+no_failure x a b h q = cc (h.1 q)
+
+-- what was not called counted none
+pub not_called : {X : Type 0} (n : ℕ) → n < n → X
+not_called n h = absurd (omega arith)
+
+-- ---- the threads
+
+module _ {A B : Type 0} (Q : A → Type 0) (P : B → Type 0) (step : A → Result B ToolError) where
+  then_oks : (r : Result A ToolError) → IfOk r Q → ((x : A) → Q x → IfOk (step x) P) → IfOk (and_then r step) P
+  then_oks (Ok x) h k = k x h
+  then_oks (Err e) h k = tt
+
+any_ok : {A : Type 0} (r : Result A ToolError) → IfOk r (λ _. Unit {0})
+any_ok (Ok x) = tt
+any_ok (Err e) = tt
+
+-- a plan has the workers of its settings
+planned : (settings : Settings) → IfOk (plan_of settings) (λ plan. plan.workers ≡ settings.workers)
+planned settings =
+    then_oks _ _ _ (rules_of settings) (any_ok (rules_of settings))
+    (λ rules _. then_oks _ _ _ (crew_of settings) (any_ok (crew_of settings)) (λ _ _. refl))
+
+asks : (job : Job) → IfOk (task_of job) (λ t. MayStartThreads t → AsksForThreads job)
+asks (Scan input) = λ h. h
+asks (ListJob input settings) = then_oks _ _ _ (plan_of settings) (planned settings) (λ plan same h. subst (λ n. 1 < n) same h)
+asks (Totals input settings) = then_oks _ _ _ (plan_of settings) (planned settings) (λ plan same h. subst (λ n. 1 < n) same h)
+asks (Encode hex) = λ h. h
+
+-- a task that may start threads is of a job that asks for them
+pub asked : (job : Job) (t : Task) → task_of job ≡ Ok t → MayStartThreads t → AsksForThreads job
+asked job t p = let P : Result Task ToolError → Type 0 = λ r. IfOk r (λ t. MayStartThreads t → AsksForThreads job) in subst P p (asks job)
 
 -- ---- the outcome
 
@@ -168,11 +240,11 @@ outcome_is job t held bytes text p q h = ap (λ r. and_then r (λ k. text_of_tas
 on_err : (X : Type 0) (r : Result (Unit {0}) ToolError) (e : ToolError) → r ≡ Err e → OnErr r X → X
 on_err X r e p h = let P : Result (Unit {0}) ToolError → Type 0 = λ x. OnErr x X in subst P p h
 
--- what a failed writing leaves is a front of the outcome's text
-pub front_is : (o : Option (List ℕ)) (job : Job) (t : Task) (bytes text : List ℕ) (r : Result (Unit {0}) ToolError) (old new : Option (List ℕ))
-    → IfSome o (λ held. bytes ≡ held) → task_of job ≡ Ok t → text_of_task t bytes ≡ Ok text → OnErr r (WritesFront old new (Ok text)) → r ≡ Err Write
-    → IfSome o (λ held. WritesFront old new (outcome job held))
-front_is None job t bytes text r old new h p q w e = tt
-front_is (Some held) job t bytes text r old new h p q w e =
-    let P : Result (List ℕ) ToolError → Type 0 = λ x. WritesFront old new x in
-    subst P (sym (outcome_is job t held bytes text p q h)) (on_err (WritesFront old new (Ok text)) r Write e w)
+-- what a failed writing leaves is a prefix of the outcome's text
+pub prefix_is : (o : Option (List ℕ)) (job : Job) (t : Task) (bytes text : List ℕ) (r : Result (Unit {0}) ToolError) (old new : Option (List ℕ))
+    → IfSome o (λ held. bytes ≡ held) → task_of job ≡ Ok t → text_of_task t bytes ≡ Ok text → OnErr r (WritesPrefix old new (Ok text)) → r ≡ Err Write
+    → IfSome o (λ held. WritesPrefix old new (outcome job held))
+prefix_is None job t bytes text r old new h p q w e = tt
+prefix_is (Some held) job t bytes text r old new h p q w e =
+    let P : Result (List ℕ) ToolError → Type 0 = λ x. WritesPrefix old new x in
+    subst P (sym (outcome_is job t held bytes text p q h)) (on_err (WritesPrefix old new (Ok text)) r Write e w)

@@ -51,6 +51,6 @@ Writes old new (Ok text) = Appends old new text
 Writes old new (Err e) = ⊥
 
 -- a prefix of the text was added to what the writer held
-abbrev pub WritesFront : Option (List ℕ) → Option (List ℕ) → Result (List ℕ) ToolError → Type 0
-WritesFront old new (Ok text) = (front : List ℕ) × (rest : List ℕ) × (text ≡ front ++ rest) × Appends old new front
-WritesFront old new (Err e) = ⊥
+abbrev pub WritesPrefix : Option (List ℕ) → Option (List ℕ) → Result (List ℕ) ToolError → Type 0
+WritesPrefix old new (Ok text) = (prefix : List ℕ) × (rest : List ℕ) × (text ≡ prefix ++ rest) × Appends old new prefix
+WritesPrefix old new (Err e) = ⊥

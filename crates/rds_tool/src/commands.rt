@@ -53,7 +53,7 @@ fn encode_command<'a>(alloc: Global) -> Made<'a>
     ensures { Makes result encode_app }
 {
     let command = named(alloc, "encode", help::ENCODE, help::ENCODE_AFTER);
-    with_option(Ok(command), hex_option(alloc, help::HEX_OUTPUT))
+    command.arg(hex_option(alloc, help::HEX_OUTPUT))
 }
 
 fn named<'a>(alloc: Global, name: &'a str, about: &'a str, after: &'a str) -> Command<'a>
@@ -66,8 +66,8 @@ fn named<'a>(alloc: Global, name: &'a str, about: &'a str, after: &'a str) -> Co
 fn recording_command<'a>(alloc: Global, command: Command<'a>) -> Made<'a>
     ensures { (app : App) → ReadsAs command.entry app → Makes result (with_input app) }
 {
-    let command = with_option(Ok(command), hex_option(alloc, help::HEX_INPUT));
-    with_option(command, bits_option(alloc))
+    let command = command.arg(hex_option(alloc, help::HEX_INPUT))?;
+    command.arg(bits_option(alloc))
 }
 
 /// Such a command with the rules of the synchroniser and the size of its crew too.
@@ -75,11 +75,11 @@ fn ruled_command<'a>(alloc: Global, command: Command<'a>) -> Made<'a>
     ensures { (app : App) → ReadsAs command.entry app → Makes result (with_rules (with_input app)) }
 {
     let command = recording_command(alloc, command);
-    let command = with_option(command, number_option(alloc, "burst", "2", help::BURST));
-    let command = with_option(command, number_option(alloc, "reach", "3", help::REACH));
-    let command = with_option(command, number_option(alloc, "loss", "10", help::LOSS));
-    let command = with_option(command, number_option(alloc, "pieces", "16", help::PIECES));
-    with_option(command, number_option(alloc, "workers", "4", help::WORKERS))
+    let command = with_number(alloc, command, "burst", "2", help::BURST);
+    let command = with_number(alloc, command, "reach", "3", help::REACH);
+    let command = with_number(alloc, command, "loss", "10", help::LOSS);
+    let command = with_number(alloc, command, "pieces", "16", help::PIECES);
+    with_number(alloc, command, "workers", "4", help::WORKERS)
 }
 
 fn hex_option<'a>(alloc: Global, help: &'a str) -> Arg<'a>
@@ -121,11 +121,18 @@ fn value_option<'a>(alloc: Global, name: &'a str, help: &'a str) -> Arg<'a>
         .help(help)
 }
 
-fn with_option<'a>(command: Made<'a>, option: Arg<'a>) -> Made<'a>
-    requires local { option.global ≡ false }
-    ensures { (app : App) → Makes command.entry app → Makes result (with_rule app (rule_of option.entry)) }
+/// The option is made once the command is there, so that a refusal has no option to drop.
+fn with_number<'a>(
+    alloc: Global,
+    command: Made<'a>,
+    name: &'a str,
+    default: &'a str,
+    help: &'a str,
+) -> Made<'a>
+    ensures { (app : App) → Makes command.entry app → Makes result (with_rule app (number_rule name.entry.now default.entry.now)) }
 {
-    command?.arg(option)
+    let command = command?;
+    command.arg(number_option(alloc, name, default, help))
 }
 
 fn with_command<'a>(top: Made<'a>, command: Made<'a>) -> Made<'a>

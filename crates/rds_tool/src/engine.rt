@@ -1,8 +1,8 @@
 //! From a reader to a writer.
-ghost use Rattle.std.specs.Prelude.{◌+◌, ◌++◌, ◌<◌, ◌^◌, ◌≡◌, ◌≢◌, ◌≤◌, ◌⊎◌, ◌↔◌, Err, IfErr, IfOk, IfSome, IsErrOf, List, Ok, OnErr, OnOk, Option, length, ℕ};
+ghost use Rattle.std.specs.Prelude.{◌+◌, ◌++◌, ◌<◌, ◌^◌, ◌≡◌, ◌≢◌, ◌≤◌, ◌⊎◌, ◌↔◌, Err, IfErr, IfOk, IfSome, IsErrOf, List, Ok, OnErr, OnOk, Option, false, length, true, ℕ};
 ghost use Rattle.std.specs.Io.KnownBytes.{Appends, Consumes, IsAtEnd};
-ghost use Rattle.rds_tool.specs.Outcome.{IsOutside, Writes, WritesFront, outcome, text_of_task};
-ghost use Rattle.rds_tool.specs.Tasks.{AsksForThreads, MayStartThreads, task_of};
+ghost use Rattle.rds_tool.specs.Outcome.{IsOutside, Writes, WritesPrefix, outcome};
+ghost use Rattle.rds_tool.specs.Tasks.{AsksForThreads, task_of};
 
 use crate::task::Task;
 use crate::{Failed, Job, Sink, Source, ToolError};
@@ -57,7 +57,7 @@ pub fn transcribe<R: Threads + Wait, S: Source, K: Sink>(
 
     // What the writer has after a refusal.
     ensures untouched { IfErr result (λ error. error ≢ ToolError.Write → writer.new ≡ writer.old) }
-    ensures front { IsErrOf result ToolError.Write → IfSome (S.remaining reader.old) (λ held. WritesFront (K.contents writer.old) (K.contents writer.new) (outcome job.now held)) }
+    ensures prefix { IsErrOf result ToolError.Write → IfSome (S.remaining reader.old) (λ held. WritesPrefix (K.contents writer.old) (K.contents writer.new) (outcome job.now held)) }
 {
     transcribe_gated(rt, alloc, reader, writer, job, &OpenGate)
 }
@@ -84,28 +84,12 @@ pub fn transcribe_gated<R: Threads + Wait, S: Source, K: Sink, G: Gate + Sync>(
     ensures refused { IfErr result (λ error. IsOutside error ⊎ IfSome (S.remaining reader.old) (λ held. outcome job.now held ≡ Err error)) }
     ensures settings { IfErr (task_of job.now) (λ error. (result ≡ Err error) × (reader.new ≡ reader.old)) }
     ensures untouched { IfErr result (λ error. error ≢ ToolError.Write → writer.new ≡ writer.old) }
-    ensures front { IsErrOf result ToolError.Write → IfSome (S.remaining reader.old) (λ held. WritesFront (K.contents writer.old) (K.contents writer.new) (outcome job.now held)) }
+    ensures prefix { IsErrOf result ToolError.Write → IfSome (S.remaining reader.old) (λ held. WritesPrefix (K.contents writer.old) (K.contents writer.new) (outcome job.now held)) }
 {
     let task = Task::of(alloc, job)?;
     let held = read_all(alloc, reader)?;
-    let text = text_of(rt, alloc, &task, held, gate)?;
+    let text = task.text(rt, alloc, held, gate)?;
     write_all(writer, text.as_slice())
-}
-
-/// The text of a task over the bytes that the reader held. No refusal here is a device's.
-fn text_of<R: Threads + Wait, G: Gate + Sync>(
-    rt: &R,
-    alloc: Global,
-    task: &Task<'_>,
-    held: Vec<u8>,
-    gate: &G,
-) -> Result<Vec<u8>, ToolError>
-    ensures ok { IfOk result (λ text. text_of_task task.now held.items ≡ Ok text.items) }
-    ensures refused { IfErr result (λ error. (error ≡ ToolError.OutOfMemory) ⊎ ((error ≡ ToolError.NoWorker) ⊎ (text_of_task task.now held.items ≡ Err error))) }
-    ensures no_worker { IsErrOf result ToolError.NoWorker → MayStartThreads task.now }
-    ensures inside { IfErr result (λ error. (error ≢ ToolError.Read) × (error ≢ ToolError.Write) × (error ≢ ToolError.TooManyTurns)) }
-{
-    task.text(rt, alloc, held, gate)
 }
 
 /// All bytes of the reader, to its end.
@@ -114,20 +98,43 @@ fn read_all<S: Source>(alloc: Global, reader: &mut S) -> Result<Vec<u8>, ToolErr
     ensures ok { IfOk result (λ bytes. IfSome (S.remaining reader.old) (λ held. bytes.items ≡ held)) }
     ensures end { OnOk result (IsAtEnd (S.remaining reader.new)) }
     ensures read { IsErrOf result ToolError.Read ↔ (S.failed reader.old < S.failed reader.new) }
-    ensures kinds { IfErr result IsOutside }
-    ensures not_theirs { IfErr result (λ error. (error ≢ ToolError.Write) × (error ≢ ToolError.NoWorker)) }
+    ensures kinds { IfErr result (λ error. (error ≡ ToolError.OutOfMemory) ⊎ ((error ≡ ToolError.Read) ⊎ (error ≡ ToolError.TooManyTurns))) }
     ensures turns { IsErrOf result ToolError.TooManyTurns → IfSome (S.remaining reader.old) (λ held. 16777216 ≤ length held) }
 {
     let mut bytes = Vec::new(alloc);
     let mut buf = zeros(alloc, CHUNK)?;
     'turns: for _ in 0..MOST_READS {
-        match reader.read(buf.as_mut_slice()) {
-            Ok(0) => return Ok(bytes),
-            Ok(count) => bytes.extend_from_slice(&buf[..count])?,
-            Err(Failed) => return Err(ToolError::Read),
+        let is_at_end = read_some(reader, buf.as_mut_slice(), &mut bytes)?;
+        if is_at_end {
+            return Ok(bytes);
         }
     }
     Err(ToolError::TooManyTurns)
+}
+
+/// One read, whose bytes are added. Answers whether the reader was at its end.
+fn read_some<S: Source>(
+    reader: &mut S,
+    buf: &mut [u8],
+    bytes: &mut Vec<u8>,
+) -> Result<bool, ToolError>
+    requires count { S.failed reader.old < 2 ^ 63 }
+    requires room { 0 < length buf.old }
+    ensures taken { OnOk result ((more : List ℕ) × Consumes (S.remaining reader.old) (S.remaining reader.new) more × (bytes.new.items ≡ bytes.old.items ++ more)) }
+    ensures end { IfOk result (λ is_at_end. is_at_end ≡ true → IsAtEnd (S.remaining reader.new)) }
+    ensures grows { IfOk result (λ is_at_end. is_at_end ≡ false → length bytes.old.items < length bytes.new.items) }
+    ensures count { OnOk result (S.failed reader.new ≡ S.failed reader.old) }
+    ensures refused { IfErr result (λ error. ((error ≡ ToolError.OutOfMemory) × (S.failed reader.new ≡ S.failed reader.old))
+        ⊎ ((error ≡ ToolError.Read) × (S.failed reader.old < S.failed reader.new))) }
+{
+    match reader.read(buf) {
+        Ok(0) => Ok(true),
+        Ok(count) => {
+            bytes.extend_from_slice(&buf[..count])?;
+            Ok(false)
+        }
+        Err(Failed) => Err(ToolError::Read),
+    }
 }
 
 /// Zero bytes, as many as asked for.
@@ -143,7 +150,7 @@ fn write_all<K: Sink>(writer: &mut K, text: &[u8]) -> Result<(), ToolError>
     ensures ok { OnOk result (Appends (K.contents writer.old) (K.contents writer.new) text.now) }
     ensures write { IsErrOf result ToolError.Write ↔ (K.failed writer.old < K.failed writer.new) }
     ensures kinds { IfErr result (λ error. error ≡ ToolError.Write) }
-    ensures front { OnErr result (WritesFront (K.contents writer.old) (K.contents writer.new) (Ok text.now)) }
+    ensures prefix { OnErr result (WritesPrefix (K.contents writer.old) (K.contents writer.new) (Ok text.now)) }
 {
     let mut at = 0;
     while at < text.len() {

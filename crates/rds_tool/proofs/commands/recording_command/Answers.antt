@@ -1,4 +1,7 @@
+use Rattle.rds_tool.proofs.Options.{made_with, with_added}
 use Rattle.rds_tool.proofs.commands.recording_command.Goals as goal
 
 pub returns : goal.returns
-returns c = λ app reads. rw (c.hex_option.ensures.rule, c.bits_option.ensures.rule) at (c.with_option.ensures _ (c.with_option-command.ensures app reads))
+returns c = λ app reads.
+    let hex = with_added _ _ _ c.hex_option.ensures.local c.hex_option.ensures.rule _ c.in_ok-command.ensures app reads in
+    made_with _ _ _ c.bits_option.ensures.local c.bits_option.ensures.rule _ c.arg-2.ensures _ hex

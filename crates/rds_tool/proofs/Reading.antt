@@ -1,0 +1,32 @@
+-- What the refusals of a read tell.
+use Rattle.std.proofs.Common.{◌<◌, ◌≡◌, ◌↔◌, ◌∙◌, ◌⊎◌, Err, Ok, Result, ap, arith, inl, inr, sym, ℕ}
+use Rattle.rds_tool.specs.declared.error.ToolError.{ToolError}
+use Rattle.rds_tool.specs.declared.error.ToolError.TheVariants.{OutOfMemory, Read, TooManyTurns}
+use Rattle.rds_tool.proofs.Passing.{passed_kind}
+
+-- memory was refused and no failure counted, or the read failed and was counted
+abbrev pub Refuses : ToolError → ℕ → ℕ → Type 0
+Refuses e before after = ((e ≡ OutOfMemory) × (after ≡ before)) ⊎ ((e ≡ Read) × (before < after))
+
+module _ {T : Type 0} (r : Result T ToolError) (e : ToolError) (same : r ≡ Err e) where
+  pub read_told : (start before after : ℕ) → before ≡ start → Refuses e before after → (r ≡ Err Read) ↔ (start < after)
+  read_told start before after kept (inl h) = (
+    λ p. let bad : OutOfMemory ≡ Read = sym h.0 ∙ passed_kind r e Read same p in cc bad,
+    λ q. let after_is : after ≡ before = h.1 in absurd (omega arith),
+  )
+  read_told start before after kept (inr h) = (λ p. let more : before < after = h.1 in omega arith, λ q. same ∙ ap (λ x. Err x) h.0)
+
+  pub turns_not_told : {X : Type 0} (before after : ℕ) → Refuses e before after → r ≡ Err TooManyTurns → X
+  turns_not_told before after (inl h) p = let bad : OutOfMemory ≡ TooManyTurns = sym h.0 ∙ passed_kind r e TooManyTurns same p in cc bad
+  turns_not_told before after (inr h) p = let bad : Read ≡ TooManyTurns = sym h.0 ∙ passed_kind r e TooManyTurns same p in cc bad
+
+pub kind_told : (e : ToolError) (before after : ℕ) → Refuses e before after → (e ≡ OutOfMemory) ⊎ ((e ≡ Read) ⊎ (e ≡ TooManyTurns))
+kind_told e before after (inl h) = inl h.0
+kind_told e before after (inr h) = inr (inl h.0)
+
+-- where no read failed, none was counted
+pub ok_told : {T : Type 0} (x : T) (start after : ℕ) → after ≡ start → let r : Result T ToolError = Ok x in (r ≡ Err Read) ↔ (start < after)
+ok_told x start after kept = (λ p. cc p, λ q. absurd (omega arith))
+
+pub end_told : {T : Type 0} (start after : ℕ) → after ≡ start → let r : Result T ToolError = Err TooManyTurns in (r ≡ Err Read) ↔ (start < after)
+end_told start after kept = (λ p. cc p, λ q. absurd (omega arith))

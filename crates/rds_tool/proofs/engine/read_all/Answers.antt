@@ -1,0 +1,40 @@
+use Rattle.std.proofs.Common.{arith, ◌∙◌}
+use Rattle.std.proofs.lemmas.Grind.{common_steps}
+use Rattle.rds_tool.proofs.Passing.{passed, passes}
+use Rattle.rds_tool.proofs.Reading.{end_told, kind_told, ok_told, read_told, turns_not_told}
+use Rattle.rds_tool.proofs.Steps.{read_more, read_whole, read_within}
+use Rattle.rds_tool.proofs.engine.read_all.Goals as goal
+
+pub returns-then-is_at_end-clause-ok : goal.returns-then-is_at_end-clause-ok
+returns-then-is_at_end-clause-ok g c =
+    let read = c.in_ok-is_at_end.ensures in
+    read_whole _ _ _ (read_more _ _ _ _ _ _ c.turns.invariant.taken read.taken.1 read.taken.2) (read.end c.if-is_at_end.true)
+
+pub turns-preserved : goal.turns-preserved
+turns-preserved g c =
+    let read = c.in_ok-is_at_end.ensures in
+    record {
+      count = read.count ∙ c.turns.invariant.count;
+      taken = read_more _ _ _ _ _ _ c.turns.invariant.taken read.taken.1 read.taken.2;
+      turns = omega (arith, read.grows c.if-is_at_end.false);
+      room = grind (arith, common_steps);
+    }
+
+pub returns-clause-turns : goal.returns-clause-turns
+returns-clause-turns g c = λ _. read_within _ _ _ _ c.turns.invariant.taken (omega arith)
+
+pub returns-in_err-is_at_end-clause-read : goal.returns-in_err-is_at_end-clause-read
+returns-in_err-is_at_end-clause-read g c =
+    read_told _ _ (passed _ _ c.from_residual-in_err-is_at_end.ensures) _ _ _ c.turns.invariant.count c.in_err-is_at_end.ensures.refused
+
+pub returns-in_err-is_at_end-clause-kinds : goal.returns-in_err-is_at_end-clause-kinds
+returns-in_err-is_at_end-clause-kinds g c = passes _ _ _ c.from_residual-in_err-is_at_end.ensures (kind_told _ _ _ c.in_err-is_at_end.ensures.refused)
+
+pub returns-in_err-is_at_end-clause-turns : goal.returns-in_err-is_at_end-clause-turns
+returns-in_err-is_at_end-clause-turns g c = turns_not_told _ _ (passed _ _ c.from_residual-in_err-is_at_end.ensures) _ _ c.in_err-is_at_end.ensures.refused
+
+pub returns-then-is_at_end-clause-read : goal.returns-then-is_at_end-clause-read
+returns-then-is_at_end-clause-read g c = ok_told _ _ _ (c.in_ok-is_at_end.ensures.count ∙ c.turns.invariant.count)
+
+pub returns-clause-read : goal.returns-clause-read
+returns-clause-read g c = end_told _ _ c.turns.invariant.count
