@@ -1,10 +1,14 @@
 //! Workers, seen at their work and refused.
 use crate::devices::{SlowReader, gives, is_answer};
-use crate::samples::{Crew, Pieces, TWO_GROUPS, TWO_GROUPS_DIGITS};
+use crate::samples::Pieces::{At, Even};
+use crate::samples::{Crew, Pieces, TWO_GROUPS, TWO_GROUPS_DIGITS as DIGITS};
 use rds_crew::Gate;
 use rds_pieces::PieceRun;
+use rds_tool::ToolError::{
+    BadCutting, BitsPastBytes, BurstRange, CrewRange, HexText, LossRange, ReachRange, Read, TooLong,
+};
 use rds_tool::{FromRead, Job, ToWrite, ToolError, transcribe_gated};
-use std::alloc::Global;
+use std::alloc::{AllocError, Global};
 use std::sync::Wait;
 use std::sync::atomic::{AtomicU64, Ordering};
 use std::thread::Threads;
@@ -17,8 +21,33 @@ const MOST_TURNS: u64 = 1_000_000_000;
 struct Watch {
     second_begun: AtomicU64,
     misses: AtomicU64,
-    from: [AtomicU64; 2],
-    to: [AtomicU64; 2],
+    first: Ends,
+    second: Ends,
+}
+
+/// From where to where a run goes.
+#[derive(Drop)]
+struct Ends {
+    from: AtomicU64,
+    to: AtomicU64,
+}
+
+impl Ends {
+    fn new() -> Ends {
+        Ends {
+            from: AtomicU64::new(0),
+            to: AtomicU64::new(0),
+        }
+    }
+
+    fn note(&self, run: &PieceRun) {
+        self.from.store(run.from(), Ordering::SeqCst);
+        self.to.store(run.to(), Ordering::SeqCst);
+    }
+
+    fn are(&self, from: u64, to: u64) -> bool {
+        self.from.load(Ordering::SeqCst) == from && self.to.load(Ordering::SeqCst) == to
+    }
 }
 
 impl Watch {
@@ -26,25 +55,13 @@ impl Watch {
         Watch {
             second_begun: AtomicU64::new(0),
             misses: AtomicU64::new(0),
-            from: [AtomicU64::new(0), AtomicU64::new(0)],
-            to: [AtomicU64::new(0), AtomicU64::new(0)],
+            first: Ends::new(),
+            second: Ends::new(),
         }
     }
 
     fn misses(&self) -> u64 {
         self.misses.load(Ordering::SeqCst)
-    }
-
-    /// From where to where each run goes, one run after the other.
-    fn ends(&self) -> [u64; 4] {
-        let from = &self.from;
-        let to = &self.to;
-        [
-            from[0].load(Ordering::SeqCst),
-            to[0].load(Ordering::SeqCst),
-            from[1].load(Ordering::SeqCst),
-            to[1].load(Ordering::SeqCst),
-        ]
     }
 
     /// Turns until piece 1 is begun, and notes a miss at the limit.
@@ -68,11 +85,10 @@ impl Gate for Watch {
     }
 
     fn done(&self, j: u64, run: &PieceRun) {
-        if j < 2 {
-            let from = &self.from;
-            from[j as usize].store(run.from(), Ordering::SeqCst);
-            let to = &self.to;
-            to[j as usize].store(run.to(), Ordering::SeqCst);
+        match j {
+            0 => self.first.note(run),
+            1 => self.second.note(run),
+            _ => {}
         }
     }
 }
@@ -85,17 +101,22 @@ const TWO_WORKERS: Crew = Crew {
     bits: None,
     rules: RULES,
     workers: 2,
-    pieces: Pieces::At(&[104]),
+    pieces: At(&[104]),
 };
 
 /// Whether a list of the two groups by two workers at this gate gives its text.
 fn lists_at<R: Threads + Wait, G: Gate + Sync>(rt: &R, alloc: Global, gate: &G) -> bool {
-    let Ok(job) = TWO_WORKERS.list(alloc) else {
-        return false;
-    };
-    let mut reader = FromRead::new(TWO_GROUPS_DIGITS.as_bytes());
+    match TWO_WORKERS.list(alloc) {
+        Ok(job) => gives_at(rt, alloc, &job, gate),
+        Err(AllocError) => false,
+    }
+}
+
+/// Whether the job at this gate gives the list of the two groups.
+fn gives_at<R: Threads + Wait, G: Gate + Sync>(rt: &R, alloc: Global, job: &Job, gate: &G) -> bool {
+    let mut reader = FromRead::new(DIGITS.as_bytes());
     let mut writer = ToWrite::new(Vec::new(alloc));
-    let answer = transcribe_gated(rt, alloc, &mut reader, &mut writer, &job, gate);
+    let answer = transcribe_gated(rt, alloc, &mut reader, &mut writer, job, gate);
     is_answer(
         answer,
         writer.into_inner().as_slice(),
@@ -108,10 +129,10 @@ fn lists_at<R: Threads + Wait, G: Gate + Sync>(rt: &R, alloc: Global, gate: &G) 
 fn two_workers_run_at_the_same_time(rt: HostRuntime) {
     let watch = Watch::new();
     assert!(rt; lists_at(&rt, rt.alloc(), &watch));
-    assert!(rt; watch.misses() == 0 && watch.ends() == [0, 104, 104, 208]);
+    assert!(rt; watch.misses() == 0 && watch.first.are(0, 104) && watch.second.are(104, 208));
 }
 
-/// What is asked of a list or totals, bits, rules, workers and pieces, the digits, and the refusal.
+/// What is asked of a list and of totals, as bits, rules, workers and pieces, then the digits, and the refusal.
 type Refused = (
     Option<u64>,
     [u32; 3],
@@ -123,193 +144,32 @@ type Refused = (
 
 const NO_DIGITS: &str = "no digits";
 
-/// In the order of the checks: rules, workers, no piece, the digits, the bits, and the places of the cuts.
+/// The first check that fails speaks: of the rules, the workers, no piece, the digits, the bits, the places of the cuts.
 static REFUSED: [Refused; 24] = [
-    (
-        None,
-        [6, 3, 10],
-        4,
-        Pieces::Even(16),
-        NO_DIGITS,
-        ToolError::BurstRange,
-    ),
-    (
-        None,
-        [6, 0, 0],
-        4,
-        Pieces::Even(16),
-        NO_DIGITS,
-        ToolError::BurstRange,
-    ),
-    (
-        None,
-        [2, 0, 10],
-        4,
-        Pieces::Even(16),
-        NO_DIGITS,
-        ToolError::ReachRange,
-    ),
-    (
-        None,
-        [2, 9, 0],
-        4,
-        Pieces::Even(16),
-        NO_DIGITS,
-        ToolError::ReachRange,
-    ),
-    (
-        None,
-        [2, 3, 0],
-        4,
-        Pieces::Even(16),
-        NO_DIGITS,
-        ToolError::LossRange,
-    ),
-    (
-        None,
-        [2, 3, 65],
-        4,
-        Pieces::Even(16),
-        NO_DIGITS,
-        ToolError::LossRange,
-    ),
-    (
-        None,
-        [2, 3, 65],
-        0,
-        Pieces::Even(0),
-        NO_DIGITS,
-        ToolError::LossRange,
-    ),
-    (
-        None,
-        [2, 3, 65],
-        1,
-        Pieces::Even(0),
-        NO_DIGITS,
-        ToolError::LossRange,
-    ),
-    (
-        None,
-        RULES,
-        0,
-        Pieces::Even(0),
-        NO_DIGITS,
-        ToolError::CrewRange,
-    ),
-    (
-        None,
-        RULES,
-        257,
-        Pieces::Even(0),
-        NO_DIGITS,
-        ToolError::CrewRange,
-    ),
-    (
-        None,
-        RULES,
-        257,
-        Pieces::Even(16),
-        NO_DIGITS,
-        ToolError::CrewRange,
-    ),
-    (
-        None,
-        RULES,
-        0,
-        Pieces::At(&[5, 5]),
-        TWO_GROUPS_DIGITS,
-        ToolError::CrewRange,
-    ),
-    (
-        None,
-        RULES,
-        257,
-        Pieces::At(&[0]),
-        TWO_GROUPS_DIGITS,
-        ToolError::CrewRange,
-    ),
-    (
-        None,
-        RULES,
-        1,
-        Pieces::Even(0),
-        NO_DIGITS,
-        ToolError::BadCutting,
-    ),
-    (
-        None,
-        RULES,
-        1,
-        Pieces::At(&[3]),
-        NO_DIGITS,
-        ToolError::HexText,
-    ),
-    (None, RULES, 1, Pieces::At(&[3]), "", ToolError::BadCutting),
-    (
-        None,
-        RULES,
-        1,
-        Pieces::At(&[5, 5]),
-        TWO_GROUPS_DIGITS,
-        ToolError::BadCutting,
-    ),
-    (
-        None,
-        RULES,
-        1,
-        Pieces::At(&[0]),
-        TWO_GROUPS_DIGITS,
-        ToolError::BadCutting,
-    ),
-    (
-        None,
-        RULES,
-        1,
-        Pieces::At(&[208]),
-        TWO_GROUPS_DIGITS,
-        ToolError::BadCutting,
-    ),
-    (
-        None,
-        RULES,
-        2,
-        Pieces::At(&[104, 209]),
-        TWO_GROUPS_DIGITS,
-        ToolError::BadCutting,
-    ),
-    (
-        None,
-        RULES,
-        256,
-        Pieces::At(&[207, 1]),
-        TWO_GROUPS_DIGITS,
-        ToolError::BadCutting,
-    ),
-    (
-        Some(209),
-        RULES,
-        1,
-        Pieces::At(&[0]),
-        TWO_GROUPS_DIGITS,
-        ToolError::BitsPastBytes,
-    ),
-    (
-        Some(68_719_476_737),
-        RULES,
-        1,
-        Pieces::At(&[0]),
-        TWO_GROUPS_DIGITS,
-        ToolError::TooLong,
-    ),
-    (
-        Some(208),
-        RULES,
-        1,
-        Pieces::At(&[0]),
-        TWO_GROUPS_DIGITS,
-        ToolError::BadCutting,
-    ),
+    (None, [6, 3, 10], 4, Even(16), NO_DIGITS, BurstRange),
+    (None, [6, 0, 0], 4, Even(16), NO_DIGITS, BurstRange),
+    (None, [2, 0, 10], 4, Even(16), NO_DIGITS, ReachRange),
+    (None, [2, 9, 0], 4, Even(16), NO_DIGITS, ReachRange),
+    (None, [2, 3, 0], 4, Even(16), NO_DIGITS, LossRange),
+    (None, [2, 3, 65], 4, Even(16), NO_DIGITS, LossRange),
+    (None, [2, 3, 65], 0, Even(0), NO_DIGITS, LossRange),
+    (None, [2, 3, 65], 1, Even(0), NO_DIGITS, LossRange),
+    (None, RULES, 0, Even(0), NO_DIGITS, CrewRange),
+    (None, RULES, 257, Even(0), NO_DIGITS, CrewRange),
+    (None, RULES, 257, Even(16), NO_DIGITS, CrewRange),
+    (None, RULES, 0, At(&[5, 5]), DIGITS, CrewRange),
+    (None, RULES, 257, At(&[0]), DIGITS, CrewRange),
+    (None, RULES, 1, Even(0), NO_DIGITS, BadCutting),
+    (None, RULES, 1, At(&[3]), NO_DIGITS, HexText),
+    (None, RULES, 1, At(&[3]), "", BadCutting),
+    (None, RULES, 1, At(&[5, 5]), DIGITS, BadCutting),
+    (None, RULES, 1, At(&[0]), DIGITS, BadCutting),
+    (None, RULES, 1, At(&[208]), DIGITS, BadCutting),
+    (None, RULES, 2, At(&[104, 209]), DIGITS, BadCutting),
+    (None, RULES, 256, At(&[207, 1]), DIGITS, BadCutting),
+    (Some(209), RULES, 1, At(&[0]), DIGITS, BitsPastBytes),
+    (Some(68_719_476_737), RULES, 1, At(&[0]), DIGITS, TooLong),
+    (Some(208), RULES, 1, At(&[0]), DIGITS, BadCutting),
 ];
 
 #[test]
@@ -330,10 +190,10 @@ fn refuses_in_order(rt: HostRuntime) {
 
 /// Workers and pieces, the refusal where the second read fails, and how many reads came before.
 static READS: [(u32, Pieces<'static>, ToolError, u64); 4] = [
-    (0, Pieces::At(&[5, 5]), ToolError::CrewRange, 0),
-    (1, Pieces::Even(0), ToolError::BadCutting, 0),
-    (1, Pieces::At(&[5, 5]), ToolError::Read, 2),
-    (1, Pieces::At(&[]), ToolError::Read, 2),
+    (0, At(&[5, 5]), CrewRange, 0),
+    (1, Even(0), BadCutting, 0),
+    (1, At(&[5, 5]), Read, 2),
+    (1, At(&[]), Read, 2),
 ];
 
 // No piece and no worker are refused before the reader is asked, and places that are no cutting once it is at its end.
@@ -364,6 +224,6 @@ fn refuses_after<R: Threads + Wait>(
     let Ok(job) = crew.list(alloc) else {
         return false;
     };
-    let mut reader = SlowReader::new(TWO_GROUPS_DIGITS.as_bytes(), 1, 2);
+    let mut reader = SlowReader::new(DIGITS.as_bytes(), 1, 2);
     gives(rt, alloc, &job, &mut reader, Err(error)) && reader.reads == reads
 }

@@ -1,12 +1,13 @@
 //! Lists and totals in pieces: the bytes are those of one piece and one worker.
-use crate::samples::{A_LOSS, EIGHT_GROUPS, NOTHING, Pieces, Sample, TWO_GROUPS};
+use crate::samples::Pieces::{At, Even};
+use crate::samples::{A_BURST, A_LOSS, EIGHT_GROUPS, NOTHING, Pieces, Sample, TWO_GROUPS};
 use std::alloc::Global;
 use std::sync::Wait;
 use std::thread::Threads;
 
 /// Whether one worker writes the sample's texts for one piece, and one, two and 256 write the same for these.
 fn is_same<R: Threads + Wait>(rt: &R, alloc: Global, sample: &Sample, pieces: Pieces<'_>) -> bool {
-    sample.is_given(rt, alloc, 1, Pieces::Even(1))
+    sample.is_given(rt, alloc, 1, Even(1))
         && sample.is_given(rt, alloc, 1, pieces)
         && sample.is_given(rt, alloc, 2, pieces)
         && sample.is_given(rt, alloc, 256, pieces)
@@ -17,13 +18,35 @@ fn are_same<R: Threads + Wait>(rt: &R, alloc: Global, pieces: Pieces<'_>) -> boo
     is_same(rt, alloc, &TWO_GROUPS, pieces) && is_same(rt, alloc, &A_LOSS, pieces)
 }
 
+/// Recordings, and how each is cut. No bytes are no piece, and more pieces than bits are pieces of one bit.
+static CUT: [(Sample, Pieces<'static>); 10] = [
+    (NOTHING, Even(16)),
+    (NOTHING, At(&[])),
+    (A_BURST, Even(16)),
+    (A_LOSS, Even(16)),
+    (A_LOSS, At(&[])),
+    (A_LOSS, At(&[1, 25, 26, 51, 207])),
+    (A_LOSS, Even(4_294_967_295)),
+    (TWO_GROUPS, At(&[])),
+    (TWO_GROUPS, At(&[1, 25, 26, 51, 207])),
+    (TWO_GROUPS, Even(4_294_967_295)),
+];
+
+#[test]
+fn each_cutting_gives_the_same_bytes(rt: HostRuntime) {
+    for (sample, pieces) in CUT.iter() {
+        assert!(rt;
+            is_same(&rt, rt.alloc(), sample, *pieces),
+            "{}: {pieces:?}",
+            sample.digits
+        );
+    }
+}
+
 #[test]
 fn each_single_cut_gives_the_same_bytes(rt: HostRuntime) {
     for cut in 1..208u64 {
-        assert!(rt;
-            are_same(&rt, rt.alloc(), Pieces::At(&[cut])),
-            "a cut at {cut}"
-        );
+        assert!(rt; are_same(&rt, rt.alloc(), At(&[cut])), "a cut at {cut}");
     }
 }
 
@@ -33,13 +56,7 @@ fn cuts_at_every_place_give_the_same_bytes(rt: HostRuntime) {
     for i in 0..207usize {
         places[i] = i as u64 + 1;
     }
-    assert!(rt; are_same(&rt, rt.alloc(), Pieces::At(&places)));
-}
-
-#[test]
-fn some_cuts_and_none_give_the_same_bytes(rt: HostRuntime) {
-    assert!(rt; are_same(&rt, rt.alloc(), Pieces::At(&[1, 25, 26, 51, 207])));
-    assert!(rt; are_same(&rt, rt.alloc(), Pieces::At(&[])));
+    assert!(rt; are_same(&rt, rt.alloc(), At(&places)));
 }
 
 // With reach 4 the guess of the second piece locks on a wrong phase and never meets the run from the first bit; with
@@ -52,19 +69,8 @@ fn a_guess_that_never_meets_gives_the_same_bytes(rt: HostRuntime) {
             ..EIGHT_GROUPS
         };
         assert!(rt;
-            is_same(&rt, rt.alloc(), &sample, Pieces::At(&[190])),
+            is_same(&rt, rt.alloc(), &sample, At(&[190])),
             "reach {reach}"
         );
     }
-}
-
-#[test]
-fn no_bytes_are_no_piece(rt: HostRuntime) {
-    assert!(rt; is_same(&rt, rt.alloc(), &NOTHING, Pieces::Even(16)));
-    assert!(rt; is_same(&rt, rt.alloc(), &NOTHING, Pieces::At(&[])));
-}
-
-#[test]
-fn more_pieces_than_bits_are_pieces_of_one_bit(rt: HostRuntime) {
-    assert!(rt; are_same(&rt, rt.alloc(), Pieces::Even(4_294_967_295)));
 }

@@ -1,5 +1,6 @@
 //! Groups, from lines of digits to blocks.
 use crate::devices::gives_for;
+use rds_tool::ToolError::GroupText;
 use rds_tool::{Job, ToolError};
 
 /// Whether digits are asked for, the lines, and what is written.
@@ -25,15 +26,11 @@ static LINES: [(bool, &[u8], Result<&[u8], ToolError>); 10] = [
         Ok(b"\x12\x34\x1a\x89\x50\x1a\xc5\x24\x49\x59\x4c\x83\xfb"),
     ),
     (false, b"", Ok(b"")),
-    (true, b"1234 2540 5244 532", Err(ToolError::GroupText)),
-    (true, b"1234 2540 5244 5320 1", Err(ToolError::GroupText)),
-    (true, b"1234 2540 5244 53-0", Err(ToolError::GroupText)),
-    (
-        true,
-        b"1234 2540 5244 5320\n12\n",
-        Err(ToolError::GroupText),
-    ),
-    (true, b"12342540\n52445320", Err(ToolError::GroupText)),
+    (true, b"1234 2540 5244 532", Err(GroupText)),
+    (true, b"1234 2540 5244 5320 1", Err(GroupText)),
+    (true, b"1234 2540 5244 53-0", Err(GroupText)),
+    (true, b"1234 2540 5244 5320\n12\n", Err(GroupText)),
+    (true, b"12342540\n52445320", Err(GroupText)),
 ];
 
 #[test]

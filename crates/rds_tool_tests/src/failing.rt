@@ -54,13 +54,13 @@ fn a_failing_flush_is_a_refusal(rt: HostRuntime) {
     let front = Front {
         answer: Err(ToolError::Write),
         text: ROWS,
-        writes: 27,
+        writes: 26,
     };
     assert!(rt; front.is_left(&rt, rt.alloc(), 1, Failure::NoFlush));
 }
 
 /// How many bytes are taken a call, and in how many writes the text goes.
-const STEPS: [(usize, u64); 6] = [(1, 27), (2, 14), (7, 4), (25, 2), (26, 2), (27, 1)];
+const STEPS: [(usize, u64); 6] = [(1, 26), (2, 13), (7, 4), (25, 2), (26, 1), (27, 1)];
 
 #[test]
 fn a_writer_may_take_the_text_in_parts(rt: HostRuntime) {
@@ -107,7 +107,7 @@ impl Front<'_> {
 // No contract of std says what a flush does, so none of ours can: a writer that waits for it tells.
 #[test]
 fn a_flush_reaches_the_writer_of_std(rt: HostRuntime) {
-    assert!(rt; hands_on(&rt, rt.alloc(), false, Ok(()), 27));
+    assert!(rt; hands_on(&rt, rt.alloc(), false, Ok(()), 26));
     assert!(rt; hands_on(&rt, rt.alloc(), true, Err(ToolError::Write), 0));
 }
 

@@ -14,8 +14,6 @@ mod failing;
 #[cfg(test)]
 mod lines;
 #[cfg(test)]
-mod reporting;
-#[cfg(test)]
 mod samples;
 #[cfg(test)]
 mod scanning;

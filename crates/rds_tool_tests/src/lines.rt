@@ -2,31 +2,40 @@
 use rds_tool::{FaultKind, Job, job_of};
 use std::alloc::Global;
 
-/// Lines of words, the kind of fault that each is, if it is no job, and the job as it is shown, or a part of the fault's text.
+/// The words are a job.
+const JOB: Option<FaultKind> = None;
+
+/// The words ask for help.
+const HELP: Option<FaultKind> = Some(FaultKind::Help);
+
+/// The words are no command line.
+const FAULT: Option<FaultKind> = Some(FaultKind::Words);
+
+/// Lines of words, what they are, and the job as it is shown, or a part of the fault's text.
 static LINES: [(&[&str], Option<FaultKind>, &str); 23] = [
     (
         &["rds", "scan"],
-        None,
+        JOB,
         "Scan(Input { hex: false, bits: None })",
     ),
     (
         &["rds", "scan", "--hex"],
-        None,
+        JOB,
         "Scan(Input { hex: true, bits: None })",
     ),
     (
         &["rds", "scan", "--bits", "104", "--hex"],
-        None,
+        JOB,
         "Scan(Input { hex: true, bits: Some(104) })",
     ),
     (
         &["rds", "scan", "--bits=1099511627776"],
-        None,
+        JOB,
         "Scan(Input { hex: false, bits: Some(1099511627776) })",
     ),
     (
         &["rds", "list", "--hex"],
-        None,
+        JOB,
         "List(Input { hex: true, bits: None }, \
          Settings { burst: 2, reach: 3, loss: 10, workers: 4, cuts: Even(16) })",
     ),
@@ -41,7 +50,7 @@ static LINES: [(&[&str], Option<FaultKind>, &str); 23] = [
             "--reach",
             "+7",
         ],
-        None,
+        JOB,
         "Totals(Input { hex: true, bits: None }, \
          Settings { burst: 0, reach: 7, loss: 4294967295, workers: 4, cuts: Even(16) })",
     ),
@@ -55,70 +64,38 @@ static LINES: [(&[&str], Option<FaultKind>, &str); 23] = [
             "--workers",
             "0",
         ],
-        None,
+        JOB,
         "List(Input { hex: true, bits: None }, \
          Settings { burst: 2, reach: 3, loss: 10, workers: 0, cuts: Even(4294967295) })",
     ),
-    (&["rds", "encode"], None, "Encode { hex: false }"),
-    (&["rds", "encode", "--hex"], None, "Encode { hex: true }"),
-    (
-        &["rds", "--help"],
-        Some(FaultKind::Help),
-        "Usage: rds <COMMAND>",
-    ),
-    (
-        &["rds", "help", "scan"],
-        Some(FaultKind::Help),
-        "Usage: rds scan [OPTIONS]",
-    ),
-    (
-        &["rds", "scan", "--help"],
-        Some(FaultKind::Help),
-        "--bits <N>",
-    ),
-    (&["rds"], Some(FaultKind::Words), "requires a subcommand"),
-    (&["rds", "tune"], Some(FaultKind::Words), "tune"),
-    (
-        &["rds", "scan", "--burst", "2"],
-        Some(FaultKind::Words),
-        "--burst",
-    ),
-    (
-        &["rds", "scan", "--hex", "--hex"],
-        Some(FaultKind::Words),
-        "--hex",
-    ),
+    (&["rds", "encode"], JOB, "Encode { hex: false }"),
+    (&["rds", "encode", "--hex"], JOB, "Encode { hex: true }"),
+    (&["rds", "--help"], HELP, "Usage: rds <COMMAND>"),
+    (&["rds", "help", "scan"], HELP, "Usage: rds scan [OPTIONS]"),
+    (&["rds", "scan", "--help"], HELP, "--bits <N>"),
+    (&["rds"], FAULT, "requires a subcommand"),
+    (&["rds", "tune"], FAULT, "tune"),
+    (&["rds", "scan", "--burst", "2"], FAULT, "--burst"),
+    (&["rds", "scan", "--hex", "--hex"], FAULT, "--hex"),
     (
         &["rds", "scan", "--bits", "1099511627777"],
-        Some(FaultKind::Words),
+        FAULT,
         "1099511627777",
     ),
     (
         &["rds", "list", "--loss", "4294967296"],
-        Some(FaultKind::Words),
+        FAULT,
         "4294967296",
     ),
-    (
-        &["rds", "totals", "--reach", "three"],
-        Some(FaultKind::Words),
-        "three",
-    ),
+    (&["rds", "totals", "--reach", "three"], FAULT, "three"),
     (
         &["rds", "list", "--pieces", "4294967296"],
-        Some(FaultKind::Words),
+        FAULT,
         "4294967296",
     ),
-    (
-        &["rds", "scan", "--workers", "2"],
-        Some(FaultKind::Words),
-        "--workers",
-    ),
-    (
-        &["rds", "encode", "--bits", "104"],
-        Some(FaultKind::Words),
-        "--bits",
-    ),
-    (&["rds", "scan", "stray"], Some(FaultKind::Words), "stray"),
+    (&["rds", "scan", "--workers", "2"], FAULT, "--workers"),
+    (&["rds", "encode", "--bits", "104"], FAULT, "--bits"),
+    (&["rds", "scan", "stray"], FAULT, "stray"),
 ];
 
 #[test]

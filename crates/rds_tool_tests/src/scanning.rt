@@ -1,5 +1,6 @@
 //! Scans, from bytes to rows.
 use crate::devices::gives_for;
+use rds_tool::ToolError::{BitsPastBytes, HexText, TooLong};
 use rds_tool::{Input, Job, ToolError};
 
 /// The input is hexadecimal.
@@ -38,17 +39,12 @@ static SCANS: [Scan; 13] = [
     (HEX, Some(25), b"00003f000019800005a00001b4", Ok(b"")),
     (RAW, Some(103), ZERO_GROUP, Ok(b"25,A\n51,B\n77,C\n96,B\n")),
     (HEX, None, b" \t\r\n", Ok(b"")),
-    (HEX, None, b"000", Err(ToolError::HexText)),
-    (HEX, None, b"0x00", Err(ToolError::HexText)),
-    (RAW, Some(57), b"1234567", Err(ToolError::BitsPastBytes)),
-    (RAW, Some(68_719_476_737), b"", Err(ToolError::TooLong)),
-    (
-        RAW,
-        Some(68_719_476_736),
-        b"",
-        Err(ToolError::BitsPastBytes),
-    ),
-    (HEX, Some(68_719_476_737), b"0", Err(ToolError::HexText)),
+    (HEX, None, b"000", Err(HexText)),
+    (HEX, None, b"0x00", Err(HexText)),
+    (RAW, Some(57), b"1234567", Err(BitsPastBytes)),
+    (RAW, Some(68_719_476_737), b"", Err(TooLong)),
+    (RAW, Some(68_719_476_736), b"", Err(BitsPastBytes)),
+    (HEX, Some(68_719_476_737), b"0", Err(HexText)),
 ];
 
 #[test]
