@@ -144,7 +144,7 @@ type Refused = (
 
 const NO_DIGITS: &str = "no digits";
 
-/// The first check that fails speaks: of the rules, the workers, no piece, the digits, the bits, the places of the cuts.
+/// The first check that fails speaks: rules, workers, no piece, digits, bits, places of the cuts.
 static REFUSED: [Refused; 24] = [
     (None, [6, 3, 10], 4, Even(16), NO_DIGITS, BurstRange),
     (None, [6, 0, 0], 4, Even(16), NO_DIGITS, BurstRange),

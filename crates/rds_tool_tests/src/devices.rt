@@ -184,7 +184,8 @@ pub fn gives<R: Threads + Wait, S: Source>(
 {
     let mut writer = ToWrite::new(Vec::new(alloc));
     let answer = transcribe(rt, alloc, reader, &mut writer, job);
-    is_answer(answer, writer.into_inner().as_slice(), wanted)
+    let failures = writer.failures();
+    is_answer(answer, writer.into_inner().as_slice(), wanted) && failures == 0
 }
 
 /// Whether a job over an input in memory writes this text, or is refused so with nothing written.

@@ -60,7 +60,7 @@ fn a_failing_flush_is_a_refusal(rt: HostRuntime) {
 }
 
 /// How many bytes are taken a call, and in how many writes the text goes.
-const STEPS: [(usize, u64); 6] = [(1, 26), (2, 13), (7, 4), (25, 2), (26, 1), (27, 1)];
+static STEPS: [(usize, u64); 6] = [(1, 26), (2, 13), (7, 4), (25, 2), (26, 1), (27, 1)];
 
 #[test]
 fn a_writer_may_take_the_text_in_parts(rt: HostRuntime) {
