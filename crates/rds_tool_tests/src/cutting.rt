@@ -1,6 +1,8 @@
 //! Lists and totals in pieces: the bytes are those of one piece and one worker.
 use crate::samples::Pieces::{At, Even};
-use crate::samples::{A_BURST, A_LOSS, EIGHT_GROUPS, NOTHING, Pieces, Sample, TWO_GROUPS};
+use crate::samples::{
+    A_BURST, A_LOSS, EIGHT_GROUPS, EIGHT_GROUPS_FAR, NOTHING, Pieces, Sample, TWO_GROUPS,
+};
 use std::alloc::Global;
 use std::sync::Wait;
 use std::thread::Threads;
@@ -19,7 +21,7 @@ fn are_same<R: Threads + Wait>(rt: &R, alloc: Global, pieces: Pieces<'_>) -> boo
 }
 
 /// Recordings, and how each is cut. No bytes are no piece, and more pieces than bits are pieces of one bit.
-static CUT: [(Sample, Pieces<'static>); 10] = [
+static CUT: [(Sample, Pieces<'static>); 12] = [
     (NOTHING, Even(16)),
     (NOTHING, At(&[])),
     (A_BURST, Even(16)),
@@ -30,6 +32,8 @@ static CUT: [(Sample, Pieces<'static>); 10] = [
     (TWO_GROUPS, At(&[])),
     (TWO_GROUPS, At(&[1, 25, 26, 51, 207])),
     (TWO_GROUPS, Even(4_294_967_295)),
+    (EIGHT_GROUPS, At(&[190])),
+    (EIGHT_GROUPS_FAR, At(&[190])),
 ];
 
 #[test]
@@ -37,8 +41,9 @@ fn each_cutting_gives_the_same_bytes(rt: HostRuntime) {
     for (sample, pieces) in CUT.iter() {
         assert!(rt;
             is_same(&rt, rt.alloc(), sample, *pieces),
-            "{}: {pieces:?}",
-            sample.digits
+            "{} by {:?}: {pieces:?}",
+            sample.digits,
+            sample.rules
         );
     }
 }
@@ -57,20 +62,4 @@ fn cuts_at_every_place_give_the_same_bytes(rt: HostRuntime) {
         places[i] = i as u64 + 1;
     }
     assert!(rt; are_same(&rt, rt.alloc(), At(&places)));
-}
-
-// With reach 4 the guess of the second piece locks on a wrong phase and never meets the run from the first bit; with
-// reach 3 it meets it at 208.
-#[test]
-fn a_guess_that_never_meets_gives_the_same_bytes(rt: HostRuntime) {
-    for reach in 3..5u32 {
-        let sample = Sample {
-            rules: [2, reach, 10],
-            ..EIGHT_GROUPS
-        };
-        assert!(rt;
-            is_same(&rt, rt.alloc(), &sample, At(&[190])),
-            "reach {reach}"
-        );
-    }
 }

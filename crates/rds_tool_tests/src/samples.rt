@@ -53,22 +53,33 @@ pub const TWO_GROUPS: Sample = sample!(
     7 0 0 0 0 0 0 0 2 1 1 0
 );
 
-/// The group of four zero words, eight times: 832 bits.
-pub const EIGHT_GROUPS: Sample = sample!(
-    "00003f000019800005a00001b4 00003f000019800005a00001b4 00003f000019800005a00001b4 00003f000019800005a00001b4 \
-     00003f000019800005a00001b4 00003f000019800005a00001b4 00003f000019800005a00001b4 00003f000019800005a00001b4",
-    [2, 3, 10],
-    "acquired,51,2,-,-,-,-,-\n\
-     group,26,0,A,none,B:0000,C:0000,D:0000\n\
-     group,104,0,A,A:0000,B:0000,C:0000,D:0000\n\
-     group,208,0,A,A:0000,B:0000,C:0000,D:0000\n\
-     group,312,0,A,A:0000,B:0000,C:0000,D:0000\n\
-     group,416,0,A,A:0000,B:0000,C:0000,D:0000\n\
-     group,520,0,A,A:0000,B:0000,C:0000,D:0000\n\
-     group,624,0,A,A:0000,B:0000,C:0000,D:0000\n\
-     group,728,0,A,A:0000,B:0000,C:0000,D:0000\n",
-    31 0 0 0 0 0 0 0 8 7 1 0
-);
+/// The group of four zero words, eight times, by some rules: 832 bits.
+macro_rules! eight_groups {
+    ($rules:expr) => {
+        sample!(
+            "00003f000019800005a00001b4 00003f000019800005a00001b4 00003f000019800005a00001b4 \
+             00003f000019800005a00001b4 00003f000019800005a00001b4 00003f000019800005a00001b4 \
+             00003f000019800005a00001b4 00003f000019800005a00001b4",
+            $rules,
+            "acquired,51,2,-,-,-,-,-\n\
+             group,26,0,A,none,B:0000,C:0000,D:0000\n\
+             group,104,0,A,A:0000,B:0000,C:0000,D:0000\n\
+             group,208,0,A,A:0000,B:0000,C:0000,D:0000\n\
+             group,312,0,A,A:0000,B:0000,C:0000,D:0000\n\
+             group,416,0,A,A:0000,B:0000,C:0000,D:0000\n\
+             group,520,0,A,A:0000,B:0000,C:0000,D:0000\n\
+             group,624,0,A,A:0000,B:0000,C:0000,D:0000\n\
+             group,728,0,A,A:0000,B:0000,C:0000,D:0000\n",
+            31 0 0 0 0 0 0 0 8 7 1 0
+        )
+    };
+}
+
+/// Eight groups: a guess from bit 190 on meets the run from the first bit at 208.
+pub const EIGHT_GROUPS: Sample = eight_groups!([2, 3, 10]);
+
+/// Eight groups by reach 4: a guess from bit 190 on locks on a wrong phase, and never meets the run from the first bit.
+pub const EIGHT_GROUPS_FAR: Sample = eight_groups!([2, 4, 10]);
 
 /// Two groups, block 1 of the second damaged: by a loss of 1 the lock is lost there, and acquired again.
 pub const A_LOSS: Sample = sample!(
