@@ -68,9 +68,14 @@ for command in scan list totals encode; do
     check "help of $command" 0 "*Usage: rds $command" '' '' "$command" --help
     check "help on $command" 0 '*--hex' '' '' help "$command"
 done
-check 'help names defaults' 0 '*[default: 10]' '' '' list --help
-check 'help names the default of the pieces' 0 '*[default: 16]' '' '' totals --help
+check 'help on the options of scan' 0 '*Usage: rds scan [OPTIONS]' '' '' help scan
+check 'help names the number of bits' 0 '*--bits <N>' '' '' scan --help
+for default in 2 3 10 16 4; do
+    check "help names the default $default" 0 "*[default: $default]" '' '' list --help
+    check "help on totals names the default $default" 0 "*[default: $default]" '' '' help totals
+done
 check 'no command' 2 '' '*Usage: rds <COMMAND>' ''
+check 'a command is asked for' 2 '' '*requires a subcommand' ''
 check 'no such command' 2 '' '*tune' '' tune
 check 'no such option' 2 '' "*unexpected argument '--speed'" '' list --speed 3
 check 'a stray word' 2 '' '*stray' '' scan stray
@@ -78,7 +83,11 @@ check 'a flag twice' 2 '' '*--hex' '' scan --hex --hex
 check 'bits above 2^40' 2 '' '*1099511627777' '' scan --bits 1099511627777
 check 'bits that are no number' 2 '' '*--bits' '' scan --bits ten
 check 'a setting above 32 bits' 2 '' '*4294967296' '' list --burst 4294967296
+check 'a loss above 32 bits' 2 '' '*4294967296' '' list --loss 4294967296
+check 'pieces above 32 bits' 2 '' '*4294967296' '' list --pieces 4294967296
+check 'a reach that is no number' 2 '' '*three' '' totals --reach three
 check 'rules for a scan' 2 '' '*--burst' '' scan --burst 2
+check 'workers for a scan' 2 '' '*--workers' '' scan --workers 2
 check 'bits for encode' 2 '' '*--bits' '' encode --bits 104
 check 'an argument that is not UTF-8' 2 '' 'error: an argument is not valid UTF-8\n' '' $'\xff'
 
@@ -89,6 +98,7 @@ check 'scan of bytes' 0 "$rows" '' "$zero_bytes" scan
 check 'scan of upper case on lines' 0 "$rows" '' '00\n00\n3F\n00\n00\n19\n80\n00\n05\nA0\n00\n01\nB4\n' scan --hex
 check 'scan of two groups' 0 "${rows}123,B\n129,A\n155,B\n181,C\n200,B\n207,D\n" '' "$zero$zero" scan --hex
 check 'scan of 25 bits' 0 '' '' "$zero" scan --hex --bits 25
+check 'scan of 104 bits of more' 0 "$rows" '' "$zero$zero" scan --bits 104 --hex
 check 'scan of nothing' 0 '' '' '' scan
 
 # ---- list and totals
@@ -105,6 +115,12 @@ check 'list of a group but its last bit' 0 \
 check 'list of a corrected block' 0 \
     "${acquired}group,26,0,A,none,B:0000,C:0000~0008000,none\n$(totals 1 1 0 0 0 0 0 1 1 0 1 0)" '' \
     00003f000019800205a0 list --hex --bits 78
+check 'list of a burst of two, the default' 0 \
+    "${acquired}group,26,0,A,none,B:0000,C:0000~0018000,none\n$(totals 1 0 1 0 0 0 0 2 1 0 1 0)" '' \
+    00003f000019800605a0 list --hex --bits 78
+check 'list of a burst of three, above the default' 0 \
+    "${acquired}group,26,0,A,none,B:0000,lost,none\n$(totals 1 0 0 0 0 0 1 0 1 0 1 0)" '' \
+    00003f000019800705a0 list --hex --bits 78
 check 'list of a burst of five' 0 \
     "${acquired}group,26,0,A,none,B:0000,C:0000,D:0000~0000011\n$(totals 2 0 0 0 0 1 0 2 1 0 1 0)" '' \
     00003f000019800005a00001a5 list --hex --burst 5
@@ -164,6 +180,10 @@ check 'loss before workers' 1 '' 'refused 3 LossRange\n' '' list --loss 65 --pie
 check 'workers before pieces' 1 '' 'refused 7 CrewRange\n' '' list --pieces 0 --workers 0
 check 'more bits than the bytes hold' 1 '' 'refused 4 BitsPastBytes\n' '1234567' scan --bits 57
 check 'too many bits' 1 '' 'refused 5 TooLong\n' '' scan --bits 68719476737
+check 'as many bits as can be asked for' 1 '' 'refused 5 TooLong\n' '' scan --bits=1099511627776
+check 'the greatest loss, a sign and a setting of 0' 1 '' 'refused 3 LossRange\n' '' \
+    totals --hex --loss=4294967295 --burst 0 --reach +7
+check 'the most pieces and no worker' 1 '' 'refused 7 CrewRange\n' '' list --hex --pieces 4294967295 --workers 0
 check 'an odd number of digits' 1 '' 'refused 11 HexText\n' '000' list --hex
 check 'a strange byte' 1 '' 'refused 11 HexText\n' '0g' scan --hex
 check 'fifteen digits' 1 '' 'refused 12 GroupText\n' '1234 2540 5244 532' encode

@@ -1,11 +1,17 @@
 //! Workers, seen at their work and refused.
-use crate::devices::{SlowReader, written, written_gated};
-use crate::samples::{Crew, Pieces, TWO_GROUPS};
+use crate::devices::{SlowReader, gives, is_answer};
+use crate::samples::Pieces::{At, Even};
+use crate::samples::{Crew, Pieces, TWO_GROUPS, TWO_GROUPS_DIGITS as DIGITS};
 use rds_crew::Gate;
 use rds_pieces::PieceRun;
-use rds_tool::{Input, Job, ToWrite, ToolError, transcribe};
+use rds_tool::ToolError::{
+    BadCutting, BitsPastBytes, BurstRange, CrewRange, HexText, LossRange, ReachRange, Read, TooLong,
+};
+use rds_tool::{FromRead, Job, ToWrite, ToolError, transcribe_gated};
+use std::alloc::{AllocError, Global};
+use std::sync::Wait;
 use std::sync::atomic::{AtomicU64, Ordering};
-use std::test::Fail;
+use std::thread::Threads;
 
 /// The turns after which a worker no longer waits for the other.
 const MOST_TURNS: u64 = 1_000_000_000;
@@ -15,8 +21,33 @@ const MOST_TURNS: u64 = 1_000_000_000;
 struct Watch {
     second_begun: AtomicU64,
     misses: AtomicU64,
-    from: [AtomicU64; 2],
-    to: [AtomicU64; 2],
+    first: Ends,
+    second: Ends,
+}
+
+/// From where to where a run goes.
+#[derive(Drop)]
+struct Ends {
+    from: AtomicU64,
+    to: AtomicU64,
+}
+
+impl Ends {
+    fn new() -> Ends {
+        Ends {
+            from: AtomicU64::new(0),
+            to: AtomicU64::new(0),
+        }
+    }
+
+    fn note(&self, run: &PieceRun) {
+        self.from.store(run.from(), Ordering::SeqCst);
+        self.to.store(run.to(), Ordering::SeqCst);
+    }
+
+    fn are(&self, from: u64, to: u64) -> bool {
+        self.from.load(Ordering::SeqCst) == from && self.to.load(Ordering::SeqCst) == to
+    }
 }
 
 impl Watch {
@@ -24,25 +55,13 @@ impl Watch {
         Watch {
             second_begun: AtomicU64::new(0),
             misses: AtomicU64::new(0),
-            from: [AtomicU64::new(0), AtomicU64::new(0)],
-            to: [AtomicU64::new(0), AtomicU64::new(0)],
+            first: Ends::new(),
+            second: Ends::new(),
         }
     }
 
     fn misses(&self) -> u64 {
         self.misses.load(Ordering::SeqCst)
-    }
-
-    /// From where to where each run goes, one run after the other.
-    fn ends(&self) -> [u64; 4] {
-        let from = &self.from;
-        let to = &self.to;
-        [
-            from[0].load(Ordering::SeqCst),
-            to[0].load(Ordering::SeqCst),
-            from[1].load(Ordering::SeqCst),
-            to[1].load(Ordering::SeqCst),
-        ]
     }
 
     /// Turns until piece 1 is begun, and notes a miss at the limit.
@@ -66,155 +85,145 @@ impl Gate for Watch {
     }
 
     fn done(&self, j: u64, run: &PieceRun) {
-        if j < 2 {
-            let from = &self.from;
-            from[j as usize].store(run.from(), Ordering::SeqCst);
-            let to = &self.to;
-            to[j as usize].store(run.to(), Ordering::SeqCst);
+        match j {
+            0 => self.first.note(run),
+            1 => self.second.note(run),
+            _ => {}
         }
     }
 }
 
+/// The rules of `TWO_GROUPS`, as burst, reach and loss.
+const RULES: [u32; 3] = [2, 3, 10];
+
+/// Two workers on two groups, a piece each.
+const TWO_WORKERS: Crew = Crew {
+    bits: None,
+    rules: RULES,
+    workers: 2,
+    pieces: At(&[104]),
+};
+
+/// Whether a list of the two groups by two workers at this gate gives its text.
+fn lists_at<R: Threads + Wait, G: Gate + Sync>(rt: &R, alloc: Global, gate: &G) -> bool {
+    match TWO_WORKERS.list(alloc) {
+        Ok(job) => gives_at(rt, alloc, &job, gate),
+        Err(AllocError) => false,
+    }
+}
+
+/// Whether the job at this gate gives the list of the two groups.
+fn gives_at<R: Threads + Wait, G: Gate + Sync>(rt: &R, alloc: Global, job: &Job, gate: &G) -> bool {
+    let mut reader = FromRead::new(DIGITS.as_bytes());
+    let mut writer = ToWrite::new(Vec::new(alloc));
+    let answer = transcribe_gated(rt, alloc, &mut reader, &mut writer, job, gate);
+    is_answer(
+        answer,
+        writer.into_inner().as_slice(),
+        Ok(TWO_GROUPS.list.as_bytes()),
+    )
+}
+
 // One thread that makes both pieces in turn would miss: piece 0 waits for piece 1.
 #[test]
-fn two_workers_run_at_the_same_time(rt: HostRuntime) -> Result<(), Fail> {
-    let crew = Crew {
-        rules: TWO_GROUPS.rules,
-        workers: 2,
-        pieces: Pieces::At(&[104]),
-    };
-    let job = crew.list(rt.alloc())?;
+fn two_workers_run_at_the_same_time(rt: HostRuntime) {
     let watch = Watch::new();
-    let list = written_gated(&rt, rt.alloc(), &job, TWO_GROUPS.digits, &watch)?;
-    assert_eq!(&rt; list, TWO_GROUPS.texts(rt.alloc())?.list);
-    assert_eq!(&rt; watch.misses(), 0);
-    assert_eq!(&rt; watch.ends(), [0, 104, 104, 208]);
-    Ok(())
+    assert!(rt; lists_at(&rt, rt.alloc(), &watch));
+    assert!(rt; watch.misses() == 0 && watch.first.are(0, 104) && watch.second.are(104, 208));
 }
 
-/// A crew by the default rules but for the loss.
-fn crew(loss: u32, workers: u32, pieces: Pieces<'_>) -> Crew<'_> {
-    Crew {
-        rules: [2, 3, loss],
-        workers,
-        pieces,
-    }
-}
+/// What is asked of a list and of totals, as bits, rules, workers and pieces, then the digits, and the refusal.
+type Refused = (
+    Option<u64>,
+    [u32; 3],
+    u32,
+    Pieces<'static>,
+    &'static str,
+    ToolError,
+);
+
+const NO_DIGITS: &str = "no digits";
+
+/// The first check that fails speaks: rules, workers, no piece, digits, bits, places of the cuts.
+static REFUSED: [Refused; 24] = [
+    (None, [6, 3, 10], 4, Even(16), NO_DIGITS, BurstRange),
+    (None, [6, 0, 0], 4, Even(16), NO_DIGITS, BurstRange),
+    (None, [2, 0, 10], 4, Even(16), NO_DIGITS, ReachRange),
+    (None, [2, 9, 0], 4, Even(16), NO_DIGITS, ReachRange),
+    (None, [2, 3, 0], 4, Even(16), NO_DIGITS, LossRange),
+    (None, [2, 3, 65], 4, Even(16), NO_DIGITS, LossRange),
+    (None, [2, 3, 65], 0, Even(0), NO_DIGITS, LossRange),
+    (None, [2, 3, 65], 1, Even(0), NO_DIGITS, LossRange),
+    (None, RULES, 0, Even(0), NO_DIGITS, CrewRange),
+    (None, RULES, 257, Even(0), NO_DIGITS, CrewRange),
+    (None, RULES, 257, Even(16), NO_DIGITS, CrewRange),
+    (None, RULES, 0, At(&[5, 5]), DIGITS, CrewRange),
+    (None, RULES, 257, At(&[0]), DIGITS, CrewRange),
+    (None, RULES, 1, Even(0), NO_DIGITS, BadCutting),
+    (None, RULES, 1, At(&[3]), NO_DIGITS, HexText),
+    (None, RULES, 1, At(&[3]), "", BadCutting),
+    (None, RULES, 1, At(&[5, 5]), DIGITS, BadCutting),
+    (None, RULES, 1, At(&[0]), DIGITS, BadCutting),
+    (None, RULES, 1, At(&[208]), DIGITS, BadCutting),
+    (None, RULES, 2, At(&[104, 209]), DIGITS, BadCutting),
+    (None, RULES, 256, At(&[207, 1]), DIGITS, BadCutting),
+    (Some(209), RULES, 1, At(&[0]), DIGITS, BitsPastBytes),
+    (Some(68_719_476_737), RULES, 1, At(&[0]), DIGITS, TooLong),
+    (Some(208), RULES, 1, At(&[0]), DIGITS, BadCutting),
+];
 
 #[test]
-fn refuses_crews_and_cuts_in_order(rt: HostRuntime) -> Result<(), Fail> {
-    let digits = TWO_GROUPS.digits;
-    let refused: [(Crew<'_>, &[u8], ToolError); 15] = [
-        (
-            crew(65, 0, Pieces::Even(0)),
-            b"no digits",
-            ToolError::LossRange,
-        ),
-        (
-            crew(65, 1, Pieces::Even(0)),
-            b"no digits",
-            ToolError::LossRange,
-        ),
-        (
-            crew(10, 0, Pieces::Even(0)),
-            b"no digits",
-            ToolError::CrewRange,
-        ),
-        (
-            crew(10, 257, Pieces::Even(0)),
-            b"no digits",
-            ToolError::CrewRange,
-        ),
-        (
-            crew(10, 257, Pieces::Even(16)),
-            b"no digits",
-            ToolError::CrewRange,
-        ),
-        (
-            crew(10, 0, Pieces::At(&[5, 5])),
-            digits,
-            ToolError::CrewRange,
-        ),
-        (
-            crew(10, 257, Pieces::At(&[0])),
-            digits,
-            ToolError::CrewRange,
-        ),
-        (
-            crew(10, 1, Pieces::Even(0)),
-            b"no digits",
-            ToolError::BadCutting,
-        ),
-        (
-            crew(10, 1, Pieces::At(&[3])),
-            b"no digits",
-            ToolError::HexText,
-        ),
-        (crew(10, 1, Pieces::At(&[3])), b"", ToolError::BadCutting),
-        (
-            crew(10, 1, Pieces::At(&[5, 5])),
-            digits,
-            ToolError::BadCutting,
-        ),
-        (crew(10, 1, Pieces::At(&[0])), digits, ToolError::BadCutting),
-        (
-            crew(10, 1, Pieces::At(&[208])),
-            digits,
-            ToolError::BadCutting,
-        ),
-        (
-            crew(10, 2, Pieces::At(&[104, 209])),
-            digits,
-            ToolError::BadCutting,
-        ),
-        (
-            crew(10, 256, Pieces::At(&[207, 1])),
-            digits,
-            ToolError::BadCutting,
-        ),
-    ];
-    for (crew, input, error) in refused {
-        crew.assert_refused(&rt, rt.alloc(), input, error)?;
+fn refuses_in_order(rt: HostRuntime) {
+    for (bits, rules, workers, pieces, digits, error) in REFUSED.iter() {
+        let crew = Crew {
+            bits: *bits,
+            rules: *rules,
+            workers: *workers,
+            pieces: *pieces,
+        };
+        assert!(rt;
+            crew.gives(&rt, rt.alloc(), digits.as_bytes(), Err(*error), Err(*error)),
+            "{pieces:?}, {error:?}"
+        );
     }
-    Ok(())
 }
+
+/// Workers and pieces, the refusal where the second read fails, and how many reads came before.
+static READS: [(u32, Pieces<'static>, ToolError, u64); 4] = [
+    (0, At(&[5, 5]), CrewRange, 0),
+    (1, Even(0), BadCutting, 0),
+    (1, At(&[5, 5]), Read, 2),
+    (1, At(&[]), Read, 2),
+];
 
 // No piece and no worker are refused before the reader is asked, and places that are no cutting once it is at its end.
 #[test]
-fn refuses_cuttings_before_or_after_reading(rt: HostRuntime) -> Result<(), Fail> {
-    let answers: [(u32, Pieces<'_>, ToolError, u64); 4] = [
-        (0, Pieces::At(&[5, 5]), ToolError::CrewRange, 0),
-        (1, Pieces::Even(0), ToolError::BadCutting, 0),
-        (1, Pieces::At(&[5, 5]), ToolError::Read, 2),
-        (1, Pieces::At(&[]), ToolError::Read, 2),
-    ];
-    for (workers, pieces, error, reads) in answers {
-        let job = crew(10, workers, pieces).list(rt.alloc())?;
-        let mut reader = SlowReader::new(TWO_GROUPS.digits, 1, 2);
-        let mut writer = ToWrite::new(Vec::new(rt.alloc()));
-        let answer = transcribe(&rt, rt.alloc(), &mut reader, &mut writer, &job);
-        assert!(rt; answer == Err(error) && reader.reads == reads, "{job:?}");
-        assert!(rt; writer.into_inner().is_empty(), "{job:?}");
+fn refuses_cuttings_before_or_after_reading(rt: HostRuntime) {
+    for (workers, pieces, error, reads) in READS.iter() {
+        let crew = Crew {
+            bits: None,
+            rules: RULES,
+            workers: *workers,
+            pieces: *pieces,
+        };
+        assert!(rt;
+            refuses_after(&rt, rt.alloc(), &crew, *error, *reads),
+            "{pieces:?}, {error:?}"
+        );
     }
-    Ok(())
 }
 
-// The bytes have to hold the bits before the cuts are looked at.
-#[test]
-fn refuses_what_is_no_recording_before_its_cutting(rt: HostRuntime) -> Result<(), Fail> {
-    let claimed = [
-        (209, ToolError::BitsPastBytes),
-        (68_719_476_737, ToolError::TooLong),
-        (208, ToolError::BadCutting),
-    ];
-    for (bits, error) in claimed {
-        let input = Input {
-            hex: true,
-            bits: Some(bits),
-        };
-        let job = Job::List(input, crew(10, 1, Pieces::At(&[0])).settings(rt.alloc())?);
-        let answer = written(&rt, rt.alloc(), &job, TWO_GROUPS.digits);
-        assert!(rt; matches!(&answer, Err(e) if *e == error), "{bits} bits");
-    }
-    Ok(())
+/// Whether a list is refused so after so many reads, of which the second fails.
+fn refuses_after<R: Threads + Wait>(
+    rt: &R,
+    alloc: Global,
+    crew: &Crew<'_>,
+    error: ToolError,
+    reads: u64,
+) -> bool {
+    let Ok(job) = crew.list(alloc) else {
+        return false;
+    };
+    let mut reader = SlowReader::new(DIGITS.as_bytes(), 1, 2);
+    gives(rt, alloc, &job, &mut reader, Err(error)) && reader.reads == reads
 }

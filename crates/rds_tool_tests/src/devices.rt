@@ -1,10 +1,7 @@
 //! Readers and writers over memory that give and take as little as they are told, and fail on demand.
-ghost use Rattle.std.specs.Prelude.{◌≡◌, Some};
+ghost use Rattle.std.specs.Prelude.{◌^◌, ◌<◌, ◌≡◌, Some};
 
-use rds_crew::Gate;
-use rds_tool::{
-    Failed, FromRead, Job, Sink, Source, ToWrite, ToolError, transcribe, transcribe_gated,
-};
+use rds_tool::{Failed, FromRead, Job, Sink, Source, ToWrite, ToolError, transcribe};
 use std::alloc::{AllocError, Global};
 use std::io;
 use std::io::Write;
@@ -62,38 +59,38 @@ impl Source for SlowReader<'_> {
     }
 }
 
-/// How a writer fails.
-#[derive(Clone, Copy, Debug, PartialEq, Eq)]
+/// How a writer fails: at one of its writes, by number from 1, or at a flush.
+#[derive(Clone, Copy)]
 pub enum Failure {
-    /// It answers `Failed`.
-    Refuses,
-    /// It takes no byte and answers `Ok(0)`.
-    TakesNone,
+    /// It never does.
+    Never,
+    /// The write answers `Failed`.
+    Refuses(u64),
+    /// The write takes no byte and answers `Ok(0)`.
+    TakesNone(u64),
+    /// Each flush answers `Failed`.
+    NoFlush,
 }
 
-/// Takes at most `step` bytes a write, and fails at write number `fails_at`, from 1, or at a flush.
+/// Takes at most `step` bytes a write, and fails as it is told.
 #[derive(Drop)]
 pub struct SlowWriter {
     pub held: Vec<u8>,
     pub step: usize,
-    pub writes: u64,
-    pub fails_at: u64,
     pub failure: Failure,
-    pub flush_fails: bool,
+    pub writes: u64,
     pub failures: u64,
 }
 
 impl SlowWriter {
-    pub fn new(alloc: Global, step: usize, fails_at: u64, failure: Failure) -> SlowWriter
+    pub fn new(alloc: Global, step: usize, failure: Failure) -> SlowWriter
         ensures { result.failures ≡ 0 }
     {
         SlowWriter {
             held: Vec::new(alloc),
             step,
-            writes: 0,
-            fails_at,
             failure,
-            flush_fails: false,
+            writes: 0,
             failures: 0,
         }
     }
@@ -109,12 +106,16 @@ impl Sink for SlowWriter {
         if bytes.is_empty() {
             return Ok(0);
         }
-        if self.writes == self.fails_at {
-            self.failures += 1;
-            return match self.failure {
-                Failure::Refuses => Err(Failed),
-                Failure::TakesNone => Ok(0),
-            };
+        match self.failure {
+            Failure::Refuses(at) if at == self.writes => {
+                self.failures += 1;
+                return Err(Failed);
+            }
+            Failure::TakesNone(at) if at == self.writes => {
+                self.failures += 1;
+                return Ok(0);
+            }
+            _ => {}
         }
         let count = bytes.len().min(self.step.max(1));
         if self.held.extend_from_slice(&bytes[..count]).is_err() {
@@ -125,7 +126,7 @@ impl Sink for SlowWriter {
     }
 
     fn flush(&mut self) -> Result<(), Failed> {
-        if self.flush_fails {
+        if matches!(&self.failure, Failure::NoFlush) {
             self.failures += 1;
             return Err(Failed);
         }
@@ -140,16 +141,17 @@ impl Sink for SlowWriter {
 /// A writer of std that hands on what was written only where it is flushed.
 #[derive(Drop)]
 pub struct Withholding {
-    pub waiting: Vec<u8>,
-    pub handed_on: Vec<u8>,
+    pub held: Vec<u8>,
+    /// How many of the bytes held were handed on.
+    pub handed_on: usize,
     pub flush_fails: bool,
 }
 
 impl Withholding {
     pub fn new(alloc: Global, flush_fails: bool) -> Withholding {
         Withholding {
-            waiting: Vec::new(alloc),
-            handed_on: Vec::new(alloc),
+            held: Vec::new(alloc),
+            handed_on: 0,
             flush_fails,
         }
     }
@@ -157,7 +159,7 @@ impl Withholding {
 
 impl Write for Withholding {
     fn write(&mut self, bytes: &[u8]) -> io::Result<usize> {
-        self.waiting.extend_from_slice(bytes)?;
+        self.held.extend_from_slice(bytes)?;
         Ok(bytes.len())
     }
 
@@ -165,34 +167,47 @@ impl Write for Withholding {
         if self.flush_fails {
             return Err(io::Error::from(AllocError));
         }
-        self.handed_on.append(&mut self.waiting)?;
+        self.handed_on = self.held.len();
         Ok(())
     }
 }
 
-/// What a job writes for an input in memory, or its refusal.
-pub fn written<R: Threads + Wait>(
+/// Whether a job over this reader writes this text, or is refused so with nothing written.
+pub fn gives<R: Threads + Wait, S: Source>(
     rt: &R,
     alloc: Global,
     job: &Job,
-    input: &[u8],
-) -> Result<Vec<u8>, ToolError> {
-    let mut reader = FromRead::new(input);
+    reader: &mut S,
+    wanted: Result<&[u8], ToolError>,
+) -> bool
+    requires { S.failed reader.old < 2 ^ 63 }
+{
     let mut writer = ToWrite::new(Vec::new(alloc));
-    transcribe(rt, alloc, &mut reader, &mut writer, job)?;
-    Ok(writer.into_inner())
+    let answer = transcribe(rt, alloc, reader, &mut writer, job);
+    let failures = writer.failures();
+    is_answer(answer, writer.into_inner().as_slice(), wanted) && failures == 0
 }
 
-/// What a job writes for an input in memory where its crew calls this gate, or its refusal.
-pub fn written_gated<R: Threads + Wait, G: Gate + Sync>(
+/// Whether a job over an input in memory writes this text, or is refused so with nothing written.
+pub fn gives_for<R: Threads + Wait>(
     rt: &R,
     alloc: Global,
     job: &Job,
     input: &[u8],
-    gate: &G,
-) -> Result<Vec<u8>, ToolError> {
+    wanted: Result<&[u8], ToolError>,
+) -> bool {
     let mut reader = FromRead::new(input);
-    let mut writer = ToWrite::new(Vec::new(alloc));
-    transcribe_gated(rt, alloc, &mut reader, &mut writer, job, gate)?;
-    Ok(writer.into_inner())
+    gives(rt, alloc, job, &mut reader, wanted)
+}
+
+/// Whether this answer with this text is what was wanted.
+pub fn is_answer(
+    answer: Result<(), ToolError>,
+    text: &[u8],
+    wanted: Result<&[u8], ToolError>,
+) -> bool {
+    match wanted {
+        Ok(rows) => answer.is_ok() && text == rows,
+        Err(error) => answer == Err(error) && text.is_empty(),
+    }
 }

@@ -1,7 +1,10 @@
 //! Devices that give or take little, fail, or have no end.
-use crate::devices::{Failure, SlowReader, SlowWriter, Withholding};
+use crate::devices::{Failure, SlowReader, SlowWriter, Withholding, gives};
 use rds_tool::{FromRead, Input, Job, Sink, Source, ToWrite, ToolError, transcribe};
+use std::alloc::Global;
+use std::sync::Wait;
 use std::test::Fail;
+use std::thread::Threads;
 
 const HEX: Job = Job::Scan(Input {
     hex: true,
@@ -18,107 +21,146 @@ const ZERO_GROUP: &[u8] = b"00003f000019800005a00001b4";
 const ROWS: &[u8] = b"25,A\n51,B\n77,C\n96,B\n103,D\n";
 
 #[test]
-fn a_failing_read_ends_the_reading(rt: HostRuntime) -> Result<(), Fail> {
+fn a_failing_read_ends_the_reading(rt: HostRuntime) {
     for k in 1..28u64 {
         let mut reader = SlowReader::new(ZERO_GROUP, 1, k);
-        let mut writer = ToWrite::new(Vec::new(rt.alloc()));
-        let answer = transcribe(&rt, rt.alloc(), &mut reader, &mut writer, &HEX);
-        assert!(rt; answer == Err(ToolError::Read), "at {k}");
-        assert!(rt; reader.failures() == 1 && reader.reads == k, "at {k}");
+        let is_refused = gives(&rt, rt.alloc(), &HEX, &mut reader, Err(ToolError::Read));
         assert!(rt;
-            writer.failures() == 0 && writer.into_inner().is_empty(),
+            is_refused && reader.failures == 1 && reader.reads == k,
             "at {k}"
         );
     }
-    Ok(())
 }
 
 #[test]
-fn a_failing_write_leaves_a_front(rt: HostRuntime) -> Result<(), Fail> {
-    for failure in [Failure::Refuses, Failure::TakesNone] {
-        for k in 1..27u64 {
-            let mut reader = FromRead::new(ZERO_GROUP);
-            let mut writer = SlowWriter::new(rt.alloc(), 1, k, failure);
-            let answer = transcribe(&rt, rt.alloc(), &mut reader, &mut writer, &HEX);
-            assert!(rt; answer == Err(ToolError::Write), "at {k}");
-            assert!(rt; writer.failures() == 1 && writer.writes == k, "at {k}");
-            assert!(rt;
-                writer.held.len() as u64 == k - 1 && ROWS.starts_with(writer.held.as_slice()),
-                "at {k}"
-            );
-        }
+fn a_failing_write_leaves_a_front(rt: HostRuntime) {
+    let alloc = rt.alloc();
+    for k in 0..26usize {
+        let front = Front {
+            answer: Err(ToolError::Write),
+            text: &ROWS[..k],
+            writes: k as u64 + 1,
+        };
+        assert!(rt;
+            front.is_left(&rt, alloc, 1, Failure::Refuses(k as u64 + 1))
+                && front.is_left(&rt, alloc, 1, Failure::TakesNone(k as u64 + 1)),
+            "after {k} bytes"
+        );
     }
-    Ok(())
 }
 
 #[test]
-fn a_failing_flush_is_a_refusal(rt: HostRuntime) -> Result<(), Fail> {
-    let mut reader = FromRead::new(ZERO_GROUP);
-    let mut writer = SlowWriter::new(rt.alloc(), 1, 0, Failure::Refuses);
-    writer.flush_fails = true;
-    let answer = transcribe(&rt, rt.alloc(), &mut reader, &mut writer, &HEX);
-    assert!(rt; answer == Err(ToolError::Write) && writer.failures() == 1);
-    assert!(rt; writer.held.as_slice() == ROWS);
-    Ok(())
+fn a_failing_flush_is_a_refusal(rt: HostRuntime) {
+    let front = Front {
+        answer: Err(ToolError::Write),
+        text: ROWS,
+        writes: 26,
+    };
+    assert!(rt; front.is_left(&rt, rt.alloc(), 1, Failure::NoFlush));
+}
+
+/// How many bytes are taken a call, and in how many writes the text goes.
+static STEPS: [(usize, u64); 6] = [(1, 26), (2, 13), (7, 4), (25, 2), (26, 1), (27, 1)];
+
+#[test]
+fn a_writer_may_take_the_text_in_parts(rt: HostRuntime) {
+    for (step, writes) in STEPS.iter() {
+        let front = Front {
+            answer: Ok(()),
+            text: ROWS,
+            writes: *writes,
+        };
+        assert!(rt;
+            front.is_left(&rt, rt.alloc(), *step, Failure::Never),
+            "{step} bytes a call"
+        );
+    }
+}
+
+/// What is left by a scan: the answer, the text written, and how often the writer was asked.
+#[derive(Clone, Copy)]
+struct Front<'a> {
+    answer: Result<(), ToolError>,
+    text: &'a [u8],
+    writes: u64,
+}
+
+impl Front<'_> {
+    /// Whether a scan leaves this where devices give and take so many bytes a call, and the writer fails so.
+    fn is_left<R: Threads + Wait>(
+        &self,
+        rt: &R,
+        alloc: Global,
+        step: usize,
+        failure: Failure,
+    ) -> bool {
+        let mut reader = SlowReader::new(ZERO_GROUP, step, 0);
+        let mut writer = SlowWriter::new(alloc, step, failure);
+        let answer = transcribe(rt, alloc, &mut reader, &mut writer, &HEX);
+        answer == self.answer
+            && writer.failures == answer.is_err() as u64
+            && writer.writes == self.writes
+            && writer.held.as_slice() == self.text
+    }
 }
 
 // No contract of std says what a flush does, so none of ours can: a writer that waits for it tells.
 #[test]
-fn a_flush_reaches_the_writer_of_std(rt: HostRuntime) -> Result<(), Fail> {
-    for flush_fails in [false, true] {
-        let mut reader = FromRead::new(ZERO_GROUP);
-        let mut writer = ToWrite::new(Withholding::new(rt.alloc(), flush_fails));
-        let answer = transcribe(&rt, rt.alloc(), &mut reader, &mut writer, &HEX);
-        let failures = writer.failures();
-        let Withholding {
-            waiting,
-            handed_on,
-            ..
-        } = writer.into_inner();
-        if flush_fails {
-            assert!(rt; answer == Err(ToolError::Write) && failures == 1);
-            assert!(rt; waiting.as_slice() == ROWS && handed_on.is_empty());
-        } else {
-            assert!(rt; answer.is_ok() && failures == 0);
-            assert!(rt; handed_on.as_slice() == ROWS && waiting.is_empty());
-        }
-    }
-    Ok(())
+fn a_flush_reaches_the_writer_of_std(rt: HostRuntime) {
+    assert!(rt; hands_on(&rt, rt.alloc(), false, Ok(()), 26));
+    assert!(rt; hands_on(&rt, rt.alloc(), true, Err(ToolError::Write), 0));
 }
 
-#[test]
-fn a_writer_may_take_the_text_in_parts(rt: HostRuntime) -> Result<(), Fail> {
-    for step in [1, 2, 7, 25, 26, 27] {
-        let mut reader = SlowReader::new(ZERO_GROUP, step, 0);
-        let mut writer = SlowWriter::new(rt.alloc(), step, 0, Failure::Refuses);
-        let answer = transcribe(&rt, rt.alloc(), &mut reader, &mut writer, &HEX);
-        assert!(rt;
-            answer.is_ok() && writer.held.as_slice() == ROWS,
-            "{step} bytes a call"
-        );
-    }
-    Ok(())
+/// Whether a scan to a writer of std that waits for its flush is answered so, and so many bytes are handed on.
+fn hands_on<R: Threads + Wait>(
+    rt: &R,
+    alloc: Global,
+    flush_fails: bool,
+    wanted: Result<(), ToolError>,
+    handed_on: usize,
+) -> bool {
+    let mut reader = FromRead::new(ZERO_GROUP);
+    let mut writer = ToWrite::new(Withholding::new(alloc, flush_fails));
+    let answer = transcribe(rt, alloc, &mut reader, &mut writer, &HEX);
+    let failures = writer.failures();
+    let under = writer.into_inner();
+    answer == wanted
+        && failures == flush_fails as u64
+        && under.held.as_slice() == ROWS
+        && under.handed_on == handed_on
 }
 
+// A byte a read has to end within 16,777,216 reads; a read that gives all that it may takes 64 KiB.
 #[test]
 fn a_reader_without_an_end_is_left(rt: HostRuntime) -> Result<(), Fail> {
     let zeros = vec![in rt.alloc(); 0u8; 16_777_216]?;
-    let mut reader = SlowReader::new(&zeros[1..], 1, 0);
-    let mut writer = ToWrite::new(Vec::new(rt.alloc()));
-    assert!(rt; transcribe(&rt, rt.alloc(), &mut reader, &mut writer, &NO_BITS).is_ok());
-    let mut reader = SlowReader::new(zeros.as_slice(), 1, 0);
-    let answer = transcribe(&rt, rt.alloc(), &mut reader, &mut writer, &NO_BITS);
-    assert!(rt; answer == Err(ToolError::TooManyTurns));
-    assert!(rt; reader.reads == 16_777_216 && writer.into_inner().is_empty());
+    let bytes = zeros.as_slice();
+    assert!(rt; is_read(&rt, rt.alloc(), &bytes[1..], 1, Ok(b""), 16_777_216));
+    assert!(rt;
+        is_read(
+            &rt,
+            rt.alloc(),
+            bytes,
+            1,
+            Err(ToolError::TooManyTurns),
+            16_777_216
+        )
+    );
+    assert!(rt; is_read(&rt, rt.alloc(), bytes, usize::MAX, Ok(b""), 257));
     Ok(())
 }
 
-#[test]
-fn a_read_asks_for_64_kib(rt: HostRuntime) -> Result<(), Fail> {
-    let zeros = vec![in rt.alloc(); 0u8; 17_000_000]?;
-    let mut reader = SlowReader::new(zeros.as_slice(), usize::MAX, 0);
-    let mut writer = ToWrite::new(Vec::new(rt.alloc()));
-    assert!(rt; transcribe(&rt, rt.alloc(), &mut reader, &mut writer, &NO_BITS).is_ok());
-    assert!(rt; reader.least_buffer == 65_536 && writer.into_inner().is_empty());
-    Ok(())
+/// Whether a reader that gives so many of these bytes a read is answered so, after so many reads of 64 KiB.
+fn is_read<R: Threads + Wait>(
+    rt: &R,
+    alloc: Global,
+    bytes: &[u8],
+    step: usize,
+    wanted: Result<&[u8], ToolError>,
+    reads: u64,
+) -> bool {
+    let mut reader = SlowReader::new(bytes, step, 0);
+    gives(rt, alloc, &NO_BITS, &mut reader, wanted)
+        && reader.reads == reads
+        && reader.least_buffer == 65_536
 }

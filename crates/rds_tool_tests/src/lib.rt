@@ -1,4 +1,5 @@
 //! Tests of `rds_tool` from outside: worked examples from bytes to bytes, and devices that fail.
+//! Command lines are tried on the built program, by `tests/program.sh`.
 #![tactic(auto)]
 
 #[cfg(test)]
@@ -11,10 +12,6 @@ mod devices;
 mod encoding;
 #[cfg(test)]
 mod failing;
-#[cfg(test)]
-mod lines;
-#[cfg(test)]
-mod reporting;
 #[cfg(test)]
 mod samples;
 #[cfg(test)]

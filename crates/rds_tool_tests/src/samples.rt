@@ -1,100 +1,131 @@
-//! Recordings with the text of their lists, and ways to decode them.
-use crate::devices::written;
+//! Recordings with the texts of their lists and totals, and whether a crew gives these.
+use crate::devices::gives_for;
 use rds_tool::{Cuts, Input, Job, Settings, ToolError};
 use std::alloc::{AllocError, Global};
-use std::process::Abort;
 use std::sync::Wait;
 use std::thread::Threads;
 
-/// A recording, and what a list of it writes, by whatever crew.
+/// A recording, and what a list and totals of it write, by whatever crew.
 #[derive(Clone, Copy)]
 pub struct Sample {
     /// The recording, in hexadecimal digits.
-    pub digits: &'static [u8],
+    pub digits: &'static str,
     /// Burst, reach and loss.
     pub rules: [u32; 3],
-    /// The rows of its items.
-    pub items: &'static [u8],
+    /// The rows of its list.
+    pub list: &'static str,
     /// The rows of its totals.
-    pub totals: &'static [u8],
+    pub totals: &'static str,
+}
+
+/// The sample of some digits by some rules: the rows of its items, and its totals from `valid` to `losses`.
+macro_rules! sample {
+    ($digits:expr, $rules:expr, $items:literal, $valid:literal $burst1:literal $burst2:literal $burst3:literal
+     $burst4:literal $burst5:literal $lost:literal $bits:literal $groups:literal $complete:literal $acquired:literal
+     $losses:literal) => {
+        sample!(@ $digits, $rules, $items, "valid" $valid, "burst1" $burst1, "burst2" $burst2, "burst3" $burst3,
+            "burst4" $burst4, "burst5" $burst5, "lost" $lost, "bits" $bits, "groups" $groups, "complete" $complete,
+            "acquired" $acquired, "losses" $losses)
+    };
+    (@ $digits:expr, $rules:expr, $items:literal, $($name:literal $count:literal),*) => {
+        Sample {
+            digits: $digits,
+            rules: $rules,
+            list: concat!($items $(, "total,", $name, ",", $count, ",-,-,-,-,-\n")*),
+            totals: concat!($("total,", $name, ",", $count, ",-,-,-,-,-\n"),*),
+        }
+    };
 }
 
 /// No bytes.
-pub const NOTHING: Sample = Sample {
-    digits: b"",
-    rules: [2, 3, 10],
-    items: b"",
-    totals: b"total,valid,0,-,-,-,-,-\ntotal,burst1,0,-,-,-,-,-\ntotal,burst2,0,-,-,-,-,-\ntotal,burst3,0,-,-,-,-,-\ntotal,burst4,0,-,-,-,-,-\ntotal,burst5,0,-,-,-,-,-\ntotal,lost,0,-,-,-,-,-\ntotal,bits,0,-,-,-,-,-\ntotal,groups,0,-,-,-,-,-\ntotal,complete,0,-,-,-,-,-\ntotal,acquired,0,-,-,-,-,-\ntotal,losses,0,-,-,-,-,-\n",
-};
+pub const NOTHING: Sample = sample!("", [2, 3, 10], "", 0 0 0 0 0 0 0 0 0 0 0 0);
+
+/// The digits of `TWO_GROUPS`.
+pub const TWO_GROUPS_DIGITS: &str = "00003f000019800005a00001b4 00003f000019800005a00001b4";
 
 /// The group of four zero words, twice: 208 bits.
-pub const TWO_GROUPS: Sample = Sample {
-    digits: b"00003f000019800005a00001b4 00003f000019800005a00001b4",
-    rules: [2, 3, 10],
-    items: b"acquired,51,2,-,-,-,-,-\ngroup,26,0,A,none,B:0000,C:0000,D:0000\ngroup,104,0,A,A:0000,B:0000,C:0000,D:0000\n",
-    totals: b"total,valid,7,-,-,-,-,-\ntotal,burst1,0,-,-,-,-,-\ntotal,burst2,0,-,-,-,-,-\ntotal,burst3,0,-,-,-,-,-\ntotal,burst4,0,-,-,-,-,-\ntotal,burst5,0,-,-,-,-,-\ntotal,lost,0,-,-,-,-,-\ntotal,bits,0,-,-,-,-,-\ntotal,groups,2,-,-,-,-,-\ntotal,complete,1,-,-,-,-,-\ntotal,acquired,1,-,-,-,-,-\ntotal,losses,0,-,-,-,-,-\n",
-};
+pub const TWO_GROUPS: Sample = sample!(
+    TWO_GROUPS_DIGITS,
+    [2, 3, 10],
+    "acquired,51,2,-,-,-,-,-\n\
+     group,26,0,A,none,B:0000,C:0000,D:0000\n\
+     group,104,0,A,A:0000,B:0000,C:0000,D:0000\n",
+    7 0 0 0 0 0 0 0 2 1 1 0
+);
 
-/// The group of four zero words, eight times: 832 bits.
-pub const EIGHT_GROUPS: Sample = Sample {
-    digits: b"00003f000019800005a00001b4 00003f000019800005a00001b4 00003f000019800005a00001b4 00003f000019800005a00001b4 00003f000019800005a00001b4 00003f000019800005a00001b4 00003f000019800005a00001b4 00003f000019800005a00001b4",
-    rules: [2, 3, 10],
-    items: b"acquired,51,2,-,-,-,-,-\ngroup,26,0,A,none,B:0000,C:0000,D:0000\ngroup,104,0,A,A:0000,B:0000,C:0000,D:0000\ngroup,208,0,A,A:0000,B:0000,C:0000,D:0000\ngroup,312,0,A,A:0000,B:0000,C:0000,D:0000\ngroup,416,0,A,A:0000,B:0000,C:0000,D:0000\ngroup,520,0,A,A:0000,B:0000,C:0000,D:0000\ngroup,624,0,A,A:0000,B:0000,C:0000,D:0000\ngroup,728,0,A,A:0000,B:0000,C:0000,D:0000\n",
-    totals: b"total,valid,31,-,-,-,-,-\ntotal,burst1,0,-,-,-,-,-\ntotal,burst2,0,-,-,-,-,-\ntotal,burst3,0,-,-,-,-,-\ntotal,burst4,0,-,-,-,-,-\ntotal,burst5,0,-,-,-,-,-\ntotal,lost,0,-,-,-,-,-\ntotal,bits,0,-,-,-,-,-\ntotal,groups,8,-,-,-,-,-\ntotal,complete,7,-,-,-,-,-\ntotal,acquired,1,-,-,-,-,-\ntotal,losses,0,-,-,-,-,-\n",
-};
+/// The group of four zero words, eight times, by some rules: 832 bits.
+macro_rules! eight_groups {
+    ($rules:expr) => {
+        sample!(
+            "00003f000019800005a00001b4 00003f000019800005a00001b4 00003f000019800005a00001b4 \
+             00003f000019800005a00001b4 00003f000019800005a00001b4 00003f000019800005a00001b4 \
+             00003f000019800005a00001b4 00003f000019800005a00001b4",
+            $rules,
+            "acquired,51,2,-,-,-,-,-\n\
+             group,26,0,A,none,B:0000,C:0000,D:0000\n\
+             group,104,0,A,A:0000,B:0000,C:0000,D:0000\n\
+             group,208,0,A,A:0000,B:0000,C:0000,D:0000\n\
+             group,312,0,A,A:0000,B:0000,C:0000,D:0000\n\
+             group,416,0,A,A:0000,B:0000,C:0000,D:0000\n\
+             group,520,0,A,A:0000,B:0000,C:0000,D:0000\n\
+             group,624,0,A,A:0000,B:0000,C:0000,D:0000\n\
+             group,728,0,A,A:0000,B:0000,C:0000,D:0000\n",
+            31 0 0 0 0 0 0 0 8 7 1 0
+        )
+    };
+}
+
+/// Eight groups: a guess from bit 190 on meets the run from the first bit at 208.
+pub const EIGHT_GROUPS: Sample = eight_groups!([2, 3, 10]);
+
+/// Eight groups by reach 4: a guess from bit 190 on locks on a wrong phase, and never meets the run from the first bit.
+pub const EIGHT_GROUPS_FAR: Sample = eight_groups!([2, 4, 10]);
 
 /// Two groups, block 1 of the second damaged: by a loss of 1 the lock is lost there, and acquired again.
-pub const A_LOSS: Sample = Sample {
-    digits: b"00003f000019800005a00001b4 000037400019800005a00001b4",
-    rules: [2, 3, 1],
-    items: b"acquired,51,2,-,-,-,-,-\ngroup,26,0,A,none,B:0000,C:0000,D:0000\ngroup,104,-,?,lost,none,none,none\nlost,129,-,-,-,-,-,-\nacquired,155,2,-,-,-,-,-\ngroup,130,0,A,none,B:0000,C:0000,D:0000\n",
-    totals: b"total,valid,6,-,-,-,-,-\ntotal,burst1,0,-,-,-,-,-\ntotal,burst2,0,-,-,-,-,-\ntotal,burst3,0,-,-,-,-,-\ntotal,burst4,0,-,-,-,-,-\ntotal,burst5,0,-,-,-,-,-\ntotal,lost,1,-,-,-,-,-\ntotal,bits,0,-,-,-,-,-\ntotal,groups,3,-,-,-,-,-\ntotal,complete,0,-,-,-,-,-\ntotal,acquired,2,-,-,-,-,-\ntotal,losses,1,-,-,-,-,-\n",
-};
+pub const A_LOSS: Sample = sample!(
+    "00003f000019800005a00001b4 000037400019800005a00001b4",
+    [2, 3, 1],
+    "acquired,51,2,-,-,-,-,-\n\
+     group,26,0,A,none,B:0000,C:0000,D:0000\n\
+     group,104,-,?,lost,none,none,none\n\
+     lost,129,-,-,-,-,-,-\n\
+     acquired,155,2,-,-,-,-,-\n\
+     group,130,0,A,none,B:0000,C:0000,D:0000\n",
+    6 0 0 0 0 0 1 0 3 0 2 1
+);
 
 /// One group, block 4 damaged by a burst of five bits.
-pub const A_BURST: Sample = Sample {
-    digits: b"00003f000019800005a00001a5",
-    rules: [5, 3, 10],
-    items: b"acquired,51,2,-,-,-,-,-\ngroup,26,0,A,none,B:0000,C:0000,D:0000~0000011\n",
-    totals: b"total,valid,2,-,-,-,-,-\ntotal,burst1,0,-,-,-,-,-\ntotal,burst2,0,-,-,-,-,-\ntotal,burst3,0,-,-,-,-,-\ntotal,burst4,0,-,-,-,-,-\ntotal,burst5,1,-,-,-,-,-\ntotal,lost,0,-,-,-,-,-\ntotal,bits,2,-,-,-,-,-\ntotal,groups,1,-,-,-,-,-\ntotal,complete,0,-,-,-,-,-\ntotal,acquired,1,-,-,-,-,-\ntotal,losses,0,-,-,-,-,-\n",
-};
+pub const A_BURST: Sample = sample!(
+    "00003f000019800005a00001a5",
+    [5, 3, 10],
+    "acquired,51,2,-,-,-,-,-\n\
+     group,26,0,A,none,B:0000,C:0000,D:0000~0000011\n",
+    2 0 0 0 0 1 0 2 1 0 1 0
+);
 
 impl Sample {
-    /// The text that its list and its totals have to be.
-    pub fn texts(&self, alloc: Global) -> Result<Texts, AllocError> {
-        let mut list = self.items.to_vec(alloc)?;
-        list.extend_from_slice(self.totals)?;
-        Ok(Texts {
-            list,
-            totals: self.totals.to_vec(alloc)?,
-        })
-    }
-
-    /// The text that its list and its totals are, in such pieces and by so many workers.
-    pub fn written<R: Threads + Wait>(
+    /// Whether its list and its totals are its texts, in such pieces and by so many workers.
+    pub fn is_given<R: Threads + Wait>(
         &self,
         rt: &R,
         alloc: Global,
         workers: u32,
         pieces: Pieces<'_>,
-    ) -> Result<Texts, ToolError> {
+    ) -> bool {
         let crew = Crew {
+            bits: None,
             rules: self.rules,
             workers,
             pieces,
         };
-        Ok(Texts {
-            list: written(rt, alloc, &crew.list(alloc)?, self.digits)?,
-            totals: written(rt, alloc, &crew.totals(alloc)?, self.digits)?,
-        })
+        crew.gives(
+            rt,
+            alloc,
+            self.digits.as_bytes(),
+            Ok(self.list.as_bytes()),
+            Ok(self.totals.as_bytes()),
+        )
     }
-}
-
-/// What a list and what totals write.
-#[derive(Debug, PartialEq, Eq, Drop)]
-pub struct Texts {
-    pub list: Vec<u8>,
-    pub totals: Vec<u8>,
 }
 
 /// Where a recording is cut: `Cuts` that can be copied.
@@ -104,45 +135,49 @@ pub enum Pieces<'a> {
     At(&'a [u64]),
 }
 
-/// By which rules, by how many workers and in which pieces hexadecimal input is decoded.
-#[derive(Clone, Copy, Debug)]
+/// How hexadecimal input is decoded.
+#[derive(Clone, Copy)]
 pub struct Crew<'a> {
+    /// The bits of the recording, if that isn't all.
+    pub bits: Option<u64>,
     /// Burst, reach and loss.
     pub rules: [u32; 3],
     pub workers: u32,
     pub pieces: Pieces<'a>,
 }
 
-const HEX: Input = Input {
-    hex: true,
-    bits: None,
-};
-
 impl Crew<'_> {
+    /// The job to list.
     pub fn list(&self, alloc: Global) -> Result<Job, AllocError> {
-        Ok(Job::List(HEX, self.settings(alloc)?))
+        Ok(Job::List(self.input(), self.settings(alloc)?))
     }
 
+    /// The job to write the totals.
     pub fn totals(&self, alloc: Global) -> Result<Job, AllocError> {
-        Ok(Job::Totals(HEX, self.settings(alloc)?))
+        Ok(Job::Totals(self.input(), self.settings(alloc)?))
     }
 
-    /// Asserts that a list and totals of the input are refused so.
-    pub fn assert_refused<R: Abort + Threads + Wait>(
+    /// Whether a list of these digits gives the one, and their totals the other.
+    pub fn gives<R: Threads + Wait>(
         &self,
         rt: &R,
         alloc: Global,
-        input: &[u8],
-        error: ToolError,
-    ) -> Result<(), AllocError> {
-        for job in [self.list(alloc)?, self.totals(alloc)?] {
-            let answer = written(rt, alloc, &job, input);
-            assert!(rt; matches!(&answer, Err(e) if *e == error), "{job:?}");
-        }
-        Ok(())
+        digits: &[u8],
+        list: Result<&[u8], ToolError>,
+        totals: Result<&[u8], ToolError>,
+    ) -> bool {
+        job_gives(rt, alloc, self.list(alloc), digits, list)
+            && job_gives(rt, alloc, self.totals(alloc), digits, totals)
     }
 
-    pub fn settings(&self, alloc: Global) -> Result<Settings, AllocError> {
+    fn input(&self) -> Input {
+        Input {
+            hex: true,
+            bits: self.bits,
+        }
+    }
+
+    fn settings(&self, alloc: Global) -> Result<Settings, AllocError> {
         let [burst, reach, loss] = self.rules;
         let cuts = match self.pieces {
             Pieces::Even(pieces) => Cuts::Even(pieces),
@@ -155,5 +190,19 @@ impl Crew<'_> {
             workers: self.workers,
             cuts,
         })
+    }
+}
+
+/// Whether there was memory for the job, and the digits give this.
+fn job_gives<R: Threads + Wait>(
+    rt: &R,
+    alloc: Global,
+    job: Result<Job, AllocError>,
+    digits: &[u8],
+    wanted: Result<&[u8], ToolError>,
+) -> bool {
+    match job {
+        Ok(job) => gives_for(rt, alloc, &job, digits, wanted),
+        Err(AllocError) => false,
     }
 }
