@@ -1,4 +1,6 @@
 //! Bursts, by their remainders.
+ghost use Rattle.std.specs.Prelude.{◌<◌, ◌≤◌};
+
 use rds_code::BurstTable;
 use std::test::Fail;
 
@@ -15,18 +17,28 @@ fn bursts_of_span(table: &BurstTable, span: u8) -> u32 {
     count
 }
 
+/// The pattern, the span and the ones of the burst that the remainder tells, of at most so many bits.
+fn found(table: &BurstTable, remainder: u16, limit: u8) -> Option<(u32, u8, u8)>
+    requires remainder { remainder < 1024 }
+    requires limit { limit ≤ 5 }
+{
+    let burst = table.find(remainder, limit)?;
+    Some((burst.pattern(), burst.span(), burst.ones()))
+}
+
+/// Whether the power x^10 is a burst of one bit, and what is no burst of few enough bits is none.
+fn tells_bursts(table: &BurstTable) -> bool {
+    found(table, 0x1B9, 1) == Some((0x0000400, 1, 1))
+        && found(table, 0x1B9, 0).is_none()
+        && found(table, 0x021, 5).is_none()
+}
+
 #[test]
 fn bursts_are_found_by_their_remainders(rt: HostRuntime) -> Result<(), Fail> {
     let table = BurstTable::new(rt.alloc())?;
     for (span, count) in [(1, 26), (2, 25), (3, 48), (4, 92), (5, 176)] {
-        assert_eq!(rt; bursts_of_span(&table, span), count, "of span {span}");
+        assert!(rt; bursts_of_span(&table, span) == count, "of span {span}");
     }
-    let burst = table.find(0x1B9, 1).ok_or("x^10 is a burst")?;
-    assert_eq!(rt;
-        (burst.pattern(), burst.span(), burst.ones()),
-        (0x0000400, 1, 1)
-    );
-    assert_eq!(rt; table.find(0x1B9, 0), None);
-    assert_eq!(rt; table.find(0x021, 5), None);
+    assert!(rt; tells_bursts(&table));
     Ok(())
 }

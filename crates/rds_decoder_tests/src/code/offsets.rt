@@ -11,10 +11,9 @@ fn offsets_have_their_words_numbers_and_names(rt: HostRuntime) {
         (Offset::D, 0x1B4, 4, "D"),
     ];
     for (offset, word, number, name) in rows {
-        assert_eq!(rt; offset.word(), word);
-        assert_eq!(rt; offset.number(), number);
-        assert_eq!(rt; offset.name(), name);
-        assert_eq!(rt; offset_of(word), Some(offset));
+        assert!(rt; offset_of(word) == Some(offset), "{name}");
+        let said = (offset.word(), offset.number(), offset.name());
+        assert!(rt; said == (word, number, name), "{name}");
     }
-    assert_eq!(rt; offset_of(0x0FD), None);
+    assert!(rt; offset_of(0x0FD).is_none());
 }

@@ -3,6 +3,6 @@ use rds_code::CodeError;
 
 #[test]
 fn refusals_have_numbers_and_names(rt: HostRuntime) {
-    assert_eq!(rt; CodeError::OutOfMemory.number(), 8);
-    assert_eq!(rt; CodeError::OutOfMemory.name(), "OutOfMemory");
+    let refusal = CodeError::OutOfMemory;
+    assert!(rt; refusal.number() == 8 && refusal.name() == "OutOfMemory");
 }

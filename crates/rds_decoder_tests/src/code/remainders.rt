@@ -13,7 +13,7 @@ const POWERS: [u16; 16] = [
 #[test]
 fn powers_have_their_remainders(rt: HostRuntime) {
     for (t, &remainder) in POWERS.iter().enumerate() {
-        assert_eq!(rt; rem26(1 << (t + 10)), remainder, "of power {t} + 10");
+        assert!(rt; rem26(1 << (t + 10)) == remainder, "of power {t} + 10");
     }
 }
 
@@ -23,7 +23,6 @@ fn tables_and_long_division_give_one_remainder(rt: HostRuntime) {
     for place in 0..130u32 {
         let bit = ((ZERO_GROUP >> (103 - place % 104)) % 2) as u32;
         window = (window << 1 | bit) % (1 << 26);
-        assert!(&rt; is_block(window));
-        assert_eq!(rt; plain::rem26(window), rem26(window), "at {place}");
+        assert!(rt; is_block(window) && plain::rem26(window) == rem26(window), "at {place}");
     }
 }

@@ -1,26 +1,40 @@
 //! The remainders of 64 places at once.
+ghost use Rattle.std.specs.Prelude.{◌<◌, ◌≤◌};
+
 use crate::samples::zero_groups;
 use crate::stream::windows::REMAINDERS;
-use rds_stream::planes;
+use rds_stream::{FIRST_WINDOW, planes};
 use std::test::Fail;
+
+/// The number whose bits stand at place `k` of the planes.
+fn remainder_at(planes: &[u64; 10], k: u64) -> u16
+    requires { k < 64 }
+{
+    let mut remainder = 0;
+    for (r, plane) in planes.iter().enumerate() {
+        remainder |= ((plane >> k & 1) as u16) << r;
+    }
+    remainder
+}
+
+/// Whether the planes of the 64 places from `at` on hold their remainders.
+fn holds_remainders(planes: &[u64; 10], at: u64) -> bool
+    requires { 25 ≤ at }
+{
+    for k in 0..64u64 {
+        let wanted = REMAINDERS.get((at - FIRST_WINDOW + k) as usize).copied();
+        if Some(remainder_at(planes, k)) != wanted {
+            return false;
+        }
+    }
+    true
+}
 
 #[test]
 fn planes_hold_the_remainders_of_the_vectors(rt: HostRuntime) -> Result<(), Fail> {
     let twice = zero_groups(rt.alloc(), 208)?;
-    assert_eq!(rt; twice.len(), 208);
     for at in [25, 26, 31, 32, 66] {
-        let ten = planes(&twice, at);
-        for k in 0..64u64 {
-            let mut remainder = 0;
-            for r in 0..10usize {
-                remainder |= ((ten[r] >> k & 1) as u16) << r;
-            }
-            assert_eq!(rt;
-                remainder,
-                REMAINDERS[(at - 25 + k) as usize],
-                "at {at} + {k}"
-            );
-        }
+        assert!(rt; at + 64 <= twice.len() && holds_remainders(&planes(&twice, at), at), "at {at}");
     }
     Ok(())
 }

@@ -1,75 +1,72 @@
 //! All valid windows of a range.
 use crate::samples::{recording_of, zero_bytes, zero_groups};
-use rds_code::{Offset, offset_of, rem26};
+use rds_code::Offset;
+use rds_code::Offset::{A, B, C, D};
+use rds_code::{offset_of, rem26};
 use rds_stream::{Recording, StreamError, scan};
-use std::alloc::Global;
-use std::process::Abort;
+use std::alloc::{AllocError, Global};
 use std::test::Fail;
 
-/// The places of a recording's windows, one by one.
-fn valid_one_by_one(
-    rt: &impl Abort,
+/// A place and the offset of the window that ends there.
+type Window = (u64, Offset);
+
+/// The valid windows of two zero groups.
+const WINDOWS: [Window; 11] = [
+    (25, A),
+    (51, B),
+    (77, C),
+    (96, B),
+    (103, D),
+    (123, B),
+    (129, A),
+    (155, B),
+    (181, C),
+    (200, B),
+    (207, D),
+];
+
+/// Whether the scan of that range finds these windows.
+fn finds(
     alloc: Global,
     recording: &Recording,
     from: u64,
     to: u64,
-) -> Result<Vec<(u64, Offset)>, StreamError> {
-    let mut found = Vec::new(alloc);
-    for place in from.max(25)..to {
-        assert!(rt; place < recording.len());
-        if let Some(offset) = offset_of(rem26(recording.window(place))) {
-            found.push((place, offset))?;
-        }
+    windows: &[Window],
+) -> Result<bool, StreamError> {
+    if from > to || to > recording.len() {
+        return Ok(false);
     }
-    Ok(found)
+    let found = scan(alloc, recording, from, to)?;
+    Ok(found.as_slice() == windows)
 }
 
 #[test]
 fn a_scan_finds_the_valid_windows(rt: HostRuntime) -> Result<(), Fail> {
-    use Offset::{A, B, C, D};
     let twice = zero_groups(rt.alloc(), 208)?;
-    assert_eq!(rt; twice.len(), 208);
-    let all = [
-        (25, A),
-        (51, B),
-        (77, C),
-        (96, B),
-        (103, D),
-        (123, B),
-        (129, A),
-        (155, B),
-        (181, C),
-        (200, B),
-        (207, D),
+    let rows: [(u64, u64, &[Window]); 6] = [
+        (0, 208, &WINDOWS),
+        (0, 104, &[(25, A), (51, B), (77, C), (96, B), (103, D)]),
+        (96, 97, &[(96, B)]),
+        (0, 25, &[]),
+        (104, 104, &[]),
+        (207, 208, &[(207, D)]),
     ];
-    for (from, to, first, last) in [
-        (0, 208, 0, 11),
-        (0, 104, 0, 5),
-        (96, 97, 3, 4),
-        (0, 25, 0, 0),
-        (104, 104, 0, 0),
-        (207, 208, 10, 11),
-    ] {
-        let found = scan(rt.alloc(), &twice, from, to)?;
-        assert_eq!(rt; found.as_slice(), &all[first..last], "from {from} to {to}");
+    for (from, to, windows) in rows {
+        assert!(rt; finds(rt.alloc(), &twice, from, to, windows)?, "from {from} to {to}");
     }
     Ok(())
 }
 
-/// The group five times: two words of 64 places lie in a group's length, so words begin at many places of it.
-#[test]
-fn a_scan_goes_over_words_and_the_places_left(rt: HostRuntime) -> Result<(), Fail> {
-    use Offset::{A, B, C, D};
-    let five = zero_groups(rt.alloc(), 520)?;
-    assert_eq!(rt; five.len(), 520);
-    let mut wanted = Vec::new(rt.alloc());
+/// The valid windows of five zero groups.
+fn windows_of_five(alloc: Global) -> Result<Vec<Window>, AllocError> {
+    let mut windows = Vec::new(alloc);
     for group in 0..5u64 {
         let start = 104 * group;
         // Between groups a window ends inside a block and is valid too.
         if group > 0 {
-            wanted.push((start + 19, B))?;
+            windows.push((start + 19, B))?;
         }
-        wanted.extend_from_slice(&[
+        windows.extend_from_slice(&[
             (start + 25, A),
             (start + 51, B),
             (start + 77, C),
@@ -77,11 +74,22 @@ fn a_scan_goes_over_words_and_the_places_left(rt: HostRuntime) -> Result<(), Fai
             (start + 103, D),
         ])?;
     }
-    let found = scan(rt.alloc(), &five, 0, 520)?;
-    assert_eq!(rt; found.len(), 29);
-    assert_eq!(rt; found, wanted);
-    let one = scan(rt.alloc(), &five, 129, 130)?;
-    assert_eq!(rt; one.as_slice(), [(129, A)].as_slice());
+    Ok(windows)
+}
+
+/// Whether all windows of five zero groups are found, and that of the second group's first block alone.
+fn finds_in_five(alloc: Global, five: &Recording) -> Result<bool, StreamError> {
+    let windows = windows_of_five(alloc)?;
+    Ok(windows.len() == 29
+        && finds(alloc, five, 0, 520, &windows)?
+        && finds(alloc, five, 129, 130, &[(129, A)])?)
+}
+
+/// The group five times: two words of 64 places lie in a group's length, so words begin at many places of it.
+#[test]
+fn a_scan_goes_over_words_and_the_places_left(rt: HostRuntime) -> Result<(), Fail> {
+    let five = zero_groups(rt.alloc(), 520)?;
+    assert!(rt; finds_in_five(rt.alloc(), &five)?);
     Ok(())
 }
 
@@ -96,30 +104,54 @@ fn with_inverted(alloc: Global, bits: u64, inverted: &[usize]) -> Result<Recordi
     recording_of(bytes, bits)
 }
 
+/// The valid windows of a range, place by place.
+fn valid_one_by_one(
+    alloc: Global,
+    recording: &Recording,
+    from: u64,
+    to: u64,
+) -> Result<Vec<Window>, AllocError> {
+    let mut found = Vec::new(alloc);
+    for place in from.max(25)..to.min(recording.len()) {
+        if let Some(offset) = offset_of(rem26(recording.window(place))) {
+            found.push((place, offset))?;
+        }
+    }
+    Ok(found)
+}
+
+/// Whether the scan of that range finds what its places have.
+fn finds_its_places(
+    alloc: Global,
+    recording: &Recording,
+    from: u64,
+    to: u64,
+) -> Result<bool, StreamError> {
+    let windows = valid_one_by_one(alloc, recording, from, to)?;
+    finds(alloc, recording, from, to, &windows)
+}
+
 #[test]
 fn a_scan_of_any_range_is_that_of_its_places(rt: HostRuntime) -> Result<(), Fail> {
     let damaged = with_inverted(rt.alloc(), 300, &[30, 62, 124, 129, 200])?;
-    assert_eq!(rt; damaged.len(), 300);
     for from in 0..301 {
         for to in from..301 {
-            let found = scan(rt.alloc(), &damaged, from, to)?;
-            let wanted = valid_one_by_one(&rt, rt.alloc(), &damaged, from, to)?;
-            assert_eq!(rt; found, wanted, "from {from} to {to}");
+            assert!(rt; finds_its_places(rt.alloc(), &damaged, from, to)?, "from {from} to {to}");
         }
     }
     Ok(())
 }
 
+/// How many valid windows the first so many bits of zero groups have.
+fn count_windows(alloc: Global, bits: u64) -> Result<usize, StreamError> {
+    let short = zero_groups(alloc, bits)?;
+    Ok(scan(alloc, &short, 0, short.len())?.len())
+}
+
 #[test]
 fn short_recordings_have_few_windows(rt: HostRuntime) -> Result<(), Fail> {
     for (bits, windows) in [(0, 0), (1, 0), (25, 0), (26, 1), (27, 1), (51, 1), (52, 2)] {
-        let short = zero_groups(rt.alloc(), bits)?;
-        assert_eq!(rt; short.len(), bits);
-        assert_eq!(rt;
-            scan(rt.alloc(), &short, 0, bits)?.len(),
-            windows,
-            "of {bits} bits"
-        );
+        assert!(rt; count_windows(rt.alloc(), bits)? == windows, "of {bits} bits");
     }
     Ok(())
 }

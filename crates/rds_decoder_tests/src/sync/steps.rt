@@ -1,58 +1,89 @@
 //! Steps over a tape.
 use crate::samples::{default_rules, locked, zero_groups};
 use crate::sync::items::group_text;
-use rds_stream::{Counted, Tape};
-use rds_sync::{State, advance, finish, run};
+use crate::sync::runs::whole_run;
+use rds_stream::{Counted, Recording, Tape};
+use rds_sync::{Item, Rules, State, Step, SyncError, advance, finish};
+use std::alloc::{AllocError, Global};
 use std::test::Fail;
+
+/// The step from there, if there is one.
+fn step_from(tape: &mut Counted<'_>, rules: &Rules, state: State, place: u64) -> Option<Step> {
+    if place < tape.len() && tape.reads() < 1 << 62 && state.is_lawful(rules, place) {
+        let to = tape.len();
+        return Some(advance(tape, rules, state, place, to));
+    }
+    None
+}
+
+fn push_found(items: &mut Vec<Item>, found: [Option<Item>; 2]) -> Result<(), AllocError> {
+    for item in found.into_iter().flatten() {
+        items.push(item)?;
+    }
+    Ok(())
+}
+
+/// The state and the place after as many steps as there are, and what they found.
+fn by_steps(
+    alloc: Global,
+    rec: &Recording,
+    rules: &Rules,
+) -> Result<(State, u64, Vec<Item>), AllocError> {
+    let mut tape = Counted::new(rec);
+    let mut items = Vec::new(alloc);
+    let (mut state, mut place) = (State::Searching, 0);
+    for _ in 0..rec.len() {
+        if let Some(step) = step_from(&mut tape, rules, state, place) {
+            push_found(&mut items, step.items)?;
+            (state, place) = (step.state, step.place);
+        }
+    }
+    Ok((state, place, items))
+}
+
+/// Whether the steps over a recording end and find as the run over it.
+fn are_the_run(alloc: Global, rec: &Recording, rules: &Rules) -> Result<bool, SyncError> {
+    let (end, whole) = whole_run(alloc, rec, rules)?;
+    let (state, place, items) = by_steps(alloc, rec, rules)?;
+    Ok(state == end && place == rec.len() && items.as_slice() == whole.as_slice())
+}
 
 #[test]
 fn steps_over_a_tape_are_the_run(rt: HostRuntime) -> Result<(), Fail> {
-    let alloc = rt.alloc();
-    let rec = zero_groups(alloc, 208)?;
-    assert_eq!(rt; rec.len(), 208);
-    let rules = default_rules(alloc)?;
-    let (end, whole) = run(alloc, &rec, &rules, State::Searching, 0, 208)?;
-    let mut tape = Counted::new(&rec);
-    let mut items = Vec::new(alloc);
-    let mut state = State::Searching;
-    let mut place = 0;
-    for _ in 0..208 {
-        if place < 208 {
-            assert!(rt; tape.reads() < 1 << 62 && tape.len() == 208);
-            assert!(rt; state.is_lawful(&rules, place));
-            let step = advance(&mut tape, &rules, state, place, 208);
-            for item in step.items.into_iter().flatten() {
-                items.push(item)?;
-            }
-            state = step.state;
-            place = step.place;
-        }
-    }
-    assert_eq!(rt; (state, place), (end, 208));
-    assert_eq!(rt; items.as_slice(), whole.as_slice());
+    let rec = zero_groups(rt.alloc(), 208)?;
+    let rules = default_rules(rt.alloc())?;
+    assert!(rt; are_the_run(rt.alloc(), &rec, &rules)?);
     Ok(())
+}
+
+/// Whether the end of the recording closes this group, or none where the text is empty.
+fn closes(
+    alloc: Global,
+    rec: &Recording,
+    rules: &Rules,
+    state: State,
+    found: &str,
+) -> Result<bool, AllocError> {
+    if !state.is_lawful(rules, rec.len()) {
+        return Ok(false);
+    }
+    match finish(&mut Counted::new(rec), rules, state) {
+        Some(group) => Ok(group_text(alloc, &group)?.as_str() == found),
+        None => Ok(found.is_empty()),
+    }
 }
 
 #[test]
 fn the_end_closes_a_group_in_progress(rt: HostRuntime) -> Result<(), Fail> {
-    let alloc = rt.alloc();
-    let rec = zero_groups(alloc, 78)?;
-    assert_eq!(rt; rec.len(), 78);
-    let rules = default_rules(alloc)?;
-    let mut tape = Counted::new(&rec);
+    let rec = zero_groups(rt.alloc(), 78)?;
+    let rules = default_rules(rt.alloc())?;
     for (state, found) in [
         (State::Searching, ""),
         (locked(103, 1, 0, 1), ""),
         (locked(79, 4, 9, 2), "group 2 - ? none lost lost none"),
         (locked(103, 4, 0, 2), "group 26 0 A none B:0000 C:0000 none"),
     ] {
-        assert!(rt; tape.reads() < 1 << 62 && tape.len() == 78);
-        assert!(rt; state.is_lawful(&rules, 78));
-        let text = match finish(&mut tape, &rules, state) {
-            Some(group) => group_text(alloc, &group)?,
-            None => String::new(alloc),
-        };
-        assert_eq!(rt; text.as_str(), found);
+        assert!(rt; closes(rt.alloc(), &rec, &rules, state, found)?, "{found}");
     }
     Ok(())
 }
