@@ -71,13 +71,18 @@ pub fn default_rules(alloc: Global) -> Result<Rules, SyncError> {
     Rules::new(alloc, 2, 3, 10)
 }
 
-/// A lock with these numbers.
-pub fn locked(due: u64, number: u8, bad: u8, first: u8) -> State {
-    State::Locked {
-        due,
-        number,
-        bad,
-        first,
+/// A state by its numbers: those of a lock (`due`, `number`, `bad` and `first`), or none while searching.
+pub type StateNumbers = Option<(u64, u8, u8, u8)>;
+
+pub fn state_of(numbers: StateNumbers) -> State {
+    match numbers {
+        None => State::Searching,
+        Some((due, number, bad, first)) => State::Locked {
+            due,
+            number,
+            bad,
+            first,
+        },
     }
 }
 
@@ -92,33 +97,28 @@ pub struct Sample {
 impl Sample {
     /// So many zero groups, one after the other.
     pub fn zero_groups(alloc: Global, groups: u8, reach: u32) -> Result<Sample, Fail> {
+        let groups = u64::from(groups);
+        let recording = zero_groups(alloc, 104 * groups)?;
+        let rules = Rules::new(alloc, 2, reach, 10)?;
+        let items = items_of_zero_groups(alloc, groups)?;
         Ok(Sample {
-            recording: zero_groups(alloc, 104 * u64::from(groups))?,
-            rules: Rules::new(alloc, 2, reach, 10)?,
+            recording,
+            rules,
             report: Report {
-                items: items_of_zero_groups(alloc, u64::from(groups))?,
-                totals: totals_of_zero_groups(u64::from(groups)),
+                items,
+                totals: totals_of_zero_groups(groups),
             },
         })
     }
 
-    /// No bits.
-    pub fn nothing(alloc: Global) -> Result<Sample, Fail> {
+    /// So many zero bytes, in which there is no block.
+    pub fn silence(alloc: Global, bytes: u8) -> Result<Sample, Fail> {
+        let zeros = vec![in alloc; 0u8; usize::from(bytes)]?;
+        let recording = recording_of(zeros, 8 * u64::from(bytes))?;
+        let rules = default_rules(alloc)?;
         Ok(Sample {
-            recording: recording_of(Vec::new(alloc), 0)?,
-            rules: Rules::new(alloc, 2, 3, 10)?,
-            report: Report {
-                items: Vec::new(alloc),
-                totals: NOTHING,
-            },
-        })
-    }
-
-    /// A hundred zero bytes, in which there is no block.
-    pub fn silence(alloc: Global) -> Result<Sample, Fail> {
-        Ok(Sample {
-            recording: recording_of(vec![in alloc; 0u8; 100]?, 800)?,
-            rules: Rules::new(alloc, 2, 3, 10)?,
+            recording,
+            rules,
             report: Report {
                 items: Vec::new(alloc),
                 totals: NOTHING,

@@ -5,21 +5,23 @@ use rds_code::{
 use std::mem::size_of;
 use std::test::Fail;
 
+/// Information words, and the blocks that they are sent as.
+const GROUPS: [([u16; 4], [u32; 4]); 3] = [
+    ([0, 0, 0, 0], [0x00000FC, 0x0000198, 0x0000168, 0x00001B4]),
+    (
+        [0, 0x0800, 0, 0],
+        [0x00000FC, 0x02002C1, 0x0000350, 0x00001B4],
+    ),
+    (
+        [0x1234, 0x2540, 0x5244, 0x5320],
+        [0x048D06A, 0x09501AC, 0x1491256, 0x14C83FB],
+    ),
+];
+
 #[test]
 fn groups_are_encoded(rt: HostRuntime) {
-    let rows = [
-        ([0, 0, 0, 0], [0x00000FC, 0x0000198, 0x0000168, 0x00001B4]),
-        (
-            [0, 0x0800, 0, 0],
-            [0x00000FC, 0x02002C1, 0x0000350, 0x00001B4],
-        ),
-        (
-            [0x1234, 0x2540, 0x5244, 0x5320],
-            [0x048D06A, 0x09501AC, 0x1491256, 0x14C83FB],
-        ),
-    ];
-    for (words, blocks) in rows {
-        assert!(rt; encode_group(words) == blocks, "{words:?}");
+    for (words, blocks) in &GROUPS {
+        assert!(rt; encode_group(*words) == *blocks, "{words:?}");
     }
     assert!(rt; encode_block(0x5320, Offset::D) == 0x14C83FB);
 }
@@ -83,8 +85,8 @@ fn is_read_so(table: &BurstTable, row: &Row) -> bool {
 #[test]
 fn damaged_blocks_are_read(rt: HostRuntime) -> Result<(), Fail> {
     let table = BurstTable::new(rt.alloc())?;
-    for (at, row) in ROWS.iter().enumerate() {
-        assert!(rt; is_read_so(&table, row), "row {at}");
+    for row in &ROWS {
+        assert!(rt; is_read_so(&table, row), "{row:?}");
     }
     Ok(())
 }

@@ -36,7 +36,7 @@ fn tells_bursts(table: &BurstTable) -> bool {
 #[test]
 fn bursts_are_found_by_their_remainders(rt: HostRuntime) -> Result<(), Fail> {
     let table = BurstTable::new(rt.alloc())?;
-    for (span, count) in [(1, 26), (2, 25), (3, 48), (4, 92), (5, 176)] {
+    for &(span, count) in &[(1, 26), (2, 25), (3, 48), (4, 92), (5, 176)] {
         assert!(rt; bursts_of_span(&table, span) == count, "of span {span}");
     }
     assert!(rt; tells_bursts(&table));

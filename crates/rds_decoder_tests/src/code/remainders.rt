@@ -23,6 +23,9 @@ fn tables_and_long_division_give_one_remainder(rt: HostRuntime) {
     for place in 0..130u32 {
         let bit = ((ZERO_GROUP >> (103 - place % 104)) % 2) as u32;
         window = (window << 1 | bit) % (1 << 26);
-        assert!(rt; is_block(window) && plain::rem26(window) == rem26(window), "at {place}");
+        assert!(rt;
+            is_block(window) && plain::rem26(window) == rem26(window),
+            "at {place}"
+        );
     }
 }

@@ -58,33 +58,41 @@ impl<R: Wait> Gate for Watch<'_, R> {
     }
 }
 
+/// What one worker does with two pieces, in order.
+const EVENTS: [Event; 7] = [
+    Event::Begun(0),
+    Event::Guessed(0),
+    Event::Done(0),
+    Event::Begun(1),
+    Event::Guessed(1),
+    Event::Done(1),
+    Event::Reported,
+];
+
 /// Asserts that each piece was begun, guessed and done once, and the report made once.
 fn assert_each_once<R: Abort + Wait>(rt: &R, journal: &Journal<'_, R>) {
-    for event in [
-        Event::Begun(0),
-        Event::Begun(1),
-        Event::Guessed(0),
-        Event::Guessed(1),
-        Event::Done(0),
-        Event::Done(1),
-        Event::Reported,
-    ] {
-        assert!(rt; journal.count(event) == 1, "{event:?}");
+    for event in &EVENTS {
+        assert!(rt; journal.count(*event) == 1, "{event:?}");
     }
-    assert!(rt; journal.events.lock(rt).len() == 7);
+    assert!(rt; journal.len() == EVENTS.len());
 }
 
-/// Asserts that the report was made of the runs that the gate was shown: of the first half and the second.
-fn assert_shown_is_reported<R: Abort + Wait>(rt: &R, journal: &Journal<'_, R>) {
-    let reported = journal.reported.lock(rt);
-    assert!(rt; reported.len() == 2);
-    for (j, run) in reported.iter().enumerate() {
-        assert!(rt; journal.was_shown(j, run), "piece {j}");
-        assert!(rt;
-            run.from == 104 * j as u64 && run.to == run.from + 104,
-            "piece {j}"
-        );
-    }
+/// Decodes the sample, cut so, and asserts that the report is its own.
+fn decode_noted<R: Abort + Sync + Threads + Wait, G: Gate + Sync>(
+    rt: &R,
+    alloc: Global,
+    sample: &Sample,
+    cuts: Cuts<'_>,
+    workers: u32,
+    journal: &Journal<'_, R>,
+    gate: &G,
+) -> Result<(), Fail> {
+    let cutting = sample.cut(alloc, cuts)?;
+    let work = Noted {
+        journal,
+        inner: RecordingWork::new(&sample.recording, &sample.rules, &cutting),
+    };
+    Ok(assert_decoded(rt, alloc, sample, &work, workers, gate)?)
 }
 
 /// Decodes two zero groups in two pieces, and asserts that the report is theirs.
@@ -96,12 +104,7 @@ fn decode_two<R: Abort + Sync + Threads + Wait, G: Gate + Sync>(
     gate: &G,
 ) -> Result<(), Fail> {
     let sample = Sample::zero_groups(alloc, 2, 3)?;
-    let cutting = sample.cut(alloc, Cuts::At(&[104]))?;
-    let work = Noted {
-        journal,
-        inner: RecordingWork::new(&sample.recording, &sample.rules, &cutting),
-    };
-    Ok(assert_decoded(rt, alloc, &sample, &work, workers, gate)?)
+    decode_noted(rt, alloc, &sample, Cuts::At(&[104]), workers, journal, gate)
 }
 
 // One thread that makes both pieces in turn would miss, since piece 0 waits for piece 1. A crew that
@@ -115,7 +118,7 @@ fn two_workers_run_at_the_same_time_and_their_runs_make_the_report(
     decode_two(&rt, rt.alloc(), 2, &journal, &watch)?;
     assert!(rt; watch.misses.load(Ordering::SeqCst) == 0);
     assert_each_once(&rt, &journal);
-    assert_shown_is_reported(&rt, &journal);
+    assert!(rt; journal.reported_is_shown([(0, 104), (104, 208)]));
     Ok(())
 }
 
@@ -123,27 +126,23 @@ fn two_workers_run_at_the_same_time_and_their_runs_make_the_report(
 fn the_gate_is_called_before_and_after_each_piece(rt: HostRuntime) -> Result<(), Fail> {
     let journal = Journal::new(&rt, rt.alloc());
     decode_two(&rt, rt.alloc(), 1, &journal, &journal)?;
-    let wanted = [
-        Event::Begun(0),
-        Event::Guessed(0),
-        Event::Done(0),
-        Event::Begun(1),
-        Event::Guessed(1),
-        Event::Done(1),
-        Event::Reported,
-    ];
-    assert!(rt; journal.events.lock(&rt).as_slice() == wanted.as_slice());
+    assert!(rt; journal.has(&EVENTS));
     Ok(())
 }
 
 #[test]
 fn no_bits_have_no_pieces_and_an_empty_report(rt: HostRuntime) -> Result<(), Fail> {
-    let sample = Sample::nothing(rt.alloc())?;
-    let cutting = sample.cut(rt.alloc(), Cuts::Even(16))?;
-    assert!(rt; cutting.pieces() == 0);
-    let work = RecordingWork::new(&sample.recording, &sample.rules, &cutting);
+    let sample = Sample::silence(rt.alloc(), 0)?;
     let journal = Journal::new(&rt, rt.alloc());
-    assert_decoded(&rt, rt.alloc(), &sample, &work, 4, &journal)?;
-    assert!(rt; journal.events.lock(&rt).is_empty());
+    decode_noted(
+        &rt,
+        rt.alloc(),
+        &sample,
+        Cuts::Even(16),
+        4,
+        &journal,
+        &journal,
+    )?;
+    assert!(rt; journal.has(&[Event::Reported]));
     Ok(())
 }

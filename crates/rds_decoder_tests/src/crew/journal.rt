@@ -18,11 +18,11 @@ pub enum Event {
 
 /// What a run shows of itself.
 #[derive(Debug, PartialEq, Eq, Drop)]
-pub struct Shown {
-    pub from: u64,
-    pub to: u64,
-    pub items: Vec<Item>,
-    pub marks: Vec<Mark>,
+struct Shown {
+    from: u64,
+    to: u64,
+    items: Vec<Item>,
+    marks: Vec<Mark>,
 }
 
 impl Shown {
@@ -42,8 +42,8 @@ impl Shown {
 pub struct Journal<'a, R> {
     rt: &'a R,
     alloc: Global,
-    pub events: Mutex<Vec<Event>>,
-    pub reported: Mutex<Vec<Shown>>,
+    events: Mutex<Vec<Event>>,
+    reported: Mutex<Vec<Shown>>,
     shown: [Mutex<Option<Shown>>; 2],
 }
 
@@ -63,6 +63,22 @@ impl<'a, R: Wait> Journal<'a, R> {
         let _kept = self.events.lock(self.rt).push(event);
     }
 
+    /// Keeps a run that a report is made of.
+    fn keep_reported(&self, run: &PieceRun) -> Result<(), PieceError> {
+        let shown = Shown::of(self.alloc, run)?;
+        Ok(self.reported.lock(self.rt).push(shown)?)
+    }
+
+    /// Whether that is what happened.
+    pub fn has(&self, events: &[Event]) -> bool {
+        self.events.lock(self.rt).as_slice() == events
+    }
+
+    /// How much happened.
+    pub fn len(&self) -> usize {
+        self.events.lock(self.rt).len()
+    }
+
     /// How often that happened.
     pub fn count(&self, event: Event) -> usize {
         let mut count = 0usize;
@@ -75,11 +91,22 @@ impl<'a, R: Wait> Journal<'a, R> {
     }
 
     /// Whether that is the run that was done of piece `j`.
-    pub fn was_shown(&self, j: usize, run: &Shown) -> bool {
+    fn was_shown(&self, j: usize, run: &Shown) -> bool {
         match self.shown.get(j) {
             Some(shown) => shown.lock(self.rt).as_ref() == Some(run),
             None => false,
         }
+    }
+
+    /// Whether the report was made of two runs, over these ranges, and both are those that the gate was shown.
+    pub fn reported_is_shown(&self, ranges: [(u64, u64); 2]) -> bool {
+        let reported = self.reported.lock(self.rt);
+        for (j, run) in reported.iter().enumerate() {
+            if ranges.get(j).copied() != Some((run.from, run.to)) || !self.was_shown(j, run) {
+                return false;
+            }
+        }
+        reported.len() == 2
     }
 }
 
@@ -129,9 +156,8 @@ impl<'a, R: Wait, W: Work> Work for Noted<'a, R, W> {
 
     fn report(&self, alloc: Global, runs: &[PieceRun]) -> Result<Report, PieceError> {
         self.journal.keep(Event::Reported);
-        let mut reported = self.journal.reported.lock(self.journal.rt);
         for run in runs {
-            reported.push(Shown::of(alloc, run)?)?;
+            self.journal.keep_reported(run)?;
         }
         self.inner.report(alloc, runs)
     }

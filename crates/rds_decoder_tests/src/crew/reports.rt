@@ -4,7 +4,7 @@ ghost use Rattle.rds_pieces.specs.Cutting.{IsCutting};
 
 use crate::samples::{Cuts, Sample};
 use rds_crew::{CrewError, Gate, OpenGate, decode_crew};
-use rds_pieces::{RecordingWork, Work};
+use rds_pieces::{PieceError, RecordingWork, Work};
 use std::alloc::Global;
 use std::process::Abort;
 use std::sync::Wait;
@@ -36,7 +36,7 @@ fn assert_all_crews<R: Abort + Threads + Wait>(
 ) -> Result<(), Fail> {
     let cutting = sample.cut(alloc, cuts)?;
     let work = RecordingWork::new(&sample.recording, &sample.rules, &cutting);
-    for workers in [1, 2, 256] {
+    for &workers in &[1, 2, 256] {
         assert_decoded(rt, alloc, sample, &work, workers, &OpenGate)?;
     }
     Ok(())
@@ -45,7 +45,7 @@ fn assert_all_crews<R: Abort + Threads + Wait>(
 #[test]
 fn every_cutting_and_number_of_workers_gives_one_report(rt: HostRuntime) -> Result<(), Fail> {
     let sample = Sample::zero_groups(rt.alloc(), 2, 3)?;
-    for cut in [1, 25, 26, 51] {
+    for &cut in &[1, 25, 26, 51] {
         assert_all_crews(&rt, rt.alloc(), &sample, Cuts::At(&[cut]))?;
     }
     Ok(())
@@ -61,47 +61,47 @@ fn pieces_of_one_bit_give_the_report_too(rt: HostRuntime) -> Result<(), Fail> {
 // first bit; with reach 3 it meets it at 208.
 #[test]
 fn a_guess_that_never_meets_gives_the_same_report(rt: HostRuntime) -> Result<(), Fail> {
-    for reach in [3, 4] {
+    for &reach in &[3, 4] {
         let sample = Sample::zero_groups(rt.alloc(), 8, reach)?;
         assert_all_crews(&rt, rt.alloc(), &sample, Cuts::At(&[190]))?;
     }
     Ok(())
 }
 
-/// What a crew of so many workers answers for two zero groups in two pieces.
-fn answer_of<R: Threads + Wait>(
+/// How a crew of so many workers refuses a sample in two pieces, if it does.
+fn refusal_of<R: Threads + Wait>(
     rt: &R,
     alloc: Global,
+    sample: &Sample,
     workers: u32,
-) -> Result<Option<CrewError>, Fail> {
-    let sample = Sample::zero_groups(alloc, 2, 3)?;
+) -> Result<Option<CrewError>, PieceError> {
     let cutting = sample.cut(alloc, Cuts::Even(2))?;
     let work = RecordingWork::new(&sample.recording, &sample.rules, &cutting);
-    match decode_crew(rt, alloc, &work, workers, &OpenGate) {
-        Ok(_report) => Ok(None),
-        Err(error) => Ok(Some(error)),
-    }
+    Ok(decode_crew(rt, alloc, &work, workers, &OpenGate).err())
 }
 
 #[test]
 fn refuses_crews_of_no_workers_and_of_too_many(rt: HostRuntime) -> Result<(), Fail> {
-    for workers in [0, 257] {
-        let answer = answer_of(&rt, rt.alloc(), workers)?;
-        assert!(rt; answer == Some(CrewError::CrewRange), "{workers} workers");
+    let sample = Sample::zero_groups(rt.alloc(), 2, 3)?;
+    for &workers in &[0, 257] {
+        let refusal = refusal_of(&rt, rt.alloc(), &sample, workers)?;
+        assert!(rt; refusal == Some(CrewError::CrewRange), "{workers} workers");
     }
     Ok(())
 }
 
+const NAMES: [(CrewError, u8, &str); 3] = [
+    (CrewError::CrewRange, 7, "CrewRange"),
+    (CrewError::OutOfMemory, 8, "OutOfMemory"),
+    (CrewError::NoWorker, 14, "NoWorker"),
+];
+
 #[test]
 fn refusals_have_a_number_and_a_name(rt: HostRuntime) {
-    for (refusal, number, name) in [
-        (CrewError::CrewRange, 7, "CrewRange"),
-        (CrewError::OutOfMemory, 8, "OutOfMemory"),
-        (CrewError::NoWorker, 14, "NoWorker"),
-    ] {
+    for &(refusal, number, name) in &NAMES {
         assert!(rt;
             refusal.number() == number && refusal.name() == name,
-            "{refusal:?}"
+            "{name}"
         );
     }
 }

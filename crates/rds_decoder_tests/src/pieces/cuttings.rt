@@ -15,18 +15,23 @@ fn has_places(cutting: &Cutting, places: &[u64]) -> bool {
     places.len().checked_sub(1) == Some(cutting.pieces() as usize)
 }
 
+/// Lengths, how many even pieces they are cut into, and the places of these.
+const EVEN: [(u64, u64, &[u64]); 4] = [
+    (10, 4, &[0, 3, 6, 9, 10]),
+    (10, 6, &[0, 2, 4, 6, 8, 10]),
+    (10, 1, &[0, 10]),
+    (0, 16, &[0]),
+];
+
+fn is_even(alloc: Global, len: u64, pieces: u64, places: &[u64]) -> Result<bool, PieceError> {
+    let cutting = Cutting::even(alloc, len, pieces.max(1))?;
+    Ok(has_places(&cutting, places))
+}
+
 #[test]
 fn even_cuttings_have_pieces_of_one_length_but_the_last(rt: HostRuntime) -> Result<(), Fail> {
-    let rows: [(u64, u64, &[u64]); 4] = [
-        (10, 4, &[0, 3, 6, 9, 10]),
-        (10, 6, &[0, 2, 4, 6, 8, 10]),
-        (10, 1, &[0, 10]),
-        (0, 16, &[0]),
-    ];
-    for (len, pieces, places) in rows {
-        assert!(rt; pieces >= 1);
-        let cutting = Cutting::even(rt.alloc(), len, pieces)?;
-        assert!(rt; has_places(&cutting, places), "{places:?}");
+    for &(len, pieces, places) in &EVEN {
+        assert!(rt; is_even(rt.alloc(), len, pieces, places)?, "{places:?}");
     }
     Ok(())
 }
@@ -39,10 +44,12 @@ fn is_given_back(alloc: Global, places: &[u64]) -> Result<bool, AllocError> {
     }
 }
 
+/// What is no cutting of 10 bits.
+const NO_CUTTINGS: [&[u64]; 5] = [&[0, 5, 5, 10], &[5, 10], &[0, 5, 9], &[0, 5, 3, 10], &[]];
+
 #[test]
 fn what_is_no_cutting_is_given_back(rt: HostRuntime) -> Result<(), Fail> {
-    let rows: [&[u64]; 5] = [&[0, 5, 5, 10], &[5, 10], &[0, 5, 9], &[0, 5, 3, 10], &[]];
-    for places in rows {
+    for &places in &NO_CUTTINGS {
         assert!(rt; is_given_back(rt.alloc(), places)?, "{places:?}");
     }
     Ok(())

@@ -7,7 +7,6 @@ use crate::samples::{Cuts, Sample};
 use rds_pieces::{Mark, PieceError, PieceRun, RecordingWork, Work, laws};
 use rds_sync::{Item, State};
 use std::alloc::Global;
-use std::process::Abort;
 use std::test::Fail;
 
 /// The guesses of all pieces, in order.
@@ -88,30 +87,55 @@ const ACQUIRED: Item = Item::Acquired {
     number: 1,
 };
 
-/// The guess of the first or the second of them.
-fn guess_of<R: Abort>(rt: &R, alloc: Global, j: u64) -> Result<PieceRun, Fail> {
+/// The guesses of both.
+fn guesses_of_two(alloc: Global) -> Result<Vec<PieceRun>, Fail> {
     let sample = Sample::zero_groups(alloc, 2, 3)?;
+    Ok(guesses_between(alloc, &sample)?)
+}
+
+/// The guesses of a recording, cut behind its first group.
+fn guesses_between(alloc: Global, sample: &Sample) -> Result<Vec<PieceRun>, PieceError> {
     let cutting = sample.cut(alloc, Cuts::At(&[104]))?;
-    assert!(rt; j < cutting.pieces());
     let work = RecordingWork::new(&sample.recording, &sample.rules, &cutting);
-    Ok(work.guess(alloc, j)?)
+    guesses(alloc, &work)
+}
+
+/// Whether they have those marks, and two items each.
+fn have_marks(runs: &[PieceRun]) -> bool {
+    match runs {
+        [first, second] => {
+            first.marks() == MARKS[0].as_slice()
+                && second.marks() == MARKS[1].as_slice()
+                && first.items().len() == 2
+                && second.items().len() == 2
+        }
+        _ => false,
+    }
 }
 
 #[test]
 fn marks_stand_at_the_first_place_and_after_items(rt: HostRuntime) -> Result<(), Fail> {
-    for j in 0..2 {
-        let run = guess_of(&rt, rt.alloc(), j)?;
-        assert!(rt; run.marks() == MARKS[j as usize].as_slice(), "piece {j}");
-        assert!(rt; run.items().len() == 2, "piece {j}");
-    }
+    let runs = guesses_of_two(rt.alloc())?;
+    assert!(rt; have_marks(&runs));
     Ok(())
+}
+
+/// Whether the second has its range, its first item and its end.
+fn second_is_kept(runs: &[PieceRun]) -> bool {
+    match runs {
+        [_, run] => {
+            run.from() == 104
+                && run.to() == 208
+                && run.items().first() == Some(&ACQUIRED)
+                && run.end_state() == MARKS[1][2].state
+        }
+        _ => false,
+    }
 }
 
 #[test]
 fn a_guess_keeps_its_range_its_items_and_its_end(rt: HostRuntime) -> Result<(), Fail> {
-    let run = guess_of(&rt, rt.alloc(), 1)?;
-    assert!(rt; run.from() == 104 && run.to() == 208);
-    assert!(rt; run.items().first() == Some(&ACQUIRED));
-    assert!(rt; run.end_state() == MARKS[1][2].state);
+    let runs = guesses_of_two(rt.alloc())?;
+    assert!(rt; second_is_kept(&runs));
     Ok(())
 }

@@ -47,7 +47,7 @@ fn two_zero_groups_cut_at_every_place_give_one_report(rt: HostRuntime) -> Result
 #[test]
 fn pieces_of_one_bit_give_the_report_too(rt: HostRuntime) -> Result<(), Fail> {
     let sample = Sample::zero_groups(rt.alloc(), 2, 3)?;
-    for pieces in [1, 2, 3, 5, 16, 208] {
+    for &pieces in &[1, 2, 3, 5, 16, 208] {
         assert_stitched(&rt, rt.alloc(), &sample, Cuts::Even(pieces))?;
     }
     Ok(())
@@ -55,7 +55,7 @@ fn pieces_of_one_bit_give_the_report_too(rt: HostRuntime) -> Result<(), Fail> {
 
 #[test]
 fn silence_is_met_at_once_and_read_by_no_seam(rt: HostRuntime) -> Result<(), Fail> {
-    let sample = Sample::silence(rt.alloc())?;
+    let sample = Sample::silence(rt.alloc(), 100)?;
     let reads = assert_stitched(&rt, rt.alloc(), &sample, Cuts::Even(10))?;
     assert!(rt; reads == 0);
     Ok(())
@@ -103,7 +103,7 @@ fn assert_random_cuts<R: Abort>(
 fn random_cuts_of_a_station_give_the_report_of_one_decoder(rt: HostRuntime) -> Result<(), Fail> {
     let sample = Sample::station(rt.alloc())?;
     assert!(rt; sample.report.totals.losses == 1 && sample.report.totals.acquired == 2);
-    for one_of in [2, 7, 26, 60, 104, 500] {
+    for &one_of in &[2, 7, 26, 60, 104, 500] {
         assert_random_cuts(&rt, rt.alloc(), &sample, one_of)?;
     }
     Ok(())
@@ -117,11 +117,19 @@ fn by_work<W: Work + Sync>(alloc: Global, work: &W) -> Result<Report, PieceError
     work.report(alloc, runs.as_slice())
 }
 
+/// The report of a sample, cut so, by a work's own calls.
+fn by_cut_work(alloc: Global, sample: &Sample, cuts: Cuts<'_>) -> Result<Report, PieceError> {
+    let cutting = sample.cut(alloc, cuts)?;
+    by_work(
+        alloc,
+        &RecordingWork::new(&sample.recording, &sample.rules, &cutting),
+    )
+}
+
 #[test]
 fn a_work_over_a_recording_gives_its_report(rt: HostRuntime) -> Result<(), Fail> {
     let sample = Sample::zero_groups(rt.alloc(), 3, 3)?;
-    let cutting = sample.cut(rt.alloc(), Cuts::At(&[1, 52, 104, 190]))?;
-    let work = RecordingWork::new(&sample.recording, &sample.rules, &cutting);
-    assert!(rt; sample.gives(&by_work(rt.alloc(), &work)?));
+    let report = by_cut_work(rt.alloc(), &sample, Cuts::At(&[1, 52, 104, 190]))?;
+    assert!(rt; sample.gives(&report));
     Ok(())
 }

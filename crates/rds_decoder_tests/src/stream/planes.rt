@@ -3,7 +3,7 @@ ghost use Rattle.std.specs.Prelude.{◌<◌, ◌≤◌};
 
 use crate::samples::zero_groups;
 use crate::stream::windows::REMAINDERS;
-use rds_stream::{FIRST_WINDOW, planes};
+use rds_stream::{FIRST_WINDOW, Recording, planes};
 use std::test::Fail;
 
 /// The number whose bits stand at place `k` of the planes.
@@ -19,7 +19,8 @@ fn remainder_at(planes: &[u64; 10], k: u64) -> u16
 
 /// Whether the planes of the 64 places from `at` on hold their remainders.
 fn holds_remainders(planes: &[u64; 10], at: u64) -> bool
-    requires { 25 ≤ at }
+    requires first { 25 ≤ at }
+    requires last { at ≤ 66 }
 {
     for k in 0..64u64 {
         let wanted = REMAINDERS.get((at - FIRST_WINDOW + k) as usize).copied();
@@ -30,11 +31,15 @@ fn holds_remainders(planes: &[u64; 10], at: u64) -> bool
     true
 }
 
+fn have_remainders(twice: &Recording, at: u64) -> bool {
+    25 <= at && at <= 66 && twice.len() == 208 && holds_remainders(&planes(twice, at), at)
+}
+
 #[test]
-fn planes_hold_the_remainders_of_the_vectors(rt: HostRuntime) -> Result<(), Fail> {
+fn planes_hold_the_remainders_of_their_places(rt: HostRuntime) -> Result<(), Fail> {
     let twice = zero_groups(rt.alloc(), 208)?;
-    for at in [25, 26, 31, 32, 66] {
-        assert!(rt; at + 64 <= twice.len() && holds_remainders(&planes(&twice, at), at), "at {at}");
+    for &at in &[25, 26, 31, 32, 66] {
+        assert!(rt; have_remainders(&twice, at), "at {at}");
     }
     Ok(())
 }

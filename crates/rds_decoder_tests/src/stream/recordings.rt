@@ -27,18 +27,16 @@ fn bits_come_from_the_highest_of_the_first_byte_on(rt: HostRuntime) -> Result<()
 fn is_refused(alloc: Global, bits: u64, error: StreamError) -> Result<bool, AllocError> {
     match Recording::from_bytes([1, 2, 3, 4].to_vec(alloc)?, bits) {
         Ok(_recording) => Ok(false),
-        Err((refused, bytes)) => Ok(refused == error && bytes.as_slice() == [1, 2, 3, 4].as_slice()),
+        Err((refused, bytes)) => Ok(
+            refused == error && bytes.as_slice() == [1, 2, 3, 4].as_slice(),
+        ),
     }
 }
 
 #[test]
 fn bits_that_are_not_there_are_refused(rt: HostRuntime) -> Result<(), Fail> {
-    for (bits, error) in [
-        (33, StreamError::BitsPastBytes),
-        ((1 << 36) + 1, StreamError::TooLong),
-    ] {
-        assert!(rt; is_refused(rt.alloc(), bits, error)?, "{bits} bits");
-    }
+    assert!(rt; is_refused(rt.alloc(), 33, StreamError::BitsPastBytes)?);
+    assert!(rt; is_refused(rt.alloc(), (1 << 36) + 1, StreamError::TooLong)?);
     let refusal = StreamError::OutOfMemory;
     assert!(rt; refusal.number() == 8 && refusal.name() == "OutOfMemory");
     Ok(())

@@ -1,8 +1,7 @@
 //! All valid windows of a range.
 use crate::samples::{recording_of, zero_bytes, zero_groups};
-use rds_code::Offset;
 use rds_code::Offset::{A, B, C, D};
-use rds_code::{offset_of, rem26};
+use rds_code::{Offset, offset_of, rem26};
 use rds_stream::{Recording, StreamError, scan};
 use std::alloc::{AllocError, Global};
 use std::test::Fail;
@@ -40,19 +39,24 @@ fn finds(
     Ok(found.as_slice() == windows)
 }
 
+/// Ranges of two zero groups, and their valid windows.
+const RANGES: [(u64, u64, &[Window]); 6] = [
+    (0, 208, &WINDOWS),
+    (0, 104, &[(25, A), (51, B), (77, C), (96, B), (103, D)]),
+    (96, 97, &[(96, B)]),
+    (0, 25, &[]),
+    (104, 104, &[]),
+    (207, 208, &[(207, D)]),
+];
+
 #[test]
 fn a_scan_finds_the_valid_windows(rt: HostRuntime) -> Result<(), Fail> {
     let twice = zero_groups(rt.alloc(), 208)?;
-    let rows: [(u64, u64, &[Window]); 6] = [
-        (0, 208, &WINDOWS),
-        (0, 104, &[(25, A), (51, B), (77, C), (96, B), (103, D)]),
-        (96, 97, &[(96, B)]),
-        (0, 25, &[]),
-        (104, 104, &[]),
-        (207, 208, &[(207, D)]),
-    ];
-    for (from, to, windows) in rows {
-        assert!(rt; finds(rt.alloc(), &twice, from, to, windows)?, "from {from} to {to}");
+    for &(from, to, windows) in &RANGES {
+        assert!(rt;
+            finds(rt.alloc(), &twice, from, to, windows)?,
+            "from {from} to {to}"
+        );
     }
     Ok(())
 }
@@ -80,9 +84,11 @@ fn windows_of_five(alloc: Global) -> Result<Vec<Window>, AllocError> {
 /// Whether all windows of five zero groups are found, and that of the second group's first block alone.
 fn finds_in_five(alloc: Global, five: &Recording) -> Result<bool, StreamError> {
     let windows = windows_of_five(alloc)?;
-    Ok(windows.len() == 29
-        && finds(alloc, five, 0, 520, &windows)?
-        && finds(alloc, five, 129, 130, &[(129, A)])?)
+    Ok(
+        windows.len() == 29
+            && finds(alloc, five, 0, 520, &windows)?
+            && finds(alloc, five, 129, 130, &[(129, A)])?,
+    )
 }
 
 /// The group five times: two words of 64 places lie in a group's length, so words begin at many places of it.
@@ -136,7 +142,10 @@ fn a_scan_of_any_range_is_that_of_its_places(rt: HostRuntime) -> Result<(), Fail
     let damaged = with_inverted(rt.alloc(), 300, &[30, 62, 124, 129, 200])?;
     for from in 0..301 {
         for to in from..301 {
-            assert!(rt; finds_its_places(rt.alloc(), &damaged, from, to)?, "from {from} to {to}");
+            assert!(rt;
+                finds_its_places(rt.alloc(), &damaged, from, to)?,
+                "from {from} to {to}"
+            );
         }
     }
     Ok(())
@@ -150,8 +159,11 @@ fn count_windows(alloc: Global, bits: u64) -> Result<usize, StreamError> {
 
 #[test]
 fn short_recordings_have_few_windows(rt: HostRuntime) -> Result<(), Fail> {
-    for (bits, windows) in [(0, 0), (1, 0), (25, 0), (26, 1), (27, 1), (51, 1), (52, 2)] {
-        assert!(rt; count_windows(rt.alloc(), bits)? == windows, "of {bits} bits");
+    for &(bits, windows) in &[(0, 0), (1, 0), (25, 0), (26, 1), (27, 1), (51, 1), (52, 2)] {
+        assert!(rt;
+            count_windows(rt.alloc(), bits)? == windows,
+            "of {bits} bits"
+        );
     }
     Ok(())
 }

@@ -30,7 +30,7 @@ fn has_remainders(twice: &Recording) -> bool {
 }
 
 #[test]
-fn windows_have_the_remainders_of_the_vectors(rt: HostRuntime) -> Result<(), Fail> {
+fn windows_have_known_remainders(rt: HostRuntime) -> Result<(), Fail> {
     let twice = zero_groups(rt.alloc(), 208)?;
     assert!(rt; has_remainders(&twice));
     Ok(())

@@ -2,97 +2,75 @@
 use rds_code::Reading;
 use rds_sync::{Block, Group, Item, Totals, Version};
 use std::alloc::{AllocError, Global};
-use std::fmt;
 use std::mem::size_of;
 
-/// A block, as a word.
-#[derive(Drop)]
-struct BlockText<'a>(&'a Block);
-
-impl fmt::Display for BlockText<'_> {
-    fn fmt<W: fmt::Write>(&self, f: &mut fmt::Formatter<W>) -> fmt::Result {
-        match self.0 {
-            Block::Missing => write!(f, "none"),
-            Block::Read(Reading::Lost) => write!(f, "lost"),
-            Block::Read(Reading::Valid { offset, info }) => {
-                let name = offset.name();
-                write!(f, "{name}:{info:04X}")
-            }
-            Block::Read(
-                Reading::Corrected {
-                    offset,
-                    info,
-                    burst,
-                },
-            ) => {
-                let name = offset.name();
-                let pattern = burst.pattern();
-                write!(f, "{name}:{info:04X}~{pattern:07X}")
-            }
+fn block_text(alloc: Global, block: &Block) -> Result<String, AllocError> {
+    match block {
+        Block::Missing => format!(in alloc; "none"),
+        Block::Read(Reading::Valid { offset, info }) => {
+            let name = offset.name();
+            format!(in alloc; "{name}:{info:04X}")
         }
+        Block::Read(
+            Reading::Corrected {
+                offset,
+                info,
+                burst,
+            },
+        ) => {
+            let name = offset.name();
+            let pattern = burst.pattern();
+            format!(in alloc; "{name}:{info:04X}~{pattern:07X}")
+        }
+        Block::Read(Reading::Lost) => format!(in alloc; "lost"),
     }
 }
 
-/// A group, as words of one line.
-#[derive(Drop)]
-struct GroupText<'a>(&'a Group);
-
-impl fmt::Display for GroupText<'_> {
-    fn fmt<W: fmt::Write>(&self, f: &mut fmt::Formatter<W>) -> fmt::Result {
-        let group = self.0;
-        let place = group.place;
-        match group.kind {
-            Some(kind) => write!(f, "group {place} {kind}")?,
-            None => write!(f, "group {place} -")?,
-        }
-        let version = match group.version {
-            Version::A => "A",
-            Version::B => "B",
-            Version::Unknown => "?",
-        };
-        let conflict = if group.conflict { "!" } else { "" };
-        write!(f, " {version}{conflict}")?;
-        for block in &group.blocks {
-            let text = BlockText(block);
-            write!(f, " {text}")?;
-        }
-        Ok(())
+/// The place and the type of a group.
+fn group_start(alloc: Global, group: &Group) -> Result<String, AllocError> {
+    let place = group.place;
+    match group.kind {
+        Some(kind) => format!(in alloc; "group {place} {kind} "),
+        None => format!(in alloc; "group {place} - "),
     }
 }
 
-/// Items, as words of one line each, joined by semicolons.
-#[derive(Drop)]
-struct ItemsText<'a>(&'a [Item]);
-
-impl fmt::Display for ItemsText<'_> {
-    fn fmt<W: fmt::Write>(&self, f: &mut fmt::Formatter<W>) -> fmt::Result {
-        for (at, item) in self.0.iter().enumerate() {
-            if at > 0 {
-                write!(f, "; ")?;
-            }
-            match item {
-                Item::Acquired { place, number } => write!(f, "acquired {place} {number}")?,
-                Item::Group(group) => {
-                    let text = GroupText(group);
-                    write!(f, "{text}")?;
-                }
-                Item::LostLock { place } => write!(f, "lost {place}")?,
-            }
-        }
-        Ok(())
-    }
-}
-
-/// A group, as words of one line.
+/// A group as words in one line.
 pub fn group_text(alloc: Global, group: &Group) -> Result<String, AllocError> {
-    let text = GroupText(group);
-    format!(in alloc; "{text}")
+    let version = match group.version {
+        Version::A => "A",
+        Version::B => "B",
+        Version::Unknown => "?",
+    };
+    let conflict = if group.conflict { "!" } else { "" };
+    let mut text = group_start(alloc, group)?;
+    text.push_str(version)?;
+    text.push_str(conflict)?;
+    for block in &group.blocks {
+        text.push_str(" ")?;
+        text.push_str(block_text(alloc, block)?.as_str())?;
+    }
+    Ok(text)
 }
 
-/// Items, as words of one line each, joined by semicolons.
+fn item_text(alloc: Global, item: &Item) -> Result<String, AllocError> {
+    match item {
+        Item::Acquired { place, number } => format!(in alloc; "acquired {place} {number}"),
+        Item::Group(group) => group_text(alloc, group),
+        Item::LostLock { place } => format!(in alloc; "lost {place}"),
+    }
+}
+
+/// Items as words of one line each, joined by semicolons.
 pub fn items_text(alloc: Global, items: &[Item]) -> Result<String, AllocError> {
-    let text = ItemsText(items);
-    format!(in alloc; "{text}")
+    let mut text = String::new(alloc);
+    for item in items {
+        if !text.is_empty() {
+            text.push_str("; ")?;
+        }
+        text.push_str(item_text(alloc, item)?.as_str())?;
+    }
+    Ok(text)
 }
 
 /// The twelve totals, in order.

@@ -82,7 +82,7 @@ const DECODINGS: [Decoding; 9] = [
 
 /// The report of a recording of whole blocks: of the bytes' bits, as many as make blocks of 26.
 fn report_of(alloc: Global, decoding: &Decoding) -> Result<Report, Fail> {
-    let bits = 8 * decoding.bytes.len() as u64;
+    let bits = (decoding.bytes.len() as u64).saturating_mul(8);
     let rec = recording_of(decoding.bytes.to_vec(alloc)?, bits - bits % 26)?;
     let rules = Rules::new(alloc, decoding.burst, 3, decoding.loss)?;
     Ok(decode_plain(alloc, &rec, &rules)?)
@@ -95,7 +95,7 @@ fn is_reported(alloc: Global, decoding: &Decoding) -> Result<bool, Fail> {
 }
 
 #[test]
-fn recordings_have_the_reports_of_the_vectors(rt: HostRuntime) -> Result<(), Fail> {
+fn recordings_have_known_reports(rt: HostRuntime) -> Result<(), Fail> {
     for decoding in &DECODINGS {
         assert!(rt; is_reported(rt.alloc(), decoding)?, "{}", decoding.items);
     }

@@ -1,11 +1,12 @@
 //! Runs over ranges of a recording, by stretches too.
 ghost use Rattle.std.specs.Prelude.{◌≤◌, length};
 
-use crate::samples::{default_rules, locked, zero_groups};
+use crate::samples::{StateNumbers, default_rules, state_of, zero_groups};
 use crate::sync::items::items_text;
 use rds_stream::Recording;
-use rds_sync::{Item, Rules, State, SyncError, run, stretch};
+use rds_sync::{Item, Reached, Rules, State, SyncError, run, stretch};
 use std::alloc::Global;
+use std::process::Abort;
 use std::test::Fail;
 
 /// The run over a whole recording.
@@ -17,60 +18,90 @@ pub fn whole_run(
     run(alloc, rec, rules, State::Searching, 0, rec.len())
 }
 
-/// A run: from where and in which state, to where, the state there, and what it found.
-type Row = (u64, State, u64, State, &'static str);
-
+/// Whether the run over this range ends and finds so.
 fn runs_so(alloc: Global, rec: &Recording, rules: &Rules, row: &Row) -> Result<bool, SyncError> {
-    let (from, state, to, end, found) = *row;
-    if from > to || to > rec.len() || !state.is_lawful(rules, from) {
+    let (from, start) = (row.from, state_of(row.start));
+    if from > row.to || row.to > rec.len() || !start.is_lawful(rules, from) {
         return Ok(false);
     }
-    let (after, items) = run(alloc, rec, rules, state, from, to)?;
-    Ok(after == end && items_text(alloc, &items)?.as_str() == found)
+    let (end, items) = run(alloc, rec, rules, start, from, row.to)?;
+    Ok(end == state_of(row.end) && items_text(alloc, &items)?.as_str() == row.found)
+}
+
+/// A run over a range: the states before and after it, and what it finds.
+struct Row {
+    from: u64,
+    start: StateNumbers,
+    to: u64,
+    end: StateNumbers,
+    found: &'static str,
+}
+
+/// Runs over the zero group.
+const ROWS: [Row; 6] = [
+    Row {
+        from: 0,
+        start: None,
+        to: 51,
+        end: None,
+        found: "",
+    },
+    Row {
+        from: 0,
+        start: None,
+        to: 60,
+        end: Some((77, 3, 0, 2)),
+        found: "acquired 51 2",
+    },
+    Row {
+        from: 0,
+        start: None,
+        to: 104,
+        end: Some((129, 1, 0, 1)),
+        found: "acquired 51 2; group 26 0 A none B:0000 C:0000 D:0000",
+    },
+    Row {
+        from: 60,
+        start: None,
+        to: 78,
+        end: Some((103, 4, 0, 3)),
+        found: "acquired 77 3",
+    },
+    Row {
+        from: 60,
+        start: None,
+        to: 104,
+        end: Some((129, 1, 0, 1)),
+        found: "acquired 77 3; group 52 - A none none C:0000 D:0000",
+    },
+    Row {
+        from: 20,
+        start: Some((30, 1, 9, 1)),
+        to: 104,
+        end: Some((129, 1, 0, 1)),
+        found: "group 5 - ? lost none none none; lost 30; acquired 51 2; group 26 0 A none B:0000 C:0000 D:0000",
+    },
+];
+
+/// Asserts that the runs over the zero group end and find so.
+fn assert_rows<R: Abort>(
+    rt: &R,
+    alloc: Global,
+    rec: &Recording,
+    rules: &Rules,
+) -> Result<(), SyncError> {
+    for row in &ROWS {
+        assert!(rt; runs_so(alloc, rec, rules, row)?, "{}", row.found);
+    }
+    assert!(rt; !state_of(Some((30, 1, 10, 1))).is_lawful(rules, 20));
+    Ok(())
 }
 
 #[test]
-fn runs_over_the_zero_group_end_as_in_the_vectors(rt: HostRuntime) -> Result<(), Fail> {
+fn runs_over_the_zero_group_have_known_ends(rt: HostRuntime) -> Result<(), Fail> {
     let rec = zero_groups(rt.alloc(), 104)?;
     let rules = default_rules(rt.alloc())?;
-    let whole = "acquired 51 2; group 26 0 A none B:0000 C:0000 D:0000";
-    let rows: [Row; 6] = [
-        (0, State::Searching, 51, State::Searching, ""),
-        (
-            0,
-            State::Searching,
-            60,
-            locked(77, 3, 0, 2),
-            "acquired 51 2",
-        ),
-        (0, State::Searching, 104, locked(129, 1, 0, 1), whole),
-        (
-            60,
-            State::Searching,
-            78,
-            locked(103, 4, 0, 3),
-            "acquired 77 3",
-        ),
-        (
-            60,
-            State::Searching,
-            104,
-            locked(129, 1, 0, 1),
-            "acquired 77 3; group 52 - A none none C:0000 D:0000",
-        ),
-        (
-            20,
-            locked(30, 1, 9, 1),
-            104,
-            locked(129, 1, 0, 1),
-            "group 5 - ? lost none none none; lost 30; acquired 51 2; group 26 0 A none B:0000 C:0000 D:0000",
-        ),
-    ];
-    for row in &rows {
-        assert!(rt; runs_so(rt.alloc(), &rec, &rules, row)?, "{row:?}");
-    }
-    assert!(rt; !locked(30, 1, 10, 1).is_lawful(&rules, 20));
-    Ok(())
+    Ok(assert_rows(&rt, rt.alloc(), &rec, &rules)?)
 }
 
 /// The run over a whole recording, cut at that place.
@@ -113,45 +144,64 @@ fn a_run_cut_anywhere_is_the_run_in_one_piece(rt: HostRuntime) -> Result<(), Fai
     Ok(())
 }
 
-/// The state and the place after a stretch from there, where that stretch finds this.
+/// The place and the state after a stretch from there, where that stretch finds this.
 fn stretched(
     alloc: Global,
     rec: &Recording,
     rules: &Rules,
-    from: (State, u64),
+    from: Reached,
     found: &str,
-) -> Result<Option<(State, u64)>, SyncError> {
-    let (state, place) = from;
+) -> Result<Option<Reached>, SyncError> {
+    let Reached { place, state } = from;
     if place >= rec.len() || !state.is_lawful(rules, place) {
         return Ok(None);
     }
     let mut items = Vec::new(alloc);
     let reached = stretch(rec, rules, state, place, rec.len(), &mut items)?;
     let is_found = items_text(alloc, &items)?.as_str() == found;
-    Ok(is_found.then_some((reached.state, reached.place)))
+    Ok(is_found.then_some(reached))
+}
+
+/// What the stretches over two zero groups find, where each ends, and in which state.
+const STRETCHES: [(&str, u64, StateNumbers); 3] = [
+    ("acquired 51 2", 52, Some((77, 3, 0, 2))),
+    (
+        "group 26 0 A none B:0000 C:0000 D:0000",
+        104,
+        Some((129, 1, 0, 1)),
+    ),
+    (
+        "group 104 0 A A:0000 B:0000 C:0000 D:0000",
+        208,
+        Some((233, 1, 0, 1)),
+    ),
+];
+
+/// Asserts that the stretches over two zero groups are those.
+fn assert_stretches<R: Abort>(
+    rt: &R,
+    alloc: Global,
+    rec: &Recording,
+    rules: &Rules,
+) -> Result<(), SyncError> {
+    let mut at = Reached {
+        place: 0,
+        state: State::Searching,
+    };
+    for &(found, place, numbers) in &STRETCHES {
+        let reached = stretched(alloc, rec, rules, at, found)?;
+        at = Reached {
+            place,
+            state: state_of(numbers),
+        };
+        assert!(rt; reached == Some(at), "{found}");
+    }
+    Ok(())
 }
 
 #[test]
 fn stretches_end_at_the_bits_that_give_items(rt: HostRuntime) -> Result<(), Fail> {
     let rec = zero_groups(rt.alloc(), 208)?;
     let rules = default_rules(rt.alloc())?;
-    let mut at = (State::Searching, 0);
-    for (found, state, place) in [
-        ("acquired 51 2", locked(77, 3, 0, 2), 52),
-        (
-            "group 26 0 A none B:0000 C:0000 D:0000",
-            locked(129, 1, 0, 1),
-            104,
-        ),
-        (
-            "group 104 0 A A:0000 B:0000 C:0000 D:0000",
-            locked(233, 1, 0, 1),
-            208,
-        ),
-    ] {
-        let reached = stretched(rt.alloc(), &rec, &rules, at, found)?;
-        at = (state, place);
-        assert!(rt; reached == Some(at), "{found}");
-    }
-    Ok(())
+    Ok(assert_stretches(&rt, rt.alloc(), &rec, &rules)?)
 }

@@ -1,10 +1,11 @@
 //! Steps over a tape.
-use crate::samples::{default_rules, locked, zero_groups};
+use crate::samples::{StateNumbers, default_rules, state_of, zero_groups};
 use crate::sync::items::group_text;
 use crate::sync::runs::whole_run;
 use rds_stream::{Counted, Recording, Tape};
 use rds_sync::{Item, Rules, State, Step, SyncError, advance, finish};
 use std::alloc::{AllocError, Global};
+use std::process::Abort;
 use std::test::Fail;
 
 /// The step from there, if there is one.
@@ -73,17 +74,33 @@ fn closes(
     }
 }
 
+/// States at the end of 78 bits of zero groups, and the groups that it closes.
+const ENDS: [(StateNumbers, &str); 4] = [
+    (None, ""),
+    (Some((103, 1, 0, 1)), ""),
+    (Some((79, 4, 9, 2)), "group 2 - ? none lost lost none"),
+    (Some((103, 4, 0, 2)), "group 26 0 A none B:0000 C:0000 none"),
+];
+
+/// Asserts that the end closes those.
+fn assert_ends<R: Abort>(
+    rt: &R,
+    alloc: Global,
+    rec: &Recording,
+    rules: &Rules,
+) -> Result<(), AllocError> {
+    for &(numbers, found) in &ENDS {
+        assert!(rt;
+            closes(alloc, rec, rules, state_of(numbers), found)?,
+            "{found}"
+        );
+    }
+    Ok(())
+}
+
 #[test]
 fn the_end_closes_a_group_in_progress(rt: HostRuntime) -> Result<(), Fail> {
     let rec = zero_groups(rt.alloc(), 78)?;
     let rules = default_rules(rt.alloc())?;
-    for (state, found) in [
-        (State::Searching, ""),
-        (locked(103, 1, 0, 1), ""),
-        (locked(79, 4, 9, 2), "group 2 - ? none lost lost none"),
-        (locked(103, 4, 0, 2), "group 26 0 A none B:0000 C:0000 none"),
-    ] {
-        assert!(rt; closes(rt.alloc(), &rec, &rules, state, found)?, "{found}");
-    }
-    Ok(())
+    Ok(assert_ends(&rt, rt.alloc(), &rec, &rules)?)
 }
