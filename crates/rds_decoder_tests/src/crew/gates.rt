@@ -58,6 +58,9 @@ impl<R: Wait> Gate for Watch<'_, R> {
     }
 }
 
+/// The cut between two zero groups.
+const HALVES: Cuts<'_> = Cuts::At(&[104]);
+
 /// What one worker does with two pieces, in order.
 const EVENTS: [Event; 7] = [
     Event::Begun(0),
@@ -69,19 +72,11 @@ const EVENTS: [Event; 7] = [
     Event::Reported,
 ];
 
-/// Asserts that each piece was begun, guessed and done once, and the report made once.
-fn assert_each_once<R: Abort + Wait>(rt: &R, journal: &Journal<'_, R>) {
-    for event in &EVENTS {
-        assert!(rt; journal.count(*event) == 1, "{event:?}");
-    }
-    assert!(rt; journal.len() == EVENTS.len());
-}
-
-/// Decodes the sample, cut so, and asserts that the report is its own.
+/// Decodes the sample, cut so, by a work that notes its calls, and asserts that the report is its own.
 fn decode_noted<R: Abort + Sync + Threads + Wait, G: Gate + Sync>(
     rt: &R,
     alloc: Global,
-    sample: &Sample,
+    sample: Sample,
     cuts: Cuts<'_>,
     workers: u32,
     journal: &Journal<'_, R>,
@@ -92,19 +87,7 @@ fn decode_noted<R: Abort + Sync + Threads + Wait, G: Gate + Sync>(
         journal,
         inner: RecordingWork::new(&sample.recording, &sample.rules, &cutting),
     };
-    Ok(assert_decoded(rt, alloc, sample, &work, workers, gate)?)
-}
-
-/// Decodes two zero groups in two pieces, and asserts that the report is theirs.
-fn decode_two<R: Abort + Sync + Threads + Wait, G: Gate + Sync>(
-    rt: &R,
-    alloc: Global,
-    workers: u32,
-    journal: &Journal<'_, R>,
-    gate: &G,
-) -> Result<(), Fail> {
-    let sample = Sample::zero_groups(alloc, 2, 3)?;
-    decode_noted(rt, alloc, &sample, Cuts::At(&[104]), workers, journal, gate)
+    Ok(assert_decoded(rt, alloc, &sample, &work, workers, gate)?)
 }
 
 // One thread that makes both pieces in turn would miss, since piece 0 waits for piece 1. A crew that
@@ -113,19 +96,21 @@ fn decode_two<R: Abort + Sync + Threads + Wait, G: Gate + Sync>(
 fn two_workers_run_at_the_same_time_and_their_runs_make_the_report(
     rt: HostRuntime,
 ) -> Result<(), Fail> {
+    let sample = Sample::zero_groups(rt.alloc(), 2, 3)?;
     let journal = Journal::new(&rt, rt.alloc());
     let watch = Watch::new(&journal);
-    decode_two(&rt, rt.alloc(), 2, &journal, &watch)?;
+    decode_noted(&rt, rt.alloc(), sample, HALVES, 2, &journal, &watch)?;
     assert!(rt; watch.misses.load(Ordering::SeqCst) == 0);
-    assert_each_once(&rt, &journal);
+    assert!(rt; journal.has_each_once(&EVENTS));
     assert!(rt; journal.reported_is_shown([(0, 104), (104, 208)]));
     Ok(())
 }
 
 #[test]
 fn the_gate_is_called_before_and_after_each_piece(rt: HostRuntime) -> Result<(), Fail> {
+    let sample = Sample::zero_groups(rt.alloc(), 2, 3)?;
     let journal = Journal::new(&rt, rt.alloc());
-    decode_two(&rt, rt.alloc(), 1, &journal, &journal)?;
+    decode_noted(&rt, rt.alloc(), sample, HALVES, 1, &journal, &journal)?;
     assert!(rt; journal.has(&EVENTS));
     Ok(())
 }
@@ -137,7 +122,7 @@ fn no_bits_have_no_pieces_and_an_empty_report(rt: HostRuntime) -> Result<(), Fai
     decode_noted(
         &rt,
         rt.alloc(),
-        &sample,
+        sample,
         Cuts::Even(16),
         4,
         &journal,

@@ -8,7 +8,7 @@ use std::snapshot::Snapshot;
 use std::sync::{Mutex, Wait};
 
 /// What a crew does.
-#[derive(Clone, Copy, Debug, PartialEq, Eq)]
+#[derive(Clone, Copy, PartialEq, Eq)]
 pub enum Event {
     Begun(u64),
     Guessed(u64),
@@ -17,7 +17,7 @@ pub enum Event {
 }
 
 /// What a run shows of itself.
-#[derive(Debug, PartialEq, Eq, Drop)]
+#[derive(PartialEq, Eq, Drop)]
 struct Shown {
     from: u64,
     to: u64,
@@ -64,7 +64,7 @@ impl<'a, R: Wait> Journal<'a, R> {
     }
 
     /// Keeps a run that a report is made of.
-    fn keep_reported(&self, run: &PieceRun) -> Result<(), PieceError> {
+    fn keep_reported(&self, run: &PieceRun) -> Result<(), AllocError> {
         let shown = Shown::of(self.alloc, run)?;
         Ok(self.reported.lock(self.rt).push(shown)?)
     }
@@ -74,13 +74,18 @@ impl<'a, R: Wait> Journal<'a, R> {
         self.events.lock(self.rt).as_slice() == events
     }
 
-    /// How much happened.
-    pub fn len(&self) -> usize {
-        self.events.lock(self.rt).len()
+    /// Whether each of these happened once, and nothing else.
+    pub fn has_each_once(&self, events: &[Event]) -> bool {
+        for event in events {
+            if self.count(*event) != 1 {
+                return false;
+            }
+        }
+        self.events.lock(self.rt).len() == events.len()
     }
 
     /// How often that happened.
-    pub fn count(&self, event: Event) -> usize {
+    fn count(&self, event: Event) -> usize {
         let mut count = 0usize;
         for kept in self.events.lock(self.rt).iter() {
             if *kept == event {
@@ -98,15 +103,19 @@ impl<'a, R: Wait> Journal<'a, R> {
         }
     }
 
-    /// Whether the report was made of two runs, over these ranges, and both are those that the gate was shown.
-    pub fn reported_is_shown(&self, ranges: [(u64, u64); 2]) -> bool {
-        let reported = self.reported.lock(self.rt);
-        for (j, run) in reported.iter().enumerate() {
+    /// Whether these are two runs, over the two ranges, and those that the gate was shown.
+    fn were_shown(&self, runs: &[Shown], ranges: [(u64, u64); 2]) -> bool {
+        for (j, run) in runs.iter().enumerate() {
             if ranges.get(j).copied() != Some((run.from, run.to)) || !self.was_shown(j, run) {
                 return false;
             }
         }
-        reported.len() == 2
+        runs.len() == 2
+    }
+
+    /// Whether the report was made of the runs that the gate was shown, which are two, over these ranges.
+    pub fn reported_is_shown(&self, ranges: [(u64, u64); 2]) -> bool {
+        self.were_shown(self.reported.lock(self.rt).as_slice(), ranges)
     }
 }
 

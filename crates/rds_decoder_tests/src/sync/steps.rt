@@ -17,9 +17,11 @@ fn step_from(tape: &mut Counted<'_>, rules: &Rules, state: State, place: u64) ->
     None
 }
 
-fn push_found(items: &mut Vec<Item>, found: [Option<Item>; 2]) -> Result<(), AllocError> {
-    for item in found.into_iter().flatten() {
-        items.push(item)?;
+fn push_found(items: &mut Vec<Item>, found: &[Option<Item>; 2]) -> Result<(), AllocError> {
+    for place in found {
+        if let Some(item) = place {
+            items.push(*item)?;
+        }
     }
     Ok(())
 }
@@ -35,7 +37,7 @@ fn by_steps(
     let (mut state, mut place) = (State::Searching, 0);
     for _ in 0..rec.len() {
         if let Some(step) = step_from(&mut tape, rules, state, place) {
-            push_found(&mut items, step.items)?;
+            push_found(&mut items, &step.items)?;
             (state, place) = (step.state, step.place);
         }
     }
