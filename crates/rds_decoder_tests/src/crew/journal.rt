@@ -44,7 +44,8 @@ pub struct Journal<'a, R> {
     alloc: Global,
     events: Mutex<Vec<Event>>,
     reported: Mutex<Vec<Shown>>,
-    shown: [Mutex<Option<Shown>>; 2],
+    first_shown: Mutex<Option<Shown>>,
+    second_shown: Mutex<Option<Shown>>,
 }
 
 impl<'a, R: Wait> Journal<'a, R> {
@@ -54,7 +55,8 @@ impl<'a, R: Wait> Journal<'a, R> {
             alloc,
             events: Mutex::new(Vec::new(alloc)),
             reported: Mutex::new(Vec::new(alloc)),
-            shown: [Mutex::new(None), Mutex::new(None)],
+            first_shown: Mutex::new(None),
+            second_shown: Mutex::new(None),
         }
     }
 
@@ -95,9 +97,18 @@ impl<'a, R: Wait> Journal<'a, R> {
         count
     }
 
+    /// Where the run that was done of piece `j` is kept.
+    fn shown_of(&self, j: usize) -> Option<&Mutex<Option<Shown>>> {
+        match j {
+            0 => Some(&self.first_shown),
+            1 => Some(&self.second_shown),
+            _ => None,
+        }
+    }
+
     /// Whether that is the run that was done of piece `j`.
     fn was_shown(&self, j: usize, run: &Shown) -> bool {
-        match self.shown.get(j) {
+        match self.shown_of(j) {
             Some(shown) => shown.lock(self.rt).as_ref() == Some(run),
             None => false,
         }
@@ -126,7 +137,7 @@ impl<R: Wait> Gate for Journal<'_, R> {
 
     fn done(&self, j: u64, run: &PieceRun) {
         self.keep(Event::Done(j));
-        if let Some(shown) = self.shown.get(j as usize) {
+        if let Some(shown) = self.shown_of(j as usize) {
             *shown.lock(self.rt) = Shown::of(self.alloc, run).ok();
         }
     }

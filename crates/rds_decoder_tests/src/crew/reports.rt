@@ -28,17 +28,27 @@ pub fn assert_decoded<R: Abort + Threads + Wait, W: Work + Sync, G: Gate + Sync>
 }
 
 /// Asserts that crews of one, two and 256 workers answer the report of so many zero groups, cut so.
-fn assert_all_crews<R: Abort + Threads + Wait>(
+fn assert_zero_groups<R: Abort + Threads + Wait>(
     rt: &R,
     alloc: Global,
     (groups, reach): (u8, u32),
     cuts: Cuts<'_>,
 ) -> Result<(), Fail> {
     let sample = Sample::zero_groups(alloc, groups, reach)?;
+    assert_all_crews(rt, alloc, &sample, cuts)
+}
+
+/// Asserts that crews of one, two and 256 workers answer the sample's report.
+fn assert_all_crews<R: Abort + Threads + Wait>(
+    rt: &R,
+    alloc: Global,
+    sample: &Sample,
+    cuts: Cuts<'_>,
+) -> Result<(), Fail> {
     let cutting = sample.cut(alloc, cuts)?;
     let work = RecordingWork::new(&sample.recording, &sample.rules, &cutting);
     for &workers in &[1, 2, 256] {
-        assert_decoded(rt, alloc, &sample, &work, workers, &OpenGate)?;
+        assert_decoded(rt, alloc, sample, &work, workers, &OpenGate)?;
     }
     Ok(())
 }
@@ -46,14 +56,14 @@ fn assert_all_crews<R: Abort + Threads + Wait>(
 #[test]
 fn every_cutting_and_number_of_workers_gives_one_report(rt: HostRuntime) -> Result<(), Fail> {
     for &cut in &[1, 25, 26, 51] {
-        assert_all_crews(&rt, rt.alloc(), (2, 3), Cuts::At(&[cut]))?;
+        assert_zero_groups(&rt, rt.alloc(), (2, 3), Cuts::At(&[cut]))?;
     }
     Ok(())
 }
 
 #[test]
 fn pieces_of_one_bit_give_the_report_too(rt: HostRuntime) -> Result<(), Fail> {
-    assert_all_crews(&rt, rt.alloc(), (2, 3), Cuts::Even(208))
+    assert_zero_groups(&rt, rt.alloc(), (2, 3), Cuts::Even(208))
 }
 
 // With reach 4 the guess of the second piece locks on a wrong phase and never meets the run from the
@@ -61,7 +71,7 @@ fn pieces_of_one_bit_give_the_report_too(rt: HostRuntime) -> Result<(), Fail> {
 #[test]
 fn a_guess_that_never_meets_gives_the_same_report(rt: HostRuntime) -> Result<(), Fail> {
     for &reach in &[3, 4] {
-        assert_all_crews(&rt, rt.alloc(), (8, reach), Cuts::At(&[190]))?;
+        assert_zero_groups(&rt, rt.alloc(), (8, reach), Cuts::At(&[190]))?;
     }
     Ok(())
 }
@@ -79,11 +89,16 @@ fn is_refused<R: Threads + Wait>(
     Ok(refusal == Some(CrewError::CrewRange))
 }
 
+/// Whether so many workers are refused, for two zero groups.
+fn are_refused<R: Threads + Wait>(rt: &R, alloc: Global, workers: u32) -> Result<bool, Fail> {
+    let sample = Sample::zero_groups(alloc, 2, 3)?;
+    Ok(is_refused(rt, alloc, &sample, workers)?)
+}
+
 #[test]
 fn refuses_crews_of_no_workers_and_of_too_many(rt: HostRuntime) -> Result<(), Fail> {
-    let sample = Sample::zero_groups(rt.alloc(), 2, 3)?;
-    assert!(rt; is_refused(&rt, rt.alloc(), &sample, 0)?);
-    assert!(rt; is_refused(&rt, rt.alloc(), &sample, 257)?);
+    assert!(rt; are_refused(&rt, rt.alloc(), 0)?);
+    assert!(rt; are_refused(&rt, rt.alloc(), 257)?);
     Ok(())
 }
 

@@ -35,20 +35,25 @@ pub fn assert_stitched<R: Abort>(
     Ok(reads)
 }
 
+/// Asserts that the pieces of two zero groups, cut so, give their report.
+fn assert_two_stitched<R: Abort>(rt: &R, alloc: Global, cuts: Cuts<'_>) -> Result<(), Fail> {
+    let sample = Sample::zero_groups(alloc, 2, 3)?;
+    let _reads = assert_stitched(rt, alloc, &sample, cuts)?;
+    Ok(())
+}
+
 #[test]
 fn two_zero_groups_cut_at_every_place_give_one_report(rt: HostRuntime) -> Result<(), Fail> {
-    let sample = Sample::zero_groups(rt.alloc(), 2, 3)?;
     for cut in 1..208 {
-        assert_stitched(&rt, rt.alloc(), &sample, Cuts::At(&[cut]))?;
+        assert_two_stitched(&rt, rt.alloc(), Cuts::At(&[cut]))?;
     }
     Ok(())
 }
 
 #[test]
 fn pieces_of_one_bit_give_the_report_too(rt: HostRuntime) -> Result<(), Fail> {
-    let sample = Sample::zero_groups(rt.alloc(), 2, 3)?;
     for &pieces in &[1, 2, 3, 5, 16, 208] {
-        assert_stitched(&rt, rt.alloc(), &sample, Cuts::Even(pieces))?;
+        assert_two_stitched(&rt, rt.alloc(), Cuts::Even(pieces))?;
     }
     Ok(())
 }
@@ -99,14 +104,23 @@ fn assert_random_cuts<R: Abort>(
     Ok(())
 }
 
+/// Asserts it for cuts that lie close to each other, far apart and between.
+fn assert_random_cuttings<R: Abort>(
+    rt: &R,
+    alloc: Global,
+    sample: &Sample,
+) -> Result<(), PieceError> {
+    for &one_of in &[2, 7, 26, 60, 104, 500] {
+        assert_random_cuts(rt, alloc, sample, one_of)?;
+    }
+    Ok(())
+}
+
 #[test]
 fn random_cuts_of_a_station_give_the_report_of_one_decoder(rt: HostRuntime) -> Result<(), Fail> {
     let sample = Sample::station(rt.alloc())?;
     assert!(rt; sample.report.totals.losses == 1 && sample.report.totals.acquired == 2);
-    for &one_of in &[2, 7, 26, 60, 104, 500] {
-        assert_random_cuts(&rt, rt.alloc(), &sample, one_of)?;
-    }
-    Ok(())
+    Ok(assert_random_cuttings(&rt, rt.alloc(), &sample)?)
 }
 
 /// The report by a work's own calls. A work can be lent to threads.

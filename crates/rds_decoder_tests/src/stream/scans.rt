@@ -4,6 +4,7 @@ use rds_code::Offset::{A, B, C, D};
 use rds_code::{Offset, offset_of, rem26};
 use rds_stream::{Recording, StreamError, scan};
 use std::alloc::{AllocError, Global};
+use std::process::Abort;
 use std::test::Fail;
 
 /// A place and the offset of the window that ends there.
@@ -49,16 +50,20 @@ const RANGES: [(u64, u64, &[Window]); 6] = [
     (207, 208, &[(207, D)]),
 ];
 
-#[test]
-fn a_scan_finds_the_valid_windows(rt: HostRuntime) -> Result<(), Fail> {
-    let twice = zero_groups(rt.alloc(), 208)?;
+fn assert_ranges<R: Abort>(rt: &R, alloc: Global, twice: &Recording) -> Result<(), StreamError> {
     for &(from, to, windows) in &RANGES {
         assert!(rt;
-            finds(rt.alloc(), &twice, from, to, windows)?,
+            finds(alloc, twice, from, to, windows)?,
             "from {from} to {to}"
         );
     }
     Ok(())
+}
+
+#[test]
+fn a_scan_finds_the_valid_windows(rt: HostRuntime) -> Result<(), Fail> {
+    let twice = zero_groups(rt.alloc(), 208)?;
+    Ok(assert_ranges(&rt, rt.alloc(), &twice)?)
 }
 
 /// The valid windows of five zero groups.

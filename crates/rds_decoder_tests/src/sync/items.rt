@@ -4,12 +4,13 @@ use rds_sync::{Block, Group, Item, Totals, Version};
 use std::alloc::{AllocError, Global};
 use std::mem::size_of;
 
+/// A block as a word, behind a space.
 fn block_text(alloc: Global, block: &Block) -> Result<String, AllocError> {
     match block {
-        Block::Missing => format!(in alloc; "none"),
+        Block::Missing => format!(in alloc; " none"),
         Block::Read(Reading::Valid { offset, info }) => {
             let name = offset.name();
-            format!(in alloc; "{name}:{info:04X}")
+            format!(in alloc; " {name}:{info:04X}")
         }
         Block::Read(
             Reading::Corrected {
@@ -20,34 +21,33 @@ fn block_text(alloc: Global, block: &Block) -> Result<String, AllocError> {
         ) => {
             let name = offset.name();
             let pattern = burst.pattern();
-            format!(in alloc; "{name}:{info:04X}~{pattern:07X}")
+            format!(in alloc; " {name}:{info:04X}~{pattern:07X}")
         }
-        Block::Read(Reading::Lost) => format!(in alloc; "lost"),
+        Block::Read(Reading::Lost) => format!(in alloc; " lost"),
     }
 }
 
-/// The place and the type of a group.
-fn group_start(alloc: Global, group: &Group) -> Result<String, AllocError> {
+/// The place, the type and the version of a group.
+fn head_text(alloc: Global, group: &Group) -> Result<String, AllocError> {
     let place = group.place;
+    let version = match (group.version, group.conflict) {
+        (Version::A, false) => "A",
+        (Version::A, true) => "A!",
+        (Version::B, false) => "B",
+        (Version::B, true) => "B!",
+        (Version::Unknown, false) => "?",
+        (Version::Unknown, true) => "?!",
+    };
     match group.kind {
-        Some(kind) => format!(in alloc; "group {place} {kind} "),
-        None => format!(in alloc; "group {place} - "),
+        Some(kind) => format!(in alloc; "group {place} {kind} {version}"),
+        None => format!(in alloc; "group {place} - {version}"),
     }
 }
 
 /// A group as words in one line.
 pub fn group_text(alloc: Global, group: &Group) -> Result<String, AllocError> {
-    let version = match group.version {
-        Version::A => "A",
-        Version::B => "B",
-        Version::Unknown => "?",
-    };
-    let conflict = if group.conflict { "!" } else { "" };
-    let mut text = group_start(alloc, group)?;
-    text.push_str(version)?;
-    text.push_str(conflict)?;
+    let mut text = head_text(alloc, group)?;
     for block in &group.blocks {
-        text.push_str(" ")?;
         text.push_str(block_text(alloc, block)?.as_str())?;
     }
     Ok(text)
@@ -65,9 +65,7 @@ fn item_text(alloc: Global, item: &Item) -> Result<String, AllocError> {
 pub fn items_text(alloc: Global, items: &[Item]) -> Result<String, AllocError> {
     let mut text = String::new(alloc);
     for item in items {
-        if !text.is_empty() {
-            text.push_str("; ")?;
-        }
+        text.push_str(if text.is_empty() { "" } else { "; " })?;
         text.push_str(item_text(alloc, item)?.as_str())?;
     }
     Ok(text)
