@@ -1,0 +1,7 @@
+//! Tests of `rds_code`.
+mod blocks;
+mod bursts;
+mod laws;
+mod offsets;
+mod refusals;
+mod remainders;

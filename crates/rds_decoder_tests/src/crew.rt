@@ -1,0 +1,4 @@
+//! Tests of `rds_crew`.
+mod gates;
+mod journal;
+mod reports;

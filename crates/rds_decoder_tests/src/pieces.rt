@@ -1,0 +1,5 @@
+//! Tests of `rds_pieces`.
+mod cuttings;
+mod guesses;
+mod seams;
+mod stitching;

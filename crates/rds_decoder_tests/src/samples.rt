@@ -1,0 +1,254 @@
+//! What the tests decode: recordings, the rules that they are read by, the reports that they have to give, and cuttings of them.
+ghost use Rattle.std.specs.Prelude.{◌<◌, length, IfOk};
+ghost use Rattle.rds_pieces.specs.Cutting.{IsCutting};
+
+use rds_code::{Offset, Reading};
+use rds_pieces::{Cutting, PieceError};
+use rds_stream::{Recording, StreamError};
+use rds_sync::{
+    Block, Group, Item, Report, Rules, State, SyncError, Totals, Version, decode_plain,
+};
+use std::alloc::{AllocError, Global};
+use std::test::Fail;
+
+/// The group of four zero words, 104 bits.
+const ZERO_GROUP: [u8; 13] = [
+    0x00, 0x00, 0x3F, 0x00, 0x00, 0x19, 0x80, 0x00, 0x05, 0xA0, 0x00, 0x01, 0xB4,
+];
+
+/// The first groups of a station's recording, 104 bits each.
+const STATION: [u128; 20] = [
+    0xD3_93464152_100E1002_2D4105D6,
+    0xD3_93464152_4B9E1002_2D613DA3,
+    0xD3_93464152_A72E1002_2D3125F7,
+    0xD3_93464153_C96E1002_2D11554F,
+    0xD3_93464550_10880E0E_040001B4,
+    0xD3_93464950_1AC56659_61C9A605,
+    0xD3_93464950_4156669A_899592FD,
+    0xD3_93464950_ADE20528_F5114D60,
+    0xD3_93464950_F672064D_A9958F6B,
+    0xD3_93464951_2F16F643_01A5BAA5,
+    0xD3_93464951_748672C2_B4819D7D,
+    0xD3_93464951_983726FB_D9D5C114,
+    0xD3_93464951_C3A2062D_15E482B5,
+    0xD3_93464952_2AF67720_25BDD61A,
+    0xD3_93464952_716702C6_C881A651,
+    0xD3_93464952_9DD6E20D_D985CFA4,
+    0xD3_93464952_C64206D7_4185B9FC,
+    0xD3_93464953_1F279209_A5D1A174,
+    0xD3_93464953_44B7265A_1D85918D,
+    0xD3_93464953_A8073202_2185CFA4,
+];
+
+/// The totals of no items.
+const NOTHING: Totals = Totals {
+    valid: 0,
+    bursts: [0; 5],
+    lost: 0,
+    bits: 0,
+    groups: 0,
+    complete: 0,
+    acquired: 0,
+    losses: 0,
+};
+
+/// The bytes of zero groups sent one after the other, at least so many bits.
+pub fn zero_bytes(alloc: Global, bits: u64) -> Result<Vec<u8>, AllocError> {
+    let mut bytes = Vec::new(alloc);
+    for _ in 0..bits.div_ceil(104) {
+        bytes.extend_from_slice(&ZERO_GROUP)?;
+    }
+    Ok(bytes)
+}
+
+/// The first `bits` bits of zero groups sent one after the other.
+pub fn zero_groups(alloc: Global, bits: u64) -> Result<Recording, StreamError> {
+    recording_of(zero_bytes(alloc, bits)?, bits)
+}
+
+/// Reading by the default numbers: bursts of 2 bits, 3 blocks back, lost after 10.
+pub fn default_rules(alloc: Global) -> Result<Rules, SyncError> {
+    Rules::new(alloc, 2, 3, 10)
+}
+
+/// A state by its numbers: those of a lock (`due`, `number`, `bad` and `first`), or none while searching.
+pub type StateNumbers = Option<(u64, u8, u8, u8)>;
+
+pub fn state_of(numbers: StateNumbers) -> State {
+    match numbers {
+        None => State::Searching,
+        Some((due, number, bad, first)) => State::Locked {
+            due,
+            number,
+            bad,
+            first,
+        },
+    }
+}
+
+/// A recording, the rules that it is read by, and the report that they have to give.
+#[derive(Drop)]
+pub struct Sample {
+    pub recording: Recording,
+    pub rules: Rules,
+    pub report: Report,
+}
+
+impl Sample {
+    /// So many zero groups, one after the other.
+    pub fn zero_groups(alloc: Global, groups: u8, reach: u32) -> Result<Sample, Fail> {
+        let groups = u64::from(groups);
+        let recording = zero_groups(alloc, 104 * groups)?;
+        let rules = Rules::new(alloc, 2, reach, 10)?;
+        let items = items_of_zero_groups(alloc, groups)?;
+        Ok(Sample {
+            recording,
+            rules,
+            report: Report {
+                items,
+                totals: totals_of_zero_groups(groups),
+            },
+        })
+    }
+
+    /// So many zero bytes, in which there is no block.
+    pub fn silence(alloc: Global, bytes: u8) -> Result<Sample, Fail> {
+        let zeros = vec![in alloc; 0u8; usize::from(bytes)]?;
+        let recording = recording_of(zeros, 8 * u64::from(bytes))?;
+        let rules = default_rules(alloc)?;
+        Ok(Sample {
+            recording,
+            rules,
+            report: Report {
+                items: Vec::new(alloc),
+                totals: NOTHING,
+            },
+        })
+    }
+
+    /// A station's groups, with every bit of one group turned, and the report of one decoder.
+    pub fn station(alloc: Global) -> Result<Sample, Fail> {
+        let recording = recording_of(station_bytes(alloc)?, 20 * 104)?;
+        let rules = Rules::new(alloc, 2, 3, 3)?;
+        let report = decode_plain(alloc, &recording, &rules)?;
+        Ok(Sample {
+            recording,
+            rules,
+            report,
+        })
+    }
+
+    /// Its recording, cut.
+    pub fn cut(&self, alloc: Global, cuts: Cuts<'_>) -> Result<Cutting, PieceError>
+        ensures { IfOk result (λ c. IsCutting (length self.now.recording) c) }
+    {
+        match cuts {
+            Cuts::Even(pieces) => Cutting::even(alloc, self.recording.len(), pieces.max(1)),
+            Cuts::At(inner) => cutting_at(alloc, self.recording.len(), inner),
+        }
+    }
+
+    /// Whether that is its report.
+    pub fn gives(&self, report: &Report) -> bool {
+        report.items.as_slice() == self.report.items.as_slice()
+            && report.totals == self.report.totals
+    }
+}
+
+/// Where a recording is cut.
+#[derive(Clone, Copy, Debug)]
+pub enum Cuts<'a> {
+    /// Into at most so many pieces of one length, 1 or more.
+    Even(u64),
+    /// At these places inside it.
+    At(&'a [u64]),
+}
+
+fn cutting_at(alloc: Global, len: u64, inner: &[u64]) -> Result<Cutting, PieceError>
+    ensures { IfOk result (λ c. IsCutting len c) }
+{
+    let mut places = Vec::new(alloc);
+    places.push(0)?;
+    places.extend_from_slice(inner)?;
+    places.push(len)?;
+    match Cutting::new(places, len) {
+        Ok(cutting) => Ok(cutting),
+        Err((error, _places)) => Err(error),
+    }
+}
+
+pub fn recording_of(bytes: Vec<u8>, bits: u64) -> Result<Recording, StreamError> {
+    match Recording::from_bytes(bytes, bits) {
+        Ok(recording) => Ok(recording),
+        Err((error, _bytes)) => Err(error),
+    }
+}
+
+fn station_bytes(alloc: Global) -> Result<Vec<u8>, AllocError> {
+    let mut bytes = Vec::new(alloc);
+    for (number, group) in STATION.iter().enumerate() {
+        let sent = if number == 9 { !*group } else { *group };
+        bytes.extend_from_slice(&sent.to_be_bytes()[3..])?;
+    }
+    Ok(bytes)
+}
+
+/// Block 2 of the first group acquires, and the rest of it is its group; then come whole groups.
+fn items_of_zero_groups(alloc: Global, groups: u64) -> Result<Vec<Item>, AllocError>
+    requires { groups < 256 }
+{
+    let mut items = Vec::new(alloc);
+    items.push(Item::Acquired {
+        place: 51,
+        number: 2,
+    })?;
+    items.push(Item::Group(Group {
+        place: 26,
+        blocks: [
+            Block::Missing,
+            valid(Offset::B),
+            valid(Offset::C),
+            valid(Offset::D),
+        ],
+        kind: Some(0),
+        version: Version::A,
+        conflict: false,
+    }))?;
+    for group in 1..groups {
+        items.push(zero_group(104 * group))?;
+    }
+    Ok(items)
+}
+
+/// A whole zero group at that place.
+fn zero_group(place: u64) -> Item {
+    Item::Group(Group {
+        place,
+        blocks: [
+            valid(Offset::A),
+            valid(Offset::B),
+            valid(Offset::C),
+            valid(Offset::D),
+        ],
+        kind: Some(0),
+        version: Version::A,
+        conflict: false,
+    })
+}
+
+fn totals_of_zero_groups(groups: u64) -> Totals
+    requires { groups < 256 }
+{
+    Totals {
+        valid: (4 * groups).saturating_sub(1),
+        groups,
+        complete: groups.saturating_sub(1),
+        acquired: 1,
+        ..NOTHING
+    }
+}
+
+/// A valid block of a zero word.
+fn valid(offset: Offset) -> Block {
+    Block::Read(Reading::Valid { offset, info: 0 })
+}

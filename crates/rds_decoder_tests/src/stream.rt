@@ -1,0 +1,6 @@
+//! Tests of `rds_stream`.
+mod planes;
+mod recordings;
+mod scans;
+mod tapes;
+mod windows;

@@ -1,0 +1,6 @@
+//! Tests of `rds_sync`.
+mod items;
+mod reports;
+mod rules;
+mod runs;
+mod steps;
