@@ -33,17 +33,17 @@ fn a_failing_read_ends_the_reading(rt: HostRuntime) {
 }
 
 #[test]
-fn a_failing_write_leaves_a_front(rt: HostRuntime) {
+fn a_failing_write_leaves_a_prefix(rt: HostRuntime) {
     let alloc = rt.alloc();
     for k in 0..26usize {
-        let front = Front {
+        let ending = Ending {
             answer: Err(ToolError::Write),
             text: &ROWS[..k],
             writes: k as u64 + 1,
         };
         assert!(rt;
-            front.is_left(&rt, alloc, 1, Failure::Refuses(k as u64 + 1))
-                && front.is_left(&rt, alloc, 1, Failure::TakesNone(k as u64 + 1)),
+            ending.comes_of(&rt, alloc, 1, Failure::Refuses(k as u64 + 1))
+                && ending.comes_of(&rt, alloc, 1, Failure::TakesNone(k as u64 + 1)),
             "after {k} bytes"
         );
     }
@@ -51,12 +51,12 @@ fn a_failing_write_leaves_a_front(rt: HostRuntime) {
 
 #[test]
 fn a_failing_flush_is_a_refusal(rt: HostRuntime) {
-    let front = Front {
+    let ending = Ending {
         answer: Err(ToolError::Write),
         text: ROWS,
         writes: 26,
     };
-    assert!(rt; front.is_left(&rt, rt.alloc(), 1, Failure::NoFlush));
+    assert!(rt; ending.comes_of(&rt, rt.alloc(), 1, Failure::NoFlush));
 }
 
 /// How many bytes are taken a call, and in how many writes the text goes.
@@ -65,29 +65,29 @@ static STEPS: [(usize, u64); 6] = [(1, 26), (2, 13), (7, 4), (25, 2), (26, 1), (
 #[test]
 fn a_writer_may_take_the_text_in_parts(rt: HostRuntime) {
     for (step, writes) in STEPS.iter() {
-        let front = Front {
+        let ending = Ending {
             answer: Ok(()),
             text: ROWS,
             writes: *writes,
         };
         assert!(rt;
-            front.is_left(&rt, rt.alloc(), *step, Failure::Never),
+            ending.comes_of(&rt, rt.alloc(), *step, Failure::Never),
             "{step} bytes a call"
         );
     }
 }
 
-/// What is left by a scan: the answer, the text written, and how often the writer was asked.
+/// How a scan ends: the answer, the text written, and how often the writer was asked.
 #[derive(Clone, Copy)]
-struct Front<'a> {
+struct Ending<'a> {
     answer: Result<(), ToolError>,
     text: &'a [u8],
     writes: u64,
 }
 
-impl Front<'_> {
-    /// Whether a scan leaves this where devices give and take so many bytes a call, and the writer fails so.
-    fn is_left<R: Threads + Wait>(
+impl Ending<'_> {
+    /// Whether a scan ends so where devices give and take so many bytes a call, and the writer fails so.
+    fn comes_of<R: Threads + Wait>(
         &self,
         rt: &R,
         alloc: Global,

@@ -1,5 +1,5 @@
 //! Tests of `rds_tool` from outside: worked examples from bytes to bytes, and devices that fail.
-//! Command lines are tried on the built program, by `tests/program.sh`.
+//! What is no command line is tried on the built program, by `tests/program.sh`.
 #![tactic(auto)]
 
 #[cfg(test)]
@@ -12,6 +12,8 @@ mod devices;
 mod encoding;
 #[cfg(test)]
 mod failing;
+#[cfg(test)]
+mod lines;
 #[cfg(test)]
 mod samples;
 #[cfg(test)]

@@ -1,0 +1,99 @@
+//! Command lines, as jobs. Those that are none are tried on the built program.
+use rds_tool::{Cuts, Input, Job, Settings, job_of};
+use std::alloc::Global;
+
+/// Whether the words are taken as the job.
+fn gives(alloc: Global, words: &[&str], job: Job) -> bool {
+    match job_of(alloc, words) {
+        Ok(given) => given == job,
+        Err(_fault) => false,
+    }
+}
+
+#[test]
+fn words_of_a_scan_are_its_input(rt: HostRuntime) {
+    for (words, hex, bits) in &INPUTS {
+        let job = Job::Scan(Input {
+            hex: *hex,
+            bits: *bits,
+        });
+        assert!(rt; gives(rt.alloc(), words, job), "{words:?}");
+    }
+}
+
+/// Words of a scan, whether its input is hexadecimal, and its bits.
+const INPUTS: [(&[&str], bool, Option<u64>); 4] = [
+    (&["rds", "scan"], false, None),
+    (&["rds", "scan", "--hex"], true, None),
+    (&["rds", "scan", "--bits", "104", "--hex"], true, Some(104)),
+    (
+        &["rds", "scan", "--bits=1099511627776"],
+        false,
+        Some(1_099_511_627_776),
+    ),
+];
+
+#[test]
+fn words_of_a_list_are_its_settings(rt: HostRuntime) {
+    for (words, [burst, reach, loss, workers], pieces) in &SETTINGS {
+        let settings = Settings {
+            burst: *burst,
+            reach: *reach,
+            loss: *loss,
+            workers: *workers,
+            cuts: Cuts::Even(*pieces),
+        };
+        let job = Job::List(
+            Input {
+                hex: true,
+                bits: None,
+            },
+            settings,
+        );
+        assert!(rt; gives(rt.alloc(), words, job), "{words:?}");
+    }
+}
+
+/// Words of a list, its rules and workers, and its pieces.
+const SETTINGS: [(&[&str], [u32; 4], u64); 3] = [
+    (&["rds", "list", "--hex"], [2, 3, 10, 4], 16),
+    (
+        &[
+            "rds",
+            "list",
+            "--hex",
+            "--loss=4294967295",
+            "--burst",
+            "0",
+            "--reach",
+            "+7",
+        ],
+        [0, 7, 4_294_967_295, 4],
+        16,
+    ),
+    (
+        &[
+            "rds",
+            "list",
+            "--hex",
+            "--pieces",
+            "4294967295",
+            "--workers",
+            "0",
+        ],
+        [2, 3, 10, 0],
+        4_294_967_295,
+    ),
+];
+
+#[test]
+fn words_of_an_encoding_are_its_output(rt: HostRuntime) {
+    assert!(rt; gives(rt.alloc(), &["rds", "encode"], Job::Encode { hex: false }));
+    assert!(rt;
+        gives(
+            rt.alloc(),
+            &["rds", "encode", "--hex"],
+            Job::Encode { hex: true }
+        )
+    );
+}
