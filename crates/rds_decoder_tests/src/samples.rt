@@ -1,4 +1,5 @@
-//! What the tests decode: recordings, the rules that they are read by, the reports that they have to give, and cuttings of them.
+//! What the tests decode: recordings, the rules that they are read by, the reports that they have to give, and
+//! cuttings of them.
 ghost use Rattle.std.specs.Prelude.{◌<◌, length, IfOk};
 ghost use Rattle.rds_pieces.specs.Cutting.{IsCutting};
 

@@ -1,5 +1,5 @@
-//! What gates and works see of a crew at its work. No contract says it: neither that workers run at the same time, nor when a
-//! gate is called, nor whose runs make the report.
+//! What gates and works see of a crew at its work. No contract says it: neither that workers run at the same time,
+//! nor when a gate is called, nor whose runs make the report.
 use crate::crew::journal::{Event, Journal, Noted};
 use crate::crew::reports::assert_decoded;
 use crate::samples::{Cuts, Sample};

@@ -36,8 +36,8 @@ impl Shown {
     }
 }
 
-/// A gate that keeps what happens, in order, and the runs: those that it is shown of the first two pieces, and those that a
-/// report is made of.
+/// A gate that keeps what happens, in order, and the runs: those that it is shown of the first two pieces, and those
+/// that a report is made of.
 #[derive(Drop)]
 pub struct Journal<'a, R> {
     rt: &'a R,

@@ -12,7 +12,8 @@ use std::test::Fail;
 /// The guesses of all pieces, in order.
 pub fn guesses<W: Work>(alloc: Global, work: &W) -> Result<Vec<PieceRun>, PieceError>
     requires { IsCutting (length (W.recording work.now)) (W.places work.now) }
-    ensures { IfOk result (λ v. FollowEachOther (W.recording work.now) (W.rule_set work.now) 0 (length (W.recording work.now)) v.items) }
+    ensures { IfOk result (λ v. FollowEachOther (W.recording work.now) (W.rule_set work.now) 0
+        (length (W.recording work.now)) v.items) }
 {
     laws::pieces_follow();
     let mut runs = Vec::new(alloc);

@@ -31,6 +31,7 @@ fn holds_remainders(planes: &[u64; 10], at: u64) -> bool
     true
 }
 
+/// Whether the planes of two zero groups do so.
 fn have_remainders(twice: &Recording, at: u64) -> bool {
     25 <= at && at <= 66 && twice.len() == 208 && holds_remainders(&planes(twice, at), at)
 }

@@ -50,6 +50,7 @@ const RANGES: [(u64, u64, &[Window]); 6] = [
     (207, 208, &[(207, D)]),
 ];
 
+/// Asserts that the scans of those ranges find those windows.
 fn assert_ranges<R: Abort>(rt: &R, alloc: Global, twice: &Recording) -> Result<(), StreamError> {
     for &(from, to, windows) in &RANGES {
         assert!(rt;

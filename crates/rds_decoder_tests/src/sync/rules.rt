@@ -8,6 +8,17 @@ fn refusal_of(alloc: Global, burst: u32, reach: u32, loss: u32) -> Option<SyncEr
     Rules::new(alloc, burst, reach, loss).err()
 }
 
+/// The numbers of the rules that are made of these.
+fn numbers_of_rules(
+    alloc: Global,
+    burst: u32,
+    reach: u32,
+    loss: u32,
+) -> Result<(u32, u32, u32), SyncError> {
+    let rules = Rules::new(alloc, burst, reach, loss)?;
+    Ok((rules.burst(), rules.reach(), rules.loss()))
+}
+
 /// Numbers out of range, and how they are refused.
 const REFUSED: [(u32, u32, u32, SyncError); 5] = [
     (6, 0, 0, SyncError::BurstRange),
@@ -26,8 +37,7 @@ fn rules_out_of_range_are_refused_in_order(rt: HostRuntime) -> Result<(), Fail> 
             "{row:?}"
         );
     }
-    let rules = Rules::new(rt.alloc(), 5, 8, 64)?;
-    assert!(rt; rules.burst() == 5 && rules.reach() == 8 && rules.loss() == 64);
+    assert!(rt; numbers_of_rules(rt.alloc(), 5, 8, 64)? == (5, 8, 64));
     Ok(())
 }
 
