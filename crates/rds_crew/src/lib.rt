@@ -23,7 +23,7 @@
 //!
 //! What it leaves to others: that memory and threads are there, that the calls of the work and of
 //! the gate return, and which thread ends first. That the workers run at the same time, and that the
-//! report is made of their runs and of no others, no contract can say: the tests in `rds_crew_tests`
+//! report is made of their runs and of no others, no contract can say: the tests in `rds_decoder_tests`
 //! show it, by a [`Gate`] that holds one worker up until the other has begun.
 #![tactic(auto)]
 
