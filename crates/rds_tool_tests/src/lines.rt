@@ -35,13 +35,13 @@ const INPUTS: [(&[&str], bool, Option<u64>); 4] = [
 
 #[test]
 fn words_of_a_list_are_its_settings(rt: HostRuntime) {
-    for (words, [burst, reach, loss, workers], pieces) in &SETTINGS {
+    for (words, [burst, reach, loss, workers], pieces) in SETTINGS {
         let settings = Settings {
-            burst: *burst,
-            reach: *reach,
-            loss: *loss,
-            workers: *workers,
-            cuts: Cuts::Even(*pieces),
+            burst,
+            reach,
+            loss,
+            workers,
+            cuts: Cuts::Even(pieces),
         };
         let job = Job::List(
             Input {
