@@ -68,12 +68,33 @@ for command in scan list totals encode; do
     check "help of $command" 0 "*Usage: rds $command" '' '' "$command" --help
     check "help on $command" 0 '*--hex' '' '' help "$command"
 done
-check 'help on the options of scan' 0 '*Usage: rds scan [OPTIONS]' '' '' help scan
-check 'help names the number of bits' 0 '*--bits <N>' '' '' scan --help
-for default in 2 3 10 16 4; do
-    check "help names the default $default" 0 "*[default: $default]" '' '' list --help
-    check "help on totals names the default $default" 0 "*[default: $default]" '' '' help totals
-done
+# Each option stands beside its own meaning, and each command is told of.
+while IFS= read -r line; do
+    check "help of list on ${line%% *}" 0 "*$line" '' '' list --help
+    check "help of totals on ${line%% *}" 0 "*$line" '' '' help totals
+done <<'END'
+--hex          Read hexadecimal digits of either case; spaces, tabs and line ends don't count
+--bits <N>     Length of the recording in bits, 0 to 68719476736 [default: all of the input]
+--burst <N>    Correct bursts of errors of up to N bits, 0 to 5 [default: 2]
+--reach <N>    Acquire where a block that fits lies up to N blocks back, 1 to 8 [default: 3]
+--loss <N>     Lose synchronism after N blocks in a row that aren't valid, 1 to 64 [default: 10]
+--pieces <N>   Cut the recording into up to N pieces, 1 or more; the output stays the same [default: 16]
+--workers <N>  Decode the pieces by up to N threads, 1 to 256; the output stays the same [default: 4]
+END
+check 'help of scan on --bits' 0 '*--bits <N>  Length of the recording in bits' '' '' help scan
+check 'help of encode on --hex' 0 '*--hex   Write each group as a line of 26 lower-case' '' '' encode --help
+while read -r command line; do
+    check "help of $command: $line" 0 "*$line" '' '' "$command" --help
+done <<'END'
+scan List each place at which 26 bits have an offset word as remainder
+scan Writes a row 'PLACE,OFFSET' for each 26 bits in a row
+list List acquisitions, groups and losses of synchronism, and then the totals
+list Writes rows of eight fields, by rising place
+totals Count valid, corrected and lost blocks, groups and losses of synchronism
+totals Writes twelve rows 'total,NAME,VALUE'
+encode Encode groups that are given as lines of hexadecimal words
+encode Each line has 16 hexadecimal digits of either case
+END
 check 'no command' 2 '' '*Usage: rds <COMMAND>' ''
 check 'a command is asked for' 2 '' '*requires a subcommand' ''
 check 'no such command' 2 '' '*tune' '' tune
