@@ -44,6 +44,14 @@ matches() {
     esac
 }
 
+# help_begins LINE [COMMAND]: the first line of the program's help, or of a command's
+help_begins() {
+    local line=$1
+    shift
+    "$rds" "$@" --help 2>"$work/err" </dev/null | head -n 1 >"$work/out"
+    judge "help of ${1:-rds} begins as it should" 0 "${PIPESTATUS[0]}" "$line\n" ''
+}
+
 # totals VALID BURST1 .. LOSSES: the twelve rows
 totals() {
     local name
@@ -83,18 +91,15 @@ done <<'END'
 END
 check 'help of scan on --bits' 0 '*--bits <N>  Length of the recording in bits' '' '' help scan
 check 'help of encode on --hex' 0 '*--hex   Write each group as a line of 26 lower-case' '' '' encode --help
-while read -r command line; do
-    check "help of $command: $line" 0 "*$line" '' '' "$command" --help
-done <<'END'
-scan List each place at which 26 bits have an offset word as remainder
-scan Writes a row 'PLACE,OFFSET' for each 26 bits in a row
-list List acquisitions, groups and losses of synchronism, and then the totals
-list Writes rows of eight fields, by rising place
-totals Count valid, corrected and lost blocks, groups and losses of synchronism
-totals Writes twelve rows 'total,NAME,VALUE'
-encode Encode groups that are given as lines of hexadecimal words
-encode Each line has 16 hexadecimal digits of either case
-END
+help_begins 'Decodes and encodes Radio Data System bits, from standard input to standard output'
+help_begins 'List each place at which 26 bits have an offset word as remainder' scan
+help_begins 'List acquisitions, groups and losses of synchronism, and then the totals' list
+help_begins 'Count valid, corrected and lost blocks, groups and losses of synchronism' totals
+help_begins 'Encode groups that are given as lines of hexadecimal words' encode
+check 'help of scan on its rows' 0 "*Writes a row 'PLACE,OFFSET' for each 26 bits in a row" '' '' scan --help
+check 'help of list on its rows' 0 '*Writes rows of eight fields, by rising place' '' '' list --help
+check 'help of totals on its rows' 0 "*Writes twelve rows 'total,NAME,VALUE'" '' '' totals --help
+check 'help of encode on its lines' 0 '*Each line has 16 hexadecimal digits of either case' '' '' encode --help
 check 'no command' 2 '' '*Usage: rds <COMMAND>' ''
 check 'a command is asked for' 2 '' '*requires a subcommand' ''
 check 'no such command' 2 '' '*tune' '' tune
