@@ -30,9 +30,13 @@ test: toolchain
 	tests/refusals.sh crates/rds/out/rds
 	tests/recipes.sh crates/rds/out/rds
 
+# The program, its manual page, and the scripts of the recipes.
 install: build/rds
-	install -d $(DESTDIR)$(PREFIX)/bin
+	install -d $(DESTDIR)$(PREFIX)/bin $(DESTDIR)$(PREFIX)/share/man/man1 $(DESTDIR)$(PREFIX)/share/rds/examples
 	install -m 755 build/rds $(DESTDIR)$(PREFIX)/bin/rds
+	install -m 644 rds.1 $(DESTDIR)$(PREFIX)/share/man/man1/rds.1
+	install -m 755 examples/*.sh examples/*.py $(DESTDIR)$(PREFIX)/share/rds/examples
+	install -m 644 examples/README.md examples/station.bin $(DESTDIR)$(PREFIX)/share/rds/examples
 
 clean:
 	rm -rf build

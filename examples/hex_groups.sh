@@ -1,13 +1,18 @@
 #!/bin/sh
 # Turns a listing of `rds list` into one line a group: four information words of four hexadecimal digits, with ----
-# for a block that is missing or lost. This is the form that RDS Spy logs and redsea's hexadecimal input have.
+# for a block that is missing or lost. This is the form that RDS Spy logs and redsea's hexadecimal input have:
+#   rds list < recording.bin | examples/hex_groups.sh | redsea --input hex
+# With --whole, groups that lack a block are left out, so that the lines can go back into `rds encode`.
 # Needs awk.
-awk -F, '
+case ${1:-} in ''|--whole) ;; *) echo 'usage: hex_groups.sh [--whole] < LISTING' >&2; exit 2;; esac
+awk -F, -v whole="${1:-}" '
   $1 == "group" {
     line = ""
+    lacks = 0
     for (i = 5; i <= 8; i++) {
       colon = index($i, ":")
+      if (!colon) lacks = 1
       line = line (i > 5 ? " " : "") (colon ? substr($i, colon + 1, 4) : "----")
     }
-    print line
+    if (!(lacks && whole != "")) print line
   }'

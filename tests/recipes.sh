@@ -3,7 +3,10 @@
 # be. A recipe whose tool is not on this machine is skipped, by name. Ends in a line 'N passed, M failed'.
 set -u
 program=$(realpath "$1")
+export RDS=$program
 cd "$(dirname "$0")/.." || exit 2
+work=$(mktemp -d)
+trap 'rm -rf "$work"' EXIT
 passed=0 failed=0
 
 # same NAME WANTED GOT
@@ -16,11 +19,36 @@ same() {
   fi
 }
 
-# has TOOL: whether it is here; says what is left out where it isn't
-has() { command -v "$1" >/dev/null || { echo "skipped: the recipe that needs $1"; false; }; }
+# fails NAME TEXT COMMAND..: the command, whose input is this function's, ends in another status than 0, with TEXT on standard error
+fails() {
+  local name=$1 text=$2 said
+  shift 2
+  if said=$("$@" 2>&1 >/dev/null); then said="status 0: $said"; fi
+  same "$name" "$text" "$said"
+}
+
+# has TOOL..: whether they are here; says what is left out where one isn't
+has() {
+  local tool
+  for tool in "$@"; do
+    command -v "$tool" >/dev/null || { echo "skipped: the recipes that need $tool"; return 1; }
+  done
+}
+
+# The first python that has numpy.
+numpy_python() {
+  local python
+  for python in python3 /usr/bin/python3; do
+    "$python" -c 'import numpy' 2>/dev/null && { echo "$python"; return; }
+  done
+  echo 'skipped: the recipe that needs numpy' >&2
+  return 1
+}
 
 zero_group=00003f000019800005a00001b4
 station() { "$program" list < examples/station.bin; }
+
+# ---- the sample
 
 same 'a first decode' "acquired,51,2,-,-,-,-,-
 group,26,0,A,none,B:0548,C:E100,D:5041
@@ -34,22 +62,133 @@ same 'one acquisition and no loss' 'total,acquired,1,-,-,-,-,- total,losses,0,-,
 same 'every block 1 of a complete group names the programme' 1922 \
   "$(station | grep '^group,' | grep -c ',A:D393,')"
 
-if has perl && has xxd; then
+# ---- bits that come in another form
+
+if has perl xxd; then
   bits=$(xxd -r -p <<< "$zero_group" | xxd -b -c 1 | awk '{ print $2 }')
   same 'a text of 0 and 1 packed' "$zero_group" "$(examples/pack_bits.sh <<< "$bits" | xxd -p)"
   same 'the packed text decoded' 'group,26,0,A,none,B:0000,C:0000,none' \
     "$(examples/pack_bits.sh <<< "$bits" | "$program" list --bits 103 | grep '^group,')"
+  fails 'a text of something else' 'pack_bits: character 3 is neither 0 nor 1' examples/pack_bits.sh <<< '01x0'
+  fails 'a text without a bit' 'pack_bits: there is no 0 and no 1 in the input' examples/pack_bits.sh <<< ' '
+
+  tr -d ' \n' <<< "$bits" | tr 01 '\000\001' > "$work/bits.u8"
+  same 'one byte a bit packed' "$zero_group" "$(examples/pack_bytes.sh < "$work/bits.u8" | xxd -p)"
+  fails 'bytes that are no bits' 'pack_bytes: byte 1 is 0xD3, neither 0x00 nor 0x01' examples/pack_bytes.sh < examples/station.bin
+  fails 'no byte at all' 'pack_bytes: there is no byte in the input' examples/pack_bytes.sh < /dev/null
+  if python=$(numpy_python); then
+    same 'one byte a bit packed by numpy' "$zero_group" "$("$python" examples/pack_bytes.py < "$work/bits.u8" | xxd -p)"
+    fails 'bytes that are no bits, by numpy' 'pack_bytes: byte 1 is 0xD3, neither 0x00 nor 0x01' \
+      "$python" examples/pack_bytes.py < examples/station.bin
+    fails 'no byte at all, by numpy' 'pack_bytes: there is no byte in the input' "$python" examples/pack_bytes.py < /dev/null
+  fi
+
+  # forms FILE: the form in which the file gives the most complete groups
+  forms() { examples/which_form.sh "$1" | tail -n +2 | sort -rn | sed -n '1s/  *[^ ]*  *\([a-z0-9, ]*[a-z0-9]\)  .*/\1/p'; }
+  same 'the form of packed bytes' 'packed bytes' "$(forms examples/station.bin)"
+  perl -0777 -pe '$_ = pack q(B*), unpack q(b*), $_' < examples/station.bin > "$work/lowest"
+  same 'the form of bits packed lowest first' 'packed bytes, lowest bit first' "$(forms "$work/lowest")"
+  perl -0777 -pe '$_ = ~$_' < examples/station.bin > "$work/inverted"
+  same 'the form of inverted bits' 'packed bytes, inverted' "$(forms "$work/inverted")"
+  perl -0777 -ne '$s = 0; for (split //, unpack q(B*), $_) { $s ^= $_; $o .= $s } print pack q(B*), $o' \
+    < examples/station.bin > "$work/encoded"
+  same 'the form of bits before differential decoding' 'packed bytes, before differential decoding' "$(forms "$work/encoded")"
+  xxd -p examples/station.bin > "$work/digits"
+  same 'the form of hexadecimal digits' 'hexadecimal digits' "$(forms "$work/digits")"
+  same 'the mistakes are to be seen in the totals' 'total,complete,0,-,-,-,-,-' \
+    "$("$program" totals < "$work/encoded" | grep complete)"
 fi
+
+# ---- a day of a station: three hours with an outage, a slip and a change of programme
+
+if has perl awk; then
+  same 'what was made' 'bits 12824967 turned 12846 off_air_s 3600 4500 slip_s 5400 programme_s 7200' \
+    "$(examples/make_day.sh "$work/day.bin" | tr '\n' ' ' | sed 's/ $//')"
+  "$program" list < "$work/day.bin" > "$work/day.csv"
+  length=$(($(wc -c < "$work/day.bin") * 8))
+  same 'block errors by the half hour' 'begin_s,end_s,sent,valid,corrected,lost,missing,bad_percent
+0,1800,82211,80089,2103,19,0,2.58
+1800,3600,82212,80109,2078,25,0,2.56
+3600,5400,82211,40036,1077,187,40911,51.30
+5400,7200,82212,80123,2058,31,0,2.54
+7200,9000,82211,80098,2094,19,0,2.57
+9000,10800,82211,80052,2136,22,1,2.63' "$(examples/block_errors.sh "$length" 1800 < "$work/day.csv")"
+  same 'their sums are the totals' "$(awk -F, '$2 == "valid" { valid = $3 } $2 ~ /^burst/ { corrected += $3 } $2 == "lost" { lost = $3 }
+      END { print valid, corrected, lost }' "$work/day.csv")" \
+    "$(examples/block_errors.sh "$length" 1800 < "$work/day.csv" | awk -F, 'NR > 1 { valid += $4; corrected += $5; lost += $6 }
+      END { print valid, corrected, lost }')"
+  same 'an hour off the air is bad' 'begin_s,end_s,sent,valid,corrected,lost,missing,bad_percent 0,3600,164423,0,0,0,164423,100.00' \
+    "$(examples/block_errors.sh 4275000 3600 < /dev/null | tr '\n' ' ' | sed 's/ $//')"
+  fails 'no length' 'usage: block_errors.sh BITS [SECONDS] < LISTING' examples/block_errors.sh < /dev/null
+  same 'when it was off the air' 'begin_s,end_s,length_s 3600,4500,900' \
+    "$(examples/block_errors.sh "$length" 10 < "$work/day.csv" | examples/off_air.sh | tr '\n' ' ' | sed 's/ $//')"
+  same 'the programmes' 'begin_s,end_s,programme,groups
+0,3600,D393,40055
+4500,7200,D393,30015
+7200,10800,D312,40026' "$(examples/programmes.sh < "$work/day.csv")"
+  same 'which blocks were corrected' 'place,type,version,block,offset,word,burst,span
+624,0,A,4,D,4455,0000040,1
+832,0,A,4,D,5041,0100000,1' "$(examples/corrected_blocks.sh < "$work/day.csv" | sed -n 1,3p)"
+  same 'as many as the totals say' "$(awk -F, '$2 ~ /^burst/ { n += $3 } END { print n }' "$work/day.csv")" \
+    "$(examples/corrected_blocks.sh < "$work/day.csv" | tail -n +2 | wc -l | tr -d ' ')"
+  same 'a span of five' '26,0,A,4,D,0000,0000011,5' \
+    "$(echo 00003f000019800005a00001a5 | "$program" list --hex --burst 5 | examples/corrected_blocks.sh | sed -n 2p)"
+
+  if has gnuplot; then
+    examples/block_errors.sh "$length" 60 < "$work/day.csv" > "$work/errors.csv"
+    examples/plot_block_errors.sh "$work/errors.png" < "$work/errors.csv"
+    same 'a picture as PNG' 89504e470d0a1a0a "$(xxd -p -l 8 "$work/errors.png")"
+    examples/plot_block_errors.sh "$work/errors.svg" < "$work/errors.csv"
+    same 'a picture as SVG, with its axes' '>hours< >per cent of the blocks sent<' \
+      "$(grep -oE '>(hours|per cent of the blocks sent)<' "$work/errors.svg" | sort | tr '\n' ' ' | sed 's/ $//')"
+    fails 'a picture of nothing' 'plot_block_errors: there is no interval in the input' \
+      examples/plot_block_errors.sh "$work/none.png" < /dev/null
+  fi
+fi
+
+# ---- other forms of the listing
 
 if has awk; then
   same 'groups as lines of hexadecimal words' '---- 0548 E100 5041' "$(station | examples/hex_groups.sh | sed -n 1p)"
   same 'as many lines as groups' 1923 "$(station | examples/hex_groups.sh | wc -l | tr -d ' ')"
+  same 'whole groups go back into encode' 1922 \
+    "$(station | examples/hex_groups.sh --whole | "$program" encode | "$program" list | grep -c '^group,')"
+  same 'a group and a loss as JSON' '{"kind":"group","place":104,"type":null,"version":null,"conflict":false,"blocks":[{"lost":true},null,null,null]}
+{"kind":"lost","place":129}' \
+    "$(echo "${zero_group}000037400019800005a00001b4" | "$program" list --hex --loss 1 | examples/to_json_lines.sh | sed -n 3,4p)"
+  same 'as many objects as rows' "$(station | wc -l)" "$(station | examples/to_json_lines.sh | wc -l)"
+  if has jq; then
+    same 'the objects are JSON' "$(station | wc -l)" "$(station | examples/to_json_lines.sh | jq -c .kind | wc -l)"
+  fi
 fi
+same 'the line that is no group' '3:1234 2540 5244 532' \
+  "$(printf '1234 2540 5244 5320\n\n1234 2540 5244 532\n' | grep -nvE '^([[:blank:]]*[[:xdigit:]]){16}[[:blank:]]*$|^[[:blank:]]*$')"
 
 if has sqlite3; then
-  same 'lost blocks of each hour' '0|1923|0' "$(station | examples/lost_per_hour.sh)"
-  same 'a lost block is counted' '0|1|1' \
-    "$(printf '%s\n' 00003f000019800005a0000195 | "$program" list --hex --burst 5 | examples/lost_per_hour.sh)"
+  station | examples/to_sqlite.sh "$work/listing.db"
+  same 'a listing in a database' '1923|integer|integer|1|7691' "$(sqlite3 "$work/listing.db" \
+    "SELECT COUNT(*), MIN(typeof(place)), MIN(typeof(type)), (SELECT COUNT(*) FROM acquired),
+            (SELECT value FROM totals WHERE name = 'valid') FROM groups")"
+  fails 'a database that is there' "to_sqlite: $work/listing.db is there already" examples/to_sqlite.sh "$work/listing.db" < /dev/null
+fi
+
+# ---- many recordings
+
+if has parallel; then
+  mkdir "$work/recordings"
+  cp examples/station.bin "$work/recordings/a station.bin"
+  xxd -r -p <<< "$zero_group" > "$work/recordings/zero.bin"
+  examples/decode_folder.sh "$work/recordings" "$work/listings" 2>/dev/null
+  same 'a folder of listings' "$(station | cksum) $("$program" list < "$work/recordings/zero.bin" | cksum)" \
+    "$(cksum < "$work/listings/a station.csv") $(cksum < "$work/listings/zero.csv")"
+  examples/decode_folder.sh "$work/recordings" "$work/listings" 2>/dev/null
+  same 'done once' 2 "$(tail -n +2 "$work/listings/joblog" | wc -l | tr -d ' ')"
+fi
+
+# ---- the manual page
+
+if has mandoc; then
+  same 'the manual page' '' "$(mandoc -T lint -W warning rds.1 2>&1)"
 fi
 
 echo "$passed passed, $failed failed"

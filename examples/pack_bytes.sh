@@ -1,0 +1,22 @@
+#!/bin/sh
+# Packs a file of one byte a bit, 0x00 or 0x01, as GNU Radio and most receivers write them, into eight bits a byte, the
+# first bit highest. The last byte is filled with zeros: give rds the number of bits, as
+#   rds list --bits "$(wc -c < bits.u8)" < bits.bin
+# Fails, with a line on standard error, where a byte is anything else, or where there is none.
+# Needs perl.
+exec perl -e '
+  use strict;
+  binmode STDIN; binmode STDOUT;
+  my ($read, $rest) = (0, "");
+  while (read(STDIN, my $bytes, 1 << 20)) {
+    $bytes =~ /[^\x00\x01]/ and die sprintf "pack_bytes: byte %d is 0x%02X, neither 0x00 nor 0x01\n",
+      $read + $-[0] + 1, ord substr $bytes, $-[0], 1;
+    $read += length $bytes;
+    $bytes =~ tr/\x00\x01/01/;
+    $rest .= $bytes;
+    my $whole = length($rest) - length($rest) % 8;
+    print pack "B*", substr $rest, 0, $whole, "";
+  }
+  $read or die "pack_bytes: there is no byte in the input\n";
+  print pack "B*", $rest;
+'
