@@ -1,8 +1,9 @@
 -- Totals of two lists of items together, of the rest of one, and of one block.
-use Rattle.std.specs.Prelude.{◌≡◌, ℕ, ◌+◌, ◌*◌, ◌^◌, ◌<◌, ◌≤◌, [], ◌∷◌, length, slice_index, if◌then◌else◌}
+use Rattle.std.specs.Prelude.{◌≡◌, ℕ, ◌+◌, ◌*◌, ◌^◌, ◌<◌, ◌≤◌, List, [], ◌∷◌, ◌++◌, length, slice_index, if◌then◌else◌}
 use Rattle.rds_sync.specs.declared.item.Block.{Block}
+use Rattle.rds_sync.specs.declared.item.Item.{Item}
 use Rattle.rds_sync.specs.declared.totals.Totals.{Totals}
-use Rattle.rds_sync.specs.Totals.{is_valid, is_lost, is_corrected_by, bits_corrected}
+use Rattle.rds_sync.specs.Totals.{totals_of, is_valid, is_lost, is_corrected_by, bits_corrected}
 
 -- each count is the sum of the two
 abbrev pub plus : Totals → Totals → Totals
@@ -23,6 +24,10 @@ plus t u = record {
 pub record IsRest (part whole rest : Totals) : Type 0 where
   pub spans : length rest.bursts ≡ 5
   pub joined : whole ≡ plus part rest
+
+-- the totals of a list are those of its first items together with those of the rest
+abbrev pub TotalsJoin : Type 0
+TotalsJoin = (first rest : List Item) → IsRest (totals_of first) (totals_of (first ++ rest)) (totals_of rest)
 
 -- the totals of so many groups of four valid blocks
 abbrev pub whole_totals : ℕ → Totals

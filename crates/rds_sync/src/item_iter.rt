@@ -48,7 +48,7 @@ impl<'a> Cursor<'a> {
     fn settled(self) -> Cursor<'a>
         requires { IsSound self }
         ensures sound { IsSound result }
-        ensures same { items_ahead result ≡ items_ahead self }
+        ensures same { items_ahead result ≡ items_ahead self.entry }
         ensures settled { length result.kept.now ≡ 0 → items_ahead result ≡ [] }
     {
         let mut now = self;
