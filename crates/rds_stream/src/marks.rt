@@ -1,14 +1,16 @@
 //! Words of marks: which of up to 64 places in a row have a valid window.
-ghost use Rattle.std.specs.Prelude.{◌≡◌, ◌≢◌, ℕ, ◌+◌, ◌-◌, ◌<◌, ◌≤◌, ◌^◌, ◌↔◌, length, IsSome};
+ghost use Rattle.std.specs.Prelude.{◌≡◌, ◌≢◌, ℕ, ◌+◌, ◌-◌, ◌<◌, ◌≤◌, ◌^◌, ◌↔◌, length, slice_index, IsSome};
 ghost use Rattle.std.specs.Int.{bit_at};
 ghost use Rattle.rds_code.specs.Offsets.{offset_of as the_offset_of};
-ghost use Rattle.rds_stream.specs.Planes.{Hold};
+ghost use Rattle.rds_stream.specs.Planes.{HoldInLane};
 ghost use Rattle.rds_stream.specs.Recording.{off};
 ghost use Rattle.rds_stream.specs.ValidWindows.{AreMarks, NoneValid};
 
-use crate::bit_planes::planes;
+use crate::bit_planes::plane_lanes;
+use crate::lanes::{either, joined, narrowed};
 use crate::recording::Recording;
 use rds_code::Offset;
+use std::simd::prelude::*;
 
 /// Up to 64 places in a row, from `next` to before `ahead`. Bit k of `word` is a one where the window at place `next` + k
 /// is valid.
@@ -64,13 +66,14 @@ impl Marks {
 }
 
 /// Ones at the valid places of the 64 from `at` on; bit k stands for place `at` + k.
+#[inline(always)]
 fn at_once(recording: &Recording, at: u64) -> u64
     requires first { 25 ≤ at }
     requires last { at + 64 ≤ length recording.now }
     ensures { (k : ℕ) → k < 64 → (bit_at result k ≡ 1) ↔ IsSome (off recording.now (at + k)) }
 {
     prove!(at < recording.len());
-    valid_places(&planes(recording, at))
+    joined(valid_places(&plane_lanes(recording, at)))
 }
 
 /// Ones at the valid places from `from` to before `to`, fewer than 64, one by one; bit k stands for place `from` + k.
@@ -91,29 +94,27 @@ fn one_by_one(recording: &Recording, from: u64, to: u64) -> u64
 }
 
 /// Ones where the planes hold an offset word.
-fn valid_places(planes: &[u64; 10]) -> u64
-    ensures { (k remainder : ℕ) → k < 64 → Hold planes.now k remainder → (bit_at result k ≡ 1) ↔ IsSome (the_offset_of remainder) }
+#[inline(always)]
+fn valid_places(planes: &[u64x2; 10]) -> u64x2
+    ensures { (j k remainder : ℕ) → j < 2 → k < 32 → HoldInLane planes.now j k remainder
+        → (bit_at (slice_index result j) k ≡ 1) ↔ IsSome (the_offset_of remainder) }
 {
-    equal_to(planes, Offset::A.word())
-        | equal_to(planes, Offset::B.word())
-        | equal_to(planes, Offset::C.word())
-        | equal_to(planes, Offset::Cx.word())
-        | equal_to(planes, Offset::D.word())
+    let first = either(equal_to(planes, Offset::A.word()), equal_to(planes, Offset::B.word()));
+    let third = either(equal_to(planes, Offset::C.word()), equal_to(planes, Offset::Cx.word()));
+    either(either(first, third), equal_to(planes, Offset::D.word()))
 }
 
 /// Ones where the planes hold `word`.
-fn equal_to(planes: &[u64; 10], word: u16) -> u64
+#[inline(always)]
+fn equal_to(planes: &[u64x2; 10], word: u16) -> u64x2
     requires { word < 2 ^ 10 }
-    ensures { (k remainder : ℕ) → k < 64 → Hold planes.now k remainder → (bit_at result k ≡ 1) ↔ (remainder ≡ word) }
+    ensures { (j k remainder : ℕ) → j < 2 → k < 32 → HoldInLane planes.now j k remainder
+        → (bit_at (slice_index result j) k ≡ 1) ↔ (remainder ≡ word) }
 {
-    let mut same = u64::MAX;
+    let mut same = u64x2::splat(u64::MAX);
     for r in 0..10usize {
-        let plane = planes[r];
-        if word >> r & 1 == 1 {
-            same &= plane;
-        } else {
-            same &= !plane;
-        }
+        let flip = if word >> r & 1 == 1 { 0 } else { u64::MAX };
+        same = narrowed(same, planes[r], flip);
     }
     same
 }
