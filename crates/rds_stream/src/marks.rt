@@ -99,8 +99,14 @@ fn valid_places(planes: &[u64x2; 10]) -> u64x2
     ensures { (j k remainder : ℕ) → j < 2 → k < 32 → HoldInLane planes.now j k remainder
         → (bit_at (slice_index result j) k ≡ 1) ↔ IsSome (the_offset_of remainder) }
 {
-    let first = either(equal_to(planes, Offset::A.word()), equal_to(planes, Offset::B.word()));
-    let third = either(equal_to(planes, Offset::C.word()), equal_to(planes, Offset::Cx.word()));
+    let first = either(
+        equal_to(planes, Offset::A.word()),
+        equal_to(planes, Offset::B.word()),
+    );
+    let third = either(
+        equal_to(planes, Offset::C.word()),
+        equal_to(planes, Offset::Cx.word()),
+    );
     either(either(first, third), equal_to(planes, Offset::D.word()))
 }
 

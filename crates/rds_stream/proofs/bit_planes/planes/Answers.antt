@@ -18,14 +18,14 @@ returns c k within =
     subst (λ (p : ℕ). Hold words p (rem (window b (c.args.at + p)))) split (record {
       small = held.small;
       bits = ten_words (32 * j + bit) _ _ _ _ _ _ _ _ _ _ _
-    (c.joined.ensures j bit lane low ∙ held.bits 0 (omega arith))
-    (c.joined-2.ensures j bit lane low ∙ held.bits 1 (omega arith))
-    (c.joined-3.ensures j bit lane low ∙ held.bits 2 (omega arith))
-    (c.joined-4.ensures j bit lane low ∙ held.bits 3 (omega arith))
-    (c.joined-5.ensures j bit lane low ∙ held.bits 4 (omega arith))
-    (c.joined-6.ensures j bit lane low ∙ held.bits 5 (omega arith))
-    (c.joined-7.ensures j bit lane low ∙ held.bits 6 (omega arith))
-    (c.joined-8.ensures j bit lane low ∙ held.bits 7 (omega arith))
-    (c.joined-9.ensures j bit lane low ∙ held.bits 8 (omega arith))
-    (c.joined-10.ensures j bit lane low ∙ held.bits 9 (omega arith));
+          (c.joined.ensures j bit lane low ∙ held.bits 0 (omega arith))
+          (c.joined-2.ensures j bit lane low ∙ held.bits 1 (omega arith))
+          (c.joined-3.ensures j bit lane low ∙ held.bits 2 (omega arith))
+          (c.joined-4.ensures j bit lane low ∙ held.bits 3 (omega arith))
+          (c.joined-5.ensures j bit lane low ∙ held.bits 4 (omega arith))
+          (c.joined-6.ensures j bit lane low ∙ held.bits 5 (omega arith))
+          (c.joined-7.ensures j bit lane low ∙ held.bits 6 (omega arith))
+          (c.joined-8.ensures j bit lane low ∙ held.bits 7 (omega arith))
+          (c.joined-9.ensures j bit lane low ∙ held.bits 8 (omega arith))
+          (c.joined-10.ensures j bit lane low ∙ held.bits 9 (omega arith));
     })
