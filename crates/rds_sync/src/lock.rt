@@ -6,45 +6,22 @@
 ghost use Rattle.std.specs.Prelude.{◌≡◌, ◌≤◌, ◌<◌, ◌+◌, ◌-◌, ◌*◌, ◌^◌, ◌++◌, [], ◌∷◌, List, length, IfOk, OnOk, IsOkUnless};
 ghost use Rattle.rds_sync.specs.Acquiring.{has_number};
 ghost use Rattle.rds_sync.specs.Groups.{blocks_at, group_of};
-ghost use Rattle.rds_sync.specs.Locks.{state_of, IsFollowed, IsInProgress, IsReadable};
+ghost use Rattle.rds_sync.specs.Due.{state_in, state_of};
+ghost use Rattle.rds_sync.specs.Locks.{IsFollowed, IsInProgress, IsReadable};
 ghost use Rattle.rds_sync.specs.Step.{step, items_at};
 ghost use Rattle.rds_sync.specs.Totals.{is_valid};
 ghost use Rattle.rds_sync.specs.declared.item.Block.TheVariants.{Read};
-ghost use Rattle.rds_sync.specs.declared.state.State.TheVariants.{Locked};
 
 use crate::error::SyncError;
-use crate::group::{GroupPart, bad_with, read_blocks};
+use crate::due::{Due, Lock};
+use crate::group::{GroupPart, read_blocks};
 use crate::item::{Block, Group, Item};
 use crate::rules::Rules;
-use crate::state::State;
 use rds_code::{Reading, Wanted};
 use rds_stream::{Counted, Recording};
 
 /// The blocks of a group of which none was read.
 const NO_BLOCKS: [Block; 4] = [Block::Missing; 4];
-
-/// The block that is due, and where its group and its run of bad blocks stand.
-#[derive(Clone, Copy)]
-pub(crate) struct Lock {
-    pub due: u64,
-    pub number: u8,
-    pub bad: u8,
-    pub first: u8,
-}
-
-impl Lock {
-    /// The state of a run that is in this lock.
-    pub fn state(self) -> State
-        ensures { result ≡ Locked self.due self.number self.bad self.first }
-    {
-        State::Locked {
-            due: self.due,
-            number: self.number,
-            bad: self.bad,
-            first: self.first,
-        }
-    }
-}
 
 /// The blocks of the group in progress that were read before.
 pub(crate) fn blocks_before(rec: &Recording, rules: &Rules, lock: Lock) -> [Block; 4]
@@ -102,14 +79,6 @@ fn closed(lock: Lock, blocks: &[Block; 4]) -> Group
     Group::of_blocks(place, [one, two, three, four])
 }
 
-/// What the block that was due led to.
-pub(crate) enum Followed {
-    /// Its group goes on with the block that is due next, and nothing was given.
-    Inside(Lock),
-    /// It closed its group, and the lock was kept or lost.
-    Closed(State),
-}
-
 /// Follows a lock by the block that is due.
 pub(crate) fn follow(
     rec: &Recording,
@@ -117,34 +86,27 @@ pub(crate) fn follow(
     lock: Lock,
     blocks: &mut [Block; 4],
     items: &mut Vec<Item>,
-) -> Result<Followed, SyncError>
+) -> Result<Due, SyncError>
     requires readable { IsReadable rec.now rules.now lock }
     requires within { lock.due < length rec.now }
     requires in_progress { IsInProgress rec.now rules.now lock blocks.old }
-    ensures state { IfOk result (λ followed. state_of followed
-        ≡ step rec.now rules.now lock.due (Locked lock.due lock.number lock.bad lock.first)) }
+    ensures state { IfOk result (λ due. state_of due ≡ step rec.now rules.now lock.due (state_in lock)) }
     ensures items { OnOk result (items.new.items ≡ items.old.items
-        ++ items_at rec.now rules.now lock.due (Locked lock.due lock.number lock.bad lock.first)) }
+        ++ items_at rec.now rules.now lock.due (state_in lock)) }
     ensures followed { IfOk result (IsFollowed rec.now rules.now lock blocks.new) }
     ensures only_memory { IsOkUnless result SyncError.OutOfMemory }
 {
     prove!(lock.due < rec.len());
     let loss = rules.loss();
-    let valid = read_due(rec, rules, lock, blocks);
-    let bad = bad_with(valid, lock.bad);
-    if u32::from(bad) >= loss {
-        items.push(Item::Group(closed(lock, blocks)))?;
-        items.push(Item::LostLock { place: lock.due })?;
-        return Ok(Followed::Closed(State::Searching));
+    let good = read_due(rec, rules, lock, blocks);
+    let due = lock.after(loss, good);
+    match due {
+        Due::Inside(_) => {}
+        Due::Closed(_) => items.push(Item::Group(closed(lock, blocks)))?,
+        Due::Lost => {
+            items.push(Item::Group(closed(lock, blocks)))?;
+            items.push(Item::LostLock { place: lock.due })?;
+        }
     }
-    if lock.number < 4 {
-        return Ok(Followed::Inside(Lock {
-            due: lock.due + 26,
-            number: lock.number + 1,
-            bad,
-            first: lock.first,
-        }));
-    }
-    items.push(Item::Group(closed(lock, blocks)))?;
-    Ok(Followed::Closed(State::after_block(lock.due, 4, bad, lock.first)))
+    Ok(due)
 }

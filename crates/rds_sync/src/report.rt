@@ -32,7 +32,6 @@ pub fn decode_plain(alloc: Global, rec: &Recording, rules: &Rules) -> Result<Rep
         ≡ totals_of (report_items rec.now rules.now)) }
     ensures only_memory { IsOkUnless result SyncError.OutOfMemory }
 {
-    prove!(1 <= rules.loss());
     let (end, mut items) = run(alloc, rec, rules, State::Searching, 0, rec.len())?;
     let mut tape = Counted::new(rec);
     push_group(&mut items, finish(&mut tape, rules, end))?;

@@ -3,20 +3,20 @@
 
 ghost use Rattle.std.specs.Prelude.{◌≡◌, ◌≤◌, ◌<◌, ◌-◌, ◌++◌, length, IfOk, OnOk, IsOkUnless};
 ghost use Rattle.rds_sync.specs.Advance.{items_in};
+ghost use Rattle.rds_sync.specs.Due.{state_in};
 ghost use Rattle.rds_sync.specs.Lawful.{IsLawful, IsLawfulLock};
 ghost use Rattle.rds_sync.specs.Stretch.{IsStretch, IsStretchOnto};
-ghost use Rattle.rds_sync.specs.Acquiring.{acquired};
-ghost use Rattle.rds_sync.specs.Step.{run, items_at};
-ghost use Rattle.rds_sync.specs.declared.state.State.TheVariants.{Searching, Locked};
+ghost use Rattle.rds_sync.specs.Step.{run};
+ghost use Rattle.rds_sync.specs.declared.state.State.TheVariants.{Searching};
 
+use crate::acquiring::{Acquisition, has_partner_in};
+use crate::due::{Due, Lock};
 use crate::error::SyncError;
-use crate::group::GroupPart;
 use crate::item::Item;
-use crate::lock::{Followed, Lock, blocks_before, follow};
+use crate::lock::{blocks_before, follow};
 use crate::rules::Rules;
 use crate::state::State;
-use crate::step::{closed_group, has_partner};
-use rds_stream::{Counted, FIRST_WINDOW, Recording};
+use rds_stream::{FIRST_WINDOW, Recording};
 
 /// How far a run came, and the state there.
 #[derive(Clone, Copy, Debug, PartialEq, Eq)]
@@ -82,7 +82,7 @@ fn search(
         IsStretchOnto rec.now rules.now Searching place to items.old.items reached items.new.items) }
     ensures only_memory { IsOkUnless result SyncError.OutOfMemory }
 {
-    prove!(1 <= rules.loss() && to <= rec.len());
+    prove!(to <= rec.len());
     for here in place.max(FIRST_WINDOW)..to {
         let Some(offset) = rec.offset(here) else {
             continue;
@@ -90,11 +90,16 @@ fn search(
         // A window is valid by chance at one place in two hundred: so its partners are looked up in
         // the recording, and the search keeps none of the windows behind it.
         let number = offset.number();
-        if has_partner(&mut Counted::new(rec), rules, here, number) {
-            push_found(items, found_at(rec, rules, here, number))?;
+        if has_partner_in(rec, rules, here, number) {
+            let found = Acquisition {
+                place: here,
+                number,
+                window: rec.window(here),
+            };
+            push_found(items, found.items(rules))?;
             return Ok(Reached {
                 place: here + 1,
-                state: State::after_block(here, number, 0, number),
+                state: found.lock(rules.loss()).state(),
             });
         }
     }
@@ -102,22 +107,6 @@ fn search(
         place: to,
         state: State::Searching,
     })
-}
-
-/// What is found at a place that acquires with this number.
-fn found_at(rec: &Recording, rules: &Rules, place: u64, number: u8) -> [Option<Item>; 2]
-    requires within { place < length rec.now }
-    requires acquires { acquired rec.now rules.now place ≡ Some number }
-    ensures { items_in result ≡ items_at rec.now rules.now place Searching }
-{
-    let part = GroupPart {
-        first: number,
-        last: number,
-        place,
-        window: rec.window(place),
-    };
-    let group = closed_group(&mut Counted::new(rec), rules, part);
-    [Some(Item::Acquired { place, number }), group]
 }
 
 /// Appends what was found.
@@ -149,7 +138,7 @@ fn keep_lock(
     requires order { place < to }
     requires within { to ≤ length rec.now }
     ensures reached { IfOk result (λ reached.
-        IsStretchOnto rec.now rules.now (Locked lock.due lock.number lock.bad lock.first) place to
+        IsStretchOnto rec.now rules.now (state_in lock) place to
         items.old.items reached items.new.items) }
     ensures only_memory { IsOkUnless result SyncError.OutOfMemory }
 {
@@ -158,11 +147,17 @@ fn keep_lock(
     while now.due < to {
         let due = now.due;
         match follow(rec, rules, now, &mut blocks, items)? {
-            Followed::Inside(next) => now = next,
-            Followed::Closed(state) => {
+            Due::Inside(next) => now = next,
+            Due::Closed(next) => {
                 return Ok(Reached {
                     place: due + 1,
-                    state,
+                    state: next.state(),
+                });
+            }
+            Due::Lost => {
+                return Ok(Reached {
+                    place: due + 1,
+                    state: State::Searching,
                 });
             }
         }

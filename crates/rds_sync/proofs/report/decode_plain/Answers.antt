@@ -6,7 +6,7 @@ use Rattle.rds_sync.specs.declared.state.State.{State}
 use Rattle.rds_sync.specs.Advance.{group_item}
 use Rattle.rds_sync.specs.Step.{items_of_end}
 use Rattle.rds_sync.specs.Totals.{totals_of}
-use Rattle.rds_sync.proofs.BodyLemmas.{report-run, report-few}
+use Rattle.rds_sync.proofs.ItemLemmas.{report-run, report-few}
 use Rattle.rds_sync.proofs.report.decode_plain.Goals as goal
 
 -- the item of the end, by a tape of the recording

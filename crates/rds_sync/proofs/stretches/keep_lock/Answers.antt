@@ -9,7 +9,8 @@ use Rattle.rds_sync.specs.Lawful.{IsLawful}
 use Rattle.rds_sync.specs.Locks.{state_of, IsFollowed}
 use Rattle.rds_sync.specs.Rules.{RuleNumbers}
 use Rattle.rds_sync.specs.Step.{step, items_at, run}
-use Rattle.rds_sync.proofs.BodyLemmas.{run-further, run-due, run-early, run-quiet, lawful-due, lawful-waiting}
+use Rattle.rds_sync.proofs.LawfulLemmas.{lawful-due, lawful-waiting}
+use Rattle.rds_sync.proofs.RunLemmas.{run-further, run-due, run-early, run-quiet}
 use Rattle.rds_sync.proofs.stretches.keep_lock.Invariants.{HasFollowed}
 use Rattle.rds_sync.proofs.stretches.keep_lock.Goals as goal
 

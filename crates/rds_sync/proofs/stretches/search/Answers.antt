@@ -9,9 +9,10 @@ use Rattle.rds_sync.specs.Advance.{items_in}
 use Rattle.rds_sync.specs.Lawful.{IsLawful}
 use Rattle.rds_sync.specs.Rules.{RuleNumbers}
 use Rattle.rds_sync.specs.Step.{step}
-use Rattle.rds_sync.proofs.RunLemmas.{step-acquiring, items-acquiring}
+use Rattle.rds_sync.proofs.ItemLemmas.{some_given}
+use Rattle.rds_sync.proofs.RunLemmas.{step-acquiring, items-acquiring, run-found, run-quiet, run-unfound}
 use Rattle.rds_sync.proofs.LawfulLemmas.{acquired-none, lawful-step, number-range}
-use Rattle.rds_sync.proofs.BodyLemmas.{acquired-early, acquired-offset, run-found, run-quiet, run-unfound, some_given}
+use Rattle.rds_sync.proofs.WindowLemmas.{acquired-early, acquired-offset}
 use Rattle.rds_sync.proofs.stretches.search.Goals as goal
 
 pub loop-here-init : goal.loop-here-init
