@@ -15,7 +15,8 @@ ghost use Rattle.rds_sync.specs.declared.item.Block.TheVariants.{Read};
 use crate::error::SyncError;
 use crate::due::{Due, Lock};
 use crate::group::{GroupPart, read_blocks};
-use crate::item::{Block, Group, Item};
+use crate::item::{Block, Item};
+use crate::item_buffer::ItemBuffer;
 use crate::rules::Rules;
 use rds_code::{Reading, Wanted};
 use rds_stream::{Counted, Recording};
@@ -68,15 +69,17 @@ fn is_valid(reading: &Reading) -> bool
     matches!(reading, Reading::Valid { .. })
 }
 
-/// The group that the block just read closes.
-fn closed(lock: Lock, blocks: &[Block; 4]) -> Group
+/// Appends the group that the block just read closes.
+fn push_closed(items: &mut ItemBuffer, lock: Lock, blocks: &[Block; 4]) -> Result<(), SyncError>
     requires order { lock.first ≤ lock.number }
     requires start { 26 * (lock.number - lock.first) + 25 ≤ lock.due }
-    ensures { result ≡ group_of (lock.due - 26 * (lock.number - lock.first) - 25) blocks.now }
+    ensures ok { OnOk result (items.new ≡ items.old
+        ++ Item.Group (group_of (lock.due - 26 * (lock.number - lock.first) - 25) blocks.now) ∷ []) }
+    ensures only_memory { IsOkUnless result SyncError.OutOfMemory }
 {
-    let [one, two, three, four] = *blocks;
     let place = lock.due - 26 * u64::from(lock.number - lock.first) - 25;
-    Group::of_blocks(place, [one, two, three, four])
+    items.push_group(place, blocks)?;
+    Ok(())
 }
 
 /// Follows a lock by the block that is due.
@@ -85,13 +88,13 @@ pub(crate) fn follow(
     rules: &Rules,
     lock: Lock,
     blocks: &mut [Block; 4],
-    items: &mut Vec<Item>,
+    items: &mut ItemBuffer,
 ) -> Result<Due, SyncError>
     requires readable { IsReadable rec.now rules.now lock }
     requires within { lock.due < length rec.now }
     requires in_progress { IsInProgress rec.now rules.now lock blocks.old }
     ensures state { IfOk result (λ due. state_of due ≡ step rec.now rules.now lock.due (state_in lock)) }
-    ensures items { OnOk result (items.new.items ≡ items.old.items
+    ensures items { OnOk result (items.new ≡ items.old
         ++ items_at rec.now rules.now lock.due (state_in lock)) }
     ensures followed { IfOk result (IsFollowed rec.now rules.now lock blocks.new) }
     ensures only_memory { IsOkUnless result SyncError.OutOfMemory }
@@ -102,9 +105,9 @@ pub(crate) fn follow(
     let due = lock.after(loss, good);
     match due {
         Due::Inside(_) => {}
-        Due::Closed(_) => items.push(Item::Group(closed(lock, blocks)))?,
+        Due::Closed(_) => push_closed(items, lock, blocks)?,
         Due::Lost => {
-            items.push(Item::Group(closed(lock, blocks)))?;
+            push_closed(items, lock, blocks)?;
             items.push(Item::LostLock { place: lock.due })?;
         }
     }

@@ -13,6 +13,7 @@ use crate::acquiring::{Acquisition, has_partner_in};
 use crate::due::{Due, Lock};
 use crate::error::SyncError;
 use crate::item::Item;
+use crate::item_buffer::ItemBuffer;
 use crate::lock::{blocks_before, follow};
 use crate::rules::Rules;
 use crate::state::State;
@@ -39,14 +40,14 @@ pub fn stretch(
     state: State,
     place: u64,
     to: u64,
-    items: &mut Vec<Item>,
+    items: &mut ItemBuffer,
 ) -> Result<Reached, SyncError>
     requires lawful { IsLawful rules.now place state }
     requires order { place < to }
     requires within { to ≤ length rec.now }
     ensures reached { IfOk result (λ reached. IsStretch rec.now rules.now state place to reached) }
-    ensures items { IfOk result (λ reached. items.new.items
-        ≡ items.old.items ++ (run rec.now rules.now state place (reached.place - place)).1) }
+    ensures items { IfOk result (λ reached. items.new
+        ≡ items.old ++ (run rec.now rules.now state place (reached.place - place)).1) }
     ensures only_memory { IsOkUnless result SyncError.OutOfMemory }
 {
     match state {
@@ -74,12 +75,12 @@ fn search(
     rules: &Rules,
     place: u64,
     to: u64,
-    items: &mut Vec<Item>,
+    items: &mut ItemBuffer,
 ) -> Result<Reached, SyncError>
     requires order { place < to }
     requires within { to ≤ length rec.now }
     ensures reached { IfOk result (λ reached.
-        IsStretchOnto rec.now rules.now Searching place to items.old.items reached items.new.items) }
+        IsStretchOnto rec.now rules.now Searching place to items.old reached items.new) }
     ensures only_memory { IsOkUnless result SyncError.OutOfMemory }
 {
     prove!(to <= rec.len());
@@ -110,8 +111,8 @@ fn search(
 }
 
 /// Appends what was found.
-fn push_found(items: &mut Vec<Item>, found: [Option<Item>; 2]) -> Result<(), SyncError>
-    ensures ok { OnOk result (items.new.items ≡ items.old.items ++ items_in found) }
+fn push_found(items: &mut ItemBuffer, found: [Option<Item>; 2]) -> Result<(), SyncError>
+    ensures ok { OnOk result (items.new ≡ items.old ++ items_in found) }
     ensures only_memory { IsOkUnless result SyncError.OutOfMemory }
 {
     let [first, second] = found;
@@ -132,14 +133,14 @@ fn keep_lock(
     lock: Lock,
     place: u64,
     to: u64,
-    items: &mut Vec<Item>,
+    items: &mut ItemBuffer,
 ) -> Result<Reached, SyncError>
     requires lawful { IsLawfulLock rules.now place lock.due lock.number lock.bad lock.first }
     requires order { place < to }
     requires within { to ≤ length rec.now }
     ensures reached { IfOk result (λ reached.
         IsStretchOnto rec.now rules.now (state_in lock) place to
-        items.old.items reached items.new.items) }
+        items.old reached items.new) }
     ensures only_memory { IsOkUnless result SyncError.OutOfMemory }
 {
     let mut blocks = blocks_before(rec, rules, lock);
