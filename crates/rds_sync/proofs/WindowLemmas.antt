@@ -1,5 +1,5 @@
 -- What windows say of a recording: of offsets, of acquiring, and of the reading of a block.
-use Rattle.std.proofs.Common.{◌≡◌, ℕ, suc, ◌+◌, ◌-◌, ◌<◌, ◌≤◌, List, [], ◌∷◌, Bool, true, false, Option, Some, None, refl, sym, ap, ap₂, ◌∙◌, arith, eqb}
+use Rattle.std.proofs.Common.{◌≡◌, ℕ, suc, ◌+◌, ◌-◌, ◌*◌, ◌<◌, ◌≤◌, List, [], ◌∷◌, Bool, true, false, Option, Some, None, refl, sym, ap, ap₂, ◌∙◌, arith, eqb}
 use Rattle.std.proofs.lemmas.Bool.{le-ltb, lt-ltb}
 use Rattle.std.specs.List.{list_any, range_with_len}
 use Rattle.rds_code.specs.declared.offset.Offset.{Offset}
@@ -83,13 +83,13 @@ pub acquired-invalid : (b : List ℕ) (rules : RuleNumbers) (i : ℕ) → 25 ≤
 acquired-invalid b rules i late invalid = acquired-none b rules i (off-window b i late ∙ invalid)
 
 -- whether a place with an offset acquires is a matter of its partner
-pub acquired-offset : (b later : List ℕ) (rules : RuleNumbers) (i n : ℕ) (o : Offset) (found answer : Bool) → off b i ≡ Some o → n ≡ number o → later ≡ b
-    → found ≡ list_any (has_partner later i n) (range_with_len 1 rules.reach) → found ≡ answer
+pub acquired-offset : (b : List ℕ) (rules : RuleNumbers) (i n : ℕ) (o : Offset) (found answer : Bool) → off b i ≡ Some o → n ≡ number o
+    → found ≡ list_any (has_partner b i n) (range_with_len 1 rules.reach) → found ≡ answer
     → acquired b rules i ≡ elim answer as (λ _. Option ℕ) [ true ↦ Some n | false ↦ None ]
-acquired-offset b later rules i n o found answer here is_number same is_found answered =
+acquired-offset b rules i n o found answer here is_number is_found answered =
     acquired-some b rules i o here
     ∙ sym (ap₂ (λ (t : Bool) (x : ℕ). elim t as (λ _. Option ℕ) [ true ↦ Some x | false ↦ None ])
-    (sym answered ∙ is_found ∙ ap₂ (λ (bits : List ℕ) (x : ℕ). list_any (has_partner bits i x) (range_with_len 1 rules.reach)) same is_number) is_number)
+    (sym answered ∙ is_found ∙ ap (λ (x : ℕ). list_any (has_partner b i x) (range_with_len 1 rules.reach)) is_number) is_number)
 
 -- before place 25 there is no partner
 pub has_partner-early : (b : List ℕ) (i x k : ℕ) → i - 26 * k < 25 → has_partner b i x k ≡ false

@@ -1,12 +1,13 @@
 //! How synchronism is acquired, and what an acquisition gives.
 
-ghost use Rattle.std.specs.Prelude.{◌≡◌, ◌≤◌, ◌<◌, ◌+◌, ◌-◌, ◌*◌, ◌%◌, ◌^◌, ◌==◌, ◌∷◌, List, length, IfSome, Option, None, Some, false, option_map};
+ghost use Rattle.std.specs.Prelude.{◌≡◌, ◌≤◌, ◌<◌, ◌+◌, ◌-◌, ◌*◌, ◌%◌, ◌^◌, ◌==◌, ◌∷◌, ℕ, List, length, IfSome, Option, None, Some, false, option_map};
 ghost use Rattle.std.specs.List.{list_any, range_with_len};
 ghost use Rattle.rds_code.specs.declared.offset.Offset.{Offset};
 ghost use Rattle.rds_stream.specs.Recording.{window, off};
 ghost use Rattle.rds_sync.specs.Acquiring.{acquired, has_partner, is_in_step};
 ghost use Rattle.rds_sync.specs.Advance.{items_in};
 ghost use Rattle.rds_sync.specs.Due.{state_in};
+ghost use Rattle.rds_sync.specs.Groups.{group};
 ghost use Rattle.rds_sync.specs.Loss.{none_bad};
 ghost use Rattle.rds_sync.specs.Step.{items_at, locked_after, group_after};
 ghost use Rattle.rds_sync.specs.declared.item.Item.TheVariants.{Acquired};

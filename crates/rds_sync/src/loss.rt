@@ -1,6 +1,6 @@
 //! The rule of loss: what a lock keeps of its bad blocks, and when they lose it.
 
-ghost use Rattle.std.specs.Prelude.{◌≡◌, ◌≤◌, ◌<◌, ◌↔◌, ◌+◌, ◌*◌, ◌%◌, ◌^◌, IsTrue, IsErrOf, IfOk, if◌then◌else◌};
+ghost use Rattle.std.specs.Prelude.{◌≡◌, ◌≤◌, ◌<◌, ◌↔◌, ◌+◌, ◌*◌, ◌%◌, ◌^◌, ◌⊎◌, IsTrue, IsErrOf, IfOk, IfErr, if◌then◌else◌};
 ghost use Rattle.rds_sync.specs.Loss.{none_bad, bad_after, are_too_many, IsLawfulBad};
 ghost use Rattle.rds_sync.specs.Ranges.{IsLossInRange, IsRunOutside, IsShareOutside};
 
@@ -28,6 +28,7 @@ impl Loss {
     /// Refuses a rule that is out of its range.
     pub(crate) fn check(self) -> Result<(), SyncError>
         ensures ok { IfOk result (λ _. IsLossInRange self) }
+        ensures err { IfErr result (λ e. (e ≡ SyncError.LossRange) ⊎ (e ≡ SyncError.ShareRange)) }
         ensures run { IsErrOf result SyncError.LossRange ↔ IsRunOutside self }
         ensures share { IsErrOf result SyncError.ShareRange ↔ IsShareOutside self }
     {

@@ -50,6 +50,7 @@ pub fn advance<T: Tape>(tape: &mut T, rules: &Rules, state: State, place: u64, t
     ensures reads { T.reads_made tape.new ≤ T.reads_made tape.old + reads_most rules.now state to }
 {
     prove!(to <= tape.len());
+    prove!(1 <= rules.reach());
     match state {
         State::Searching => search(tape, rules, place),
         State::Locked {

@@ -143,6 +143,7 @@ fn keep_lock(
         items.old reached items.new) }
     ensures only_memory { IsOkUnless result SyncError.OutOfMemory }
 {
+    prove!(1 <= rules.reach());
     let mut blocks = blocks_before(rec, rules, lock);
     let mut now = lock;
     while now.due < to {

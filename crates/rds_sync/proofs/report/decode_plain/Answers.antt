@@ -6,6 +6,7 @@ use Rattle.rds_sync.specs.declared.state.State.{State}
 use Rattle.rds_sync.specs.Advance.{group_item}
 use Rattle.rds_sync.specs.Step.{items_of_end}
 use Rattle.rds_sync.specs.Totals.{totals_of}
+use Rattle.rds_sync.proofs.LawfulLemmas.{loss-in_range}
 use Rattle.rds_sync.proofs.ItemLemmas.{report-run, report-few}
 use Rattle.rds_sync.proofs.report.decode_plain.Goals as goal
 
@@ -30,7 +31,7 @@ returns-clause-items c =
     let item_is = ended c.args.rec.now c.args.rules.now c.in_ok-end.end c.new-tape.result (group_item c.finish.result) c.new-tape.ensures c.finish.ensures.group in
     c.in_ok-push_group.ensures.ok ∙ ap (λ (is : List Item). c.in_ok-end.items ++ is) item_is
     ∙ report-run c.args.rec.now c.args.rules.now c.len.result c.in_ok-end.end c.in_ok-end.items
-    (omega (arith, c.loss.ensures.range.some_loss)) c.len.ensures.value c.in_ok-end.ensures.state c.in_ok-end.ensures.items
+    (loss-in_range c.args.rules.now c.reach.ensures.range) c.len.ensures.value c.in_ok-end.ensures.state c.in_ok-end.ensures.items
 
 pub returns-clause-totals : goal.returns-clause-totals
 returns-clause-totals c =
@@ -38,4 +39,4 @@ returns-clause-totals c =
     c.of-totals.ensures ∙ ap (λ (is : List Item). totals_of is) (c.in_ok-push_group.ensures.ok
     ∙ ap (λ (is : List Item). c.in_ok-end.items ++ is) item_is
     ∙ report-run c.args.rec.now c.args.rules.now c.len.result c.in_ok-end.end c.in_ok-end.items
-    (omega (arith, c.loss.ensures.range.some_loss)) c.len.ensures.value c.in_ok-end.ensures.state c.in_ok-end.ensures.items)
+    (loss-in_range c.args.rules.now c.reach.ensures.range) c.len.ensures.value c.in_ok-end.ensures.state c.in_ok-end.ensures.items)

@@ -1,6 +1,5 @@
 use Rattle.std.proofs.Common.{◌≡◌, ◌≤◌, ◌<◌, ◌+◌, ◌-◌, ◌++◌, ℕ, true, false, List, Some, None, refl, ap, sym, subst, ◌∙◌, arith, append-nil, inl, inr}
 use Rattle.std.proofs.lemmas.Bool.{cases_lt}
-use Rattle.rds_stream.specs.Tape.{TapeState}
 use Rattle.rds_sync.specs.declared.item.Item.{Item}
 use Rattle.rds_sync.specs.declared.state.State.{State}
 use Rattle.rds_sync.specs.declared.state.State.TheVariants.{Searching}
@@ -8,10 +7,12 @@ use Rattle.rds_sync.specs.Acquiring.{acquired}
 use Rattle.rds_sync.specs.Advance.{items_in}
 use Rattle.rds_sync.specs.Lawful.{IsLawful}
 use Rattle.rds_sync.specs.Rules.{RuleNumbers}
-use Rattle.rds_sync.specs.Step.{step}
+use Rattle.rds_sync.specs.Loss.{none_bad}
+use Rattle.rds_sync.specs.declared.loss.Loss.{Loss}
+use Rattle.rds_sync.specs.Step.{step, locked_after}
 use Rattle.rds_sync.proofs.ItemLemmas.{some_given}
 use Rattle.rds_sync.proofs.RunLemmas.{step-acquiring, items-acquiring, run-found, run-quiet, run-unfound}
-use Rattle.rds_sync.proofs.LawfulLemmas.{acquired-none, lawful-step, number-range}
+use Rattle.rds_sync.proofs.LawfulLemmas.{acquired-none, lawful-step, loss-in_range, number-range}
 use Rattle.rds_sync.proofs.WindowLemmas.{acquired-early, acquired-offset}
 use Rattle.rds_sync.proofs.stretches.search.Goals as goal
 
@@ -46,37 +47,32 @@ loop-here-preserved c =
     let b = c.args.rec.now in
     let rules = c.args.rules.now in
     let searched = c.loop-here.invariant in
-    let none = acquired-offset b c.new.result.bits rules c.loop-here.here c.number-number.result c.in-Some.offset c.has_partner.result false
-    (sym c.offset.ensures ∙ c.in-Some.is) c.number-number.ensures (ap (λ (t : TapeState). t.bits) c.new.ensures) c.has_partner.ensures.value
-    c.if-has_partner.false in
+    let none = acquired-offset b rules c.loop-here.here c.number-number.result c.in-Some.offset c.has_partner_in.result false
+    (sym c.offset.ensures ∙ c.in-Some.is) c.number-number.ensures c.has_partner_in.ensures c.if-has_partner_in.false in
     record {
       none = one_more b rules c.args.place c.loop-here.here searched.none none;
       nothing = searched.nothing;
     }
 
-pub found_at-requires-clause-acquires : goal.found_at-requires-clause-acquires
-found_at-requires-clause-acquires c =
-    acquired-offset c.args.rec.now c.new.result.bits c.args.rules.now c.loop-here.here c.number-number.result c.in-Some.offset c.has_partner.result true
-    (sym c.offset.ensures ∙ c.in-Some.is) c.number-number.ensures (ap (λ (t : TapeState). t.bits) c.new.ensures) c.has_partner.ensures.value
-    c.if-has_partner.true
+pub lock-requires-clause-number : goal.lock-requires-clause-number
+lock-requires-clause-number c = omega (arith, c.number-number.ensures, number-range c.in-Some.offset)
 
-pub after_block-requires-clause-number : goal.after_block-requires-clause-number
-after_block-requires-clause-number c = omega (arith, c.number-number.ensures, number-range c.in-Some.offset)
-
-pub returns-then-has_partner-clause-reached : goal.returns-then-has_partner-clause-reached
-returns-then-has_partner-clause-reached c =
+pub returns-then-has_partner_in-clause-reached : goal.returns-then-has_partner_in-clause-reached
+returns-then-has_partner_in-clause-reached c =
     let b = c.args.rec.now in
     let rules = c.args.rules.now in
     let here = c.loop-here.here in
     let searched = c.loop-here.invariant in
     let number = c.number-number.result in
     let e : acquired b rules here ≡ Some number =
-    acquired-offset b c.new.result.bits rules here number c.in-Some.offset c.has_partner.result true
-    (sym c.offset.ensures ∙ c.in-Some.is) c.number-number.ensures (ap (λ (t : TapeState). t.bits) c.new.ensures) c.has_partner.ensures.value
-    c.if-has_partner.true in
+    acquired-offset b rules here number c.in-Some.offset c.has_partner_in.result true
+    (sym c.offset.ensures ∙ c.in-Some.is) c.number-number.ensures c.has_partner_in.ensures c.if-has_partner_in.true in
     let run_is = run-found b rules c.args.place here (omega arith) searched.none in
-    let state_is : c.after_block.result ≡ step b rules here Searching =
-    c.after_block.ensures ∙ sym (step-acquiring b rules here number e) in
+    let state_is : c.state.result ≡ step b rules here Searching =
+    c.state.ensures ∙ c.lock.ensures
+    ∙ ap (λ (loss : Loss). locked_after here number (none_bad loss) number) c.loss.ensures.value
+    ∙ sym (step-acquiring b rules here number e) in
+    let given = c.items.ensures b c.window.ensures.value ∙ sym (items-acquiring b rules here number e) in
     let last : here + 1 - 1 ≡ here = omega arith in (
       record {
         forward = omega arith;
@@ -85,11 +81,11 @@ returns-then-has_partner-clause-reached c =
         quiet = rw last (ap (λ (r : State × List Item). r.1) (run-unfound b rules c.args.place here (omega arith) searched.none));
         ended = inr (some_given _ _ _ (ap (λ (r : State × List Item). r.1) run_is ∙ items-acquiring b rules here number e));
         lawful = subst (λ (t : State). IsLawful rules (here + 1) t) (sym state_is)
-            (lawful-step b rules (omega (arith, c.loss.ensures.range.some_loss)) here Searching tt);
+            (lawful-step b rules (loss-in_range rules c.loss.ensures.range) here Searching tt);
       },
       c.in_ok-push_found.ensures.ok
-          ∙ ap (λ (is : List Item). is ++ items_in c.found_at.result) searched.nothing
-          ∙ ap (λ (is : List Item). c.args.items.now ++ is) (c.found_at.ensures ∙ sym (ap (λ (r : State × List Item). r.1) run_is)),
+          ∙ ap (λ (is : List Item). is ++ items_in c.items.result) searched.nothing
+          ∙ ap (λ (is : List Item). c.args.items.now ++ is) (given ∙ sym (ap (λ (r : State × List Item). r.1) run_is)),
     )
 
 pub returns-clause-reached : goal.returns-clause-reached
