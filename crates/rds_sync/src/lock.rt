@@ -12,14 +12,13 @@ ghost use Rattle.rds_sync.specs.Step.{step, items_at};
 ghost use Rattle.rds_sync.specs.Totals.{is_valid};
 ghost use Rattle.rds_sync.specs.declared.item.Block.TheVariants.{Read};
 
-use crate::error::SyncError;
 use crate::due::{Due, Lock};
-use crate::group::{GroupPart, read_blocks};
+use crate::error::SyncError;
 use crate::item::{Block, Item};
 use crate::item_buffer::ItemBuffer;
 use crate::rules::Rules;
 use rds_code::{Reading, Wanted};
-use rds_stream::{Counted, Recording};
+use rds_stream::Recording;
 
 /// The blocks of a group of which none was read.
 const NO_BLOCKS: [Block; 4] = [Block::Missing; 4];
@@ -29,22 +28,27 @@ pub(crate) fn blocks_before(rec: &Recording, rules: &Rules, lock: Lock) -> [Bloc
     requires { IsReadable rec.now rules.now lock }
     ensures { IsInProgress rec.now rules.now lock result }
 {
-    if lock.number == 1 {
-        return NO_BLOCKS;
+    let mut blocks = NO_BLOCKS;
+    for number in lock.first..lock.number {
+        let due = lock.due - 26 * u64::from(lock.number - number);
+        let _ = read_due(
+            rec,
+            rules,
+            Lock {
+                due,
+                number,
+                ..lock
+            },
+            &mut blocks,
+        );
     }
-    let place = lock.due - 26;
-    let part = GroupPart {
-        first: lock.first,
-        last: lock.number - 1,
-        place,
-        window: rec.window(place),
-    };
-    read_blocks(&mut Counted::new(rec), rules, part)
+    blocks
 }
 
 /// Reads the block that is due into its group, and tells whether it is valid.
 fn read_due(rec: &Recording, rules: &Rules, lock: Lock, blocks: &mut [Block; 4]) -> bool
-    requires readable { IsReadable rec.now rules.now lock }
+    requires order { (1 ≤ lock.first) × (lock.first ≤ lock.number) × (lock.number ≤ 4) }
+    requires start { 26 * (lock.number - lock.first) + 25 ≤ lock.due }
     requires within { lock.due < length rec.now }
     requires in_progress { IsInProgress rec.now rules.now lock blocks.old }
     ensures valid { result ≡ has_number rec.now lock.due lock.number }

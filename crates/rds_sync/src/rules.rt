@@ -85,7 +85,14 @@ impl Rules {
         ensures loss_range { IsErrOf result SyncError.LossRange
             ↔ ((burst ≤ 5) × (1 ≤ reach) × (reach ≤ 8) × ((loss < 1) ⊎ (64 < loss))) }
     {
-        Rules::of(alloc, RuleNumbers { burst, reach, loss: Loss::Run(loss) })
+        Rules::of(
+            alloc,
+            RuleNumbers {
+                burst,
+                reach,
+                loss: Loss::Run(loss),
+            },
+        )
     }
 
     /// Rules that correct and acquire as those of [`new`](Rules::new), and lose a lock where `bad`
@@ -108,7 +115,14 @@ impl Rules {
         ensures share_range { IsErrOf result SyncError.ShareRange
             ↔ ((burst ≤ 5) × (1 ≤ reach) × (reach ≤ 8) × ((bad < 1) ⊎ (of < bad) ⊎ (64 < of))) }
     {
-        Rules::of(alloc, RuleNumbers { burst, reach, loss: Loss::Share { bad, of } })
+        Rules::of(
+            alloc,
+            RuleNumbers {
+                burst,
+                reach,
+                loss: Loss::Share { bad, of },
+            },
+        )
     }
 
     /// The numbers of these rules.
@@ -116,7 +130,8 @@ impl Rules {
         ensures value { result ≡ self.now }
         ensures range { IsInRange self.now }
     {
-        self.numbers
+        let Rules { numbers, .. } = self;
+        *numbers
     }
 
     /// The longest burst that is corrected, in bits: 0 to 5.
@@ -150,6 +165,6 @@ impl Rules {
         requires number { (1 ≤ number) × (number ≤ 4) }
         ensures { result ≡ reading window number wanted self.now.burst }
     {
-        read_block(&self.table, window, number, wanted, self.numbers.burst as u8)
+        read_block(&self.table, window, number, wanted, self.burst() as u8)
     }
 }

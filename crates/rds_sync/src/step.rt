@@ -165,13 +165,16 @@ fn read_due<T: Tape>(tape: &mut T, rules: &Rules, lock: Lock) -> Step
             state: next.state(),
             items: [Some(Item::Group(read_group(tape, rules, part))), None],
         },
-        Due::Lost => Step {
-            place,
-            state: State::Searching,
-            items: [
-                Some(Item::Group(read_group(tape, rules, part))),
-                Some(Item::LostLock { place: lock.due }),
-            ],
-        },
+        Due::Lost => {
+            let group = read_group(tape, rules, part);
+            Step {
+                place,
+                state: State::Searching,
+                items: [
+                    Some(Item::Group(group)),
+                    Some(Item::LostLock { place: lock.due }),
+                ],
+            }
+        }
     }
 }

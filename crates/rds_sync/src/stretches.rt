@@ -147,18 +147,18 @@ fn keep_lock(
     let mut blocks = blocks_before(rec, rules, lock);
     let mut now = lock;
     while now.due < to {
-        let due = now.due;
+        let past = now.due + 1;
         match follow(rec, rules, now, &mut blocks, items)? {
             Due::Inside(next) => now = next,
             Due::Closed(next) => {
                 return Ok(Reached {
-                    place: due + 1,
+                    place: past,
                     state: next.state(),
                 });
             }
             Due::Lost => {
                 return Ok(Reached {
-                    place: due + 1,
+                    place: past,
                     state: State::Searching,
                 });
             }

@@ -67,6 +67,6 @@ returns-in-Lost-clause-items g c =
     let good = good-window b lock.due lock.number c.window-window.result c.is_numbered.result (omega arith) c.window-window.ensures.value c.is_numbered.ensures in
     let after = subst (λ (loss : Loss). IsAfter loss lock c.is_numbered.result c.after.result) c.loss.ensures.value c.after.ensures in
     ap (λ (closed : GroupRecord). Group closed ∷ LostLock lock.due ∷ [])
-    (c.read_group-in-Lost.ensures.value ∙ ap (λ (bits : List ℕ). group bits rules lock.first lock.number lock.due) c.window-window.ensures.same)
+    (c.read_group-group.ensures.value ∙ ap (λ (bits : List ℕ). group bits rules lock.first lock.number lock.due) c.window-window.ensures.same)
     ∙ sym (items-lost b rules lock c.is_numbered.result good
     (subst (λ (due : Due). IsAfter rules.loss lock c.is_numbered.result due) c.in-Lost.is after))
