@@ -10,9 +10,6 @@ use Rattle.rds_stream.specs.Recording.{off}
 use Rattle.rds_sync.specs.declared.state.State.{State}
 use Rattle.rds_sync.specs.declared.state.State.TheVariants.{Searching, Locked}
 use Rattle.rds_sync.specs.declared.loss.Bad.{Bad}
-use Rattle.rds_sync.specs.declared.loss.Loss.{Loss}
-use Rattle.rds_sync.specs.declared.loss.Loss.TheVariants.{Run, Share}
-use Rattle.rds_sync.specs.Ranges.{IsInRange, IsLossInRange}
 use Rattle.rds_sync.specs.Rules.{RuleNumbers}
 use Rattle.rds_sync.specs.Loss.{IsLoss, IsLawfulBad, none_bad, are_too_many}
 use Rattle.rds_sync.specs.Acquiring.{acquired, has_number, has_partner, with_partner}
@@ -209,10 +206,3 @@ pub lawful-due : (b : List ℕ) (rules : RuleNumbers) (place due number : ℕ) (
 lawful-due b rules place due number bad first loss lawful =
     lawful-step b rules loss due (Locked due number bad first)
     (lawful-waiting rules place due due number bad first lawful lawful.soon.0 (omega arith))
-
--- rules in their ranges lose no lock without a bad block
-pub loss-in_range : (rules : RuleNumbers) → IsInRange rules → IsLoss rules.loss
-loss-in_range rules range = by_kind rules.loss range.loss where
-  by_kind : (loss : Loss) → IsLossInRange loss → IsLoss loss
-  by_kind (Run n) within = within.0
-  by_kind (Share bad of) within = (within.0, within.1)

@@ -4,7 +4,7 @@ use Rattle.rds_sync.specs.declared.state.State.TheVariants.{Searching}
 use Rattle.rds_sync.specs.declared.item.Item.{Item}
 use Rattle.rds_sync.specs.Lawful.{IsLawful}
 use Rattle.rds_sync.specs.Step.{step}
-use Rattle.rds_sync.proofs.LawfulLemmas.{lawful-lock, lawful-step, loss-in_range}
+use Rattle.rds_sync.proofs.LawfulLemmas.{lawful-lock, lawful-step}
 use Rattle.rds_sync.proofs.RunLemmas.{run-due, run-early}
 use Rattle.rds_sync.proofs.step.advance.Goals as goal
 
@@ -14,7 +14,7 @@ returns-in-Searching-clause-lawful g c =
     let rules = c.args.rules.now in
     subst (λ (t : State). IsLawful rules c.search.result.place t) (sym c.search.ensures.state)
     (subst (λ (p : ℕ). IsLawful rules p (step b rules c.args.place Searching)) (sym c.search.ensures.place)
-    (lawful-step b rules (loss-in_range rules c.reach.ensures.range) c.args.place Searching tt))
+    (lawful-step b rules c.reach.ensures.range.some_loss c.args.place Searching tt))
 
 pub returns-in-Locked-clause-state : goal.returns-in-Locked-clause-state
 returns-in-Locked-clause-state g c =

@@ -11,7 +11,7 @@ use Rattle.rds_sync.specs.Locks.{IsFollowed}
 use Rattle.rds_sync.specs.Loss.{IsLoss}
 use Rattle.rds_sync.specs.Rules.{RuleNumbers}
 use Rattle.rds_sync.specs.Step.{step, items_at, run}
-use Rattle.rds_sync.proofs.LawfulLemmas.{lawful-due, lawful-waiting, loss-in_range}
+use Rattle.rds_sync.proofs.LawfulLemmas.{lawful-due, lawful-waiting}
 use Rattle.rds_sync.proofs.RunLemmas.{run-further, run-due, run-early, run-quiet}
 use Rattle.rds_sync.proofs.stretches.keep_lock.Invariants.{HasFollowed}
 use Rattle.rds_sync.proofs.stretches.keep_lock.Goals as goal
@@ -45,7 +45,7 @@ loop-now-preserved c =
     let rules = c.args.rules.now in
     let a = c.args.lock in
     let s : State = Locked a.due a.number a.bad a.first in
-    let loss = loss-in_range rules c.reach.ensures.range in
+    let loss = c.reach.ensures.range.some_loss in
     let l = c.loop-now in
     let now = l.now in
     let followed = l.invariant in
@@ -75,7 +75,7 @@ returns-in-Closed-clause-reached c =
     let rules = c.args.rules.now in
     let a = c.args.lock in
     let s : State = Locked a.due a.number a.bad a.first in
-    let loss = loss-in_range rules c.reach.ensures.range in
+    let loss = c.reach.ensures.range.some_loss in
     let l = c.loop-now in
     let now = l.now in
     let followed = l.invariant in
@@ -102,7 +102,7 @@ returns-in-Lost-clause-reached c =
     let rules = c.args.rules.now in
     let a = c.args.lock in
     let s : State = Locked a.due a.number a.bad a.first in
-    let loss = loss-in_range rules c.reach.ensures.range in
+    let loss = c.reach.ensures.range.some_loss in
     let l = c.loop-now in
     let now = l.now in
     let followed = l.invariant in
@@ -129,7 +129,7 @@ returns-clause-reached c =
     let rules = c.args.rules.now in
     let a = c.args.lock in
     let s : State = Locked a.due a.number a.bad a.first in
-    let loss = loss-in_range rules c.reach.ensures.range in
+    let loss = c.reach.ensures.range.some_loss in
     let l = c.loop-now in
     let now = l.now in
     let followed = l.invariant in

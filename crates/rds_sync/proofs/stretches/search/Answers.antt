@@ -12,7 +12,7 @@ use Rattle.rds_sync.specs.declared.loss.Loss.{Loss}
 use Rattle.rds_sync.specs.Step.{step, locked_after}
 use Rattle.rds_sync.proofs.ItemLemmas.{some_given}
 use Rattle.rds_sync.proofs.RunLemmas.{step-acquiring, items-acquiring, run-found, run-quiet, run-unfound}
-use Rattle.rds_sync.proofs.LawfulLemmas.{acquired-none, lawful-step, loss-in_range, number-range}
+use Rattle.rds_sync.proofs.LawfulLemmas.{acquired-none, lawful-step, number-range}
 use Rattle.rds_sync.proofs.WindowLemmas.{acquired-early, acquired-offset}
 use Rattle.rds_sync.proofs.stretches.search.Goals as goal
 
@@ -81,7 +81,7 @@ returns-then-has_partner_in-clause-reached c =
         quiet = rw last (ap (λ (r : State × List Item). r.1) (run-unfound b rules c.args.place here (omega arith) searched.none));
         ended = inr (some_given _ _ _ (ap (λ (r : State × List Item). r.1) run_is ∙ items-acquiring b rules here number e));
         lawful = subst (λ (t : State). IsLawful rules (here + 1) t) (sym state_is)
-            (lawful-step b rules (loss-in_range rules c.loss.ensures.range) here Searching tt);
+            (lawful-step b rules c.loss.ensures.range.some_loss here Searching tt);
       },
       c.in_ok-push_found.ensures.ok
           ∙ ap (λ (is : List Item). is ++ items_in c.items.result) searched.nothing
