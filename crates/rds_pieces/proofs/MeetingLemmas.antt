@@ -7,6 +7,7 @@ use Rattle.rds_sync.specs.declared.item.Item.{Item}
 use Rattle.rds_sync.specs.Rules.{RuleNumbers}
 use Rattle.rds_sync.specs.Acquiring.{acquired}
 use Rattle.rds_sync.specs.Lawful.{IsLawful, IsBetweenGroups}
+use Rattle.rds_sync.specs.Loss.{IsLoss}
 use Rattle.rds_sync.specs.Step.{run, step, items_at}
 use Rattle.rds_pieces.specs.RunLaws.{RunLaws}
 use Rattle.rds_pieces.proofs.RunFacts.{none_first, none_rest, items-acquiring, step-searching, run-waiting, quiet-step}
@@ -18,7 +19,7 @@ IsNotDueBefore p (Locked due number bad first) = p ≤ due
 
 module _ (b : List ℕ) (rules : RuleNumbers) where
   -- bits that give nothing lead to no state between groups but the one that they began in
-  pub run_state-between : RunLaws → 1 ≤ rules.loss → (s : State) (a n : ℕ) → IsLawful rules a s → (run b rules s a n).1 ≡ [] → IsBetweenGroups (run b rules s a n).0
+  pub run_state-between : RunLaws → IsLoss rules.loss → (s : State) (a n : ℕ) → IsLawful rules a s → (run b rules s a n).1 ≡ [] → IsBetweenGroups (run b rules s a n).0
       → (run b rules s a n).0 ≡ s
   run_state-between laws some s a zero lawful none between = refl
   run_state-between laws some s a (suc n) lawful none between =

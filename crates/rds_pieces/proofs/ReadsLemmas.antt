@@ -1,17 +1,19 @@
 -- How many windows a run reads that goes on step by step: at most reach + 2 for each bit, and one more.
-use Rattle.std.proofs.Common.{◌≡◌, ℕ, ◌+◌, ◌-◌, ◌*◌, ◌<◌, ◌≤◌, ◌^◌, List, Option, Some, None, refl, sym, ap, ◌∙◌, subst, arith, inl, inr}
+use Rattle.std.proofs.Common.{◌≡◌, ℕ, ◌+◌, ◌-◌, ◌*◌, ◌<◌, ◌≤◌, ◌^◌, List, true, false, Option, Some, None, refl, sym, ap, ◌∙◌, subst, arith, inl, inr}
 use Rattle.std.specs.Prelude.{⊤}
-use Rattle.std.proofs.lemmas.Bool.{cases_lt, lt-ltb, le-ltb}
+use Rattle.std.proofs.lemmas.Bool.{cases_Bool, cases_lt, lt-ltb, le-ltb}
 use Rattle.std.proofs.lemmas.Nat.{mul-le}
 use Rattle.rds_sync.specs.declared.state.State.{State}
 use Rattle.rds_sync.specs.declared.state.State.TheVariants.{Searching, Locked}
+use Rattle.rds_sync.specs.declared.loss.Bad.{Bad}
 use Rattle.rds_sync.specs.declared.item.Item.{Item}
 use Rattle.rds_sync.specs.Rules.{RuleNumbers}
 use Rattle.rds_sync.specs.Ranges.{IsInRange}
 use Rattle.rds_sync.specs.Acquiring.{acquired}
 use Rattle.rds_sync.specs.Advance.{next_place, reads_most}
 use Rattle.rds_sync.specs.Lawful.{IsLawful}
-use Rattle.rds_sync.specs.Step.{run, step, bad_after}
+use Rattle.rds_sync.specs.Loss.{are_too_many}
+use Rattle.rds_sync.specs.Step.{run, step, bad_with}
 use Rattle.rds_pieces.specs.Advance.{IsStepTo}
 use Rattle.rds_pieces.specs.RunLaws.{RunLaws}
 use Rattle.rds_pieces.proofs.RunFacts.{step-acquiring, step-searching, step-keeping, step-losing, run-waiting, run-reading}
@@ -31,10 +33,10 @@ module _ (b : List ℕ) (rules : RuleNumbers) where
     at_case None e = subst (IsBlockAfter i) (sym (step-searching b rules i e)) tt
     at_case (Some x) e = subst (IsBlockAfter i) (sym (step-acquiring b rules i x e)) refl
 
-  block_then : (due number bad first : ℕ) → IsBlockAfter due (step b rules due (Locked due number bad first))
-  block_then due number bad first = elim (cases_lt (bad_after b due number bad) rules.loss) [
-    | inl kept ↦ subst (IsBlockAfter due) (sym (step-keeping b rules due number bad first kept)) refl
-    | inr lost ↦ subst (IsBlockAfter due) (sym (step-losing b rules due number bad first lost)) tt
+  block_then : (due number : ℕ) (bad : Bad) (first : ℕ) → IsBlockAfter due (step b rules due (Locked due number bad first))
+  block_then due number bad first = elim (cases_Bool (are_too_many rules.loss (bad_with b rules due number bad))) [
+    | inr kept ↦ subst (IsBlockAfter due) (sym (step-keeping b rules due number bad first kept)) refl
+    | inl lost ↦ subst (IsBlockAfter due) (sym (step-losing b rules due number bad first lost)) tt
   ]
 
   module _ (base from : ℕ) where

@@ -1,14 +1,17 @@
 -- What the proofs of this crate use of runs: what the definitions compute, and the laws in the forms that they use.
-use Rattle.std.proofs.Common.{◌≡◌, ◌≢◌, ℕ, ◌+◌, ◌-◌, ◌<◌, ◌≤◌, ◌⊎◌, List, [], ◌∷◌, ◌++◌, Some, None, refl, ap, ap₂, ◌∙◌, arith, inl, inr}
-use Rattle.std.proofs.lemmas.Bool.{cases_eq, eq-eqb, lt-ltb, le-ltb}
+use Rattle.std.proofs.Common.{◌≡◌, ◌≢◌, ℕ, ◌+◌, ◌-◌, ◌≤◌, ◌⊎◌, List, [], ◌∷◌, ◌++◌, true, false, Some, None, refl, ap, ap₂, ◌∙◌, arith, inl, inr}
+use Rattle.std.proofs.lemmas.Bool.{cases_eq, eq-eqb}
 use Rattle.rds_sync.specs.declared.state.State.{State}
 use Rattle.rds_sync.specs.declared.state.State.TheVariants.{Searching, Locked}
+use Rattle.rds_sync.specs.declared.loss.Bad.{Bad}
+use Rattle.rds_sync.specs.declared.loss.Bad.TheVariants.{Run, Mask}
 use Rattle.rds_sync.specs.declared.item.Item.{Item}
 use Rattle.rds_sync.specs.declared.item.Item.TheVariants.{Acquired}
 use Rattle.rds_sync.specs.Rules.{RuleNumbers}
 use Rattle.rds_sync.specs.Acquiring.{acquired}
 use Rattle.rds_sync.specs.Lawful.{IsLawful, IsBetweenGroups}
-use Rattle.rds_sync.specs.Step.{run, step, items_at, locked_after, bad_after, group_after}
+use Rattle.rds_sync.specs.Loss.{IsLoss, are_too_many, none_bad}
+use Rattle.rds_sync.specs.Step.{run, step, items_at, locked_after, bad_with, group_after}
 use Rattle.rds_pieces.specs.RunLaws.{RunLaws}
 
 pub none_first : {A : Type 0} → (xs ys : List A) → xs ++ ys ≡ [] → xs ≡ []
@@ -19,6 +22,19 @@ pub none_rest : {A : Type 0} → (xs ys : List A) → xs ++ ys ≡ [] → ys ≡
 none_rest [] ys e = e
 none_rest (x ∷ xs) ys e = cc
 
+-- the bad blocks of two locks are the same, or not
+same_bad : (one other : Bad) → (one ≡ other) ⊎ (one ≢ other)
+same_bad (Run row) (Run row2) = elim (cases_eq row row2) [
+  | inl same ↦ inl (ap Run same)
+  | inr other ↦ inr (λ e. other cc)
+]
+same_bad (Run row) (Mask mask) = inr (λ e. cc)
+same_bad (Mask mask) (Run row) = inr (λ e. cc)
+same_bad (Mask mask) (Mask mask2) = elim (cases_eq mask mask2) [
+  | inl same ↦ inl (ap Mask same)
+  | inr other ↦ inr (λ e. other cc)
+]
+
 -- two states are one, or not
 same_state : (s t : State) → (s ≡ t) ⊎ (s ≢ t)
 same_state Searching Searching = inl refl
@@ -28,7 +44,7 @@ same_state (Locked due number bad first) (Locked due2 number2 bad2 first2) = eli
   | inr other ↦ inr (λ e. other cc)
   | inl one ↦ elim (cases_eq number number2) [
     | inr other ↦ inr (λ e. other cc)
-    | inl two ↦ elim (cases_eq bad bad2) [
+    | inl two ↦ elim (same_bad bad bad2) [
       | inr other ↦ inr (λ e. other cc)
       | inl three ↦ elim (cases_eq first first2) [
         | inr other ↦ inr (λ e. other cc)
@@ -40,7 +56,7 @@ same_state (Locked due number bad first) (Locked due2 number2 bad2 first2) = eli
 
 module _ (b : List ℕ) (rules : RuleNumbers) where
   -- one bit, as it is defined
-  pub step-acquiring : (i x : ℕ) → acquired b rules i ≡ Some x → step b rules i Searching ≡ locked_after i x 0 x
+  pub step-acquiring : (i x : ℕ) → acquired b rules i ≡ Some x → step b rules i Searching ≡ locked_after i x (none_bad rules.loss) x
   step-acquiring i x e = rw (e, step) refl
 
   pub items-acquiring : (i x : ℕ) → acquired b rules i ≡ Some x → items_at b rules i Searching ≡ Acquired i x ∷ group_after b rules x x i
@@ -49,12 +65,13 @@ module _ (b : List ℕ) (rules : RuleNumbers) where
   pub step-searching : (i : ℕ) → acquired b rules i ≡ None → step b rules i Searching ≡ Searching
   step-searching i e = rw (e, step) refl
 
-  pub step-keeping : (i number bad first : ℕ) → bad_after b i number bad < rules.loss
-      → step b rules i (Locked i number bad first) ≡ locked_after i number (bad_after b i number bad) first
-  step-keeping i number bad first h = rw (eq-eqb i i refl, lt-ltb _ _ h, step) refl
+  pub step-keeping : (i number : ℕ) (bad : Bad) (first : ℕ) → are_too_many rules.loss (bad_with b rules i number bad) ≡ false
+      → step b rules i (Locked i number bad first) ≡ locked_after i number (bad_with b rules i number bad) first
+  step-keeping i number bad first h = rw (eq-eqb i i refl, h, step) refl
 
-  pub step-losing : (i number bad first : ℕ) → rules.loss ≤ bad_after b i number bad → step b rules i (Locked i number bad first) ≡ Searching
-  step-losing i number bad first h = rw (eq-eqb i i refl, le-ltb _ _ h, step) refl
+  pub step-losing : (i number : ℕ) (bad : Bad) (first : ℕ) → are_too_many rules.loss (bad_with b rules i number bad) ≡ true
+      → step b rules i (Locked i number bad first) ≡ Searching
+  step-losing i number bad first h = rw (eq-eqb i i refl, h, step) refl
 
 module _ (laws : RunLaws) (b : List ℕ) (rules : RuleNumbers) where
   -- the laws by counts of bits, where they are said by places
@@ -73,18 +90,18 @@ module _ (laws : RunLaws) (b : List ℕ) (rules : RuleNumbers) where
   pub run_items-append : (s : State) (a m n : ℕ) → (run b rules s a (m + n)).1 ≡ (run b rules s a m).1 ++ (run b rules (run b rules s a m).0 (a + m) n).1
   run_items-append s a m n = ap (λ (r : State × List Item). r.1) (run-append s a m n)
 
-  pub run-waiting : (due number bad first a n : ℕ) → a + n ≤ due → run b rules (Locked due number bad first) a n ≡ (Locked due number bad first, [])
+  pub run-waiting : (due number : ℕ) (bad : Bad) (first a n : ℕ) → a + n ≤ due → run b rules (Locked due number bad first) a n ≡ (Locked due number bad first, [])
   run-waiting due number bad first a n h =
       let bits : a + n - a ≡ n = omega arith in
       rw bits at (laws.wait b rules due number bad first a (a + n) (omega arith) h)
 
-  pub lawful-run : 1 ≤ rules.loss → (s : State) (a n : ℕ) → IsLawful rules a s → IsLawful rules (a + n) (run b rules s a n).0
+  pub lawful-run : IsLoss rules.loss → (s : State) (a n : ℕ) → IsLawful rules a s → IsLawful rules (a + n) (run b rules s a n).0
   lawful-run loss s a n lawful =
       let bits : a + n - a ≡ n = omega arith in
       rw bits at (laws.lawful_runs b rules loss s a (a + n) (omega arith) lawful)
 
   -- a run up to and including the block that is due is that of its last bit
-  pub run-reading : (due number bad first a n : ℕ) → a + n ≡ due
+  pub run-reading : (due number : ℕ) (bad : Bad) (first a n : ℕ) → a + n ≡ due
       → run b rules (Locked due number bad first) a (n + 1) ≡ (step b rules due (Locked due number bad first), items_at b rules due (Locked due number bad first))
   run-reading due number bad first a n e =
       let s : State = Locked due number bad first in

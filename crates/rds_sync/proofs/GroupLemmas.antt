@@ -19,6 +19,7 @@ use Rattle.rds_sync.specs.declared.item.Block.TheVariants.{Missing, Read}
 use Rattle.rds_sync.specs.declared.item.Group.{Group}
 use Rattle.rds_sync.specs.Rules.{RuleNumbers}
 use Rattle.rds_sync.specs.Groups.{info_of, version_of_bit, version_of_offset, version_by_bit, first_known, version, differ, in_conflict, are_complete, wanted_beside, block_at, blocks_at, group_of, group}
+use Rattle.rds_sync.proofs.GroupBlocks.{block_at-read, block_at-missing}
 use Rattle.rds_sync.specs.GroupLaws.{VersionIsRead, VersionsDiffer, GroupIsRead}
 
 -- which of C and C' is wanted matters for block 3 alone
@@ -216,19 +217,7 @@ module _ (one two three four : Block) where
 
 -- blocks
 
-and_false : (p : Bool) → (p && false) ≡ false
-and_false true = refl
-and_false false = refl
-
 module _ (b : List ℕ) (rules : RuleNumbers) (f x p : ℕ) where
-  pub block_at-read : (wanted : Wanted) (y : ℕ) → f ≤ y → y ≤ x
-      → block_at b rules f x p wanted y ≡ Read (reading (window b (p - 26 * (x - y))) y wanted rules.burst)
-  block_at-read wanted y low high = rw (le-leb f y low, le-leb y x high) refl
-
-  pub block_at-missing : (wanted : Wanted) (y : ℕ) → (y < f) ⊎ (x < y) → block_at b rules f x p wanted y ≡ Missing
-  block_at-missing wanted y (inl early) = rw (lt-leb f y early) refl
-  block_at-missing wanted y (inr late) = rw (lt-leb y x late, and_false (nat_le f y)) refl
-
   abbrev second : Block
   second = block_at b rules f x p Either 2
 
@@ -241,12 +230,12 @@ module _ (b : List ℕ) (rules : RuleNumbers) (f x p : ℕ) where
   -- block 3 was read as number 3
   third_number : (o : Offset) (info : ℕ) → third ≡ Read (Valid o info) → number o ≡ 3
   third_number o info e = elim (cases_lt 3 f) [
-    | inl early ↦ let none : Missing ≡ Read (Valid o info) = sym (block_at-missing (wanted_beside second) 3 (inl early)) ∙ e in cc none
+    | inl early ↦ let none : Missing ≡ Read (Valid o info) = sym (block_at-missing b rules f x p (wanted_beside second) 3 (inl early)) ∙ e in cc none
     | inr after ↦ elim (cases_lt x 3) [
-      | inl late ↦ let none : Missing ≡ Read (Valid o info) = sym (block_at-missing (wanted_beside second) 3 (inr late)) ∙ e in cc none
+      | inl late ↦ let none : Missing ≡ Read (Valid o info) = sym (block_at-missing b rules f x p (wanted_beside second) 3 (inr late)) ∙ e in cc none
       | inr before ↦
           let is : Read (reading (window b (p - 26 * (x - 3))) 3 (wanted_beside second) rules.burst) ≡ Read (Valid o info) =
-          sym (block_at-read (wanted_beside second) 3 after before) ∙ e in
+          sym (block_at-read b rules f x p (wanted_beside second) 3 after before) ∙ e in
           reading-number (window b (p - 26 * (x - 3))) 3 rules.burst (wanted_beside second) o info (cc is)
     ]
   ]
@@ -254,18 +243,18 @@ module _ (b : List ℕ) (rules : RuleNumbers) (f x p : ℕ) where
   read_as : 1 ≤ f → x ≤ 4 → (y : ℕ) → f ≤ y → y ≤ x
       → slice_get the_group.blocks (y - 1) ≡ Some (Read (reading (window b (p - 26 * (x - y))) y (wanted_beside second) rules.burst))
   read_as low high zero after before = absurd (omega arith)
-  read_as low high (suc zero) after before = ap Some (block_at-read Either 1 after before ∙ ap Read (reading-wanted_1 _ rules.burst (wanted_beside second)))
-  read_as low high (suc (suc zero)) after before = ap Some (block_at-read Either 2 after before ∙ ap Read (reading-wanted_2 _ rules.burst (wanted_beside second)))
-  read_as low high (suc (suc (suc zero))) after before = ap Some (block_at-read (wanted_beside second) 3 after before)
-  read_as low high (suc (suc (suc (suc zero)))) after before = ap Some (block_at-read Either 4 after before ∙ ap Read (reading-wanted_4 _ rules.burst (wanted_beside second)))
+  read_as low high (suc zero) after before = ap Some (block_at-read b rules f x p Either 1 after before ∙ ap Read (reading-wanted_1 _ rules.burst (wanted_beside second)))
+  read_as low high (suc (suc zero)) after before = ap Some (block_at-read b rules f x p Either 2 after before ∙ ap Read (reading-wanted_2 _ rules.burst (wanted_beside second)))
+  read_as low high (suc (suc (suc zero))) after before = ap Some (block_at-read b rules f x p (wanted_beside second) 3 after before)
+  read_as low high (suc (suc (suc (suc zero)))) after before = ap Some (block_at-read b rules f x p Either 4 after before ∙ ap Read (reading-wanted_4 _ rules.burst (wanted_beside second)))
   read_as low high (suc (suc (suc (suc (suc y))))) after before = absurd (omega arith)
 
   is_missing : (y : ℕ) → 1 ≤ y → y ≤ 4 → (y < f) ⊎ (x < y) → slice_get the_group.blocks (y - 1) ≡ Some Missing
   is_missing zero low high out = absurd (omega arith)
-  is_missing (suc zero) low high out = ap Some (block_at-missing Either 1 out)
-  is_missing (suc (suc zero)) low high out = ap Some (block_at-missing Either 2 out)
-  is_missing (suc (suc (suc zero))) low high out = ap Some (block_at-missing (wanted_beside second) 3 out)
-  is_missing (suc (suc (suc (suc zero)))) low high out = ap Some (block_at-missing Either 4 out)
+  is_missing (suc zero) low high out = ap Some (block_at-missing b rules f x p Either 1 out)
+  is_missing (suc (suc zero)) low high out = ap Some (block_at-missing b rules f x p Either 2 out)
+  is_missing (suc (suc (suc zero))) low high out = ap Some (block_at-missing b rules f x p (wanted_beside second) 3 out)
+  is_missing (suc (suc (suc (suc zero)))) low high out = ap Some (block_at-missing b rules f x p Either 4 out)
   is_missing (suc (suc (suc (suc (suc y))))) low high out = absurd (omega arith)
 
   pub group-is_read : 1 ≤ f → f ≤ x → x ≤ 4 → 26 * (x - f) + 25 ≤ p → GroupIsRead b rules f x p (group b rules f x p)

@@ -9,10 +9,13 @@ use Rattle.rds_code.specs.Offsets.{number}
 use Rattle.rds_stream.specs.Recording.{off}
 use Rattle.rds_sync.specs.declared.state.State.{State}
 use Rattle.rds_sync.specs.declared.state.State.TheVariants.{Searching, Locked}
+use Rattle.rds_sync.specs.declared.loss.Bad.{Bad}
 use Rattle.rds_sync.specs.Rules.{RuleNumbers}
+use Rattle.rds_sync.specs.Loss.{IsLoss, IsLawfulBad, none_bad, are_too_many}
 use Rattle.rds_sync.specs.Acquiring.{acquired, has_number, has_partner, with_partner}
 use Rattle.rds_sync.specs.Lawful.{IsLawful, IsLawfulLock}
-use Rattle.rds_sync.specs.Step.{run, step, locked_after, bad_after}
+use Rattle.rds_sync.specs.Step.{run, step, locked_after, bad_with}
+use Rattle.rds_sync.proofs.LossLemmas.{lawful_none, lawful_kept}
 use Rattle.rds_sync.proofs.RunLemmas.{step-acquiring, step-searching, step-waiting, step-keeping, step-losing}
 
 -- the number of an offset is 1 to 4
@@ -125,7 +128,7 @@ module _ (b : List ℕ) (rules : RuleNumbers) where
   acquired-some i o e = ap (λ (w : Option Offset). elim w as (λ _. Option ℕ) [ None ↦ None | Some o ↦ with_partner b rules i (number o) ]) e
 
 -- the lock after block x was read at place i, or acquired there
-pub lawful-locked_after : (rules : RuleNumbers) (i x bad first : ℕ) → bad < rules.loss → 26 * (x - first) + 25 ≤ i → 1 ≤ first → first ≤ x → x ≤ 4
+pub lawful-locked_after : (rules : RuleNumbers) (i x : ℕ) (bad : Bad) (first : ℕ) → IsLawfulBad rules.loss bad → 26 * (x - first) + 25 ≤ i → 1 ≤ first → first ≤ x → x ≤ 4
     → IsLawful rules (i + 1) (locked_after i x bad first)
 lawful-locked_after rules i x bad first few enough low order high = elim (cases_eq x 4) [
   | inl four ↦
@@ -140,14 +143,14 @@ lawful-locked_after rules i x bad first few enough low order high = elim (cases_
 ]
 
 -- the numbers of a lawful lock
-pub lawful-numbers : (rules : RuleNumbers) (place due number bad first : ℕ) → IsLawfulLock rules place due number bad first
+pub lawful-numbers : (rules : RuleNumbers) (place due number : ℕ) (bad : Bad) (first : ℕ) → IsLawfulLock rules place due number bad first
     → (1 ≤ first) × (first ≤ number) × (number ≤ 4)
 lawful-numbers rules place due number bad first lawful =
     ⊎_elim (λ o. (omega (arith, o), omega (arith, o), omega (arith, o))) (λ o. (omega (arith, o), omega (arith, o), omega (arith, o))) lawful.in_order
 
 module _ (b : List ℕ) (rules : RuleNumbers) where
   -- one bit leads from a lawful state to a lawful state
-  pub lawful-step : 1 ≤ rules.loss → (i : ℕ) (s : State) → IsLawful rules i s → IsLawful rules (i + 1) (step b rules i s)
+  pub lawful-step : IsLoss rules.loss → (i : ℕ) (s : State) → IsLawful rules i s → IsLawful rules (i + 1) (step b rules i s)
   lawful-step loss i Searching lawful = at_case (acquired b rules i) refl where
     at_case : (w : Option ℕ) → acquired b rules i ≡ w → IsLawful rules (i + 1) (step b rules i Searching)
     at_case None e = subst (λ (t : State). IsLawful rules (i + 1) t) (sym (step-searching b rules i e)) tt
@@ -155,16 +158,16 @@ module _ (b : List ℕ) (rules : RuleNumbers) where
         let r = acquired-range b rules i x e in
         let p = acquired-place b rules i x e in
         subst (λ (t : State). IsLawful rules (i + 1) t) (sym (step-acquiring b rules i x e))
-        (lawful-locked_after rules i x 0 x loss (omega arith) (omega (arith, r)) (omega arith) (omega (arith, r)))
+        (lawful-locked_after rules i x (none_bad rules.loss) x (lawful_none rules.loss loss) (omega arith) (omega (arith, r)) (omega arith) (omega (arith, r)))
   lawful-step loss i (Locked due number bad first) lawful = elim (cases_eq due i) [
     | inl same ↦
         let n = lawful-numbers rules i due number bad first lawful in
         let enough : 26 * (number - first) + 25 ≤ i = omega (arith, lawful.enough_bits) in
         subst (λ (d : ℕ). IsLawful rules (i + 1) (step b rules i (Locked d number bad first))) (sym same)
-        (elim (cases_lt (bad_after b i number bad) rules.loss) [
-          | inl few ↦ subst (λ (t : State). IsLawful rules (i + 1) t) (sym (step-keeping b rules i number bad first few))
-              (lawful-locked_after rules i number (bad_after b i number bad) first few enough n.0 n.1 n.2)
-          | inr many ↦ subst (λ (t : State). IsLawful rules (i + 1) t) (sym (step-losing b rules i number bad first many)) tt
+        (elim (cases_Bool (are_too_many rules.loss (bad_with b rules i number bad))) [
+          | inr few ↦ subst (λ (t : State). IsLawful rules (i + 1) t) (sym (step-keeping b rules i number bad first few))
+              (lawful-locked_after rules i number (bad_with b rules i number bad) first (lawful_kept rules.loss bad (has_number b i number) lawful.few_bad few) enough n.0 n.1 n.2)
+          | inl many ↦ subst (λ (t : State). IsLawful rules (i + 1) t) (sym (step-losing b rules i number bad first many)) tt
         ])
     | inr other ↦
         let soon = lawful.soon in
@@ -173,14 +176,33 @@ module _ (b : List ℕ) (rules : RuleNumbers) where
   ]
 
   -- a run leads from a lawful state to a lawful state
-  pub lawful-run : 1 ≤ rules.loss → (s : State) (a n : ℕ) → IsLawful rules a s → IsLawful rules (a + n) (run b rules s a n).0
+  pub lawful-run : IsLoss rules.loss → (s : State) (a n : ℕ) → IsLawful rules a s → IsLawful rules (a + n) (run b rules s a n).0
   lawful-run loss s a zero lawful = let e : a ≡ a + 0 = omega arith in subst (λ (p : ℕ). IsLawful rules p s) e lawful
   lawful-run loss s a (suc n) lawful =
       let e : a + 1 + n ≡ a + suc n = omega arith in
       subst (λ (p : ℕ). IsLawful rules p (run b rules (step b rules a s) (a + 1) n).0) e
       (lawful-run loss (step b rules a s) (a + 1) n (lawful-step loss a s lawful))
 
-  pub lawful-run_places : 1 ≤ rules.loss → (s : State) (from to : ℕ) → from ≤ to → IsLawful rules from s → IsLawful rules to (run b rules s from (to - from)).0
+  pub lawful-run_places : IsLoss rules.loss → (s : State) (from to : ℕ) → from ≤ to → IsLawful rules from s → IsLawful rules to (run b rules s from (to - from)).0
   lawful-run_places loss s from to order lawful =
       let e : from + (to - from) ≡ to = omega arith in
       subst (λ (p : ℕ). IsLawful rules p (run b rules s from (to - from)).0) e (lawful-run loss s from (to - from) lawful)
+
+-- a state that is a lawful lock
+pub lawful-lock : (rules : RuleNumbers) (s : State) (place due number : ℕ) (bad : Bad) (first : ℕ) → s ≡ Locked due number bad first
+    → IsLawful rules place s → IsLawfulLock rules place due number bad first
+lawful-lock rules s place due number bad first is lawful = subst (λ (t : State). IsLawful rules place t) is lawful
+
+-- a lawful lock stays lawful while its block is waited for
+pub lawful-waiting : (rules : RuleNumbers) (place later due number : ℕ) (bad : Bad) (first : ℕ) → IsLawfulLock rules place due number bad first
+    → place ≤ later → later ≤ due → IsLawfulLock rules later due number bad first
+lawful-waiting rules place later due number bad first lawful order before =
+    let soon = lawful.soon in
+    record { soon = (before, omega (arith, soon.1)); few_bad = lawful.few_bad; enough_bits = lawful.enough_bits; in_order = lawful.in_order }
+
+-- the state after the block that is due is lawful
+pub lawful-due : (b : List ℕ) (rules : RuleNumbers) (place due number : ℕ) (bad : Bad) (first : ℕ) → IsLoss rules.loss → IsLawfulLock rules place due number bad first
+    → IsLawful rules (due + 1) (step b rules due (Locked due number bad first))
+lawful-due b rules place due number bad first loss lawful =
+    lawful-step b rules loss due (Locked due number bad first)
+    (lawful-waiting rules place due due number bad first lawful lawful.soon.0 (omega arith))

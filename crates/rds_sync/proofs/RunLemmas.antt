@@ -1,20 +1,22 @@
 -- Runs: over ranges in a row, while a block is waited for, up to the next block, and through a search.
-use Rattle.std.proofs.Common.{◌≡◌, ◌≢◌, ℕ, zero, suc, ◌+◌, ◌-◌, ◌<◌, ◌≤◌, List, [], ◌∷◌, ◌++◌, Some, None, refl, sym, ap, ap₂, ◌∙◌, arith, append_assoc, append-nil, add-zero, zero-add}
+use Rattle.std.proofs.Common.{◌≡◌, ◌≢◌, ℕ, zero, suc, ◌+◌, ◌-◌, ◌<◌, ◌≤◌, List, [], ◌∷◌, ◌++◌, true, false, Some, None, refl, sym, ap, ap₂, ◌∙◌, arith, append_assoc, append-nil, add-zero, zero-add}
 use Rattle.std.proofs.Math.Nat.{suc-add}
-use Rattle.std.proofs.lemmas.Bool.{ne_eqb, eq-eqb, lt-ltb, le-ltb}
+use Rattle.std.proofs.lemmas.Bool.{ne_eqb, eq-eqb}
 use Rattle.rds_sync.specs.declared.state.State.{State}
 use Rattle.rds_sync.specs.declared.state.State.TheVariants.{Searching, Locked}
 use Rattle.rds_sync.specs.declared.item.Item.{Item}
 use Rattle.rds_sync.specs.declared.item.Item.TheVariants.{Acquired, Group, LostLock}
+use Rattle.rds_sync.specs.declared.loss.Bad.{Bad}
 use Rattle.rds_sync.specs.Rules.{RuleNumbers}
+use Rattle.rds_sync.specs.Loss.{none_bad, are_too_many}
 use Rattle.rds_sync.specs.Acquiring.{acquired}
 use Rattle.rds_sync.specs.Groups.{group}
-use Rattle.rds_sync.specs.Step.{run, step, items_at, locked_after, bad_after, group_after}
+use Rattle.rds_sync.specs.Step.{run, step, items_at, locked_after, bad_with, group_after}
 
 module _ (b : List ℕ) (rules : RuleNumbers) where
   -- one bit
 
-  pub step-acquiring : (i x : ℕ) → acquired b rules i ≡ Some x → step b rules i Searching ≡ locked_after i x 0 x
+  pub step-acquiring : (i x : ℕ) → acquired b rules i ≡ Some x → step b rules i Searching ≡ locked_after i x (none_bad rules.loss) x
   step-acquiring i x e = rw (e, step) refl
 
   pub items-acquiring : (i x : ℕ) → acquired b rules i ≡ Some x → items_at b rules i Searching ≡ Acquired i x ∷ group_after b rules x x i
@@ -26,26 +28,26 @@ module _ (b : List ℕ) (rules : RuleNumbers) where
   pub items-searching : (i : ℕ) → acquired b rules i ≡ None → items_at b rules i Searching ≡ []
   items-searching i e = rw (e, items_at) refl
 
-  pub step-waiting : (due number bad first i : ℕ) → due ≢ i → step b rules i (Locked due number bad first) ≡ Locked due number bad first
+  pub step-waiting : (due number : ℕ) (bad : Bad) (first i : ℕ) → due ≢ i → step b rules i (Locked due number bad first) ≡ Locked due number bad first
   step-waiting due number bad first i ne = rw (ne_eqb due i ne, step) refl
 
-  pub items-waiting : (due number bad first i : ℕ) → due ≢ i → items_at b rules i (Locked due number bad first) ≡ []
+  pub items-waiting : (due number : ℕ) (bad : Bad) (first i : ℕ) → due ≢ i → items_at b rules i (Locked due number bad first) ≡ []
   items-waiting due number bad first i ne = rw (ne_eqb due i ne, items_at) refl
 
-  pub step-keeping : (i number bad first : ℕ) → bad_after b i number bad < rules.loss
-      → step b rules i (Locked i number bad first) ≡ locked_after i number (bad_after b i number bad) first
-  step-keeping i number bad first h = rw (eq-eqb i i refl, lt-ltb _ _ h, step) refl
+  pub step-keeping : (i number : ℕ) (bad : Bad) (first : ℕ) → are_too_many rules.loss (bad_with b rules i number bad) ≡ false
+      → step b rules i (Locked i number bad first) ≡ locked_after i number (bad_with b rules i number bad) first
+  step-keeping i number bad first h = rw (eq-eqb i i refl, h, step) refl
 
-  pub items-keeping : (i number bad first : ℕ) → bad_after b i number bad < rules.loss
+  pub items-keeping : (i number : ℕ) (bad : Bad) (first : ℕ) → are_too_many rules.loss (bad_with b rules i number bad) ≡ false
       → items_at b rules i (Locked i number bad first) ≡ group_after b rules first number i
-  items-keeping i number bad first h = rw (eq-eqb i i refl, lt-ltb _ _ h, items_at) refl
+  items-keeping i number bad first h = rw (eq-eqb i i refl, h, items_at) refl
 
-  pub step-losing : (i number bad first : ℕ) → rules.loss ≤ bad_after b i number bad → step b rules i (Locked i number bad first) ≡ Searching
-  step-losing i number bad first h = rw (eq-eqb i i refl, le-ltb _ _ h, step) refl
+  pub step-losing : (i number : ℕ) (bad : Bad) (first : ℕ) → are_too_many rules.loss (bad_with b rules i number bad) ≡ true → step b rules i (Locked i number bad first) ≡ Searching
+  step-losing i number bad first h = rw (eq-eqb i i refl, h, step) refl
 
-  pub items-losing : (i number bad first : ℕ) → rules.loss ≤ bad_after b i number bad
+  pub items-losing : (i number : ℕ) (bad : Bad) (first : ℕ) → are_too_many rules.loss (bad_with b rules i number bad) ≡ true
       → items_at b rules i (Locked i number bad first) ≡ Group (group b rules first number i) ∷ LostLock i ∷ []
-  items-losing i number bad first h = rw (eq-eqb i i refl, le-ltb _ _ h, items_at) refl
+  items-losing i number bad first h = rw (eq-eqb i i refl, h, items_at) refl
 
   -- the run of one bit
   pub run-one : (s : State) (a : ℕ) → run b rules s a 1 ≡ (step b rules a s, items_at b rules a s)
@@ -108,7 +110,7 @@ module _ (b : List ℕ) (rules : RuleNumbers) where
       )
 
   -- while a block is waited for, a run changes nothing and gives nothing
-  pub run-waiting : (due number bad first a n : ℕ) → a + n ≤ due → run b rules (Locked due number bad first) a n ≡ (Locked due number bad first, [])
+  pub run-waiting : (due number : ℕ) (bad : Bad) (first a n : ℕ) → a + n ≤ due → run b rules (Locked due number bad first) a n ≡ (Locked due number bad first, [])
   run-waiting due number bad first a zero h = refl
   run-waiting due number bad first a (suc n) h =
       let late : due ≢ a = λ e. absurd (omega arith) in
@@ -116,7 +118,7 @@ module _ (b : List ℕ) (rules : RuleNumbers) where
       ∙ run-waiting due number bad first (a + 1) n (omega arith)
 
   -- a run up to and including the block that is due is that of its last bit
-  pub run-reading : (due number bad first a n : ℕ) → a + n ≡ due
+  pub run-reading : (due number : ℕ) (bad : Bad) (first a n : ℕ) → a + n ≡ due
       → run b rules (Locked due number bad first) a (n + 1) ≡ (step b rules due (Locked due number bad first), items_at b rules due (Locked due number bad first))
   run-reading due number bad first a n e =
       let s : State = Locked due number bad first in
@@ -134,9 +136,65 @@ module _ (b : List ℕ) (rules : RuleNumbers) where
 
   -- a search up to and including the first place that acquires
   pub run-acquiring : (a n i x : ℕ) → a + n ≡ i → ((j : ℕ) → a ≤ j → j < i → acquired b rules j ≡ None) → acquired b rules i ≡ Some x
-      → run b rules Searching a (n + 1) ≡ (locked_after i x 0 x, Acquired i x ∷ group_after b rules x x i)
+      → run b rules Searching a (n + 1) ≡ (locked_after i x (none_bad rules.loss) x, Acquired i x ∷ group_after b rules x x i)
   run-acquiring a n i x e none here =
       run-append Searching a n 1
       ∙ ap₂ (λ (r : State × List Item) (p : ℕ). ((run b rules r.0 p 1).0, r.1 ++ (run b rules r.0 p 1).1)) (run-searching a n (λ j low high. none j low (omega arith))) e
       ∙ run-one Searching i
       ∙ ap₂ (λ (t : State) (is : List Item). (t, is)) (step-acquiring i x here) (items-acquiring i x here)
+
+-- a step, by its first state and its places
+module _ (b : List ℕ) (rules : RuleNumbers) (s : State) (place after : ℕ) where
+  pub run-bit : s ≡ Searching → after ≡ place + 1
+      → run b rules s place (after - place) ≡ (step b rules place Searching, items_at b rules place Searching)
+  run-bit is next =
+      let bits : after - place ≡ 1 = omega arith in
+      rw (is, bits) (run-one b rules Searching place)
+
+  module _ (due number : ℕ) (bad : Bad) (first : ℕ) (is : s ≡ Locked due number bad first) where
+    pub run-due : place ≤ due → after ≡ due + 1
+        → run b rules s place (after - place) ≡ (step b rules due (Locked due number bad first), items_at b rules due (Locked due number bad first))
+    run-due order next =
+        let bits : after - place ≡ (due - place) + 1 = omega arith in
+        rw (is, bits) (run-reading b rules due number bad first place (due - place) (omega arith))
+
+    pub run-early : place ≤ after → after ≤ due → run b rules s place (after - place) ≡ (Locked due number bad first, [])
+    run-early order before = rw is (run-waiting b rules due number bad first place (after - place) (omega arith))
+
+-- a run over a range and its next, each as a state and items
+pub run-further : (b : List ℕ) (rules : RuleNumbers) (s now t : State) (items found : List Item) (from place after : ℕ)
+    → from ≤ place → place ≤ after → run b rules s from (place - from) ≡ (now, items)
+    → t ≡ (run b rules now place (after - place)).0 → found ≡ (run b rules now place (after - place)).1
+    → run b rules s from (after - from) ≡ (t, items ++ found)
+run-further b rules s now t items found from place after low high so_far state_is found_is =
+    run-places b rules s from place after low high
+    ∙ ap (λ (r : State × List Item). ((run b rules r.0 place (after - place)).0, r.1 ++ (run b rules r.0 place (after - place)).1)) so_far
+    ∙ ap₂ (λ (u : State) (is : List Item). (u, items ++ is)) (sym state_is) (sym found_is)
+
+-- a search up to and including one place
+pub run-found : (b : List ℕ) (rules : RuleNumbers) (place here : ℕ) → place ≤ here → ((j : ℕ) → place ≤ j → j < here → acquired b rules j ≡ None)
+    → run b rules Searching place (here + 1 - place) ≡ (step b rules here Searching, items_at b rules here Searching)
+run-found b rules place here order none =
+    let bits : here + 1 - place ≡ (here - place) + 1 = omega arith in
+    let at : place + (here - place) ≡ here = omega arith in
+    let later : (j : ℕ) → place ≤ j → j < place + (here - place) → acquired b rules j ≡ None = λ j low high. none j low (omega arith) in
+    rw bits (run-append b rules Searching place (here - place) 1
+    ∙ ap₂ (λ (r : State × List Item) (p : ℕ). ((run b rules r.0 p 1).0, r.1 ++ (run b rules r.0 p 1).1)) (run-searching b rules place (here - place) later) at
+    ∙ run-one b rules Searching here)
+
+-- a search of all places of a range
+pub run-unfound : (b : List ℕ) (rules : RuleNumbers) (place to : ℕ) → place ≤ to → ((j : ℕ) → place ≤ j → j < to → acquired b rules j ≡ None)
+    → run b rules Searching place (to - place) ≡ (Searching, [])
+run-unfound b rules place to order none = run-searching b rules place (to - place) (λ j low high. none j low (omega arith))
+
+-- two lists that make none are none
+none_first : {A : Type 0} → (xs ys : List A) → xs ++ ys ≡ [] → xs ≡ []
+none_first [] ys e = refl
+none_first (x ∷ xs) ys e = cc
+
+-- a run that gives nothing gave nothing before its last bit
+pub run-quiet : (b : List ℕ) (rules : RuleNumbers) (s : State) (place to : ℕ) → place < to → (run b rules s place (to - place)).1 ≡ []
+    → (run b rules s place (to - 1 - place)).1 ≡ []
+run-quiet b rules s place to order nothing =
+    let bits : to - place ≡ (to - 1 - place) + 1 = omega arith in
+    none_first _ _ (sym (run_items-append b rules s place (to - 1 - place) 1) ∙ rw (← bits) nothing)

@@ -10,3 +10,4 @@ pub mod LostAndFound
 pub mod TwoZeroGroups
 pub mod EightZeroGroups
 pub mod GuessesThatDiffer
+pub mod Shares

@@ -1,9 +1,15 @@
 -- The laws of runs and reports, over the definitions alone. This project's rules.
-use Rattle.std.specs.Prelude.{◌≡◌, ◌≢◌, ◌↔◌, ℕ, ◌+◌, ◌-◌, ◌*◌, ◌<◌, ◌≤◌, ◌⊎◌, List, [], ◌++◌, Some, None, length}
+use Rattle.std.specs.Prelude.{◌≡◌, ◌≢◌, ◌↔◌, ℕ, ◌+◌, ◌-◌, ◌*◌, ◌<◌, ◌≤◌, ◌⊎◌, List, [], ◌++◌, Some, None, length, Bool, nat_lt, min, if◌then◌else◌}
+use Rattle.std.specs.Int.{bit_at}
+use Rattle.rds_sync.specs.declared.loss.Loss.{Loss}
+use Rattle.rds_sync.specs.declared.loss.Loss.TheVariants.{Run, Share}
+use Rattle.rds_sync.specs.declared.loss.Bad.TheVariants.{Mask}
 use Rattle.rds_sync.specs.declared.state.State.{State}
 use Rattle.rds_sync.specs.declared.state.State.TheVariants.{Searching, Locked}
 use Rattle.rds_sync.specs.declared.item.Item.{Item}
+use Rattle.rds_sync.specs.declared.loss.Bad.{Bad}
 use Rattle.rds_sync.specs.Rules.{RuleNumbers}
+use Rattle.rds_sync.specs.Loss.{IsLoss, bad_at, are_too_many, loses}
 use Rattle.rds_sync.specs.Acquiring.{acquired}
 use Rattle.rds_sync.specs.Lawful.{IsLawful, IsBetweenGroups}
 use Rattle.rds_sync.specs.Step.{step, items_at, run, items_of_end}
@@ -11,7 +17,7 @@ use Rattle.rds_sync.specs.Report.{report_items}
 
 -- the items of the run over a whole recording, with those of its end, are the report's
 abbrev pub RunsAreReports : Type 0
-RunsAreReports = (b : List ℕ) (rules : RuleNumbers) → 1 ≤ rules.loss
+RunsAreReports = (b : List ℕ) (rules : RuleNumbers) → IsLoss rules.loss
     → let whole = run b rules Searching 0 (length b) in whole.1 ++ items_of_end b rules whole.0 ≡ report_items b rules
 
 -- a run over a range, and then from its end over the next range, is the run over both
@@ -23,12 +29,12 @@ RunsJoin = (b : List ℕ) (rules : RuleNumbers) (s : State) (from middle to : �
 
 -- one bit leads from a lawful state to a lawful state
 abbrev pub StepsAreLawful : Type 0
-StepsAreLawful = (b : List ℕ) (rules : RuleNumbers) → 1 ≤ rules.loss
+StepsAreLawful = (b : List ℕ) (rules : RuleNumbers) → IsLoss rules.loss
     → (place : ℕ) (s : State) → IsLawful rules place s → IsLawful rules (place + 1) (step b rules place s)
 
 -- a run leads from a lawful state to a lawful state
 abbrev pub RunsAreLawful : Type 0
-RunsAreLawful = (b : List ℕ) (rules : RuleNumbers) → 1 ≤ rules.loss
+RunsAreLawful = (b : List ℕ) (rules : RuleNumbers) → IsLoss rules.loss
     → (s : State) (from to : ℕ) → from ≤ to → IsLawful rules from s → IsLawful rules to (run b rules s from (to - from)).0
 
 -- two runs over one range that are in one state before some bit have one end, and from that bit on the same items
@@ -49,7 +55,7 @@ OneBitRuns = (b : List ℕ) (rules : RuleNumbers) (s : State) (place : ℕ)
 
 -- while a block is waited for, a run changes nothing and gives nothing
 abbrev pub LocksWait : Type 0
-LocksWait = (b : List ℕ) (rules : RuleNumbers) (due number bad first from to : ℕ) → from ≤ to → to ≤ due
+LocksWait = (b : List ℕ) (rules : RuleNumbers) (due number : ℕ) (bad : Bad) (first from to : ℕ) → from ≤ to → to ≤ due
     → run b rules (Locked due number bad first) from (to - from) ≡ (Locked due number bad first, [])
 
 -- while no place acquires, a search changes nothing and gives nothing
@@ -71,3 +77,16 @@ RunsGiveFewItems = (b : List ℕ) (rules : RuleNumbers) (s : State) (from to : �
 -- no place before 51 acquires, and each acquires with a number from 1 to 4
 abbrev pub AcquisitionsAreLate : Type 0
 AcquisitionsAreLate = (b : List ℕ) (rules : RuleNumbers) (i x : ℕ) → acquired b rules i ≡ Some x → (51 ≤ i) × (1 ≤ x) × (x ≤ 4)
+
+-- bit i of a mask tells whether block k - i was bad, where that is one of the last `of` blocks, and is 0 elsewhere
+abbrev pub MasksTellBlocks : Type 0
+MasksTellBlocks = (is_good : ℕ → Bool) (bad of k mask i : ℕ) → bad_at is_good (Share bad of) k ≡ Mask mask
+    → bit_at mask i ≡ (if nat_lt i (min of k) then (if is_good (k - i) then 0 else 1) else 0)
+
+-- what is kept of a lock's bad blocks loses it exactly where its blocks do
+abbrev pub BadBlocksLose : Type 0
+BadBlocksLose = (is_good : ℕ → Bool) (loss : Loss) (k : ℕ) → are_too_many loss (bad_at is_good loss k) ≡ loses loss is_good k
+
+-- n bad blocks in a row are n bad blocks among the last n
+abbrev pub RunsAreShares : Type 0
+RunsAreShares = (is_good : ℕ → Bool) (n k : ℕ) → loses (Run n) is_good k ≡ loses (Share n n) is_good k

@@ -1,12 +1,12 @@
 -- A lock that is followed from block to block, with the blocks of the group in progress.
 use Rattle.std.specs.Prelude.{◌≡◌, ◌≢◌, ℕ, ◌+◌, ◌-◌, ◌*◌, ◌<◌, ◌≤◌, ◌⊎◌, List, [], length}
 use Rattle.rds_sync.specs.declared.item.Block.{Block}
-use Rattle.rds_sync.specs.declared.lock.Followed.{Followed}
-use Rattle.rds_sync.specs.declared.lock.Followed.TheVariants.{Inside, Closed}
-use Rattle.rds_sync.specs.declared.lock.Lock.{Lock}
-use Rattle.rds_sync.specs.declared.state.State.{State}
-use Rattle.rds_sync.specs.declared.state.State.TheVariants.{Locked}
+use Rattle.rds_sync.specs.declared.due.Due.{Due}
+use Rattle.rds_sync.specs.declared.due.Due.TheVariants.{Inside, Closed, Lost}
+use Rattle.rds_sync.specs.declared.due.Lock.{Lock}
+use Rattle.rds_sync.specs.Due.{state_in}
 use Rattle.rds_sync.specs.Groups.{blocks_at}
+use Rattle.rds_sync.specs.Loss.{IsLawfulBad}
 use Rattle.rds_sync.specs.Rules.{RuleNumbers}
 use Rattle.rds_sync.specs.Step.{items_at}
 
@@ -16,23 +16,19 @@ IsInProgress b rules lock blocks = blocks ≡ blocks_at b rules lock.first (lock
 
 -- a lock that can be followed: it is not lost, and the blocks of its group that are read already lie in the recording
 pub record IsReadable (b : List ℕ) (rules : RuleNumbers) (lock : Lock) : Type 0 where
-  pub few_bad : lock.bad < rules.loss
+  pub few_bad : IsLawfulBad rules.loss lock.bad
   pub start : 26 * (lock.number - lock.first) + 25 ≤ lock.due
   pub reached : lock.due < length b + 26
   pub in_order : ((lock.number ≡ 1) × (lock.first ≡ 1)) ⊎ ((1 ≤ lock.first) × (lock.first < lock.number) × (lock.number ≤ 4))
 
--- the state to which the block that was due led
-abbrev pub state_of : Followed → State
-state_of (Inside next) = Locked next.due next.number next.bad next.first
-state_of (Closed after) = after
-
 -- where the group goes on, nothing was given, the next block is due after 26 places, and the blocks are those read so far
 pub record GoesOn (b : List ℕ) (rules : RuleNumbers) (lock next : Lock) (blocks : List Block) : Type 0 where
-  pub nothing : items_at b rules lock.due (Locked lock.due lock.number lock.bad lock.first) ≡ []
+  pub nothing : items_at b rules lock.due (state_in lock) ≡ []
   pub due : next.due ≡ lock.due + 26
   pub in_progress : IsInProgress b rules next blocks
 
 -- and where the block closed it, an item was given
-abbrev pub IsFollowed : List ℕ → RuleNumbers → Lock → List Block → Followed → Type 0
+abbrev pub IsFollowed : List ℕ → RuleNumbers → Lock → List Block → Due → Type 0
 IsFollowed b rules lock blocks (Inside next) = GoesOn b rules lock next blocks
-IsFollowed b rules lock blocks (Closed after) = items_at b rules lock.due (Locked lock.due lock.number lock.bad lock.first) ≢ []
+IsFollowed b rules lock blocks (Closed next) = items_at b rules lock.due (state_in lock) ≢ []
+IsFollowed b rules lock blocks Lost = items_at b rules lock.due (state_in lock) ≢ []

@@ -22,12 +22,15 @@ pub enum SyncError {
     /// Memory was refused.
     #[error("out of memory")]
     OutOfMemory,
+    /// The share of bad blocks is not at least 1 of at most 64.
+    #[error("the share is not 1 to 64 bad blocks of as many or more, up to 64")]
+    ShareRange,
 }
 
 impl SyncError {
     ghost use Rattle.rds_sync.specs.Refusals.{number_of, name_of};
 
-    /// The number of the refusal: 1, 2, 3 or 8.
+    /// The number of the refusal: 1, 2, 3, 8 or 15.
     pub fn number(self) -> u8
         ensures { result ≡ number_of self }
     {
@@ -36,6 +39,7 @@ impl SyncError {
             SyncError::ReachRange => 2,
             SyncError::LossRange => 3,
             SyncError::OutOfMemory => 8,
+            SyncError::ShareRange => 15,
         }
     }
 
@@ -48,6 +52,7 @@ impl SyncError {
             SyncError::ReachRange => "ReachRange",
             SyncError::LossRange => "LossRange",
             SyncError::OutOfMemory => "OutOfMemory",
+            SyncError::ShareRange => "ShareRange",
         }
     }
 }

@@ -24,15 +24,6 @@ pub(crate) fn is_numbered(window: u32, number: u8) -> bool
     }
 }
 
-/// The bad blocks in a row after one more block: a valid one ends them, any other is one more,
-/// corrected or not.
-pub(crate) fn bad_with(valid: bool, bad: u8) -> u8
-    requires { bad < 255 }
-    ensures { result ≡ (if valid then 0 else bad + 1) }
-{
-    if valid { 0 } else { bad + 1 }
-}
-
 impl Version {
     /// The version that a block 3 with this offset names.
     fn of_offset(offset: Offset) -> Version

@@ -3,7 +3,7 @@
 
 ghost use Rattle.rds_sync.specs.Counting.{TotalsJoin};
 ghost use Rattle.rds_sync.specs.GroupLaws.{GroupsAreRead};
-ghost use Rattle.rds_sync.specs.Laws.{RunsAreReports, RunsJoin, StepsAreLawful, RunsAreLawful, RunsMerge, OneBitRuns, LocksWait, SearchesGoOn, ItemsMarkChanges, RunsGiveFewItems, AcquisitionsAreLate};
+ghost use Rattle.rds_sync.specs.Laws.{RunsAreReports, RunsJoin, StepsAreLawful, RunsAreLawful, RunsMerge, OneBitRuns, LocksWait, SearchesGoOn, ItemsMarkChanges, RunsGiveFewItems, AcquisitionsAreLate, MasksTellBlocks, BadBlocksLose, RunsAreShares};
 
 /// The items of the run over a whole recording, with those of its end, are those of its locks.
 pub fn runs_are_reports()
@@ -58,6 +58,21 @@ pub fn runs_give_few_items()
 /// No place before 51 acquires, and each acquires with a number from 1 to 4.
 pub fn acquisitions_are_late()
     ensures { AcquisitionsAreLate }
+{}
+
+/// What is kept of a lock's bad blocks loses it exactly where its blocks do.
+pub fn bad_blocks_lose()
+    ensures { BadBlocksLose }
+{}
+
+/// A mask tells which of the last blocks were bad.
+pub fn masks_tell_blocks()
+    ensures { MasksTellBlocks }
+{}
+
+/// So many bad blocks in a row are so many bad blocks among as many.
+pub fn runs_are_shares()
+    ensures { RunsAreShares }
 {}
 
 /// A group says what its blocks say: their places, its type, its version, whether it is in conflict, whether it is complete.

@@ -34,7 +34,7 @@ pub fn decode_plain(alloc: Global, rec: &Recording, rules: &Rules) -> Result<Rep
         ≡ totals_of (report_items rec.now rules.now)) }
     ensures only_memory { IsOkUnless result SyncError.OutOfMemory }
 {
-    prove!(1 <= rules.loss());
+    prove!(1 <= rules.reach());
     let mut found = ItemBuffer::new(alloc);
     let end = run_onto(rec, rules, State::Searching, 0, rec.len(), &mut found)?;
     let mut tape = Counted::new(rec);

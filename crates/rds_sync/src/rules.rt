@@ -2,20 +2,31 @@
 
 ghost use Rattle.std.specs.Prelude.{◌≡◌, ◌<◌, ◌≤◌, ◌⊎◌, ◌↔◌, ◌^◌, IfOk, IsErrOf};
 ghost use Rattle.rds_code.specs.Reading.{reading};
-ghost use Rattle.rds_sync.specs.Ranges.{IsInRange};
+ghost use Rattle.rds_sync.specs.Ranges.{IsInRange, IsRunOutside, IsShareOutside};
+ghost use Rattle.rds_sync.specs.declared.loss.Loss.TheVariants.{Run, Share};
 
 use crate::error::SyncError;
+use crate::loss::Loss;
 use rds_code::{BurstTable, Reading, Wanted, read_block};
 use std::alloc::Global;
 use std::marker::Model;
 
-/// The three numbers of a synchroniser, with the table of bursts that its corrections are looked
-/// up in. Building one takes memory; using it takes none.
+/// The numbers of a synchroniser's rules.
+#[derive(Clone, Copy, Debug, PartialEq, Eq)]
+pub struct RuleNumbers {
+    /// The longest burst that is corrected, in bits: 0 to 5.
+    pub burst: u32,
+    /// How many blocks back a partner is looked for while acquiring: 1 to 8.
+    pub reach: u32,
+    /// When a lock is lost.
+    pub loss: Loss,
+}
+
+/// The rules of a synchroniser: their numbers, with the table of bursts that its corrections are
+/// looked up in. Building them takes memory; using them takes none.
 #[derive(Drop)]
 pub struct Rules {
-    burst: u8,
-    reach: u32,
-    loss: u32,
+    numbers: RuleNumbers,
     table: BurstTable,
 }
 
@@ -25,12 +36,40 @@ impl Model for Rules {
 
     ghost Value = { RuleNumbers };
 
-    ghost view = { λ r. record { burst = r.burst; reach = r.reach; loss = r.loss } };
+    ghost view = { λ r. r.numbers };
 
-    ghost invariant = { λ r. IsInRange (record { burst = r.burst; reach = r.reach; loss = r.loss }) };
+    ghost invariant = { λ r. IsInRange r.numbers };
 }
 
 impl Rules {
+    /// Rules of these numbers.
+    ///
+    /// Refuses a burst, then a reach, then a loss or a share out of its range, and otherwise only
+    /// want of memory.
+    pub fn of(alloc: Global, numbers: RuleNumbers) -> Result<Rules, SyncError>
+        ensures numbers { IfOk result (λ rules. rules ≡ numbers) }
+
+        ensures burst_range { IsErrOf result SyncError.BurstRange ↔ (5 < numbers.burst) }
+        ensures reach_range { IsErrOf result SyncError.ReachRange
+            ↔ ((numbers.burst ≤ 5) × ((numbers.reach < 1) ⊎ (8 < numbers.reach))) }
+        ensures loss_range { IsErrOf result SyncError.LossRange
+            ↔ ((numbers.burst ≤ 5) × (1 ≤ numbers.reach) × (numbers.reach ≤ 8) × IsRunOutside numbers.loss) }
+        ensures share_range { IsErrOf result SyncError.ShareRange
+            ↔ ((numbers.burst ≤ 5) × (1 ≤ numbers.reach) × (numbers.reach ≤ 8) × IsShareOutside numbers.loss) }
+    {
+        if numbers.burst > 5 {
+            return Err(SyncError::BurstRange);
+        }
+        if numbers.reach < 1 || numbers.reach > 8 {
+            return Err(SyncError::ReachRange);
+        }
+        numbers.loss.check()?;
+        Ok(Rules {
+            numbers,
+            table: BurstTable::new(alloc)?,
+        })
+    }
+
     /// Rules that correct bursts of up to `burst` bits (0 to 5), acquire where a fitting block
     /// stands up to `reach` blocks back (1 to 8), and lose a lock after `loss` bad blocks in a row
     /// (1 to 64).
@@ -38,7 +77,7 @@ impl Rules {
     /// Refuses a burst, then a reach, then a loss out of its range, and otherwise only want of
     /// memory.
     pub fn new(alloc: Global, burst: u32, reach: u32, loss: u32) -> Result<Rules, SyncError>
-        ensures numbers { IfOk result (λ rules. (rules.burst ≡ burst) × (rules.reach ≡ reach) × (rules.loss ≡ loss)) }
+        ensures numbers { IfOk result (λ rules. (rules.burst ≡ burst) × (rules.reach ≡ reach) × (rules.loss ≡ Run loss)) }
 
         ensures burst_range { IsErrOf result SyncError.BurstRange ↔ (5 < burst) }
         ensures reach_range { IsErrOf result SyncError.ReachRange
@@ -46,21 +85,53 @@ impl Rules {
         ensures loss_range { IsErrOf result SyncError.LossRange
             ↔ ((burst ≤ 5) × (1 ≤ reach) × (reach ≤ 8) × ((loss < 1) ⊎ (64 < loss))) }
     {
-        if burst > 5 {
-            return Err(SyncError::BurstRange);
-        }
-        if reach < 1 || reach > 8 {
-            return Err(SyncError::ReachRange);
-        }
-        if loss < 1 || loss > 64 {
-            return Err(SyncError::LossRange);
-        }
-        Ok(Rules {
-            burst: burst as u8,
-            reach,
-            loss,
-            table: BurstTable::new(alloc)?,
-        })
+        Rules::of(
+            alloc,
+            RuleNumbers {
+                burst,
+                reach,
+                loss: Loss::Run(loss),
+            },
+        )
+    }
+
+    /// Rules that correct and acquire as those of [`new`](Rules::new), and lose a lock where `bad`
+    /// of the last `of` blocks read in it are bad (at least 1 of at most 64).
+    ///
+    /// Refuses a burst, then a reach, then a share out of its range, and otherwise only want of
+    /// memory.
+    pub fn with_share(
+        alloc: Global,
+        burst: u32,
+        reach: u32,
+        bad: u32,
+        of: u32,
+    ) -> Result<Rules, SyncError>
+        ensures numbers { IfOk result (λ rules. (rules.burst ≡ burst) × (rules.reach ≡ reach) × (rules.loss ≡ Share bad of)) }
+
+        ensures burst_range { IsErrOf result SyncError.BurstRange ↔ (5 < burst) }
+        ensures reach_range { IsErrOf result SyncError.ReachRange
+            ↔ ((burst ≤ 5) × ((reach < 1) ⊎ (8 < reach))) }
+        ensures share_range { IsErrOf result SyncError.ShareRange
+            ↔ ((burst ≤ 5) × (1 ≤ reach) × (reach ≤ 8) × ((bad < 1) ⊎ (of < bad) ⊎ (64 < of))) }
+    {
+        Rules::of(
+            alloc,
+            RuleNumbers {
+                burst,
+                reach,
+                loss: Loss::Share { bad, of },
+            },
+        )
+    }
+
+    /// The numbers of these rules.
+    pub fn numbers(&self) -> RuleNumbers
+        ensures value { result ≡ self.now }
+        ensures range { IsInRange self.now }
+    {
+        let Rules { numbers, .. } = self;
+        *numbers
     }
 
     /// The longest burst that is corrected, in bits: 0 to 5.
@@ -68,7 +139,7 @@ impl Rules {
         ensures value { result ≡ self.now.burst }
         ensures range { IsInRange self.now }
     {
-        u32::from(self.burst)
+        self.numbers.burst
     }
 
     /// How many blocks back a partner is looked for while acquiring: 1 to 8.
@@ -76,15 +147,15 @@ impl Rules {
         ensures value { result ≡ self.now.reach }
         ensures range { IsInRange self.now }
     {
-        self.reach
+        self.numbers.reach
     }
 
-    /// After how many bad blocks in a row the lock is lost: 1 to 64.
-    pub fn loss(&self) -> u32
+    /// When a lock is lost.
+    pub fn loss(&self) -> Loss
         ensures value { result ≡ self.now.loss }
         ensures range { IsInRange self.now }
     {
-        self.loss
+        self.numbers.loss
     }
 
     /// The window read as the block of this number, corrected where these rules allow it.
@@ -94,6 +165,6 @@ impl Rules {
         requires number { (1 ≤ number) × (number ≤ 4) }
         ensures { result ≡ reading window number wanted self.now.burst }
     {
-        read_block(&self.table, window, number, wanted, self.burst)
+        read_block(&self.table, window, number, wanted, self.burst() as u8)
     }
 }

@@ -3,6 +3,7 @@
 ghost use Rattle.std.specs.Prelude.{◌≡◌, ◌≤◌, ◌<◌, ◌^◌, ◌↔◌, IsTrue};
 ghost use Rattle.rds_sync.specs.Rules.{RuleNumbers};
 
+use crate::loss::Bad;
 use crate::rules::Rules;
 
 /// The state before a bit.
@@ -10,21 +11,20 @@ use crate::rules::Rules;
 pub enum State {
     /// No block is known: each bit is tried as the last of a block that acquires.
     Searching,
-    /// The next block ends at place `due` and is read as block `number` (1 to 4). The last `bad`
-    /// blocks in a row were not valid, fewer than the rules' `loss`. The first block that was read
-    /// in the group in progress has number `first`, which is below `number`; both are 1 where no
-    /// group is in progress.
+    /// The next block ends at place `due` and is read as block `number` (1 to 4). The blocks that
+    /// were not valid are kept in `bad`, too few for a loss. The first block that was read in the
+    /// group in progress has number `first`, which is below `number`; both are 1 where no group is
+    /// in progress.
     Locked {
         due: u64,
         number: u8,
-        bad: u8,
+        bad: Bad,
         first: u8,
     },
 }
 
 impl State {
     ghost use Rattle.rds_sync.specs.Lawful.{IsLawful};
-    ghost use Rattle.rds_sync.specs.Step.{locked_after};
 
     /// Whether the state is lawful before the bit at `place`, by these rules: a search, or a lock
     /// whose block is due within 26 places, whose bad blocks do not lose it, whose group lies in
@@ -42,25 +42,10 @@ impl State {
             } => {
                 place <= due
                     && due - place <= 25
-                    && u32::from(bad) < rules.loss()
+                    && rules.loss().is_lawful_bad(bad)
                     && 26 * u64::from(number.saturating_sub(first)) + 25 <= due
                     && (number == 1 && first == 1 || 1 <= first && first < number && number <= 4)
             }
-        }
-    }
-
-    /// The lock after block `number` was read at `place`: after block 4 comes block 1, of a new
-    /// group.
-    pub(crate) fn after_block(place: u64, number: u8, bad: u8, first: u8) -> State
-        requires place { place < 2 ^ 36 }
-        requires number { number ≤ 4 }
-        ensures { result ≡ locked_after place number bad first }
-    {
-        State::Locked {
-            due: place + 26,
-            number: number % 4 + 1,
-            bad,
-            first: if number == 4 { 1 } else { first },
         }
     }
 }

@@ -3,21 +3,21 @@
 
 ghost use Rattle.std.specs.Prelude.{◌≡◌, ◌≤◌, ◌<◌, ◌-◌, ◌++◌, length, IfOk, OnOk, IsOkUnless};
 ghost use Rattle.rds_sync.specs.Advance.{items_in};
+ghost use Rattle.rds_sync.specs.Due.{state_in};
 ghost use Rattle.rds_sync.specs.Lawful.{IsLawful, IsLawfulLock};
 ghost use Rattle.rds_sync.specs.Stretch.{IsStretch, IsStretchOnto};
-ghost use Rattle.rds_sync.specs.Acquiring.{acquired};
-ghost use Rattle.rds_sync.specs.Step.{run, items_at};
-ghost use Rattle.rds_sync.specs.declared.state.State.TheVariants.{Searching, Locked};
+ghost use Rattle.rds_sync.specs.Step.{run};
+ghost use Rattle.rds_sync.specs.declared.state.State.TheVariants.{Searching};
 
+use crate::acquiring::{Acquisition, has_partner_in};
+use crate::due::{Due, Lock};
 use crate::error::SyncError;
-use crate::group::GroupPart;
 use crate::item::Item;
 use crate::item_buffer::ItemBuffer;
-use crate::lock::{Followed, Lock, blocks_before, follow};
+use crate::lock::{blocks_before, follow};
 use crate::rules::Rules;
 use crate::state::State;
-use crate::step::{closed_group, has_partner};
-use rds_stream::{Counted, Recording, ValidWindows};
+use rds_stream::{Recording, ValidWindows};
 
 /// How far a run came, and the state there.
 #[derive(Clone, Copy, Debug, PartialEq, Eq)]
@@ -83,16 +83,21 @@ fn search(
         IsStretchOnto rec.now rules.now Searching place to items.old reached items.new) }
     ensures only_memory { IsOkUnless result SyncError.OutOfMemory }
 {
-    prove!(1 <= rules.loss() && to <= rec.len());
+    prove!(to <= rec.len());
     for (here, offset) in ValidWindows::new(rec, place, to) {
         // A window is valid by chance at one place in two hundred: so its partners are looked up in
         // the recording, and the search keeps none of the windows behind it.
         let number = offset.number();
-        if has_partner(&mut Counted::new(rec), rules, here, number) {
-            push_found(items, found_at(rec, rules, here, number))?;
+        if has_partner_in(rec, rules, here, number) {
+            let found = Acquisition {
+                place: here,
+                number,
+                window: rec.window(here),
+            };
+            push_found(items, found.items(rules))?;
             return Ok(Reached {
                 place: here + 1,
-                state: State::after_block(here, number, 0, number),
+                state: found.lock(rules.loss()).state(),
             });
         }
     }
@@ -100,22 +105,6 @@ fn search(
         place: to,
         state: State::Searching,
     })
-}
-
-/// What is found at a place that acquires with this number.
-fn found_at(rec: &Recording, rules: &Rules, place: u64, number: u8) -> [Option<Item>; 2]
-    requires within { place < length rec.now }
-    requires acquires { acquired rec.now rules.now place ≡ Some number }
-    ensures { items_in result ≡ items_at rec.now rules.now place Searching }
-{
-    let part = GroupPart {
-        first: number,
-        last: number,
-        place,
-        window: rec.window(place),
-    };
-    let group = closed_group(&mut Counted::new(rec), rules, part);
-    [Some(Item::Acquired { place, number }), group]
 }
 
 /// Appends what was found.
@@ -147,20 +136,27 @@ fn keep_lock(
     requires order { place < to }
     requires within { to ≤ length rec.now }
     ensures reached { IfOk result (λ reached.
-        IsStretchOnto rec.now rules.now (Locked lock.due lock.number lock.bad lock.first) place to
+        IsStretchOnto rec.now rules.now (state_in lock) place to
         items.old reached items.new) }
     ensures only_memory { IsOkUnless result SyncError.OutOfMemory }
 {
+    prove!(1 <= rules.reach());
     let mut blocks = blocks_before(rec, rules, lock);
     let mut now = lock;
     while now.due < to {
-        let due = now.due;
+        let past = now.due + 1;
         match follow(rec, rules, now, &mut blocks, items)? {
-            Followed::Inside(next) => now = next,
-            Followed::Closed(state) => {
+            Due::Inside(next) => now = next,
+            Due::Closed(next) => {
                 return Ok(Reached {
-                    place: due + 1,
-                    state,
+                    place: past,
+                    state: next.state(),
+                });
+            }
+            Due::Lost => {
+                return Ok(Reached {
+                    place: past,
+                    state: State::Searching,
                 });
             }
         }

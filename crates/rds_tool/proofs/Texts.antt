@@ -16,10 +16,12 @@ use Rattle.rds_tool.specs.Input.{and_then, bytes_of, claimed, decoded, first_bit
 use Rattle.rds_tool.specs.Listing.{report_text, totals_text}
 use Rattle.rds_tool.specs.Outcome.{WritesPrefix, cut_recording, list_text, outcome, text_of_task, totals_list}
 use Rattle.rds_tool.specs.Plans.{PlanOf, crew_of, cut_by, plan_of}
-use Rattle.rds_tool.specs.Rules.{rules_of}
+use Rattle.rds_sync.specs.declared.loss.Loss.{Loss}
+use Rattle.rds_sync.specs.declared.loss.Loss.TheVariants.{Run, Share}
+use Rattle.rds_tool.specs.Rules.{loss_of, rules_of}
 use Rattle.rds_tool.specs.Tasks.{AsksForThreads, MayStartThreads, task_of}
 use Rattle.rds_tool.specs.declared.error.ToolError.{ToolError}
-use Rattle.rds_tool.specs.declared.error.ToolError.TheVariants.{BadCutting, BitsPastBytes, BurstRange, CrewRange, LossRange, NoWorker, OutOfMemory, ReachRange, Read, TooLong, TooManyTurns, Write}
+use Rattle.rds_tool.specs.declared.error.ToolError.TheVariants.{BadCutting, BitsPastBytes, BurstRange, CrewRange, LossRange, NoWorker, OutOfMemory, ReachRange, Read, ShareRange, TooLong, TooManyTurns, Write}
 use Rattle.rds_tool.specs.declared.job.Cuts.{Cuts}
 use Rattle.rds_tool.specs.declared.job.Input.{Input}
 use Rattle.rds_tool.specs.declared.job.Job.{Job}
@@ -160,13 +162,21 @@ refused_inside X t held e (inl m) = memory_inside e m
 refused_inside X t held e (inr (inl h)) = threads_inside e h.0
 refused_inside X t held e (inr (inr p)) = inside e (of_bytes t held e p)
 
-rules_at : (burst reach loss : Bool) (rules : RuleNumbers)
-    → let r : Result RuleNumbers ToolError = if burst then Err BurstRange else if reach then Err ReachRange else if loss then Err LossRange else Ok rules in
-    IfErr r IsOfOutcome
-rules_at true reach loss rules = tt
-rules_at false true loss rules = tt
-rules_at false false true rules = tt
-rules_at false false false rules = tt
+loss_errs : (loss : Loss) → IfErr (loss_of loss) IsOfOutcome
+loss_errs (Run n) = by_test (nat_lt n 1 || nat_lt 64 n) where
+  by_test : (t : Bool) → let r : Result Loss ToolError = if t then Err LossRange else Ok (Run n) in IfErr r IsOfOutcome
+  by_test true = tt
+  by_test false = tt
+loss_errs (Share bad of) = by_test (nat_lt bad 1 || nat_lt of bad || nat_lt 64 of) where
+  by_test : (t : Bool) → let r : Result Loss ToolError = if t then Err ShareRange else Ok (Share bad of) in IfErr r IsOfOutcome
+  by_test true = tt
+  by_test false = tt
+
+rules_at : (burst reach : Bool) (r : Result RuleNumbers ToolError) → IfErr r IsOfOutcome
+    → let all : Result RuleNumbers ToolError = if burst then Err BurstRange else if reach then Err ReachRange else r in IfErr all IsOfOutcome
+rules_at true reach r h = tt
+rules_at false true r h = tt
+rules_at false false r h = h
 
 crew_at : (workers pieces : Bool) → let r : Result (Unit {0}) ToolError = if workers then Err CrewRange else if pieces then Err BadCutting else Ok tt in IfErr r IsOfOutcome
 crew_at true pieces = tt
@@ -176,7 +186,8 @@ crew_at false false = tt
 plan_errs : (settings : Settings) → IfErr (plan_of settings) IsOfOutcome
 plan_errs settings =
     then_errs IsOfOutcome (rules_of settings) _
-    (rules_at (nat_lt 5 settings.burst) (nat_lt settings.reach 1 || nat_lt 8 settings.reach) (nat_lt settings.loss 1 || nat_lt 64 settings.loss) _)
+    (rules_at (nat_lt 5 settings.burst) (nat_lt settings.reach 1 || nat_lt 8 settings.reach) _
+    (then_errs IsOfOutcome (loss_of settings.loss) _ (loss_errs settings.loss) (λ loss. tt)))
     (λ rules. then_errs IsOfOutcome (crew_of settings) _ (crew_at (nat_lt settings.workers 1 || nat_lt 256 settings.workers) (not (has_pieces settings.cuts))) (λ _. tt))
 
 settings_errs : (job : Job) → IfErr (task_of job) IsOfOutcome

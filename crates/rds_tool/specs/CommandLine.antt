@@ -8,6 +8,8 @@ use Rattle.clap.specs.declared.builder.command.Command.TheViews.{out-Command as 
 use Rattle.clap.specs.declared.builder.value_parser.ValueParser.TheVariants as parser
 use Rattle.clap.specs.declared.error.kind.ErrorKind.{ErrorKind}
 use Rattle.clap.specs.declared.error.kind.ErrorKind.TheVariants as kind
+use Rattle.rds_sync.specs.declared.loss.Loss.{Loss}
+use Rattle.rds_sync.specs.declared.loss.Loss.TheVariants.{Run, Share}
 use Rattle.rds_tool.specs.declared.cli.FaultKind.{FaultKind}
 use Rattle.rds_tool.specs.declared.cli.FaultKind.TheVariants.{Help, Memory, Words}
 use Rattle.rds_tool.specs.declared.job.Cuts.{Cuts}
@@ -46,14 +48,19 @@ bits_rule = record (value_rule (codes "bits")) { parser = Some (parser.Unsigned 
 abbrev pub number_rule : Text → Text → Rule
 number_rule name default = record (value_rule name) { parser = Some (parser.Signed (pos 0) (pos 4294967295)); defaults = default ∷ [] }
 
+-- `--share N`, below 2^32 too, with no default
+abbrev pub share_rule : Rule
+share_rule = record (value_rule (codes "share")) { parser = Some (parser.Signed (pos 0) (pos 4294967295)) }
+
 -- the options of a command that reads a recording
 abbrev pub with_input : App → App
 with_input command = with_rule (with_rule command hex_rule) bits_rule
 
 -- the options of one that reads it by the rules of a synchroniser, piece by piece
 abbrev pub with_rules : App → App
-with_rules command = with_rule (with_rule (with_rule (with_rule (with_rule command
+with_rules command = with_rule (with_rule (with_rule (with_rule (with_rule (with_rule (with_rule command
     (number_rule (codes "burst") (codes "2"))) (number_rule (codes "reach") (codes "3"))) (number_rule (codes "loss") (codes "10")))
+    share_rule) (number_rule (codes "of") (codes "64")))
     (number_rule (codes "pieces") (codes "16"))) (number_rule (codes "workers") (codes "4"))
 
 abbrev pub recording_app : Text → App
@@ -108,11 +115,16 @@ abbrev pub SpellsPieces : Option Text → Cuts → Type 0
 SpellsPieces entry (Even pieces) = Spells 32 entry pieces
 SpellsPieces entry (At cuts) = ⊥
 
+-- the rule of loss that the entries give: a share where there is one, of as many blocks as `--of` says, or else `--loss` in a row
+abbrev pub SpellsLoss : List Row → Loss → Type 0
+SpellsLoss rows (Run n) = (one_of (codes "share") rows ≡ None) × Spells 32 (one_of (codes "loss") rows) n
+SpellsLoss rows (Share bad of) = Spells 32 (one_of (codes "share") rows) bad × Spells 32 (one_of (codes "of") rows) of
+
 -- the settings that the entries give
 pub record AreSettings (rows : List Row) (settings : Settings) : Type 0 where
   pub burst : Spells 32 (one_of (codes "burst") rows) settings.burst
   pub reach : Spells 32 (one_of (codes "reach") rows) settings.reach
-  pub loss : Spells 32 (one_of (codes "loss") rows) settings.loss
+  pub loss : SpellsLoss rows settings.loss
   pub workers : Spells 32 (one_of (codes "workers") rows) settings.workers
   pub cuts : SpellsPieces (one_of (codes "pieces") rows) settings.cuts
 

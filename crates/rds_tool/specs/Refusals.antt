@@ -9,7 +9,7 @@ use Rattle.rds_stream.specs.declared.error.StreamError.TheVariants as stream
 use Rattle.rds_sync.specs.declared.error.SyncError.{SyncError}
 use Rattle.rds_sync.specs.declared.error.SyncError.TheVariants as sync
 use Rattle.rds_tool.specs.declared.error.ToolError.{ToolError}
-use Rattle.rds_tool.specs.declared.error.ToolError.TheVariants.{BadCutting, BitsPastBytes, BurstRange, CrewRange, GroupText, HexText, LossRange, NoWorker, OutOfMemory, ReachRange, Read, TooLong, TooManyTurns, Write}
+use Rattle.rds_tool.specs.declared.error.ToolError.TheVariants.{BadCutting, BitsPastBytes, BurstRange, CrewRange, GroupText, HexText, LossRange, NoWorker, OutOfMemory, ReachRange, Read, ShareRange, TooLong, TooManyTurns, Write}
 
 -- the number of a refusal
 abbrev pub number_of : ToolError → ℕ
@@ -27,6 +27,7 @@ number_of HexText = 11
 number_of GroupText = 12
 number_of TooManyTurns = 13
 number_of NoWorker = 14
+number_of ShareRange = 15
 
 -- the name of a refusal
 abbrev pub name_of : ToolError → List ℕ
@@ -44,6 +45,7 @@ name_of HexText = codes "HexText"
 name_of GroupText = codes "GroupText"
 name_of TooManyTurns = codes "TooManyTurns"
 name_of NoWorker = codes "NoWorker"
+name_of ShareRange = codes "ShareRange"
 
 -- the refusals of the layers below
 abbrev pub of_stream : StreamError → ToolError
@@ -56,6 +58,7 @@ of_sync sync.BurstRange = BurstRange
 of_sync sync.ReachRange = ReachRange
 of_sync sync.LossRange = LossRange
 of_sync sync.OutOfMemory = OutOfMemory
+of_sync sync.ShareRange = ShareRange
 
 abbrev pub of_piece : PieceError → ToolError
 of_piece piece.BadCutting = BadCutting

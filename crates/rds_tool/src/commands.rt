@@ -1,7 +1,7 @@
 //! The commands of the program, their options and their help.
 ghost use Rattle.std.specs.Prelude.{◌≡◌, codes, false};
 ghost use Rattle.clap.specs.Words.{App, new_app, rule_of, with_rule, with_subcommand};
-ghost use Rattle.rds_tool.specs.CommandLine.{Makes, ReadsAs, bare_app, bits_rule, encode_app, hex_rule, number_rule, rds_app, recording_app, ruled_app, value_rule, with_input, with_rules};
+ghost use Rattle.rds_tool.specs.CommandLine.{Makes, ReadsAs, bare_app, bits_rule, encode_app, hex_rule, number_rule, rds_app, recording_app, ruled_app, share_rule, value_rule, with_input, with_rules};
 
 use crate::help;
 use clap::{Arg, ArgAction, Command};
@@ -78,6 +78,8 @@ fn ruled_command<'a>(alloc: Global, command: Command<'a>) -> Made<'a>
     let command = with_number(alloc, command, "burst", "2", help::BURST);
     let command = with_number(alloc, command, "reach", "3", help::REACH);
     let command = with_number(alloc, command, "loss", "10", help::LOSS);
+    let command = with_share(alloc, command);
+    let command = with_number(alloc, command, "of", "64", help::OF);
     let command = with_number(alloc, command, "pieces", "16", help::PIECES);
     with_number(alloc, command, "workers", "4", help::WORKERS)
 }
@@ -109,6 +111,13 @@ fn number_option<'a>(alloc: Global, name: &'a str, default: &'a str, help: &'a s
         .default_value(default)
 }
 
+fn share_option<'a>(alloc: Global) -> Arg<'a>
+    ensures rule { rule_of result ≡ share_rule }
+    ensures local { result.global ≡ false }
+{
+    value_option(alloc, "share", help::SHARE).value_parser(clap::value_parser!(u32))
+}
+
 /// An option with one value, which any parser may still read.
 fn value_option<'a>(alloc: Global, name: &'a str, help: &'a str) -> Arg<'a>
     ensures rule { rule_of result ≡ value_rule name.entry.now }
@@ -133,6 +142,14 @@ fn with_number<'a>(
 {
     let command = command?;
     command.arg(number_option(alloc, name, default, help))
+}
+
+/// The option without a default, made as late.
+fn with_share<'a>(alloc: Global, command: Made<'a>) -> Made<'a>
+    ensures { (app : App) → Makes command.entry app → Makes result (with_rule app share_rule) }
+{
+    let command = command?;
+    command.arg(share_option(alloc))
 }
 
 fn with_command<'a>(top: Made<'a>, command: Made<'a>) -> Made<'a>

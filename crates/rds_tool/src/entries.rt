@@ -1,14 +1,16 @@
 //! The entries of a parsed command line, as a job.
 ghost use Rattle.std.specs.Prelude.{◌≡◌, IfNone, IfSome, List, Option, codes, ℕ};
 ghost use Rattle.clap.specs.Words.{found_of, one_of, rows_of, subcommand_rows_of};
+ghost use Rattle.rds_sync.specs.declared.loss.Loss.{Loss};
 ghost use Rattle.rds_tool.specs.declared.job.Cuts.{Cuts};
 ghost use Rattle.rds_tool.specs.declared.job.Input.{Input};
 ghost use Rattle.rds_tool.specs.declared.job.Job.{Job};
 ghost use Rattle.rds_tool.specs.declared.job.Settings.{Settings};
-ghost use Rattle.rds_tool.specs.CommandLine.{AreSettings, IsFlag, IsInput, IsJob, IsJobOf, MaySpell, Spells, SpellsPieces};
+ghost use Rattle.rds_tool.specs.CommandLine.{AreSettings, IsFlag, IsInput, IsJob, IsJobOf, MaySpell, Spells, SpellsLoss, SpellsPieces};
 
 use crate::{Cuts, Input, Job, Settings};
 use clap::ArgMatches;
+use rds_sync::Loss;
 
 /// The job of a parsed command line, or none where no job has its entries.
 pub fn job_in(matches: &ArgMatches<'_>) -> Option<Job>
@@ -51,10 +53,31 @@ fn settings_in(entries: &ArgMatches<'_>) -> Option<Settings>
     Some(Settings {
         burst: number_in(entries, "burst")?,
         reach: number_in(entries, "reach")?,
-        loss: number_in(entries, "loss")?,
+        loss: loss_in(entries)?,
         workers: number_in(entries, "workers")?,
         cuts: cuts_in(entries)?,
     })
+}
+
+/// The rule of loss: by the share, where there is one, or else by the number in a row. The other's option is not looked at.
+fn loss_in(entries: &ArgMatches<'_>) -> Option<Loss>
+    ensures loss { IfSome result (SpellsLoss (rows_of (found_of entries.now))) }
+    ensures none { IfNone result ((loss : Loss) → SpellsLoss (rows_of (found_of entries.now)) loss → ⊥) }
+{
+    match share_in(entries)? {
+        None => Some(Loss::Run(number_in(entries, "loss")?)),
+        Some(bad) => Some(Loss::Share {
+            bad,
+            of: number_in(entries, "of")?,
+        }),
+    }
+}
+
+fn share_in(entries: &ArgMatches<'_>) -> Option<Option<u32>>
+    ensures share { IfSome result (MaySpell 32 (one_of (codes "share") (rows_of (found_of entries.now)))) }
+    ensures none { IfNone result ((share : Option ℕ) → MaySpell 32 (one_of (codes "share") (rows_of (found_of entries.now))) share → ⊥) }
+{
+    entries.try_get_one::<u32>("share").ok()
 }
 
 fn cuts_in(entries: &ArgMatches<'_>) -> Option<Cuts>

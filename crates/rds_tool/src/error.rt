@@ -55,10 +55,13 @@ pub enum ToolError {
     /// The system refused to start a thread.
     #[error("a thread was not started")]
     NoWorker,
+    /// The share is not at least 1 bad block of at most 64.
+    #[error("the share is not at least 1 bad block of at most 64")]
+    ShareRange,
 }
 
 impl ToolError {
-    /// The number of the refusal: 1 to 14.
+    /// The number of the refusal: 1 to 15.
     pub fn number(self) -> u8
         ensures { result ≡ number_of self }
     {
@@ -77,6 +80,7 @@ impl ToolError {
             ToolError::GroupText => 12,
             ToolError::TooManyTurns => 13,
             ToolError::NoWorker => 14,
+            ToolError::ShareRange => 15,
         }
     }
 
@@ -99,6 +103,7 @@ impl ToolError {
             ToolError::GroupText => "GroupText",
             ToolError::TooManyTurns => "TooManyTurns",
             ToolError::NoWorker => "NoWorker",
+            ToolError::ShareRange => "ShareRange",
         }
     }
 }
@@ -140,6 +145,7 @@ impl From<SyncError> for ToolError {
             SyncError::ReachRange => ToolError::ReachRange,
             SyncError::LossRange => ToolError::LossRange,
             SyncError::OutOfMemory => ToolError::OutOfMemory,
+            SyncError::ShareRange => ToolError::ShareRange,
         }
     }
 }

@@ -24,7 +24,8 @@ words aren't a command line, 1 for a refusal. A refusal writes nothing, but for
   11 HexText        hexadecimal input with an odd number of digits or a strange byte
   12 GroupText      a line for 'encode' that is neither empty nor 16 digits
   13 TooManyTurns   16777216 reads gave bytes and no end had come
-  14 NoWorker       a thread wasn't started";
+  14 NoWorker       a thread wasn't started
+  15 ShareRange     --share is 0 or above --of, or --of is above 64";
 
 pub const SCAN: &str = "List each place at which 26 bits have an offset word as remainder";
 
@@ -98,6 +99,11 @@ pub const BURST: &str = "Correct bursts of errors of up to N bits, 0 to 5";
 pub const REACH: &str = "Acquire where a block that fits lies up to N blocks back, 1 to 8";
 
 pub const LOSS: &str = "Lose synchronism after N blocks in a row that aren't valid, 1 to 64";
+
+pub const SHARE: &str =
+    "Lose synchronism where N of the last blocks aren't valid, 1 to 64, in place of --loss";
+
+pub const OF: &str = "Look at the last N blocks for --share, at most 64";
 
 pub const PIECES: &str =
     "Cut the recording into up to N pieces, 1 or more; the output stays the same";

@@ -1,5 +1,7 @@
 //! What is asked for.
 
+use rds_sync::Loss;
+
 /// The recording that a job reads.
 #[derive(Clone, Copy, Debug, PartialEq, Eq)]
 pub struct Input {
@@ -29,8 +31,9 @@ pub struct Settings {
     pub burst: u32,
     /// How many blocks back an acquiring block looks for another that fits it: 1 to 8.
     pub reach: u32,
-    /// After how many blocks in a row that are not valid the lock is lost: 1 to 64.
-    pub loss: u32,
+    /// When a lock is lost: after 1 to 64 blocks in a row that are not valid, or where at least 1 of the last blocks, at most
+    /// 64, are not.
+    pub loss: Loss,
     /// By how many threads at most the pieces are decoded: 1 to 256. The listing doesn't depend on it.
     pub workers: u32,
     /// Where the recording is cut into pieces, each of which is decoded by one thread.

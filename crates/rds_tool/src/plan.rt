@@ -11,7 +11,7 @@ use crate::{Cuts, Settings, ToolError};
 use rds_crew::{Gate, MOST_WORKERS, decode_crew};
 use rds_pieces::{Cutting, RecordingWork};
 use rds_stream::Recording;
-use rds_sync::{Report, Rules};
+use rds_sync::{Report, RuleNumbers, Rules};
 use std::alloc::{AllocError, Global};
 use std::marker::Model;
 use std::sync::Wait;
@@ -88,8 +88,12 @@ fn rules_of(alloc: Global, settings: &Settings) -> Result<Rules, ToolError>
     ensures refused { IfErr result (λ error. (error ≡ ToolError.OutOfMemory) ⊎ (the_rules_of settings.now ≡ Err error)) }
     ensures settings { IfErr (the_rules_of settings.now) (λ error. result ≡ Err error) }
 {
-    let rules = Rules::new(alloc, settings.burst, settings.reach, settings.loss)?;
-    Ok(rules)
+    let numbers = RuleNumbers {
+        burst: settings.burst,
+        reach: settings.reach,
+        loss: settings.loss,
+    };
+    Ok(Rules::of(alloc, numbers)?)
 }
 
 /// Refuses a number of workers out of its range, and then a cutting into no piece.

@@ -1,7 +1,7 @@
 use Rattle.std.proofs.Common.{◌≡◌, ◌-◌, ◌*◌, ℕ, ap, ◌∙◌, arith}
 use Rattle.rds_stream.specs.Recording.{window}
 use Rattle.rds_sync.specs.declared.item.Block.TheVariants.{Read}
-use Rattle.rds_sync.proofs.BodyLemmas.{block_at-read}
+use Rattle.rds_sync.proofs.GroupBlocks.{block_at-window}
 use Rattle.rds_sync.proofs.group.read_at.Goals as goal
 use Rattle.rds_sync.proofs.group.read_at.Goals.{then-number-part-2, else-number-part-2}
 
@@ -19,5 +19,5 @@ returns-clause-value g c =
           w.window-is ∙ w.window-window.ensures.value ∙ ap (λ (i : ℕ). window b i) place
     ] in
     ap Read c.read.ensures
-    ∙ block_at-read b c.args.rules.now s.first s.last s.place c.args.wanted c.args.number c.if-number-part-2.window
+    ∙ block_at-window b c.args.rules.now s.first s.last s.place c.args.wanted c.args.number c.if-number-part-2.window
     c.if-number-part.false c.if-part-number.false read_window

@@ -5,7 +5,7 @@ use Rattle.rds_code.specs.declared.reading.Wanted.TheVariants.{Either}
 use Rattle.rds_sync.specs.declared.item.Block.{Block}
 use Rattle.rds_sync.specs.Groups.{block_at, blocks_at, wanted_beside}
 use Rattle.rds_sync.specs.Rules.{RuleNumbers}
-use Rattle.rds_sync.proofs.BodyLemmas.{blocks_before, blocks_at-read}
+use Rattle.rds_sync.proofs.GroupBlocks.{blocks_before, blocks_at-read}
 use Rattle.rds_sync.proofs.group.read_blocks.Goals as goal
 
 -- the blocks, read over bits that stay the same

@@ -1,6 +1,6 @@
 use Rattle.std.proofs.Common.{◌≡◌, ◌-◌, ◌*◌, ℕ, ap, ◌∙◌, arith}
 use Rattle.rds_sync.specs.Groups.{group_of}
-use Rattle.rds_sync.proofs.BodyLemmas.{group-blocks}
+use Rattle.rds_sync.proofs.GroupBlocks.{group-blocks}
 use Rattle.rds_sync.proofs.group.read_group.Goals as goal
 
 pub returns-clause-value : goal.returns-clause-value

@@ -1,11 +1,16 @@
-use Rattle.std.proofs.Common.{◌≡◌, ◌+◌, ◌-◌, ℕ, List, [], ◌∷◌, ◌++◌, refl, ap, ap₂, sym, ◌∙◌, arith, append_assoc, append-nil}
+use Rattle.std.proofs.Common.{◌≡◌, ◌+◌, ◌-◌, ◌*◌, ℕ, List, [], ◌∷◌, ◌++◌, ap, ap₂, sym, subst, ◌∙◌, arith, append_assoc, append-nil}
+use Rattle.rds_sync.specs.declared.due.Due.{Due}
+use Rattle.rds_sync.specs.declared.due.Due.TheVariants.{Inside}
 use Rattle.rds_sync.specs.declared.item.Group.{Group as GroupRecord}
 use Rattle.rds_sync.specs.declared.item.Item.{Item}
 use Rattle.rds_sync.specs.declared.item.Item.TheVariants.{Group, LostLock}
+use Rattle.rds_sync.specs.declared.loss.Loss.{Loss}
+use Rattle.rds_sync.specs.Due.{state_in, IsAfter}
 use Rattle.rds_sync.specs.Groups.{blocks_at, group}
-use Rattle.rds_sync.specs.Step.{items_at, locked_after}
-use Rattle.rds_sync.specs.declared.state.State.TheVariants.{Locked}
-use Rattle.rds_sync.proofs.BodyLemmas.{bad_after-valid, step-kept, items-kept, step-lost, items-lost, locked_after-inside, group_after-inside, group_after-four, group-blocks, some_given}
+use Rattle.rds_sync.specs.Locks.{IsFollowed}
+use Rattle.rds_sync.proofs.DueLemmas.{step-due, items-inside, items-closed, items-lost, kept-next}
+use Rattle.rds_sync.proofs.GroupBlocks.{group-blocks}
+use Rattle.rds_sync.proofs.ItemLemmas.{some_given}
 use Rattle.rds_sync.proofs.lock.follow.Goals as goal
 
 -- the items with a group and then a loss
@@ -17,106 +22,94 @@ with_loss xs ys zs found closed closing due pushed lost same found_is =
     ∙ ap (λ (group_closed : GroupRecord). xs ++ (Group group_closed ∷ LostLock due ∷ [])) same
     ∙ ap (λ (is : List Item). xs ++ is) (sym found_is)
 
-pub returns-then-from-loss-clause-state : goal.returns-then-from-loss-clause-state
-returns-then-from-loss-clause-state c =
-    let b = c.args.rec.now in
-    let l = c.args.lock in
-    sym (step-lost b c.args.rules.now l.due l.number l.bad l.first c.bad_with-bad.result
-    (bad_after-valid b l.due l.number l.bad c.bad_with-bad.result c.read_due-valid.result c.read_due-valid.ensures.valid c.bad_with-bad.ensures)
-    (omega (arith, c.if-from-loss.true, c.from.ensures, c.loss-loss.ensures.value)))
+pub returns-in-Inside-clause-state : goal.returns-in-Inside-clause-state
+returns-in-Inside-clause-state c =
+    let after = subst (λ (loss : Loss). IsAfter loss c.args.lock c.read_due-good.result c.after-due.result) c.loss-loss.ensures.value c.after-due.ensures in
+    sym (step-due c.args.rec.now c.args.rules.now c.args.lock c.read_due-good.result c.read_due-good.ensures.valid c.after-due.result after)
 
-pub returns-then-from-loss-clause-items : goal.returns-then-from-loss-clause-items
-returns-then-from-loss-clause-items c =
-    let b = c.args.rec.now in
+pub returns-in-Inside-clause-items : goal.returns-in-Inside-clause-items
+returns-in-Inside-clause-items c =
     let rules = c.args.rules.now in
-    let l = c.args.lock in
-    with_loss c.args.items.now c.push.new.self c.push-then-from-loss.new.self
-    (items_at b rules l.due (Locked l.due l.number l.bad l.first)) c.closed.result (group b rules l.first l.number l.due) l.due
-    (c.in_ok-push.ensures.ok) (c.in_ok-push-2.ensures.ok)
-    (c.closed.ensures ∙ group-blocks b rules l.first l.number l.due c.read_due-valid.new.blocks c.read_due-valid.ensures.blocks)
-    (items-lost b rules l.due l.number l.bad l.first c.bad_with-bad.result
-    (bad_after-valid b l.due l.number l.bad c.bad_with-bad.result c.read_due-valid.result c.read_due-valid.ensures.valid c.bad_with-bad.ensures)
-    (omega (arith, c.if-from-loss.true, c.from.ensures, c.loss-loss.ensures.value)))
-
-pub returns-then-from-loss-clause-followed : goal.returns-then-from-loss-clause-followed
-returns-then-from-loss-clause-followed c =
-    let b = c.args.rec.now in
-    let rules = c.args.rules.now in
-    let l = c.args.lock in
-    some_given (items_at b rules l.due (Locked l.due l.number l.bad l.first)) _ _
-    (items-lost b rules l.due l.number l.bad l.first c.bad_with-bad.result
-    (bad_after-valid b l.due l.number l.bad c.bad_with-bad.result c.read_due-valid.result c.read_due-valid.ensures.valid c.bad_with-bad.ensures)
-    (omega (arith, c.if-from-loss.true, c.from.ensures, c.loss-loss.ensures.value)))
-
-pub returns-then-lock-lt4-clause-state : goal.returns-then-lock-lt4-clause-state
-returns-then-lock-lt4-clause-state c =
-    let b = c.args.rec.now in
-    let l = c.args.lock in
-    sym (step-kept b c.args.rules.now l.due l.number l.bad l.first c.bad_with-bad.result
-    (bad_after-valid b l.due l.number l.bad c.bad_with-bad.result c.read_due-valid.result c.read_due-valid.ensures.valid c.bad_with-bad.ensures)
-    (omega (arith, c.if-from-loss.false, c.from.ensures, c.loss-loss.ensures.value))
-    ∙ locked_after-inside l.due l.number c.bad_with-bad.result l.first c.if-lock-lt4.true)
-
-pub returns-then-lock-lt4-clause-items : goal.returns-then-lock-lt4-clause-items
-returns-then-lock-lt4-clause-items c =
-    let b = c.args.rec.now in
-    let rules = c.args.rules.now in
-    let l = c.args.lock in
-    sym (ap (λ (is : List Item). c.args.items.now ++ is)
-    (items-kept b rules l.due l.number l.bad l.first c.bad_with-bad.result
-    (bad_after-valid b l.due l.number l.bad c.bad_with-bad.result c.read_due-valid.result c.read_due-valid.ensures.valid c.bad_with-bad.ensures)
-    (omega (arith, c.if-from-loss.false, c.from.ensures, c.loss-loss.ensures.value))
-    ∙ group_after-inside b rules l.first l.number l.due c.if-lock-lt4.true)
+    let lock = c.args.lock in
+    let good = c.read_due-good.result in
+    let after = subst (λ (loss : Loss). IsAfter loss lock good c.after-due.result) c.loss-loss.ensures.value c.after-due.ensures in
+    let inside = subst (λ (due : Due). IsAfter rules.loss lock good due) c.in-Inside.is after in
+    sym (ap (λ (is : List Item). c.args.items.now ++ is) (items-inside c.args.rec.now rules lock good c.read_due-good.ensures.valid c.in-Inside.field-0 inside)
     ∙ append-nil c.args.items.now)
 
-pub returns-then-lock-lt4-clause-followed : goal.returns-then-lock-lt4-clause-followed
-returns-then-lock-lt4-clause-followed c =
+pub returns-in-Inside-clause-followed : goal.returns-in-Inside-clause-followed
+returns-in-Inside-clause-followed c =
     let b = c.args.rec.now in
     let rules = c.args.rules.now in
-    let l = c.args.lock in
-    let same : l.number ≡ l.number + 1 - 1 = omega arith in
-    let place : l.due ≡ l.due + 26 - 26 = omega arith in
-    record {
-      nothing = items-kept b rules l.due l.number l.bad l.first c.bad_with-bad.result
-          (bad_after-valid b l.due l.number l.bad c.bad_with-bad.result c.read_due-valid.result c.read_due-valid.ensures.valid c.bad_with-bad.ensures)
-          (omega (arith, c.if-from-loss.false, c.from.ensures, c.loss-loss.ensures.value))
-          ∙ group_after-inside b rules l.first l.number l.due c.if-lock-lt4.true;
-      due = refl;
-      in_progress = c.read_due-valid.ensures.blocks ∙ ap₂ (λ (x p : ℕ). blocks_at b rules l.first x p) same place;
-    }
+    let lock = c.args.lock in
+    let good = c.read_due-good.result in
+    let next = c.in-Inside.field-0 in
+    let after = subst (λ (loss : Loss). IsAfter loss lock good c.after-due.result) c.loss-loss.ensures.value c.after-due.ensures in
+    let inside = subst (λ (due : Due). IsAfter rules.loss lock good due) c.in-Inside.is after in
+    let follows = kept-next lock next _ inside.0 inside.1.next_is in
+    let number : lock.number ≡ next.number - 1 = omega (arith, follows.1) in
+    let place : lock.due ≡ next.due - 26 = omega (arith, follows.0) in
+    subst (λ (due : Due). IsFollowed b rules lock c.read_due-good.new.blocks due) (sym c.in-Inside.is) (record {
+      nothing = items-inside b rules lock good c.read_due-good.ensures.valid next inside;
+      due = follows.0;
+      in_progress = c.read_due-good.ensures.blocks ∙ ap (λ (f : ℕ). blocks_at b rules f lock.number lock.due) (sym follows.2)
+          ∙ ap₂ (λ (x p : ℕ). blocks_at b rules next.first x p) number place;
+    })
 
-pub returns-clause-state : goal.returns-clause-state
-returns-clause-state c =
-    let b = c.args.rec.now in
-    let l = c.args.lock in
-    let four : 4 ≡ l.number = omega (arith, c.if-lock-lt4.false, c.requires.readable.in_order) in
-    c.after_block.ensures ∙ ap (λ (x : ℕ). locked_after l.due x c.bad_with-bad.result l.first) four
-    ∙ sym (step-kept b c.args.rules.now l.due l.number l.bad l.first c.bad_with-bad.result
-    (bad_after-valid b l.due l.number l.bad c.bad_with-bad.result c.read_due-valid.result c.read_due-valid.ensures.valid c.bad_with-bad.ensures)
-    (omega (arith, c.if-from-loss.false, c.from.ensures, c.loss-loss.ensures.value)))
+pub returns-in_ok-push_closed-in-Closed-clause-state : goal.returns-in_ok-push_closed-in-Closed-clause-state
+returns-in_ok-push_closed-in-Closed-clause-state c =
+    let after = subst (λ (loss : Loss). IsAfter loss c.args.lock c.read_due-good.result c.after-due.result) c.loss-loss.ensures.value c.after-due.ensures in
+    sym (step-due c.args.rec.now c.args.rules.now c.args.lock c.read_due-good.result c.read_due-good.ensures.valid c.after-due.result after)
 
-pub returns-clause-items : goal.returns-clause-items
-returns-clause-items c =
+pub returns-in_ok-push_closed-in-Closed-clause-items : goal.returns-in_ok-push_closed-in-Closed-clause-items
+returns-in_ok-push_closed-in-Closed-clause-items c =
     let b = c.args.rec.now in
     let rules = c.args.rules.now in
-    let l = c.args.lock in
-    c.in_ok-push_group.ensures.ok
-    ∙ rw c.from-2.ensures
-    (ap (λ (closed : GroupRecord). c.args.items.now ++ Group closed ∷ [])
-    (group-blocks b rules l.first l.number l.due c.read_due-valid.new.blocks c.read_due-valid.ensures.blocks)
-    ∙ ap (λ (is : List Item). c.args.items.now ++ is)
-    (sym (items-kept b rules l.due l.number l.bad l.first c.bad_with-bad.result
-    (bad_after-valid b l.due l.number l.bad c.bad_with-bad.result c.read_due-valid.result c.read_due-valid.ensures.valid c.bad_with-bad.ensures)
-    (omega (arith, c.if-from-loss.false, c.from.ensures, c.loss-loss.ensures.value))
-    ∙ group_after-four b rules l.first l.number l.due (omega (arith, c.if-lock-lt4.false, c.requires.readable.in_order)))))
+    let lock = c.args.lock in
+    let good = c.read_due-good.result in
+    let after = subst (λ (loss : Loss). IsAfter loss lock good c.after-due.result) c.loss-loss.ensures.value c.after-due.ensures in
+    let closes = subst (λ (due : Due). IsAfter rules.loss lock good due) c.in-Closed.is after in
+    c.in_ok-push_closed-in-Closed.ensures.ok
+    ∙ ap (λ (closed : GroupRecord). c.args.items.now ++ Group closed ∷ [])
+    (group-blocks b rules lock.first lock.number lock.due c.read_due-good.new.blocks c.read_due-good.ensures.blocks)
+    ∙ ap (λ (is : List Item). c.args.items.now ++ is) (sym (items-closed b rules lock good c.read_due-good.ensures.valid c.in-Closed.field-0 closes))
 
-pub returns-clause-followed : goal.returns-clause-followed
-returns-clause-followed c =
+pub returns-in_ok-push_closed-in-Closed-clause-followed : goal.returns-in_ok-push_closed-in-Closed-clause-followed
+returns-in_ok-push_closed-in-Closed-clause-followed c =
     let b = c.args.rec.now in
     let rules = c.args.rules.now in
-    let l = c.args.lock in
-    some_given (items_at b rules l.due (Locked l.due l.number l.bad l.first)) _ _
-    (items-kept b rules l.due l.number l.bad l.first c.bad_with-bad.result
-    (bad_after-valid b l.due l.number l.bad c.bad_with-bad.result c.read_due-valid.result c.read_due-valid.ensures.valid c.bad_with-bad.ensures)
-    (omega (arith, c.if-from-loss.false, c.from.ensures, c.loss-loss.ensures.value))
-    ∙ group_after-four b rules l.first l.number l.due (omega (arith, c.if-lock-lt4.false, c.requires.readable.in_order)))
+    let lock = c.args.lock in
+    let good = c.read_due-good.result in
+    let after = subst (λ (loss : Loss). IsAfter loss lock good c.after-due.result) c.loss-loss.ensures.value c.after-due.ensures in
+    let closes = subst (λ (due : Due). IsAfter rules.loss lock good due) c.in-Closed.is after in
+    subst (λ (due : Due). IsFollowed b rules lock c.read_due-good.new.blocks due) (sym c.in-Closed.is)
+    (some_given _ _ _ (items-closed b rules lock good c.read_due-good.ensures.valid c.in-Closed.field-0 closes))
+
+pub returns-in_ok-push-in-Lost-clause-state : goal.returns-in_ok-push-in-Lost-clause-state
+returns-in_ok-push-in-Lost-clause-state c =
+    let after = subst (λ (loss : Loss). IsAfter loss c.args.lock c.read_due-good.result c.after-due.result) c.loss-loss.ensures.value c.after-due.ensures in
+    sym (step-due c.args.rec.now c.args.rules.now c.args.lock c.read_due-good.result c.read_due-good.ensures.valid c.after-due.result after)
+
+pub returns-in_ok-push-in-Lost-clause-items : goal.returns-in_ok-push-in-Lost-clause-items
+returns-in_ok-push-in-Lost-clause-items c =
+    let b = c.args.rec.now in
+    let rules = c.args.rules.now in
+    let lock = c.args.lock in
+    let good = c.read_due-good.result in
+    let after = subst (λ (loss : Loss). IsAfter loss lock good c.after-due.result) c.loss-loss.ensures.value c.after-due.ensures in
+    let loses = subst (λ (due : Due). IsAfter rules.loss lock good due) c.in-Lost.is after in
+    with_loss c.args.items.now c.push_closed-in-Lost.new.items c.push.new.self _ _ _ lock.due
+    c.in_ok-push_closed-in-Lost.ensures.ok c.in_ok-push-in-Lost.ensures.ok
+    (group-blocks b rules lock.first lock.number lock.due c.read_due-good.new.blocks c.read_due-good.ensures.blocks)
+    (items-lost b rules lock good c.read_due-good.ensures.valid loses)
+
+pub returns-in_ok-push-in-Lost-clause-followed : goal.returns-in_ok-push-in-Lost-clause-followed
+returns-in_ok-push-in-Lost-clause-followed c =
+    let b = c.args.rec.now in
+    let rules = c.args.rules.now in
+    let lock = c.args.lock in
+    let good = c.read_due-good.result in
+    let after = subst (λ (loss : Loss). IsAfter loss lock good c.after-due.result) c.loss-loss.ensures.value c.after-due.ensures in
+    let loses = subst (λ (due : Due). IsAfter rules.loss lock good due) c.in-Lost.is after in
+    subst (λ (due : Due). IsFollowed b rules lock c.read_due-good.new.blocks due) (sym c.in-Lost.is)
+    (some_given _ _ _ (items-lost b rules lock good c.read_due-good.ensures.valid loses))

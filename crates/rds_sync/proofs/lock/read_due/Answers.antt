@@ -4,7 +4,8 @@ use Rattle.rds_sync.specs.declared.item.Block.{Block}
 use Rattle.rds_sync.specs.declared.item.Block.TheVariants.{Read}
 use Rattle.rds_code.specs.declared.reading.Wanted.TheVariants.{Either}
 use Rattle.rds_sync.specs.Groups.{block_at, wanted_beside}
-use Rattle.rds_sync.proofs.BodyLemmas.{good-reading, blocks_at-next}
+use Rattle.rds_sync.proofs.GroupBlocks.{blocks_at-next}
+use Rattle.rds_sync.proofs.WindowLemmas.{good-reading}
 use Rattle.rds_sync.proofs.lock.read_due.Goals as goal
 use Rattle.rds_sync.proofs.lock.read_due.Goals.{then-lock-eq3, else-lock-eq3}
 

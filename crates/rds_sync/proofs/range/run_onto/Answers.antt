@@ -2,7 +2,7 @@ use Rattle.std.proofs.Common.{◌-◌, List, ◌++◌, ap, sym, refl, ◌∙◌,
 use Rattle.rds_sync.specs.declared.item.Item.{Item}
 use Rattle.rds_sync.specs.declared.state.State.{State}
 use Rattle.rds_sync.specs.Step.{run}
-use Rattle.rds_sync.proofs.BodyLemmas.{run-further}
+use Rattle.rds_sync.proofs.RunLemmas.{run-further}
 use Rattle.rds_sync.proofs.range.run_onto.Goals as goal
 
 pub loop-place-preserved : goal.loop-place-preserved

@@ -7,7 +7,7 @@ use Rattle.rds_sync.specs.Advance.{group_item}
 use Rattle.rds_sync.specs.Step.{run, items_of_end}
 use Rattle.rds_sync.specs.declared.state.State.TheVariants.{Searching}
 use Rattle.rds_sync.specs.Totals.{totals_of}
-use Rattle.rds_sync.proofs.BodyLemmas.{report-run, report-few}
+use Rattle.rds_sync.proofs.ItemLemmas.{report-run, report-few}
 use Rattle.rds_sync.proofs.report.decode_plain.Goals as goal
 
 -- the item of the end, by a tape of the recording
@@ -35,7 +35,7 @@ returns-clause-items c =
     let found_is = c.in_ok-end.ensures.items ∙ ap (λ (is : List Item). is ++ given.1) c.new-found.ensures in
     c.in_ok-items.ensures ∙ c.in_ok-push_group.ensures.ok ∙ ap (λ (is : List Item). c.run_onto.new.items ++ is) item_is
     ∙ report-run c.args.rec.now c.args.rules.now c.len.result c.in_ok-end.end c.run_onto.new.items
-    (omega (arith, c.loss.ensures.range.some_loss)) c.len.ensures.value c.in_ok-end.ensures.state found_is
+    c.reach.ensures.range.some_loss c.len.ensures.value c.in_ok-end.ensures.state found_is
 
 pub returns-clause-totals : goal.returns-clause-totals
 returns-clause-totals c = c.of-totals.ensures.value ∙ ap (λ (is : List Item). totals_of is) (returns-clause-items c)

@@ -4,8 +4,8 @@ use Rattle.rds_sync.specs.declared.state.State.TheVariants.{Searching}
 use Rattle.rds_sync.specs.declared.item.Item.{Item}
 use Rattle.rds_sync.specs.Lawful.{IsLawful}
 use Rattle.rds_sync.specs.Step.{step}
-use Rattle.rds_sync.proofs.LawfulLemmas.{lawful-step}
-use Rattle.rds_sync.proofs.BodyLemmas.{run-due, run-early, lawful-lock}
+use Rattle.rds_sync.proofs.LawfulLemmas.{lawful-lock, lawful-step}
+use Rattle.rds_sync.proofs.RunLemmas.{run-due, run-early}
 use Rattle.rds_sync.proofs.step.advance.Goals as goal
 
 pub returns-in-Searching-clause-lawful : goal.returns-in-Searching-clause-lawful
@@ -14,12 +14,12 @@ returns-in-Searching-clause-lawful g c =
     let rules = c.args.rules.now in
     subst (λ (t : State). IsLawful rules c.search.result.place t) (sym c.search.ensures.state)
     (subst (λ (p : ℕ). IsLawful rules p (step b rules c.args.place Searching)) (sym c.search.ensures.place)
-    (lawful-step b rules (omega (arith, c.loss.ensures.range.some_loss)) c.args.place Searching tt))
+    (lawful-step b rules c.reach.ensures.range.some_loss c.args.place Searching tt))
 
 pub returns-in-Locked-clause-state : goal.returns-in-Locked-clause-state
 returns-in-Locked-clause-state g c =
     let l = c.in-Locked in
-    let lock = lawful-lock (g.T.Tape.bits c.args.tape.now) c.args.rules.now c.args.state c.args.place c.args.place l.due l.number l.bad l.first l.is c.requires.lawful in
+    let lock = lawful-lock c.args.rules.now c.args.state c.args.place l.due l.number l.bad l.first l.is c.requires.lawful in
     c.read_due.ensures.state
     ∙ sym (ap (λ (r : State × List Item). r.0)
     (run-due (g.T.Tape.bits c.args.tape.now) c.args.rules.now c.args.state c.args.place c.read_due.result.place l.due l.number l.bad l.first l.is
@@ -28,7 +28,7 @@ returns-in-Locked-clause-state g c =
 pub returns-in-Locked-clause-items : goal.returns-in-Locked-clause-items
 returns-in-Locked-clause-items g c =
     let l = c.in-Locked in
-    let lock = lawful-lock (g.T.Tape.bits c.args.tape.now) c.args.rules.now c.args.state c.args.place c.args.place l.due l.number l.bad l.first l.is c.requires.lawful in
+    let lock = lawful-lock c.args.rules.now c.args.state c.args.place l.due l.number l.bad l.first l.is c.requires.lawful in
     c.read_due.ensures.items
     ∙ sym (ap (λ (r : State × List Item). r.1)
     (run-due (g.T.Tape.bits c.args.tape.now) c.args.rules.now c.args.state c.args.place c.read_due.result.place l.due l.number l.bad l.first l.is

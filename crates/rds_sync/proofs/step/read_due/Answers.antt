@@ -1,45 +1,72 @@
-use Rattle.std.proofs.Common.{ℕ, List, [], ◌∷◌, ap, sym, ◌∙◌, arith}
-use Rattle.rds_sync.specs.Groups.{group}
-use Rattle.rds_sync.specs.Step.{group_after}
+use Rattle.std.proofs.Common.{◌≡◌, ℕ, List, [], ◌∷◌, ap, sym, subst, ◌∙◌, arith}
+use Rattle.rds_sync.specs.declared.due.Due.{Due}
+use Rattle.rds_sync.specs.declared.due.Lock.{Lock}
 use Rattle.rds_sync.specs.declared.item.Group.{Group as GroupRecord}
 use Rattle.rds_sync.specs.declared.item.Item.TheVariants.{Group, LostLock}
-use Rattle.rds_sync.proofs.BodyLemmas.{bad_after-counted, step-kept, items-kept, step-lost, items-lost, items_in-last}
+use Rattle.rds_sync.specs.declared.loss.Loss.{Loss}
+use Rattle.rds_sync.specs.Due.{state_of, IsAfter}
+use Rattle.rds_sync.specs.Groups.{group}
+use Rattle.rds_sync.proofs.DueLemmas.{step-due, items-inside, items-closed, items-lost}
+use Rattle.rds_sync.proofs.WindowLemmas.{good-window}
 use Rattle.rds_sync.proofs.step.read_due.Goals as goal
 
-pub returns-then-from-loss-clause-state : goal.returns-then-from-loss-clause-state
-returns-then-from-loss-clause-state g c =
-    let a = c.args in
-    c.after_block.ensures
-    ∙ sym (step-kept (g.T.Tape.bits a.tape.now) a.rules.now a.due a.number a.bad a.first c.bad_with-bad_now.result
-    (bad_after-counted (g.T.Tape.bits a.tape.now) a.due a.number a.bad c.window-window.result c.bad_with-bad_now.result c.is_numbered-valid.result (omega arith)
-    c.window-window.ensures.value c.is_numbered-valid.ensures c.bad_with-bad_now.ensures)
-    (omega (arith, c.if-from-loss.true)))
+pub returns-in-Inside-clause-state : goal.returns-in-Inside-clause-state
+returns-in-Inside-clause-state g c =
+    let b = g.T.Tape.bits c.args.tape.now in
+    let rules = c.args.rules.now in
+    let lock = c.args.lock in
+    let good = good-window b lock.due lock.number c.window-window.result c.is_numbered.result (omega arith) c.window-window.ensures.value c.is_numbered.ensures in
+    let after = subst (λ (loss : Loss). IsAfter loss lock c.is_numbered.result c.after.result) c.loss.ensures.value c.after.ensures in
+    c.state.ensures ∙ ap state_of (sym c.in-Inside.is) ∙ sym (step-due b rules lock c.is_numbered.result good c.after.result after)
 
-pub returns-then-from-loss-clause-items : goal.returns-then-from-loss-clause-items
-returns-then-from-loss-clause-items g c =
-    let a = c.args in
-    items_in-last c.closed_group.result ∙ c.closed_group.ensures.value
-    ∙ ap (λ (bits : List ℕ). group_after bits a.rules.now a.first a.number a.due) c.window-window.ensures.same
-    ∙ sym (items-kept (g.T.Tape.bits a.tape.now) a.rules.now a.due a.number a.bad a.first c.bad_with-bad_now.result
-    (bad_after-counted (g.T.Tape.bits a.tape.now) a.due a.number a.bad c.window-window.result c.bad_with-bad_now.result c.is_numbered-valid.result (omega arith)
-    c.window-window.ensures.value c.is_numbered-valid.ensures c.bad_with-bad_now.ensures)
-    (omega (arith, c.if-from-loss.true)))
+pub returns-in-Inside-clause-items : goal.returns-in-Inside-clause-items
+returns-in-Inside-clause-items g c =
+    let b = g.T.Tape.bits c.args.tape.now in
+    let rules = c.args.rules.now in
+    let lock = c.args.lock in
+    let good = good-window b lock.due lock.number c.window-window.result c.is_numbered.result (omega arith) c.window-window.ensures.value c.is_numbered.ensures in
+    let after = subst (λ (loss : Loss). IsAfter loss lock c.is_numbered.result c.after.result) c.loss.ensures.value c.after.ensures in
+    sym (items-inside b rules lock c.is_numbered.result good c.in-Inside.next
+    (subst (λ (due : Due). IsAfter rules.loss lock c.is_numbered.result due) c.in-Inside.is after))
 
-pub returns-else-from-loss-clause-state : goal.returns-else-from-loss-clause-state
-returns-else-from-loss-clause-state g c =
-    let a = c.args in
-    sym (step-lost (g.T.Tape.bits a.tape.now) a.rules.now a.due a.number a.bad a.first c.bad_with-bad_now.result
-    (bad_after-counted (g.T.Tape.bits a.tape.now) a.due a.number a.bad c.window-window.result c.bad_with-bad_now.result c.is_numbered-valid.result (omega arith)
-    c.window-window.ensures.value c.is_numbered-valid.ensures c.bad_with-bad_now.ensures)
-    (omega (arith, c.if-from-loss.false)))
+pub returns-in-Closed-clause-state : goal.returns-in-Closed-clause-state
+returns-in-Closed-clause-state g c =
+    let b = g.T.Tape.bits c.args.tape.now in
+    let rules = c.args.rules.now in
+    let lock = c.args.lock in
+    let good = good-window b lock.due lock.number c.window-window.result c.is_numbered.result (omega arith) c.window-window.ensures.value c.is_numbered.ensures in
+    let after = subst (λ (loss : Loss). IsAfter loss lock c.is_numbered.result c.after.result) c.loss.ensures.value c.after.ensures in
+    c.state-in-Closed.ensures ∙ ap state_of (sym c.in-Closed.is) ∙ sym (step-due b rules lock c.is_numbered.result good c.after.result after)
 
-pub returns-else-from-loss-clause-items : goal.returns-else-from-loss-clause-items
-returns-else-from-loss-clause-items g c =
-    let a = c.args in
-    let read = c.read_group-group.ensures.value
-    ∙ ap (λ (bits : List ℕ). group bits a.rules.now a.first a.number a.due) c.window-window.ensures.same in
-    ap (λ (closed : GroupRecord). Group closed ∷ LostLock a.due ∷ []) read
-    ∙ sym (items-lost (g.T.Tape.bits a.tape.now) a.rules.now a.due a.number a.bad a.first c.bad_with-bad_now.result
-    (bad_after-counted (g.T.Tape.bits a.tape.now) a.due a.number a.bad c.window-window.result c.bad_with-bad_now.result c.is_numbered-valid.result (omega arith)
-    c.window-window.ensures.value c.is_numbered-valid.ensures c.bad_with-bad_now.ensures)
-    (omega (arith, c.if-from-loss.false)))
+pub returns-in-Closed-clause-items : goal.returns-in-Closed-clause-items
+returns-in-Closed-clause-items g c =
+    let b = g.T.Tape.bits c.args.tape.now in
+    let rules = c.args.rules.now in
+    let lock = c.args.lock in
+    let good = good-window b lock.due lock.number c.window-window.result c.is_numbered.result (omega arith) c.window-window.ensures.value c.is_numbered.ensures in
+    let after = subst (λ (loss : Loss). IsAfter loss lock c.is_numbered.result c.after.result) c.loss.ensures.value c.after.ensures in
+    ap (λ (closed : GroupRecord). Group closed ∷ [])
+    (c.read_group.ensures.value ∙ ap (λ (bits : List ℕ). group bits rules lock.first lock.number lock.due) c.window-window.ensures.same)
+    ∙ sym (items-closed b rules lock c.is_numbered.result good c.in-Closed.next
+    (subst (λ (due : Due). IsAfter rules.loss lock c.is_numbered.result due) c.in-Closed.is after))
+
+pub returns-in-Lost-clause-state : goal.returns-in-Lost-clause-state
+returns-in-Lost-clause-state g c =
+    let b = g.T.Tape.bits c.args.tape.now in
+    let rules = c.args.rules.now in
+    let lock = c.args.lock in
+    let good = good-window b lock.due lock.number c.window-window.result c.is_numbered.result (omega arith) c.window-window.ensures.value c.is_numbered.ensures in
+    let after = subst (λ (loss : Loss). IsAfter loss lock c.is_numbered.result c.after.result) c.loss.ensures.value c.after.ensures in
+    ap state_of (sym c.in-Lost.is) ∙ sym (step-due b rules lock c.is_numbered.result good c.after.result after)
+
+pub returns-in-Lost-clause-items : goal.returns-in-Lost-clause-items
+returns-in-Lost-clause-items g c =
+    let b = g.T.Tape.bits c.args.tape.now in
+    let rules = c.args.rules.now in
+    let lock = c.args.lock in
+    let good = good-window b lock.due lock.number c.window-window.result c.is_numbered.result (omega arith) c.window-window.ensures.value c.is_numbered.ensures in
+    let after = subst (λ (loss : Loss). IsAfter loss lock c.is_numbered.result c.after.result) c.loss.ensures.value c.after.ensures in
+    ap (λ (closed : GroupRecord). Group closed ∷ LostLock lock.due ∷ [])
+    (c.read_group-group.ensures.value ∙ ap (λ (bits : List ℕ). group bits rules lock.first lock.number lock.due) c.window-window.ensures.same)
+    ∙ sym (items-lost b rules lock c.is_numbered.result good
+    (subst (λ (due : Due). IsAfter rules.loss lock c.is_numbered.result due) c.in-Lost.is after))

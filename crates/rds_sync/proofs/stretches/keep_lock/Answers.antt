@@ -1,20 +1,23 @@
 use Rattle.std.proofs.Common.{◌≡◌, ◌≤◌, ◌+◌, ◌-◌, ◌++◌, ℕ, List, [], refl, ap, ap₂, sym, subst, ◌∙◌, arith, append-nil, inl, inr}
 use Rattle.rds_sync.specs.declared.item.Block.{Block}
 use Rattle.rds_sync.specs.declared.item.Item.{Item}
-use Rattle.rds_sync.specs.declared.lock.Followed.{Followed}
-use Rattle.rds_sync.specs.declared.lock.Lock.{Lock}
+use Rattle.rds_sync.specs.declared.due.Due.{Due}
+use Rattle.rds_sync.specs.declared.due.Lock.{Lock}
 use Rattle.rds_sync.specs.declared.state.State.{State}
 use Rattle.rds_sync.specs.declared.state.State.TheVariants.{Locked}
 use Rattle.rds_sync.specs.Lawful.{IsLawful}
-use Rattle.rds_sync.specs.Locks.{state_of, IsFollowed}
+use Rattle.rds_sync.specs.Due.{state_in, state_of}
+use Rattle.rds_sync.specs.Locks.{IsFollowed}
+use Rattle.rds_sync.specs.Loss.{IsLoss}
 use Rattle.rds_sync.specs.Rules.{RuleNumbers}
 use Rattle.rds_sync.specs.Step.{step, items_at, run}
-use Rattle.rds_sync.proofs.BodyLemmas.{run-further, run-due, run-early, run-quiet, lawful-due, lawful-waiting}
+use Rattle.rds_sync.proofs.LawfulLemmas.{lawful-due, lawful-waiting}
+use Rattle.rds_sync.proofs.RunLemmas.{run-further, run-due, run-early, run-quiet}
 use Rattle.rds_sync.proofs.stretches.keep_lock.Invariants.{HasFollowed}
 use Rattle.rds_sync.proofs.stretches.keep_lock.Goals as goal
 
 module _ (b : List ℕ) (rules : RuleNumbers) (s : State) (place to : ℕ) (now : Lock) (before items : List Item) (blocks : List Block)
-    (followed : HasFollowed b rules s place to before now blocks items) where
+    (loss : IsLoss rules.loss) (followed : HasFollowed b rules s place to before now blocks items) where
   abbrev lock : State
   lock = Locked now.due now.number now.bad now.first
 
@@ -27,9 +30,7 @@ module _ (b : List ℕ) (rules : RuleNumbers) (s : State) (place to : ℕ) (now 
       followed.so_far (sym (ap (λ (r : State × List Item). r.0) next_run)) (sym (ap (λ (r : State × List Item). r.1) next_run))
 
   lawful_after : IsLawful rules (now.due + 1) (step b rules now.due lock)
-  lawful_after =
-      let few = followed.lawful.few_bad in
-      lawful-due b rules followed.next now.due now.number now.bad now.first (omega arith) followed.lawful
+  lawful_after = lawful-due b rules followed.next now.due now.number now.bad now.first loss followed.lawful
 
   -- the run up to a place before the block that is due
   waited : (later : ℕ) → followed.next ≤ later → later ≤ now.due → run b rules s place (later - place) ≡ (lock, [])
@@ -44,19 +45,20 @@ loop-now-preserved c =
     let rules = c.args.rules.now in
     let a = c.args.lock in
     let s : State = Locked a.due a.number a.bad a.first in
+    let loss = c.reach.ensures.range.some_loss in
     let l = c.loop-now in
     let now = l.now in
     let followed = l.invariant in
     let soon = followed.lawful.soon in
-    let more = one_more b rules s c.args.place c.args.to now c.args.items.now l.items l.blocks followed in
-    let state_is = ap (λ (o : Followed). state_of o) (sym c.in-Inside.is) ∙ c.in_ok-next.ensures.state in
-    let goes = subst (λ (o : Followed). IsFollowed b rules now c.follow.new.blocks o) c.in-Inside.is c.in_ok-next.ensures.followed in
+    let more = one_more b rules s c.args.place c.args.to now c.args.items.now l.items l.blocks loss followed in
+    let state_is = ap (λ (o : Due). state_of o) (sym c.in-Inside.is) ∙ c.in_ok-next.ensures.state in
+    let goes = subst (λ (o : Due). IsFollowed b rules now c.follow.new.blocks o) c.in-Inside.is c.in_ok-next.ensures.followed in
     record {
       next = now.due + 1;
       from_on = omega (arith, followed.from_on, soon.0);
       limit = omega (arith, c.loop-now-test.true);
       lawful = subst (λ (t : State). IsLawful rules (now.due + 1) t) (sym state_is)
-          (lawful_after b rules s c.args.place c.args.to now c.args.items.now l.items l.blocks followed);
+          (lawful_after b rules s c.args.place c.args.to now c.args.items.now l.items l.blocks loss followed);
       in_progress = goes.in_progress;
       so_far = more ∙ ap₂ (λ (t : State) (is : List Item). (t, is)) (sym state_is) goes.nothing;
       items_are = c.in_ok-next.ensures.items ∙ ap₂ (λ (is js : List Item). is ++ js) followed.items_are goes.nothing ∙ append-nil c.args.items.now;
@@ -64,7 +66,7 @@ loop-now-preserved c =
 
 pub loop-now-smaller : goal.loop-now-smaller
 loop-now-smaller c =
-    let goes = subst (λ (o : Followed). IsFollowed c.args.rec.now c.args.rules.now c.loop-now.now c.follow.new.blocks o) c.in-Inside.is c.in_ok-next.ensures.followed in
+    let goes = subst (λ (o : Due). IsFollowed c.args.rec.now c.args.rules.now c.loop-now.now c.follow.new.blocks o) c.in-Inside.is c.in_ok-next.ensures.followed in
     omega (arith, goes.due, c.loop-now-test.true)
 
 pub returns-in-Closed-clause-reached : goal.returns-in-Closed-clause-reached
@@ -73,22 +75,50 @@ returns-in-Closed-clause-reached c =
     let rules = c.args.rules.now in
     let a = c.args.lock in
     let s : State = Locked a.due a.number a.bad a.first in
+    let loss = c.reach.ensures.range.some_loss in
     let l = c.loop-now in
     let now = l.now in
     let followed = l.invariant in
     let soon = followed.lawful.soon in
-    let more = one_more b rules s c.args.place c.args.to now c.args.items.now l.items l.blocks followed in
-    let state_is = ap (λ (o : Followed). state_of o) (sym c.in-Closed.is) ∙ c.in_ok-next.ensures.state in
-    let given = subst (λ (o : Followed). IsFollowed b rules now c.follow.new.blocks o) c.in-Closed.is c.in_ok-next.ensures.followed in
+    let more = one_more b rules s c.args.place c.args.to now c.args.items.now l.items l.blocks loss followed in
+    let state_is = c.state.ensures ∙ ap (λ (o : Due). state_of o) (sym c.in-Closed.is) ∙ c.in_ok-next.ensures.state in
+    let given = subst (λ (o : Due). IsFollowed b rules now c.follow.new.blocks o) c.in-Closed.is c.in_ok-next.ensures.followed in
     let last : now.due + 1 - 1 ≡ now.due = omega arith in (
       record {
         forward = omega (arith, followed.from_on, soon.0);
         limit = omega (arith, c.loop-now-test.true);
         state = state_is ∙ sym (ap (λ (r : State × List Item). r.0) more);
-        quiet = rw last (ap (λ (r : State × List Item). r.1) (waited b rules s c.args.place c.args.to now c.args.items.now l.items l.blocks followed now.due soon.0 (omega arith)));
+        quiet = rw last (ap (λ (r : State × List Item). r.1) (waited b rules s c.args.place c.args.to now c.args.items.now l.items l.blocks loss followed now.due soon.0 (omega arith)));
         ended = inr (λ none. given (sym (ap (λ (r : State × List Item). r.1) more) ∙ none));
         lawful = subst (λ (t : State). IsLawful rules (now.due + 1) t) (sym state_is)
-            (lawful_after b rules s c.args.place c.args.to now c.args.items.now l.items l.blocks followed);
+            (lawful_after b rules s c.args.place c.args.to now c.args.items.now l.items l.blocks loss followed);
+      },
+      c.in_ok-next.ensures.items ∙ ap₂ (λ (is js : List Item). is ++ js) followed.items_are (sym (ap (λ (r : State × List Item). r.1) more)),
+    )
+
+pub returns-in-Lost-clause-reached : goal.returns-in-Lost-clause-reached
+returns-in-Lost-clause-reached c =
+    let b = c.args.rec.now in
+    let rules = c.args.rules.now in
+    let a = c.args.lock in
+    let s : State = Locked a.due a.number a.bad a.first in
+    let loss = c.reach.ensures.range.some_loss in
+    let l = c.loop-now in
+    let now = l.now in
+    let followed = l.invariant in
+    let soon = followed.lawful.soon in
+    let more = one_more b rules s c.args.place c.args.to now c.args.items.now l.items l.blocks loss followed in
+    let state_is = ap (λ (o : Due). state_of o) (sym c.in-Lost.is) ∙ c.in_ok-next.ensures.state in
+    let given = subst (λ (o : Due). IsFollowed b rules now c.follow.new.blocks o) c.in-Lost.is c.in_ok-next.ensures.followed in
+    let last : now.due + 1 - 1 ≡ now.due = omega arith in (
+      record {
+        forward = omega (arith, followed.from_on, soon.0);
+        limit = omega (arith, c.loop-now-test.true);
+        state = state_is ∙ sym (ap (λ (r : State × List Item). r.0) more);
+        quiet = rw last (ap (λ (r : State × List Item). r.1) (waited b rules s c.args.place c.args.to now c.args.items.now l.items l.blocks loss followed now.due soon.0 (omega arith)));
+        ended = inr (λ none. given (sym (ap (λ (r : State × List Item). r.1) more) ∙ none));
+        lawful = subst (λ (t : State). IsLawful rules (now.due + 1) t) (sym state_is)
+            (lawful_after b rules s c.args.place c.args.to now c.args.items.now l.items l.blocks loss followed);
       },
       c.in_ok-next.ensures.items ∙ ap₂ (λ (is js : List Item). is ++ js) followed.items_are (sym (ap (λ (r : State × List Item). r.1) more)),
     )
@@ -99,18 +129,19 @@ returns-clause-reached c =
     let rules = c.args.rules.now in
     let a = c.args.lock in
     let s : State = Locked a.due a.number a.bad a.first in
+    let loss = c.reach.ensures.range.some_loss in
     let l = c.loop-now in
     let now = l.now in
     let followed = l.invariant in
-    let wait = waited b rules s c.args.place c.args.to now c.args.items.now l.items l.blocks followed c.args.to followed.limit c.loop-now-test.false in
+    let wait = waited b rules s c.args.place c.args.to now c.args.items.now l.items l.blocks loss followed c.args.to followed.limit c.loop-now-test.false in
     let nothing = ap (λ (r : State × List Item). r.1) wait in (
       record {
         forward = c.requires.order;
         limit = omega arith;
-        state = c.state.ensures ∙ sym (ap (λ (r : State × List Item). r.0) wait);
+        state = c.state-2.ensures ∙ sym (ap (λ (r : State × List Item). r.0) wait);
         quiet = run-quiet b rules s c.args.place c.args.to c.requires.order nothing;
         ended = inl refl;
-        lawful = subst (λ (t : State). IsLawful rules c.args.to t) (sym c.state.ensures)
+        lawful = subst (λ (t : State). IsLawful rules c.args.to t) (sym c.state-2.ensures)
             (lawful-waiting rules followed.next c.args.to now.due now.number now.bad now.first followed.lawful followed.limit c.loop-now-test.false);
       },
       followed.items_are ∙ sym (append-nil c.args.items.now) ∙ ap (λ (is : List Item). c.args.items.now ++ is) (sym nothing),

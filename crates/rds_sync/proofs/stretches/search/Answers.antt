@@ -2,7 +2,6 @@ use Rattle.std.proofs.Common.{◌≡◌, ◌≤◌, ◌<◌, ◌+◌, ◌-◌, �
 use Rattle.std.proofs.lemmas.Bool.{cases_lt}
 use Rattle.rds_code.specs.declared.offset.Offset.{Offset}
 use Rattle.rds_stream.specs.Recording.{off}
-use Rattle.rds_stream.specs.Tape.{TapeState}
 use Rattle.rds_stream.specs.ValidWindows.{WindowsLeft, GivesFirst, NoneValid}
 use Rattle.rds_sync.specs.declared.item.Item.{Item}
 use Rattle.rds_sync.specs.declared.state.State.{State}
@@ -11,10 +10,13 @@ use Rattle.rds_sync.specs.Acquiring.{acquired}
 use Rattle.rds_sync.specs.Advance.{items_in}
 use Rattle.rds_sync.specs.Lawful.{IsLawful}
 use Rattle.rds_sync.specs.Rules.{RuleNumbers}
-use Rattle.rds_sync.specs.Step.{step}
-use Rattle.rds_sync.proofs.RunLemmas.{step-acquiring, items-acquiring}
-use Rattle.rds_sync.proofs.LawfulLemmas.{acquired-none, lawful-step, number-range}
-use Rattle.rds_sync.proofs.BodyLemmas.{acquired-offset, run-found, run-quiet, run-unfound, some_given}
+use Rattle.rds_sync.specs.Loss.{none_bad}
+use Rattle.rds_sync.specs.declared.loss.Loss.{Loss}
+use Rattle.rds_sync.specs.Step.{step, locked_after}
+use Rattle.rds_sync.proofs.ItemLemmas.{some_given}
+use Rattle.rds_sync.proofs.RunLemmas.{step-acquiring, items-acquiring, run-found, run-quiet, run-unfound}
+use Rattle.rds_sync.proofs.LawfulLemmas.{acquired-none, lawful-step, number-range, off-place}
+use Rattle.rds_sync.proofs.WindowLemmas.{acquired-offset}
 use Rattle.rds_sync.proofs.stretches.search.Invariants.{HasSearched}
 use Rattle.rds_sync.proofs.stretches.search.Goals as goal
 
@@ -61,25 +63,29 @@ loop-here-preserved c =
     let searched = c.loop-here.invariant.2 in
     let old = c.loop-here.here-iterator in
     let given = c.in-Some.ensures.steps in
-    let is = offset_is b rules c.args.place c.args.to old c.args.items.now.items c.loop-here.items.items searched (here, offset) c.next.new.self given in
-    let none = acquired-offset b c.new.result.bits rules here c.number-number.result offset c.has_partner.result false
-    is c.number-number.ensures (ap (λ (t : TapeState). t.bits) c.new.ensures) c.has_partner.ensures.value c.if-has_partner.false in
-    (tt, tt, one_more b rules c.args.place c.args.to old c.args.items.now.items c.loop-here.items.items searched (here, offset) c.next.new.self given none)
+    let is = offset_is b rules c.args.place c.args.to old c.args.items.now c.loop-here.items searched (here, offset) c.next.new.self given in
+    let none = acquired-offset b rules here c.number-number.result offset c.has_partner_in.result false
+    is c.number-number.ensures c.has_partner_in.ensures c.if-has_partner_in.false in
+    (tt, tt, one_more b rules c.args.place c.args.to old c.args.items.now c.loop-here.items searched (here, offset) c.next.new.self given none)
 
-pub found_at-requires-clause-acquires : goal.found_at-requires-clause-acquires
-found_at-requires-clause-acquires c =
-    let here = c.in-Some.here in
-    let offset = c.in-Some.offset in
-    let is = offset_is c.args.rec.now c.args.rules.now c.args.place c.args.to c.loop-here.here-iterator c.args.items.now.items c.loop-here.items.items
-    c.loop-here.invariant.2 (here, offset) c.next.new.self c.in-Some.ensures.steps in
-    acquired-offset c.args.rec.now c.new.result.bits c.args.rules.now here c.number-number.result offset c.has_partner.result true
-    is c.number-number.ensures (ap (λ (t : TapeState). t.bits) c.new.ensures) c.has_partner.ensures.value c.if-has_partner.true
+pub window-requires-clause-first : goal.window-requires-clause-first
+window-requires-clause-first c =
+    off-place c.args.rec.now c.in-Some.here c.in-Some.offset
+    (offset_is c.args.rec.now c.args.rules.now c.args.place c.args.to c.loop-here.here-iterator c.args.items.now c.loop-here.items
+        c.loop-here.invariant.2 (c.in-Some.here, c.in-Some.offset) c.next.new.self c.in-Some.ensures.steps)
 
-pub after_block-requires-clause-number : goal.after_block-requires-clause-number
-after_block-requires-clause-number c = omega (arith, c.number-number.ensures, number-range c.in-Some.offset)
+pub items-requires : goal.items-requires
+items-requires c =
+    let late = off-place c.args.rec.now c.in-Some.here c.in-Some.offset
+    (offset_is c.args.rec.now c.args.rules.now c.args.place c.args.to c.loop-here.here-iterator c.args.items.now c.loop-here.items
+        c.loop-here.invariant.2 (c.in-Some.here, c.in-Some.offset) c.next.new.self c.in-Some.ensures.steps) in
+    record { block = (late, c.window.ensures.block) }
 
-pub returns-then-has_partner-clause-reached : goal.returns-then-has_partner-clause-reached
-returns-then-has_partner-clause-reached c =
+pub lock-requires-clause-number : goal.lock-requires-clause-number
+lock-requires-clause-number c = omega (arith, c.number-number.ensures, number-range c.in-Some.offset)
+
+pub returns-then-has_partner_in-clause-reached : goal.returns-then-has_partner_in-clause-reached
+returns-then-has_partner_in-clause-reached c =
     let b = c.args.rec.now in
     let rules = c.args.rules.now in
     let here = c.in-Some.here in
@@ -88,15 +94,18 @@ returns-then-has_partner-clause-reached c =
     let old = c.loop-here.here-iterator in
     let given = c.in-Some.ensures.steps in
     let number = c.number-number.result in
-    let is = offset_is b rules c.args.place c.args.to old c.args.items.now.items c.loop-here.items.items searched (here, offset) c.next.new.self given in
-    let range = from_here b rules c.args.place c.args.to old c.args.items.now.items c.loop-here.items.items searched (here, offset) c.next.new.self given in
-    let none = none_before b rules c.args.place c.args.to old c.args.items.now.items c.loop-here.items.items searched here given.2 in
+    let is = offset_is b rules c.args.place c.args.to old c.args.items.now c.loop-here.items searched (here, offset) c.next.new.self given in
+    let range = from_here b rules c.args.place c.args.to old c.args.items.now c.loop-here.items searched (here, offset) c.next.new.self given in
+    let none = none_before b rules c.args.place c.args.to old c.args.items.now c.loop-here.items searched here given.2 in
     let e : acquired b rules here ≡ Some number =
-    acquired-offset b c.new.result.bits rules here number offset c.has_partner.result true
-    is c.number-number.ensures (ap (λ (t : TapeState). t.bits) c.new.ensures) c.has_partner.ensures.value c.if-has_partner.true in
+    acquired-offset b rules here number offset c.has_partner_in.result true
+    is c.number-number.ensures c.has_partner_in.ensures c.if-has_partner_in.true in
     let run_is = run-found b rules c.args.place here range.0 none in
-    let state_is : c.after_block.result ≡ step b rules here Searching =
-    c.after_block.ensures ∙ sym (step-acquiring b rules here number e) in
+    let state_is : c.state.result ≡ step b rules here Searching =
+    c.state.ensures ∙ c.lock.ensures
+    ∙ ap (λ (loss : Loss). locked_after here number (none_bad loss) number) c.loss.ensures.value
+    ∙ sym (step-acquiring b rules here number e) in
+    let given = c.items.ensures b c.window.ensures.value ∙ sym (items-acquiring b rules here number e) in
     let last : here + 1 - 1 ≡ here = omega arith in (
       record {
         forward = omega (arith, range.0);
@@ -105,11 +114,11 @@ returns-then-has_partner-clause-reached c =
         quiet = rw last (ap (λ (r : State × List Item). r.1) (run-unfound b rules c.args.place here range.0 none));
         ended = inr (some_given _ _ _ (ap (λ (r : State × List Item). r.1) run_is ∙ items-acquiring b rules here number e));
         lawful = subst (λ (t : State). IsLawful rules (here + 1) t) (sym state_is)
-            (lawful-step b rules (omega (arith, c.loss.ensures.range.some_loss)) here Searching tt);
+            (lawful-step b rules c.loss.ensures.range.some_loss here Searching tt);
       },
       c.in_ok-push_found.ensures.ok
-          ∙ ap (λ (is : List Item). is ++ items_in c.found_at.result) searched.nothing
-          ∙ ap (λ (is : List Item). c.args.items.now ++ is) (c.found_at.ensures ∙ sym (ap (λ (r : State × List Item). r.1) run_is)),
+          ∙ ap (λ (is : List Item). is ++ items_in c.items.result) searched.nothing
+          ∙ ap (λ (is : List Item). c.args.items.now ++ is) (given ∙ sym (ap (λ (r : State × List Item). r.1) run_is)),
     )
 
 pub returns-clause-reached : goal.returns-clause-reached
@@ -117,7 +126,7 @@ returns-clause-reached c =
     let b = c.args.rec.now in
     let rules = c.args.rules.now in
     let searched = c.loop-here.invariant.2 in
-    let none = all b rules c.args.place c.args.to c.loop-here.here-iterator c.args.items.now.items c.loop-here.items.items searched c.next.new.self c.in-None.ensures.steps in
+    let none = all b rules c.args.place c.args.to c.loop-here.here-iterator c.args.items.now c.loop-here.items searched c.next.new.self c.in-None.ensures.steps in
     let run_is = run-unfound b rules c.args.place c.args.to (omega arith) none in
     let nothing = ap (λ (r : State × List Item). r.1) run_is in (
       record {

@@ -6,8 +6,8 @@ use Rattle.rds_stream.specs.Recording.{window}
 use Rattle.std.specs.List.{list_any, range_with_len}
 use Rattle.rds_sync.specs.Rules.{RuleNumbers}
 use Rattle.rds_sync.specs.Acquiring.{acquired, has_partner}
-use Rattle.rds_sync.proofs.BodyLemmas.{acquired-early, acquired-invalid, acquired-window}
-use Rattle.rds_sync.proofs.step.acquire.Goals as goal
+use Rattle.rds_sync.proofs.WindowLemmas.{acquired-early, acquired-invalid, acquired-window}
+use Rattle.rds_sync.proofs.acquiring.acquire.Goals as goal
 
 pub returns-then-place-lt-FIRST_WINDOW-clause-number : goal.returns-then-place-lt-FIRST_WINDOW-clause-number
 returns-then-place-lt-FIRST_WINDOW-clause-number g c =

@@ -1,7 +1,7 @@
 use Rattle.std.proofs.Common.{◌≡◌, ◌+◌, ℕ, List, false, ap, sym, ◌∙◌, arith}
 use Rattle.rds_sync.specs.Acquiring.{has_partner}
-use Rattle.rds_sync.proofs.BodyLemmas.{any-later}
-use Rattle.rds_sync.proofs.step.has_partner.Goals as goal
+use Rattle.rds_sync.proofs.WindowLemmas.{any-later}
+use Rattle.rds_sync.proofs.acquiring.has_partner.Goals as goal
 
 pub loop-distance-preserved : goal.loop-distance-preserved
 loop-distance-preserved g c =

@@ -1,7 +1,7 @@
 use Rattle.std.proofs.Common.{◌≡◌, ◌≤◌, ◌+◌, ◌-◌, ℕ, List}
 use Rattle.std.specs.List.{list_any, range_with_len}
 use Rattle.rds_sync.specs.Acquiring.{has_partner}
-use Rattle.rds_sync.proofs.step.has_partner.Given as goal
+use Rattle.rds_sync.proofs.acquiring.has_partner.Given as goal
 
 pub record IsTried (bits now : List ℕ) (place number distance end before reads : ℕ) : Type 0 where
   pub same : now ≡ bits

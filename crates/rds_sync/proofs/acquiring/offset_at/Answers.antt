@@ -1,8 +1,8 @@
 use Rattle.std.proofs.Common.{ℕ, ap, sym, ◌∙◌}
 use Rattle.rds_code.specs.Remainder.{rem}
 use Rattle.rds_code.specs.Offsets.{offset_of}
-use Rattle.rds_sync.proofs.BodyLemmas.{off-early, off-window}
-use Rattle.rds_sync.proofs.step.offset_at.Goals as goal
+use Rattle.rds_sync.proofs.WindowLemmas.{off-early, off-window}
+use Rattle.rds_sync.proofs.acquiring.offset_at.Goals as goal
 
 pub returns-then-place-lt-FIRST_WINDOW-clause-value : goal.returns-then-place-lt-FIRST_WINDOW-clause-value
 returns-then-place-lt-FIRST_WINDOW-clause-value g c = sym (off-early (g.T.Tape.bits c.args.tape.now) c.args.place c.if-place-lt-FIRST_WINDOW.true)

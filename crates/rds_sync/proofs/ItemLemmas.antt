@@ -1,0 +1,86 @@
+-- How many items a run gives, and that they are the report's.
+use Rattle.std.proofs.Common.{◌≡◌, ◌≢◌, ℕ, zero, suc, ◌+◌, ◌-◌, ◌*◌, ◌≤◌, List, [], ◌∷◌, ◌++◌, length, Option, Some, None, ap, ap₂, ◌∙◌, refl, arith, length-append, inl, inr}
+use Rattle.std.proofs.lemmas.Bool.{eq-eqb, ne_eqb, le-ltb, lt-ltb, cases_Bool, cases_eq, cases_lt}
+use Rattle.rds_sync.specs.Acquiring.{acquired}
+use Rattle.rds_sync.specs.Advance.{reads_most}
+use Rattle.rds_sync.specs.Loss.{IsLoss, are_too_many}
+use Rattle.rds_sync.specs.Report.{report_items}
+use Rattle.rds_sync.specs.Step.{bad_with, step, run, items_at, items_of_end, group_after}
+use Rattle.rds_sync.specs.declared.item.Item.{Item}
+use Rattle.rds_sync.specs.declared.state.State.{State}
+use Rattle.rds_sync.specs.declared.state.State.TheVariants.{Searching, Locked}
+use Rattle.rds_sync.specs.Rules.{RuleNumbers}
+use Rattle.rds_sync.proofs.RunIsReport.{run_is_report}
+use Rattle.rds_sync.proofs.RunLemmas.{items-keeping, items-losing, items-searching, items-acquiring, items-waiting}
+
+-- a bit gives at most two items
+items_at-few : (b : List ℕ) (rules : RuleNumbers) (i : ℕ) (s : State) → length (items_at b rules i s) ≤ 2
+items_at-few b rules i Searching = at_case (acquired b rules i) refl where
+  at_case : (w : Option ℕ) → acquired b rules i ≡ w → length (items_at b rules i Searching) ≤ 2
+  at_case None e = rw (items-searching b rules i e) (omega arith)
+  at_case (Some x) e = rw (items-acquiring b rules i x e) (elim (cases_eq x 4) [
+    | inl four ↦ rw (eq-eqb x 4 four, group_after) (omega arith)
+    | inr fewer ↦ rw (ne_eqb x 4 fewer, group_after) (omega arith)
+  ])
+items_at-few b rules i (Locked due x bad f) = elim (cases_eq due i) [
+  | inl same ↦ rw same (elim (cases_Bool (are_too_many rules.loss (bad_with b rules i x bad))) [
+    | inr few ↦ rw (items-keeping b rules i x bad f few) (elim (cases_eq x 4) [
+      | inl four ↦ rw (eq-eqb x 4 four, group_after) (omega arith)
+      | inr fewer ↦ rw (ne_eqb x 4 fewer, group_after) (omega arith)
+    ])
+    | inl many ↦ rw (items-losing b rules i x bad f many) (omega arith)
+  ])
+  | inr other ↦ rw (items-waiting b rules due x bad f i other) (omega arith)
+]
+
+-- so a run gives at most two a bit
+pub run_items-few : (b : List ℕ) (rules : RuleNumbers) (s : State) (a n : ℕ) → length (run b rules s a n).1 ≤ 2 * n
+run_items-few b rules s a zero = omega arith
+run_items-few b rules s a (suc n) =
+    omega (
+      arith,
+      items_at-few b rules a s,
+      run_items-few b rules (step b rules a s) (a + 1) n,
+      length-append (items_at b rules a s) (run b rules (step b rules a s) (a + 1) n).1,
+    )
+
+items_of_end-few : (b : List ℕ) (rules : RuleNumbers) (s : State) → length (items_of_end b rules s) ≤ 1
+items_of_end-few b rules Searching = omega arith
+items_of_end-few b rules (Locked due x bad f) = elim (cases_eq x 1) [
+  | inl one ↦ rw (eq-eqb x 1 one, items_of_end) (omega arith)
+  | inr more ↦ rw (ne_eqb x 1 more, items_of_end) (omega arith)
+]
+
+-- a list with a first item is not empty
+pub some_given : (given : List Item) (item : Item) (others : List Item) → given ≡ item ∷ others → given ≢ []
+some_given given item others is none = cc
+
+-- a step asks for at most nine windows
+pub reads_most-few : (rules : RuleNumbers) (s : State) (to : ℕ) → rules.reach ≤ 8 → reads_most rules s to ≤ 9
+reads_most-few rules Searching to near = omega arith
+reads_most-few rules (Locked due number bad first) to near = elim (cases_lt due to) [
+  | inl early ↦ rw (lt-ltb due to early, reads_most) (omega arith)
+  | inr late ↦ rw (le-ltb due to late, reads_most) (omega arith)
+]
+
+-- the items of a run over a whole recording, with those of its end
+pub report-run : (b : List ℕ) (rules : RuleNumbers) (n : ℕ) (s : State) (items : List Item) → IsLoss rules.loss → n ≡ length b
+    → s ≡ (run b rules Searching 0 (n - 0)).0 → items ≡ (run b rules Searching 0 (n - 0)).1
+    → items ++ items_of_end b rules s ≡ report_items b rules
+report-run b rules n s items loss whole state_is items_are =
+    let bits : n - 0 ≡ length b = omega arith in
+    ap₂ (λ (t : State) (is : List Item). is ++ items_of_end b rules t) state_is items_are
+    ∙ ap (λ (m : ℕ). (run b rules Searching 0 m).1 ++ items_of_end b rules (run b rules Searching 0 m).0) bits
+    ∙ run_is_report b rules loss
+
+pub report-few : (b : List ℕ) (rules : RuleNumbers) (n : ℕ) (s : State) (items ended : List Item)
+    → items ≡ (run b rules Searching 0 (n - 0)).1 → ended ≡ items_of_end b rules s → length (items ++ ended) ≤ 2 * n + 1
+report-few b rules n s items ended items_are end_is =
+    omega (
+      arith,
+      length-append items ended,
+      ap (λ (is : List Item). length is) items_are,
+      ap (λ (is : List Item). length is) end_is,
+      run_items-few b rules Searching 0 (n - 0),
+      items_of_end-few b rules s,
+    )

@@ -1,0 +1,104 @@
+-- A lock from block to block: its state once block k was read, and what the run gives up to the next.
+use Rattle.std.proofs.Common.{◌≡◌, ◌≢◌, ℕ, suc, ◌+◌, ◌-◌, ◌*◌, ◌%◌, ◌≤◌, List, [], ◌∷◌, ◌++◌, Bool, true, false, refl, sym, ◌∙◌, arith, inl, inr, cond}
+use Rattle.std.proofs.lemmas.Bool.{ne_eqb, cases_eq, cases_lt, le-leb, lt-leb, eq-eqb}
+use Rattle.std.specs.Prelude.{◌==◌}
+use Rattle.rds_sync.specs.declared.loss.Bad.{Bad}
+use Rattle.rds_sync.specs.declared.state.State.{State}
+use Rattle.rds_sync.specs.declared.state.State.TheVariants.{Searching, Locked}
+use Rattle.rds_sync.specs.declared.item.Item.{Item}
+use Rattle.rds_sync.specs.declared.item.Item.TheVariants.{Group, LostLock}
+use Rattle.rds_sync.specs.Rules.{RuleNumbers}
+use Rattle.rds_sync.specs.Acquiring.{number_after}
+use Rattle.rds_sync.specs.Groups.{group}
+use Rattle.rds_sync.specs.Loss.{are_too_many, bad_at}
+use Rattle.rds_sync.specs.Report.{is_good, loses_at, first_of_group}
+use Rattle.rds_sync.specs.Step.{items_of_end, locked_after, group_after}
+use Rattle.rds_sync.proofs.LossLemmas.{loses_is}
+use Rattle.rds_sync.proofs.RunLemmas.{items-keeping, step-keeping, items-losing, step-losing}
+use Rattle.rds_sync.proofs.WholeRuns.{whole, goes, skip, skip_to_end}
+
+cond_same : (c : Bool) (n : ℕ) → cond c n n ≡ n
+cond_same true n = refl
+cond_same false n = refl
+
+module _ (b : List ℕ) (rules : RuleNumbers) (a x : ℕ) where
+  -- what is kept of the bad blocks once block k was read
+  abbrev pub bad : ℕ → Bad
+  bad k = bad_at (is_good b rules a x) rules.loss k
+
+  pub number_first : 1 ≤ x → x ≤ 4 → number_after x 0 ≡ x
+  number_first low high = omega arith
+
+  number_next : (k : ℕ) → number_after x k % 4 + 1 ≡ number_after x (suc k)
+  number_next k = omega arith
+
+  pub keeps : (k : ℕ) → are_too_many rules.loss (bad k) ≡ false → loses_at b rules a x k ≡ false
+  keeps k e = sym (loses_is (is_good b rules a x) rules.loss k) ∙ e
+
+  pub loses_here : (k : ℕ) → are_too_many rules.loss (bad k) ≡ true → loses_at b rules a x k ≡ true
+  loses_here k e = sym (loses_is (is_good b rules a x) rules.loss k) ∙ e
+
+  -- the state once block k was read
+  abbrev pub S : ℕ → State
+  S k = Locked (a + 26 * suc k) (number_after x (suc k)) (bad k) (first_of_group b rules a x (suc k))
+
+  -- the group that ends with block k
+  abbrev pub G : ℕ → Item
+  G k = Group (group b rules (first_of_group b rules a x k) (number_after x k) (a + 26 * k))
+
+  abbrev pub closes : ℕ → List Item
+  closes k = group_after b rules (first_of_group b rules a x k) (number_after x k) (a + 26 * k)
+
+  first_next : 1 ≤ x → (k : ℕ) → cond (number_after x k == 4) 1 (first_of_group b rules a x k) ≡ first_of_group b rules a x (suc k)
+  first_next low k = elim (cases_lt (x + k) 4) [
+    | inl less ↦
+        let n : number_after x k ≢ 4 = λ e. omega arith in
+        rw (ne_eqb (number_after x k) 4 n, le-leb (x + k) 4 (omega arith), le-leb (x + suc k) 4 (omega arith)) refl
+    | inr more ↦ elim (cases_eq (x + k) 4) [
+      | inl same ↦ let n : number_after x k ≡ 4 = omega arith in
+          rw (eq-eqb (number_after x k) 4 n, lt-leb (x + suc k) 4 (omega arith)) refl
+      | inr other ↦ rw (lt-leb (x + k) 4 (omega arith), lt-leb (x + suc k) 4 (omega arith)) (cond_same (number_after x k == 4) 1)
+    ]
+  ]
+
+  pub S_is : 1 ≤ x → (k : ℕ) → locked_after (a + 26 * k) (number_after x k) (bad k) (first_of_group b rules a x k) ≡ S k
+  S_is low k =
+      let due : a + 26 * k + 26 ≡ a + 26 * suc k = omega arith in
+      rw (due, number_next k, first_next low k) refl
+
+  wait : (k bits : ℕ) → whole b rules (S k) (a + 26 * k + 1) (25 + suc bits) ≡ whole b rules (S k) (a + 26 * suc k) (suc bits)
+  wait k bits = let due : a + 26 * suc k ≡ a + 26 * k + 1 + 25 = omega arith in
+      rw due (skip b rules (number_after x (suc k)) (bad k) (first_of_group b rules a x (suc k)) (a + 26 * k + 1) 25 (suc bits))
+
+  pub block_good : 1 ≤ x → (k bits : ℕ) → are_too_many rules.loss (bad (suc k)) ≡ false
+      → whole b rules (S k) (a + 26 * k + 1) (25 + suc bits) ≡ closes (suc k) ++ whole b rules (S (suc k)) (a + 26 * suc k + 1) bits
+  block_good low k bits h = wait k bits ∙ goes b rules (S k) (S (suc k)) (closes (suc k)) (a + 26 * suc k) bits
+      (items-keeping b rules (a + 26 * suc k) (number_after x (suc k)) (bad k) (first_of_group b rules a x (suc k)) h)
+      (step-keeping b rules (a + 26 * suc k) (number_after x (suc k)) (bad k) (first_of_group b rules a x (suc k)) h ∙ S_is low (suc k))
+
+  pub block_lost : (k bits : ℕ) → are_too_many rules.loss (bad (suc k)) ≡ true
+      → whole b rules (S k) (a + 26 * k + 1) (25 + suc bits) ≡ G (suc k) ∷ LostLock (a + 26 * suc k) ∷ whole b rules Searching (a + 26 * suc k + 1) bits
+  block_lost k bits h = wait k bits ∙ goes b rules (S k) Searching (G (suc k) ∷ LostLock (a + 26 * suc k) ∷ []) (a + 26 * suc k) bits
+      (items-losing b rules (a + 26 * suc k) (number_after x (suc k)) (bad k) (first_of_group b rules a x (suc k)) h)
+      (step-losing b rules (a + 26 * suc k) (number_after x (suc k)) (bad k) (first_of_group b rules a x (suc k)) h)
+
+  pub block_end : (k bits : ℕ) → bits ≤ 25 → whole b rules (S k) (a + 26 * k + 1) bits ≡ items_of_end b rules (S k)
+  block_end k bits h = let due : a + 26 * suc k ≡ a + 26 * k + 1 + 25 = omega arith in
+      rw due (skip_to_end b rules (number_after x (suc k)) (bad k) (first_of_group b rules a x (suc k)) (a + 26 * k + 1) 25 bits h)
+
+  -- at the end of the recording the group in progress is closed
+  pub last_group : 1 ≤ x → (k : ℕ) → closes k ++ items_of_end b rules (S k) ≡ G k ∷ []
+  last_group low k = elim (cases_eq (number_after x k) 4) [
+    | inl four ↦ let next : number_after x (suc k) ≡ 1 = omega (arith, number_next k) in
+        rw (eq-eqb (number_after x k) 4 four, next, group_after, items_of_end) refl
+    | inr other ↦
+        let next : number_after x (suc k) ≡ number_after x k + 1 = omega (arith, number_next k) in
+        let ne : number_after x (suc k) ≢ 1 = λ e. omega arith in
+        let back : number_after x (suc k) - 1 ≡ number_after x k = omega arith in
+        let place : a + 26 * suc k - 26 ≡ a + 26 * k = omega arith in
+        let f : first_of_group b rules a x k ≡ first_of_group b rules a x (suc k) = rw (ne_eqb (number_after x k) 4 other) at (first_next low k) in
+        rw (ne_eqb (number_after x k) 4 other, ne_eqb (number_after x (suc k)) 1 ne, back, place, f, group_after, items_of_end) refl
+  ]
+
+  pub first_first : x ≤ 4 → first_of_group b rules a x 0 ≡ x
+  first_first high = rw (le-leb (x + 0) 4 (omega arith)) refl

@@ -1,0 +1,162 @@
+-- The items of the run from Searching are those of the locks, one after the other: the run is the report.
+use Rattle.std.proofs.Common.{◌≡◌, ◌≢◌, ℕ, zero, suc, ◌+◌, ◌-◌, ◌*◌, ◌≤◌, List, [], ◌∷◌, ◌++◌, length, Bool, true, false, Option, Some, None, refl, sym, ap, ◌∙◌, arith, append_assoc, add-one, one-add, inl, inr}
+use Rattle.std.proofs.lemmas.Bool.{ne_eqb, cases_Bool, cases_eq, eq-eqb}
+use Rattle.std.specs.Prelude.{MatchOption, filter_map, find}
+use Rattle.std.specs.List.{range_with_len}
+use Rattle.rds_sync.specs.declared.state.State.TheVariants.{Searching}
+use Rattle.rds_sync.specs.declared.item.Item.{Item}
+use Rattle.rds_sync.specs.declared.item.Item.TheVariants.{Acquired, LostLock}
+use Rattle.rds_sync.specs.Rules.{RuleNumbers}
+use Rattle.rds_sync.specs.Acquiring.{acquired, number_after}
+use Rattle.rds_sync.specs.Loss.{IsLoss, none_bad, are_too_many}
+use Rattle.rds_sync.specs.Report.{is_good, loses_at, places, end, read_blocks, group_closed_by, loss_items, items_of_lock, first_lock, items_from, report_items}
+use Rattle.rds_sync.specs.Step.{run, items_of_end, locked_after, group_after}
+use Rattle.rds_sync.proofs.LawfulLemmas.{acquired-range}
+use Rattle.rds_sync.proofs.LockBlocks.{bad, keeps, loses_here, number_first, first_first, S, G, closes, S_is, block_good, block_lost, block_end, last_group}
+use Rattle.rds_sync.proofs.LossLemmas.{never_0}
+use Rattle.rds_sync.proofs.RunLemmas.{items-acquiring, step-acquiring}
+use Rattle.rds_sync.proofs.WholeRuns.{whole, whole_is, goes, Found, found}
+
+find_low : (p : ℕ → Bool) (c d k : ℕ) → find p (range_with_len c d) ≡ Some k → c ≤ k
+find_low p c zero k e = cc
+find_low p c (suc d) k e = elim (cases_Bool (p c)) [
+  | inl holds ↦ let f : find p (range_with_len c (suc d)) ≡ Some c = rw holds refl in let same : c ≡ k = cc (e, f) in omega arith
+  | inr fails ↦ let f : find p (range_with_len c (suc d)) ≡ find p (range_with_len (c + 1) d) = rw fails refl in
+      let more : c + 1 ≤ k = find_low p (c + 1) d k (sym f ∙ e) in omega arith
+]
+
+module _ (b : List ℕ) (rules : RuleNumbers) (a x : ℕ) where
+  -- where the lock ends
+  read_none : end b rules a x ≡ None → read_blocks b rules a x ≡ places b rules a x
+  read_none e = rw (e, read_blocks) refl
+
+  read_some : (k : ℕ) → end b rules a x ≡ Some k → read_blocks b rules a x ≡ k + 1
+  read_some k e = rw (e, read_blocks) refl
+
+  loss_none : end b rules a x ≡ None → loss_items b rules a x ≡ []
+  loss_none e = rw (e, loss_items) refl
+
+  loss_some : (k : ℕ) → end b rules a x ≡ Some k → loss_items b rules a x ≡ LostLock (a + 26 * k) ∷ []
+  loss_some k e = rw (e, loss_items) refl
+
+  read_low : (c d : ℕ) → c + d ≡ places b rules a x → end b rules a x ≡ find (loses_at b rules a x) (range_with_len c d) → c ≤ read_blocks b rules a x
+  read_low c d all e = at_end (end b rules a x) refl where
+    at_end : (o : Option ℕ) → end b rules a x ≡ o → c ≤ read_blocks b rules a x
+    at_end None f = rw (read_none f) (omega arith)
+    at_end (Some k) f = let l = find_low (loses_at b rules a x) c d k (sym e ∙ f) in rw (read_some k f) (omega arith)
+
+  -- the groups from block k on
+  abbrev groups_from : ℕ → ℕ → List Item
+  groups_from k r = filter_map (group_closed_by b rules a x) (range_with_len k r)
+
+  groups_step : (k r : ℕ) → k + 1 ≢ read_blocks b rules a x → groups_from k (suc r) ≡ closes b rules a x k ++ groups_from (suc k) r
+  groups_step k r other = elim (cases_eq (number_after x k) 4) [
+    | inl four ↦ rw (← add-one k, eq-eqb (number_after x k) 4 four, group_after) refl
+    | inr fewer ↦ rw (← add-one k, ne_eqb (number_after x k) 4 fewer, ne_eqb (k + 1) (read_blocks b rules a x) other, group_after) refl
+  ]
+
+  groups_last : (k r : ℕ) → k + 1 ≡ read_blocks b rules a x → groups_from k (suc r) ≡ G b rules a x k ∷ groups_from (suc k) r
+  groups_last k r same = elim (cases_eq (number_after x k) 4) [
+    | inl four ↦ rw (← add-one k, eq-eqb (number_after x k) 4 four) refl
+    | inr fewer ↦ rw (← add-one k, ne_eqb (number_after x k) 4 fewer, eq-eqb (k + 1) (read_blocks b rules a x) same) refl
+  ]
+
+  -- what stands after this lock
+  abbrev rest : ℕ → List Item
+  rest fuel = elim (end b rules a x) [ None ↦ [] | Some k ↦ items_from b rules fuel (a + 26 * k + 1) ]
+
+  rest_none : (fuel : ℕ) → end b rules a x ≡ None → rest fuel ≡ []
+  rest_none fuel e = rw (e, rest) refl
+
+  rest_some : (fuel k : ℕ) → end b rules a x ≡ Some k → rest fuel ≡ items_from b rules fuel (a + 26 * k + 1)
+  rest_some fuel k e = rw (e, rest) refl
+
+  find_here : (k d : ℕ) → loses_at b rules a x k ≡ true → find (loses_at b rules a x) (range_with_len k (suc d)) ≡ Some k
+  find_here k d e = rw (e, find) refl
+
+  find_later : (k d : ℕ) → loses_at b rules a x k ≡ false → find (loses_at b rules a x) (range_with_len k (suc d)) ≡ find (loses_at b rules a x) (range_with_len (suc k) d)
+  find_later k d e = rw (← add-one k, e, find) refl
+
+  tail : (fuel : ℕ) → ((q m : ℕ) → q + m ≡ length b → m ≤ fuel → whole b rules Searching q m ≡ items_from b rules fuel q)
+      → 1 ≤ x → (d k bits : ℕ) → suc k + d ≡ places b rules a x → a + 26 * k + 1 + bits ≡ length b → bits ≤ fuel
+      → end b rules a x ≡ find (loses_at b rules a x) (range_with_len (suc k) d)
+      → closes b rules a x k ++ whole b rules (S b rules a x k) (a + 26 * k + 1) bits ≡ groups_from k (read_blocks b rules a x - k) ++ (loss_items b rules a x ++ rest fuel)
+  tail fuel again low zero k bits all total few e =
+      let rb = read_none e in
+      let one : read_blocks b rules a x - k ≡ 1 = omega (arith, rb, all) in
+      let same : k + 1 ≡ read_blocks b rules a x = omega (arith, rb, all) in
+      let small : bits ≤ 25 = omega arith in
+      ap (λ (t : List Item). closes b rules a x k ++ t) (block_end b rules a x k bits small) ∙ last_group b rules a x low k
+      ∙ sym (rw (loss_none e, rest_none fuel e) (ap (λ (r : ℕ). groups_from k r ++ []) one ∙ ap (λ (t : List Item). t ++ []) (groups_last k 0 same)))
+  tail fuel again low (suc d) k bits all total few e = elim (cases_Bool (are_too_many rules.loss (bad b rules a x (suc k)))) [
+    | inr ok ↦
+        let left : ℕ = bits - 26 in
+        let m : bits ≡ 25 + suc left = omega arith in
+        let e2 = e ∙ find_later (suc k) d (keeps b rules a x (suc k) ok) in
+        let long : suc (suc k) ≤ read_blocks b rules a x = read_low (suc (suc k)) d (omega arith) e2 in
+        let w = ap (λ (n : ℕ). whole b rules (S b rules a x k) (a + 26 * k + 1) n) m ∙ block_good b rules a x low k left ok in
+        let ih = tail fuel again low d (suc k) left (omega arith) (omega arith) (omega arith) e2 in
+        let r : read_blocks b rules a x - k ≡ suc (read_blocks b rules a x - suc k) = omega arith in
+        let ne : k + 1 ≢ read_blocks b rules a x = λ f. omega arith in
+        ap (λ (t : List Item). closes b rules a x k ++ t) (w ∙ ih)
+        ∙ sym (ap (λ (t : List Item). t ++ (loss_items b rules a x ++ rest fuel)) (ap (λ (n : ℕ). groups_from k n) r ∙ groups_step k (read_blocks b rules a x - suc k) ne)
+        ∙ append_assoc (closes b rules a x k) (groups_from (suc k) (read_blocks b rules a x - suc k)) (loss_items b rules a x ++ rest fuel))
+    | inl lost ↦
+        let left : ℕ = bits - 26 in
+        let m : bits ≡ 25 + suc left = omega arith in
+        let e2 = e ∙ find_here (suc k) d (loses_here b rules a x (suc k) lost) in
+        let rb = read_some (suc k) e2 in
+        let w = ap (λ (n : ℕ). whole b rules (S b rules a x k) (a + 26 * k + 1) n) m ∙ block_lost b rules a x k left lost in
+        let next = again (a + 26 * suc k + 1) left (omega arith) (omega arith) in
+        let r : read_blocks b rules a x - k ≡ 2 = omega (arith, rb) in
+        let ne : k + 1 ≢ read_blocks b rules a x = λ f. omega (arith, rb) in
+        let same : suc k + 1 ≡ read_blocks b rules a x = omega (arith, rb) in
+        ap (λ (t : List Item). closes b rules a x k ++ t) (w ∙ ap (λ (t : List Item). G b rules a x (suc k) ∷ LostLock (a + 26 * suc k) ∷ t) next)
+        ∙ sym (rw (loss_some (suc k) e2, rest_some fuel (suc k) e2)
+        (ap (λ (t : List Item). t ++ (LostLock (a + 26 * suc k) ∷ items_from b rules fuel (a + 26 * suc k + 1)))
+        (ap (λ (n : ℕ). groups_from k n) r ∙ groups_step k 1 ne ∙ ap (λ (t : List Item). closes b rules a x k ++ t) (groups_last (suc k) 0 same))
+        ∙ append_assoc (closes b rules a x k) (G b rules a x (suc k) ∷ []) (LostLock (a + 26 * suc k) ∷ items_from b rules fuel (a + 26 * suc k + 1))))
+  ]
+
+module _ (b : List ℕ) (rules : RuleNumbers) where
+  -- one lock from its first place on
+  from_lock : (fuel : ℕ) → ((q m : ℕ) → q + m ≡ length b → m ≤ fuel → whole b rules Searching q m ≡ items_from b rules fuel q) → IsLoss rules.loss
+      → (a x left : ℕ) → acquired b rules a ≡ Some x → a + (left + 1) ≡ length b → left ≤ fuel
+      → whole b rules Searching a (suc left) ≡ items_of_lock b rules a x ++ rest b rules a x fuel
+  from_lock fuel again loss a x left e total few =
+      let range = acquired-range b rules a x e in
+      let low : 1 ≤ x = range.0 in
+      let start : a + 26 * 0 ≡ a = omega arith in
+      let num = number_first b rules a x low range.1 in
+      let fst = first_first b rules a x range.1 in
+      let begins : locked_after a x (none_bad rules.loss) x ≡ S b rules a x 0 = rw (start, num, fst) at (S_is b rules a x low 0) in
+      let closed : closes b rules a x 0 ≡ group_after b rules x x a = rw (start, num, fst) refl in
+      let none_before : read_blocks b rules a x - 0 ≡ read_blocks b rules a x = omega arith in
+      let d : ℕ = places b rules a x - 1 in
+      let all : 1 + d ≡ places b rules a x = omega arith in
+      let finds : end b rules a x ≡ find (loses_at b rules a x) (range_with_len 1 d) =
+      ap (λ (n : ℕ). find (loses_at b rules a x) (range_with_len 0 n)) (sym all ∙ one-add d) ∙ find_later b rules a x 0 d (never_0 (is_good b rules a x) rules.loss loss) in
+      let later = tail b rules a x fuel again low d 0 left all (omega arith) few finds in
+      goes b rules Searching (S b rules a x 0) (Acquired a x ∷ group_after b rules x x a) a left (items-acquiring b rules a x e) (step-acquiring b rules a x e ∙ begins)
+      ∙ ap (λ (t : List Item). Acquired a x ∷ t)
+      (ap (λ (t : List Item). t ++ whole b rules (S b rules a x 0) (a + 1) left) (sym closed)
+      ∙ ap (λ (p : ℕ). closes b rules a x 0 ++ whole b rules (S b rules a x 0) (p + 1) left) (sym start)
+      ∙ later
+      ∙ ap (λ (r : ℕ). groups_from b rules a x 0 r ++ (loss_items b rules a x ++ rest b rules a x fuel)) none_before
+      ∙ sym (append_assoc (groups_from b rules a x 0 (read_blocks b rules a x)) (loss_items b rules a x) (rest b rules a x fuel)))
+
+  locks_are : IsLoss rules.loss → (fuel q m : ℕ) → q + m ≡ length b → m ≤ fuel → whole b rules Searching q m ≡ items_from b rules fuel q
+  locks_are loss zero q zero total few = refl
+  locks_are loss zero q (suc m) total few = absurd (omega arith)
+  locks_are loss (suc fuel) q m total few =
+      let left : length b - q ≡ m = omega arith in
+      rw (left, items_from) (at_case (locks_are loss fuel) (first_lock b rules q m) refl (found b rules q m)) where
+        at_case : ((q2 m2 : ℕ) → q2 + m2 ≡ length b → m2 ≤ fuel → whole b rules Searching q2 m2 ≡ items_from b rules fuel q2)
+            → (o : Option (ℕ × ℕ)) → first_lock b rules q m ≡ o → MatchOption o (whole b rules Searching q m ≡ []) (Found b rules (whole b rules Searching q m) (q + m) q)
+            → whole b rules Searching q m ≡ elim (first_lock b rules q m) as (λ _. List Item) [ None ↦ [] | Some l ↦ items_of_lock b rules l.0 l.1 ++ rest b rules l.0 l.1 fuel ]
+        at_case again None e h = rw e h
+        at_case again (Some l) e h = rw e (h.4 ∙ from_lock fuel again loss l.0 l.1 h.0 h.3 (h.1 ∙ total) (omega (arith, h.1, h.2)))
+
+  -- the items of the run over the whole recording, and of its end, are the report's
+  pub run_is_report : IsLoss rules.loss → (run b rules Searching 0 (length b)).1 ++ items_of_end b rules (run b rules Searching 0 (length b)).0 ≡ report_items b rules
+  run_is_report loss = whole_is b rules Searching 0 (length b) ∙ locks_are loss (length b) 0 (length b) (omega arith) (omega arith)

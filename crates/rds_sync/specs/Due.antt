@@ -1,0 +1,32 @@
+-- What a block does to the lock that it was due in. This project's rule.
+use Rattle.std.specs.Prelude.{◌≡◌, ℕ, ◌<◌, Bool, true, false}
+use Rattle.rds_sync.specs.declared.due.Due.{Due}
+use Rattle.rds_sync.specs.declared.due.Due.TheVariants.{Inside, Closed, Lost}
+use Rattle.rds_sync.specs.declared.due.Lock.{Lock}
+use Rattle.rds_sync.specs.declared.loss.Bad.{Bad}
+use Rattle.rds_sync.specs.declared.loss.Loss.{Loss}
+use Rattle.rds_sync.specs.declared.state.State.{State}
+use Rattle.rds_sync.specs.declared.state.State.TheVariants.{Searching, Locked}
+use Rattle.rds_sync.specs.Loss.{bad_after, are_too_many}
+use Rattle.rds_sync.specs.Step.{locked_after}
+
+-- the state of a run that is in this lock
+abbrev pub state_in : Lock → State
+state_in lock = Locked lock.due lock.number lock.bad lock.first
+
+-- the state to which a block that was due led
+abbrev pub state_of : Due → State
+state_of (Inside next) = state_in next
+state_of (Closed next) = state_in next
+state_of Lost = Searching
+
+-- the lock is kept, with what is then kept of its bad blocks
+pub record IsKept (loss : Loss) (lock : Lock) (good : Bool) (next : Lock) : Type 0 where
+  pub few_bad : are_too_many loss (bad_after loss good lock.bad) ≡ false
+  pub next_is : state_in next ≡ locked_after lock.due lock.number (bad_after loss good lock.bad) lock.first
+
+-- what the block that is due does to this lock, where it is good or not
+abbrev pub IsAfter : Loss → Lock → Bool → Due → Type 0
+IsAfter loss lock good (Inside next) = (lock.number < 4) × IsKept loss lock good next
+IsAfter loss lock good (Closed next) = (lock.number ≡ 4) × IsKept loss lock good next
+IsAfter loss lock good Lost = are_too_many loss (bad_after loss good lock.bad) ≡ true
