@@ -1,5 +1,6 @@
 mod CuttingLemmas
 mod RunFacts
+mod MarkRows
 mod GuessLemmas
 mod MeetingLemmas
 mod StepLemmas

@@ -13,4 +13,6 @@ pub mod RunLaws
 pub mod Refusals
 pub mod RunInside
 pub mod Advance
+pub mod Later
+pub mod Rows
 pub mod Examples

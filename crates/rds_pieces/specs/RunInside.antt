@@ -3,7 +3,7 @@ use Rattle.std.specs.Prelude.{◌^◌, ◌≤◌, List, length}
 use Rattle.rds_sync.specs.declared.state.State.{State}
 use Rattle.rds_sync.specs.declared.item.Item.{Item}
 use Rattle.rds_sync.specs.Ranges.{IsInRange}
-use Rattle.rds_pieces.specs.declared.run.Mark.{Mark}
+use Rattle.rds_pieces.specs.declared.mark.Mark.{Mark}
 use Rattle.rds_pieces.specs.RunOf.{RunOf, IsGuess}
 
 -- it is the guess of its range, of a recording that has at most 2^36 bits, by rules that are in range

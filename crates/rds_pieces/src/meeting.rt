@@ -2,7 +2,7 @@
 ghost use Rattle.std.specs.Prelude.{◌≡◌, ◌↔◌, IsTrue};
 ghost use Rattle.rds_sync.specs.Lawful.{IsBetweenGroups};
 
-use crate::run::Mark;
+use crate::mark::Mark;
 use rds_sync::{Item, State};
 
 /// What a piece gives from the state that was handed in.

@@ -9,22 +9,12 @@ ghost use Rattle.rds_pieces.specs.declared.error.PieceError.TheVariants.{OutOfMe
 use crate::cutting::Cutting;
 use crate::error::PieceError;
 use crate::laws::run_laws;
+use crate::mark::Mark;
 use rds_stream::Recording;
 use rds_sync::{Item, Rules, State, stretch};
 use std::alloc::Global;
 use std::marker::Model;
 use std::snapshot::Snapshot;
-
-/// A place of a run at which another run may meet it: the piece's first place, and each place after a bit that gave an item.
-#[derive(Clone, Copy, Debug, PartialEq, Eq)]
-pub struct Mark {
-    /// The place of the next bit.
-    pub place: u64,
-    /// The state before that bit.
-    pub state: State,
-    /// How many of the run's items stand before that bit.
-    pub items: u64,
-}
 
 /// The guess of a range of places, for the recording and the rules that it names: what a run from Searching at the range's first
 /// place gives, with its marks. Contracts see what it is a run of: the recording's bits, the rules' numbers and the range. It

@@ -3,14 +3,15 @@ ghost use Rattle.std.specs.Prelude.{◌≡◌, ℕ, List, ◌+◌, ◌-◌, ◌*
 ghost use Rattle.rds_sync.specs.Lawful.{IsLawful};
 ghost use Rattle.rds_sync.specs.Step.{run as run_of};
 ghost use Rattle.rds_pieces.specs.Meeting.{IsMeeting, distance};
-ghost use Rattle.rds_pieces.specs.declared.run.Mark.{Mark};
+ghost use Rattle.rds_pieces.specs.declared.mark.Mark.{Mark};
 ghost use Rattle.rds_pieces.specs.declared.error.PieceError.TheVariants.{OutOfMemory};
 
 use crate::advance::advance_onto;
 use crate::error::PieceError;
 use crate::laws::run_laws;
+use crate::mark::Mark;
 use crate::meeting::{Seam, meets};
-use crate::run::{Mark, PieceRun};
+use crate::run::PieceRun;
 use rds_stream::Tape;
 use rds_sync::{Item, Rules, State};
 use std::alloc::Global;
