@@ -17,7 +17,7 @@ loop-place-preserved c =
       from_on = omega (arith, far.from_on, came.forward);
       before = came.limit;
       lawful = came.lawful;
-      so_far = run-further b rules c.args.state l.now r.state l.items.items (run b rules l.now l.place (r.place - l.place)).1 c.args.from l.place r.place far.from_on
+      so_far = run-further b rules c.args.state l.now r.state l.items (run b rules l.now l.place (r.place - l.place)).1 c.args.from l.place r.place far.from_on
           (omega (arith, came.forward)) far.so_far came.state refl
           ∙ ap (λ (is : List Item). (r.state, is)) (sym came_items);
     }

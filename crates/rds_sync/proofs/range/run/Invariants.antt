@@ -14,7 +14,7 @@ pub record HasRun (b : List ℕ) (rules : RuleNumbers) (s : State) (from to plac
   pub so_far : run b rules s from (place - from) ≡ (now, items)
 
 abbrev pub invariant-loop-place : goal.invariant-loop-place
-invariant-loop-place l = HasRun l.rec l.rules l.fn.state l.from l.to l.place l.now l.items.items
+invariant-loop-place l = HasRun l.rec l.rules l.fn.state l.from l.to l.place l.now l.items
 
 abbrev pub decreases-loop-place : goal.decreases-loop-place
 decreases-loop-place l = l.to - l.place
