@@ -5,6 +5,8 @@ mod GuessLemmas
 mod MeetingLemmas
 mod StepLemmas
 mod SeamLemmas
+mod MarkLaws
+mod WalkLemmas
 mod ReadsLemmas
 mod StitchLemmas
 mod RowLemmas
