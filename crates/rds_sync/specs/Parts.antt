@@ -1,5 +1,5 @@
 -- Items in parts: the implementation's own, which no caller sees.
-use Rattle.std.specs.Prelude.{◌≡◌, ℕ, ◌<◌, List, [], ◌∷◌, drop, length}
+use Rattle.std.specs.Prelude.{◌≡◌, ℕ, ◌+◌, ◌<◌, List, [], ◌∷◌, drop, length}
 use Rattle.std.specs.List.{flat_map}
 use Rattle.rds_sync.specs.declared.item.Item.{Item}
 
@@ -15,4 +15,5 @@ IsInFirst (part ∷ parts) number = number < length part
 -- the parts from that on which holds item number `from`, and its number there
 pub record IsAt (parts : List (List Item)) (from : ℕ) (rest : List (List Item)) (left : ℕ) : Type 0 where
   pub same : drop left (items_in rest) ≡ drop from (items_in parts)
+  pub passed : length (items_in rest) + from ≡ length (items_in parts) + left
   pub inside : IsInFirst rest left

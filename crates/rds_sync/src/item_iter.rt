@@ -130,9 +130,7 @@ impl<'a> Iterator for ItemIter<'a> {
         if self.left == 0 {
             return None;
         }
-        if self.cursor.kept.is_empty() {
-            self.cursor = self.cursor.settled();
-        }
+        self.cursor = self.cursor.settled();
         let (one, rest) = self.cursor.kept.split_first()?;
         self.cursor.kept = rest;
         self.left -= 1;

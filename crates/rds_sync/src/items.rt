@@ -1,7 +1,7 @@
 //! Items that never change any more.
 
 ghost use Rattle.std.specs.Prelude.{◌≡◌, ◌==◌, ◌<◌, ◌≤◌, ◌++◌, [], length, drop, take, slice_get, slice_range, Some, IfOk, OnOk, OnErr};
-ghost use Rattle.rds_sync.specs.Parts.{items_in, IsAt};
+ghost use Rattle.rds_sync.specs.Parts.{items_in, IsAt, IsInFirst};
 
 use crate::item::Item;
 use crate::item_buffer::ItemBuffer;
@@ -150,6 +150,7 @@ fn parts_from(parts: &[Part], from: usize) -> (&[Part], usize)
 
 /// Appends these parts, the first of them without its first `left` items.
 fn push_parts(parts: &mut Vec<Part>, more: &[Part], left: usize) -> Result<(), AllocError>
+    requires { IsInFirst more.now left }
     ensures ok { OnOk result (items_in parts.new.items ≡ items_in parts.old.items ++ drop left (items_in more.now)) }
     ensures refused { OnErr result (take (length parts.old.items) parts.new.items ≡ parts.old.items) }
 {

@@ -56,7 +56,9 @@ impl Part {
         requires { i < length self.now }
         ensures { slice_get self.now i ≡ Some result }
     {
-        self.buffer.get(self.from + i)
+        let Part { buffer, from, to } = self;
+        prove!(i < to - from);
+        buffer.get(from + i)
     }
 
     /// The part without its first items, of the same buffer.
@@ -64,10 +66,12 @@ impl Part {
         requires { first ≤ length self.now }
         ensures { IfOk result (λ part. part ≡ drop first self.now) }
     {
+        let Part { buffer, from, to } = self;
+        prove!(first <= to - from);
         Ok(Part {
-            buffer: Arc::try_clone(&self.buffer)?,
-            from: self.from + first,
-            to: self.to,
+            buffer: Arc::try_clone(buffer)?,
+            from: from + first,
+            to: *to,
         })
     }
 
