@@ -5,8 +5,10 @@ mod GuessLemmas
 mod MeetingLemmas
 mod StepLemmas
 mod SeamLemmas
+mod BesideLemmas
 mod MarkLaws
 mod WalkLemmas
 mod ReadsLemmas
+mod SmallTotals
 mod StitchLemmas
 mod RowLemmas
