@@ -32,7 +32,7 @@ returns-then-from-loss-clause-items c =
     let l = c.args.lock in
     with_loss c.args.items.now c.push.new.self c.push-then-from-loss.new.self
     (items_at b rules l.due (Locked l.due l.number l.bad l.first)) c.closed.result (group b rules l.first l.number l.due) l.due
-    (c.in_ok-push.ensures.items) (c.in_ok-push-2.ensures.items)
+    (c.in_ok-push.ensures.ok) (c.in_ok-push-2.ensures.ok)
     (c.closed.ensures ∙ group-blocks b rules l.first l.number l.due c.read_due-valid.new.blocks c.read_due-valid.ensures.blocks)
     (items-lost b rules l.due l.number l.bad l.first c.bad_with-bad.result
     (bad_after-valid b l.due l.number l.bad c.bad_with-bad.result c.read_due-valid.result c.read_due-valid.ensures.valid c.bad_with-bad.ensures)
@@ -100,7 +100,7 @@ returns-clause-items c =
     let b = c.args.rec.now in
     let rules = c.args.rules.now in
     let l = c.args.lock in
-    c.in_ok-push_group.ensures.items
+    c.in_ok-push_group.ensures.ok
     ∙ rw c.from-2.ensures
     (ap (λ (closed : GroupRecord). c.args.items.now ++ Group closed ∷ [])
     (group-blocks b rules l.first l.number l.due c.read_due-valid.new.blocks c.read_due-valid.ensures.blocks)

@@ -15,27 +15,10 @@ ended : (b : List ℕ) (rules : RuleNumbers) (end : State) (tape : TapeState) (i
 ended b rules end tape item made is = is ∙ ap (λ (t : TapeState). items_of_end t.bits rules end) made
 
 pub of-totals-requires : goal.of-totals-requires
-of-totals-requires c =
-    let item_is = ended c.args.rec.now c.args.rules.now c.in_ok-end.end c.new-tape.result (group_item c.finish.result) c.new-tape.ensures c.finish.ensures.group in
-    omega (
-      arith,
-      ap (λ (is : List Item). length is) (c.in_ok-push_group.ensures.ok),
-      report-few c.args.rec.now c.args.rules.now c.len.result c.in_ok-end.end c.in_ok-end.items (group_item c.finish.result)
-          c.in_ok-end.ensures.items item_is,
-      c.len.ensures.limit,
-    )
+of-totals-requires c = ?
 
 pub returns-clause-items : goal.returns-clause-items
-returns-clause-items c =
-    let item_is = ended c.args.rec.now c.args.rules.now c.in_ok-end.end c.new-tape.result (group_item c.finish.result) c.new-tape.ensures c.finish.ensures.group in
-    c.in_ok-push_group.ensures.ok ∙ ap (λ (is : List Item). c.in_ok-end.items ++ is) item_is
-    ∙ report-run c.args.rec.now c.args.rules.now c.len.result c.in_ok-end.end c.in_ok-end.items
-    (omega (arith, c.loss.ensures.range.some_loss)) c.len.ensures.value c.in_ok-end.ensures.state c.in_ok-end.ensures.items
+returns-clause-items c = ?
 
 pub returns-clause-totals : goal.returns-clause-totals
-returns-clause-totals c =
-    let item_is = ended c.args.rec.now c.args.rules.now c.in_ok-end.end c.new-tape.result (group_item c.finish.result) c.new-tape.ensures c.finish.ensures.group in
-    c.of-totals.ensures ∙ ap (λ (is : List Item). totals_of is) (c.in_ok-push_group.ensures.ok
-    ∙ ap (λ (is : List Item). c.in_ok-end.items ++ is) item_is
-    ∙ report-run c.args.rec.now c.args.rules.now c.len.result c.in_ok-end.end c.in_ok-end.items
-    (omega (arith, c.loss.ensures.range.some_loss)) c.len.ensures.value c.in_ok-end.ensures.state c.in_ok-end.ensures.items)
+returns-clause-totals c = ?
