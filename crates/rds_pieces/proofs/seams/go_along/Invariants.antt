@@ -13,3 +13,6 @@ invariant-along g l = record {
   paid : IsPaid l.run.source l.run.rules (g.T.Tape.reads_made l.fn.tape) l.run.from (g.T.Tape.reads_made l.tape) l.place l.state;
   same : g.T.Tape.bits l.tape ≡ l.run.source;
 }
+
+abbrev pub decreases-along : goal.decreases-along
+decreases-along g l = l.run.to - l.place
