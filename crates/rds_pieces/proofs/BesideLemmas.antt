@@ -35,7 +35,7 @@ module _ (b : List ℕ) (rules : RuleNumbers) (from to : ℕ) where
     end = λ last. beside.limit_is ∙ ap (λ (ms : List Mark). next_place ms to) (none_ahead beside.index ahead beside.ahead_are last);
   }
 
-  module _ (laws : RunLaws) (some : 1 ≤ rules.loss) where
+  module _ (laws : RunLaws) (some : IsLoss rules.loss) where
     -- at the first place
     pub beside_start : (s0 : State) (first : Mark) (ahead : List Mark) (limit : ℕ) → from ≤ to → IsLawful rules from s0 → found b rules from to ≡ first ∷ ahead → limit ≡ next_place ahead to
         → IsBeside s0 from s0 first ahead limit

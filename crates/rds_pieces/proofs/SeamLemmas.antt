@@ -7,6 +7,7 @@ use Rattle.rds_sync.specs.declared.state.State.TheVariants.{Searching, Locked}
 use Rattle.rds_sync.specs.declared.item.Item.{Item}
 use Rattle.rds_sync.specs.Rules.{RuleNumbers}
 use Rattle.rds_sync.specs.Lawful.{IsLawful, IsBetweenGroups}
+use Rattle.rds_sync.specs.Loss.{IsLoss}
 use Rattle.rds_sync.specs.Step.{run}
 use Rattle.rds_pieces.specs.declared.mark.Mark.{Mark}
 use Rattle.rds_pieces.specs.Advance.{IsStepTo}
@@ -84,7 +85,7 @@ module _ (b : List ℕ) (rules : RuleNumbers) (from to : ℕ) where
     pub lawful : IsLawful rules place state
     pub none_yet : (q : ℕ) → q < place → ¬ MeetAt b rules s0 Searching from to q
 
-  module _ (laws : RunLaws) (some : 1 ≤ rules.loss) where
+  module _ (laws : RunLaws) (some : IsLoss rules.loss) where
     -- the place of the next mark, inside the piece
     pub next_mark : (mark : ℕ) → mark + 1 < length found → ((get_or found mark unread).place < (get_or found (mark + 1) unread).place) × ((get_or found (mark + 1) unread).place ≤ to - from + from)
     next_mark mark h = at_mark (marked b rules from laws (to - from) mark (omega arith)) where

@@ -21,7 +21,8 @@ use Rattle.rds_sync.specs.Acquiring.{acquired}
 use Rattle.rds_sync.specs.Counting.{plus, IsAtMost}
 use Rattle.rds_sync.specs.Groups.{group, block_at, wanted_beside, are_complete}
 use Rattle.rds_sync.specs.Rules.{RuleNumbers}
-use Rattle.rds_sync.specs.Step.{run, step, items_at, group_after, bad_after}
+use Rattle.rds_sync.specs.Loss.{are_too_many}
+use Rattle.rds_sync.specs.Step.{run, step, items_at, group_after, bad_with}
 use Rattle.rds_sync.specs.Totals.{totals_of, is_valid, is_lost, is_corrected_by, bits_corrected}
 
 -- the totals of two lists together
@@ -197,14 +198,14 @@ module _ (b : List ℕ) (rules : RuleNumbers) (law : ReadsByRule) (few : rules.b
       at_case None = none_at_most per_bit
       at_case (Some x) = at_most_more (1 + (2 ^ 28 - 4)) per_bit _ (lit≤ tt)
           (both_at_most 1 (2 ^ 28 - 4) (Acquired i x ∷ []) (group_after b rules x x i) (acquired_at_most i x) (after_at_most x x i (x == 4)))
-    bit_at_most i (Locked due x bad f) = at_case (due == i) (nat_lt (bad_after b i x bad) rules.loss) where
-      at_case : (here kept : Bool) → IsAtMost per_bit (totals_of (elim here [
+    bit_at_most i (Locked due x bad f) = at_case (due == i) (are_too_many rules.loss (bad_with b rules i x bad)) where
+      at_case : (here lost : Bool) → IsAtMost per_bit (totals_of (elim here [
         | false ↦ []
-        | true ↦ elim kept [ true ↦ group_after b rules f x i | false ↦ GroupItem (group b rules f x i) ∷ LostLock i ∷ [] ]
+        | true ↦ elim lost [ false ↦ group_after b rules f x i | true ↦ GroupItem (group b rules f x i) ∷ LostLock i ∷ [] ]
       ]))
-      at_case false kept = none_at_most per_bit
-      at_case true true = at_most_more (2 ^ 28 - 4) per_bit _ (lit≤ tt) (after_at_most f x i (x == 4))
-      at_case true false = at_most_more (2 ^ 28 - 4 + 1) per_bit _ (lit≤ tt)
+      at_case false lost = none_at_most per_bit
+      at_case true false = at_most_more (2 ^ 28 - 4) per_bit _ (lit≤ tt) (after_at_most f x i (x == 4))
+      at_case true true = at_most_more (2 ^ 28 - 4 + 1) per_bit _ (lit≤ tt)
           (both_at_most (2 ^ 28 - 4) 1 (GroupItem (group b rules f x i) ∷ []) (LostLock i ∷ []) (closed_at_most f x i) (lost_at_most i))
 
     -- what a run gives

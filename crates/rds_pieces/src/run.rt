@@ -13,7 +13,7 @@ use crate::laws::run_laws;
 use crate::mark::Mark;
 use crate::marks::Marks;
 use rds_stream::Recording;
-use rds_sync::{ItemBuffer, Items, Rules, State, Totals, stretch};
+use rds_sync::{ItemBuffer, Items, RuleNumbers, Rules, State, Totals, stretch};
 use std::alloc::Global;
 use std::marker::Model;
 use std::snapshot::Snapshot;
@@ -24,9 +24,7 @@ use std::snapshot::Snapshot;
 #[derive(Drop)]
 pub struct PieceRun {
     source: Snapshot<Recording>,
-    burst: u32,
-    reach: u32,
-    loss: u32,
+    rules: RuleNumbers,
     from: u64,
     to: u64,
     items: Items,
@@ -41,9 +39,9 @@ impl Model for PieceRun {
 
     ghost Value = { RunOf };
 
-    ghost view = { λ r. run_over r.source.value (record { burst = r.burst; reach = r.reach; loss = r.loss }) r.from r.to };
+    ghost view = { λ r. run_over r.source.value r.rules r.from r.to };
 
-    ghost invariant = { λ r. IsKept (run_over r.source.value (record { burst = r.burst; reach = r.reach; loss = r.loss }) r.from r.to) r.items r.totals r.end_state r.marks };
+    ghost invariant = { λ r. IsKept (run_over r.source.value r.rules r.from r.to) r.items r.totals r.end_state r.marks };
 }
 
 impl PieceRun {
@@ -131,9 +129,7 @@ pub fn speculate(
     let totals = Totals::of(&items);
     Ok(PieceRun {
         source: Snapshot::of(rec),
-        burst: rules.burst(),
-        reach: rules.reach(),
-        loss: rules.loss(),
+        rules: rules.numbers(),
         from,
         to,
         items,

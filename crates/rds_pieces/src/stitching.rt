@@ -72,8 +72,8 @@ fn carry_over_all<T: Tape>(
 {
     // Runs in a row are one run, and that over the whole recording is the report.
     run_laws();
-    let (len, loss) = (tape.len(), rules.loss());
-    prove!(len <= 1 << 36 && 1 <= loss);
+    let (len, reach) = (tape.len(), rules.reach());
+    prove!(len <= 1 << 36 && 1 <= reach);
     let (mut items, mut totals) = (Items::new(alloc), Totals::NONE);
     let mut state = State::Searching;
     for run in runs {
