@@ -6,7 +6,7 @@ ghost use Rattle.rds_tool.specs.RowWriter.{IsBetween, IsPlain, text_of};
 
 use crate::ToolError;
 use crate::field::Field;
-use crate::rows::{Rows, no_rows, push_row, text_of_rows};
+use crate::rows::{Rows, no_rows, push_row, rows_in_room, text_of_rows};
 use crate::text::Text;
 use crate::threaded::item_texts;
 use itoa::Buffer;
@@ -16,6 +16,9 @@ use std::alloc::Global;
 use std::thread::Threads;
 
 const DASH: &[u8] = b"-";
+
+/// How many bytes the row of a whole group has, of a recording of a day or so.
+const USUAL_ROW: usize = 49;
 
 /// The rows of valid windows.
 pub fn window_rows(alloc: Global, windows: &[(u64, Offset)]) -> Result<Vec<u8>, ToolError>
@@ -57,7 +60,8 @@ pub fn item_rows(
     ensures rows { IfOk result (λ text. text.items ≡ flat_map item_row (take (to - from) (drop from items.now))) }
     ensures refused { IfErr result (λ error. error ≡ ToolError.OutOfMemory) }
 {
-    let mut rows = no_rows(alloc);
+    let room = (to - from).saturating_mul(USUAL_ROW);
+    let mut rows = rows_in_room(alloc, room)?;
     for item in items[from..to].iter() {
         push_item(&mut rows, item)?;
     }
