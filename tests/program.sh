@@ -86,6 +86,8 @@ done <<'END'
 --burst <N>    Correct bursts of errors of up to N bits, 0 to 5 [default: 2]
 --reach <N>    Acquire where a block that fits lies up to N blocks back, 1 to 8 [default: 3]
 --loss <N>     Lose synchronism after N blocks in a row that aren't valid, 1 to 64 [default: 10]
+--share <N>    Lose synchronism where N of the last blocks aren't valid, 1 to 64, in place of --loss
+--of <N>       Look at the last N blocks for --share, at most 64 [default: 64]
 --pieces <N>   Cut the recording into up to N pieces, 1 or more; the output stays the same [default: 16]
 --workers <N>  Decode the pieces by up to N threads, 1 to 256; the output stays the same [default: 4]
 END
@@ -110,6 +112,8 @@ check 'bits above 2^40' 2 '' '*1099511627777' '' scan --bits 1099511627777
 check 'bits that are no number' 2 '' '*--bits' '' scan --bits ten
 check 'a setting above 32 bits' 2 '' '*4294967296' '' list --burst 4294967296
 check 'a loss above 32 bits' 2 '' '*4294967296' '' list --loss 4294967296
+check 'a share above 32 bits' 2 '' '*4294967296' '' list --share 4294967296
+check 'a share that is no number' 2 '' '*some' '' list --share some
 check 'pieces above 32 bits' 2 '' '*4294967296' '' list --pieces 4294967296
 check 'a reach that is no number' 2 '' '*three' '' totals --reach three
 check 'rules for a scan' 2 '' '*--burst' '' scan --burst 2
@@ -159,6 +163,25 @@ check 'list of a block past correction' 0 \
 check 'list of a loss' 0 \
     "${first}group,104,-,?,lost,none,none,none\nlost,129,-,-,-,-,-,-\nacquired,155,2,-,-,-,-,-\ngroup,130,0,A,none,B:0000,C:0000,D:0000\n$(totals 6 0 0 0 0 0 1 0 3 0 2 1)" '' \
     "${zero}000037400019800005a00001b4" list --hex --loss 1
+# of two groups the second has one bad block, or two
+one_bad=${zero}000037400019800005a00001b4
+two_bad=${zero}000037400019800005240001b4
+check 'list of a loss at one bad block of four' 0 \
+    "${first}group,104,-,?,lost,none,none,none\nlost,129,-,-,-,-,-,-\nacquired,155,2,-,-,-,-,-\ngroup,130,0,A,none,B:0000,C:0000,D:0000\n$(totals 6 0 0 0 0 0 1 0 3 0 2 1)" '' \
+    "$one_bad" list --hex --share 1 --of 4
+check 'list of one bad block, two of four asked for' 0 \
+    "${first}group,104,0,A,lost,B:0000,C:0000,D:0000\n$(totals 6 0 0 0 0 0 1 0 2 0 1 0)" '' "$one_bad" list --hex --share 2 --of 4
+two_of_three="${first}group,104,0,A,lost,B:0000,lost,none\nlost,181,-,-,-,-,-,-\nacquired,207,4,-,-,-,-,-\ngroup,182,-,?,none,none,none,D:0000\n$(totals 5 0 0 0 0 0 2 0 3 0 2 1)"
+check 'list of two bad blocks of three' 0 "$two_of_three" '' "$two_bad" list --hex --share 2 --of 3
+for crew in '1 1' '2 2' '208 1' '208 256'; do
+    check "list of two bad blocks of three by pieces and workers $crew" 0 "$two_of_three" '' "$two_bad" \
+        list --hex --share 2 --of 3 --pieces "${crew% *}" --workers "${crew#* }"
+done
+check 'list of two bad blocks that never stand together' 0 \
+    "${first}group,104,0,A,lost,B:0000,lost,D:0000\n$(totals 5 0 0 0 0 0 2 0 2 0 1 0)" '' "$two_bad" list --hex --share 2 --of 2
+check 'the loss is not looked at beside a share' 0 "$two_of_three" '' "$two_bad" list --hex --share 2 --of 3 --loss 0
+check 'what a share is of is not looked at without one' 0 "$first$(totals 3 0 0 0 0 0 0 0 1 0 1 0)" '' "$zero" list --hex --of 0
+check 'totals by a share of the default' 0 "$(totals 5 0 0 0 0 0 2 0 3 0 2 1)" '' "$two_bad" totals --hex --share 2
 check 'list of version B' 0 \
     "${acquired}group,26,0,B,none,B:0800,Cx:0000,D:0000\n$(totals 3 0 0 0 0 0 0 0 1 0 1 0)" '' \
     00003f02002c10000d400001b4 list --hex
@@ -199,6 +222,11 @@ check 'burst out of its range' 1 '' 'refused 1 BurstRange\n' '' list --burst 6
 check 'burst before reach' 1 '' 'refused 1 BurstRange\n' '' list --burst 6 --reach 0
 check 'reach out of its range' 1 '' 'refused 2 ReachRange\n' '' totals --reach 0
 check 'loss out of its range' 1 '' 'refused 3 LossRange\n' '' list --loss 65
+check 'a share of none' 1 '' 'refused 15 ShareRange\n' '' list --share 0 --of 4
+check 'a share above its blocks' 1 '' 'refused 15 ShareRange\n' '' list --share 5 --of 4
+check 'a share of too many blocks' 1 '' 'refused 15 ShareRange\n' '' totals --share 1 --of 65
+check 'reach before share' 1 '' 'refused 2 ReachRange\n' '' list --reach 9 --share 0
+check 'share before workers' 1 '' 'refused 15 ShareRange\n' '' list --share 65 --workers 0
 check 'no worker' 1 '' 'refused 7 CrewRange\n' '' list --workers 0
 check 'too many workers' 1 '' 'refused 7 CrewRange\n' '' totals --workers 257
 check 'no piece' 1 '' 'refused 6 BadCutting\n' '000' list --hex --pieces 0

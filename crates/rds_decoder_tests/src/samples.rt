@@ -7,7 +7,7 @@ use rds_code::{Offset, Reading};
 use rds_pieces::{Cutting, PieceError};
 use rds_stream::{Recording, StreamError};
 use rds_sync::{
-    Block, Group, Item, ItemBuffer, Items, Report, Rules, State, SyncError, Totals, Version,
+    Bad, Block, Group, Item, ItemBuffer, Items, Report, Rules, State, SyncError, Totals, Version,
     decode_plain,
 };
 use std::alloc::{AllocError, Global};
@@ -73,7 +73,8 @@ pub fn default_rules(alloc: Global) -> Result<Rules, SyncError> {
     Rules::new(alloc, 2, 3, 10)
 }
 
-/// A state by its numbers: those of a lock (`due`, `number`, `bad` and `first`), or none while searching.
+/// A state by its numbers: those of a lock (`due`, `number`, how many blocks in a row were bad, and `first`), or none while
+/// searching.
 pub type StateNumbers = Option<(u64, u8, u8, u8)>;
 
 pub fn state_of(numbers: StateNumbers) -> State {
@@ -82,7 +83,7 @@ pub fn state_of(numbers: StateNumbers) -> State {
         Some((due, number, bad, first)) => State::Locked {
             due,
             number,
-            bad,
+            bad: Bad::Run(bad),
             first,
         },
     }

@@ -61,6 +61,14 @@ impl<'a> Plan<'a> {
         }
     }
 
+    /// By how many threads at most the work is done.
+    pub fn workers(&self) -> u32
+        ensures value { result ≡ self.now.workers }
+        ensures some { 0 < result }
+    {
+        self.workers
+    }
+
     /// The report of the recording, made by the crew piece by piece.
     pub fn report<R: Threads + Wait, G: Gate + Sync>(
         &self,

@@ -4,7 +4,7 @@ use Rattle.rds_sync.specs.declared.stretches.Reached.{Reached}
 use Rattle.rds_sync.specs.Step.{run}
 use Rattle.rds_sync.specs.Stretch.{IsStretch}
 use Rattle.rds_sync.specs.declared.state.State.TheVariants.{Searching}
-use Rattle.rds_pieces.specs.declared.run.Mark.{Mark}
+use Rattle.rds_pieces.specs.declared.mark.Mark.{Mark}
 use Rattle.rds_pieces.proofs.StepLemmas.{so_far_start, so_far_on}
 use Rattle.rds_pieces.proofs.run.guess_over.Goals as goal
 

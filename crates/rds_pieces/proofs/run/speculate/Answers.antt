@@ -14,7 +14,7 @@ guess_over-requires-clause-inside c = let r = range_inside (length c.args.rec.no
 pub invariant_of-result : goal.invariant_of-result
 invariant_of-result c =
     let r = range_inside (length c.args.rec.now) c.args.cutting.now c.requires.fits c.args.j c.from-from.result c.to-to.result c.requires.piece c.from-from.ensures c.to-to.ensures in
-    rw (c.of.ensures, c.burst.ensures.value, c.reach.ensures.value, c.loss.ensures.value) (record {
+    rw (c.of.ensures, c.numbers.ensures.value) (record {
       guessed = record {
         inside = (omega (arith, r.0), r.1);
         items_are = c.in_ok-end_state.ensures.items;
@@ -22,5 +22,5 @@ invariant_of-result c =
         marks_are = c.in_ok-end_state.ensures.marks;
       };
       few = let l = c.len-len.ensures.limit in let v = c.len-len.ensures.value in omega (arith, l, v);
-      rules = c.burst.ensures.range;
+      rules = c.numbers.ensures.range;
     })

@@ -43,7 +43,7 @@ loop-run-preserved g c =
     let same = c.loop-run.invariant.same in
     record {
       stitched = stitched_on b rules c.args.runs.now (g.T.Tape.reads_made c.args.tape.now) c.loop-run.run-index here c.loop-run.items.items (g.T.Tape.reads_made c.loop-run.tape)
-          c.loop-run.invariant.stitched r r c.loop-run-test.true c.run-item.is c.run_laws.ensures c.loss-loss.ensures.range
+          c.loop-run.invariant.stitched r r c.loop-run-test.true c.run-item.is c.run_laws.ensures c.reach-reach.ensures.range
           c.in_ok-end_state.end_state c.carry_over.new.items.items (g.T.Tape.reads_made c.carry_over.new.tape) c.in_ok-end_state._met_at
           (c.in_ok-end_state.ensures.end ∙ ap (λ (x : List ℕ). (run x rules here r.from (r.to - r.from)).0) same)
           (c.in_ok-end_state.ensures.items ∙ ap (λ (x : List ℕ). c.loop-run.items.items ++ (run x rules here r.from (r.to - r.from)).1) same)
@@ -65,7 +65,7 @@ pub returns-clause-whole : goal.returns-clause-whole
 returns-clause-whole g c =
     whole_at_end (g.T.Tape.bits c.args.tape.now) c.args.rules.now c.args.runs.now (g.T.Tape.reads_made c.args.tape.now) c.loop-run.run-index c.loop-run.state c.loop-run.items.items
     (g.T.Tape.reads_made c.loop-run.tape) c.loop-run.invariant.stitched c.loop-run-test.false c.run_laws.ensures
-    (let r = c.loss-loss.ensures.range.some_loss in r)
+    (let r = c.reach-reach.ensures.range.some_loss in r)
 
 pub returns-clause-few : goal.returns-clause-few
 returns-clause-few g c =
