@@ -28,11 +28,17 @@
 #![tactic(auto)]
 
 mod crew;
+mod deal;
+mod dealer;
 mod error;
 mod gate;
 mod order;
+mod seat;
 mod share;
 
 pub use crew::{MOST_WORKERS, decode_crew};
+pub use deal::{Event, Rule, Terms, View};
+pub use dealer::{Closed, Dealer, MOST_SEATS};
 pub use error::CrewError;
 pub use gate::{Gate, OpenGate};
+pub use seat::Seat;
