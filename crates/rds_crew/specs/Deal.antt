@@ -67,7 +67,7 @@ HasRun pieces tickets done views = (events : List Event) × Runs pieces events (
 
 -- the rule over both words, the tickets and the finished, and over all views
 pub record Dealt (key : Terms) (tickets done : ℕ) (views : List View) : Type 0 where
-  pub few_pieces : key.pieces ≤ 2 ^ 36
+  pub few_pieces : key.pieces < 2 ^ 63
   pub few_seats : key.seats ≤ 256
   pub run : HasRun key.pieces tickets done views
   pub shares : sum_by share_of views ≡ key.seats

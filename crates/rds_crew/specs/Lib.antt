@@ -1,7 +1,7 @@
 pub mod Refusals
-pub mod Numbered
-pub mod Shares
 pub mod Core
 pub mod Deal
 pub mod Steps
 pub mod Seats
+pub mod Numbered
+pub mod Drawn

@@ -45,7 +45,7 @@ impl Model for Dealer {
     ghost invariant = { λ d. (d.table.shared.table_id.words ≡ 2)
         × (d.table.shared.table_id.slots ≡ 0)
         × (d.table.shared.key.pieces ≡ d.pieces)
-        × (d.pieces ≤ 2 ^ 36)
+        × (d.pieces < 2 ^ 63)
         × (0 < d.table.shared.key.seats)
         × (d.table.shared.key.seats ≤ 256) };
 }
@@ -60,11 +60,11 @@ pub struct Closed {
 }
 
 impl Dealer {
-    /// A dealer of the numbers below `pieces`, at most 2^36, and its seats, none of which has drawn.
+    /// A dealer of the numbers below `pieces`, fewer than 2^63, and its seats, none of which has drawn.
     ///
     /// Refuses `CrewRange` exactly where `seats` is not 1 to 256, and else `OutOfMemory` alone.
     pub fn new(alloc: Global, pieces: u64, seats: u32) -> Result<(Dealer, Vec<Seat>), CrewError>
-        requires { pieces ≤ 2 ^ 36 }
+        requires { pieces < 2 ^ 63 }
         ensures dealer { IfOk result (λ made. (made.0.name.pieces ≡ pieces) × (made.0.seats ≡ seats)) }
         ensures seats { IfOk result (λ made. made.1.items ≡ replicate seats (fresh_seat made.0)) }
         ensures range { IsErrOf result CrewError.CrewRange ↔ ((seats ≡ 0) ⊎ (256 < seats)) }

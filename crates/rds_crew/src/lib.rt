@@ -30,11 +30,13 @@
 mod crew;
 mod deal;
 mod dealer;
+mod drawing;
 mod error;
 mod gate;
-mod order;
+mod parts;
 mod seat;
-mod share;
+mod slots;
+mod team;
 
 pub use crew::{MOST_WORKERS, decode_crew};
 pub use deal::{Event, Rule, Terms, View};

@@ -1,5 +1,5 @@
 //! A worker's right to draw.
-ghost use Rattle.std.specs.Prelude.{◌≡◌, ◌≤◌, ◌^◌, ◌↔◌, [], IsTrue};
+ghost use Rattle.std.specs.Prelude.{◌≡◌, ◌<◌, ◌^◌, ◌↔◌, [], IsTrue};
 ghost use Rattle.rds_crew.specs.Deal.{fresh};
 
 use crate::deal::View;
@@ -20,7 +20,7 @@ pub struct Seat {
 }
 
 impl Model for Seat {
-    ghost use Rattle.std.specs.Prelude.{◌≡◌, [], ◌≤◌, ◌^◌, cond};
+    ghost use Rattle.std.specs.Prelude.{◌≡◌, [], ◌≤◌, ◌<◌, ◌^◌, cond};
     ghost use Rattle.rds_crew.specs.Seats.{SeatValue};
 
     ghost Value = { SeatValue };
@@ -37,7 +37,7 @@ impl Model for Seat {
         × (s.token.me.0.told ≡ s.told)
         × (s.token.me.0.share ≡ 1)
         × (s.finished ≤ s.token.me.0.pieces)
-        × (s.token.me.0.pieces ≤ 2 ^ 36) };
+        × (s.token.me.0.pieces < 2 ^ 63) };
 }
 
 impl Seat {
@@ -72,7 +72,7 @@ impl Seat {
     /// A seat that has done nothing.
     pub(crate) fn of_token(token: Token) -> Seat
         requires new { token.me ≡ (fresh token.me.0.pieces 1, []) }
-        requires few { token.me.0.pieces ≤ 2 ^ 36 }
+        requires few { token.me.0.pieces < 2 ^ 63 }
         ensures dealer { result.dealer ≡ record { table = token.table_id; pieces = token.me.0.pieces } }
         ensures view { result.view ≡ token.me.0 }
     {
