@@ -1,5 +1,5 @@
 -- Slots that are filled with numbered values, one after the other.
-use Rattle.std.proofs.Common.{◌≡◌, ◌≢◌, ℕ, ◌<◌, ◌≤◌, ◌⊎◌, List, [], ◌∷◌, ◌++◌, append_assoc, length, set, Option, Some, None, sym, ◌∙◌, ap, subst, inl, inr, arith, refl, map, All, Contains, slice_get, IsSome, ⊎_elim, length-set}
+use Rattle.std.proofs.Common.{◌≡◌, ◌≢◌, ℕ, ◌<◌, ◌≤◌, ◌⊎◌, List, [], ◌∷◌, ◌++◌, append_assoc, length, set, Option, Some, None, sym, ◌∙◌, ap, subst, inl, inr, arith, refl, map, All, Contains, slice_get, ⊎_elim, length-set}
 use Rattle.std.proofs.lemmas.Bool.{cases_eq, cases_lt}
 use Rattle.std.proofs.lemmas.Grind.{get_or-set_at}
 use Rattle.std.proofs.lemmas.List.{get_or-set_other, length-map, map-append}

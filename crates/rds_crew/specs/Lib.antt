@@ -5,3 +5,4 @@ pub mod Steps
 pub mod Seats
 pub mod Numbered
 pub mod Drawn
+pub mod Examples

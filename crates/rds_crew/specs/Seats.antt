@@ -1,5 +1,5 @@
 -- A dealer and its seats, as callers see them.
-use Rattle.std.specs.Prelude.{◌≡◌, ℕ, ◌+◌, List, sum_by, None, map}
+use Rattle.std.specs.Prelude.{◌≡◌, ℕ, ◌+◌, List, sum_by, None}
 use Rattle.atomic_table.specs.Seated.{TableId}
 use Rattle.rds_crew.specs.declared.deal.View.{View}
 use Rattle.rds_crew.specs.declared.deal.Event.{Event}

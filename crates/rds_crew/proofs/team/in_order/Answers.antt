@@ -1,6 +1,5 @@
-use Rattle.std.proofs.Common.{◌<◌, ℕ, All, ◌∙◌, rules, subst, sym}
+use Rattle.std.proofs.Common.{◌<◌, ℕ, All, rules, subst, sym}
 use Rattle.std.specs.Vec.Iter.{into_iter_items}
-use Rattle.std.specs.List.{range_with_len}
 use Rattle.std.proofs.lemmas.List.Elements.{All-head, All-rest, All-push, All-same}
 use Rattle.rds_pieces.specs.RunOf.{RunOf}
 use Rattle.rds_crew.specs.Seats.{IsOf, HasRested}
