@@ -14,7 +14,7 @@ events = Draw None ∷ Draw None ∷ Progress 2 ∷ Finish ∷ Progress 1 ∷ Fi
 
 -- each leads from the counts before it to those after it: two tickets for the pieces, one for each seat that ends
 pub they_run : Runs 2 events (counts 4 2)
-they_run = (counts 3 2, refl, counts 2 2, refl, counts 2 2, refl, counts 2 1, refl, counts 2 1, refl, counts 2 0, refl, counts 2 0, refl, counts 1 0, refl, start, refl, refl)
+they_run = (counts 3 2, refl, (counts 2 2, refl, (counts 2 2, refl, (counts 2 1, refl, (counts 2 1, refl, (counts 2 0, refl, (counts 2 0, refl, (counts 1 0, refl, (start, refl, refl)))))))))
 
 abbrev pub first_seat : View
 first_seat = record { pieces = 2; share = 1; drawn = 0 ∷ []; held = None; ended = 1; finished = 1; told = 2; log = Draw (Some 0) ∷ Finish ∷ Progress 2 ∷ Draw None ∷ [] }
