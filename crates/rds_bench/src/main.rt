@@ -4,6 +4,7 @@
 //! other, over the same bits, and shows each as a ratio to the first: times of two runs say little of one another.
 #![tactic(auto)]
 
+mod deals;
 mod remainders;
 mod runs;
 mod sample;
@@ -22,12 +23,13 @@ const USAGE: &str = "usage: rds_bench MEASUREMENT [BITS [SAMPLE]]
   scan       the valid windows: a list, one after the other, place by place, by long division
   remainder  the remainder by tables, and by long division
   run        the report of one decoder, and of sixteen pieces by one thread; the valid windows alone
+  deal       sixteen pieces guessed by four workers: shared out beforehand, and drawn from a dealer
   totals     from bytes to the text of the totals, by one, two and four workers
   list       from bytes to the text of the listing, by one, two and four workers
 
 BITS is the length of the recording that is made up for it, 100000000 where it is not given. SAMPLE is what
-'run', 'totals' and 'list' decode: 'station', a station's groups as they were sent, where it is not given,
-'damaged', with one bit of about 500 turned, or 'noise'.
+'run', 'deal', 'totals' and 'list' decode: 'station', a station's groups as they were sent, where it is not
+given, 'damaged', with one bit of about 500 turned, 'noise', or 'late', a sixteenth of noise and then a station.
 ";
 
 /// The length of a recording where none is given.
@@ -75,6 +77,7 @@ fn measure<T: Threads + Wait + Sync>(rt: &HostRuntime, threads: &T, asked: &Aske
         "scan" => windows::measure(rt, bits),
         "remainder" => remainders::measure(rt, bits),
         "run" => runs::measure(rt, threads, bits, sample),
+        "deal" => deals::measure(rt, threads, bits, sample),
         "totals" => transcripts::measure(rt, threads, bits, sample, false),
         "list" => transcripts::measure(rt, threads, bits, sample, true),
         _ => show_usage(rt),

@@ -13,6 +13,8 @@ pub enum Sample {
     Damaged,
     /// Noise: a window of it is valid about once in two hundred places.
     Noise,
+    /// A station that is tuned in late: a sixteenth of noise, then the station's groups.
+    Late,
 }
 
 impl Sample {
@@ -22,6 +24,7 @@ impl Sample {
             "station" => Some(Sample::Station),
             "damaged" => Some(Sample::Damaged),
             "noise" => Some(Sample::Noise),
+            "late" => Some(Sample::Late),
             _ => None,
         }
     }
@@ -32,6 +35,7 @@ impl Sample {
             Sample::Station => station(alloc, bits),
             Sample::Damaged => Ok(damaged(station(alloc, bits)?)),
             Sample::Noise => noise(alloc, bits),
+            Sample::Late => late(alloc, bits),
         }
     }
 
@@ -81,6 +85,13 @@ fn station(alloc: Global, bits: u64) -> Result<Vec<u8>, AllocError> {
             bytes.push((packed >> (96 - 8 * k) & 255) as u8)?;
         }
     }
+    Ok(bytes)
+}
+
+fn late(alloc: Global, bits: u64) -> Result<Vec<u8>, AllocError> {
+    let mut bytes = noise(alloc, bits / 16)?;
+    let mut rest = station(alloc, bits - bits / 16)?;
+    bytes.append(&mut rest)?;
     Ok(bytes)
 }
 

@@ -1,3 +1,7 @@
 pub mod Lists
-pub mod Slots
-pub mod Shares
+pub mod Filling
+pub mod Totals
+pub mod Moves
+pub mod Pool
+pub mod Refuted
+pub mod Gathered

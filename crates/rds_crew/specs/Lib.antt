@@ -1,3 +1,8 @@
 pub mod Refusals
+pub mod Core
+pub mod Deal
+pub mod Steps
+pub mod Seats
 pub mod Numbered
-pub mod Shares
+pub mod Drawn
+pub mod Examples

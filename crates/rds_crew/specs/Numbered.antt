@@ -1,12 +1,10 @@
--- Values that stand beside their numbers, in whatever order they came in.
-use Rattle.std.specs.Prelude.{◌≡◌, ℕ, ◌<◌, List, length, map, All, Contains, slice_get, Some}
+-- Values that stand beside their numbers, and slots that they are put into.
+use Rattle.std.specs.Prelude.{◌≡◌, ℕ, List, map, Contains, slice_get, Option, Some}
 
--- each number is below `count`, and each below `count` stands there
-pub record IsWhole {X : Type 0} (count : ℕ) (numbered : List (ℕ × X)) : Type 0 where
-  pub within : All (λ entry. entry.0 < count) numbered
-  pub all : (j : ℕ) → j < count → Contains (map (λ entry. entry.0) numbered) j
+-- slot j has a value that stood beside number j
+abbrev pub HasOne : {X : Type 0} → List (ℕ × X) → List (Option X) → ℕ → Type 0
+HasOne {X = X} numbered slots j = (x : X) × (slice_get slots j ≡ Some (Some x)) × Contains numbered (j, x)
 
--- one value for each number below `count`, by rising number: one that stood beside it
-pub record IsInOrder {X : Type 0} (count : ℕ) (numbered : List (ℕ × X)) (values : List X) : Type 0 where
-  pub len : length values ≡ count
-  pub each : (j : ℕ) → j < count → (x : X) × (slice_get values j ≡ Some x) × Contains numbered (j, x)
+-- there is a value beside number j
+abbrev pub IsNumber : {X : Type 0} → List (ℕ × X) → ℕ → Type 0
+IsNumber numbered j = Contains (map (λ entry. entry.0) numbered) j

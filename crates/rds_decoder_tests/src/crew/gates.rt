@@ -90,6 +90,62 @@ fn decode_noted<R: Abort + Sync + Threads + Wait, G: Gate + Sync>(
     Ok(assert_decoded(rt, alloc, &sample, &work, workers, gate)?)
 }
 
+/// A gate at which piece 0 waits until the other three are done, each over the range that the cuts give it.
+#[derive(Drop)]
+struct HeldBack {
+    others_done: AtomicU64,
+    misses: AtomicU64,
+}
+
+impl HeldBack {
+    fn new() -> HeldBack {
+        HeldBack {
+            others_done: AtomicU64::new(0),
+            misses: AtomicU64::new(0),
+        }
+    }
+
+    /// Turns until the other three are done, and notes a miss at the limit.
+    fn wait_for_others(&self) {
+        for _ in 0..MOST_TURNS {
+            if self.others_done.load(Ordering::SeqCst) == 3 {
+                return;
+            }
+        }
+        self.misses.fetch_add(1, Ordering::SeqCst);
+    }
+}
+
+impl Gate for HeldBack {
+    fn begin(&self, j: u64) {
+        if j == 0 {
+            self.wait_for_others();
+        }
+    }
+
+    fn done(&self, j: u64, run: &PieceRun) {
+        let range = QUARTERS.get(j as usize).copied();
+        if j > 0 && range == Some((run.from(), run.to())) {
+            self.others_done.fetch_add(1, Ordering::SeqCst);
+        }
+    }
+}
+
+/// The pieces of two zero groups that are cut at 52, 104 and 156.
+const QUARTERS: [(u64, u64); 4] = [(0, 52), (52, 104), (104, 156), (156, 208)];
+
+// Fixed shares would miss: there piece 2 waits behind piece 0.
+#[test]
+fn a_worker_makes_all_else_while_another_is_held_back(rt: HostRuntime) -> Result<(), Fail> {
+    let sample = Sample::zero_groups(rt.alloc(), 2, 3)?;
+    let cutting = sample.cut(rt.alloc(), Cuts::At(&[52, 104, 156]))?;
+    let work = RecordingWork::new(&sample.recording, &sample.rules, &cutting);
+    let gate = HeldBack::new();
+    assert_decoded(&rt, rt.alloc(), &sample, &work, 2, &gate)?;
+    assert!(rt; gate.misses.load(Ordering::SeqCst) == 0);
+    Ok(())
+}
+
 // One thread that makes both pieces in turn would miss, since piece 0 waits for piece 1. A crew that
 // drops the runs of its workers would guess again, or report other runs than the gate was shown.
 #[test]

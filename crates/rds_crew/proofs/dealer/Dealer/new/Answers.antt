@@ -1,0 +1,11 @@
+use Rattle.std.proofs.Common.{rules, ap, ◌≡◌, ◌-◌, arith}
+use Rattle.atomic_table.specs.Table.{Me}
+use Rattle.rds_crew.specs.declared.deal.View.{View}
+use Rattle.rds_crew.proofs.Moves.{splits}
+use Rattle.rds_crew.proofs.dealer.Dealer.new.Goals as goal
+
+pub split_seat-other-requires : goal.split_seat-other-requires
+split_seat-other-requires c =
+    let share : c.loop.token.me.0.share ≡ c.args.seats - c.loop.counter = ap (λ (m : Me Unit View). m.0.share) c.loop.invariant.mine in
+    let ended : c.loop.token.me.0.ended ≡ 0 = ap (λ (m : Me Unit View). m.0.ended) c.loop.invariant.mine in
+    (search rules, search rules, splits _ _ _ ended (omega arith))

@@ -1,0 +1,54 @@
+-- A dealer and its seats, as callers see them.
+use Rattle.std.specs.Prelude.{◌≡◌, ℕ, ◌+◌, List, sum_by, None}
+use Rattle.atomic_table.specs.Seated.{TableId}
+use Rattle.rds_crew.specs.declared.deal.View.{View}
+use Rattle.rds_crew.specs.declared.deal.Event.{Event}
+use Rattle.rds_crew.specs.Core.{counts, Runs}
+use Rattle.rds_crew.specs.Deal.{times, once_below, fresh, Merges}
+use Rattle.rds_crew.specs.Steps.{after}
+
+-- which dealer, and of how many pieces
+pub record DealerName : Type 0 where
+  pub table : TableId
+  pub pieces : ℕ
+
+pub record DealerValue : Type 0 where
+  pub name : DealerName
+  pub seats : ℕ
+
+-- of which dealer a seat is, and what it knows
+pub record SeatValue : Type 0 where
+  pub dealer : DealerName
+  pub view : View
+
+-- a seat that has done nothing
+abbrev pub fresh_seat : DealerValue → SeatValue
+fresh_seat d = record { dealer = d.name; view = fresh d.name.pieces 1 }
+
+-- the seat after an event of its own
+abbrev pub seat_after : SeatValue → Event → SeatValue
+seat_after s e = record s { view = after s.view e }
+
+-- the seat is of this dealer
+abbrev pub IsOf : DealerValue → SeatValue → Type 0
+IsOf d s = s.dealer ≡ d.name
+
+-- the seat has ended and holds nothing
+abbrev pub HasRested : SeatValue → Type 0
+HasRested s = (s.view.held ≡ None) × (s.view.ended ≡ 1)
+
+-- how often the seats together drew x
+abbrev pub times_drawn : ℕ → List SeatValue → ℕ
+times_drawn x seats = sum_by (λ s. times x s.view.drawn) seats
+
+-- together the seats drew each number below n once, and nothing else
+abbrev pub DrewAllOnce : ℕ → List SeatValue → Type 0
+DrewAllOnce n seats = (x : ℕ) → times_drawn x seats ≡ once_below x n
+
+-- what the seat did, the newest last
+abbrev pub log_of_seat : SeatValue → List Event
+log_of_seat s = s.view.log
+
+-- what the seats did is, in some order, a run of the dealer's core to its end: a ticket for each piece and one more for each seat
+abbrev pub DidWholeRun : DealerValue → List SeatValue → Type 0
+DidWholeRun d seats = (events : List Event) × Runs d.name.pieces events (counts (d.name.pieces + d.seats) d.name.pieces) × Merges log_of_seat events seats

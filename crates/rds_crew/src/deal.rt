@@ -1,0 +1,97 @@
+//! What the table of a dealer keeps: its rule, and the kinds of step on it.
+//!
+//! The table has two words. The first counts the tickets that were drawn, the second the numbers that are finished.
+//! What a seat knows is its view, which exists in proofs alone: none of it takes memory or is ever made.
+use atomic_table::{Join, Play, Split, TableRule};
+use std::collections::LinkedList;
+
+/// What a dealer is told once: of how many pieces it deals the numbers, and to how many seats.
+#[derive(Drop)]
+pub struct Terms {
+    pub pieces: u64,
+    pub seats: u64,
+}
+
+/// What a step of a seat is to the dealer, with the reply. No value of it is made.
+pub enum Event {
+    /// A number was drawn, or `None` where none was left.
+    Draw(Option<u64>),
+    /// The number held was finished.
+    Finish,
+    /// The seat was told how many numbers are finished.
+    Progress(u64),
+}
+
+/// What a seat knows: of how many pieces its dealer is, its shares (one, but inside `Dealer::new` and `Dealer::close`), the
+/// numbers that it drew, which of them it holds, how often it was told that none is left, how many it finished, what it
+/// was last told of all that is finished, and its events, the newest last. No value of it is made.
+pub struct View {
+    pub pieces: u64,
+    pub share: u64,
+    pub drawn: LinkedList<u64>,
+    pub held: Option<u64>,
+    pub ended: u64,
+    pub finished: u64,
+    pub told: u64,
+    pub log: LinkedList<Event>,
+}
+
+/// The rule over both words and all views.
+pub struct Rule;
+
+impl TableRule<(), View, Terms> for Rule {
+    ghost use Rattle.rds_crew.specs.Deal.{Holds, first};
+
+    ghost holds = { Holds };
+
+    ghost first = { first };
+}
+
+/// The step of a draw.
+pub(crate) struct Draws;
+
+impl Play<(), View> for Draws {
+    ghost use Rattle.rds_crew.specs.Steps.{Drew};
+
+    ghost then = { Drew };
+}
+
+/// The step of a finish.
+pub(crate) struct Finishes;
+
+impl Play<(), View> for Finishes {
+    ghost use Rattle.rds_crew.specs.Steps.{Finished};
+
+    ghost then = { Finished };
+}
+
+/// The step of a progress.
+pub(crate) struct Tells;
+
+impl Play<(), View> for Tells {
+    ghost use Rattle.rds_crew.specs.Steps.{Told};
+
+    ghost then = { Told };
+}
+
+/// How the seats are made: one share goes to a view of its own.
+pub(crate) struct OneShare;
+
+impl Split<View> for OneShare {
+    ghost use Rattle.rds_crew.specs.Steps.{kept_shares, one_share};
+
+    ghost left = { kept_shares };
+
+    ghost right = { one_share };
+}
+
+/// How the seats are taken back: one view takes in another.
+pub(crate) struct Pools;
+
+impl Join<View> for Pools {
+    ghost use Rattle.rds_crew.specs.Steps.{pooled, spent_view};
+
+    ghost both = { pooled };
+
+    ghost spent = { spent_view };
+}

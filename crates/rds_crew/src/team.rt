@@ -1,0 +1,205 @@
+//! Workers that make all runs of a work between them, each those whose numbers it draws.
+ghost use Rattle.std.specs.Prelude.{◌≡◌, ◌⊎◌, ◌<◌, ◌≤◌, [], All, length, map, IfOk, IfErr, IsErrOf, vec_capacity};
+ghost use Rattle.std.specs.List.{range_with_len};
+ghost use Rattle.rds_crew.specs.Drawn.{IsFresh, IsDrawn, IsWorkerOf};
+
+use crate::dealer::Dealer;
+use crate::drawing::{DrawPromise, Drawn, Worker, draw_all};
+use crate::error::CrewError;
+use crate::parts::Parts;
+use crate::seat::Seat;
+use crate::slots::{empty_slots, fill, values_of};
+use rds_pieces::PieceRun;
+use std::alloc::Global;
+use std::sync::Wait;
+use std::thread;
+use std::thread::{Scope, Threads};
+
+/// All runs, in the order of their numbers. They are dealt to as many threads as there are workers or runs, whichever is
+/// less; where that is one, the calling thread makes them all.
+pub(crate) fn make_all<R: Threads + Wait, P: Parts + Sync>(
+    rt: &R,
+    alloc: Global,
+    parts: &P,
+    workers: u32,
+) -> Result<Vec<PieceRun>, CrewError>
+    requires ready { P.ready parts.now }
+    requires some { 0 < workers }
+    requires few { workers ≤ 256 }
+    ensures runs { IfOk result (λ runs. runs.items
+        ≡ map (P.run_of parts.now) (range_with_len 0 (P.how_many parts.now))) }
+    ensures err { IfErr result (λ e. (e ≡ CrewError.OutOfMemory) ⊎ (e ≡ CrewError.NoWorker)) }
+    ensures no_worker { IsErrOf result CrewError.NoWorker
+        → (1 < workers) × (1 < P.how_many parts.now) }
+{
+    // The room for all runs is taken before the first is made.
+    let slots = empty_slots(alloc, parts.count())?;
+    let count = slots.len() as u64;
+    let threads = count.min(u64::from(workers)) as u32;
+    if threads == 0 {
+        return Ok(Vec::new(alloc));
+    }
+    let (dealer, seats) = Dealer::new(alloc, count, threads)?;
+    let drawn = if threads == 1 {
+        draw_alone(alloc, parts, &dealer, seats)?
+    } else {
+        draw_by_threads(rt, alloc, parts, &dealer, seats)?
+    };
+    in_order(alloc, parts, dealer, drawn, slots)
+}
+
+/// What the calling thread draws, with one seat.
+fn draw_alone<P: Parts>(
+    alloc: Global,
+    parts: &P,
+    dealer: &Dealer,
+    seats: Vec<Seat>,
+) -> Result<Vec<Drawn>, CrewError>
+    requires ready { P.ready parts.now }
+    requires all { dealer.now.name.pieces ≡ P.how_many parts.now }
+    requires new { All (IsFresh dealer.now) seats.items }
+    requires one { length seats.items ≡ 1 }
+    ensures drawn { IfOk result (λ drawn. All (IsDrawn (P.run_of parts.now) dealer.now) drawn.items) }
+    ensures len { IfOk result (λ drawn. length drawn.items ≡ length seats.items) }
+    ensures err { IfErr result (λ e. e ≡ CrewError.OutOfMemory) }
+{
+    let mut drawn = Vec::with_capacity(alloc, 1)?;
+    for seat in seats {
+        let Ok(made) = draw_all(alloc, parts, dealer, seat) else {
+            return Err(CrewError::OutOfMemory);
+        };
+        drawn.push_reserved(made);
+    }
+    Ok(drawn)
+}
+
+/// What threads draw, one for each seat.
+fn draw_by_threads<R: Threads + Wait, P: Parts + Sync>(
+    rt: &R,
+    alloc: Global,
+    parts: &P,
+    dealer: &Dealer,
+    seats: Vec<Seat>,
+) -> Result<Vec<Drawn>, CrewError>
+    requires ready { P.ready parts.now }
+    requires all { dealer.now.name.pieces ≡ P.how_many parts.now }
+    requires new { All (IsFresh dealer.now) seats.items }
+    ensures drawn { IfOk result (λ drawn. All (IsDrawn (P.run_of parts.now) dealer.now) drawn.items) }
+    ensures len { IfOk result (λ drawn. length drawn.items ≡ length seats.items) }
+    ensures err { IfErr result (λ e. (e ≡ CrewError.OutOfMemory) ⊎ (e ≡ CrewError.NoWorker)) }
+{
+    thread::scope(
+        thread::scope_env(),
+        rt,
+        |scope| -> Result<Vec<Drawn>, CrewError>
+            requires { P.ready parts.now × (dealer.now.name.pieces ≡ P.how_many parts.now)
+                × All (IsFresh dealer.now) seats.items }
+            ensures drawn { IfOk result
+                (λ drawn. All (IsDrawn (P.run_of parts.entry.now) dealer.entry.now) drawn.items) }
+            ensures len { IfOk result (λ drawn. length drawn.items ≡ length seats.items) }
+            ensures err { IfErr result
+                (λ e. (e ≡ CrewError.OutOfMemory) ⊎ (e ≡ CrewError.NoWorker)) }
+        {
+            let drawn = Vec::with_capacity(alloc, seats.len())?;
+            let threads = start_workers(scope, rt, alloc, parts, dealer, seats)?;
+            gather(rt, parts, dealer, threads, drawn)
+        },
+    )
+}
+
+/// Starts a thread for each seat. Where one is not started, those before it are waited for.
+fn start_workers<'s, E, R: Threads, P: Parts + Sync>(
+    scope: &'s Scope<'s, E>,
+    rt: &R,
+    alloc: Global,
+    parts: &'s P,
+    dealer: &'s Dealer,
+    seats: Vec<Seat>,
+) -> Result<Vec<Worker<P>>, CrewError>
+    requires ready { P.ready parts.now }
+    requires all { dealer.now.name.pieces ≡ P.how_many parts.now }
+    requires new { All (IsFresh dealer.now) seats.items }
+    ensures workers { IfOk result (λ threads. All (IsWorkerOf parts.now dealer.now) threads.items) }
+    ensures len { IfOk result (λ threads. length threads.items ≡ length seats.items) }
+    ensures err { IfErr result (λ e. (e ≡ CrewError.OutOfMemory) ⊎ (e ≡ CrewError.NoWorker)) }
+{
+    // The room is taken before the first thread is started, so that no running thread's handle is lost.
+    let mut threads = Vec::with_capacity(alloc, seats.len())?;
+    for seat in seats {
+        let promise = DrawPromise::new(parts, dealer);
+        let draws = move || draw_all(alloc, parts, dealer, seat);
+        let Ok(thread) = scope.spawn_with(promise, draws) else {
+            wait_for(rt, threads);
+            return Err(CrewError::NoWorker);
+        };
+        threads.push_reserved(thread);
+    }
+    Ok(threads)
+}
+
+/// Waits for the threads, and drops what they made.
+fn wait_for<R: Threads, P: Parts>(rt: &R, threads: Vec<Worker<P>>) {
+    for thread in threads {
+        drop(thread.join(rt));
+    }
+}
+
+/// Waits for all threads, and puts what they drew one behind the other.
+fn gather<R: Threads, P: Parts>(
+    rt: &R,
+    parts: &P,
+    dealer: &Dealer,
+    threads: Vec<Worker<P>>,
+    drawn: Vec<Drawn>,
+) -> Result<Vec<Drawn>, CrewError>
+    requires workers { All (IsWorkerOf parts.now dealer.now) threads.items }
+    requires none { drawn.items ≡ [] }
+    requires room { length threads.items ≤ vec_capacity drawn }
+    ensures drawn { IfOk result (λ all. All (IsDrawn (P.run_of parts.now) dealer.now) all.items) }
+    ensures len { IfOk result (λ all. length all.items ≡ length threads.items) }
+    ensures err { IfErr result (λ e. e ≡ CrewError.OutOfMemory) }
+{
+    let _ = parts;
+    let _ = dealer;
+    let mut drawn = drawn;
+    let mut short = false;
+    for thread in threads {
+        // A want of memory is answered only after the last thread has ended.
+        match thread.join(rt) {
+            Ok(made) => drawn.push_reserved(made),
+            Err(_) => short = true,
+        }
+    }
+    if short {
+        return Err(CrewError::OutOfMemory);
+    }
+    Ok(drawn)
+}
+
+/// The runs that were drawn, in the order of their numbers. That each of them was drawn is known of the dealer, which is
+/// closed with all of its seats.
+fn in_order<P: Parts>(
+    alloc: Global,
+    parts: &P,
+    dealer: Dealer,
+    drawn: Vec<Drawn>,
+    slots: Vec<Option<PieceRun>>,
+) -> Result<Vec<PieceRun>, CrewError>
+    requires all { dealer.name.pieces ≡ P.how_many parts.now }
+    requires drawn { All (IsDrawn (P.run_of parts.now) dealer) drawn.items }
+    requires seats { length drawn.items ≡ dealer.seats }
+    requires slots { length slots.items ≡ dealer.name.pieces }
+    ensures runs { IfOk result (λ runs. runs.items
+        ≡ map (P.run_of parts.now) (range_with_len 0 (P.how_many parts.now))) }
+    ensures err { IfErr result (λ e. e ≡ CrewError.OutOfMemory) }
+{
+    let _ = parts;
+    let mut slots = slots;
+    let mut seats = Vec::with_capacity(alloc, drawn.len())?;
+    for (seat, runs) in drawn {
+        fill(&mut slots, runs);
+        seats.push_reserved(seat);
+    }
+    dealer.close(seats);
+    Ok(values_of(alloc, slots)?)
+}
