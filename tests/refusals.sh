@@ -114,6 +114,7 @@ job '0000 0000 0000 0000\n' encode --hex
 # rows for three threads
 for _ in 1 2 3 4 5 6 7; do cat "$here/../examples/station.bin"; done >"$work/in"
 all_of list --pieces 2 --workers 3
+rows=$((rows + $(calls_of thread list --pieces 2 --workers 1)))
 
 for call in "${!tried[@]}"; do
     if [ "${tried[$call]}" = 0 ]; then

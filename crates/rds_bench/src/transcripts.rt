@@ -2,7 +2,7 @@
 use crate::sample::Sample;
 use crate::timing::Timing;
 use anyhow::Result;
-use rds_tool::{Cuts, FromRead, Input, Job, Settings, ToWrite, transcribe};
+use rds_tool::{Cuts, FromRead, Input, Job, Loss, Settings, ToWrite, transcribe};
 use std::alloc::Global;
 use std::sync::Wait;
 use std::thread::Threads;
@@ -57,7 +57,7 @@ fn job_of(workers: u32, listing: bool) -> Job {
     let settings = Settings {
         burst: 2,
         reach: 3,
-        loss: 10,
+        loss: Loss::Run(10),
         workers,
         cuts: Cuts::Even(16),
     };

@@ -68,6 +68,23 @@ pub fn zero_groups(alloc: Global, bits: u64) -> Result<Recording, StreamError> {
     recording_of(zero_bytes(alloc, bits)?, bits)
 }
 
+/// Block 1 of the second of two zero groups, inverted by a burst of span 6: the bytes that are changed.
+pub const ONE_BAD: [(usize, u8); 2] = [(15, 0x08), (16, 0x40)];
+
+/// That block, and block 3.
+pub const TWO_BAD: [(usize, u8); 3] = [(15, 0x08), (16, 0x40), (22, 0x84)];
+
+/// Two zero groups, with these bytes changed.
+pub fn damaged_groups(alloc: Global, damaged: &[(usize, u8)]) -> Result<Recording, Fail> {
+    let mut bytes = zero_bytes(alloc, 208)?;
+    for &(at, mask) in damaged {
+        if let Some(byte) = bytes.get_mut(at) {
+            *byte ^= mask;
+        }
+    }
+    Ok(recording_of(bytes, 208)?)
+}
+
 /// Reading by the default numbers: bursts of 2 bits, 3 blocks back, lost after 10.
 pub fn default_rules(alloc: Global) -> Result<Rules, SyncError> {
     Rules::new(alloc, 2, 3, 10)
@@ -133,6 +150,19 @@ impl Sample {
     pub fn station(alloc: Global) -> Result<Sample, Fail> {
         let recording = recording_of(station_bytes(alloc)?, 20 * 104)?;
         let rules = Rules::new(alloc, 2, 3, 3)?;
+        let report = decode_plain(alloc, &recording, &rules)?;
+        Ok(Sample {
+            recording,
+            rules,
+            report,
+        })
+    }
+
+    /// Two groups of which the second has two bad blocks, which lose the lock where two of three may not be bad, and the report
+    /// of one decoder.
+    pub fn two_bad(alloc: Global) -> Result<Sample, Fail> {
+        let recording = damaged_groups(alloc, &TWO_BAD)?;
+        let rules = Rules::with_share(alloc, 2, 3, 2, 3)?;
         let report = decode_plain(alloc, &recording, &rules)?;
         Ok(Sample {
             recording,

@@ -1,6 +1,7 @@
 -- The totals of a run's items are small: a bit gives one group at most, and a block has 26 bits.
-use Rattle.std.proofs.Common.{◌≡◌, ℕ, zero, suc, ◌+◌, ◌-◌, ◌*◌, ◌^◌, ◌<◌, ◌≤◌, Bool, true, false, List, [], ◌∷◌, ◌++◌, Option, Some, None, refl, sym, subst, arith, lit≤}
-use Rattle.std.specs.Prelude.{sum_by, if◌then◌else◌, ◌==◌, nat_lt, nat_le, ◌&&◌, count_ones}
+use Rattle.std.proofs.Common.{◌≡◌, ℕ, zero, suc, ◌+◌, ◌-◌, ◌*◌, ◌^◌, ◌<◌, ◌≤◌, Bool, true, false, List, [], ◌∷◌, ◌++◌, take, drop, Option, Some, None, refl, sym, ap, ◌∙◌, subst, arith, lit≤}
+use Rattle.std.specs.Prelude.{sum_by, if◌then◌else◌, ◌==◌, nat_lt, nat_le, ◌&&◌, count_ones, slice_range}
+use Rattle.std.proofs.lemmas.List.{take-append-drop}
 use Rattle.std.proofs.lemmas.Nat.{ones_le_self}
 use Rattle.rds_code.specs.declared.reading.Wanted.{Wanted}
 use Rattle.rds_code.specs.declared.reading.Wanted.TheVariants.{Either}
@@ -18,16 +19,12 @@ use Rattle.rds_sync.specs.declared.item.Item.{Item}
 use Rattle.rds_sync.specs.declared.item.Item.TheVariants.{Acquired, Group as GroupItem, LostLock}
 use Rattle.rds_sync.specs.declared.totals.Totals.{Totals}
 use Rattle.rds_sync.specs.Acquiring.{acquired}
-use Rattle.rds_sync.specs.Counting.{plus, IsAtMost}
+use Rattle.rds_sync.specs.Counting.{plus, IsRest, TotalsJoin, IsAtMost}
 use Rattle.rds_sync.specs.Groups.{group, block_at, wanted_beside, are_complete}
 use Rattle.rds_sync.specs.Rules.{RuleNumbers}
 use Rattle.rds_sync.specs.Loss.{are_too_many}
 use Rattle.rds_sync.specs.Step.{run, step, items_at, group_after, bad_with}
 use Rattle.rds_sync.specs.Totals.{totals_of, is_valid, is_lost, is_corrected_by, bits_corrected}
-
--- the totals of two lists together
-abbrev pub Joins : Type 0
-Joins = (xs ys : List Item) → totals_of (xs ++ ys) ≡ plus (totals_of xs) (totals_of ys)
 
 pub at_most_more : (m n : ℕ) (t : Totals) → m ≤ n → IsAtMost m t → IsAtMost n t
 at_most_more m n t h a = record {
@@ -77,6 +74,16 @@ at_most-plus m n t u a b = record {
   acquired = omega (arith, a.acquired, b.acquired);
   losses = omega (arith, a.losses, b.losses);
 }
+
+-- the totals from some item on are the rest
+pub rest_after : TotalsJoin → (items : List Item) (first : ℕ) (whole part : Totals) → whole ≡ totals_of items → part ≡ totals_of (slice_range items 0 first)
+    → IsRest part whole (totals_of (drop first items))
+rest_after join items first whole part whole_is part_is =
+    let none : first - 0 ≡ first = omega arith in
+    let p : part ≡ totals_of (take first items) = part_is ∙ ap (λ (k : ℕ). totals_of (take k items)) none in
+    let w : whole ≡ totals_of (take first items ++ drop first items) = whole_is ∙ ap (λ (is : List Item). totals_of is) (sym (take-append-drop first items)) in
+    let r = join (take first items) (drop first items) in
+    record { spans = r.spans; joined = w ∙ r.joined ∙ ap (λ (t : Totals). plus t (totals_of (drop first items))) (sym p) }
 
 -- so small is what one bit gives
 abbrev pub per_bit : ℕ
@@ -187,9 +194,9 @@ module _ (b : List ℕ) (rules : RuleNumbers) (law : ReadsByRule) (few : rules.b
   after_at_most f x i true = closed_at_most f x i
   after_at_most f x i false = none_at_most (2 ^ 28 - 4)
 
-  module _ (joins : Joins) where
+  module _ (join : TotalsJoin) where
     both_at_most : (m n : ℕ) (xs ys : List Item) → IsAtMost m (totals_of xs) → IsAtMost n (totals_of ys) → IsAtMost (m + n) (totals_of (xs ++ ys))
-    both_at_most m n xs ys h k = subst (λ (t : Totals). IsAtMost (m + n) t) (sym (joins xs ys)) (at_most-plus m n (totals_of xs) (totals_of ys) h k)
+    both_at_most m n xs ys h k = subst (λ (t : Totals). IsAtMost (m + n) t) (sym (join xs ys).joined) (at_most-plus m n (totals_of xs) (totals_of ys) h k)
 
     -- what one bit gives
     bit_at_most : (i : ℕ) (s : State) → IsAtMost per_bit (totals_of (items_at b rules i s))

@@ -1,10 +1,14 @@
 -- What a walk along a guess has to take over from the guess where it met it.
-use Rattle.std.proofs.Common.{◌≡◌, ℕ, ◌+◌, ◌-◌, ◌*◌, ◌<◌, ◌≤◌, List, ◌++◌, length, get_or, map, drop, sym, ap, ap₂, ◌∙◌, arith, append_assoc, length-append}
+use Rattle.std.proofs.Common.{◌≡◌, ℕ, ◌+◌, ◌-◌, ◌*◌, ◌<◌, ◌≤◌, ◌^◌, List, ◌++◌, length, get_or, map, drop, sym, ap, ap₂, ◌∙◌, subst, arith, append_assoc, length-append}
+use Rattle.std.proofs.lemmas.List.{drop_at}
 use Rattle.rds_sync.specs.declared.state.State.{State}
 use Rattle.rds_sync.specs.declared.state.State.TheVariants.{Searching}
 use Rattle.rds_sync.specs.declared.item.Item.{Item}
+use Rattle.rds_sync.specs.declared.totals.Totals.{Totals}
+use Rattle.rds_sync.specs.Counting.{plus, IsAtMost, FitTogether}
 use Rattle.rds_sync.specs.Rules.{RuleNumbers}
 use Rattle.rds_sync.specs.Step.{run}
+use Rattle.rds_sync.specs.Totals.{totals_of}
 use Rattle.rds_pieces.specs.declared.meeting.Passed.{Passed}
 use Rattle.rds_pieces.specs.declared.mark.Mark.{Mark}
 use Rattle.rds_pieces.specs.Guess.{guess, marks}
@@ -12,6 +16,7 @@ use Rattle.rds_pieces.specs.MarksOn.{marks_on, recounted}
 use Rattle.rds_pieces.specs.RunOf.{IsGuess, run_over}
 use Rattle.rds_pieces.specs.RunLaws.{RunLaws}
 use Rattle.rds_pieces.specs.Walk.{IsMet}
+use Rattle.rds_pieces.proofs.SmallTotals.{per_bit, run_at_most}
 use Rattle.rds_pieces.proofs.MarkLaws.{run-met, marks-met, marks-join, marks-after, counted}
 
 module _ (b : List ℕ) (rules : RuleNumbers) (laws : RunLaws) (s : State) (from to place : ℕ) (passed : Passed) (met : IsMet b rules s from to place passed) where
@@ -32,14 +37,6 @@ module _ (b : List ℕ) (rules : RuleNumbers) (laws : RunLaws) (s : State) (from
   pub passed_items : passed.items ≤ length (theirs to).1
   passed_items = let l = guess_goes_on in let e = met.items_are in omega arith
 
-  pub passed_marks : passed.marks ≤ length (marks b rules from (to - from))
-  passed_marks =
-      let i = met.first.here.inside in
-      let l = ap (λ (ms : List Mark). length ms) (marks-join b rules laws from place to i.0 i.1)
-      ∙ length-append (marks b rules from (place - from)) (marks_on b rules (theirs place).0 place (length (theirs place).1) (to - place)) in
-      let e = met.marks_are in
-      omega arith
-
   -- the items that are taken over
   pub items_taken : (before items rest items2 : List Item) → items ≡ before ++ (ours place).1 → rest ≡ drop passed.items (theirs to).1 → items2 ≡ items ++ rest
       → items2 ≡ before ++ (ours to).1
@@ -49,13 +46,34 @@ module _ (b : List ℕ) (rules : RuleNumbers) (laws : RunLaws) (s : State) (from
       ∙ append_assoc before (ours place).1 (drop (length (theirs place).1) (theirs to).1)
       ∙ ap (λ (xs : List Item). before ++ xs) (sym (run-met b rules laws s from to place met.first.here).1)
 
+  -- and their totals
+  pub totals_taken : (t u : Totals) → t ≡ totals_of (ours place).1 → u ≡ totals_of (drop passed.items (theirs to).1) → plus t u ≡ totals_of (ours to).1
+  totals_taken t u t_is u_is =
+      ap₂ (λ (x y : Totals). plus x y) t_is (u_is ∙ ap (λ (k : ℕ). totals_of (drop k (theirs to).1)) met.items_are)
+      ∙ sym (laws.totals (ours place).1 (drop (length (theirs place).1) (theirs to).1)).joined
+      ∙ ap (λ (xs : List Item). totals_of xs) (sym (run-met b rules laws s from to place met.first.here).1)
+
+  pub totals_fit : rules.burst ≤ 5 → to - from ≤ 2 ^ 36 → (t u : Totals) → t ≡ totals_of (ours place).1 → u ≡ totals_of (drop passed.items (theirs to).1) → FitTogether t u
+  totals_fit few bits t u t_is u_is =
+      let i = met.first.here.inside in
+      let tail : List Item = (run b rules (theirs place).0 place (to - place)).1 in
+      let whole : (theirs to).1 ≡ (theirs place).1 ++ tail = ap (λ (r : State × List Item). r.1) (laws.join b rules Searching from place to i.0 i.1) in
+      let rest : drop passed.items (theirs to).1 ≡ tail = ap (λ (xs : List Item). drop passed.items xs) whole ∙ drop_at (theirs place).1 tail passed.items (sym met.items_are) in (
+        per_bit * (place - from),
+        per_bit * (to - place),
+        omega (arith, i, bits),
+        subst (λ (x : Totals). IsAtMost (per_bit * (place - from)) x) (sym t_is) (run_at_most b rules laws.readings few laws.totals s from (place - from)),
+        subst (λ (x : Totals). IsAtMost (per_bit * (to - place)) x) (sym (u_is ∙ ap (λ (xs : List Item). totals_of xs) rest))
+            (run_at_most b rules laws.readings few laws.totals (theirs place).0 place (to - place)),
+      )
+
   pub end_taken : (theirs to).0 ≡ (ours to).0
   end_taken = sym (run-met b rules laws s from to place met.first.here).0
 
   -- the marks that are taken over
   pub marks_taken : (before items : List Item) (first found rest found2 : List Mark) (less more c : ℕ)
       → items ≡ before ++ (ours place).1 → length before ≡ c → less ≡ passed.items → more ≡ length items
-      → found ≡ first ++ marks_on b rules s from c (place - from) → rest ≡ drop passed.marks (marks b rules from (to - from)) → found2 ≡ found ++ map (recounted less more) rest
+      → found ≡ first ++ marks_on b rules s from c (place - from) → rest ≡ passed.ahead → found2 ≡ found ++ map (recounted less more) rest
       → found2 ≡ first ++ marks_on b rules s from c (to - from)
   marks_taken before items first found rest found2 less more c is count less_is more_is found_is left given =
       let l : less ≡ length (theirs place).1 = less_is ∙ met.items_are in
@@ -64,17 +82,17 @@ module _ (b : List ℕ) (rules : RuleNumbers) (laws : RunLaws) (s : State) (from
       let here : List Mark = drop (length (marks b rules from (place - from))) (marks b rules from (to - from)) in
       given
       ∙ ap₂ (λ (xs ys : List Mark). xs ++ ys) found_is
-      (ap (λ (xs : List Mark). map (recounted less more) xs) (left ∙ ap (λ (k : ℕ). drop k (marks b rules from (to - from))) met.marks_are)
+      (ap (λ (xs : List Mark). map (recounted less more) xs) (left ∙ met.ahead_are)
       ∙ ap₂ (λ (x y : ℕ). map (recounted x y) here) l m)
       ∙ append_assoc first (marks_on b rules s from c (place - from)) (map (recounted (length (theirs place).1) (c + length (ours place).1)) here)
       ∙ ap (λ (ms : List Mark). first ++ ms) (sym (marks-met b rules laws s from to place c met.first.here))
 
   -- what they count
-  module _ (rest : List Mark) (left : rest ≡ drop passed.marks (marks b rules from (to - from))) where
+  module _ (rest : List Mark) (left : rest ≡ passed.ahead) where
     rest_is : rest ≡ marks_on b rules (theirs place).0 place (length (theirs place).1) (to - place)
     rest_is =
         let i = met.first.here.inside in
-        left ∙ ap (λ (k : ℕ). drop k (marks b rules from (to - from))) met.marks_are ∙ marks-after b rules laws from place to i.0 i.1
+        left ∙ met.ahead_are ∙ marks-after b rules laws from place to i.0 i.1
 
     pub rest_low : (k : ℕ) (d : Mark) → k < length rest → passed.items ≤ (get_or rest k d).items
     rest_low k d h =

@@ -28,7 +28,7 @@ pub struct PieceRun {
     from: u64,
     to: u64,
     items: Items,
-    totals: Totals,
+    counted: Totals,
     end_state: State,
     marks: Marks,
 }
@@ -41,7 +41,7 @@ impl Model for PieceRun {
 
     ghost view = { λ r. run_over r.source.value r.rules r.from r.to };
 
-    ghost invariant = { λ r. IsKept (run_over r.source.value r.rules r.from r.to) r.items r.totals r.end_state r.marks };
+    ghost invariant = { λ r. IsKept (run_over r.source.value r.rules r.from r.to) r.items r.counted r.end_state r.marks };
 }
 
 impl PieceRun {
@@ -81,7 +81,7 @@ impl PieceRun {
     pub fn totals(&self) -> Totals
         ensures { result ≡ totals_of (guess self.now.source self.now.rules self.now.from (self.now.to - self.now.from)).1 }
     {
-        self.totals
+        self.counted
     }
 
     /// The totals of the items from number `first` on: those of all, less those before, which alone are counted.
@@ -90,7 +90,7 @@ impl PieceRun {
         ensures { result ≡ totals_of (drop first (guess self.now.source self.now.rules self.now.from (self.now.to - self.now.from)).1) }
     {
         run_laws();
-        self.totals.less(Totals::of_range(&self.items, 0, first))
+        self.counted.less(Totals::of_range(&self.items, 0, first))
     }
 
     /// The state after the piece's last bit.
@@ -122,18 +122,19 @@ pub fn speculate(
     ensures ok { IfOk result (λ r. r ≡ run_at rec.now rules.now cutting.now j) }
     ensures err { IfErr result (λ e. e ≡ OutOfMemory) }
 {
+    run_laws();
     let (from, to) = (cutting.from(j), cutting.to(j));
     let len = rec.len();
     prove!(to <= len);
     let (end_state, items, marks) = guess_over(alloc, rec, rules, from, to)?;
-    let totals = Totals::of(&items);
+    let counted = Totals::of(&items);
     Ok(PieceRun {
         source: Snapshot::of(rec),
         rules: rules.numbers(),
         from,
         to,
         items,
-        totals,
+        counted,
         end_state,
         marks,
     })

@@ -141,7 +141,10 @@ pub(crate) fn go_along<'a, T: Tape>(
                 met: None,
             });
         }
-        (place, state) = advance_marked(tape, rules, state, place, limit, &mut items, &mut marks)?;
+        let (next, after) =
+            advance_marked(tape, rules, state, place, limit, &mut items, &mut marks)?;
+        place = next;
+        state = after;
         if place == limit
             && let Some(reached) = ahead.next()
         {

@@ -1,5 +1,5 @@
 //! The report of a recording from the runs of its pieces.
-ghost use Rattle.std.specs.Prelude.{◌≡◌, ℕ, ◌+◌, ◌++◌, ◌≤◌, ◌^◌, IfOk, IfErr, length};
+ghost use Rattle.std.specs.Prelude.{◌≡◌, ℕ, ◌+◌, ◌-◌, ◌*◌, ◌++◌, ◌≤◌, ◌^◌, IfOk, IfErr, length};
 ghost use Rattle.rds_sync.specs.Counting.{IsAtMost};
 ghost use Rattle.rds_sync.specs.Lawful.{IsLawful};
 ghost use Rattle.rds_sync.specs.Report.{report_items};
@@ -61,7 +61,7 @@ fn carry_over_all<T: Tape>(
 
     ensures whole { IfOk result (λ r. r.1.items ++ items_of_end (T.bits tape.old) rules.now r.0 ≡ report_items (T.bits tape.old) rules.now) }
     ensures totals { IfOk result (λ r. r.1.totals ≡ totals_of r.1.items) }
-    ensures small { IfOk result (λ r. IsAtMost (2 ^ 48) r.1.totals) }
+    ensures small { IfOk result (λ r. IsAtMost ((2 ^ 28 - 1) * 2 ^ 36) r.1.totals) }
     ensures lawful { IfOk result (λ r. IsLawful rules.now (length (T.bits tape.old)) r.0) }
     ensures reads { IfOk result (λ _. (n : ℕ) × IsSumOfReads (T.bits tape.old) rules.now State.Searching runs.now n
         × (T.reads_made tape.new ≤ T.reads_made tape.old + n)) }

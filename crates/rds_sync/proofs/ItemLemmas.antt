@@ -55,14 +55,6 @@ items_of_end-few b rules (Locked due x bad f) = elim (cases_eq x 1) [
 pub some_given : (given : List Item) (item : Item) (others : List Item) → given ≡ item ∷ others → given ≢ []
 some_given given item others is none = cc
 
--- a step asks for at most nine windows
-pub reads_most-few : (rules : RuleNumbers) (s : State) (to : ℕ) → rules.reach ≤ 8 → reads_most rules s to ≤ 9
-reads_most-few rules Searching to near = omega arith
-reads_most-few rules (Locked due number bad first) to near = elim (cases_lt due to) [
-  | inl early ↦ rw (lt-ltb due to early, reads_most) (omega arith)
-  | inr late ↦ rw (le-ltb due to late, reads_most) (omega arith)
-]
-
 -- the items of a run over a whole recording, with those of its end
 pub report-run : (b : List ℕ) (rules : RuleNumbers) (n : ℕ) (s : State) (items : List Item) → IsLoss rules.loss → n ≡ length b
     → s ≡ (run b rules Searching 0 (n - 0)).0 → items ≡ (run b rules Searching 0 (n - 0)).1

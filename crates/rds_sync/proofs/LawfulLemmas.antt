@@ -35,22 +35,6 @@ module _ (b : List ℕ) where
     | inr late ↦ late
   ]
 
-  -- an offset of number x, as a fact
-  pub has_number-offset : (i x : ℕ) → has_number b i x ≡ true → (o : Offset) × (off b i ≡ Some o) × (number o ≡ x)
-  unfolding has_number
-  has_number-offset i x h = at_case (off b i) refl h where
-    at_case : (w : Option Offset) → off b i ≡ w → elim w as (λ _. Bool) [ None ↦ false | Some o ↦ number o == x ] ≡ true → (o : Offset) × (off b i ≡ Some o) × (number o ≡ x)
-    at_case None e t = cc
-    at_case (Some o) e t = (o, e, eqb-true (number o) x t)
-
-  pub has_number-of : (i : ℕ) (o : Offset) → off b i ≡ Some o → (x : ℕ) → has_number b i x ≡ (number o == x)
-  unfolding has_number
-  has_number-of i o e x = ap (λ (w : Option Offset). elim w as (λ _. Bool) [ None ↦ false | Some o ↦ number o == x ]) e
-
-  pub has_number-none : (i : ℕ) → off b i ≡ None → (x : ℕ) → has_number b i x ≡ false
-  unfolding has_number
-  has_number-none i e x = ap (λ (w : Option Offset). elim w as (λ _. Bool) [ None ↦ false | Some o ↦ number o == x ]) e
-
   -- a partner, as a fact
   pub has_partner-offset : (i x k : ℕ) → has_partner b i x k ≡ true → (o : Offset) × (off b (i - 26 * k) ≡ Some o) × ((number o + k) % 4 ≡ x % 4)
   has_partner-offset i x k h = at_case (off b (i - 26 * k)) refl h where

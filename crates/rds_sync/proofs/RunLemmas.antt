@@ -134,23 +134,8 @@ module _ (b : List ℕ) (rules : RuleNumbers) where
       run-first Searching Searching [] a n (step-searching a here) (items-searching a here)
       ∙ run-searching (a + 1) n (λ i low high. none i (omega arith) (omega arith))
 
-  -- a search up to and including the first place that acquires
-  pub run-acquiring : (a n i x : ℕ) → a + n ≡ i → ((j : ℕ) → a ≤ j → j < i → acquired b rules j ≡ None) → acquired b rules i ≡ Some x
-      → run b rules Searching a (n + 1) ≡ (locked_after i x (none_bad rules.loss) x, Acquired i x ∷ group_after b rules x x i)
-  run-acquiring a n i x e none here =
-      run-append Searching a n 1
-      ∙ ap₂ (λ (r : State × List Item) (p : ℕ). ((run b rules r.0 p 1).0, r.1 ++ (run b rules r.0 p 1).1)) (run-searching a n (λ j low high. none j low (omega arith))) e
-      ∙ run-one Searching i
-      ∙ ap₂ (λ (t : State) (is : List Item). (t, is)) (step-acquiring i x here) (items-acquiring i x here)
-
 -- a step, by its first state and its places
 module _ (b : List ℕ) (rules : RuleNumbers) (s : State) (place after : ℕ) where
-  pub run-bit : s ≡ Searching → after ≡ place + 1
-      → run b rules s place (after - place) ≡ (step b rules place Searching, items_at b rules place Searching)
-  run-bit is next =
-      let bits : after - place ≡ 1 = omega arith in
-      rw (is, bits) (run-one b rules Searching place)
-
   module _ (due number : ℕ) (bad : Bad) (first : ℕ) (is : s ≡ Locked due number bad first) where
     pub run-due : place ≤ due → after ≡ due + 1
         → run b rules s place (after - place) ≡ (step b rules due (Locked due number bad first), items_at b rules due (Locked due number bad first))

@@ -37,8 +37,8 @@ module _ (input : Input) (plan : PlanOf) (held bits : List ℕ) where
   cut : recording_of input held ≡ Ok bits → cut_by plan.cuts bits ≡ Ok bits → cut_recording input plan.cuts held ≡ Ok bits
   cut recorded fits = ap (λ r. and_then r (cut_by plan.cuts)) recorded ∙ fits
 
-  list_made : (report : Report) → cut_recording input plan.cuts held ≡ Ok bits → report.items.items ≡ report_items bits plan.rules
-      → report.totals ≡ totals_of (report_items bits plan.rules) → text_of_task (task.List input plan) held ≡ Ok (report_text report.items.items report.totals)
+  list_made : (report : Report) → cut_recording input plan.cuts held ≡ Ok bits → report.items ≡ report_items bits plan.rules
+      → report.totals ≡ totals_of (report_items bits plan.rules) → text_of_task (task.List input plan) held ≡ Ok (report_text report.items report.totals)
   list_made report fits i o = ap (λ r. and_then r (λ b. Ok (list_text plan.rules b))) fits ∙ ap (λ x. Ok x) (ap₂ report_text (sym i) (sym o))
 
   totals_made : (report : Report) → cut_recording input plan.cuts held ≡ Ok bits → report.totals ≡ totals_of (report_items bits plan.rules)
@@ -47,8 +47,8 @@ module _ (input : Input) (plan : PlanOf) (held bits : List ℕ) where
 
   -- the texts that a report stands for, if it was made
   pub list_if_made : (r : Result Report ToolError) → recording_of input held ≡ Ok bits → OnOk r (cut_by plan.cuts bits ≡ Ok bits)
-      → IfOk r (λ report. report.items.items ≡ report_items bits plan.rules) → IfOk r (λ report. report.totals ≡ totals_of (report_items bits plan.rules))
-      → IfOk r (λ report. text_of_task (task.List input plan) held ≡ Ok (report_text report.items.items report.totals))
+      → IfOk r (λ report. report.items ≡ report_items bits plan.rules) → IfOk r (λ report. report.totals ≡ totals_of (report_items bits plan.rules))
+      → IfOk r (λ report. text_of_task (task.List input plan) held ≡ Ok (report_text report.items report.totals))
   list_if_made (Ok report) recorded fits i o = list_made report (cut recorded fits) i o
   list_if_made (Err e) recorded fits i o = tt
 

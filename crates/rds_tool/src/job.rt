@@ -34,7 +34,8 @@ pub struct Settings {
     /// When a lock is lost: after 1 to 64 blocks in a row that are not valid, or where at least 1 of the last blocks, at most
     /// 64, are not.
     pub loss: Loss,
-    /// By how many threads at most the pieces are decoded: 1 to 256. The listing doesn't depend on it.
+    /// By how many threads at most the pieces are decoded, and the rows of a list made: 1 to 256. The listing doesn't depend
+    /// on it.
     pub workers: u32,
     /// Where the recording is cut into pieces, each of which is decoded by one thread.
     pub cuts: Cuts,

@@ -57,3 +57,4 @@ pub use devices::{Failed, FromRead, Sink, Source, ToWrite};
 pub use engine::{transcribe, transcribe_gated};
 pub use error::ToolError;
 pub use job::{Cuts, Input, Job, Settings};
+pub use rds_sync::Loss;

@@ -11,7 +11,7 @@ use crate::text::Text;
 use crate::threaded::item_texts;
 use itoa::Buffer;
 use rds_code::Offset;
-use rds_sync::{Group, Item, Report, Totals, Version};
+use rds_sync::{Group, Item, Items, Report, Totals, Version};
 use std::alloc::Global;
 use std::thread::Threads;
 
@@ -40,10 +40,10 @@ pub fn report_rows<R: Threads + Sync>(
     workers: u32,
 ) -> Result<Text, ToolError>
     requires { 0 < workers }
-    ensures rows { IfOk result (λ text. text ≡ report_text report.now.items.items report.now.totals) }
+    ensures rows { IfOk result (λ text. text ≡ report_text report.now.items report.now.totals) }
     ensures refused { IfErr result (λ error. error ≡ ToolError.OutOfMemory) }
 {
-    let front = item_texts(rt, alloc, report.items.as_slice(), workers)?;
+    let front = item_texts(rt, alloc, &report.items, workers)?;
     let last = totals_rows(alloc, &report.totals)?;
     Ok(Text::new(front, last))
 }
@@ -51,7 +51,7 @@ pub fn report_rows<R: Threads + Sync>(
 /// The rows of the items from one number up to another.
 pub fn item_rows(
     alloc: Global,
-    items: &[Item],
+    items: &Items,
     from: usize,
     to: usize,
 ) -> Result<Vec<u8>, ToolError>
@@ -62,8 +62,8 @@ pub fn item_rows(
 {
     let room = (to - from).saturating_mul(USUAL_ROW);
     let mut rows = rows_in_room(alloc, room)?;
-    for item in items[from..to].iter() {
-        push_item(&mut rows, item)?;
+    for item in items.range(from, to) {
+        push_item(&mut rows, &item)?;
     }
     text_of_rows(rows)
 }

@@ -88,7 +88,7 @@ fn report_of<R: Threads + Wait, G: Gate + Sync>(
     held: Vec<u8>,
     gate: &G,
 ) -> Result<Report, ToolError>
-    ensures list { IfOk result (λ report. text_of_task (task.List input.now plan.now) held.items ≡ Ok (report_text report.items.items report.totals)) }
+    ensures list { IfOk result (λ report. text_of_task (task.List input.now plan.now) held.items ≡ Ok (report_text report.items report.totals)) }
     ensures totals { IfOk result (λ report. text_of_task (task.Totals input.now plan.now) held.items ≡ Ok (totals_text report.totals)) }
     ensures refused { IfErr result (λ error. (error ≡ ToolError.OutOfMemory) ⊎ (((error ≡ ToolError.NoWorker) × (1 < plan.now.workers))
         ⊎ (cut_recording input.now plan.now.cuts held.items ≡ Err error))) }

@@ -7,7 +7,7 @@ ghost use Rattle.rds_tool.specs.Texts.{joined};
 
 use crate::ToolError;
 use crate::listing::item_rows;
-use rds_sync::Item;
+use rds_sync::Items;
 use std::alloc::Global;
 use std::thread;
 use std::thread::Threads;
@@ -19,7 +19,7 @@ const LEAST_ITEMS: usize = 4096;
 pub fn item_texts<R: Threads + Sync>(
     rt: &R,
     alloc: Global,
-    items: &[Item],
+    items: &Items,
     workers: u32,
 ) -> Result<Vec<Vec<u8>>, ToolError>
     requires { 0 < workers }
@@ -46,7 +46,7 @@ fn parts_of(items: usize, workers: usize) -> usize
 }
 
 /// The rows of part `i` of the items, in parts of so many.
-fn rows_of_part(alloc: Global, items: &[Item], size: usize, i: usize) -> Result<Vec<u8>, ToolError>
+fn rows_of_part(alloc: Global, items: &Items, size: usize, i: usize) -> Result<Vec<u8>, ToolError>
     ensures rows { IfOk result (λ text. text.items ≡ flat_map item_row (slice_chunk items.now size i)) }
     ensures refused { IfErr result (λ error. error ≡ ToolError.OutOfMemory) }
 {
@@ -59,7 +59,7 @@ fn rows_of_part(alloc: Global, items: &[Item], size: usize, i: usize) -> Result<
 fn gather(
     alloc: Global,
     made: Vec<Result<Vec<u8>, ToolError>>,
-    items: &[Item],
+    items: &Items,
     size: usize,
 ) -> Result<Vec<Vec<u8>>, ToolError>
     requires each { (i : ℕ) (d : _) → i < length made.items → IfOk (slice_index_or made.items i d)

@@ -1,5 +1,5 @@
 //! Command lines, as jobs. Those that are none are tried on the built program.
-use rds_tool::{Cuts, Input, Job, Settings, job_of};
+use rds_tool::{Cuts, Input, Job, Loss, Settings, job_of};
 use std::alloc::Global;
 
 /// Whether the words are taken as the job.
@@ -39,7 +39,7 @@ fn words_of_a_list_are_its_settings(rt: HostRuntime) {
         let settings = Settings {
             burst,
             reach,
-            loss,
+            loss: Loss::Run(loss),
             workers,
             cuts: Cuts::Even(pieces),
         };
@@ -83,6 +83,35 @@ const SETTINGS: [(&[&str], [u32; 4], u64); 3] = [
         ],
         [2, 3, 10, 0],
         4_294_967_295,
+    ),
+];
+
+#[test]
+fn words_of_a_share_are_its_rule_of_loss(rt: HostRuntime) {
+    for (words, bad, of) in SHARES {
+        let settings = Settings {
+            burst: 2,
+            reach: 3,
+            loss: Loss::Share { bad, of },
+            workers: 4,
+            cuts: Cuts::Even(16),
+        };
+        let input = Input {
+            hex: false,
+            bits: None,
+        };
+        assert!(rt; gives(rt.alloc(), words, Job::Totals(input, settings)), "{words:?}");
+    }
+}
+
+/// Words of totals, and their share.
+const SHARES: [(&[&str], u32, u32); 3] = [
+    (&["rds", "totals", "--share", "20"], 20, 64),
+    (&["rds", "totals", "--of", "4", "--share=0"], 0, 4),
+    (
+        &["rds", "totals", "--loss", "1", "--share", "5", "--of", "70"],
+        5,
+        70,
     ),
 ];
 

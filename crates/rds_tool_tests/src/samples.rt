@@ -1,6 +1,6 @@
 //! Recordings with the texts of their lists and totals, and whether a crew gives these.
 use crate::devices::gives_for;
-use rds_tool::{Cuts, Input, Job, Settings, ToolError};
+use rds_tool::{Cuts, Input, Job, Loss, Settings, ToolError};
 use std::alloc::{AllocError, Global};
 use std::sync::Wait;
 use std::thread::Threads;
@@ -186,7 +186,7 @@ impl Crew<'_> {
         Ok(Settings {
             burst,
             reach,
-            loss,
+            loss: Loss::Run(loss),
             workers: self.workers,
             cuts,
         })

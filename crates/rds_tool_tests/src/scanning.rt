@@ -61,7 +61,7 @@ fn lists_the_valid_windows(rt: HostRuntime) {
     }
 }
 
-static REFUSALS: [(ToolError, u8, &str); 14] = [
+static REFUSALS: [(ToolError, u8, &str); 15] = [
     (ToolError::BurstRange, 1, "BurstRange"),
     (ToolError::ReachRange, 2, "ReachRange"),
     (ToolError::LossRange, 3, "LossRange"),
@@ -76,6 +76,7 @@ static REFUSALS: [(ToolError, u8, &str); 14] = [
     (ToolError::GroupText, 12, "GroupText"),
     (ToolError::TooManyTurns, 13, "TooManyTurns"),
     (ToolError::NoWorker, 14, "NoWorker"),
+    (ToolError::ShareRange, 15, "ShareRange"),
 ];
 
 #[test]

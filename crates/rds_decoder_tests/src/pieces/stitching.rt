@@ -51,6 +51,16 @@ fn two_zero_groups_cut_at_every_place_give_one_report(rt: HostRuntime) -> Result
 }
 
 #[test]
+fn a_loss_by_a_share_is_reported_whatever_the_cut(rt: HostRuntime) -> Result<(), Fail> {
+    let sample = Sample::two_bad(rt.alloc())?;
+    assert!(rt; sample.report.totals.losses == 1 && sample.report.totals.lost == 2);
+    for cut in 1..208 {
+        let _reads = assert_stitched(&rt, rt.alloc(), &sample, Cuts::At(&[cut]))?;
+    }
+    Ok(())
+}
+
+#[test]
 fn pieces_of_one_bit_give_the_report_too(rt: HostRuntime) -> Result<(), Fail> {
     for &pieces in &[1, 2, 3, 5, 16, 208] {
         assert_two_stitched(&rt, rt.alloc(), Cuts::Even(pieces))?;
@@ -74,7 +84,7 @@ fn next_random(number: u64) -> u64 {
 }
 
 /// Places below `end`, about one of so many, where `seed` says which.
-fn random_cuts(alloc: Global, end: u64, one_of: u64, seed: u64) -> Result<Vec<u64>, PieceError>
+pub fn random_cuts(alloc: Global, end: u64, one_of: u64, seed: u64) -> Result<Vec<u64>, PieceError>
     requires { 0 < one_of }
 {
     let mut cuts = Vec::new(alloc);

@@ -78,17 +78,9 @@ fn items_of_all_kinds(alloc: Global, seed: u64) -> Result<(Items, Vec<Item>), Fa
 
 /// Whether the items in that range are these.
 fn is_range(items: &Items, plain: &[Item], from: usize, to: usize) -> bool {
-    if from > to || to > items.len() || to > plain.len() {
-        return false;
-    }
-    let mut rest = &plain[from..to];
-    for item in items.range(from, to) {
-        match rest.split_first() {
-            Some((&first, others)) if first == item => rest = others,
-            _ => return false,
-        }
-    }
-    rest.is_empty()
+    from <= to
+        && to <= items.len().min(plain.len())
+        && items.range(from, to).eq(plain[from..to].iter().copied())
 }
 
 /// Whether item by item they are these.
@@ -103,7 +95,7 @@ fn is_each(items: &Items, plain: &[Item]) -> bool {
     number == items.len() && items.is_empty() == plain.is_empty()
 }
 
-/// Whether the items are these: one by one, in a loop over all of them, and in each range.
+/// Whether the items are these: one by one, as many, and in each range.
 fn are(items: &Items, plain: &[Item]) -> bool {
     for from in 0..=plain.len() {
         for to in from..=plain.len() {

@@ -1,6 +1,6 @@
 //! Locks and where they are lost, by both rules: known reports, lawful states, and random recordings against a plain program
 //! over whole locks.
-use crate::samples::{recording_of, zero_bytes};
+use crate::samples::{ONE_BAD, TWO_BAD, damaged_groups, recording_of, zero_bytes};
 use crate::sync::items::items_text;
 use rds_stream::Recording;
 use rds_sync::{
@@ -9,23 +9,6 @@ use rds_sync::{
 use std::alloc::{AllocError, Global};
 use std::process::Abort;
 use std::test::Fail;
-
-/// A zero group, and then one whose blocks are inverted at some of the bytes.
-fn damaged_groups(alloc: Global, damaged: &[(usize, u8)]) -> Result<Recording, Fail> {
-    let mut bytes = zero_bytes(alloc, 208)?;
-    for &(at, mask) in damaged {
-        if let Some(byte) = bytes.get_mut(at) {
-            *byte ^= mask;
-        }
-    }
-    Ok(recording_of(bytes, 208)?)
-}
-
-/// Block 1 of the second group, inverted by a burst of span 6.
-const ONE_BAD: [(usize, u8); 2] = [(15, 0x08), (16, 0x40)];
-
-/// That block, and block 3.
-const TWO_BAD: [(usize, u8); 3] = [(15, 0x08), (16, 0x40), (22, 0x84)];
 
 /// What a recording gives by a share, after its first group.
 struct Row {
