@@ -1,0 +1,5 @@
+//! Proved callers.
+#![tactic(auto)]
+
+pub mod code;
+pub mod stream;
