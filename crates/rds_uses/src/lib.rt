@@ -2,7 +2,9 @@
 #![tactic(auto)]
 
 pub mod code;
+pub mod crew;
 pub mod pieces;
 pub mod refusals;
 pub mod stream;
 pub mod sync;
+pub mod tool;
