@@ -2,6 +2,7 @@
 #![tactic(auto)]
 
 pub mod code;
+pub mod commands;
 pub mod crew;
 pub mod pieces;
 pub mod refusals;
