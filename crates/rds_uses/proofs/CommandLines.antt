@@ -1,5 +1,5 @@
 -- Two command lines as `clap` reads them.
-use Rattle.std.proofs.Common.{◌≡◌, ◌⊎◌, List, [], ◌∷◌, Option, Some, None, codes, true, false, refl, ap, inl, inr, slice_index, arith}
+use Rattle.std.proofs.Common.{◌≡◌, ◌⊎◌, ℕ, List, [], ◌∷◌, Option, Some, None, codes, true, false, refl, ap, inl, inr, slice_index, arith}
 use Rattle.clap.specs.Faults.{defaults_fault, flags_fault, walk_fault}
 use Rattle.clap.specs.Takes.{flags_pass, walk_passes}
 use Rattle.clap.specs.Walk.{bundle_met, walked}
@@ -28,9 +28,18 @@ is_scan (job.List input settings) is = absurd (omega (arith, ap (λ (t : Text). 
 is_scan (job.Totals input settings) is = absurd (omega (arith, ap (λ (t : Text). slice_index t 0) is.0))
 is_scan (job.Encode hex) is = absurd (omega (arith, ap (λ (t : Text). slice_index t 0) is.0))
 
+first_digit : Option Text → ℕ
+first_digit None = 0
+first_digit (Some text) = slice_index text 0
+
+true_is_not_false : Some (codes "true") ≡ Some (codes "false") → ⊥
+true_is_not_false same = omega (arith, ap first_digit same)
+
 a_job : IsJobOf (entries_of scan_of_digits) (job.Scan (record { hex = true; bits = None }))
 unfolding walked
-a_job = (refl, record { hex = (λ none. let no : Some (codes "true") ≡ None = none in cc, λ given. refl, λ other. absurd (omega (arith, ap (λ (t : Option Text). elim t [ None ↦ 0 | Some t ↦ slice_index t 0 ]) other))); bits = refl })
+a_job =
+    let is_given : Some (codes "true") ≡ None → true ≡ false = λ none. cc in
+    (refl, record { hex = (is_given, λ given. refl, λ other. absurd (true_is_not_false other)); bits = refl })
 
 pub only_memory : (answer : FaultKind) → MayAnswer (faults_of scan_of_digits) (entries_of scan_of_digits) answer → answer ≡ Memory
 only_memory Memory may = refl
@@ -50,5 +59,7 @@ asks_for_help = refl
 pub help_or_memory : (answer : FaultKind) → MayAnswer (faults_of help_of_list) (entries_of help_of_list) answer → (answer ≡ Help) ⊎ (answer ≡ Memory)
 help_or_memory Help may = inl refl
 help_or_memory Memory may = inr refl
-help_or_memory Words (inl other) = let among = other.2 in let is = rw asks_for_help at among in ?
+help_or_memory Words (inl other) = 
+    let among = other.2 in
+    elim (rw asks_for_help at among) [ inl same ↦ absurd (other.1 same) | inr none ↦ absurd none ]
 help_or_memory Words (inr none) = let faults = none.0 in let no = rw asks_for_help at faults in cc

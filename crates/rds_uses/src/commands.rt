@@ -30,7 +30,7 @@ pub fn nothing_to_show(alloc: Global, words: &[&str]) -> bool
     ensures { result ≡ true }
 {
     match job_of(alloc, words) {
-        Err(fault) if fault.kind == FaultKind::Memory => fault.text.is_empty(),
-        _ => true,
+        Ok(_job) => true,
+        Err(fault) => fault.kind != FaultKind::Memory || fault.text.is_empty(),
     }
 }

@@ -4,6 +4,7 @@
 pub mod code;
 pub mod commands;
 pub mod crew;
+pub mod devices;
 pub mod pieces;
 pub mod refusals;
 pub mod stream;
