@@ -28,7 +28,7 @@ is_scan (job.List input settings) is = absurd (omega (arith, ap (λ (t : Text). 
 is_scan (job.Totals input settings) is = absurd (omega (arith, ap (λ (t : Text). slice_index t 0) is.0))
 is_scan (job.Encode hex) is = absurd (omega (arith, ap (λ (t : Text). slice_index t 0) is.0))
 
-first_digit : Option Text → ℕ
+abbrev first_digit : Option Text → ℕ
 first_digit None = 0
 first_digit (Some text) = slice_index text 0
 
