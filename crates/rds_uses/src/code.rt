@@ -6,11 +6,11 @@ ghost use Rattle.rds_code.specs.declared.offset.Offset.TheVariants.{A, B, C, Cx,
 ghost use Rattle.rds_code.specs.declared.reading.Reading.{Reading as AReading};
 ghost use Rattle.rds_code.specs.declared.reading.Reading.TheVariants.{Valid, Corrected};
 ghost use Rattle.rds_code.specs.Remainder.{IsRemainder, rem};
-ghost use Rattle.rds_code.specs.Offsets.{number, word};
+ghost use Rattle.rds_code.specs.Offsets.{number};
 ghost use Rattle.rds_code.specs.Bursts.{IsBurst, bursts, span};
 ghost use Rattle.rds_code.specs.Reading.{FitsAlone, IsReading};
 ghost use Rattle.rds_code.specs.Encoding.{IsBlockOf, third_offset};
-ghost use Rattle.rds_code.specs.Correction.{alone, version_burst};
+ghost use Rattle.rds_code.specs.Correction.{version_burst};
 
 use rds_code::{Burst, BurstTable, Offset, Reading, Wanted};
 use rds_code::{encode_block, encode_group, is_block, laws, offset_of, plain, read_block, rem26};

@@ -1,5 +1,5 @@
 //! What a user of `rds_crew` relies on: the report of a crew is that of one decoder, and each refusal has its cause.
-ghost use Rattle.std.specs.Prelude.{◌≡◌, ◌<◌, ◌≤◌, ◌⊎◌, IfErr, IfOk, IsErrOf, length};
+ghost use Rattle.std.specs.Prelude.{◌≡◌, ◌≤◌, ◌⊎◌, IfErr, IfOk, IsErrOf, length};
 ghost use Rattle.rds_crew.specs.declared.error.CrewError.TheVariants.{CrewRange, NoWorker, OutOfMemory};
 ghost use Rattle.rds_pieces.specs.Cutting.{IsCutting, pieces_of};
 ghost use Rattle.rds_sync.specs.Report.{report_items};

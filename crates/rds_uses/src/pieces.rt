@@ -1,15 +1,11 @@
 //! What a user of `rds_pieces` relies on: cuttings, guesses, seams, and the report that is stitched of them.
-ghost use Rattle.std.specs.Prelude.{◌≡◌, ◌≢◌, ℕ, ◌+◌, ◌-◌, ◌*◌, ◌<◌, ◌≤◌, ◌^◌, ◌++◌, ◌∷◌, ◌↔◌, [], List, IsTrue, IfOk, IfErr, IfSome, IsErrOf, None, Some, length, slice_index, true};
+ghost use Rattle.std.specs.Prelude.{◌≡◌, ◌+◌, ◌-◌, ◌*◌, ◌<◌, ◌≤◌, ◌^◌, ◌++◌, ◌∷◌, [], IfOk, IfErr, Some, length, slice_index, true};
 ghost use Rattle.rds_sync.specs.declared.state.State.TheVariants.{Searching};
-ghost use Rattle.rds_sync.specs.Lawful.{IsBetweenGroups, IsLawful};
 ghost use Rattle.rds_sync.specs.Report.{report_items};
 ghost use Rattle.rds_sync.specs.Step.{run as run_of};
 ghost use Rattle.rds_sync.specs.Totals.{totals_of};
-ghost use Rattle.rds_pieces.specs.Cutting.{IsCutting, even_places, pieces_of};
-ghost use Rattle.rds_pieces.specs.Guess.{marks};
-ghost use Rattle.rds_pieces.specs.Meeting.{MeetAt, distance};
-ghost use Rattle.rds_pieces.specs.RunOf.{FollowEachOther, RunOf, run_at, run_over, runs_of};
-ghost use Rattle.rds_pieces.specs.Seams.{IsSumOfReads};
+ghost use Rattle.rds_pieces.specs.Cutting.{IsCutting, pieces_of};
+ghost use Rattle.rds_pieces.specs.RunOf.{FollowEachOther, run_over};
 ghost use Rattle.rds_pieces.specs.declared.error.PieceError.TheVariants.{BadCutting, OutOfMemory};
 
 use rds_pieces::{Cutting, Mark, PieceError, PieceRun, RecordingWork, Seam, Work};

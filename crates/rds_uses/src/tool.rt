@@ -6,7 +6,6 @@ ghost use Rattle.rds_sync.specs.Totals.{totals_of};
 ghost use Rattle.rds_tool.specs.GroupText.{encoded_text};
 ghost use Rattle.rds_tool.specs.Listing.{report_text, scan_text, totals_text};
 ghost use Rattle.rds_tool.specs.Outcome.{outcome};
-ghost use Rattle.rds_tool.specs.Rules.{rules_of};
 ghost use Rattle.rds_tool.specs.declared.error.ToolError.TheVariants.{BurstRange, OutOfMemory, Read, Write};
 ghost use Rattle.rds_uses.specs.Jobs.{IsListBy, IsTotalsBy, all_bits, plain};
 
