@@ -1,0 +1,81 @@
+-- What jobs make of the bits of bytes.
+use Rattle.std.proofs.Common.{◌≡◌, ℕ, ◌+◌, ◌*◌, ◌^◌, ◌≤◌, ◌++◌, List, [], Bool, true, false, Option, Some, None, Result, Ok, Err, cond, length, refl, sym, ap, ◌∙◌, arith}
+use Rattle.std.proofs.lemmas.Bool.Decides.{nat_tests}
+use Rattle.rds_sync.specs.Rules.{RuleNumbers}
+use Rattle.rds_tool.specs.Cuts.{cuts_bits}
+use Rattle.rds_tool.specs.Input.{and_then, recording_of}
+use Rattle.rds_tool.specs.Listing.{scan_text}
+use Rattle.rds_tool.specs.Outcome.{outcome, list_text, totals_list, text_of_task, Writes}
+use Rattle.rds_tool.specs.Plans.{PlanOf, crew_of, cut_by}
+use Rattle.rds_tool.specs.Rules.{rules_of}
+use Rattle.rds_tool.specs.declared.error.ToolError.{ToolError}
+use Rattle.rds_tool.specs.declared.error.ToolError.TheVariants.{BadCutting}
+use Rattle.rds_tool.specs.declared.job.Cuts.{Cuts}
+use Rattle.rds_tool.specs.declared.job.Job.{Job}
+use Rattle.rds_tool.specs.declared.job.Job.TheVariants as job
+use Rattle.rds_tool.specs.declared.job.Settings.{Settings}
+use Rattle.rds_tool.specs.declared.task.Task.TheVariants as task
+use Rattle.rds_uses.specs.Jobs.{all_bits, plain, IsListBy, IsTotalsBy}
+
+pub all_bits-few : (bytes : List ℕ) → 8 * length bytes ≤ 2 ^ 36 → recording_of plain bytes ≡ Ok (all_bits bytes)
+all_bits-few bytes few = grind (arith, nat_tests)
+
+-- what an empty writer holds afterwards is the text
+pub written : (outcome : Result (List ℕ) ToolError) (new : List ℕ) → Writes (Some []) (Some new) outcome → outcome ≡ Ok new
+written (Ok text) new is = ap Ok (sym is)
+written (Err e) new is = absurd is
+
+module _ (make : List ℕ → List ℕ) (bits text : List ℕ) where
+  if_cut : (fits : Bool) → and_then (cond fits (Ok bits) (Err BadCutting)) (λ bits. Ok (make bits)) ≡ Ok text → text ≡ make bits
+  if_cut true is = let same : Ok (make bits) ≡ Ok text = is in cc
+  if_cut false is = let none : Err BadCutting ≡ Ok text = is in cc
+
+module _ (bytes text : List ℕ) (few : 8 * length bytes ≤ 2 ^ 36) (rules : RuleNumbers) (settings : Settings) where
+  list_if_crew : (crew : Result (Unit {0}) ToolError)
+      → and_then (and_then (and_then crew (λ _. Ok (record { rules = rules; workers = settings.workers; cuts = settings.cuts }))) (λ plan. Ok (task.List plain plan)))
+        (λ task. text_of_task task bytes) ≡ Ok text
+      → text ≡ list_text rules (all_bits bytes)
+  list_if_crew (Ok done) is = if_cut (list_text rules) (all_bits bytes) text (cuts_bits settings.cuts (length (all_bits bytes))) (rw (all_bits-few bytes few) at is)
+  list_if_crew (Err e) is = let none : Err e ≡ Ok text = is in cc
+
+  pub list-text : rules_of settings ≡ Ok rules → outcome (job.List plain settings) bytes ≡ Ok text → text ≡ list_text rules (all_bits bytes)
+  list-text by is = list_if_crew (crew_of settings) (rw by at is)
+
+  totals_if_crew : (crew : Result (Unit {0}) ToolError)
+      → and_then (and_then (and_then crew (λ _. Ok (record { rules = rules; workers = settings.workers; cuts = settings.cuts }))) (λ plan. Ok (task.Totals plain plan)))
+        (λ task. text_of_task task bytes) ≡ Ok text
+      → text ≡ totals_list rules (all_bits bytes)
+  totals_if_crew (Ok done) is = if_cut (totals_list rules) (all_bits bytes) text (cuts_bits settings.cuts (length (all_bits bytes))) (rw (all_bits-few bytes few) at is)
+  totals_if_crew (Err e) is = let none : Err e ≡ Ok text = is in cc
+
+  pub totals-text : rules_of settings ≡ Ok rules → outcome (job.Totals plain settings) bytes ≡ Ok text → text ≡ totals_list rules (all_bits bytes)
+  totals-text by is = totals_if_crew (crew_of settings) (rw by at is)
+
+module _ (bytes new : List ℕ) (few : 8 * length bytes ≤ 2 ^ 36) (rules : RuleNumbers) where
+  -- what a listing writes into an empty writer
+  pub listed : (job : Job) → IsListBy job rules → Writes (Some []) (Some new) (outcome job bytes) → new ≡ list_text rules (all_bits bytes)
+  listed (job.List input settings) by is =
+      let text = written (outcome (job.List input settings) bytes) new is in
+      let same = by.0 in
+      list-text bytes new few rules settings by.1 (rw same at text)
+  listed (job.Scan input) by is = absurd by
+  listed (job.Totals input settings) by is = absurd by
+  listed (job.Encode hex) by is = absurd by
+
+  -- what totals write into one
+  pub totalled : (job : Job) → IsTotalsBy job rules → Writes (Some []) (Some new) (outcome job bytes) → new ≡ totals_list rules (all_bits bytes)
+  totalled (job.Totals input settings) by is =
+      let text = written (outcome (job.Totals input settings) bytes) new is in
+      let same = by.0 in
+      totals-text bytes new few rules settings by.1 (rw same at text)
+  totalled (job.Scan input) by is = absurd by
+  totalled (job.List input settings) by is = absurd by
+  totalled (job.Encode hex) by is = absurd by
+
+module _ (bytes new : List ℕ) (few : 8 * length bytes ≤ 2 ^ 36) where
+  -- what a scan writes into one
+  pub scanned : (asked : Job) → asked ≡ job.Scan plain → Writes (Some []) (Some new) (outcome asked bytes) → new ≡ scan_text (all_bits bytes)
+  scanned asked by is =
+      let text = written (outcome asked bytes) new is in
+      let made = rw (by, all_bits-few bytes few) at text in
+      cc

@@ -1,0 +1,6 @@
+use Rattle.std.proofs.Common.{arith}
+use Rattle.std.proofs.lemmas.Nat.{xor_lt}
+use Rattle.rds_uses.proofs.code.damaged.Goals as goal
+
+pub returns-clause-block : goal.returns-clause-block
+returns-clause-block c = omega (arith, xor_lt 26 c.args.sent c.args.damage c.requires.sent c.requires.damage)

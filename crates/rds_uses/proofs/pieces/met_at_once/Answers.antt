@@ -1,0 +1,19 @@
+use Rattle.std.proofs.Common.{ℕ, ◌+◌, ◌*◌, ◌≤◌, List, Result, Ok, Err, IfOk, arith}
+use Rattle.rds_pieces.specs.Meeting.{IsMeeting, distance}
+use Rattle.rds_pieces.specs.declared.error.PieceError.{PieceError}
+use Rattle.rds_pieces.specs.declared.meeting.Seam.{Seam}
+use Rattle.rds_sync.specs.Rules.{RuleNumbers}
+use Rattle.rds_sync.specs.declared.state.State.TheVariants.{Searching}
+use Rattle.rds_uses.proofs.Meetings.{met_at_once, cost_at_once}
+use Rattle.rds_uses.proofs.pieces.met_at_once.Goals as goal
+
+cheap : (b : List ℕ) (rules : RuleNumbers) (from to old new : ℕ) (result : _) → from ≤ to
+    → IfOk result (λ (s : Seam). IsMeeting b rules Searching Searching from to s.met_at)
+    → IfOk result (λ (s : Seam). new ≤ old + (rules.reach + 2) * (distance from to s.met_at + 1))
+    → IfOk {E = PieceError} result (λ _. new ≤ old + (rules.reach + 2))
+cheap b rules from to old new (Ok s) order met reads =
+    omega (arith, reads, cost_at_once b rules from to s.met_at (met_at_once b rules from to s.met_at order met))
+cheap b rules from to old new (Err e) order met reads = tt
+
+pub returns-clause-reads : goal.returns-clause-reads
+returns-clause-reads g c = cheap _ _ _ _ _ _ c.seam.result c.requires.range c.seam.ensures.met c.seam.ensures.reads

@@ -1,0 +1,9 @@
+use Rattle.std.proofs.Common.{arith}
+use Rattle.std.proofs.lemmas.Grind.{common_steps}
+use Rattle.std.proofs.lemmas.Bool.Decides.{nat_tests}
+use Rattle.rds_stream.specs.Recording.{off}
+use Rattle.rds_uses.proofs.stream.offsets_agree.Goals as goal
+
+pub returns : goal.returns
+unfolding off
+returns c = grind (arith, common_steps, nat_tests)

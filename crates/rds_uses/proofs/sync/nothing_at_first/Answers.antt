@@ -1,0 +1,25 @@
+use Rattle.std.proofs.Common.{◌≡◌, ℕ, ◌<◌, ◌≤◌, List, Option, None, Some, refl, arith}
+use Rattle.rds_sync.specs.Acquiring.{acquired}
+use Rattle.rds_sync.specs.Laws.{AcquisitionsAreLate}
+use Rattle.rds_sync.specs.Rules.{RuleNumbers}
+use Rattle.rds_uses.proofs.sync.nothing_at_first.Goals as goal
+
+none_early : (b : List ℕ) (rules : RuleNumbers) (i : ℕ) (found : Option ℕ) → i < 51 → ((x : ℕ) → found ≡ Some x → 51 ≤ i) → found ≡ None
+none_early b rules i None early late = refl
+none_early b rules i (Some x) early late = absurd (omega (arith, late x refl))
+
+pub returns-clause-state : goal.returns-clause-state
+returns-clause-state c =
+    let b = c.args.recording.now in
+    let rules = c.args.rules.now in
+    let quiet = c.searches_go_on.ensures b rules 0 51 (omega arith) (λ i _ early.
+        none_early b rules i (acquired b rules i) early (λ x is. (c.acquisitions_are_late.ensures b rules i x is).0)) in
+    grind arith
+
+pub returns-clause-items : goal.returns-clause-items
+returns-clause-items c =
+    let b = c.args.recording.now in
+    let rules = c.args.rules.now in
+    let quiet = c.searches_go_on.ensures b rules 0 51 (omega arith) (λ i _ early.
+        none_early b rules i (acquired b rules i) early (λ x is. (c.acquisitions_are_late.ensures b rules i x is).0)) in
+    grind arith

@@ -1,0 +1,26 @@
+-- The jobs that the callers ask for: of the bytes of a recording, all their bits.
+use Rattle.std.specs.Prelude.{◌≡◌, ℕ, ◌*◌, List, None, Ok, false, length}
+use Rattle.rds_stream.specs.Recording.{bits_of}
+use Rattle.rds_sync.specs.Rules.{RuleNumbers}
+use Rattle.rds_tool.specs.Rules.{rules_of}
+use Rattle.rds_tool.specs.declared.job.Input.{Input}
+use Rattle.rds_tool.specs.declared.job.Job.{Job}
+use Rattle.rds_tool.specs.declared.job.Job.TheVariants as job
+
+-- all bits of the bytes
+abbrev pub all_bits : List ℕ → List ℕ
+all_bits bytes = bits_of bytes (8 * length bytes)
+
+-- the input is the bytes themselves, and all their bits
+abbrev pub plain : Input
+plain = record { hex = false; bits = None }
+
+-- it asks for the listing by these rules, whoever works, and however the recording is cut
+abbrev pub IsListBy : Job → RuleNumbers → Type 0
+IsListBy (job.List input settings) rules = (input ≡ plain) × (rules_of settings ≡ Ok rules)
+IsListBy other rules = ⊥
+
+-- it asks for the totals by these rules, whoever works, and however the recording is cut
+abbrev pub IsTotalsBy : Job → RuleNumbers → Type 0
+IsTotalsBy (job.Totals input settings) rules = (input ≡ plain) × (rules_of settings ≡ Ok rules)
+IsTotalsBy other rules = ⊥

@@ -1,0 +1,305 @@
+//! What a user of `rds_code` relies on: remainders, offsets, bursts, and blocks as they are sent and read.
+ghost use Rattle.std.specs.Prelude.{◌≡◌, ◌≢◌, ℕ, ◌+◌, ◌<◌, ◌≤◌, ◌^◌, ◌↔◌, ◌∷◌, [], IsTrue, IfSome, None, Some, Contains, bit_xor, codes, slice_index, true};
+ghost use Rattle.std.specs.Int.Count.{ones};
+ghost use Rattle.rds_code.specs.declared.offset.Offset.{Offset as AnOffset};
+ghost use Rattle.rds_code.specs.declared.offset.Offset.TheVariants.{A, B, C, Cx, D};
+ghost use Rattle.rds_code.specs.declared.reading.Reading.{Reading as AReading};
+ghost use Rattle.rds_code.specs.declared.reading.Reading.TheVariants.{Valid, Corrected};
+ghost use Rattle.rds_code.specs.Remainder.{IsRemainder, rem};
+ghost use Rattle.rds_code.specs.Offsets.{number};
+ghost use Rattle.rds_code.specs.Bursts.{IsBurst, bursts, span};
+ghost use Rattle.rds_code.specs.Reading.{FitsAlone, IsReading};
+ghost use Rattle.rds_code.specs.Encoding.{IsBlockOf, third_offset};
+ghost use Rattle.rds_code.specs.Correction.{version_burst};
+
+use rds_code::{Burst, BurstTable, Offset, Reading, Wanted};
+use rds_code::{encode_block, encode_group, is_block, laws, offset_of, plain, read_block, rem26};
+
+// ---- remainders
+
+/// The remainder of a number, if that is a word of 26 bits.
+pub fn remainder_of_word(w: u32) -> Option<u16>
+    ensures some { IfSome result (λ r. rem w ≡ r) }
+    ensures none { result ≡ None → 2 ^ 26 ≤ w }
+{
+    if is_block(w) { Some(rem26(w)) } else { None }
+}
+
+/// The ten bits that differ from a block by a multiple of the generator are its remainder: no others do.
+pub fn only_remainder(w: u32, remainder: u16) -> u16
+    requires block { w < 2 ^ 26 }
+    requires remainder { IsRemainder w remainder }
+    ensures { result ≡ remainder }
+{
+    laws::blocks_have_one_remainder();
+    rem26(w)
+}
+
+/// The remainder by long division is one.
+pub fn divided(w: u32) -> u16
+    requires { w < 2 ^ 26 }
+    ensures { IsRemainder w result }
+{
+    plain::rem26(w)
+}
+
+/// Tables and long division agree.
+pub fn remainders_agree(w: u32) -> bool
+    requires { w < 2 ^ 26 }
+    ensures { result ≡ true }
+{
+    rem26(w) == plain::rem26(w)
+}
+
+/// A block has a remainder, whoever computes it.
+pub fn has_remainder(w: u32)
+    requires { w < 2 ^ 26 }
+    ensures { IsRemainder w (rem w) }
+{
+    laws::blocks_have_one_remainder();
+}
+
+/// The remainder of a damaged block is that of the block as it was sent, and to it that of the damage.
+pub fn remainder_of_damaged(sent: u32, damage: u32) -> bool
+    requires sent { sent < 2 ^ 26 }
+    requires damage { damage < 2 ^ 26 }
+    ensures { result ≡ true }
+{
+    laws::remainders_are_linear();
+    rem26(damaged(sent, damage)) == rem26(sent) ^ rem26(damage)
+}
+
+/// A block with some of its bits inverted: a block still.
+fn damaged(sent: u32, damage: u32) -> u32
+    requires sent { sent < 2 ^ 26 }
+    requires damage { damage < 2 ^ 26 }
+    ensures value { result ≡ bit_xor sent damage }
+    ensures block { result < 2 ^ 26 }
+{
+    sent ^ damage
+}
+
+// ---- offsets
+
+/// An offset is known by its word.
+pub fn known_by_word(offset: Offset) -> Option<Offset>
+    ensures { result ≡ Some offset }
+{
+    offset_of(offset.word())
+}
+
+/// The blocks of a group are counted from 1 to 4.
+pub fn index_in_group(offset: Offset) -> usize
+    ensures value { result + 1 ≡ number offset }
+    ensures inside { result < 4 }
+{
+    (offset.number() - 1) as usize
+}
+
+/// C' is printed as `Cx`.
+pub fn name_of_c_prime() -> &'static str
+    ensures { result.now ≡ codes "Cx" }
+{
+    Offset::Cx.name()
+}
+
+// ---- bursts
+
+/// A burst leaves a remainder, so that it is seen.
+pub fn shows(burst: Burst) -> bool
+    ensures { result ≡ true }
+{
+    laws::bursts_have_their_remainders();
+    rem26(burst.pattern()) != 0
+}
+
+/// Two bursts are one where their remainders are.
+pub fn told_apart(one: Burst, other: Burst) -> bool
+    requires { rem one ≡ rem other }
+    ensures { result ≡ true }
+{
+    laws::bursts_have_their_remainders();
+    let _patterns = (one.pattern(), other.pattern());
+    one == other
+}
+
+/// Each burst stands in the list of bursts.
+pub fn listed(burst: Burst) -> u32
+    ensures { Contains (bursts 5) result }
+{
+    laws::bursts_are_listed();
+    burst.pattern()
+}
+
+/// A place for each span in a table of five.
+pub fn index_by_span(burst: Burst) -> usize
+    ensures value { result + 1 ≡ span burst }
+    ensures inside { result < 5 }
+{
+    (burst.span() - 1) as usize
+}
+
+/// The bits that two bursts inverted: two to ten.
+pub fn bits_of_two(one: Burst, other: Burst) -> u8
+    ensures value { result ≡ ones one + ones other }
+    ensures least { 2 ≤ result }
+    ensures most { result ≤ 10 }
+{
+    one.ones() + other.ones()
+}
+
+/// The table finds each burst by its remainder, within its own span.
+pub fn found_again(table: &BurstTable, burst: Burst) -> Option<Burst>
+    ensures { result ≡ Some burst }
+{
+    table.find(rem26(burst.pattern()), burst.span())
+}
+
+/// What the table finds has the remainder that was asked for, and the span.
+pub fn found_as_asked(table: &BurstTable, remainder: u16, limit: u8) -> bool
+    requires remainder { remainder < 1024 }
+    requires limit { limit ≤ 5 }
+    ensures { result ≡ true }
+{
+    match table.find(remainder, limit) {
+        Some(burst) => rem26(burst.pattern()) == remainder && burst.span() <= limit,
+        None => true,
+    }
+}
+
+/// An undamaged block has no burst to be found.
+pub fn nothing_found(table: &BurstTable, limit: u8) -> Option<Burst>
+    requires { limit ≤ 5 }
+    ensures { result ≡ None }
+{
+    table.find(0, limit)
+}
+
+// ---- blocks
+
+/// Whether a window is the block that carries `info` with this offset: no other one does.
+pub fn is_the_block(w: u32, info: u16, offset: Offset) -> bool
+    ensures { IsTrue result ↔ IsBlockOf w info offset }
+{
+    laws::blocks_are_read_as_sent();
+    encode_block(info, offset) == w
+}
+
+/// A block that is sent and read, whatever else may be corrected.
+pub fn sent_and_read(
+    table: &BurstTable,
+    info: u16,
+    offset: Offset,
+    wanted: Wanted,
+    limit: u8,
+) -> Reading
+    requires { limit ≤ 5 }
+    ensures { result ≡ Valid offset info }
+{
+    laws::blocks_are_read_as_sent();
+    let block = encode_block(info, offset);
+    read_block(table, block, offset.number(), wanted, limit)
+}
+
+/// Block 1, 2 or 4 that is sent, damaged by one burst within the limit, and read: what was sent, and the burst.
+pub fn damaged_and_read(
+    table: &BurstTable,
+    info: u16,
+    offset: Offset,
+    burst: Burst,
+    limit: u8,
+) -> Reading
+    requires not_third { number offset ≢ 3 }
+    requires limit { limit ≤ 5 }
+    requires burst { IsBurst limit burst }
+    ensures { result ≡ Corrected offset info burst }
+{
+    laws::damaged_blocks_are_corrected();
+    let block = damaged(encode_block(info, offset), burst.pattern());
+    read_block(table, block, offset.number(), Wanted::Either, limit)
+}
+
+/// Block 3 of version A likewise, where C alone is wanted.
+pub fn damaged_third_and_read(
+    table: &BurstTable,
+    info: u16,
+    burst: Burst,
+    limit: u8,
+) -> Reading
+    requires limit { limit ≤ 5 }
+    requires burst { IsBurst limit burst }
+    requires not_that_one { burst ≢ version_burst }
+    ensures { result ≡ Corrected C info burst }
+{
+    laws::damaged_blocks_are_corrected();
+    let block = damaged(encode_block(info, Offset::C), burst.pattern());
+    read_block(table, block, 3, Wanted::OnlyC, limit)
+}
+
+/// The one burst that makes of block 3 of version A a valid one of version B.
+pub fn taken_for_other_version(info: u16, burst: Burst) -> Option<Offset>
+    requires { burst ≡ version_burst }
+    ensures { result ≡ Some Cx }
+{
+    laws::damaged_blocks_are_corrected();
+    let block = damaged(encode_block(info, Offset::C), burst.pattern());
+    offset_of(rem26(block))
+}
+
+/// A window is corrected only where one pair alone of an offset and a burst fits.
+pub fn corrected_by_one_pair(
+    table: &BurstTable,
+    w: u32,
+    number: u8,
+    wanted: Wanted,
+    limit: u8,
+) -> Reading
+    requires block { w < 2 ^ 26 }
+    requires first { 1 ≤ number }
+    requires last { number ≤ 4 }
+    requires limit { limit ≤ 5 }
+    ensures { (o : AnOffset) (info e : ℕ) → result ≡ Corrected o info e → FitsAlone w number wanted limit o e }
+{
+    read_block(table, w, number, wanted, limit)
+}
+
+/// Who reads by the rule reads this.
+pub fn read_by_the_rule(
+    table: &BurstTable,
+    w: u32,
+    number: u8,
+    wanted: Wanted,
+    limit: u8,
+) -> Reading
+    requires block { w < 2 ^ 26 }
+    requires first { 1 ≤ number }
+    requires last { number ≤ 4 }
+    requires limit { limit ≤ 5 }
+    ensures { (r : AReading) → IsReading w number wanted limit r → r ≡ result }
+{
+    laws::readings_follow_the_rule();
+    read_block(table, w, number, wanted, limit)
+}
+
+/// A group that is sent and read, block by block: block 3 has C' where the version bit is set.
+pub fn group_sent_and_read(table: &BurstTable, words: [u16; 4]) -> [Reading; 4]
+    ensures { result ≡ Valid A (slice_index words 0) ∷ Valid B (slice_index words 1)
+        ∷ Valid (third_offset (slice_index words 1)) (slice_index words 2) ∷ Valid D (slice_index words 3) ∷ [] }
+{
+    laws::blocks_are_read_as_sent();
+    let [one, two, three, four] = encode_group(words);
+    [
+        read_block(table, one, 1, Wanted::Either, 0),
+        read_block(table, two, 2, Wanted::Either, 0),
+        read_block(table, three, 3, Wanted::Either, 0),
+        read_block(table, four, 4, Wanted::Either, 0),
+    ]
+}
+
+/// The last block of a group is that of its last word.
+pub fn last_block(first: u16, second: u16, third: u16, fourth: u16) -> bool
+    ensures { result ≡ true }
+{
+    let [_, _, _, block] = encode_group([first, second, third, fourth]);
+    block == encode_block(fourth, Offset::D)
+}

@@ -1,0 +1,36 @@
+//! What the program relies on when it reads its command line.
+ghost use Rattle.std.specs.Prelude.{◌≡◌, ◌⊎◌, IfErr, IfOk, OnOk, true};
+ghost use Rattle.rds_tool.specs.declared.job.Input.{Input as AnInput};
+
+use rds_tool::{CliFault, FaultKind, Job, job_of};
+use std::alloc::Global;
+
+static SCAN_OF_DIGITS: [&str; 3] = ["rds", "scan", "--hex"];
+
+static HELP_OF_LIST: [&str; 3] = ["rds", "list", "--help"];
+
+/// `rds scan --hex` asks for a scan of digits: where memory is not refused it is a job, and no other.
+pub fn scan_of_digits(alloc: Global) -> Result<Job, CliFault>
+    ensures job { IfOk result (λ job. (input : AnInput) × (job ≡ Job.Scan input) × (input.hex ≡ true)) }
+    ensures fault { IfErr result (λ fault. fault.kind ≡ FaultKind.Memory) }
+{
+    job_of(alloc, SCAN_OF_DIGITS.as_slice())
+}
+
+/// `rds list --help` is no job: help is shown, or memory was refused.
+pub fn help_of_list(alloc: Global) -> Result<Job, CliFault>
+    ensures no_job { OnOk result ⊥ }
+    ensures help { IfErr result (λ fault. (fault.kind ≡ FaultKind.Help) ⊎ (fault.kind ≡ FaultKind.Memory)) }
+{
+    job_of(alloc, HELP_OF_LIST.as_slice())
+}
+
+/// Where memory was refused there is nothing to be shown but that.
+pub fn nothing_to_show(alloc: Global, words: &[&str]) -> bool
+    ensures { result ≡ true }
+{
+    match job_of(alloc, words) {
+        Ok(_job) => true,
+        Err(fault) => fault.kind != FaultKind::Memory || fault.text.is_empty(),
+    }
+}

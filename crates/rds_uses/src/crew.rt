@@ -1,0 +1,62 @@
+//! What a user of `rds_crew` relies on: the report of a crew is that of one decoder, and each refusal has its cause.
+ghost use Rattle.std.specs.Prelude.{◌≡◌, ◌≤◌, ◌⊎◌, IfErr, IfOk, IsErrOf, length};
+ghost use Rattle.rds_crew.specs.declared.error.CrewError.TheVariants.{CrewRange, NoWorker, OutOfMemory};
+ghost use Rattle.rds_pieces.specs.Cutting.{IsCutting, pieces_of};
+ghost use Rattle.rds_sync.specs.Report.{report_items};
+ghost use Rattle.rds_sync.specs.Totals.{totals_of};
+
+use rds_crew::{CrewError, OpenGate, decode_crew};
+use rds_pieces::{Cutting, RecordingWork};
+use rds_stream::Recording;
+use rds_sync::{Report, Rules};
+use std::alloc::Global;
+use std::sync::Wait;
+use std::thread::Threads;
+
+/// The report of a recording by four workers, however it is cut: that of one decoder.
+pub fn decoded_by_four<R: Threads + Wait + Sync>(
+    rt: &R,
+    alloc: Global,
+    recording: &Recording,
+    rules: &Rules,
+    cutting: &Cutting,
+) -> Result<Report, CrewError>
+    requires { IsCutting (length recording.now) cutting.now }
+    ensures items { IfOk result (λ report. report.items.items ≡ report_items recording.now rules.now) }
+    ensures totals { IfOk result (λ report. report.totals ≡ totals_of (report_items recording.now rules.now)) }
+    ensures refused { IfErr result (λ error. (error ≡ OutOfMemory) ⊎ (error ≡ NoWorker)) }
+{
+    let work = RecordingWork::new(recording, rules, cutting);
+    decode_crew(rt, alloc, &work, 4, &OpenGate)
+}
+
+/// No thread is asked for where there is one piece: memory alone can be in want.
+pub fn decoded_in_one_piece<R: Threads + Wait + Sync>(
+    rt: &R,
+    alloc: Global,
+    recording: &Recording,
+    rules: &Rules,
+    cutting: &Cutting,
+) -> Result<Report, CrewError>
+    requires fits { IsCutting (length recording.now) cutting.now }
+    requires one { pieces_of cutting.now ≤ 1 }
+    ensures { IfErr result (λ error. error ≡ OutOfMemory) }
+{
+    let work = RecordingWork::new(recording, rules, cutting);
+    decode_crew(rt, alloc, &work, 4, &OpenGate)
+}
+
+/// More than 256 workers are refused.
+pub fn too_many_workers<R: Threads + Wait + Sync>(
+    rt: &R,
+    alloc: Global,
+    recording: &Recording,
+    rules: &Rules,
+    cutting: &Cutting,
+) -> Result<Report, CrewError>
+    requires { IsCutting (length recording.now) cutting.now }
+    ensures { IsErrOf result CrewRange }
+{
+    let work = RecordingWork::new(recording, rules, cutting);
+    decode_crew(rt, alloc, &work, 257, &OpenGate)
+}

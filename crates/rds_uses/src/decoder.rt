@@ -1,0 +1,43 @@
+//! A decoder as a user of the libraries writes it: from bytes to a report, piece by piece.
+ghost use Rattle.std.specs.Prelude.{◌≡◌, ◌*◌, ◌≤◌, ◌^◌, IfOk, IfSome, length, vec_len};
+ghost use Rattle.rds_pieces.specs.Cutting.{IsCutting};
+ghost use Rattle.rds_pieces.specs.RunOf.{runs_of};
+ghost use Rattle.rds_sync.specs.Report.{report_items};
+ghost use Rattle.rds_uses.specs.Jobs.{all_bits};
+
+use rds_pieces::{Cutting, PieceError, PieceRun, laws, speculate, stitch};
+use rds_stream::{Counted, Recording};
+use rds_sync::{Report, Rules};
+use std::alloc::Global;
+
+/// The report of the bytes of a recording in an even cutting: that of one decoder, into however many pieces it is cut.
+pub fn decoded(alloc: Global, bytes: Vec<u8>, pieces: u64) -> Option<Report>
+    requires few { 8 * vec_len bytes ≤ 2 ^ 36 }
+    requires some { 1 ≤ pieces }
+    ensures { IfSome result (λ report. report.items.items ≡ report_items (all_bits bytes.items) (record { burst = 2; reach = 3; loss = 10 })) }
+{
+    let bits = 8 * bytes.len() as u64;
+    let recording = Recording::from_bytes(bytes, bits).ok()?;
+    let rules = Rules::new(alloc, 2, 3, 10).ok()?;
+    let cutting = Cutting::even(alloc, recording.len(), pieces).ok()?;
+    let runs = guesses(alloc, &recording, &rules, &cutting).ok()?;
+    laws::pieces_follow();
+    stitch(alloc, &mut Counted::new(&recording), &rules, runs.as_slice()).ok()
+}
+
+/// The guesses of all pieces, in order.
+fn guesses(
+    alloc: Global,
+    recording: &Recording,
+    rules: &Rules,
+    cutting: &Cutting,
+) -> Result<Vec<PieceRun>, PieceError>
+    requires { IsCutting (length recording.now) cutting.now }
+    ensures { IfOk result (λ runs. runs.items ≡ runs_of recording.now rules.now cutting.now) }
+{
+    let mut runs = Vec::new(alloc);
+    for j in 0..cutting.pieces() {
+        runs.push(speculate(alloc, recording, rules, cutting, j)?)?;
+    }
+    Ok(runs)
+}

@@ -1,0 +1,28 @@
+//! Proved callers of the libraries: what each of their claims gives a user, in plain words.
+//!
+//! No program runs these functions. Each is a call or a few, and is proved from the contracts of what it calls alone. So a
+//! clause that goes, or that grows too weak for a user, is missed here, and the check fails. `docs/PROOFS.md` names the
+//! caller of each claim.
+//!
+//! - [`code`]: remainders, offsets, bursts, blocks as they are sent and read.
+//! - [`stream`]: recordings, their windows, scans, planes and tapes.
+//! - [`sync`]: rules, lawful states, steps, runs and reports.
+//! - [`pieces`]: cuttings, guesses, seams, and what is stitched of them.
+//! - [`decoder`]: all of these together, from bytes to a report.
+//! - [`crew`]: the reports of crews.
+//! - [`tool`]: what is written of the bytes that a reader holds, and each refusal by its cause.
+//! - [`devices`]: sources and sinks, whatever is behind them.
+//! - [`commands`]: the command line as a job.
+//! - [`refusals`]: numbers and names, which all crates share.
+#![tactic(auto)]
+
+pub mod code;
+pub mod commands;
+pub mod crew;
+pub mod decoder;
+pub mod devices;
+pub mod pieces;
+pub mod refusals;
+pub mod stream;
+pub mod sync;
+pub mod tool;

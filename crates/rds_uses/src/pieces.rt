@@ -1,0 +1,255 @@
+//! What a user of `rds_pieces` relies on: cuttings, guesses, seams, and the report that is stitched of them.
+ghost use Rattle.std.specs.Prelude.{◌≡◌, ◌+◌, ◌-◌, ◌*◌, ◌<◌, ◌≤◌, ◌^◌, ◌++◌, ◌∷◌, [], IfOk, IfErr, Some, length, slice_index, true};
+ghost use Rattle.rds_sync.specs.declared.state.State.TheVariants.{Searching};
+ghost use Rattle.rds_sync.specs.Report.{report_items};
+ghost use Rattle.rds_sync.specs.Step.{run as run_of};
+ghost use Rattle.rds_sync.specs.Totals.{totals_of};
+ghost use Rattle.rds_pieces.specs.Cutting.{IsCutting, pieces_of};
+ghost use Rattle.rds_pieces.specs.RunOf.{FollowEachOther, run_over};
+ghost use Rattle.rds_pieces.specs.declared.error.PieceError.TheVariants.{BadCutting, OutOfMemory};
+
+use rds_pieces::{Cutting, Mark, PieceError, PieceRun, RecordingWork, Seam, Work};
+use rds_pieces::{laws, seam, speculate, stitch};
+use rds_stream::{Counted, Recording, Tape};
+use rds_sync::{Item, Report, Rules, State, SyncError, laws as laws_of_runs};
+use std::alloc::Global;
+use std::snapshot::Snapshot;
+
+// ---- cuttings
+
+/// Places that are a cutting of so many bits are taken as they are.
+pub fn taken_cutting(places: Vec<u64>, len: u64) -> Option<Cutting>
+    requires { IsCutting len places.items }
+    ensures { result ≡ Some places.items }
+{
+    Cutting::new(places, len).ok()
+}
+
+/// Places that are none come back, with the refusal.
+pub fn refused_cutting(places: Vec<u64>, len: u64) -> Option<(PieceError, Vec<u64>)>
+    requires { ¬ IsCutting len places.items }
+    ensures { result ≡ Some (BadCutting, places) }
+{
+    Cutting::new(places, len).err()
+}
+
+/// A hundred bits in three pieces, each but the last of a third, rounded up.
+pub fn thirds(alloc: Global) -> Result<Cutting, PieceError>
+    ensures places { IfOk result (λ cutting. cutting ≡ 0 ∷ 34 ∷ 68 ∷ 100 ∷ []) }
+    ensures refused { IfErr result (λ error. error ≡ OutOfMemory) }
+{
+    Cutting::even(alloc, 100, 3)
+}
+
+/// The last piece ends where the recording does.
+pub fn end_of_last_piece(alloc: Global, len: u64, pieces: u64) -> Result<u64, PieceError>
+    requires some { 1 ≤ pieces }
+    requires bits { 0 < len }
+    ensures { IfOk result (λ end. end ≡ len) }
+{
+    let cutting = Cutting::even(alloc, len, pieces)?;
+    Ok(cutting.to(cutting.pieces() - 1))
+}
+
+/// One piece begins where the one before it ends.
+pub fn neighbours_touch(cutting: &Cutting, j: u64) -> bool
+    requires { j + 1 < pieces_of cutting.now }
+    ensures { result ≡ true }
+{
+    let _pieces = cutting.pieces();
+    cutting.to(j) == cutting.from(j + 1)
+}
+
+/// A list with room for a bit a piece is long enough.
+pub fn bits_beyond_pieces(recording: &Recording, cutting: &Cutting) -> u64
+    requires { IsCutting (length recording.now) cutting.now }
+    ensures { result + pieces_of cutting.now ≡ length recording.now }
+{
+    laws::pieces_are_few();
+    recording.len() - cutting.pieces()
+}
+
+// ---- guesses
+
+/// The guess of the second of two pieces: its range, and a mark at its first place.
+pub fn second_guess(
+    alloc: Global,
+    recording: &Recording,
+    rules: &Rules,
+    cutting: &Cutting,
+) -> Result<PieceRun, PieceError>
+    requires fits { IsCutting (length recording.now) cutting.now }
+    requires two { pieces_of cutting.now ≡ 2 }
+    ensures run { IfOk result (λ run. run ≡ run_over recording.now rules.now (slice_index cutting.now 1) (slice_index cutting.now 2)) }
+    ensures refused { IfErr result (λ error. error ≡ OutOfMemory) }
+{
+    speculate(alloc, recording, rules, cutting, 1)
+}
+
+/// A guess gives the items and the end state of a run from Searching over its range.
+pub fn guessed_as_run(
+    alloc: Global,
+    recording: &Recording,
+    rules: &Rules,
+    run: &PieceRun,
+) -> Result<bool, SyncError>
+    requires range { (run.now.from ≤ run.now.to) × (run.now.to ≤ length recording.now) }
+    requires source { run.now.source ≡ recording.now }
+    requires rules { run.now.rules ≡ rules.now }
+    ensures { IfOk result (λ same. same ≡ true) }
+{
+    let (end, items) = rds_sync::run(alloc, recording, rules, State::Searching, run.from(), run.to())?;
+    Ok(end == run.end_state() && items.len() == run.items().len())
+}
+
+/// A guess has a mark at its first place.
+pub fn first_mark(run: &PieceRun) -> Mark
+    ensures { result ≡ record { place = run.now.from; state = Searching; items = 0 } }
+{
+    run.marks()[0]
+}
+
+// ---- seams
+
+/// A seam goes on where the run before it stopped: both together are one run, from the first bit to the piece's end.
+pub fn carried_on(
+    alloc: Global,
+    recording: &Recording,
+    rules: &Rules,
+    run: &PieceRun,
+) -> Result<(Vec<Item>, Seam), PieceError>
+    requires range { (run.now.from ≤ run.now.to) × (run.now.to ≤ length recording.now) }
+    requires source { run.now.source ≡ recording.now }
+    requires rules { run.now.rules ≡ rules.now }
+    ensures items { IfOk result (λ both. both.0.items ++ both.1.items.items ≡ (run_of recording.now rules.now Searching 0 run.now.to).1) }
+    ensures end { IfOk result (λ both. both.1.end_state ≡ (run_of recording.now rules.now Searching 0 run.now.to).0) }
+{
+    laws_of_runs::runs_join();
+    let before = rds_sync::run(alloc, recording, rules, State::Searching, 0, run.from());
+    let Ok((state, items)) = before else {
+        return Err(PieceError::OutOfMemory);
+    };
+    let seam = seam(alloc, &mut Counted::new(recording), rules, state, run)?;
+    Ok((items, seam))
+}
+
+/// A seam that comes from a search meets the guess at once, and costs the reach and two windows more at most.
+pub fn met_at_once<T: Tape>(
+    alloc: Global,
+    tape: &mut T,
+    rules: &Rules,
+    run: &PieceRun,
+) -> Result<Seam, PieceError>
+    requires range { run.now.from ≤ run.now.to }
+    requires source { run.now.source ≡ T.bits tape.old }
+    requires rules { run.now.rules ≡ rules.now }
+    requires room { T.reads_made tape.old ≤ 2 ^ 62 }
+    ensures met { IfOk result (λ seam. seam.met_at ≡ Some run.now.from) }
+    ensures reads { IfOk result (λ _. T.reads_made tape.new ≤ T.reads_made tape.old + (rules.now.reach + 2)) }
+{
+    seam(alloc, tape, rules, State::Searching, run)
+}
+
+/// What a seam costs where memory is refused: the refusal, and no more windows than else; the tape is of the same bits.
+pub fn cost_of_seam<T: Tape>(
+    alloc: Global,
+    tape: &mut T,
+    rules: &Rules,
+    run: &PieceRun,
+) -> Result<Seam, PieceError>
+    requires source { run.now.source ≡ T.bits tape.old }
+    requires rules { run.now.rules ≡ rules.now }
+    requires room { T.reads_made tape.old ≤ 2 ^ 62 }
+    ensures refused { IfErr result (λ error. error ≡ OutOfMemory) }
+    ensures reads { T.reads_made tape.new ≤ T.reads_made tape.old + (rules.now.reach + 2) * (run.now.to - run.now.from + 1) }
+    ensures same { T.bits tape.new ≡ T.bits tape.old }
+{
+    seam(alloc, tape, rules, State::Searching, run)
+}
+
+// ---- reports
+
+/// The report of a recording in two pieces, by hand: it is that of one decoder.
+pub fn decoded_in_two_pieces(
+    alloc: Global,
+    recording: &Recording,
+    rules: &Rules,
+    cutting: &Cutting,
+) -> Result<Report, PieceError>
+    requires fits { IsCutting (length recording.now) cutting.now }
+    requires two { pieces_of cutting.now ≡ 2 }
+    ensures items { IfOk result (λ report. report.items.items ≡ report_items recording.now rules.now) }
+    ensures totals { IfOk result (λ report. report.totals ≡ totals_of (report_items recording.now rules.now)) }
+    ensures refused { IfErr result (λ error. error ≡ OutOfMemory) }
+{
+    laws::pieces_follow();
+    let mut runs = Vec::new(alloc);
+    runs.push(speculate(alloc, recording, rules, cutting, 0)?)?;
+    runs.push(speculate(alloc, recording, rules, cutting, 1)?)?;
+    stitch(alloc, &mut Counted::new(recording), rules, runs.as_slice())
+}
+
+/// A recording in one piece is stitched at the cost of one seam that meets at once, and of its end.
+pub fn cost_of_one_piece<T: Tape>(
+    alloc: Global,
+    tape: &mut T,
+    rules: &Rules,
+    runs: &[PieceRun],
+) -> Result<Report, PieceError>
+    requires in_a_row { FollowEachOther (T.bits tape.old) rules.now 0 (length (T.bits tape.old)) runs.now }
+    requires one { length runs.now ≡ 1 }
+    requires room { T.reads_made tape.old ≤ 2 ^ 61 }
+    ensures reads { IfOk result (λ _. T.reads_made tape.new ≤ T.reads_made tape.old + (rules.now.reach + 2) + 3) }
+    ensures same { T.bits tape.new ≡ T.bits tape.old }
+{
+    stitch(alloc, tape, rules, runs)
+}
+
+/// Runs stay in a row where one run stands for two neighbours.
+pub fn row_after_join(
+    recording: &Recording,
+    rules: &Rules,
+    before: &[PieceRun],
+    left: &PieceRun,
+    right: &PieceRun,
+    after: &[PieceRun],
+)
+    requires { FollowEachOther recording.now rules.now 0 (length recording.now) (before.now ++ left.now ∷ right.now ∷ after.now) }
+    ensures { FollowEachOther recording.now rules.now 0 (length recording.now) (before.now ++ run_over recording.now rules.now left.now.from right.now.to ∷ after.now) }
+{
+    laws::joined_runs_follow();
+}
+
+// ---- works
+
+/// The report of a work that is cut into one piece: that of the recording and the rules that it names.
+pub fn report_of_work<W: Work>(alloc: Global, work: &W) -> Result<Report, PieceError>
+    requires fits { IsCutting (length (W.recording work.now)) (W.places work.now) }
+    requires one { pieces_of (W.places work.now) ≡ 1 }
+    ensures items { IfOk result (λ report. report.items.items ≡ report_items (W.recording work.now) (W.rule_set work.now)) }
+    ensures totals { IfOk result (λ report. report.totals ≡ totals_of (report_items (W.recording work.now) (W.rule_set work.now))) }
+    ensures refused { IfErr result (λ error. error ≡ OutOfMemory) }
+{
+    laws::pieces_follow();
+    let mut runs = Vec::new(alloc);
+    runs.push(work.guess(alloc, 0)?)?;
+    work.report(alloc, runs.as_slice())
+}
+
+/// What a work names, as a caller sees it.
+pub fn names_of_work<W: Work>(work: &W) -> (Snapshot<Recording>, u32, u64)
+    ensures source { result.0.value ≡ W.recording work.now }
+    ensures rules { result.1 ≡ (W.rule_set work.now).loss }
+    ensures cutting { result.2 ≡ pieces_of (W.places work.now) }
+{
+    (work.source(), work.rules().loss(), work.cutting().pieces())
+}
+
+/// The work over a recording names what it was given.
+pub fn work_of_recording(recording: &Recording, rules: &Rules, cutting: &Cutting) -> bool
+    requires { IsCutting (length recording.now) cutting.now }
+    ensures { result ≡ true }
+{
+    let work = RecordingWork::new(recording, rules, cutting);
+    work.rules().reach() == rules.reach() && work.cutting().pieces() == cutting.pieces()
+}

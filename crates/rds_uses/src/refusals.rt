@@ -1,0 +1,93 @@
+//! What a user relies on who prints refusals: each has one number and one name, in every crate.
+ghost use Rattle.std.specs.Prelude.{◌≡◌, ◌↔◌, All, IsTrue, codes, true};
+
+use rds_code::CodeError;
+use rds_crew::CrewError;
+use rds_pieces::PieceError;
+use rds_stream::StreamError;
+use rds_sync::SyncError;
+use rds_tool::ToolError;
+
+/// Want of memory has number 8, whichever crate was in want.
+pub fn numbers_of_memory() -> [u8; 6]
+    ensures { All (λ number. number ≡ 8) result }
+{
+    [
+        CodeError::OutOfMemory.number(),
+        StreamError::OutOfMemory.number(),
+        SyncError::OutOfMemory.number(),
+        PieceError::OutOfMemory.number(),
+        CrewError::OutOfMemory.number(),
+        ToolError::OutOfMemory.number(),
+    ]
+}
+
+/// And it has one name.
+pub fn name_in_code() -> &'static str
+    ensures { result.now ≡ codes "OutOfMemory" }
+{
+    CodeError::OutOfMemory.name()
+}
+
+/// The program prints the numbers of the layers below: a refusal keeps its number on the way up.
+pub fn number_of_stream(error: StreamError) -> bool
+    ensures { result ≡ true }
+{
+    ToolError::from(error).number() == error.number()
+}
+
+/// See [`number_of_stream`].
+pub fn number_of_sync(error: SyncError) -> bool
+    ensures { result ≡ true }
+{
+    ToolError::from(error).number() == error.number()
+}
+
+/// See [`number_of_stream`].
+pub fn number_of_piece(error: PieceError) -> bool
+    ensures { result ≡ true }
+{
+    ToolError::from(error).number() == error.number()
+}
+
+/// See [`number_of_stream`].
+pub fn number_of_crew(error: CrewError) -> bool
+    ensures { result ≡ true }
+{
+    ToolError::from(error).number() == error.number()
+}
+
+/// A refusal keeps its name, too.
+pub fn name_of_stream(error: StreamError) -> bool
+    ensures { result ≡ true }
+{
+    ToolError::from(error).name() == error.name()
+}
+
+/// See [`name_of_stream`].
+pub fn name_of_sync(error: SyncError) -> bool
+    ensures { result ≡ true }
+{
+    ToolError::from(error).name() == error.name()
+}
+
+/// See [`name_of_stream`].
+pub fn name_of_piece(error: PieceError) -> bool
+    ensures { result ≡ true }
+{
+    ToolError::from(error).name() == error.name()
+}
+
+/// See [`name_of_stream`].
+pub fn name_of_crew(error: CrewError) -> bool
+    ensures { result ≡ true }
+{
+    ToolError::from(error).name() == error.name()
+}
+
+/// A number tells the refusal of a transcription.
+pub fn told_by_number(one: ToolError, other: ToolError) -> bool
+    ensures { IsTrue result ↔ (one ≡ other) }
+{
+    one.number() == other.number()
+}

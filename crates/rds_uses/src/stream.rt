@@ -1,0 +1,146 @@
+//! What a user of `rds_stream` relies on: bits from bytes, windows, scans, planes and tapes.
+ghost use Rattle.std.specs.Prelude.{◌≡◌, ℕ, ◌+◌, ◌-◌, ◌*◌, ◌<◌, ◌≤◌, ◌^◌, IsTrue, IfSome, Some, Err, length, slice_index, true, vec_len};
+ghost use Rattle.std.specs.Int.{bit_at};
+ghost use Rattle.rds_code.specs.Remainder.{rem};
+ghost use Rattle.rds_code.specs.Offsets.{offset_of as the_offset_of};
+ghost use Rattle.rds_stream.specs.Recording.{bits_of, valid_windows, window};
+ghost use Rattle.rds_stream.specs.declared.error.StreamError.TheVariants.{BitsPastBytes, OutOfMemory, TooLong};
+
+use rds_code::{Offset, offset_of, rem26};
+use rds_stream::{Counted, FIRST_WINDOW, Recording, StreamError, Tape, planes, scan};
+use std::alloc::Global;
+use std::snapshot::Snapshot;
+
+// ---- recordings
+
+/// So many of the first bits of the bytes, where these hold as many, and 2^36 at most.
+pub fn recorded(bytes: Vec<u8>, bits: u64) -> Option<Recording>
+    requires few { bits ≤ 2 ^ 36 }
+    requires held { bits ≤ 8 * vec_len bytes }
+    ensures { result ≡ Some (bits_of bytes.items bits) }
+{
+    match Recording::from_bytes(bytes, bits) {
+        Ok(recording) => Some(recording),
+        Err(_) => None,
+    }
+}
+
+/// More bits than a recording may have are refused, and the bytes come back.
+pub fn too_long(bytes: Vec<u8>, bits: u64) -> Result<Recording, (StreamError, Vec<u8>)>
+    requires { 2 ^ 36 < bits }
+    ensures { result ≡ Err (TooLong, bytes) }
+{
+    Recording::from_bytes(bytes, bits)
+}
+
+/// More bits than the bytes hold are refused, and the bytes come back.
+pub fn past_the_bytes(bytes: Vec<u8>, bits: u64) -> Result<Recording, (StreamError, Vec<u8>)>
+    requires few { bits ≤ 2 ^ 36 }
+    requires more { 8 * vec_len bytes < bits }
+    ensures { result ≡ Err (BitsPastBytes, bytes) }
+{
+    Recording::from_bytes(bytes, bits)
+}
+
+/// The last bit, and a place for it in a table of bytes: no sum goes wrong.
+pub fn last_bit(recording: &Recording) -> bool
+    requires { 0 < length recording.now }
+    ensures { IsTrue result → slice_index recording.now (length recording.now - 1) ≡ 1 }
+{
+    recording.bit(recording.len() - 1)
+}
+
+/// How many bits there would be after so many more.
+pub fn len_with(recording: &Recording, more: u32) -> u64
+    ensures { result ≡ length recording.now + more }
+{
+    recording.len() + u64::from(more)
+}
+
+/// A window is a block, and its offset is that of its remainder.
+pub fn offsets_agree(recording: &Recording, place: u64) -> bool
+    requires first { 25 ≤ place }
+    requires last { place < length recording.now }
+    ensures { result ≡ true }
+{
+    recording.offset(place) == offset_of(rem26(recording.window(place)))
+}
+
+/// The window at the first place that has one, as it is read from a tape.
+pub fn windows_agree(recording: &Recording) -> bool
+    requires { 26 ≤ length recording.now }
+    ensures { result ≡ true }
+{
+    let mut tape = Counted::new(recording);
+    tape.window(FIRST_WINDOW) == recording.window(FIRST_WINDOW)
+}
+
+// ---- many places
+
+/// All valid windows of a recording, by rising place.
+pub fn all_valid(alloc: Global, recording: &Recording) -> Option<Vec<(u64, Offset)>>
+    ensures { IfSome result (λ found. found.items ≡ valid_windows recording.now 0 (length recording.now)) }
+{
+    scan(alloc, recording, 0, recording.len()).ok()
+}
+
+/// A scan is refused for want of memory alone.
+pub fn refusal_of_scan(alloc: Global, recording: &Recording) -> Option<StreamError>
+    ensures { IfSome result (λ error. error ≡ OutOfMemory) }
+{
+    scan(alloc, recording, 0, recording.len()).err()
+}
+
+/// At bit 63 the planes hold the remainder of the window 63 places on.
+pub fn last_of_planes(recording: &Recording, at: u64) -> [u64; 10]
+    requires first { 25 ≤ at }
+    requires last { at + 64 ≤ length recording.now }
+    ensures { (r : ℕ) → r < 10 → bit_at (slice_index result r) 63 ≡ bit_at (rem (window recording.now (at + 63))) r }
+{
+    planes(recording, at)
+}
+
+// ---- tapes
+
+/// A new tape has counted no window.
+pub fn reads_of_new(recording: &Recording) -> u64
+    ensures { result ≡ 0 }
+{
+    Counted::new(recording).reads()
+}
+
+/// The offset of a tape's last window: one window is counted, and the tape is of the same bits.
+pub fn last_offset<T: Tape>(tape: &mut T) -> Option<Offset>
+    requires some { 26 ≤ length (T.bits tape.old) }
+    requires room { T.reads_made tape.old < 2 ^ 63 }
+    ensures offset { result ≡ the_offset_of (rem (window (T.bits tape.old) (length (T.bits tape.old) - 1))) }
+    ensures counted { T.reads_made tape.new ≡ T.reads_made tape.old + 1 }
+    ensures same { T.bits tape.new ≡ T.bits tape.old }
+{
+    offset_of(rem26(tape.window(tape.len() - 1)))
+}
+
+/// What a caller sees of the count: one more after a window.
+pub fn seen_to_count<T: Tape>(tape: &mut T) -> bool
+    requires some { 26 ≤ length (T.bits tape.old) }
+    requires room { T.reads_made tape.old < 2 ^ 63 }
+    ensures { result ≡ true }
+{
+    let before = tape.reads();
+    let _window = tape.window(FIRST_WINDOW);
+    tape.reads() == before + 1
+}
+
+/// How many bits a tape would have after so many more.
+pub fn tape_len_with<T: Tape>(tape: &T, more: u32) -> u64
+    ensures { result ≡ length (T.bits tape.now) + more }
+{
+    tape.len() + u64::from(more)
+}
+
+/// The recording of a tape, for contracts.
+pub fn recording_of<T: Tape>(tape: &T) -> Snapshot<Recording>
+    ensures { result.value ≡ T.bits tape.now }
+{
+    tape.source()
+}

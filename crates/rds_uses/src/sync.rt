@@ -1,0 +1,352 @@
+//! What a user of `rds_sync` relies on: rules, lawful states, steps over a tape, runs over a range, and the report of a recording.
+ghost use Rattle.std.specs.Prelude.{◌≡◌, ◌≢◌, ℕ, ◌+◌, ◌-◌, ◌*◌, ◌<◌, ◌≤◌, ◌^◌, ◌++◌, ◌↔◌, [], IsTrue, IfOk, IfErr, IsErrOf, None, Some, count_by, length, slice_get, true};
+ghost use Rattle.rds_sync.specs.declared.item.Block.{Block as ABlock};
+ghost use Rattle.rds_sync.specs.declared.error.SyncError.TheVariants.{BurstRange, LossRange, OutOfMemory, ReachRange};
+ghost use Rattle.rds_sync.specs.declared.state.State.TheVariants.{Searching};
+ghost use Rattle.rds_sync.specs.Advance.{group_item, items_in};
+ghost use Rattle.rds_sync.specs.GroupLaws.{IsBlock};
+ghost use Rattle.rds_sync.specs.Groups.{group as group_at, info_of};
+ghost use Rattle.rds_sync.specs.Lawful.{IsLawful};
+ghost use Rattle.rds_sync.specs.Report.{report_items};
+ghost use Rattle.rds_sync.specs.Step.{items_at, run as run_of, step};
+ghost use Rattle.rds_sync.specs.Totals.{is_group, totals_of};
+
+use rds_stream::{Counted, Recording, Tape};
+use rds_sync::{Block, Group, Item, Reached, Report, Rules, State, Step, SyncError, Totals};
+use rds_sync::{advance, decode_plain, finish, laws, run, stretch};
+use std::alloc::Global;
+
+// ---- rules
+
+/// The rules that the program takes where none are given: nothing but memory can be in want.
+pub fn usual_rules(alloc: Global) -> Result<Rules, SyncError>
+    ensures rules { IfOk result (λ rules. rules ≡ record { burst = 2; reach = 3; loss = 10 }) }
+    ensures refused { IfErr result (λ error. error ≡ OutOfMemory) }
+{
+    Rules::new(alloc, 2, 3, 10)
+}
+
+/// A burst of six bits is refused, whatever else is wrong.
+pub fn long_burst(alloc: Global, reach: u32, loss: u32) -> Result<Rules, SyncError>
+    ensures { IsErrOf result BurstRange }
+{
+    Rules::new(alloc, 6, reach, loss)
+}
+
+/// A reach of no block is refused next.
+pub fn no_reach(alloc: Global, loss: u32) -> Result<Rules, SyncError>
+    ensures { IsErrOf result ReachRange }
+{
+    Rules::new(alloc, 5, 0, loss)
+}
+
+/// A loss after 65 blocks is refused last.
+pub fn late_loss(alloc: Global) -> Result<Rules, SyncError>
+    ensures { IsErrOf result LossRange }
+{
+    Rules::new(alloc, 5, 8, 65)
+}
+
+/// The rules in bytes: each is small enough.
+pub fn rules_in_bytes(rules: &Rules) -> [u8; 3]
+    ensures burst { slice_get result 0 ≡ Some rules.now.burst }
+    ensures reach { slice_get result 1 ≡ Some rules.now.reach }
+    ensures loss { slice_get result 2 ≡ Some rules.now.loss }
+{
+    [rules.burst() as u8, rules.reach() as u8, rules.loss() as u8]
+}
+
+// ---- blocks and groups
+
+/// The information word of a block, or another.
+pub fn word_or(block: &Block, other: u16) -> u16
+    ensures some { (word : ℕ) → info_of block.now ≡ Some word → result ≡ word }
+    ensures none { info_of block.now ≡ None → result ≡ other }
+{
+    match block.info() {
+        Some(word) => word,
+        None => other,
+    }
+}
+
+/// Whether a group that was read from its block 1 to its block 4, which ends at `place`, has four information words.
+pub fn has_four_words(recording: &Recording, rules: &Rules, place: u64, group: &Group) -> bool
+    requires place { 103 ≤ place }
+    requires group { group.now ≡ group_at recording.now rules.now 1 4 place }
+    ensures { IsTrue result ↔ ((y : ℕ) → 1 ≤ y → y ≤ 4 → (block : ABlock) × (word : ℕ) × IsBlock group.now y block × (info_of block ≡ Some word)) }
+{
+    laws::groups_are_read();
+    group.is_complete()
+}
+
+/// The group that stands in a list of items is counted.
+pub fn groups_among(items: &[Item]) -> u64
+    requires { length items.now ≤ 2 ^ 40 }
+    ensures { result ≡ count_by is_group items.now }
+{
+    Totals::of(items).groups
+}
+
+// ---- states
+
+/// A run from a state that a caller has tested ends in one that needs no test.
+pub fn tested_run(
+    alloc: Global,
+    recording: &Recording,
+    rules: &Rules,
+    state: State,
+) -> Result<bool, SyncError>
+    ensures { IfOk result (λ lawful. lawful ≡ true) }
+{
+    if !state.is_lawful(rules, 0) {
+        return Ok(true);
+    }
+    let (end, _items) = run(alloc, recording, rules, state, 0, recording.len())?;
+    Ok(end.is_lawful(rules, recording.len()))
+}
+
+/// After a bit from a lawful state there is a lawful state.
+pub fn lawful_after_bit(recording: &Recording, rules: &Rules, state: State, place: u64)
+    requires { IsLawful rules.now place state }
+    ensures { IsLawful rules.now (place + 1) (step recording.now rules.now place state) }
+{
+    let _loss = rules.loss();
+    laws::steps_are_lawful();
+}
+
+/// So there is after a whole run, whoever makes it.
+pub fn lawful_after_run(recording: &Recording, rules: &Rules, state: State, from: u64, to: u64)
+    requires lawful { IsLawful rules.now from state }
+    requires order { from ≤ to }
+    ensures { IsLawful rules.now to (run_of recording.now rules.now state from (to - from)).0 }
+{
+    let _loss = rules.loss();
+    laws::runs_are_lawful();
+}
+
+// ---- steps over a tape
+
+/// Two steps in a row are one run: they move on, stay in the range, and read eighteen windows at most.
+pub fn two_steps<T: Tape>(
+    tape: &mut T,
+    rules: &Rules,
+    state: State,
+    place: u64,
+    to: u64,
+) -> Reached
+    requires lawful { IsLawful rules.now place state }
+    requires before { place < to }
+    requires within { to ≤ length (T.bits tape.old) }
+    requires counted { T.reads_made tape.old + 32 ≤ 2 ^ 63 }
+    ensures moved { (place < result.place) × (result.place ≤ to) }
+    ensures state { result.state ≡ (run_of (T.bits tape.old) rules.now state place (result.place - place)).0 }
+    ensures lawful { IsLawful rules.now result.place result.state }
+    ensures same { T.bits tape.new ≡ T.bits tape.old }
+    ensures reads { T.reads_made tape.new ≤ T.reads_made tape.old + 18 }
+{
+    let _reach = rules.reach();
+    laws::runs_join();
+    let first = advance(tape, rules, state, place, to);
+    if first.place == to {
+        return Reached {
+            place: first.place,
+            state: first.state,
+        };
+    }
+    let second = advance(tape, rules, first.state, first.place, to);
+    Reached {
+        place: second.place,
+        state: second.state,
+    }
+}
+
+/// What a step finds is what the run over its bits gives.
+pub fn found_by_step<T: Tape>(tape: &mut T, rules: &Rules, place: u64, to: u64) -> Step
+    requires before { place < to }
+    requires within { to ≤ length (T.bits tape.old) }
+    requires counted { T.reads_made tape.old + 16 ≤ 2 ^ 63 }
+    ensures { items_in result.items ≡ (run_of (T.bits tape.old) rules.now Searching place (result.place - place)).1 }
+{
+    advance(tape, rules, State::Searching, place, to)
+}
+
+/// A search goes bit by bit, and reads no more than its own window and one for each block of its reach.
+pub fn search_one_bit<T: Tape>(tape: &mut T, rules: &Rules, place: u64, to: u64) -> u64
+    requires before { place < to }
+    requires within { to ≤ length (T.bits tape.old) }
+    requires counted { T.reads_made tape.old + 16 ≤ 2 ^ 63 }
+    ensures place { result ≡ place + 1 }
+    ensures reads { T.reads_made tape.new ≤ T.reads_made tape.old + (rules.now.reach + 1) }
+{
+    advance(tape, rules, State::Searching, place, to).place
+}
+
+/// Where a search has come to the end there is no group in progress.
+pub fn no_group_after_search<T: Tape>(tape: &mut T, rules: &Rules) -> Option<Group>
+    requires { T.reads_made tape.old + 16 ≤ 2 ^ 63 }
+    ensures { result ≡ None }
+{
+    finish(tape, rules, State::Searching)
+}
+
+/// The end of a recording costs three windows at most, and the tape is of the same bits.
+pub fn cost_of_end<T: Tape>(tape: &mut T, rules: &Rules, state: State) -> Option<Group>
+    requires lawful { IsLawful rules.now (length (T.bits tape.old)) state }
+    requires counted { T.reads_made tape.old + 16 ≤ 2 ^ 63 }
+    ensures reads { T.reads_made tape.new ≤ T.reads_made tape.old + 3 }
+    ensures same { T.bits tape.new ≡ T.bits tape.old }
+{
+    finish(tape, rules, state)
+}
+
+// ---- runs over a range
+
+/// A stretch moves on and stays in the range, and appends what the run over its bits gives.
+pub fn one_stretch(
+    recording: &Recording,
+    rules: &Rules,
+    place: u64,
+    to: u64,
+    items: &mut Vec<Item>,
+) -> Result<Reached, SyncError>
+    requires before { place < to }
+    requires within { to ≤ length recording.now }
+    ensures moved { IfOk result (λ reached. (place < reached.place) × (reached.place ≤ to)) }
+    ensures items { IfOk result (λ reached. items.new.items ≡ items.old.items ++ (run_of recording.now rules.now Searching place (reached.place - place)).1) }
+    ensures refused { IfErr result (λ error. error ≡ OutOfMemory) }
+{
+    stretch(recording, rules, State::Searching, place, to, items)
+}
+
+/// The run over a recording in two parts, with the group at its end: the items are the report's.
+pub fn decoded_in_two(
+    alloc: Global,
+    recording: &Recording,
+    rules: &Rules,
+    middle: u64,
+) -> Result<(Vec<Item>, Vec<Item>, Option<Group>), SyncError>
+    requires { middle ≤ length recording.now }
+    ensures items { IfOk result (λ found. (found.0.items ++ found.1.items) ++ group_item found.2 ≡ report_items recording.now rules.now) }
+    ensures refused { IfErr result (λ error. error ≡ OutOfMemory) }
+{
+    let _loss = rules.loss();
+    let len = recording.len();
+    laws::runs_join();
+    laws::runs_are_reports();
+    let (state, first) = run(alloc, recording, rules, State::Searching, 0, middle)?;
+    let (state, second) = run(alloc, recording, rules, state, middle, len)?;
+    let group = finish(&mut Counted::new(recording), rules, state);
+    Ok((first, second, group))
+}
+
+/// Runs that once are in one state end in one state.
+pub fn merged_ends(
+    alloc: Global,
+    recording: &Recording,
+    rules: &Rules,
+    states: (State, State),
+    from: u64,
+    middle: u64,
+) -> Result<(State, State), SyncError>
+    requires one { IsLawful rules.now from states.0 }
+    requires other { IsLawful rules.now from states.1 }
+    requires order { from ≤ middle }
+    requires within { middle ≤ length recording.now }
+    requires met { (run_of recording.now rules.now states.0 from (middle - from)).0 ≡ (run_of recording.now rules.now states.1 from (middle - from)).0 }
+    ensures { IfOk result (λ ends. ends.0 ≡ ends.1) }
+{
+    laws::runs_merge();
+    let len = recording.len();
+    let (one, _items) = run(alloc, recording, rules, states.0, from, len)?;
+    let (other, _items) = run(alloc, recording, rules, states.1, from, len)?;
+    Ok((one, other))
+}
+
+/// A run over one bit is that bit.
+pub fn run_of_one_bit(
+    alloc: Global,
+    recording: &Recording,
+    rules: &Rules,
+    place: u64,
+) -> Result<State, SyncError>
+    requires { place < length recording.now }
+    ensures { IfOk result (λ end. end ≡ step recording.now rules.now place Searching) }
+{
+    let _len = recording.len();
+    laws::one_bit_runs();
+    let (end, _items) = run(alloc, recording, rules, State::Searching, place, place + 1)?;
+    Ok(end)
+}
+
+/// Up to the block that is due a lock gives nothing.
+pub fn nothing_while_waiting(
+    alloc: Global,
+    recording: &Recording,
+    rules: &Rules,
+    due: u64,
+) -> Result<Vec<Item>, SyncError>
+    requires soon { (25 ≤ due) × (due < length recording.now) }
+    ensures { IfOk result (λ items. items.items ≡ []) }
+{
+    let _loss = rules.loss();
+    laws::locks_wait();
+    let state = State::Locked {
+        due,
+        number: 1,
+        bad: 0,
+        first: 1,
+    };
+    let (_end, items) = run(alloc, recording, rules, state, due - 25, due)?;
+    Ok(items)
+}
+
+/// In its first 51 places a recording gives nothing.
+pub fn nothing_at_first(
+    alloc: Global,
+    recording: &Recording,
+    rules: &Rules,
+) -> Result<(State, Vec<Item>), SyncError>
+    requires { 51 ≤ length recording.now }
+    ensures state { IfOk result (λ end. end.0 ≡ Searching) }
+    ensures items { IfOk result (λ end. end.1.items ≡ []) }
+{
+    laws::acquisitions_are_late();
+    laws::searches_go_on();
+    run(alloc, recording, rules, State::Searching, 0, 51)
+}
+
+/// Where a bit gives an item it changes the state.
+pub fn changed_by_item(recording: &Recording, rules: &Rules, state: State, place: u64)
+    requires lawful { IsLawful rules.now place state }
+    requires item { items_at recording.now rules.now place state ≢ [] }
+    ensures { step recording.now rules.now place state ≢ state }
+{
+    laws::items_mark_changes();
+}
+
+/// The items of a run need room for two a bit at most.
+pub fn room_for_items(
+    alloc: Global,
+    recording: &Recording,
+    rules: &Rules,
+) -> Result<u64, SyncError>
+    ensures { IfOk result (λ left. left ≤ 2 * length recording.now) }
+{
+    laws::runs_give_few_items();
+    let len = recording.len();
+    let (_end, items) = run(alloc, recording, rules, State::Searching, 0, len)?;
+    Ok(2 * len - items.len() as u64)
+}
+
+/// The report of a recording: the items of its locks, and their totals.
+pub fn report_of(
+    alloc: Global,
+    recording: &Recording,
+    rules: &Rules,
+) -> Result<Report, SyncError>
+    ensures items { IfOk result (λ report. report.items.items ≡ report_items recording.now rules.now) }
+    ensures totals { IfOk result (λ report. report.totals ≡ totals_of (report_items recording.now rules.now)) }
+    ensures refused { IfErr result (λ error. error ≡ OutOfMemory) }
+{
+    decode_plain(alloc, recording, rules)
+}

@@ -1,0 +1,220 @@
+//! What a user of `rds_tool` relies on: what is written, what is left as it was, and each refusal by its cause.
+ghost use Rattle.std.specs.Prelude.{◌≡◌, ◌≢◌, ℕ, ◌*◌, ◌<◌, ◌≤◌, ◌^◌, ◌++◌, ◌⊎◌, List, Err, IfErr, IfSome, IsErrOf, Ok, OnOk, length, true};
+ghost use Rattle.std.specs.Io.KnownBytes.{IsAtEnd};
+ghost use Rattle.rds_sync.specs.Report.{report_items};
+ghost use Rattle.rds_sync.specs.Totals.{totals_of};
+ghost use Rattle.rds_tool.specs.GroupText.{encoded_text};
+ghost use Rattle.rds_tool.specs.Listing.{report_text, scan_text, totals_text};
+ghost use Rattle.rds_tool.specs.Outcome.{outcome};
+ghost use Rattle.rds_tool.specs.declared.error.ToolError.TheVariants.{BurstRange, OutOfMemory, Read, Write};
+ghost use Rattle.rds_uses.specs.Jobs.{IsListBy, IsTotalsBy, all_bits, plain};
+
+use rds_crew::Gate;
+use rds_sync::Rules;
+use rds_tool::{FromRead, Input, Job, Settings, Sink, Source, ToWrite, ToolError};
+use rds_tool::{transcribe, transcribe_gated};
+use std::alloc::Global;
+use std::sync::Wait;
+use std::thread::Threads;
+
+// ---- what is written
+
+/// The listing of the bytes of a recording: the rows of the items of its locks, and those of their totals, whoever works
+/// and however the recording is cut.
+pub fn listing<R: Threads + Wait + Sync>(
+    rt: &R,
+    alloc: Global,
+    bytes: &[u8],
+    rules: &Rules,
+    job: &Job,
+) -> Option<Vec<u8>>
+    requires few { 8 * length bytes.now ≤ 2 ^ 36 }
+    requires job { IsListBy job.now rules.now }
+    ensures { IfSome result (λ text. let items = report_items (all_bits bytes.now) rules.now in text.items ≡ report_text items (totals_of items)) }
+{
+    let mut writer = ToWrite::new(Vec::new(alloc));
+    match transcribe(rt, alloc, &mut FromRead::new(bytes), &mut writer, job) {
+        Ok(()) => Some(writer.into_inner()),
+        Err(_) => None,
+    }
+}
+
+/// The totals of the bytes of a recording alone.
+pub fn totals<R: Threads + Wait + Sync>(
+    rt: &R,
+    alloc: Global,
+    bytes: &[u8],
+    rules: &Rules,
+    job: &Job,
+) -> Option<Vec<u8>>
+    requires few { 8 * length bytes.now ≤ 2 ^ 36 }
+    requires job { IsTotalsBy job.now rules.now }
+    ensures { IfSome result (λ text. text.items ≡ totals_text (totals_of (report_items (all_bits bytes.now) rules.now))) }
+{
+    let mut writer = ToWrite::new(Vec::new(alloc));
+    match transcribe(rt, alloc, &mut FromRead::new(bytes), &mut writer, job) {
+        Ok(()) => Some(writer.into_inner()),
+        Err(_) => None,
+    }
+}
+
+/// The rows of the valid windows of the bytes of a recording.
+pub fn windows<R: Threads + Wait + Sync>(
+    rt: &R,
+    alloc: Global,
+    bytes: &[u8],
+    job: &Job,
+) -> Option<Vec<u8>>
+    requires few { 8 * length bytes.now ≤ 2 ^ 36 }
+    requires job { job.now ≡ Job.Scan plain }
+    ensures { IfSome result (λ text. text.items ≡ scan_text (all_bits bytes.now)) }
+{
+    let mut writer = ToWrite::new(Vec::new(alloc));
+    match transcribe(rt, alloc, &mut FromRead::new(bytes), &mut writer, job) {
+        Ok(()) => Some(writer.into_inner()),
+        Err(_) => None,
+    }
+}
+
+/// The blocks of the groups that lines of digits spell, in digits.
+pub fn encoded<R: Threads + Wait + Sync>(
+    rt: &R,
+    alloc: Global,
+    lines: &[u8],
+    job: &Job,
+) -> Option<Vec<u8>>
+    requires { job.now ≡ Job.Encode true }
+    ensures { IfSome result (λ text. encoded_text true lines.now ≡ Ok text.items) }
+{
+    let mut writer = ToWrite::new(Vec::new(alloc));
+    match transcribe(rt, alloc, &mut FromRead::new(lines), &mut writer, job) {
+        Ok(()) => Some(writer.into_inner()),
+        Err(_) => None,
+    }
+}
+
+/// The listing where a gate hears of the workers: the same.
+pub fn gated_listing<R: Threads + Wait + Sync, G: Gate + Sync>(
+    rt: &R,
+    alloc: Global,
+    bytes: &[u8],
+    rules: &Rules,
+    job: &Job,
+    gate: &G,
+) -> Option<Vec<u8>>
+    requires few { 8 * length bytes.now ≤ 2 ^ 36 }
+    requires job { IsListBy job.now rules.now }
+    ensures { IfSome result (λ text. let items = report_items (all_bits bytes.now) rules.now in text.items ≡ report_text items (totals_of items)) }
+{
+    let mut writer = ToWrite::new(Vec::new(alloc));
+    match transcribe_gated(rt, alloc, &mut FromRead::new(bytes), &mut writer, job, gate) {
+        Ok(()) => Some(writer.into_inner()),
+        Err(_) => None,
+    }
+}
+
+/// A text that grows: by the whole outcome, by a prefix of it where the writer fails, and else not at all.
+pub fn appended<R: Threads + Wait + Sync>(
+    rt: &R,
+    alloc: Global,
+    bytes: &[u8],
+    text: Vec<u8>,
+    job: &Job,
+) -> (Result<(), ToolError>, Vec<u8>)
+    ensures whole { OnOk result.0 ((more : List ℕ) × (outcome job.now bytes.now ≡ Ok more) × (result.1.items ≡ text.items ++ more)) }
+    ensures part { IsErrOf result.0 Write → (more rest : List ℕ) × (outcome job.now bytes.now ≡ Ok (more ++ rest)) × (result.1.items ≡ text.items ++ more) }
+    ensures none { IfErr result.0 (λ error. error ≢ Write → result.1.items ≡ text.items) }
+{
+    let mut writer = ToWrite::new(text);
+    let done = transcribe(rt, alloc, &mut FromRead::new(bytes), &mut writer, job);
+    (done, writer.into_inner())
+}
+
+// ---- when the answer is a refusal
+
+/// Where the answer is `Ok` nothing is left to be read.
+pub fn all_read<R: Threads + Wait + Sync, S: Source, K: Sink>(
+    rt: &R,
+    alloc: Global,
+    reader: &mut S,
+    writer: &mut K,
+    job: &Job,
+) -> bool
+    requires reads { S.failed reader.old < 2 ^ 63 }
+    requires writes { K.failed writer.old < 2 ^ 63 }
+    ensures { result ≡ true → IsAtEnd (S.remaining reader.new) }
+{
+    transcribe(rt, alloc, reader, writer, job).is_ok()
+}
+
+/// The reader is blamed exactly where it has counted a failure.
+pub fn reader_blamed<R: Threads + Wait + Sync, S: Source, K: Sink>(
+    rt: &R,
+    alloc: Global,
+    reader: &mut S,
+    writer: &mut K,
+    job: &Job,
+) -> bool
+    requires reads { S.failed reader.old < 2 ^ 63 }
+    requires writes { K.failed writer.old < 2 ^ 63 }
+    ensures { result ≡ true }
+{
+    let before = reader.failures();
+    match transcribe(rt, alloc, reader, writer, job) {
+        Err(ToolError::Read) => before < reader.failures(),
+        _ => reader.failures() <= before,
+    }
+}
+
+/// So is the writer.
+pub fn writer_blamed<R: Threads + Wait + Sync, S: Source, K: Sink>(
+    rt: &R,
+    alloc: Global,
+    reader: &mut S,
+    writer: &mut K,
+    job: &Job,
+) -> bool
+    requires reads { S.failed reader.old < 2 ^ 63 }
+    requires writes { K.failed writer.old < 2 ^ 63 }
+    ensures { result ≡ true }
+{
+    let before = writer.failures();
+    match transcribe(rt, alloc, reader, writer, job) {
+        Err(ToolError::Write) => before < writer.failures(),
+        _ => writer.failures() <= before,
+    }
+}
+
+/// Fewer than 16,777,216 bytes that are scanned are refused for want of memory or by a device alone: they have an end, they
+/// are a recording, and no thread is asked for.
+pub fn few_causes<R: Threads + Wait + Sync>(
+    rt: &R,
+    alloc: Global,
+    bytes: &[u8],
+    job: &Job,
+) -> Option<ToolError>
+    requires few { length bytes.now < 16777216 }
+    requires job { job.now ≡ Job.Scan plain }
+    ensures { IfSome result (λ error. (error ≡ OutOfMemory) ⊎ ((error ≡ Read) ⊎ (error ≡ Write))) }
+{
+    let mut writer = ToWrite::new(Vec::new(alloc));
+    transcribe(rt, alloc, &mut FromRead::new(bytes), &mut writer, job).err()
+}
+
+/// Settings out of their range are refused as such, and nothing is read.
+pub fn refused_unread<R: Threads + Wait + Sync, S: Source, K: Sink>(
+    rt: &R,
+    alloc: Global,
+    reader: &mut S,
+    writer: &mut K,
+    input: Input,
+    settings: Settings,
+) -> Result<(), ToolError>
+    requires reads { S.failed reader.old < 2 ^ 63 }
+    requires writes { K.failed writer.old < 2 ^ 63 }
+    requires burst { 5 < settings.burst }
+    ensures refused { result ≡ Err BurstRange }
+    ensures unread { reader.new ≡ reader.old }
+{
+    transcribe(rt, alloc, reader, writer, &Job::List(input, settings))
+}
