@@ -10,3 +10,8 @@ pub mod LostAndFound
 pub mod TwoZeroGroups
 pub mod EightZeroGroups
 pub mod GuessesThatDiffer
+pub mod GroupTypes
+pub mod CorrectedSecond
+pub mod Spans
+pub mod LongReach
+pub mod LongLoss
