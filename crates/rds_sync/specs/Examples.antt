@@ -15,3 +15,4 @@ pub mod CorrectedSecond
 pub mod Spans
 pub mod LongReach
 pub mod LongLoss
+pub mod LawfulStates

@@ -4,6 +4,8 @@ use Rattle.rds_code.specs.declared.offset.Offset.{Offset}
 use Rattle.rds_code.specs.declared.reading.Reading.TheVariants.{Valid, Corrected, Lost}
 use Rattle.rds_stream.specs.Recording.{bits_of}
 use Rattle.rds_sync.specs.Rules.{RuleNumbers}
+use Rattle.rds_sync.specs.declared.state.State.{State}
+use Rattle.rds_sync.specs.declared.state.State.TheVariants.{Locked}
 use Rattle.rds_sync.specs.declared.item.Block.{Block}
 use Rattle.rds_sync.specs.declared.item.Block.TheVariants.{Missing, Read}
 use Rattle.rds_sync.specs.declared.item.Version.{Version}
@@ -22,6 +24,10 @@ rules_of burst reach loss = record { burst = burst; reach = reach; loss = loss }
 
 abbrev pub default_rules : RuleNumbers
 default_rules = rules_of 2 3 10
+
+-- a lock: where its next block ends, that block's number, the bad blocks in a row, and the number of its group's first block
+abbrev pub locked : ℕ → ℕ → ℕ → ℕ → State
+locked due number bad first = Locked due number bad first
 
 abbrev pub missing : Block
 missing = Missing
