@@ -16,3 +16,4 @@ pub mod Spans
 pub mod LongReach
 pub mod LongLoss
 pub mod LawfulStates
+pub mod Stretches
