@@ -1,5 +1,5 @@
 -- Where runs meet: the guess of a piece with the run from the state that is true there, and small ranges in full.
-use Rattle.std.specs.Prelude.{◌≡◌, ◌≢◌, ◌<◌, ◌≤◌, ◌==◌, ℕ, zero, suc, List, [], ◌∷◌, ◌++◌, None, Some, Bool, false, true, refl}
+use Rattle.std.specs.Prelude.{◌≡◌, ◌<◌, ◌==◌, ℕ, zero, suc, List, [], ◌∷◌, ◌++◌, None, Some, refl}
 use Rattle.std.proofs.Common.{ap, sym}
 use Rattle.std.proofs.Math.Nat.{le_of_suc-le-suc, not-suc-le-zero}
 use Rattle.std.proofs.lemmas.Bool.{false≢true, le-leb, leb-true}

@@ -1,5 +1,5 @@
 -- What seams may read: each of reach + 2 windows for each place up to the meeting, and as many once more.
-use Rattle.std.specs.Prelude.{◌≡◌, ◌<◌, ◌≤◌, ℕ, [], ◌∷◌, None, Some, refl}
+use Rattle.std.specs.Prelude.{◌≡◌, [], ◌∷◌, None, Some, refl}
 use Rattle.std.proofs.Math.Nat.{not-le_of_lt}
 use Rattle.std.proofs.lemmas.Bool.{leb-true}
 use Rattle.rds_sync.specs.declared.state.State.TheVariants.{Searching}
@@ -9,7 +9,7 @@ use Rattle.rds_sync.specs.Examples.Words.{locked, rules_of}
 use Rattle.rds_pieces.specs.Meeting.{IsMeeting}
 use Rattle.rds_pieces.specs.RunOf.{run_over}
 use Rattle.rds_pieces.specs.Seams.{IsSumOfReads, seam_reads}
-use Rattle.rds_pieces.specs.Examples.Meetings.{met_at_the_end, none, three_bits}
+use Rattle.rds_pieces.specs.Examples.Meetings.{met_at_the_end, three_bits}
 
 -- ---- one seam
 

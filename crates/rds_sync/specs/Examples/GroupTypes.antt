@@ -1,7 +1,7 @@
 -- All sixteen types of groups, and groups of the types 15 and 8 whose blocks 2 and 3 are in conflict over the version.
 use Rattle.std.specs.Prelude.{◌≡◌, ℕ, List, [], ◌∷◌, map, refl, Option, Some, true}
 use Rattle.rds_code.specs.Remainder.{rem}
-use Rattle.rds_code.specs.declared.offset.Offset.TheVariants.{A as OA, B as OB, C, Cx, D}
+use Rattle.rds_code.specs.declared.offset.Offset.TheVariants.{B as OB, C, Cx, D}
 use Rattle.rds_stream.specs.Recording.{window, off}
 use Rattle.rds_sync.specs.declared.item.Version.{Version}
 use Rattle.rds_sync.specs.declared.item.Version.TheVariants.{A, B}

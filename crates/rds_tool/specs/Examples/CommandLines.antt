@@ -3,7 +3,7 @@ use Rattle.std.specs.Prelude.{◌≡◌, List, None, Option, Some, [], ◌∷◌
 use Rattle.clap.specs.Takes.{flags_pass, walk_passes}
 use Rattle.clap.specs.Faults.{defaults_fault, flags_fault, walk_fault}
 use Rattle.clap.specs.Walk.{bundle_met, walked}
-use Rattle.clap.specs.Words.{Kinds, Row, Text, one_of}
+use Rattle.clap.specs.Words.{Row, Text, one_of}
 use Rattle.clap.specs.declared.error.kind.ErrorKind.TheVariants as kind
 use Rattle.rds_tool.specs.CommandLine.{entries_of, faults_of}
 

@@ -1,5 +1,5 @@
 -- The job that words ask for, and what may be answered where they ask for help, have a fault, or ask for a job.
-use Rattle.std.specs.Prelude.{◌≡◌, ◌≢◌, Bool, List, None, Option, Some, [], ◌∷◌, codes, false, is_some, length, nat_eq, refl, true}
+use Rattle.std.specs.Prelude.{Bool, List, None, Option, Some, [], ◌∷◌, codes, false, is_some, length, nat_eq, refl, true}
 use Rattle.std.proofs.Common.{ap, inl, inr, sym}
 use Rattle.std.proofs.lemmas.Bool.{false≢true, leb-true}
 use Rattle.clap.specs.Takes.{flags_pass, walk_passes}
@@ -45,16 +45,17 @@ totals_job = Totals (hex_bits 0) (settings_of 1 4 5 7 6)
 
 pub totals : IsJobOf (entries_of each_option) totals_job
 unfolding walked
-totals =
-    ( refl
-    , (record { hex = flag; bits = zero_bits })
-    , (record {
-      burst = ((leb-true 1 1 refl, (leb-true 2 10 refl, tt)), leb-true 2 4294967296 refl, refl);
-      reach = ((leb-true 1 1 refl, (leb-true 5 10 refl, tt)), leb-true 5 4294967296 refl, refl);
-      loss = ((leb-true 1 1 refl, (leb-true 6 10 refl, tt)), leb-true 6 4294967296 refl, refl);
-      workers = ((leb-true 1 1 refl, (leb-true 8 10 refl, tt)), leb-true 8 4294967296 refl, refl);
-      cuts = ((leb-true 1 1 refl, (leb-true 7 10 refl, tt)), leb-true 7 4294967296 refl, refl);
-    }))
+totals = (
+  refl,
+  (record { hex = flag; bits = zero_bits }),
+  (record {
+    burst = ((leb-true 1 1 refl, (leb-true 2 10 refl, tt)), leb-true 2 4294967296 refl, refl);
+    reach = ((leb-true 1 1 refl, (leb-true 5 10 refl, tt)), leb-true 5 4294967296 refl, refl);
+    loss = ((leb-true 1 1 refl, (leb-true 6 10 refl, tt)), leb-true 6 4294967296 refl, refl);
+    workers = ((leb-true 1 1 refl, (leb-true 8 10 refl, tt)), leb-true 8 4294967296 refl, refl);
+    cuts = ((leb-true 1 1 refl, (leb-true 7 10 refl, tt)), leb-true 7 4294967296 refl, refl);
+  }),
+)
 
 pub scan : IsJobOf (entries_of (codes "rds" ∷ codes "scan" ∷ [])) (Scan raw_input)
 unfolding walked

@@ -28,10 +28,17 @@ IsDecided e = IsOutside e → ⊥
 
 pub decided : IsDecided BurstRange × IsDecided ReachRange × IsDecided LossRange × IsDecided BitsPastBytes × IsDecided TooLong × IsDecided BadCutting
     × IsDecided CrewRange × IsDecided HexText × IsDecided GroupText
-decided =
-    ( (λ is. false≢true (outside BurstRange is)), (λ is. false≢true (outside ReachRange is)), (λ is. false≢true (outside LossRange is))
-    , (λ is. false≢true (outside BitsPastBytes is)), (λ is. false≢true (outside TooLong is)), (λ is. false≢true (outside BadCutting is))
-    , (λ is. false≢true (outside CrewRange is)), (λ is. false≢true (outside HexText is)), (λ is. false≢true (outside GroupText is)))
+decided = (
+  (λ is. false≢true (outside BurstRange is)),
+  (λ is. false≢true (outside ReachRange is)),
+  (λ is. false≢true (outside LossRange is)),
+  (λ is. false≢true (outside BitsPastBytes is)),
+  (λ is. false≢true (outside TooLong is)),
+  (λ is. false≢true (outside BadCutting is)),
+  (λ is. false≢true (outside CrewRange is)),
+  (λ is. false≢true (outside HexText is)),
+  (λ is. false≢true (outside GroupText is)),
+)
 
 pub undecided : IsOutside OutOfMemory × IsOutside NoWorker × IsOutside Read × IsOutside Write × IsOutside TooManyTurns
 undecided = (inl refl, inr (inl refl), inr (inr (inl refl)), inr (inr (inr (inl refl))), inr (inr (inr (inr refl))))

@@ -1,5 +1,5 @@
 -- How many bits of an input are its recording's.
-use Rattle.std.specs.Prelude.{◌≡◌, [], ◌∷◌, Err, Ok, codes, map, length, refl}
+use Rattle.std.specs.Prelude.{◌≡◌, [], ◌∷◌, Err, Ok, codes, length, refl}
 use Rattle.hex.specs.Hex.{decode_pairs}
 use Rattle.rds_tool.specs.Input.{and_then, recording_of}
 use Rattle.rds_tool.specs.declared.error.ToolError.TheVariants.{BitsPastBytes, HexText, TooLong}

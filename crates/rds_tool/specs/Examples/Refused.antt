@@ -1,10 +1,8 @@
 -- What a job refuses, in the order of looking: its settings, its text, its bits, its cuts.
-use Rattle.std.specs.Prelude.{◌≡◌, List, [], ◌∷◌, ◌++◌, Err, ℕ, codes, false, map, refl}
+use Rattle.std.specs.Prelude.{◌≡◌, List, [], ◌∷◌, Err, ℕ, codes, false, map, refl}
 use Rattle.std.specs.Global.{Vec}
 use Rattle.hex.specs.Hex.{decode_pairs}
-use Rattle.rds_tool.specs.Cuts.{are_inner, cuts_bits}
 use Rattle.rds_tool.specs.Outcome.{outcome}
-use Rattle.rds_tool.specs.Plans.{cut_by}
 use Rattle.rds_tool.specs.Refusals.{name_of, number_of}
 use Rattle.rds_tool.specs.declared.error.ToolError.{ToolError}
 use Rattle.rds_tool.specs.declared.error.ToolError.TheVariants.{BadCutting, BitsPastBytes, BurstRange, CrewRange, GroupText, HexText, LossRange, NoWorker, OutOfMemory, ReachRange, Read, TooLong, TooManyTurns, Write}

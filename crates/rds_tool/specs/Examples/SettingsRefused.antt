@@ -1,7 +1,6 @@
 -- Settings at the ends of their ranges and past them, and which of two that are out of range is refused.
-use Rattle.std.specs.Prelude.{◌≡◌, ◌∷◌, [], Err, Ok, Result, List, map, refl, true, false}
-use Rattle.rds_tool.specs.Cuts.{are_inner, has_pieces, places_at}
-use Rattle.rds_tool.specs.Input.{and_then}
+use Rattle.std.specs.Prelude.{◌≡◌, ◌∷◌, [], Err, Ok, map, refl, true, false}
+use Rattle.rds_tool.specs.Cuts.{are_inner, places_at}
 use Rattle.rds_tool.specs.Plans.{plan_of}
 use Rattle.rds_tool.specs.declared.error.ToolError.TheVariants.{BadCutting, BurstRange, CrewRange, LossRange, ReachRange}
 use Rattle.rds_tool.specs.declared.job.Cuts.TheVariants.{Even}

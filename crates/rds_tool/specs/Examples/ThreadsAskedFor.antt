@@ -1,5 +1,5 @@
 -- Jobs that ask for threads, and jobs that don't.
-use Rattle.std.specs.Prelude.{false, refl, true}
+use Rattle.std.specs.Prelude.{refl, true}
 use Rattle.std.proofs.lemmas.Bool.{false≢true, le-leb, leb-true}
 use Rattle.rds_tool.specs.Tasks.{AsksForThreads}
 use Rattle.rds_tool.specs.declared.job.Job.{Job}
