@@ -28,7 +28,9 @@ test: toolchain
 	$(RT) ci
 	tests/program.sh crates/rds/out/rds
 	tests/refusals.sh crates/rds/out/rds
+	tests/work.sh crates/rds/out/rds
 	tests/recipes.sh crates/rds/out/rds
+	crates/rds_bench/out/rds_bench --check
 
 install: build/rds
 	install -d $(DESTDIR)$(PREFIX)/bin
