@@ -1,10 +1,11 @@
 //! `rds_bench`: how fast the parts of `rds` are.
 //!
 //! Each measurement is a function in a file of its own. It times the forms of one task in the same run, one after the
-//! other, over the same bits, and shows each as a ratio to the first: times of two runs say little of one another. A ratio
-//! that is lost by a wide margin is an error (`timing`), and `--check` looks for these in a second.
+//! other, over the same bits, and shows each as a ratio to the first: times of two runs say little of one another. `--check`
+//! runs them all in a second, and fails where a ratio is lost.
 #![tactic(auto)]
 
+mod check;
 mod remainders;
 mod runs;
 mod sample;
@@ -35,23 +36,6 @@ BITS is the length of the recording that is made up for it, 100000000 where it i
 /// The length of a recording where none is given.
 const BITS: u64 = 100_000_000;
 
-/// The length of each recording of a check: some milliseconds a form.
-const CHECKED_BITS: u64 = 8_000_000;
-
-/// How often a measurement of a check may lose a ratio before it has failed: another program may disturb one.
-const ATTEMPTS: u32 = 3;
-
-/// The measurements of a check, each with its sample.
-const CHECKED: [(&str, Sample); 7] = [
-    ("scan", Sample::Noise),
-    ("remainder", Sample::Noise),
-    ("run", Sample::Station),
-    ("run", Sample::Noise),
-    ("totals", Sample::Station),
-    ("totals", Sample::Noise),
-    ("list", Sample::Station),
-];
-
 /// What the words of the command line ask for.
 #[derive(Drop)]
 struct Asked {
@@ -62,14 +46,8 @@ struct Asked {
 
 fn main(rt: HostRuntime) -> Result<()> {
     match asked_for(&rt)? {
-        Some(asked) if asked.measurement.as_str() == "--check" => check(&rt, &rt),
-        Some(asked) => measure(
-            &rt,
-            &rt,
-            asked.measurement.as_str(),
-            asked.bits,
-            asked.sample,
-        ),
+        Some(asked) if asked.measurement.as_str() == "--check" => check::check(&rt, &rt),
+        Some(asked) => measure(&rt, &rt, &asked),
         None => show_usage(&rt),
     }
 }
@@ -95,37 +73,9 @@ fn asked_for(rt: &HostRuntime) -> Result<Option<Asked>> {
     }))
 }
 
-/// Measures all tasks over short recordings: an error where one keeps losing a ratio.
-fn check<T: Threads + Wait>(rt: &HostRuntime, threads: &T) -> Result<()> {
-    for (measurement, sample) in CHECKED.iter() {
-        println!(rt; "{measurement}:")?;
-        attempt(rt, threads, measurement, *sample)?;
-    }
-    Ok(())
-}
-
-fn attempt<T: Threads + Wait>(
-    rt: &HostRuntime,
-    threads: &T,
-    measurement: &str,
-    sample: Sample,
-) -> Result<()> {
-    for _ in 1..ATTEMPTS {
-        if measure(rt, threads, measurement, CHECKED_BITS, sample).is_ok() {
-            return Ok(());
-        }
-    }
-    measure(rt, threads, measurement, CHECKED_BITS, sample)
-}
-
-fn measure<T: Threads + Wait>(
-    rt: &HostRuntime,
-    threads: &T,
-    measurement: &str,
-    bits: u64,
-    sample: Sample,
-) -> Result<()> {
-    match measurement {
+fn measure<T: Threads + Wait>(rt: &HostRuntime, threads: &T, asked: &Asked) -> Result<()> {
+    let (bits, sample) = (asked.bits, asked.sample);
+    match asked.measurement.as_str() {
         "scan" => windows::measure(rt, bits),
         "remainder" => remainders::measure(rt, bits),
         "run" => runs::measure(rt, threads, bits, sample),

@@ -6,10 +6,6 @@ pub mod DamagedBlocks
 pub mod BothOffsetsFit
 pub mod VersionB
 pub mod OtherGroups
-pub mod LostAndFound
-pub mod TwoZeroGroups
-pub mod EightZeroGroups
-pub mod GuessesThatDiffer
 pub mod GroupTypes
 pub mod CorrectedSecond
 pub mod Spans
@@ -17,3 +13,8 @@ pub mod LongReach
 pub mod LongLoss
 pub mod LawfulStates
 pub mod Stretches
+pub mod StepsOfADecoder
+pub mod LostAndFound
+pub mod TwoZeroGroups
+pub mod EightZeroGroups
+pub mod GuessesThatDiffer

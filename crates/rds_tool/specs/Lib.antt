@@ -5,10 +5,10 @@ pub mod CommandLine
 pub mod Input
 pub mod Rules
 pub mod Cuts
+pub mod Examples
 pub mod Plans
 pub mod Tasks
 pub mod Listing
 pub mod GroupText
 pub mod Outcome
 pub mod RowWriter
-pub mod Examples

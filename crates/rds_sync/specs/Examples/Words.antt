@@ -4,8 +4,6 @@ use Rattle.rds_code.specs.declared.offset.Offset.{Offset}
 use Rattle.rds_code.specs.declared.reading.Reading.TheVariants.{Valid, Corrected, Lost}
 use Rattle.rds_stream.specs.Recording.{bits_of}
 use Rattle.rds_sync.specs.Rules.{RuleNumbers}
-use Rattle.rds_sync.specs.declared.state.State.{State}
-use Rattle.rds_sync.specs.declared.state.State.TheVariants.{Locked}
 use Rattle.rds_sync.specs.declared.item.Block.{Block}
 use Rattle.rds_sync.specs.declared.item.Block.TheVariants.{Missing, Read}
 use Rattle.rds_sync.specs.declared.item.Version.{Version}
@@ -14,6 +12,8 @@ use Rattle.rds_sync.specs.declared.item.Item.TheVariants.{Group}
 use Rattle.rds_sync.specs.declared.totals.Totals.{Totals}
 use Rattle.rds_sync.specs.Report.{report_items}
 use Rattle.rds_sync.specs.Totals.{totals_of}
+use Rattle.rds_sync.specs.declared.state.State.{State}
+use Rattle.rds_sync.specs.declared.state.State.TheVariants.{Locked}
 
 -- four information words 0 in a group of version A, with their checkwords
 abbrev pub zero_group : List ℕ
@@ -24,10 +24,6 @@ rules_of burst reach loss = record { burst = burst; reach = reach; loss = loss }
 
 abbrev pub default_rules : RuleNumbers
 default_rules = rules_of 2 3 10
-
--- a lock: where its next block ends, that block's number, the bad blocks in a row, and the number of its group's first block
-abbrev pub locked : ℕ → ℕ → ℕ → ℕ → State
-locked due number bad first = Locked due number bad first
 
 abbrev pub missing : Block
 missing = Missing
@@ -50,6 +46,10 @@ group_at place kind version one two three four = Group (record {
   version = version;
   conflict = false;
 })
+
+-- a lock: where its next block ends, that block's number, the bad blocks in a row, and the number of its group's first block
+abbrev pub locked : ℕ → ℕ → ℕ → ℕ → State
+locked due number bad first = Locked due number bad first
 
 -- the twelve totals, in the order of the listing
 abbrev pub totals : ℕ → ℕ → ℕ → ℕ → ℕ → ℕ → ℕ → ℕ → ℕ → ℕ → ℕ → ℕ → Totals
