@@ -43,7 +43,8 @@ count() {
     local call=$1 input=$2
     shift 2
     rm -f count
-    REFUSE_CALL=$call REFUSE_AT=0 REFUSE_COUNT="$work/count" LD_PRELOAD="$work/refuse.so" "$rds" "$@" <"$input" >out || return 1
+    REFUSE_CALL=$call REFUSE_AT=0 REFUSE_COUNT="$work/count" LD_PRELOAD="$work/refuse.so" \
+        "$rds" "$@" <"$input" >out || return 1
     cat count
 }
 

@@ -1,8 +1,8 @@
 //! `rds_bench`: how fast the parts of `rds` are.
 //!
 //! Each measurement is a function in a file of its own. It times the forms of one task in the same run, one after the
-//! other, over the same bits, and shows each as a ratio to the first: times of two runs say little of one another. `--check`
-//! runs them all in a second, and fails where a ratio is lost.
+//! other, over the same bits, and shows each as a ratio to the first: times of two runs say little of one another.
+//! `--check` runs them all in a second, and fails where a ratio is lost.
 #![tactic(auto)]
 
 mod check;

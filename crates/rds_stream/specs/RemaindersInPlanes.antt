@@ -18,9 +18,11 @@ abbrev pub places : ℕ
 places = 0x5A00001980000FC0000
 
 -- two functions that agree below n
-pub agree : (f g : ℕ → ℕ) (n : ℕ) → map f (range_with_len 0 n) ≡ map g (range_with_len 0 n) → (i : ℕ) → i < n → f i ≡ g i
+pub agree : (f g : ℕ → ℕ) (n : ℕ) → map f (range_with_len 0 n)
+    ≡ map g (range_with_len 0 n) → (i : ℕ) → i < n → f i ≡ g i
 agree f g n same i below =
-    sym (get_or-map-range_with_len f 0 n i i 0 below (zero-add i)) ∙ ap (λ values. get_or values i 0) same ∙ get_or-map-range_with_len g 0 n i i 0 below (zero-add i)
+    sym (get_or-map-range_with_len f 0 n i i 0 below (zero-add i)) ∙ ap (λ values. get_or values i 0) same
+    ∙ get_or-map-range_with_len g 0 n i i 0 below (zero-add i)
 
 -- ---- remainders
 

@@ -1,4 +1,5 @@
--- Texts, refusals, jobs and command lines, with what the definitions give for them: theorems that the checker computes.
+-- Texts, refusals, jobs and command lines, with what the definitions give for them: theorems that the checker
+-- computes.
 pub mod Words
 pub mod Rows
 pub mod HexText

@@ -53,7 +53,8 @@ at_the_end = record { inside = (leb-true 190 208 refl, leb-true 208 208 refl); s
 pub not_past_the_end : MeetAt bits (rules_of 2 3 10) (locked 207 4 0 1) Searching 190 207 208 → ⊥
 not_past_the_end met = false≢true (le-leb 208 207 met.inside.1)
 
--- ---- three bits without a window: a lock is lost at place 1 by the first bad block, and the run is a search from place 2 on
+-- ---- three bits without a window: a lock is lost at place 1 by the first bad block, and the run is a search from
+-- place 2 on
 
 abbrev pub three_bits : List ℕ
 three_bits = 0 ∷ 0 ∷ 0 ∷ []
@@ -76,11 +77,17 @@ before_2 to (suc (suc q)) below met = not-suc-le-zero (le_of_suc-le-suc (le_of_s
 -- the least place, inside the range and at its end
 pub met_inside : IsMeeting three_bits (rules_of 2 3 1) (locked 1 4 0 1) Searching 0 3 (Some 2)
 unfolding acquired has_number off
-met_inside = record { here = record { inside = (leb-true 0 2 refl, leb-true 2 3 refl); same = refl; between = tt }; least = before_2 3 }
+met_inside = record {
+  here = record { inside = (leb-true 0 2 refl, leb-true 2 3 refl); same = refl; between = tt };
+  least = before_2 3;
+}
 
 pub met_at_the_end : IsMeeting three_bits (rules_of 2 3 1) (locked 1 4 0 1) Searching 0 2 (Some 2)
 unfolding acquired has_number off
-met_at_the_end = record { here = record { inside = (leb-true 0 2 refl, leb-true 2 2 refl); same = refl; between = tt }; least = before_2 2 }
+met_at_the_end = record {
+  here = record { inside = (leb-true 0 2 refl, leb-true 2 2 refl); same = refl; between = tt };
+  least = before_2 2;
+}
 
 -- not at a later place
 pub not_the_second : IsMeeting three_bits (rules_of 2 3 1) (locked 1 4 0 1) Searching 0 3 (Some 3) → ⊥

@@ -1,4 +1,5 @@
--- All sixteen types of groups, and groups of the types 15 and 8 whose blocks 2 and 3 are in conflict over the version.
+-- All sixteen types of groups, and groups of the types 15 and 8 whose blocks 2 and 3 are in conflict over the
+-- version.
 use Rattle.std.specs.Prelude.{◌≡◌, ℕ, List, [], ◌∷◌, map, refl, Option, Some, true}
 use Rattle.rds_code.specs.Remainder.{rem}
 use Rattle.rds_code.specs.declared.offset.Offset.TheVariants.{B as OB, C, Cx, D}
@@ -13,15 +14,18 @@ use Rattle.rds_sync.specs.Examples.Words.{default_rules, missing, valid, totals,
 
 -- the type and the version of a group of which block 2 alone was read, with this information word
 abbrev pub said_by : ℕ → Option ℕ × Version
-said_by info = let group = group_of 0 (missing ∷ valid OB info ∷ missing ∷ missing ∷ []) in (group.kind, group.version)
+said_by info = let group = group_of 0 (missing ∷ valid OB info ∷ missing ∷ missing
+    ∷ []) in (group.kind, group.version)
 
 -- bits 15 to 12 are the type, bit 11 is the version, and the other bits say neither
 pub types_0_to_7 : map said_by (0x07FF ∷ 0x1800 ∷ 0x2000 ∷ 0x3FFF ∷ 0x4540 ∷ 0x5ABC ∷ 0x6001 ∷ 0x7800 ∷ [])
-    ≡ (Some 0, A) ∷ (Some 1, B) ∷ (Some 2, A) ∷ (Some 3, B) ∷ (Some 4, A) ∷ (Some 5, B) ∷ (Some 6, A) ∷ (Some 7, B) ∷ []
+    ≡ (Some 0, A) ∷ (Some 1, B) ∷ (Some 2, A) ∷ (Some 3, B) ∷ (Some 4, A) ∷ (Some 5, B) ∷ (Some 6, A) ∷ (Some 7, B)
+    ∷ []
 types_0_to_7 = refl
 
 pub types_8_to_15 : map said_by (0x87FF ∷ 0x9800 ∷ 0xA000 ∷ 0xBFFF ∷ 0xC540 ∷ 0xDABC ∷ 0xE001 ∷ 0xF800 ∷ [])
-    ≡ (Some 8, A) ∷ (Some 9, B) ∷ (Some 10, A) ∷ (Some 11, B) ∷ (Some 12, A) ∷ (Some 13, B) ∷ (Some 14, A) ∷ (Some 15, B) ∷ []
+    ≡ (Some 8, A) ∷ (Some 9, B) ∷ (Some 10, A) ∷ (Some 11, B) ∷ (Some 12, A) ∷ (Some 13, B) ∷ (Some 14, A)
+    ∷ (Some 15, B) ∷ []
 types_8_to_15 = refl
 
 -- block 2 says type 15 and version B, block 3 has the offset C: it is of version A, in conflict

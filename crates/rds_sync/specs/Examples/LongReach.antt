@@ -1,4 +1,5 @@
--- Two valid blocks that are five and eight blocks apart, with zeros between them: the second acquires where the reach is so long.
+-- Two valid blocks that are five and eight blocks apart, with zeros between them: the second acquires where the reach
+-- is so long.
 use Rattle.std.specs.Prelude.{ℕ, List, [], ◌∷◌, ◌++◌, replicate, refl, Some, None}
 use Rattle.rds_code.specs.Remainder.{rem}
 use Rattle.rds_code.specs.declared.offset.Offset.TheVariants.{B as OB, D}

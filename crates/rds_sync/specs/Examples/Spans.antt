@@ -15,7 +15,8 @@ use Rattle.rds_sync.specs.Examples.ZeroGroup.{items_of_whole}
 
 -- a zero group, then one whose blocks 2, 3 and 4 are inverted by bursts of span 2, 3 and 4
 abbrev pub spans_2_to_4 : List ℕ
-spans_2_to_4 = zero_group ++ 0x12 ∷ 0x34 ∷ 0x1a ∷ 0x80 ∷ 0x00 ∷ 0xd9 ∷ 0x80 ∷ 0x01 ∷ 0x45 ∷ 0xa0 ∷ 0x00 ∷ 0x01 ∷ 0xfc ∷ []
+spans_2_to_4 = zero_group ++ 0x12 ∷ 0x34 ∷ 0x1a ∷ 0x80 ∷ 0x00 ∷ 0xd9 ∷ 0x80 ∷ 0x01 ∷ 0x45 ∷ 0xa0 ∷ 0x00 ∷ 0x01
+    ∷ 0xfc ∷ []
 
 abbrev pub corrected_items : List Item
 corrected_items = items_of_whole
@@ -37,7 +38,8 @@ span_4_is_past_a_limit_of_3 = (refl, refl)
 abbrev pub all_by : ℕ → Item
 all_by burst = let block = corrected C 0 burst in group_at 0 (Some 0) A block block block block
 
--- one block corrected by a burst of span 1, two of span 2, and so on up to five of span 5; four valid ones, three lost and two missing
+-- one block corrected by a burst of span 1, two of span 2, and so on up to five of span 5; four valid ones, three
+-- lost and two missing
 abbrev pub one_to_five : List Item
 one_to_five =
     Acquired 25 1

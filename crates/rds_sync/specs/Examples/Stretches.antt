@@ -1,4 +1,5 @@
--- How far a stretch of a run goes: the zero group is searched up to the place that acquires, and then read up to its end.
+-- How far a stretch of a run goes: the zero group is searched up to the place that acquires, and then read up to its
+-- end.
 use Rattle.std.specs.Prelude.{◌≡◌, ◌⊎◌, ◌==◌, List, [], ◌∷◌, Bool, ℕ, false, true, refl}
 use Rattle.std.proofs.Common.{ap, inl, inr, sym}
 use Rattle.std.proofs.lemmas.Bool.{false≢true, leb-true}
@@ -33,7 +34,12 @@ to_the_acquisition = record {
   state = refl;
   quiet = refl;
   ended = inr (λ none. false≢true (sym (ap is_some_item none)));
-  lawful = record { soon = (leb-true 52 77 refl, leb-true 77 77 refl); few_bad = leb-true 1 10 refl; enough_bits = leb-true 51 77 refl; in_order = inr (leb-true 1 2 refl, leb-true 3 3 refl, leb-true 3 4 refl) };
+  lawful = record {
+    soon = (leb-true 52 77 refl, leb-true 77 77 refl);
+    few_bad = leb-true 1 10 refl;
+    enough_bits = leb-true 51 77 refl;
+    in_order = inr (leb-true 1 2 refl, leb-true 3 3 refl, leb-true 3 4 refl);
+  };
 }
 
 -- not one bit before, where nothing was given yet and the range goes on
@@ -53,7 +59,14 @@ not_behind stretch = false≢true (sym (ap is_some_item stretch.quiet))
 -- where nothing is given it goes up to the end of its range
 pub to_the_end : IsStretch bits default_rules Searching 0 51 (reached 51 Searching)
 unfolding acquired has_number group rem window off
-to_the_end = record { forward = leb-true 1 51 refl; limit = leb-true 51 51 refl; state = refl; quiet = refl; ended = inl refl; lawful = tt }
+to_the_end = record {
+  forward = leb-true 1 51 refl;
+  limit = leb-true 51 51 refl;
+  state = refl;
+  quiet = refl;
+  ended = inl refl;
+  lawful = tt;
+}
 
 -- a lock is read up to and including the block that closes its group
 pub to_the_group : IsStretch bits default_rules (locked 77 3 0 2) 52 104 (reached 104 (locked 129 1 0 1))
@@ -64,5 +77,10 @@ to_the_group = record {
   state = refl;
   quiet = refl;
   ended = inl refl;
-  lawful = record { soon = (leb-true 104 129 refl, leb-true 129 129 refl); few_bad = leb-true 1 10 refl; enough_bits = leb-true 25 129 refl; in_order = inl (refl, refl) };
+  lawful = record {
+    soon = (leb-true 104 129 refl, leb-true 129 129 refl);
+    few_bad = leb-true 1 10 refl;
+    enough_bits = leb-true 25 129 refl;
+    in_order = inl (refl, refl);
+  };
 }

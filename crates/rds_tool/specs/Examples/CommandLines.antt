@@ -10,7 +10,8 @@ use Rattle.rds_tool.specs.CommandLine.{entries_of, faults_of}
 -- the entries of the options, in the order of the help
 abbrev pub texts : List Row → List (Option Text)
 texts rows = map (λ name. one_of name rows)
-    (codes "hex" ∷ codes "bits" ∷ codes "burst" ∷ codes "reach" ∷ codes "loss" ∷ codes "pieces" ∷ codes "workers" ∷ [])
+    (codes "hex" ∷ codes "bits" ∷ codes "burst" ∷ codes "reach" ∷ codes "loss" ∷ codes "pieces" ∷ codes "workers"
+    ∷ [])
 
 -- the command and these
 abbrev pub asked_by : List Text → Option (Text × List (Option Text))
@@ -18,7 +19,8 @@ asked_by words = elim (entries_of words) [ None ↦ None | Some entries ↦ Some
 
 -- ---- options and their defaults
 
-pub scan : asked_by (codes "rds" ∷ codes "scan" ∷ []) ≡ Some (codes "scan", Some (codes "false") ∷ None ∷ None ∷ None ∷ None ∷ None ∷ None ∷ [])
+pub scan : asked_by (codes "rds" ∷ codes "scan" ∷ [])
+    ≡ Some (codes "scan", Some (codes "false") ∷ None ∷ None ∷ None ∷ None ∷ None ∷ None ∷ [])
 unfolding walked
 scan = refl
 
@@ -28,22 +30,26 @@ unfolding walked
 scan_of_bits = refl
 
 pub list : asked_by (codes "rds" ∷ codes "list" ∷ [])
-    ≡ Some (codes "list", Some (codes "false") ∷ None ∷ Some (codes "2") ∷ Some (codes "3") ∷ Some (codes "10") ∷ Some (codes "16") ∷ Some (codes "4") ∷ [])
+    ≡ Some (codes "list", Some (codes "false") ∷ None ∷ Some (codes "2") ∷ Some (codes "3") ∷ Some (codes "10")
+    ∷ Some (codes "16") ∷ Some (codes "4") ∷ [])
 unfolding walked
 list = refl
 
 -- an option of each kind
 abbrev pub each_option : List Text
 each_option =
-    codes "rds" ∷ codes "totals" ∷ codes "--workers" ∷ codes "7" ∷ codes "--pieces=6" ∷ codes "--loss" ∷ codes "5" ∷ codes "--reach=4"
+    codes "rds" ∷ codes "totals" ∷ codes "--workers" ∷ codes "7" ∷ codes "--pieces=6" ∷ codes "--loss" ∷ codes "5"
+    ∷ codes "--reach=4"
     ∷ codes "--burst" ∷ codes "1" ∷ codes "--bits=0" ∷ codes "--hex" ∷ []
 
 pub totals : asked_by each_option
-    ≡ Some (codes "totals", Some (codes "true") ∷ Some (codes "0") ∷ Some (codes "1") ∷ Some (codes "4") ∷ Some (codes "5") ∷ Some (codes "6") ∷ Some (codes "7") ∷ [])
+    ≡ Some (codes "totals", Some (codes "true") ∷ Some (codes "0") ∷ Some (codes "1") ∷ Some (codes "4")
+    ∷ Some (codes "5") ∷ Some (codes "6") ∷ Some (codes "7") ∷ [])
 unfolding walked
 totals = refl
 
-pub encode : asked_by (codes "rds" ∷ codes "encode" ∷ codes "--hex" ∷ []) ≡ Some (codes "encode", Some (codes "true") ∷ None ∷ None ∷ None ∷ None ∷ None ∷ None ∷ [])
+pub encode : asked_by (codes "rds" ∷ codes "encode" ∷ codes "--hex" ∷ [])
+    ≡ Some (codes "encode", Some (codes "true") ∷ None ∷ None ∷ None ∷ None ∷ None ∷ None ∷ [])
 unfolding walked
 encode = refl
 
@@ -61,7 +67,8 @@ pub no_command : faults_of (codes "rds" ∷ []) ≡ kind.MissingSubcommand ∷ [
 unfolding walked bundle_met flags_pass walk_passes flags_fault walk_fault defaults_fault
 no_command = refl
 
-pub no_such_option : faults_of (codes "rds" ∷ codes "scan" ∷ codes "--burst" ∷ codes "2" ∷ []) ≡ kind.UnknownArgument ∷ []
+pub no_such_option : faults_of (codes "rds" ∷ codes "scan" ∷ codes "--burst" ∷ codes "2" ∷ [])
+    ≡ kind.UnknownArgument ∷ []
 unfolding walked bundle_met flags_pass walk_passes flags_fault walk_fault defaults_fault
 no_such_option = refl
 
@@ -70,7 +77,8 @@ pub most_bits : faults_of (codes "rds" ∷ codes "scan" ∷ codes "--bits" ∷ c
 unfolding walked bundle_met flags_pass walk_passes flags_fault walk_fault defaults_fault
 most_bits = refl
 
-pub too_many_bits : faults_of (codes "rds" ∷ codes "scan" ∷ codes "--bits" ∷ codes "1099511627777" ∷ []) ≡ kind.ValueValidation ∷ []
+pub too_many_bits : faults_of (codes "rds" ∷ codes "scan" ∷ codes "--bits" ∷ codes "1099511627777" ∷ [])
+    ≡ kind.ValueValidation ∷ []
 unfolding walked bundle_met flags_pass walk_passes flags_fault walk_fault defaults_fault
 too_many_bits = refl
 
@@ -78,6 +86,7 @@ pub most_loss : faults_of (codes "rds" ∷ codes "list" ∷ codes "--loss" ∷ c
 unfolding walked bundle_met flags_pass walk_passes flags_fault walk_fault defaults_fault
 most_loss = refl
 
-pub too_much_loss : faults_of (codes "rds" ∷ codes "list" ∷ codes "--loss" ∷ codes "4294967296" ∷ []) ≡ kind.ValueValidation ∷ []
+pub too_much_loss : faults_of (codes "rds" ∷ codes "list" ∷ codes "--loss" ∷ codes "4294967296" ∷ [])
+    ≡ kind.ValueValidation ∷ []
 unfolding walked bundle_met flags_pass walk_passes flags_fault walk_fault defaults_fault
 too_much_loss = refl

@@ -1,4 +1,5 @@
--- Lines to be encoded: sixteen digits of either case, among which space, tab and carriage return don't count; empty lines are skipped.
+-- Lines to be encoded: sixteen digits of either case, among which space, tab and carriage return don't count; empty
+-- lines are skipped.
 use Rattle.std.specs.Prelude.{◌≡◌, [], ◌∷◌, ◌++◌, Err, Ok, codes, false, refl, true}
 use Rattle.hex.specs.Hex.{decode_pairs, encode_with}
 use Rattle.rds_code.specs.Remainder.{rem}
@@ -20,7 +21,8 @@ unfolding rem decode_pairs encode_with
 as_bytes = refl
 
 -- a group of version B, whose block 3 has the offset C', among empty lines and blanks of each kind
-pub version_b : encoded_text true (13 ∷ 10 ∷ 9 ∷ codes "0000" ++ 9 ∷ codes "08 00" ++ codes "00000000 " ++ 13 ∷ 10 ∷ codes "  " ++ 10 ∷ 10 ∷ [])
+pub version_b : encoded_text true (13 ∷ 10 ∷ 9 ∷ codes "0000" ++ 9 ∷ codes "08 00" ++ codes "00000000 " ++ 13 ∷ 10
+    ∷ codes "  " ++ 10 ∷ 10 ∷ [])
     ≡ Ok (line (codes "00003f02002c10000d400001b4"))
 unfolding rem decode_pairs encode_with
 version_b = refl

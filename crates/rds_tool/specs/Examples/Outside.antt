@@ -26,7 +26,8 @@ outside e (inr (inr (inr (inr is)))) = ap comes_from_outside is
 abbrev pub IsDecided : ToolError → Type 0
 IsDecided e = IsOutside e → ⊥
 
-pub decided : IsDecided BurstRange × IsDecided ReachRange × IsDecided LossRange × IsDecided BitsPastBytes × IsDecided TooLong × IsDecided BadCutting
+pub decided : IsDecided BurstRange × IsDecided ReachRange × IsDecided LossRange × IsDecided BitsPastBytes
+    × IsDecided TooLong × IsDecided BadCutting
     × IsDecided CrewRange × IsDecided HexText × IsDecided GroupText
 decided = (
   (λ is. false≢true (outside BurstRange is)),

@@ -49,14 +49,17 @@ module _ (places : Vec ℕ) where
 -- ---- numbers and names
 
 abbrev pub all : List ToolError
-all = BurstRange ∷ ReachRange ∷ LossRange ∷ BitsPastBytes ∷ TooLong ∷ BadCutting ∷ CrewRange ∷ OutOfMemory ∷ Read ∷ Write ∷ HexText ∷ GroupText
+all = BurstRange ∷ ReachRange ∷ LossRange ∷ BitsPastBytes ∷ TooLong ∷ BadCutting ∷ CrewRange ∷ OutOfMemory ∷ Read
+    ∷ Write ∷ HexText ∷ GroupText
     ∷ TooManyTurns ∷ NoWorker ∷ []
 
 pub numbers : map number_of all ≡ 1 ∷ 2 ∷ 3 ∷ 4 ∷ 5 ∷ 6 ∷ 7 ∷ 8 ∷ 9 ∷ 10 ∷ 11 ∷ 12 ∷ 13 ∷ 14 ∷ []
 numbers = refl
 
 pub names : map name_of all
-    ≡ codes "BurstRange" ∷ codes "ReachRange" ∷ codes "LossRange" ∷ codes "BitsPastBytes" ∷ codes "TooLong" ∷ codes "BadCutting"
-    ∷ codes "CrewRange" ∷ codes "OutOfMemory" ∷ codes "Read" ∷ codes "Write" ∷ codes "HexText" ∷ codes "GroupText" ∷ codes "TooManyTurns"
+    ≡ codes "BurstRange" ∷ codes "ReachRange" ∷ codes "LossRange" ∷ codes "BitsPastBytes" ∷ codes "TooLong"
+    ∷ codes "BadCutting"
+    ∷ codes "CrewRange" ∷ codes "OutOfMemory" ∷ codes "Read" ∷ codes "Write" ∷ codes "HexText" ∷ codes "GroupText"
+    ∷ codes "TooManyTurns"
     ∷ codes "NoWorker" ∷ []
 names = refl

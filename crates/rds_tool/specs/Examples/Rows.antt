@@ -35,14 +35,17 @@ burst_at_the_top = refl
 -- ---- groups
 
 -- types are decimal, and not cut to a digit
-pub kinds : map kind_text (None ∷ Some 0 ∷ Some 9 ∷ Some 10 ∷ Some 15 ∷ []) ≡ codes "-" ∷ codes "0" ∷ codes "9" ∷ codes "10" ∷ codes "15" ∷ []
+pub kinds : map kind_text (None ∷ Some 0 ∷ Some 9 ∷ Some 10 ∷ Some 15 ∷ [])
+    ≡ codes "-" ∷ codes "0" ∷ codes "9" ∷ codes "10" ∷ codes "15" ∷ []
 unfolding digits
 kinds = refl
 
-pub versions : map (λ version. version_text version false) (version.A ∷ version.B ∷ version.Unknown ∷ []) ≡ codes "A" ∷ codes "B" ∷ codes "?" ∷ []
+pub versions : map (λ version. version_text version false) (version.A ∷ version.B ∷ version.Unknown ∷ [])
+    ≡ codes "A" ∷ codes "B" ∷ codes "?" ∷ []
 versions = refl
 
-pub versions_in_conflict : map (λ version. version_text version true) (version.A ∷ version.B ∷ []) ≡ codes "A!" ∷ codes "B!" ∷ []
+pub versions_in_conflict : map (λ version. version_text version true) (version.A ∷ version.B ∷ [])
+    ≡ codes "A!" ∷ codes "B!" ∷ []
 versions_in_conflict = refl
 
 -- ---- items
@@ -117,12 +120,14 @@ totals_rows = refl
 
 -- the items in order, and then the totals
 pub report_rows : report_text (Acquired 51 2 ∷ unknown ∷ LostLock 77 ∷ []) one_to_twelve
-    ≡ line (codes "acquired,51,2,-,-,-,-,-") ++ line (codes "group,0,-,?,A:1234,none,none,none") ++ line (codes "lost,77,-,-,-,-,-,-") ++ rows_of_totals
+    ≡ line (codes "acquired,51,2,-,-,-,-,-") ++ line (codes "group,0,-,?,A:1234,none,none,none")
+    ++ line (codes "lost,77,-,-,-,-,-,-") ++ rows_of_totals
 unfolding digits
 report_rows = refl
 
 -- ---- windows
 
-pub window_rows : flat_map window_row ((25, A) ∷ (77, Cx) ∷ (103, D) ∷ []) ≡ line (codes "25,A") ++ line (codes "77,Cx") ++ line (codes "103,D")
+pub window_rows : flat_map window_row ((25, A) ∷ (77, Cx) ∷ (103, D) ∷ [])
+    ≡ line (codes "25,A") ++ line (codes "77,Cx") ++ line (codes "103,D")
 unfolding digits
 window_rows = refl

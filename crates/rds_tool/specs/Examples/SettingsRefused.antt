@@ -6,7 +6,11 @@ use Rattle.rds_tool.specs.declared.error.ToolError.TheVariants.{BadCutting, Burs
 use Rattle.rds_tool.specs.declared.job.Cuts.TheVariants.{Even}
 use Rattle.rds_tool.specs.Examples.Words.{settings_of}
 
-pub least : plan_of (settings_of 0 1 1 1 1) ≡ Ok (record { rules = record { burst = 0; reach = 1; loss = 1 }; workers = 1; cuts = Even 1 })
+pub least : plan_of (settings_of 0 1 1 1 1) ≡ Ok (record {
+  rules = record { burst = 0; reach = 1; loss = 1 };
+  workers = 1;
+  cuts = Even 1;
+})
 least = refl
 
 pub most : plan_of (settings_of 5 8 64 256 4294967295)
@@ -58,7 +62,8 @@ rising_cuts = refl
 pub no_cuts : are_inner 208 [] ≡ true
 no_cuts = refl
 
-pub faulty_cuts : map (are_inner 208) ((0 ∷ []) ∷ (208 ∷ []) ∷ (5 ∷ 5 ∷ []) ∷ (6 ∷ 5 ∷ []) ∷ (5 ∷ 209 ∷ []) ∷ []) ≡ false ∷ false ∷ false ∷ false ∷ false ∷ []
+pub faulty_cuts : map (are_inner 208) ((0 ∷ []) ∷ (208 ∷ []) ∷ (5 ∷ 5 ∷ []) ∷ (6 ∷ 5 ∷ []) ∷ (5 ∷ 209 ∷ []) ∷ [])
+    ≡ false ∷ false ∷ false ∷ false ∷ false ∷ []
 faulty_cuts = refl
 
 pub no_bits_no_cuts : are_inner 0 [] ≡ true

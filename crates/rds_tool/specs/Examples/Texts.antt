@@ -14,7 +14,8 @@ abbrev pub zero_group : List ℕ
 zero_group = codes "00003f00001980 0005a00001b4"
 
 pub scan : outcome (Scan hex_input) zero_group
-    ≡ Ok (line (codes "25,A") ++ line (codes "51,B") ++ line (codes "77,C") ++ line (codes "96,B") ++ line (codes "103,D"))
+    ≡ Ok (line (codes "25,A") ++ line (codes "51,B") ++ line (codes "77,C") ++ line (codes "96,B")
+    ++ line (codes "103,D"))
 unfolding decode_pairs digits off rem window
 scan = refl
 
