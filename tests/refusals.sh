@@ -57,7 +57,7 @@ each() {
     shift
     rm -f "$work/count"
     run "$call" 0 "$@"
-    read -r count _ <"$work/count" || exit 1
+    count=$(cat "$work/count") || exit 1
     tried[$call]=$((tried[$call] + count))
     for at in $(seq "$count"); do
         for on in '' 1; do

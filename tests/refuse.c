@@ -2,8 +2,8 @@
  *
  * REFUSE_CALL names the call: alloc, read, write or thread. REFUSE_AT is the number of the call that is refused, from 1 on
  * (0 refuses none); where REFUSE_ON is set, all after it are refused too. REFUSE_COUNT names a file to which the number
- * of such calls is written when the program ends, and after it how many bytes allocations asked for (tests/work.sh).
- * Reads are those of standard input, writes those of standard output.
+ * of such calls is written when the program ends, and REFUSE_BYTES one for the bytes that allocations asked for, which
+ * tests/work.sh looks at. Reads are those of standard input, writes those of standard output.
  */
 #define _GNU_SOURCE
 #include <dlfcn.h>
@@ -37,15 +37,21 @@ __attribute__((constructor)) static void start(void)
     refused_call = call ? call[0] : 0;
 }
 
-static void tell(void)
+static void write_number(const char *name, long number)
 {
-    const char *path = getenv("REFUSE_COUNT");
-    refused_call = 0;
+    const char *path = getenv(name);
     FILE *file = path ? fopen(path, "w") : NULL;
     if (file) {
-        fprintf(file, "%ld %ld\n", (long)calls, (long)bytes);
+        fprintf(file, "%ld\n", number);
         fclose(file);
     }
+}
+
+static void tell(void)
+{
+    refused_call = 0;
+    write_number("REFUSE_COUNT", (long)calls);
+    write_number("REFUSE_BYTES", (long)bytes);
 }
 
 /* The program ends by this call, which runs no destructors. */

@@ -42,10 +42,10 @@ station 40 | od -An -v -tx1 >digits
 count() {
     local call=$1 input=$2
     shift 2
-    rm -f count
-    REFUSE_CALL=$call REFUSE_AT=0 REFUSE_COUNT="$work/count" LD_PRELOAD="$work/refuse.so" \
-        "$rds" "$@" <"$input" >out || return 1
-    cat count
+    rm -f calls bytes
+    REFUSE_CALL=$call REFUSE_AT=0 REFUSE_COUNT="$work/calls" REFUSE_BYTES="$work/bytes" \
+        LD_PRELOAD="$work/refuse.so" "$rds" "$@" <"$input" >out || return 1
+    echo "$(cat calls) $(cat bytes)"
 }
 
 # most INPUT WORDS..: the most allocations and bytes of three runs

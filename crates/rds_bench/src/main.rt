@@ -5,10 +5,10 @@
 //! `--check` runs them all in a second, and fails where a ratio is lost.
 #![tactic(auto)]
 
-mod check;
 mod remainders;
 mod runs;
 mod sample;
+mod standards;
 mod timing;
 mod transcripts;
 mod windows;
@@ -20,7 +20,7 @@ use std::sync::Wait;
 use std::thread::Threads;
 
 const USAGE: &str = "usage: rds_bench MEASUREMENT [BITS [SAMPLE]]
-       rds_bench --check
+       rds_bench --check    all of them over short recordings: an error where a ratio is lost
 
   scan       the scan, and a long division of each window
   remainder  the remainder by tables, and by long division
@@ -30,7 +30,7 @@ const USAGE: &str = "usage: rds_bench MEASUREMENT [BITS [SAMPLE]]
 
 BITS is the length of the recording that is made up for it, 100000000 where it is not given. SAMPLE is what
 'run', 'totals' and 'list' decode: 'station', a station's groups as they were sent, where it is not given,
-'damaged', with one bit of about 500 turned, or 'noise'. With --check all of them run over short recordings.
+'damaged', with one bit of about 500 turned, or 'noise'.
 ";
 
 /// The length of a recording where none is given.
@@ -46,7 +46,7 @@ struct Asked {
 
 fn main(rt: HostRuntime) -> Result<()> {
     match asked_for(&rt)? {
-        Some(asked) if asked.measurement.as_str() == "--check" => check::check(&rt, &rt),
+        Some(asked) if asked.measurement.as_str() == "--check" => standards::check(&rt, &rt),
         Some(asked) => measure(&rt, &rt, &asked),
         None => show_usage(&rt),
     }
