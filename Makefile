@@ -29,7 +29,9 @@ test: toolchain
 	tests/program.sh crates/rds/out/rds
 	tests/listings.sh crates/rds/out/rds
 	tests/refusals.sh crates/rds/out/rds
+	tests/work.sh crates/rds/out/rds
 	tests/recipes.sh crates/rds/out/rds
+	crates/rds_bench/out/rds_bench --check
 
 # The program, its manual page, and the scripts of the recipes.
 install: build/rds

@@ -1,8 +1,9 @@
-/* Refuses one call of a program to the C library, for tests/refusals.sh, which preloads this library.
+/* Refuses one call of a program to the C library, for tests/refusals.sh, which preloads this library, or counts them.
  *
  * REFUSE_CALL names the call: alloc, read, write or thread. REFUSE_AT is the number of the call that is refused, from 1 on
  * (0 refuses none); where REFUSE_ON is set, all after it are refused too. REFUSE_COUNT names a file to which the number
- * of such calls is written when the program ends. Reads are those of standard input, writes those of standard output.
+ * of such calls is written when the program ends, and REFUSE_BYTES one for the bytes that allocations asked for, which
+ * tests/work.sh looks at. Reads are those of standard input, writes those of standard output.
  */
 #define _GNU_SOURCE
 #include <dlfcn.h>
@@ -15,6 +16,7 @@
 #include <unistd.h>
 
 static atomic_long calls;
+static atomic_long bytes;
 static long refused_at;
 static int refused_on;
 static char refused_call;
@@ -35,15 +37,21 @@ __attribute__((constructor)) static void start(void)
     refused_call = call ? call[0] : 0;
 }
 
-static void tell(void)
+static void write_number(const char *name, long number)
 {
-    const char *path = getenv("REFUSE_COUNT");
-    refused_call = 0;
+    const char *path = getenv(name);
     FILE *file = path ? fopen(path, "w") : NULL;
     if (file) {
-        fprintf(file, "%ld\n", (long)calls);
+        fprintf(file, "%ld\n", number);
         fclose(file);
     }
+}
+
+static void tell(void)
+{
+    refused_call = 0;
+    write_number("REFUSE_COUNT", (long)calls);
+    write_number("REFUSE_BYTES", (long)bytes);
 }
 
 /* The program ends by this call, which runs no destructors. */
@@ -54,6 +62,14 @@ void _exit(int status)
     __builtin_unreachable();
 }
 
+/* Whether an allocation of so many bytes is refused. */
+static int is_refused_memory(size_t size)
+{
+    if (refused_call == 'a')
+        atomic_fetch_add(&bytes, (long)size);
+    return is_refused('a');
+}
+
 extern void *__libc_malloc(size_t);
 extern void *__libc_calloc(size_t, size_t);
 extern void *__libc_realloc(void *, size_t);
@@ -61,7 +77,7 @@ extern void *__libc_memalign(size_t, size_t);
 
 void *malloc(size_t size)
 {
-    if (!is_refused('a'))
+    if (!is_refused_memory(size))
         return __libc_malloc(size);
     errno = ENOMEM;
     return NULL;
@@ -69,7 +85,7 @@ void *malloc(size_t size)
 
 void *calloc(size_t count, size_t size)
 {
-    if (!is_refused('a'))
+    if (!is_refused_memory(count * size))
         return __libc_calloc(count, size);
     errno = ENOMEM;
     return NULL;
@@ -77,7 +93,7 @@ void *calloc(size_t count, size_t size)
 
 void *realloc(void *old, size_t size)
 {
-    if (!is_refused('a'))
+    if (!is_refused_memory(size))
         return __libc_realloc(old, size);
     errno = ENOMEM;
     return NULL;
@@ -85,7 +101,7 @@ void *realloc(void *old, size_t size)
 
 void *aligned_alloc(size_t align, size_t size)
 {
-    if (!is_refused('a'))
+    if (!is_refused_memory(size))
         return __libc_memalign(align, size);
     errno = ENOMEM;
     return NULL;
@@ -93,7 +109,7 @@ void *aligned_alloc(size_t align, size_t size)
 
 int posix_memalign(void **out, size_t align, size_t size)
 {
-    if (is_refused('a'))
+    if (is_refused_memory(size))
         return ENOMEM;
     *out = __libc_memalign(align, size);
     return *out ? 0 : ENOMEM;

@@ -2,12 +2,14 @@
 //!
 //! Each measurement is a function in a file of its own. It times the forms of one task in the same run, one after the
 //! other, over the same bits, and shows each as a ratio to the first: times of two runs say little of one another.
+//! `--check` runs them all in a second, and fails where a ratio is lost.
 #![tactic(auto)]
 
 mod deals;
 mod remainders;
 mod runs;
 mod sample;
+mod standards;
 mod timing;
 mod transcripts;
 mod windows;
@@ -19,6 +21,7 @@ use std::sync::Wait;
 use std::thread::Threads;
 
 const USAGE: &str = "usage: rds_bench MEASUREMENT [BITS [SAMPLE]]
+       rds_bench --check    all of them over short recordings: an error where a ratio is lost
 
   scan       the valid windows: a list, one after the other, place by place, by long division
   remainder  the remainder by tables, and by long division
@@ -45,6 +48,7 @@ struct Asked {
 
 fn main(rt: HostRuntime) -> Result<()> {
     match asked_for(&rt)? {
+        Some(asked) if asked.measurement.as_str() == "--check" => standards::check(&rt, &rt),
         Some(asked) => measure(&rt, &rt, &asked),
         None => show_usage(&rt),
     }

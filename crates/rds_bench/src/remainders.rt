@@ -20,6 +20,6 @@ pub fn measure(rt: &HostRuntime, blocks: u64) -> Result<()> {
     for block in 0..blocks {
         found = found.wrapping_add(plain::rem26((block % (1 << 26)) as u32) as u64);
     }
-    timing.show(rt, "by long division", start, found)?;
+    timing.show(rt, "by dividing each block", start, found)?;
     Ok(())
 }

@@ -6,6 +6,14 @@ pub mod DamagedBlocks
 pub mod BothOffsetsFit
 pub mod VersionB
 pub mod OtherGroups
+pub mod GroupTypes
+pub mod CorrectedSecond
+pub mod Spans
+pub mod LongReach
+pub mod LongLoss
+pub mod LawfulStates
+pub mod Stretches
+pub mod StepsOfADecoder
 pub mod LostAndFound
 pub mod TwoZeroGroups
 pub mod EightZeroGroups

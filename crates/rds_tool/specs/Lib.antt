@@ -5,6 +5,7 @@ pub mod CommandLine
 pub mod Input
 pub mod Rules
 pub mod Cuts
+pub mod Examples
 pub mod Plans
 pub mod Tasks
 pub mod Listing

@@ -3,6 +3,8 @@
 #![tactic(auto)]
 
 #[cfg(test)]
+mod bulk;
+#[cfg(test)]
 mod crew;
 #[cfg(test)]
 mod cutting;
@@ -11,6 +13,8 @@ mod devices;
 #[cfg(test)]
 mod encoding;
 #[cfg(test)]
+mod ends;
+#[cfg(test)]
 mod failing;
 #[cfg(test)]
 mod lines;
@@ -18,3 +22,5 @@ mod lines;
 mod samples;
 #[cfg(test)]
 mod scanning;
+#[cfg(test)]
+mod workers;

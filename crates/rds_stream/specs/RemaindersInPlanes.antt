@@ -1,0 +1,64 @@
+-- The remainders of the windows of the zero group at the places 25 to 88, as ten planes.
+use Rattle.std.specs.Prelude.{◌≡◌, ◌<◌, ◌==◌, List, [], ◌∷◌, ℕ, get_or, map, refl}
+use Rattle.std.specs.List.{range_with_len}
+use Rattle.std.proofs.Common.{◌∙◌, ap, sym}
+use Rattle.std.proofs.Math.Nat.{zero-add}
+use Rattle.std.proofs.lemmas.Bool.{false≢true, le-leb, leb-true}
+use Rattle.std.proofs.lemmas.List.FromFn.{get_or-map-range_with_len}
+use Rattle.rds_stream.specs.Planes.{Hold, IsWindowAt}
+
+-- bit r of the remainder at place 25 + k is bit k of plane r
+abbrev pub planes : List ℕ
+planes =
+    0x7043C80F70611758 ∷ 0xE084A01EE13A2EB0 ∷ 0xC10A703DC38C5D61 ∷ 0xF256C874F64DAD9B ∷ 0x94EC88E69C364C6F
+    ∷ 0x599B39C249398F87 ∷ 0xB3354384938B1F0F ∷ 0x1628AF0656432947 ∷ 0x5C104603DC2B45D6 ∷ 0xB8208C07B8568BAC ∷ []
+
+-- the bits of the group, the first lowest
+abbrev pub places : ℕ
+places = 0x5A00001980000FC0000
+
+-- two functions that agree below n
+pub agree : (f g : ℕ → ℕ) (n : ℕ) → map f (range_with_len 0 n)
+    ≡ map g (range_with_len 0 n) → (i : ℕ) → i < n → f i ≡ g i
+agree f g n same i below =
+    sym (get_or-map-range_with_len f 0 n i i 0 below (zero-add i)) ∙ ap (λ values. get_or values i 0) same
+    ∙ get_or-map-range_with_len g 0 n i i 0 below (zero-add i)
+
+-- ---- remainders
+
+pub at_25 : Hold planes 0 0x0FC
+at_25 = record { small = leb-true 0x0FD 1024 refl; bits = agree _ _ 10 refl }
+
+pub at_26 : Hold planes 1 0x1F8
+at_26 = record { small = leb-true 0x1F9 1024 refl; bits = agree _ _ 10 refl }
+
+pub at_51 : Hold planes 26 0x198
+at_51 = record { small = leb-true 0x199 1024 refl; bits = agree _ _ 10 refl }
+
+pub at_77 : Hold planes 52 0x168
+at_77 = record { small = leb-true 0x169 1024 refl; bits = agree _ _ 10 refl }
+
+pub at_88 : Hold planes 63 0x25E
+at_88 = record { small = leb-true 0x25F 1024 refl; bits = agree _ _ 10 refl }
+
+-- a place holds one remainder: not that of its neighbour, nor one of more than ten bits
+pub not_the_next : Hold planes 0 0x1F8 → ⊥
+not_the_next hold = false≢true (ap (λ bit. bit == 1) (hold.bits 8 (leb-true 9 10 refl)))
+
+pub not_eleven_bits : Hold planes 0 0x4FC → ⊥
+not_eleven_bits hold = false≢true (le-leb 0x4FD 1024 hold.small)
+
+-- ---- windows
+
+pub window_25 : IsWindowAt places 0 0x00000FC
+window_25 = record { block = leb-true 0xFD 67108864 refl; bits = agree _ _ 26 refl }
+
+pub window_51 : IsWindowAt places 26 0x0000198
+window_51 = record { block = leb-true 0x199 67108864 refl; bits = agree _ _ 26 refl }
+
+pub window_77 : IsWindowAt places 52 0x0000168
+window_77 = record { block = leb-true 0x169 67108864 refl; bits = agree _ _ 26 refl }
+
+-- its last place is its lowest bit
+pub not_turned : IsWindowAt places 0 0x0FC0000 → ⊥
+not_turned window = false≢true (ap (λ bit. bit == 1) (window.bits 2 (leb-true 3 26 refl)))

@@ -1,0 +1,108 @@
+-- Lawful states at the ends of what is lawful, and states just past them.
+use Rattle.std.specs.Prelude.{◌≡◌, ◌≤◌, ◌<◌, ◌⊎◌, ◌==◌, ℕ, refl}
+use Rattle.std.proofs.Common.{ap, inl, inr}
+use Rattle.std.proofs.lemmas.Bool.{false≢true, le-leb, leb-true}
+use Rattle.rds_sync.specs.declared.state.State.TheVariants.{Searching}
+use Rattle.rds_sync.specs.Lawful.{IsBetweenGroups, IsLawful}
+use Rattle.rds_sync.specs.Examples.Words.{default_rules, locked, rules_of}
+
+pub search_at_0 : IsLawful default_rules 0 Searching
+search_at_0 = tt
+
+-- ---- which place a block may be due at
+
+-- due at this place, and at the last of the next 26
+pub due_now : IsLawful default_rules 129 (locked 129 1 9 1)
+due_now = record {
+  soon = (leb-true 129 129 refl, leb-true 129 154 refl);
+  few_bad = leb-true 10 10 refl;
+  enough_bits = leb-true 25 129 refl;
+  in_order = inl (refl, refl);
+}
+
+pub due_last : IsLawful default_rules 104 (locked 129 1 0 1)
+due_last = record {
+  soon = (leb-true 104 129 refl, leb-true 129 129 refl);
+  few_bad = leb-true 1 10 refl;
+  enough_bits = leb-true 25 129 refl;
+  in_order = inl (refl, refl);
+}
+
+pub due_before : IsLawful default_rules 130 (locked 129 1 0 1) → ⊥
+due_before lawful = false≢true (le-leb 130 129 lawful.soon.0)
+
+pub due_after_27 : IsLawful default_rules 103 (locked 129 1 0 1) → ⊥
+due_after_27 lawful = false≢true (le-leb 129 128 lawful.soon.1)
+
+-- ---- how many bad blocks there may be
+
+pub all_but_one_of_64 : IsLawful (rules_of 2 3 64) 129 (locked 129 1 63 1)
+all_but_one_of_64 = record {
+  soon = (leb-true 129 129 refl, leb-true 129 154 refl);
+  few_bad = leb-true 64 64 refl;
+  enough_bits = leb-true 25 129 refl;
+  in_order = inl (refl, refl);
+}
+
+pub lost : IsLawful default_rules 129 (locked 129 1 10 1) → ⊥
+lost lawful = false≢true (le-leb 11 10 lawful.few_bad)
+
+-- ---- where its group may begin
+
+-- the first block of the group ends at place 25, the least
+pub least_start : IsLawful default_rules 26 (locked 51 2 0 1)
+least_start = record {
+  soon = (leb-true 26 51 refl, leb-true 51 51 refl);
+  few_bad = leb-true 1 10 refl;
+  enough_bits = leb-true 51 51 refl;
+  in_order = inr (leb-true 1 1 refl, leb-true 2 2 refl, leb-true 2 4 refl);
+}
+
+pub before_the_start : IsLawful default_rules 25 (locked 50 2 0 1) → ⊥
+before_the_start lawful = false≢true (le-leb 51 50 lawful.enough_bits)
+
+-- ---- which numbers it may have
+
+abbrev pub AreInOrder : ℕ → ℕ → Type 0
+AreInOrder number first = ((number ≡ 1) × (first ≡ 1)) ⊎ ((1 ≤ first) × (first < number) × (number ≤ 4))
+
+pub last_of_a_group : IsLawful default_rules 129 (locked 129 4 0 3)
+last_of_a_group = record {
+  soon = (leb-true 129 129 refl, leb-true 129 154 refl);
+  few_bad = leb-true 1 10 refl;
+  enough_bits = leb-true 51 129 refl;
+  in_order = inr (leb-true 1 3 refl, leb-true 4 4 refl, leb-true 4 4 refl);
+}
+
+pub past_4 : IsLawful default_rules 129 (locked 129 5 0 1) → ⊥
+past_4 lawful = out_of_order lawful.in_order
+  where
+    out_of_order : AreInOrder 5 1 → ⊥
+    out_of_order (inl (is_1, first)) = false≢true (ap (λ x. x == 1) is_1)
+    out_of_order (inr (some, before, few)) = false≢true (le-leb 5 4 few)
+
+-- no first block before block 2, but block 1 alone
+pub first_is_due : IsLawful default_rules 129 (locked 129 2 0 2) → ⊥
+first_is_due lawful = out_of_order lawful.in_order
+  where
+    out_of_order : AreInOrder 2 2 → ⊥
+    out_of_order (inl (is_1, first)) = false≢true (ap (λ x. x == 1) is_1)
+    out_of_order (inr (some, before, few)) = false≢true (le-leb 3 2 before)
+
+pub new_group_after_2 : IsLawful default_rules 129 (locked 129 1 0 2) → ⊥
+new_group_after_2 lawful = out_of_order lawful.in_order
+  where
+    out_of_order : AreInOrder 1 2 → ⊥
+    out_of_order (inl (is_1, first)) = false≢true (ap (λ x. x == 1) first)
+    out_of_order (inr (some, before, few)) = false≢true (le-leb 3 1 before)
+
+-- ---- groups in progress
+
+pub between_at_1 : IsBetweenGroups (locked 129 1 3 1)
+between_at_1 = refl
+
+pub between_in_a_search : IsBetweenGroups Searching
+between_in_a_search = tt
+
+pub in_progress_at_2 : IsBetweenGroups (locked 155 2 0 1) → ⊥
+in_progress_at_2 between = false≢true (ap (λ x. x == 1) between)

@@ -1,0 +1,14 @@
+-- Texts, refusals, jobs and command lines, with what the definitions give for them: theorems that the checker
+-- computes.
+pub mod Words
+pub mod Rows
+pub mod HexText
+pub mod GroupLines
+pub mod Recordings
+pub mod SettingsRefused
+pub mod Refused
+pub mod Texts
+pub mod Outside
+pub mod ThreadsAskedFor
+pub mod CommandLines
+pub mod JobsAskedFor

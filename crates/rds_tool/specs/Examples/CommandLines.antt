@@ -1,0 +1,92 @@
+-- Words of command lines: the command, the text of each option's entry, and what `clap` finds wrong with them.
+use Rattle.std.specs.Prelude.{◌≡◌, List, None, Option, Some, [], ◌∷◌, codes, map, refl}
+use Rattle.clap.specs.Takes.{flags_pass, walk_passes}
+use Rattle.clap.specs.Faults.{defaults_fault, flags_fault, walk_fault}
+use Rattle.clap.specs.Walk.{bundle_met, walked}
+use Rattle.clap.specs.Words.{Row, Text, one_of}
+use Rattle.clap.specs.declared.error.kind.ErrorKind.TheVariants as kind
+use Rattle.rds_tool.specs.CommandLine.{entries_of, faults_of}
+
+-- the entries of the options, in the order of the help
+abbrev pub texts : List Row → List (Option Text)
+texts rows = map (λ name. one_of name rows)
+    (codes "hex" ∷ codes "bits" ∷ codes "burst" ∷ codes "reach" ∷ codes "loss" ∷ codes "pieces" ∷ codes "workers"
+    ∷ [])
+
+-- the command and these
+abbrev pub asked_by : List Text → Option (Text × List (Option Text))
+asked_by words = elim (entries_of words) [ None ↦ None | Some entries ↦ Some (entries.0, texts entries.1) ]
+
+-- ---- options and their defaults
+
+pub scan : asked_by (codes "rds" ∷ codes "scan" ∷ [])
+    ≡ Some (codes "scan", Some (codes "false") ∷ None ∷ None ∷ None ∷ None ∷ None ∷ None ∷ [])
+unfolding walked
+scan = refl
+
+pub scan_of_bits : asked_by (codes "rds" ∷ codes "scan" ∷ codes "--bits" ∷ codes "104" ∷ codes "--hex" ∷ [])
+    ≡ Some (codes "scan", Some (codes "true") ∷ Some (codes "104") ∷ None ∷ None ∷ None ∷ None ∷ None ∷ [])
+unfolding walked
+scan_of_bits = refl
+
+pub list : asked_by (codes "rds" ∷ codes "list" ∷ [])
+    ≡ Some (codes "list", Some (codes "false") ∷ None ∷ Some (codes "2") ∷ Some (codes "3") ∷ Some (codes "10")
+    ∷ Some (codes "16") ∷ Some (codes "4") ∷ [])
+unfolding walked
+list = refl
+
+-- an option of each kind
+abbrev pub each_option : List Text
+each_option =
+    codes "rds" ∷ codes "totals" ∷ codes "--workers" ∷ codes "7" ∷ codes "--pieces=6" ∷ codes "--loss" ∷ codes "5"
+    ∷ codes "--reach=4"
+    ∷ codes "--burst" ∷ codes "1" ∷ codes "--bits=0" ∷ codes "--hex" ∷ []
+
+pub totals : asked_by each_option
+    ≡ Some (codes "totals", Some (codes "true") ∷ Some (codes "0") ∷ Some (codes "1") ∷ Some (codes "4")
+    ∷ Some (codes "5") ∷ Some (codes "6") ∷ Some (codes "7") ∷ [])
+unfolding walked
+totals = refl
+
+pub encode : asked_by (codes "rds" ∷ codes "encode" ∷ codes "--hex" ∷ [])
+    ≡ Some (codes "encode", Some (codes "true") ∷ None ∷ None ∷ None ∷ None ∷ None ∷ None ∷ [])
+unfolding walked
+encode = refl
+
+-- ---- faults
+
+pub no_fault : faults_of each_option ≡ []
+unfolding walked bundle_met flags_pass walk_passes flags_fault walk_fault defaults_fault
+no_fault = refl
+
+pub help : faults_of (codes "rds" ∷ codes "list" ∷ codes "--help" ∷ []) ≡ kind.DisplayHelp ∷ []
+unfolding walked bundle_met flags_pass walk_passes flags_fault walk_fault defaults_fault
+help = refl
+
+pub no_command : faults_of (codes "rds" ∷ []) ≡ kind.MissingSubcommand ∷ []
+unfolding walked bundle_met flags_pass walk_passes flags_fault walk_fault defaults_fault
+no_command = refl
+
+pub no_such_option : faults_of (codes "rds" ∷ codes "scan" ∷ codes "--burst" ∷ codes "2" ∷ [])
+    ≡ kind.UnknownArgument ∷ []
+unfolding walked bundle_met flags_pass walk_passes flags_fault walk_fault defaults_fault
+no_such_option = refl
+
+-- 2^40 bits are taken, and one more is not; 2^32 is past every other number
+pub most_bits : faults_of (codes "rds" ∷ codes "scan" ∷ codes "--bits" ∷ codes "1099511627776" ∷ []) ≡ []
+unfolding walked bundle_met flags_pass walk_passes flags_fault walk_fault defaults_fault
+most_bits = refl
+
+pub too_many_bits : faults_of (codes "rds" ∷ codes "scan" ∷ codes "--bits" ∷ codes "1099511627777" ∷ [])
+    ≡ kind.ValueValidation ∷ []
+unfolding walked bundle_met flags_pass walk_passes flags_fault walk_fault defaults_fault
+too_many_bits = refl
+
+pub most_loss : faults_of (codes "rds" ∷ codes "list" ∷ codes "--loss" ∷ codes "4294967295" ∷ []) ≡ []
+unfolding walked bundle_met flags_pass walk_passes flags_fault walk_fault defaults_fault
+most_loss = refl
+
+pub too_much_loss : faults_of (codes "rds" ∷ codes "list" ∷ codes "--loss" ∷ codes "4294967296" ∷ [])
+    ≡ kind.ValueValidation ∷ []
+unfolding walked bundle_met flags_pass walk_passes flags_fault walk_fault defaults_fault
+too_much_loss = refl

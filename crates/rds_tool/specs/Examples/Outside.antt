@@ -1,0 +1,45 @@
+-- Which refusals the job and the bytes decide, and which they don't.
+use Rattle.std.specs.Prelude.{◌≡◌, Bool, false, refl, true}
+use Rattle.std.proofs.Common.{ap, inl, inr}
+use Rattle.std.proofs.lemmas.Bool.{false≢true}
+use Rattle.rds_tool.specs.Outcome.{IsOutside}
+use Rattle.rds_tool.specs.declared.error.ToolError.{ToolError}
+use Rattle.rds_tool.specs.declared.error.ToolError.TheVariants.{BadCutting, BitsPastBytes, BurstRange, CrewRange, GroupText, HexText, LossRange, NoWorker, OutOfMemory, ReachRange, Read, TooLong, TooManyTurns, Write}
+
+-- memory, threads and the devices
+abbrev pub comes_from_outside : ToolError → Bool
+comes_from_outside OutOfMemory = true
+comes_from_outside NoWorker = true
+comes_from_outside Read = true
+comes_from_outside Write = true
+comes_from_outside TooManyTurns = true
+comes_from_outside other = false
+
+pub outside : (e : ToolError) → IsOutside e → comes_from_outside e ≡ true
+outside e (inl is) = ap comes_from_outside is
+outside e (inr (inl is)) = ap comes_from_outside is
+outside e (inr (inr (inl is))) = ap comes_from_outside is
+outside e (inr (inr (inr (inl is)))) = ap comes_from_outside is
+outside e (inr (inr (inr (inr is)))) = ap comes_from_outside is
+
+-- none of these is decided outside
+abbrev pub IsDecided : ToolError → Type 0
+IsDecided e = IsOutside e → ⊥
+
+pub decided : IsDecided BurstRange × IsDecided ReachRange × IsDecided LossRange × IsDecided BitsPastBytes
+    × IsDecided TooLong × IsDecided BadCutting
+    × IsDecided CrewRange × IsDecided HexText × IsDecided GroupText
+decided = (
+  (λ is. false≢true (outside BurstRange is)),
+  (λ is. false≢true (outside ReachRange is)),
+  (λ is. false≢true (outside LossRange is)),
+  (λ is. false≢true (outside BitsPastBytes is)),
+  (λ is. false≢true (outside TooLong is)),
+  (λ is. false≢true (outside BadCutting is)),
+  (λ is. false≢true (outside CrewRange is)),
+  (λ is. false≢true (outside HexText is)),
+  (λ is. false≢true (outside GroupText is)),
+)
+
+pub undecided : IsOutside OutOfMemory × IsOutside NoWorker × IsOutside Read × IsOutside Write × IsOutside TooManyTurns
+undecided = (inl refl, inr (inl refl), inr (inr (inl refl)), inr (inr (inr (inl refl))), inr (inr (inr (inr refl))))

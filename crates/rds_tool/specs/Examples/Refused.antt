@@ -1,0 +1,65 @@
+-- What a job refuses, in the order of looking: its settings, its text, its bits, its cuts.
+use Rattle.std.specs.Prelude.{◌≡◌, List, [], ◌∷◌, Err, ℕ, codes, false, map, refl}
+use Rattle.std.specs.Global.{Vec}
+use Rattle.hex.specs.Hex.{decode_pairs}
+use Rattle.rds_tool.specs.Outcome.{outcome}
+use Rattle.rds_tool.specs.Refusals.{name_of, number_of}
+use Rattle.rds_tool.specs.declared.error.ToolError.{ToolError}
+use Rattle.rds_tool.specs.declared.error.ToolError.TheVariants.{BadCutting, BitsPastBytes, BurstRange, CrewRange, GroupText, HexText, LossRange, NoWorker, OutOfMemory, ReachRange, Read, TooLong, TooManyTurns, Write}
+use Rattle.rds_tool.specs.declared.job.Cuts.TheVariants.{At}
+use Rattle.rds_tool.specs.declared.job.Job.TheVariants.{Encode, List as ListJob, Scan, Totals}
+use Rattle.rds_tool.specs.Examples.Words.{cut_settings, default_settings, hex_bits, hex_input, raw_bits, settings_of}
+
+-- all settings are out of their ranges, and the bytes are no hexadecimal text
+pub settings_first : outcome (ListJob hex_input (settings_of 6 0 0 0 0)) (codes "0") ≡ Err BurstRange
+settings_first = refl
+
+pub crew_before_text : outcome (Totals hex_input (settings_of 2 3 10 0 0)) (codes "0") ≡ Err CrewRange
+crew_before_text = refl
+
+pub no_pieces_before_text : outcome (Totals hex_input (settings_of 2 3 10 4 0)) (codes "0") ≡ Err BadCutting
+no_pieces_before_text = refl
+
+pub text_before_bits : outcome (ListJob (hex_bits 68719476737) default_settings) (codes "0") ≡ Err HexText
+unfolding decode_pairs
+text_before_bits = refl
+
+pub too_long : outcome (Totals (raw_bits 68719476737) default_settings) [] ≡ Err TooLong
+too_long = refl
+
+pub past_the_bytes : outcome (ListJob (raw_bits 57) default_settings) (codes "1234567") ≡ Err BitsPastBytes
+past_the_bytes = refl
+
+-- a scan has neither rules nor cuts
+pub text_of_a_scan : outcome (Scan hex_input) (codes "000") ≡ Err HexText
+unfolding decode_pairs
+text_of_a_scan = refl
+
+pub bits_of_a_scan : outcome (Scan (raw_bits 9)) (codes "1") ≡ Err BitsPastBytes
+bits_of_a_scan = refl
+
+pub line_of_an_encoding : outcome (Encode false) (codes "123425405244532") ≡ Err GroupText
+line_of_an_encoding = refl
+
+-- places are looked at once the bits are known
+module _ (places : Vec ℕ) where
+  pub bits_before_places : outcome (ListJob (raw_bits 9) (cut_settings 1 (At places))) (codes "1") ≡ Err BitsPastBytes
+  bits_before_places = refl
+
+-- ---- numbers and names
+
+abbrev pub all : List ToolError
+all = BurstRange ∷ ReachRange ∷ LossRange ∷ BitsPastBytes ∷ TooLong ∷ BadCutting ∷ CrewRange ∷ OutOfMemory ∷ Read
+    ∷ Write ∷ HexText ∷ GroupText
+    ∷ TooManyTurns ∷ NoWorker ∷ []
+
+pub numbers : map number_of all ≡ 1 ∷ 2 ∷ 3 ∷ 4 ∷ 5 ∷ 6 ∷ 7 ∷ 8 ∷ 9 ∷ 10 ∷ 11 ∷ 12 ∷ 13 ∷ 14 ∷ []
+numbers = refl
+
+pub names : map name_of all
+    ≡ codes "BurstRange" ∷ codes "ReachRange" ∷ codes "LossRange" ∷ codes "BitsPastBytes" ∷ codes "TooLong"
+    ∷ codes "BadCutting"
+    ∷ codes "CrewRange" ∷ codes "OutOfMemory" ∷ codes "Read" ∷ codes "Write" ∷ codes "HexText" ∷ codes "GroupText"
+    ∷ codes "TooManyTurns"
+    ∷ codes "NoWorker" ∷ []
+names = refl

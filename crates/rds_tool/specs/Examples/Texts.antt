@@ -1,0 +1,50 @@
+-- Whole jobs, from the bytes that are read to the text that is written.
+use Rattle.std.specs.Prelude.{◌≡◌, ℕ, List, ◌++◌, Ok, codes, refl, true}
+use Rattle.std.specs.Fmt.{digits}
+use Rattle.hex.specs.Hex.{decode_pairs, encode_with}
+use Rattle.rds_code.specs.Remainder.{rem}
+use Rattle.rds_stream.specs.Recording.{off, window}
+use Rattle.rds_sync.specs.Acquiring.{acquired, has_number}
+use Rattle.rds_sync.specs.Groups.{group}
+use Rattle.rds_tool.specs.Outcome.{outcome}
+use Rattle.rds_tool.specs.declared.job.Job.TheVariants.{Encode, List as ListJob, Scan, Totals}
+use Rattle.rds_tool.specs.Examples.Words.{default_settings, hex_bits, hex_input, line, settings_of}
+
+abbrev pub zero_group : List ℕ
+zero_group = codes "00003f00001980 0005a00001b4"
+
+pub scan : outcome (Scan hex_input) zero_group
+    ≡ Ok (line (codes "25,A") ++ line (codes "51,B") ++ line (codes "77,C") ++ line (codes "96,B")
+    ++ line (codes "103,D"))
+unfolding decode_pairs digits off rem window
+scan = refl
+
+-- the first two blocks
+abbrev pub totals_rows : List ℕ
+totals_rows =
+    line (codes "total,valid,1,-,-,-,-,-")
+    ++ line (codes "total,burst1,0,-,-,-,-,-")
+    ++ line (codes "total,burst2,0,-,-,-,-,-")
+    ++ line (codes "total,burst3,0,-,-,-,-,-")
+    ++ line (codes "total,burst4,0,-,-,-,-,-")
+    ++ line (codes "total,burst5,0,-,-,-,-,-")
+    ++ line (codes "total,lost,0,-,-,-,-,-")
+    ++ line (codes "total,bits,0,-,-,-,-,-")
+    ++ line (codes "total,groups,1,-,-,-,-,-")
+    ++ line (codes "total,complete,0,-,-,-,-,-")
+    ++ line (codes "total,acquired,1,-,-,-,-,-")
+    ++ line (codes "total,losses,0,-,-,-,-,-")
+
+pub list : outcome (ListJob (hex_bits 52) default_settings) zero_group
+    ≡ Ok (line (codes "acquired,51,2,-,-,-,-,-") ++ line (codes "group,26,0,A,none,B:0000,none,none") ++ totals_rows)
+unfolding acquired decode_pairs digits group has_number off rem window
+list = refl
+
+-- neither workers nor pieces show
+pub totals : outcome (Totals (hex_bits 52) (settings_of 5 8 64 256 1)) zero_group ≡ Ok totals_rows
+unfolding acquired decode_pairs digits group has_number off rem window
+totals = refl
+
+pub encode : outcome (Encode true) (codes "0000 0000 0000 0000") ≡ Ok (line (codes "00003f000019800005a00001b4"))
+unfolding decode_pairs encode_with rem
+encode = refl

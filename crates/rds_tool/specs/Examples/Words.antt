@@ -1,0 +1,36 @@
+-- Short words for the examples.
+use Rattle.std.specs.Prelude.{ℕ, List, [], ◌∷◌, ◌++◌, None, Some, false, true}
+use Rattle.rds_tool.specs.declared.job.Cuts.{Cuts}
+use Rattle.rds_tool.specs.declared.job.Cuts.TheVariants.{Even}
+use Rattle.rds_tool.specs.declared.job.Input.{Input}
+use Rattle.rds_tool.specs.declared.job.Settings.{Settings}
+
+-- the text, and then a line feed
+abbrev pub line : List ℕ → List ℕ
+line text = text ++ 10 ∷ []
+
+-- hexadecimal text, and bytes as they are, both with all their bits
+abbrev pub hex_input : Input
+hex_input = record { hex = true; bits = None }
+
+abbrev pub raw_input : Input
+raw_input = record { hex = false; bits = None }
+
+-- so many bits of hexadecimal text, and of bytes as they are
+abbrev pub hex_bits : ℕ → Input
+hex_bits bits = record { hex = true; bits = Some bits }
+
+abbrev pub raw_bits : ℕ → Input
+raw_bits bits = record { hex = false; bits = Some bits }
+
+-- the rules, the workers and the most pieces
+abbrev pub settings_of : ℕ → ℕ → ℕ → ℕ → ℕ → Settings
+settings_of burst reach loss workers pieces =
+    record { burst = burst; reach = reach; loss = loss; workers = workers; cuts = Even pieces }
+
+abbrev pub default_settings : Settings
+default_settings = settings_of 2 3 10 4 16
+
+-- the default rules, with so many workers and cut so
+abbrev pub cut_settings : ℕ → Cuts → Settings
+cut_settings workers cuts = record { burst = 2; reach = 3; loss = 10; workers = workers; cuts = cuts }

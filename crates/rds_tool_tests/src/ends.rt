@@ -1,0 +1,154 @@
+//! What readers and writers of std are handed. No contract says it: one that gives or takes a byte a call has all
+//! clauses too, but would end at 16,777,216 bytes, and go through a call of the system for each.
+use rds_tool::{FromRead, Input, Job, ToWrite, ToolError, transcribe};
+use std::alloc::{AllocError, Global};
+use std::io;
+use std::io::{Read, Write};
+use std::sync::Wait;
+use std::thread::Threads;
+
+/// What a reader notes: how often it was read, and the sizes of the buffers that it was handed.
+#[derive(Drop)]
+struct Reads {
+    count: u64,
+    least_buffer: usize,
+    most_buffer: usize,
+}
+
+impl Reads {
+    fn new() -> Reads {
+        Reads {
+            count: 0,
+            least_buffer: usize::MAX,
+            most_buffer: 0,
+        }
+    }
+
+    fn note(&mut self, buffer: usize) {
+        self.count = self.count.wrapping_add(1);
+        self.least_buffer = self.least_buffer.min(buffer);
+        self.most_buffer = self.most_buffer.max(buffer);
+    }
+}
+
+/// A reader of std that gives zeros, as many as it is told.
+#[derive(Drop)]
+struct Zeros<'a> {
+    left: usize,
+    reads: &'a mut Reads,
+}
+
+impl Read for Zeros<'_> {
+    fn read(&mut self, buf: &mut [u8]) -> io::Result<usize> {
+        self.reads.note(buf.len());
+        let count = self.left.min(buf.len());
+        buf[..count].fill(0);
+        self.left -= count;
+        Ok(count)
+    }
+}
+
+/// A writer of std that takes at most `step` bytes a call, and notes how many it is handed in the first two.
+#[derive(Drop)]
+struct Notes {
+    held: Vec<u8>,
+    step: usize,
+    writes: u64,
+    first: usize,
+    second: usize,
+    flushes: u64,
+    flush_fails: bool,
+}
+
+impl Notes {
+    fn new(alloc: Global, step: usize, flush_fails: bool) -> Notes {
+        Notes {
+            held: Vec::new(alloc),
+            step,
+            writes: 0,
+            first: 0,
+            second: 0,
+            flushes: 0,
+            flush_fails,
+        }
+    }
+}
+
+impl Write for Notes {
+    fn write(&mut self, bytes: &[u8]) -> io::Result<usize> {
+        match self.writes {
+            0 => self.first = bytes.len(),
+            1 => self.second = bytes.len(),
+            _ => {}
+        }
+        self.writes = self.writes.wrapping_add(1);
+        let count = bytes.len().min(self.step);
+        self.held.extend_from_slice(&bytes[..count])?;
+        Ok(count)
+    }
+
+    fn flush(&mut self) -> io::Result<()> {
+        self.flushes = self.flushes.wrapping_add(1);
+        if self.flush_fails {
+            return Err(io::Error::from(AllocError));
+        }
+        Ok(())
+    }
+}
+
+/// A scan of no bits, which reads its whole input and writes nothing.
+const NO_BITS: Job = Job::Scan(Input {
+    hex: false,
+    bits: Some(0),
+});
+
+const HEX: Job = Job::Scan(Input {
+    hex: true,
+    bits: None,
+});
+
+// 260 reads give 65,536 bytes or the rest, and one more is the end.
+#[test]
+fn a_reader_of_std_is_asked_for_65536_bytes_at_once(rt: HostRuntime) {
+    let mut reads = Reads::new();
+    let zeros = Zeros {
+        left: 17_000_000,
+        reads: &mut reads,
+    };
+    assert!(rt; is_read(&rt, rt.alloc(), zeros));
+    assert!(rt; reads.count == 261);
+    assert!(rt; reads.least_buffer == 65_536 && reads.most_buffer == 65_536);
+}
+
+/// Whether all of these zeros are read.
+fn is_read<R: Sync + Threads + Wait>(rt: &R, alloc: Global, zeros: Zeros<'_>) -> bool {
+    let mut reader = FromRead::new(zeros);
+    let mut writer = ToWrite::new(Vec::new(alloc));
+    transcribe(rt, alloc, &mut reader, &mut writer, &NO_BITS).is_ok()
+}
+
+// The text has 26 bytes, of which the writer takes 10 a call.
+#[test]
+fn a_writer_of_std_is_handed_all_that_is_left(rt: HostRuntime) {
+    let under = written(&rt, rt.alloc(), 10);
+    assert!(rt; under.writes == 3 && under.first == 26 && under.second == 16);
+    let under = written(&rt, rt.alloc(), usize::MAX);
+    assert!(rt; under.writes == 1 && under.first == 26 && under.flushes == 1);
+}
+
+/// What a writer that takes so many bytes a call notes of the scan of a zero group.
+fn written<R: Sync + Threads + Wait>(rt: &R, alloc: Global, step: usize) -> Notes {
+    let mut reader = FromRead::new(b"00003f000019800005a00001b4".as_slice());
+    let mut writer = ToWrite::new(Notes::new(alloc, step, false));
+    let _answer = transcribe(rt, alloc, &mut reader, &mut writer, &HEX);
+    writer.into_inner()
+}
+
+#[test]
+fn a_failing_flush_is_a_refusal_of_an_empty_text_too(rt: HostRuntime) {
+    let mut reader = FromRead::new(b"".as_slice());
+    let mut writer = ToWrite::new(Notes::new(rt.alloc(), 1, true));
+    let answer = transcribe(&rt, rt.alloc(), &mut reader, &mut writer, &NO_BITS);
+    let under = writer.into_inner();
+    assert!(rt; answer == Err(ToolError::Write) && under.writes == 0 && under.flushes == 1);
+}

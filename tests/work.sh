@@ -1,0 +1,99 @@
+#!/usr/bin/env bash
+# Work done twice: tests/work.sh PATH-TO-RDS [--measure]
+#
+# Counts the allocations, the bytes that they ask for and the threads of some jobs, and compares them with the bounds of
+# tests/work.bounds: a second pass over a recording, a run that is made again or a list that is copied shows there, and
+# nowhere else. Threads are as many as the line says. Recordings are a few megabytes long, but for those of the smallest
+# jobs, where a table that is made twice shows. With --measure the bounds are written anew: the most of three runs, and
+# a tenth to spare, of the smallest jobs a hundredth. Calls are counted by the library of tests/refuse.c, which refuses
+# none of them here.
+# The last line is 'N passed, M failed', and the exit status says whether all passed.
+
+set -u
+export LC_ALL=C
+
+rds=$(realpath "${1:?"usage: tests/work.sh PATH-TO-RDS [--measure]"}")
+measure=${2:-}
+here=$(dirname "$(realpath "$0")")
+work=$(mktemp -d)
+trap 'rm -rf "$work"' EXIT
+cd "$work" || exit 1
+passed=0
+failed=0
+
+${CC:-cc} -O1 -shared -fPIC -o refuse.so "$here/refuse.c" -ldl || exit 1
+
+# noise SEED COUNT: so many lines of sixteen pseudo-random digits
+noise() {
+    awk -v x="$1" -v n="$2" 'function word() { x = x * 16807 % 2147483647; return int(x / 32768) }
+        BEGIN { while (n--) printf "%04x%04x%04x%04x\n", word(), word(), word(), word() }'
+}
+
+# station COUNT: a station's groups, so many times over
+station() { for _ in $(seq "$1"); do cat "$here/../examples/station.bin"; done; }
+
+: >empty
+station 160 >station
+noise 17 200000 >noise
+noise 19 160000 | sed 's/.\{104\}/&\n/' >words
+station 40 | od -An -v -tx1 >digits
+
+# count CALL INPUT WORDS..: how many such calls the job makes of the input, and how many bytes allocations ask for
+count() {
+    local call=$1 input=$2
+    shift 2
+    rm -f calls bytes
+    REFUSE_CALL=$call REFUSE_AT=0 REFUSE_COUNT="$work/calls" REFUSE_BYTES="$work/bytes" \
+        LD_PRELOAD="$work/refuse.so" "$rds" "$@" <"$input" >out || return 1
+    echo "$(cat calls) $(cat bytes)"
+}
+
+# most INPUT WORDS..: the most allocations and bytes of three runs
+most() {
+    local calls=0 bytes=0 now
+    for _ in 1 2 3; do
+        now=$(count alloc "$@") || return 1
+        [ "${now% *}" -gt "$calls" ] && calls=${now% *}
+        [ "${now#* }" -gt "$bytes" ] && bytes=${now#* }
+    done
+    echo "$calls $bytes"
+}
+
+# spared COUNT: with something to spare
+spared() { echo $(($1 + $1 / spare)); }
+
+# within NAME MEASURED BOUND: whether it is no more than the bound
+within() {
+    if [ "$2" -le "$3" ]; then
+        passed=$((passed + 1))
+    else
+        failed=$((failed + 1))
+        echo "FAILED: $job: $2 $1, where $3 are allowed"
+    fi
+}
+
+# A line is: allocations, bytes, threads, input, and the words of the job.
+while read -r calls bytes threads input job; do
+    case $calls in '#'*) [ -n "$measure" ] && echo "$calls $bytes $threads $input $job" >>measured; continue ;; esac
+    if [ -n "$measure" ]; then
+        # shellcheck disable=SC2086
+        now=$(most "$input" $job) || exit 1
+        spare=10
+        [ "${now#* }" -lt 1000000 ] && spare=100
+        echo "$(spared "${now% *}") $(spared "${now#* }") $threads $input $job" >>measured
+        continue
+    fi
+    # shellcheck disable=SC2086
+    now=$(count alloc "$input" $job) && started=$(count thread "$input" $job) || exit 1
+    within allocations "${now% *}" "$calls"
+    within bytes "${now#* }" "$bytes"
+    within 'threads started' "${started% *}" "$threads"
+    within 'threads missing' $((threads - ${started% *})) 0
+done <"$here/work.bounds"
+
+if [ -n "$measure" ]; then
+    cp measured "$here/work.bounds"
+    exit
+fi
+echo "$passed passed, $failed failed"
+[ "$failed" = 0 ]
