@@ -143,8 +143,9 @@ pub(crate) fn go_along<'a, T: Tape>(
                 met: None,
             });
         }
-        let (reached, after) =
-            advance_marked(tape, rules, state, place, limit, &mut items, &mut marks)?;
+        let (reached, after) = advance_marked(
+            tape, rules, state, place, limit, &mut items, &mut marks,
+        )?;
         place = reached;
         state = after;
         if place != limit {

@@ -1,5 +1,4 @@
-use Rattle.std.proofs.Common.{◌≡◌, ◌≢◌, ℕ, List, ◌++◌, [], ◌∷◌, ◌+◌, ◌-◌, ◌<◌, ◌≤◌, length, get_or, drop, sym, ap, ◌∙◌, subst, arith, refl}
-use Rattle.rds_sync.specs.declared.state.State.TheVariants.{Searching}
+use Rattle.std.proofs.Common.{◌≡◌, ◌≢◌, ℕ, List, ◌++◌, [], ◌+◌, ◌-◌, ◌≤◌, length, get_or, drop, sym, ap, ◌∙◌, subst, arith, refl}
 use Rattle.rds_sync.specs.Rules.{RuleNumbers}
 use Rattle.rds_sync.specs.Lawful.{IsLawful, IsBetweenGroups}
 use Rattle.rds_sync.specs.Advance.{reads_most}
@@ -7,13 +6,11 @@ use Rattle.rds_sync.specs.Step.{run}
 use Rattle.rds_pieces.specs.declared.mark.Mark.{Mark}
 use Rattle.rds_pieces.specs.Advance.{IsStepTo}
 use Rattle.rds_pieces.specs.MarksOn.{marks_on}
-use Rattle.rds_pieces.specs.RunOf.{RunOf}
 use Rattle.rds_pieces.specs.Walk.{next_place}
-use Rattle.rds_pieces.proofs.BesideLemmas.{IsBeside, beside_start, beside_near, beside_next, place_after}
+use Rattle.rds_pieces.proofs.BesideLemmas.{beside_start, beside_near, beside_next, place_after}
 use Rattle.rds_pieces.proofs.MarkLaws.{marks_on-more, last_index}
-use Rattle.rds_pieces.proofs.ReadsLemmas.{IsPaid, paid_room, paid_most, paid_start, paid_on, paid_step, paid_all}
-use Rattle.rds_pieces.proofs.SeamLemmas.{renamed, found, unread, own, said, IsCarried, items_on, limit_ahead, limit_inside, met_first, never_met}
-use Rattle.rds_pieces.proofs.seams.go_along.Given.{Over}
+use Rattle.rds_pieces.proofs.ReadsLemmas.{paid_room, paid_most, paid_start, paid_on, paid_step, paid_all}
+use Rattle.rds_pieces.proofs.SeamLemmas.{renamed, found, unread, said, IsCarried, items_on, limit_ahead, limit_inside, met_first, never_met}
 use Rattle.rds_pieces.proofs.seams.go_along.Goals as goal
 
 pub advance_marked-requires-clause-lawful : goal.advance_marked-requires-clause-lawful
