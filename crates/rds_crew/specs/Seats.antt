@@ -33,6 +33,10 @@ seat_after s e = record s { view = after s.view e }
 abbrev pub IsOf : DealerValue → SeatValue → Type 0
 IsOf d s = s.dealer ≡ d.name
 
+-- the seat is of this dealer and has done nothing
+abbrev pub IsFresh : DealerValue → SeatValue → Type 0
+IsFresh d s = s ≡ fresh_seat d
+
 -- the seat has ended and holds nothing
 abbrev pub HasRested : SeatValue → Type 0
 HasRested s = (s.view.held ≡ None) × (s.view.ended ≡ 1)

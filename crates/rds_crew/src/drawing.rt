@@ -1,7 +1,8 @@
 //! One worker: draws numbers with its seat, and makes the run of each.
 ghost use Rattle.std.specs.Prelude.{◌≡◌, IfOk, IfErr};
 ghost use Rattle.rds_pieces.specs.declared.error.PieceError.TheVariants.{OutOfMemory};
-ghost use Rattle.rds_crew.specs.Drawn.{IsFresh, IsDrawn};
+ghost use Rattle.rds_crew.specs.Seats.{IsFresh};
+ghost use Rattle.rds_crew.specs.Drawn.{IsDrawn};
 
 use crate::dealer::Dealer;
 use crate::parts::Parts;

@@ -1,7 +1,8 @@
 //! Workers that make all runs of a work between them, each those whose numbers it draws.
 ghost use Rattle.std.specs.Prelude.{◌≡◌, ◌⊎◌, ◌<◌, ◌≤◌, [], All, length, map, IfOk, IfErr, IsErrOf, vec_capacity};
 ghost use Rattle.std.specs.List.{range_with_len};
-ghost use Rattle.rds_crew.specs.Drawn.{IsFresh, IsDrawn, IsWorkerOf};
+ghost use Rattle.rds_crew.specs.Seats.{IsFresh};
+ghost use Rattle.rds_crew.specs.Drawn.{IsDrawn, IsWorkerOf};
 
 use crate::dealer::Dealer;
 use crate::drawing::{DrawPromise, Drawn, Worker, draw_all};
