@@ -16,8 +16,8 @@ use std::sync::Wait;
 use std::thread;
 use std::thread::{Scope, Threads};
 
-/// All runs, in the order of their numbers. They are dealt to as many threads as there are workers or runs, whichever is
-/// less; where that is one, the calling thread makes them all.
+/// All runs, in the order of their numbers. They are dealt to as many threads as there are workers or runs, whichever
+/// is less; where that is one, the calling thread makes them all.
 pub(crate) fn make_all<R: Threads + Wait, P: Parts + Sync>(
     rt: &R,
     alloc: Global,
@@ -177,8 +177,8 @@ fn gather<R: Threads, P: Parts>(
     Ok(drawn)
 }
 
-/// The runs that were drawn, in the order of their numbers. That each of them was drawn is known of the dealer, which is
-/// closed with all of its seats.
+/// The runs that were drawn, in the order of their numbers. That each of them was drawn is known of the dealer, which
+/// is closed with all of its seats.
 fn in_order<P: Parts>(
     alloc: Global,
     parts: &P,
