@@ -149,7 +149,7 @@ fn deal<R: Threads + Sync>(
         seats,
         &|seat| -> (u64, Seat)
             requires { IsFresh lent.now seat }
-            ensures own { IsOf lent.now result.1 }
+            ensures own { IsOf lent.entry.now result.1 }
             ensures rested { HasRested result.1 }
         { draw_up(lent, seat) },
     )?;
