@@ -1,7 +1,7 @@
 //! Sixteen pieces guessed by four workers: shared out beforehand, and drawn from a dealer.
 ghost use Rattle.std.specs.Prelude.{◌≡◌, ◌<◌, ◌≤◌, length};
 ghost use Rattle.rds_pieces.specs.Cutting.{IsCutting, pieces_of};
-ghost use Rattle.rds_crew.specs.Drawn.{IsFresh};
+ghost use Rattle.rds_crew.specs.Seats.{IsFresh};
 
 use crate::sample::Sample;
 use crate::timing::Timing;

@@ -1,4 +1,5 @@
--- The dealer's core: a machine of two counts and three events, which knows of no seats and no threads. This project's rule.
+-- The dealer's core: a machine of two counts and three events, which knows of no seats and no threads. This project's
+-- rule.
 use Rattle.std.specs.Prelude.{◌≡◌, ℕ, ◌+◌, List, [], ◌∷◌, Option, Some, None, cond, ltb}
 use Rattle.rds_crew.specs.declared.deal.Event.{Event}
 use Rattle.rds_crew.specs.declared.deal.Event.TheVariants.{Draw, Finish, Progress}

@@ -1,4 +1,5 @@
--- What a seat of a dealer knows, and the rule over the dealer's two words and what all of its seats know. This project's rule.
+-- What a seat of a dealer knows, and the rule over the dealer's two words and what all of its seats know. This
+-- project's rule.
 use Rattle.std.specs.Prelude.{◌≡◌, ℕ, ◌+◌, ◌^◌, ◌<◌, ◌≤◌, min, cond, eqb, ltb, List, [], ◌∷◌, ◌++◌, length, slice_index, count_by, sum_by, Option, Some, None, IfSome}
 use mathlib.Core.Option.{some}
 use lib.ListN.{get_elem?}
@@ -79,7 +80,8 @@ pub record Dealt (key : Terms) (tickets done : ℕ) (views : List View) : Type 0
   pub all_finished : done ≡ sum_by finished_of views
   pub each : (j : ℕ) (v : View) → get_elem? views j ≡ some v → Fits key.pieces done v
 
--- what holds of the dealer's table between any two steps: its first word is the tickets, which can never wrap, and its second the finished
+-- what holds of the dealer's table between any two steps: its first word is the tickets, which can never wrap, and
+-- its second the finished
 abbrev pub Holds : Terms → State Unit View → Type 0
 Holds key s = (length s.words ≡ 2) × Dealt key (slice_index s.words 0) (slice_index s.words 1) s.views × (slice_index s.words 0 ≤ key.pieces + 256)
 

@@ -1,14 +1,10 @@
--- What the workers of a dealer are given, and what they hand back when it has nothing left.
+-- What the workers of a dealer promise and hand back.
 use Rattle.std.specs.Prelude.{◌≡◌, ℕ, ◌<◌, All, Vec, map}
 use Rattle.std.specs.Global.{Global}
 use Rattle.std.specs.declared.thread.PromisedHandle.{PromisedHandle}
 use Rattle.rds_pieces.specs.RunOf.{RunOf}
 use Rattle.rds_crew.specs.declared.drawing.DrawPromise.{DrawPromise}
-use Rattle.rds_crew.specs.Seats.{DealerValue, SeatValue, fresh_seat, IsOf, HasRested}
-
--- a seat of this dealer that has done nothing
-abbrev pub IsFresh : DealerValue → SeatValue → Type 0
-IsFresh dealer seat = seat ≡ fresh_seat dealer
+use Rattle.rds_crew.specs.Seats.{DealerValue, SeatValue, IsOf, HasRested}
 
 -- a seat of this dealer that has rested, and the run of f beside each number that it drew, in the order of the draws
 pub record IsDrawn (f : ℕ → RunOf) (dealer : DealerValue) (drawn : SeatValue × Vec (ℕ × RunOf) Global) : Type 0 where

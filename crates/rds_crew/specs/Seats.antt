@@ -33,6 +33,10 @@ seat_after s e = record s { view = after s.view e }
 abbrev pub IsOf : DealerValue → SeatValue → Type 0
 IsOf d s = s.dealer ≡ d.name
 
+-- the seat is of this dealer and has done nothing
+abbrev pub IsFresh : DealerValue → SeatValue → Type 0
+IsFresh d s = s ≡ fresh_seat d
+
 -- the seat has ended and holds nothing
 abbrev pub HasRested : SeatValue → Type 0
 HasRested s = (s.view.held ≡ None) × (s.view.ended ≡ 1)
@@ -49,6 +53,7 @@ DrewAllOnce n seats = (x : ℕ) → times_drawn x seats ≡ once_below x n
 abbrev pub log_of_seat : SeatValue → List Event
 log_of_seat s = s.view.log
 
--- what the seats did is, in some order, a run of the dealer's core to its end: a ticket for each piece and one more for each seat
+-- what the seats did is, in some order, a run of the dealer's core to its end: a ticket for each piece and one more
+-- for each seat
 abbrev pub DidWholeRun : DealerValue → List SeatValue → Type 0
 DidWholeRun d seats = (events : List Event) × Runs d.name.pieces events (counts (d.name.pieces + d.seats) d.name.pieces) × Merges log_of_seat events seats

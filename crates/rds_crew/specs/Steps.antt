@@ -1,5 +1,6 @@
--- The six kinds of step on a dealer's table, and no others: a draw that gives a number or ends its seat, a finish and a progress,
--- each an event of the core; and a split and a join of views, which leave both words as they are. This project's rule.
+-- The six kinds of step on a dealer's table, and no others: a draw that gives a number or ends its seat, a finish and
+-- a progress, each an event of the core; and a split and a join of views, which leave both words as they are. This
+-- project's rule.
 use Rattle.std.specs.Prelude.{◌≡◌, ℕ, ◌+◌, ◌-◌, ◌<◌, ◌≤◌, max, List, [], ◌∷◌, ◌++◌, slice_index, slice_set, Option, Some, None}
 use Rattle.atomic_table.specs.Table.{Me, Step}
 use Rattle.rds_crew.specs.declared.deal.View.{View}
@@ -12,8 +13,8 @@ use Rattle.rds_crew.specs.Deal.{held_count, fresh}
 abbrev pub words_of : Counts → List ℕ
 words_of c = c.tickets ∷ c.done ∷ []
 
--- The step, which found n, is this event: from whatever counts its word is n of, the event leads to counts that are the words
--- after the step, which sets its own word alone
+-- The step, which found n, is this event: from whatever counts its word is n of, the event leads to counts that are
+-- the words after the step, which sets its own word alone
 abbrev pub IsEvent : ℕ → Event → Step Unit → ℕ → Type 0
 IsEvent pieces e s n = (b : Counts) → slice_index (words_of b) s.word ≡ n → (c : Counts) × Leads pieces e b c × (words_of c ≡ slice_set (words_of b) s.word (n + s.first))
 

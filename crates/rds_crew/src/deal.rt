@@ -22,9 +22,10 @@ pub enum Event {
     Progress(u64),
 }
 
-/// What a seat knows: of how many pieces its dealer is, its shares (one, but inside `Dealer::new` and `Dealer::close`), the
-/// numbers that it drew, which of them it holds, how often it was told that none is left, how many it finished, what it
-/// was last told of all that is finished, and its events, the newest last. No value of it is made.
+/// What a seat knows: of how many pieces its dealer is, its shares (one, but inside `Dealer::new` and
+/// `Dealer::close`), the numbers that it drew, which of them it holds, how often it was told that none is left, how
+/// many it finished, what it was last told of all that is finished, and its events, the newest last. No value of it
+/// is made.
 pub struct View {
     pub pieces: u64,
     pub share: u64,

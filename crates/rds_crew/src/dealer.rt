@@ -1,5 +1,6 @@
 //! A dealer of the numbers of pieces: any threads draw them, each with a seat of its own, and nobody waits.
-ghost use Rattle.std.specs.Prelude.{◌≡◌, ◌⊎◌, ◌↔◌, ℕ, ◌+◌, ◌^◌, ◌<◌, ◌≤◌, Some, None, IfSome, IfNone, IfOk, IfErr, IsErrOf, length, replicate, All};
+ghost use Rattle.std.specs.Prelude.{◌≡◌, ◌⊎◌, ◌↔◌, ◌+◌, ◌^◌, ◌<◌, ◌≤◌};
+ghost use Rattle.std.specs.Prelude.{ℕ, Some, None, IfSome, IfNone, IfOk, IfErr, IsErrOf, length, replicate, All};
 ghost use Rattle.rds_crew.specs.Deal.{held_count};
 ghost use Rattle.rds_crew.specs.Seats.{fresh_seat, seat_after, IsOf, HasRested, DrewAllOnce, DidWholeRun};
 ghost use Rattle.rds_crew.specs.declared.deal.Event.TheVariants.{Draw, Finish, Progress};
@@ -20,11 +21,11 @@ const TICKETS: usize = 0;
 /// The word that counts the numbers finished.
 const DONE: usize = 1;
 
-/// Deals each number below some count once, to as many seats as it was made with. It is two words, each of which changes in
-/// single atomic steps: a draw and a finish add one, a progress looks.
+/// Deals each number below some count once, to as many seats as it was made with. It is two words, each of which
+/// changes in single atomic steps: a draw and a finish add one, a progress looks.
 ///
-/// Calls of any threads may overlap, each with a seat of its own. No call waits, tries again or takes memory. Which seat draws
-/// which number is not said.
+/// Calls of any threads may overlap, each with a seat of its own. No call waits, tries again or takes memory. Which
+/// seat draws which number is not said.
 #[derive(Drop)]
 pub struct Dealer {
     table: Table<(), View, Terms, Rule, Global>,
@@ -87,8 +88,9 @@ impl Dealer {
         Ok((Dealer { table, pieces }, dealt))
     }
 
-    /// Draws a number below the number of pieces that no other draw gives, which the seat now holds. Where none is left it
-    /// answers `None`, and the seat has ended; a seat that has ended takes no step and gets `None`. The seat must hold nothing.
+    /// Draws a number below the number of pieces that no other draw gives, which the seat now holds. Where none is
+    /// left it answers `None`, and the seat has ended; a seat that has ended takes no step and gets `None`. The seat
+    /// must hold nothing.
     ///
     /// It is one atomic step: the event of the core that the seat's view then names.
     pub fn draw(&self, seat: Seat) -> (Option<u64>, Seat)
@@ -136,8 +138,9 @@ impl Dealer {
         seat
     }
 
-    /// How many numbers are finished, at the one moment at which it looks: no fewer than the seat finished itself, no fewer than
-    /// it was told before, at most all pieces, and fewer than that while the seat holds a number. It is one atomic step.
+    /// How many numbers are finished, at the one moment at which it looks: no fewer than the seat finished itself, no
+    /// fewer than it was told before, at most all pieces, and fewer than that while the seat holds a number. It is
+    /// one atomic step.
     pub fn progress(&self, seat: Seat) -> (u64, Seat)
         requires { IsOf self.now seat }
         ensures of { IsOf self.now result.1 }
@@ -151,8 +154,8 @@ impl Dealer {
         (seat.told, seat)
     }
 
-    /// Takes all seats back, each of which must have ended and hold nothing. Then every number was drawn once and is finished,
-    /// and what the seats did is, in some order, a run of the core. Frees the table, and takes no memory.
+    /// Takes all seats back, each of which must have ended and hold nothing. Then every number was drawn once and is
+    /// finished, and what the seats did is, in some order, a run of the core. Frees the table, and takes no memory.
     pub fn close(self, seats: Vec<Seat>) -> Closed
         requires all { length seats.items ≡ self.seats }
         requires own { All (IsOf self) seats.items }

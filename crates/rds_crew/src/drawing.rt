@@ -1,7 +1,8 @@
 //! One worker: draws numbers with its seat, and makes the run of each.
 ghost use Rattle.std.specs.Prelude.{◌≡◌, IfOk, IfErr};
 ghost use Rattle.rds_pieces.specs.declared.error.PieceError.TheVariants.{OutOfMemory};
-ghost use Rattle.rds_crew.specs.Drawn.{IsFresh, IsDrawn};
+ghost use Rattle.rds_crew.specs.Seats.{IsFresh};
+ghost use Rattle.rds_crew.specs.Drawn.{IsDrawn};
 
 use crate::dealer::Dealer;
 use crate::parts::Parts;
@@ -11,11 +12,12 @@ use std::alloc::Global;
 use std::snapshot::Snapshot;
 use std::thread::{Promise, PromisedHandle};
 
-/// What a worker hands back: its seat, which has ended, and the run of each number that the seat drew, beside that number.
+/// What a worker hands back: its seat, which has ended, and the run of each number that the seat drew, beside that
+/// number.
 pub(crate) type Drawn = (Seat, Vec<(u64, PieceRun)>);
 
-/// Draws until nothing is left, and makes the run of each number drawn. Stops at the first that is refused memory: its seat
-/// is dropped with the number that it holds, so that the dealer can't be closed any more.
+/// Draws until nothing is left, and makes the run of each number drawn. Stops at the first that is refused memory:
+/// its seat is dropped with the number that it holds, so that the dealer can't be closed any more.
 pub(crate) fn draw_all<P: Parts>(
     alloc: Global,
     parts: &P,
@@ -41,8 +43,8 @@ pub(crate) fn draw_all<P: Parts>(
     }
 }
 
-/// What the thread of a worker promises: that its seat is of this dealer and has rested, and that it made what these parts
-/// are at the numbers that the seat drew.
+/// What the thread of a worker promises: that its seat is of this dealer and has rested, and that it made what these
+/// parts are at the numbers that the seat drew.
 #[derive(Drop)]
 pub(crate) struct DrawPromise<P> {
     parts: Snapshot<P>,

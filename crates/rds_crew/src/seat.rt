@@ -8,8 +8,8 @@ use std::marker::Model;
 /// What a seat steps with. It takes no memory.
 pub(crate) type Token = atomic_table::Seat<(), View>;
 
-/// The right to draw of one dealer, which one worker has at a time. Contracts see of which dealer it is and what it knows, the
-/// list of the numbers that it drew among it, which takes no memory.
+/// The right to draw of one dealer, which one worker has at a time. Contracts see of which dealer it is and what it
+/// knows, the list of the numbers that it drew among it, which takes no memory.
 #[derive(Drop)]
 pub struct Seat {
     pub(crate) token: Token,

@@ -1,7 +1,8 @@
 //! Workers that make all runs of a work between them, each those whose numbers it draws.
 ghost use Rattle.std.specs.Prelude.{◌≡◌, ◌⊎◌, ◌<◌, ◌≤◌, [], All, length, map, IfOk, IfErr, IsErrOf, vec_capacity};
 ghost use Rattle.std.specs.List.{range_with_len};
-ghost use Rattle.rds_crew.specs.Drawn.{IsFresh, IsDrawn, IsWorkerOf};
+ghost use Rattle.rds_crew.specs.Seats.{IsFresh};
+ghost use Rattle.rds_crew.specs.Drawn.{IsDrawn, IsWorkerOf};
 
 use crate::dealer::Dealer;
 use crate::drawing::{DrawPromise, Drawn, Worker, draw_all};
@@ -15,8 +16,8 @@ use std::sync::Wait;
 use std::thread;
 use std::thread::{Scope, Threads};
 
-/// All runs, in the order of their numbers. They are dealt to as many threads as there are workers or runs, whichever is
-/// less; where that is one, the calling thread makes them all.
+/// All runs, in the order of their numbers. They are dealt to as many threads as there are workers or runs, whichever
+/// is less; where that is one, the calling thread makes them all.
 pub(crate) fn make_all<R: Threads + Wait, P: Parts + Sync>(
     rt: &R,
     alloc: Global,
@@ -176,8 +177,8 @@ fn gather<R: Threads, P: Parts>(
     Ok(drawn)
 }
 
-/// The runs that were drawn, in the order of their numbers. That each of them was drawn is known of the dealer, which is
-/// closed with all of its seats.
+/// The runs that were drawn, in the order of their numbers. That each of them was drawn is known of the dealer, which
+/// is closed with all of its seats.
 fn in_order<P: Parts>(
     alloc: Global,
     parts: &P,

@@ -1,5 +1,5 @@
--- Two pieces and two seats, one call after the other: the first seat draws 0, the second draws 1 and is told that none is finished,
--- the first finishes, the second is told so and finishes, the first is told of both, and both end.
+-- Two pieces and two seats, one call after the other: the first seat draws 0, the second draws 1 and is told that
+-- none is finished, the first finishes, the second is told so and finishes, the first is told of both, and both end.
 use Rattle.std.specs.Prelude.{◌≡◌, ◌+◌, List, [], ◌∷◌, min, Some, None, refl, sum_by}
 use Rattle.rds_crew.specs.declared.deal.View.{View}
 use Rattle.rds_crew.specs.declared.deal.Event.{Event}
@@ -31,7 +31,8 @@ second_seat_after = refl
 abbrev pub views : List View
 views = first_seat ∷ second_seat ∷ []
 
--- the rule at these counts: the shares are the seats, a ticket gave a number or ended a seat, the finished are those of all seats
+-- the rule at these counts: the shares are the seats, a ticket gave a number or ended a seat, the finished are those
+-- of all seats
 pub shares : sum_by share_of views ≡ 2
 shares = refl
 

@@ -1,7 +1,6 @@
 //! Dealers and their seats: what each call answers, to one thread and to eight.
 ghost use Rattle.std.specs.Prelude.{◌≡◌, All, length};
-ghost use Rattle.rds_crew.specs.Seats.{IsOf, HasRested};
-ghost use Rattle.rds_crew.specs.Drawn.{IsFresh};
+ghost use Rattle.rds_crew.specs.Seats.{IsFresh, IsOf, HasRested};
 
 use rds_crew::{Closed, CrewError, Dealer, Seat};
 use std::alloc::{AllocError, Global};
@@ -145,17 +144,24 @@ fn deal<R: Threads + Sync>(
 ) -> Result<(u64, Closed), CrewError> {
     let (dealer, seats) = Dealer::new(alloc, u64::from(pieces), seats)?;
     let lent = &dealer;
-    let counted = thread::map_vec(rt, seats, &|seat| -> (u64, Seat)
-        requires { IsFresh lent.now seat }
-        ensures own { IsOf lent.now result.1 }
-        ensures rested { HasRested result.1 }
-    { draw_up(lent, seat) })?;
+    let counted = thread::map_vec(
+        rt,
+        seats,
+        &|seat| -> (u64, Seat)
+            requires { IsFresh lent.now seat }
+            ensures own { IsOf lent.entry.now result.1 }
+            ensures rested { HasRested result.1 }
+        { draw_up(lent, seat) },
+    )?;
     Ok(close_all(alloc, dealer, counted)?)
 }
 
 #[test]
 fn eight_threads_draw_a_thousand_pieces(rt: HostRuntime) -> Result<(), Fail> {
     let (counted, closed) = deal(&rt, rt.alloc(), 1000, 8)?;
-    assert_eq!(rt; (counted, closed.drawn, closed.finished), (1000, 1000, 1000));
+    assert_eq!(rt;
+        (counted, closed.drawn, closed.finished),
+        (1000, 1000, 1000)
+    );
     Ok(())
 }
