@@ -80,7 +80,8 @@ pub fn second_guess(
 ) -> Result<PieceRun, PieceError>
     requires fits { IsCutting (length recording.now) cutting.now }
     requires two { pieces_of cutting.now ≡ 2 }
-    ensures run { IfOk result (λ run. run ≡ run_over recording.now rules.now (slice_index cutting.now 1) (slice_index cutting.now 2)) }
+    ensures run { IfOk result (λ run. run
+        ≡ run_over recording.now rules.now (slice_index cutting.now 1) (slice_index cutting.now 2)) }
     ensures refused { IfErr result (λ error. error ≡ OutOfMemory) }
 {
     speculate(alloc, recording, rules, cutting, 1)
@@ -121,7 +122,8 @@ pub fn carried_on(
     requires range { (run.now.from ≤ run.now.to) × (run.now.to ≤ length recording.now) }
     requires source { run.now.source ≡ recording.now }
     requires rules { run.now.rules ≡ rules.now }
-    ensures items { IfOk result (λ both. both.0.items ++ both.1.items.items ≡ (run_of recording.now rules.now Searching 0 run.now.to).1) }
+    ensures items { IfOk result (λ both. both.0.items ++ both.1.items.items
+        ≡ (run_of recording.now rules.now Searching 0 run.now.to).1) }
     ensures end { IfOk result (λ both. both.1.end_state ≡ (run_of recording.now rules.now Searching 0 run.now.to).0) }
 {
     laws_of_runs::runs_join();
@@ -161,7 +163,8 @@ pub fn cost_of_seam<T: Tape>(
     requires rules { run.now.rules ≡ rules.now }
     requires room { T.reads_made tape.old ≤ 2 ^ 62 }
     ensures refused { IfErr result (λ error. error ≡ OutOfMemory) }
-    ensures reads { T.reads_made tape.new ≤ T.reads_made tape.old + (rules.now.reach + 2) * (run.now.to - run.now.from + 1) }
+    ensures reads { T.reads_made tape.new
+        ≤ T.reads_made tape.old + (rules.now.reach + 2) * (run.now.to - run.now.from + 1) }
     ensures same { T.bits tape.new ≡ T.bits tape.old }
 {
     seam(alloc, tape, rules, State::Searching, run)
@@ -214,8 +217,10 @@ pub fn row_after_join(
     right: &PieceRun,
     after: &[PieceRun],
 )
-    requires { FollowEachOther recording.now rules.now 0 (length recording.now) (before.now ++ left.now ∷ right.now ∷ after.now) }
-    ensures { FollowEachOther recording.now rules.now 0 (length recording.now) (before.now ++ run_over recording.now rules.now left.now.from right.now.to ∷ after.now) }
+    requires { FollowEachOther recording.now rules.now 0 (length recording.now)
+        (before.now ++ left.now ∷ right.now ∷ after.now) }
+    ensures { FollowEachOther recording.now rules.now 0 (length recording.now)
+        (before.now ++ run_over recording.now rules.now left.now.from right.now.to ∷ after.now) }
 {
     laws::joined_runs_follow();
 }
@@ -226,8 +231,10 @@ pub fn row_after_join(
 pub fn report_of_work<W: Work>(alloc: Global, work: &W) -> Result<Report, PieceError>
     requires fits { IsCutting (length (W.recording work.now)) (W.places work.now) }
     requires one { pieces_of (W.places work.now) ≡ 1 }
-    ensures items { IfOk result (λ report. report.items.items ≡ report_items (W.recording work.now) (W.rule_set work.now)) }
-    ensures totals { IfOk result (λ report. report.totals ≡ totals_of (report_items (W.recording work.now) (W.rule_set work.now))) }
+    ensures items { IfOk result (λ report. report.items.items
+        ≡ report_items (W.recording work.now) (W.rule_set work.now)) }
+    ensures totals { IfOk result (λ report. report.totals
+        ≡ totals_of (report_items (W.recording work.now) (W.rule_set work.now))) }
     ensures refused { IfErr result (λ error. error ≡ OutOfMemory) }
 {
     laws::pieces_follow();
