@@ -8,8 +8,9 @@ ghost use Rattle.rds_pieces.specs.Cutting.{IsCutting, pieces_of};
 ghost use Rattle.rds_pieces.specs.RunOf.{FollowEachOther, run_over};
 ghost use Rattle.rds_pieces.specs.declared.error.PieceError.TheVariants.{BadCutting, OutOfMemory};
 
-use rds_pieces::{Cutting, Mark, PieceError, PieceRun, RecordingWork, Seam, Work};
-use rds_pieces::{laws, seam, speculate, stitch};
+use rds_pieces::{
+    Cutting, Mark, PieceError, PieceRun, RecordingWork, Seam, Work, laws, seam, speculate, stitch,
+};
 use rds_stream::{Counted, Recording, Tape};
 use rds_sync::{Item, Report, Rules, State, SyncError, laws as laws_of_runs};
 use std::alloc::Global;
@@ -99,7 +100,14 @@ pub fn guessed_as_run(
     requires rules { run.now.rules ≡ rules.now }
     ensures { IfOk result (λ same. same ≡ true) }
 {
-    let (end, items) = rds_sync::run(alloc, recording, rules, State::Searching, run.from(), run.to())?;
+    let (end, items) = rds_sync::run(
+        alloc,
+        recording,
+        rules,
+        State::Searching,
+        run.from(),
+        run.to(),
+    )?;
     Ok(end == run.end_state() && items.len() == run.items().len())
 }
 
