@@ -8,8 +8,9 @@ ghost use Rattle.rds_pieces.specs.Cutting.{IsCutting, pieces_of};
 ghost use Rattle.rds_pieces.specs.RunOf.{FollowEachOther, run_over};
 ghost use Rattle.rds_pieces.specs.declared.error.PieceError.TheVariants.{BadCutting, OutOfMemory};
 
-use rds_pieces::{Cutting, Mark, PieceError, PieceRun, RecordingWork, Seam, Work};
-use rds_pieces::{laws, seam, speculate, stitch};
+use rds_pieces::{
+    Cutting, Mark, PieceError, PieceRun, RecordingWork, Seam, Work, laws, seam, speculate, stitch,
+};
 use rds_stream::{Counted, Recording, Tape};
 use rds_sync::{Item, Report, Rules, State, SyncError, laws as laws_of_runs};
 use std::alloc::Global;
@@ -80,7 +81,8 @@ pub fn second_guess(
 ) -> Result<PieceRun, PieceError>
     requires fits { IsCutting (length recording.now) cutting.now }
     requires two { pieces_of cutting.now ≡ 2 }
-    ensures run { IfOk result (λ run. run ≡ run_over recording.now rules.now (slice_index cutting.now 1) (slice_index cutting.now 2)) }
+    ensures run { IfOk result (λ run. run
+        ≡ run_over recording.now rules.now (slice_index cutting.now 1) (slice_index cutting.now 2)) }
     ensures refused { IfErr result (λ error. error ≡ OutOfMemory) }
 {
     speculate(alloc, recording, rules, cutting, 1)
@@ -98,7 +100,14 @@ pub fn guessed_as_run(
     requires rules { run.now.rules ≡ rules.now }
     ensures { IfOk result (λ same. same ≡ true) }
 {
-    let (end, items) = rds_sync::run(alloc, recording, rules, State::Searching, run.from(), run.to())?;
+    let (end, items) = rds_sync::run(
+        alloc,
+        recording,
+        rules,
+        State::Searching,
+        run.from(),
+        run.to(),
+    )?;
     Ok(end == run.end_state() && items.len() == run.items().len())
 }
 
@@ -121,7 +130,8 @@ pub fn carried_on(
     requires range { (run.now.from ≤ run.now.to) × (run.now.to ≤ length recording.now) }
     requires source { run.now.source ≡ recording.now }
     requires rules { run.now.rules ≡ rules.now }
-    ensures items { IfOk result (λ both. both.0.items ++ both.1.items.items ≡ (run_of recording.now rules.now Searching 0 run.now.to).1) }
+    ensures items { IfOk result (λ both. both.0.items ++ both.1.items.items
+        ≡ (run_of recording.now rules.now Searching 0 run.now.to).1) }
     ensures end { IfOk result (λ both. both.1.end_state ≡ (run_of recording.now rules.now Searching 0 run.now.to).0) }
 {
     laws_of_runs::runs_join();
@@ -161,7 +171,8 @@ pub fn cost_of_seam<T: Tape>(
     requires rules { run.now.rules ≡ rules.now }
     requires room { T.reads_made tape.old ≤ 2 ^ 62 }
     ensures refused { IfErr result (λ error. error ≡ OutOfMemory) }
-    ensures reads { T.reads_made tape.new ≤ T.reads_made tape.old + (rules.now.reach + 2) * (run.now.to - run.now.from + 1) }
+    ensures reads { T.reads_made tape.new
+        ≤ T.reads_made tape.old + (rules.now.reach + 2) * (run.now.to - run.now.from + 1) }
     ensures same { T.bits tape.new ≡ T.bits tape.old }
 {
     seam(alloc, tape, rules, State::Searching, run)
@@ -214,8 +225,10 @@ pub fn row_after_join(
     right: &PieceRun,
     after: &[PieceRun],
 )
-    requires { FollowEachOther recording.now rules.now 0 (length recording.now) (before.now ++ left.now ∷ right.now ∷ after.now) }
-    ensures { FollowEachOther recording.now rules.now 0 (length recording.now) (before.now ++ run_over recording.now rules.now left.now.from right.now.to ∷ after.now) }
+    requires { FollowEachOther recording.now rules.now 0 (length recording.now)
+        (before.now ++ left.now ∷ right.now ∷ after.now) }
+    ensures { FollowEachOther recording.now rules.now 0 (length recording.now)
+        (before.now ++ run_over recording.now rules.now left.now.from right.now.to ∷ after.now) }
 {
     laws::joined_runs_follow();
 }
@@ -226,8 +239,10 @@ pub fn row_after_join(
 pub fn report_of_work<W: Work>(alloc: Global, work: &W) -> Result<Report, PieceError>
     requires fits { IsCutting (length (W.recording work.now)) (W.places work.now) }
     requires one { pieces_of (W.places work.now) ≡ 1 }
-    ensures items { IfOk result (λ report. report.items.items ≡ report_items (W.recording work.now) (W.rule_set work.now)) }
-    ensures totals { IfOk result (λ report. report.totals ≡ totals_of (report_items (W.recording work.now) (W.rule_set work.now))) }
+    ensures items { IfOk result (λ report. report.items.items
+        ≡ report_items (W.recording work.now) (W.rule_set work.now)) }
+    ensures totals { IfOk result (λ report. report.totals
+        ≡ totals_of (report_items (W.recording work.now) (W.rule_set work.now))) }
     ensures refused { IfErr result (λ error. error ≡ OutOfMemory) }
 {
     laws::pieces_follow();

@@ -1,4 +1,4 @@
-//! What a user of `rds_sync` relies on: rules, lawful states, steps over a tape, runs over a range, and the report of a recording.
+//! What a user of `rds_sync` relies on: rules, lawful states, steps over a tape, runs over a range, and reports.
 ghost use Rattle.std.specs.Prelude.{◌≡◌, ◌≢◌, ℕ, ◌+◌, ◌-◌, ◌*◌, ◌<◌, ◌≤◌, ◌^◌, ◌++◌, ◌↔◌, [], IsTrue, IfOk, IfErr, IsErrOf, None, Some, count_by, length, slice_get, true};
 ghost use Rattle.rds_sync.specs.declared.item.Block.{Block as ABlock};
 ghost use Rattle.rds_sync.specs.declared.error.SyncError.TheVariants.{BurstRange, LossRange, OutOfMemory, ReachRange};
@@ -6,14 +6,16 @@ ghost use Rattle.rds_sync.specs.declared.state.State.TheVariants.{Searching};
 ghost use Rattle.rds_sync.specs.Advance.{group_item, items_in};
 ghost use Rattle.rds_sync.specs.GroupLaws.{IsBlock};
 ghost use Rattle.rds_sync.specs.Groups.{group as group_at, info_of};
-ghost use Rattle.rds_sync.specs.Lawful.{IsLawful};
+ghost use Rattle.rds_sync.specs.Lawful.{IsBetweenGroups, IsLawful};
 ghost use Rattle.rds_sync.specs.Report.{report_items};
 ghost use Rattle.rds_sync.specs.Step.{items_at, run as run_of, step};
 ghost use Rattle.rds_sync.specs.Totals.{is_group, totals_of};
 
 use rds_stream::{Counted, Recording, Tape};
-use rds_sync::{Block, Group, Item, Reached, Report, Rules, State, Step, SyncError, Totals};
-use rds_sync::{advance, decode_plain, finish, laws, run, stretch};
+use rds_sync::{
+    Block, Group, Item, Reached, Report, Rules, State, Step, SyncError, Totals, advance,
+    decode_plain, finish, laws, run, stretch,
+};
 use std::alloc::Global;
 
 // ---- rules
@@ -73,7 +75,8 @@ pub fn word_or(block: &Block, other: u16) -> u16
 pub fn has_four_words(recording: &Recording, rules: &Rules, place: u64, group: &Group) -> bool
     requires place { 103 ≤ place }
     requires group { group.now ≡ group_at recording.now rules.now 1 4 place }
-    ensures { IsTrue result ↔ ((y : ℕ) → 1 ≤ y → y ≤ 4 → (block : ABlock) × (word : ℕ) × IsBlock group.now y block × (info_of block ≡ Some word)) }
+    ensures { IsTrue result ↔ ((y : ℕ) → 1 ≤ y → y ≤ 4
+        → (block : ABlock) × (word : ℕ) × IsBlock group.now y block × (info_of block ≡ Some word)) }
 {
     laws::groups_are_read();
     group.is_complete()
@@ -127,13 +130,7 @@ pub fn lawful_after_run(recording: &Recording, rules: &Rules, state: State, from
 // ---- steps over a tape
 
 /// Two steps in a row are one run: they move on, stay in the range, and read eighteen windows at most.
-pub fn two_steps<T: Tape>(
-    tape: &mut T,
-    rules: &Rules,
-    state: State,
-    place: u64,
-    to: u64,
-) -> Reached
+pub fn two_steps<T: Tape>(tape: &mut T, rules: &Rules, state: State, place: u64, to: u64) -> Reached
     requires lawful { IsLawful rules.now place state }
     requires before { place < to }
     requires within { to ≤ length (T.bits tape.old) }
@@ -212,7 +209,8 @@ pub fn one_stretch(
     requires before { place < to }
     requires within { to ≤ length recording.now }
     ensures moved { IfOk result (λ reached. (place < reached.place) × (reached.place ≤ to)) }
-    ensures items { IfOk result (λ reached. items.new.items ≡ items.old.items ++ (run_of recording.now rules.now Searching place (reached.place - place)).1) }
+    ensures items { IfOk result (λ reached. items.new.items
+        ≡ items.old.items ++ (run_of recording.now rules.now Searching place (reached.place - place)).1) }
     ensures refused { IfErr result (λ error. error ≡ OutOfMemory) }
 {
     stretch(recording, rules, State::Searching, place, to, items)
@@ -226,7 +224,8 @@ pub fn decoded_in_two(
     middle: u64,
 ) -> Result<(Vec<Item>, Vec<Item>, Option<Group>), SyncError>
     requires { middle ≤ length recording.now }
-    ensures items { IfOk result (λ found. (found.0.items ++ found.1.items) ++ group_item found.2 ≡ report_items recording.now rules.now) }
+    ensures items { IfOk result (λ found. (found.0.items ++ found.1.items) ++ group_item found.2
+        ≡ report_items recording.now rules.now) }
     ensures refused { IfErr result (λ error. error ≡ OutOfMemory) }
 {
     let _loss = rules.loss();
@@ -252,7 +251,8 @@ pub fn merged_ends(
     requires other { IsLawful rules.now from states.1 }
     requires order { from ≤ middle }
     requires within { middle ≤ length recording.now }
-    requires met { (run_of recording.now rules.now states.0 from (middle - from)).0 ≡ (run_of recording.now rules.now states.1 from (middle - from)).0 }
+    requires met { (run_of recording.now rules.now states.0 from (middle - from)).0
+        ≡ (run_of recording.now rules.now states.1 from (middle - from)).0 }
     ensures { IfOk result (λ ends. ends.0 ≡ ends.1) }
 {
     laws::runs_merge();
@@ -283,9 +283,13 @@ pub fn nothing_while_waiting(
     alloc: Global,
     recording: &Recording,
     rules: &Rules,
+    from: u64,
     due: u64,
 ) -> Result<Vec<Item>, SyncError>
-    requires soon { (25 ≤ due) × (due < length recording.now) }
+    requires order { from ≤ due }
+    requires soon { due ≤ from + 25 }
+    requires whole { 25 ≤ due }
+    requires within { due < length recording.now }
     ensures { IfOk result (λ items. items.items ≡ []) }
 {
     let _loss = rules.loss();
@@ -296,7 +300,7 @@ pub fn nothing_while_waiting(
         bad: 0,
         first: 1,
     };
-    let (_end, items) = run(alloc, recording, rules, state, due - 25, due)?;
+    let (_end, items) = run(alloc, recording, rules, state, from, due)?;
     Ok(items)
 }
 
@@ -315,21 +319,18 @@ pub fn nothing_at_first(
     run(alloc, recording, rules, State::Searching, 0, 51)
 }
 
-/// Where a bit gives an item it changes the state.
-pub fn changed_by_item(recording: &Recording, rules: &Rules, state: State, place: u64)
+/// Where a bit leads to another state, with no group in progress, it gives an item.
+pub fn item_of_change(recording: &Recording, rules: &Rules, state: State, place: u64)
     requires lawful { IsLawful rules.now place state }
-    requires item { items_at recording.now rules.now place state ≢ [] }
-    ensures { step recording.now rules.now place state ≢ state }
+    requires change { step recording.now rules.now place state ≢ state }
+    requires between { IsBetweenGroups (step recording.now rules.now place state) }
+    ensures { items_at recording.now rules.now place state ≢ [] }
 {
     laws::items_mark_changes();
 }
 
 /// The items of a run need room for two a bit at most.
-pub fn room_for_items(
-    alloc: Global,
-    recording: &Recording,
-    rules: &Rules,
-) -> Result<u64, SyncError>
+pub fn room_for_items(alloc: Global, recording: &Recording, rules: &Rules) -> Result<u64, SyncError>
     ensures { IfOk result (λ left. left ≤ 2 * length recording.now) }
 {
     laws::runs_give_few_items();
@@ -339,11 +340,7 @@ pub fn room_for_items(
 }
 
 /// The report of a recording: the items of its locks, and their totals.
-pub fn report_of(
-    alloc: Global,
-    recording: &Recording,
-    rules: &Rules,
-) -> Result<Report, SyncError>
+pub fn report_of(alloc: Global, recording: &Recording, rules: &Rules) -> Result<Report, SyncError>
     ensures items { IfOk result (λ report. report.items.items ≡ report_items recording.now rules.now) }
     ensures totals { IfOk result (λ report. report.totals ≡ totals_of (report_items recording.now rules.now)) }
     ensures refused { IfErr result (λ error. error ≡ OutOfMemory) }
