@@ -61,16 +61,16 @@ loop-here-preserved c =
     let searched = c.loop-here.invariant.2 in
     let old = c.loop-here.here-iterator in
     let given = c.in-Some.ensures.steps in
-    let is = offset_is b rules c.args.place c.args.to old c.args.items.now.items c.loop-here.items.items searched (here, offset) c.next.new.self given in
+    let is = offset_is b rules c.args.place c.args.to old c.args.items.now c.loop-here.items searched (here, offset) c.next.new.self given in
     let none = acquired-offset b c.new.result.bits rules here c.number-number.result offset c.has_partner.result false
     is c.number-number.ensures (ap (λ (t : TapeState). t.bits) c.new.ensures) c.has_partner.ensures.value c.if-has_partner.false in
-    (tt, tt, one_more b rules c.args.place c.args.to old c.args.items.now.items c.loop-here.items.items searched (here, offset) c.next.new.self given none)
+    (tt, tt, one_more b rules c.args.place c.args.to old c.args.items.now c.loop-here.items searched (here, offset) c.next.new.self given none)
 
 pub found_at-requires-clause-acquires : goal.found_at-requires-clause-acquires
 found_at-requires-clause-acquires c =
     let here = c.in-Some.here in
     let offset = c.in-Some.offset in
-    let is = offset_is c.args.rec.now c.args.rules.now c.args.place c.args.to c.loop-here.here-iterator c.args.items.now.items c.loop-here.items.items
+    let is = offset_is c.args.rec.now c.args.rules.now c.args.place c.args.to c.loop-here.here-iterator c.args.items.now c.loop-here.items
     c.loop-here.invariant.2 (here, offset) c.next.new.self c.in-Some.ensures.steps in
     acquired-offset c.args.rec.now c.new.result.bits c.args.rules.now here c.number-number.result offset c.has_partner.result true
     is c.number-number.ensures (ap (λ (t : TapeState). t.bits) c.new.ensures) c.has_partner.ensures.value c.if-has_partner.true
@@ -88,9 +88,9 @@ returns-then-has_partner-clause-reached c =
     let old = c.loop-here.here-iterator in
     let given = c.in-Some.ensures.steps in
     let number = c.number-number.result in
-    let is = offset_is b rules c.args.place c.args.to old c.args.items.now.items c.loop-here.items.items searched (here, offset) c.next.new.self given in
-    let range = from_here b rules c.args.place c.args.to old c.args.items.now.items c.loop-here.items.items searched (here, offset) c.next.new.self given in
-    let none = none_before b rules c.args.place c.args.to old c.args.items.now.items c.loop-here.items.items searched here given.2 in
+    let is = offset_is b rules c.args.place c.args.to old c.args.items.now c.loop-here.items searched (here, offset) c.next.new.self given in
+    let range = from_here b rules c.args.place c.args.to old c.args.items.now c.loop-here.items searched (here, offset) c.next.new.self given in
+    let none = none_before b rules c.args.place c.args.to old c.args.items.now c.loop-here.items searched here given.2 in
     let e : acquired b rules here ≡ Some number =
     acquired-offset b c.new.result.bits rules here number offset c.has_partner.result true
     is c.number-number.ensures (ap (λ (t : TapeState). t.bits) c.new.ensures) c.has_partner.ensures.value c.if-has_partner.true in
@@ -109,7 +109,7 @@ returns-then-has_partner-clause-reached c =
       },
       c.in_ok-push_found.ensures.ok
           ∙ ap (λ (is : List Item). is ++ items_in c.found_at.result) searched.nothing
-          ∙ ap (λ (is : List Item). c.args.items.now.items ++ is) (c.found_at.ensures ∙ sym (ap (λ (r : State × List Item). r.1) run_is)),
+          ∙ ap (λ (is : List Item). c.args.items.now ++ is) (c.found_at.ensures ∙ sym (ap (λ (r : State × List Item). r.1) run_is)),
     )
 
 pub returns-clause-reached : goal.returns-clause-reached
@@ -117,7 +117,7 @@ returns-clause-reached c =
     let b = c.args.rec.now in
     let rules = c.args.rules.now in
     let searched = c.loop-here.invariant.2 in
-    let none = all b rules c.args.place c.args.to c.loop-here.here-iterator c.args.items.now.items c.loop-here.items.items searched c.next.new.self c.in-None.ensures.steps in
+    let none = all b rules c.args.place c.args.to c.loop-here.here-iterator c.args.items.now c.loop-here.items searched c.next.new.self c.in-None.ensures.steps in
     let run_is = run-unfound b rules c.args.place c.args.to (omega arith) none in
     let nothing = ap (λ (r : State × List Item). r.1) run_is in (
       record {
@@ -128,5 +128,5 @@ returns-clause-reached c =
         ended = inl refl;
         lawful = tt;
       },
-      searched.nothing ∙ sym (ap (λ (is : List Item). c.args.items.now.items ++ is) nothing ∙ append-nil c.args.items.now.items),
+      searched.nothing ∙ sym (ap (λ (is : List Item). c.args.items.now ++ is) nothing ∙ append-nil c.args.items.now),
     )

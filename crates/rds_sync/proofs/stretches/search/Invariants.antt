@@ -16,4 +16,4 @@ pub record HasSearched (b : List ℕ) (rules : RuleNumbers) (place to : ℕ) (le
 abbrev pub invariant-loop-here : goal.invariant-loop-here
 invariant-loop-here l =
     (goal.iterator-loop-here).can_next l.here-iterator × (goal.iterator-loop-here).is_finite l.here-iterator
-    × HasSearched l.rec l.rules l.place l.to l.here-iterator l.initial.items.items l.items.items
+    × HasSearched l.rec l.rules l.place l.to l.here-iterator l.initial.items l.items
