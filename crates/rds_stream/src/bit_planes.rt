@@ -1,13 +1,13 @@
 //! The remainders of the windows at 64 places in a row, at once.
 //!
-//! A remainder's bits are sums of bits of its window, the same ones at each place. So ten planes, one for each bit of a
-//! remainder, come of the bits of a recording by shifts and sums of whole words. From a window to that of the next place
-//! division goes on by one step: x times the remainder, less the generator where that reaches x^10, plus the place that
-//! comes in, less x^26 times the one that goes out. Taken back, a plane is the one above it, a place on, and to that come the highest plane
-//! where the generator has a one, and the first places of the windows where x^26 leaves a one. The highest plane alone is
-//! summed up from its places.
+//! A remainder's bits are sums of bits of its window, the same ones at each place. So ten planes, one for each bit of
+//! a remainder, come of the bits of a recording by shifts and sums of whole words. From a window to that of the next
+//! place division goes on by one step: x times the remainder, less the generator where that reaches x^10, and the place
+//! that comes in less x^26 times the one that goes out. Taken back, that makes a plane of the one above it: it is that
+//! one a place on, and to it come the highest plane where the generator has a one, and the first places of the windows
+//! where x^26 leaves a one. The highest plane alone is summed up from the places.
 //!
-//! The 64 places go by halves, in two lanes of a vector: 57 bits of a lane hold the windows of 32 places.
+//! The 64 places go by halves in two lanes of a vector: 57 bits of a lane hold the windows of 32 places.
 ghost use Rattle.std.specs.Prelude.{◌≡◌, ℕ, ◌+◌, ◌*◌, ◌<◌, ◌≤◌, length, slice_index};
 ghost use Rattle.std.specs.Int.{bit_at};
 ghost use Rattle.rds_code.specs.Remainder.{rem};
@@ -19,8 +19,8 @@ use crate::recording::Recording;
 use rds_code::laws;
 use std::simd::prelude::*;
 
-/// The remainders of the windows at the 64 places from `at` on, as ten planes: bit k of plane r, counted from the lowest,
-/// is bit r of the remainder of the window at place `at` + k.
+/// The remainders of the windows at the 64 places from `at` on, as ten planes: bit k of plane r, counted from the
+/// lowest, is bit r of the remainder of the window at place `at` + k.
 ///
 /// The first window is that of place 25, and the last place is below the length. It takes no memory.
 pub fn planes(recording: &Recording, at: u64) -> [u64; 10]
@@ -57,12 +57,13 @@ pub(crate) fn plane_lanes(recording: &Recording, at: u64) -> [u64x2; 10]
 /// The planes of the windows that begin in each lane, at each of its bits.
 #[inline(always)]
 fn planes_of(places: u64x2) -> [u64x2; 10]
-    ensures { (j r k block : ℕ) → j < 2 → r < 10 → IsWindowAt (slice_index places j) k block → bit_at (lane result r j) k ≡ bit_at (rem block) r }
+    ensures { (j r k block : ℕ) → j < 2 → r < 10 → IsWindowAt (slice_index places j) k block
+        → bit_at (lane result r j) k ≡ bit_at (rem block) r }
 {
     laws::remainders_are_linear();
 
-    // Sums of two, four and five places in a row, and of two such fives nine places apart. With one place more these are the
-    // highest bits of the remainders.
+    // Sums of two, four and five places in a row, and of two such fives nine places apart. With one place more these
+    // are the highest bits of the remainders.
     let pairs = sum(places, from_on(places, 1));
     let fours = sum(pairs, from_on(pairs, 2));
     let fives = sum(fours, from_on(places, 4));

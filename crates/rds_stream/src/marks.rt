@@ -1,4 +1,7 @@
 //! Words of marks: which of up to 64 places in a row have a valid window.
+//!
+//! A mark is a one just where all ten planes agree with one of the five offset words, so marks are exact both ways:
+//! each valid window is marked, and no other is looked at.
 ghost use Rattle.std.specs.Prelude.{◌≡◌, ◌≢◌, ℕ, ◌+◌, ◌-◌, ◌<◌, ◌≤◌, ◌^◌, ◌↔◌, length, slice_index, IsSome};
 ghost use Rattle.std.specs.Int.{bit_at};
 ghost use Rattle.rds_code.specs.Offsets.{offset_of as the_offset_of};
@@ -12,8 +15,8 @@ use crate::recording::Recording;
 use rds_code::Offset;
 use std::simd::prelude::*;
 
-/// Up to 64 places in a row, from `next` to before `ahead`. Bit k of `word` is a one where the window at place `next` + k
-/// is valid.
+/// Up to 64 places in a row, from `next` to before `ahead`. Bit k of `word` is a one where the window at place
+/// `next` + k is valid.
 #[derive(Clone, Copy, Drop)]
 pub(crate) struct Marks {
     pub(crate) next: u64,

@@ -141,12 +141,13 @@ impl Recording {
         (places >> (7 - place % 8) & BLOCK as u64) as u32
     }
 
-    /// The bits at the 89 places from `from` on, the first one lowest, in two words of 57 places: the second begins 32 places
-    /// after the first, so the windows at 64 places lie in them.
+    /// The bits at the 89 places from `from` on, the first one lowest, in two words of 57 places: the second begins 32
+    /// places after the first, so the windows at 64 places lie in them.
     #[inline(always)]
     pub(crate) fn places(&self, from: u64) -> [u64; 2]
         requires { from + 89 ≤ length self.now }
-        ensures { (j k : ℕ) → j < 2 → k < 57 → bit_at (slice_index result j) k ≡ slice_index self.now (from + (32 * j + k)) }
+        ensures { (j k : ℕ) → j < 2 → k < 57
+            → bit_at (slice_index result j) k ≡ slice_index self.now (from + (32 * j + k)) }
     {
         // They lie in twelve bytes.
         let first = (from / 8) as usize;
