@@ -13,26 +13,11 @@ abbrev pub StartsInFirst : List (List Item) → ℕ → Type 0
 StartsInFirst [] number = Unit {0}
 StartsInFirst (part ∷ parts) number = number ≤ length part
 
-pub starts_anywhere : (parts : List (List Item)) → StartsInFirst parts 0
-starts_anywhere [] = tt
-starts_anywhere (part ∷ parts) = omega arith
-
 -- past the first part
 pub past_first : (part : List Item) (rest : List (List Item)) (n : ℕ) → length part ≤ n → drop (n - length part) (items_in rest) ≡ drop n (items_in (part ∷ rest))
 past_first part rest n far =
     let e : n ≡ length part + (n - length part) = omega arith in
     sym (ap (λ (k : ℕ). drop k (part ++ items_in rest)) e ∙ drop-append-add part (items_in rest) (n - length part))
-
-pub items_push : (parts : List (List Item)) (part : List Item) → items_in (parts ++ part ∷ []) ≡ items_in parts ++ part
-items_push parts part = flat_map-append (λ (p : List Item). p) parts (part ∷ []) ∙ ap (λ is. items_in parts ++ is) (append-nil part)
-
--- a part moved over, without its first items
-pub part_moved : (parts : List (List Item)) (part : List Item) (rest : List (List Item)) (n : ℕ) → n ≤ length part
-    → items_in (parts ++ drop n part ∷ []) ++ items_in rest ≡ items_in parts ++ drop n (items_in (part ∷ rest))
-part_moved parts part rest n within =
-    ap (λ is. is ++ items_in rest) (items_push parts (drop n part))
-    ∙ append_assoc (items_in parts) (drop n part) (items_in rest)
-    ∙ ap (λ is. items_in parts ++ is) (sym (drop-append-le n part (items_in rest) within))
 
 -- an item of the first part that is left is the item that was looked for
 pub found_there : (parts rest : List (List Item)) (part : List Item) (i left : ℕ) (x : Item) → i < length (items_in parts)

@@ -17,23 +17,7 @@ use Rattle.rds_sync.specs.Kept.{item_of}
 pub totals_of-append : (xs ys : List Item) → totals_of (xs ++ ys) ≡ plus (totals_of xs) (totals_of ys)
 totals_of-append xs ys = simp sum_by-append
 
--- small totals have a small sum
-pub IsAtMost-plus : (m n k : ℕ) (t u : Totals) → m + n ≤ k → IsAtMost m t → IsAtMost n u → IsAtMost k (plus t u)
-IsAtMost-plus m n k t u h a b = record {
-  valid = omega (arith, a.valid, b.valid);
-  burst1 = omega (arith, a.burst1, b.burst1);
-  burst2 = omega (arith, a.burst2, b.burst2);
-  burst3 = omega (arith, a.burst3, b.burst3);
-  burst4 = omega (arith, a.burst4, b.burst4);
-  burst5 = omega (arith, a.burst5, b.burst5);
-  lost = omega (arith, a.lost, b.lost);
-  bits = omega (arith, a.bits, b.bits);
-  groups = omega (arith, a.groups, b.groups);
-  complete = omega (arith, a.complete, b.complete);
-  acquired = omega (arith, a.acquired, b.acquired);
-  losses = omega (arith, a.losses, b.losses);
-}
-
+-- a greater bound holds too
 pub IsAtMost-more : (m n : ℕ) (t : Totals) → m ≤ n → IsAtMost m t → IsAtMost n t
 IsAtMost-more m n t h a = record {
   valid = omega (arith, a.valid);
@@ -50,7 +34,7 @@ IsAtMost-more m n t h a = record {
   losses = omega (arith, a.losses);
 }
 
--- and so are they with a group's own counts
+-- small totals are small with a group's own counts too
 pub IsAtMost-group : (t : Totals) (complete : ℕ) → complete ≤ 1 → IsAtMost 1020 t
     → IsAtMost 1024 (record {
       valid = t.valid;
