@@ -15,7 +15,7 @@ use Rattle.rds_sync.specs.declared.loss.Loss.{Loss}
 use Rattle.rds_sync.specs.Step.{step, locked_after}
 use Rattle.rds_sync.proofs.ItemLemmas.{some_given}
 use Rattle.rds_sync.proofs.RunLemmas.{step-acquiring, items-acquiring, run-found, run-quiet, run-unfound}
-use Rattle.rds_sync.proofs.LawfulLemmas.{acquired-none, lawful-step, number-range}
+use Rattle.rds_sync.proofs.LawfulLemmas.{acquired-none, lawful-step, number-range, off-place}
 use Rattle.rds_sync.proofs.WindowLemmas.{acquired-offset}
 use Rattle.rds_sync.proofs.stretches.search.Invariants.{HasSearched}
 use Rattle.rds_sync.proofs.stretches.search.Goals as goal
@@ -67,6 +67,20 @@ loop-here-preserved c =
     let none = acquired-offset b rules here c.number-number.result offset c.has_partner_in.result false
     is c.number-number.ensures c.has_partner_in.ensures c.if-has_partner_in.false in
     (tt, tt, one_more b rules c.args.place c.args.to old c.args.items.now c.loop-here.items searched (here, offset) c.next.new.self given none)
+
+pub window-requires-clause-first : goal.window-requires-clause-first
+window-requires-clause-first c =
+    let here = c.in-Some.here in
+    let offset = c.in-Some.offset in
+    off-place c.args.rec.now here offset (offset_is c.args.rec.now c.args.rules.now c.args.place c.args.to c.loop-here.here-iterator c.args.items.now c.loop-here.items
+    c.loop-here.invariant.2 (here, offset) c.next.new.self c.in-Some.ensures.steps)
+
+pub items-requires : goal.items-requires
+items-requires c =
+    let here = c.in-Some.here in
+    let offset = c.in-Some.offset in
+    record { block = (off-place c.args.rec.now here offset (offset_is c.args.rec.now c.args.rules.now c.args.place c.args.to c.loop-here.here-iterator c.args.items.now c.loop-here.items
+    c.loop-here.invariant.2 (here, offset) c.next.new.self c.in-Some.ensures.steps), c.window.ensures.block) }
 
 pub lock-requires-clause-number : goal.lock-requires-clause-number
 lock-requires-clause-number c = omega (arith, c.number-number.ensures, number-range c.in-Some.offset)
