@@ -19,9 +19,9 @@ use std::thread::Threads;
 
 const USAGE: &str = "usage: rds_bench MEASUREMENT [BITS [SAMPLE]]
 
-  scan       the scan, and a long division of each window
+  scan       the valid windows: a list, one after the other, place by place, by long division
   remainder  the remainder by tables, and by long division
-  run        the report of one decoder, and of sixteen pieces by one thread
+  run        the report of one decoder, and of sixteen pieces by one thread; the valid windows alone
   totals     from bytes to the text of the totals, by one, two and four workers
   list       from bytes to the text of the listing, by one, two and four workers
 

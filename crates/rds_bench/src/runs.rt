@@ -1,17 +1,17 @@
-//! The report of one decoder, and of pieces that are stitched.
+//! The report of one decoder, and of pieces that are stitched; beside them the valid windows alone.
 use crate::sample::Sample;
 use crate::timing::Timing;
 use anyhow::Result;
 use rds_crew::{OpenGate, decode_crew};
 use rds_pieces::{Cutting, RecordingWork};
-use rds_stream::Recording;
+use rds_stream::{Recording, ValidWindows};
 use rds_sync::{Rules, decode_plain};
 use std::alloc::Global;
 use std::sync::Wait;
 use std::thread::Threads;
 use std::time::Instant;
 
-/// One decoder, and one thread that guesses sixteen pieces and stitches them.
+/// One decoder, one thread that guesses sixteen pieces and stitches them, and the search for valid windows.
 pub fn measure<T: Threads + Wait>(
     rt: &HostRuntime,
     threads: &T,
@@ -37,7 +37,12 @@ fn time_both<T: Threads + Wait>(
 
     let start = Instant::now(rt)?;
     let valid = sixteen_pieces(threads, rt.alloc(), recording, rules)?;
-    timing.show(rt, "sixteen pieces", start, valid)
+    timing.show(rt, "sixteen pieces", start, valid)?;
+
+    // What a search has to do, whatever it finds.
+    let start = Instant::now(rt)?;
+    let windows = ValidWindows::new(recording, 0, recording.len()).count();
+    timing.show(rt, "valid windows alone", start, windows as u64)
 }
 
 /// How many valid blocks the report of one decoder counts.

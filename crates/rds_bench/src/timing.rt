@@ -14,7 +14,7 @@ impl Timing {
         Timing { bits, first: None }
     }
 
-    /// Shows the time since `start` and what the form counted, which is the same for each form of a task.
+    /// Shows the time since `start` and what the form counted, which is the same for all forms that do the task.
     pub fn show(&mut self, rt: &HostRuntime, form: &str, start: Instant, found: u64) -> Result<()> {
         let nanos = u64::try_from(start.elapsed(rt)?.as_nanos()).unwrap_or(u64::MAX);
         let first = *self.first.get_or_insert(nanos);

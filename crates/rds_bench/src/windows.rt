@@ -1,18 +1,17 @@
-//! The valid windows of a recording: by the scan, and by long division of each window.
+//! The valid windows of a recording: by words of 64 places, place by place, and by long division of each window.
 use crate::sample::Sample;
 use crate::timing::Timing;
 use anyhow::Result;
-use rds_code::{Offset, offset_of, plain};
-use rds_stream::{Recording, scan};
-use std::alloc::{AllocError, Global};
+use rds_code::{offset_of, plain};
+use rds_stream::{Recording, ValidWindows, scan};
 use std::time::Instant;
 
 pub fn measure(rt: &HostRuntime, bits: u64) -> Result<()> {
     let recording = Sample::Noise.recording(rt.alloc(), bits)?;
-    time_both(rt, &recording)
+    time_all(rt, &recording)
 }
 
-fn time_both(rt: &HostRuntime, recording: &Recording) -> Result<()> {
+fn time_all(rt: &HostRuntime, recording: &Recording) -> Result<()> {
     let mut timing = Timing::new(recording.len());
 
     let start = Instant::now(rt)?;
@@ -20,16 +19,33 @@ fn time_both(rt: &HostRuntime, recording: &Recording) -> Result<()> {
     timing.show(rt, "the scan", start, found as u64)?;
 
     let start = Instant::now(rt)?;
-    let found = by_division(rt.alloc(), recording)?.len();
-    timing.show(rt, "by long division", start, found as u64)
+    let found = ValidWindows::new(recording, 0, recording.len()).count();
+    timing.show(rt, "one after the other", start, found as u64)?;
+
+    let start = Instant::now(rt)?;
+    let found = by_tables(recording);
+    timing.show(rt, "place by place", start, found)?;
+
+    let start = Instant::now(rt)?;
+    let found = by_division(recording);
+    timing.show(rt, "by long division", start, found)
 }
 
-fn by_division(alloc: Global, recording: &Recording) -> Result<Vec<(u64, Offset)>, AllocError> {
-    let mut found = Vec::new(alloc);
+/// How many windows are valid, each remainder taken by tables.
+fn by_tables(recording: &Recording) -> u64 {
+    let mut found = 0u64;
     for place in 25..recording.len() {
-        if let Some(offset) = offset_of(plain::rem26(recording.window(place))) {
-            found.push((place, offset))?;
-        }
+        found = found.wrapping_add(u64::from(recording.offset(place).is_some()));
     }
-    Ok(found)
+    found
+}
+
+/// How many windows are valid, each remainder taken bit by bit.
+fn by_division(recording: &Recording) -> u64 {
+    let mut found = 0u64;
+    for place in 25..recording.len() {
+        let offset = offset_of(plain::rem26(recording.window(place)));
+        found = found.wrapping_add(u64::from(offset.is_some()));
+    }
+    found
 }

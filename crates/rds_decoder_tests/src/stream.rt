@@ -4,3 +4,4 @@ mod recordings;
 mod scans;
 mod tapes;
 mod windows;
+mod windows_left;

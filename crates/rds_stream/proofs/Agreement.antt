@@ -1,53 +1,46 @@
 -- Words that planes hold, and the remainders that are offset words.
-use Rattle.std.proofs.Common.{◌≡◌, ◌≢◌, ◌↔◌, ℕ, ◌+◌, ◌^◌, ◌<◌, sym, ap, ◌∙◌, subst, arith, refl, bit_and, bit_or, List, get_or, w64, None, IsSome, inl, inr}
+use Rattle.std.proofs.Common.{◌≡◌, ◌≢◌, ◌↔◌, ℕ, ◌+◌, ◌-◌, ◌^◌, ◌<◌, sym, ap, ◌∙◌, subst, arith, refl, bit_and, bit_or, bit_xor, List, None, IsSome, inl, inr}
 use borrow.Author.Count.{below_more}
-use Rattle.std.specs.Int.{bit_at, bit_not}
+use Rattle.std.specs.Int.{bit_at}
 use Rattle.std.proofs.lemmas.Bool.{cases_eq, ne_eqb, true≢false}
-use Rattle.std.proofs.lemmas.Nat.Bits.{bit_at_and, bit_at_or, bit_at_not, bit_at-lt, same_from_bits_below}
+use Rattle.std.proofs.lemmas.Nat.Bits.{bit_at_and, bit_at_or, bit_at_xor, bit_at-lt, same_from_bits_below}
 use Rattle.rds_code.specs.declared.offset.Offset.TheVariants.{A, B, C, Cx, D}
 use Rattle.rds_code.specs.Offsets.{word, offset_of}
-use Rattle.rds_stream.specs.Planes.{Hold}
+use Rattle.rds_stream.specs.Planes.{HoldInLane, lane}
 
--- at place k the lowest n planes hold the lowest n bits of the word
-abbrev pub Agree : List ℕ → ℕ → ℕ → ℕ → Type 0
-Agree planes word n k = (r : ℕ) → r < n → bit_at (get_or planes r 0) k ≡ bit_at word r
+-- at bit k of lane j the lowest n planes hold the lowest n bits of the word
+abbrev pub Agree : List (List ℕ) → ℕ → ℕ → ℕ → ℕ → Type 0
+Agree planes word n j k = (r : ℕ) → r < n → bit_at (lane planes r j) k ≡ bit_at word r
 
--- one more plane
-agree_more : (planes : List ℕ) (word same next r k : ℕ) → ((bit_at same k ≡ 1) ↔ Agree planes word r k)
-    → (bit_at next k ≡ 1 → (bit_at same k ≡ 1) × (bit_at (get_or planes r 0) k ≡ bit_at word r))
-    → (bit_at same k ≡ 1 → bit_at (get_or planes r 0) k ≡ bit_at word r → bit_at next k ≡ 1)
-    → (bit_at next k ≡ 1) ↔ Agree planes word (r + 1) k
-agree_more planes word same next r k so down up = (
-  λ h. below_more (λ j. bit_at (get_or planes j 0) k ≡ bit_at word j) r (so.0 (down h).0) (down h).1,
-  λ h. up (so.1 (λ j l. h j (omega arith))) (h r (omega arith)),
-)
-
-pub agree_one : (planes : List ℕ) (word same r k : ℕ) → bit_at word r ≡ 1 → ((bit_at same k ≡ 1) ↔ Agree planes word r k)
-    → (bit_at (bit_and same (get_or planes r 0)) k ≡ 1) ↔ Agree planes word (r + 1) k
-agree_one planes word same r k one so =
-    let both = bit_at_and same (get_or planes r 0) k in
+-- one more plane, turned over where the word has no one
+pub agree_more : (planes : List (List ℕ)) (word same plane flip r j k : ℕ) → plane ≡ lane planes r j → bit_at flip k ≡ 1 - bit_at word r
+    → ((bit_at same k ≡ 1) ↔ Agree planes word r j k) → (bit_at (bit_and same (bit_xor plane flip)) k ≡ 1) ↔ Agree planes word (r + 1) j k
+agree_more planes word same plane flip r j k is turn so =
+    let both = bit_at_and same (bit_xor plane flip) k in
+    let other = bit_at_xor plane flip k in
+    let here = ap (λ p. bit_at p k) is in
     let old = bit_at-lt same k in
-    let plane = bit_at-lt (get_or planes r 0) k in
-    agree_more planes word same _ r k so (λ h. (omega (arith, both, old, plane), omega (arith, both, old, plane))) (λ h e. omega (arith, both))
+    let bit = bit_at-lt plane k in
+    let digit = bit_at-lt word r in (
+      λ h. below_more (λ s. bit_at (lane planes s j) k ≡ bit_at word s) r (so.0 (omega (arith, both, other))) (omega (arith, both, other)),
+      λ h.
+          let one : bit_at same k ≡ 1 = so.1 (λ s l. h s (omega arith)) in
+          let last : bit_at (lane planes r j) k ≡ bit_at word r = h r (omega arith) in
+          omega (arith, both, other),
+    )
 
-pub agree_zero : (planes : List ℕ) (word same r k : ℕ) → k < 64 → get_or planes r 0 < 2 ^ 64 → bit_at word r ≡ 0 → ((bit_at same k ≡ 1) ↔ Agree planes word r k)
-    → (bit_at (bit_and same (bit_not w64 (get_or planes r 0))) k ≡ 1) ↔ Agree planes word (r + 1) k
-agree_zero planes word same r k within fits none so =
-    let both = bit_at_and same (bit_not w64 (get_or planes r 0)) k in
-    let other = bit_at_not w64 (get_or planes r 0) k fits within in
-    let old = bit_at-lt same k in
-    let plane = bit_at-lt (get_or planes r 0) k in
-    agree_more planes word same _ r k so (λ h. (omega (arith, both, other, old, plane), omega (arith, both, other, old, plane))) (λ h e. omega (arith, both, other))
+one_of : (x : ℕ) → x < 2 → ((x ≡ 1) → ⊥) → x ≡ 0
+one_of x small never = elim (cases_eq x 1) [ inl e ↦ absurd (never e) | inr n ↦ omega arith ]
 
 -- planes that hold a remainder agree with a word just where it is the word
-pub agree_is : (planes : List ℕ) (word remainder k : ℕ) → word < 2 ^ 10 → Hold planes k remainder → Agree planes word 10 k ↔ (remainder ≡ word)
-agree_is planes word remainder k small held = (
+pub agree_is : (planes : List (List ℕ)) (word remainder j k : ℕ) → word < 2 ^ 10 → HoldInLane planes j k remainder → Agree planes word 10 j k ↔ (remainder ≡ word)
+agree_is planes word remainder j k small held = (
   λ h. same_from_bits_below 10 remainder word held.small small (λ r l. sym (held.bits r l) ∙ h r l),
   λ e r l. held.bits r l ∙ ap (λ x. bit_at x r) e,
 )
 
-one_of : (x : ℕ) → x < 2 → ((x ≡ 1) → ⊥) → x ≡ 0
-one_of x small never = elim (cases_eq x 1) [ inl e ↦ absurd (never e) | inr n ↦ omega arith ]
+pub not_one : (n i : ℕ) → ((bit_at n i ≡ 1) → ⊥) → bit_at n i ≡ 0
+not_one n i never = one_of (bit_at n i) (bit_at-lt n i) never
 
 no_offset : (r : ℕ) → r ≢ word A → r ≢ word B → r ≢ word C → r ≢ word Cx → r ≢ word D → offset_of r ≡ None
 no_offset r a b c x d =
@@ -62,24 +55,24 @@ no_offset r a b c x d =
 -- a bit that is one of five: each tells whether r is one of the offset words
 pub offset_bit : (r a b c x d n k : ℕ) →
     ((bit_at a k ≡ 1) ↔ (r ≡ word A)) → ((bit_at b k ≡ 1) ↔ (r ≡ word B)) → ((bit_at c k ≡ 1) ↔ (r ≡ word C)) → ((bit_at x k ≡ 1) ↔ (r ≡ word Cx)) → ((bit_at d k ≡ 1) ↔ (r ≡ word D)) →
-    n ≡ bit_or (bit_or (bit_or (bit_or a b) c) x) d → (bit_at n k ≡ 1) ↔ IsSome (offset_of r)
+    n ≡ bit_or (bit_or (bit_or a b) (bit_or c x)) d → (bit_at n k ≡ 1) ↔ IsSome (offset_of r)
 offset_bit r a b c x d n k is_a is_b is_c is_x is_d sum =
     let ab = bit_at_or a b k in
-    let abc = bit_at_or (bit_or a b) c k in
-    let abcx = bit_at_or (bit_or (bit_or a b) c) x k in
-    let all = ap (λ m. bit_at m k) sum ∙ bit_at_or (bit_or (bit_or (bit_or a b) c) x) d k in
+    let cx = bit_at_or c x k in
+    let abcx = bit_at_or (bit_or a b) (bit_or c x) k in
+    let all = ap (λ m. bit_at m k) sum ∙ bit_at_or (bit_or (bit_or a b) (bit_or c x)) d k in
     let Goal : Type 0 = (bit_at n k ≡ 1) ↔ IsSome (offset_of r) in
     let found : bit_at n k ≡ 1 → IsSome (offset_of r) → Goal = λ h some. (λ _. some, λ _. h) in
     elim (cases_eq r (word A)) [
-      | inl e ↦ found (omega (arith, ab, abc, abcx, all, is_a.1 e, bit_at-lt b k, bit_at-lt c k, bit_at-lt x k, bit_at-lt d k)) (subst (λ m. IsSome (offset_of m)) (sym e) refl)
+      | inl e ↦ found (omega (arith, ab, cx, abcx, all, is_a.1 e, bit_at-lt b k, bit_at-lt c k, bit_at-lt x k, bit_at-lt d k)) (subst (λ m. IsSome (offset_of m)) (sym e) refl)
       | inr no_a ↦ elim (cases_eq r (word B)) [
-        | inl e ↦ found (omega (arith, ab, abc, abcx, all, is_b.1 e, bit_at-lt a k, bit_at-lt c k, bit_at-lt x k, bit_at-lt d k)) (subst (λ m. IsSome (offset_of m)) (sym e) refl)
+        | inl e ↦ found (omega (arith, ab, cx, abcx, all, is_b.1 e, bit_at-lt a k, bit_at-lt c k, bit_at-lt x k, bit_at-lt d k)) (subst (λ m. IsSome (offset_of m)) (sym e) refl)
         | inr no_b ↦ elim (cases_eq r (word C)) [
-          | inl e ↦ found (omega (arith, ab, abc, abcx, all, is_c.1 e, bit_at-lt a k, bit_at-lt b k, bit_at-lt x k, bit_at-lt d k)) (subst (λ m. IsSome (offset_of m)) (sym e) refl)
+          | inl e ↦ found (omega (arith, ab, cx, abcx, all, is_c.1 e, bit_at-lt a k, bit_at-lt b k, bit_at-lt x k, bit_at-lt d k)) (subst (λ m. IsSome (offset_of m)) (sym e) refl)
           | inr no_c ↦ elim (cases_eq r (word Cx)) [
-            | inl e ↦ found (omega (arith, ab, abc, abcx, all, is_x.1 e, bit_at-lt a k, bit_at-lt b k, bit_at-lt c k, bit_at-lt d k)) (subst (λ m. IsSome (offset_of m)) (sym e) refl)
+            | inl e ↦ found (omega (arith, ab, cx, abcx, all, is_x.1 e, bit_at-lt a k, bit_at-lt b k, bit_at-lt c k, bit_at-lt d k)) (subst (λ m. IsSome (offset_of m)) (sym e) refl)
             | inr no_x ↦ elim (cases_eq r (word D)) [
-              | inl e ↦ found (omega (arith, ab, abc, abcx, all, is_d.1 e, bit_at-lt a k, bit_at-lt b k, bit_at-lt c k, bit_at-lt x k)) (subst (λ m. IsSome (offset_of m)) (sym e) refl)
+              | inl e ↦ found (omega (arith, ab, cx, abcx, all, is_d.1 e, bit_at-lt a k, bit_at-lt b k, bit_at-lt c k, bit_at-lt x k)) (subst (λ m. IsSome (offset_of m)) (sym e) refl)
               | inr no_d ↦
                   let none = no_offset r no_a no_b no_c no_x no_d in
                   let za = one_of (bit_at a k) (bit_at-lt a k) (λ h. no_a (is_a.0 h)) in
@@ -87,7 +80,7 @@ offset_bit r a b c x d n k is_a is_b is_c is_x is_d sum =
                   let zc = one_of (bit_at c k) (bit_at-lt c k) (λ h. no_c (is_c.0 h)) in
                   let zx = one_of (bit_at x k) (bit_at-lt x k) (λ h. no_x (is_x.0 h)) in
                   let zd = one_of (bit_at d k) (bit_at-lt d k) (λ h. no_d (is_d.0 h)) in
-                  (λ h. absurd (omega (arith, ab, abc, abcx, all, za, zb, zc, zx, zd)), λ some. absurd (true≢false (sym (subst (λ o. IsSome o) none some))))
+                  (λ h. absurd (omega (arith, ab, cx, abcx, all, za, zb, zc, zx, zd)), λ some. absurd (true≢false (sym (subst (λ o. IsSome o) none some))))
             ]
           ]
         ]

@@ -4,7 +4,7 @@ use Rattle.std.specs.Int.{bit_at}
 use Rattle.std.specs.List.{range_with_len}
 use Rattle.std.proofs.lemmas.Bool.{cases_lt}
 use Rattle.std.proofs.lemmas.Nat.{pow_pos, shr-shr, shr_split}
-use Rattle.std.proofs.lemmas.Nat.Bits.{bit_at_and, bit_at_or, bit_at-lt, bit_at-zero, bit_at_cat_low, bit_at_cat_high}
+use Rattle.std.proofs.lemmas.Nat.Bits.{bit_at_and, bit_at_or, bit_at_ones, bit_at_ones_above, bit_at-lt, bit_at-zero, bit_at_cat_low, bit_at_cat_high}
 use Rattle.std.proofs.lemmas.List.FromFn.{get_or-map-range_with_len}
 
 -- a bit of a word that is shifted down, and up
@@ -109,10 +109,27 @@ eight_neighbours bytes a (suc (suc (suc (suc (suc (suc zero)))))) within = refl
 eight_neighbours bytes a (suc (suc (suc (suc (suc (suc (suc zero))))))) within = refl
 eight_neighbours bytes a (suc (suc (suc (suc (suc (suc (suc (suc i)))))))) within = absurd (omega arith)
 
-pub four_neighbours : (bytes : List ℕ) (a i : ℕ) → i < 4 →
-    get_or (get_or bytes (a + 8) 0 ∷ get_or bytes (a + 9) 0 ∷ get_or bytes (a + 10) 0 ∷ get_or bytes (a + 11) 0 ∷ 0 ∷ 0 ∷ 0 ∷ 0 ∷ []) i 0 ≡ get_or bytes (a + 8 + i) 0
-four_neighbours bytes a zero within = let same : a + 8 ≡ a + 8 + 0 = omega arith in ap (λ j. get_or bytes j 0) same
-four_neighbours bytes a (suc zero) within = let same : a + 9 ≡ a + 8 + 1 = omega arith in ap (λ j. get_or bytes j 0) same
-four_neighbours bytes a (suc (suc zero)) within = let same : a + 10 ≡ a + 8 + 2 = omega arith in ap (λ j. get_or bytes j 0) same
-four_neighbours bytes a (suc (suc (suc zero))) within = let same : a + 11 ≡ a + 8 + 3 = omega arith in ap (λ j. get_or bytes j 0) same
-four_neighbours bytes a (suc (suc (suc (suc i)))) within = absurd (omega arith)
+-- the lowest 32 bits of two words in a row
+pub joined_low : (low high k : ℕ) → k < 32 → bit_at (bit_or (bit_and low 4294967295) (high * 4294967296 % 18446744073709551616)) k ≡ bit_at low k
+joined_low low high k within =
+    let none : bit_at (high * 2 ^ 32 % 2 ^ 64) k ≡ 0 = shl_word high 32 k (omega arith) ∙ bit_at_cat_low high 32 0 k within ∙ bit_at-zero k in
+    omega (
+      arith,
+      bit_at_or (bit_and low 4294967295) (high * 4294967296 % 18446744073709551616) k,
+      bit_at_and low 4294967295 k,
+      bit_at_ones 32 k within,
+      bit_at-lt low k,
+      none,
+    )
+
+pub joined_high : (low high k : ℕ) → k < 32 → bit_at (bit_or (bit_and low 4294967295) (high * 4294967296 % 18446744073709551616)) (32 + k) ≡ bit_at high k
+joined_high low high k within =
+    let back : 32 + k - 32 ≡ k = omega arith in
+    let there : bit_at (high * 2 ^ 32 % 2 ^ 64) (32 + k) ≡ bit_at high k = shl_bit high 32 (32 + k) (omega arith) (omega arith) ∙ ap (bit_at high) back in
+    omega (
+      arith,
+      bit_at_or (bit_and low 4294967295) (high * 4294967296 % 18446744073709551616) (32 + k),
+      bit_at_and low 4294967295 (32 + k),
+      bit_at_ones_above 32 (32 + k) (omega arith),
+      there,
+    )

@@ -1,7 +1,7 @@
 pub mod Places
-pub mod ValidWindows
+pub mod WindowLists
 pub mod BitOrder
 pub mod RemainderBits
 pub mod WindowBits
 pub mod Agreement
-pub mod Scans
+pub mod MarkLemmas

@@ -10,7 +10,7 @@ use Rattle.std.proofs.lemmas.Nat.Bits.{bit_at_xor, bit_at-zero, bit_at_cat_low}
 use Rattle.std.proofs.lemmas.List.FromFn.{get_or-map-range_with_len}
 use Rattle.rds_code.specs.Remainder.{rem}
 use Rattle.rds_code.specs.Laws.{IsLinear}
-use Rattle.rds_stream.specs.Planes.{IsWindowAt}
+use Rattle.rds_stream.specs.Planes.{IsWindowAt, lane}
 use Rattle.rds_stream.proofs.BitOrder.{shr_bit}
 
 -- what the generator leaves of each power of x
@@ -236,11 +236,29 @@ plane_9 v e =
       sum_9 (λ t. bit_at v (e + (25 - t))),
     )
 
--- the word `low` that shows the lowest bits of plane s
-pub shows : IsLinear → (v s p low k block : ℕ) → Sums v s p → bit_at low k ≡ bit_at p k → IsWindowAt v k block → bit_at low k ≡ bit_at (rem block) s
-shows linear v s p low k block sums is window =
-    is ∙ sums k
+-- a plane has the bit of the remainder
+pub shows : IsLinear → (v s p k block : ℕ) → Sums v s p → IsWindowAt v k block → bit_at p k ≡ bit_at (rem block) s
+shows linear v s p k block sums window =
+    sums k
     ∙ sym (rem_bit linear 26 block s (omega arith) window.block ∙ ap (λ x. x % 2) (dot_same 26 s (bit_at block) (λ t. bit_at v (k + (25 - t))) window.bits))
+
+-- the bits of a lane of ten vectors in a row
+pub in_lane : (j k block : ℕ) (a b c d f g h i m n : List ℕ) → bit_at (get_or a j 0) k ≡ bit_at (rem block) 0 → bit_at (get_or b j 0) k ≡ bit_at (rem block) 1
+    → bit_at (get_or c j 0) k ≡ bit_at (rem block) 2 → bit_at (get_or d j 0) k ≡ bit_at (rem block) 3 → bit_at (get_or f j 0) k ≡ bit_at (rem block) 4
+    → bit_at (get_or g j 0) k ≡ bit_at (rem block) 5 → bit_at (get_or h j 0) k ≡ bit_at (rem block) 6 → bit_at (get_or i j 0) k ≡ bit_at (rem block) 7
+    → bit_at (get_or m j 0) k ≡ bit_at (rem block) 8 → bit_at (get_or n j 0) k ≡ bit_at (rem block) 9
+    → (r : ℕ) → r < 10 → bit_at (lane (a ∷ b ∷ c ∷ d ∷ f ∷ g ∷ h ∷ i ∷ m ∷ n ∷ []) r j) k ≡ bit_at (rem block) r
+in_lane j k block a b c d f g h i m n x0 x1 x2 x3 x4 x5 x6 x7 x8 x9 zero l = x0
+in_lane j k block a b c d f g h i m n x0 x1 x2 x3 x4 x5 x6 x7 x8 x9 (suc zero) l = x1
+in_lane j k block a b c d f g h i m n x0 x1 x2 x3 x4 x5 x6 x7 x8 x9 (suc (suc zero)) l = x2
+in_lane j k block a b c d f g h i m n x0 x1 x2 x3 x4 x5 x6 x7 x8 x9 (suc (suc (suc zero))) l = x3
+in_lane j k block a b c d f g h i m n x0 x1 x2 x3 x4 x5 x6 x7 x8 x9 (suc (suc (suc (suc zero)))) l = x4
+in_lane j k block a b c d f g h i m n x0 x1 x2 x3 x4 x5 x6 x7 x8 x9 (suc (suc (suc (suc (suc zero))))) l = x5
+in_lane j k block a b c d f g h i m n x0 x1 x2 x3 x4 x5 x6 x7 x8 x9 (suc (suc (suc (suc (suc (suc zero)))))) l = x6
+in_lane j k block a b c d f g h i m n x0 x1 x2 x3 x4 x5 x6 x7 x8 x9 (suc (suc (suc (suc (suc (suc (suc zero))))))) l = x7
+in_lane j k block a b c d f g h i m n x0 x1 x2 x3 x4 x5 x6 x7 x8 x9 (suc (suc (suc (suc (suc (suc (suc (suc zero)))))))) l = x8
+in_lane j k block a b c d f g h i m n x0 x1 x2 x3 x4 x5 x6 x7 x8 x9 (suc (suc (suc (suc (suc (suc (suc (suc (suc zero))))))))) l = x9
+in_lane j k block a b c d f g h i m n x0 x1 x2 x3 x4 x5 x6 x7 x8 x9 (suc (suc (suc (suc (suc (suc (suc (suc (suc (suc r)))))))))) l = absurd (omega arith)
 
 -- the bits of ten words in a row
 pub ten_words : (k remainder w0 w1 w2 w3 w4 w5 w6 w7 w8 w9 : ℕ) → bit_at w0 k ≡ bit_at remainder 0 → bit_at w1 k ≡ bit_at remainder 1 → bit_at w2 k ≡ bit_at remainder 2 → bit_at w3 k ≡ bit_at remainder 3 → bit_at w4 k ≡ bit_at remainder 4 → bit_at w5 k ≡ bit_at remainder 5 → bit_at w6 k ≡ bit_at remainder 6 → bit_at w7 k ≡ bit_at remainder 7 → bit_at w8 k ≡ bit_at remainder 8 → bit_at w9 k ≡ bit_at remainder 9

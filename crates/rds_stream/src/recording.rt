@@ -141,34 +141,38 @@ impl Recording {
         (places >> (7 - place % 8) & BLOCK as u64) as u32
     }
 
-    /// The bits at the 89 places from `from` on, the first one lowest: the windows at 64 places lie in them.
-    pub(crate) fn places(&self, from: u64) -> u128
+    /// The bits at the 89 places from `from` on, the first one lowest, in two words of 57 places: the second begins 32
+    /// places after the first, so the windows at 64 places lie in them.
+    #[inline(always)]
+    pub(crate) fn places(&self, from: u64) -> [u64; 2]
         requires { from + 89 ≤ length self.now }
-        ensures { (k : ℕ) → k < 89 → bit_at result k ≡ slice_index self.now (from + k) }
+        ensures { (j k : ℕ) → j < 2 → k < 57
+            → bit_at (slice_index result j) k ≡ slice_index self.now (from + (32 * j + k)) }
     {
         // They lie in twelve bytes.
         let first = (from / 8) as usize;
         let bytes = self.bytes.as_slice();
-        let low = lowest_first([
-            bytes[first],
-            bytes[first + 1],
-            bytes[first + 2],
-            bytes[first + 3],
-            bytes[first + 4],
-            bytes[first + 5],
-            bytes[first + 6],
-            bytes[first + 7],
-        ]);
-        let high = lowest_first([
-            bytes[first + 8],
-            bytes[first + 9],
-            bytes[first + 10],
-            bytes[first + 11],
-            0,
-            0,
-            0,
-            0,
-        ]);
-        ((high as u128) << 64 | low as u128) >> (from % 8)
+        [
+            eight_bytes(bytes, first) >> (from % 8),
+            eight_bytes(bytes, first + 4) >> (from % 8),
+        ]
     }
+}
+
+/// The bits of the eight bytes from `first` on, the first one lowest.
+#[inline(always)]
+fn eight_bytes(bytes: &[u8], first: usize) -> u64
+    requires { first + 8 ≤ length bytes.now }
+    ensures { (k : ℕ) → k < 64 → bit_at result k ≡ packed_bit bytes.now (8 * first + k) }
+{
+    lowest_first([
+        bytes[first],
+        bytes[first + 1],
+        bytes[first + 2],
+        bytes[first + 3],
+        bytes[first + 4],
+        bytes[first + 5],
+        bytes[first + 6],
+        bytes[first + 7],
+    ])
 }

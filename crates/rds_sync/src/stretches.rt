@@ -17,7 +17,7 @@ use crate::item_buffer::ItemBuffer;
 use crate::lock::{blocks_before, follow};
 use crate::rules::Rules;
 use crate::state::State;
-use rds_stream::{FIRST_WINDOW, Recording};
+use rds_stream::{Recording, ValidWindows};
 
 /// How far a run came, and the state there.
 #[derive(Clone, Copy, Debug, PartialEq, Eq)]
@@ -84,10 +84,7 @@ fn search(
     ensures only_memory { IsOkUnless result SyncError.OutOfMemory }
 {
     prove!(to <= rec.len());
-    for here in place.max(FIRST_WINDOW)..to {
-        let Some(offset) = rec.offset(here) else {
-            continue;
-        };
+    for (here, offset) in ValidWindows::new(rec, place, to) {
         // A window is valid by chance at one place in two hundred: so its partners are looked up in
         // the recording, and the search keeps none of the windows behind it.
         let number = offset.number();

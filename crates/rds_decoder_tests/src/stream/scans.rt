@@ -157,6 +157,30 @@ fn a_scan_of_any_range_is_that_of_its_places(rt: HostRuntime) -> Result<(), Fail
     Ok(())
 }
 
+/// The places about each multiple of 32 in 520 bits, about the first window's and one word later, and the last ones.
+const ABOUT_WORDS: [u64; 58] = [
+    0, 1, 24, 25, 26, 31, 32, 33, 63, 64, 65, 88, 89, 90, 95, 96, 97, 127, 128, 129, 159, 160, 161,
+    191, 192, 193, 223, 224, 225, 255, 256, 257, 287, 288, 289, 319, 320, 321, 351, 352, 353, 383,
+    384, 385, 415, 416, 417, 447, 448, 449, 479, 480, 481, 511, 512, 513, 519, 520,
+];
+
+/// Words of 64 places begin at a range's first place, and go by two halves.
+#[test]
+fn a_scan_of_ranges_about_words_is_that_of_its_places(rt: HostRuntime) -> Result<(), Fail> {
+    let damaged = with_inverted(rt.alloc(), 520, &[30, 62, 124, 129, 200, 333, 511])?;
+    for from in ABOUT_WORDS {
+        for to in ABOUT_WORDS {
+            if from <= to {
+                assert!(rt;
+                    finds_its_places(rt.alloc(), &damaged, from, to)?,
+                    "from {from} to {to}"
+                );
+            }
+        }
+    }
+    Ok(())
+}
+
 /// How many valid windows the first so many bits of zero groups have.
 fn count_windows(alloc: Global, bits: u64) -> Result<usize, StreamError> {
     let short = zero_groups(alloc, bits)?;

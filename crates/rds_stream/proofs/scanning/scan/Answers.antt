@@ -1,44 +1,41 @@
-use Rattle.std.proofs.Common.{◌≡◌, ℕ, ◌+◌, ◌*◌, ◌-◌, ◌/◌, ◌∙◌, sym, ap, arith, ◌++◌, inl, inr, ◌≤◌}
-use Rattle.std.proofs.lemmas.Bool.{cases_lt}
-use Rattle.rds_stream.specs.Recording.{valid_windows}
-use Rattle.rds_stream.proofs.ValidWindows.{valid_before}
-use Rattle.rds_stream.proofs.Scans.{valid_none, valid_append}
+use Rattle.std.proofs.Common.{◌≡◌, ◌+◌, ◌-◌, ◌<◌, ◌≤◌, ◌++◌, ◌∷◌, [], ℕ, List, Option, Some, None, refl, sym, ap, ◌∙◌, subst, arith}
+use Rattle.rds_code.specs.declared.offset.Offset.{Offset}
+use Rattle.rds_stream.specs.Recording.{off, valid_windows}
+use Rattle.rds_stream.specs.ValidWindows.{WindowsLeft, GivesFirst, NoneValid}
+use Rattle.rds_stream.proofs.WindowLists.{valid_over, valid_with}
+use Rattle.rds_stream.proofs.scanning.scan.Invariants.{HasScanned}
 use Rattle.rds_stream.proofs.scanning.scan.Goals as goal
 
-pub loop-word-init : goal.loop-word-init
-loop-word-init c =
-    let b = c.args.recording.now in
-    let from = c.args.from in
-    let first = c.max-first.result in
-    let start : first + 64 * 0 ≡ first = omega arith in
-    let low : from ≤ first = omega (arith, c.max-first.ensures) in
-    c.new-found.ensures.items ∙ sym (ap (valid_windows b from) start ∙ elim (cases_lt 25 first) [
-      | inl late ↦
-          let here : first ≡ from = omega (arith, c.max-first.ensures, c.min.ensures) in
-          ap (valid_windows b from) here ∙ valid_none b from
-      | inr early ↦ valid_before b from first low early
-    ])
+module _ (b : List ℕ) (from to : ℕ) (old : WindowsLeft) (items : List (ℕ × Offset)) (has : HasScanned b from to old items) where
+  -- up to a place before which no other window is valid
+  up_to : (p : ℕ) → old.next ≤ p → NoneValid old.bits old.next p → items ≡ valid_windows b from p
+  up_to p low none =
+      let end : old.next + (p - old.next) ≡ p = omega arith in
+      let here : NoneValid b old.next p = subst (λ (bits : List ℕ). NoneValid bits old.next p) has.bits none in
+      has.so_far ∙ sym (valid_over b from old.next (p - old.next) has.from_on (λ j l h. here j l (omega arith))) ∙ ap (valid_windows b from) end
 
-pub loop-word-preserved : goal.loop-word-preserved
-loop-word-preserved c =
-    let b = c.args.recording.now in
-    let from = c.args.from in
-    let at = c.max-first.result + 64 * c.loop-word.word in
-    let next : at + 64 ≡ c.max-first.result + 64 * (c.loop-word.word + 1) = omega arith in
-    c.in_ok-push_word.ensures.found ∙ ap (λ xs. xs ++ valid_windows b at (at + 64)) c.loop-word.invariant
-    ∙ valid_append b from at 64 (omega (arith, c.max-first.ensures)) ∙ ap (valid_windows b from) next
+  one_more : (found : ℕ × Offset) (new : WindowsLeft) → GivesFirst old (Some found) new → HasScanned b from to new (items ++ found ∷ [])
+  one_more found new gives =
+      subst (λ (left : WindowsLeft). HasScanned b from to left (items ++ found ∷ [])) (sym gives.4) (record {
+        bits = has.bits;
+        end = has.end;
+        from_on = omega (arith, has.from_on, gives.0);
+        limit = omega (arith, gives.1, has.end);
+        so_far = ap (λ xs. xs ++ found ∷ []) (up_to found.0 gives.0 gives.2)
+            ∙ valid_with b from found.0 found.1 (omega (arith, has.from_on, gives.0)) (subst (λ (bits : List ℕ). off bits found.0 ≡ Some found.1) has.bits gives.3);
+      })
+
+  all : (new : WindowsLeft) → GivesFirst old None new → items ≡ valid_windows b from to
+  all new gives = up_to old.end (omega (arith, has.limit, has.end)) gives.0 ∙ ap (valid_windows b from) has.end
+
+pub loop-window-preserved : goal.loop-window-preserved
+loop-window-preserved c = (
+  tt,
+  tt,
+  subst (λ (items : List (ℕ × Offset)). HasScanned c.args.recording.now c.args.from c.args.to c.next.new.self items) (sym c.in_ok-push.ensures.items)
+      (one_more c.args.recording.now c.args.from c.args.to c.loop-window.window-iterator c.loop-window.found.items c.loop-window.invariant.2 c.in-Some.window c.next.new.self c.in-Some.ensures.steps),
+)
 
 pub returns-clause-found : goal.returns-clause-found
 returns-clause-found c =
-    let b = c.args.recording.now in
-    let from = c.args.from in
-    let to = c.args.to in
-    let first = c.max-first.result in
-    let words = (to - first) / 64 in
-    let rest = first + 64 * words in
-    let all : c.loop-word.word ≡ words = omega (arith, c.loop-word-test.false, c.loop-word.auto.word-end) in
-    let low : from ≤ first = omega (arith, c.max-first.ensures) in
-    let high : first ≤ to = omega (arith, c.max-first.ensures, c.min.ensures, c.requires.order) in
-    let end : rest + (to - rest) ≡ to = omega arith in
-    c.in_ok-push_places.ensures.found ∙ ap (λ xs. xs ++ valid_windows b rest to) (c.loop-word.invariant ∙ ap (λ (n : ℕ). valid_windows b from (first + 64 * n)) all)
-    ∙ ap (λ p. valid_windows b from rest ++ valid_windows b rest p) (sym end) ∙ valid_append b from rest (to - rest) (omega arith) ∙ ap (valid_windows b from) end
+    all c.args.recording.now c.args.from c.args.to c.loop-window.window-iterator c.loop-window.found.items c.loop-window.invariant.2 c.next.new.self c.in-None.ensures.steps

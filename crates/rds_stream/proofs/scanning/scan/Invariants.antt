@@ -1,7 +1,18 @@
-use Rattle.std.proofs.Common.{◌≡◌, ◌+◌, ◌*◌}
+use Rattle.std.proofs.Common.{◌≡◌, ◌≤◌, ℕ, List, length}
+use Rattle.rds_code.specs.declared.offset.Offset.{Offset}
 use Rattle.rds_stream.specs.Recording.{valid_windows}
+use Rattle.rds_stream.specs.ValidWindows.{WindowsLeft}
 use Rattle.rds_stream.proofs.scanning.scan.Given as goal
 
 -- what was found so far is all that is valid so far
-abbrev pub invariant-loop-word : goal.invariant-loop-word
-invariant-loop-word l = l.found.items ≡ valid_windows l.recording l.from (l.first + 64 * l.word)
+pub record HasScanned (b : List ℕ) (from to : ℕ) (left : WindowsLeft) (found : List (ℕ × Offset)) : Type 0 where
+  pub bits : left.bits ≡ b
+  pub end : left.end ≡ to
+  pub from_on : from ≤ left.next
+  pub limit : left.next ≤ to
+  pub so_far : found ≡ valid_windows b from left.next
+
+abbrev pub invariant-loop-window : goal.invariant-loop-window
+invariant-loop-window l =
+    (goal.iterator-loop-window).can_next l.window-iterator × (goal.iterator-loop-window).is_finite l.window-iterator
+    × HasScanned l.recording l.from l.to l.window-iterator l.found.items

@@ -1,5 +1,8 @@
-use Rattle.std.proofs.Common.{◌≡◌, ◌≤◌, ◌<◌, ◌+◌, ◌-◌, ◌++◌, ℕ, true, false, List, Some, None, refl, ap, sym, subst, ◌∙◌, arith, append-nil, inl, inr}
+use Rattle.std.proofs.Common.{◌≡◌, ◌≤◌, ◌<◌, ◌+◌, ◌-◌, ◌++◌, ℕ, true, false, List, Option, Some, None, refl, ap, sym, subst, ◌∙◌, arith, append-nil, inl, inr}
 use Rattle.std.proofs.lemmas.Bool.{cases_lt}
+use Rattle.rds_code.specs.declared.offset.Offset.{Offset}
+use Rattle.rds_stream.specs.Recording.{off}
+use Rattle.rds_stream.specs.ValidWindows.{WindowsLeft, GivesFirst, NoneValid}
 use Rattle.rds_sync.specs.declared.item.Item.{Item}
 use Rattle.rds_sync.specs.declared.state.State.{State}
 use Rattle.rds_sync.specs.declared.state.State.TheVariants.{Searching}
@@ -12,47 +15,72 @@ use Rattle.rds_sync.specs.declared.loss.Loss.{Loss}
 use Rattle.rds_sync.specs.Step.{step, locked_after}
 use Rattle.rds_sync.proofs.ItemLemmas.{some_given}
 use Rattle.rds_sync.proofs.RunLemmas.{step-acquiring, items-acquiring, run-found, run-quiet, run-unfound}
-use Rattle.rds_sync.proofs.LawfulLemmas.{acquired-none, lawful-step, number-range}
-use Rattle.rds_sync.proofs.WindowLemmas.{acquired-early, acquired-offset}
+use Rattle.rds_sync.proofs.LawfulLemmas.{acquired-none, lawful-step, number-range, off-place}
+use Rattle.rds_sync.proofs.WindowLemmas.{acquired-offset}
+use Rattle.rds_sync.proofs.stretches.search.Invariants.{HasSearched}
 use Rattle.rds_sync.proofs.stretches.search.Goals as goal
 
-pub loop-here-init : goal.loop-here-init
-loop-here-init c = record {
-  none = λ j low high. acquired-early c.args.rec.now c.args.rules.now j (omega (arith, low, high, c.max-here.ensures));
-  nothing = refl;
-}
+module _ (b : List ℕ) (rules : RuleNumbers) (place to : ℕ) (old : WindowsLeft) (before items : List Item)
+    (searched : HasSearched b rules place to old before items) where
+  -- no place acquires up to one before which no window is valid
+  none_before : (p : ℕ) → NoneValid old.bits old.next p → (j : ℕ) → place ≤ j → j < p → acquired b rules j ≡ None
+  none_before p none j low high = elim (cases_lt j old.next) [
+    | inl earlier ↦ searched.none j low earlier
+    | inr late ↦ acquired-none b rules j (subst (λ (bits : List ℕ). off bits j ≡ None) searched.bits (none j late high))
+  ]
 
--- one place more that does not acquire
-one_more : (b : List ℕ) (rules : RuleNumbers) (place here : ℕ) → ((j : ℕ) → place ≤ j → j < here → acquired b rules j ≡ None)
-    → acquired b rules here ≡ None → (j : ℕ) → place ≤ j → j < here + 1 → acquired b rules j ≡ None
-one_more b rules place here before this j low high = elim (cases_lt j here) [
-  | inl earlier ↦ before j low earlier
-  | inr late ↦
-      let same : here ≡ j = omega arith in
-      subst (λ (i : ℕ). acquired b rules i ≡ None) same this
-]
+  -- the window that is given next does not acquire
+  one_more : (found : ℕ × Offset) (new : WindowsLeft) → GivesFirst old (Some found) new → acquired b rules found.0 ≡ None → HasSearched b rules place to new before items
+  one_more found new gives this =
+      subst (λ (left : WindowsLeft). HasSearched b rules place to left before items) (sym gives.4) (record {
+        bits = searched.bits;
+        end = searched.end;
+        from_on = omega (arith, searched.from_on, gives.0);
+        none = λ j low high. elim (cases_lt j found.0) [
+          | inl earlier ↦ none_before found.0 gives.2 j low earlier
+          | inr late ↦
+              let same : found.0 ≡ j = omega (arith, high) in
+              subst (λ (i : ℕ). acquired b rules i ≡ None) same this
+        ];
+        nothing = searched.nothing;
+      })
 
-pub loop-here-preserved-in_default : goal.loop-here-preserved-in_default
-loop-here-preserved-in_default c =
-    let b = c.args.rec.now in
-    let rules = c.args.rules.now in
-    let searched = c.loop-here.invariant in
-    record {
-      none = one_more b rules c.args.place c.loop-here.here searched.none (acquired-none b rules c.loop-here.here (sym c.offset.ensures ∙ c.in_default.is));
-      nothing = searched.nothing;
-    }
+  offset_is : (found : ℕ × Offset) (new : WindowsLeft) → GivesFirst old (Some found) new → off b found.0 ≡ Some found.1
+  offset_is found new gives = subst (λ (bits : List ℕ). off bits found.0 ≡ Some found.1) searched.bits gives.3
+
+  from_here : (found : ℕ × Offset) (new : WindowsLeft) → GivesFirst old (Some found) new → (place ≤ found.0) × (found.0 < to)
+  from_here found new gives = (omega (arith, searched.from_on, gives.0), omega (arith, gives.1, searched.end))
+
+  all : (new : WindowsLeft) → GivesFirst old None new → (j : ℕ) → place ≤ j → j < to → acquired b rules j ≡ None
+  all new gives = subst (λ (end : ℕ). (j : ℕ) → place ≤ j → j < end → acquired b rules j ≡ None) searched.end (none_before old.end gives.0)
 
 pub loop-here-preserved : goal.loop-here-preserved
 loop-here-preserved c =
     let b = c.args.rec.now in
     let rules = c.args.rules.now in
-    let searched = c.loop-here.invariant in
-    let none = acquired-offset b rules c.loop-here.here c.number-number.result c.in-Some.offset c.has_partner_in.result false
-    (sym c.offset.ensures ∙ c.in-Some.is) c.number-number.ensures c.has_partner_in.ensures c.if-has_partner_in.false in
-    record {
-      none = one_more b rules c.args.place c.loop-here.here searched.none none;
-      nothing = searched.nothing;
-    }
+    let here = c.in-Some.here in
+    let offset = c.in-Some.offset in
+    let searched = c.loop-here.invariant.2 in
+    let old = c.loop-here.here-iterator in
+    let given = c.in-Some.ensures.steps in
+    let is = offset_is b rules c.args.place c.args.to old c.args.items.now c.loop-here.items searched (here, offset) c.next.new.self given in
+    let none = acquired-offset b rules here c.number-number.result offset c.has_partner_in.result false
+    is c.number-number.ensures c.has_partner_in.ensures c.if-has_partner_in.false in
+    (tt, tt, one_more b rules c.args.place c.args.to old c.args.items.now c.loop-here.items searched (here, offset) c.next.new.self given none)
+
+pub window-requires-clause-first : goal.window-requires-clause-first
+window-requires-clause-first c =
+    let here = c.in-Some.here in
+    let offset = c.in-Some.offset in
+    off-place c.args.rec.now here offset (offset_is c.args.rec.now c.args.rules.now c.args.place c.args.to c.loop-here.here-iterator c.args.items.now c.loop-here.items
+    c.loop-here.invariant.2 (here, offset) c.next.new.self c.in-Some.ensures.steps)
+
+pub items-requires : goal.items-requires
+items-requires c =
+    let here = c.in-Some.here in
+    let offset = c.in-Some.offset in
+    record { block = (off-place c.args.rec.now here offset (offset_is c.args.rec.now c.args.rules.now c.args.place c.args.to c.loop-here.here-iterator c.args.items.now c.loop-here.items
+    c.loop-here.invariant.2 (here, offset) c.next.new.self c.in-Some.ensures.steps), c.window.ensures.block) }
 
 pub lock-requires-clause-number : goal.lock-requires-clause-number
 lock-requires-clause-number c = omega (arith, c.number-number.ensures, number-range c.in-Some.offset)
@@ -61,40 +89,46 @@ pub returns-then-has_partner_in-clause-reached : goal.returns-then-has_partner_i
 returns-then-has_partner_in-clause-reached c =
     let b = c.args.rec.now in
     let rules = c.args.rules.now in
-    let here = c.loop-here.here in
-    let searched = c.loop-here.invariant in
+    let here = c.in-Some.here in
+    let offset = c.in-Some.offset in
+    let searched = c.loop-here.invariant.2 in
+    let old = c.loop-here.here-iterator in
+    let given = c.in-Some.ensures.steps in
     let number = c.number-number.result in
+    let is = offset_is b rules c.args.place c.args.to old c.args.items.now c.loop-here.items searched (here, offset) c.next.new.self given in
+    let range = from_here b rules c.args.place c.args.to old c.args.items.now c.loop-here.items searched (here, offset) c.next.new.self given in
+    let none = none_before b rules c.args.place c.args.to old c.args.items.now c.loop-here.items searched here given.2 in
     let e : acquired b rules here ≡ Some number =
-    acquired-offset b rules here number c.in-Some.offset c.has_partner_in.result true
-    (sym c.offset.ensures ∙ c.in-Some.is) c.number-number.ensures c.has_partner_in.ensures c.if-has_partner_in.true in
-    let run_is = run-found b rules c.args.place here (omega arith) searched.none in
+    acquired-offset b rules here number offset c.has_partner_in.result true
+    is c.number-number.ensures c.has_partner_in.ensures c.if-has_partner_in.true in
+    let run_is = run-found b rules c.args.place here range.0 none in
     let state_is : c.state.result ≡ step b rules here Searching =
     c.state.ensures ∙ c.lock.ensures
     ∙ ap (λ (loss : Loss). locked_after here number (none_bad loss) number) c.loss.ensures.value
     ∙ sym (step-acquiring b rules here number e) in
-    let given = c.items.ensures b c.window.ensures.value ∙ sym (items-acquiring b rules here number e) in
+    let given_is = c.items.ensures b c.window.ensures.value ∙ sym (items-acquiring b rules here number e) in
     let last : here + 1 - 1 ≡ here = omega arith in (
       record {
-        forward = omega arith;
-        limit = omega arith;
+        forward = omega (arith, range.0);
+        limit = omega (arith, range.1);
         state = state_is ∙ sym (ap (λ (r : State × List Item). r.0) run_is);
-        quiet = rw last (ap (λ (r : State × List Item). r.1) (run-unfound b rules c.args.place here (omega arith) searched.none));
+        quiet = rw last (ap (λ (r : State × List Item). r.1) (run-unfound b rules c.args.place here range.0 none));
         ended = inr (some_given _ _ _ (ap (λ (r : State × List Item). r.1) run_is ∙ items-acquiring b rules here number e));
         lawful = subst (λ (t : State). IsLawful rules (here + 1) t) (sym state_is)
             (lawful-step b rules c.loss.ensures.range.some_loss here Searching tt);
       },
       c.in_ok-push_found.ensures.ok
           ∙ ap (λ (is : List Item). is ++ items_in c.items.result) searched.nothing
-          ∙ ap (λ (is : List Item). c.args.items.now ++ is) (given ∙ sym (ap (λ (r : State × List Item). r.1) run_is)),
+          ∙ ap (λ (is : List Item). c.args.items.now ++ is) (given_is ∙ sym (ap (λ (r : State × List Item). r.1) run_is)),
     )
 
 pub returns-clause-reached : goal.returns-clause-reached
 returns-clause-reached c =
     let b = c.args.rec.now in
     let rules = c.args.rules.now in
-    let searched = c.loop-here.invariant in
-    let run_is = run-unfound b rules c.args.place c.args.to (omega arith)
-    (λ j low high. searched.none j low (omega (arith, high, c.loop-here-test.false))) in
+    let searched = c.loop-here.invariant.2 in
+    let none = all b rules c.args.place c.args.to c.loop-here.here-iterator c.args.items.now c.loop-here.items searched c.next.new.self c.in-None.ensures.steps in
+    let run_is = run-unfound b rules c.args.place c.args.to (omega arith) none in
     let nothing = ap (λ (r : State × List Item). r.1) run_is in (
       record {
         forward = c.requires.order;

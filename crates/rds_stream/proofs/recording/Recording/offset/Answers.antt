@@ -1,7 +1,7 @@
 use Rattle.std.proofs.Common.{ℕ, ◌∙◌, sym, ap}
 use Rattle.rds_code.specs.Remainder.{rem}
 use Rattle.rds_code.specs.Offsets.{offset_of}
-use Rattle.rds_stream.proofs.ValidWindows.{off_late}
+use Rattle.rds_stream.proofs.WindowLists.{off_late}
 use Rattle.rds_stream.proofs.recording.Recording.offset.Goals as goal
 
 pub returns : goal.returns

@@ -1,0 +1,84 @@
+-- Words of marks: places with an offset and without one.
+use Rattle.std.proofs.Common.{◌≡◌, ℕ, ◌+◌, ◌-◌, ◌*◌, ◌%◌, ◌^◌, ◌<◌, ◌≤◌, refl, sym, ap, ◌∙◌, subst, arith, List, Option, Some, None, IsSome, inl, inr, bit_or, w64, true≢false}
+use Rattle.std.specs.Int.{bit_at}
+use Rattle.std.proofs.lemmas.Bool.{cases_lt}
+use Rattle.std.proofs.lemmas.Nat.Bits.{bit_at-zero, bit_at-lt, bit_at_set_same, bit_at_set_other}
+use Rattle.rds_code.specs.declared.offset.Offset.{Offset}
+use Rattle.rds_stream.specs.Recording.{off}
+use Rattle.rds_stream.specs.ValidWindows.{AreMarks, NoneValid}
+
+pub some_is : (o : Option Offset) → IsSome o → (x : Offset) × (o ≡ Some x)
+some_is None some = absurd (true≢false (sym some))
+some_is (Some x) some = (x, refl)
+
+pub none_is : (o : Option Offset) → (IsSome o → ⊥) → o ≡ None
+none_is None never = refl
+none_is (Some x) never = absurd (never refl)
+
+pub never_some : (b : List ℕ) (p : ℕ) → off b p ≡ None → IsSome (off b p) → ⊥
+never_some b p none some = true≢false (sym (subst (λ (o : Option Offset). IsSome o) none some))
+
+-- a zero among the marks
+pub unmarked : (b : List ℕ) (next ahead word k : ℕ) → AreMarks b next ahead word → next + k < ahead → bit_at word k ≡ 0 → off b (next + k) ≡ None
+unmarked b next ahead word k marks within zero = none_is (off b (next + k)) (λ some. absurd (omega (arith, zero, (marks.marked k within).1 some)))
+
+-- no ones below some bit
+pub none_below : (b : List ℕ) (next ahead word k : ℕ) → AreMarks b next ahead word → next + k ≤ ahead → ((j : ℕ) → j < k → bit_at word j ≡ 0) → NoneValid b next (next + k)
+none_below b next ahead word k marks within zeros i low high =
+    let same : next + (i - next) ≡ i = omega arith in
+    sym (ap (off b) same) ∙ unmarked b next ahead word (i - next) marks (omega arith) (zeros (i - next) (omega arith))
+
+-- no ones at all
+pub none_ahead : (b : List ℕ) (next ahead word : ℕ) → AreMarks b next ahead word → word ≡ 0 → NoneValid b next ahead
+none_ahead b next ahead word marks zero i low high =
+    let same : next + (i - next) ≡ i = omega arith in
+    sym (ap (off b) same) ∙ unmarked b next ahead word (i - next) marks (omega arith) (ap (λ w. bit_at w (i - next)) zero ∙ bit_at-zero (i - next))
+
+pub join_none : (b : List ℕ) (from p to : ℕ) → NoneValid b from p → NoneValid b p to → NoneValid b from to
+join_none b from p to before after i low high = elim (cases_lt i p) [ inl early ↦ before i low early | inr late ↦ after i late high ]
+
+-- places without an offset
+pub no_marks : (b : List ℕ) (next ahead : ℕ) → next ≤ ahead → ahead ≤ next + 64 → NoneValid b next ahead → AreMarks b next ahead 0
+no_marks b next ahead order width none = record {
+  order = order;
+  width = width;
+  marked = λ k l. (λ h. absurd (omega (arith, h, bit_at-zero k)), λ some. absurd (never_some b (next + k) (none (next + k) (omega arith) l) some));
+  past = λ k l. bit_at-zero k;
+}
+
+-- one place more, without an offset
+pub not_marked : (b : List ℕ) (from p word : ℕ) → AreMarks b from p word → p < from + 64 → off b p ≡ None → AreMarks b from (p + 1) word
+not_marked b from p word marks few none = record {
+  order = omega (arith, marks.order);
+  width = omega arith;
+  marked = λ k l. elim (cases_lt (from + k) p) [
+    | inl early ↦ marks.marked k early
+    | inr late ↦
+        let same : from + k ≡ p = omega arith in
+        let zero = marks.past k late in
+        (λ h. absurd (omega (arith, h, zero)), λ some. absurd (never_some b p none (subst (λ (i : ℕ). IsSome (off b i)) same some)))
+  ];
+  past = λ k l. marks.past k (omega arith);
+}
+
+-- one place more, with an offset
+pub is_marked : (b : List ℕ) (from p word : ℕ) → AreMarks b from p word → p < from + 64 → IsSome (off b p) → AreMarks b from (p + 1) (bit_or word (1 * 2 ^ (p - from) % 2 ^ 64))
+is_marked b from p word marks few some =
+    let at = p - from in
+    let within : at < 64 = omega (arith, marks.order) in
+    let order = marks.order in
+    record {
+      order = omega arith;
+      width = omega arith;
+      marked = λ k l. elim (cases_lt (from + k) p) [
+        | inl early ↦
+            let other = bit_at_set_other w64 word at within k (λ e. absurd (omega arith)) in
+            let is = marks.marked k early in
+            (λ h. is.0 (sym other ∙ h), λ x. other ∙ is.1 x)
+        | inr late ↦
+            let same : from + k ≡ p = omega arith in
+            let here : k ≡ at = omega arith in
+            (λ h. subst (λ (i : ℕ). IsSome (off b i)) (sym same) some, λ x. ap (bit_at (bit_or word (1 * 2 ^ at % 2 ^ 64))) here ∙ bit_at_set_same w64 word at within)
+      ];
+      past = λ k l. bit_at_set_other w64 word at within k (λ e. absurd (omega arith)) ∙ marks.past k (omega arith);
+    }

@@ -1,0 +1,9 @@
+use Rattle.std.proofs.Common.{bit_xor, ◌∙◌, sym, arith}
+use Rattle.std.proofs.lemmas.Simd.{length-zip2, get_or-zip2}
+use Rattle.rds_stream.proofs.lanes.sum.Goals as goal
+
+pub returns : goal.returns
+returns c = record {
+  long = length-zip2 bit_xor c.args.a c.args.b (c.fits-a.0 ∙ sym c.fits-b.0) ∙ c.fits-a.0;
+  each = λ j l. get_or-zip2 bit_xor c.args.a c.args.b j 0 0 0 (omega (arith, c.fits-a.0)) (omega (arith, c.fits-b.0));
+}

@@ -1,0 +1,147 @@
+//! Words of marks: which of up to 64 places in a row have a valid window.
+//!
+//! A mark is a one just where all ten planes agree with one of the five offset words, so marks are exact both ways:
+//! each valid window is marked, and no other is looked at.
+ghost use Rattle.std.specs.Prelude.{◌≡◌, ◌≢◌, ℕ, ◌+◌, ◌-◌, ◌<◌, ◌≤◌, ◌^◌, ◌↔◌, length, slice_index, IsSome};
+ghost use Rattle.std.specs.Int.{bit_at};
+ghost use Rattle.rds_code.specs.Offsets.{offset_of as the_offset_of};
+ghost use Rattle.rds_stream.specs.Planes.{HoldInLane};
+ghost use Rattle.rds_stream.specs.Recording.{off};
+ghost use Rattle.rds_stream.specs.ValidWindows.{AreMarks, NoneValid};
+
+use crate::bit_planes::plane_lanes;
+use crate::lanes::{either, joined, narrowed};
+use crate::recording::Recording;
+use rds_code::Offset;
+use std::simd::prelude::*;
+
+/// Up to 64 places in a row, from `next` to before `ahead`. Bit k of `word` is a one where the window at place
+/// `next` + k is valid.
+#[derive(Clone, Copy, Drop)]
+pub(crate) struct Marks {
+    pub(crate) next: u64,
+    pub(crate) ahead: u64,
+    pub(crate) word: u64,
+}
+
+impl Marks {
+    /// The marks of the places from `from` on to before `end`, of 64 at most.
+    fn of(recording: &Recording, from: u64, end: u64) -> Marks
+        requires first { 25 ≤ from }
+        requires order { from ≤ end }
+        requires within { end ≤ length recording.now }
+        ensures marks { AreMarks recording.now result.next result.ahead result.word }
+        ensures from { result.next ≡ from }
+        ensures forward { (result.ahead ≤ end) × (from < end → from < result.ahead) }
+    {
+        if end - from < 64 {
+            return Marks {
+                next: from,
+                ahead: end,
+                word: one_by_one(recording, from, end),
+            };
+        }
+        Marks {
+            next: from,
+            ahead: from + 64,
+            word: at_once(recording, from),
+        }
+    }
+
+    /// Goes on from marks without a one to the next ones that have one, or up to `end` where there are none.
+    pub(crate) fn next_marked(self, recording: &Recording, end: u64) -> Marks
+        requires marks { AreMarks recording.now self.next self.ahead self.word }
+        requires first { self.ahead < end → 25 ≤ self.ahead }
+        requires order { self.ahead ≤ end }
+        requires within { end ≤ length recording.now }
+        ensures marks { AreMarks recording.now result.next result.ahead result.word }
+        ensures forward { (self.next ≤ result.next) × (result.ahead ≤ end) }
+        ensures first { result.ahead < end → 25 ≤ result.ahead }
+        ensures over { NoneValid recording.now self.next result.next }
+        ensures ended { result.word ≡ 0 → result.ahead ≡ end }
+    {
+        let mut marks = self;
+        while marks.word == 0 && marks.ahead < end {
+            marks = Marks::of(recording, marks.ahead, end);
+        }
+        marks
+    }
+}
+
+/// Ones at the valid places of the 64 from `at` on; bit k stands for place `at` + k.
+#[inline(always)]
+fn at_once(recording: &Recording, at: u64) -> u64
+    requires first { 25 ≤ at }
+    requires last { at + 64 ≤ length recording.now }
+    ensures { (k : ℕ) → k < 64 → (bit_at result k ≡ 1) ↔ IsSome (off recording.now (at + k)) }
+{
+    prove!(at < recording.len());
+    joined(valid_places(&plane_lanes(recording, at)))
+}
+
+/// Ones at the valid places from `from` to before `to`, fewer than 64, one by one; bit k stands for place `from` + k.
+fn one_by_one(recording: &Recording, from: u64, to: u64) -> u64
+    requires first { 25 ≤ from }
+    requires order { from ≤ to }
+    requires few { to < from + 64 }
+    requires within { to ≤ length recording.now }
+    ensures { AreMarks recording.now from to result }
+{
+    let mut marks = 0;
+    for place in from..to {
+        if recording.offset(place).is_some() {
+            marks |= 1 << (place - from);
+        }
+    }
+    marks
+}
+
+/// Ones where the planes hold an offset word.
+#[inline(always)]
+fn valid_places(planes: &[u64x2; 10]) -> u64x2
+    ensures { (j k remainder : ℕ) → j < 2 → k < 32 → HoldInLane planes.now j k remainder
+        → (bit_at (slice_index result j) k ≡ 1) ↔ IsSome (the_offset_of remainder) }
+{
+    let first = either(
+        equal_to(planes, Offset::A.word()),
+        equal_to(planes, Offset::B.word()),
+    );
+    let third = either(
+        equal_to(planes, Offset::C.word()),
+        equal_to(planes, Offset::Cx.word()),
+    );
+    either(either(first, third), equal_to(planes, Offset::D.word()))
+}
+
+/// Ones where the planes hold `word`.
+#[inline(always)]
+fn equal_to(planes: &[u64x2; 10], word: u16) -> u64x2
+    requires { word < 2 ^ 10 }
+    ensures { (j k remainder : ℕ) → j < 2 → k < 32 → HoldInLane planes.now j k remainder
+        → (bit_at (slice_index result j) k ≡ 1) ↔ (remainder ≡ word) }
+{
+    let mut same = u64x2::splat(u64::MAX);
+    for r in 0..10usize {
+        let flip = if word >> r & 1 == 1 { 0 } else { u64::MAX };
+        same = narrowed(same, planes[r], flip);
+    }
+    same
+}
+
+/// The place of the lowest one.
+pub(crate) fn lowest(word: u64) -> u32
+    requires { word ≢ 0 }
+    ensures bound { result < 64 }
+    ensures set { bit_at word result ≡ 1 }
+    ensures below { (k : ℕ) → k < result → bit_at word k ≡ 0 }
+{
+    word.trailing_zeros()
+}
+
+/// The bits above bit `bit`, moved down so that the first of them is the lowest.
+pub(crate) fn above(word: u64, bit: u32) -> u64
+    requires { bit < 64 }
+    ensures { (k : ℕ) → bit_at result k ≡ bit_at word (k + (bit + 1)) }
+{
+    word >> bit >> 1
+}

@@ -1,0 +1,78 @@
+//! The valid windows of a range, one after the other.
+ghost use Rattle.std.specs.Prelude.{◌≡◌, ◌≤◌, ◌<◌, ◌-◌, length};
+ghost use Rattle.std.specs.Iterator.{at_most};
+ghost use Rattle.rds_stream.specs.ValidWindows.{WindowsLeft, GivesFirst, AreMarks};
+
+use crate::marks::{Marks, above, lowest};
+use crate::recording::{FIRST_WINDOW, Recording};
+use rds_code::Offset;
+use std::marker::Model;
+
+/// The valid windows of a range, each with its place and its offset, by rising place.
+///
+/// It goes over 64 places at once, no further than it is asked for, and takes no memory. Contracts see which places are
+/// left.
+#[derive(Drop)]
+pub struct ValidWindows<'a> {
+    recording: &'a Recording,
+    marks: Marks,
+    end: u64,
+}
+
+impl<'a> Model for ValidWindows<'a> {
+    ghost Value = { WindowsLeft };
+
+    ghost view = { λ w. record { bits = w.recording.now; next = w.marks.next; end = w.end } };
+
+    ghost invariant = { λ w. AreMarks w.recording.now w.marks.next w.marks.ahead w.marks.word
+        × (w.marks.ahead < w.end → 25 ≤ w.marks.ahead) × (w.marks.ahead ≤ w.end) × (w.end ≤ length w.recording.now) };
+}
+
+impl ValidWindows<'_> {
+    /// The valid windows at the places from `from` to before `to`. They may begin before `from`, and none before the
+    /// recording.
+    pub fn new(recording: &Recording, from: u64, to: u64) -> ValidWindows<'_>
+        requires order { from ≤ to }
+        requires end { to ≤ length recording.now }
+        ensures { result ≡ record { bits = recording.now; next = from; end = to } }
+    {
+        ValidWindows {
+            recording,
+            marks: Marks {
+                next: from,
+                ahead: from.max(FIRST_WINDOW.min(to)),
+                word: 0,
+            },
+            end: to,
+        }
+    }
+}
+
+impl<'a> Iterator for ValidWindows<'a> {
+    type Item = (u64, Offset);
+
+    ghost next_gives = { GivesFirst };
+
+    ghost remaining = { λ w. at_most (w.end - w.next) };
+
+    fn next(&mut self) -> Option<(u64, Offset)> {
+        let marks = self.marks.next_marked(self.recording, self.end);
+        if marks.word == 0 {
+            self.marks = Marks {
+                next: self.end,
+                ahead: self.end,
+                word: 0,
+            };
+            return None;
+        }
+        let bit = lowest(marks.word);
+        let place = marks.next + bit as u64;
+        self.marks = Marks {
+            next: place + 1,
+            ahead: marks.ahead,
+            word: above(marks.word, bit),
+        };
+        let offset = self.recording.offset(place)?;
+        Some((place, offset))
+    }
+}
