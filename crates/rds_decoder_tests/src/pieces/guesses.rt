@@ -5,7 +5,7 @@ ghost use Rattle.rds_pieces.specs.RunOf.{FollowEachOther};
 
 use crate::samples::{Cuts, Sample};
 use rds_pieces::{Mark, PieceError, PieceRun, RecordingWork, Work, laws};
-use rds_sync::{Item, State};
+use rds_sync::{Bad, Item, State};
 use std::alloc::Global;
 use std::test::Fail;
 
@@ -37,7 +37,7 @@ const MARKS: [[Mark; 3]; 2] = [
             state: State::Locked {
                 due: 77,
                 number: 3,
-                bad: 0,
+                bad: Bad::Run(0),
                 first: 2,
             },
             items: 1,
@@ -47,7 +47,7 @@ const MARKS: [[Mark; 3]; 2] = [
             state: State::Locked {
                 due: 129,
                 number: 1,
-                bad: 0,
+                bad: Bad::Run(0),
                 first: 1,
             },
             items: 2,
@@ -64,7 +64,7 @@ const MARKS: [[Mark; 3]; 2] = [
             state: State::Locked {
                 due: 155,
                 number: 2,
-                bad: 0,
+                bad: Bad::Run(0),
                 first: 1,
             },
             items: 1,
@@ -74,7 +74,7 @@ const MARKS: [[Mark; 3]; 2] = [
             state: State::Locked {
                 due: 233,
                 number: 1,
-                bad: 0,
+                bad: Bad::Run(0),
                 first: 1,
             },
             items: 2,

@@ -5,7 +5,7 @@ use crate::pieces::stitching::random_cuts;
 use crate::samples::{Cuts, Sample};
 use rds_pieces::{Mark, Marks, PieceError, PieceRun, seam, speculate};
 use rds_stream::Counted;
-use rds_sync::{Items, State, Totals, run};
+use rds_sync::{Bad, Items, State, Totals, run};
 use std::alloc::{AllocError, Global};
 use std::test::Fail;
 
@@ -14,7 +14,7 @@ fn lock_at(place: u64, bad: u8) -> State {
     State::Locked {
         due: place.saturating_add(25),
         number: 1,
-        bad,
+        bad: Bad::Run(bad),
         first: 1,
     }
 }
