@@ -12,7 +12,7 @@ ghost use Rattle.rds_sync.specs.Step.{items_at, run as run_of, step};
 ghost use Rattle.rds_sync.specs.Totals.{is_group, totals_of};
 
 use rds_stream::{Counted, Recording, Tape};
-use rds_sync::{Block, Group, Item, Reached, Report, Rules, State, Step, SyncError, Totals};
+use rds_sync::{Block, Group, ItemBuffer, Items, Reached, Report, Rules, State, Step, SyncError, Totals};
 use rds_sync::{advance, decode_plain, finish, laws, run, stretch};
 use std::alloc::Global;
 
@@ -80,7 +80,7 @@ pub fn has_four_words(recording: &Recording, rules: &Rules, place: u64, group: &
 }
 
 /// The group that stands in a list of items is counted.
-pub fn groups_among(items: &[Item]) -> u64
+pub fn groups_among(items: &Items) -> u64
     requires { length items.now ≤ 2 ^ 40 }
     ensures { result ≡ count_by is_group items.now }
 {
@@ -207,12 +207,12 @@ pub fn one_stretch(
     rules: &Rules,
     place: u64,
     to: u64,
-    items: &mut Vec<Item>,
+    items: &mut ItemBuffer,
 ) -> Result<Reached, SyncError>
     requires before { place < to }
     requires within { to ≤ length recording.now }
     ensures moved { IfOk result (λ reached. (place < reached.place) × (reached.place ≤ to)) }
-    ensures items { IfOk result (λ reached. items.new.items ≡ items.old.items ++ (run_of recording.now rules.now Searching place (reached.place - place)).1) }
+    ensures items { IfOk result (λ reached. items.new ≡ items.old ++ (run_of recording.now rules.now Searching place (reached.place - place)).1) }
     ensures refused { IfErr result (λ error. error ≡ OutOfMemory) }
 {
     stretch(recording, rules, State::Searching, place, to, items)
@@ -224,9 +224,9 @@ pub fn decoded_in_two(
     recording: &Recording,
     rules: &Rules,
     middle: u64,
-) -> Result<(Vec<Item>, Vec<Item>, Option<Group>), SyncError>
+) -> Result<(Items, Items, Option<Group>), SyncError>
     requires { middle ≤ length recording.now }
-    ensures items { IfOk result (λ found. (found.0.items ++ found.1.items) ++ group_item found.2 ≡ report_items recording.now rules.now) }
+    ensures items { IfOk result (λ found. (found.0 ++ found.1) ++ group_item found.2 ≡ report_items recording.now rules.now) }
     ensures refused { IfErr result (λ error. error ≡ OutOfMemory) }
 {
     let _loss = rules.loss();
@@ -284,9 +284,9 @@ pub fn nothing_while_waiting(
     recording: &Recording,
     rules: &Rules,
     due: u64,
-) -> Result<Vec<Item>, SyncError>
+) -> Result<Items, SyncError>
     requires soon { (25 ≤ due) × (due < length recording.now) }
-    ensures { IfOk result (λ items. items.items ≡ []) }
+    ensures { IfOk result (λ items. items ≡ []) }
 {
     let _loss = rules.loss();
     laws::locks_wait();
@@ -305,10 +305,10 @@ pub fn nothing_at_first(
     alloc: Global,
     recording: &Recording,
     rules: &Rules,
-) -> Result<(State, Vec<Item>), SyncError>
+) -> Result<(State, Items), SyncError>
     requires { 51 ≤ length recording.now }
     ensures state { IfOk result (λ end. end.0 ≡ Searching) }
-    ensures items { IfOk result (λ end. end.1.items ≡ []) }
+    ensures items { IfOk result (λ end. end.1 ≡ []) }
 {
     laws::acquisitions_are_late();
     laws::searches_go_on();
@@ -344,7 +344,7 @@ pub fn report_of(
     recording: &Recording,
     rules: &Rules,
 ) -> Result<Report, SyncError>
-    ensures items { IfOk result (λ report. report.items.items ≡ report_items recording.now rules.now) }
+    ensures items { IfOk result (λ report. report.items ≡ report_items recording.now rules.now) }
     ensures totals { IfOk result (λ report. report.totals ≡ totals_of (report_items recording.now rules.now)) }
     ensures refused { IfErr result (λ error. error ≡ OutOfMemory) }
 {
