@@ -27,6 +27,7 @@ run: build/rds
 test: toolchain
 	$(RT) ci
 	tests/program.sh crates/rds/out/rds
+	tests/listings.sh crates/rds/out/rds
 	tests/refusals.sh crates/rds/out/rds
 	tests/recipes.sh crates/rds/out/rds
 

@@ -3,7 +3,8 @@
 #
 # Each allocation, read, write and start of a thread of some jobs is refused in turn, and then that one and all after it.
 # The answer has to be the job's own, or the refusal's with nothing written (with a prefix of the text, where a write is
-# refused), and never another. The calls are refused by a small library, which the C compiler makes of tests/refuse.c.
+# refused), and never another. Where a thread for rows is not started, the rows are made without it, and the answer is the
+# job's own. The calls are refused by a small library, which the C compiler makes of tests/refuse.c.
 # The last line is 'N passed, M failed', and the exit status says whether all passed.
 
 set -u
@@ -14,6 +15,7 @@ work=$(mktemp -d)
 trap 'rm -rf "$work"' EXIT
 passed=0
 failed=0
+rows=0
 declare -A tried=([alloc]=0 [read]=0 [write]=0 [thread]=0)
 
 ${CC:-cc} -O1 -shared -fPIC -o "$work/refuse.so" "$here/refuse.c" -ldl || exit 1
@@ -41,13 +43,22 @@ is_whole() { [ "$1" = 0 ] && cmp -s "$work/out" "$work/wanted"; }
 is_prefix() { cmp -s -n "$(stat -c %s "$work/out")" "$work/out" "$work/wanted"; }
 wrote_nothing() { [ ! -s "$work/out" ]; }
 
-# judge CALL STATUS: whether the last run answered as it may where such a call is refused
+# calls_of CALL WORDS..: how many such calls a job makes
+calls_of() {
+    local count
+    rm -f "$work/count"
+    run "$1" 0 "${@:2}"
+    read -r count _ <"$work/count" && echo "$count"
+}
+
+# judge CALL STATUS AT: whether the last run answered as it may where call AT of that kind is refused; the threads that are
+# started first are those of the crew
 judge() {
     case $1 in
         alloc) is_whole "$2" || { is_refusal "$2" '8 OutOfMemory' '14 NoWorker' && wrote_nothing; } ;;
         read) is_refusal "$2" '9 Read' && wrote_nothing ;;
         write) is_refusal "$2" '10 Write' && is_prefix ;;
-        thread) is_refusal "$2" '14 NoWorker' && wrote_nothing ;;
+        thread) if [ "$3" -gt "$crew" ]; then is_whole "$2"; else is_refusal "$2" '14 NoWorker' && wrote_nothing; fi ;;
     esac
 }
 
@@ -55,16 +66,14 @@ judge() {
 each() {
     local call=$1 count at status
     shift
-    rm -f "$work/count"
-    run "$call" 0 "$@"
-    count=$(cat "$work/count") || exit 1
+    count=$(calls_of "$call" "$@") || exit 1
     tried[$call]=$((tried[$call] + count))
     for at in $(seq "$count"); do
         for on in '' 1; do
             if [ -n "$on" ]; then export REFUSE_ON=1; else unset REFUSE_ON; fi
             run "$call" "$at" "$@"
             status=$?
-            if judge "$call" "$status"; then
+            if judge "$call" "$status" "$at"; then
                 passed=$((passed + 1))
             else
                 failed=$((failed + 1))
@@ -79,7 +88,15 @@ each() {
 job() {
     printf "$1" >"$work/in"
     shift
+    all_of "$@"
+}
+
+# all_of WORDS..: refuses each call of this job on the input in the work folder
+all_of() {
     "$rds" "$@" <"$work/in" >"$work/wanted" || exit 1
+    # the crew of totals is that of a list, and totals have no rows to be made by threads
+    crew=$(calls_of thread "${@/#list/totals}") || exit 1
+    rows=$((rows + $(calls_of thread "$@") - crew))
     each alloc "$@"
     each read "$@"
     each write "$@"
@@ -94,6 +111,10 @@ job "$zero" list --hex --pieces 1 --workers 1
 job "$damaged" list --hex --pieces 2 --workers 2
 job "$damaged" totals --hex --pieces 16 --workers 4
 job '0000 0000 0000 0000\n' encode --hex
+# rows for three threads
+for _ in 1 2 3 4 5 6 7; do cat "$here/../examples/station.bin"; done >"$work/in"
+all_of list --pieces 2 --workers 3
+rows=$((rows + $(calls_of thread list --pieces 2 --workers 1)))
 
 for call in "${!tried[@]}"; do
     if [ "${tried[$call]}" = 0 ]; then
@@ -101,6 +122,11 @@ for call in "${!tried[@]}"; do
         echo "FAILED: no job makes a call of the kind $call"
     fi
 done
+
+if [ "$rows" != 2 ]; then
+    failed=$((failed + 1))
+    echo "FAILED: the jobs start $rows threads for rows, and not 2"
+fi
 
 echo "$passed passed, $failed failed"
 [ "$failed" = 0 ]

@@ -54,7 +54,7 @@ fn fault(rt: &HostRuntime, kind: FaultKind, text: &str) -> CliFault {
 }
 
 /// Does the job from standard input to standard output, with the threads of its crew.
-fn run<R: Threads + Wait>(rt: &HostRuntime, crew: &R, job: &Job) -> ExitCode {
+fn run<R: Threads + Wait + Sync>(rt: &HostRuntime, crew: &R, job: &Job) -> ExitCode {
     let mut reader = FromRead::new(rt.stdin());
     let mut writer = ToWrite::new(rt.stdout());
     match transcribe(crew, rt.alloc(), &mut reader, &mut writer, job) {

@@ -69,7 +69,7 @@ fn asked_for(rt: &HostRuntime) -> Result<Option<Asked>> {
     }))
 }
 
-fn measure<T: Threads + Wait>(rt: &HostRuntime, threads: &T, asked: &Asked) -> Result<()> {
+fn measure<T: Threads + Wait + Sync>(rt: &HostRuntime, threads: &T, asked: &Asked) -> Result<()> {
     let (bits, sample) = (asked.bits, asked.sample);
     match asked.measurement.as_str() {
         "scan" => windows::measure(rt, bits),

@@ -9,7 +9,7 @@ use std::thread::Threads;
 use std::time::Instant;
 
 /// The whole way, reading and writing memory: a listing, or its totals alone.
-pub fn measure<T: Threads + Wait>(
+pub fn measure<T: Threads + Wait + Sync>(
     rt: &HostRuntime,
     threads: &T,
     bits: u64,
@@ -20,7 +20,7 @@ pub fn measure<T: Threads + Wait>(
     time_crews(rt, threads, &bytes, listing)
 }
 
-fn time_crews<T: Threads + Wait>(
+fn time_crews<T: Threads + Wait + Sync>(
     rt: &HostRuntime,
     threads: &T,
     bytes: &[u8],
@@ -37,7 +37,7 @@ fn time_crews<T: Threads + Wait>(
 }
 
 /// How many bytes the job writes of these.
-fn written_by<T: Threads + Wait>(
+fn written_by<T: Threads + Wait + Sync>(
     threads: &T,
     alloc: Global,
     bytes: &[u8],

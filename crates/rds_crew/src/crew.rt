@@ -42,7 +42,7 @@ pub fn decode_crew<R: Threads + Wait, W: Work + Sync, G: Gate + Sync>(
     gate: &G,
 ) -> Result<Report, CrewError>
     requires { IsCutting (length (W.recording work.now)) (W.places work.now) }
-    ensures items { IfOk result (λ report. report.items.items
+    ensures items { IfOk result (λ report. report.items
         ≡ report_items (W.recording work.now) (W.rule_set work.now)) }
     ensures totals { IfOk result (λ report. report.totals
         ≡ totals_of (report_items (W.recording work.now) (W.rule_set work.now))) }

@@ -1,5 +1,6 @@
 //! Tests of `rds_pieces`.
 mod cuttings;
 mod guesses;
+mod marks;
 mod seams;
 mod stitching;

@@ -7,7 +7,8 @@ use rds_code::{Offset, Reading};
 use rds_pieces::{Cutting, PieceError};
 use rds_stream::{Recording, StreamError};
 use rds_sync::{
-    Block, Group, Item, Report, Rules, State, SyncError, Totals, Version, decode_plain,
+    Block, Group, Item, ItemBuffer, Items, Report, Rules, State, SyncError, Totals, Version,
+    decode_plain,
 };
 use std::alloc::{AllocError, Global};
 use std::test::Fail;
@@ -121,7 +122,7 @@ impl Sample {
             recording,
             rules,
             report: Report {
-                items: Vec::new(alloc),
+                items: Items::new(alloc),
                 totals: NOTHING,
             },
         })
@@ -151,8 +152,7 @@ impl Sample {
 
     /// Whether that is its report.
     pub fn gives(&self, report: &Report) -> bool {
-        report.items.as_slice() == self.report.items.as_slice()
-            && report.totals == self.report.totals
+        report.items.iter().eq(self.report.items.iter()) && report.totals == self.report.totals
     }
 }
 
@@ -195,10 +195,10 @@ fn station_bytes(alloc: Global) -> Result<Vec<u8>, AllocError> {
 }
 
 /// Block 2 of the first group acquires, and the rest of it is its group; then come whole groups.
-fn items_of_zero_groups(alloc: Global, groups: u64) -> Result<Vec<Item>, AllocError>
+fn items_of_zero_groups(alloc: Global, groups: u64) -> Result<Items, AllocError>
     requires { groups < 256 }
 {
-    let mut items = Vec::new(alloc);
+    let mut items = ItemBuffer::new(alloc);
     items.push(Item::Acquired {
         place: 51,
         number: 2,
@@ -218,7 +218,7 @@ fn items_of_zero_groups(alloc: Global, groups: u64) -> Result<Vec<Item>, AllocEr
     for group in 1..groups {
         items.push(zero_group(104 * group))?;
     }
-    Ok(items)
+    items.freeze()
 }
 
 /// A whole zero group at that place.

@@ -1,9 +1,14 @@
 mod CuttingLemmas
 mod RunFacts
+mod MarkRows
 mod GuessLemmas
 mod MeetingLemmas
 mod StepLemmas
 mod SeamLemmas
+mod BesideLemmas
+mod MarkLaws
+mod WalkLemmas
 mod ReadsLemmas
+mod SmallTotals
 mod StitchLemmas
 mod RowLemmas

@@ -1,14 +1,14 @@
 -- A run that is carried over a piece beside the piece's guess, from mark to mark, until the two meet.
-use Rattle.std.proofs.Common.{◌≡◌, ◌≢◌, ℕ, ◌+◌, ◌-◌, ◌<◌, ◌≤◌, List, [], ◌++◌, length, get_or, refl, sym, ap, ap₂, ◌∙◌, subst, arith, append_assoc, append-nil, length-append, drop, inl, inr}
+use Rattle.std.proofs.Common.{◌≡◌, ◌≢◌, ℕ, ◌+◌, ◌-◌, ◌<◌, ◌≤◌, List, [], ◌++◌, length, get_or, refl, sym, ap, ap₂, ◌∙◌, subst, arith, append_assoc, append-nil, inl, inr}
 use Rattle.std.proofs.lemmas.Bool.{cases_eq, cases_lt}
-use Rattle.std.proofs.lemmas.List.{append_cancel_left, drop_at, get_or_default}
+use Rattle.std.proofs.lemmas.List.{append_cancel_left, get_or_default}
 use Rattle.rds_sync.specs.declared.state.State.{State}
 use Rattle.rds_sync.specs.declared.state.State.TheVariants.{Searching, Locked}
 use Rattle.rds_sync.specs.declared.item.Item.{Item}
 use Rattle.rds_sync.specs.Rules.{RuleNumbers}
 use Rattle.rds_sync.specs.Lawful.{IsLawful, IsBetweenGroups}
 use Rattle.rds_sync.specs.Step.{run}
-use Rattle.rds_pieces.specs.declared.run.Mark.{Mark}
+use Rattle.rds_pieces.specs.declared.mark.Mark.{Mark}
 use Rattle.rds_pieces.specs.Advance.{IsStepTo}
 use Rattle.rds_pieces.specs.Guess.{guess, mark_at, marks}
 use Rattle.rds_pieces.specs.Meeting.{MeetAt, MeetFirstAt}
@@ -267,41 +267,6 @@ module _ (b : List ℕ) (rules : RuleNumbers) (from to : ℕ) where
       pub met_first : (place mark : ℕ) (state : State) → IsCarried s0 place mark state → state ≡ (get_or found mark unread).state → IsBetweenGroups state
           → MeetFirstAt b rules s0 Searching from to place
       met_first place mark state c e between = record { here = meets_here place mark state c e between; least = c.none_yet }
-
-      -- and from there on the items and the end are the guess's
-      pub rest_is : (place mark : ℕ) (state : State) → IsCarried s0 place mark state → state ≡ (get_or found mark unread).state → IsBetweenGroups state
-          → ((own s0 to).0 ≡ (guess_at to).0) × ((own s0 to).1 ≡ (own s0 place).1 ++ drop (get_or found mark unread).items (guess_at to).1)
-      rest_is place mark state c e between =
-          let meet = meets_here place mark state c e between in
-          let i = c.inside in
-          let ours = laws.join b rules s0 from place to i.0 i.1 in
-          let theirs = laws.join b rules Searching from place to i.0 i.1 in
-          let s = said mark place i.0 i.1 c.last in
-          let tail : List Item = (run b rules (own s0 place).0 place (to - place)).1 in
-          let guessed : (guess_at to).1 ≡ (guess_at place).1 ++ tail =
-          ap (λ (r : State × List Item). r.1) theirs ∙ ap (λ (t : State). (guess_at place).1 ++ (run b rules t place (to - place)).1) (sym meet.same) in
-          let left : drop (get_or found mark unread).items (guess_at to).1 ≡ tail =
-          ap (λ (is : List Item). drop (get_or found mark unread).items is) guessed ∙ drop_at (guess_at place).1 tail (get_or found mark unread).items (sym s.count) in (
-            ap (λ (r : State × List Item). r.0) ours ∙ ap (λ (t : State). (run b rules t place (to - place)).0) meet.same ∙ sym (ap (λ (r : State × List Item). r.0) theirs),
-            ap (λ (r : State × List Item). r.1) ours ∙ ap (λ (is : List Item). (own s0 place).1 ++ is) (sym left),
-          )
-
-      pub items_met : (place mark : ℕ) (state : State) → IsCarried s0 place mark state → state ≡ (get_or found mark unread).state → IsBetweenGroups state
-          → (before items rest more : List Item) → items ≡ before ++ (own s0 place).1 → rest ≡ drop (get_or found mark unread).items (guess_at to).1 → more ≡ items ++ rest
-          → more ≡ before ++ (own s0 to).1
-      items_met place mark state c e between before items rest more is left given =
-          given ∙ ap₂ (λ (xs ys : List Item). xs ++ ys) is left
-          ∙ append_assoc before (own s0 place).1 (drop (get_or found mark unread).items (guess_at to).1)
-          ∙ ap (λ (xs : List Item). before ++ xs) (sym (rest_is place mark state c e between).1)
-
-      -- the mark does not point past the guess's items
-      pub items_within : (place mark : ℕ) (state : State) → IsCarried s0 place mark state → (get_or found mark unread).items ≤ length (guess_at to).1
-      items_within place mark state c =
-          let i = c.inside in
-          let s = said mark place i.0 i.1 c.last in
-          let l = ap (λ (r : State × List Item). length r.1) (laws.join b rules Searching from place to i.0 i.1) ∙ length-append (guess_at place).1 _ in
-          let count = s.count in
-          omega (arith, l, count)
 
       -- no meeting where it came to the end without one
       pub never_met : (mark : ℕ) (state : State) → IsCarried s0 to mark state → ¬ ((state ≡ (get_or found mark unread).state) × IsBetweenGroups state)

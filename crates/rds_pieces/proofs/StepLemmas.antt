@@ -6,7 +6,7 @@ use Rattle.rds_sync.specs.declared.state.State.TheVariants.{Searching, Locked}
 use Rattle.rds_sync.specs.declared.item.Item.{Item}
 use Rattle.rds_sync.specs.Rules.{RuleNumbers}
 use Rattle.rds_sync.specs.Step.{run, items_at}
-use Rattle.rds_pieces.specs.declared.run.Mark.{Mark}
+use Rattle.rds_pieces.specs.declared.mark.Mark.{Mark}
 use Rattle.rds_sync.specs.Advance.{next_place}
 use Rattle.rds_sync.specs.Stretch.{IsStretch}
 use Rattle.rds_pieces.specs.Guess.{guess, mark_at, marks}

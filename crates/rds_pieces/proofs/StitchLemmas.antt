@@ -6,6 +6,9 @@ use Rattle.rds_sync.specs.declared.state.State.{State}
 use Rattle.rds_sync.specs.declared.state.State.TheVariants.{Searching}
 use Rattle.rds_sync.specs.declared.item.Group.{Group}
 use Rattle.rds_sync.specs.declared.item.Item.{Item}
+use Rattle.rds_sync.specs.declared.totals.Totals.{Totals}
+use Rattle.rds_sync.specs.Counting.{IsAtMost, FitTogether}
+use Rattle.rds_sync.specs.Totals.{totals_of}
 use Rattle.rds_sync.specs.Rules.{RuleNumbers}
 use Rattle.rds_sync.specs.Ranges.{IsInRange}
 use Rattle.rds_sync.specs.Lawful.{IsLawful}
@@ -16,6 +19,7 @@ use Rattle.rds_pieces.specs.Meeting.{IsMeeting, distance}
 use Rattle.rds_pieces.specs.RunOf.{RunOf, FollowEachOther}
 use Rattle.rds_pieces.specs.RunLaws.{RunLaws}
 use Rattle.rds_pieces.specs.Seams.{seam_reads, IsSumOfReads}
+use Rattle.rds_pieces.proofs.SmallTotals.{per_bit, at_most_more, run_at_most}
 
 -- the end closes one group at most
 pub group_item-few : (g : Option Group) → length (group_item g) ≤ 1
@@ -102,6 +106,20 @@ module _ (b : List ℕ) (rules : RuleNumbers) (runs : List RunOf) where
         let l = done.few in
         omega (arith, t, f, n, m, l)
 
+    -- its totals and those before fit into one word
+    pub fits_next : RunLaws → IsInRange rules → length b ≤ 2 ^ 36 → (t u : Totals) → t ≡ totals_of items → u ≡ totals_of (run b rules state r.from (r.to - r.from)).1 → FitTogether t u
+    fits_next laws range bits t u t_is u_is =
+        let n = next_follows.1 in
+        let f = from_is in
+        let e = to_inside in (
+          per_bit * (done.place - 0),
+          per_bit * (r.to - r.from),
+          omega (arith, n, f, e, bits),
+          subst (λ (x : Totals). IsAtMost (per_bit * (done.place - 0)) x) (sym (t_is ∙ ap (λ (is : List Item). totals_of is) done.items_are))
+              (run_at_most b rules laws.readings range.burst laws.totals Searching 0 (done.place - 0)),
+          subst (λ (x : Totals). IsAtMost (per_bit * (r.to - r.from)) x) (sym u_is) (run_at_most b rules laws.readings range.burst laws.totals state r.from (r.to - r.from)),
+        )
+
     pub stitched_on : RunLaws → IsInRange rules → (after : State) (items2 : List Item) (reads2 : ℕ) (met : Option ℕ)
         → after ≡ (run b rules state r.from (r.to - r.from)).0 → items2 ≡ items ++ (run b rules state r.from (r.to - r.from)).1
         → IsMeeting b rules state Searching r.from r.to met → reads2 ≤ reads + seam_reads rules r.from r.to met → IsStitched base (k + 1) after items2 reads2
@@ -152,11 +170,11 @@ module _ (b : List ℕ) (rules : RuleNumbers) (runs : List RunOf) where
         ∙ ap (λ (n : ℕ). (run b rules Searching 0 n).1 ++ items_of_end b rules (run b rules Searching 0 n).0) bits
         ∙ laws.reports b rules loss
 
-    pub few_at_end : RunLaws → length b ≤ 2 ^ 36 → length items ≤ 2 ^ 37
-    few_at_end laws bits =
-        let e = ap (λ (is : List Item). length is) items_at_end in
-        let l = laws.few_items b rules Searching 0 (length b) (omega arith) in
-        omega (arith, e, l)
+    pub small_at_end : RunLaws → IsInRange rules → length b ≤ 2 ^ 36 → (t : Totals) → t ≡ totals_of items → IsAtMost (per_bit * 2 ^ 36) t
+    small_at_end laws range bits t t_is =
+        let most : per_bit * (length b - 0) ≤ per_bit * 2 ^ 36 = omega (arith, bits) in
+        subst (λ (x : Totals). IsAtMost (per_bit * 2 ^ 36) x) (sym (t_is ∙ ap (λ (is : List Item). totals_of is) items_at_end))
+        (at_most_more (per_bit * (length b - 0)) (per_bit * 2 ^ 36) _ most (run_at_most b rules laws.readings range.burst laws.totals Searching 0 (length b - 0)))
 
     pub lawful_at_end : IsLawful rules (length b) state
     lawful_at_end = subst (λ (p : ℕ). IsLawful rules p state) end_is done.lawful

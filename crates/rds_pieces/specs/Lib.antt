@@ -13,4 +13,8 @@ pub mod RunLaws
 pub mod Refusals
 pub mod RunInside
 pub mod Advance
+pub mod MarksOn
+pub mod Walk
+pub mod Later
+pub mod Rows
 pub mod Examples

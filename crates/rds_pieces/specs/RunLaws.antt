@@ -1,4 +1,6 @@
 -- The laws of runs that the proofs of this crate rest on: those that rds_sync promises.
+use Rattle.rds_code.specs.Laws.{ReadsByRule}
+use Rattle.rds_sync.specs.Counting.{TotalsJoin}
 use Rattle.rds_sync.specs.Laws.{RunsAreReports, RunsJoin, StepsAreLawful, RunsAreLawful, OneBitRuns, LocksWait, ItemsMarkChanges, RunsGiveFewItems}
 
 pub record RunLaws : Type 0 where
@@ -10,3 +12,5 @@ pub record RunLaws : Type 0 where
   pub wait : LocksWait
   pub changes : ItemsMarkChanges
   pub few_items : RunsGiveFewItems
+  pub totals : TotalsJoin
+  pub readings : ReadsByRule

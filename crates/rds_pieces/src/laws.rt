@@ -3,6 +3,7 @@
 ghost use Rattle.rds_pieces.specs.Laws.{PiecesAreFew, PiecesFollow, JoinedRunsFollow};
 ghost use Rattle.rds_pieces.specs.RunLaws.{RunLaws};
 
+use rds_code::laws as code_laws;
 use rds_sync::laws;
 
 /// A cutting has at most as many pieces as there are bits.
@@ -32,4 +33,6 @@ pub(crate) fn run_laws()
     laws::locks_wait();
     laws::items_mark_changes();
     laws::runs_give_few_items();
+    laws::totals_join();
+    code_laws::readings_follow_the_rule();
 }

@@ -2,18 +2,43 @@
 ghost use Rattle.std.specs.Prelude.{◌≡◌, ◌↔◌, IsTrue};
 ghost use Rattle.rds_sync.specs.Lawful.{IsBetweenGroups};
 
-use crate::run::Mark;
-use rds_sync::{Item, State};
+use crate::mark::Mark;
+use crate::marks::{MarkIter, Marks};
+use rds_sync::{ItemBuffer, Items, State, Totals};
 
 /// What a piece gives from the state that was handed in.
-#[derive(Debug, Drop)]
+#[derive(Drop)]
 pub struct Seam {
-    /// The items that the bits of the piece give, in order of place.
-    pub items: Vec<Item>,
+    /// The items that the bits of the piece give, in order of place: those before the meeting, and the guess's own from there on.
+    pub items: Items,
+    /// The totals of these items.
+    pub totals: Totals,
     /// The state after the piece's last bit.
     pub end_state: State,
     /// The least place where the run met the piece's guess, the piece's end included, if they met.
     pub met_at: Option<u64>,
+}
+
+/// How much of a guess stands up to the place where a run met it, and what is ahead.
+#[derive(Drop)]
+pub(crate) struct Passed<'a> {
+    /// How many of its items stand before that place.
+    pub items: usize,
+    /// Its marks behind that place.
+    pub ahead: MarkIter<'a>,
+}
+
+/// A run along the guess of a piece, up to where it met the guess, or to the piece's end.
+#[derive(Drop)]
+pub(crate) struct Walk<'a> {
+    /// Where it came to, and in which state.
+    pub place: u64,
+    pub state: State,
+    /// What it gave, and its marks, which count these items.
+    pub items: ItemBuffer,
+    pub marks: Marks,
+    /// What it passed of the guess, if it met it.
+    pub met: Option<Passed<'a>>,
 }
 
 /// Whether a run in this state is in that of the mark, with no group in progress.

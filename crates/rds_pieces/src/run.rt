@@ -1,6 +1,7 @@
 //! The run of a piece.
 ghost use Rattle.std.specs.Prelude.{◌≡◌, ℕ, List, ◌+◌, ◌-◌, ◌<◌, ◌≤◌, ◌^◌, IfOk, IfErr, length, drop};
 ghost use Rattle.rds_sync.specs.Ranges.{IsInRange};
+ghost use Rattle.rds_sync.specs.Totals.{totals_of};
 ghost use Rattle.rds_pieces.specs.Cutting.{IsCutting, pieces_of};
 ghost use Rattle.rds_pieces.specs.Guess.{guess, marks};
 ghost use Rattle.rds_pieces.specs.RunOf.{run_at};
@@ -9,22 +10,13 @@ ghost use Rattle.rds_pieces.specs.declared.error.PieceError.TheVariants.{OutOfMe
 use crate::cutting::Cutting;
 use crate::error::PieceError;
 use crate::laws::run_laws;
+use crate::mark::Mark;
+use crate::marks::Marks;
 use rds_stream::Recording;
-use rds_sync::{Item, Rules, State, stretch};
+use rds_sync::{ItemBuffer, Items, Rules, State, Totals, stretch};
 use std::alloc::Global;
 use std::marker::Model;
 use std::snapshot::Snapshot;
-
-/// A place of a run at which another run may meet it: the piece's first place, and each place after a bit that gave an item.
-#[derive(Clone, Copy, Debug, PartialEq, Eq)]
-pub struct Mark {
-    /// The place of the next bit.
-    pub place: u64,
-    /// The state before that bit.
-    pub state: State,
-    /// How many of the run's items stand before that bit.
-    pub items: u64,
-}
 
 /// The guess of a range of places, for the recording and the rules that it names: what a run from Searching at the range's first
 /// place gives, with its marks. Contracts see what it is a run of: the recording's bits, the rules' numbers and the range. It
@@ -37,9 +29,10 @@ pub struct PieceRun {
     loss: u32,
     from: u64,
     to: u64,
-    items: Vec<Item>,
+    items: Items,
+    counted: Totals,
     end_state: State,
-    marks: Vec<Mark>,
+    marks: Marks,
 }
 
 impl Model for PieceRun {
@@ -50,7 +43,7 @@ impl Model for PieceRun {
 
     ghost view = { λ r. run_over r.source.value (record { burst = r.burst; reach = r.reach; loss = r.loss }) r.from r.to };
 
-    ghost invariant = { λ r. IsKept (run_over r.source.value (record { burst = r.burst; reach = r.reach; loss = r.loss }) r.from r.to) r.items.items r.end_state r.marks.items };
+    ghost invariant = { λ r. IsKept (run_over r.source.value (record { burst = r.burst; reach = r.reach; loss = r.loss }) r.from r.to) r.items r.counted r.end_state r.marks };
 }
 
 impl PieceRun {
@@ -80,18 +73,26 @@ impl PieceRun {
     }
 
     /// The items that the bits of the piece give, in order of place.
-    pub fn items(&self) -> &[Item]
+    pub fn items(&self) -> &Items
         ensures { result.now ≡ (guess self.now.source self.now.rules self.now.from (self.now.to - self.now.from)).1 }
     {
-        self.items.as_slice()
+        &self.items
     }
 
-    /// The items that stand behind a mark.
-    pub(crate) fn items_after(&self, mark: &Mark) -> &[Item]
-        requires { mark.now.items ≤ length (guess self.now.source self.now.rules self.now.from (self.now.to - self.now.from)).1 }
-        ensures { result.now ≡ drop mark.now.items (guess self.now.source self.now.rules self.now.from (self.now.to - self.now.from)).1 }
+    /// The totals of these items.
+    pub fn totals(&self) -> Totals
+        ensures { result ≡ totals_of (guess self.now.source self.now.rules self.now.from (self.now.to - self.now.from)).1 }
     {
-        &self.items()[mark.items as usize..]
+        self.counted
+    }
+
+    /// The totals of the items from number `first` on: those of all, less those before, which alone are counted.
+    pub(crate) fn totals_from(&self, first: usize) -> Totals
+        requires { first ≤ length (guess self.now.source self.now.rules self.now.from (self.now.to - self.now.from)).1 }
+        ensures { result ≡ totals_of (drop first (guess self.now.source self.now.rules self.now.from (self.now.to - self.now.from)).1) }
+    {
+        run_laws();
+        self.counted.less(Totals::of_range(&self.items, 0, first))
     }
 
     /// The state after the piece's last bit.
@@ -102,10 +103,10 @@ impl PieceRun {
     }
 
     /// The marks, by rising place.
-    pub fn marks(&self) -> &[Mark]
+    pub fn marks(&self) -> &Marks
         ensures { result.now ≡ marks self.now.source self.now.rules self.now.from (self.now.to - self.now.from) }
     {
-        self.marks.as_slice()
+        &self.marks
     }
 }
 
@@ -123,10 +124,12 @@ pub fn speculate(
     ensures ok { IfOk result (λ r. r ≡ run_at rec.now rules.now cutting.now j) }
     ensures err { IfErr result (λ e. e ≡ OutOfMemory) }
 {
+    run_laws();
     let (from, to) = (cutting.from(j), cutting.to(j));
     let len = rec.len();
     prove!(to <= len);
     let (end_state, items, marks) = guess_over(alloc, rec, rules, from, to)?;
+    let counted = Totals::of(&items);
     Ok(PieceRun {
         source: Snapshot::of(rec),
         burst: rules.burst(),
@@ -135,6 +138,7 @@ pub fn speculate(
         from,
         to,
         items,
+        counted,
         end_state,
         marks,
     })
@@ -147,18 +151,18 @@ fn guess_over(
     rules: &Rules,
     from: u64,
     to: u64,
-) -> Result<(State, Vec<Item>, Vec<Mark>), PieceError>
+) -> Result<(State, Items, Marks), PieceError>
     requires range { from ≤ to }
     requires inside { to ≤ length rec.now }
     ensures state { IfOk result (λ r. r.0 ≡ (guess rec.now rules.now from (to - from)).0) }
-    ensures items { IfOk result (λ r. r.1.items ≡ (guess rec.now rules.now from (to - from)).1) }
-    ensures marks { IfOk result (λ r. r.2.items ≡ marks rec.now rules.now from (to - from)) }
+    ensures items { IfOk result (λ r. r.1 ≡ (guess rec.now rules.now from (to - from)).1) }
+    ensures marks { IfOk result (λ r. r.2 ≡ marks rec.now rules.now from (to - from)) }
     ensures err { IfErr result (λ e. e ≡ OutOfMemory) }
 {
     // Stretches in a row are one run.
     run_laws();
-    let mut items = Vec::new(alloc);
-    let mut marks = Vec::new(alloc);
+    let mut items = ItemBuffer::new(alloc);
+    let mut marks = Marks::new(alloc);
     let mut place = from;
     let mut state = State::Searching;
     marks.push(Mark {
@@ -181,5 +185,5 @@ fn guess_over(
             })?;
         }
     }
-    Ok((state, items, marks))
+    Ok((state, items.freeze()?, marks))
 }

@@ -50,7 +50,7 @@ pub trait Work {
     /// The report, from runs that follow each other from place 0 to the recording's end. Fails with `OutOfMemory` alone.
     fn report(&self, alloc: Global, runs: &[PieceRun]) -> Result<Report, PieceError>
         requires in_a_row { FollowEachOther (recording self.now) (rule_set self.now) 0 (length (recording self.now)) runs.now }
-        ensures items { IfOk result (λ report. report.items.items ≡ report_items (recording self.now) (rule_set self.now)) }
+        ensures items { IfOk result (λ report. report.items ≡ report_items (recording self.now) (rule_set self.now)) }
         ensures totals { IfOk result (λ report. report.totals ≡ totals_of (report_items (recording self.now) (rule_set self.now))) }
         ensures err { IfErr result (λ e. e ≡ OutOfMemory) };
 }

@@ -1,6 +1,6 @@
 -- Totals of a list that grows.
-use Rattle.std.proofs.Common.{◌≡◌, ℕ, ◌+◌, ◌≤◌, Bool, List, [], ◌∷◌, ◌++◌, length, get_or, refl, arith}
-use Rattle.std.specs.Prelude.{count_by, if◌then◌else◌}
+use Rattle.std.proofs.Common.{◌≡◌, ◌≢◌, ℕ, ◌+◌, ◌-◌, ◌≤◌, Bool, List, [], ◌∷◌, ◌++◌, length, get_or, refl, sym, ap, ◌∙◌, arith}
+use Rattle.std.specs.Prelude.{count_by, slice_index, if◌then◌else◌}
 use Rattle.std.proofs.lemmas.List.Sums.{sum_by-append}
 use Rattle.rds_sync.specs.declared.item.Block.{Block}
 use Rattle.rds_sync.specs.declared.item.Group.{Group}
@@ -8,7 +8,10 @@ use Rattle.rds_sync.specs.declared.item.Item.{Item}
 use Rattle.rds_sync.specs.declared.item.Item.TheVariants.{Group as GroupItem}
 use Rattle.rds_sync.specs.declared.totals.Totals.{Totals}
 use Rattle.rds_sync.specs.Totals.{totals_of, sum_blocks, count_blocks, is_valid, is_lost, is_corrected_by, bits_corrected, is_complete}
-use Rattle.rds_sync.specs.Counting.{plus, block_totals, IsAtMost}
+use Rattle.rds_sync.specs.declared.kept.Kept.{Kept}
+use Rattle.rds_sync.specs.declared.kept.Kept.TheVariants.{WithC, WithCx, Other}
+use Rattle.rds_sync.specs.Counting.{plus, whole_totals, block_totals, IsAtMost, IsRest}
+use Rattle.rds_sync.specs.Kept.{item_of}
 
 -- the totals of two lists, one after the other
 pub totals_of-append : (xs ys : List Item) → totals_of (xs ++ ys) ≡ plus (totals_of xs) (totals_of ys)
@@ -102,3 +105,69 @@ group_totals g a b c d n blocks complete t is =
           → ◌≡◌ {A = Totals} (record { valid = v; bursts = p ∷ q ∷ r ∷ s ∷ u ∷ []; lost = l; bits = i; groups = 1; complete = k; acquired = 0; losses = 0 })
           (record { valid = v2; bursts = p2 ∷ q2 ∷ r2 ∷ s2 ∷ u2 ∷ []; lost = l2; bits = i2; groups = 1; complete = k2; acquired = 0; losses = 0 })
       same h1 h2 h3 h4 h5 h6 h7 h8 h9 = cc
+
+-- totals with the same counts
+pub same_counts : {v v2 p p2 q q2 r r2 s s2 u u2 l l2 i i2 g g2 k k2 a a2 o o2 : ℕ}
+    → v ≡ v2 → p ≡ p2 → q ≡ q2 → r ≡ r2 → s ≡ s2 → u ≡ u2 → l ≡ l2 → i ≡ i2 → g ≡ g2 → k ≡ k2 → a ≡ a2 → o ≡ o2
+    → ◌≡◌ {A = Totals} (record { valid = v; bursts = p ∷ q ∷ r ∷ s ∷ u ∷ []; lost = l; bits = i; groups = g; complete = k; acquired = a; losses = o })
+    (record { valid = v2; bursts = p2 ∷ q2 ∷ r2 ∷ s2 ∷ u2 ∷ []; lost = l2; bits = i2; groups = g2; complete = k2; acquired = a2; losses = o2 })
+same_counts h1 h2 h3 h4 h5 h6 h7 h8 h9 h10 h11 h12 = cc
+
+-- two that are added come in any order
+pub plus_swap : (t u w : Totals) → plus (plus t u) w ≡ plus (plus t w) u
+plus_swap t u w =
+    same_counts (omega arith) (omega arith) (omega arith) (omega arith) (omega arith) (omega arith)
+        (omega arith) (omega arith) (omega arith) (omega arith) (omega arith) (omega arith)
+
+-- one whole group more
+pub plus_whole : (t : Totals) (n : ℕ) → plus t (whole_totals (n + 1)) ≡ plus (plus t (whole_totals n)) (whole_totals 1)
+plus_whole t n =
+    same_counts (omega arith) (omega arith) (omega arith) (omega arith) (omega arith) (omega arith)
+        (omega arith) (omega arith) (omega arith) (omega arith) (omega arith) (omega arith)
+
+-- what is kept whole counts as such
+pub whole_counts : (others : List Item) (kept : Kept) → ((number : ℕ) → kept ≢ Other number) → totals_of (item_of others kept ∷ []) ≡ whole_totals 1
+whole_counts others (WithC place words) whole = refl
+whole_counts others (WithCx place words) whole = refl
+whole_counts others (Other number) whole = absurd (whole number refl)
+
+five_numbers : (xs : List ℕ) → length xs ≡ 5 → xs ≡ slice_index xs 0 ∷ slice_index xs 1 ∷ slice_index xs 2 ∷ slice_index xs 3 ∷ slice_index xs 4 ∷ []
+five_numbers [] h = absurd (omega (arith, h))
+five_numbers (a ∷ []) h = absurd (omega (arith, h))
+five_numbers (a ∷ b ∷ []) h = absurd (omega (arith, h))
+five_numbers (a ∷ b ∷ c ∷ []) h = absurd (omega (arith, h))
+five_numbers (a ∷ b ∷ c ∷ d ∷ []) h = absurd (omega (arith, h))
+five_numbers (a ∷ b ∷ c ∷ d ∷ e ∷ []) h = refl
+five_numbers (a ∷ b ∷ c ∷ d ∷ e ∷ f ∷ xs) h = absurd (omega (arith, h))
+
+-- the rest, count by count
+pub rest_is : (part whole rest : Totals) → IsRest part whole rest
+    → ◌≡◌ {A = Totals} (record {
+      valid = whole.valid - part.valid;
+      bursts = (slice_index whole.bursts 0 - slice_index part.bursts 0) ∷ (slice_index whole.bursts 1 - slice_index part.bursts 1)
+          ∷ (slice_index whole.bursts 2 - slice_index part.bursts 2) ∷ (slice_index whole.bursts 3 - slice_index part.bursts 3)
+          ∷ (slice_index whole.bursts 4 - slice_index part.bursts 4) ∷ [];
+      lost = whole.lost - part.lost;
+      bits = whole.bits - part.bits;
+      groups = whole.groups - part.groups;
+      complete = whole.complete - part.complete;
+      acquired = whole.acquired - part.acquired;
+      losses = whole.losses - part.losses;
+    }) rest
+rest_is part whole rest is =
+    same_counts (less _ _ _ (ap (λ (t : Totals). t.valid) is.joined))
+        (less _ _ _ (ap (λ (t : Totals). slice_index t.bursts 0) is.joined))
+        (less _ _ _ (ap (λ (t : Totals). slice_index t.bursts 1) is.joined))
+        (less _ _ _ (ap (λ (t : Totals). slice_index t.bursts 2) is.joined))
+        (less _ _ _ (ap (λ (t : Totals). slice_index t.bursts 3) is.joined))
+        (less _ _ _ (ap (λ (t : Totals). slice_index t.bursts 4) is.joined))
+        (less _ _ _ (ap (λ (t : Totals). t.lost) is.joined))
+        (less _ _ _ (ap (λ (t : Totals). t.bits) is.joined))
+        (less _ _ _ (ap (λ (t : Totals). t.groups) is.joined))
+        (less _ _ _ (ap (λ (t : Totals). t.complete) is.joined))
+        (less _ _ _ (ap (λ (t : Totals). t.acquired) is.joined))
+        (less _ _ _ (ap (λ (t : Totals). t.losses) is.joined))
+    ∙ ap (λ (bursts : List ℕ). record { valid = rest.valid; bursts = bursts; lost = rest.lost; bits = rest.bits; groups = rest.groups;
+      complete = rest.complete; acquired = rest.acquired; losses = rest.losses }) (sym (five_numbers rest.bursts is.spans)) where
+      less : (a b c : ℕ) → a ≡ b + c → a - b ≡ c
+      less a b c h = omega (arith, h)

@@ -1,8 +1,9 @@
--- Totals of two lists of items together, and of one block.
-use Rattle.std.specs.Prelude.{ℕ, ◌+◌, ◌≤◌, [], ◌∷◌, slice_index, if◌then◌else◌}
+-- Totals of two lists of items together, of the rest of one, and of one block.
+use Rattle.std.specs.Prelude.{◌≡◌, ℕ, ◌+◌, ◌*◌, ◌^◌, ◌<◌, ◌≤◌, List, [], ◌∷◌, ◌++◌, length, slice_index, if◌then◌else◌}
 use Rattle.rds_sync.specs.declared.item.Block.{Block}
+use Rattle.rds_sync.specs.declared.item.Item.{Item}
 use Rattle.rds_sync.specs.declared.totals.Totals.{Totals}
-use Rattle.rds_sync.specs.Totals.{is_valid, is_lost, is_corrected_by, bits_corrected}
+use Rattle.rds_sync.specs.Totals.{totals_of, is_valid, is_lost, is_corrected_by, bits_corrected}
 
 -- each count is the sum of the two
 abbrev pub plus : Totals → Totals → Totals
@@ -17,6 +18,28 @@ plus t u = record {
   complete = t.complete + u.complete;
   acquired = t.acquired + u.acquired;
   losses = t.losses + u.losses;
+}
+
+-- the totals that, with those of a part, are those of the whole
+pub record IsRest (part whole rest : Totals) : Type 0 where
+  pub spans : length rest.bursts ≡ 5
+  pub joined : whole ≡ plus part rest
+
+-- the totals of a list are those of its first items together with those of the rest
+abbrev pub TotalsJoin : Type 0
+TotalsJoin = (first rest : List Item) → IsRest (totals_of first) (totals_of (first ++ rest)) (totals_of rest)
+
+-- the totals of so many groups of four valid blocks
+abbrev pub whole_totals : ℕ → Totals
+whole_totals n = record {
+  valid = 4 * n;
+  bursts = 0 ∷ 0 ∷ 0 ∷ 0 ∷ 0 ∷ [];
+  lost = 0;
+  bits = 0;
+  groups = n;
+  complete = n;
+  acquired = 0;
+  losses = 0;
 }
 
 -- the totals of a block alone
@@ -48,3 +71,7 @@ pub record IsAtMost (n : ℕ) (t : Totals) : Type 0 where
   pub complete : t.complete ≤ n
   pub acquired : t.acquired ≤ n
   pub losses : t.losses ≤ n
+
+-- counts so small that no sum of theirs is too great for a word of 64 bits
+abbrev pub FitTogether : Totals → Totals → Type 0
+FitTogether t u = (m : ℕ) × (n : ℕ) × (m + n < 2 ^ 64) × IsAtMost m t × IsAtMost n u

@@ -1,6 +1,7 @@
 //! The laws of runs and reports, over the definitions alone. Each function here does nothing: its contract is a law, which the
 //! check of this crate proves, and which a proof above it may cite.
 
+ghost use Rattle.rds_sync.specs.Counting.{TotalsJoin};
 ghost use Rattle.rds_sync.specs.GroupLaws.{GroupsAreRead};
 ghost use Rattle.rds_sync.specs.Laws.{RunsAreReports, RunsJoin, StepsAreLawful, RunsAreLawful, RunsMerge, OneBitRuns, LocksWait, SearchesGoOn, ItemsMarkChanges, RunsGiveFewItems, AcquisitionsAreLate};
 
@@ -62,4 +63,9 @@ pub fn acquisitions_are_late()
 /// A group says what its blocks say: their places, its type, its version, whether it is in conflict, whether it is complete.
 pub fn groups_are_read()
     ensures { GroupsAreRead }
+{}
+
+/// The totals of a list are those of its first items together with those of the rest.
+pub fn totals_join()
+    ensures { TotalsJoin }
 {}

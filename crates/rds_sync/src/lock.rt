@@ -15,6 +15,7 @@ ghost use Rattle.rds_sync.specs.declared.state.State.TheVariants.{Locked};
 use crate::error::SyncError;
 use crate::group::{GroupPart, bad_with, read_blocks};
 use crate::item::{Block, Group, Item};
+use crate::item_buffer::ItemBuffer;
 use crate::rules::Rules;
 use crate::state::State;
 use rds_code::{Reading, Wanted};
@@ -116,14 +117,14 @@ pub(crate) fn follow(
     rules: &Rules,
     lock: Lock,
     blocks: &mut [Block; 4],
-    items: &mut Vec<Item>,
+    items: &mut ItemBuffer,
 ) -> Result<Followed, SyncError>
     requires readable { IsReadable rec.now rules.now lock }
     requires within { lock.due < length rec.now }
     requires in_progress { IsInProgress rec.now rules.now lock blocks.old }
     ensures state { IfOk result (λ followed. state_of followed
         ≡ step rec.now rules.now lock.due (Locked lock.due lock.number lock.bad lock.first)) }
-    ensures items { OnOk result (items.new.items ≡ items.old.items
+    ensures items { OnOk result (items.new ≡ items.old
         ++ items_at rec.now rules.now lock.due (Locked lock.due lock.number lock.bad lock.first)) }
     ensures followed { IfOk result (IsFollowed rec.now rules.now lock blocks.new) }
     ensures only_memory { IsOkUnless result SyncError.OutOfMemory }
@@ -145,6 +146,7 @@ pub(crate) fn follow(
             first: lock.first,
         }));
     }
-    items.push(Item::Group(closed(lock, blocks)))?;
+    let place = lock.due - 26 * u64::from(lock.number - lock.first) - 25;
+    items.push_group(place, blocks)?;
     Ok(Followed::Closed(State::after_block(lock.due, 4, bad, lock.first)))
 }

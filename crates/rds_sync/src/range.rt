@@ -1,11 +1,12 @@
 //! A run over a range of a recording.
 
-ghost use Rattle.std.specs.Prelude.{◌≡◌, ◌≤◌, ◌-◌, length, IfOk, IsOkUnless};
+ghost use Rattle.std.specs.Prelude.{◌≡◌, ◌≤◌, ◌-◌, ◌++◌, length, IfOk, IsOkUnless};
 ghost use Rattle.rds_sync.specs.Lawful.{IsLawful};
 ghost use Rattle.rds_sync.specs.Step.{run};
 
 use crate::error::SyncError;
-use crate::item::Item;
+use crate::item_buffer::ItemBuffer;
+use crate::items::Items;
 use crate::rules::Rules;
 use crate::state::State;
 use crate::stretches::stretch;
@@ -24,23 +25,45 @@ pub fn run(
     state: State,
     from: u64,
     to: u64,
-) -> Result<(State, Vec<Item>), SyncError>
+) -> Result<(State, Items), SyncError>
     requires lawful { IsLawful rules.now from state }
     requires order { from ≤ to }
     requires within { to ≤ length rec.now }
     ensures state { IfOk result (λ end. end.0 ≡ (run rec.now rules.now state from (to - from)).0) }
-    ensures items { IfOk result (λ end. end.1.items
+    ensures items { IfOk result (λ end. end.1
         ≡ (run rec.now rules.now state from (to - from)).1) }
     ensures lawful { IfOk result (λ end. IsLawful rules.now to end.0) }
     ensures only_memory { IsOkUnless result SyncError.OutOfMemory }
 {
-    let mut items = Vec::new(alloc);
+    let mut items = ItemBuffer::new(alloc);
+    let end = run_onto(rec, rules, state, from, to, &mut items)?;
+    Ok((end, items.freeze()?))
+}
+
+/// The state after that run, and what it gave appended to `items`.
+pub(crate) fn run_onto(
+    rec: &Recording,
+    rules: &Rules,
+    state: State,
+    from: u64,
+    to: u64,
+    items: &mut ItemBuffer,
+) -> Result<State, SyncError>
+    requires lawful { IsLawful rules.now from state }
+    requires order { from ≤ to }
+    requires within { to ≤ length rec.now }
+    ensures state { IfOk result (λ end. end ≡ (run rec.now rules.now state from (to - from)).0) }
+    ensures items { IfOk result (λ _. items.new
+        ≡ items.old ++ (run rec.now rules.now state from (to - from)).1) }
+    ensures lawful { IfOk result (IsLawful rules.now to) }
+    ensures only_memory { IsOkUnless result SyncError.OutOfMemory }
+{
     let mut now = state;
     let mut place = from;
     while place < to {
-        let reached = stretch(rec, rules, now, place, to, &mut items)?;
+        let reached = stretch(rec, rules, now, place, to, items)?;
         now = reached.state;
         place = reached.place;
     }
-    Ok((now, items))
+    Ok(now)
 }

@@ -7,7 +7,9 @@ ghost use Rattle.rds_sync.specs.Totals.{totals_of};
 
 use crate::error::SyncError;
 use crate::item::{Group, Item};
-use crate::range::run;
+use crate::item_buffer::ItemBuffer;
+use crate::items::Items;
+use crate::range::run_onto;
 use crate::rules::Rules;
 use crate::state::State;
 use crate::step::finish;
@@ -16,10 +18,10 @@ use rds_stream::{Counted, Recording};
 use std::alloc::Global;
 
 /// What was found in a recording: its items, in order of place, and their totals.
-#[derive(Debug, Drop)]
+#[derive(Drop)]
 pub struct Report {
     /// Acquisitions, groups and losses, in order of place.
-    pub items: Vec<Item>,
+    pub items: Items,
     /// The twelve totals of these items.
     pub totals: Totals,
 }
@@ -27,22 +29,24 @@ pub struct Report {
 /// The report of a recording: the items of its locks, in order, with that of its end, and their
 /// totals. Fails with `OutOfMemory` alone.
 pub fn decode_plain(alloc: Global, rec: &Recording, rules: &Rules) -> Result<Report, SyncError>
-    ensures items { IfOk result (λ report. report.items.items ≡ report_items rec.now rules.now) }
+    ensures items { IfOk result (λ report. report.items ≡ report_items rec.now rules.now) }
     ensures totals { IfOk result (λ report. report.totals
         ≡ totals_of (report_items rec.now rules.now)) }
     ensures only_memory { IsOkUnless result SyncError.OutOfMemory }
 {
     prove!(1 <= rules.loss());
-    let (end, mut items) = run(alloc, rec, rules, State::Searching, 0, rec.len())?;
+    let mut found = ItemBuffer::new(alloc);
+    let end = run_onto(rec, rules, State::Searching, 0, rec.len(), &mut found)?;
     let mut tape = Counted::new(rec);
-    push_group(&mut items, finish(&mut tape, rules, end))?;
+    push_group(&mut found, finish(&mut tape, rules, end))?;
+    let items = found.freeze()?;
     let totals = Totals::of(&items);
     Ok(Report { items, totals })
 }
 
 /// Appends the item of the group at the recording's end, if there is one.
-fn push_group(items: &mut Vec<Item>, group: Option<Group>) -> Result<(), SyncError>
-    ensures ok { OnOk result (items.new.items ≡ items.old.items ++ group_item group) }
+fn push_group(items: &mut ItemBuffer, group: Option<Group>) -> Result<(), SyncError>
+    ensures ok { OnOk result (items.new ≡ items.old ++ group_item group) }
     ensures only_memory { IsOkUnless result SyncError.OutOfMemory }
 {
     if let Some(group) = group {

@@ -12,6 +12,7 @@ ghost use Rattle.rds_sync.specs.declared.state.State.TheVariants.{Searching, Loc
 use crate::error::SyncError;
 use crate::group::GroupPart;
 use crate::item::Item;
+use crate::item_buffer::ItemBuffer;
 use crate::lock::{Followed, Lock, blocks_before, follow};
 use crate::rules::Rules;
 use crate::state::State;
@@ -39,14 +40,14 @@ pub fn stretch(
     state: State,
     place: u64,
     to: u64,
-    items: &mut Vec<Item>,
+    items: &mut ItemBuffer,
 ) -> Result<Reached, SyncError>
     requires lawful { IsLawful rules.now place state }
     requires order { place < to }
     requires within { to ≤ length rec.now }
     ensures reached { IfOk result (λ reached. IsStretch rec.now rules.now state place to reached) }
-    ensures items { IfOk result (λ reached. items.new.items
-        ≡ items.old.items ++ (run rec.now rules.now state place (reached.place - place)).1) }
+    ensures items { IfOk result (λ reached. items.new
+        ≡ items.old ++ (run rec.now rules.now state place (reached.place - place)).1) }
     ensures only_memory { IsOkUnless result SyncError.OutOfMemory }
 {
     match state {
@@ -74,12 +75,12 @@ fn search(
     rules: &Rules,
     place: u64,
     to: u64,
-    items: &mut Vec<Item>,
+    items: &mut ItemBuffer,
 ) -> Result<Reached, SyncError>
     requires order { place < to }
     requires within { to ≤ length rec.now }
     ensures reached { IfOk result (λ reached.
-        IsStretchOnto rec.now rules.now Searching place to items.old.items reached items.new.items) }
+        IsStretchOnto rec.now rules.now Searching place to items.old reached items.new) }
     ensures only_memory { IsOkUnless result SyncError.OutOfMemory }
 {
     prove!(1 <= rules.loss() && to <= rec.len());
@@ -121,8 +122,8 @@ fn found_at(rec: &Recording, rules: &Rules, place: u64, number: u8) -> [Option<I
 }
 
 /// Appends what was found.
-fn push_found(items: &mut Vec<Item>, found: [Option<Item>; 2]) -> Result<(), SyncError>
-    ensures ok { OnOk result (items.new.items ≡ items.old.items ++ items_in found) }
+fn push_found(items: &mut ItemBuffer, found: [Option<Item>; 2]) -> Result<(), SyncError>
+    ensures ok { OnOk result (items.new ≡ items.old ++ items_in found) }
     ensures only_memory { IsOkUnless result SyncError.OutOfMemory }
 {
     let [first, second] = found;
@@ -143,14 +144,14 @@ fn keep_lock(
     lock: Lock,
     place: u64,
     to: u64,
-    items: &mut Vec<Item>,
+    items: &mut ItemBuffer,
 ) -> Result<Reached, SyncError>
     requires lawful { IsLawfulLock rules.now place lock.due lock.number lock.bad lock.first }
     requires order { place < to }
     requires within { to ≤ length rec.now }
     ensures reached { IfOk result (λ reached.
         IsStretchOnto rec.now rules.now (Locked lock.due lock.number lock.bad lock.first) place to
-        items.old.items reached items.new.items) }
+        items.old reached items.new) }
     ensures only_memory { IsOkUnless result SyncError.OutOfMemory }
 {
     let mut blocks = blocks_before(rec, rules, lock);

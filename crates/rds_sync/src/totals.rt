@@ -1,8 +1,10 @@
 //! The totals of a report.
 
-ghost use Rattle.std.specs.Prelude.{◌≡◌, ◌≤◌, ◌<◌, ◌^◌, [], ◌∷◌, length};
+ghost use Rattle.std.specs.Prelude.{◌≡◌, ◌≤◌, ◌<◌, ◌+◌, ◌-◌, ◌*◌, ◌^◌, ℕ, [], ◌∷◌, All, length, slice_range};
 
 use crate::item::{Block, Group, Item};
+use crate::items::Items;
+use crate::kept::Kept;
 use rds_code::Reading;
 
 /// Twelve counts over a list of items. Blocks that are missing are not counted.
@@ -28,9 +30,11 @@ pub struct Totals {
 
 impl Totals {
     ghost use Rattle.rds_sync.specs.Totals.{totals_of};
-    ghost use Rattle.rds_sync.specs.Counting.{plus, block_totals, IsAtMost};
+    ghost use Rattle.rds_sync.specs.Counting.{plus, whole_totals, block_totals, IsAtMost, FitTogether, IsRest};
+    ghost use Rattle.rds_sync.specs.Kept.{items_of, IsFound};
 
-    const NONE: Totals = Totals {
+    /// The totals of no items.
+    pub const NONE: Totals = Totals {
         valid: 0,
         bursts: [0; 5],
         lost: 0,
@@ -42,15 +46,60 @@ impl Totals {
     };
 
     /// The totals of a list of at most 2^40 items. Takes no memory.
-    pub fn of(items: &[Item]) -> Totals
+    pub fn of(items: &Items) -> Totals
         requires { length items.now ≤ 2 ^ 40 }
-        ensures { result ≡ totals_of items.now }
+        ensures value { result ≡ totals_of items.now }
+        ensures small { IsAtMost (2 ^ 10 * length items.now) result }
+    {
+        Totals::of_range(items, 0, items.len())
+    }
+
+    /// The totals of the items number `from` to `to` - 1, at most 2^40 of them. Takes no memory.
+    pub fn of_range(items: &Items, from: usize, to: usize) -> Totals
+        requires order { from ≤ to }
+        requires within { to ≤ length items.now }
+        requires few { to - from ≤ 2 ^ 40 }
+        ensures value { result ≡ totals_of (slice_range items.now from to) }
+        ensures small { IsAtMost (2 ^ 10 * (to - from)) result }
     {
         let mut totals = Totals::NONE;
-        for item in items {
-            totals = totals.plus(Totals::of_item(item));
+        let mut rest = items.range(from, to);
+        while let Some((kept, others)) = rest.next_kept() {
+            totals = totals.plus(Totals::of_kept(kept, others));
         }
         totals
+    }
+
+    /// The totals of these items as they are kept beside these others. A whole group is counted, and not looked into.
+    fn of_kept(kept: &[Kept], others: &[Item]) -> Totals
+        requires found { All (IsFound others.now) kept.now }
+        requires few { length kept.now ≤ 2 ^ 40 }
+        ensures value { result ≡ totals_of (items_of others.now kept.now) }
+        ensures small { IsAtMost (2 ^ 10 * length kept.now) result }
+    {
+        let mut whole = 0u64;
+        let mut totals = Totals::NONE;
+        for one in kept {
+            match *one {
+                Kept::Other { number } => { totals = totals.plus(Totals::of_item(&others[number])) }
+                _ => whole += 1,
+            }
+        }
+        totals.plus(Totals::of_whole(whole))
+    }
+
+    /// The totals of so many groups of four valid blocks.
+    fn of_whole(groups: u64) -> Totals
+        requires { groups ≤ 2 ^ 40 }
+        ensures value { result ≡ whole_totals groups }
+        ensures small { IsAtMost (4 * groups) result }
+    {
+        Totals {
+            valid: 4 * groups,
+            groups,
+            complete: groups,
+            ..Totals::NONE
+        }
     }
 
     fn of_item(item: &Item) -> Totals
@@ -117,11 +166,11 @@ impl Totals {
         }
     }
 
-    /// The totals of two lists, one after the other.
-    fn plus(self, other: Totals) -> Totals
-        requires self_small { IsAtMost (2 ^ 60) self }
-        requires other_small { IsAtMost (2 ^ 60) other }
-        ensures { result ≡ plus self other }
+    /// The totals of two lists, one after the other, whose counts are not too great for that.
+    pub fn plus(self, other: Totals) -> Totals
+        requires { FitTogether self other }
+        ensures value { result ≡ plus self other }
+        ensures small { (m n : ℕ) → IsAtMost m self → IsAtMost n other → IsAtMost (m + n) result }
     {
         Totals {
             valid: self.valid + other.valid,
@@ -138,6 +187,30 @@ impl Totals {
             complete: self.complete + other.complete,
             acquired: self.acquired + other.acquired,
             losses: self.losses + other.losses,
+        }
+    }
+
+    /// The totals of the rest of a list, these being those of all of it and `part` those of its first items.
+    pub fn less(self, part: Totals) -> Totals
+        requires { (rest : Totals) × IsRest part self rest }
+        ensures value { (rest : Totals) → IsRest part self rest → result ≡ rest }
+        ensures small { (n : ℕ) → IsAtMost n self → IsAtMost n result }
+    {
+        Totals {
+            valid: self.valid - part.valid,
+            bursts: [
+                self.bursts[0] - part.bursts[0],
+                self.bursts[1] - part.bursts[1],
+                self.bursts[2] - part.bursts[2],
+                self.bursts[3] - part.bursts[3],
+                self.bursts[4] - part.bursts[4],
+            ],
+            lost: self.lost - part.lost,
+            bits: self.bits - part.bits,
+            groups: self.groups - part.groups,
+            complete: self.complete - part.complete,
+            acquired: self.acquired - part.acquired,
+            losses: self.losses - part.losses,
         }
     }
 }

@@ -8,3 +8,4 @@ pub mod Texts
 pub mod Cuttings
 pub mod Passing
 pub mod Reading
+pub mod Gathering

@@ -1,6 +1,6 @@
 -- A refusal that `?` passes on.
 use Rattle.std.proofs.Common.{◌≡◌, Err, Ok, Result, ap, subst, sym}
-use Rattle.std.specs.Prelude.{IfErr}
+use Rattle.std.specs.Prelude.{IfErr, OnErr}
 use Rattle.std.specs.Result.{IsErr, IsErrAnd}
 use Rattle.rds_tool.specs.declared.error.ToolError.{ToolError}
 
@@ -15,3 +15,8 @@ passed_kind r e k p q = cc
 -- and what holds of it holds of the answer
 pub passes : {T : Type 0} (r : Result T ToolError) (e : ToolError) (P : ToolError → Type 0) → IsErr r × IsErrAnd r (λ x. x ≡ e) → P e → IfErr r P
 passes r e P h p = subst (λ x. IfErr x P) (sym (passed r e h)) p
+
+-- what holds in any case holds where there is an error
+pub on_any_err : {T E P : Type 0} (r : Result T E) → P → OnErr r P
+on_any_err (Ok x) p = tt
+on_any_err (Err e) p = p

@@ -1,6 +1,6 @@
 -- The texts of the tasks, and what they can't be refused for.
 use Rattle.std.proofs.Common.{◌↔◌, ◌||◌, arith, ◌++◌, ◌∙◌, ◌*◌, ◌^◌, length, not, nat_lt, ◌≡◌, ◌<◌, ◌≢◌, ◌⊎◌, Bool, Err, List, None, Ok, Option, Result, Some, [], ◌∷◌, ap, ap₂, false, if◌then◌else◌, inl, inr, refl, subst, sym, true, ℕ}
-use Rattle.std.specs.Prelude.{IfErr, IfOk, IfSome, OnErr}
+use Rattle.std.specs.Prelude.{IfErr, IfOk, IfSome, OnErr, OnOk}
 use Rattle.std.specs.List.{filter}
 use Rattle.hex.specs.Hex.{decode_of, decode_sized}
 use Rattle.rds_stream.specs.Recording.{bits_of}
@@ -8,7 +8,7 @@ use Rattle.hex.specs.declared.error.FromHexError.{FromHexError}
 use Rattle.rds_sync.specs.Report.{report_items}
 use Rattle.rds_sync.specs.Rules.{RuleNumbers}
 use Rattle.rds_sync.specs.Totals.{totals_of}
-use Rattle.rds_sync.specs.declared.item.Item.{Item}
+use Rattle.rds_sync.specs.declared.report.Report.{Report}
 use Rattle.rds_sync.specs.declared.totals.Totals.{Totals as TotalsOf}
 use Rattle.rds_tool.specs.Cuts.{cuts_bits, has_pieces}
 use Rattle.rds_tool.specs.GroupText.{line_text, lines_of, lines_text, words_of, words_or_refusal, group_text}
@@ -35,21 +35,26 @@ module _ (input : Input) (plan : PlanOf) (held bits : List ℕ) where
   cut : recording_of input held ≡ Ok bits → cut_by plan.cuts bits ≡ Ok bits → cut_recording input plan.cuts held ≡ Ok bits
   cut recorded fits = ap (λ r. and_then r (cut_by plan.cuts)) recorded ∙ fits
 
-  pub list_made : (t : Task) (items : List Item) (totals : TotalsOf) (text : List ℕ)
-      → t ≡ task.List input plan → recording_of input held ≡ Ok bits → cut_by plan.cuts bits ≡ Ok bits → items ≡ report_items bits plan.rules
-      → totals ≡ totals_of (report_items bits plan.rules) → text ≡ report_text items totals → text_of_task t held ≡ Ok text
-  list_made t items totals text is recorded fits i o made =
-      ap (λ k. text_of_task k held) is
-      ∙ ap (λ r. and_then r (λ b. Ok (list_text plan.rules b))) (cut recorded fits)
-      ∙ ap (λ x. Ok x) (ap₂ report_text (sym i) (sym o) ∙ sym made)
+  list_made : (report : Report) → cut_recording input plan.cuts held ≡ Ok bits → report.items ≡ report_items bits plan.rules
+      → report.totals ≡ totals_of (report_items bits plan.rules) → text_of_task (task.List input plan) held ≡ Ok (report_text report.items report.totals)
+  list_made report fits i o = ap (λ r. and_then r (λ b. Ok (list_text plan.rules b))) fits ∙ ap (λ x. Ok x) (ap₂ report_text (sym i) (sym o))
 
-  pub totals_made : (t : Task) (totals : TotalsOf) (text : List ℕ)
-      → t ≡ task.Totals input plan → recording_of input held ≡ Ok bits → cut_by plan.cuts bits ≡ Ok bits → totals ≡ totals_of (report_items bits plan.rules)
-      → text ≡ totals_text totals → text_of_task t held ≡ Ok text
-  totals_made t totals text is recorded fits o made =
-      ap (λ k. text_of_task k held) is
-      ∙ ap (λ r. and_then r (λ b. Ok (totals_list plan.rules b))) (cut recorded fits)
-      ∙ ap (λ x. Ok x) (ap totals_text (sym o) ∙ sym made)
+  totals_made : (report : Report) → cut_recording input plan.cuts held ≡ Ok bits → report.totals ≡ totals_of (report_items bits plan.rules)
+      → text_of_task (task.Totals input plan) held ≡ Ok (totals_text report.totals)
+  totals_made report fits o = ap (λ r. and_then r (λ b. Ok (totals_list plan.rules b))) fits ∙ ap (λ x. Ok (totals_text x)) (sym o)
+
+  -- the texts that a report stands for, if it was made
+  pub list_if_made : (r : Result Report ToolError) → recording_of input held ≡ Ok bits → OnOk r (cut_by plan.cuts bits ≡ Ok bits)
+      → IfOk r (λ report. report.items ≡ report_items bits plan.rules) → IfOk r (λ report. report.totals ≡ totals_of (report_items bits plan.rules))
+      → IfOk r (λ report. text_of_task (task.List input plan) held ≡ Ok (report_text report.items report.totals))
+  list_if_made (Ok report) recorded fits i o = list_made report (cut recorded fits) i o
+  list_if_made (Err e) recorded fits i o = tt
+
+  pub totals_if_made : (r : Result Report ToolError) → recording_of input held ≡ Ok bits → OnOk r (cut_by plan.cuts bits ≡ Ok bits)
+      → IfOk r (λ report. report.totals ≡ totals_of (report_items bits plan.rules))
+      → IfOk r (λ report. text_of_task (task.Totals input plan) held ≡ Ok (totals_text report.totals))
+  totals_if_made (Ok report) recorded fits o = totals_made report (cut recorded fits) o
+  totals_if_made (Err e) recorded fits o = tt
 
 pub totals_counted : (totals : TotalsOf) (work bits : List ℕ) (given rules : RuleNumbers)
     → totals ≡ totals_of (report_items work given) → work ≡ bits → given ≡ rules → totals ≡ totals_of (report_items bits rules)

@@ -11,3 +11,4 @@ pub mod Listing
 pub mod GroupText
 pub mod Outcome
 pub mod RowWriter
+pub mod Texts

@@ -28,9 +28,10 @@ const CHUNK: usize = 65_536;
 /// `BadCutting` for no piece), before anything is read, those of the reader (`Read`, `TooManyTurns`), those of the job and
 /// the bytes (`HexText`, `TooLong`, `BitsPastBytes`, `BadCutting`, or `GroupText`), `NoWorker`, where more than one worker
 /// is asked for and the system started no thread for one, and those of the writer (`Write`). `OutOfMemory` may come wherever
-/// memory is taken. The text is complete before its first byte is written, and no thread outlives the call. Reader and writer
-/// have counted fewer than 2^63 failures before.
-pub fn transcribe<R: Threads + Wait, S: Source, K: Sink>(
+/// memory is taken. The rows of a list are made by as many threads as well, and without one that is not started. The text is
+/// complete before its first byte is written, and no thread outlives the call. Reader and writer have counted fewer than 2^63
+/// failures before.
+pub fn transcribe<R: Threads + Wait + Sync, S: Source, K: Sink>(
     rt: &R,
     alloc: Global,
     reader: &mut S,
@@ -63,7 +64,7 @@ pub fn transcribe<R: Threads + Wait, S: Source, K: Sink>(
 }
 
 /// [`transcribe`] with a gate, which the crew of a list or of totals calls round each piece.
-pub fn transcribe_gated<R: Threads + Wait, S: Source, K: Sink, G: Gate + Sync>(
+pub fn transcribe_gated<R: Threads + Wait + Sync, S: Source, K: Sink, G: Gate + Sync>(
     rt: &R,
     alloc: Global,
     reader: &mut S,
@@ -89,7 +90,7 @@ pub fn transcribe_gated<R: Threads + Wait, S: Source, K: Sink, G: Gate + Sync>(
     let task = Task::of(alloc, job)?;
     let held = read_all(alloc, reader)?;
     let text = task.text(rt, alloc, held, gate)?;
-    write_all(writer, text.as_slice())
+    text.write_to(writer)
 }
 
 /// All bytes of the reader, to its end.
@@ -142,26 +143,4 @@ fn zeros(alloc: Global, len: usize) -> Result<Vec<u8>, AllocError>
     ensures { IfOk result (λ v. length v.items ≡ len) }
 {
     vec![in alloc; 0u8; len]
-}
-
-/// Writes the whole text, and flushes.
-fn write_all<K: Sink>(writer: &mut K, text: &[u8]) -> Result<(), ToolError>
-    requires { K.failed writer.old < 2 ^ 63 }
-    ensures ok { OnOk result (Appends (K.contents writer.old) (K.contents writer.new) text.now) }
-    ensures write { IsErrOf result ToolError.Write ↔ (K.failed writer.old < K.failed writer.new) }
-    ensures kinds { IfErr result (λ error. error ≡ ToolError.Write) }
-    ensures prefix { OnErr result (WritesPrefix (K.contents writer.old) (K.contents writer.new) (Ok text.now)) }
-{
-    let mut at = 0;
-    while at < text.len() {
-        match writer.write(&text[at..]) {
-            Ok(0) => return Err(ToolError::Write),
-            Ok(count) => at += count,
-            Err(Failed) => return Err(ToolError::Write),
-        }
-    }
-    match writer.flush() {
-        Ok(()) => Ok(()),
-        Err(Failed) => Err(ToolError::Write),
-    }
 }

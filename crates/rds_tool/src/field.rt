@@ -61,10 +61,26 @@ impl Field {
         ensures value { result ≡ word_text offset info }
         ensures short { length result ≤ 7 }
     {
-        let mut field = Field::of(offset.name().as_bytes());
-        field.push(b':');
-        field.push_all(&four_digits(info));
-        field
+        match offset.name().as_bytes() {
+            [letter] => Field::of_letter(*letter, info),
+            name => {
+                let mut field = Field::of(name);
+                field.push(b':');
+                field.push_all(&four_digits(info));
+                field
+            }
+        }
+    }
+
+    // The same where the offset has one letter, at one stroke: most blocks are such.
+    fn of_letter(letter: u8, info: u16) -> Field
+        ensures { result ≡ letter ∷ 58 ∷ hex_digits 4 info }
+    {
+        let [one, two, three, four] = four_digits(info);
+        Field {
+            bytes: [letter, b':', one, two, three, four, 0, 0, 0, 0, 0, 0, 0, 0, 0, 0],
+            len: 6,
+        }
     }
 
     fn of(bytes: &[u8]) -> Field

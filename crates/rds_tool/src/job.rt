@@ -31,7 +31,8 @@ pub struct Settings {
     pub reach: u32,
     /// After how many blocks in a row that are not valid the lock is lost: 1 to 64.
     pub loss: u32,
-    /// By how many threads at most the pieces are decoded: 1 to 256. The listing doesn't depend on it.
+    /// By how many threads at most the pieces are decoded, and the rows of a list made: 1 to 256. The listing doesn't depend
+    /// on it.
     pub workers: u32,
     /// Where the recording is cut into pieces, each of which is decoded by one thread.
     pub cuts: Cuts,

@@ -49,6 +49,8 @@ mod listing;
 mod plan;
 mod rows;
 mod task;
+mod text;
+mod threaded;
 
 pub use cli::{CliFault, FaultKind, job_of};
 pub use devices::{Failed, FromRead, Sink, Source, ToWrite};

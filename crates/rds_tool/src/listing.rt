@@ -1,18 +1,24 @@
 //! The text of a listing, row by row. No row takes memory but for the text that it adds to.
-ghost use Rattle.std.specs.Prelude.{◌++◌, ◌≡◌, IfErr, IfOk, OnOk};
+ghost use Rattle.std.specs.Prelude.{◌++◌, ◌-◌, ◌<◌, ◌≡◌, ◌≤◌, IfErr, IfOk, OnOk, drop, length, take};
 ghost use Rattle.std.specs.List.{All, flat_map};
 ghost use Rattle.rds_tool.specs.Listing.{item_row, kind_text, report_text, total_row, totals_text, version_text, window_row};
 ghost use Rattle.rds_tool.specs.RowWriter.{IsBetween, IsPlain, text_of};
 
 use crate::ToolError;
 use crate::field::Field;
-use crate::rows::{Rows, no_rows, push_row, text_of_rows};
+use crate::rows::{Rows, no_rows, push_row, rows_in_room, text_of_rows};
+use crate::text::Text;
+use crate::threaded::item_texts;
 use itoa::Buffer;
 use rds_code::Offset;
-use rds_sync::{Group, Item, Report, Totals, Version};
+use rds_sync::{Group, Item, Items, Report, Totals, Version};
 use std::alloc::Global;
+use std::thread::Threads;
 
 const DASH: &[u8] = b"-";
+
+/// How many bytes the row of a whole group has, of a recording of a day or so.
+const USUAL_ROW: usize = 49;
 
 /// The rows of valid windows.
 pub fn window_rows(alloc: Global, windows: &[(u64, Offset)]) -> Result<Vec<u8>, ToolError>
@@ -26,16 +32,39 @@ pub fn window_rows(alloc: Global, windows: &[(u64, Offset)]) -> Result<Vec<u8>, 
     text_of_rows(rows)
 }
 
-/// The rows of a report: its items, and then its totals.
-pub fn report_rows(alloc: Global, report: &Report) -> Result<Vec<u8>, ToolError>
-    ensures rows { IfOk result (λ text. text.items ≡ report_text report.now.items.items report.now.totals) }
+/// The listing of a report: the rows of its items, made by at most so many threads, and then those of its totals.
+pub fn report_rows<R: Threads + Sync>(
+    rt: &R,
+    alloc: Global,
+    report: &Report,
+    workers: u32,
+) -> Result<Text, ToolError>
+    requires { 0 < workers }
+    ensures rows { IfOk result (λ text. text ≡ report_text report.now.items report.now.totals) }
     ensures refused { IfErr result (λ error. error ≡ ToolError.OutOfMemory) }
 {
-    let mut rows = no_rows(alloc);
-    for item in report.items.iter() {
-        push_item(&mut rows, item)?;
+    let front = item_texts(rt, alloc, &report.items, workers)?;
+    let last = totals_rows(alloc, &report.totals)?;
+    Ok(Text::new(front, last))
+}
+
+/// The rows of the items from one number up to another.
+pub fn item_rows(
+    alloc: Global,
+    items: &Items,
+    from: usize,
+    to: usize,
+) -> Result<Vec<u8>, ToolError>
+    requires order { from ≤ to }
+    requires inside { to ≤ length items.now }
+    ensures rows { IfOk result (λ text. text.items ≡ flat_map item_row (take (to - from) (drop from items.now))) }
+    ensures refused { IfErr result (λ error. error ≡ ToolError.OutOfMemory) }
+{
+    let room = (to - from).saturating_mul(USUAL_ROW);
+    let mut rows = rows_in_room(alloc, room)?;
+    for item in items.range(from, to) {
+        push_item(&mut rows, &item)?;
     }
-    push_totals(&mut rows, &report.totals)?;
     text_of_rows(rows)
 }
 

@@ -61,6 +61,14 @@ impl<'a> Plan<'a> {
         }
     }
 
+    /// By how many threads at most the work is done.
+    pub fn workers(&self) -> u32
+        ensures value { result ≡ self.now.workers }
+        ensures some { 0 < result }
+    {
+        self.workers
+    }
+
     /// The report of the recording, made by the crew piece by piece.
     pub fn report<R: Threads + Wait, G: Gate + Sync>(
         &self,
@@ -69,7 +77,7 @@ impl<'a> Plan<'a> {
         recording: &Recording,
         gate: &G,
     ) -> Result<Report, ToolError>
-        ensures items { IfOk result (λ report. report.items.items ≡ report_items recording.now self.now.rules) }
+        ensures items { IfOk result (λ report. report.items ≡ report_items recording.now self.now.rules) }
         ensures totals { IfOk result (λ report. report.totals ≡ totals_of (report_items recording.now self.now.rules)) }
         ensures fits { OnOk result (cut_by self.now.cuts recording.now ≡ Ok recording.now) }
         ensures refused { IfErr result (λ error. (error ≡ ToolError.OutOfMemory) ⊎ ((error ≡ ToolError.NoWorker)

@@ -19,6 +19,16 @@ pub fn no_rows(alloc: Global) -> Rows
     WriterBuilder::new().from_writer(Vec::new(alloc))
 }
 
+/// No row yet, and room for so many bytes of rows. There may be more bytes than that.
+pub fn rows_in_room(alloc: Global, room: usize) -> Result<Rows, ToolError>
+    ensures between { IfOk result IsBetween }
+    ensures text { IfOk result (λ rows. text_of rows ≡ []) }
+    ensures refused { IfErr result (λ error. error ≡ ToolError.OutOfMemory) }
+{
+    let text = Vec::with_capacity(alloc, room)?;
+    Ok(WriterBuilder::new().from_writer(text))
+}
+
 /// One row more, of two or more fields that need no quotes.
 pub fn push_row(rows: &mut Rows, fields: &[&[u8]]) -> Result<(), ToolError>
     requires between { IsBetween rows.old }

@@ -1,13 +1,18 @@
 //! A job whose settings were looked at.
-ghost use Rattle.std.specs.Prelude.{◌≡◌, ◌⊎◌, Err, IfErr, IfOk, Ok};
+ghost use Rattle.std.specs.Prelude.{◌<◌, ◌≡◌, ◌⊎◌, Err, IfErr, IfOk, Ok};
+ghost use Rattle.rds_tool.specs.Listing.{report_text, totals_text};
+ghost use Rattle.rds_tool.specs.Outcome.{cut_recording, text_of_task};
+ghost use Rattle.rds_tool.specs.declared.task.Task.TheVariants as task;
 
 use crate::encode::encode_lines;
 use crate::input::recording_of;
 use crate::listing::{report_rows, totals_rows, window_rows};
 use crate::plan::Plan;
+use crate::text::Text;
 use crate::{Input, Job, ToolError};
 use rds_crew::Gate;
 use rds_stream::scan;
+use rds_sync::Report;
 use std::alloc::Global;
 use std::sync::Wait;
 use std::thread::Threads;
@@ -22,7 +27,6 @@ pub enum Task<'a> {
 }
 
 impl<'a> Task<'a> {
-    ghost use Rattle.rds_tool.specs.Outcome.{text_of_task};
     ghost use Rattle.rds_tool.specs.Tasks.{MayStartThreads, task_of};
 
     /// The task of a job. A setting out of its range is refused as such, whether or not there is memory.
@@ -40,14 +44,14 @@ impl<'a> Task<'a> {
     }
 
     /// The text that the task makes of the bytes that a reader held. A crew calls the gate.
-    pub fn text<R: Threads + Wait, G: Gate + Sync>(
+    pub fn text<R: Threads + Wait + Sync, G: Gate + Sync>(
         &self,
         rt: &R,
         alloc: Global,
         held: Vec<u8>,
         gate: &G,
-    ) -> Result<Vec<u8>, ToolError>
-        ensures ok { IfOk result (λ text. text_of_task self.now held.items ≡ Ok text.items) }
+    ) -> Result<Text, ToolError>
+        ensures ok { IfOk result (λ text. text_of_task self.now held.items ≡ Ok text) }
         ensures refused { IfErr result (λ error. (error ≡ ToolError.OutOfMemory) ⊎ (((error ≡ ToolError.NoWorker) × MayStartThreads self.now)
             ⊎ (text_of_task self.now held.items ≡ Err error))) }
     {
@@ -55,19 +59,40 @@ impl<'a> Task<'a> {
             Task::Scan(input) => {
                 let recording = recording_of(alloc, input, held)?;
                 let windows = scan(alloc, &recording, 0, recording.len())?;
-                window_rows(alloc, windows.as_slice())
+                let rows = window_rows(alloc, windows.as_slice())?;
+                Ok(Text::whole(alloc, rows))
             }
             Task::List(input, plan) => {
-                let recording = recording_of(alloc, input, held)?;
-                let report = plan.report(rt, alloc, &recording, gate)?;
-                report_rows(alloc, &report)
+                let report = report_of(rt, alloc, input, plan, held, gate)?;
+                report_rows(rt, alloc, &report, plan.workers())
             }
             Task::Totals(input, plan) => {
-                let recording = recording_of(alloc, input, held)?;
-                let report = plan.report(rt, alloc, &recording, gate)?;
-                totals_rows(alloc, &report.totals)
+                let report = report_of(rt, alloc, input, plan, held, gate)?;
+                let rows = totals_rows(alloc, &report.totals)?;
+                Ok(Text::whole(alloc, rows))
             }
-            Task::Encode { hex } => encode_lines(alloc, *hex, held.as_slice()),
+            Task::Encode { hex } => {
+                let blocks = encode_lines(alloc, *hex, held.as_slice())?;
+                Ok(Text::whole(alloc, blocks))
+            }
         }
     }
+}
+
+/// The report of the recording that the bytes give. They are dropped with it, so that no text is made beside them.
+fn report_of<R: Threads + Wait, G: Gate + Sync>(
+    rt: &R,
+    alloc: Global,
+    input: &Input,
+    plan: &Plan<'_>,
+    held: Vec<u8>,
+    gate: &G,
+) -> Result<Report, ToolError>
+    ensures list { IfOk result (λ report. text_of_task (task.List input.now plan.now) held.items ≡ Ok (report_text report.items report.totals)) }
+    ensures totals { IfOk result (λ report. text_of_task (task.Totals input.now plan.now) held.items ≡ Ok (totals_text report.totals)) }
+    ensures refused { IfErr result (λ error. (error ≡ ToolError.OutOfMemory) ⊎ (((error ≡ ToolError.NoWorker) × (1 < plan.now.workers))
+        ⊎ (cut_recording input.now plan.now.cuts held.items ≡ Err error))) }
+{
+    let recording = recording_of(alloc, input, held)?;
+    plan.report(rt, alloc, &recording, gate)
 }

@@ -105,7 +105,7 @@ const TWO_WORKERS: Crew = Crew {
 };
 
 /// Whether a list of the two groups by two workers at this gate gives its text.
-fn lists_at<R: Threads + Wait, G: Gate + Sync>(rt: &R, alloc: Global, gate: &G) -> bool {
+fn lists_at<R: Threads + Wait + Sync, G: Gate + Sync>(rt: &R, alloc: Global, gate: &G) -> bool {
     match TWO_WORKERS.list(alloc) {
         Ok(job) => gives_at(rt, alloc, &job, gate),
         Err(AllocError) => false,
@@ -113,7 +113,7 @@ fn lists_at<R: Threads + Wait, G: Gate + Sync>(rt: &R, alloc: Global, gate: &G) 
 }
 
 /// Whether the job at this gate gives the list of the two groups.
-fn gives_at<R: Threads + Wait, G: Gate + Sync>(rt: &R, alloc: Global, job: &Job, gate: &G) -> bool {
+fn gives_at<R: Threads + Wait + Sync, G: Gate + Sync>(rt: &R, alloc: Global, job: &Job, gate: &G) -> bool {
     let mut reader = FromRead::new(DIGITS.as_bytes());
     let mut writer = ToWrite::new(Vec::new(alloc));
     let answer = transcribe_gated(rt, alloc, &mut reader, &mut writer, job, gate);
@@ -214,7 +214,7 @@ fn refuses_cuttings_before_or_after_reading(rt: HostRuntime) {
 }
 
 /// Whether a list is refused so after so many reads, of which the second fails.
-fn refuses_after<R: Threads + Wait>(
+fn refuses_after<R: Threads + Wait + Sync>(
     rt: &R,
     alloc: Global,
     crew: &Crew<'_>,

@@ -173,7 +173,7 @@ impl Write for Withholding {
 }
 
 /// Whether a job over this reader writes this text, or is refused so with nothing written.
-pub fn gives<R: Threads + Wait, S: Source>(
+pub fn gives<R: Threads + Wait + Sync, S: Source>(
     rt: &R,
     alloc: Global,
     job: &Job,
@@ -189,7 +189,7 @@ pub fn gives<R: Threads + Wait, S: Source>(
 }
 
 /// Whether a job over an input in memory writes this text, or is refused so with nothing written.
-pub fn gives_for<R: Threads + Wait>(
+pub fn gives_for<R: Threads + Wait + Sync>(
     rt: &R,
     alloc: Global,
     job: &Job,

@@ -87,7 +87,7 @@ struct Ending<'a> {
 
 impl Ending<'_> {
     /// Whether a scan ends so where devices give and take so many bytes a call, and the writer fails so.
-    fn comes_of<R: Threads + Wait>(
+    fn comes_of<R: Threads + Wait + Sync>(
         &self,
         rt: &R,
         alloc: Global,
@@ -112,7 +112,7 @@ fn a_flush_reaches_the_writer_of_std(rt: HostRuntime) {
 }
 
 /// Whether a scan to a writer of std that waits for its flush is answered so, and so many bytes are handed on.
-fn hands_on<R: Threads + Wait>(
+fn hands_on<R: Threads + Wait + Sync>(
     rt: &R,
     alloc: Global,
     flush_fails: bool,
@@ -151,7 +151,7 @@ fn a_reader_without_an_end_is_left(rt: HostRuntime) -> Result<(), Fail> {
 }
 
 /// Whether a reader that gives so many of these bytes a read is answered so, after so many reads of 64 KiB.
-fn is_read<R: Threads + Wait>(
+fn is_read<R: Threads + Wait + Sync>(
     rt: &R,
     alloc: Global,
     bytes: &[u8],

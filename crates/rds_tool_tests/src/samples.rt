@@ -105,7 +105,7 @@ pub const A_BURST: Sample = sample!(
 
 impl Sample {
     /// Whether its list and its totals are its texts, in such pieces and by so many workers.
-    pub fn is_given<R: Threads + Wait>(
+    pub fn is_given<R: Threads + Wait + Sync>(
         &self,
         rt: &R,
         alloc: Global,
@@ -158,7 +158,7 @@ impl Crew<'_> {
     }
 
     /// Whether a list of these digits gives the one, and their totals the other.
-    pub fn gives<R: Threads + Wait>(
+    pub fn gives<R: Threads + Wait + Sync>(
         &self,
         rt: &R,
         alloc: Global,
@@ -194,7 +194,7 @@ impl Crew<'_> {
 }
 
 /// Whether there was memory for the job, and the digits give this.
-fn job_gives<R: Threads + Wait>(
+fn job_gives<R: Threads + Wait + Sync>(
     rt: &R,
     alloc: Global,
     job: Result<Job, AllocError>,

@@ -105,8 +105,8 @@ fn guesses_between(alloc: Global, sample: &Sample) -> Result<Vec<PieceRun>, Piec
 fn have_marks(runs: &[PieceRun]) -> bool {
     match runs {
         [first, second] => {
-            first.marks() == MARKS[0].as_slice()
-                && second.marks() == MARKS[1].as_slice()
+            first.marks().iter().eq(MARKS[0].iter().copied())
+                && second.marks().iter().eq(MARKS[1].iter().copied())
                 && first.items().len() == 2
                 && second.items().len() == 2
         }
@@ -127,7 +127,7 @@ fn second_is_kept(runs: &[PieceRun]) -> bool {
         [_, run] => {
             run.from() == 104
                 && run.to() == 208
-                && run.items().first() == Some(&ACQUIRED)
+                && run.items().iter().next() == Some(ACQUIRED)
                 && run.end_state() == MARKS[1][2].state
         }
         _ => false,

@@ -74,7 +74,7 @@ fn next_random(number: u64) -> u64 {
 }
 
 /// Places below `end`, about one of so many, where `seed` says which.
-fn random_cuts(alloc: Global, end: u64, one_of: u64, seed: u64) -> Result<Vec<u64>, PieceError>
+pub fn random_cuts(alloc: Global, end: u64, one_of: u64, seed: u64) -> Result<Vec<u64>, PieceError>
     requires { 0 < one_of }
 {
     let mut cuts = Vec::new(alloc);

@@ -1,6 +1,6 @@
 //! Items and totals in a form that a test can compare.
 use rds_code::Reading;
-use rds_sync::{Block, Group, Item, Totals, Version};
+use rds_sync::{Block, Group, Item, ItemIter, Totals, Version};
 use std::alloc::{AllocError, Global};
 use std::mem::size_of;
 
@@ -62,11 +62,11 @@ fn item_text(alloc: Global, item: &Item) -> Result<String, AllocError> {
 }
 
 /// Items as words of one line each, joined by semicolons.
-pub fn items_text(alloc: Global, items: &[Item]) -> Result<String, AllocError> {
+pub fn items_text(alloc: Global, items: ItemIter<'_>) -> Result<String, AllocError> {
     let mut text = String::new(alloc);
     for item in items {
         text.push_str(if text.is_empty() { "" } else { "; " })?;
-        text.push_str(item_text(alloc, item)?.as_str())?;
+        text.push_str(item_text(alloc, &item)?.as_str())?;
     }
     Ok(text)
 }

@@ -90,7 +90,7 @@ fn report_of(alloc: Global, decoding: &Decoding) -> Result<Report, Fail> {
 
 fn is_reported(alloc: Global, decoding: &Decoding) -> Result<bool, Fail> {
     let report = report_of(alloc, decoding)?;
-    let text = items_text(alloc, &report.items)?;
+    let text = items_text(alloc, report.items.iter())?;
     Ok(text.as_str() == decoding.items && counts(&report.totals) == decoding.totals)
 }
 

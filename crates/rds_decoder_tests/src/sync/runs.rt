@@ -4,7 +4,7 @@ ghost use Rattle.std.specs.Prelude.{◌≤◌, length};
 use crate::samples::{StateNumbers, default_rules, state_of, zero_groups};
 use crate::sync::items::items_text;
 use rds_stream::Recording;
-use rds_sync::{Item, Reached, Rules, State, SyncError, run, stretch};
+use rds_sync::{ItemBuffer, Items, Reached, Rules, State, SyncError, run, stretch};
 use std::alloc::Global;
 use std::process::Abort;
 use std::test::Fail;
@@ -14,7 +14,7 @@ pub fn whole_run(
     alloc: Global,
     rec: &Recording,
     rules: &Rules,
-) -> Result<(State, Vec<Item>), SyncError> {
+) -> Result<(State, Items), SyncError> {
     run(alloc, rec, rules, State::Searching, 0, rec.len())
 }
 
@@ -25,7 +25,7 @@ fn runs_so(alloc: Global, rec: &Recording, rules: &Rules, row: &Row) -> Result<b
         return Ok(false);
     }
     let (end, items) = run(alloc, rec, rules, start, from, row.to)?;
-    Ok(end == state_of(row.end) && items_text(alloc, &items)?.as_str() == row.found)
+    Ok(end == state_of(row.end) && items_text(alloc, items.iter())?.as_str() == row.found)
 }
 
 /// A run over a range: the states before and after it, and what it finds.
@@ -110,12 +110,12 @@ fn cut_run(
     rec: &Recording,
     rules: &Rules,
     cut: u64,
-) -> Result<(State, Vec<Item>), SyncError>
+) -> Result<(State, Items), SyncError>
     requires { cut ≤ length rec.now }
 {
     let (middle, mut items) = run(alloc, rec, rules, State::Searching, 0, cut)?;
     let (after, later) = run(alloc, rec, rules, middle, cut, rec.len())?;
-    items.extend_from_slice(&later)?;
+    items.append(&later, 0)?;
     Ok((after, items))
 }
 
@@ -129,7 +129,7 @@ fn is_one_run(
     let (end, items) = whole_run(alloc, rec, rules)?;
     for cut in 0..=rec.len() {
         let (after, found) = cut_run(alloc, rec, rules, cut)?;
-        if after != end || found.as_slice() != items.as_slice() {
+        if after != end || !found.iter().eq(items.iter()) {
             return Ok(false);
         }
     }
@@ -156,9 +156,9 @@ fn stretched(
     if place >= rec.len() || !state.is_lawful(rules, place) {
         return Ok(None);
     }
-    let mut items = Vec::new(alloc);
+    let mut items = ItemBuffer::new(alloc);
     let reached = stretch(rec, rules, state, place, rec.len(), &mut items)?;
-    let is_found = items_text(alloc, &items)?.as_str() == found;
+    let is_found = items_text(alloc, items.freeze()?.iter())?.as_str() == found;
     Ok(is_found.then_some(reached))
 }
 

@@ -27,7 +27,7 @@ fn push_found(items: &mut Vec<Item>, found: &[Option<Item>; 2]) -> Result<(), Al
 }
 
 /// The state and the place after as many steps as there are, and what they found.
-fn by_steps(
+pub fn by_steps(
     alloc: Global,
     rec: &Recording,
     rules: &Rules,
@@ -48,7 +48,7 @@ fn by_steps(
 fn are_the_run(alloc: Global, rec: &Recording, rules: &Rules) -> Result<bool, SyncError> {
     let (end, whole) = whole_run(alloc, rec, rules)?;
     let (state, place, items) = by_steps(alloc, rec, rules)?;
-    Ok(state == end && place == rec.len() && items.as_slice() == whole.as_slice())
+    Ok(state == end && place == rec.len() && whole.iter().eq(items.iter().copied()))
 }
 
 #[test]

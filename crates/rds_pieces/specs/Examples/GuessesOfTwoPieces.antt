@@ -1,5 +1,5 @@
--- The zero group twice, cut between the two: the guesses of both pieces.
-use Rattle.std.specs.Prelude.{◌≡◌, ℕ, List, [], ◌∷◌, ◌++◌, refl}
+-- The zero group twice, cut between the two: the guesses of both pieces, and the guess of both ranges.
+use Rattle.std.specs.Prelude.{◌≡◌, ℕ, List, [], ◌∷◌, ◌++◌, map, drop, refl}
 use Rattle.rds_code.specs.Remainder.{rem}
 use Rattle.rds_stream.specs.Recording.{bits_of, window, off}
 use Rattle.rds_sync.specs.declared.state.State.TheVariants.{Searching, Locked}
@@ -7,6 +7,7 @@ use Rattle.rds_sync.specs.Acquiring.{acquired, has_number}
 use Rattle.rds_sync.specs.Groups.{group}
 use Rattle.rds_sync.specs.Examples.Words.{zero_group, default_rules}
 use Rattle.rds_pieces.specs.Guess.{marks}
+use Rattle.rds_pieces.specs.MarksOn.{marks_on, recounted}
 
 abbrev pub bits : List ℕ
 bits = bits_of (zero_group ++ zero_group) 208
@@ -27,3 +28,23 @@ pub marks_of_the_second : marks bits default_rules 104 104 ≡
     ∷ []
 unfolding acquired has_number group rem window off
 marks_of_the_second = refl
+
+-- joined, the mark at the cut is that of the item before it, and those of the second count the items of the first
+pub marks_of_both : marks bits default_rules 0 208 ≡
+    record { place = 0; state = Searching; items = 0 }
+    ∷ record { place = 52; state = Locked 77 3 0 2; items = 1 }
+    ∷ record { place = 104; state = Locked 129 1 0 1; items = 2 }
+    ∷ record { place = 208; state = Locked 233 1 0 1; items = 3 }
+    ∷ []
+unfolding acquired has_number group rem window off
+marks_of_both = refl
+
+-- the marks of the run that goes on over the second
+pub marks_of_the_run_on : marks_on bits default_rules (Locked 129 1 0 1) 104 2 104 ≡ record { place = 208; state = Locked 233 1 0 1; items = 3 } ∷ []
+unfolding acquired has_number group rem window off
+marks_of_the_run_on = refl
+
+-- they meet at the end, where the first has one item more than the second
+pub recounted_at_the_meeting : map (recounted 2 3) (drop 3 (marks bits default_rules 104 104)) ≡ []
+unfolding acquired has_number group rem window off
+recounted_at_the_meeting = refl

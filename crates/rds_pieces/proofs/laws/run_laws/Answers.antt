@@ -10,4 +10,6 @@ returns c = record {
   wait = c.locks_wait.ensures;
   changes = c.items_mark_changes.ensures;
   few_items = c.runs_give_few_items.ensures;
+  totals = c.totals_join.ensures;
+  readings = c.readings_follow_the_rule.ensures;
 }

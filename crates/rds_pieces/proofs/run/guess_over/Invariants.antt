@@ -6,7 +6,7 @@ use Rattle.rds_pieces.proofs.run.guess_over.Given as goal
 abbrev pub invariant-loop-place : goal.invariant-loop-place
 invariant-loop-place l = record {
   inside : (l.from ≤ l.place) × (l.place ≤ l.to);
-  so_far : IsSoFar l.rec l.rules l.from l.place l.state l.items.items l.marks.items;
+  so_far : IsSoFar l.rec l.rules l.from l.place l.state l.items l.marks;
   lawful : IsLawful l.rules l.place l.state;
 }
 

@@ -1,4 +1,6 @@
-use Rattle.std.proofs.Common.{length, arith}
+use Rattle.std.proofs.Common.{List, length, ap, arith}
+use Rattle.rds_sync.specs.declared.item.Item.{Item}
+use Rattle.rds_sync.specs.declared.state.State.TheVariants.{Searching}
 use Rattle.rds_pieces.proofs.CuttingLemmas.{range_inside}
 use Rattle.rds_pieces.proofs.run.speculate.Goals as goal
 
@@ -11,6 +13,15 @@ guess_over-requires-clause-range c = let r = range_inside (length c.args.rec.now
 pub guess_over-requires-clause-inside : goal.guess_over-requires-clause-inside
 guess_over-requires-clause-inside c = let r = range_inside (length c.args.rec.now) c.args.cutting.now c.requires.fits c.args.j c.from-from.result c.to-to.result c.requires.piece c.from-from.ensures c.to-to.ensures in omega (arith, r.1)
 
+pub of-counted-requires : goal.of-counted-requires
+of-counted-requires c =
+    let r = range_inside (length c.args.rec.now) c.args.cutting.now c.requires.fits c.args.j c.from-from.result c.to-to.result c.requires.piece c.from-from.ensures c.to-to.ensures in
+    let few = c.run_laws.ensures.few_items c.args.rec.now c.args.rules.now Searching c.from-from.result c.to-to.result (omega (arith, r.0)) in
+    let is = ap (λ (xs : List Item). length xs) c.in_ok-end_state.ensures.items in
+    let l = c.len-len.ensures.limit in
+    let v = c.len-len.ensures.value in
+    omega (arith, few, is, r.1, l, v)
+
 pub invariant_of-result : goal.invariant_of-result
 invariant_of-result c =
     let r = range_inside (length c.args.rec.now) c.args.cutting.now c.requires.fits c.args.j c.from-from.result c.to-to.result c.requires.piece c.from-from.ensures c.to-to.ensures in
@@ -21,6 +32,7 @@ invariant_of-result c =
         ends = c.in_ok-end_state.ensures.state;
         marks_are = c.in_ok-end_state.ensures.marks;
       };
+      counted = c.of-counted.ensures.value;
       few = let l = c.len-len.ensures.limit in let v = c.len-len.ensures.value in omega (arith, l, v);
       rules = c.burst.ensures.range;
     })

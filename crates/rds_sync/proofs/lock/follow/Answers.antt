@@ -30,9 +30,9 @@ returns-then-from-loss-clause-items c =
     let b = c.args.rec.now in
     let rules = c.args.rules.now in
     let l = c.args.lock in
-    with_loss c.args.items.now.items c.push.new.self.items c.push-then-from-loss.new.self.items
+    with_loss c.args.items.now c.push.new.self c.push-then-from-loss.new.self
     (items_at b rules l.due (Locked l.due l.number l.bad l.first)) c.closed.result (group b rules l.first l.number l.due) l.due
-    (c.in_ok-push.ensures.items) (c.in_ok-push-2.ensures.items)
+    (c.in_ok-push.ensures.ok) (c.in_ok-push-2.ensures.ok)
     (c.closed.ensures ∙ group-blocks b rules l.first l.number l.due c.read_due-valid.new.blocks c.read_due-valid.ensures.blocks)
     (items-lost b rules l.due l.number l.bad l.first c.bad_with-bad.result
     (bad_after-valid b l.due l.number l.bad c.bad_with-bad.result c.read_due-valid.result c.read_due-valid.ensures.valid c.bad_with-bad.ensures)
@@ -62,12 +62,12 @@ returns-then-lock-lt4-clause-items c =
     let b = c.args.rec.now in
     let rules = c.args.rules.now in
     let l = c.args.lock in
-    sym (ap (λ (is : List Item). c.args.items.now.items ++ is)
+    sym (ap (λ (is : List Item). c.args.items.now ++ is)
     (items-kept b rules l.due l.number l.bad l.first c.bad_with-bad.result
     (bad_after-valid b l.due l.number l.bad c.bad_with-bad.result c.read_due-valid.result c.read_due-valid.ensures.valid c.bad_with-bad.ensures)
     (omega (arith, c.if-from-loss.false, c.from.ensures, c.loss-loss.ensures.value))
     ∙ group_after-inside b rules l.first l.number l.due c.if-lock-lt4.true)
-    ∙ append-nil c.args.items.now.items)
+    ∙ append-nil c.args.items.now)
 
 pub returns-then-lock-lt4-clause-followed : goal.returns-then-lock-lt4-clause-followed
 returns-then-lock-lt4-clause-followed c =
@@ -100,14 +100,15 @@ returns-clause-items c =
     let b = c.args.rec.now in
     let rules = c.args.rules.now in
     let l = c.args.lock in
-    c.in_ok-push-3.ensures.items
-    ∙ ap (λ (closed : GroupRecord). c.args.items.now.items ++ Group closed ∷ [])
-    (c.closed-2.ensures ∙ group-blocks b rules l.first l.number l.due c.read_due-valid.new.blocks c.read_due-valid.ensures.blocks)
-    ∙ ap (λ (is : List Item). c.args.items.now.items ++ is)
+    c.in_ok-push_group.ensures.ok
+    ∙ rw c.from-2.ensures
+    (ap (λ (closed : GroupRecord). c.args.items.now ++ Group closed ∷ [])
+    (group-blocks b rules l.first l.number l.due c.read_due-valid.new.blocks c.read_due-valid.ensures.blocks)
+    ∙ ap (λ (is : List Item). c.args.items.now ++ is)
     (sym (items-kept b rules l.due l.number l.bad l.first c.bad_with-bad.result
     (bad_after-valid b l.due l.number l.bad c.bad_with-bad.result c.read_due-valid.result c.read_due-valid.ensures.valid c.bad_with-bad.ensures)
     (omega (arith, c.if-from-loss.false, c.from.ensures, c.loss-loss.ensures.value))
-    ∙ group_after-four b rules l.first l.number l.due (omega (arith, c.if-lock-lt4.false, c.requires.readable.in_order))))
+    ∙ group_after-four b rules l.first l.number l.due (omega (arith, c.if-lock-lt4.false, c.requires.readable.in_order)))))
 
 pub returns-clause-followed : goal.returns-clause-followed
 returns-clause-followed c =

@@ -48,7 +48,7 @@ loop-now-preserved c =
     let now = l.now in
     let followed = l.invariant in
     let soon = followed.lawful.soon in
-    let more = one_more b rules s c.args.place c.args.to now c.args.items.now.items l.items.items l.blocks followed in
+    let more = one_more b rules s c.args.place c.args.to now c.args.items.now l.items l.blocks followed in
     let state_is = ap (λ (o : Followed). state_of o) (sym c.in-Inside.is) ∙ c.in_ok-next.ensures.state in
     let goes = subst (λ (o : Followed). IsFollowed b rules now c.follow.new.blocks o) c.in-Inside.is c.in_ok-next.ensures.followed in
     record {
@@ -56,10 +56,10 @@ loop-now-preserved c =
       from_on = omega (arith, followed.from_on, soon.0);
       limit = omega (arith, c.loop-now-test.true);
       lawful = subst (λ (t : State). IsLawful rules (now.due + 1) t) (sym state_is)
-          (lawful_after b rules s c.args.place c.args.to now c.args.items.now.items l.items.items l.blocks followed);
+          (lawful_after b rules s c.args.place c.args.to now c.args.items.now l.items l.blocks followed);
       in_progress = goes.in_progress;
       so_far = more ∙ ap₂ (λ (t : State) (is : List Item). (t, is)) (sym state_is) goes.nothing;
-      items_are = c.in_ok-next.ensures.items ∙ ap₂ (λ (is js : List Item). is ++ js) followed.items_are goes.nothing ∙ append-nil c.args.items.now.items;
+      items_are = c.in_ok-next.ensures.items ∙ ap₂ (λ (is js : List Item). is ++ js) followed.items_are goes.nothing ∙ append-nil c.args.items.now;
     }
 
 pub loop-now-smaller : goal.loop-now-smaller
@@ -77,7 +77,7 @@ returns-in-Closed-clause-reached c =
     let now = l.now in
     let followed = l.invariant in
     let soon = followed.lawful.soon in
-    let more = one_more b rules s c.args.place c.args.to now c.args.items.now.items l.items.items l.blocks followed in
+    let more = one_more b rules s c.args.place c.args.to now c.args.items.now l.items l.blocks followed in
     let state_is = ap (λ (o : Followed). state_of o) (sym c.in-Closed.is) ∙ c.in_ok-next.ensures.state in
     let given = subst (λ (o : Followed). IsFollowed b rules now c.follow.new.blocks o) c.in-Closed.is c.in_ok-next.ensures.followed in
     let last : now.due + 1 - 1 ≡ now.due = omega arith in (
@@ -85,10 +85,10 @@ returns-in-Closed-clause-reached c =
         forward = omega (arith, followed.from_on, soon.0);
         limit = omega (arith, c.loop-now-test.true);
         state = state_is ∙ sym (ap (λ (r : State × List Item). r.0) more);
-        quiet = rw last (ap (λ (r : State × List Item). r.1) (waited b rules s c.args.place c.args.to now c.args.items.now.items l.items.items l.blocks followed now.due soon.0 (omega arith)));
+        quiet = rw last (ap (λ (r : State × List Item). r.1) (waited b rules s c.args.place c.args.to now c.args.items.now l.items l.blocks followed now.due soon.0 (omega arith)));
         ended = inr (λ none. given (sym (ap (λ (r : State × List Item). r.1) more) ∙ none));
         lawful = subst (λ (t : State). IsLawful rules (now.due + 1) t) (sym state_is)
-            (lawful_after b rules s c.args.place c.args.to now c.args.items.now.items l.items.items l.blocks followed);
+            (lawful_after b rules s c.args.place c.args.to now c.args.items.now l.items l.blocks followed);
       },
       c.in_ok-next.ensures.items ∙ ap₂ (λ (is js : List Item). is ++ js) followed.items_are (sym (ap (λ (r : State × List Item). r.1) more)),
     )
@@ -102,7 +102,7 @@ returns-clause-reached c =
     let l = c.loop-now in
     let now = l.now in
     let followed = l.invariant in
-    let wait = waited b rules s c.args.place c.args.to now c.args.items.now.items l.items.items l.blocks followed c.args.to followed.limit c.loop-now-test.false in
+    let wait = waited b rules s c.args.place c.args.to now c.args.items.now l.items l.blocks followed c.args.to followed.limit c.loop-now-test.false in
     let nothing = ap (λ (r : State × List Item). r.1) wait in (
       record {
         forward = c.requires.order;
@@ -113,5 +113,5 @@ returns-clause-reached c =
         lawful = subst (λ (t : State). IsLawful rules c.args.to t) (sym c.state.ensures)
             (lawful-waiting rules followed.next c.args.to now.due now.number now.bad now.first followed.lawful followed.limit c.loop-now-test.false);
       },
-      followed.items_are ∙ sym (append-nil c.args.items.now.items) ∙ ap (λ (is : List Item). c.args.items.now.items ++ is) (sym nothing),
+      followed.items_are ∙ sym (append-nil c.args.items.now) ∙ ap (λ (is : List Item). c.args.items.now ++ is) (sym nothing),
     )

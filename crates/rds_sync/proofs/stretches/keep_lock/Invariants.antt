@@ -21,7 +21,7 @@ pub record HasFollowed (b : List ℕ) (rules : RuleNumbers) (s : State) (place t
   pub items_are : items ≡ before
 
 abbrev pub invariant-loop-now : goal.invariant-loop-now
-invariant-loop-now l = HasFollowed l.rec l.rules (Locked l.fn.lock.due l.fn.lock.number l.fn.lock.bad l.fn.lock.first) l.place l.to l.initial.items.items l.now l.blocks l.items.items
+invariant-loop-now l = HasFollowed l.rec l.rules (Locked l.fn.lock.due l.fn.lock.number l.fn.lock.bad l.fn.lock.first) l.place l.to l.initial.items l.now l.blocks l.items
 
 abbrev pub decreases-loop-now : goal.decreases-loop-now
 decreases-loop-now l = l.to - l.now.due

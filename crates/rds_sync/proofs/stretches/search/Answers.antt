@@ -88,7 +88,7 @@ returns-then-has_partner-clause-reached c =
       },
       c.in_ok-push_found.ensures.ok
           ∙ ap (λ (is : List Item). is ++ items_in c.found_at.result) searched.nothing
-          ∙ ap (λ (is : List Item). c.args.items.now.items ++ is) (c.found_at.ensures ∙ sym (ap (λ (r : State × List Item). r.1) run_is)),
+          ∙ ap (λ (is : List Item). c.args.items.now ++ is) (c.found_at.ensures ∙ sym (ap (λ (r : State × List Item). r.1) run_is)),
     )
 
 pub returns-clause-reached : goal.returns-clause-reached
@@ -107,5 +107,5 @@ returns-clause-reached c =
         ended = inl refl;
         lawful = tt;
       },
-      searched.nothing ∙ sym (ap (λ (is : List Item). c.args.items.now.items ++ is) nothing ∙ append-nil c.args.items.now.items),
+      searched.nothing ∙ sym (ap (λ (is : List Item). c.args.items.now ++ is) nothing ∙ append-nil c.args.items.now),
     )

@@ -10,4 +10,4 @@ pub record HasSearched (b : List ℕ) (rules : RuleNumbers) (place here : ℕ) (
   pub nothing : items ≡ before
 
 abbrev pub invariant-loop-here : goal.invariant-loop-here
-invariant-loop-here l = HasSearched l.rec l.rules l.place l.here l.initial.items.items l.items.items
+invariant-loop-here l = HasSearched l.rec l.rules l.place l.here l.initial.items l.items

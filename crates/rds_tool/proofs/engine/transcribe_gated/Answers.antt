@@ -58,6 +58,6 @@ returns-in_err-text-clause-prefix g c = λ p. absurd ((text_inside g c).1 p)
 
 pub returns-clause-prefix : goal.returns-clause-prefix
 returns-clause-prefix g c =
-    prefix_is (g.S.Source.remaining c.args.reader.now) c.args.job.now c.in_ok-task.task c.in_ok-held.held.items c.as_slice.result.now c.write_all.result
-    (g.K.Sink.contents c.args.writer.now) (g.K.Sink.contents c.write_all.new.writer)
-    c.in_ok-held.ensures.ok c.in_ok-task.ensures.ok (c.in_ok-text.ensures.ok ∙ ap (λ x. Ok x) (sym c.as_slice.ensures.value)) c.write_all.ensures.prefix
+    prefix_is (g.S.Source.remaining c.args.reader.now) c.args.job.now c.in_ok-task.task c.in_ok-held.held.items c.in_ok-text.text c.write_to.result
+    (g.K.Sink.contents c.args.writer.now) (g.K.Sink.contents c.write_to.new.writer)
+    c.in_ok-held.ensures.ok c.in_ok-task.ensures.ok c.in_ok-text.ensures.ok c.write_to.ensures.prefix

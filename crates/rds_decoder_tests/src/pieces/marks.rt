@@ -1,0 +1,147 @@
+//! Marks as they are kept, in rows, and totals as they are added up, against plain lists.
+ghost use Rattle.std.specs.Prelude.{◌≤◌, length};
+
+use crate::pieces::stitching::random_cuts;
+use crate::samples::{Cuts, Sample};
+use rds_pieces::{Mark, Marks, PieceError, PieceRun, seam, speculate};
+use rds_stream::Counted;
+use rds_sync::{Items, State, Totals, run};
+use std::alloc::{AllocError, Global};
+use std::test::Fail;
+
+/// A lock between groups whose block 1 is due 25 bits on, with so many bad blocks.
+fn lock_at(place: u64, bad: u8) -> State {
+    State::Locked {
+        due: place.saturating_add(25),
+        number: 1,
+        bad,
+        first: 1,
+    }
+}
+
+/// Marks of two clean stretches and, between them, of damaged groups, of a gap and of a search.
+fn plain_list(alloc: Global) -> Result<Vec<Mark>, AllocError> {
+    let mut marks = Vec::new(alloc);
+    for number in 0..40u64 {
+        let place = 104 * number + if number < 25 { 0 } else { 7 };
+        let bad = if number % 9 == 8 { 1 } else { 0 };
+        marks.push(Mark {
+            place,
+            state: if number % 20 == 19 {
+                State::Searching
+            } else {
+                lock_at(place, bad)
+            },
+            items: if number < 30 { number } else { number + 2 },
+        })?;
+    }
+    Ok(marks)
+}
+
+/// Whether marks that are pushed one by one come back as they were, each after a look at it.
+fn are_kept(alloc: Global, plain: &[Mark]) -> Result<bool, AllocError> {
+    let mut marks = Marks::new(alloc);
+    for mark in plain {
+        marks.push(*mark)?;
+    }
+    let mut left = marks.iter();
+    for mark in plain {
+        if left.peek() != Some(*mark) || left.next() != Some(*mark) {
+            return Ok(false);
+        }
+    }
+    Ok(left.peek().is_none() && left.next().is_none())
+}
+
+#[test]
+fn marks_in_rows_come_back_as_they_were(rt: HostRuntime) -> Result<(), Fail> {
+    let plain = plain_list(rt.alloc())?;
+    assert!(rt; are_kept(rt.alloc(), &plain)?);
+    assert!(rt; are_kept(rt.alloc(), &[])?);
+    Ok(())
+}
+
+/// The marks of a guess by their definition: at the first place, and behind each bit after which the run has more items.
+fn plain_marks(alloc: Global, sample: &Sample, from: u64, to: u64) -> Result<Vec<Mark>, Fail>
+    requires { to ≤ length sample.now.recording }
+{
+    let (recording, rules) = (&sample.recording, &sample.rules);
+    let mut marks = Vec::new(alloc);
+    marks.push(Mark {
+        place: from,
+        state: State::Searching,
+        items: 0,
+    })?;
+    let mut count = 0;
+    for place in from..to {
+        let (state, items) = run(alloc, recording, rules, State::Searching, from, place + 1)?;
+        if items.len() > count {
+            count = items.len();
+            marks.push(Mark {
+                place: place + 1,
+                state,
+                items: count as u64,
+            })?;
+        }
+    }
+    Ok(marks)
+}
+
+/// Whether these are the totals of these items.
+fn are_counted(items: &Items, totals: Totals) -> bool {
+    items.len() <= 1 << 40 && totals == Totals::of(items)
+}
+
+/// Whether the marks of a guess are those of its definition, and its totals those of its items.
+fn is_plain(alloc: Global, sample: &Sample, guess: &PieceRun) -> Result<bool, Fail> {
+    if guess.to() > sample.recording.len() {
+        return Ok(false);
+    }
+    let plain = plain_marks(alloc, sample, guess.from(), guess.to())?;
+    Ok(guess.marks().iter().eq(plain.iter().copied())
+        && are_counted(guess.items(), guess.totals()))
+}
+
+/// Whether all guesses of a cutting are so.
+fn are_plain(alloc: Global, sample: &Sample, cuts: Cuts<'_>) -> Result<bool, Fail> {
+    let cutting = sample.cut(alloc, cuts)?;
+    for j in 0..cutting.pieces() {
+        let guess = speculate(alloc, &sample.recording, &sample.rules, &cutting, j)?;
+        if !is_plain(alloc, sample, &guess)? {
+            return Ok(false);
+        }
+    }
+    Ok(true)
+}
+
+#[test]
+fn guesses_of_a_damaged_recording_have_their_marks_and_totals(rt: HostRuntime) -> Result<(), Fail> {
+    let sample = Sample::station(rt.alloc())?;
+    assert!(rt; are_plain(rt.alloc(), &sample, Cuts::Even(1))?);
+    for seed in 1..6u64 {
+        let cuts = random_cuts(rt.alloc(), sample.recording.len(), 300, seed * 0x9E37_79B9)?;
+        assert!(rt; are_plain(rt.alloc(), &sample, Cuts::At(cuts.as_slice()))?, "{cuts:?}");
+    }
+    Ok(())
+}
+
+/// Whether the seam before each piece, from a search, has the totals of its items.
+fn seams_are_counted(alloc: Global, sample: &Sample, cuts: Cuts<'_>) -> Result<bool, Fail> {
+    let cutting = sample.cut(alloc, cuts)?;
+    for j in 0..cutting.pieces() {
+        let guess = speculate(alloc, &sample.recording, &sample.rules, &cutting, j)?;
+        let mut tape = Counted::new(&sample.recording);
+        let seam = seam(alloc, &mut tape, &sample.rules, State::Searching, &guess)?;
+        if !are_counted(&seam.items, seam.totals) {
+            return Ok(false);
+        }
+    }
+    Ok(true)
+}
+
+#[test]
+fn seams_have_the_totals_of_their_items(rt: HostRuntime) -> Result<(), Fail> {
+    let sample = Sample::station(rt.alloc())?;
+    assert!(rt; seams_are_counted(rt.alloc(), &sample, Cuts::Even(7))?);
+    Ok(())
+}

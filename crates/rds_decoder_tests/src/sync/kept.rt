@@ -1,0 +1,276 @@
+//! Items as they are kept, against plain lists of them.
+ghost use Rattle.std.specs.Prelude.{◌≡◌, ◌≤◌, length, IfOk};
+
+use crate::samples::recording_of;
+use crate::sync::steps::by_steps;
+use rds_code::{Offset, encode_block};
+use rds_stream::Recording;
+use rds_sync::{Item, ItemBuffer, Items, Rules, State, Totals, run};
+use std::alloc::{AllocError, Global};
+use std::test::Fail;
+use std::thread;
+
+/// The next of a row of numbers that look random and are the same in each run.
+fn next_random(number: u64) -> u64 {
+    let number = number ^ (number << 13);
+    let number = number ^ (number >> 7);
+    number ^ (number << 17)
+}
+
+/// A number up to `most`, by a random one.
+fn up_to(most: usize, number: u64) -> usize
+    ensures { result ≤ most }
+{
+    match usize::try_from(number) {
+        Ok(number) => number.min(most.saturating_mul(2)) % most.saturating_add(1),
+        Err(_) => most,
+    }
+}
+
+/// The bits that are turned in a group of 104: none, one, sixteen in a row or all.
+fn damage(number: u64) -> u128 {
+    let place = number >> 8;
+    match number % 8 {
+        5 => 1 << (place % 104),
+        6 => 0xFFFF << (place % 80),
+        7 => (1 << 104) - 1,
+        _ => 0,
+    }
+}
+
+fn block_sent(info: u16, offset: Offset) -> u128 {
+    u128::from(encode_block(info, offset))
+}
+
+/// A group of four random words, of which one in eight is in conflict and three are damaged.
+fn group_sent(words: u64, number: u64) -> u128 {
+    let [a, b, c, d, e, f, g, h] = words.to_be_bytes();
+    let second = u16::from_be_bytes([c, d]);
+    let is_version_b = ((second >> 11) & 1 == 1) != (number % 8 == 4);
+    let third = if is_version_b {
+        Offset::Cx
+    } else {
+        Offset::C
+    };
+    let sent = block_sent(u16::from_be_bytes([a, b]), Offset::A) << 78
+        | block_sent(second, Offset::B) << 52
+        | block_sent(u16::from_be_bytes([e, f]), third) << 26
+        | block_sent(u16::from_be_bytes([g, h]), Offset::D);
+    sent ^ damage(number)
+}
+
+/// Groups of all kinds, one after the other.
+fn groups_of_all_kinds(alloc: Global, seed: u64) -> Result<Recording, Fail> {
+    let mut bytes = Vec::new(alloc);
+    let mut words = seed;
+    for _ in 0..60 {
+        let number = next_random(words);
+        bytes.extend_from_slice(&group_sent(words, number).to_be_bytes()[3..])?;
+        words = next_random(number);
+    }
+    Ok(recording_of(bytes, 60 * 104)?)
+}
+
+/// Items of all kinds as a run keeps them, and the same in a plain list.
+fn items_of_all_kinds(alloc: Global, seed: u64) -> Result<(Items, Vec<Item>), Fail> {
+    let rec = groups_of_all_kinds(alloc, seed)?;
+    let rules = Rules::new(alloc, 2, 3, 3)?;
+    let (_, items) = run(alloc, &rec, &rules, State::Searching, 0, rec.len())?;
+    let (_, _, plain) = by_steps(alloc, &rec, &rules)?;
+    Ok((items, plain))
+}
+
+/// Whether the items in that range are these.
+fn is_range(items: &Items, plain: &[Item], from: usize, to: usize) -> bool {
+    if from > to || to > items.len() || to > plain.len() {
+        return false;
+    }
+    let mut rest = &plain[from..to];
+    for item in items.range(from, to) {
+        match rest.split_first() {
+            Some((&first, others)) if first == item => rest = others,
+            _ => return false,
+        }
+    }
+    rest.is_empty()
+}
+
+/// Whether item by item they are these.
+fn is_each(items: &Items, plain: &[Item]) -> bool {
+    let mut number = 0usize;
+    for &item in plain {
+        if number >= items.len() || items.get(number) != item {
+            return false;
+        }
+        number = number.saturating_add(1);
+    }
+    number == items.len() && items.is_empty() == plain.is_empty()
+}
+
+/// Whether the items are these: one by one, in a loop over all of them, and in each range.
+fn are(items: &Items, plain: &[Item]) -> bool {
+    for from in 0..=plain.len() {
+        for to in from..=plain.len() {
+            if !is_range(items, plain, from, to) {
+                return false;
+            }
+        }
+    }
+    is_each(items, plain) && items.iter().count() == plain.len()
+}
+
+#[test]
+fn a_run_keeps_what_steps_over_a_tape_give(rt: HostRuntime) -> Result<(), Fail> {
+    for seed in 1..6u64 {
+        let (items, plain) = items_of_all_kinds(rt.alloc(), seed * 0x9E37_79B9)?;
+        assert!(rt; plain.len() > 60 && are(&items, &plain), "{seed}");
+    }
+    Ok(())
+}
+
+/// A buffer of these items.
+fn pushed(alloc: Global, plain: &[Item]) -> Result<ItemBuffer, AllocError> {
+    let mut buffer = ItemBuffer::new(alloc);
+    for &item in plain {
+        buffer.push(item)?;
+    }
+    Ok(buffer)
+}
+
+/// Whether item by item the buffer's are these.
+fn is_buffer_of(buffer: &ItemBuffer, plain: &[Item]) -> bool {
+    let mut number = 0usize;
+    for &item in plain {
+        if number >= buffer.len() || buffer.get(number) != item {
+            return false;
+        }
+        number = number.saturating_add(1);
+    }
+    number == buffer.len() && buffer.is_empty() == plain.is_empty()
+}
+
+/// So many of these items, picked at random.
+fn picked(alloc: Global, plain: &[Item], count: usize, seed: u64) -> Result<Vec<Item>, AllocError> {
+    let mut items = Vec::new(alloc);
+    let mut number = seed;
+    for _ in 0..count {
+        number = next_random(number);
+        let first = up_to(plain.len(), number);
+        items.extend_from_slice(&plain[first..plain.len().min(first.saturating_add(1))])?;
+    }
+    Ok(items)
+}
+
+/// Whether a buffer of these, and what it is frozen to, is these.
+fn is_kept(alloc: Global, plain: &[Item]) -> Result<bool, AllocError> {
+    let buffer = pushed(alloc, plain)?;
+    Ok(is_buffer_of(&buffer, plain) && are(&buffer.freeze()?, plain))
+}
+
+#[test]
+fn a_buffer_keeps_what_is_pushed_in_any_order(rt: HostRuntime) -> Result<(), Fail> {
+    let (_, plain) = items_of_all_kinds(rt.alloc(), 7)?;
+    for count in 0..40usize {
+        let items = picked(rt.alloc(), &plain, count, 0x1234_5678 ^ count as u64)?;
+        assert!(rt; is_kept(rt.alloc(), &items)?, "{count}");
+    }
+    Ok(())
+}
+
+/// A list and a plain list beside it.
+#[derive(Drop)]
+struct Beside {
+    items: Items,
+    plain: Vec<Item>,
+}
+
+impl Beside {
+    /// What is left of this from there on, and then what is left of `other` from there on.
+    fn then(
+        &self,
+        alloc: Global,
+        first: u64,
+        other: &Beside,
+        second: u64,
+    ) -> Result<Beside, AllocError> {
+        let mut joined = Beside {
+            items: Items::new(alloc),
+            plain: Vec::new(alloc),
+        };
+        joined.append(self, first)?;
+        joined.append(other, second)?;
+        Ok(joined)
+    }
+
+    fn append(&mut self, other: &Beside, number: u64) -> Result<(), AllocError> {
+        let from = up_to(other.plain.len(), number).min(other.items.len());
+        self.items.append(&other.items, from)?;
+        self.plain.extend_from_slice(&other.plain[from.min(other.plain.len())..])
+    }
+}
+
+/// Whether lists that are cut and joined again and again stay beside each other.
+fn stay_beside(alloc: Global, one: &Beside, other: &Beside, seed: u64) -> Result<bool, AllocError> {
+    let mut number = next_random(seed);
+    let mut joined = one.then(alloc, number, other, seed)?;
+    for _ in 0..12 {
+        number = next_random(number);
+        let source = if number % 3 == 0 { one } else { other };
+        joined = joined.then(alloc, number % 7, source, number)?;
+    }
+    Ok(are(&joined.items, &joined.plain))
+}
+
+#[test]
+fn lists_are_joined_from_any_item_on(rt: HostRuntime) -> Result<(), Fail> {
+    let (items, plain) = items_of_all_kinds(rt.alloc(), 11)?;
+    let few = picked(rt.alloc(), &plain, 9, 12)?;
+    let one = Beside { items, plain };
+    let other = Beside {
+        items: pushed(rt.alloc(), &few)?.freeze()?,
+        plain: few,
+    };
+    for seed in 1..9u64 {
+        assert!(rt; stay_beside(rt.alloc(), &one, &other, seed)?, "{seed}");
+    }
+    Ok(())
+}
+
+#[test]
+fn a_list_is_joined_from_each_item_on(rt: HostRuntime) -> Result<(), Fail> {
+    let (items, plain) = items_of_all_kinds(rt.alloc(), 13)?;
+    for from in 0..=items.len() {
+        let mut rest = Items::new(rt.alloc());
+        rest.append(&items, from)?;
+        assert!(rt; are(&rest, &plain[from.min(plain.len())..]), "{from}");
+    }
+    Ok(())
+}
+
+/// The totals of a range, the first and last place of which are no matter.
+fn totals_of(items: &Items, from: usize, to: usize) -> Option<Totals> {
+    if from <= to && to <= items.len() && to <= 1 << 20 {
+        return Some(Totals::of_range(items, from, to));
+    }
+    None
+}
+
+#[test]
+fn totals_are_those_of_the_items_one_by_one(rt: HostRuntime) -> Result<(), Fail> {
+    let (items, plain) = items_of_all_kinds(rt.alloc(), 17)?;
+    let other = pushed(rt.alloc(), &plain)?.freeze()?;
+    for from in 0..=plain.len() {
+        for to in from..=plain.len() {
+            assert!(rt; totals_of(&items, from, to) == totals_of(&other, from, to));
+        }
+    }
+    Ok(())
+}
+
+#[test]
+fn two_threads_read_one_list(rt: HostRuntime) -> Result<(), Fail> {
+    let (items, plain) = items_of_all_kinds(rt.alloc(), 19)?;
+    let (one, other) = thread::join(&rt, || items.iter().count(), || items.len());
+    assert!(rt; one == plain.len() && other == plain.len());
+    Ok(())
+}

@@ -1,0 +1,223 @@
+-- The totals of a run's items are small: a bit gives one group at most, and a block has 26 bits.
+use Rattle.std.proofs.Common.{◌≡◌, ℕ, zero, suc, ◌+◌, ◌-◌, ◌*◌, ◌^◌, ◌<◌, ◌≤◌, Bool, true, false, List, [], ◌∷◌, ◌++◌, take, drop, Option, Some, None, refl, sym, ap, ◌∙◌, subst, arith, lit≤}
+use Rattle.std.specs.Prelude.{sum_by, if◌then◌else◌, ◌==◌, nat_lt, nat_le, ◌&&◌, count_ones, slice_range}
+use Rattle.std.proofs.lemmas.List.{take-append-drop}
+use Rattle.std.proofs.lemmas.Nat.{ones_le_self}
+use Rattle.rds_code.specs.declared.reading.Wanted.{Wanted}
+use Rattle.rds_code.specs.declared.reading.Wanted.TheVariants.{Either}
+use Rattle.rds_code.specs.declared.reading.Reading.{Reading}
+use Rattle.rds_code.specs.declared.reading.Reading.TheVariants.{Valid, Corrected, Lost}
+use Rattle.rds_code.specs.Laws.{ReadsByRule}
+use Rattle.rds_code.specs.Reading.{reading, IsReading}
+use Rattle.rds_stream.specs.Recording.{window}
+use Rattle.rds_sync.specs.declared.state.State.{State}
+use Rattle.rds_sync.specs.declared.state.State.TheVariants.{Searching, Locked}
+use Rattle.rds_sync.specs.declared.item.Block.{Block}
+use Rattle.rds_sync.specs.declared.item.Block.TheVariants.{Missing, Read}
+use Rattle.rds_sync.specs.declared.item.Group.{Group}
+use Rattle.rds_sync.specs.declared.item.Item.{Item}
+use Rattle.rds_sync.specs.declared.item.Item.TheVariants.{Acquired, Group as GroupItem, LostLock}
+use Rattle.rds_sync.specs.declared.totals.Totals.{Totals}
+use Rattle.rds_sync.specs.Acquiring.{acquired}
+use Rattle.rds_sync.specs.Counting.{plus, IsRest, TotalsJoin, IsAtMost}
+use Rattle.rds_sync.specs.Groups.{group, block_at, wanted_beside, are_complete}
+use Rattle.rds_sync.specs.Rules.{RuleNumbers}
+use Rattle.rds_sync.specs.Step.{run, step, items_at, group_after, bad_after}
+use Rattle.rds_sync.specs.Totals.{totals_of, is_valid, is_lost, is_corrected_by, bits_corrected}
+
+pub at_most_more : (m n : ℕ) (t : Totals) → m ≤ n → IsAtMost m t → IsAtMost n t
+at_most_more m n t h a = record {
+  valid = omega (arith, a.valid);
+  burst1 = omega (arith, a.burst1);
+  burst2 = omega (arith, a.burst2);
+  burst3 = omega (arith, a.burst3);
+  burst4 = omega (arith, a.burst4);
+  burst5 = omega (arith, a.burst5);
+  lost = omega (arith, a.lost);
+  bits = omega (arith, a.bits);
+  groups = omega (arith, a.groups);
+  complete = omega (arith, a.complete);
+  acquired = omega (arith, a.acquired);
+  losses = omega (arith, a.losses);
+}
+
+-- the rest of a list has no more than the whole
+at_most-rest : (n : ℕ) (t u : Totals) → IsAtMost n (plus t u) → IsAtMost n u
+at_most-rest n t u a = record {
+  valid = omega (arith, a.valid);
+  burst1 = omega (arith, a.burst1);
+  burst2 = omega (arith, a.burst2);
+  burst3 = omega (arith, a.burst3);
+  burst4 = omega (arith, a.burst4);
+  burst5 = omega (arith, a.burst5);
+  lost = omega (arith, a.lost);
+  bits = omega (arith, a.bits);
+  groups = omega (arith, a.groups);
+  complete = omega (arith, a.complete);
+  acquired = omega (arith, a.acquired);
+  losses = omega (arith, a.losses);
+}
+
+at_most-plus : (m n : ℕ) (t u : Totals) → IsAtMost m t → IsAtMost n u → IsAtMost (m + n) (plus t u)
+at_most-plus m n t u a b = record {
+  valid = omega (arith, a.valid, b.valid);
+  burst1 = omega (arith, a.burst1, b.burst1);
+  burst2 = omega (arith, a.burst2, b.burst2);
+  burst3 = omega (arith, a.burst3, b.burst3);
+  burst4 = omega (arith, a.burst4, b.burst4);
+  burst5 = omega (arith, a.burst5, b.burst5);
+  lost = omega (arith, a.lost, b.lost);
+  bits = omega (arith, a.bits, b.bits);
+  groups = omega (arith, a.groups, b.groups);
+  complete = omega (arith, a.complete, b.complete);
+  acquired = omega (arith, a.acquired, b.acquired);
+  losses = omega (arith, a.losses, b.losses);
+}
+
+-- the totals from some item on are the rest
+pub rest_after : TotalsJoin → (items : List Item) (first : ℕ) (whole part : Totals) → whole ≡ totals_of items → part ≡ totals_of (slice_range items 0 first)
+    → IsRest part whole (totals_of (drop first items))
+rest_after join items first whole part whole_is part_is =
+    let none : first - 0 ≡ first = omega arith in
+    let p : part ≡ totals_of (take first items) = part_is ∙ ap (λ (k : ℕ). totals_of (take k items)) none in
+    let w : whole ≡ totals_of (take first items ++ drop first items) = whole_is ∙ ap (λ (is : List Item). totals_of is) (sym (take-append-drop first items)) in
+    let r = join (take first items) (drop first items) in
+    record { spans = r.spans; joined = w ∙ r.joined ∙ ap (λ (t : Totals). plus t (totals_of (drop first items))) (sym p) }
+
+-- so small is what one bit gives
+abbrev pub per_bit : ℕ
+per_bit = 2 ^ 28 - 1
+
+one_or_none : (t : Bool) → (if t then 1 else 0) ≤ 1
+one_or_none true = omega arith
+one_or_none false = omega arith
+
+sum_of_four : (f : Block → ℕ) (m : ℕ) (bs : List Block) (a b c d : Block) → bs ≡ a ∷ b ∷ c ∷ d ∷ [] → f a ≤ m → f b ≤ m → f c ≤ m → f d ≤ m → 0 + sum_by f bs ≤ 4 * m
+sum_of_four f m bs a b c d e h i j k = subst (λ (xs : List Block). 0 + sum_by f xs ≤ 4 * m) (sym e) (omega arith)
+
+-- a group of four blocks
+group_at_most : (g : Group) (a b c d : Block) → g.blocks ≡ a ∷ b ∷ c ∷ d ∷ []
+    → bits_corrected a < 2 ^ 26 → bits_corrected b < 2 ^ 26 → bits_corrected c < 2 ^ 26 → bits_corrected d < 2 ^ 26 → IsAtMost (2 ^ 28 - 4) (totals_of (GroupItem g ∷ []))
+group_at_most g a b c d e h i j k =
+    let few : (p : Block → Bool) → 0 + sum_by (λ block. if p block then 1 else 0) g.blocks ≤ 4 * 1 =
+    λ p. sum_of_four (λ block. if p block then 1 else 0) 1 g.blocks a b c d e (one_or_none (p a)) (one_or_none (p b)) (one_or_none (p c)) (one_or_none (p d)) in
+    let bits : 0 + sum_by bits_corrected g.blocks ≤ 4 * (2 ^ 26 - 1) = sum_of_four bits_corrected (2 ^ 26 - 1) g.blocks a b c d e (omega arith) (omega arith) (omega arith) (omega arith) in
+    record {
+      valid = omega (arith, few is_valid);
+      burst1 = omega (arith, few (is_corrected_by 1));
+      burst2 = omega (arith, few (is_corrected_by 2));
+      burst3 = omega (arith, few (is_corrected_by 3));
+      burst4 = omega (arith, few (is_corrected_by 4));
+      burst5 = omega (arith, few (is_corrected_by 5));
+      lost = omega (arith, few is_lost);
+      bits = omega (arith, bits);
+      groups = omega arith;
+      complete = omega (arith, one_or_none (are_complete g.blocks));
+      acquired = omega arith;
+      losses = omega arith;
+    }
+
+acquired_at_most : (i x : ℕ) → IsAtMost 1 (totals_of (Acquired i x ∷ []))
+acquired_at_most i x = record {
+  valid = omega arith;
+  burst1 = omega arith;
+  burst2 = omega arith;
+  burst3 = omega arith;
+  burst4 = omega arith;
+  burst5 = omega arith;
+  lost = omega arith;
+  bits = omega arith;
+  groups = omega arith;
+  complete = omega arith;
+  acquired = omega arith;
+  losses = omega arith;
+}
+
+lost_at_most : (i : ℕ) → IsAtMost 1 (totals_of (LostLock i ∷ []))
+lost_at_most i = record {
+  valid = omega arith;
+  burst1 = omega arith;
+  burst2 = omega arith;
+  burst3 = omega arith;
+  burst4 = omega arith;
+  burst5 = omega arith;
+  lost = omega arith;
+  bits = omega arith;
+  groups = omega arith;
+  complete = omega arith;
+  acquired = omega arith;
+  losses = omega arith;
+}
+
+none_at_most : (n : ℕ) → IsAtMost n (totals_of [])
+none_at_most n = record {
+  valid = omega arith;
+  burst1 = omega arith;
+  burst2 = omega arith;
+  burst3 = omega arith;
+  burst4 = omega arith;
+  burst5 = omega arith;
+  lost = omega arith;
+  bits = omega arith;
+  groups = omega arith;
+  complete = omega arith;
+  acquired = omega arith;
+  losses = omega arith;
+}
+
+-- a burst lies in a block
+reading_small : ReadsByRule → (w x : ℕ) (wanted : Wanted) (limit : ℕ) → 1 ≤ x → x ≤ 4 → limit ≤ 5 → bits_corrected (Read (reading w x wanted limit)) < 2 ^ 26
+reading_small law w x wanted limit low high few = at_case (reading w x wanted limit) ((law w x wanted limit (reading w x wanted limit) low high few).1 refl) where
+  at_case : (r : Reading) → IsReading w x wanted limit r → bits_corrected (Read r) < 2 ^ 26
+  at_case (Valid o info) h = omega arith
+  at_case (Corrected o info e) h = let l = ones_le_self e in let b = h.1.fits.burst.is_block in omega (arith, l, b)
+  at_case Lost h = omega arith
+
+module _ (b : List ℕ) (rules : RuleNumbers) (law : ReadsByRule) (few : rules.burst ≤ 5) where
+  block_small : (f x p : ℕ) (wanted : Wanted) (y : ℕ) → 1 ≤ y → y ≤ 4 → bits_corrected (block_at b rules f x p wanted y) < 2 ^ 26
+  block_small f x p wanted y low high = at_case (nat_le f y && nat_le y x) where
+    at_case : (t : Bool) → bits_corrected (if t then Read (reading (window b (p - 26 * (x - y))) y wanted rules.burst) else Missing) < 2 ^ 26
+    at_case true = reading_small law (window b (p - 26 * (x - y))) y wanted rules.burst low high few
+    at_case false = omega arith
+
+  closed_at_most : (f x p : ℕ) → IsAtMost (2 ^ 28 - 4) (totals_of (GroupItem (group b rules f x p) ∷ []))
+  unfolding group
+  closed_at_most f x p =
+      let block = block_at b rules f x p in
+      let second = block Either 2 in
+      group_at_most (group b rules f x p) (block Either 1) second (block (wanted_beside second) 3) (block Either 4) refl
+      (block_small f x p Either 1 (omega arith) (omega arith)) (block_small f x p Either 2 (omega arith) (omega arith))
+      (block_small f x p (wanted_beside second) 3 (omega arith) (omega arith)) (block_small f x p Either 4 (omega arith) (omega arith))
+
+  after_at_most : (f x i : ℕ) (t : Bool) → IsAtMost (2 ^ 28 - 4) (totals_of (elim t [ true ↦ GroupItem (group b rules f x i) ∷ [] | false ↦ [] ]))
+  after_at_most f x i true = closed_at_most f x i
+  after_at_most f x i false = none_at_most (2 ^ 28 - 4)
+
+  module _ (join : TotalsJoin) where
+    both_at_most : (m n : ℕ) (xs ys : List Item) → IsAtMost m (totals_of xs) → IsAtMost n (totals_of ys) → IsAtMost (m + n) (totals_of (xs ++ ys))
+    both_at_most m n xs ys h k = subst (λ (t : Totals). IsAtMost (m + n) t) (sym (join xs ys).joined) (at_most-plus m n (totals_of xs) (totals_of ys) h k)
+
+    -- what one bit gives
+    bit_at_most : (i : ℕ) (s : State) → IsAtMost per_bit (totals_of (items_at b rules i s))
+    bit_at_most i Searching = at_case (acquired b rules i) where
+      at_case : (o : Option ℕ) → IsAtMost per_bit (totals_of (elim o [ None ↦ [] | Some x ↦ Acquired i x ∷ group_after b rules x x i ]))
+      at_case None = none_at_most per_bit
+      at_case (Some x) = at_most_more (1 + (2 ^ 28 - 4)) per_bit _ (lit≤ tt)
+          (both_at_most 1 (2 ^ 28 - 4) (Acquired i x ∷ []) (group_after b rules x x i) (acquired_at_most i x) (after_at_most x x i (x == 4)))
+    bit_at_most i (Locked due x bad f) = at_case (due == i) (nat_lt (bad_after b i x bad) rules.loss) where
+      at_case : (here kept : Bool) → IsAtMost per_bit (totals_of (elim here [
+        | false ↦ []
+        | true ↦ elim kept [ true ↦ group_after b rules f x i | false ↦ GroupItem (group b rules f x i) ∷ LostLock i ∷ [] ]
+      ]))
+      at_case false kept = none_at_most per_bit
+      at_case true true = at_most_more (2 ^ 28 - 4) per_bit _ (lit≤ tt) (after_at_most f x i (x == 4))
+      at_case true false = at_most_more (2 ^ 28 - 4 + 1) per_bit _ (lit≤ tt)
+          (both_at_most (2 ^ 28 - 4) 1 (GroupItem (group b rules f x i) ∷ []) (LostLock i ∷ []) (closed_at_most f x i) (lost_at_most i))
+
+    -- what a run gives
+    pub run_at_most : (s : State) (a n : ℕ) → IsAtMost (per_bit * n) (totals_of (run b rules s a n).1)
+    run_at_most s a zero = none_at_most (per_bit * 0)
+    run_at_most s a (suc n) =
+        let sum : per_bit + per_bit * n ≤ per_bit * suc n = omega arith in
+        at_most_more (per_bit + per_bit * n) (per_bit * suc n) _ sum
+        (both_at_most per_bit (per_bit * n) (items_at b rules a s) (run b rules (step b rules a s) (a + 1) n).1 (bit_at_most a s) (run_at_most (step b rules a s) (a + 1) n))

@@ -1,0 +1,181 @@
+use Rattle.std.proofs.Common.{◌≡◌, ◌≢◌, ℕ, List, ◌++◌, [], ◌∷◌, ◌+◌, ◌-◌, ◌<◌, ◌≤◌, length, get_or, drop, sym, ap, ◌∙◌, subst, arith, refl}
+use Rattle.rds_sync.specs.declared.state.State.TheVariants.{Searching}
+use Rattle.rds_sync.specs.Rules.{RuleNumbers}
+use Rattle.rds_sync.specs.Lawful.{IsLawful, IsBetweenGroups}
+use Rattle.rds_sync.specs.Advance.{reads_most}
+use Rattle.rds_sync.specs.Step.{run}
+use Rattle.rds_pieces.specs.declared.mark.Mark.{Mark}
+use Rattle.rds_pieces.specs.Advance.{IsStepTo}
+use Rattle.rds_pieces.specs.MarksOn.{marks_on}
+use Rattle.rds_pieces.specs.RunOf.{RunOf}
+use Rattle.rds_pieces.specs.Walk.{next_place}
+use Rattle.rds_pieces.proofs.BesideLemmas.{IsBeside, beside_start, beside_near, beside_next, place_after}
+use Rattle.rds_pieces.proofs.MarkLaws.{marks_on-more, last_index}
+use Rattle.rds_pieces.proofs.ReadsLemmas.{IsPaid, paid_room, paid_most, paid_start, paid_on, paid_step, paid_all}
+use Rattle.rds_pieces.proofs.SeamLemmas.{renamed, found, unread, own, said, IsCarried, items_on, limit_ahead, limit_inside, met_first, never_met}
+use Rattle.rds_pieces.proofs.seams.go_along.Given.{Over}
+use Rattle.rds_pieces.proofs.seams.go_along.Goals as goal
+
+pub advance_marked-requires-clause-lawful : goal.advance_marked-requires-clause-lawful
+advance_marked-requires-clause-lawful g c = subst (λ (y : RuleNumbers). IsLawful y c.along.place c.along.state) c.requires.rules c.along.invariant.beside.carried.lawful
+
+pub advance_marked-requires-clause-few : goal.advance_marked-requires-clause-few
+advance_marked-requires-clause-few g c =
+    let r = c.args.run.now in
+    let inside = c.along.invariant.beside.carried.inside.1 in
+    let end = c.range-from.ensures.inside.1 in
+    let few = c.range-from.ensures.few in
+    paid_room r.source r.rules (g.T.Tape.reads_made c.args.tape.now) r.from (g.T.Tape.reads_made c.along.tape) c.along.place c.along.state
+    c.range-from.ensures.rules (omega (arith, inside, end, few)) c.requires.room c.along.invariant.paid
+
+pub advance_marked-requires-clause-ahead : goal.advance_marked-requires-clause-ahead
+advance_marked-requires-clause-ahead g c =
+    let r = c.args.run.now in
+    let beside = c.along.invariant.beside in
+    let other : c.along.place ≢ r.to = λ e. c.if-place-to.false (e ∙ sym c.range-from.ensures.end) in
+    limit_ahead r.source r.rules r.from r.to c.run_laws.ensures c.range-from.ensures.rules.some_loss c.args.state c.along.place beside.index c.along.limit c.along.state beside.carried other
+    (place_after r.source r.rules r.from r.to c.args.state c.along.place c.along.state c.along.mark c.along.ahead c.along.limit beside)
+
+pub advance_marked-requires-clause-inside : goal.advance_marked-requires-clause-inside
+advance_marked-requires-clause-inside g c =
+    let r = c.args.run.now in
+    let beside = c.along.invariant.beside in
+    let high = limit_inside r.source r.rules r.from r.to c.run_laws.ensures c.range-from.ensures.rules.some_loss c.args.state c.along.place beside.index c.along.limit c.along.state beside.carried
+    (place_after r.source r.rules r.from r.to c.args.state c.along.place c.along.state c.along.mark c.along.ahead c.along.limit beside) in
+    let all = c.range-from.ensures.inside.1 in
+    let bits = ap (λ (b : List ℕ). length b) c.along.invariant.same in
+    omega (arith, high, all, bits)
+
+pub along-init : goal.along-init
+along-init g c =
+    let r = c.args.run.now in
+    let range = c.range-from.ensures in
+    let lawful : IsLawful r.rules r.from c.args.state = subst (λ (y : RuleNumbers). IsLawful y r.from c.args.state) (sym c.requires.rules) c.requires.lawful in
+    let z : 0 ≡ r.from - r.from = omega arith in
+    rw range.first (record {
+      beside = beside_start r.source r.rules r.from r.to c.run_laws.ensures range.rules.some_loss c.args.state c.in-Some.mark c.next.new.self c.place_of_next-limit.result range.inside.0 lawful
+          (sym c.marks.ensures ∙ sym c.iter-ahead.ensures ∙ c.in-Some.ensures.steps)
+          (c.place_of_next-limit.ensures ∙ ap (λ (p : ℕ). next_place c.next.new.self p) range.end);
+      items_are = c.new-items.ensures ∙ ap (λ (n : ℕ). (run r.source r.rules c.args.state r.from n).1) z;
+      marks_are = c.new-marks.ensures ∙ ap (λ (n : ℕ). marks_on r.source r.rules c.args.state r.from 0 n) z;
+      paid = paid_start r.source r.rules (g.T.Tape.reads_made c.args.tape.now) r.from c.args.state (let x = range.rules.some_reach in x) lawful;
+      same = sym c.requires.source;
+    })
+
+pub returns-in_err-next-clause-reads_most : goal.returns-in_err-next-clause-reads_most
+returns-in_err-next-clause-reads_most g c =
+    let r = c.args.run.now in
+    let inv = c.along.invariant in
+    let carried = inv.beside.carried in
+    let after_mark = place_after r.source r.rules r.from r.to c.args.state c.along.place c.along.state c.along.mark c.along.ahead c.along.limit inv.beside in
+    let other : c.along.place ≢ r.to = λ e. c.if-place-to.false (e ∙ sym c.range-from.ensures.end) in
+    let some = c.range-from.ensures.rules.some_loss in
+    let ahead = limit_ahead r.source r.rules r.from r.to c.run_laws.ensures some c.args.state c.along.place inv.beside.index c.along.limit c.along.state carried other after_mark in
+    let high = limit_inside r.source r.rules r.from r.to c.run_laws.ensures some c.args.state c.along.place inv.beside.index c.along.limit c.along.state carried after_mark in
+    let few = subst (λ (y : RuleNumbers). g.T.Tape.reads_made c.advance_marked.new.tape ≤ g.T.Tape.reads_made c.along.tape + reads_most y c.along.state c.along.limit) (sym c.requires.rules) c.advance_marked.ensures.reads in
+    paid_step r.source r.rules (g.T.Tape.reads_made c.args.tape.now) r.from (g.T.Tape.reads_made c.along.tape) (g.T.Tape.reads_made c.advance_marked.new.tape) c.along.place c.along.limit r.to c.along.state
+    carried.inside.0 (omega (arith, ahead, high)) high carried.lawful inv.paid few
+
+-- what a step leaves, whatever marks it comes to
+module _ (g : Over) (c : goal.In_ok-next g) where
+  abbrev r : RunOf
+  r = c.args.run.now
+
+  apart : ¬ ((c.along.state ≡ c.along.mark.state) × IsBetweenGroups c.along.state)
+  apart = λ p. (let t = c.meets.ensures.1 p in let f = c.if-meets.false in cc)
+
+  goes : IsStepTo r.source r.rules c.along.state c.along.place c.along.limit c.in_ok-next.next c.in_ok-next.after
+  goes = renamed (λ b rules. IsStepTo b rules c.along.state c.along.place c.along.limit c.in_ok-next.next c.in_ok-next.after) (g.T.Tape.bits c.along.tape) r.source c.args.rules.now r.rules
+      c.along.invariant.same (sym c.requires.rules) c.in_ok-next.ensures.step
+
+  items_after : c.advance_marked.new.items ≡ (own r.source r.rules r.from r.to c.args.state c.in_ok-next.next).1
+  items_after =
+      let inv = c.along.invariant in
+      items_on r.source r.rules r.from r.to c.run_laws.ensures c.range-from.ensures.rules.some_loss c.args.state c.along.place inv.beside.index c.along.limit c.in_ok-next.next c.along.state c.in_ok-next.after
+      inv.beside.carried (λ p. apart (p.0 ∙ sym (ap (λ (m : Mark). m.state) inv.beside.passed_is), p.1)) goes
+      (place_after r.source r.rules r.from r.to c.args.state c.along.place c.along.state c.along.mark c.along.ahead c.along.limit inv.beside)
+      [] c.along.items c.advance_marked.new.items inv.items_are
+      (renamed (λ b rules. c.advance_marked.new.items ≡ c.along.items ++ (run b rules c.along.state c.along.place (c.in_ok-next.next - c.along.place)).1)
+          (g.T.Tape.bits c.along.tape) r.source c.args.rules.now r.rules inv.same (sym c.requires.rules) c.in_ok-next.ensures.items)
+
+  marks_after : c.advance_marked.new.marks ≡ marks_on r.source r.rules c.args.state r.from 0 (c.in_ok-next.next - r.from)
+  marks_after =
+      let inv = c.along.invariant in
+      let m = goes.moved.0 in
+      marks_on-more r.source r.rules c.run_laws.ensures c.args.state c.along.state r.from c.along.place c.in_ok-next.next 0 [] c.along.items [] c.along.marks c.advance_marked.new.marks
+      inv.beside.carried.inside.0 (omega (arith, m)) inv.beside.carried.state_is inv.items_are refl inv.marks_are
+      (renamed (λ b rules. c.advance_marked.new.marks ≡ c.along.marks ++ marks_on b rules c.along.state c.along.place (length c.along.items) (c.in_ok-next.next - c.along.place))
+          (g.T.Tape.bits c.along.tape) r.source c.args.rules.now r.rules inv.same (sym c.requires.rules) c.in_ok-next.ensures.marks)
+
+  paid_after : IsPaid r.source r.rules (g.T.Tape.reads_made c.args.tape.now) r.from (g.T.Tape.reads_made c.advance_marked.new.tape) c.in_ok-next.next c.in_ok-next.after
+  paid_after =
+      let inv = c.along.invariant in
+      paid_on r.source r.rules (g.T.Tape.reads_made c.args.tape.now) r.from c.run_laws.ensures (g.T.Tape.reads_made c.along.tape) (g.T.Tape.reads_made c.advance_marked.new.tape)
+      c.along.place c.along.limit c.in_ok-next.next c.along.state c.in_ok-next.after inv.beside.carried.inside.0 inv.beside.carried.lawful inv.paid goes
+      (subst (λ (y : RuleNumbers). g.T.Tape.reads_made c.advance_marked.new.tape ≤ g.T.Tape.reads_made c.along.tape + reads_most y c.along.state c.along.limit) (sym c.requires.rules) c.advance_marked.ensures.reads)
+
+  near_after : (ahead : List Mark) → ¬ ((c.in_ok-next.next ≡ c.along.limit) × (0 < length c.along.ahead)) → ahead ≡ c.along.ahead
+      → IsBeside r.source r.rules r.from r.to c.args.state c.in_ok-next.next c.in_ok-next.after c.along.mark ahead c.along.limit
+  near_after ahead other same =
+      beside_near r.source r.rules r.from r.to c.run_laws.ensures c.range-from.ensures.rules.some_loss c.args.state c.along.place c.in_ok-next.next c.along.state c.in_ok-next.after c.along.mark
+      c.along.ahead ahead c.along.limit c.along.invariant.beside apart goes other same
+
+  next_after : (reached : Mark) (ahead : List Mark) (limit : ℕ) → c.in_ok-next.next ≡ c.along.limit → c.along.ahead ≡ reached ∷ ahead → limit ≡ next_place ahead r.to
+      → IsBeside r.source r.rules r.from r.to c.args.state c.in_ok-next.next c.in_ok-next.after reached ahead limit
+  next_after reached ahead limit same parted l =
+      beside_next r.source r.rules r.from r.to c.run_laws.ensures c.range-from.ensures.rules.some_loss c.args.state c.along.place c.in_ok-next.next c.along.state c.in_ok-next.after c.along.mark reached
+      c.along.ahead ahead c.along.limit limit c.along.invariant.beside apart goes same parted l
+
+pub returns-then-meets-clause-met : goal.returns-then-meets-clause-met
+returns-then-meets-clause-met g c =
+    let r = c.args.run.now in
+    let beside = c.along.invariant.beside in
+    let carried = beside.carried in
+    let some = c.range-from.ensures.rules.some_loss in
+    let met = c.meets.ensures.0 c.if-meets.true in
+    let said_there = said r.source r.rules r.from r.to c.run_laws.ensures some beside.index c.along.place carried.inside.0 carried.inside.1 carried.last in
+    record {
+      first = met_first r.source r.rules r.from r.to c.run_laws.ensures some c.args.state c.along.place beside.index c.along.state carried (met.0 ∙ ap (λ (m : Mark). m.state) beside.passed_is) met.1;
+      items_are = ap (λ (m : Mark). m.items) beside.passed_is ∙ said_there.count;
+      ahead_are = beside.ahead_are
+          ∙ ap (λ (k : ℕ). drop k (found r.source r.rules r.from r.to)) (last_index r.source r.rules c.run_laws.ensures r.from r.to beside.index c.along.place carried.inside.0 carried.inside.1 carried.last);
+    }
+
+pub returns-then-place-to-clause-met : goal.returns-then-place-to-clause-met
+returns-then-place-to-clause-met g c =
+    let r = c.args.run.now in
+    let beside = c.along.invariant.beside in
+    let apart : ¬ ((c.along.state ≡ (get_or (found r.source r.rules r.from r.to) beside.index (unread r.source r.rules r.from r.to)).state) × IsBetweenGroups c.along.state) =
+    λ p. (let t = c.meets.ensures.1 (p.0 ∙ sym (ap (λ (m : Mark). m.state) beside.passed_is), p.1) in let f = c.if-meets.false in cc) in
+    let end : c.along.place ≡ r.to = c.if-place-to.true ∙ c.range-from.ensures.end in
+    let there = subst (λ (p : ℕ). IsCarried r.source r.rules r.from r.to c.args.state p beside.index c.along.state) end beside.carried in
+    record {
+      ends = end;
+      never = never_met r.source r.rules r.from r.to c.run_laws.ensures c.range-from.ensures.rules.some_loss c.args.state beside.index c.along.state there apart;
+    }
+
+pub returns-then-meets-clause-walk : goal.returns-then-meets-clause-walk
+returns-then-meets-clause-walk g c = let carried = c.along.invariant.beside.carried in record { inside = carried.inside; state_is = carried.state_is }
+
+pub returns-then-place-to-clause-walk : goal.returns-then-place-to-clause-walk
+returns-then-place-to-clause-walk g c = let carried = c.along.invariant.beside.carried in record { inside = carried.inside; state_is = carried.state_is }
+
+pub returns-then-meets-clause-reads : goal.returns-then-meets-clause-reads
+returns-then-meets-clause-reads g c =
+    let r = c.args.run.now in
+    paid_most r.source r.rules (g.T.Tape.reads_made c.args.tape.now) r.from (g.T.Tape.reads_made c.along.tape) c.along.place (c.along.place - r.from) c.along.state refl c.along.invariant.paid
+
+pub returns-then-place-to-clause-reads : goal.returns-then-place-to-clause-reads
+returns-then-place-to-clause-reads g c =
+    let r = c.args.run.now in
+    paid_most r.source r.rules (g.T.Tape.reads_made c.args.tape.now) r.from (g.T.Tape.reads_made c.along.tape) c.along.place (c.along.place - r.from) c.along.state refl c.along.invariant.paid
+
+pub returns-then-meets-clause-reads_most : goal.returns-then-meets-clause-reads_most
+returns-then-meets-clause-reads_most g c =
+    let r = c.args.run.now in
+    paid_all r.source r.rules (g.T.Tape.reads_made c.args.tape.now) r.from (g.T.Tape.reads_made c.along.tape) c.along.place r.to c.along.state c.along.invariant.beside.carried.inside.1 c.along.invariant.paid
+
+pub returns-then-place-to-clause-reads_most : goal.returns-then-place-to-clause-reads_most
+returns-then-place-to-clause-reads_most g c =
+    let r = c.args.run.now in
+    paid_all r.source r.rules (g.T.Tape.reads_made c.args.tape.now) r.from (g.T.Tape.reads_made c.along.tape) c.along.place r.to c.along.state c.along.invariant.beside.carried.inside.1 c.along.invariant.paid

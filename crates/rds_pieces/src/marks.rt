@@ -1,0 +1,231 @@
+//! The marks of a run, kept in rows: while a station is locked and each group gives one item, all of its marks are one row.
+ghost use Rattle.std.specs.Prelude.{◌≡◌, ℕ, ◌+◌, ◌-◌, ◌*◌, ◌++◌, ◌<◌, ◌^◌, ◌↔◌, [], ◌∷◌, IsTrue, MatchOption, OnOk, OnErr, drop};
+ghost use Rattle.std.specs.List.{flat_map};
+ghost use Rattle.std.specs.Iterator.{YieldsFirst, item_count};
+ghost use Rattle.rds_pieces.specs.Later.{later, due_of, state_later};
+
+use crate::mark::Mark;
+use rds_sync::State;
+use std::alloc::{AllocError, Global};
+use std::marker::Model;
+
+/// The bits of a group.
+const GROUP_BITS: u64 = 104;
+
+/// One mark or more, each a group and one item after the one before it, and else alike.
+#[derive(Clone, Copy, Debug)]
+struct Row {
+    first: Mark,
+    count: u64,
+    ghost some: { 0 < count },
+    ghost places_fit: { first.place + 104 * (count - 1) < 2 ^ 64 },
+    ghost due_fits: { due_of first.state + 104 * (count - 1) < 2 ^ 64 },
+    ghost items_fit: { first.items + (count - 1) < 2 ^ 64 },
+}
+
+impl Row {
+    /// The row of this mark alone.
+    fn of(first: Mark) -> Row
+        ensures first { result.first ≡ first }
+        ensures count { result.count ≡ 1 }
+    {
+        Row { first, count: 1 }
+    }
+
+    /// Mark `i` of the row, from 0 on.
+    fn mark(&self, i: u64) -> Mark
+        requires { i < self.now.count }
+        ensures { result ≡ later self.now.first i }
+    {
+        let bits = i * GROUP_BITS;
+        Mark {
+            place: self.first.place + bits,
+            state: state_after(self.first.state, bits),
+            items: self.first.items + i,
+        }
+    }
+
+    /// Whether this mark comes next in the row.
+    fn goes_on_with(&self, mark: Mark) -> bool
+        ensures { IsTrue result ↔ (mark ≡ later self.now.first self.now.count) }
+    {
+        let Some(bits) = self.count.checked_mul(GROUP_BITS) else {
+            return false;
+        };
+        mark.place.checked_sub(self.first.place) == Some(bits)
+            && mark.items.checked_sub(self.first.items) == Some(self.count)
+            && is_after(mark.state, self.first.state, bits)
+    }
+}
+
+impl Row {
+    ghost use Rattle.rds_pieces.specs.Rows.{marks_in};
+
+    /// Puts a mark behind those of the rows: into the last row where that goes on with it, and else into a row of its own.
+    fn push(rows: &mut Vec<Row>, mark: Mark) -> Result<(), AllocError>
+        ensures ok { OnOk result (flat_map marks_in rows.new.items ≡ flat_map marks_in rows.old.items ++ mark ∷ []) }
+        ensures err { OnErr result (rows.new.items ≡ rows.old.items) }
+    {
+        let count = rows.len();
+        if count > 0 {
+            let last = rows[count - 1];
+            if last.goes_on_with(mark) {
+                rows[count - 1] = Row {
+                    first: last.first,
+                    count: last.count + 1,
+                };
+                return Ok(());
+            }
+        }
+        rows.push(Row::of(mark))?;
+        Ok(())
+    }
+}
+
+/// The state so many bits later, where nothing but the block that is due has changed.
+fn state_after(state: State, bits: u64) -> State
+    requires { due_of state + bits < 2 ^ 64 }
+    ensures { result ≡ state_later state bits }
+{
+    match state {
+        State::Searching => State::Searching,
+        State::Locked {
+            due,
+            number,
+            bad,
+            first,
+        } => State::Locked {
+            due: due + bits,
+            number,
+            bad,
+            first,
+        },
+    }
+}
+
+/// Whether this state is the other so many bits later, where nothing but the block that is due has changed.
+fn is_after(state: State, other: State, bits: u64) -> bool
+    ensures { IsTrue result ↔ (state ≡ state_later other bits) }
+{
+    match (state, other) {
+        (State::Searching, State::Searching) => true,
+        (
+            State::Locked {
+                due,
+                number,
+                bad,
+                first,
+            },
+            State::Locked {
+                due: other_due,
+                number: other_number,
+                bad: other_bad,
+                first: other_first,
+            },
+        ) => {
+            due.checked_sub(other_due) == Some(bits)
+                && number == other_number
+                && bad == other_bad
+                && first == other_first
+        }
+        _ => false,
+    }
+}
+
+/// A list of marks. Contracts see the list.
+#[derive(Debug, Drop)]
+pub struct Marks {
+    rows: Vec<Row>,
+}
+
+impl Model for Marks {
+    ghost use Rattle.std.specs.Prelude.{List};
+    ghost use Rattle.std.specs.List.{flat_map};
+    ghost use Rattle.rds_pieces.specs.declared.mark.Mark.{Mark};
+
+    ghost Value = { List Mark };
+
+    ghost use Rattle.rds_pieces.specs.Rows.{marks_in};
+
+    ghost view = { λ m. flat_map marks_in m.rows.items };
+}
+
+impl Marks {
+    /// No marks. Takes no memory.
+    pub fn new(alloc: Global) -> Marks
+        ensures { result ≡ [] }
+    {
+        Marks {
+            rows: Vec::new(alloc),
+        }
+    }
+
+    /// Appends a mark. A refusal leaves the list as it was.
+    pub fn push(&mut self, mark: Mark) -> Result<(), AllocError>
+        ensures ok { OnOk result (self.new ≡ self.old ++ mark ∷ []) }
+        ensures err { OnErr result (self.new ≡ self.old) }
+    {
+        Row::push(&mut self.rows, mark)
+    }
+
+    /// The marks in order.
+    pub fn iter(&self) -> MarkIter<'_>
+        ensures { result ≡ self.now }
+    {
+        MarkIter {
+            rows: self.rows.as_slice(),
+            taken: 0,
+        }
+    }
+}
+
+/// The marks of a list that are left to come. Contracts see the list of them.
+#[derive(Debug, Drop)]
+pub struct MarkIter<'a> {
+    rows: &'a [Row],
+    /// How many marks of the first of these rows have come.
+    taken: u64,
+}
+
+impl<'a> Model for MarkIter<'a> {
+    ghost use Rattle.std.specs.Prelude.{List, drop};
+    ghost use Rattle.std.specs.List.{flat_map};
+    ghost use Rattle.rds_pieces.specs.declared.mark.Mark.{Mark};
+
+    ghost Value = { List Mark };
+
+    ghost use Rattle.rds_pieces.specs.Rows.{marks_in, IsWithinFirst};
+
+    ghost view = { λ m. drop m.taken (flat_map marks_in m.rows.now) };
+
+    ghost invariant = { λ m. IsWithinFirst m.taken m.rows.now };
+}
+
+impl MarkIter<'_> {
+    /// The next mark, which stays to come.
+    pub fn peek(&self) -> Option<Mark>
+        ensures { MatchOption result (self.now ≡ []) (λ m. self.now ≡ m ∷ drop 1 self.now) }
+    {
+        let (row, _rest) = self.rows.split_first()?;
+        Some(row.mark(self.taken))
+    }
+}
+
+impl Iterator for MarkIter<'_> {
+    type Item = Mark;
+
+    ghost next_gives = { YieldsFirst (λ s. s) };
+
+    ghost remaining = { item_count (λ s. s) };
+
+    fn next(&mut self) -> Option<Mark> {
+        let (row, rest) = self.rows.split_first()?;
+        let mark = row.mark(self.taken);
+        self.taken += 1;
+        if self.taken == row.count {
+            self.rows = rest;
+            self.taken = 0;
+        }
+        Some(mark)
+    }
+}
