@@ -109,9 +109,10 @@ pub fn totals_of_rest(items: &Items, first: usize) -> Totals
     Totals::of(items).less(Totals::of_range(items, 0, first))
 }
 
-/// No list adds to the totals of another where it is empty.
-pub fn totals_of_none(alloc: Global) -> Totals
-    ensures { result ≡ totals_of [] }
+/// Three lists are not too long for the sum of their totals.
+pub fn totals_of_three(items: &Items) -> Totals
+    requires { length items.now ≤ 2 ^ 40 }
+    ensures { result ≡ plus (plus (totals_of items.now) (totals_of items.now)) (totals_of items.now) }
 {
-    Totals::of(&Items::new(alloc))
+    Totals::of(items).plus(Totals::of(items)).plus(Totals::of(items))
 }

@@ -148,6 +148,7 @@ pub fn carried_on(
     requires rules { run.now.rules ≡ rules.now }
     ensures items { IfOk result (λ both. both.0 ++ both.1.items ≡ (run_of recording.now rules.now Searching 0 run.now.to).1) }
     ensures end { IfOk result (λ both. both.1.end_state ≡ (run_of recording.now rules.now Searching 0 run.now.to).0) }
+    ensures totals { IfOk result (λ both. both.1.totals ≡ totals_of both.1.items) }
 {
     laws_of_runs::runs_join();
     let before = rds_sync::run(alloc, recording, rules, State::Searching, 0, run.from());
