@@ -1,8 +1,8 @@
 //! Proved callers of the libraries: what each of their claims gives a user, in plain words.
 //!
-//! No program runs these functions. Each is a call or a few, and is proved from the contracts of what it calls alone. So a
-//! clause that goes, or that grows too weak for a user, is missed here, and the check fails. `docs/PROOFS.md` names the
-//! caller of each claim.
+//! No program runs these functions. Each is a call or a few, and is proved from the contracts of what it calls alone.
+//! So a clause that goes, or that grows too weak for a user, is missed here, and the check fails. `docs/PROOFS.md`
+//! names the caller of each claim.
 //!
 //! - [`code`]: remainders, offsets, bursts, blocks as they are sent and read.
 //! - [`stream`]: recordings, their windows, scans, planes and tapes.

@@ -81,7 +81,8 @@ pub fn second_guess(
 ) -> Result<PieceRun, PieceError>
     requires fits { IsCutting (length recording.now) cutting.now }
     requires two { pieces_of cutting.now ≡ 2 }
-    ensures run { IfOk result (λ run. run ≡ run_over recording.now rules.now (slice_index cutting.now 1) (slice_index cutting.now 2)) }
+    ensures run { IfOk result (λ run. run
+        ≡ run_over recording.now rules.now (slice_index cutting.now 1) (slice_index cutting.now 2)) }
     ensures refused { IfErr result (λ error. error ≡ OutOfMemory) }
 {
     speculate(alloc, recording, rules, cutting, 1)
@@ -187,7 +188,8 @@ pub fn cost_of_seam<T: Tape>(
     requires rules { run.now.rules ≡ rules.now }
     requires room { T.reads_made tape.old ≤ 2 ^ 62 }
     ensures refused { IfErr result (λ error. error ≡ OutOfMemory) }
-    ensures reads { T.reads_made tape.new ≤ T.reads_made tape.old + (rules.now.reach + 2) * (run.now.to - run.now.from + 1) }
+    ensures reads { T.reads_made tape.new
+        ≤ T.reads_made tape.old + (rules.now.reach + 2) * (run.now.to - run.now.from + 1) }
     ensures same { T.bits tape.new ≡ T.bits tape.old }
 {
     seam(alloc, tape, rules, State::Searching, run)
@@ -240,8 +242,10 @@ pub fn row_after_join(
     right: &PieceRun,
     after: &[PieceRun],
 )
-    requires { FollowEachOther recording.now rules.now 0 (length recording.now) (before.now ++ left.now ∷ right.now ∷ after.now) }
-    ensures { FollowEachOther recording.now rules.now 0 (length recording.now) (before.now ++ run_over recording.now rules.now left.now.from right.now.to ∷ after.now) }
+    requires { FollowEachOther recording.now rules.now 0 (length recording.now)
+        (before.now ++ left.now ∷ right.now ∷ after.now) }
+    ensures { FollowEachOther recording.now rules.now 0 (length recording.now)
+        (before.now ++ run_over recording.now rules.now left.now.from right.now.to ∷ after.now) }
 {
     laws::joined_runs_follow();
 }

@@ -1,4 +1,4 @@
-//! What a user of `rds_sync` relies on: rules, lawful states, steps over a tape, runs over a range, and the report of a recording.
+//! What a user of `rds_sync` relies on: rules, lawful states, steps over a tape, runs over a range, and reports.
 ghost use Rattle.std.specs.Prelude.{◌≡◌, ◌≢◌, ℕ, ◌+◌, ◌-◌, ◌*◌, ◌<◌, ◌≤◌, ◌^◌, ◌++◌, ◌↔◌, [], IsTrue, IfOk, IfErr, IsErrOf, None, Some, count_by, length, slice_get, true};
 ghost use Rattle.rds_sync.specs.declared.item.Block.{Block as ABlock};
 ghost use Rattle.rds_sync.specs.declared.error.SyncError.TheVariants.{BurstRange, LossRange, OutOfMemory, ReachRange};
@@ -73,7 +73,8 @@ pub fn word_or(block: &Block, other: u16) -> u16
 pub fn has_four_words(recording: &Recording, rules: &Rules, place: u64, group: &Group) -> bool
     requires place { 103 ≤ place }
     requires group { group.now ≡ group_at recording.now rules.now 1 4 place }
-    ensures { IsTrue result ↔ ((y : ℕ) → 1 ≤ y → y ≤ 4 → (block : ABlock) × (word : ℕ) × IsBlock group.now y block × (info_of block ≡ Some word)) }
+    ensures { IsTrue result ↔ ((y : ℕ) → 1 ≤ y → y ≤ 4
+        → (block : ABlock) × (word : ℕ) × IsBlock group.now y block × (info_of block ≡ Some word)) }
 {
     laws::groups_are_read();
     group.is_complete()
@@ -252,7 +253,8 @@ pub fn merged_ends(
     requires other { IsLawful rules.now from states.1 }
     requires order { from ≤ middle }
     requires within { middle ≤ length recording.now }
-    requires met { (run_of recording.now rules.now states.0 from (middle - from)).0 ≡ (run_of recording.now rules.now states.1 from (middle - from)).0 }
+    requires met { (run_of recording.now rules.now states.0 from (middle - from)).0
+        ≡ (run_of recording.now rules.now states.1 from (middle - from)).0 }
     ensures { IfOk result (λ ends. ends.0 ≡ ends.1) }
 {
     laws::runs_merge();

@@ -19,8 +19,8 @@ use std::thread::Threads;
 
 // ---- what is written
 
-/// The listing of the bytes of a recording: the rows of the items of its locks, and those of their totals, whoever works
-/// and however the recording is cut.
+/// The listing of the bytes of a recording: the rows of the items of its locks, and those of their totals, whoever
+/// works and however the recording is cut.
 pub fn listing<R: Threads + Wait + Sync>(
     rt: &R,
     alloc: Global,
@@ -30,7 +30,8 @@ pub fn listing<R: Threads + Wait + Sync>(
 ) -> Option<Vec<u8>>
     requires few { 8 * length bytes.now ≤ 2 ^ 36 }
     requires job { IsListBy job.now rules.now }
-    ensures { IfSome result (λ text. let items = report_items (all_bits bytes.now) rules.now in text.items ≡ report_text items (totals_of items)) }
+    ensures { IfSome result (λ text. let items = report_items (all_bits bytes.now) rules.now in
+        text.items ≡ report_text items (totals_of items)) }
 {
     let mut writer = ToWrite::new(Vec::new(alloc));
     match transcribe(rt, alloc, &mut FromRead::new(bytes), &mut writer, job) {
@@ -49,7 +50,8 @@ pub fn totals<R: Threads + Wait + Sync>(
 ) -> Option<Vec<u8>>
     requires few { 8 * length bytes.now ≤ 2 ^ 36 }
     requires job { IsTotalsBy job.now rules.now }
-    ensures { IfSome result (λ text. text.items ≡ totals_text (totals_of (report_items (all_bits bytes.now) rules.now))) }
+    ensures { IfSome result (λ text. text.items
+        ≡ totals_text (totals_of (report_items (all_bits bytes.now) rules.now))) }
 {
     let mut writer = ToWrite::new(Vec::new(alloc));
     match transcribe(rt, alloc, &mut FromRead::new(bytes), &mut writer, job) {
@@ -104,7 +106,8 @@ pub fn gated_listing<R: Threads + Wait + Sync, G: Gate + Sync>(
 ) -> Option<Vec<u8>>
     requires few { 8 * length bytes.now ≤ 2 ^ 36 }
     requires job { IsListBy job.now rules.now }
-    ensures { IfSome result (λ text. let items = report_items (all_bits bytes.now) rules.now in text.items ≡ report_text items (totals_of items)) }
+    ensures { IfSome result (λ text. let items = report_items (all_bits bytes.now) rules.now in
+        text.items ≡ report_text items (totals_of items)) }
 {
     let mut writer = ToWrite::new(Vec::new(alloc));
     match transcribe_gated(rt, alloc, &mut FromRead::new(bytes), &mut writer, job, gate) {
@@ -121,8 +124,10 @@ pub fn appended<R: Threads + Wait + Sync>(
     text: Vec<u8>,
     job: &Job,
 ) -> (Result<(), ToolError>, Vec<u8>)
-    ensures whole { OnOk result.0 ((more : List ℕ) × (outcome job.now bytes.now ≡ Ok more) × (result.1.items ≡ text.items ++ more)) }
-    ensures part { IsErrOf result.0 Write → (more rest : List ℕ) × (outcome job.now bytes.now ≡ Ok (more ++ rest)) × (result.1.items ≡ text.items ++ more) }
+    ensures whole { OnOk result.0 ((more : List ℕ)
+        × (outcome job.now bytes.now ≡ Ok more) × (result.1.items ≡ text.items ++ more)) }
+    ensures part { IsErrOf result.0 Write → (more rest : List ℕ)
+        × (outcome job.now bytes.now ≡ Ok (more ++ rest)) × (result.1.items ≡ text.items ++ more) }
     ensures none { IfErr result.0 (λ error. error ≢ Write → result.1.items ≡ text.items) }
 {
     let mut writer = ToWrite::new(text);
@@ -185,8 +190,8 @@ pub fn writer_blamed<R: Threads + Wait + Sync, S: Source, K: Sink>(
     }
 }
 
-/// Fewer than 16,777,216 bytes that are scanned are refused for want of memory or by a device alone: they have an end, they
-/// are a recording, and no thread is asked for.
+/// Fewer than 16,777,216 bytes that are scanned are refused for want of memory or by a device alone: they have an end,
+/// they are a recording, and no thread is asked for.
 pub fn few_causes<R: Threads + Wait + Sync>(
     rt: &R,
     alloc: Global,
