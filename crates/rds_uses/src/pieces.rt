@@ -147,7 +147,8 @@ pub fn carried_on(
     requires range { (run.now.from ≤ run.now.to) × (run.now.to ≤ length recording.now) }
     requires source { run.now.source ≡ recording.now }
     requires rules { run.now.rules ≡ rules.now }
-    ensures items { IfOk result (λ both. both.0 ++ both.1.items ≡ (run_of recording.now rules.now Searching 0 run.now.to).1) }
+    ensures items { IfOk result (λ both. both.0 ++ both.1.items
+        ≡ (run_of recording.now rules.now Searching 0 run.now.to).1) }
     ensures end { IfOk result (λ both. both.1.end_state ≡ (run_of recording.now rules.now Searching 0 run.now.to).0) }
     ensures totals { IfOk result (λ both. both.1.totals ≡ totals_of both.1.items) }
 {
@@ -256,8 +257,10 @@ pub fn row_after_join(
 pub fn report_of_work<W: Work>(alloc: Global, work: &W) -> Result<Report, PieceError>
     requires fits { IsCutting (length (W.recording work.now)) (W.places work.now) }
     requires one { pieces_of (W.places work.now) ≡ 1 }
-    ensures items { IfOk result (λ report. report.items ≡ report_items (W.recording work.now) (W.rule_set work.now)) }
-    ensures totals { IfOk result (λ report. report.totals ≡ totals_of (report_items (W.recording work.now) (W.rule_set work.now))) }
+    ensures items { IfOk result (λ report. report.items
+        ≡ report_items (W.recording work.now) (W.rule_set work.now)) }
+    ensures totals { IfOk result (λ report. report.totals
+        ≡ totals_of (report_items (W.recording work.now) (W.rule_set work.now))) }
     ensures refused { IfErr result (λ error. error ≡ OutOfMemory) }
 {
     laws::pieces_follow();

@@ -213,7 +213,8 @@ pub fn one_stretch(
     requires before { place < to }
     requires within { to ≤ length recording.now }
     ensures moved { IfOk result (λ reached. (place < reached.place) × (reached.place ≤ to)) }
-    ensures items { IfOk result (λ reached. items.new ≡ items.old ++ (run_of recording.now rules.now Searching place (reached.place - place)).1) }
+    ensures items { IfOk result (λ reached. items.new
+        ≡ items.old ++ (run_of recording.now rules.now Searching place (reached.place - place)).1) }
     ensures refused { IfErr result (λ error. error ≡ OutOfMemory) }
 {
     stretch(recording, rules, State::Searching, place, to, items)
@@ -227,7 +228,8 @@ pub fn decoded_in_two(
     middle: u64,
 ) -> Result<(Items, Items, Option<Group>), SyncError>
     requires { middle ≤ length recording.now }
-    ensures items { IfOk result (λ found. (found.0 ++ found.1) ++ group_item found.2 ≡ report_items recording.now rules.now) }
+    ensures items { IfOk result (λ found. (found.0 ++ found.1) ++ group_item found.2
+        ≡ report_items recording.now rules.now) }
     ensures refused { IfErr result (λ error. error ≡ OutOfMemory) }
 {
     let _loss = rules.loss();
