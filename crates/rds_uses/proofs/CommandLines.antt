@@ -59,7 +59,7 @@ asks_for_help = refl
 pub help_or_memory : (answer : FaultKind) → MayAnswer (faults_of help_of_list) (entries_of help_of_list) answer → (answer ≡ Help) ⊎ (answer ≡ Memory)
 help_or_memory Help may = inl refl
 help_or_memory Memory may = inr refl
-help_or_memory Words (inl other) = 
+help_or_memory Words (inl other) =
     let among = other.2 in
     elim (rw asks_for_help at among) [ inl same ↦ absurd (other.1 same) | inr none ↦ absurd none ]
 help_or_memory Words (inr none) = let faults = none.0 in let no = rw asks_for_help at faults in cc

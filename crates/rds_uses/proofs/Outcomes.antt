@@ -33,7 +33,7 @@ module _ (make : List ℕ → List ℕ) (bits text : List ℕ) where
 module _ (bytes text : List ℕ) (few : 8 * length bytes ≤ 2 ^ 36) (rules : RuleNumbers) (settings : Settings) where
   list_if_crew : (crew : Result (Unit {0}) ToolError)
       → and_then (and_then (and_then crew (λ _. Ok (record { rules = rules; workers = settings.workers; cuts = settings.cuts }))) (λ plan. Ok (task.List plain plan)))
-        (λ task. text_of_task task bytes) ≡ Ok text
+      (λ task. text_of_task task bytes) ≡ Ok text
       → text ≡ list_text rules (all_bits bytes)
   list_if_crew (Ok done) is = if_cut (list_text rules) (all_bits bytes) text (cuts_bits settings.cuts (length (all_bits bytes))) (rw (all_bits-few bytes few) at is)
   list_if_crew (Err e) is = let none : Err e ≡ Ok text = is in cc
@@ -43,7 +43,7 @@ module _ (bytes text : List ℕ) (few : 8 * length bytes ≤ 2 ^ 36) (rules : Ru
 
   totals_if_crew : (crew : Result (Unit {0}) ToolError)
       → and_then (and_then (and_then crew (λ _. Ok (record { rules = rules; workers = settings.workers; cuts = settings.cuts }))) (λ plan. Ok (task.Totals plain plan)))
-        (λ task. text_of_task task bytes) ≡ Ok text
+      (λ task. text_of_task task bytes) ≡ Ok text
       → text ≡ totals_list rules (all_bits bytes)
   totals_if_crew (Ok done) is = if_cut (totals_list rules) (all_bits bytes) text (cuts_bits settings.cuts (length (all_bits bytes))) (rw (all_bits-few bytes few) at is)
   totals_if_crew (Err e) is = let none : Err e ≡ Ok text = is in cc

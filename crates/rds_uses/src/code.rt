@@ -8,12 +8,14 @@ ghost use Rattle.rds_code.specs.declared.reading.Reading.TheVariants.{Valid, Cor
 ghost use Rattle.rds_code.specs.Remainder.{IsRemainder, rem};
 ghost use Rattle.rds_code.specs.Offsets.{number};
 ghost use Rattle.rds_code.specs.Bursts.{IsBurst, bursts, span};
-ghost use Rattle.rds_code.specs.Reading.{FitsAlone, IsReading};
+ghost use Rattle.rds_code.specs.Reading.{FitsAlone, IsReading, reading};
 ghost use Rattle.rds_code.specs.Encoding.{IsBlockOf, third_offset};
 ghost use Rattle.rds_code.specs.Correction.{version_burst};
 
-use rds_code::{Burst, BurstTable, Offset, Reading, Wanted};
-use rds_code::{encode_block, encode_group, is_block, laws, offset_of, plain, read_block, rem26};
+use rds_code::{
+    Burst, BurstTable, Offset, Reading, Wanted, encode_block, encode_group, is_block, laws,
+    offset_of, plain, read_block, rem26,
+};
 
 // ---- remainders
 
@@ -220,12 +222,7 @@ pub fn damaged_and_read(
 }
 
 /// Block 3 of version A likewise, where C alone is wanted.
-pub fn damaged_third_and_read(
-    table: &BurstTable,
-    info: u16,
-    burst: Burst,
-    limit: u8,
-) -> Reading
+pub fn damaged_third_and_read(table: &BurstTable, info: u16, burst: Burst, limit: u8) -> Reading
     requires limit { limit ≤ 5 }
     requires burst { IsBurst limit burst }
     requires not_that_one { burst ≢ version_burst }
@@ -261,6 +258,16 @@ pub fn corrected_by_one_pair(
     ensures { (o : AnOffset) (info e : ℕ) → result ≡ Corrected o info e → FitsAlone w number wanted limit o e }
 {
     read_block(table, w, number, wanted, limit)
+}
+
+/// The rule of reading gives each window a reading, whoever reads.
+pub fn has_reading(w: u32, number: u8, wanted: Wanted, limit: u8)
+    requires first { 1 ≤ number }
+    requires last { number ≤ 4 }
+    requires limit { limit ≤ 5 }
+    ensures { IsReading w number wanted limit (reading w number wanted limit) }
+{
+    laws::readings_follow_the_rule();
 }
 
 /// Who reads by the rule reads this.

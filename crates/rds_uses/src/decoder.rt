@@ -23,7 +23,13 @@ pub fn decoded(alloc: Global, bytes: Vec<u8>, pieces: u64) -> Option<Report>
     let cutting = Cutting::even(alloc, recording.len(), pieces).ok()?;
     let runs = guesses(alloc, &recording, &rules, &cutting).ok()?;
     laws::pieces_follow();
-    stitch(alloc, &mut Counted::new(&recording), &rules, runs.as_slice()).ok()
+    stitch(
+        alloc,
+        &mut Counted::new(&recording),
+        &rules,
+        runs.as_slice(),
+    )
+    .ok()
 }
 
 /// The guesses of all pieces, in order.

@@ -100,7 +100,14 @@ pub fn guessed_as_run(
     requires rules { run.now.rules ≡ rules.now }
     ensures { IfOk result (λ same. same ≡ true) }
 {
-    let (end, items) = rds_sync::run(alloc, recording, rules, State::Searching, run.from(), run.to())?;
+    let (end, items) = rds_sync::run(
+        alloc,
+        recording,
+        rules,
+        State::Searching,
+        run.from(),
+        run.to(),
+    )?;
     Ok(end == run.end_state() && items.len() == run.items().len())
 }
 

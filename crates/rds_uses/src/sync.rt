@@ -6,7 +6,7 @@ ghost use Rattle.rds_sync.specs.declared.state.State.TheVariants.{Searching};
 ghost use Rattle.rds_sync.specs.Advance.{group_item, items_in};
 ghost use Rattle.rds_sync.specs.GroupLaws.{IsBlock};
 ghost use Rattle.rds_sync.specs.Groups.{group as group_at, info_of};
-ghost use Rattle.rds_sync.specs.Lawful.{IsLawful};
+ghost use Rattle.rds_sync.specs.Lawful.{IsBetweenGroups, IsLawful};
 ghost use Rattle.rds_sync.specs.Report.{report_items};
 ghost use Rattle.rds_sync.specs.Step.{items_at, run as run_of, step};
 ghost use Rattle.rds_sync.specs.Totals.{is_group, totals_of};
@@ -128,13 +128,7 @@ pub fn lawful_after_run(recording: &Recording, rules: &Rules, state: State, from
 // ---- steps over a tape
 
 /// Two steps in a row are one run: they move on, stay in the range, and read eighteen windows at most.
-pub fn two_steps<T: Tape>(
-    tape: &mut T,
-    rules: &Rules,
-    state: State,
-    place: u64,
-    to: u64,
-) -> Reached
+pub fn two_steps<T: Tape>(tape: &mut T, rules: &Rules, state: State, place: u64, to: u64) -> Reached
     requires lawful { IsLawful rules.now place state }
     requires before { place < to }
     requires within { to ≤ length (T.bits tape.old) }
@@ -287,6 +281,7 @@ pub fn nothing_while_waiting(
     alloc: Global,
     recording: &Recording,
     rules: &Rules,
+    from: u64,
     due: u64,
 ) -> Result<Items, SyncError>
     requires soon { (25 ≤ due) × (due < length recording.now) }
@@ -300,7 +295,7 @@ pub fn nothing_while_waiting(
         bad: 0,
         first: 1,
     };
-    let (_end, items) = run(alloc, recording, rules, state, due - 25, due)?;
+    let (_end, items) = run(alloc, recording, rules, state, from, due)?;
     Ok(items)
 }
 
@@ -319,21 +314,18 @@ pub fn nothing_at_first(
     run(alloc, recording, rules, State::Searching, 0, 51)
 }
 
-/// Where a bit gives an item it changes the state.
-pub fn changed_by_item(recording: &Recording, rules: &Rules, state: State, place: u64)
+/// Where a bit leads to another state, with no group in progress, it gives an item.
+pub fn item_of_change(recording: &Recording, rules: &Rules, state: State, place: u64)
     requires lawful { IsLawful rules.now place state }
-    requires item { items_at recording.now rules.now place state ≢ [] }
-    ensures { step recording.now rules.now place state ≢ state }
+    requires change { step recording.now rules.now place state ≢ state }
+    requires between { IsBetweenGroups (step recording.now rules.now place state) }
+    ensures { items_at recording.now rules.now place state ≢ [] }
 {
     laws::items_mark_changes();
 }
 
 /// The items of a run need room for two a bit at most.
-pub fn room_for_items(
-    alloc: Global,
-    recording: &Recording,
-    rules: &Rules,
-) -> Result<u64, SyncError>
+pub fn room_for_items(alloc: Global, recording: &Recording, rules: &Rules) -> Result<u64, SyncError>
     ensures { IfOk result (λ left. left ≤ 2 * length recording.now) }
 {
     laws::runs_give_few_items();

@@ -11,8 +11,9 @@ ghost use Rattle.rds_uses.specs.Jobs.{IsListBy, IsTotalsBy, all_bits, plain};
 
 use rds_crew::Gate;
 use rds_sync::Rules;
-use rds_tool::{FromRead, Input, Job, Settings, Sink, Source, ToWrite, ToolError};
-use rds_tool::{transcribe, transcribe_gated};
+use rds_tool::{
+    FromRead, Input, Job, Settings, Sink, Source, ToWrite, ToolError, transcribe, transcribe_gated,
+};
 use std::alloc::Global;
 use std::sync::Wait;
 use std::thread::Threads;

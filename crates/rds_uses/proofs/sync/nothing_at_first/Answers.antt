@@ -13,7 +13,7 @@ returns-clause-state c =
     let b = c.args.recording.now in
     let rules = c.args.rules.now in
     let quiet = c.searches_go_on.ensures b rules 0 51 (omega arith) (λ i _ early.
-        none_early b rules i (acquired b rules i) early (λ x is. (c.acquisitions_are_late.ensures b rules i x is).0)) in
+    none_early b rules i (acquired b rules i) early (λ x is. (c.acquisitions_are_late.ensures b rules i x is).0)) in
     grind arith
 
 pub returns-clause-items : goal.returns-clause-items
@@ -21,5 +21,5 @@ returns-clause-items c =
     let b = c.args.recording.now in
     let rules = c.args.rules.now in
     let quiet = c.searches_go_on.ensures b rules 0 51 (omega arith) (λ i _ early.
-        none_early b rules i (acquired b rules i) early (λ x is. (c.acquisitions_are_late.ensures b rules i x is).0)) in
+    none_early b rules i (acquired b rules i) early (λ x is. (c.acquisitions_are_late.ensures b rules i x is).0)) in
     grind arith
