@@ -9,8 +9,10 @@ ghost use Rattle.rds_pieces.specs.Guess.{guess};
 ghost use Rattle.rds_pieces.specs.RunOf.{FollowEachOther, run_over};
 ghost use Rattle.rds_pieces.specs.declared.error.PieceError.TheVariants.{BadCutting, OutOfMemory};
 
-use rds_pieces::{Cutting, Mark, Marks, PieceError, PieceRun, RecordingWork, Seam, Work};
-use rds_pieces::{laws, seam, speculate, stitch};
+use rds_pieces::{
+    Cutting, Mark, Marks, PieceError, PieceRun, RecordingWork, Seam, Work, laws, seam, speculate,
+    stitch,
+};
 use rds_stream::{Counted, Recording, Tape};
 use rds_sync::{Items, Report, Rules, State, SyncError, Totals, laws as laws_of_runs};
 use std::alloc::Global;

@@ -12,8 +12,10 @@ ghost use Rattle.rds_sync.specs.Step.{items_at, run as run_of, step};
 ghost use Rattle.rds_sync.specs.Totals.{is_group, totals_of};
 
 use rds_stream::{Counted, Recording, Tape};
-use rds_sync::{Block, Group, ItemBuffer, Items, Reached, Report, Rules, State, Step, SyncError, Totals};
-use rds_sync::{advance, decode_plain, finish, laws, run, stretch};
+use rds_sync::{
+    Block, Group, ItemBuffer, Items, Reached, Report, Rules, State, Step, SyncError, Totals,
+    advance, decode_plain, finish, laws, run, stretch,
+};
 use std::alloc::Global;
 
 // ---- rules
@@ -284,7 +286,10 @@ pub fn nothing_while_waiting(
     from: u64,
     due: u64,
 ) -> Result<Items, SyncError>
-    requires soon { (25 ≤ due) × (due < length recording.now) }
+    requires order { from ≤ due }
+    requires soon { due ≤ from + 25 }
+    requires whole { 25 ≤ due }
+    requires within { due < length recording.now }
     ensures { IfOk result (λ items. items ≡ []) }
 {
     let _loss = rules.loss();
@@ -335,11 +340,7 @@ pub fn room_for_items(alloc: Global, recording: &Recording, rules: &Rules) -> Re
 }
 
 /// The report of a recording: the items of its locks, and their totals.
-pub fn report_of(
-    alloc: Global,
-    recording: &Recording,
-    rules: &Rules,
-) -> Result<Report, SyncError>
+pub fn report_of(alloc: Global, recording: &Recording, rules: &Rules) -> Result<Report, SyncError>
     ensures items { IfOk result (λ report. report.items ≡ report_items recording.now rules.now) }
     ensures totals { IfOk result (λ report. report.totals ≡ totals_of (report_items recording.now rules.now)) }
     ensures refused { IfErr result (λ error. error ≡ OutOfMemory) }
