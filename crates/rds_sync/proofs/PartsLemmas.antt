@@ -1,9 +1,7 @@
 -- Items in parts, gone over part by part.
-use Rattle.std.proofs.Common.{◌≡◌, ℕ, ◌+◌, ◌-◌, ◌<◌, ◌≤◌, List, [], ◌∷◌, ◌++◌, length, get_or, take, drop, refl, sym, ap, ◌∙◌, append-nil, append_assoc, arith, length-drop, slice_get, Some}
-use Rattle.std.proofs.lemmas.Grind.{common_steps}
-use Rattle.std.proofs.lemmas.List.{drop-append-le, get_or-drop, get_or_append_left}
+use Rattle.std.proofs.Common.{◌≡◌, ℕ, ◌+◌, ◌-◌, ◌<◌, ◌≤◌, List, [], ◌∷◌, ◌++◌, length, get_or, drop, sym, ap, ◌∙◌, arith, length-drop, slice_get, Some}
+use Rattle.std.proofs.lemmas.List.{get_or-drop, get_or_append_left}
 use Rattle.std.proofs.lemmas.Option.{slice_get-get_or, get_or_from_slice_get}
-use Rattle.std.proofs.lemmas.List.Concat.{flat_map-append}
 use Rattle.std.proofs.Math.Seq.{drop-append-add}
 use Rattle.rds_sync.specs.declared.item.Item.{Item}
 use Rattle.rds_sync.specs.Parts.{items_in, IsInFirst}
@@ -13,26 +11,11 @@ abbrev pub StartsInFirst : List (List Item) → ℕ → Type 0
 StartsInFirst [] number = Unit {0}
 StartsInFirst (part ∷ parts) number = number ≤ length part
 
-pub starts_anywhere : (parts : List (List Item)) → StartsInFirst parts 0
-starts_anywhere [] = tt
-starts_anywhere (part ∷ parts) = omega arith
-
 -- past the first part
 pub past_first : (part : List Item) (rest : List (List Item)) (n : ℕ) → length part ≤ n → drop (n - length part) (items_in rest) ≡ drop n (items_in (part ∷ rest))
 past_first part rest n far =
     let e : n ≡ length part + (n - length part) = omega arith in
     sym (ap (λ (k : ℕ). drop k (part ++ items_in rest)) e ∙ drop-append-add part (items_in rest) (n - length part))
-
-pub items_push : (parts : List (List Item)) (part : List Item) → items_in (parts ++ part ∷ []) ≡ items_in parts ++ part
-items_push parts part = flat_map-append (λ (p : List Item). p) parts (part ∷ []) ∙ ap (λ is. items_in parts ++ is) (append-nil part)
-
--- a part moved over, without its first items
-pub part_moved : (parts : List (List Item)) (part : List Item) (rest : List (List Item)) (n : ℕ) → n ≤ length part
-    → items_in (parts ++ drop n part ∷ []) ++ items_in rest ≡ items_in parts ++ drop n (items_in (part ∷ rest))
-part_moved parts part rest n within =
-    ap (λ is. is ++ items_in rest) (items_push parts (drop n part))
-    ∙ append_assoc (items_in parts) (drop n part) (items_in rest)
-    ∙ ap (λ is. items_in parts ++ is) (sym (drop-append-le n part (items_in rest) within))
 
 -- an item of the first part that is left is the item that was looked for
 pub found_there : (parts rest : List (List Item)) (part : List Item) (i left : ℕ) (x : Item) → i < length (items_in parts)

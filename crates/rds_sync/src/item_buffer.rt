@@ -12,7 +12,7 @@ use std::marker::Model;
 
 /// A list of items that grows, seen by contracts as that list.
 ///
-/// A group of four valid blocks takes 24 bytes, any other item 56 more. Once it is whole, [`freeze`](ItemBuffer::freeze)
+/// A group of four valid blocks takes 24 bytes, any other item 56 more. [`freeze`](ItemBuffer::freeze)
 /// makes it [`Items`], which are shared and never copied.
 #[derive(Drop)]
 pub struct ItemBuffer {
@@ -74,8 +74,8 @@ impl ItemBuffer {
         push_other(&mut self.kept, &mut self.others, item)
     }
 
-    /// Appends the group of these blocks, whose first bit that was read is at `place`. Refused memory, it leaves the list as it
-    /// was.
+    /// Appends the group of these blocks, whose first bit that was read is at `place`: whole, where it
+    /// can be kept so. Refused memory, it leaves the list as it was.
     pub(crate) fn push_group(&mut self, place: u64, blocks: &[Block; 4]) -> Result<(), AllocError>
         ensures ok { OnOk result (self.new ≡ self.old ++ Item.Group (group_of place blocks.now) ∷ []) }
         ensures refused { OnErr result (self.new ≡ self.old) }

@@ -10,8 +10,10 @@ use crate::part::Part;
 use std::alloc::{AllocError, Global};
 use std::marker::Model;
 
-/// A list of items, seen by contracts as that list. It is made of parts, each of them shared with every other list that holds it,
-/// so that no list copies the items of another; it may go from thread to thread, and be read by several.
+/// A list of items, seen by contracts as that list.
+///
+/// It is made of parts, each shared by all lists that hold it, so that no list copies the items of
+/// another. It may go from thread to thread, and be read by several.
 #[derive(Drop)]
 pub struct Items {
     parts: Vec<Part>,
@@ -68,7 +70,8 @@ impl Items {
         self.len == 0
     }
 
-    /// Item number `i`, the first of which is 0. It is looked for part by part: to go over many, take [`range`](Items::range).
+    /// Item number `i`, the first of which is 0. It is looked for part by part: to go over many, take
+    /// [`range`](Items::range).
     pub fn get(&self, i: usize) -> Item
         requires { i < length self.now }
         ensures { slice_get self.now i ≡ Some result }
@@ -94,8 +97,8 @@ impl Items {
         ItemIter::over(parts, left, to - from)
     }
 
-    /// Appends the items of `other` from number `from` on. They are shared with it: none is copied, and of `other` only the
-    /// parts are gone over. Refused memory, it leaves the list as it was.
+    /// Appends the items of `other` from number `from` on. They are shared with it: none is copied, and
+    /// of `other` only the parts are gone over. Refused memory, it leaves the list as it was.
     pub fn append(&mut self, other: &Items, from: usize) -> Result<(), AllocError>
         requires { from ≤ length other.now }
         ensures ok { OnOk result (self.new ≡ self.old ++ drop from other.now) }
@@ -131,7 +134,8 @@ impl<'a> IntoIterator for &'a Items {
     }
 }
 
-/// The parts from that on which holds item number `from`, and its number in that part; no parts, where there is no such item.
+/// The parts from that on which holds item number `from`, and its number in that part; no parts,
+/// where there is no such item.
 fn parts_from(parts: &[Part], from: usize) -> (&[Part], usize)
     ensures { IsAt parts.now from result.0.now result.1 }
 {

@@ -10,7 +10,8 @@ use std::alloc::{AllocError, Global};
 use std::marker::Model;
 use std::sync::Arc;
 
-/// Items of a buffer that never changes any more, from one number to another. Parts share the buffer, among threads too.
+/// Items of a buffer that never changes any more, from one number to another. Parts share the buffer,
+/// among threads too.
 #[derive(Drop)]
 pub(crate) struct Part {
     buffer: Arc<ItemBuffer>,

@@ -5,7 +5,7 @@ use crate::samples::recording_of;
 use crate::sync::steps::by_steps;
 use rds_code::{Offset, encode_block};
 use rds_stream::Recording;
-use rds_sync::{Item, ItemBuffer, Items, Rules, State, Totals, run};
+use rds_sync::{Item, ItemBuffer, Items, Rules, State, Totals, Version, run};
 use std::alloc::{AllocError, Global};
 use std::test::Fail;
 use std::thread;
@@ -47,11 +47,7 @@ fn group_sent(words: u64, number: u64) -> u128 {
     let [a, b, c, d, e, f, g, h] = words.to_be_bytes();
     let second = u16::from_be_bytes([c, d]);
     let is_version_b = ((second >> 11) & 1 == 1) != (number % 8 == 4);
-    let third = if is_version_b {
-        Offset::Cx
-    } else {
-        Offset::C
-    };
+    let third = if is_version_b { Offset::Cx } else { Offset::C };
     let sent = block_sent(u16::from_be_bytes([a, b]), Offset::A) << 78
         | block_sent(second, Offset::B) << 52
         | block_sent(u16::from_be_bytes([e, f]), third) << 26
@@ -82,17 +78,9 @@ fn items_of_all_kinds(alloc: Global, seed: u64) -> Result<(Items, Vec<Item>), Fa
 
 /// Whether the items in that range are these.
 fn is_range(items: &Items, plain: &[Item], from: usize, to: usize) -> bool {
-    if from > to || to > items.len() || to > plain.len() {
-        return false;
-    }
-    let mut rest = &plain[from..to];
-    for item in items.range(from, to) {
-        match rest.split_first() {
-            Some((&first, others)) if first == item => rest = others,
-            _ => return false,
-        }
-    }
-    rest.is_empty()
+    from <= to
+        && to <= items.len().min(plain.len())
+        && items.range(from, to).eq(plain[from..to].iter().copied())
 }
 
 /// Whether item by item they are these.
@@ -107,7 +95,7 @@ fn is_each(items: &Items, plain: &[Item]) -> bool {
     number == items.len() && items.is_empty() == plain.is_empty()
 }
 
-/// Whether the items are these: one by one, in a loop over all of them, and in each range.
+/// Whether the items are these: one by one, as many, and in each range.
 fn are(items: &Items, plain: &[Item]) -> bool {
     for from in 0..=plain.len() {
         for to in from..=plain.len() {
@@ -117,6 +105,35 @@ fn are(items: &Items, plain: &[Item]) -> bool {
         }
     }
     is_each(items, plain) && items.iter().count() == plain.len()
+}
+
+/// Whether a group is of that version and conflict, and all its blocks are valid or corrected.
+fn is_whole(item: &Item, version: Version, conflict: bool) -> bool {
+    match item {
+        Item::Group(group) => {
+            group.version == version && group.conflict == conflict && group.is_complete()
+        }
+        _ => false,
+    }
+}
+
+#[test]
+fn samples_have_items_of_all_kinds(rt: HostRuntime) -> Result<(), Fail> {
+    let (items, plain) = items_of_all_kinds(rt.alloc(), 5)?;
+    let Some(totals) = totals_of(&items, 0, items.len()) else {
+        return Ok(assert!(rt; false));
+    };
+    let rows = [
+        (Version::A, false),
+        (Version::A, true),
+        (Version::B, false),
+        (Version::B, true),
+    ];
+    for &(version, conflict) in &rows {
+        assert!(rt; plain.iter().any(|item| is_whole(item, version, conflict)));
+    }
+    assert!(rt; totals.lost > 0 && totals.bits > 0 && totals.losses > 0 && totals.acquired > 1);
+    Ok(())
 }
 
 #[test]
@@ -205,7 +222,8 @@ impl Beside {
     fn append(&mut self, other: &Beside, number: u64) -> Result<(), AllocError> {
         let from = up_to(other.plain.len(), number).min(other.items.len());
         self.items.append(&other.items, from)?;
-        self.plain.extend_from_slice(&other.plain[from.min(other.plain.len())..])
+        self.plain
+            .extend_from_slice(&other.plain[from.min(other.plain.len())..])
     }
 }
 
@@ -242,7 +260,7 @@ fn a_list_is_joined_from_each_item_on(rt: HostRuntime) -> Result<(), Fail> {
     for from in 0..=items.len() {
         let mut rest = Items::new(rt.alloc());
         rest.append(&items, from)?;
-        assert!(rt; are(&rest, &plain[from.min(plain.len())..]), "{from}");
+        assert!(rt; is_each(&rest, &plain[from.min(plain.len())..]), "{from}");
     }
     Ok(())
 }
