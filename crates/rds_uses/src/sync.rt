@@ -7,6 +7,7 @@ ghost use Rattle.rds_sync.specs.Advance.{group_item, items_in};
 ghost use Rattle.rds_sync.specs.GroupLaws.{IsBlock};
 ghost use Rattle.rds_sync.specs.Groups.{group as group_at, info_of};
 ghost use Rattle.rds_sync.specs.Lawful.{IsBetweenGroups, IsLawful};
+ghost use Rattle.rds_sync.specs.Laws.{OneBitRuns};
 ghost use Rattle.rds_sync.specs.Report.{report_items};
 ghost use Rattle.rds_sync.specs.Step.{items_at, run as run_of, step};
 ghost use Rattle.rds_sync.specs.Totals.{is_group, totals_of};
@@ -276,6 +277,13 @@ pub fn run_of_one_bit(
     laws::one_bit_runs();
     let (end, _items) = run(alloc, recording, rules, State::Searching, place, place + 1)?;
     Ok(end)
+}
+
+/// So is each run over one bit, whoever makes it.
+pub fn runs_of_one_bit()
+    ensures { OneBitRuns }
+{
+    laws::one_bit_runs();
 }
 
 /// Up to the block that is due a lock gives nothing.
