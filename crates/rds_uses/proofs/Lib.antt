@@ -1,3 +1,4 @@
 pub mod Meetings
 pub mod Outcomes
 pub mod CommandLines
+pub mod Rests

@@ -10,7 +10,7 @@ ghost use Rattle.rds_code.specs.Offsets.{number};
 ghost use Rattle.rds_code.specs.Bursts.{IsBurst, bursts, span};
 ghost use Rattle.rds_code.specs.Reading.{FitsAlone, IsReading, reading};
 ghost use Rattle.rds_code.specs.Encoding.{IsBlockOf, third_offset};
-ghost use Rattle.rds_code.specs.Correction.{version_burst};
+ghost use Rattle.rds_code.specs.Correction.{ReadsAsSent, version_burst};
 
 use rds_code::{
     Burst, BurstTable, Offset, Reading, Wanted, encode_block, encode_group, is_block, laws,
@@ -201,6 +201,13 @@ pub fn sent_and_read(
     laws::blocks_are_read_as_sent();
     let block = encode_block(info, offset);
     read_block(table, block, offset.number(), wanted, limit)
+}
+
+/// A block as it was sent is read as it was sent, whoever sends and reads it.
+pub fn read_as_sent()
+    ensures { ReadsAsSent }
+{
+    laws::blocks_are_read_as_sent();
 }
 
 /// Block 1, 2 or 4 that is sent, damaged by one burst within the limit, and read: what was sent, and the burst.

@@ -22,7 +22,7 @@ pub fn decoded_by_four<R: Threads + Wait + Sync>(
     cutting: &Cutting,
 ) -> Result<Report, CrewError>
     requires { IsCutting (length recording.now) cutting.now }
-    ensures items { IfOk result (λ report. report.items.items ≡ report_items recording.now rules.now) }
+    ensures items { IfOk result (λ report. report.items ≡ report_items recording.now rules.now) }
     ensures totals { IfOk result (λ report. report.totals ≡ totals_of (report_items recording.now rules.now)) }
     ensures refused { IfErr result (λ error. (error ≡ OutOfMemory) ⊎ (error ≡ NoWorker)) }
 {

@@ -7,6 +7,7 @@
 //! - [`code`]: remainders, offsets, bursts, blocks as they are sent and read.
 //! - [`stream`]: recordings, their windows, scans, planes and tapes.
 //! - [`sync`]: rules, lawful states, steps, runs and reports.
+//! - [`items`]: lists of items, and their totals.
 //! - [`pieces`]: cuttings, guesses, seams, and what is stitched of them.
 //! - [`decoder`]: all of these together, from bytes to a report.
 //! - [`crew`]: the reports of crews.
@@ -21,6 +22,7 @@ pub mod commands;
 pub mod crew;
 pub mod decoder;
 pub mod devices;
+pub mod items;
 pub mod pieces;
 pub mod refusals;
 pub mod stream;

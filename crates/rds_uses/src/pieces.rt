@@ -1,18 +1,20 @@
 //! What a user of `rds_pieces` relies on: cuttings, guesses, seams, and the report that is stitched of them.
-ghost use Rattle.std.specs.Prelude.{◌≡◌, ◌+◌, ◌-◌, ◌*◌, ◌<◌, ◌≤◌, ◌^◌, ◌++◌, ◌∷◌, [], IfOk, IfErr, Some, length, slice_index, true};
+ghost use Rattle.std.specs.Prelude.{◌≡◌, ◌+◌, ◌-◌, ◌*◌, ◌<◌, ◌≤◌, ◌^◌, ◌++◌, ◌∷◌, [], IfOk, IfErr, IfSome, Some, length, slice_index, false, true};
 ghost use Rattle.rds_sync.specs.declared.state.State.TheVariants.{Searching};
 ghost use Rattle.rds_sync.specs.Report.{report_items};
 ghost use Rattle.rds_sync.specs.Step.{run as run_of};
 ghost use Rattle.rds_sync.specs.Totals.{totals_of};
 ghost use Rattle.rds_pieces.specs.Cutting.{IsCutting, pieces_of};
+ghost use Rattle.rds_pieces.specs.Guess.{guess};
 ghost use Rattle.rds_pieces.specs.RunOf.{FollowEachOther, run_over};
 ghost use Rattle.rds_pieces.specs.declared.error.PieceError.TheVariants.{BadCutting, OutOfMemory};
 
 use rds_pieces::{
-    Cutting, Mark, PieceError, PieceRun, RecordingWork, Seam, Work, laws, seam, speculate, stitch,
+    Cutting, Mark, Marks, PieceError, PieceRun, RecordingWork, Seam, Work, laws, seam, speculate,
+    stitch,
 };
 use rds_stream::{Counted, Recording, Tape};
-use rds_sync::{Item, Report, Rules, State, SyncError, laws as laws_of_runs};
+use rds_sync::{Items, Report, Rules, State, SyncError, Totals, laws as laws_of_runs};
 use std::alloc::Global;
 use std::snapshot::Snapshot;
 
@@ -112,10 +114,34 @@ pub fn guessed_as_run(
 }
 
 /// A guess has a mark at its first place.
-pub fn first_mark(run: &PieceRun) -> Mark
-    ensures { result ≡ record { place = run.now.from; state = Searching; items = 0 } }
+pub fn first_mark(run: &PieceRun) -> Option<Mark>
+    ensures { result ≡ Some (record { place = run.now.from; state = Searching; items = 0 }) }
 {
-    run.marks()[0]
+    run.marks().iter().peek()
+}
+
+/// A guess knows the totals of its items.
+pub fn totals_of_guess(run: &PieceRun) -> Totals
+    ensures { result ≡ totals_of (guess run.now.source run.now.rules run.now.from (run.now.to - run.now.from)).1 }
+{
+    run.totals()
+}
+
+/// Marks that were pushed are the list; where there was no memory for one, those before it stay.
+pub fn pushed_marks(alloc: Global, first: Mark, second: Mark) -> Option<Marks>
+    ensures { IfSome result (λ marks. marks ≡ first ∷ second ∷ []) }
+{
+    let mut marks = Marks::new(alloc);
+    marks.push(first).ok()?;
+    marks.push(second).ok()?;
+    Some(marks)
+}
+
+/// See [`pushed_marks`].
+pub fn marks_where_refused(marks: &mut Marks, mark: Mark) -> bool
+    ensures { result ≡ false → marks.new ≡ marks.old }
+{
+    marks.push(mark).is_ok()
 }
 
 // ---- seams
@@ -126,13 +152,14 @@ pub fn carried_on(
     recording: &Recording,
     rules: &Rules,
     run: &PieceRun,
-) -> Result<(Vec<Item>, Seam), PieceError>
+) -> Result<(Items, Seam), PieceError>
     requires range { (run.now.from ≤ run.now.to) × (run.now.to ≤ length recording.now) }
     requires source { run.now.source ≡ recording.now }
     requires rules { run.now.rules ≡ rules.now }
-    ensures items { IfOk result (λ both. both.0.items ++ both.1.items.items
+    ensures items { IfOk result (λ both. both.0 ++ both.1.items
         ≡ (run_of recording.now rules.now Searching 0 run.now.to).1) }
     ensures end { IfOk result (λ both. both.1.end_state ≡ (run_of recording.now rules.now Searching 0 run.now.to).0) }
+    ensures totals { IfOk result (λ both. both.1.totals ≡ totals_of both.1.items) }
 {
     laws_of_runs::runs_join();
     let before = rds_sync::run(alloc, recording, rules, State::Searching, 0, run.from());
@@ -189,7 +216,7 @@ pub fn decoded_in_two_pieces(
 ) -> Result<Report, PieceError>
     requires fits { IsCutting (length recording.now) cutting.now }
     requires two { pieces_of cutting.now ≡ 2 }
-    ensures items { IfOk result (λ report. report.items.items ≡ report_items recording.now rules.now) }
+    ensures items { IfOk result (λ report. report.items ≡ report_items recording.now rules.now) }
     ensures totals { IfOk result (λ report. report.totals ≡ totals_of (report_items recording.now rules.now)) }
     ensures refused { IfErr result (λ error. error ≡ OutOfMemory) }
 {
@@ -239,7 +266,7 @@ pub fn row_after_join(
 pub fn report_of_work<W: Work>(alloc: Global, work: &W) -> Result<Report, PieceError>
     requires fits { IsCutting (length (W.recording work.now)) (W.places work.now) }
     requires one { pieces_of (W.places work.now) ≡ 1 }
-    ensures items { IfOk result (λ report. report.items.items
+    ensures items { IfOk result (λ report. report.items
         ≡ report_items (W.recording work.now) (W.rule_set work.now)) }
     ensures totals { IfOk result (λ report. report.totals
         ≡ totals_of (report_items (W.recording work.now) (W.rule_set work.now))) }

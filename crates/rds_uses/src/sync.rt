@@ -7,14 +7,15 @@ ghost use Rattle.rds_sync.specs.Advance.{group_item, items_in};
 ghost use Rattle.rds_sync.specs.GroupLaws.{IsBlock};
 ghost use Rattle.rds_sync.specs.Groups.{group as group_at, info_of};
 ghost use Rattle.rds_sync.specs.Lawful.{IsBetweenGroups, IsLawful};
+ghost use Rattle.rds_sync.specs.Laws.{OneBitRuns};
 ghost use Rattle.rds_sync.specs.Report.{report_items};
 ghost use Rattle.rds_sync.specs.Step.{items_at, run as run_of, step};
 ghost use Rattle.rds_sync.specs.Totals.{is_group, totals_of};
 
 use rds_stream::{Counted, Recording, Tape};
 use rds_sync::{
-    Block, Group, Item, Reached, Report, Rules, State, Step, SyncError, Totals, advance,
-    decode_plain, finish, laws, run, stretch,
+    Block, Group, ItemBuffer, Items, Reached, Report, Rules, State, Step, SyncError, Totals,
+    advance, decode_plain, finish, laws, run, stretch,
 };
 use std::alloc::Global;
 
@@ -83,7 +84,7 @@ pub fn has_four_words(recording: &Recording, rules: &Rules, place: u64, group: &
 }
 
 /// The group that stands in a list of items is counted.
-pub fn groups_among(items: &[Item]) -> u64
+pub fn groups_among(items: &Items) -> u64
     requires { length items.now ≤ 2 ^ 40 }
     ensures { result ≡ count_by is_group items.now }
 {
@@ -204,13 +205,13 @@ pub fn one_stretch(
     rules: &Rules,
     place: u64,
     to: u64,
-    items: &mut Vec<Item>,
+    items: &mut ItemBuffer,
 ) -> Result<Reached, SyncError>
     requires before { place < to }
     requires within { to ≤ length recording.now }
     ensures moved { IfOk result (λ reached. (place < reached.place) × (reached.place ≤ to)) }
-    ensures items { IfOk result (λ reached. items.new.items
-        ≡ items.old.items ++ (run_of recording.now rules.now Searching place (reached.place - place)).1) }
+    ensures items { IfOk result (λ reached. items.new
+        ≡ items.old ++ (run_of recording.now rules.now Searching place (reached.place - place)).1) }
     ensures refused { IfErr result (λ error. error ≡ OutOfMemory) }
 {
     stretch(recording, rules, State::Searching, place, to, items)
@@ -222,9 +223,9 @@ pub fn decoded_in_two(
     recording: &Recording,
     rules: &Rules,
     middle: u64,
-) -> Result<(Vec<Item>, Vec<Item>, Option<Group>), SyncError>
+) -> Result<(Items, Items, Option<Group>), SyncError>
     requires { middle ≤ length recording.now }
-    ensures items { IfOk result (λ found. (found.0.items ++ found.1.items) ++ group_item found.2
+    ensures items { IfOk result (λ found. (found.0 ++ found.1) ++ group_item found.2
         ≡ report_items recording.now rules.now) }
     ensures refused { IfErr result (λ error. error ≡ OutOfMemory) }
 {
@@ -278,6 +279,13 @@ pub fn run_of_one_bit(
     Ok(end)
 }
 
+/// So is each run over one bit, whoever makes it.
+pub fn runs_of_one_bit()
+    ensures { OneBitRuns }
+{
+    laws::one_bit_runs();
+}
+
 /// Up to the block that is due a lock gives nothing.
 pub fn nothing_while_waiting(
     alloc: Global,
@@ -285,12 +293,12 @@ pub fn nothing_while_waiting(
     rules: &Rules,
     from: u64,
     due: u64,
-) -> Result<Vec<Item>, SyncError>
+) -> Result<Items, SyncError>
     requires order { from ≤ due }
     requires soon { due ≤ from + 25 }
     requires whole { 25 ≤ due }
     requires within { due < length recording.now }
-    ensures { IfOk result (λ items. items.items ≡ []) }
+    ensures { IfOk result (λ items. items ≡ []) }
 {
     let _loss = rules.loss();
     laws::locks_wait();
@@ -309,10 +317,10 @@ pub fn nothing_at_first(
     alloc: Global,
     recording: &Recording,
     rules: &Rules,
-) -> Result<(State, Vec<Item>), SyncError>
+) -> Result<(State, Items), SyncError>
     requires { 51 ≤ length recording.now }
     ensures state { IfOk result (λ end. end.0 ≡ Searching) }
-    ensures items { IfOk result (λ end. end.1.items ≡ []) }
+    ensures items { IfOk result (λ end. end.1 ≡ []) }
 {
     laws::acquisitions_are_late();
     laws::searches_go_on();
@@ -341,7 +349,7 @@ pub fn room_for_items(alloc: Global, recording: &Recording, rules: &Rules) -> Re
 
 /// The report of a recording: the items of its locks, and their totals.
 pub fn report_of(alloc: Global, recording: &Recording, rules: &Rules) -> Result<Report, SyncError>
-    ensures items { IfOk result (λ report. report.items.items ≡ report_items recording.now rules.now) }
+    ensures items { IfOk result (λ report. report.items ≡ report_items recording.now rules.now) }
     ensures totals { IfOk result (λ report. report.totals ≡ totals_of (report_items recording.now rules.now)) }
     ensures refused { IfErr result (λ error. error ≡ OutOfMemory) }
 {

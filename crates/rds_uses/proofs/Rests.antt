@@ -1,0 +1,19 @@
+-- The first items of a list, and the rest of it.
+use Rattle.std.proofs.Common.{◌≡◌, ℕ, ◌-◌, ◌++◌, List, length, take, drop, ap, arith, slice_range}
+use Rattle.std.proofs.lemmas.List.{take-append-drop, take_rest}
+use Rattle.rds_sync.specs.Counting.{IsRest, TotalsJoin, plus}
+use Rattle.rds_sync.specs.Totals.{totals_of}
+use Rattle.rds_sync.specs.declared.item.Item.{Item}
+
+module _ (items : List Item) (n : ℕ) where
+  pub first_items : slice_range items 0 n ≡ take n items
+  first_items = let none : n - 0 ≡ n = omega arith in ap (λ (count : ℕ). take count items) none
+
+  pub rest_of_items : slice_range items n (length items) ≡ drop n items
+  rest_of_items = take_rest items n
+
+  pub totals_rest : TotalsJoin → IsRest (totals_of (slice_range items 0 n)) (totals_of items) (totals_of (drop n items))
+  totals_rest join =
+      let whole = take-append-drop n items in
+      let is = join (take n items) (drop n items) in
+      rw (whole, first_items) at is

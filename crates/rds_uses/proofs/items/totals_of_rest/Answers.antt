@@ -1,0 +1,15 @@
+use Rattle.std.proofs.Common.{◌≡◌, drop}
+use Rattle.rds_sync.specs.Counting.{IsRest}
+use Rattle.rds_sync.specs.Totals.{totals_of}
+use Rattle.rds_uses.proofs.Rests.{totals_rest}
+use Rattle.rds_uses.proofs.items.totals_of_rest.Goals as goal
+
+pub less-requires : goal.less-requires
+less-requires c =
+    let rest = totals_rest c.args.items.now c.args.first c.totals_join.ensures in
+    (totals_of (drop c.args.first c.args.items.now), rw (c.of_range.ensures.value, c.of.ensures.value) rest)
+
+pub returns : goal.returns
+returns c =
+    let rest = totals_rest c.args.items.now c.args.first c.totals_join.ensures in
+    c.less.ensures.value _ (rw (c.of_range.ensures.value, c.of.ensures.value) rest)
