@@ -51,7 +51,7 @@ totals = (
   (record {
     burst = ((leb-true 1 1 refl, (leb-true 2 10 refl, tt)), leb-true 2 4294967296 refl, refl);
     reach = ((leb-true 1 1 refl, (leb-true 5 10 refl, tt)), leb-true 5 4294967296 refl, refl);
-    loss = ((leb-true 1 1 refl, (leb-true 6 10 refl, tt)), leb-true 6 4294967296 refl, refl);
+    loss = (refl, ((leb-true 1 1 refl, (leb-true 6 10 refl, tt)), leb-true 6 4294967296 refl, refl));
     workers = ((leb-true 1 1 refl, (leb-true 8 10 refl, tt)), leb-true 8 4294967296 refl, refl);
     cuts = ((leb-true 1 1 refl, (leb-true 7 10 refl, tt)), leb-true 7 4294967296 refl, refl);
   }),

@@ -1,5 +1,6 @@
 -- Settings at the ends of their ranges and past them, and which of two that are out of range is refused.
 use Rattle.std.specs.Prelude.{◌≡◌, ◌∷◌, [], Err, Ok, map, refl, true, false}
+use Rattle.rds_sync.specs.declared.loss.Loss.TheVariants.{Run}
 use Rattle.rds_tool.specs.Cuts.{are_inner, places_at}
 use Rattle.rds_tool.specs.Plans.{plan_of}
 use Rattle.rds_tool.specs.declared.error.ToolError.TheVariants.{BadCutting, BurstRange, CrewRange, LossRange, ReachRange}
@@ -7,14 +8,14 @@ use Rattle.rds_tool.specs.declared.job.Cuts.TheVariants.{Even}
 use Rattle.rds_tool.specs.Examples.Words.{settings_of}
 
 pub least : plan_of (settings_of 0 1 1 1 1) ≡ Ok (record {
-  rules = record { burst = 0; reach = 1; loss = 1 };
+  rules = record { burst = 0; reach = 1; loss = Run 1 };
   workers = 1;
   cuts = Even 1;
 })
 least = refl
 
 pub most : plan_of (settings_of 5 8 64 256 4294967295)
-    ≡ Ok (record { rules = record { burst = 5; reach = 8; loss = 64 }; workers = 256; cuts = Even 4294967295 })
+    ≡ Ok (record { rules = record { burst = 5; reach = 8; loss = Run 64 }; workers = 256; cuts = Even 4294967295 })
 most = refl
 
 -- past one end alone

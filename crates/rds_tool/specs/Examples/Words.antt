@@ -1,5 +1,6 @@
 -- Short words for the examples.
 use Rattle.std.specs.Prelude.{ℕ, List, [], ◌∷◌, ◌++◌, None, Some, false, true}
+use Rattle.rds_sync.specs.declared.loss.Loss.TheVariants.{Run}
 use Rattle.rds_tool.specs.declared.job.Cuts.{Cuts}
 use Rattle.rds_tool.specs.declared.job.Cuts.TheVariants.{Even}
 use Rattle.rds_tool.specs.declared.job.Input.{Input}
@@ -26,11 +27,11 @@ raw_bits bits = record { hex = false; bits = Some bits }
 -- the rules, the workers and the most pieces
 abbrev pub settings_of : ℕ → ℕ → ℕ → ℕ → ℕ → Settings
 settings_of burst reach loss workers pieces =
-    record { burst = burst; reach = reach; loss = loss; workers = workers; cuts = Even pieces }
+    record { burst = burst; reach = reach; loss = Run loss; workers = workers; cuts = Even pieces }
 
 abbrev pub default_settings : Settings
 default_settings = settings_of 2 3 10 4 16
 
 -- the default rules, with so many workers and cut so
 abbrev pub cut_settings : ℕ → Cuts → Settings
-cut_settings workers cuts = record { burst = 2; reach = 3; loss = 10; workers = workers; cuts = cuts }
+cut_settings workers cuts = record { burst = 2; reach = 3; loss = Run 10; workers = workers; cuts = cuts }
