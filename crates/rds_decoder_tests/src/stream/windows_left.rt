@@ -60,8 +60,14 @@ fn windows_come_one_after_the_other(rt: HostRuntime) -> Result<(), Fail> {
 fn windows_are_those_of_the_scan(rt: HostRuntime) -> Result<(), Fail> {
     let five = zero_groups(rt.alloc(), 520)?;
     for from in 0..131 {
-        assert!(rt; gives_the_scan(rt.alloc(), &five, from, 520)?, "from {from}");
-        assert!(rt; gives_the_scan(rt.alloc(), &five, 0, 520 - from)?, "to {from} before the end");
+        assert!(rt;
+            gives_the_scan(rt.alloc(), &five, from, 520)?,
+            "from {from}"
+        );
+        assert!(rt;
+            gives_the_scan(rt.alloc(), &five, 0, 520 - from)?,
+            "to {from} before the end"
+        );
     }
     Ok(())
 }

@@ -79,8 +79,13 @@ pub items-requires : goal.items-requires
 items-requires c =
     let here = c.in-Some.here in
     let offset = c.in-Some.offset in
-    record { block = (off-place c.args.rec.now here offset (offset_is c.args.rec.now c.args.rules.now c.args.place c.args.to c.loop-here.here-iterator c.args.items.now c.loop-here.items
-    c.loop-here.invariant.2 (here, offset) c.next.new.self c.in-Some.ensures.steps), c.window.ensures.block) }
+    record {
+      block = (
+        off-place c.args.rec.now here offset (offset_is c.args.rec.now c.args.rules.now c.args.place c.args.to c.loop-here.here-iterator c.args.items.now c.loop-here.items
+            c.loop-here.invariant.2 (here, offset) c.next.new.self c.in-Some.ensures.steps),
+        c.window.ensures.block,
+      );
+    }
 
 pub lock-requires-clause-number : goal.lock-requires-clause-number
 lock-requires-clause-number c = omega (arith, c.number-number.ensures, number-range c.in-Some.offset)
