@@ -164,7 +164,12 @@ impl Sample {
     }
 
     /// A recording in which so many bad blocks of the last lose a lock, and the report of one decoder.
-    pub fn by_share(alloc: Global, recording: Recording, bad: u32, of: u32) -> Result<Sample, Fail> {
+    pub fn by_share(
+        alloc: Global,
+        recording: Recording,
+        bad: u32,
+        of: u32,
+    ) -> Result<Sample, Fail> {
         let rules = Rules::with_share(alloc, 2, 3, bad, of)?;
         let report = decode_plain(alloc, &recording, &rules)?;
         Ok(Sample {

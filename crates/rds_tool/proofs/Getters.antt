@@ -85,18 +85,6 @@ number_none width f id None value =
 
 -- ---- entries that give no job
 
--- no share, and no number in a row: no rule of loss
-pub no_row : (rows : List Row) → one_of (codes "share") rows ≡ None → ((n : ℕ) → Spells 32 (one_of (codes "loss") rows) n → ⊥)
-    → (loss : Loss) → SpellsLoss rows loss → ⊥
-no_row rows none h (Run n) s = h n s.1
-no_row rows none h (Share bad of) s = subst (λ (o : Option Text). Spells 32 o bad) none s.0
-
--- a share of no number of blocks
-pub no_blocks : (rows : List Row) (n : ℕ) → Spells 32 (one_of (codes "share") rows) n → ((of : ℕ) → Spells 32 (one_of (codes "of") rows) of → ⊥)
-    → (loss : Loss) → SpellsLoss rows loss → ⊥
-no_blocks rows n share h (Run row) s = subst (λ (o : Option Text). Spells 32 o n) s.0 share
-no_blocks rows n share h (Share bad of) s = h of s.1
-
 -- a share that is no number
 pub no_share : (rows : List Row) → ((share : Option ℕ) → MaySpell 32 (one_of (codes "share") rows) share → ⊥) → (loss : Loss) → SpellsLoss rows loss → ⊥
 no_share rows h (Run row) s = h None s.0

@@ -113,7 +113,12 @@ fn lists_at<R: Threads + Wait + Sync, G: Gate + Sync>(rt: &R, alloc: Global, gat
 }
 
 /// Whether the job at this gate gives the list of the two groups.
-fn gives_at<R: Threads + Wait + Sync, G: Gate + Sync>(rt: &R, alloc: Global, job: &Job, gate: &G) -> bool {
+fn gives_at<R: Threads + Wait + Sync, G: Gate + Sync>(
+    rt: &R,
+    alloc: Global,
+    job: &Job,
+    gate: &G,
+) -> bool {
     let mut reader = FromRead::new(DIGITS.as_bytes());
     let mut writer = ToWrite::new(Vec::new(alloc));
     let answer = transcribe_gated(rt, alloc, &mut reader, &mut writer, job, gate);

@@ -8,7 +8,12 @@ use std::sync::Wait;
 use std::thread::Threads;
 
 /// Whether one worker writes the sample's texts for one piece, and one, two and 256 write the same for these.
-fn is_same<R: Threads + Wait + Sync>(rt: &R, alloc: Global, sample: &Sample, pieces: Pieces<'_>) -> bool {
+fn is_same<R: Threads + Wait + Sync>(
+    rt: &R,
+    alloc: Global,
+    sample: &Sample,
+    pieces: Pieces<'_>,
+) -> bool {
     sample.is_given(rt, alloc, 1, Even(1))
         && sample.is_given(rt, alloc, 1, pieces)
         && sample.is_given(rt, alloc, 2, pieces)

@@ -100,7 +100,10 @@ fn words_of_a_share_are_its_rule_of_loss(rt: HostRuntime) {
             hex: false,
             bits: None,
         };
-        assert!(rt; gives(rt.alloc(), words, Job::Totals(input, settings)), "{words:?}");
+        assert!(rt;
+            gives(rt.alloc(), words, Job::Totals(input, settings)),
+            "{words:?}"
+        );
     }
 }
 

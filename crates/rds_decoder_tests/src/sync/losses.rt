@@ -3,9 +3,7 @@
 use crate::samples::{ONE_BAD, TWO_BAD, damaged_groups, recording_of, zero_bytes};
 use crate::sync::items::items_text;
 use rds_stream::Recording;
-use rds_sync::{
-    Bad, Item, Loss, RuleNumbers, Rules, State, SyncError, decode_plain, run,
-};
+use rds_sync::{Bad, Item, Loss, RuleNumbers, Rules, State, SyncError, decode_plain, run};
 use std::alloc::{AllocError, Global};
 use std::process::Abort;
 use std::test::Fail;
@@ -92,7 +90,10 @@ fn masks_are_lawful_below_their_blocks_and_a_loss(rt: HostRuntime) -> Result<(),
     let rules = Rules::with_share(rt.alloc(), 2, 3, 2, 4)?;
     for mask in 0..32u64 {
         let lawful = mask < 16 && mask.count_ones() < 2;
-        assert!(rt; lock_with(Bad::Mask(mask)).is_lawful(&rules, 200) == lawful, "{mask}");
+        assert!(rt;
+            lock_with(Bad::Mask(mask)).is_lawful(&rules, 200) == lawful,
+            "{mask}"
+        );
     }
     assert!(rt; !lock_with(Bad::Run(0)).is_lawful(&rules, 200));
     let widest = Rules::with_share(rt.alloc(), 2, 3, 64, 64)?;
@@ -166,7 +167,7 @@ fn turns_of(alloc: Global, rec: &Recording, rules: &RuleNumbers) -> Result<Vec<T
             }
         } else if place > start && (place - start) % 26 == 0 {
             let blocks = (place - start) / 26;
-            let expected = (u64::from(number) + 3 + blocks % 4) % 4 + 1;
+            let expected = (u64::from(number % 4) + 3 + blocks % 4) % 4 + 1;
             good.push(u64::from(number_at(rec, place)) == expected)?;
             if is_lost(rules.loss, good.as_slice()) {
                 turns.push(Turn::Lost(place))?;

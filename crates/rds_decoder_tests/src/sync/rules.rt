@@ -9,13 +9,7 @@ fn refusal_of(alloc: Global, burst: u32, reach: u32, loss: u32) -> Option<SyncEr
 }
 
 /// Why this share is refused, if it is.
-fn refusal_of_share(
-    alloc: Global,
-    burst: u32,
-    reach: u32,
-    bad: u32,
-    of: u32,
-) -> Option<SyncError> {
+fn refusal_of_share(alloc: Global, burst: u32, reach: u32, bad: u32, of: u32) -> Option<SyncError> {
     Rules::with_share(alloc, burst, reach, bad, of).err()
 }
 
