@@ -52,11 +52,7 @@ fn time_both<T: Threads + Sync, W: Work + Sync>(
 }
 
 /// How many bits the workers guess where worker k has the pieces k, k + 4, k + 8 and so on.
-fn by_shares<T: Threads + Sync, W: Work + Sync>(
-    threads: &T,
-    alloc: Global,
-    work: &W,
-) -> Result<u64>
+fn by_shares<T: Threads + Sync, W: Work + Sync>(threads: &T, alloc: Global, work: &W) -> Result<u64>
     requires { IsCutting (length (W.recording work.now)) (W.places work.now) }
 {
     let guessed = thread::map_indices(
@@ -89,11 +85,15 @@ fn by_draws<T: Threads + Sync, W: Work + Sync>(threads: &T, alloc: Global, work:
     let pieces = work.cutting().pieces().min(PIECES);
     let (dealer, seats) = Dealer::new(alloc, pieces, WORKERS)?;
     let lent = &dealer;
-    let guessed = thread::map_vec(threads, seats, &|seat| -> Result<u64, PieceError>
-        requires fits { IsCutting (length (W.recording work.now)) (W.places work.now) }
-        requires pieces { lent.now.name.pieces ≤ pieces_of (W.places work.now) }
-        requires new { IsFresh lent.now seat }
-    { guess_draws(alloc, work, lent, seat) })?;
+    let guessed = thread::map_vec(
+        threads,
+        seats,
+        &|seat| -> Result<u64, PieceError>
+            requires fits { IsCutting (length (W.recording work.now)) (W.places work.now) }
+            requires pieces { lent.now.name.pieces ≤ pieces_of (W.places work.now) }
+            requires new { IsFresh lent.now seat }
+        { guess_draws(alloc, work, lent, seat) },
+    )?;
     Ok(total(guessed)?)
 }
 
