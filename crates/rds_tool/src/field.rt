@@ -78,7 +78,9 @@ impl Field {
     {
         let [one, two, three, four] = four_digits(info);
         Field {
-            bytes: [letter, b':', one, two, three, four, 0, 0, 0, 0, 0, 0, 0, 0, 0, 0],
+            bytes: [
+                letter, b':', one, two, three, four, 0, 0, 0, 0, 0, 0, 0, 0, 0, 0,
+            ],
             len: 6,
         }
     }

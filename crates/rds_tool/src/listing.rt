@@ -49,12 +49,7 @@ pub fn report_rows<R: Threads + Sync>(
 }
 
 /// The rows of the items from one number up to another.
-pub fn item_rows(
-    alloc: Global,
-    items: &Items,
-    from: usize,
-    to: usize,
-) -> Result<Vec<u8>, ToolError>
+pub fn item_rows(alloc: Global, items: &Items, from: usize, to: usize) -> Result<Vec<u8>, ToolError>
     requires order { from ≤ to }
     requires inside { to ≤ length items.now }
     ensures rows { IfOk result (λ text. text.items ≡ flat_map item_row (take (to - from) (drop from items.now))) }
