@@ -119,7 +119,7 @@ fn is_whole(item: &Item, version: Version, conflict: bool) -> bool {
 
 #[test]
 fn samples_have_items_of_all_kinds(rt: HostRuntime) -> Result<(), Fail> {
-    let (items, plain) = items_of_all_kinds(rt.alloc(), 5)?;
+    let (items, plain) = items_of_all_kinds(rt.alloc(), 11)?;
     let Some(totals) = totals_of(&items, 0, items.len()) else {
         return Ok(assert!(rt; false));
     };
