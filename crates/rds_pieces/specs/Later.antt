@@ -11,7 +11,11 @@ state_later (Locked due number bad first) bits = Locked (due + bits) number bad 
 
 -- a mark so many groups later
 abbrev pub later : Mark → ℕ → Mark
-later m groups = record { place = m.place + 104 * groups; state = state_later m.state (104 * groups); items = m.items + groups }
+later m groups = record {
+  place = m.place + 104 * groups;
+  state = state_later m.state (104 * groups);
+  items = m.items + groups;
+}
 
 -- the place of the block that is due, if there is one
 abbrev pub due_of : State → ℕ

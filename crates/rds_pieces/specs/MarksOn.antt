@@ -1,4 +1,5 @@
--- The marks of a run that goes on, beside those that stood: one after every bit that gives an item. This project's rule.
+-- The marks of a run that goes on, beside those that stood: one after every bit that gives an item. This project's
+-- rule.
 use Rattle.std.specs.Prelude.{ℕ, zero, suc, ◌+◌, ◌-◌, List, [], ◌∷◌, ◌++◌, length}
 use Rattle.rds_sync.specs.declared.state.State.{State}
 use Rattle.rds_sync.specs.declared.item.Item.{Item}
@@ -15,8 +16,9 @@ mark_where (i ∷ is) m = m ∷ []
 abbrev pub marks_on : List ℕ → RuleNumbers → State → ℕ → ℕ → ℕ → List Mark
 marks_on b rules s a before zero = []
 marks_on b rules s a before (suc bits) =
-    let after : Mark = record { place = a + 1; state = step b rules a s; items = before + length (items_at b rules a s) } in
-    mark_where (items_at b rules a s) after ++ marks_on b rules (step b rules a s) (a + 1) (before + length (items_at b rules a s)) bits
+    let count : ℕ = before + length (items_at b rules a s) in
+    let after : Mark = record { place = a + 1; state = step b rules a s; items = count } in
+    mark_where (items_at b rules a s) after ++ marks_on b rules (step b rules a s) (a + 1) count bits
 
 -- a mark of a run before which `more` items stand where `less` stood
 abbrev pub recounted : ℕ → ℕ → Mark → Mark

@@ -1,7 +1,8 @@
 -- The laws of runs that the proofs of this crate rest on: those that rds_sync promises.
 use Rattle.rds_code.specs.Laws.{ReadsByRule}
 use Rattle.rds_sync.specs.Counting.{TotalsJoin}
-use Rattle.rds_sync.specs.Laws.{RunsAreReports, RunsJoin, StepsAreLawful, RunsAreLawful, OneBitRuns, LocksWait, ItemsMarkChanges, RunsGiveFewItems}
+use Rattle.rds_sync.specs.Laws.{RunsAreReports, RunsJoin, StepsAreLawful, RunsAreLawful, OneBitRuns, LocksWait}
+use Rattle.rds_sync.specs.Laws.{ItemsMarkChanges, RunsGiveFewItems}
 
 pub record RunLaws : Type 0 where
   pub reports : RunsAreReports

@@ -15,9 +15,9 @@ use rds_stream::Tape;
 use rds_sync::{Group, Item, ItemBuffer, Items, Rules, State, advance};
 use std::alloc::Global;
 
-/// Goes one step on from a state before `place` towards `to`: one bit where it searches, up to and including the block that
-/// is due where it is locked. Answers the place and the state that it came to, with its items put behind `items`, and a mark
-/// behind `marks` where it gave any.
+/// Goes one step on from a state before `place` towards `to`: one bit where it searches, up to and including the block
+/// that is due where it is locked. Answers the place and the state that it came to, with its items put behind `items`,
+/// and a mark behind `marks` where it gave any.
 pub fn advance_marked<T: Tape>(
     tape: &mut T,
     rules: &Rules,
@@ -32,7 +32,8 @@ pub fn advance_marked<T: Tape>(
     requires lawful { IsLawful rules.now place state }
     requires few { T.reads_made tape.old + 16 ≤ 2 ^ 63 }
     ensures step { IfOk result (λ r. IsStepTo (T.bits tape.old) rules.now state place to r.0 r.1) }
-    ensures items { IfOk result (λ r. items.new ≡ items.old ++ (run (T.bits tape.old) rules.now state place (r.0 - place)).1) }
+    ensures items { IfOk result (λ r. items.new
+        ≡ items.old ++ (run (T.bits tape.old) rules.now state place (r.0 - place)).1) }
     ensures marks { IfOk result (λ r. marks.new
         ≡ marks.old ++ marks_on (T.bits tape.old) rules.now state place (length items.old) (r.0 - place)) }
     ensures err { IfErr result (λ e. e ≡ OutOfMemory) }
@@ -68,7 +69,8 @@ fn advance_onto<T: Tape>(
     requires lawful { IsLawful rules.now place state }
     requires few { T.reads_made tape.old + 16 ≤ 2 ^ 63 }
     ensures step { IfOk result (λ r. IsStepTo (T.bits tape.old) rules.now state place to r.0 r.1) }
-    ensures items { IfOk result (λ r. items.new ≡ items.old ++ (run (T.bits tape.old) rules.now state place (r.0 - place)).1) }
+    ensures items { IfOk result (λ r. items.new
+        ≡ items.old ++ (run (T.bits tape.old) rules.now state place (r.0 - place)).1) }
     ensures err { IfErr result (λ e. e ≡ OutOfMemory) }
     ensures same { T.bits tape.new ≡ T.bits tape.old }
     ensures reads { T.reads_made tape.new ≤ T.reads_made tape.old + reads_most rules.now state to }

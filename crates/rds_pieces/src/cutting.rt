@@ -26,8 +26,8 @@ impl Model for Cutting {
 }
 
 impl Cutting {
-    /// The cutting at these places of a recording of `len` bits. Where they are no cutting of that length, the answer is
-    /// `BadCutting` with the list given back. Takes no memory.
+    /// The cutting at these places of a recording of `len` bits. Where they are no cutting of that length, the answer
+    /// is `BadCutting` with the list given back. Takes no memory.
     pub fn new(places: Vec<u64>, len: u64) -> Result<Cutting, (PieceError, Vec<u64>)>
         ensures ok { IfOk result (λ c. (c ≡ places.items) × IsCutting len places.items) }
         ensures err { IfErr result (λ e. (e.0 ≡ BadCutting) × (e.1 ≡ places) × ¬ IsCutting len places.items) }

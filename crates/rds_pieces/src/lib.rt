@@ -18,10 +18,10 @@
 //!
 //! A caller may rely on this: a [`PieceRun`] is the guess of its range, marks too, for the recording and the rules that
 //! it names; a seam gives the items, their totals and the end state of the run from the state handed in, says where the
-//! two met or that they never did, and reads at most (reach + 2)(d + 1) windows, where d is the number of bits up to the meeting,
-//! or to the piece's end where there is none; the stitched report is that of whole locks, items and totals. Nothing is
-//! promised of whether a guess is met: that depends on the recording. A guess that locks at a false phase may never be,
-//! and then its piece is read twice.
+//! two met or that they never did, and reads at most (reach + 2)(d + 1) windows, where d is the number of bits up to
+//! the meeting, or to the piece's end where there is none; the stitched report is that of whole locks, items and
+//! totals. Nothing is promised of whether a guess is met: that depends on the recording. A guess that locks at a false
+//! phase may never be, and then its piece is read twice.
 //!
 //! Who runs the pieces, and where, is left to the crates above: they are lent a [`Work`], which is their only way to
 //! the bits.

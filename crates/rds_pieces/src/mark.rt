@@ -2,7 +2,8 @@
 
 use rds_sync::State;
 
-/// A place of a run at which another run may meet it: the piece's first place, and each place after a bit that gave an item.
+/// A place of a run at which another run may meet it: the piece's first place, and each place after a bit that gave an
+/// item.
 #[derive(Clone, Copy, Debug, PartialEq, Eq)]
 pub struct Mark {
     /// The place of the next bit.

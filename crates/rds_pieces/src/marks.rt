@@ -1,5 +1,7 @@
-//! The marks of a run, kept in rows: while a station is locked and each group gives one item, all of its marks are one row.
-ghost use Rattle.std.specs.Prelude.{◌≡◌, ℕ, ◌+◌, ◌-◌, ◌*◌, ◌++◌, ◌<◌, ◌^◌, ◌↔◌, [], ◌∷◌, IsTrue, MatchOption, OnOk, OnErr, drop};
+//! The marks of a run, kept in rows: while a station is locked and each group gives one item, all of its marks are one
+//! row.
+ghost use Rattle.std.specs.Prelude.{◌≡◌, ℕ, ◌+◌, ◌-◌, ◌*◌, ◌++◌, ◌<◌, ◌^◌, ◌↔◌, [], ◌∷◌, IsTrue, MatchOption, OnOk};
+ghost use Rattle.std.specs.Prelude.{OnErr, drop};
 ghost use Rattle.std.specs.List.{flat_map};
 ghost use Rattle.std.specs.Iterator.{YieldsFirst, item_count};
 ghost use Rattle.rds_pieces.specs.Later.{later, due_of, state_later};
@@ -61,7 +63,8 @@ impl Row {
 impl Row {
     ghost use Rattle.rds_pieces.specs.Rows.{marks_in};
 
-    /// Puts a mark behind those of the rows: into the last row where that goes on with it, and else into a row of its own.
+    /// Puts a mark behind those of the rows: into the last row where that goes on with it, and else into a row of its
+    /// own.
     fn push(rows: &mut Vec<Row>, mark: Mark) -> Result<(), AllocError>
         ensures ok { OnOk result (flat_map marks_in rows.new.items ≡ flat_map marks_in rows.old.items ++ mark ∷ []) }
         ensures err { OnErr result (rows.new.items ≡ rows.old.items) }

@@ -9,7 +9,8 @@ use rds_sync::{ItemBuffer, Items, State, Totals};
 /// What a piece gives from the state that was handed in.
 #[derive(Drop)]
 pub struct Seam {
-    /// The items that the bits of the piece give, in order of place: those before the meeting, and the guess's own from there on.
+    /// The items that the bits of the piece give, in order of place: those before the meeting, and the guess's own from
+    /// there on.
     pub items: Items,
     /// The totals of these items.
     pub totals: Totals,

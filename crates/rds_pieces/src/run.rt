@@ -18,9 +18,9 @@ use std::alloc::Global;
 use std::marker::Model;
 use std::snapshot::Snapshot;
 
-/// The guess of a range of places, for the recording and the rules that it names: what a run from Searching at the range's first
-/// place gives, with its marks. Contracts see what it is a run of: the recording's bits, the rules' numbers and the range. It
-/// borrows nothing and holds nothing of the recording.
+/// The guess of a range of places, for the recording and the rules that it names: what a run from Searching at the
+/// range's first place gives, with its marks. Contracts see what it is a run of: the recording's bits, the rules'
+/// numbers and the range. It borrows nothing and holds nothing of the recording.
 #[derive(Drop)]
 pub struct PieceRun {
     source: Snapshot<Recording>,
@@ -79,7 +79,8 @@ impl PieceRun {
 
     /// The totals of these items.
     pub fn totals(&self) -> Totals
-        ensures { result ≡ totals_of (guess self.now.source self.now.rules self.now.from (self.now.to - self.now.from)).1 }
+        ensures { result
+            ≡ totals_of (guess self.now.source self.now.rules self.now.from (self.now.to - self.now.from)).1 }
     {
         self.counted
     }
@@ -87,7 +88,8 @@ impl PieceRun {
     /// The totals of the items from number `first` on: those of all, less those before, which alone are counted.
     pub(crate) fn totals_from(&self, first: usize) -> Totals
         requires { first ≤ length (guess self.now.source self.now.rules self.now.from (self.now.to - self.now.from)).1 }
-        ensures { result ≡ totals_of (drop first (guess self.now.source self.now.rules self.now.from (self.now.to - self.now.from)).1) }
+        ensures { result ≡ totals_of (drop first
+            (guess self.now.source self.now.rules self.now.from (self.now.to - self.now.from)).1) }
     {
         run_laws();
         self.counted.less(Totals::of_range(&self.items, 0, first))
@@ -108,8 +110,8 @@ impl PieceRun {
     }
 }
 
-/// Guesses piece `j` of a cutting: runs from Searching at its first place to its end, as if nothing stood before. Its windows
-/// may look before that place. Fails with `OutOfMemory` alone.
+/// Guesses piece `j` of a cutting: runs from Searching at its first place to its end, as if nothing stood before. Its
+/// windows may look before that place. Fails with `OutOfMemory` alone.
 pub fn speculate(
     alloc: Global,
     rec: &Recording,

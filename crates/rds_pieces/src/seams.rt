@@ -20,11 +20,11 @@ use rds_sync::{ItemBuffer, Rules, State, Totals};
 use std::alloc::Global;
 
 /// Carries the run on from `state`, lawful at the piece's first place, over the piece that `run` guessed, of the tape's
-/// recording and by these rules: step by step over the tape until it meets the guess, in one state with it and with no group
-/// in progress; from there on it takes the guess's items, without a copy, and reads nothing.
+/// recording and by these rules: step by step over the tape until it meets the guess, in one state with it and with no
+/// group in progress; from there on it takes the guess's items, without a copy, and reads nothing.
 ///
-/// It reads at most (reach + 2)(d + 1) windows of the tape, which has counted at most 2^62 before; d is the number of bits up
-/// to the meeting, or to the piece's end where there is none. Fails with `OutOfMemory` alone.
+/// It reads at most (reach + 2)(d + 1) windows of the tape, which has counted at most 2^62 before; d is the number of
+/// bits up to the meeting, or to the piece's end where there is none. Fails with `OutOfMemory` alone.
 pub fn seam<T: Tape>(
     alloc: Global,
     tape: &mut T,
@@ -37,11 +37,14 @@ pub fn seam<T: Tape>(
     requires rules { run.now.rules ≡ rules.now }
     requires room { T.reads_made tape.old ≤ 2 ^ 62 }
 
-    ensures items { IfOk result (λ s. s.items ≡ (run_of (T.bits tape.old) rules.now state run.now.from (run.now.to - run.now.from)).1) }
+    ensures items { IfOk result (λ s. s.items
+        ≡ (run_of (T.bits tape.old) rules.now state run.now.from (run.now.to - run.now.from)).1) }
     ensures totals { IfOk result (λ s. s.totals
         ≡ totals_of (run_of (T.bits tape.old) rules.now state run.now.from (run.now.to - run.now.from)).1) }
-    ensures end { IfOk result (λ s. s.end_state ≡ (run_of (T.bits tape.old) rules.now state run.now.from (run.now.to - run.now.from)).0) }
-    ensures met { IfOk result (λ s. IsMeeting (T.bits tape.old) rules.now state State.Searching run.now.from run.now.to s.met_at) }
+    ensures end { IfOk result (λ s. s.end_state
+        ≡ (run_of (T.bits tape.old) rules.now state run.now.from (run.now.to - run.now.from)).0) }
+    ensures met { IfOk result (λ s.
+        IsMeeting (T.bits tape.old) rules.now state State.Searching run.now.from run.now.to s.met_at) }
     ensures reads { IfOk result (λ s. T.reads_made tape.new
         ≤ T.reads_made tape.old + (rules.now.reach + 2) * (distance run.now.from run.now.to s.met_at + 1)) }
 
@@ -94,8 +97,10 @@ pub(crate) fn go_along<'a, T: Tape>(
     requires rules { run.now.rules ≡ rules.now }
     requires room { T.reads_made tape.old ≤ 2 ^ 62 }
 
-    ensures walk { IfOk result (λ w. IsWalk run.now.source run.now.rules state run.now.from run.now.to w.place w.state) }
-    ensures met { IfOk result (λ w. IsMetOrNot run.now.source run.now.rules state run.now.from run.now.to w.place w.met) }
+    ensures walk { IfOk result (λ w.
+        IsWalk run.now.source run.now.rules state run.now.from run.now.to w.place w.state) }
+    ensures met { IfOk result (λ w.
+        IsMetOrNot run.now.source run.now.rules state run.now.from run.now.to w.place w.met) }
     ensures items { IfOk result (λ w. w.items
         ≡ (run_of run.now.source run.now.rules state run.now.from (w.place - run.now.from)).1) }
     ensures marks { IfOk result (λ w. w.marks

@@ -18,12 +18,12 @@ use rds_stream::Tape;
 use rds_sync::{Items, Report, Rules, State, Totals, finish};
 use std::alloc::Global;
 
-/// The report of the tape's recording: carries the state over the runs in order, from Searching at its first bit, and ends with
-/// the group in progress at its end. The runs follow each other from place 0 to the recording's end, one a piece or more of
-/// them joined; there is none where the recording is empty.
+/// The report of the tape's recording: carries the state over the runs in order, from Searching at its first bit, and
+/// ends with the group in progress at its end. The runs follow each other from place 0 to the recording's end, one a
+/// piece or more of them joined; there is none where the recording is empty.
 ///
-/// It reads what the seams may read, and at most three windows more; the tape has counted at most 2^61 before. Fails with
-/// `OutOfMemory` alone.
+/// It reads what the seams may read, and at most three windows more; the tape has counted at most 2^61 before. Fails
+/// with `OutOfMemory` alone.
 pub fn stitch<T: Tape>(
     alloc: Global,
     tape: &mut T,
@@ -48,8 +48,8 @@ pub fn stitch<T: Tape>(
     Ok(report)
 }
 
-/// Carries the state over all runs, from Searching at place 0. The items and totals of their seams are, with those of the
-/// recording's end, the report's.
+/// Carries the state over all runs, from Searching at place 0. The items and totals of their seams are, with those of
+/// the recording's end, the report's.
 fn carry_over_all<T: Tape>(
     alloc: Global,
     tape: &mut T,
@@ -59,7 +59,8 @@ fn carry_over_all<T: Tape>(
     requires in_a_row { FollowEachOther (T.bits tape.old) rules.now 0 (length (T.bits tape.old)) runs.now }
     requires room { T.reads_made tape.old ≤ 2 ^ 61 }
 
-    ensures whole { IfOk result (λ r. r.1.items ++ items_of_end (T.bits tape.old) rules.now r.0 ≡ report_items (T.bits tape.old) rules.now) }
+    ensures whole { IfOk result (λ r. r.1.items ++ items_of_end (T.bits tape.old) rules.now r.0
+        ≡ report_items (T.bits tape.old) rules.now) }
     ensures totals { IfOk result (λ r. r.1.totals ≡ totals_of r.1.items) }
     ensures small { IfOk result (λ r. IsAtMost ((2 ^ 28 - 1) * 2 ^ 36) r.1.totals) }
     ensures lawful { IfOk result (λ r. IsLawful rules.now (length (T.bits tape.old)) r.0) }

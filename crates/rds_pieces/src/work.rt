@@ -47,16 +47,19 @@ pub trait Work {
         ensures ok { IfOk result (λ r. r ≡ run_at (recording self.now) (rule_set self.now) (places self.now) j) }
         ensures err { IfErr result (λ e. e ≡ OutOfMemory) };
 
-    /// The report, from runs that follow each other from place 0 to the recording's end. Fails with `OutOfMemory` alone.
+    /// The report, from runs that follow each other from place 0 to the recording's end. Fails with `OutOfMemory`
+    /// alone.
     fn report(&self, alloc: Global, runs: &[PieceRun]) -> Result<Report, PieceError>
-        requires in_a_row { FollowEachOther (recording self.now) (rule_set self.now) 0 (length (recording self.now)) runs.now }
+        requires in_a_row { FollowEachOther (recording self.now) (rule_set self.now)
+            0 (length (recording self.now)) runs.now }
         ensures items { IfOk result (λ report. report.items ≡ report_items (recording self.now) (rule_set self.now)) }
-        ensures totals { IfOk result (λ report. report.totals ≡ totals_of (report_items (recording self.now) (rule_set self.now))) }
+        ensures totals { IfOk result (λ report. report.totals
+            ≡ totals_of (report_items (recording self.now) (rule_set self.now))) }
         ensures err { IfErr result (λ e. e ≡ OutOfMemory) };
 }
 
-/// The work over a recording that is lent to it: `guess` is `speculate`, and `report` is `stitch` on a tape of its own. It can
-/// be shared between threads.
+/// The work over a recording that is lent to it: `guess` is `speculate`, and `report` is `stitch` on a tape of its own.
+/// It can be shared between threads.
 #[derive(Drop)]
 pub struct RecordingWork<'a> {
     recording: &'a Recording,

@@ -30,8 +30,8 @@ impl Shown {
         Ok(Shown {
             from: run.from(),
             to: run.to(),
-            items: run.items().to_vec(alloc)?,
-            marks: run.marks().to_vec(alloc)?,
+            items: run.items().iter().collect(alloc)?,
+            marks: run.marks().iter().collect(alloc)?,
         })
     }
 }

@@ -61,7 +61,8 @@ fn marks_in_rows_come_back_as_they_were(rt: HostRuntime) -> Result<(), Fail> {
     Ok(())
 }
 
-/// The marks of a guess by their definition: at the first place, and behind each bit after which the run has more items.
+/// The marks of a guess by their definition: at the first place, and behind each bit after which the run has more
+/// items.
 fn plain_marks(alloc: Global, sample: &Sample, from: u64, to: u64) -> Result<Vec<Mark>, Fail>
     requires { to ≤ length sample.now.recording }
 {
