@@ -1,6 +1,7 @@
 //! Tests of `rds_pieces`.
 mod cuttings;
 mod guesses;
+mod meetings;
 mod marks;
 mod seams;
 mod stitching;

@@ -158,11 +158,14 @@ impl Sample {
         })
     }
 
-    /// Two groups of which the second has two bad blocks, which lose the lock where two of three may not be bad, and the report
-    /// of one decoder.
+    /// Two groups of which the second has two bad blocks among three, which lose the lock.
     pub fn two_bad(alloc: Global) -> Result<Sample, Fail> {
-        let recording = damaged_groups(alloc, &TWO_BAD)?;
-        let rules = Rules::with_share(alloc, 2, 3, 2, 3)?;
+        Sample::by_share(alloc, damaged_groups(alloc, &TWO_BAD)?, 2, 3)
+    }
+
+    /// A recording in which so many bad blocks of the last lose a lock, and the report of one decoder.
+    pub fn by_share(alloc: Global, recording: Recording, bad: u32, of: u32) -> Result<Sample, Fail> {
+        let rules = Rules::with_share(alloc, 2, 3, bad, of)?;
         let report = decode_plain(alloc, &recording, &rules)?;
         Ok(Sample {
             recording,

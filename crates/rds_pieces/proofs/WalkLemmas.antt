@@ -1,5 +1,5 @@
 -- What a walk along a guess has to take over from the guess where it met it.
-use Rattle.std.proofs.Common.{◌≡◌, ℕ, ◌+◌, ◌-◌, ◌*◌, ◌<◌, ◌≤◌, ◌^◌, List, ◌++◌, length, get_or, map, drop, sym, ap, ap₂, ◌∙◌, subst, arith, append_assoc, length-append}
+use Rattle.std.proofs.Common.{◌≡◌, ℕ, ◌+◌, ◌-◌, ◌*◌, ◌<◌, ◌≤◌, ◌^◌, List, ◌++◌, length, get_or, map, drop, Option, Some, None, sym, ap, ap₂, ◌∙◌, subst, arith, append_assoc, length-append}
 use Rattle.std.proofs.lemmas.List.{drop_at}
 use Rattle.rds_sync.specs.declared.state.State.{State}
 use Rattle.rds_sync.specs.declared.state.State.TheVariants.{Searching}
@@ -15,9 +15,17 @@ use Rattle.rds_pieces.specs.Guess.{guess, marks}
 use Rattle.rds_pieces.specs.MarksOn.{marks_on, recounted}
 use Rattle.rds_pieces.specs.RunOf.{IsGuess, run_over}
 use Rattle.rds_pieces.specs.RunLaws.{RunLaws}
-use Rattle.rds_pieces.specs.Walk.{IsMet}
+use Rattle.rds_pieces.specs.Walk.{IsMet, IsUnmet, IsMetOrNot}
 use Rattle.rds_pieces.proofs.SmallTotals.{per_bit, run_at_most}
 use Rattle.rds_pieces.proofs.MarkLaws.{run-met, marks-met, marks-join, marks-after, counted}
+
+-- where something was passed, it met the guess
+pub met_from : (b : List ℕ) (rules : RuleNumbers) (s : State) (from to place : ℕ) (o : Option Passed) (passed : Passed) → o ≡ Some passed → IsMetOrNot b rules s from to place o
+    → IsMet b rules s from to place passed
+met_from b rules s from to place o passed e h = subst (λ (x : Option Passed). IsMetOrNot b rules s from to place x) e h
+
+pub unmet_from : (b : List ℕ) (rules : RuleNumbers) (s : State) (from to place : ℕ) (o : Option Passed) → o ≡ None → IsMetOrNot b rules s from to place o → IsUnmet b rules s from to place
+unmet_from b rules s from to place o e h = subst (λ (x : Option Passed). IsMetOrNot b rules s from to place x) e h
 
 module _ (b : List ℕ) (rules : RuleNumbers) (laws : RunLaws) (s : State) (from to place : ℕ) (passed : Passed) (met : IsMet b rules s from to place passed) where
   -- the guess and the run from s, before place p

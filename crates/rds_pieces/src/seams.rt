@@ -1,6 +1,7 @@
 //! The seam before a piece: how the state that the pieces before it left runs over it.
 ghost use Rattle.std.specs.Prelude.{◌≡◌, ℕ, List, ◌+◌, ◌-◌, ◌*◌, ◌++◌, ◌<◌, ◌≤◌, ◌^◌, [], ◌∷◌, IfOk, IfErr, length};
 ghost use Rattle.rds_sync.specs.Lawful.{IsLawful};
+ghost use Rattle.rds_sync.specs.Ranges.{IsInRange};
 ghost use Rattle.rds_sync.specs.Step.{run as run_of};
 ghost use Rattle.rds_sync.specs.Totals.{totals_of};
 ghost use Rattle.rds_pieces.specs.MarksOn.{marks_on};
@@ -107,6 +108,7 @@ pub(crate) fn go_along<'a, T: Tape>(
     ensures reads_most { T.reads_made tape.new
         ≤ T.reads_made tape.old + (run.now.rules.reach + 2) * (run.now.to - run.now.from + 1) }
     ensures few { run.now.to - run.now.from ≤ 2 ^ 36 }
+    ensures rules { IsInRange run.now.rules }
 {
     // Steps in a row are one run.
     run_laws();
@@ -141,14 +143,16 @@ pub(crate) fn go_along<'a, T: Tape>(
                 met: None,
             });
         }
-        let (next, after) =
-            advance_marked(tape, rules, state, place, limit, &mut items, &mut marks)?;
-        place = next;
+        let (reached, after) = advance_marked(
+            tape, rules, state, place, limit, &mut items, &mut marks,
+        )?;
+        place = reached;
         state = after;
-        if place == limit
-            && let Some(reached) = ahead.next()
-        {
-            mark = reached;
+        if place != limit {
+            continue;
+        }
+        if let Some(passed) = ahead.next() {
+            mark = passed;
             limit = place_of_next(&ahead, to);
         }
     }

@@ -1,5 +1,5 @@
 -- What is left of items, once some of them were taken.
-use Rattle.std.proofs.Common.{◌≡◌, ℕ, ◌+◌, ◌-◌, ◌≤◌, List, [], ◌∷◌, ◌++◌, length, map, take, drop, sym, ap, refl, ◌∙◌, append_assoc, arith, zero, suc, ◌<◌, min}
+use Rattle.std.proofs.Common.{◌≡◌, ℕ, ◌+◌, ◌-◌, ◌≤◌, List, [], ◌++◌, length, take, ap, refl, ◌∙◌, append_assoc, arith, zero, suc, ◌<◌, min}
 use Rattle.std.proofs.lemmas.List.{map-append, length-map}
 use Rattle.std.proofs.Math.Seq.{take-append-add}
 use Rattle.rds_sync.specs.declared.item.Item.{Item}

@@ -101,13 +101,13 @@ same_counts h1 h2 h3 h4 h5 h6 h7 h8 h9 h10 h11 h12 = cc
 pub plus_swap : (t u w : Totals) → plus (plus t u) w ≡ plus (plus t w) u
 plus_swap t u w =
     same_counts (omega arith) (omega arith) (omega arith) (omega arith) (omega arith) (omega arith)
-        (omega arith) (omega arith) (omega arith) (omega arith) (omega arith) (omega arith)
+    (omega arith) (omega arith) (omega arith) (omega arith) (omega arith) (omega arith)
 
 -- one whole group more
 pub plus_whole : (t : Totals) (n : ℕ) → plus t (whole_totals (n + 1)) ≡ plus (plus t (whole_totals n)) (whole_totals 1)
 plus_whole t n =
     same_counts (omega arith) (omega arith) (omega arith) (omega arith) (omega arith) (omega arith)
-        (omega arith) (omega arith) (omega arith) (omega arith) (omega arith) (omega arith)
+    (omega arith) (omega arith) (omega arith) (omega arith) (omega arith) (omega arith)
 
 -- what is kept whole counts as such
 pub whole_counts : (others : List Item) (kept : Kept) → ((number : ℕ) → kept ≢ Other number) → totals_of (item_of others kept ∷ []) ≡ whole_totals 1
@@ -140,18 +140,26 @@ pub rest_is : (part whole rest : Totals) → IsRest part whole rest
     }) rest
 rest_is part whole rest is =
     same_counts (less _ _ _ (ap (λ (t : Totals). t.valid) is.joined))
-        (less _ _ _ (ap (λ (t : Totals). slice_index t.bursts 0) is.joined))
-        (less _ _ _ (ap (λ (t : Totals). slice_index t.bursts 1) is.joined))
-        (less _ _ _ (ap (λ (t : Totals). slice_index t.bursts 2) is.joined))
-        (less _ _ _ (ap (λ (t : Totals). slice_index t.bursts 3) is.joined))
-        (less _ _ _ (ap (λ (t : Totals). slice_index t.bursts 4) is.joined))
-        (less _ _ _ (ap (λ (t : Totals). t.lost) is.joined))
-        (less _ _ _ (ap (λ (t : Totals). t.bits) is.joined))
-        (less _ _ _ (ap (λ (t : Totals). t.groups) is.joined))
-        (less _ _ _ (ap (λ (t : Totals). t.complete) is.joined))
-        (less _ _ _ (ap (λ (t : Totals). t.acquired) is.joined))
-        (less _ _ _ (ap (λ (t : Totals). t.losses) is.joined))
-    ∙ ap (λ (bursts : List ℕ). record { valid = rest.valid; bursts = bursts; lost = rest.lost; bits = rest.bits; groups = rest.groups;
-      complete = rest.complete; acquired = rest.acquired; losses = rest.losses }) (sym (five_numbers rest.bursts is.spans)) where
+    (less _ _ _ (ap (λ (t : Totals). slice_index t.bursts 0) is.joined))
+    (less _ _ _ (ap (λ (t : Totals). slice_index t.bursts 1) is.joined))
+    (less _ _ _ (ap (λ (t : Totals). slice_index t.bursts 2) is.joined))
+    (less _ _ _ (ap (λ (t : Totals). slice_index t.bursts 3) is.joined))
+    (less _ _ _ (ap (λ (t : Totals). slice_index t.bursts 4) is.joined))
+    (less _ _ _ (ap (λ (t : Totals). t.lost) is.joined))
+    (less _ _ _ (ap (λ (t : Totals). t.bits) is.joined))
+    (less _ _ _ (ap (λ (t : Totals). t.groups) is.joined))
+    (less _ _ _ (ap (λ (t : Totals). t.complete) is.joined))
+    (less _ _ _ (ap (λ (t : Totals). t.acquired) is.joined))
+    (less _ _ _ (ap (λ (t : Totals). t.losses) is.joined))
+    ∙ ap (λ (bursts : List ℕ). record {
+      valid = rest.valid;
+      bursts = bursts;
+      lost = rest.lost;
+      bits = rest.bits;
+      groups = rest.groups;
+      complete = rest.complete;
+      acquired = rest.acquired;
+      losses = rest.losses;
+    }) (sym (five_numbers rest.bursts is.spans)) where
       less : (a b c : ℕ) → a ≡ b + c → a - b ≡ c
       less a b c h = omega (arith, h)

@@ -7,7 +7,9 @@ use Rattle.std.specs.Str.Parse.{ExplainsUnsignedError, HasUnsignedDigitsIfOk, Pa
 use Rattle.clap.specs.Words.{ReadsOne, Row, Text, TriesOne, one_of, one_text, rows_of}
 use Rattle.clap.specs.declared.parser.matches.Found.{Found}
 use Rattle.clap.proofs.WalkLemmas.{one_text-rows}
-use Rattle.rds_tool.specs.CommandLine.{AreSettings, IsFlag, IsInput, IsJob, MaySpell, Spells}
+use Rattle.rds_sync.specs.declared.loss.Loss.{Loss}
+use Rattle.rds_sync.specs.declared.loss.Loss.TheVariants.{Run, Share}
+use Rattle.rds_tool.specs.CommandLine.{AreSettings, IsFlag, IsInput, IsJob, MaySpell, Spells, SpellsLoss}
 use Rattle.rds_tool.specs.declared.job.Input.{Input}
 use Rattle.rds_tool.specs.declared.job.Job.{Job}
 use Rattle.rds_tool.specs.declared.job.Job.TheVariants.{Encode, List as ListJob, Scan, Totals}
@@ -82,6 +84,23 @@ number_none width f id None value =
     λ n h. number_none_at width (one_text f id) value n (subst (λ (o : Option Text). Spells width o n) (sym (one_text-rows f id)) h)
 
 -- ---- entries that give no job
+
+-- no share, and no number in a row: no rule of loss
+pub no_row : (rows : List Row) → one_of (codes "share") rows ≡ None → ((n : ℕ) → Spells 32 (one_of (codes "loss") rows) n → ⊥)
+    → (loss : Loss) → SpellsLoss rows loss → ⊥
+no_row rows none h (Run n) s = h n s.1
+no_row rows none h (Share bad of) s = subst (λ (o : Option Text). Spells 32 o bad) none s.0
+
+-- a share of no number of blocks
+pub no_blocks : (rows : List Row) (n : ℕ) → Spells 32 (one_of (codes "share") rows) n → ((of : ℕ) → Spells 32 (one_of (codes "of") rows) of → ⊥)
+    → (loss : Loss) → SpellsLoss rows loss → ⊥
+no_blocks rows n share h (Run row) s = subst (λ (o : Option Text). Spells 32 o n) s.0 share
+no_blocks rows n share h (Share bad of) s = h of s.1
+
+-- a share that is no number
+pub no_share : (rows : List Row) → ((share : Option ℕ) → MaySpell 32 (one_of (codes "share") rows) share → ⊥) → (loss : Loss) → SpellsLoss rows loss → ⊥
+no_share rows h (Run row) s = h None s.0
+no_share rows h (Share bad of) s = h (Some bad) s.0
 
 -- no input, no job but one to encode
 pub no_input : (name : Text) (rows : List Row) → name ≢ codes "encode" → ((input : Input) → IsInput rows input → ⊥) → (job : Job) → IsJob name rows job → ⊥

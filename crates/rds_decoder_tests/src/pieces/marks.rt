@@ -98,8 +98,7 @@ fn is_plain(alloc: Global, sample: &Sample, guess: &PieceRun) -> Result<bool, Fa
         return Ok(false);
     }
     let plain = plain_marks(alloc, sample, guess.from(), guess.to())?;
-    Ok(guess.marks().iter().eq(plain.iter().copied())
-        && are_counted(guess.items(), guess.totals()))
+    Ok(guess.marks().iter().eq(plain.iter().copied()) && are_counted(guess.items(), guess.totals()))
 }
 
 /// Whether all guesses of a cutting are so.
@@ -120,7 +119,10 @@ fn guesses_of_a_damaged_recording_have_their_marks_and_totals(rt: HostRuntime) -
     assert!(rt; are_plain(rt.alloc(), &sample, Cuts::Even(1))?);
     for seed in 1..6u64 {
         let cuts = random_cuts(rt.alloc(), sample.recording.len(), 300, seed * 0x9E37_79B9)?;
-        assert!(rt; are_plain(rt.alloc(), &sample, Cuts::At(cuts.as_slice()))?, "{cuts:?}");
+        assert!(rt;
+            are_plain(rt.alloc(), &sample, Cuts::At(cuts.as_slice()))?,
+            "{cuts:?}"
+        );
     }
     Ok(())
 }

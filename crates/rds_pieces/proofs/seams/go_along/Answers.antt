@@ -1,5 +1,4 @@
-use Rattle.std.proofs.Common.{◌≡◌, ◌≢◌, ℕ, List, ◌++◌, [], ◌∷◌, ◌+◌, ◌-◌, ◌<◌, ◌≤◌, length, get_or, drop, sym, ap, ◌∙◌, subst, arith, refl}
-use Rattle.rds_sync.specs.declared.state.State.TheVariants.{Searching}
+use Rattle.std.proofs.Common.{◌≡◌, ◌≢◌, ℕ, List, ◌++◌, [], ◌+◌, ◌-◌, ◌≤◌, length, get_or, drop, sym, ap, ◌∙◌, subst, arith, refl}
 use Rattle.rds_sync.specs.Rules.{RuleNumbers}
 use Rattle.rds_sync.specs.Lawful.{IsLawful, IsBetweenGroups}
 use Rattle.rds_sync.specs.Advance.{reads_most}
@@ -7,13 +6,11 @@ use Rattle.rds_sync.specs.Step.{run}
 use Rattle.rds_pieces.specs.declared.mark.Mark.{Mark}
 use Rattle.rds_pieces.specs.Advance.{IsStepTo}
 use Rattle.rds_pieces.specs.MarksOn.{marks_on}
-use Rattle.rds_pieces.specs.RunOf.{RunOf}
 use Rattle.rds_pieces.specs.Walk.{next_place}
-use Rattle.rds_pieces.proofs.BesideLemmas.{IsBeside, beside_start, beside_near, beside_next, place_after}
+use Rattle.rds_pieces.proofs.BesideLemmas.{beside_start, beside_near, beside_next, place_after}
 use Rattle.rds_pieces.proofs.MarkLaws.{marks_on-more, last_index}
-use Rattle.rds_pieces.proofs.ReadsLemmas.{IsPaid, paid_room, paid_most, paid_start, paid_on, paid_step, paid_all}
-use Rattle.rds_pieces.proofs.SeamLemmas.{renamed, found, unread, own, said, IsCarried, items_on, limit_ahead, limit_inside, met_first, never_met}
-use Rattle.rds_pieces.proofs.seams.go_along.Given.{Over}
+use Rattle.rds_pieces.proofs.ReadsLemmas.{paid_room, paid_most, paid_start, paid_on, paid_step, paid_all}
+use Rattle.rds_pieces.proofs.SeamLemmas.{renamed, found, unread, said, IsCarried, items_on, limit_ahead, limit_inside, met_first, never_met}
 use Rattle.rds_pieces.proofs.seams.go_along.Goals as goal
 
 pub advance_marked-requires-clause-lawful : goal.advance_marked-requires-clause-lawful
@@ -62,8 +59,8 @@ along-init g c =
       same = sym c.requires.source;
     })
 
-pub returns-in_err-next-clause-reads_most : goal.returns-in_err-next-clause-reads_most
-returns-in_err-next-clause-reads_most g c =
+pub returns-in_err-reached-clause-reads_most : goal.returns-in_err-reached-clause-reads_most
+returns-in_err-reached-clause-reads_most g c =
     let r = c.args.run.now in
     let inv = c.along.invariant in
     let carried = inv.beside.carried in
@@ -76,55 +73,105 @@ returns-in_err-next-clause-reads_most g c =
     paid_step r.source r.rules (g.T.Tape.reads_made c.args.tape.now) r.from (g.T.Tape.reads_made c.along.tape) (g.T.Tape.reads_made c.advance_marked.new.tape) c.along.place c.along.limit r.to c.along.state
     carried.inside.0 (omega (arith, ahead, high)) high carried.lawful inv.paid few
 
--- what a step leaves, whatever marks it comes to
-module _ (g : Over) (c : goal.In_ok-next g) where
-  abbrev r : RunOf
-  r = c.args.run.now
+pub along-preserved-in-Some-next : goal.along-preserved-in-Some-next
+along-preserved-in-Some-next g c =
+    let r = c.args.run.now in
+    let inv = c.along.invariant in
+    let beside = inv.beside in
+    let carried = beside.carried in
+    let some = c.range-from.ensures.rules.some_loss in
+    let after_mark = place_after r.source r.rules r.from r.to c.args.state c.along.place c.along.state c.along.mark c.along.ahead c.along.limit beside in
+    let apart : ¬ ((c.along.state ≡ c.along.mark.state) × IsBetweenGroups c.along.state) = λ p. (let t = c.meets.ensures.1 p in let f = c.if-meets.false in cc) in
+    let goes : IsStepTo r.source r.rules c.along.state c.along.place c.along.limit c.in_ok-reached.reached c.in_ok-reached.after =
+    renamed (λ b rules. IsStepTo b rules c.along.state c.along.place c.along.limit c.in_ok-reached.reached c.in_ok-reached.after) (g.T.Tape.bits c.along.tape) r.source c.args.rules.now r.rules
+    inv.same (sym c.requires.rules) c.in_ok-reached.ensures.step in
+    let given : c.advance_marked.new.items ≡ c.along.items ++ (run r.source r.rules c.along.state c.along.place (c.in_ok-reached.reached - c.along.place)).1 =
+    renamed (λ b rules. c.advance_marked.new.items ≡ c.along.items ++ (run b rules c.along.state c.along.place (c.in_ok-reached.reached - c.along.place)).1)
+    (g.T.Tape.bits c.along.tape) r.source c.args.rules.now r.rules inv.same (sym c.requires.rules) c.in_ok-reached.ensures.items in
+    let marked : c.advance_marked.new.marks ≡ c.along.marks ++ marks_on r.source r.rules c.along.state c.along.place (length c.along.items) (c.in_ok-reached.reached - c.along.place) =
+    renamed (λ b rules. c.advance_marked.new.marks ≡ c.along.marks ++ marks_on b rules c.along.state c.along.place (length c.along.items) (c.in_ok-reached.reached - c.along.place))
+    (g.T.Tape.bits c.along.tape) r.source c.args.rules.now r.rules inv.same (sym c.requires.rules) c.in_ok-reached.ensures.marks in
+    let few = subst (λ (y : RuleNumbers). g.T.Tape.reads_made c.advance_marked.new.tape ≤ g.T.Tape.reads_made c.along.tape + reads_most y c.along.state c.along.limit) (sym c.requires.rules) c.advance_marked.ensures.reads in
+    record {
+      beside = beside_next r.source r.rules r.from r.to c.run_laws.ensures some c.args.state c.along.place c.in_ok-reached.reached c.along.state c.in_ok-reached.after c.along.mark c.in-Some-next.passed
+          c.along.ahead c.next-in-along.new.self c.along.limit c.place_of_next-limit-in-Some-next.result beside apart goes c.if-place-limit.false c.in-Some-next.ensures.steps
+          (c.place_of_next-limit-in-Some-next.ensures ∙ ap (λ (p : ℕ). next_place c.next-in-along.new.self p) c.range-from.ensures.end);
+      items_are = items_on r.source r.rules r.from r.to c.run_laws.ensures some c.args.state c.along.place beside.index c.along.limit c.in_ok-reached.reached c.along.state c.in_ok-reached.after
+          carried (λ p. apart (p.0 ∙ sym (ap (λ (m : Mark). m.state) beside.passed_is), p.1)) goes after_mark [] c.along.items c.advance_marked.new.items inv.items_are given;
+      marks_are = let m = goes.moved.0 in
+          marks_on-more r.source r.rules c.run_laws.ensures c.args.state c.along.state r.from c.along.place c.in_ok-reached.reached 0 [] c.along.items [] c.along.marks c.advance_marked.new.marks
+          carried.inside.0 (omega (arith, m)) carried.state_is inv.items_are refl inv.marks_are marked;
+      paid = paid_on r.source r.rules (g.T.Tape.reads_made c.args.tape.now) r.from c.run_laws.ensures (g.T.Tape.reads_made c.along.tape) (g.T.Tape.reads_made c.advance_marked.new.tape)
+          c.along.place c.along.limit c.in_ok-reached.reached c.along.state c.in_ok-reached.after carried.inside.0 carried.lawful inv.paid goes few;
+      same = c.advance_marked.ensures.same ∙ inv.same;
+    }
 
-  apart : ¬ ((c.along.state ≡ c.along.mark.state) × IsBetweenGroups c.along.state)
-  apart = λ p. (let t = c.meets.ensures.1 p in let f = c.if-meets.false in cc)
+pub along-preserved-then-place-limit : goal.along-preserved-then-place-limit
+along-preserved-then-place-limit g c =
+    let r = c.args.run.now in
+    let inv = c.along.invariant in
+    let beside = inv.beside in
+    let carried = beside.carried in
+    let some = c.range-from.ensures.rules.some_loss in
+    let after_mark = place_after r.source r.rules r.from r.to c.args.state c.along.place c.along.state c.along.mark c.along.ahead c.along.limit beside in
+    let apart : ¬ ((c.along.state ≡ c.along.mark.state) × IsBetweenGroups c.along.state) = λ p. (let t = c.meets.ensures.1 p in let f = c.if-meets.false in cc) in
+    let goes : IsStepTo r.source r.rules c.along.state c.along.place c.along.limit c.in_ok-reached.reached c.in_ok-reached.after =
+    renamed (λ b rules. IsStepTo b rules c.along.state c.along.place c.along.limit c.in_ok-reached.reached c.in_ok-reached.after) (g.T.Tape.bits c.along.tape) r.source c.args.rules.now r.rules
+    inv.same (sym c.requires.rules) c.in_ok-reached.ensures.step in
+    let given : c.advance_marked.new.items ≡ c.along.items ++ (run r.source r.rules c.along.state c.along.place (c.in_ok-reached.reached - c.along.place)).1 =
+    renamed (λ b rules. c.advance_marked.new.items ≡ c.along.items ++ (run b rules c.along.state c.along.place (c.in_ok-reached.reached - c.along.place)).1)
+    (g.T.Tape.bits c.along.tape) r.source c.args.rules.now r.rules inv.same (sym c.requires.rules) c.in_ok-reached.ensures.items in
+    let marked : c.advance_marked.new.marks ≡ c.along.marks ++ marks_on r.source r.rules c.along.state c.along.place (length c.along.items) (c.in_ok-reached.reached - c.along.place) =
+    renamed (λ b rules. c.advance_marked.new.marks ≡ c.along.marks ++ marks_on b rules c.along.state c.along.place (length c.along.items) (c.in_ok-reached.reached - c.along.place))
+    (g.T.Tape.bits c.along.tape) r.source c.args.rules.now r.rules inv.same (sym c.requires.rules) c.in_ok-reached.ensures.marks in
+    let few = subst (λ (y : RuleNumbers). g.T.Tape.reads_made c.advance_marked.new.tape ≤ g.T.Tape.reads_made c.along.tape + reads_most y c.along.state c.along.limit) (sym c.requires.rules) c.advance_marked.ensures.reads in
+    record {
+      beside = beside_near r.source r.rules r.from r.to c.run_laws.ensures some c.args.state c.along.place c.in_ok-reached.reached c.along.state c.in_ok-reached.after c.along.mark
+          c.along.ahead c.along.ahead c.along.limit beside apart goes
+          (λ p. c.if-place-limit.true p.0) refl;
+      items_are = items_on r.source r.rules r.from r.to c.run_laws.ensures some c.args.state c.along.place beside.index c.along.limit c.in_ok-reached.reached c.along.state c.in_ok-reached.after
+          carried (λ p. apart (p.0 ∙ sym (ap (λ (m : Mark). m.state) beside.passed_is), p.1)) goes after_mark [] c.along.items c.advance_marked.new.items inv.items_are given;
+      marks_are = let m = goes.moved.0 in
+          marks_on-more r.source r.rules c.run_laws.ensures c.args.state c.along.state r.from c.along.place c.in_ok-reached.reached 0 [] c.along.items [] c.along.marks c.advance_marked.new.marks
+          carried.inside.0 (omega (arith, m)) carried.state_is inv.items_are refl inv.marks_are marked;
+      paid = paid_on r.source r.rules (g.T.Tape.reads_made c.args.tape.now) r.from c.run_laws.ensures (g.T.Tape.reads_made c.along.tape) (g.T.Tape.reads_made c.advance_marked.new.tape)
+          c.along.place c.along.limit c.in_ok-reached.reached c.along.state c.in_ok-reached.after carried.inside.0 carried.lawful inv.paid goes few;
+      same = c.advance_marked.ensures.same ∙ inv.same;
+    }
 
-  goes : IsStepTo r.source r.rules c.along.state c.along.place c.along.limit c.in_ok-next.next c.in_ok-next.after
-  goes = renamed (λ b rules. IsStepTo b rules c.along.state c.along.place c.along.limit c.in_ok-next.next c.in_ok-next.after) (g.T.Tape.bits c.along.tape) r.source c.args.rules.now r.rules
-      c.along.invariant.same (sym c.requires.rules) c.in_ok-next.ensures.step
-
-  items_after : c.advance_marked.new.items ≡ (own r.source r.rules r.from r.to c.args.state c.in_ok-next.next).1
-  items_after =
-      let inv = c.along.invariant in
-      items_on r.source r.rules r.from r.to c.run_laws.ensures c.range-from.ensures.rules.some_loss c.args.state c.along.place inv.beside.index c.along.limit c.in_ok-next.next c.along.state c.in_ok-next.after
-      inv.beside.carried (λ p. apart (p.0 ∙ sym (ap (λ (m : Mark). m.state) inv.beside.passed_is), p.1)) goes
-      (place_after r.source r.rules r.from r.to c.args.state c.along.place c.along.state c.along.mark c.along.ahead c.along.limit inv.beside)
-      [] c.along.items c.advance_marked.new.items inv.items_are
-      (renamed (λ b rules. c.advance_marked.new.items ≡ c.along.items ++ (run b rules c.along.state c.along.place (c.in_ok-next.next - c.along.place)).1)
-          (g.T.Tape.bits c.along.tape) r.source c.args.rules.now r.rules inv.same (sym c.requires.rules) c.in_ok-next.ensures.items)
-
-  marks_after : c.advance_marked.new.marks ≡ marks_on r.source r.rules c.args.state r.from 0 (c.in_ok-next.next - r.from)
-  marks_after =
-      let inv = c.along.invariant in
-      let m = goes.moved.0 in
-      marks_on-more r.source r.rules c.run_laws.ensures c.args.state c.along.state r.from c.along.place c.in_ok-next.next 0 [] c.along.items [] c.along.marks c.advance_marked.new.marks
-      inv.beside.carried.inside.0 (omega (arith, m)) inv.beside.carried.state_is inv.items_are refl inv.marks_are
-      (renamed (λ b rules. c.advance_marked.new.marks ≡ c.along.marks ++ marks_on b rules c.along.state c.along.place (length c.along.items) (c.in_ok-next.next - c.along.place))
-          (g.T.Tape.bits c.along.tape) r.source c.args.rules.now r.rules inv.same (sym c.requires.rules) c.in_ok-next.ensures.marks)
-
-  paid_after : IsPaid r.source r.rules (g.T.Tape.reads_made c.args.tape.now) r.from (g.T.Tape.reads_made c.advance_marked.new.tape) c.in_ok-next.next c.in_ok-next.after
-  paid_after =
-      let inv = c.along.invariant in
-      paid_on r.source r.rules (g.T.Tape.reads_made c.args.tape.now) r.from c.run_laws.ensures (g.T.Tape.reads_made c.along.tape) (g.T.Tape.reads_made c.advance_marked.new.tape)
-      c.along.place c.along.limit c.in_ok-next.next c.along.state c.in_ok-next.after inv.beside.carried.inside.0 inv.beside.carried.lawful inv.paid goes
-      (subst (λ (y : RuleNumbers). g.T.Tape.reads_made c.advance_marked.new.tape ≤ g.T.Tape.reads_made c.along.tape + reads_most y c.along.state c.along.limit) (sym c.requires.rules) c.advance_marked.ensures.reads)
-
-  near_after : (ahead : List Mark) → ¬ ((c.in_ok-next.next ≡ c.along.limit) × (0 < length c.along.ahead)) → ahead ≡ c.along.ahead
-      → IsBeside r.source r.rules r.from r.to c.args.state c.in_ok-next.next c.in_ok-next.after c.along.mark ahead c.along.limit
-  near_after ahead other same =
-      beside_near r.source r.rules r.from r.to c.run_laws.ensures c.range-from.ensures.rules.some_loss c.args.state c.along.place c.in_ok-next.next c.along.state c.in_ok-next.after c.along.mark
-      c.along.ahead ahead c.along.limit c.along.invariant.beside apart goes other same
-
-  next_after : (reached : Mark) (ahead : List Mark) (limit : ℕ) → c.in_ok-next.next ≡ c.along.limit → c.along.ahead ≡ reached ∷ ahead → limit ≡ next_place ahead r.to
-      → IsBeside r.source r.rules r.from r.to c.args.state c.in_ok-next.next c.in_ok-next.after reached ahead limit
-  next_after reached ahead limit same parted l =
-      beside_next r.source r.rules r.from r.to c.run_laws.ensures c.range-from.ensures.rules.some_loss c.args.state c.along.place c.in_ok-next.next c.along.state c.in_ok-next.after c.along.mark reached
-      c.along.ahead ahead c.along.limit limit c.along.invariant.beside apart goes same parted l
+pub along-preserved : goal.along-preserved
+along-preserved g c =
+    let r = c.args.run.now in
+    let inv = c.along.invariant in
+    let beside = inv.beside in
+    let carried = beside.carried in
+    let some = c.range-from.ensures.rules.some_loss in
+    let after_mark = place_after r.source r.rules r.from r.to c.args.state c.along.place c.along.state c.along.mark c.along.ahead c.along.limit beside in
+    let apart : ¬ ((c.along.state ≡ c.along.mark.state) × IsBetweenGroups c.along.state) = λ p. (let t = c.meets.ensures.1 p in let f = c.if-meets.false in cc) in
+    let goes : IsStepTo r.source r.rules c.along.state c.along.place c.along.limit c.in_ok-reached.reached c.in_ok-reached.after =
+    renamed (λ b rules. IsStepTo b rules c.along.state c.along.place c.along.limit c.in_ok-reached.reached c.in_ok-reached.after) (g.T.Tape.bits c.along.tape) r.source c.args.rules.now r.rules
+    inv.same (sym c.requires.rules) c.in_ok-reached.ensures.step in
+    let given : c.advance_marked.new.items ≡ c.along.items ++ (run r.source r.rules c.along.state c.along.place (c.in_ok-reached.reached - c.along.place)).1 =
+    renamed (λ b rules. c.advance_marked.new.items ≡ c.along.items ++ (run b rules c.along.state c.along.place (c.in_ok-reached.reached - c.along.place)).1)
+    (g.T.Tape.bits c.along.tape) r.source c.args.rules.now r.rules inv.same (sym c.requires.rules) c.in_ok-reached.ensures.items in
+    let marked : c.advance_marked.new.marks ≡ c.along.marks ++ marks_on r.source r.rules c.along.state c.along.place (length c.along.items) (c.in_ok-reached.reached - c.along.place) =
+    renamed (λ b rules. c.advance_marked.new.marks ≡ c.along.marks ++ marks_on b rules c.along.state c.along.place (length c.along.items) (c.in_ok-reached.reached - c.along.place))
+    (g.T.Tape.bits c.along.tape) r.source c.args.rules.now r.rules inv.same (sym c.requires.rules) c.in_ok-reached.ensures.marks in
+    let few = subst (λ (y : RuleNumbers). g.T.Tape.reads_made c.advance_marked.new.tape ≤ g.T.Tape.reads_made c.along.tape + reads_most y c.along.state c.along.limit) (sym c.requires.rules) c.advance_marked.ensures.reads in
+    record {
+      beside = beside_near r.source r.rules r.from r.to c.run_laws.ensures some c.args.state c.along.place c.in_ok-reached.reached c.along.state c.in_ok-reached.after c.along.mark
+          c.along.ahead c.next-in-along.new.self c.along.limit beside apart goes
+          (λ p. let none = ap (λ (ms : List Mark). length ms) c.in_default-next.ensures.steps.0 in let some = p.1 in absurd (omega (arith, none, some)))
+          (c.in_default-next.ensures.steps.1 ∙ sym c.in_default-next.ensures.steps.0);
+      items_are = items_on r.source r.rules r.from r.to c.run_laws.ensures some c.args.state c.along.place beside.index c.along.limit c.in_ok-reached.reached c.along.state c.in_ok-reached.after
+          carried (λ p. apart (p.0 ∙ sym (ap (λ (m : Mark). m.state) beside.passed_is), p.1)) goes after_mark [] c.along.items c.advance_marked.new.items inv.items_are given;
+      marks_are = let m = goes.moved.0 in
+          marks_on-more r.source r.rules c.run_laws.ensures c.args.state c.along.state r.from c.along.place c.in_ok-reached.reached 0 [] c.along.items [] c.along.marks c.advance_marked.new.marks
+          carried.inside.0 (omega (arith, m)) carried.state_is inv.items_are refl inv.marks_are marked;
+      paid = paid_on r.source r.rules (g.T.Tape.reads_made c.args.tape.now) r.from c.run_laws.ensures (g.T.Tape.reads_made c.along.tape) (g.T.Tape.reads_made c.advance_marked.new.tape)
+          c.along.place c.along.limit c.in_ok-reached.reached c.along.state c.in_ok-reached.after carried.inside.0 carried.lawful inv.paid goes few;
+      same = c.advance_marked.ensures.same ∙ inv.same;
+    }
 
 pub returns-then-meets-clause-met : goal.returns-then-meets-clause-met
 returns-then-meets-clause-met g c =

@@ -1,4 +1,4 @@
-use Rattle.std.proofs.Common.{◌≡◌, ◌+◌, ◌∷◌, ◌∙◌, List, drop, ap}
+use Rattle.std.proofs.Common.{◌+◌, ◌∷◌, ◌∙◌, List, drop, ap}
 use Rattle.std.specs.List.{flat_map}
 use Rattle.rds_pieces.specs.declared.mark.Mark.{Mark}
 use Rattle.rds_pieces.specs.declared.marks.Row.{Row}

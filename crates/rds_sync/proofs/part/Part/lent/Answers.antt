@@ -1,4 +1,4 @@
-use Rattle.std.proofs.Common.{◌≡◌, List, slice_range, ap, ◌∙◌}
+use Rattle.std.proofs.Common.{List, slice_range, ap, ◌∙◌}
 use Rattle.rds_sync.specs.declared.item.Item.{Item}
 use Rattle.rds_sync.proofs.RangeLemmas.{range_items}
 use Rattle.rds_sync.proofs.part.Part.lent.Goals as goal

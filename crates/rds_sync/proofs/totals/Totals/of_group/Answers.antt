@@ -1,9 +1,7 @@
-use Rattle.std.proofs.Common.{◌≡◌, ◌+◌, ◌^◌, ℕ, [], ◌∷◌, length, refl, sym, subst, arith, rules}
+use Rattle.std.proofs.Common.{◌≡◌, [], ◌∷◌, length, refl, arith, rules}
 use Rattle.std.specs.Prelude.{count_by}
-use Rattle.rds_sync.specs.declared.totals.Totals.{Totals}
 use Rattle.rds_sync.specs.declared.item.Item.TheVariants.{Group as GroupItem}
 use Rattle.rds_sync.specs.Totals.{is_complete}
-use Rattle.rds_sync.specs.Counting.{plus, IsAtMost}
 use Rattle.rds_sync.proofs.TotalsLemmas.{IsAtMost-group, four_blocks, group_totals}
 use Rattle.rds_sync.proofs.totals.Totals.of_group.Goals as goal
 

@@ -1,10 +1,9 @@
-use Rattle.std.proofs.Common.{◌≡◌, ℕ, ◌+◌, ◌-◌, ◌*◌, ◌^◌, ◌≤◌, List, ◌++◌, length, slice_range, ap, ap₂, sym, subst, ◌∙◌, append_assoc, arith, length-append}
+use Rattle.std.proofs.Common.{◌≡◌, ℕ, ◌+◌, ◌-◌, ◌*◌, ◌^◌, ◌≤◌, List, ◌++◌, length, slice_range, ap, ap₂, sym, ◌∙◌, append_assoc, arith, length-append}
 use Rattle.std.proofs.lemmas.List.{length-map}
 use Rattle.rds_sync.specs.declared.item.Item.{Item}
 use Rattle.rds_sync.specs.declared.totals.Totals.{Totals}
-use Rattle.rds_sync.specs.Counting.{plus, IsAtMost}
+use Rattle.rds_sync.specs.Counting.{plus}
 use Rattle.rds_sync.specs.Kept.{item_of, items_of}
-use Rattle.rds_sync.specs.Totals.{totals_of}
 use Rattle.rds_sync.proofs.RangeLemmas.{range_len}
 use Rattle.rds_sync.proofs.TotalsLemmas.{totals_of-append, IsAtMost-more}
 use Rattle.rds_sync.proofs.totals.Totals.of_range.Goals as goal
