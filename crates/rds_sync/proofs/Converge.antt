@@ -1,4 +1,4 @@
--- Any two runs meet on a stretch.
+-- Any two runs meet on a sound.
 use Rattle.std.proofs.Common.{◌≡◌, ◌≢◌, ℕ, zero, suc, ◌+◌, ◌-◌, ◌*◌, ◌%◌, ◌/◌, ◌<◌, ◌≤◌, List, Bool, true, false, Option, Some, None, refl, sym, ap, ap₂, ◌∙◌, arith, add-zero, zero-add, inl, inr, ⊎_elim, eqb, cond}
 use Rattle.std.proofs.Math.Nat.{suc-add, mul-le-mul_right}
 use Rattle.std.proofs.lemmas.Bool.{ne_eqb, eq-eqb, cases_Bool, cases_eq, cases_lt, eqb-true}
@@ -17,7 +17,8 @@ use Rattle.rds_code.specs.declared.offset.Offset.{Offset}
 use Rattle.rds_code.specs.Offsets.{number}
 use Rattle.rds_sync.specs.Acquiring.{acquired, has_number, number_after, has_partner, with_partner}
 use Rattle.rds_sync.specs.Step.{run, step, locked_after, bad_with}
-use Rattle.rds_sync.specs.Convergence.{IsSound, every_26, sound_blocks, RunsConverge}
+use Rattle.rds_sync.specs.Convergence.{IsSound, IsLastFour, sound_blocks, SoundRangesHaveFours, RunsConverge}
+use Rattle.rds_sync.proofs.RivalLemmas.{every_26, few_in_phase}
 
 module _ (b : List ℕ) (rules : RuleNumbers) where
   -- the state after the next bits from place a
@@ -230,7 +231,7 @@ module _ (b : List ℕ) (rules : RuleNumbers) (p c last : ℕ) (sequence : (k : 
       let here : has_number b (p + 26 * j + 26) (number_after c (suc j)) ≡ true = rw (← place, ← up) (sequence k within) in
       rw (up, place) (acquires b rules (p + 26 * j) (number_after c (suc j)) (number_after c j) reach here (sequence j (omega arith)) (omega arith))
 
-  -- a search on a stretch that begins before its second block is between two groups after the last block
+  -- a search on a sound range that begins before its second block is between two groups after the last block
   search_on : (q : ℕ) → IsLoss rules.loss → 1 ≤ rules.reach → (1 ≤ c) × (c ≤ 4) → number_after c last ≡ 4 → 1 ≤ last → q ≤ p + 26 * last
       → ((r : ℕ) → q ≤ r → r < p + 26 * last → ((k : ℕ) → r ≢ p + 26 * k) → acquired b rules r ≡ None)
       → after b rules Searching q (p + 26 * last + 1 - q) ≡ Locked (p + 26 * last + 26) 1 (none_bad rules.loss) 1
@@ -311,15 +312,15 @@ module _ (b : List ℕ) (rules : RuleNumbers) where
         l ∙ zero-add _ ∙ rw place (wrong_none p c last sequence n (suc k) (num % 4 + 1) (λ e. ne (omega arith)) (omega arith) (omega arith) (omega arith))
   ]
 
-  -- from any lawful state, a run on a stretch is between two groups after the last block of number 4
-  module _ (j s p c last : ℕ) (stretch : IsSound b rules j s p c) (loss : IsLoss rules.loss) (reach : 1 ≤ rules.reach)
+  -- from any lawful state, a run on a sound range is between two groups after the last block of number 4
+  module _ (j s p c last : ℕ) (sound : IsSound b rules j s p c) (loss : IsLoss rules.loss) (reach : 1 ≤ rules.reach)
       (four : number_after c last ≡ 4) (in_range : p + 26 * last < s + 26 * sound_blocks rules.loss j) (is_last : s + 26 * sound_blocks rules.loss j ≤ p + 26 * (last + 4)) where
     seq : (k : ℕ) → k ≤ last → has_number b (p + 26 * k) (number_after c k) ≡ true
-    seq k h = stretch.sequence.numbers k (omega arith)
+    seq k h = sound.sequence.numbers k (omega arith)
 
     quiet : (r : ℕ) → s ≤ r → r < p + 26 * last → ((k : ℕ) → r ≢ p + 26 * k) → acquired b rules r ≡ None
     quiet r l u other = elim (cases_Bool (is_some (off b r))) [
-      | inl yes' ↦ stretch.none_acquires r (record { inside = (l, omega arith); valid = yes'; elsewhere = other })
+      | inl yes' ↦ sound.none_acquires r (record { inside = (l, omega arith); valid = yes'; elsewhere = other })
       | inr no' ↦ no_offset b rules r no'
     ]
 
@@ -331,13 +332,13 @@ module _ (b : List ℕ) (rules : RuleNumbers) where
 
     searching : (q : ℕ) → s ≤ q → q ≤ p + 26 * last → after b rules Searching q (p + 26 * last + 1 - q) ≡ Locked (p + 26 * last + 26) 1 (none_bad rules.loss) 1
     searching q l u =
-        let f = stretch.sequence.first in
-        search_on b rules p c last seq q loss reach stretch.number four (omega (arith, f, enough)) u (λ r lo hi other. quiet r (omega arith) hi other)
+        let f = sound.sequence.first in
+        search_on b rules p c last seq q loss reach sound.number four (omega (arith, f, enough)) u (λ r lo hi other. quiet r (omega arith) hi other)
 
     lost_then : (due num : ℕ) (bad : Bad) (f : ℕ) → s ≤ due → due ≤ s + 25 → LostBy b rules (Locked due num bad f) due (26 * ((j + 1) * needed rules.loss))
         → after b rules (Locked due num bad f) due (p + 26 * last + 1 - due) ≡ Locked (p + 26 * last + 26) 1 (none_bad rules.loss) 1
     lost_then due num bad f l u lost =
-        let f0 = stretch.sequence.first in
+        let f0 = sound.sequence.first in
         let m : ℕ = lost.0 in
         let few : m ≤ 26 * ((j + 1) * needed rules.loss) = lost.1 in
         let room : due + m ≤ p + 26 * last = omega (arith, f0, enough) in
@@ -349,7 +350,7 @@ module _ (b : List ℕ) (rules : RuleNumbers) where
     from_due : (due num : ℕ) (bad : Bad) (f : ℕ) → s ≤ due → due ≤ s + 25 → IsLawfulBad rules.loss bad → 1 ≤ num → num ≤ 4
         → after b rules (Locked due num bad f) due (p + 26 * last + 1 - due) ≡ Locked (p + 26 * last + 26) 1 (none_bad rules.loss) 1
     from_due due num bad f l u few low high =
-        let f0 = stretch.sequence.first in
+        let f0 = sound.sequence.first in
         elim (cases_eq due p) [
           | inl same ↦
               let start : p + 26 * 0 ≡ due = omega (arith, same) in
@@ -366,15 +367,15 @@ module _ (b : List ℕ) (rules : RuleNumbers) where
           | inr other ↦
               let count = good_le ((j + 1) * needed rules.loss) due num in
               let grows = valid_grows ((j + 1) * needed rules.loss) (sound_blocks rules.loss j) due (omega (arith, enough)) in
-              let at_most = stretch.few due l (omega arith) other in
+              let at_most = few_in_phase b rules j s p c sound due l (omega arith) other in
               let g : good_blocks b rules due num ((j + 1) * needed rules.loss) ≤ j = omega (arith, count, grows, at_most) in
               lost_then due num bad f l u (loses b rules loss ((j + 1) * needed rules.loss) due num bad f 0 few (row_zero rules.loss bad) (let g1 : good_blocks b rules due num ((j + 1) * needed rules.loss) + 1 ≤ j + 1 = omega (arith, g) in omega (arith, mul-le-mul_right (needed rules.loss) g1)))
         ]
 
     pub converges : (t : State) → IsLawful rules s t → after b rules t s (p + 26 * last + 1 - s) ≡ Locked (p + 26 * last + 26) 1 (none_bad rules.loss) 1
-    converges Searching lawful = let f0 = stretch.sequence.first in searching s (omega arith) (omega (arith, f0, enough))
+    converges Searching lawful = let f0 = sound.sequence.first in searching s (omega arith) (omega (arith, f0, enough))
     converges (Locked due num bad f) lawful =
-        let f0 = stretch.sequence.first in
+        let f0 = sound.sequence.first in
         let soon = lawful.soon in
         let few : IsLawfulBad rules.loss bad = lawful.few_bad in
         let range : (1 ≤ num) × (num ≤ 4) = ⊎_elim (λ o. (omega (arith, o), omega (arith, o))) (λ o. (omega (arith, o), omega (arith, o))) lawful.in_order in
@@ -393,15 +394,32 @@ last_four s p c n l u low high some =
     let blocks : ℕ = (s + 26 * n - p + 25) / 26 in
     (blocks - 1 - ((c - 1 + (blocks - 1)) % 4 + 1) % 4, omega arith, omega arith, omega arith)
 
-pub on_sound_ranges : RunsConverge
-on_sound_ranges b rules loss reach j s p c stretch =
-    let f0 = stretch.sequence.first in
-    let n0 = stretch.number in
+pub sound_ranges_have_fours : SoundRangesHaveFours
+sound_ranges_have_fours b rules j s p c sound =
+    let f0 = sound.sequence.first in
+    let n0 = sound.number in
     let six : 6 ≤ sound_blocks rules.loss j = omega (arith, needed_is rules.loss j) in
-    let four = last_four s p c (sound_blocks rules.loss j) f0.0 f0.1 n0.0 n0.1 six in (
-      four.0,
-      four.1,
-      four.2,
-      four.3,
-      λ t lawful. after_is b rules t s (p + 26 * four.0 + 1 - s) ∙ converges b rules j s p c four.0 stretch loss reach four.1 four.2 four.3 t lawful,
-    )
+    let four = last_four s p c (sound_blocks rules.loss j) f0.0 f0.1 n0.0 n0.1 six in
+    let end : s + 26 * sound_blocks rules.loss j ≤ p + 26 * (four.0 + 4) = four.3 in
+    (four.0, record {
+      number = four.1;
+      inside = four.2;
+      final = λ k within number. omega (arith, end, within, number, four.1);
+    })
+
+-- the range ends before the next block of number 4
+ends_soon : (s to p c last : ℕ) (b : List ℕ) → IsLastFour b s to p c last → to ≤ p + 26 * (last + 4)
+ends_soon s to p c last b four = elim (cases_lt (p + 26 * (last + 4)) to) [
+  | inl within ↦
+      let number = four.number in
+      let next : number_after c (last + 4) ≡ 4 = omega (arith, number) in
+      absurd (omega (arith, four.final (last + 4) within next))
+  | inr past ↦ past
+]
+
+pub runs_converge : RunsConverge
+runs_converge b rules loss reach s to t lawful j p c last sound four ends =
+    let soon = ends_soon s (s + 26 * sound_blocks rules.loss j) p c last b four in
+    ap (λ (end : ℕ). (run b rules t s (end - s)).0) ends
+    ∙ after_is b rules t s (p + 26 * last + 1 - s)
+    ∙ converges b rules j s p c last sound loss reach four.number four.inside soon t lawful

@@ -1,7 +1,7 @@
 //! The laws of runs and reports, over the definitions alone. Each function here does nothing: its contract is a law, which the
 //! check of this crate proves, and which a proof above it may cite.
 
-ghost use Rattle.rds_sync.specs.Convergence.{RunsConverge};
+ghost use Rattle.rds_sync.specs.Convergence.{SoundRangesHaveFours, RunsConverge};
 ghost use Rattle.rds_sync.specs.Counting.{TotalsJoin};
 ghost use Rattle.rds_sync.specs.GroupLaws.{GroupsAreRead};
 ghost use Rattle.rds_sync.specs.Laws.{RunsAreReports, RunsJoin, StepsAreLawful, RunsAreLawful, RunsMerge, OneBitRuns, LocksWait, SearchesGoOn, ItemsMarkChanges, RunsGiveFewItems, AcquisitionsAreLate, MasksTellBlocks, BadBlocksLose, RunsAreShares};
@@ -87,7 +87,8 @@ pub fn totals_join()
 {}
 
 /// Over a sound range, in which the blocks of a station stand and little else looks like one, the runs from all lawful states
-/// come into one state.
+/// come into one state: between two groups, after the range's last block of number 4, which there is.
 pub fn runs_converge()
-    ensures { RunsConverge }
+    ensures fours { SoundRangesHaveFours }
+    ensures converge { RunsConverge }
 {}
