@@ -41,8 +41,9 @@ pub fn run(
     ensures sound { IfOk result (λ end. IsConverged rec.now rules.now from to end.0) }
     ensures only_memory { IsOkUnless result SyncError.OutOfMemory }
 {
-    // Over a sound range all lawful states come into one.
+    // Over a sound range, by rules that are in their ranges, all lawful states come into one.
     runs_converge();
+    rules.numbers();
     let mut items = ItemBuffer::new(alloc);
     let end = run_onto(rec, rules, state, from, to, &mut items)?;
     Ok((end, items.freeze()?))
