@@ -40,8 +40,8 @@ module _ (b : List ℕ) (rules : RuleNumbers) (one other : State) (from to : ℕ
       let behind : s ≤ q = omega (arith, first) in
       let ends : (t : State) → IsLawful rules from t → (run b rules t from (q - from)).0 ≡ Locked (p + 26 * last + 26) 1 (none_bad rules.loss) 1 =
       λ t lawful.
-          ap (λ (end : State × List Item). end.0) (laws.join b rules t from s q low behind)
-          ∙ converge b rules loss reach s q (run b rules t from (s - from)).0 (laws.lawful_runs b rules loss t from s low lawful) j p c last sound four.1 refl in
+      ap (λ (end : State × List Item). end.0) (laws.join b rules t from s q low behind)
+      ∙ converge b rules loss reach s q (run b rules t from (s - from)).0 (laws.lawful_runs b rules loss t from s low lawful) j p c last sound four.1 refl in
       let here : MeetAt b rules one other from to q = record {
         inside = (omega (arith, low, behind), omega (arith, before, high));
         same = ends one one_lawful ∙ sym (ends other other_lawful);

@@ -400,12 +400,14 @@ sound_ranges_have_fours b rules j s p c sound =
     let n0 = sound.number in
     let six : 6 ≤ sound_blocks rules.loss j = omega (arith, needed_is rules.loss j) in
     let four = last_four s p c (sound_blocks rules.loss j) f0.0 f0.1 n0.0 n0.1 six in
-    let end : s + 26 * sound_blocks rules.loss j ≤ p + 26 * (four.0 + 4) = four.3 in
-    (four.0, record {
-      number = four.1;
-      inside = four.2;
-      final = λ k within number. omega (arith, end, within, number, four.1);
-    })
+    let end : s + 26 * sound_blocks rules.loss j ≤ p + 26 * (four.0 + 4) = four.3 in (
+      four.0,
+      record {
+        number = four.1;
+        inside = four.2;
+        final = λ k within number. omega (arith, end, within, number, four.1);
+      },
+    )
 
 -- the range ends before the next block of number 4
 ends_soon : (s to p c last : ℕ) (b : List ℕ) → IsLastFour b s to p c last → to ≤ p + 26 * (last + 4)

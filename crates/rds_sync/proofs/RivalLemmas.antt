@@ -44,14 +44,14 @@ module _ (b : List ℕ) (rules : RuleNumbers) (j s p c : ℕ) (sound : IsSound b
       let f0 = sound.sequence.first in
       let are : All (λ r. (s ≤ r) × (r < s + 26 * n) × ((k : ℕ) → r ≢ p + 26 * k) × (r % 26 ≡ phase % 26)) places =
       λ i d h.
-          let within : i < n = omega (arith, h, length_every_26 phase n) in
-          let is : get_or places i d ≡ phase + 26 * i = nth_every_26 phase n i d within in
-          (omega (arith, is), omega (arith, is, within), λ k e. other (omega (arith, is, e, f0)), omega (arith, is)) in
+      let within : i < n = omega (arith, h, length_every_26 phase n) in
+      let is : get_or places i d ≡ phase + 26 * i = nth_every_26 phase n i d within in
+      (omega (arith, is), omega (arith, is, within), λ k e. other (omega (arith, is, e, f0)), omega (arith, is)) in
       let kept = All-filter valid (λ r. (s ≤ r) × (r < s + 26 * n) × ((k : ℕ) → r ≢ p + 26 * k) × (r % 26 ≡ phase % 26)) places are in
       let pass = filter_passes valid places in
       let rivals : All (λ r. IsRival b s (s + 26 * n) p r × (r % 26 ≡ phase % 26)) (filter valid places) =
       λ i d h.
-          let one = kept i d h in
-          (record { inside = (one.0, one.1); valid = pass i d h; elsewhere = one.2 }, one.3) in
+      let one = kept i d h in
+      (record { inside = (one.0, one.1); valid = pass i d h; elsewhere = one.2 }, one.3) in
       let most = sound.few (phase % 26) (filter valid places) (IsStrictlyIncreasing-filter valid places (every_26_rises phase n), rivals) in
       omega (arith, most, length-filter valid places)

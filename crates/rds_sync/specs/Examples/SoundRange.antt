@@ -74,11 +74,13 @@ rival r is =
     let place : 104 + (r - 104) ≡ r = omega (arith, inside) in
     let said : is_as_told r ≡ true = subst (λ (q : ℕ). is_as_told q ≡ true) place (each is_as_told 104 260 all_as_told (r - 104) (omega (arith, inside))) in
     let other : (r % 26 == 25) ≢ true = λ e. is.elsewhere ((r - 129) / 26) (omega (arith, inside, eqb-true (r % 26) 25 e)) in
-    let both = told (r % 26 == 25) (not (is_some (acquired bits rules r))) (is_some (off bits r)) (r % 104 == 19) (r % 104 == 96) said other in
-    (none_of (acquired bits rules r) both.0, elim (both.1 is.valid) [
-      | inl one ↦ inl (eqb-true (r % 104) 19 one)
-      | inr two ↦ inr (eqb-true (r % 104) 96 two)
-    ])
+    let both = told (r % 26 == 25) (not (is_some (acquired bits rules r))) (is_some (off bits r)) (r % 104 == 19) (r % 104 == 96) said other in (
+      none_of (acquired bits rules r) both.0,
+      elim (both.1 is.valid) [
+        | inl one ↦ inl (eqb-true (r % 104) 19 one)
+        | inr two ↦ inr (eqb-true (r % 104) 96 two)
+      ],
+    )
 
 -- so rivals with one place modulo 26 are 104 places apart
 few : (phase : ℕ) (rivals : List ℕ) → AreRivals bits 104 364 129 phase rivals → length rivals ≤ 3
@@ -86,14 +88,14 @@ few phase rivals are = elim (cases_lt 3 (length rivals)) [
   | inl many ↦
       let at = λ (k : ℕ) (within : k < length rivals). are.1 k 0 within in
       let apart : (k : ℕ) → k + 1 < length rivals → get_or rivals k 0 + 104 ≤ get_or rivals (k + 1) 0 = λ k within.
-          let low = at k (omega (arith, within)) in
-          let high = at (k + 1) within in
-          let rises = are.0 k within in
-          let phases : get_or rivals k 0 % 26 ≡ get_or rivals (k + 1) 0 % 26 = low.1 ∙ sym high.1 in
-          elim ((rival (get_or rivals k 0) low.0).1) [
-            | inl a ↦ elim ((rival (get_or rivals (k + 1) 0) high.0).1) [ inl b ↦ omega (arith, rises, a, b) | inr b ↦ absurd (omega (arith, phases, a, b)) ]
-            | inr a ↦ elim ((rival (get_or rivals (k + 1) 0) high.0).1) [ inl b ↦ absurd (omega (arith, phases, a, b)) | inr b ↦ omega (arith, rises, a, b) ]
-          ] in
+      let low = at k (omega (arith, within)) in
+      let high = at (k + 1) within in
+      let rises = are.0 k within in
+      let phases : get_or rivals k 0 % 26 ≡ get_or rivals (k + 1) 0 % 26 = low.1 ∙ sym high.1 in
+      elim ((rival (get_or rivals k 0) low.0).1) [
+        | inl a ↦ elim ((rival (get_or rivals (k + 1) 0) high.0).1) [ inl b ↦ omega (arith, rises, a, b) | inr b ↦ absurd (omega (arith, phases, a, b)) ]
+        | inr a ↦ elim ((rival (get_or rivals (k + 1) 0) high.0).1) [ inl b ↦ absurd (omega (arith, phases, a, b)) | inr b ↦ omega (arith, rises, a, b) ]
+      ] in
       let first = (at 0 (omega (arith, many))).0.inside in
       let last = (at 3 (omega (arith, many))).0.inside in
       absurd (omega (arith, first, last, apart 0 (omega (arith, many)), apart 1 (omega (arith, many)), apart 2 (omega (arith, many))))
