@@ -1,4 +1,5 @@
 //! Tests of `rds_pieces`.
+mod convergence;
 mod cuttings;
 mod guesses;
 mod marks;

@@ -8,6 +8,7 @@ mod SeamLemmas
 mod BesideLemmas
 mod MarkLaws
 mod WalkLemmas
+mod SoonLemmas
 mod ReadsLemmas
 mod SmallTotals
 mod StitchLemmas

@@ -15,6 +15,7 @@ pub mod RunInside
 pub mod Advance
 pub mod MarksOn
 pub mod Walk
+pub mod Soon
 pub mod Later
 pub mod Rows
 pub mod Examples

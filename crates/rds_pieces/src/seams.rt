@@ -6,6 +6,7 @@ ghost use Rattle.rds_sync.specs.Step.{run as run_of};
 ghost use Rattle.rds_sync.specs.Totals.{totals_of};
 ghost use Rattle.rds_pieces.specs.MarksOn.{marks_on};
 ghost use Rattle.rds_pieces.specs.Meeting.{IsMeeting, distance};
+ghost use Rattle.rds_pieces.specs.Soon.{IsSoonMet};
 ghost use Rattle.rds_pieces.specs.Walk.{IsWalk, IsMetOrNot, next_place};
 ghost use Rattle.rds_pieces.specs.declared.error.PieceError.TheVariants.{OutOfMemory};
 
@@ -16,12 +17,16 @@ use crate::marks::{MarkIter, Marks};
 use crate::meeting::{Passed, Seam, Walk, meets};
 use crate::run::PieceRun;
 use rds_stream::Tape;
+use rds_sync::laws::runs_converge;
 use rds_sync::{ItemBuffer, Rules, State, Totals};
 use std::alloc::Global;
 
 /// Carries the run on from `state`, lawful at the piece's first place, over the piece that `run` guessed, of the tape's
 /// recording and by these rules: step by step over the tape until it meets the guess, in one state with it and with no
 /// group in progress; from there on it takes the guess's items, without a copy, and reads nothing.
+///
+/// Where a sound range lies inside the piece, they meet by its end: within 416 bits of sound signal under the default
+/// rules.
 ///
 /// It reads at most (reach + 2)(d + 1) windows of the tape, which has counted at most 2^62 before; d is the number of
 /// bits up to the meeting, or to the piece's end where there is none. Fails with `OutOfMemory` alone.
@@ -45,6 +50,7 @@ pub fn seam<T: Tape>(
         ≡ (run_of (T.bits tape.old) rules.now state run.now.from (run.now.to - run.now.from)).0) }
     ensures met { IfOk result (λ s.
         IsMeeting (T.bits tape.old) rules.now state State.Searching run.now.from run.now.to s.met_at) }
+    ensures soon { IfOk result (λ s. IsSoonMet (T.bits tape.old) rules.now run.now.from run.now.to s.met_at) }
     ensures reads { IfOk result (λ s. T.reads_made tape.new
         ≤ T.reads_made tape.old + (rules.now.reach + 2) * (distance run.now.from run.now.to s.met_at + 1)) }
 
@@ -53,8 +59,9 @@ pub fn seam<T: Tape>(
     ensures reads_most { T.reads_made tape.new
         ≤ T.reads_made tape.old + (rules.now.reach + 2) * (run.now.to - run.now.from + 1) }
 {
-    // A run and the guess that are in one state go on as one.
+    // A run and the guess that are in one state go on as one, and over a sound range they come into one.
     run_laws();
+    runs_converge();
     let Walk {
         place,
         state: end_state,

@@ -19,3 +19,4 @@ pub mod TwoZeroGroups
 pub mod EightZeroGroups
 pub mod GuessesThatDiffer
 pub mod Shares
+pub mod SoundRange

@@ -1,6 +1,7 @@
 //! The laws of runs and reports, over the definitions alone. Each function here does nothing: its contract is a law, which the
 //! check of this crate proves, and which a proof above it may cite.
 
+ghost use Rattle.rds_sync.specs.Convergence.{SoundRangesHaveFours, RunsConverge};
 ghost use Rattle.rds_sync.specs.Counting.{TotalsJoin};
 ghost use Rattle.rds_sync.specs.GroupLaws.{GroupsAreRead};
 ghost use Rattle.rds_sync.specs.Laws.{RunsAreReports, RunsJoin, StepsAreLawful, RunsAreLawful, RunsMerge, OneBitRuns, LocksWait, SearchesGoOn, ItemsMarkChanges, RunsGiveFewItems, AcquisitionsAreLate, MasksTellBlocks, BadBlocksLose, RunsAreShares};
@@ -83,4 +84,11 @@ pub fn groups_are_read()
 /// The totals of a list are those of its first items together with those of the rest.
 pub fn totals_join()
     ensures { TotalsJoin }
+{}
+
+/// Over a sound range, in which the blocks of a station stand and little else looks like one, the runs from all lawful states
+/// come into one state: between two groups, after the range's last block of number 4, which there is.
+pub fn runs_converge()
+    ensures fours { SoundRangesHaveFours }
+    ensures converge { RunsConverge }
 {}

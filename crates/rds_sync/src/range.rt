@@ -1,12 +1,14 @@
 //! A run over a range of a recording.
 
 ghost use Rattle.std.specs.Prelude.{◌≡◌, ◌≤◌, ◌-◌, ◌++◌, length, IfOk, IsOkUnless};
+ghost use Rattle.rds_sync.specs.Convergence.{IsConverged};
 ghost use Rattle.rds_sync.specs.Lawful.{IsLawful};
 ghost use Rattle.rds_sync.specs.Step.{run};
 
 use crate::error::SyncError;
 use crate::item_buffer::ItemBuffer;
 use crate::items::Items;
+use crate::laws::runs_converge;
 use crate::rules::Rules;
 use crate::state::State;
 use crate::stretches::stretch;
@@ -15,6 +17,9 @@ use std::alloc::Global;
 
 /// The run from `state` over the bits at `from` to `to` - 1: the state after them, and what they
 /// gave, in order. Windows may begin before `from`.
+///
+/// Where a sound range begins at `from`, and the run ends with its last block of number 4, it ends
+/// between two groups, with none of their blocks bad, whatever `state` was.
 ///
 /// The item of the recording's end is not among them: see [`finish`](crate::finish). Fails
 /// with `OutOfMemory` alone.
@@ -33,8 +38,12 @@ pub fn run(
     ensures items { IfOk result (λ end. end.1
         ≡ (run rec.now rules.now state from (to - from)).1) }
     ensures lawful { IfOk result (λ end. IsLawful rules.now to end.0) }
+    ensures sound { IfOk result (λ end. IsConverged rec.now rules.now from to end.0) }
     ensures only_memory { IsOkUnless result SyncError.OutOfMemory }
 {
+    // Over a sound range, by rules that are in their ranges, all lawful states come into one.
+    runs_converge();
+    rules.numbers();
     let mut items = ItemBuffer::new(alloc);
     let end = run_onto(rec, rules, state, from, to, &mut items)?;
     Ok((end, items.freeze()?))

@@ -1,9 +1,14 @@
-use Rattle.std.proofs.Common.{ℕ, ◌-◌, List, [], length, drop, ap, ◌∙◌, arith}
+use Rattle.std.proofs.Common.{ℕ, ◌-◌, List, [], Some, None, length, drop, sym, ap, subst, ◌∙◌, arith}
+use Rattle.rds_sync.specs.declared.state.State.TheVariants.{Searching}
+use Rattle.rds_sync.specs.Lawful.{IsLawful}
+use Rattle.rds_sync.specs.Rules.{RuleNumbers}
 use Rattle.rds_sync.specs.declared.state.State.{State}
 use Rattle.rds_sync.specs.declared.item.Item.{Item}
 use Rattle.rds_sync.specs.Step.{run}
 use Rattle.rds_sync.specs.Totals.{totals_of}
-use Rattle.rds_pieces.proofs.SeamLemmas.{run_over}
+use Rattle.rds_pieces.specs.Soon.{IsSoonMet}
+use Rattle.rds_pieces.proofs.SeamLemmas.{renamed, run_over}
+use Rattle.rds_pieces.proofs.SoonLemmas.{soon_met}
 use Rattle.rds_pieces.proofs.WalkLemmas.{met_from, unmet_from, passed_items, items_taken, totals_taken, totals_fit, end_taken}
 use Rattle.rds_pieces.proofs.seams.seam.Goals as goal
 
@@ -50,6 +55,17 @@ returns-in_ok-append-in-Some-clause-totals g c =
     (c.of-totals.ensures.value ∙ ap (λ (is : List Item). totals_of is) (c.in_ok-items.ensures ∙ c.in_ok-place.ensures.items)) c.totals_from.ensures
     ∙ ap (λ (x : State × List Item). totals_of x.1) (run_over r.source (g.T.Tape.bits c.args.tape.now) r.rules c.args.rules.now c.args.state r.from (r.to - r.from) c.requires.source c.requires.rules)
 
+pub returns-in_ok-append-in-Some-clause-soon : goal.returns-in_ok-append-in-Some-clause-soon
+returns-in_ok-append-in-Some-clause-soon g c =
+    let r = c.args.run.now in
+    let w = c.in_ok-place.field-0 in
+    let met = met_from r.source r.rules c.args.state r.from r.to w.place w.met c.in-Some.passed c.in-Some.is c.in_ok-place.ensures.met in
+    let range = c.in_ok-place.ensures.rules in
+    let lawful = subst (λ (x : RuleNumbers). IsLawful x r.from c.args.state) (sym c.requires.rules) c.requires.lawful in
+    renamed (λ b rules. IsSoonMet b rules r.from r.to (Some w.place)) r.source (g.T.Tape.bits c.args.tape.now) r.rules c.args.rules.now c.requires.source c.requires.rules
+    (soon_met r.source r.rules c.args.state Searching r.from r.to c.run_laws.ensures c.runs_converge.ensures.fours c.runs_converge.ensures.converge
+    range.some_loss range.some_reach lawful tt (Some w.place) met.first)
+
 pub returns-in_ok-append-in-Some-clause-end : goal.returns-in_ok-append-in-Some-clause-end
 returns-in_ok-append-in-Some-clause-end g c =
     let r = c.args.run.now in
@@ -67,3 +83,14 @@ returns-in-None-clause-totals g c =
     c.of-totals.ensures.value ∙ ap (λ (is : List Item). totals_of is) (c.in_ok-items.ensures ∙ c.in_ok-place.ensures.items)
     ∙ ap (λ (p : ℕ). totals_of (run r.source r.rules c.args.state r.from (p - r.from)).1) unmet.ends
     ∙ ap (λ (x : State × List Item). totals_of x.1) (run_over r.source (g.T.Tape.bits c.args.tape.now) r.rules c.args.rules.now c.args.state r.from (r.to - r.from) c.requires.source c.requires.rules)
+
+pub returns-in-None-clause-soon : goal.returns-in-None-clause-soon
+returns-in-None-clause-soon g c =
+    let r = c.args.run.now in
+    let w = c.in_ok-place.field-0 in
+    let unmet = unmet_from r.source r.rules c.args.state r.from r.to w.place w.met c.in-None.is c.in_ok-place.ensures.met in
+    let range = c.in_ok-place.ensures.rules in
+    let lawful = subst (λ (x : RuleNumbers). IsLawful x r.from c.args.state) (sym c.requires.rules) c.requires.lawful in
+    renamed (λ b rules. IsSoonMet b rules r.from r.to None) r.source (g.T.Tape.bits c.args.tape.now) r.rules c.args.rules.now c.requires.source c.requires.rules
+    (soon_met r.source r.rules c.args.state Searching r.from r.to c.run_laws.ensures c.runs_converge.ensures.fours c.runs_converge.ensures.converge
+    range.some_loss range.some_reach lawful tt None unmet.never)

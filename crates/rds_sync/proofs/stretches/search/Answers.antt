@@ -1,4 +1,4 @@
-use Rattle.std.proofs.Common.{◌≡◌, ◌≤◌, ◌<◌, ◌+◌, ◌-◌, ◌++◌, ℕ, true, false, List, Option, Some, None, refl, ap, sym, subst, ◌∙◌, arith, append-nil, inl, inr}
+use Rattle.std.proofs.Common.{◌≡◌, ◌≤◌, ◌<◌, ◌+◌, ◌-◌, ◌++◌, ℕ, true, false, List, Some, None, refl, ap, sym, subst, ◌∙◌, arith, append-nil, inl, inr}
 use Rattle.std.proofs.lemmas.Bool.{cases_lt}
 use Rattle.rds_code.specs.declared.offset.Offset.{Offset}
 use Rattle.rds_stream.specs.Recording.{off}
@@ -72,13 +72,13 @@ pub window-requires-clause-first : goal.window-requires-clause-first
 window-requires-clause-first c =
     off-place c.args.rec.now c.in-Some.here c.in-Some.offset
     (offset_is c.args.rec.now c.args.rules.now c.args.place c.args.to c.loop-here.here-iterator c.args.items.now c.loop-here.items
-        c.loop-here.invariant.2 (c.in-Some.here, c.in-Some.offset) c.next.new.self c.in-Some.ensures.steps)
+    c.loop-here.invariant.2 (c.in-Some.here, c.in-Some.offset) c.next.new.self c.in-Some.ensures.steps)
 
 pub items-requires : goal.items-requires
 items-requires c =
     let late = off-place c.args.rec.now c.in-Some.here c.in-Some.offset
     (offset_is c.args.rec.now c.args.rules.now c.args.place c.args.to c.loop-here.here-iterator c.args.items.now c.loop-here.items
-        c.loop-here.invariant.2 (c.in-Some.here, c.in-Some.offset) c.next.new.self c.in-Some.ensures.steps) in
+    c.loop-here.invariant.2 (c.in-Some.here, c.in-Some.offset) c.next.new.self c.in-Some.ensures.steps) in
     record { block = (late, c.window.ensures.block) }
 
 pub lock-requires-clause-number : goal.lock-requires-clause-number

@@ -1,0 +1,50 @@
+-- Two runs meet by the end of a sound range inside their range: there both are in the state that all runs come into.
+use Rattle.std.proofs.Common.{◌≡◌, ℕ, ◌+◌, ◌-◌, ◌*◌, ◌<◌, ◌≤◌, List, Option, Some, None, refl, sym, ap, ◌∙◌, subst, arith, inl, inr}
+use Rattle.std.proofs.lemmas.Bool.{cases_lt}
+use Rattle.rds_sync.specs.declared.state.State.{State}
+use Rattle.rds_sync.specs.declared.state.State.TheVariants.{Locked}
+use Rattle.rds_sync.specs.declared.item.Item.{Item}
+use Rattle.rds_sync.specs.Rules.{RuleNumbers}
+use Rattle.rds_sync.specs.Convergence.{sound_bits, SoundRangesHaveFours, RunsConverge}
+use Rattle.rds_sync.specs.Lawful.{IsLawful, IsBetweenGroups}
+use Rattle.rds_sync.specs.Loss.{IsLoss, none_bad}
+use Rattle.rds_sync.specs.Step.{run}
+use Rattle.rds_pieces.specs.Meeting.{MeetAt, IsMeeting}
+use Rattle.rds_pieces.specs.RunLaws.{RunLaws}
+use Rattle.rds_pieces.specs.Soon.{IsSoonMet}
+
+module _ (b : List ℕ) (rules : RuleNumbers) (one other : State) (from to : ℕ) where
+  -- the least place where they meet is no later than any
+  met_by : (met : Option ℕ) → IsMeeting b rules one other from to met → (q limit : ℕ) → MeetAt b rules one other from to q → q ≤ limit
+      → (place : ℕ) × (met ≡ Some place) × (place ≤ limit)
+  met_by None none q limit here low = absurd (none q here)
+  met_by (Some place) first q limit here low = (
+    place,
+    refl,
+    elim (cases_lt limit place) [
+      | inl past ↦ absurd (first.least q (omega arith) here)
+      | inr within ↦ within
+    ],
+  )
+
+  pub soon_met : RunLaws → SoundRangesHaveFours → RunsConverge → IsLoss rules.loss → 1 ≤ rules.reach
+      → IsLawful rules from one → IsLawful rules from other → (met : Option ℕ) → IsMeeting b rules one other from to met
+      → IsSoonMet b rules from to met
+  soon_met laws fours converge loss reach one_lawful other_lawful met meeting j s p c sound low high =
+      let four = fours b rules j s p c sound in
+      let last : ℕ = four.0 in
+      let inside = four.1.inside in
+      let first = sound.sequence.first in
+      let q : ℕ = p + 26 * last + 1 in
+      let before : q ≤ s + sound_bits rules.loss j = omega (arith, inside) in
+      let behind : s ≤ q = omega (arith, first) in
+      let ends : (t : State) → IsLawful rules from t → (run b rules t from (q - from)).0 ≡ Locked (p + 26 * last + 26) 1 (none_bad rules.loss) 1 =
+      λ t lawful.
+      ap (λ (end : State × List Item). end.0) (laws.join b rules t from s q low behind)
+      ∙ converge b rules loss reach s q (run b rules t from (s - from)).0 (laws.lawful_runs b rules loss t from s low lawful) j p c last sound four.1 refl in
+      let here : MeetAt b rules one other from to q = record {
+        inside = (omega (arith, low, behind), omega (arith, before, high));
+        same = ends one one_lawful ∙ sym (ends other other_lawful);
+        between = subst (λ (t : State). IsBetweenGroups t) (sym (ends one one_lawful)) refl;
+      } in
+      met_by met meeting q (s + sound_bits rules.loss j) here before

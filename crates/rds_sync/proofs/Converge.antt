@@ -1,0 +1,427 @@
+-- Any two runs meet on a sound.
+use Rattle.std.proofs.Common.{◌≡◌, ◌≢◌, ℕ, zero, suc, ◌+◌, ◌-◌, ◌*◌, ◌%◌, ◌/◌, ◌<◌, ◌≤◌, List, Bool, true, false, Option, Some, None, refl, sym, ap, ap₂, ◌∙◌, arith, add-zero, zero-add, inl, inr, ⊎_elim, eqb, cond}
+use Rattle.std.proofs.Math.Nat.{suc-add, mul-le-mul_right}
+use Rattle.std.proofs.lemmas.Bool.{ne_eqb, eq-eqb, cases_Bool, cases_eq, cases_lt, eqb-true}
+use Rattle.std.proofs.lemmas.List.Sums.{sum_by-cons}
+use Rattle.std.specs.Prelude.{◌==◌, is_some, count_by}
+use Rattle.std.specs.List.{range_with_len, list_any}
+use Rattle.rds_stream.specs.Recording.{off}
+use Rattle.rds_sync.specs.declared.state.State.{State}
+use Rattle.rds_sync.specs.declared.state.State.TheVariants.{Searching, Locked}
+use Rattle.rds_sync.specs.declared.loss.Bad.{Bad}
+use Rattle.rds_sync.specs.Rules.{RuleNumbers}
+use Rattle.rds_sync.specs.Loss.{IsLoss, IsLawfulBad, none_bad, bad_after, are_too_many}
+use Rattle.rds_sync.proofs.BadRows.{lawful_none, lawful_kept, good_keeps, needed, memory, needed_is, memory_is, HasRow, row_zero, row_short, row_grows, IsClean, clean_zero, clean_none, clean_more, clean_is}
+use Rattle.rds_sync.specs.Lawful.{IsLawful}
+use Rattle.rds_code.specs.declared.offset.Offset.{Offset}
+use Rattle.rds_code.specs.Offsets.{number}
+use Rattle.rds_sync.specs.Acquiring.{acquired, has_number, number_after, has_partner, with_partner}
+use Rattle.rds_sync.specs.Step.{run, step, locked_after, bad_with}
+use Rattle.rds_sync.specs.Convergence.{IsSound, IsLastFour, sound_blocks, SoundRangesHaveFours, RunsConverge}
+use Rattle.rds_sync.proofs.RivalLemmas.{every_26, few_in_phase}
+
+module _ (b : List ℕ) (rules : RuleNumbers) where
+  -- the state after the next bits from place a
+  abbrev after : State → ℕ → ℕ → State
+  after s a zero = s
+  after s a (suc m) = after (step b rules a s) (a + 1) m
+
+  after_is : (s : State) (a m : ℕ) → (run b rules s a m).0 ≡ after s a m
+  after_is s a zero = refl
+  after_is s a (suc m) = after_is (step b rules a s) (a + 1) m
+
+  after_more : (s : State) (a m n : ℕ) → after s a (m + n) ≡ after (after s a m) (a + m) n
+  after_more s a zero n = rw (add-zero, zero-add) refl
+  after_more s a (suc m) n =
+      let e : a + suc m ≡ a + 1 + m = omega arith in
+      rw (suc-add, e) (after_more (step b rules a s) (a + 1) m n)
+
+  step_late : (due num : ℕ) (bad : Bad) (f p : ℕ) → eqb due p ≡ false → step b rules p (Locked due num bad f) ≡ Locked due num bad f
+  step_late due num bad f p e = rw (e, step) refl
+
+  waits : (num : ℕ) (bad : Bad) (f p d : ℕ) → after (Locked (p + d) num bad f) p d ≡ Locked (p + d) num bad f
+  waits num bad f p zero = refl
+  waits num bad f p (suc d) =
+      let e : p + suc d ≡ p + 1 + d = omega arith in
+      ap (λ (s : State). after s (p + 1) d) (step_late (p + suc d) num bad f p (ne_eqb (p + suc d) p (λ e. absurd (omega arith))))
+      ∙ rw e (waits num bad f (p + 1) d)
+
+  read_step : (i num : ℕ) (bd : Bad) (f : ℕ) → are_too_many rules.loss (bad_with b rules i num bd) ≡ false
+      → step b rules i (Locked i num bd f) ≡ locked_after i num (bad_with b rules i num bd) f
+  read_step i num bd f h = rw (eq-eqb i i refl, h, step) refl
+
+  lost_step : (i num : ℕ) (bd : Bad) (f : ℕ) → are_too_many rules.loss (bad_with b rules i num bd) ≡ true → step b rules i (Locked i num bd f) ≡ Searching
+  lost_step i num bd f h = rw (eq-eqb i i refl, h, step) refl
+
+  -- how many of the next n blocks of a lock are good
+  abbrev good_blocks : ℕ → ℕ → ℕ → ℕ
+  good_blocks due num zero = 0
+  good_blocks due num (suc n) = cond (has_number b due num) 1 0 + good_blocks (due + 26) (num % 4 + 1) n
+
+  abbrev LostBy : State → ℕ → ℕ → Type 0
+  LostBy s a limit = (m : ℕ) × (m ≤ limit) × (after s a m ≡ Searching)
+
+  -- a block that is read with no loss
+  next_block : (due num : ℕ) (bad : Bad) (f : ℕ) (bad2 : Bad) → bad_with b rules due num bad ≡ bad2 → are_too_many rules.loss bad2 ≡ false
+      → after (Locked due num bad f) due 26 ≡ Locked (due + 26) (num % 4 + 1) bad2 (cond (num == 4) 1 f)
+  next_block due num bad f bad2 e h =
+      let ok : are_too_many rules.loss (bad_with b rules due num bad) ≡ false = ap (are_too_many rules.loss) e ∙ h in
+      let goes : step b rules due (Locked due num bad f) ≡ Locked (due + 26) (num % 4 + 1) bad2 (cond (num == 4) 1 f) =
+      read_step due num bad f ok ∙ ap (λ (n : Bad). locked_after due num n f) e in
+      let place : due + 26 ≡ due + 1 + 25 = omega arith in
+      ap (λ (s : State). after s (due + 1) 25) goes ∙ rw place (waits (num % 4 + 1) bad2 (cond (num == 4) 1 f) (due + 1) 25)
+
+  later : (s t : State) (a m limit : ℕ) → after s a m ≡ t → LostBy t (a + m) limit → LostBy s a (m + limit)
+  later s t a m limit e l = (m + l.0, omega (arith, l.1), after_more s a m l.0 ∙ ap (λ (u : State). after u (a + m) l.0) e ∙ l.2)
+
+  -- a lock with few good blocks is lost: there are as many bad ones in a row as lose it
+  loses : IsLoss rules.loss → (n due num : ℕ) (bad : Bad) (f r : ℕ) → IsLawfulBad rules.loss bad → HasRow rules.loss bad r
+      → (good_blocks due num n + 1) * needed rules.loss ≤ r + n → LostBy (Locked due num bad f) due (26 * n)
+  loses some zero due num bad f r h in_row few = let short = row_short rules.loss bad r h in_row in absurd (omega arith)
+  loses some (suc n) due num bad f r h in_row few =
+      let limit : 26 * suc n ≡ 26 + 26 * n = omega arith in
+      let short : r < needed rules.loss = row_short rules.loss bad r h in_row in
+      elim (cases_Bool (has_number b due num)) [
+        | inl good ↦
+            let next : bad_with b rules due num bad ≡ bad_after rules.loss true bad = ap (λ (g : Bool). bad_after rules.loss g bad) good in
+            let kept = good_keeps rules.loss bad h in
+            let count : good_blocks due num (suc n) ≡ 1 + good_blocks (due + 26) (num % 4 + 1) n = rw good refl in
+            let fewer : (good_blocks (due + 26) (num % 4 + 1) n + 1) * needed rules.loss ≤ 0 + n = omega (arith, rw count at few) in
+            rw limit (later (Locked due num bad f) _ due 26 (26 * n) (next_block due num bad f (bad_after rules.loss true bad) next kept)
+            (loses some n (due + 26) (num % 4 + 1) (bad_after rules.loss true bad) (cond (num == 4) 1 f) 0
+            (lawful_kept rules.loss bad true h kept) (row_zero rules.loss (bad_after rules.loss true bad)) fewer))
+        | inr ill ↦
+            let next : bad_with b rules due num bad ≡ bad_after rules.loss false bad = ap (λ (g : Bool). bad_after rules.loss g bad) ill in
+            let count : good_blocks due num (suc n) ≡ 0 + good_blocks (due + 26) (num % 4 + 1) n = rw ill refl in
+            let fewer : (good_blocks (due + 26) (num % 4 + 1) n + 1) * needed rules.loss ≤ suc r + n = omega (arith, rw count at few) in
+            elim (cases_Bool (are_too_many rules.loss (bad_after rules.loss false bad))) [
+              | inl over ↦ (1, omega arith, lost_step due num bad f (ap (are_too_many rules.loss) next ∙ over))
+              | inr kept ↦ rw limit (later (Locked due num bad f) _ due 26 (26 * n) (next_block due num bad f (bad_after rules.loss false bad) next kept)
+                  (loses some n (due + 26) (num % 4 + 1) (bad_after rules.loss false bad) (cond (num == 4) 1 f) (suc r)
+                  (lawful_kept rules.loss bad false h kept) (row_grows rules.loss bad r some h in_row) fewer))
+            ]
+      ]
+
+  has_number_offset : (i x : ℕ) → has_number b i x ≡ true → (o : Offset) × (off b i ≡ Some o) × (number o ≡ x)
+  unfolding has_number
+  has_number_offset i x h = at_case (off b i) refl h where
+    at_case : (w : Option Offset) → off b i ≡ w → elim w as (λ _. Bool) [ None ↦ false | Some o ↦ number o == x ] ≡ true → (o : Offset) × (off b i ≡ Some o) × (number o ≡ x)
+    at_case None e t = cc
+    at_case (Some o) e t = (o, e, eqb-true (number o) x t)
+
+  no_offset : (r : ℕ) → is_some (off b r) ≡ false → acquired b rules r ≡ None
+  unfolding acquired
+  no_offset r h = at_case (off b r) h where
+    at_case : (w : Option Offset) → is_some w ≡ false → elim w as (λ _. Option ℕ) [ None ↦ None | Some o ↦ with_partner b rules r (number o) ] ≡ None
+    at_case None t = refl
+    at_case (Some o) t = cc
+
+  -- a place acquires where the block before it has the number before
+  acquires : (i x y : ℕ) → 1 ≤ rules.reach → has_number b (i + 26) x ≡ true → has_number b i y ≡ true → (y + 1) % 4 ≡ x % 4 → acquired b rules (i + 26) ≡ Some x
+  unfolding acquired
+  acquires i x y reach here before next =
+      let o = has_number_offset (i + 26) x here in
+      let l = has_number_offset i y before in
+      let back : i + 26 - 26 * 1 ≡ i = omega arith in
+      let partner : has_partner b (i + 26) x 1 ≡ true =
+      ap (λ (j : ℕ). elim (off b j) as (λ _. Bool) [ None ↦ false | Some o ↦ (number o + 1) % 4 == x % 4 ]) back
+      ∙ ap (λ (w : Option Offset). elim w as (λ _. Bool) [ None ↦ false | Some o ↦ (number o + 1) % 4 == x % 4 ]) l.1
+      ∙ ap (λ (n : ℕ). (n + 1) % 4 == x % 4) l.2
+      ∙ eq-eqb ((y + 1) % 4) (x % 4) next in
+      let n : rules.reach ≡ suc (rules.reach - 1) = omega arith in
+      let any : list_any (has_partner b (i + 26) x) (range_with_len 1 rules.reach) ≡ true = rw n (rw partner refl) in
+      ap (λ (w : Option Offset). elim w as (λ _. Option ℕ) [ None ↦ None | Some o ↦ with_partner b rules (i + 26) (number o) ]) o.1
+      ∙ ap (with_partner b rules (i + 26)) o.2
+      ∙ rw (any, with_partner) refl
+
+  partner_is : (t : Bool) (y x : ℕ) → elim t as (λ _. Option ℕ) [ true ↦ Some y | false ↦ None ] ≡ Some x → x ≡ y
+  partner_is true y x e = cc
+  partner_is false y x e = cc
+
+  acquired_number : (i x y : ℕ) → has_number b i y ≡ true → acquired b rules i ≡ Some x → x ≡ y
+  unfolding acquired
+  acquired_number i x y has e =
+      let o = has_number_offset i y has in
+      partner_is _ (number o.0) x (sym (ap (λ (w : Option Offset). elim w as (λ _. Option ℕ) [ None ↦ None | Some o ↦ with_partner b rules i (number o) ]) o.1) ∙ e) ∙ o.2
+
+  search_step : (i : ℕ) → acquired b rules i ≡ None → step b rules i Searching ≡ Searching
+  search_step i e = rw (e, step) refl
+
+  lock_step : (i x : ℕ) → acquired b rules i ≡ Some x → step b rules i Searching ≡ locked_after i x (none_bad rules.loss) x
+  lock_step i x e = rw (e, step) refl
+
+  -- a search locks at the first place that acquires
+  finds : (d q x : ℕ) → ((r : ℕ) → q ≤ r → r < q + d → acquired b rules r ≡ None) → acquired b rules (q + d) ≡ Some x
+      → after Searching q (d + 1) ≡ locked_after (q + d) x (none_bad rules.loss) x
+  finds zero q x none e = let place : q + 0 ≡ q = omega arith in rw place (lock_step q x (rw place at e))
+  finds (suc d) q x none e =
+      let place : q + suc d ≡ q + 1 + d = omega arith in
+      let e2 : acquired b rules (q + 1 + d) ≡ Some x = rw (← place) e in
+      let count : suc d + 1 ≡ suc (d + 1) = omega arith in
+      rw (count, place) (ap (λ (s : State). after s (q + 1) (d + 1)) (search_step q (none q (omega arith) (omega arith)))
+      ∙ finds d (q + 1) x (λ r l u. none r (omega arith) (omega arith)) e2)
+
+  module _ (p c last : ℕ) (sequence : (k : ℕ) → k ≤ last → has_number b (p + 26 * k) (number_after c k) ≡ true) where
+    number_next : (k : ℕ) → number_after c k % 4 + 1 ≡ number_after c (suc k)
+    number_next k = omega arith
+
+    -- a lock on the sequence stays, and after enough blocks nothing is left of its bad ones
+    stays : (d k : ℕ) (bad : Bad) (f r : ℕ) → IsLawfulBad rules.loss bad → IsClean rules.loss bad r → memory rules.loss ≤ r + suc d
+        → k + d ≤ last → number_after c (k + d) ≡ 4
+        → after (Locked (p + 26 * k) (number_after c k) bad f) (p + 26 * k) (26 * d + 1) ≡ Locked (p + 26 * (k + d) + 26) 1 (none_bad rules.loss) 1
+    stays zero k bad f r h clean long within four =
+        let num : number_after c k ≡ 4 = rw add-zero at four in
+        let good = sequence k (omega arith) in
+        let next : bad_with b rules (p + 26 * k) (number_after c k) bad ≡ bad_after rules.loss true bad = ap (λ (g : Bool). bad_after rules.loss g bad) good in
+        let kept = good_keeps rules.loss bad h in
+        let none : bad_after rules.loss true bad ≡ none_bad rules.loss =
+        clean_is rules.loss (bad_after rules.loss true bad) (suc r) (lawful_kept rules.loss bad true h kept) (omega arith) (clean_more rules.loss bad r clean) in
+        rw add-zero (read_step (p + 26 * k) (number_after c k) bad f (ap (are_too_many rules.loss) next ∙ kept) ∙ rw (next, none, num) refl)
+    stays (suc d) k bad f r h clean long within four =
+        let good = sequence k (omega arith) in
+        let next : bad_with b rules (p + 26 * k) (number_after c k) bad ≡ bad_after rules.loss true bad = ap (λ (g : Bool). bad_after rules.loss g bad) good in
+        let kept = good_keeps rules.loss bad h in
+        let place : p + 26 * k + 26 ≡ p + 26 * suc k = omega arith in
+        let count : 26 * suc d + 1 ≡ 26 + (26 * d + 1) = omega arith in
+        let moved : k + suc d ≡ suc k + d = omega arith in
+        rw (count, moved) (after_more (Locked (p + 26 * k) (number_after c k) bad f) (p + 26 * k) 26 (26 * d + 1)
+        ∙ ap (λ (s : State). after s (p + 26 * k + 26) (26 * d + 1)) (next_block (p + 26 * k) (number_after c k) bad f (bad_after rules.loss true bad) next kept)
+        ∙ rw (place, number_next k) (stays d (suc k) (bad_after rules.loss true bad) (cond (number_after c k == 4) 1 f) (suc r)
+        (lawful_kept rules.loss bad true h kept) (clean_more rules.loss bad r clean) (omega arith) (omega arith) (rw (← moved) four)))
+
+module _ (b : List ℕ) (rules : RuleNumbers) (p c last : ℕ) (sequence : (k : ℕ) → k ≤ last → has_number b (p + 26 * k) (number_after c k) ≡ true) where
+  -- a search that finds block k of the sequence is between two groups after the last block, which has number 4
+  search_joins : (d q k : ℕ) → IsLoss rules.loss → p + 26 * k ≡ q + d → k ≤ last → number_after c last ≡ 4
+      → ((r : ℕ) → q ≤ r → r < q + d → acquired b rules r ≡ None) → acquired b rules (q + d) ≡ Some (number_after c k)
+      → after b rules Searching q (p + 26 * last + 1 - q) ≡ Locked (p + 26 * last + 26) 1 (none_bad rules.loss) 1
+  search_joins d q k loss place within four none found =
+      let locked : after b rules Searching q (d + 1) ≡ locked_after (p + 26 * k) (number_after c k) (none_bad rules.loss) (number_after c k) =
+      rw place (finds b rules d q (number_after c k) none found) in
+      elim (cases_eq k last) [
+        | inl same ↦
+            let count : p + 26 * last + 1 - q ≡ d + 1 = omega (arith, same, place) in
+            let num : number_after c k ≡ 4 = rw same four in
+            rw count (locked ∙ rw (num, same) refl)
+        | inr other ↦
+            let rest : ℕ = last - suc k in
+            let count : p + 26 * last + 1 - q ≡ (d + 1) + (25 + (26 * rest + 1)) = omega (arith, place) in
+            let all : suc k + rest ≡ last = omega arith in
+            let from : q + (d + 1) ≡ p + 26 * k + 1 = omega (arith, place) in
+            let due : p + 26 * k + 26 ≡ p + 26 * k + 1 + 25 = omega arith in
+            let next : p + 26 * k + 1 + 25 ≡ p + 26 * suc k = omega arith in
+            let f : ℕ = cond (number_after c k == 4) 1 (number_after c k) in
+            let waited : after b rules (Locked (p + 26 * k + 26) (number_after c k % 4 + 1) (none_bad rules.loss) f) (p + 26 * k + 1) 25 ≡ Locked (p + 26 * suc k) (number_after c (suc k)) (none_bad rules.loss) f =
+            ap (λ (n : ℕ). after b rules (Locked n (number_after c k % 4 + 1) (none_bad rules.loss) f) (p + 26 * k + 1) 25) due
+            ∙ waits b rules (number_after c k % 4 + 1) (none_bad rules.loss) f (p + 26 * k + 1) 25
+            ∙ ap₂ (λ (n m : ℕ). Locked n m (none_bad rules.loss) f) next (number_next b rules p c last sequence k) in
+            let end = stays b rules p c last sequence rest (suc k) (none_bad rules.loss) f (memory rules.loss) (lawful_none rules.loss loss) (clean_none rules.loss (memory rules.loss)) (omega arith) (omega arith) (rw all four) in
+            rw count (after_more b rules Searching q (d + 1) (25 + (26 * rest + 1))
+            ∙ ap₂ (λ (s : State) (a : ℕ). after b rules s a (25 + (26 * rest + 1))) locked from
+            ∙ after_more b rules (locked_after (p + 26 * k) (number_after c k) (none_bad rules.loss) (number_after c k)) (p + 26 * k + 1) 25 (26 * rest + 1)
+            ∙ ap₂ (λ (s : State) (a : ℕ). after b rules s a (26 * rest + 1)) waited next
+            ∙ end ∙ ap (λ (n : ℕ). Locked (p + 26 * n + 26) 1 (none_bad rules.loss) 1) all)
+      ]
+
+  -- a block of the sequence acquires, where the one before it is known
+  seq_acquires : (k : ℕ) → 1 ≤ rules.reach → 1 ≤ k → k ≤ last → acquired b rules (p + 26 * k) ≡ Some (number_after c k)
+  seq_acquires k reach low within =
+      let j : ℕ = k - 1 in
+      let up : k ≡ suc j = omega arith in
+      let place : p + 26 * suc j ≡ p + 26 * j + 26 = omega arith in
+      let here : has_number b (p + 26 * j + 26) (number_after c (suc j)) ≡ true = rw (← place, ← up) (sequence k within) in
+      rw (up, place) (acquires b rules (p + 26 * j) (number_after c (suc j)) (number_after c j) reach here (sequence j (omega arith)) (omega arith))
+
+  -- a search on a sound range that begins before its second block is between two groups after the last block
+  search_on : (q : ℕ) → IsLoss rules.loss → 1 ≤ rules.reach → (1 ≤ c) × (c ≤ 4) → number_after c last ≡ 4 → 1 ≤ last → q ≤ p + 26 * last
+      → ((r : ℕ) → q ≤ r → r < p + 26 * last → ((k : ℕ) → r ≢ p + 26 * k) → acquired b rules r ≡ None)
+      → after b rules Searching q (p + 26 * last + 1 - q) ≡ Locked (p + 26 * last + 26) 1 (none_bad rules.loss) 1
+  search_on q loss reach range four some within quiet = elim (cases_lt p q) [
+    | inl past ↦
+        let k : ℕ = (q - p + 25) / 26 in
+        let d : ℕ = p + 26 * k - q in
+        let low : 1 ≤ k = omega arith in
+        let here : q ≤ p + 26 * k = omega arith in
+        let near : p + 26 * k < q + 26 = omega arith in
+        search_joins d q k loss (omega arith) (omega arith) four
+        (λ r l u. quiet r l (omega arith) (λ j e. absurd (omega arith)))
+        (let at : q + d ≡ p + 26 * k = omega arith in rw at (seq_acquires k reach low (omega arith)))
+    | inr before ↦ at_case (acquired b rules p) refl before
+  ] where
+    at_case : (o : Option ℕ) → acquired b rules p ≡ o → q ≤ p → after b rules Searching q (p + 26 * last + 1 - q) ≡ Locked (p + 26 * last + 26) 1 (none_bad rules.loss) 1
+    at_case (Some x) e before =
+        let start : p + 26 * 0 ≡ p = omega arith in
+        let has : has_number b p (number_after c 0) ≡ true = rw start at (sequence 0 (omega arith)) in
+        let same : x ≡ number_after c 0 = acquired_number b rules p x (number_after c 0) has e in
+        let at : q + (p - q) ≡ p = omega arith in
+        search_joins (p - q) q 0 loss (omega arith) (omega arith) four
+        (λ r l u. quiet r l (omega arith) (λ j e2. absurd (omega arith)))
+        (rw at (e ∙ ap (λ (n : ℕ). Some n) same))
+    at_case None e before =
+        let at : q + (p + 26 - q) ≡ p + 26 * 1 = omega arith in
+        search_joins (p + 26 - q) q 1 loss (omega arith) some four
+        (λ r l u. elim (cases_eq r p) [ inl same ↦ rw same e | inr other ↦ quiet r l (omega arith) (λ j e2. absurd (omega arith)) ])
+        (rw at (seq_acquires 1 reach (omega arith) some))
+
+module _ (b : List ℕ) (rules : RuleNumbers) where
+  -- how many of the next n places of this phase have an offset
+  abbrev valid : ℕ → ℕ → ℕ
+  valid due n = count_by (λ r. is_some (off b r)) (every_26 due n)
+
+  valid_more : (due n : ℕ) → valid due (suc n) ≡ cond (is_some (off b due)) 1 0 + valid (due + 26) n
+  valid_more due n = sum_by-cons (λ r. cond (is_some (off b r)) 1 0) due (every_26 (due + 26) n)
+
+  valid_grows : (n m due : ℕ) → n ≤ m → valid due n ≤ valid due m
+  valid_grows zero m due h = omega arith
+  valid_grows (suc n) zero due h = absurd (omega arith)
+  valid_grows (suc n) (suc m) due h = let l = valid_more due n in let r = valid_more due m in let ih = valid_grows n m (due + 26) (omega arith) in omega (arith, l, r, ih)
+
+  has_is_some : (i x : ℕ) → has_number b i x ≡ true → is_some (off b i) ≡ true
+  has_is_some i x h = let o = has_number_offset b rules i x h in ap is_some o.1
+
+  has_one : (i x y : ℕ) → has_number b i x ≡ true → has_number b i y ≡ true → x ≡ y
+  has_one i x y h k =
+      let o = has_number_offset b rules i x h in
+      let l = has_number_offset b rules i y k in
+      let same : Some o.0 ≡ Some l.0 = sym o.1 ∙ l.1 in
+      let eq : o.0 ≡ l.0 = cc same in
+      sym o.2 ∙ ap number eq ∙ l.2
+
+  good_le : (n due num : ℕ) → good_blocks b rules due num n ≤ valid due n
+  good_le zero due num = omega arith
+  good_le (suc n) due num =
+      let r = valid_more due n in
+      let ih = good_le n (due + 26) (num % 4 + 1) in
+      elim (cases_Bool (has_number b due num)) [
+        | inl good ↦
+            let one : ◌≡◌ {A = ℕ} (cond (is_some (off b due)) 1 0) 1 = ap (λ (t : Bool). cond t 1 0) (has_is_some due num good) in
+            let l : good_blocks b rules due num (suc n) ≡ 1 + good_blocks b rules (due + 26) (num % 4 + 1) n = rw good refl in
+            omega (arith, r, ih, one, l)
+        | inr ill ↦
+            let l : good_blocks b rules due num (suc n) ≡ 0 + good_blocks b rules (due + 26) (num % 4 + 1) n = rw ill refl in
+            omega (arith, r, ih, l)
+      ]
+
+  wrong_none : (p c last : ℕ) → ((k : ℕ) → k ≤ last → has_number b (p + 26 * k) (number_after c k) ≡ true)
+      → (n k num : ℕ) → num ≢ number_after c k → 1 ≤ num → num ≤ 4 → k + n ≤ last + 1 → good_blocks b rules (p + 26 * k) num n ≡ 0
+  wrong_none p c last sequence zero k num ne low high within = refl
+  wrong_none p c last sequence (suc n) k num ne low high within = elim (cases_Bool (has_number b (p + 26 * k) num)) [
+    | inl good ↦ absurd (ne (has_one (p + 26 * k) num (number_after c k) good (sequence k (omega arith))))
+    | inr ill ↦
+        let place : p + 26 * k + 26 ≡ p + 26 * suc k = omega arith in
+        let l : good_blocks b rules (p + 26 * k) num (suc n) ≡ 0 + good_blocks b rules (p + 26 * k + 26) (num % 4 + 1) n = rw ill refl in
+        l ∙ zero-add _ ∙ rw place (wrong_none p c last sequence n (suc k) (num % 4 + 1) (λ e. ne (omega arith)) (omega arith) (omega arith) (omega arith))
+  ]
+
+  -- from any lawful state, a run on a sound range is between two groups after the last block of number 4
+  module _ (j s p c last : ℕ) (sound : IsSound b rules j s p c) (loss : IsLoss rules.loss) (reach : 1 ≤ rules.reach)
+      (four : number_after c last ≡ 4) (in_range : p + 26 * last < s + 26 * sound_blocks rules.loss j) (is_last : s + 26 * sound_blocks rules.loss j ≤ p + 26 * (last + 4)) where
+    seq : (k : ℕ) → k ≤ last → has_number b (p + 26 * k) (number_after c k) ≡ true
+    seq k h = sound.sequence.numbers k (omega arith)
+
+    quiet : (r : ℕ) → s ≤ r → r < p + 26 * last → ((k : ℕ) → r ≢ p + 26 * k) → acquired b rules r ≡ None
+    quiet r l u other = elim (cases_Bool (is_some (off b r))) [
+      | inl yes' ↦ sound.none_acquires r (record { inside = (l, omega arith); valid = yes'; elsewhere = other })
+      | inr no' ↦ no_offset b rules r no'
+    ]
+
+    enough : (j + 1) * needed rules.loss + 6 ≤ sound_blocks rules.loss j
+    enough = needed_is rules.loss j
+
+    long : memory rules.loss + 6 ≤ sound_blocks rules.loss j
+    long = memory_is rules.loss j loss
+
+    searching : (q : ℕ) → s ≤ q → q ≤ p + 26 * last → after b rules Searching q (p + 26 * last + 1 - q) ≡ Locked (p + 26 * last + 26) 1 (none_bad rules.loss) 1
+    searching q l u =
+        let f = sound.sequence.first in
+        search_on b rules p c last seq q loss reach sound.number four (omega (arith, f, enough)) u (λ r lo hi other. quiet r (omega arith) hi other)
+
+    lost_then : (due num : ℕ) (bad : Bad) (f : ℕ) → s ≤ due → due ≤ s + 25 → LostBy b rules (Locked due num bad f) due (26 * ((j + 1) * needed rules.loss))
+        → after b rules (Locked due num bad f) due (p + 26 * last + 1 - due) ≡ Locked (p + 26 * last + 26) 1 (none_bad rules.loss) 1
+    lost_then due num bad f l u lost =
+        let f0 = sound.sequence.first in
+        let m : ℕ = lost.0 in
+        let few : m ≤ 26 * ((j + 1) * needed rules.loss) = lost.1 in
+        let room : due + m ≤ p + 26 * last = omega (arith, f0, enough) in
+        let count : p + 26 * last + 1 - due ≡ m + (p + 26 * last + 1 - (due + m)) = omega arith in
+        rw count (after_more b rules (Locked due num bad f) due m (p + 26 * last + 1 - (due + m))
+        ∙ ap (λ (t : State). after b rules t (due + m) (p + 26 * last + 1 - (due + m))) lost.2
+        ∙ searching (due + m) (omega arith) room)
+
+    from_due : (due num : ℕ) (bad : Bad) (f : ℕ) → s ≤ due → due ≤ s + 25 → IsLawfulBad rules.loss bad → 1 ≤ num → num ≤ 4
+        → after b rules (Locked due num bad f) due (p + 26 * last + 1 - due) ≡ Locked (p + 26 * last + 26) 1 (none_bad rules.loss) 1
+    from_due due num bad f l u few low high =
+        let f0 = sound.sequence.first in
+        elim (cases_eq due p) [
+          | inl same ↦
+              let start : p + 26 * 0 ≡ due = omega (arith, same) in
+              elim (cases_eq num (number_after c 0)) [
+                | inl right ↦
+                    let count : p + 26 * last + 1 - due ≡ 26 * last + 1 = omega (arith, same) in
+                    let zero_last : 0 + last ≡ last = omega arith in
+                    rw (count, ← start, right) (rw zero_last at (stays b rules p c last seq last 0 bad f 0 few (clean_zero rules.loss bad) (omega (arith, f0, long)) (omega arith) (rw zero_last four)))
+                | inr wrong ↦
+                    let none : good_blocks b rules due num ((j + 1) * needed rules.loss) ≡ 0 =
+                    rw start at (wrong_none p c last seq ((j + 1) * needed rules.loss) 0 num wrong low high (omega (arith, f0, enough))) in
+                    lost_then due num bad f l u (loses b rules loss ((j + 1) * needed rules.loss) due num bad f 0 few (row_zero rules.loss bad) (rw none (omega arith)))
+              ]
+          | inr other ↦
+              let count = good_le ((j + 1) * needed rules.loss) due num in
+              let grows = valid_grows ((j + 1) * needed rules.loss) (sound_blocks rules.loss j) due (omega (arith, enough)) in
+              let at_most = few_in_phase b rules j s p c sound due l (omega arith) other in
+              let g : good_blocks b rules due num ((j + 1) * needed rules.loss) ≤ j = omega (arith, count, grows, at_most) in
+              lost_then due num bad f l u (loses b rules loss ((j + 1) * needed rules.loss) due num bad f 0 few (row_zero rules.loss bad) (let g1 : good_blocks b rules due num ((j + 1) * needed rules.loss) + 1 ≤ j + 1 = omega (arith, g) in omega (arith, mul-le-mul_right (needed rules.loss) g1)))
+        ]
+
+    pub converges : (t : State) → IsLawful rules s t → after b rules t s (p + 26 * last + 1 - s) ≡ Locked (p + 26 * last + 26) 1 (none_bad rules.loss) 1
+    converges Searching lawful = let f0 = sound.sequence.first in searching s (omega arith) (omega (arith, f0, enough))
+    converges (Locked due num bad f) lawful =
+        let f0 = sound.sequence.first in
+        let soon = lawful.soon in
+        let few : IsLawfulBad rules.loss bad = lawful.few_bad in
+        let range : (1 ≤ num) × (num ≤ 4) = ⊎_elim (λ o. (omega (arith, o), omega (arith, o))) (λ o. (omega (arith, o), omega (arith, o))) lawful.in_order in
+        let d : ℕ = due - s in
+        let place : s + d ≡ due = omega (arith, soon) in
+        let count : p + 26 * last + 1 - s ≡ d + (p + 26 * last + 1 - due) = omega (arith, soon, f0, enough) in
+        let waited : after b rules (Locked due num bad f) s d ≡ Locked due num bad f = rw place at (waits b rules num bad f s d) in
+        rw count (after_more b rules (Locked due num bad f) s d (p + 26 * last + 1 - due)
+        ∙ ap₂ (λ (t : State) (a : ℕ). after b rules t a (p + 26 * last + 1 - due)) waited place
+        ∙ from_due due num bad f (omega (arith, soon)) (omega (arith, soon)) few range.0 range.1)
+
+-- the last block of number 4 in a sequence
+last_four : (s p c n : ℕ) → s ≤ p → p < s + 26 → 1 ≤ c → c ≤ 4 → 6 ≤ n
+    → (last : ℕ) × (number_after c last ≡ 4) × (p + 26 * last < s + 26 * n) × (s + 26 * n ≤ p + 26 * (last + 4))
+last_four s p c n l u low high some =
+    let blocks : ℕ = (s + 26 * n - p + 25) / 26 in
+    (blocks - 1 - ((c - 1 + (blocks - 1)) % 4 + 1) % 4, omega arith, omega arith, omega arith)
+
+pub sound_ranges_have_fours : SoundRangesHaveFours
+sound_ranges_have_fours b rules j s p c sound =
+    let f0 = sound.sequence.first in
+    let n0 = sound.number in
+    let six : 6 ≤ sound_blocks rules.loss j = omega (arith, needed_is rules.loss j) in
+    let four = last_four s p c (sound_blocks rules.loss j) f0.0 f0.1 n0.0 n0.1 six in
+    let end : s + 26 * sound_blocks rules.loss j ≤ p + 26 * (four.0 + 4) = four.3 in (
+      four.0,
+      record {
+        number = four.1;
+        inside = four.2;
+        final = λ k within number. omega (arith, end, within, number, four.1);
+      },
+    )
+
+-- the range ends before the next block of number 4
+ends_soon : (s to p c last : ℕ) (b : List ℕ) → IsLastFour b s to p c last → to ≤ p + 26 * (last + 4)
+ends_soon s to p c last b four = elim (cases_lt (p + 26 * (last + 4)) to) [
+  | inl within ↦
+      let number = four.number in
+      let next : number_after c (last + 4) ≡ 4 = omega (arith, number) in
+      absurd (omega (arith, four.final (last + 4) within next))
+  | inr past ↦ past
+]
+
+pub runs_converge : RunsConverge
+runs_converge b rules loss reach s to t lawful j p c last sound four ends =
+    let soon = ends_soon s (s + 26 * sound_blocks rules.loss j) p c last b four in
+    ap (λ (end : ℕ). (run b rules t s (end - s)).0) ends
+    ∙ after_is b rules t s (p + 26 * last + 1 - s)
+    ∙ converges b rules j s p c last sound loss reach four.number four.inside soon t lawful
