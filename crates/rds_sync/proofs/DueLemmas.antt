@@ -1,13 +1,11 @@
 -- The block that is due: what it does to its lock, and what it gives.
-use Rattle.std.proofs.Common.{◌≡◌, ◌≢◌, ℕ, ◌+◌, ◌-◌, ◌%◌, ◌<◌, List, [], ◌∷◌, Bool, true, false, refl, sym, ap, ◌∙◌, subst, arith}
+use Rattle.std.proofs.Common.{◌≡◌, ℕ, ◌+◌, ◌%◌, ◌<◌, List, [], ◌∷◌, Bool, true, false, refl, sym, ap, ◌∙◌, arith}
 use Rattle.std.proofs.lemmas.Bool.{eq-eqb, ne_eqb}
 use Rattle.rds_sync.specs.declared.due.Due.{Due}
 use Rattle.rds_sync.specs.declared.due.Due.TheVariants.{Inside, Closed, Lost}
 use Rattle.rds_sync.specs.declared.due.Lock.{Lock}
-use Rattle.rds_sync.specs.declared.item.Item.{Item}
 use Rattle.rds_sync.specs.declared.item.Item.TheVariants.{Group, LostLock}
 use Rattle.rds_sync.specs.declared.loss.Bad.{Bad}
-use Rattle.rds_sync.specs.declared.state.State.{State}
 use Rattle.rds_sync.specs.declared.state.State.TheVariants.{Searching, Locked}
 use Rattle.rds_sync.specs.Acquiring.{has_number}
 use Rattle.rds_sync.specs.Due.{state_in, state_of, IsKept, IsAfter}

@@ -1,8 +1,7 @@
 -- How many items a run gives, and that they are the report's.
 use Rattle.std.proofs.Common.{◌≡◌, ◌≢◌, ℕ, zero, suc, ◌+◌, ◌-◌, ◌*◌, ◌≤◌, List, [], ◌∷◌, ◌++◌, length, Option, Some, None, ap, ap₂, ◌∙◌, refl, arith, length-append, inl, inr}
-use Rattle.std.proofs.lemmas.Bool.{eq-eqb, ne_eqb, le-ltb, lt-ltb, cases_Bool, cases_eq, cases_lt}
+use Rattle.std.proofs.lemmas.Bool.{eq-eqb, ne_eqb, cases_Bool, cases_eq}
 use Rattle.rds_sync.specs.Acquiring.{acquired}
-use Rattle.rds_sync.specs.Advance.{reads_most}
 use Rattle.rds_sync.specs.Loss.{IsLoss, are_too_many}
 use Rattle.rds_sync.specs.Report.{report_items}
 use Rattle.rds_sync.specs.Step.{bad_with, step, run, items_at, items_of_end, group_after}

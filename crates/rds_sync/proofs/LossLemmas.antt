@@ -9,7 +9,7 @@ use Rattle.std.proofs.lemmas.List.Sums.{sum_by_push}
 use Rattle.std.specs.Int.Count.{ones, ones_step}
 use Rattle.std.proofs.lemmas.Nat.Bits.{bit_at-zero, bit_at_lowest, bit_at-suc}
 use Rattle.std.specs.Int.{bit_at}
-use Rattle.std.specs.Prelude.{nat_le, nat_lt, not, ◌&&◌, count_by, count_ones}
+use Rattle.std.specs.Prelude.{nat_le, nat_lt, not, count_by, count_ones}
 use Rattle.std.specs.List.{list_all, range_with_len}
 use Rattle.rds_sync.specs.declared.loss.Loss.{Loss}
 use Rattle.rds_sync.specs.declared.loss.Loss.TheVariants.{Run, Share}

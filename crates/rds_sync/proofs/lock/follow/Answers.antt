@@ -1,12 +1,11 @@
-use Rattle.std.proofs.Common.{◌≡◌, ◌+◌, ◌-◌, ◌*◌, ℕ, List, [], ◌∷◌, ◌++◌, ap, ap₂, sym, subst, ◌∙◌, arith, append_assoc, append-nil}
+use Rattle.std.proofs.Common.{◌≡◌, ◌-◌, ℕ, List, [], ◌∷◌, ◌++◌, ap, ap₂, sym, subst, ◌∙◌, arith, append_assoc, append-nil}
 use Rattle.rds_sync.specs.declared.due.Due.{Due}
-use Rattle.rds_sync.specs.declared.due.Due.TheVariants.{Inside}
 use Rattle.rds_sync.specs.declared.item.Group.{Group as GroupRecord}
 use Rattle.rds_sync.specs.declared.item.Item.{Item}
 use Rattle.rds_sync.specs.declared.item.Item.TheVariants.{Group, LostLock}
 use Rattle.rds_sync.specs.declared.loss.Loss.{Loss}
-use Rattle.rds_sync.specs.Due.{state_in, IsAfter}
-use Rattle.rds_sync.specs.Groups.{blocks_at, group}
+use Rattle.rds_sync.specs.Due.{IsAfter}
+use Rattle.rds_sync.specs.Groups.{blocks_at}
 use Rattle.rds_sync.specs.Locks.{IsFollowed}
 use Rattle.rds_sync.proofs.DueLemmas.{step-due, items-inside, items-closed, items-lost, kept-next}
 use Rattle.rds_sync.proofs.GroupBlocks.{group-blocks}

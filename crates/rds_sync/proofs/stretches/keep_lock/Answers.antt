@@ -6,7 +6,7 @@ use Rattle.rds_sync.specs.declared.due.Lock.{Lock}
 use Rattle.rds_sync.specs.declared.state.State.{State}
 use Rattle.rds_sync.specs.declared.state.State.TheVariants.{Locked}
 use Rattle.rds_sync.specs.Lawful.{IsLawful}
-use Rattle.rds_sync.specs.Due.{state_in, state_of}
+use Rattle.rds_sync.specs.Due.{state_of}
 use Rattle.rds_sync.specs.Locks.{IsFollowed}
 use Rattle.rds_sync.specs.Loss.{IsLoss}
 use Rattle.rds_sync.specs.Rules.{RuleNumbers}
