@@ -1,6 +1,6 @@
 -- The totals of a run's items are small: a bit gives one group at most, and a block has 26 bits.
 use Rattle.std.proofs.Common.{◌≡◌, ℕ, zero, suc, ◌+◌, ◌-◌, ◌*◌, ◌^◌, ◌<◌, ◌≤◌, Bool, true, false, List, [], ◌∷◌, ◌++◌, take, drop, Option, Some, None, refl, sym, ap, ◌∙◌, subst, arith, lit≤}
-use Rattle.std.specs.Prelude.{sum_by, if◌then◌else◌, ◌==◌, nat_lt, nat_le, ◌&&◌, slice_range}
+use Rattle.std.specs.Prelude.{sum_by, if◌then◌else◌, ◌==◌, nat_le, ◌&&◌, slice_range}
 use Rattle.std.proofs.lemmas.List.{take-append-drop}
 use Rattle.std.proofs.lemmas.Nat.{ones_le_self}
 use Rattle.rds_code.specs.declared.reading.Wanted.{Wanted}

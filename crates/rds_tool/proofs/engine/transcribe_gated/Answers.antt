@@ -1,4 +1,4 @@
-use Rattle.std.proofs.Common.{Err, Ok, ap, sym, ◌≢◌, ◌∙◌}
+use Rattle.std.proofs.Common.{Err, ◌≢◌}
 use Rattle.rds_tool.specs.Tasks.{MayStartThreads}
 use Rattle.rds_tool.specs.declared.error.ToolError.TheVariants.{NoWorker, Read, TooManyTurns, Write}
 use Rattle.rds_tool.proofs.Passing.{passed, passed_kind}
