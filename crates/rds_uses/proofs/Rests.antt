@@ -1,5 +1,5 @@
 -- The first items of a list, and the rest of it.
-use Rattle.std.proofs.Common.{◌≡◌, ℕ, ◌-◌, ◌++◌, List, length, take, drop, ap, arith, slice_range}
+use Rattle.std.proofs.Common.{◌≡◌, ℕ, ◌-◌, ◌++◌, List, length, take, drop, ap, arith, slice_range, subst, sym}
 use Rattle.std.proofs.lemmas.List.{take-append-drop, take_rest}
 use Rattle.rds_sync.specs.Counting.{IsRest, TotalsJoin, plus}
 use Rattle.rds_sync.specs.Totals.{totals_of}
@@ -14,6 +14,7 @@ module _ (items : List Item) (n : ℕ) where
 
   pub totals_rest : TotalsJoin → IsRest (totals_of (slice_range items 0 n)) (totals_of items) (totals_of (drop n items))
   totals_rest join =
-      let whole = take-append-drop n items in
-      let is = join (take n items) (drop n items) in
-      rw (whole, first_items) at is
+      let rest : IsRest (totals_of (take n items)) (totals_of items) (totals_of (drop n items)) =
+          subst (λ (whole : List Item). IsRest (totals_of (take n items)) (totals_of whole) (totals_of (drop n items))) (take-append-drop n items)
+          (join (take n items) (drop n items)) in
+      subst (λ (part : List Item). IsRest (totals_of part) (totals_of items) (totals_of (drop n items))) (sym first_items) rest

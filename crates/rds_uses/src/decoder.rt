@@ -3,8 +3,10 @@ ghost use Rattle.std.specs.Prelude.{◌≡◌, ◌*◌, ◌≤◌, ◌^◌, IfOk
 ghost use Rattle.rds_pieces.specs.Cutting.{IsCutting};
 ghost use Rattle.rds_pieces.specs.RunOf.{runs_of};
 ghost use Rattle.rds_sync.specs.Report.{report_items};
+ghost use Rattle.rds_sync.specs.declared.loss.Loss.TheVariants.{Run};
 ghost use Rattle.rds_uses.specs.Jobs.{all_bits};
 
+use crate::sync::usual_rules;
 use rds_pieces::{Cutting, PieceError, PieceRun, laws, speculate, stitch};
 use rds_stream::{Counted, Recording};
 use rds_sync::{Report, Rules};
@@ -15,11 +17,11 @@ pub fn decoded(alloc: Global, bytes: Vec<u8>, pieces: u64) -> Option<Report>
     requires few { 8 * vec_len bytes ≤ 2 ^ 36 }
     requires some { 1 ≤ pieces }
     ensures { IfSome result (λ report. report.items
-        ≡ report_items (all_bits bytes.items) (record { burst = 2; reach = 3; loss = 10 })) }
+        ≡ report_items (all_bits bytes.items) (record { burst = 2; reach = 3; loss = Run 10 })) }
 {
     let bits = 8 * bytes.len() as u64;
     let recording = Recording::from_bytes(bytes, bits).ok()?;
-    let rules = Rules::new(alloc, 2, 3, 10).ok()?;
+    let rules = usual_rules(alloc).ok()?;
     let cutting = Cutting::even(alloc, recording.len(), pieces).ok()?;
     let runs = guesses(alloc, &recording, &rules, &cutting).ok()?;
     laws::pieces_follow();

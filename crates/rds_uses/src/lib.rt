@@ -7,10 +7,12 @@
 //! - [`code`]: remainders, offsets, bursts, blocks as they are sent and read.
 //! - [`stream`]: recordings, their windows, scans, planes and tapes.
 //! - [`sync`]: rules, lawful states, steps, runs and reports.
+//! - [`loss`]: what bad blocks do to a lock, by either rule.
 //! - [`items`]: lists of items, and their totals.
 //! - [`pieces`]: cuttings, guesses, seams, and what is stitched of them.
 //! - [`decoder`]: all of these together, from bytes to a report.
 //! - [`crew`]: the reports of crews.
+//! - [`dealer`]: numbers that are dealt to seats.
 //! - [`tool`]: what is written of the bytes that a reader holds, and each refusal by its cause.
 //! - [`devices`]: sources and sinks, whatever is behind them.
 //! - [`commands`]: the command line as a job.
@@ -20,9 +22,11 @@
 pub mod code;
 pub mod commands;
 pub mod crew;
+pub mod dealer;
 pub mod decoder;
 pub mod devices;
 pub mod items;
+pub mod loss;
 pub mod pieces;
 pub mod refusals;
 pub mod stream;

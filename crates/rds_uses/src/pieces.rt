@@ -14,7 +14,7 @@ use rds_pieces::{
     stitch,
 };
 use rds_stream::{Counted, Recording, Tape};
-use rds_sync::{Items, Report, Rules, State, SyncError, Totals, laws as laws_of_runs};
+use rds_sync::{Items, Loss, Report, Rules, State, SyncError, Totals, laws as laws_of_runs};
 use std::alloc::Global;
 use std::snapshot::Snapshot;
 
@@ -279,7 +279,7 @@ pub fn report_of_work<W: Work>(alloc: Global, work: &W) -> Result<Report, PieceE
 }
 
 /// What a work names, as a caller sees it.
-pub fn names_of_work<W: Work>(work: &W) -> (Snapshot<Recording>, u32, u64)
+pub fn names_of_work<W: Work>(work: &W) -> (Snapshot<Recording>, Loss, u64)
     ensures source { result.0.value ≡ W.recording work.now }
     ensures rules { result.1 ≡ (W.rule_set work.now).loss }
     ensures cutting { result.2 ≡ pieces_of (W.places work.now) }

@@ -1,13 +1,16 @@
 //! What a user of `rds_stream` relies on: bits from bytes, windows, scans, planes and tapes.
-ghost use Rattle.std.specs.Prelude.{◌≡◌, ℕ, ◌+◌, ◌-◌, ◌*◌, ◌<◌, ◌≤◌, ◌^◌, IsTrue, IfSome, Some, Err, length, slice_index, true, vec_len};
+ghost use Rattle.std.specs.Prelude.{◌≡◌, ℕ, ◌+◌, ◌-◌, ◌*◌, ◌<◌, ◌≤◌, ◌^◌, IsTrue, IfSome, None, Some, Err, length, slice_index, true, vec_len};
 ghost use Rattle.std.specs.Int.{bit_at};
 ghost use Rattle.rds_code.specs.Remainder.{rem};
 ghost use Rattle.rds_code.specs.Offsets.{offset_of as the_offset_of};
-ghost use Rattle.rds_stream.specs.Recording.{bits_of, valid_windows, window};
+ghost use Rattle.rds_stream.specs.Recording.{bits_of, off, valid_windows, window};
+ghost use Rattle.rds_stream.specs.ValidWindows.{NoneValid};
 ghost use Rattle.rds_stream.specs.declared.error.StreamError.TheVariants.{BitsPastBytes, OutOfMemory, TooLong};
 
 use rds_code::{Offset, offset_of, rem26};
-use rds_stream::{Counted, FIRST_WINDOW, Recording, StreamError, Tape, planes, scan};
+use rds_stream::{
+    Counted, FIRST_WINDOW, Recording, StreamError, Tape, ValidWindows, planes, scan,
+};
 use std::alloc::Global;
 use std::snapshot::Snapshot;
 
@@ -89,6 +92,26 @@ pub fn refusal_of_scan(alloc: Global, recording: &Recording) -> Option<StreamErr
     ensures { IfSome result (λ error. error ≡ OutOfMemory) }
 {
     scan(alloc, recording, 0, recording.len()).err()
+}
+
+/// The first valid window of a recording, with its offset, where there is one.
+pub fn first_valid(recording: &Recording) -> Option<(u64, Offset)>
+    ensures some { IfSome result (λ found. off recording.now found.0 ≡ Some found.1) }
+    ensures first { IfSome result (λ found. NoneValid recording.now 0 found.0) }
+    ensures none { result ≡ None → NoneValid recording.now 0 (length recording.now) }
+{
+    ValidWindows::new(recording, 0, recording.len()).next()
+}
+
+/// How far the second valid window lies behind the first: they come by rising place, within the recording.
+pub fn gap_of_first_two(recording: &Recording) -> Option<u64>
+    ensures after { IfSome result (λ gap. 0 < gap) }
+    ensures within { IfSome result (λ gap. gap < length recording.now) }
+{
+    let mut windows = ValidWindows::new(recording, 0, recording.len());
+    let (first, _offset) = windows.next()?;
+    let (second, _offset) = windows.next()?;
+    Some(second - first)
 }
 
 /// At bit 63 the planes hold the remainder of the window 63 places on.

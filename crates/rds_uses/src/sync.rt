@@ -1,21 +1,24 @@
 //! What a user of `rds_sync` relies on: rules, lawful states, steps over a tape, runs over a range, and reports.
 ghost use Rattle.std.specs.Prelude.{◌≡◌, ◌≢◌, ℕ, ◌+◌, ◌-◌, ◌*◌, ◌<◌, ◌≤◌, ◌^◌, ◌++◌, ◌↔◌, [], IsTrue, IfOk, IfErr, IsErrOf, None, Some, count_by, length, slice_get, true};
 ghost use Rattle.rds_sync.specs.declared.item.Block.{Block as ABlock};
-ghost use Rattle.rds_sync.specs.declared.error.SyncError.TheVariants.{BurstRange, LossRange, OutOfMemory, ReachRange};
+ghost use Rattle.rds_sync.specs.declared.error.SyncError.TheVariants.{BurstRange, LossRange, OutOfMemory, ReachRange, ShareRange};
+ghost use Rattle.rds_sync.specs.declared.loss.Loss.TheVariants.{Run, Share};
 ghost use Rattle.rds_sync.specs.declared.state.State.TheVariants.{Searching};
 ghost use Rattle.rds_sync.specs.Advance.{group_item, items_in};
 ghost use Rattle.rds_sync.specs.GroupLaws.{IsBlock};
 ghost use Rattle.rds_sync.specs.Groups.{group as group_at, info_of};
 ghost use Rattle.rds_sync.specs.Lawful.{IsBetweenGroups, IsLawful};
 ghost use Rattle.rds_sync.specs.Laws.{OneBitRuns};
+ghost use Rattle.rds_sync.specs.Loss.{IsLawfulBad};
+ghost use Rattle.rds_sync.specs.Ranges.{blocks_seen};
 ghost use Rattle.rds_sync.specs.Report.{report_items};
 ghost use Rattle.rds_sync.specs.Step.{items_at, run as run_of, step};
 ghost use Rattle.rds_sync.specs.Totals.{is_group, totals_of};
 
 use rds_stream::{Counted, Recording, Tape};
 use rds_sync::{
-    Block, Group, ItemBuffer, Items, Reached, Report, Rules, State, Step, SyncError, Totals,
-    advance, decode_plain, finish, laws, run, stretch,
+    Bad, Block, Group, ItemBuffer, Items, Loss, Reached, Report, RuleNumbers, Rules, State, Step,
+    SyncError, Totals, advance, decode_plain, finish, laws, run, stretch,
 };
 use std::alloc::Global;
 
@@ -23,10 +26,39 @@ use std::alloc::Global;
 
 /// The rules that the program takes where none are given: nothing but memory can be in want.
 pub fn usual_rules(alloc: Global) -> Result<Rules, SyncError>
-    ensures rules { IfOk result (λ rules. rules ≡ record { burst = 2; reach = 3; loss = 10 }) }
+    ensures rules { IfOk result (λ rules. rules ≡ record { burst = 2; reach = 3; loss = Run 10 }) }
     ensures refused { IfErr result (λ error. error ≡ OutOfMemory) }
 {
+    Rules::of(
+        alloc,
+        RuleNumbers {
+            burst: 2,
+            reach: 3,
+            loss: Loss::Run(10),
+        },
+    )
+}
+
+/// The same by their numbers alone.
+pub fn counted_rules(alloc: Global) -> Result<Rules, SyncError>
+    ensures { IfOk result (λ rules. rules ≡ record { burst = 2; reach = 3; loss = Run 10 }) }
+{
     Rules::new(alloc, 2, 3, 10)
+}
+
+/// Rules that lose a lock where 10 of the last 12 blocks are bad.
+pub fn shared_rules(alloc: Global) -> Result<Rules, SyncError>
+    ensures { IfOk result (λ rules. rules ≡ record { burst = 2; reach = 3; loss = Share 10 12 }) }
+{
+    Rules::with_share(alloc, 2, 3, 10, 12)
+}
+
+/// What rules were made of, they are made of again: nothing but memory can be in want.
+pub fn same_rules(alloc: Global, rules: &Rules) -> Result<Rules, SyncError>
+    ensures rules { IfOk result (λ made. made ≡ rules.now) }
+    ensures refused { IfErr result (λ error. error ≡ OutOfMemory) }
+{
+    Rules::of(alloc, rules.numbers())
 }
 
 /// A burst of six bits is refused, whatever else is wrong.
@@ -50,13 +82,63 @@ pub fn late_loss(alloc: Global) -> Result<Rules, SyncError>
     Rules::new(alloc, 5, 8, 65)
 }
 
+/// With a share a burst of six bits is refused first too.
+pub fn long_burst_with_share(
+    alloc: Global,
+    reach: u32,
+    bad: u32,
+    of: u32,
+) -> Result<Rules, SyncError>
+    ensures { IsErrOf result BurstRange }
+{
+    Rules::with_share(alloc, 6, reach, bad, of)
+}
+
+/// So is a reach of nine blocks next.
+pub fn far_reach_with_share(alloc: Global, bad: u32, of: u32) -> Result<Rules, SyncError>
+    ensures { IsErrOf result ReachRange }
+{
+    Rules::with_share(alloc, 5, 9, bad, of)
+}
+
+/// A share of no block is refused last.
+pub fn share_of_none(alloc: Global, of: u32) -> Result<Rules, SyncError>
+    ensures { IsErrOf result ShareRange }
+{
+    Rules::with_share(alloc, 5, 8, 0, of)
+}
+
+/// So is one of more blocks than are looked at.
+pub fn share_of_too_many(alloc: Global, of: u32) -> Result<Rules, SyncError>
+    requires { of < 65 }
+    ensures { IsErrOf result ShareRange }
+{
+    Rules::with_share(alloc, 5, 8, 65, of)
+}
+
+/// So is one that looks at 65 blocks.
+pub fn share_of_long(alloc: Global) -> Result<Rules, SyncError>
+    ensures { IsErrOf result ShareRange }
+{
+    Rules::with_share(alloc, 5, 8, 1, 65)
+}
+
 /// The rules in bytes: each is small enough.
-pub fn rules_in_bytes(rules: &Rules) -> [u8; 3]
+pub fn rules_in_bytes(rules: &Rules) -> [u8; 2]
     ensures burst { slice_get result 0 ≡ Some rules.now.burst }
     ensures reach { slice_get result 1 ≡ Some rules.now.reach }
-    ensures loss { slice_get result 2 ≡ Some rules.now.loss }
 {
-    [rules.burst() as u8, rules.reach() as u8, rules.loss() as u8]
+    [rules.burst() as u8, rules.reach() as u8]
+}
+
+/// How many blocks a rule of loss looks at, in a byte: it is small enough.
+pub fn blocks_in_byte(rules: &Rules) -> u8
+    ensures { result ≡ blocks_seen rules.now.loss }
+{
+    match rules.loss() {
+        Loss::Run(blocks) => blocks as u8,
+        Loss::Share { bad: _, of } => of as u8,
+    }
 }
 
 // ---- blocks and groups
@@ -291,9 +373,11 @@ pub fn nothing_while_waiting(
     alloc: Global,
     recording: &Recording,
     rules: &Rules,
+    bad: Bad,
     from: u64,
     due: u64,
 ) -> Result<Items, SyncError>
+    requires bad { IsLawfulBad rules.now.loss bad }
     requires order { from ≤ due }
     requires soon { due ≤ from + 25 }
     requires whole { 25 ≤ due }
@@ -305,7 +389,7 @@ pub fn nothing_while_waiting(
     let state = State::Locked {
         due,
         number: 1,
-        bad: 0,
+        bad,
         first: 1,
     };
     let (_end, items) = run(alloc, recording, rules, state, from, due)?;

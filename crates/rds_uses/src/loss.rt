@@ -1,0 +1,40 @@
+//! What a user of a rule of loss relies on: what is kept of bad blocks says when a lock is lost, as its blocks do.
+ghost use Rattle.std.specs.Prelude.{◌≡◌, ℕ, ◌≤◌, Bool, if◌then◌else◌};
+ghost use Rattle.std.specs.Int.{bit_at};
+ghost use Rattle.rds_sync.specs.declared.loss.Bad.TheVariants.{Mask};
+ghost use Rattle.rds_sync.specs.declared.loss.Loss.TheVariants.{Share};
+ghost use Rattle.rds_sync.specs.Loss.{bad_at, loses};
+
+use rds_sync::{Loss, laws};
+
+/// A lock is lost where the mask that is kept of its last blocks has too many ones.
+pub fn lost_by_mask(bad: u32, of: u32, mask: u64) -> bool
+    ensures { (is_good : ℕ → Bool) (k : ℕ) → bad_at is_good (Share bad of) k ≡ Mask mask
+        → loses (Share bad of) is_good k ≡ result }
+{
+    laws::bad_blocks_lose();
+    bad <= mask.count_ones()
+}
+
+/// The lowest bit of a mask tells whether the newest block was bad.
+pub fn newest_in_mask(bad: u32, of: u32)
+    requires { 1 ≤ of }
+    ensures { (is_good : ℕ → Bool) (k mask : ℕ) → 1 ≤ k → bad_at is_good (Share bad of) k ≡ Mask mask
+        → bit_at mask 0 ≡ (if is_good k then 0 else 1) }
+{
+    laws::masks_tell_blocks();
+}
+
+/// Each rule as one of a share: it loses the same locks at the same blocks.
+pub fn as_share(loss: Loss) -> Loss
+    ensures { (is_good : ℕ → Bool) (k : ℕ) → loses result is_good k ≡ loses loss is_good k }
+{
+    laws::runs_are_shares();
+    match loss {
+        Loss::Run(blocks) => Loss::Share {
+            bad: blocks,
+            of: blocks,
+        },
+        share => share,
+    }
+}
