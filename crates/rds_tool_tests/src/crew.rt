@@ -1,9 +1,10 @@
 //! Workers, seen at their work and refused.
 use crate::devices::{SlowReader, gives, is_answer};
 use crate::samples::Pieces::{At, Even};
-use crate::samples::{Crew, Pieces, TWO_GROUPS, TWO_GROUPS_DIGITS as DIGITS};
+use crate::samples::{Crew, Pieces, Rules, TWO_GROUPS, TWO_GROUPS_DIGITS as DIGITS};
 use rds_crew::Gate;
 use rds_pieces::PieceRun;
+use rds_tool::Loss::Run;
 use rds_tool::ToolError::{
     BadCutting, BitsPastBytes, BurstRange, CrewRange, HexText, LossRange, ReachRange, Read, TooLong,
 };
@@ -94,7 +95,7 @@ impl Gate for Watch {
 }
 
 /// The rules of `TWO_GROUPS`, as burst, reach and loss.
-const RULES: [u32; 3] = [2, 3, 10];
+const RULES: Rules = (2, 3, Run(10));
 
 /// Two workers on two groups, a piece each.
 const TWO_WORKERS: Crew = Crew {
@@ -140,7 +141,7 @@ fn two_workers_run_at_the_same_time(rt: HostRuntime) {
 /// What is asked of a list and of totals, as bits, rules, workers and pieces, then the digits, and the refusal.
 type Refused = (
     Option<u64>,
-    [u32; 3],
+    Rules,
     u32,
     Pieces<'static>,
     &'static str,
@@ -151,14 +152,14 @@ const NO_DIGITS: &str = "no digits";
 
 /// The first check that fails speaks: rules, workers, no piece, digits, bits, places of the cuts.
 static REFUSED: [Refused; 24] = [
-    (None, [6, 3, 10], 4, Even(16), NO_DIGITS, BurstRange),
-    (None, [6, 0, 0], 4, Even(16), NO_DIGITS, BurstRange),
-    (None, [2, 0, 10], 4, Even(16), NO_DIGITS, ReachRange),
-    (None, [2, 9, 0], 4, Even(16), NO_DIGITS, ReachRange),
-    (None, [2, 3, 0], 4, Even(16), NO_DIGITS, LossRange),
-    (None, [2, 3, 65], 4, Even(16), NO_DIGITS, LossRange),
-    (None, [2, 3, 65], 0, Even(0), NO_DIGITS, LossRange),
-    (None, [2, 3, 65], 1, Even(0), NO_DIGITS, LossRange),
+    (None, (6, 3, Run(10)), 4, Even(16), NO_DIGITS, BurstRange),
+    (None, (6, 0, Run(0)), 4, Even(16), NO_DIGITS, BurstRange),
+    (None, (2, 0, Run(10)), 4, Even(16), NO_DIGITS, ReachRange),
+    (None, (2, 9, Run(0)), 4, Even(16), NO_DIGITS, ReachRange),
+    (None, (2, 3, Run(0)), 4, Even(16), NO_DIGITS, LossRange),
+    (None, (2, 3, Run(65)), 4, Even(16), NO_DIGITS, LossRange),
+    (None, (2, 3, Run(65)), 0, Even(0), NO_DIGITS, LossRange),
+    (None, (2, 3, Run(65)), 1, Even(0), NO_DIGITS, LossRange),
     (None, RULES, 0, Even(0), NO_DIGITS, CrewRange),
     (None, RULES, 257, Even(0), NO_DIGITS, CrewRange),
     (None, RULES, 257, Even(16), NO_DIGITS, CrewRange),

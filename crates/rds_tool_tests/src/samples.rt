@@ -1,17 +1,20 @@
 //! Recordings with the texts of their lists and totals, and whether a crew gives these.
 use crate::devices::gives_for;
+use rds_tool::Loss::{Run, Share};
 use rds_tool::{Cuts, Input, Job, Loss, Settings, ToolError};
 use std::alloc::{AllocError, Global};
 use std::sync::Wait;
 use std::thread::Threads;
+
+/// Burst, reach and the rule of loss.
+pub type Rules = (u32, u32, Loss);
 
 /// A recording, and what a list and totals of it write, by whatever crew.
 #[derive(Clone, Copy)]
 pub struct Sample {
     /// The recording, in hexadecimal digits.
     pub digits: &'static str,
-    /// Burst, reach and loss.
-    pub rules: [u32; 3],
+    pub rules: Rules,
     /// The rows of its list.
     pub list: &'static str,
     /// The rows of its totals.
@@ -38,7 +41,7 @@ macro_rules! sample {
 }
 
 /// No bytes.
-pub const NOTHING: Sample = sample!("", [2, 3, 10], "", 0 0 0 0 0 0 0 0 0 0 0 0);
+pub const NOTHING: Sample = sample!("", (2, 3, Run(10)), "", 0 0 0 0 0 0 0 0 0 0 0 0);
 
 /// The digits of `TWO_GROUPS`.
 pub const TWO_GROUPS_DIGITS: &str = "00003f000019800005a00001b4 00003f000019800005a00001b4";
@@ -46,7 +49,7 @@ pub const TWO_GROUPS_DIGITS: &str = "00003f000019800005a00001b4 00003f0000198000
 /// The group of four zero words, twice: 208 bits.
 pub const TWO_GROUPS: Sample = sample!(
     TWO_GROUPS_DIGITS,
-    [2, 3, 10],
+    (2, 3, Run(10)),
     "acquired,51,2,-,-,-,-,-\n\
      group,26,0,A,none,B:0000,C:0000,D:0000\n\
      group,104,0,A,A:0000,B:0000,C:0000,D:0000\n",
@@ -76,15 +79,15 @@ macro_rules! eight_groups {
 }
 
 /// Eight groups: a guess from bit 190 on meets the run from the first bit at 208.
-pub const EIGHT_GROUPS: Sample = eight_groups!([2, 3, 10]);
+pub const EIGHT_GROUPS: Sample = eight_groups!((2, 3, Run(10)));
 
 /// Eight groups by reach 4: a guess from bit 190 on locks on a wrong phase, and never meets the run from the first bit.
-pub const EIGHT_GROUPS_FAR: Sample = eight_groups!([2, 4, 10]);
+pub const EIGHT_GROUPS_FAR: Sample = eight_groups!((2, 4, Run(10)));
 
 /// Two groups, block 1 of the second damaged: by a loss of 1 the lock is lost there, and acquired again.
 pub const A_LOSS: Sample = sample!(
     "00003f000019800005a00001b4 000037400019800005a00001b4",
-    [2, 3, 1],
+    (2, 3, Run(1)),
     "acquired,51,2,-,-,-,-,-\n\
      group,26,0,A,none,B:0000,C:0000,D:0000\n\
      group,104,-,?,lost,none,none,none\n\
@@ -94,10 +97,24 @@ pub const A_LOSS: Sample = sample!(
     6 0 0 0 0 0 1 0 3 0 2 1
 );
 
+/// Two groups, blocks 1 and 3 of the second damaged: where two of three bad blocks lose the lock, it is lost at the second of
+/// them, and acquired again by block 4.
+pub const A_LOSS_BY_SHARE: Sample = sample!(
+    "00003f000019800005a00001b4 000037400019800005240001b4",
+    (2, 3, Share { bad: 2, of: 3 }),
+    "acquired,51,2,-,-,-,-,-\n\
+     group,26,0,A,none,B:0000,C:0000,D:0000\n\
+     group,104,0,A,lost,B:0000,lost,none\n\
+     lost,181,-,-,-,-,-,-\n\
+     acquired,207,4,-,-,-,-,-\n\
+     group,182,-,?,none,none,none,D:0000\n",
+    5 0 0 0 0 0 2 0 3 0 2 1
+);
+
 /// One group, block 4 damaged by a burst of five bits.
 pub const A_BURST: Sample = sample!(
     "00003f000019800005a00001a5",
-    [5, 3, 10],
+    (5, 3, Run(10)),
     "acquired,51,2,-,-,-,-,-\n\
      group,26,0,A,none,B:0000,C:0000,D:0000~0000011\n",
     2 0 0 0 0 1 0 2 1 0 1 0
@@ -140,8 +157,7 @@ pub enum Pieces<'a> {
 pub struct Crew<'a> {
     /// The bits of the recording, if that isn't all.
     pub bits: Option<u64>,
-    /// Burst, reach and loss.
-    pub rules: [u32; 3],
+    pub rules: Rules,
     pub workers: u32,
     pub pieces: Pieces<'a>,
 }
@@ -178,7 +194,7 @@ impl Crew<'_> {
     }
 
     fn settings(&self, alloc: Global) -> Result<Settings, AllocError> {
-        let [burst, reach, loss] = self.rules;
+        let (burst, reach, loss) = self.rules;
         let cuts = match self.pieces {
             Pieces::Even(pieces) => Cuts::Even(pieces),
             Pieces::At(places) => Cuts::At(places.to_vec(alloc)?),
@@ -186,7 +202,7 @@ impl Crew<'_> {
         Ok(Settings {
             burst,
             reach,
-            loss: Loss::Run(loss),
+            loss,
             workers: self.workers,
             cuts,
         })

@@ -15,6 +15,6 @@ module _ (items : List Item) (n : ℕ) where
   pub totals_rest : TotalsJoin → IsRest (totals_of (slice_range items 0 n)) (totals_of items) (totals_of (drop n items))
   totals_rest join =
       let rest : IsRest (totals_of (take n items)) (totals_of items) (totals_of (drop n items)) =
-          subst (λ (whole : List Item). IsRest (totals_of (take n items)) (totals_of whole) (totals_of (drop n items))) (take-append-drop n items)
-          (join (take n items) (drop n items)) in
+      subst (λ (whole : List Item). IsRest (totals_of (take n items)) (totals_of whole) (totals_of (drop n items))) (take-append-drop n items)
+      (join (take n items) (drop n items)) in
       subst (λ (part : List Item). IsRest (totals_of part) (totals_of items) (totals_of (drop n items))) (sym first_items) rest

@@ -50,12 +50,7 @@ pub fn last_of(items: &Items) -> Option<Item>
 }
 
 /// All of one list, and what stands in another behind its first items.
-pub fn joined(
-    alloc: Global,
-    one: &Items,
-    other: &Items,
-    from: usize,
-) -> Result<Items, AllocError>
+pub fn joined(alloc: Global, one: &Items, other: &Items, from: usize) -> Result<Items, AllocError>
     requires { from ≤ length other.now }
     ensures { IfOk result (λ items. items ≡ one.now ++ drop from other.now) }
 {
@@ -114,5 +109,7 @@ pub fn totals_of_three(items: &Items) -> Totals
     requires { length items.now ≤ 2 ^ 40 }
     ensures { result ≡ plus (plus (totals_of items.now) (totals_of items.now)) (totals_of items.now) }
 {
-    Totals::of(items).plus(Totals::of(items)).plus(Totals::of(items))
+    Totals::of(items)
+        .plus(Totals::of(items))
+        .plus(Totals::of(items))
 }

@@ -8,9 +8,7 @@ ghost use Rattle.rds_stream.specs.ValidWindows.{NoneValid};
 ghost use Rattle.rds_stream.specs.declared.error.StreamError.TheVariants.{BitsPastBytes, OutOfMemory, TooLong};
 
 use rds_code::{Offset, offset_of, rem26};
-use rds_stream::{
-    Counted, FIRST_WINDOW, Recording, StreamError, Tape, ValidWindows, planes, scan,
-};
+use rds_stream::{Counted, FIRST_WINDOW, Recording, StreamError, Tape, ValidWindows, planes, scan};
 use std::alloc::Global;
 use std::snapshot::Snapshot;
 

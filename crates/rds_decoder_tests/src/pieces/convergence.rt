@@ -38,12 +38,7 @@ fn eight_groups(alloc: Global, loss: u32) -> Result<Sample, Fail> {
 }
 
 /// The guess of the second of two pieces, cut there.
-fn guess_from<R: Abort>(
-    rt: &R,
-    alloc: Global,
-    sample: &Sample,
-    from: u64,
-) -> Result<PieceRun, Fail>
+fn guess_from<R: Abort>(rt: &R, alloc: Global, sample: &Sample, from: u64) -> Result<PieceRun, Fail>
     ensures source { IfOk result (λ guess. guess.source ≡ sample.now.recording) }
     ensures rules { IfOk result (λ guess. guess.rules ≡ sample.now.rules) }
 {
@@ -120,7 +115,9 @@ fn states_met<R: Abort>(
 }
 
 #[test]
-fn all_183_states_meet_within_260_bits_where_one_bad_block_loses(rt: HostRuntime) -> Result<(), Fail> {
+fn all_183_states_meet_within_260_bits_where_one_bad_block_loses(
+    rt: HostRuntime,
+) -> Result<(), Fail> {
     let sample = eight_groups(rt.alloc(), 1)?;
     for from in 104..=207u64 {
         let met = states_met(&rt, rt.alloc(), &sample, from, &NONE_BAD, 260)?;
@@ -157,7 +154,9 @@ fn a_lock_on_a_false_phase_is_lost_and_meets_after_a_group(rt: HostRuntime) -> R
 }
 
 #[test]
-fn a_lock_that_its_first_bad_block_loses_meets_while_both_search(rt: HostRuntime) -> Result<(), Fail> {
+fn a_lock_that_its_first_bad_block_loses_meets_while_both_search(
+    rt: HostRuntime,
+) -> Result<(), Fail> {
     let sample = eight_groups(rt.alloc(), 1)?;
     let guess = guess_from(&rt, rt.alloc(), &sample, 190)?;
     let (met, reads) = met_from(rt.alloc(), &sample, &guess, ELSEWHERE)?;

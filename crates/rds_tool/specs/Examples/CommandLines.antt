@@ -30,8 +30,11 @@ unfolding walked
 scan_of_bits = refl
 
 pub list : asked_by (codes "rds" ∷ codes "list" ∷ [])
-    ≡ Some (codes "list", Some (codes "false") ∷ None ∷ Some (codes "2") ∷ Some (codes "3") ∷ Some (codes "10")
-    ∷ Some (codes "16") ∷ Some (codes "4") ∷ [])
+    ≡ Some (
+      codes "list",
+      Some (codes "false") ∷ None ∷ Some (codes "2") ∷ Some (codes "3") ∷ Some (codes "10")
+          ∷ Some (codes "16") ∷ Some (codes "4") ∷ [],
+    )
 unfolding walked
 list = refl
 
@@ -43,8 +46,11 @@ each_option =
     ∷ codes "--burst" ∷ codes "1" ∷ codes "--bits=0" ∷ codes "--hex" ∷ []
 
 pub totals : asked_by each_option
-    ≡ Some (codes "totals", Some (codes "true") ∷ Some (codes "0") ∷ Some (codes "1") ∷ Some (codes "4")
-    ∷ Some (codes "5") ∷ Some (codes "6") ∷ Some (codes "7") ∷ [])
+    ≡ Some (
+      codes "totals",
+      Some (codes "true") ∷ Some (codes "0") ∷ Some (codes "1") ∷ Some (codes "4")
+          ∷ Some (codes "5") ∷ Some (codes "6") ∷ Some (codes "7") ∷ [],
+    )
 unfolding walked
 totals = refl
 

@@ -13,7 +13,7 @@ loop-j-preserved g c =
     let run_of : ℕ → RunOf = g.P.Parts.run_of c.args.parts.now in
     let drawn = rw c.in-Some.is at c.draw-number.ensures.number in
     let seat_is : c.finish-seat.result ≡ seat_after (seat_after old (Draw (Some j))) Finish =
-        c.finish-seat.ensures.event ∙ ap (λ (s : SeatValue). seat_after s Finish) drawn.3 in
+    c.finish-seat.ensures.event ∙ ap (λ (s : SeatValue). seat_after s Finish) drawn.3 in
     record {
       own = c.finish-seat.ensures.own;
       empty = ap (λ (s : SeatValue). s.view.held) seat_is;
