@@ -28,7 +28,8 @@ test: toolchain
 	$(RT) ci
 	tests/program.sh crates/rds/out/rds
 	tests/listings.sh crates/rds/out/rds
-	tests/refusals.sh crates/rds/out/rds
+	tests/differential.sh crates/rds/out/rds crates/rds_plain/out/rds_plain
+	tests/refusals.sh crates/rds/out/rds crates/rds_parts/out/rds_parts
 	tests/work.sh crates/rds/out/rds
 	tests/recipes.sh crates/rds/out/rds
 	crates/rds_bench/out/rds_bench --check

@@ -3,7 +3,9 @@
 #   examples/make_day.sh day.bin [HOURS [SEED]]
 # HOURS (3 where it is not given) of a station: groups 0A and 2A, encoded by `rds encode`. Of every 1,000 bits one is turned,
 # on average. From a third of the time on for a twelfth the station is off the air: there the bits are noise. At half of
-# the time one bit is lost, and at two thirds the programme identification goes from D393 to D312. Prints what it did.
+# the time one bit is lost, and at two thirds the programme identification goes from D393 to D312. After three quarters, four
+# fifths and 17 twentieths of the time samples were dropped: 5, 130 and 2,375 bits mean nothing, and FILE.dropped logs them as lines
+# `start length`. Prints what it did.
 # RDS names the program (rds). Needs perl.
 [ $# -ge 1 ] || { echo 'usage: make_day.sh FILE [HOURS [SEED]]' >&2; exit 2; }
 exec perl -e '
@@ -45,9 +47,19 @@ exec perl -e '
   my $slip = int(length($bits) / 2);
   substr($bits, $slip, 1) = "";
 
+  my $dropped = 0;
+  open my $log, ">", "$file.dropped" or die "make_day: $file.dropped cannot be written\n";
+  for ([0.75, 5], [0.8, 130], [0.85, 2375]) {
+    my ($start, $length) = (int(length($bits) * $_->[0]), $_->[1]);
+    substr($bits, $start, $length) = join "", map { random() < 0.5 ? 0 : 1 } 1 .. $length;
+    print $log "$start $length\n";
+    $dropped += $length;
+  }
+  close $log or die "make_day: $file.dropped cannot be written\n";
+
   open my $out, ">:raw", $file or die "make_day: $file cannot be written\n";
   print $out pack "B*", $bits;
   close $out or die "make_day: $file cannot be written\n";
-  printf "bits %d\nturned %d\noff_air_s %.0f %.0f\nslip_s %.0f\nprogramme_s %.0f\n", length $bits, $turned,
-    $off / 1187.5, $on / 1187.5, $slip / 1187.5, int($groups * 2 / 3) * 104 / 1187.5;
+  printf "bits %d\nturned %d\noff_air_s %.0f %.0f\nslip_s %.0f\nprogramme_s %.0f\ndropped %d\n", length $bits, $turned,
+    $off / 1187.5, $on / 1187.5, $slip / 1187.5, int($groups * 2 / 3) * 104 / 1187.5, $dropped;
 ' "$1" "${2:-3}" "${3:-1}"

@@ -71,37 +71,60 @@ first="${acquired}group,26,0,A,none,B:0000,C:0000,D:0000\n"
 
 check 'help of the program' 0 '*Usage: rds <COMMAND>' '' '' --help
 check 'help lists the refusals' 0 '*13 TooManyTurns' '' '' --help
+check 'help lists the last refusal' 0 '*16 BadGaps' '' '' --help
 check 'the command help' 0 '*Commands:' '' '' help
 for command in scan list totals encode; do
     check "help of $command" 0 "*Usage: rds $command" '' '' "$command" --help
     check "help on $command" 0 '*--hex' '' '' help "$command"
 done
 # Each option stands beside its own meaning, and each command is told of.
-while IFS= read -r line; do
-    check "help of list on ${line%% *}" 0 "*$line" '' '' list --help
-    check "help of totals on ${line%% *}" 0 "*$line" '' '' help totals
-done <<'END'
---hex          Read hexadecimal digits of either case; spaces, tabs and line ends don't count
---bits <N>     Length of the recording in bits, 0 to 68719476736 [default: all of the input]
---burst <N>    Correct bursts of errors of up to N bits, 0 to 5 [default: 2]
---reach <N>    Acquire where a block that fits lies up to N blocks back, 1 to 8 [default: 3]
---loss <N>     Lose synchronism after N blocks in a row that aren't valid, 1 to 64 [default: 10]
---share <N>    Lose synchronism where N of the last blocks aren't valid, 1 to 64, in place of --loss
---of <N>       Look at the last N blocks for --share, at most 64 [default: 64]
---pieces <N>   Cut the recording into up to N pieces, 1 or more; the output stays the same [default: 16]
---workers <N>  Decode the pieces by up to N threads, 1 to 256; the output stays the same [default: 4]
+cat >"$work/options" <<'END'
+Options:
+      --hex          Read hexadecimal digits of either case; spaces, tabs and
+                     line ends don't count
+      --bits <N>     Length of the recording in bits, 0 to 68719476736
+                     [default: all of the input]
+      --gaps <TEXT>  Places whose bits mean nothing, as FROM-TO,FROM-TO and so
+                     on, in order; TO is the first place after a gap
+      --burst <N>    Correct bursts of errors of up to N bits,
+                     0 to 5 [default: 2]
+      --reach <N>    Acquire where a block that fits lies up to N blocks back,
+                     1 to 8 [default: 3]
+      --loss <N>     Lose synchronism after N blocks in a row that aren't
+                     valid, 1 to 64 [default: 10]
+      --share <N>    Lose synchronism where N of the last blocks aren't valid,
+                     1 to 64, in place of --loss
+      --of <N>       Look at the last N blocks for --share,
+                     at most 64 [default: 64]
+      --pieces <N>   Cut the recording into up to N pieces, 1 or more; the
+                     output stays the same [default: 16]
+      --workers <N>  Decode the pieces by up to N threads, 1 to 256; the
+                     output stays the same [default: 4]
+  -h, --help         Print help
 END
-check 'help of scan on --bits' 0 '*--bits <N>  Length of the recording in bits' '' '' help scan
+for words in 'list --help' 'help totals'; do
+    "$rds" $words 2>"$work/err" </dev/null | sed -n '/^Options:$/,/^$/p' | sed '/^$/d' >"$work/out"
+    judge "options in the help by $words" 0 "${PIPESTATUS[0]}" "$(cat "$work/options")\n" ''
+done
+check 'help of scan on --bits' 0 '*--bits <N>     Length of the recording in bits' '' '' help scan
+check 'help of scan on --gaps' 0 '*--gaps <TEXT>  Places whose bits mean nothing' '' '' help scan
 check 'help of encode on --hex' 0 '*--hex   Write each group as a line of 26 lower-case' '' '' encode --help
-help_begins 'Decodes and encodes Radio Data System bits, from standard input to standard output'
+help_begins 'Decodes and encodes Radio Data System bits, standard input to standard output'
 help_begins 'List each place at which 26 bits have an offset word as remainder' scan
-help_begins 'List acquisitions, groups and losses of synchronism, and then the totals' list
-help_begins 'Count valid, corrected and lost blocks, groups and losses of synchronism' totals
+help_begins 'List acquisitions, groups and losses of synchronism, then the totals' list
+help_begins 'Count valid, corrected and lost blocks, groups, losses of synchronism' totals
 help_begins 'Encode groups that are given as lines of hexadecimal words' encode
 check 'help of scan on its rows' 0 "*Writes a row 'PLACE,OFFSET' for each 26 bits in a row" '' '' scan --help
-check 'help of list on its rows' 0 '*Writes rows of eight fields, by rising place' '' '' list --help
+check 'help of list on its rows' 0 '*Writes rows of eight fields, in the order of the bit that completes' '' '' list --help
 check 'help of totals on its rows' 0 "*Writes twelve rows 'total,NAME,VALUE'" '' '' totals --help
 check 'help of encode on its lines' 0 '*Each line has 16 hexadecimal digits of either case' '' '' encode --help
+for command in '' scan list totals encode; do
+    "$rds" $command --help 2>"$work/err" </dev/null | grep -E '.{81}' >"$work/out"
+    judge "help of ${command:-rds} fits 80 columns" 0 "${PIPESTATUS[0]}" '' ''
+done
+check 'version' 0 'rds 0.2\n' '' '' --version
+check 'version by its letter' 0 'rds 0.2\n' '' '' -V
+check 'version of a command' 2 '' "*unexpected argument '--version'" '' list --version
 check 'no command' 2 '' '*Usage: rds <COMMAND>' ''
 check 'a command is asked for' 2 '' '*requires a subcommand' ''
 check 'no such command' 2 '' '*tune' '' tune
@@ -119,6 +142,15 @@ check 'a reach that is no number' 2 '' '*three' '' totals --reach three
 check 'rules for a scan' 2 '' '*--burst' '' scan --burst 2
 check 'workers for a scan' 2 '' '*--workers' '' scan --workers 2
 check 'bits for encode' 2 '' '*--bits' '' encode --bits 104
+check 'gaps for encode' 2 '' '*--gaps' '' encode --gaps 1-2
+# None of these spells gaps: the words are no command line, though the parser takes them.
+for gaps in '' 5 a-b 5- 1-2, ,1-2 1-2,,3-4 1-2-3 +1-2 '1-2, 3-4' '1-2;3-4' 0-1000000000000 0000000000000-1; do
+    check "gaps '$gaps'" 2 '' 'bad --gaps\n' '' scan --gaps "$gaps"
+    check "gaps '$gaps' of a list" 2 '' 'bad --gaps\n' '' list --hex --gaps="$gaps" --burst 6
+done
+check 'a gap that begins with a hyphen' 2 '' '*unexpected argument' '' scan --gaps -5
+check 'a fault of the parser before bad gaps' 2 '' '*--bits' '' scan --gaps 5 --bits ten
+check 'gaps twice' 2 '' '*--gaps' '' scan --gaps 1-2 --gaps 3-4
 check 'an argument that is not UTF-8' 2 '' 'error: an argument is not valid UTF-8\n' '' $'\xff'
 
 # ---- scan
@@ -130,6 +162,9 @@ check 'scan of two groups' 0 "${rows}123,B\n129,A\n155,B\n181,C\n200,B\n207,D\n"
 check 'scan of 25 bits' 0 '' '' "$zero" scan --hex --bits 25
 check 'scan of 104 bits of more' 0 "$rows" '' "$zero$zero" scan --bits 104 --hex
 check 'scan of nothing' 0 '' '' '' scan
+check 'scan of two groups with a gap' 0 "${rows}155,B\n181,C\n200,B\n207,D\n" '' "$zero$zero" scan --hex --gaps 104-105
+check 'scan of a gap from end to end' 0 '' '' "$zero" scan --hex --gaps 0-104
+check 'scan of gaps that meet' 0 '103,D\n' '' "$zero" scan --hex --gaps 10-20,20-78
 
 # ---- list and totals
 
@@ -205,6 +240,21 @@ for crew in '1 1' '2 2' '208 256' '4294967295 3'; do
         "${first}group,104,0,A,A:0000,B:0000,C:0000,D:0000\n$(totals 7 0 0 0 0 0 0 0 2 1 1 0)" '' \
         "$zero$zero" list --hex --pieces "${crew% *}" --workers "${crew#* }"
 done
+with_gap="${first}group,104,0,A,lost,B:0000,C:0000,D:0000\n"
+check 'list of a gap in a block' 0 "$with_gap$(totals 6 0 0 0 0 0 1 0 2 0 1 0)" '' "$zero$zero" list --hex --gaps 104-105
+for crew in '1 1' '2 2' '208 1' '208 256'; do
+    check "list of a gap by pieces and workers $crew" 0 "$with_gap$(totals 6 0 0 0 0 0 1 0 2 0 1 0)" '' "$zero$zero" \
+        list --hex --gaps=104-105 --pieces "${crew% *}" --workers "${crew#* }"
+done
+check 'totals of a gap in a block' 0 "$(totals 6 0 0 0 0 0 1 0 2 0 1 0)" '' "$zero$zero" totals --hex --gaps 000104-000105
+check 'list of a gap before the acquisition' 0 \
+    "acquired,77,3,-,-,-,-,-\ngroup,52,-,A,none,none,C:0000,D:0000\n$(totals 2 0 0 0 0 0 0 0 1 0 1 0)" '' \
+    "$zero" list --hex --gaps 40-41
+check 'list of a gap from end to end' 0 "$(totals 0 0 0 0 0 0 0 0 0 0 0 0)" '' "$zero" list --hex --gaps 0-104
+# a damaged block that touches a gap is not corrected
+check 'list of a gap in a damaged block' 0 \
+    "${acquired}group,26,0,A,none,B:0000,lost,none\n$(totals 1 0 0 0 0 0 1 0 1 0 1 0)" '' \
+    00003f000019800205a0 list --hex --bits 78 --gaps 77-78
 check 'totals alone' 0 "$(totals 2 0 0 0 0 1 0 2 1 0 1 0)" '' 00003f000019800005a00001a5 totals --hex --burst 5
 
 # ---- encode
@@ -238,6 +288,15 @@ check 'as many bits as can be asked for' 1 '' 'refused 5 TooLong\n' '' scan --bi
 check 'the greatest loss, a sign and a setting of 0' 1 '' 'refused 3 LossRange\n' '' \
     totals --hex --loss=4294967295 --burst 0 --reach +7
 check 'the most pieces and no worker' 1 '' 'refused 7 CrewRange\n' '' list --hex --pieces 4294967295 --workers 0
+for gaps in 5-5 10-20,15-30 100-105 6-5 20-30,10-20 0-999999999999; do
+    check "a recording without the gaps $gaps" 1 '' 'refused 16 BadGaps\n' "$zero" scan --hex --gaps "$gaps"
+    check "a list without the gaps $gaps" 1 '' 'refused 16 BadGaps\n' "$zero" list --hex --gaps "$gaps"
+done
+check 'gaps of nothing' 1 '' 'refused 16 BadGaps\n' '' totals --gaps 0-1
+check 'settings before gaps' 1 '' 'refused 6 BadCutting\n' "$zero" list --hex --gaps 5-5 --pieces 0
+check 'text before gaps' 1 '' 'refused 11 HexText\n' '000' scan --hex --gaps 5-5
+check 'length before gaps' 1 '' 'refused 5 TooLong\n' '' scan --bits 68719476737 --gaps 5-5
+check 'bits before gaps' 1 '' 'refused 4 BitsPastBytes\n' '1234567' list --bits 57 --gaps 5-5
 check 'an odd number of digits' 1 '' 'refused 11 HexText\n' '000' list --hex
 check 'a strange byte' 1 '' 'refused 11 HexText\n' '0g' scan --hex
 check 'fifteen digits' 1 '' 'refused 12 GroupText\n' '1234 2540 5244 532' encode
@@ -261,6 +320,9 @@ fi
 : >"$work/out"
 "$rds" --help >&- 2>"$work/err"
 judge 'help into closed output' 0 $? '' ''
+: >"$work/out"
+"$rds" --version >&- 2>"$work/err"
+judge 'version into closed output' 0 $? '' ''
 # more than a pipe holds, so that the program still writes when `head` has left
 station=$(dirname "$0")/../examples/station.bin
 { cat "$station" "$station" "$station" | "$rds" list 2>"$work/err"; echo $? >"$work/status"; } | head -n 1 >"$work/out"

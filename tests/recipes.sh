@@ -99,10 +99,10 @@ if has perl xxd; then
     "$("$program" totals < "$work/encoded" | grep complete)"
 fi
 
-# ---- a day of a station: three hours with an outage, a slip and a change of programme
+# ---- a day of a station: three hours with an outage, a slip, a change of programme and dropped samples
 
 if has perl awk; then
-  same 'what was made' 'bits 12824967 turned 12846 off_air_s 3600 4500 slip_s 5400 programme_s 7200' \
+  same 'what was made' 'bits 12824967 turned 12846 off_air_s 3600 4500 slip_s 5400 programme_s 7200 dropped 2510' \
     "$(examples/make_day.sh "$work/day.bin" | tr '\n' ' ' | sed 's/ $//')"
   "$program" list < "$work/day.bin" > "$work/day.csv"
   length=$(($(wc -c < "$work/day.bin") * 8))
@@ -111,8 +111,8 @@ if has perl awk; then
 1800,3600,82212,80109,2078,25,0,2.56
 3600,5400,82211,40036,1077,187,40911,51.30
 5400,7200,82212,80123,2058,31,0,2.54
-7200,9000,82211,80098,2094,19,0,2.57
-9000,10800,82211,80052,2136,22,1,2.63' "$(examples/block_errors.sh "$length" 1800 < "$work/day.csv")"
+7200,9000,82211,80091,2095,25,0,2.58
+9000,10800,82211,79965,2130,31,85,2.73' "$(examples/block_errors.sh "$length" 1800 < "$work/day.csv")"
   same 'their sums are the totals' "$(awk -F, '$2 == "valid" { valid = $3 } $2 ~ /^burst/ { corrected += $3 } $2 == "lost" { lost = $3 }
       END { print valid, corrected, lost }' "$work/day.csv")" \
     "$(examples/block_errors.sh "$length" 1800 < "$work/day.csv" | awk -F, 'NR > 1 { valid += $4; corrected += $5; lost += $6 }
@@ -125,7 +125,7 @@ if has perl awk; then
   same 'the programmes' 'begin_s,end_s,programme,groups
 0,3600,D393,40055
 4500,7200,D393,30015
-7200,10800,D312,40026' "$(examples/programmes.sh < "$work/day.csv")"
+7200,10800,D312,40004' "$(examples/programmes.sh < "$work/day.csv")"
   same 'which blocks were corrected' 'place,type,version,block,offset,word,burst,span
 624,0,A,4,D,4455,0000040,1
 832,0,A,4,D,5041,0100000,1' "$(examples/corrected_blocks.sh < "$work/day.csv" | sed -n 1,3p)"
@@ -133,6 +133,30 @@ if has perl awk; then
     "$(examples/corrected_blocks.sh < "$work/day.csv" | tail -n +2 | wc -l | tr -d ' ')"
   same 'a span of five' '26,0,A,4,D,0000,0000011,5' \
     "$(echo 00003f000019800005a00001a5 | "$program" list --hex --burst 5 | examples/corrected_blocks.sh | sed -n 2p)"
+
+  same 'dropped samples as gaps' --gaps=9618725-9618730,10259973-10260103,10901221-10903596 \
+    "$(examples/gaps.sh < "$work/day.bin.dropped")"
+  "$program" list $(examples/gaps.sh < "$work/day.bin.dropped") < "$work/day.bin" > "$work/gaps.csv"
+  # read_in_gaps LISTING: how many blocks that touch a gap are neither missing nor lost
+  read_in_gaps() {
+    awk -v log_of_gaps="$work/day.bin.dropped" -F, '
+      BEGIN { while ((getline line < log_of_gaps) > 0) { split(line, gap, " "); from[++n] = gap[1]; to[n] = gap[1] + gap[2] } }
+      $1 == "group" {
+        first = 0
+        for (k = 5; k <= 8; k++) {
+          if ($k != "none" && !first) first = k
+          if ($k == "none" || $k == "lost") continue
+          begin = $2 + 26 * (k - first)
+          for (i = 1; i <= n; i++) if (begin < to[i] && from[i] < begin + 26) read++
+        }
+      }
+      END { print read + 0 }' "$1"
+  }
+  same 'blocks read where samples were dropped' 2 "$(read_in_gaps "$work/day.csv")"
+  same 'none where they are marked' 0 "$(read_in_gaps "$work/gaps.csv")"
+  same 'a log in any order' --gaps=5-6,104-115,120-130 "$(printf '120 10\n104 1\n\n110 5\n5 1\n105 7\n7 0\n' | examples/gaps.sh)"
+  same 'nothing dropped' '' "$(examples/gaps.sh < /dev/null)"
+  fails 'a log of something else' 'gaps: "104 + 1" is not a start and a length' examples/gaps.sh <<< '104 + 1'
 
   if has gnuplot; then
     examples/block_errors.sh "$length" 60 < "$work/day.csv" > "$work/errors.csv"

@@ -1,15 +1,18 @@
 #!/usr/bin/env bash
-# Refused calls: tests/refusals.sh PATH-TO-RDS
+# Refused calls: tests/refusals.sh PATH-TO-RDS PATH-TO-RDS_PARTS
 #
-# Each allocation, read, write and start of a thread of some jobs is refused in turn, and then that one and all after it.
-# The answer has to be the job's own, or the refusal's with nothing written (with a prefix of the text, where a write is
-# refused), and never another. Where a thread for rows is not started, the rows are made without it, and the answer is the
-# job's own. The calls are refused by a small library, which the C compiler makes of tests/refuse.c.
+# Each allocation, read, write and start of a thread of some jobs is refused in turn, and then that one and all after
+# it. The answer has to be the job's own, or the refusal's with nothing written (with a prefix of the text, where a write
+# is refused), and never another. Where a thread for rows is not started, the rows are made without it, and the answer is
+# the job's own. Each allocation of rds_parts is refused too, which makes calls of the libraries by themselves, and those
+# that are refused once more. The calls are refused by a small library, which the C compiler makes of tests/refuse.c.
 # The last line is 'N passed, M failed', and the exit status says whether all passed.
 
 set -u
 
-rds=$(realpath "${1:?"usage: tests/refusals.sh PATH-TO-RDS"}")
+usage='usage: tests/refusals.sh PATH-TO-RDS PATH-TO-RDS_PARTS'
+program=$(realpath "${1:?$usage}")
+parts=$(realpath "${2:?$usage}")
 here=$(dirname "$0")
 work=$(mktemp -d)
 trap 'rm -rf "$work"' EXIT
@@ -25,7 +28,7 @@ run() {
     local call=$1 at=$2
     shift 2
     REFUSE_CALL=$call REFUSE_AT=$at REFUSE_COUNT="$work/count" LD_PRELOAD="$work/refuse.so" \
-        "$rds" "$@" <"$work/in" >"$work/out" 2>"$work/err"
+        "$program" "$@" <"$work/in" >"$work/out" 2>"$work/err"
 }
 
 # is_refusal NAME..: whether the last run, whose status is given first, answered with one of these refusals
@@ -51,8 +54,8 @@ calls_of() {
     read -r count _ <"$work/count" && echo "$count"
 }
 
-# judge CALL STATUS AT: whether the last run answered as it may where call AT of that kind is refused; the threads that are
-# started first are those of the crew
+# judge CALL STATUS AT: whether the last run answered as it may where call AT of that kind is refused; the threads that
+# are started first are those of the crew
 judge() {
     case $1 in
         alloc) is_whole "$2" || { is_refusal "$2" '8 OutOfMemory' '14 NoWorker' && wrote_nothing; } ;;
@@ -77,7 +80,7 @@ each() {
                 passed=$((passed + 1))
             else
                 failed=$((failed + 1))
-                echo "FAILED: $* with $call $at of $count refused${on:+, and all after it} (status $status)"
+                echo "FAILED: ${program##*/} $*: $call $at of $count refused${on:+, and all after it} (status $status)"
             fi
         done
     done
@@ -93,7 +96,7 @@ job() {
 
 # all_of WORDS..: refuses each call of this job on the input in the work folder
 all_of() {
-    "$rds" "$@" <"$work/in" >"$work/wanted" || exit 1
+    "$program" "$@" <"$work/in" >"$work/wanted" || exit 1
     # the crew of totals is that of a list, and totals have no rows to be made by threads
     crew=$(calls_of thread "${@/#list/totals}") || exit 1
     rows=$((rows + $(calls_of thread "$@") - crew))
@@ -105,16 +108,34 @@ all_of() {
 
 zero=00003f000019800005a00001b4
 damaged=00003f000019800005a00001b400003f000019800025a00001b4
+two_damaged=00003f000019800005a00001b4000037400019800005240001b4
+zeros() { for _ in $(seq "$1"); do printf %s "$zero"; done; }
 
 job "$zero" scan --hex
 job "$zero" list --hex --pieces 1 --workers 1
 job "$damaged" list --hex --pieces 2 --workers 2
 job "$damaged" totals --hex --pieces 16 --workers 4
+# a group of version B, and a burst of five bits
+job 00003f02002c10000d400001b4 list --hex
+job 00003f000019800005a00001a5 list --hex --burst 5 --pieces 1
+# two groups with a cut between them; two bad blocks of three lose the lock; a block that touches a gap
+job "$(zeros 2)" list --hex --pieces 2 --workers 2
+job "$two_damaged" list --hex --share 2 --of 3 --pieces 2 --workers 2
+job "$(zeros 2)" list --hex --gaps 104-105 --pieces 2 --workers 2
+job "$(zeros 2)" scan --hex --gaps 104-105,110-111
+# three levels of joins by three workers; by reach 4 every second piece begins on a wrong phase, and is never met
+job "$(zeros 8)" list --hex --pieces 8 --workers 3
+job "$(zeros 8)" list --hex --pieces 4 --workers 2 --reach 4
 job '0000 0000 0000 0000\n' encode --hex
+job '1234 2540 5244 5320\n   \n\n0000080000000000' encode
 # rows for three threads
 for _ in 1 2 3 4 5 6 7; do cat "$here/../examples/station.bin"; done >"$work/in"
 all_of list --pieces 2 --workers 3
 rows=$((rows + $(calls_of thread list --pieces 2 --workers 1)))
+
+program=$parts
+"$program" >"$work/wanted" || exit 1
+each alloc
 
 for call in "${!tried[@]}"; do
     if [ "${tried[$call]}" = 0 ]; then

@@ -47,14 +47,15 @@ static void write_number(const char *name, long number)
     }
 }
 
-static void tell(void)
+/* A program that starts no thread ends by exit, which calls destructors. */
+__attribute__((destructor)) static void tell(void)
 {
     refused_call = 0;
     write_number("REFUSE_COUNT", (long)calls);
     write_number("REFUSE_BYTES", (long)bytes);
 }
 
-/* The program ends by this call, which runs no destructors. */
+/* Any other ends by this call, which calls none. */
 void _exit(int status)
 {
     tell();

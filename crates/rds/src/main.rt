@@ -1,7 +1,8 @@
 //! `rds`: recordings of Radio Data System bits from standard input, text to standard output.
 //!
-//! The words of the command line become a job, and the job an exit status: 0 where the text was written or help was
-//! asked for, 2 where the words are no command line, 1 for a refusal, which one line on standard error names.
+//! The words of the command line become a job, and the job an exit status: 0 where the text was written, or help or the
+//! version was asked for, 2 where the words are no command line, 1 for a refusal, which one line on standard error
+//! names.
 #![tactic(auto)]
 
 use rds_tool::{CliFault, FaultKind, FromRead, Job, ToWrite, ToolError, job_of, transcribe};
@@ -66,7 +67,7 @@ fn run<R: Threads + Wait + Sync>(rt: &HostRuntime, crew: &R, job: &Job) -> ExitC
 fn show(rt: &HostRuntime, fault: &CliFault) -> ExitCode {
     let text = fault.text.as_str();
     match fault.kind {
-        FaultKind::Help => {
+        FaultKind::Help | FaultKind::Version => {
             let _ = print!(rt; "{text}");
             ExitCode::SUCCESS
         }

@@ -1,5 +1,6 @@
 //! Sixteen pieces guessed by four workers: shared out beforehand, and drawn from a dealer.
 ghost use Rattle.std.specs.Prelude.{◌≡◌, ◌<◌, ◌≤◌, length};
+ghost use Rattle.rds_stream.specs.Recording.{length_of};
 ghost use Rattle.rds_pieces.specs.Cutting.{IsCutting, pieces_of};
 ghost use Rattle.rds_crew.specs.Seats.{IsFresh};
 
@@ -38,7 +39,7 @@ fn time_both<T: Threads + Sync, W: Work + Sync>(
     work: &W,
     bits: u64,
 ) -> Result<()>
-    requires { IsCutting (length (W.recording work.now)) (W.places work.now) }
+    requires { IsCutting (length_of (W.recording work.now)) (W.places work.now) }
 {
     let mut timing = Timing::new(bits);
 
@@ -53,21 +54,21 @@ fn time_both<T: Threads + Sync, W: Work + Sync>(
 
 /// How many bits the workers guess where worker k has the pieces k, k + 4, k + 8 and so on.
 fn by_shares<T: Threads + Sync, W: Work + Sync>(threads: &T, alloc: Global, work: &W) -> Result<u64>
-    requires { IsCutting (length (W.recording work.now)) (W.places work.now) }
+    requires { IsCutting (length_of (W.recording work.now)) (W.places work.now) }
 {
     let guessed = thread::map_indices(
         threads,
         alloc,
         WORKERS as usize,
         &|worker| -> Result<u64, PieceError>
-            requires { IsCutting (length (W.recording work.now)) (W.places work.now) }
+            requires { IsCutting (length_of (W.recording work.now)) (W.places work.now) }
         { guess_share(alloc, work, worker as u64) },
     )?;
     Ok(total(guessed)?)
 }
 
 fn guess_share<W: Work>(alloc: Global, work: &W, worker: u64) -> Result<u64, PieceError>
-    requires { IsCutting (length (W.recording work.now)) (W.places work.now) }
+    requires { IsCutting (length_of (W.recording work.now)) (W.places work.now) }
 {
     let mut bits = 0u64;
     for j in 0..work.cutting().pieces() {
@@ -80,7 +81,7 @@ fn guess_share<W: Work>(alloc: Global, work: &W, worker: u64) -> Result<u64, Pie
 
 /// How many bits they guess where each draws from one dealer until no piece is left.
 fn by_draws<T: Threads + Sync, W: Work + Sync>(threads: &T, alloc: Global, work: &W) -> Result<u64>
-    requires { IsCutting (length (W.recording work.now)) (W.places work.now) }
+    requires { IsCutting (length_of (W.recording work.now)) (W.places work.now) }
 {
     let pieces = work.cutting().pieces().min(PIECES);
     let (dealer, seats) = Dealer::new(alloc, pieces, WORKERS)?;
@@ -89,7 +90,7 @@ fn by_draws<T: Threads + Sync, W: Work + Sync>(threads: &T, alloc: Global, work:
         threads,
         seats,
         &|seat| -> Result<u64, PieceError>
-            requires fits { IsCutting (length (W.recording work.now)) (W.places work.now) }
+            requires fits { IsCutting (length_of (W.recording work.now)) (W.places work.now) }
             requires pieces { lent.now.name.pieces ≤ pieces_of (W.places work.now) }
             requires new { IsFresh lent.now seat }
         { guess_draws(alloc, work, lent, seat) },
@@ -103,7 +104,7 @@ fn guess_draws<W: Work>(
     dealer: &Dealer,
     seat: Seat,
 ) -> Result<u64, PieceError>
-    requires fits { IsCutting (length (W.recording work.now)) (W.places work.now) }
+    requires fits { IsCutting (length_of (W.recording work.now)) (W.places work.now) }
     requires pieces { dealer.now.name.pieces ≤ pieces_of (W.places work.now) }
     requires new { IsFresh dealer.now seat }
 {
@@ -121,7 +122,7 @@ fn guess_draws<W: Work>(
 
 /// Guesses piece `j`, and drops the run: how many bits it has.
 fn guess<W: Work>(alloc: Global, work: &W, j: u64) -> Result<u64, PieceError>
-    requires fits { IsCutting (length (W.recording work.now)) (W.places work.now) }
+    requires fits { IsCutting (length_of (W.recording work.now)) (W.places work.now) }
     requires piece { j < pieces_of (W.places work.now) }
 {
     let run = work.guess(alloc, j)?;

@@ -6,6 +6,8 @@
 #![tactic(auto)]
 
 mod deals;
+mod gaps;
+mod joins;
 mod remainders;
 mod runs;
 mod sample;
@@ -26,13 +28,16 @@ const USAGE: &str = "usage: rds_bench MEASUREMENT [BITS [SAMPLE]]
   scan       the valid windows: a list, one after the other, place by place, by long division
   remainder  the remainder by tables, and by long division
   run        the report of one decoder, and of sixteen pieces by one thread; the valid windows alone
+  gaps       one decoder, and the valid windows: without gaps, and with one of a bit in a thousand
   deal       sixteen pieces guessed by four workers: shared out beforehand, and drawn from a dealer
+  joins      sixteen guesses made into one report: left to right, and by a tree of one worker and of four
   totals     from bytes to the text of the totals, by one, two and four workers
   list       from bytes to the text of the listing, by one, two and four workers
 
 BITS is the length of the recording that is made up for it, 100000000 where it is not given. SAMPLE is what
-'run', 'deal', 'totals' and 'list' decode: 'station', a station's groups as they were sent, where it is not
-given, 'damaged', with one bit of about 500 turned, 'noise', or 'late', a sixteenth of noise and then a station.
+'run', 'gaps', 'deal', 'joins', 'totals' and 'list' decode: 'station', a station's groups as they were sent, where it
+is not given, 'damaged', with one bit of about 500 turned, 'noise', 'late', a sixteenth of noise and then a station,
+or 'zeros', groups of zero words, in which guesses may lock on a false phase.
 ";
 
 /// The length of a recording where none is given.
@@ -81,7 +86,9 @@ fn measure<T: Threads + Wait + Sync>(rt: &HostRuntime, threads: &T, asked: &Aske
         "scan" => windows::measure(rt, bits),
         "remainder" => remainders::measure(rt, bits),
         "run" => runs::measure(rt, threads, bits, sample),
+        "gaps" => gaps::measure(rt, bits, sample),
         "deal" => deals::measure(rt, threads, bits, sample),
+        "joins" => joins::measure(rt, threads, bits, sample),
         "totals" => transcripts::measure(rt, threads, bits, sample, false),
         "list" => transcripts::measure(rt, threads, bits, sample, true),
         _ => show_usage(rt),

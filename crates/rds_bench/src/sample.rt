@@ -15,6 +15,8 @@ pub enum Sample {
     Noise,
     /// A station that is tuned in late: a sixteenth of noise, then the station's groups.
     Late,
+    /// Groups of zero words, in which a block that is no group's is valid too: a guess may lock on that false phase.
+    Zeros,
 }
 
 impl Sample {
@@ -25,6 +27,7 @@ impl Sample {
             "damaged" => Some(Sample::Damaged),
             "noise" => Some(Sample::Noise),
             "late" => Some(Sample::Late),
+            "zeros" => Some(Sample::Zeros),
             _ => None,
         }
     }
@@ -36,6 +39,7 @@ impl Sample {
             Sample::Damaged => Ok(damaged(station(alloc, bits)?)),
             Sample::Noise => noise(alloc, bits),
             Sample::Late => late(alloc, bits),
+            Sample::Zeros => zeros(alloc, bits),
         }
     }
 
@@ -71,21 +75,30 @@ fn station(alloc: Global, bits: u64) -> Result<Vec<u8>, AllocError> {
     let mut bytes = Vec::new(alloc);
     for group in 0..bits / 104 {
         let low = (group & 0xFFFF) as u16;
-        let [first, second, third, fourth] = encode_group([
-            0xD393,
-            low & 0xF7FF,
-            low ^ 0x5A5A,
-            low,
-        ]);
-        let packed = (first as u128) << 78
-            | (second as u128) << 52
-            | (third as u128) << 26
-            | fourth as u128;
-        for k in 0..13u32 {
-            bytes.push((packed >> (96 - 8 * k) & 255) as u8)?;
-        }
+        push_group(&mut bytes, [0xD393, low & 0xF7FF, low ^ 0x5A5A, low])?;
     }
     Ok(bytes)
+}
+
+fn zeros(alloc: Global, bits: u64) -> Result<Vec<u8>, AllocError> {
+    let mut bytes = Vec::new(alloc);
+    for _ in 0..bits / 104 {
+        push_group(&mut bytes, [0; 4])?;
+    }
+    Ok(bytes)
+}
+
+/// Appends the group of these words, thirteen bytes.
+fn push_group(bytes: &mut Vec<u8>, words: [u16; 4]) -> Result<(), AllocError> {
+    let [first, second, third, fourth] = encode_group(words);
+    let packed = (first as u128) << 78
+        | (second as u128) << 52
+        | (third as u128) << 26
+        | fourth as u128;
+    for k in 0..13u32 {
+        bytes.push((packed >> (96 - 8 * k) & 255) as u8)?;
+    }
+    Ok(())
 }
 
 fn late(alloc: Global, bits: u64) -> Result<Vec<u8>, AllocError> {

@@ -9,14 +9,16 @@ use std::thread::Threads;
 const BITS: u64 = 8_000_000;
 
 /// How often a measurement may lose a ratio before it has failed: another program may disturb one.
-const ATTEMPTS: u32 = 3;
+const ATTEMPTS: u32 = 8;
 
 /// The measurements, each with its sample.
-const MEASURED: [(&str, Sample); 7] = [
+const MEASURED: [(&str, Sample); 9] = [
     ("scan", Sample::Noise),
     ("remainder", Sample::Noise),
     ("run", Sample::Station),
     ("run", Sample::Noise),
+    ("gaps", Sample::Station),
+    ("gaps", Sample::Noise),
     ("totals", Sample::Station),
     ("totals", Sample::Noise),
     ("list", Sample::Station),

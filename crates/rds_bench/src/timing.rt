@@ -13,7 +13,7 @@ struct Bound {
     most: u128,
 }
 
-const BOUNDS: [Bound; 5] = [
+const BOUNDS: [Bound; 7] = [
     // The scan goes by planes, and not place by place.
     Bound {
         form: "by long division",
@@ -31,6 +31,17 @@ const BOUNDS: [Bound; 5] = [
         form: "sixteen pieces",
         least: 0,
         most: 340,
+    },
+    // A place costs no more where there are many gaps: each is looked for once.
+    Bound {
+        form: "over many gaps",
+        least: 0,
+        most: 300,
+    },
+    Bound {
+        form: "outside many gaps",
+        least: 0,
+        most: 300,
     },
     // Workers share the work out, and each does its own alone: on one processor they take as long as one.
     Bound {

@@ -28,7 +28,7 @@ fn time_crews<T: Threads + Wait + Sync>(
 ) -> Result<()> {
     let mut timing = Timing::new((bytes.len() as u64).saturating_mul(8));
     for (workers, form) in [(1, "one worker"), (2, "two workers"), (4, "four workers")] {
-        let job = job_of(workers, listing);
+        let job = job_of(rt.alloc(), workers, listing);
         let start = Instant::now(rt)?;
         let written = written_by(threads, rt.alloc(), bytes, &job)?;
         timing.show(rt, form, start, written)?;
@@ -49,10 +49,11 @@ fn written_by<T: Threads + Wait + Sync>(
     Ok(writer.into_inner().len() as u64)
 }
 
-fn job_of(workers: u32, listing: bool) -> Job {
+fn job_of(alloc: Global, workers: u32, listing: bool) -> Job {
     let input = Input {
         hex: false,
         bits: None,
+        gaps: Vec::new(alloc),
     };
     let settings = Settings {
         burst: 2,

@@ -5,7 +5,7 @@ use Rattle.std.specs.Int.Count.{count_leading_zeros, count_trailing_zeros}
 use Rattle.std.proofs.lemmas.Bool.{eqb-true}
 use Rattle.std.proofs.lemmas.Nat.{pow_pos}
 use Rattle.rds_code.specs.Bursts.{IsBurst, span}
-use Rattle.rds_code.specs.BurstShape.{shape_of, shift_of, IsShape}
+use Rattle.rds_code.specs.Inside.BurstShape.{shape_of, shift_of, IsShape}
 use Rattle.rds_code.proofs.Membership.{all_below, passes_below}
 use Rattle.rds_code.proofs.BurstLemmas.{IsSmallPattern, small_pattern}
 

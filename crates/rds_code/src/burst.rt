@@ -21,7 +21,7 @@ pub struct Burst {
 
 impl Model for Burst {
     ghost use Rattle.std.specs.Prelude.{ℕ, ◌*◌, ◌^◌};
-    ghost use Rattle.rds_code.specs.BurstShape.{IsShape, shape_of, shift_of};
+    ghost use Rattle.rds_code.specs.Inside.BurstShape.{IsShape, shape_of, shift_of};
 
     ghost Value = { ℕ };
 

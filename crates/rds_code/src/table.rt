@@ -1,7 +1,7 @@
 ghost use Rattle.std.specs.Prelude.{◌≡◌, ℕ, ◌+◌, ◌*◌, ◌%◌, ◌^◌, ◌<◌, ◌≤◌, length, IfOk, replicate};
 ghost use Rattle.rds_code.specs.Remainder.{rem};
 ghost use Rattle.rds_code.specs.Bursts.{IsBurst};
-ghost use Rattle.rds_code.specs.BurstTable.{IsSound, HasBurst};
+ghost use Rattle.rds_code.specs.Inside.BurstTable.{IsSound, HasBurst};
 
 use crate::burst::Burst;
 use crate::error::CodeError;
@@ -19,7 +19,7 @@ pub struct BurstTable {
 
 impl Model for BurstTable {
     ghost use Rattle.std.specs.Prelude.{◌≡◌};
-    ghost use Rattle.rds_code.specs.BurstTable.{IsBurstTable};
+    ghost use Rattle.rds_code.specs.Inside.BurstTable.{IsBurstTable};
 
     ghost Value = { Unit {0} };
 

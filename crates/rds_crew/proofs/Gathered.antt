@@ -10,8 +10,8 @@ use Rattle.std.proofs.lemmas.Option.{slice_get-map, get_or_from_slice_get}
 use Rattle.rds_pieces.specs.RunOf.{RunOf}
 use Rattle.rds_crew.specs.Deal.{times, once_below}
 use Rattle.rds_crew.specs.Seats.{DealerValue, SeatValue, times_drawn, DrewAllOnce}
-use Rattle.rds_crew.specs.Numbered.{HasOne, IsNumber}
-use Rattle.rds_crew.specs.Drawn.{IsDrawn}
+use Rattle.rds_crew.specs.Inside.Numbered.{HasOne, IsNumber}
+use Rattle.rds_crew.specs.Inside.Drawn.{IsDrawn}
 use Rattle.rds_crew.proofs.Lists.{Contains-times, numbers_of, values_at}
 
 -- a promise that is of these parts and this dealer

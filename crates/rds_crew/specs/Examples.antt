@@ -1,2 +1,3 @@
--- What the definitions give for a dealer of few pieces: theorems that the checker computes.
+-- What the definitions give for a dealer of few pieces and a tree of few runs: theorems that the checker computes.
 pub mod TwoSeats
+pub mod FiveRuns

@@ -1,5 +1,6 @@
 //! A crew of workers that makes the report of a work.
 ghost use Rattle.std.specs.Prelude.{◌≡◌, ◌⊎◌, ◌↔◌, ◌<◌, length, IfOk, IsErrOf};
+ghost use Rattle.rds_stream.specs.Recording.{length_of};
 ghost use Rattle.rds_sync.specs.Report.{report_items};
 ghost use Rattle.rds_sync.specs.Totals.{totals_of};
 ghost use Rattle.rds_pieces.specs.Cutting.{IsCutting, pieces_of};
@@ -8,6 +9,7 @@ use crate::error::CrewError;
 use crate::gate::Gate;
 use crate::parts::Guesses;
 use crate::team::make_all;
+use crate::tree::join_all;
 use rds_pieces::{Work, laws};
 use rds_sync::Report;
 use std::alloc::Global;
@@ -19,14 +21,22 @@ pub const MOST_WORKERS: u32 = 256;
 
 /// The report of the recording and the rules that the work names, made by up to `workers` threads.
 ///
-/// With two pieces or more and two workers or more, as many threads are started as the lesser of
-/// the two numbers. Each draws pieces from one dealer until none is left, makes them in the order in
-/// which it drew them, and calls the gate round each. Else the calling thread does all of this and
-/// starts none. The call waits for every thread that it started.
+/// Each piece is guessed by itself. Then neighbours are joined, level by level, from level 1: runs 2m and 2m + 1 of a
+/// level, of which level 0 is the guesses, make run m of the next, and a last run without a neighbour goes up as it is.
+/// The one run that is left, or none where there is no piece, is made into the report.
 ///
-/// Refuses, in this order: `CrewRange` where `workers` is not 1 to 256; `OutOfMemory` where memory
-/// was refused before the first thread was started; `NoWorker` where a thread was not started;
-/// `OutOfMemory` where memory was refused later. What was made until then is dropped.
+/// The pieces, and then the joins of each level, are drawn from a dealer of their own. With two of them or more and two
+/// workers or more, as many threads are started as the lesser of the two numbers. Each draws until none is left, makes
+/// what it drew in that order, and calls the gate round each. Else the calling thread does all of this and starts none.
+/// The threads are waited for before the next level is begun.
+///
+/// Refuses `CrewRange` where `workers` is not 1 to 256. For the pieces, and then for each level, it refuses in this
+/// order: `OutOfMemory` where memory was refused before the first thread was started; `NoWorker` where a thread was not
+/// started; `OutOfMemory` where memory was refused later. What was made until then is dropped.
+///
+/// Its cost: each bit is guessed once, and a join carries the left run on over the right one until the two meet (see
+/// [`join_runs`](rds_pieces::join_runs)): at best at once, at worst to the end of the right one. So each bit is gone
+/// over once, and at most once more for each level. The runs of two levels are held at a time.
 pub fn decode_crew<R: Threads + Wait, W: Work + Sync, G: Gate + Sync>(
     rt: &R,
     alloc: Global,
@@ -34,7 +44,7 @@ pub fn decode_crew<R: Threads + Wait, W: Work + Sync, G: Gate + Sync>(
     workers: u32,
     gate: &G,
 ) -> Result<Report, CrewError>
-    requires { IsCutting (length (W.recording work.now)) (W.places work.now) }
+    requires { IsCutting (length_of (W.recording work.now)) (W.places work.now) }
     ensures items { IfOk result (λ report. report.items
         ≡ report_items (W.recording work.now) (W.rule_set work.now)) }
     ensures totals { IfOk result (λ report. report.totals
@@ -48,8 +58,9 @@ pub fn decode_crew<R: Threads + Wait, W: Work + Sync, G: Gate + Sync>(
     }
     let runs = make_all(rt, alloc, &Guesses { work, gate }, workers)?;
 
-    // In order they follow each other from the first bit to the last, as the report asks of them.
+    // In order they follow each other from the first bit to the last, as a join and the report ask of them.
     laws::pieces_follow();
+    let runs = join_all(rt, alloc, work, gate, workers, runs)?;
     let Ok(report) = work.report(alloc, runs.as_slice()) else {
         return Err(CrewError::OutOfMemory);
     };

@@ -13,7 +13,7 @@ use std::alloc::Global;
 use std::marker::Model;
 
 /// The most seats that a dealer may have.
-pub const MOST_SEATS: u32 = 256;
+const MOST_SEATS: u32 = 256;
 
 /// The word that counts the tickets drawn: a ticket below the number of pieces is the number of a piece.
 const TICKETS: usize = 0;

@@ -2,7 +2,7 @@
 ghost use Rattle.std.specs.Prelude.{◌≡◌, IfOk, IfErr};
 ghost use Rattle.rds_pieces.specs.declared.error.PieceError.TheVariants.{OutOfMemory};
 ghost use Rattle.rds_crew.specs.Seats.{IsFresh};
-ghost use Rattle.rds_crew.specs.Drawn.{IsDrawn};
+ghost use Rattle.rds_crew.specs.Inside.Drawn.{IsDrawn};
 
 use crate::dealer::Dealer;
 use crate::parts::Parts;
@@ -65,7 +65,7 @@ impl<P: Parts> DrawPromise<P> {
 
 impl<P: Parts> Promise<Result<Drawn, PieceError>> for DrawPromise<P> {
     ghost use Rattle.std.specs.Prelude.{IfOk};
-    ghost use Rattle.rds_crew.specs.Drawn.{IsDrawn};
+    ghost use Rattle.rds_crew.specs.Inside.Drawn.{IsDrawn};
 
     ghost kept_by = { λ p result. IfOk result (IsDrawn (P.run_of p.parts.value) p.dealer.value) };
 }

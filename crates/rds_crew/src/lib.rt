@@ -1,10 +1,14 @@
 //! The report of one decoder, made by a crew of threads.
 //!
 //! A recording is cut into pieces, and each piece is guessed by a worker that knows nothing of what
-//! the bits before it did. The guesses are then put in the order of their pieces and made into the
-//! report that one decoder gives, reading from the first bit. What a piece is, how it is guessed and
-//! how guesses become a report is the business of a [`Work`](rds_pieces::Work). This crate deals the
-//! pieces out, waits for its workers, and puts in order what they made.
+//! the bits before it did. The guesses are then put in the order of their pieces, and neighbours
+//! are joined, level by level, until one run is left: that of the whole recording, which is made
+//! into the report that one decoder gives, reading from the first bit. What a piece is, how it is
+//! guessed, how two runs are joined and how a run becomes a report is the business of a
+//! [`Work`](rds_pieces::Work). This crate deals the pieces out, and then the joins of each level,
+//! waits for its workers, and puts in order what they made.
+//!
+//! # Example
 //!
 //! ```text
 //! let cutting = Cutting::even(alloc, recording.len(), 16)?;
@@ -12,31 +16,47 @@
 //! let report = decode_crew(&rt, alloc, &work, 4, &OpenGate)?;
 //! ```
 //!
-//! The pieces are drawn from a [`Dealer`], which other work can be drawn from too. It deals each number
-//! below some count once, to as many [`Seat`]s as it was made with, and takes no lock:
+//! Pieces and joins are drawn from a [`Dealer`], which other work can be drawn from too:
 //!
 //! ```text
-//! let (dealer, seats) = Dealer::new(alloc, 1_000, 8)?;     // a seat for each thread
-//! let (number, seat) = dealer.draw(seat);                  // Some(j): the seat holds j; None: it has ended
-//! let seat = dealer.finish(seat, j);
-//! let closed = dealer.close(seats);                        // all drawn once, all finished
+//! // A dealer of one number, and a seat for each thread.
+//! let (dealer, mut seats) = Dealer::new(alloc, 1, 1)?;
+//! let seat = seats.pop().expect(&rt, "one seat");
+//! let (number, seat) = dealer.draw(seat); // Some(0): the seat holds it
+//! let seat = dealer.finish(seat, 0);
+//! let (none, seat) = dealer.draw(seat); // None: it has ended
+//! seats.push(seat)?;
+//! let closed = dealer.close(seats); // all drawn once, all finished
 //! ```
 //!
-//! What callers may rely on:
+//! # What there is
+//!
+//! - [`decode_crew`]: the report of a work, by up to [`MOST_WORKERS`] threads.
+//! - [`Gate`]: what the workers call round each piece and each join, by which a caller watches them
+//!   or holds them up. [`OpenGate`] does nothing.
+//! - [`Dealer`]: deals each number below some count once, to as many [`Seat`]s as it was made with,
+//!   at most 256, and takes no lock. [`Closed`] is what it counts in the end.
+//! - [`CrewError`]: the refusals `CrewRange` (7), `OutOfMemory` (8) and `NoWorker` (14).
+//!
+//! # What callers may rely on
 //!
 //! - Where [`decode_crew`] answers a report, it is that of the work's recording and rules, whatever
 //!   the cutting, however many workers there were, and in whatever order they drew and ended. It is
 //!   lent no recording: bits reach it by the work alone.
 //! - It refuses a number of workers outside 1 to 256 exactly as [`CrewError::CrewRange`], and
-//!   answers [`CrewError::NoWorker`] only where there are two pieces or more and two workers or more.
+//!   answers [`CrewError::NoWorker`] only where there are two pieces or more and two workers or
+//!   more.
 //! - No thread that it started outlives the call.
 //! - A dealer deals no number twice and leaves none out, in whatever order the steps of any threads
 //!   fall. No call of it waits, tries again, or takes memory once it is made.
 //!
-//! What it leaves to others: that memory and threads are there, that the calls of the work and of
-//! the gate return, and which thread draws what and ends first. That the workers run at the same
-//! time, and that the report is made of their runs and of no others, no contract can say: the tests in
-//! `rds_decoder_tests` show it, by a [`Gate`] that holds one worker up until the other has begun.
+//! # What it leaves to others
+//!
+//! That memory and threads are there, that the calls of the work and of the gate return, and which
+//! thread draws what and ends first. That the workers run at the same time, at pieces and at joins,
+//! that neighbours are joined level by level, and that the report is made of their runs and of no
+//! others, no contract can say: the tests in `rds_decoder_tests` show it, by a [`Gate`] that holds
+//! one worker up until the other has begun, and one that notes what is made of which runs.
 #![tactic(auto)]
 
 mod crew;
@@ -45,14 +65,15 @@ mod dealer;
 mod drawing;
 mod error;
 mod gate;
+mod joins;
 mod parts;
 mod seat;
 mod slots;
 mod team;
+mod tree;
 
 pub use crew::{MOST_WORKERS, decode_crew};
-pub use deal::{Event, Rule, Terms, View};
-pub use dealer::{Closed, Dealer, MOST_SEATS};
+pub use dealer::{Closed, Dealer};
 pub use error::CrewError;
 pub use gate::{Gate, OpenGate};
 pub use seat::Seat;

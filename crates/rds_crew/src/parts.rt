@@ -1,5 +1,6 @@
 //! Work in numbered parts, which workers draw from a dealer.
 ghost use Rattle.std.specs.Prelude.{◌≡◌, ℕ, ◌<◌, length, IfOk, IfErr};
+ghost use Rattle.rds_stream.specs.Recording.{length_of};
 ghost use Rattle.rds_pieces.specs.Cutting.{IsCutting, pieces_of};
 ghost use Rattle.rds_pieces.specs.RunOf.{RunOf, run_at};
 ghost use Rattle.rds_pieces.specs.declared.error.PieceError.TheVariants.{OutOfMemory};
@@ -43,7 +44,7 @@ impl<W: Work, G: Gate> Parts for Guesses<'_, W, G> {
 
     ghost run_of = { λ g. run_at (W.recording g.work.now) (W.rule_set g.work.now) (W.places g.work.now) };
 
-    ghost ready = { λ g. IsCutting (length (W.recording g.work.now)) (W.places g.work.now) };
+    ghost ready = { λ g. IsCutting (length_of (W.recording g.work.now)) (W.places g.work.now) };
 
     fn count(&self) -> u64 {
         self.work.cutting().pieces()

@@ -1,6 +1,6 @@
 //! Slots for numbered values, which are filled in whatever order these come.
 ghost use Rattle.std.specs.Prelude.{◌≡◌, ◌⊎◌, ℕ, ◌<◌, All, IfOk, IsSome, Some, None, map, length, replicate, slice_get};
-ghost use Rattle.rds_crew.specs.Numbered.{HasOne, IsNumber};
+ghost use Rattle.rds_crew.specs.Inside.Numbered.{HasOne, IsNumber};
 
 use std::alloc::{AllocError, Global};
 

@@ -2,7 +2,7 @@
 ghost use Rattle.std.specs.Prelude.{◌≡◌, ◌⊎◌, ◌<◌, ◌≤◌, [], All, length, map, IfOk, IfErr, IsErrOf, vec_capacity};
 ghost use Rattle.std.specs.List.{range_with_len};
 ghost use Rattle.rds_crew.specs.Seats.{IsFresh};
-ghost use Rattle.rds_crew.specs.Drawn.{IsDrawn, IsWorkerOf};
+ghost use Rattle.rds_crew.specs.Inside.Drawn.{IsDrawn, IsWorkerOf};
 
 use crate::dealer::Dealer;
 use crate::drawing::{DrawPromise, Drawn, Worker, draw_all};

@@ -3,3 +3,4 @@ mod dealing;
 mod gates;
 mod journal;
 mod reports;
+mod tree;

@@ -5,6 +5,7 @@
 //! - `sync`: rules, steps, runs and whole reports.
 //! - `pieces`: cuttings, guesses, seams and stitched reports, against what one decoder finds.
 //! - `crew`: the reports of crews, and what their gates and works see.
+//! - `front_pages`: the examples of the libraries' front pages.
 //! - `samples`: what they decode.
 #![tactic(auto)]
 
@@ -12,6 +13,8 @@
 mod code;
 #[cfg(test)]
 mod crew;
+#[cfg(test)]
+mod front_pages;
 #[cfg(test)]
 mod pieces;
 #[cfg(test)]

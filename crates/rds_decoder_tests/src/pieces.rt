@@ -1,8 +1,9 @@
 //! Tests of `rds_pieces`.
 mod convergence;
 mod cuttings;
-mod guesses;
+pub mod guesses;
+mod joins;
 mod marks;
 mod meetings;
 mod seams;
-mod stitching;
+pub mod stitching;

@@ -1,6 +1,7 @@
 //! What the tests decode: recordings, the rules that they are read by, the reports that they have to give, and
 //! cuttings of them.
-ghost use Rattle.std.specs.Prelude.{◌<◌, length, IfOk};
+ghost use Rattle.std.specs.Prelude.{◌<◌, IfOk};
+ghost use Rattle.rds_stream.specs.Recording.{length_of};
 ghost use Rattle.rds_pieces.specs.Cutting.{IsCutting};
 
 use rds_code::{Offset, Reading};
@@ -179,9 +180,28 @@ impl Sample {
         })
     }
 
+    /// A station's groups with damaged bits and with gaps, as `seed` says, and the report of one decoder: one bit in so many
+    /// bytes is inverted, and there is a gap in so many places.
+    pub fn gapped(alloc: Global, bytes: u64, places: u64, seed: u64) -> Result<Sample, Fail>
+        requires bytes { 0 < bytes }
+        requires places { 1 < places }
+    {
+        let mut sent = station_bytes(alloc)?;
+        invert_some(&mut sent, bytes, seed);
+        let gaps = random_gaps(alloc, 20 * 104, places, seed)?;
+        let recording = gapped_recording(sent, 20 * 104, gaps)?;
+        let rules = Rules::new(alloc, 2, 3, 3)?;
+        let report = decode_plain(alloc, &recording, &rules)?;
+        Ok(Sample {
+            recording,
+            rules,
+            report,
+        })
+    }
+
     /// Its recording, cut.
     pub fn cut(&self, alloc: Global, cuts: Cuts<'_>) -> Result<Cutting, PieceError>
-        ensures { IfOk result (λ c. IsCutting (length self.now.recording) c) }
+        ensures { IfOk result (λ c. IsCutting (length_of self.now.recording) c) }
     {
         match cuts {
             Cuts::Even(pieces) => Cutting::even(alloc, self.recording.len(), pieces.max(1)),
@@ -222,6 +242,55 @@ pub fn recording_of(bytes: Vec<u8>, bits: u64) -> Result<Recording, StreamError>
         Ok(recording) => Ok(recording),
         Err((error, _bytes)) => Err(error),
     }
+}
+
+pub fn gapped_recording(
+    bytes: Vec<u8>,
+    bits: u64,
+    gaps: Vec<(u64, u64)>,
+) -> Result<Recording, StreamError> {
+    Recording::with_gaps(bytes, bits, gaps).map_err(|refused| refused.0)
+}
+
+/// The next of a row of numbers that look random and are the same in each run.
+pub fn next_random(number: u64) -> u64 {
+    let number = number ^ (number << 13);
+    let number = number ^ (number >> 7);
+    number ^ (number << 17)
+}
+
+/// Inverts a bit in about one of so many bytes.
+fn invert_some(bytes: &mut [u8], one_of: u64, seed: u64)
+    requires { 0 < one_of }
+{
+    let mut number = seed;
+    for byte in bytes {
+        number = next_random(number);
+        if number % one_of == 0 {
+            *byte ^= 1 << ((number >> 32) % 8);
+        }
+    }
+}
+
+/// A gap of at most half as many places in each so many of the first `len`.
+pub fn random_gaps(
+    alloc: Global,
+    len: u64,
+    places: u64,
+    seed: u64,
+) -> Result<Vec<(u64, u64)>, AllocError>
+    requires { 1 < places }
+{
+    let half = places / 2;
+    let mut gaps = Vec::new(alloc);
+    let mut number = seed;
+    for k in 0..len / places {
+        number = next_random(number);
+        let from = k.saturating_mul(places).saturating_add(number % half);
+        let to = from.saturating_add(1 + (number >> 32) % half);
+        gaps.push((from, to))?;
+    }
+    Ok(gaps)
 }
 
 fn station_bytes(alloc: Global) -> Result<Vec<u8>, AllocError> {

@@ -1,4 +1,5 @@
 //! Tests of `rds_stream`.
+mod gaps;
 mod planes;
 mod recordings;
 mod scans;

@@ -1,7 +1,8 @@
 //! Tests of `rds_sync`.
+mod gaps;
 mod items;
 mod kept;
-mod losses;
+pub mod losses;
 mod reports;
 mod rules;
 mod runs;

@@ -2,17 +2,18 @@
 use Rattle.std.proofs.Common.{◌≡◌, ℕ, ◌+◌, ◌<◌, ◌≤◌, List, [], ◌∷◌, length, get_or, drop, sym, ap, ◌∙◌, arith, inl, inr}
 use Rattle.std.proofs.lemmas.Bool.{cases_lt}
 use Rattle.std.proofs.lemmas.List.{drop_more, drop_all}
+use Rattle.rds_stream.specs.Recording.{Signal}
 use Rattle.rds_sync.specs.declared.state.State.{State}
 use Rattle.rds_sync.specs.Lawful.{IsLawful, IsBetweenGroups}
 use Rattle.rds_sync.specs.Loss.{IsLoss}
 use Rattle.rds_sync.specs.Rules.{RuleNumbers}
 use Rattle.rds_pieces.specs.declared.mark.Mark.{Mark}
-use Rattle.rds_pieces.specs.Advance.{IsStepTo}
+use Rattle.rds_pieces.specs.Inside.Advance.{IsStepTo}
 use Rattle.rds_pieces.specs.RunLaws.{RunLaws}
-use Rattle.rds_pieces.specs.Walk.{next_place}
+use Rattle.rds_pieces.specs.Inside.Walk.{next_place}
 use Rattle.rds_pieces.proofs.SeamLemmas.{found, unread, IsCarried, IsPlaceAfter, carried_start, carried_near, carried_up_to}
 
-module _ (b : List ℕ) (rules : RuleNumbers) (from to : ℕ) where
+module _ (b : Signal) (rules : RuleNumbers) (from to : ℕ) where
   -- a run from s0 that came to `place` in this state, beside the mark that it passed last, with the marks ahead and the place of the next
   pub record IsBeside (s0 : State) (place : ℕ) (state : State) (passed : Mark) (ahead : List Mark) (limit : ℕ) : Type 0 where
     pub index : ℕ

@@ -6,6 +6,7 @@ use Rattle.std.proofs.lemmas.Bool.{cases_lt}
 use Rattle.std.proofs.lemmas.List.FromFn.{map-range_with_len_more}
 use Rattle.std.proofs.lemmas.List.Elements.{filter_map-append}
 use Rattle.std.proofs.lemmas.List.{map-id, length_push, get_or_push, get_or_append_left}
+use Rattle.rds_stream.specs.Recording.{Signal}
 use Rattle.rds_sync.specs.declared.state.State.{State}
 use Rattle.rds_sync.specs.declared.state.State.TheVariants.{Searching}
 use Rattle.rds_sync.specs.declared.item.Item.{Item}
@@ -21,7 +22,7 @@ range_more c n =
     sym (map-id (range_with_len c (n + 1))) ∙ map-range_with_len_more (λ x. x) c n (c + n) refl
     ∙ ap (λ (xs : List ℕ). xs ++ (c + n) ∷ []) (map-id (range_with_len c n))
 
-module _ (b : List ℕ) (rules : RuleNumbers) (from : ℕ) where
+module _ (b : Signal) (rules : RuleNumbers) (from : ℕ) where
   -- one bit more of the guess
   pub guess_state-more : RunLaws → (n : ℕ) → (guess b rules from (n + 1)).0 ≡ step b rules (from + n) (guess b rules from n).0
   guess_state-more laws n = run_state-append laws b rules Searching from n 1

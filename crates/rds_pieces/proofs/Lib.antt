@@ -1,6 +1,7 @@
 mod CuttingLemmas
 mod RunFacts
 mod MarkRows
+mod RowMoves
 mod GuessLemmas
 mod MeetingLemmas
 mod StepLemmas
@@ -8,6 +9,7 @@ mod SeamLemmas
 mod BesideLemmas
 mod MarkLaws
 mod WalkLemmas
+mod JoinLemmas
 mod SoonLemmas
 mod ReadsLemmas
 mod SmallTotals

@@ -2,6 +2,7 @@
 use Rattle.std.proofs.Common.{◌≡◌, ℕ, zero, suc, ◌+◌, ◌-◌, ◌<◌, ◌≤◌, List, [], ◌∷◌, ◌++◌, length, get_or, map, drop, refl, sym, ap, ap₂, ◌∙◌, subst, arith, append-nil, append_assoc, length-append, add-zero, zero-add, add-one, inl, inr}
 use Rattle.std.proofs.lemmas.Bool.{cases_lt}
 use Rattle.std.proofs.lemmas.List.{map-append, drop_at, get_or_append_left, get_or-append_right}
+use Rattle.rds_stream.specs.Recording.{Signal}
 use Rattle.rds_sync.specs.declared.state.State.{State}
 use Rattle.rds_sync.specs.declared.state.State.TheVariants.{Searching}
 use Rattle.rds_sync.specs.declared.item.Item.{Item}
@@ -9,8 +10,8 @@ use Rattle.rds_sync.specs.Rules.{RuleNumbers}
 use Rattle.rds_sync.specs.Step.{run, step, items_at}
 use Rattle.rds_pieces.specs.declared.mark.Mark.{Mark}
 use Rattle.rds_pieces.specs.Guess.{guess, mark_at, marks}
-use Rattle.rds_pieces.specs.Advance.{IsStepTo}
-use Rattle.rds_pieces.specs.MarksOn.{mark_where, marks_on, recounted}
+use Rattle.rds_pieces.specs.Inside.Advance.{IsStepTo}
+use Rattle.rds_pieces.specs.Inside.MarksOn.{mark_where, marks_on, recounted}
 use Rattle.rds_pieces.specs.Meeting.{MeetAt}
 use Rattle.rds_pieces.specs.RunLaws.{RunLaws}
 use Rattle.rds_pieces.proofs.RunFacts.{none_first, none_rest, run-append}
@@ -26,7 +27,7 @@ recounted-where less more (i ∷ is) m = refl
 add_one_is : (n : ℕ) → suc n ≡ n + 1
 add_one_is n = sym (add-one n)
 
-module _ (b : List ℕ) (rules : RuleNumbers) where
+module _ (b : Signal) (rules : RuleNumbers) where
   -- over some bits and then some more
   pub marks_on-append : (s : State) (a c m n : ℕ)
       → marks_on b rules s a c (m + n) ≡ marks_on b rules s a c m ++ marks_on b rules (run b rules s a m).0 (a + m) (c + length (run b rules s a m).1) n

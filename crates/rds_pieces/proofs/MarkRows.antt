@@ -9,8 +9,8 @@ use Rattle.std.proofs.lemmas.List.Concat.{flat_map-append, flat_map-cons}
 use Rattle.std.proofs.lemmas.List.FromFn.{length-map-range_with_len, get_or-map-range_with_len, map-range_with_len_more}
 use Rattle.rds_pieces.specs.declared.mark.Mark.{Mark}
 use Rattle.rds_pieces.specs.declared.marks.Row.{Row}
-use Rattle.rds_pieces.specs.Later.{later}
-use Rattle.rds_pieces.specs.Rows.{row, marks_in, IsWithinFirst}
+use Rattle.rds_pieces.specs.Inside.Later.{later}
+use Rattle.rds_pieces.specs.Inside.Rows.{row, marks_in, IsWithinFirst}
 
 row_length : (r : Row) → length (marks_in r) ≡ r.count
 row_length r = length-map-range_with_len (later r.first) 0 r.count

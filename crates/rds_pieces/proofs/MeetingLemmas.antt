@@ -1,6 +1,7 @@
 -- Where two runs can meet: a state with no group in progress is entered only by a bit that gives an item.
 use Rattle.std.proofs.Common.{◌≡◌, ℕ, zero, suc, ◌+◌, ◌≤◌, List, [], Option, Some, None, refl, sym, ap, ◌∙◌, subst}
 use Rattle.std.specs.Prelude.{⊤}
+use Rattle.rds_stream.specs.Recording.{Signal}
 use Rattle.rds_sync.specs.declared.state.State.{State}
 use Rattle.rds_sync.specs.declared.state.State.TheVariants.{Searching, Locked}
 use Rattle.rds_sync.specs.declared.item.Item.{Item}
@@ -17,7 +18,7 @@ abbrev pub IsNotDueBefore : ℕ → State → Type 0
 IsNotDueBefore p Searching = ⊤
 IsNotDueBefore p (Locked due number bad first) = p ≤ due
 
-module _ (b : List ℕ) (rules : RuleNumbers) where
+module _ (b : Signal) (rules : RuleNumbers) where
   -- bits that give nothing lead to no state between groups but the one that they began in
   pub run_state-between : RunLaws → IsLoss rules.loss → (s : State) (a n : ℕ) → IsLawful rules a s → (run b rules s a n).1 ≡ [] → IsBetweenGroups (run b rules s a n).0
       → (run b rules s a n).0 ≡ s

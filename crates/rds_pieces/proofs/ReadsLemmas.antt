@@ -3,6 +3,7 @@ use Rattle.std.proofs.Common.{◌≡◌, ℕ, ◌+◌, ◌-◌, ◌*◌, ◌<◌
 use Rattle.std.specs.Prelude.{⊤}
 use Rattle.std.proofs.lemmas.Bool.{cases_Bool, cases_lt, lt-ltb, le-ltb}
 use Rattle.std.proofs.lemmas.Nat.{mul-le}
+use Rattle.rds_stream.specs.Recording.{Signal}
 use Rattle.rds_sync.specs.declared.state.State.{State}
 use Rattle.rds_sync.specs.declared.state.State.TheVariants.{Searching, Locked}
 use Rattle.rds_sync.specs.declared.loss.Bad.{Bad}
@@ -14,7 +15,7 @@ use Rattle.rds_sync.specs.Advance.{next_place, reads_most}
 use Rattle.rds_sync.specs.Lawful.{IsLawful}
 use Rattle.rds_sync.specs.Loss.{are_too_many}
 use Rattle.rds_sync.specs.Step.{run, step, bad_with}
-use Rattle.rds_pieces.specs.Advance.{IsStepTo}
+use Rattle.rds_pieces.specs.Inside.Advance.{IsStepTo}
 use Rattle.rds_pieces.specs.RunLaws.{RunLaws}
 use Rattle.rds_pieces.proofs.RunFacts.{step-acquiring, step-searching, step-keeping, step-losing, run-waiting, run-reading}
 
@@ -26,7 +27,7 @@ abbrev IsBlockAfter : ℕ → State → Type 0
 IsBlockAfter i Searching = ⊤
 IsBlockAfter i (Locked due number bad first) = due ≡ i + 26
 
-module _ (b : List ℕ) (rules : RuleNumbers) where
+module _ (b : Signal) (rules : RuleNumbers) where
   search_then : (i : ℕ) → IsBlockAfter i (step b rules i Searching)
   search_then i = at_case (acquired b rules i) refl where
     at_case : (o : Option ℕ) → acquired b rules i ≡ o → IsBlockAfter i (step b rules i Searching)

@@ -1,6 +1,7 @@
 -- Runs that follow each other: those of a cutting, and those where two neighbours are joined.
 use Rattle.std.proofs.Common.{◌≡◌, ℕ, zero, suc, ◌+◌, ◌-◌, List, [], ◌∷◌, length, map, get_or, refl, ap, ◌∙◌, subst, arith}
 use Rattle.std.specs.List.{range_with_len}
+use Rattle.rds_stream.specs.Recording.{Signal, length_of}
 use Rattle.rds_sync.specs.Rules.{RuleNumbers}
 use Rattle.rds_pieces.specs.Cutting.{IsCutting, pieces_of}
 use Rattle.rds_pieces.specs.Laws.{PiecesAreFew, PiecesFollow, JoinedRunsFollow}
@@ -10,20 +11,20 @@ use Rattle.rds_pieces.proofs.CuttingLemmas.{piece_inside, pieces_at_most}
 pub pieces_few : PiecesAreFew
 pieces_few n places cutting = pieces_at_most n places cutting
 
-module _ (b : List ℕ) (rules : RuleNumbers) where
+module _ (b : Signal) (rules : RuleNumbers) where
   -- the runs of the pieces from piece j on
-  follow_from : (places : List ℕ) → IsCutting (length b) places → (m j : ℕ) → j + m ≡ pieces_of places
-      → FollowEachOther b rules (get_or places j 0) (length b) (map (run_at b rules places) (range_with_len j m))
+  follow_from : (places : List ℕ) → IsCutting (length_of b) places → (m j : ℕ) → j + m ≡ pieces_of places
+      → FollowEachOther b rules (get_or places j 0) (length_of b) (map (run_at b rules places) (range_with_len j m))
   follow_from places cutting zero j e =
       let s = cutting.some in
       let last : j ≡ length places - 1 = omega arith in
       ap (λ (k : ℕ). get_or places k 0) last ∙ cutting.ends
   follow_from places cutting (suc m) j e =
-      (refl, (piece_inside (length b) places cutting j (omega arith)).0, follow_from places cutting m (j + 1) (omega arith))
+      (refl, (piece_inside (length_of b) places cutting j (omega arith)).0, follow_from places cutting m (j + 1) (omega arith))
 
 pub pieces_in_a_row : PiecesFollow
 pieces_in_a_row b rules places cutting =
-    subst (λ (p : ℕ). FollowEachOther b rules p (length b) (map (run_at b rules places) (range_with_len 0 (pieces_of places)))) cutting.begins
+    subst (λ (p : ℕ). FollowEachOther b rules p (length_of b) (map (run_at b rules places) (range_with_len 0 (pieces_of places)))) cutting.begins
     (follow_from b rules places cutting (pieces_of places) 0 (omega arith))
 
 pub joined_in_a_row : JoinedRunsFollow

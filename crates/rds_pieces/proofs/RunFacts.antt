@@ -1,6 +1,7 @@
 -- What the proofs of this crate use of runs: what the definitions compute, and the laws in the forms that they use.
 use Rattle.std.proofs.Common.{◌≡◌, ◌≢◌, ℕ, ◌+◌, ◌-◌, ◌≤◌, ◌⊎◌, List, [], ◌∷◌, ◌++◌, true, false, Some, None, refl, ap, ap₂, ◌∙◌, arith, inl, inr}
 use Rattle.std.proofs.lemmas.Bool.{cases_eq, eq-eqb}
+use Rattle.rds_stream.specs.Recording.{Signal}
 use Rattle.rds_sync.specs.declared.state.State.{State}
 use Rattle.rds_sync.specs.declared.state.State.TheVariants.{Searching, Locked}
 use Rattle.rds_sync.specs.declared.loss.Bad.{Bad}
@@ -54,7 +55,7 @@ same_state (Locked due number bad first) (Locked due2 number2 bad2 first2) = eli
   ]
 ]
 
-module _ (b : List ℕ) (rules : RuleNumbers) where
+module _ (b : Signal) (rules : RuleNumbers) where
   -- one bit, as it is defined
   pub step-acquiring : (i x : ℕ) → acquired b rules i ≡ Some x → step b rules i Searching ≡ locked_after i x (none_bad rules.loss) x
   step-acquiring i x e = rw (e, step) refl
@@ -73,7 +74,7 @@ module _ (b : List ℕ) (rules : RuleNumbers) where
       → step b rules i (Locked i number bad first) ≡ Searching
   step-losing i number bad first h = rw (eq-eqb i i refl, h, step) refl
 
-module _ (laws : RunLaws) (b : List ℕ) (rules : RuleNumbers) where
+module _ (laws : RunLaws) (b : Signal) (rules : RuleNumbers) where
   -- the laws by counts of bits, where they are said by places
 
   pub run-append : (s : State) (a m n : ℕ)

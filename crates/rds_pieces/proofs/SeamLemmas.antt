@@ -2,6 +2,7 @@
 use Rattle.std.proofs.Common.{◌≡◌, ◌≢◌, ℕ, ◌+◌, ◌-◌, ◌<◌, ◌≤◌, List, [], ◌++◌, length, get_or, refl, sym, ap, ap₂, ◌∙◌, subst, arith, append_assoc, append-nil, inl, inr}
 use Rattle.std.proofs.lemmas.Bool.{cases_eq, cases_lt}
 use Rattle.std.proofs.lemmas.List.{append_cancel_left, get_or_default}
+use Rattle.rds_stream.specs.Recording.{Signal}
 use Rattle.rds_sync.specs.declared.state.State.{State}
 use Rattle.rds_sync.specs.declared.state.State.TheVariants.{Searching, Locked}
 use Rattle.rds_sync.specs.declared.item.Item.{Item}
@@ -10,7 +11,7 @@ use Rattle.rds_sync.specs.Lawful.{IsLawful, IsBetweenGroups}
 use Rattle.rds_sync.specs.Loss.{IsLoss}
 use Rattle.rds_sync.specs.Step.{run}
 use Rattle.rds_pieces.specs.declared.mark.Mark.{Mark}
-use Rattle.rds_pieces.specs.Advance.{IsStepTo}
+use Rattle.rds_pieces.specs.Inside.Advance.{IsStepTo}
 use Rattle.rds_pieces.specs.Guess.{guess, mark_at, marks}
 use Rattle.rds_pieces.specs.Meeting.{MeetAt, MeetFirstAt}
 use Rattle.rds_pieces.specs.RunLaws.{RunLaws}
@@ -25,14 +26,14 @@ not_due rules place Searching h = h
 not_due rules place (Locked due number bad first) h = h.soon.0
 
 -- a fact over another name of the recording and of the rules
-pub renamed : (P : List ℕ → RuleNumbers → Type 0) (b b2 : List ℕ) (rules rules2 : RuleNumbers) → b ≡ b2 → rules ≡ rules2 → P b rules → P b2 rules2
-renamed P b b2 rules rules2 e f h = subst (λ (x : List ℕ). P x rules2) e (subst (λ (y : RuleNumbers). P b y) f h)
+pub renamed : (P : Signal → RuleNumbers → Type 0) (b b2 : Signal) (rules rules2 : RuleNumbers) → b ≡ b2 → rules ≡ rules2 → P b rules → P b2 rules2
+renamed P b b2 rules rules2 e f h = subst (λ (x : Signal). P x rules2) e (subst (λ (y : RuleNumbers). P b y) f h)
 
 -- a run likewise
-pub run_over : (b b2 : List ℕ) (rules rules2 : RuleNumbers) (s : State) (place n : ℕ) → b ≡ b2 → rules ≡ rules2 → run b rules s place n ≡ run b2 rules2 s place n
-run_over b b2 rules rules2 s place n e f = ap₂ (λ (x : List ℕ) (y : RuleNumbers). run x y s place n) e f
+pub run_over : (b b2 : Signal) (rules rules2 : RuleNumbers) (s : State) (place n : ℕ) → b ≡ b2 → rules ≡ rules2 → run b rules s place n ≡ run b2 rules2 s place n
+run_over b b2 rules rules2 s place n e f = ap₂ (λ (x : Signal) (y : RuleNumbers). run x y s place n) e f
 
-module _ (b : List ℕ) (rules : RuleNumbers) (from to : ℕ) where
+module _ (b : Signal) (rules : RuleNumbers) (from to : ℕ) where
   -- the default mark, which is not read
   abbrev pub unread : Mark
   unread = mark_at b rules from 0

@@ -9,7 +9,7 @@ use Rattle.rds_code.specs.declared.reading.Reading.{Reading}
 use Rattle.rds_code.specs.declared.reading.Reading.TheVariants.{Valid, Corrected, Lost}
 use Rattle.rds_code.specs.Laws.{ReadsByRule}
 use Rattle.rds_code.specs.Reading.{reading, IsReading}
-use Rattle.rds_stream.specs.Recording.{window}
+use Rattle.rds_stream.specs.Recording.{Signal, heard, reading_heard, reading_at}
 use Rattle.rds_sync.specs.declared.state.State.{State}
 use Rattle.rds_sync.specs.declared.state.State.TheVariants.{Searching, Locked}
 use Rattle.rds_sync.specs.declared.item.Block.{Block}
@@ -19,7 +19,7 @@ use Rattle.rds_sync.specs.declared.item.Item.{Item}
 use Rattle.rds_sync.specs.declared.item.Item.TheVariants.{Acquired, Group as GroupItem, LostLock}
 use Rattle.rds_sync.specs.declared.totals.Totals.{Totals}
 use Rattle.rds_sync.specs.Acquiring.{acquired}
-use Rattle.rds_sync.specs.Counting.{plus, IsRest, TotalsJoin, IsAtMost}
+use Rattle.rds_sync.specs.Counting.{plus, IsRest, TotalsJoin, IsAtMost, FitTogether}
 use Rattle.rds_sync.specs.Groups.{group, block_at, wanted_beside, are_complete}
 use Rattle.rds_sync.specs.Rules.{RuleNumbers}
 use Rattle.rds_sync.specs.Loss.{are_too_many}
@@ -174,11 +174,15 @@ reading_small law w x wanted limit low high few = at_case (reading w x wanted li
   at_case (Corrected o info e) h = let l = ones_le_self e in let b = h.1.fits.burst.is_block in omega (arith, l, b)
   at_case Lost h = omega arith
 
-module _ (b : List ℕ) (rules : RuleNumbers) (law : ReadsByRule) (few : rules.burst ≤ 5) where
+heard_small : ReadsByRule → (h : Option ℕ) (x : ℕ) (wanted : Wanted) (limit : ℕ) → 1 ≤ x → x ≤ 4 → limit ≤ 5 → bits_corrected (Read (reading_heard h x wanted limit)) < 2 ^ 26
+heard_small law None x wanted limit low high few = omega arith
+heard_small law (Some w) x wanted limit low high few = reading_small law w x wanted limit low high few
+
+module _ (b : Signal) (rules : RuleNumbers) (law : ReadsByRule) (few : rules.burst ≤ 5) where
   block_small : (f x p : ℕ) (wanted : Wanted) (y : ℕ) → 1 ≤ y → y ≤ 4 → bits_corrected (block_at b rules f x p wanted y) < 2 ^ 26
   block_small f x p wanted y low high = at_case (nat_le f y && nat_le y x) where
-    at_case : (t : Bool) → bits_corrected (if t then Read (reading (window b (p - 26 * (x - y))) y wanted rules.burst) else Missing) < 2 ^ 26
-    at_case true = reading_small law (window b (p - 26 * (x - y))) y wanted rules.burst low high few
+    at_case : (t : Bool) → bits_corrected (if t then Read (reading_at b (p - 26 * (x - y)) y wanted rules.burst) else Missing) < 2 ^ 26
+    at_case true = heard_small law (heard b (p - 26 * (x - y))) y wanted rules.burst low high few
     at_case false = omega arith
 
   closed_at_most : (f x p : ℕ) → IsAtMost (2 ^ 28 - 4) (totals_of (GroupItem (group b rules f x p) ∷ []))
@@ -222,3 +226,14 @@ module _ (b : List ℕ) (rules : RuleNumbers) (law : ReadsByRule) (few : rules.b
         let sum : per_bit + per_bit * n ≤ per_bit * suc n = omega arith in
         at_most_more (per_bit + per_bit * n) (per_bit * suc n) _ sum
         (both_at_most per_bit (per_bit * n) (items_at b rules a s) (run b rules (step b rules a s) (a + 1) n).1 (bit_at_most a s) (run_at_most (step b rules a s) (a + 1) n))
+
+    -- the totals of two runs are small enough to be added
+    pub totals_of_two : (s t : State) (a m p n : ℕ) → m + n ≤ 2 ^ 36 → (one other : Totals) → one ≡ totals_of (run b rules s a m).1 → other ≡ totals_of (run b rules t p n).1
+        → FitTogether one other
+    totals_of_two s t a m p n bits one other one_is other_is = (
+      per_bit * m,
+      per_bit * n,
+      omega (arith, bits),
+      subst (λ (x : Totals). IsAtMost (per_bit * m) x) (sym one_is) (run_at_most s a m),
+      subst (λ (x : Totals). IsAtMost (per_bit * n) x) (sym other_is) (run_at_most t p n),
+    )

@@ -1,6 +1,7 @@
 -- Two runs meet by the end of a sound range inside their range: there both are in the state that all runs come into.
-use Rattle.std.proofs.Common.{◌≡◌, ℕ, ◌+◌, ◌-◌, ◌*◌, ◌<◌, ◌≤◌, List, Option, Some, None, refl, sym, ap, ◌∙◌, subst, arith, inl, inr}
+use Rattle.std.proofs.Common.{◌≡◌, ℕ, ◌+◌, ◌-◌, ◌*◌, ◌≤◌, List, Option, Some, None, refl, sym, ap, ◌∙◌, subst, arith, inl, inr}
 use Rattle.std.proofs.lemmas.Bool.{cases_lt}
+use Rattle.rds_stream.specs.Recording.{Signal}
 use Rattle.rds_sync.specs.declared.state.State.{State}
 use Rattle.rds_sync.specs.declared.state.State.TheVariants.{Locked}
 use Rattle.rds_sync.specs.declared.item.Item.{Item}
@@ -11,9 +12,9 @@ use Rattle.rds_sync.specs.Loss.{IsLoss, none_bad}
 use Rattle.rds_sync.specs.Step.{run}
 use Rattle.rds_pieces.specs.Meeting.{MeetAt, IsMeeting}
 use Rattle.rds_pieces.specs.RunLaws.{RunLaws}
-use Rattle.rds_pieces.specs.Soon.{IsSoonMet}
+use Rattle.rds_pieces.specs.Soon.{IsSoonMet, MeetSoon}
 
-module _ (b : List ℕ) (rules : RuleNumbers) (one other : State) (from to : ℕ) where
+module _ (b : Signal) (rules : RuleNumbers) (one other : State) (from to : ℕ) where
   -- the least place where they meet is no later than any
   met_by : (met : Option ℕ) → IsMeeting b rules one other from to met → (q limit : ℕ) → MeetAt b rules one other from to q → q ≤ limit
       → (place : ℕ) × (met ≡ Some place) × (place ≤ limit)
@@ -48,3 +49,9 @@ module _ (b : List ℕ) (rules : RuleNumbers) (one other : State) (from to : ℕ
         between = subst (λ (t : State). IsBetweenGroups t) (sym (ends one one_lawful)) refl;
       } in
       met_by met meeting q (s + sound_bits rules.loss j) here before
+
+  -- and there is a first place where they do
+  pub meet_soon : (met : Option ℕ) → IsMeeting b rules one other from to met → IsSoonMet b rules from to met → MeetSoon b rules one other from to
+  meet_soon met meeting soon j s p c sound low high =
+      let at = soon j s p c sound low high in
+      (at.0, subst (λ (o : Option ℕ). IsMeeting b rules one other from to o) at.1 meeting, at.2)

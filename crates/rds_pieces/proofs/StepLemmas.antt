@@ -1,6 +1,7 @@
 -- A run that goes on step by step, or stretch by stretch: only the last bit gives items.
 use Rattle.std.proofs.Common.{◌≡◌, ℕ, zero, suc, ◌+◌, ◌-◌, ◌<◌, ◌≤◌, List, [], ◌∷◌, ◌++◌, length, refl, sym, ap, ap₂, ◌∙◌, arith, length-append, inl, inr}
 use Rattle.std.proofs.lemmas.Bool.{cases_lt, lt-ltb, le-ltb}
+use Rattle.rds_stream.specs.Recording.{Signal}
 use Rattle.rds_sync.specs.declared.state.State.{State}
 use Rattle.rds_sync.specs.declared.state.State.TheVariants.{Searching, Locked}
 use Rattle.rds_sync.specs.declared.item.Item.{Item}
@@ -26,7 +27,7 @@ one_step (Locked due number bad first) place to next e = elim (cases_lt due to) 
   | inr late ↦ let n : next ≡ to = e ∙ rw (le-ltb due to late, next_place) refl in omega arith
 ]
 
-module _ (b : List ℕ) (rules : RuleNumbers) where
+module _ (b : Signal) (rules : RuleNumbers) where
   -- before the last bit of a step nothing changes
   pub waits : RunLaws → (s : State) (place next n : ℕ) → IsOneStep s place next → place + n < next → run b rules s place n ≡ (s, [])
   waits laws Searching place next zero one h = refl

@@ -2,6 +2,7 @@
 use Rattle.std.proofs.Common.{◌≡◌, ℕ, ◌+◌, ◌-◌, ◌*◌, ◌<◌, ◌≤◌, ◌^◌, List, [], ◌∷◌, ◌++◌, length, get_or, drop, Option, Some, None, refl, sym, ap, ap₂, ◌∙◌, subst, arith}
 use Rattle.std.proofs.lemmas.Nat.{mul-le}
 use Rattle.std.proofs.lemmas.List.{drop_more, drop_all, nil_from_length}
+use Rattle.rds_stream.specs.Recording.{Signal, length_of}
 use Rattle.rds_sync.specs.declared.state.State.{State}
 use Rattle.rds_sync.specs.declared.state.State.TheVariants.{Searching}
 use Rattle.rds_sync.specs.declared.item.Group.{Group}
@@ -28,29 +29,29 @@ group_item-few None = omega arith
 group_item-few (Some g) = omega arith
 
 -- runs that follow each other lie between the places
-pub follow_inside : (b : List ℕ) (rules : RuleNumbers) (from to : ℕ) (runs : List RunOf) → FollowEachOther b rules from to runs → from ≤ to
+pub follow_inside : (b : Signal) (rules : RuleNumbers) (from to : ℕ) (runs : List RunOf) → FollowEachOther b rules from to runs → from ≤ to
 follow_inside b rules from to [] h = omega (arith, h)
 follow_inside b rules from to (r ∷ rs) h = let l = follow_inside b rules r.to to rs h.2 in omega (arith, h.1, l)
 
 -- a meeting lies in the range
-distance_inside : (b : List ℕ) (rules : RuleNumbers) (s t : State) (from to : ℕ) (met : Option ℕ) → IsMeeting b rules s t from to met → distance from to met ≤ to - from
+distance_inside : (b : Signal) (rules : RuleNumbers) (s t : State) (from to : ℕ) (met : Option ℕ) → IsMeeting b rules s t from to met → distance from to met ≤ to - from
 distance_inside b rules s t from to None h = omega arith
 distance_inside b rules s t from to (Some p) h = let i = h.here.inside in omega (arith, i)
 
 -- so a seam over some place reads at most 20 windows a place
-few_reads : (b : List ℕ) (rules : RuleNumbers) (s : State) (from to : ℕ) (met : Option ℕ) → rules.reach ≤ 8 → from < to → IsMeeting b rules s Searching from to met
+few_reads : (b : Signal) (rules : RuleNumbers) (s : State) (from to : ℕ) (met : Option ℕ) → rules.reach ≤ 8 → from < to → IsMeeting b rules s Searching from to met
     → seam_reads rules from to met ≤ 20 * (to - from)
 few_reads b rules s from to met reach some h =
     let d = distance_inside b rules s Searching from to met h in
     let most = mul-le (rules.reach + 2) (distance from to met + 1) 10 (to - from + 1) (omega arith) (omega (arith, d)) in
     omega (arith, most)
 
-module _ (b : List ℕ) (rules : RuleNumbers) (runs : List RunOf) where
+module _ (b : Signal) (rules : RuleNumbers) (runs : List RunOf) where
   -- what was done once the state was carried over the first k runs
   pub record IsStitched (base k : ℕ) (state : State) (items : List Item) (reads : ℕ) : Type 0 where
     pub place : ℕ
     pub sum : ℕ
-    pub follow : FollowEachOther b rules place (length b) (drop k runs)
+    pub follow : FollowEachOther b rules place (length_of b) (drop k runs)
     pub state_is : state ≡ (run b rules Searching 0 (place - 0)).0
     pub items_are : items ≡ (run b rules Searching 0 (place - 0)).1
     pub lawful : IsLawful rules place state
@@ -58,7 +59,7 @@ module _ (b : List ℕ) (rules : RuleNumbers) (runs : List RunOf) where
     pub few : sum ≤ 20 * place
     pub sums : (n : ℕ) → IsSumOfReads b rules state (drop k runs) n → IsSumOfReads b rules Searching runs (sum + n)
 
-  pub stitched_start : (base : ℕ) (items : List Item) → FollowEachOther b rules 0 (length b) runs → length items ≡ 0 → IsStitched base 0 Searching items base
+  pub stitched_start : (base : ℕ) (items : List Item) → FollowEachOther b rules 0 (length_of b) runs → length items ≡ 0 → IsStitched base 0 Searching items base
   stitched_start base items follow empty = record {
     place = 0;
     sum = 0;
@@ -77,10 +78,10 @@ module _ (b : List ℕ) (rules : RuleNumbers) (runs : List RunOf) where
     left = drop_more runs k d inside ∙ ap (λ (x : RunOf). x ∷ drop (k + 1) runs) (sym is)
 
     abbrev pub Next : Type 0
-    Next = FollowEachOther b rules done.place (length b) (r ∷ drop (k + 1) runs)
+    Next = FollowEachOther b rules done.place (length_of b) (r ∷ drop (k + 1) runs)
 
     pub next_follows : Next
-    next_follows = subst (λ (rs : List RunOf). FollowEachOther b rules done.place (length b) rs) left done.follow
+    next_follows = subst (λ (rs : List RunOf). FollowEachOther b rules done.place (length_of b) rs) left done.follow
 
     -- what a seam asks of run k
     pub source_is : r.source ≡ b
@@ -92,13 +93,13 @@ module _ (b : List ℕ) (rules : RuleNumbers) (runs : List RunOf) where
     pub from_is : r.from ≡ done.place
     from_is = ap (λ (x : RunOf). x.from) next_follows.0
 
-    pub to_inside : r.to ≤ length b
-    to_inside = follow_inside b rules r.to (length b) (drop (k + 1) runs) next_follows.2
+    pub to_inside : r.to ≤ length_of b
+    to_inside = follow_inside b rules r.to (length_of b) (drop (k + 1) runs) next_follows.2
 
     pub lawful_here : IsLawful rules r.from state
     lawful_here = subst (λ (p : ℕ). IsLawful rules p state) (sym from_is) done.lawful
 
-    pub reads_few : length b ≤ 2 ^ 36 → base ≤ 2 ^ 61 → reads ≤ 2 ^ 62
+    pub reads_few : length_of b ≤ 2 ^ 36 → base ≤ 2 ^ 61 → reads ≤ 2 ^ 62
     reads_few bits room =
         let t = to_inside in
         let f = from_is in
@@ -108,7 +109,7 @@ module _ (b : List ℕ) (rules : RuleNumbers) (runs : List RunOf) where
         omega (arith, t, f, n, m, l)
 
     -- its totals and those before fit into one word
-    pub fits_next : RunLaws → IsInRange rules → length b ≤ 2 ^ 36 → (t u : Totals) → t ≡ totals_of items → u ≡ totals_of (run b rules state r.from (r.to - r.from)).1 → FitTogether t u
+    pub fits_next : RunLaws → IsInRange rules → length_of b ≤ 2 ^ 36 → (t u : Totals) → t ≡ totals_of items → u ≡ totals_of (run b rules state r.from (r.to - r.from)).1 → FitTogether t u
     fits_next laws range bits t u t_is u_is =
         let n = next_follows.1 in
         let f = from_is in
@@ -154,30 +155,30 @@ module _ (b : List ℕ) (rules : RuleNumbers) (runs : List RunOf) where
     none_left : drop k runs ≡ []
     none_left = drop_all k runs all
 
-    pub end_is : done.place ≡ length b
-    end_is = subst (λ (rs : List RunOf). FollowEachOther b rules done.place (length b) rs) none_left done.follow
+    pub end_is : done.place ≡ length_of b
+    end_is = subst (λ (rs : List RunOf). FollowEachOther b rules done.place (length_of b) rs) none_left done.follow
 
-    pub state_at_end : state ≡ (run b rules Searching 0 (length b - 0)).0
+    pub state_at_end : state ≡ (run b rules Searching 0 (length_of b - 0)).0
     state_at_end = done.state_is ∙ ap (λ (p : ℕ). (run b rules Searching 0 (p - 0)).0) end_is
 
-    pub items_at_end : items ≡ (run b rules Searching 0 (length b - 0)).1
+    pub items_at_end : items ≡ (run b rules Searching 0 (length_of b - 0)).1
     items_at_end = done.items_are ∙ ap (λ (p : ℕ). (run b rules Searching 0 (p - 0)).1) end_is
 
     -- with the item of the end they are the report's
     pub whole_at_end : RunLaws → IsLoss rules.loss → items ++ items_of_end b rules state ≡ report_items b rules
     whole_at_end laws loss =
-        let bits : length b - 0 ≡ length b = omega arith in
+        let bits : length_of b - 0 ≡ length_of b = omega arith in
         ap₂ (λ (is : List Item) (s : State). is ++ items_of_end b rules s) items_at_end state_at_end
         ∙ ap (λ (n : ℕ). (run b rules Searching 0 n).1 ++ items_of_end b rules (run b rules Searching 0 n).0) bits
         ∙ laws.reports b rules loss
 
-    pub small_at_end : RunLaws → IsInRange rules → length b ≤ 2 ^ 36 → (t : Totals) → t ≡ totals_of items → IsAtMost (per_bit * 2 ^ 36) t
+    pub small_at_end : RunLaws → IsInRange rules → length_of b ≤ 2 ^ 36 → (t : Totals) → t ≡ totals_of items → IsAtMost (per_bit * 2 ^ 36) t
     small_at_end laws range bits t t_is =
-        let most : per_bit * (length b - 0) ≤ per_bit * 2 ^ 36 = omega (arith, bits) in
+        let most : per_bit * (length_of b - 0) ≤ per_bit * 2 ^ 36 = omega (arith, bits) in
         subst (λ (x : Totals). IsAtMost (per_bit * 2 ^ 36) x) (sym (t_is ∙ ap (λ (is : List Item). totals_of is) items_at_end))
-        (at_most_more (per_bit * (length b - 0)) (per_bit * 2 ^ 36) _ most (run_at_most b rules laws.readings range.burst laws.totals Searching 0 (length b - 0)))
+        (at_most_more (per_bit * (length_of b - 0)) (per_bit * 2 ^ 36) _ most (run_at_most b rules laws.readings range.burst laws.totals Searching 0 (length_of b - 0)))
 
-    pub lawful_at_end : IsLawful rules (length b) state
+    pub lawful_at_end : IsLawful rules (length_of b) state
     lawful_at_end = subst (λ (p : ℕ). IsLawful rules p state) end_is done.lawful
 
     pub sum_at_end : IsSumOfReads b rules Searching runs done.sum
@@ -185,9 +186,9 @@ module _ (b : List ℕ) (rules : RuleNumbers) (runs : List RunOf) where
         let e : done.sum + 0 ≡ done.sum = omega arith in
         subst (λ (t : ℕ). IsSumOfReads b rules Searching runs t) e (done.sums 0 (subst (λ (rs : List RunOf). IsSumOfReads b rules state rs 0) (sym none_left) refl))
 
-  pub stitched_few : (base k : ℕ) (state : State) (items : List Item) (reads : ℕ) → IsStitched base k state items reads → length b ≤ 2 ^ 36 → base ≤ 2 ^ 61 → reads ≤ 2 ^ 62
+  pub stitched_few : (base k : ℕ) (state : State) (items : List Item) (reads : ℕ) → IsStitched base k state items reads → length_of b ≤ 2 ^ 36 → base ≤ 2 ^ 61 → reads ≤ 2 ^ 62
   stitched_few base k state items reads done bits room =
-      let t = follow_inside b rules done.place (length b) (drop k runs) done.follow in
+      let t = follow_inside b rules done.place (length_of b) (drop k runs) done.follow in
       let m = done.reads_most in
       let l = done.few in
       omega (arith, t, m, l)

@@ -1,33 +1,41 @@
 -- What a walk along a guess has to take over from the guess where it met it.
-use Rattle.std.proofs.Common.{◌≡◌, ℕ, ◌+◌, ◌-◌, ◌*◌, ◌<◌, ◌≤◌, ◌^◌, List, ◌++◌, length, get_or, map, drop, Option, Some, None, sym, ap, ap₂, ◌∙◌, subst, arith, append_assoc, length-append}
+use Rattle.std.proofs.Common.{◌≡◌, ℕ, ◌+◌, ◌-◌, ◌<◌, ◌≤◌, ◌^◌, List, ◌++◌, length, get_or, map, drop, Option, Some, None, refl, sym, ap, ap₂, ◌∙◌, subst, arith, append_assoc, length-append}
 use Rattle.std.proofs.lemmas.List.{drop_at}
+use Rattle.rds_stream.specs.Recording.{Signal, length_of}
 use Rattle.rds_sync.specs.declared.state.State.{State}
 use Rattle.rds_sync.specs.declared.state.State.TheVariants.{Searching}
 use Rattle.rds_sync.specs.declared.item.Item.{Item}
 use Rattle.rds_sync.specs.declared.totals.Totals.{Totals}
-use Rattle.rds_sync.specs.Counting.{plus, IsAtMost, FitTogether}
+use Rattle.rds_sync.specs.Counting.{plus, FitTogether}
 use Rattle.rds_sync.specs.Rules.{RuleNumbers}
 use Rattle.rds_sync.specs.Step.{run}
 use Rattle.rds_sync.specs.Totals.{totals_of}
 use Rattle.rds_pieces.specs.declared.meeting.Passed.{Passed}
 use Rattle.rds_pieces.specs.declared.mark.Mark.{Mark}
 use Rattle.rds_pieces.specs.Guess.{guess, marks}
-use Rattle.rds_pieces.specs.MarksOn.{marks_on, recounted}
+use Rattle.rds_pieces.specs.Inside.MarksOn.{marks_on, recounted}
+use Rattle.rds_pieces.specs.Meeting.{IsMeeting, distance}
 use Rattle.rds_pieces.specs.RunOf.{IsGuess, run_over}
 use Rattle.rds_pieces.specs.RunLaws.{RunLaws}
-use Rattle.rds_pieces.specs.Walk.{IsMet, IsUnmet, IsMetOrNot}
-use Rattle.rds_pieces.proofs.SmallTotals.{per_bit, run_at_most}
+use Rattle.rds_pieces.specs.Inside.Walk.{IsMet, IsUnmet, IsMetOrNot}
+use Rattle.rds_pieces.proofs.SmallTotals.{totals_of_two}
 use Rattle.rds_pieces.proofs.MarkLaws.{run-met, marks-met, marks-join, marks-after, counted}
 
 -- where something was passed, it met the guess
-pub met_from : (b : List ℕ) (rules : RuleNumbers) (s : State) (from to place : ℕ) (o : Option Passed) (passed : Passed) → o ≡ Some passed → IsMetOrNot b rules s from to place o
+pub met_from : (b : Signal) (rules : RuleNumbers) (s : State) (from to place : ℕ) (o : Option Passed) (passed : Passed) → o ≡ Some passed → IsMetOrNot b rules s from to place o
     → IsMet b rules s from to place passed
 met_from b rules s from to place o passed e h = subst (λ (x : Option Passed). IsMetOrNot b rules s from to place x) e h
 
-pub unmet_from : (b : List ℕ) (rules : RuleNumbers) (s : State) (from to place : ℕ) (o : Option Passed) → o ≡ None → IsMetOrNot b rules s from to place o → IsUnmet b rules s from to place
+pub unmet_from : (b : Signal) (rules : RuleNumbers) (s : State) (from to place : ℕ) (o : Option Passed) → o ≡ None → IsMetOrNot b rules s from to place o → IsUnmet b rules s from to place
 unmet_from b rules s from to place o e h = subst (λ (x : Option Passed). IsMetOrNot b rules s from to place x) e h
 
-module _ (b : List ℕ) (rules : RuleNumbers) (laws : RunLaws) (s : State) (from to place : ℕ) (passed : Passed) (met : IsMet b rules s from to place passed) where
+-- where the run met the guess, or that it never does, and how far it came
+pub meeting_of : (b : Signal) (rules : RuleNumbers) (s : State) (from to place : ℕ) (o : Option Passed) → IsMetOrNot b rules s from to place o
+    → (met : Option ℕ) × IsMeeting b rules s Searching from to met × (distance from to met ≡ place - from)
+meeting_of b rules s from to place None h = (None, h.never, ap (λ (p : ℕ). p - from) (sym h.ends))
+meeting_of b rules s from to place (Some passed) h = (Some place, h.first, refl)
+
+module _ (b : Signal) (rules : RuleNumbers) (laws : RunLaws) (s : State) (from to place : ℕ) (passed : Passed) (met : IsMet b rules s from to place passed) where
   -- the guess and the run from s, before place p
   abbrev theirs : ℕ → State × List Item
   theirs p = guess b rules from (p - from)
@@ -61,19 +69,19 @@ module _ (b : List ℕ) (rules : RuleNumbers) (laws : RunLaws) (s : State) (from
       ∙ sym (laws.totals (ours place).1 (drop (length (theirs place).1) (theirs to).1)).joined
       ∙ ap (λ (xs : List Item). totals_of xs) (sym (run-met b rules laws s from to place met.first.here).1)
 
-  pub totals_fit : rules.burst ≤ 5 → to - from ≤ 2 ^ 36 → (t u : Totals) → t ≡ totals_of (ours place).1 → u ≡ totals_of (drop passed.items (theirs to).1) → FitTogether t u
-  totals_fit few bits t u t_is u_is =
+  -- the items that are taken over are those of the run that goes on from there
+  pub rest_is_run : drop passed.items (theirs to).1 ≡ (run b rules (theirs place).0 place (to - place)).1
+  rest_is_run =
       let i = met.first.here.inside in
       let tail : List Item = (run b rules (theirs place).0 place (to - place)).1 in
       let whole : (theirs to).1 ≡ (theirs place).1 ++ tail = ap (λ (r : State × List Item). r.1) (laws.join b rules Searching from place to i.0 i.1) in
-      let rest : drop passed.items (theirs to).1 ≡ tail = ap (λ (xs : List Item). drop passed.items xs) whole ∙ drop_at (theirs place).1 tail passed.items (sym met.items_are) in (
-        per_bit * (place - from),
-        per_bit * (to - place),
-        omega (arith, i, bits),
-        subst (λ (x : Totals). IsAtMost (per_bit * (place - from)) x) (sym t_is) (run_at_most b rules laws.readings few laws.totals s from (place - from)),
-        subst (λ (x : Totals). IsAtMost (per_bit * (to - place)) x) (sym (u_is ∙ ap (λ (xs : List Item). totals_of xs) rest))
-            (run_at_most b rules laws.readings few laws.totals (theirs place).0 place (to - place)),
-      )
+      ap (λ (xs : List Item). drop passed.items xs) whole ∙ drop_at (theirs place).1 tail passed.items (sym met.items_are)
+
+  pub totals_fit : rules.burst ≤ 5 → to - from ≤ 2 ^ 36 → (t u : Totals) → t ≡ totals_of (ours place).1 → u ≡ totals_of (drop passed.items (theirs to).1) → FitTogether t u
+  totals_fit few bits t u t_is u_is =
+      let i = met.first.here.inside in
+      totals_of_two b rules laws.readings few laws.totals s (theirs place).0 from (place - from) place (to - place) (omega (arith, i, bits)) t u t_is
+      (u_is ∙ ap (λ (xs : List Item). totals_of xs) rest_is_run)
 
   pub end_taken : (theirs to).0 ≡ (ours to).0
   end_taken = sym (run-met b rules laws s from to place met.first.here).0
@@ -111,20 +119,18 @@ module _ (b : List ℕ) (rules : RuleNumbers) (laws : RunLaws) (s : State) (from
         let i = met.items_are in
         omega arith
 
-    pub rest_high : (k : ℕ) (d : Mark) → k < length rest → (get_or rest k d).items ≤ 2 * (to - from)
+    pub rest_high : (k : ℕ) (d : Mark) → k < length rest → (get_or rest k d).items ≤ length (theirs to).1
     rest_high k d h =
         let len = ap (λ (ms : List Mark). length ms) rest_is in
         let at = counted b rules (theirs place).0 place (length (theirs place).1) (to - place) k d (omega arith) in
         let high = at.high in
         let e = ap (λ (ms : List Mark). (get_or ms k d).items) rest_is in
-        let i = met.first.here.inside in
         let whole = guess_goes_on in
-        let few = laws.few_items b rules Searching from to (omega (arith, i)) in
         omega arith
 
 -- the guess of both ranges, from that of the first and the run that goes on over the next
-pub joined_guess : (b : List ℕ) (rules : RuleNumbers) → RunLaws → (from middle to start : ℕ) (s end : State) (items0 items : List Item) (found0 found : List Mark)
-    → from ≤ middle → middle ≤ to → to ≤ length b → start ≡ middle → s ≡ (guess b rules from (middle - from)).0
+pub joined_guess : (b : Signal) (rules : RuleNumbers) → RunLaws → (from middle to start : ℕ) (s end : State) (items0 items : List Item) (found0 found : List Mark)
+    → from ≤ middle → middle ≤ to → to ≤ length_of b → start ≡ middle → s ≡ (guess b rules from (middle - from)).0
     → items0 ≡ (guess b rules from (middle - from)).1 → found0 ≡ marks b rules from (middle - from)
     → items ≡ items0 ++ (run b rules s start (to - start)).1 → end ≡ (run b rules s start (to - start)).0
     → found ≡ found0 ++ marks_on b rules s start (length items0) (to - start)

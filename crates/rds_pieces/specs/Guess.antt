@@ -1,6 +1,7 @@
 -- The guess of a piece: the run from Searching at the piece's first place, with its marks. This project's rule.
 use Rattle.std.specs.Prelude.{ℕ, ◌+◌, List, [], ◌∷◌, Option, Some, None, filter_map, length}
 use Rattle.std.specs.List.{range_with_len}
+use Rattle.rds_stream.specs.Recording.{Signal}
 use Rattle.rds_sync.specs.declared.state.State.{State}
 use Rattle.rds_sync.specs.declared.state.State.TheVariants.{Searching}
 use Rattle.rds_sync.specs.declared.item.Item.{Item}
@@ -8,7 +9,7 @@ use Rattle.rds_sync.specs.Rules.{RuleNumbers}
 use Rattle.rds_sync.specs.Step.{run, items_at}
 use Rattle.rds_pieces.specs.declared.mark.Mark.{Mark}
 
-module _ (b : List ℕ) (rules : RuleNumbers) (from : ℕ) where
+module _ (b : Signal) (rules : RuleNumbers) (from : ℕ) where
   -- the state and the items after so many bits of the piece
   abbrev pub guess : ℕ → State × List Item
   guess bits = run b rules Searching from bits

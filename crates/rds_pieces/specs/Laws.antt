@@ -1,5 +1,6 @@
 -- The laws of pieces, over the definitions alone.
-use Rattle.std.specs.Prelude.{ℕ, ◌≤◌, List, ◌∷◌, ◌++◌, length}
+use Rattle.std.specs.Prelude.{ℕ, ◌≤◌, List, ◌∷◌, ◌++◌}
+use Rattle.rds_stream.specs.Recording.{Signal, length_of}
 use Rattle.rds_sync.specs.Rules.{RuleNumbers}
 use Rattle.rds_pieces.specs.Cutting.{IsCutting, pieces_of}
 use Rattle.rds_pieces.specs.RunOf.{RunOf, run_over, runs_of, FollowEachOther}
@@ -10,9 +11,9 @@ PiecesAreFew = (n : ℕ) (places : List ℕ) → IsCutting n places → pieces_o
 
 -- the runs of all pieces of a cutting follow each other
 abbrev pub PiecesFollow : Type 0
-PiecesFollow = (b : List ℕ) (rules : RuleNumbers) (places : List ℕ) → IsCutting (length b) places → FollowEachOther b rules 0 (length b) (runs_of b rules places)
+PiecesFollow = (b : Signal) (rules : RuleNumbers) (places : List ℕ) → IsCutting (length_of b) places → FollowEachOther b rules 0 (length_of b) (runs_of b rules places)
 
 -- where two neighbours are joined, the runs follow each other as before
 abbrev pub JoinedRunsFollow : Type 0
-JoinedRunsFollow = (b : List ℕ) (rules : RuleNumbers) (from to : ℕ) (before : List RunOf) (left right : RunOf) (after : List RunOf)
+JoinedRunsFollow = (b : Signal) (rules : RuleNumbers) (from to : ℕ) (before : List RunOf) (left right : RunOf) (after : List RunOf)
     → FollowEachOther b rules from to (before ++ left ∷ right ∷ after) → FollowEachOther b rules from to (before ++ run_over b rules left.from right.to ∷ after)

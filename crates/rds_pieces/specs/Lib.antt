@@ -1,7 +1,3 @@
-pub use Rattle.rds_stream.specs.Recording
-pub use Rattle.rds_sync.specs.Rules
-pub use Rattle.rds_sync.specs.Step
-pub use Rattle.rds_sync.specs.Lawful
 pub mod Cutting
 pub mod Guess
 pub mod RunOf
@@ -11,11 +7,6 @@ pub mod WorkOf
 pub mod Laws
 pub mod RunLaws
 pub mod Refusals
-pub mod RunInside
-pub mod Advance
-pub mod MarksOn
-pub mod Walk
 pub mod Soon
-pub mod Later
-pub mod Rows
+pub mod Inside
 pub mod Examples

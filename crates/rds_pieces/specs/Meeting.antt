@@ -1,11 +1,12 @@
 -- Where two runs meet: this project's rule.
-use Rattle.std.specs.Prelude.{◌≡◌, ℕ, ◌-◌, ◌<◌, ◌≤◌, List, Option, Some, None, MatchOption}
+use Rattle.std.specs.Prelude.{◌≡◌, ℕ, ◌-◌, ◌<◌, ◌≤◌, Option, Some, None, MatchOption}
+use Rattle.rds_stream.specs.Recording.{Signal}
 use Rattle.rds_sync.specs.declared.state.State.{State}
 use Rattle.rds_sync.specs.Rules.{RuleNumbers}
 use Rattle.rds_sync.specs.Lawful.{IsBetweenGroups}
 use Rattle.rds_sync.specs.Step.{run}
 
-module _ (b : List ℕ) (rules : RuleNumbers) (s t : State) (from to : ℕ) where
+module _ (b : Signal) (rules : RuleNumbers) (s t : State) (from to : ℕ) where
   -- the runs from s and from t are in one state before bit p, with no group in progress; the range's end counts
   pub record MeetAt (p : ℕ) : Type 0 where
     pub inside : (from ≤ p) × (p ≤ to)

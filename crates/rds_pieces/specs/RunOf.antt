@@ -1,6 +1,7 @@
 -- What the run of a piece is a run of.
-use Rattle.std.specs.Prelude.{◌≡◌, ℕ, ◌+◌, ◌-◌, ◌≤◌, ◌<◌, List, [], ◌∷◌, length, map, slice_index}
+use Rattle.std.specs.Prelude.{◌≡◌, ℕ, ◌+◌, ◌-◌, ◌≤◌, ◌<◌, List, [], ◌∷◌, map, slice_index}
 use Rattle.std.specs.List.{range_with_len}
+use Rattle.rds_stream.specs.Recording.{Signal, length_of}
 use Rattle.rds_sync.specs.declared.state.State.{State}
 use Rattle.rds_sync.specs.declared.item.Item.{Item}
 use Rattle.rds_sync.specs.Rules.{RuleNumbers}
@@ -10,19 +11,27 @@ use Rattle.rds_pieces.specs.Guess.{guess, marks}
 
 -- a run is named by its recording, its rules and its range: the places from `from` to `to` - 1
 pub record RunOf : Type 0 where
-  pub source : List ℕ
+  pub source : Signal
   pub rules : RuleNumbers
   pub from : ℕ
   pub to : ℕ
 
 -- the items, the end state and the marks are those of the guess of the range
 pub record IsGuess (r : RunOf) (items : List Item) (end_state : State) (found : List Mark) : Type 0 where
-  pub inside : (r.from ≤ r.to) × (r.to ≤ length r.source)
+  pub inside : (r.from ≤ r.to) × (r.to ≤ length_of r.source)
   pub items_are : items ≡ (guess r.source r.rules r.from (r.to - r.from)).1
   pub ends : end_state ≡ (guess r.source r.rules r.from (r.to - r.from)).0
   pub marks_are : found ≡ marks r.source r.rules r.from (r.to - r.from)
 
-module _ (b : List ℕ) (rules : RuleNumbers) where
+-- the state after its last bit
+abbrev pub end_of : RunOf → State
+end_of r = (guess r.source r.rules r.from (r.to - r.from)).0
+
+module _ (b : Signal) (rules : RuleNumbers) where
+  -- a run of this recording, by these rules
+  abbrev pub IsRunOf : RunOf → Type 0
+  IsRunOf r = (r.source ≡ b) × (r.rules ≡ rules)
+
   -- the run of a range
   abbrev pub run_over : ℕ → ℕ → RunOf
   run_over from to = record { source = b; rules = rules; from = from; to = to }

@@ -1,5 +1,6 @@
 -- What the seams of runs that follow each other may read.
 use Rattle.std.specs.Prelude.{◌≡◌, ℕ, ◌+◌, ◌-◌, ◌*◌, List, [], ◌∷◌, Option}
+use Rattle.rds_stream.specs.Recording.{Signal}
 use Rattle.rds_sync.specs.declared.state.State.{State}
 use Rattle.rds_sync.specs.declared.state.State.TheVariants.{Searching}
 use Rattle.rds_sync.specs.Rules.{RuleNumbers}
@@ -11,7 +12,7 @@ use Rattle.rds_pieces.specs.RunOf.{RunOf}
 abbrev pub seam_reads : RuleNumbers → ℕ → ℕ → Option ℕ → ℕ
 seam_reads rules from to met = (rules.reach + 2) * (distance from to met + 1)
 
-module _ (b : List ℕ) (rules : RuleNumbers) where
+module _ (b : Signal) (rules : RuleNumbers) where
   -- the state after the piece of a run
   abbrev pub state_after : State → RunOf → State
   state_after s r = (run b rules s r.from (r.to - r.from)).0

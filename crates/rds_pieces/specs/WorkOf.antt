@@ -1,8 +1,9 @@
 -- What the work over a recording names.
 use Rattle.std.specs.Prelude.{ℕ, List}
+use Rattle.rds_stream.specs.Recording.{Signal}
 use Rattle.rds_sync.specs.Rules.{RuleNumbers}
 
 pub record WorkOf : Type 0 where
-  pub recording : List ℕ
+  pub recording : Signal
   pub rules : RuleNumbers
   pub places : List ℕ

@@ -1,10 +1,11 @@
 //! One step of a run over a tape, with its items and its mark appended to those before.
 ghost use Rattle.std.specs.Prelude.{◌≡◌, ℕ, List, ◌+◌, ◌-◌, ◌++◌, ◌<◌, ◌≤◌, ◌^◌, IfOk, IfErr, length};
+ghost use Rattle.rds_stream.specs.Recording.{length_of};
 ghost use Rattle.rds_sync.specs.Lawful.{IsLawful};
 ghost use Rattle.rds_sync.specs.Advance.{group_item, items_in, reads_most};
 ghost use Rattle.rds_sync.specs.Step.{run};
-ghost use Rattle.rds_pieces.specs.Advance.{IsStepTo};
-ghost use Rattle.rds_pieces.specs.MarksOn.{marks_on};
+ghost use Rattle.rds_pieces.specs.Inside.Advance.{IsStepTo};
+ghost use Rattle.rds_pieces.specs.Inside.MarksOn.{marks_on};
 ghost use Rattle.rds_pieces.specs.declared.error.PieceError.TheVariants.{OutOfMemory};
 
 use crate::error::PieceError;
@@ -28,16 +29,16 @@ pub fn advance_marked<T: Tape>(
     marks: &mut Marks,
 ) -> Result<(u64, State), PieceError>
     requires ahead { place < to }
-    requires inside { to ≤ length (T.bits tape.old) }
+    requires inside { to ≤ length_of (T.signal tape.old) }
     requires lawful { IsLawful rules.now place state }
     requires few { T.reads_made tape.old + 16 ≤ 2 ^ 63 }
-    ensures step { IfOk result (λ r. IsStepTo (T.bits tape.old) rules.now state place to r.0 r.1) }
+    ensures step { IfOk result (λ r. IsStepTo (T.signal tape.old) rules.now state place to r.0 r.1) }
     ensures items { IfOk result (λ r. items.new
-        ≡ items.old ++ (run (T.bits tape.old) rules.now state place (r.0 - place)).1) }
+        ≡ items.old ++ (run (T.signal tape.old) rules.now state place (r.0 - place)).1) }
     ensures marks { IfOk result (λ r. marks.new
-        ≡ marks.old ++ marks_on (T.bits tape.old) rules.now state place (length items.old) (r.0 - place)) }
+        ≡ marks.old ++ marks_on (T.signal tape.old) rules.now state place (length items.old) (r.0 - place)) }
     ensures err { IfErr result (λ e. e ≡ OutOfMemory) }
-    ensures same { T.bits tape.new ≡ T.bits tape.old }
+    ensures same { T.signal tape.new ≡ T.signal tape.old }
     ensures reads { T.reads_made tape.new ≤ T.reads_made tape.old + reads_most rules.now state to }
 {
     // Before the last bit of a step nothing is given.
@@ -65,14 +66,14 @@ fn advance_onto<T: Tape>(
     items: &mut ItemBuffer,
 ) -> Result<(u64, State), PieceError>
     requires ahead { place < to }
-    requires inside { to ≤ length (T.bits tape.old) }
+    requires inside { to ≤ length_of (T.signal tape.old) }
     requires lawful { IsLawful rules.now place state }
     requires few { T.reads_made tape.old + 16 ≤ 2 ^ 63 }
-    ensures step { IfOk result (λ r. IsStepTo (T.bits tape.old) rules.now state place to r.0 r.1) }
+    ensures step { IfOk result (λ r. IsStepTo (T.signal tape.old) rules.now state place to r.0 r.1) }
     ensures items { IfOk result (λ r. items.new
-        ≡ items.old ++ (run (T.bits tape.old) rules.now state place (r.0 - place)).1) }
+        ≡ items.old ++ (run (T.signal tape.old) rules.now state place (r.0 - place)).1) }
     ensures err { IfErr result (λ e. e ≡ OutOfMemory) }
-    ensures same { T.bits tape.new ≡ T.bits tape.old }
+    ensures same { T.signal tape.new ≡ T.signal tape.old }
     ensures reads { T.reads_made tape.new ≤ T.reads_made tape.old + reads_most rules.now state to }
 {
     let step = advance(tape, rules, state, place, to);

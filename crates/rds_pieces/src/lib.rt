@@ -1,35 +1,69 @@
 //! Decoding in pieces: a recording is cut, each piece is guessed as if nothing stood before it, and the guesses are put
 //! together into the report that one decoder gives which reads from the first bit.
 //!
-//! A [`Cutting`] names the places. [`speculate`] runs over a piece from Searching and keeps, beside the items, their
-//! totals and the end state, a [`Mark`] at the first place and after every bit that gave an item; [`Marks`] keep those
-//! of a clean stretch as one. [`seam`] carries the true state over a piece, step by step, until it is at a mark in the
-//! guess's state with no group in progress; from there on the guess is right, its items are shared, and nothing more is
-//! read. [`stitch`] does so for all runs in order. The pieces can be guessed in any order and at the same time:
+//! A guess begins with a search, so that it may be wrong at first. The run that comes from the bits before is carried
+//! on over the piece until both are in one state with no group in progress: from there on the guess is right.
+//!
+//! # Example
 //!
 //! ```text
-//! let cutting = Cutting::even(alloc, rec.len(), 16)?;
+//! let cutting = Cutting::even(alloc, recording.len(), 2)?;
 //! let mut runs = Vec::new(alloc);
 //! for j in 0..cutting.pieces() {
-//!     runs.push(speculate(alloc, &rec, &rules, &cutting, j)?)?;
+//!     runs.push(speculate(alloc, &recording, &rules, &cutting, j)?)?;
 //! }
-//! let report = stitch(alloc, &mut Counted::new(&rec), &rules, runs.as_slice())?;
+//! let mut tape = Counted::new(&recording);
+//! let report = stitch(alloc, &mut tape, &rules, runs.as_slice())?;
+//! // The report that decode_plain gives.
 //! ```
 //!
-//! A caller may rely on this: a [`PieceRun`] is the guess of its range, marks too, for the recording and the rules that
-//! it names; a seam gives the items, their totals and the end state of the run from the state handed in, says where the
-//! two met or that they never did, and reads at most (reach + 2)(d + 1) windows, where d is the number of bits up to
-//! the meeting, or to the piece's end where there is none; the stitched report is that of whole locks, items and
-//! totals. Nothing is promised of whether a guess is met: that depends on the recording. A guess that locks at a false
-//! phase may never be, and then its piece is read twice.
+//! Neighbours can be joined before:
 //!
-//! Who runs the pieces, and where, is left to the crates above: they are lent a [`Work`], which is their only way to
-//! the bits.
+//! ```text
+//! let left = speculate(alloc, &recording, &rules, &cutting, 0)?;
+//! let right = speculate(alloc, &recording, &rules, &cutting, 1)?;
+//! let mut tape = Counted::new(&recording);
+//! let both = join_runs(alloc, &mut tape, &rules, &left, &right)?;
+//! // The guess of both pieces: its items and its end state are those of a run from Searching over both.
+//! ```
+//!
+//! # What there is
+//!
+//! - [`Cutting`]: the places at which a recording is cut.
+//! - [`speculate`]: the guess of a piece, a [`PieceRun`]. It runs over the piece from Searching and keeps, beside the
+//!   items, their totals and the end state, a [`Mark`] at the first place and after every bit that gave an item;
+//!   [`Marks`] keep those of a clean stretch as one.
+//! - [`seam`]: carries the true state over a piece, step by step, until it is at a mark in the guess's state with no
+//!   group in progress; from there on the guess's items are shared, and nothing more is read.
+//! - [`join_runs`]: does so with the run of the range before, marks too, and makes of both the guess of both ranges, so
+//!   that many runs can be joined two by two, neighbours in any order and at the same time.
+//! - [`stitch`]: the report, of runs in a row from the first bit to the last, by a seam over each.
+//! - [`Work`] and [`RecordingWork`]: all of these over one recording, one set of rules and one cutting.
+//! - [`laws`]: what holds of pieces themselves.
+//! - [`PieceError`]: the refusals `BadCutting` (6) and `OutOfMemory` (8).
+//!
+//! # What callers may rely on
+//!
+//! - A [`PieceRun`] is the guess of its range, marks too, for the recording and the rules that it names, a joined one
+//!   too.
+//! - A seam gives the items, their totals and the end state of the run from the state handed in, and says where the two
+//!   met or that they never did. It reads at most (reach + 2)(d + 1) windows, where d is the number of bits up to the
+//!   meeting, or to the piece's end where there is none; a join reads no more than the seam in it.
+//! - The stitched report is that of whole locks, items and totals.
+//! - A guess is met by the end of any sound range in its piece; on other recordings nothing is promised. A guess that
+//!   locks at a false phase may never be met, and then a seam or a join reads its whole piece.
+//!
+//! # What it leaves to others
+//!
+//! Who runs the pieces and the joins, and where: the crates above are lent a [`Work`], which is their only way to the
+//! bits.
 #![tactic(auto)]
 
 mod advance;
 mod cutting;
 mod error;
+mod gathered;
+mod joining;
 pub mod laws;
 mod mark;
 mod marks;
@@ -41,6 +75,7 @@ mod work;
 
 pub use cutting::Cutting;
 pub use error::PieceError;
+pub use joining::join_runs;
 pub use mark::Mark;
 pub use marks::{MarkIter, Marks};
 pub use meeting::Seam;

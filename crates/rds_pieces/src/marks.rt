@@ -1,10 +1,11 @@
 //! The marks of a run, kept in rows: while a station is locked and each group gives one item, all of its marks are one
 //! row.
 ghost use Rattle.std.specs.Prelude.{◌≡◌, ℕ, ◌+◌, ◌-◌, ◌*◌, ◌++◌, ◌<◌, ◌^◌, ◌↔◌, [], ◌∷◌, IsTrue, MatchOption, OnOk};
-ghost use Rattle.std.specs.Prelude.{OnErr, drop};
-ghost use Rattle.std.specs.List.{flat_map};
+ghost use Rattle.std.specs.Prelude.{◌≤◌, OnErr, drop, map};
+ghost use Rattle.std.specs.List.{All, flat_map};
 ghost use Rattle.std.specs.Iterator.{YieldsFirst, item_count};
-ghost use Rattle.rds_pieces.specs.Later.{later, due_of, state_later};
+ghost use Rattle.rds_pieces.specs.Inside.Later.{later, due_of, state_later};
+ghost use Rattle.rds_pieces.specs.Inside.MarksOn.{recounted};
 
 use crate::mark::Mark;
 use rds_sync::State;
@@ -61,7 +62,52 @@ impl Row {
 }
 
 impl Row {
-    ghost use Rattle.rds_pieces.specs.Rows.{marks_in};
+    ghost use Rattle.rds_pieces.specs.Inside.Rows.{marks_in};
+
+    /// The row without its first marks.
+    fn after(&self, taken: u64) -> Row
+        requires { taken < self.now.count }
+        ensures { marks_in result ≡ drop taken (marks_in self.now) }
+    {
+        Row {
+            first: self.mark(taken),
+            count: self.count - taken,
+        }
+    }
+
+    /// The row where `more` items stand in the place of `less` before each of its marks.
+    fn recounted(&self, less: u64, more: u64) -> Row
+        requires low { less ≤ self.now.first.items }
+        requires high { self.now.first.items + (self.now.count - 1) - less + more < 2 ^ 64 }
+        ensures { marks_in result ≡ map (recounted less more) (marks_in self.now) }
+    {
+        Row {
+            first: Mark {
+                place: self.first.place,
+                state: self.first.state,
+                items: self.first.items - less + more,
+            },
+            count: self.count,
+        }
+    }
+
+    /// Puts rows behind rows, where `more` items stand in the place of `less` before each of their marks.
+    fn push_recounted(
+        rows: &mut Vec<Row>,
+        given: &[Row],
+        less: u64,
+        more: u64,
+    ) -> Result<(), AllocError>
+        requires low { All (λ m. less ≤ m.items) (flat_map marks_in given.now) }
+        requires high { All (λ m. m.items - less + more < 2 ^ 64) (flat_map marks_in given.now) }
+        ensures ok { OnOk result (flat_map marks_in rows.new.items
+            ≡ flat_map marks_in rows.old.items ++ map (recounted less more) (flat_map marks_in given.now)) }
+    {
+        for row in given {
+            rows.push(row.recounted(less, more))?;
+        }
+        Ok(())
+    }
 
     /// Puts a mark behind those of the rows: into the last row where that goes on with it, and else into a row of its
     /// own.
@@ -148,7 +194,7 @@ impl Model for Marks {
 
     ghost Value = { List Mark };
 
-    ghost use Rattle.rds_pieces.specs.Rows.{marks_in};
+    ghost use Rattle.rds_pieces.specs.Inside.Rows.{marks_in};
 
     ghost view = { λ m. flat_map marks_in m.rows.items };
 }
@@ -169,6 +215,25 @@ impl Marks {
         ensures err { OnErr result (self.new ≡ self.old) }
     {
         Row::push(&mut self.rows, mark)
+    }
+
+    /// Appends marks of another list, row by row, where `more` items stand in the place of `less` before each of them.
+    pub(crate) fn append(
+        &mut self,
+        given: MarkIter<'_>,
+        less: u64,
+        more: u64,
+    ) -> Result<(), AllocError>
+        requires low { All (λ m. less ≤ m.items) given }
+        requires high { All (λ m. m.items - less + more < 2 ^ 64) given }
+        ensures ok { OnOk result (self.new ≡ self.old ++ map (recounted less more) given.entry) }
+    {
+        if let Some((row, rest)) = given.rows.split_first() {
+            self.rows
+                .push(row.after(given.taken).recounted(less, more))?;
+            Row::push_recounted(&mut self.rows, rest, less, more)?;
+        }
+        Ok(())
     }
 
     /// The marks in order.
@@ -197,7 +262,7 @@ impl<'a> Model for MarkIter<'a> {
 
     ghost Value = { List Mark };
 
-    ghost use Rattle.rds_pieces.specs.Rows.{marks_in, IsWithinFirst};
+    ghost use Rattle.rds_pieces.specs.Inside.Rows.{marks_in, IsWithinFirst};
 
     ghost view = { λ m. drop m.taken (flat_map marks_in m.rows.now) };
 

@@ -1,18 +1,20 @@
 //! The run of a piece.
 ghost use Rattle.std.specs.Prelude.{◌≡◌, ℕ, List, ◌+◌, ◌-◌, ◌<◌, ◌≤◌, ◌^◌, IfOk, IfErr, length, drop};
+ghost use Rattle.rds_stream.specs.Recording.{length_of};
 ghost use Rattle.rds_sync.specs.Ranges.{IsInRange};
 ghost use Rattle.rds_sync.specs.Totals.{totals_of};
 ghost use Rattle.rds_pieces.specs.Cutting.{IsCutting, pieces_of};
 ghost use Rattle.rds_pieces.specs.Guess.{guess, marks};
-ghost use Rattle.rds_pieces.specs.RunOf.{run_at};
+ghost use Rattle.rds_pieces.specs.RunOf.{IsGuess, run_at, run_over};
 ghost use Rattle.rds_pieces.specs.declared.error.PieceError.TheVariants.{OutOfMemory};
 
 use crate::cutting::Cutting;
 use crate::error::PieceError;
+use crate::gathered::Gathered;
 use crate::laws::run_laws;
 use crate::mark::Mark;
 use crate::marks::Marks;
-use rds_stream::Recording;
+use rds_stream::{Reader, Recording};
 use rds_sync::{ItemBuffer, Items, RuleNumbers, Rules, State, Totals, stretch};
 use std::alloc::Global;
 use std::marker::Model;
@@ -35,7 +37,7 @@ pub struct PieceRun {
 
 impl Model for PieceRun {
     ghost use Rattle.rds_pieces.specs.RunOf.{RunOf, IsGuess, run_over};
-    ghost use Rattle.rds_pieces.specs.RunInside.{IsKept};
+    ghost use Rattle.rds_pieces.specs.Inside.RunInside.{IsKept};
 
     ghost Value = { RunOf };
 
@@ -63,8 +65,8 @@ impl PieceRun {
     pub(crate) fn range(&self) -> (u64, u64)
         ensures first { result.0 ≡ self.now.from }
         ensures end { result.1 ≡ self.now.to }
-        ensures inside { (self.now.from ≤ self.now.to) × (self.now.to ≤ length self.now.source) }
-        ensures few { length self.now.source ≤ 2 ^ 36 }
+        ensures inside { (self.now.from ≤ self.now.to) × (self.now.to ≤ length_of self.now.source) }
+        ensures few { length_of self.now.source ≤ 2 ^ 36 }
         ensures rules { IsInRange self.now.rules }
     {
         (self.from, self.to)
@@ -108,10 +110,38 @@ impl PieceRun {
     {
         &self.marks
     }
+
+    /// The run of the ranges of two neighbours, from what its guess gives.
+    pub(crate) fn of_both(
+        source: Snapshot<Recording>,
+        left: &PieceRun,
+        right: &PieceRun,
+        joined: Gathered,
+        end_state: State,
+    ) -> PieceRun
+        requires source { source.value ≡ left.now.source }
+        requires guess { IsGuess (run_over left.now.source left.now.rules left.now.from right.now.to)
+            joined.items end_state joined.marks }
+        ensures { result ≡ run_over left.now.source left.now.rules left.now.from right.now.to }
+    {
+        PieceRun {
+            source,
+            rules: left.rules,
+            from: left.from,
+            to: right.to,
+            items: joined.items,
+            counted: joined.totals,
+            end_state,
+            marks: joined.marks,
+        }
+    }
 }
 
 /// Guesses piece `j` of a cutting: runs from Searching at its first place to its end, as if nothing stood before. Its
 /// windows may look before that place. Fails with `OutOfMemory` alone.
+///
+/// Its cost: the piece is gone over once, as by [`stretch`], and its items once more, for their totals. It takes memory
+/// for the items, and for the marks by rows.
 pub fn speculate(
     alloc: Global,
     rec: &Recording,
@@ -119,7 +149,7 @@ pub fn speculate(
     cutting: &Cutting,
     j: u64,
 ) -> Result<PieceRun, PieceError>
-    requires fits { IsCutting (length rec.now) cutting.now }
+    requires fits { IsCutting (length_of rec.now) cutting.now }
     requires piece { j < pieces_of cutting.now }
     ensures ok { IfOk result (λ r. r ≡ run_at rec.now rules.now cutting.now j) }
     ensures err { IfErr result (λ e. e ≡ OutOfMemory) }
@@ -151,7 +181,7 @@ fn guess_over(
     to: u64,
 ) -> Result<(State, Items, Marks), PieceError>
     requires range { from ≤ to }
-    requires inside { to ≤ length rec.now }
+    requires inside { to ≤ length_of rec.now }
     ensures state { IfOk result (λ r. r.0 ≡ (guess rec.now rules.now from (to - from)).0) }
     ensures items { IfOk result (λ r. r.1 ≡ (guess rec.now rules.now from (to - from)).1) }
     ensures marks { IfOk result (λ r. r.2 ≡ marks rec.now rules.now from (to - from)) }
@@ -161,6 +191,7 @@ fn guess_over(
     run_laws();
     let mut items = ItemBuffer::new(alloc);
     let mut marks = Marks::new(alloc);
+    let mut reader = Reader::new(rec);
     let mut place = from;
     let mut state = State::Searching;
     marks.push(Mark {
@@ -170,7 +201,7 @@ fn guess_over(
     })?;
     while place < to {
         let before = items.len();
-        let Ok(reached) = stretch(rec, rules, state, place, to, &mut items) else {
+        let Ok(reached) = stretch(&mut reader, rules, state, place, to, &mut items) else {
             return Err(PieceError::OutOfMemory);
         };
         place = reached.place;

@@ -4,10 +4,10 @@ ghost use Rattle.rds_sync.specs.Lawful.{IsLawful};
 ghost use Rattle.rds_sync.specs.Ranges.{IsInRange};
 ghost use Rattle.rds_sync.specs.Step.{run as run_of};
 ghost use Rattle.rds_sync.specs.Totals.{totals_of};
-ghost use Rattle.rds_pieces.specs.MarksOn.{marks_on};
+ghost use Rattle.rds_pieces.specs.Inside.MarksOn.{marks_on};
 ghost use Rattle.rds_pieces.specs.Meeting.{IsMeeting, distance};
 ghost use Rattle.rds_pieces.specs.Soon.{IsSoonMet};
-ghost use Rattle.rds_pieces.specs.Walk.{IsWalk, IsMetOrNot, next_place};
+ghost use Rattle.rds_pieces.specs.Inside.Walk.{IsWalk, IsMetOrNot, next_place};
 ghost use Rattle.rds_pieces.specs.declared.error.PieceError.TheVariants.{OutOfMemory};
 
 use crate::advance::advance_marked;
@@ -28,8 +28,12 @@ use std::alloc::Global;
 /// Where a sound range lies inside the piece, they meet by its end: within 416 bits of sound signal under the default
 /// rules.
 ///
-/// It reads at most (reach + 2)(d + 1) windows of the tape, which has counted at most 2^62 before; d is the number of
-/// bits up to the meeting, or to the piece's end where there is none. Fails with `OutOfMemory` alone.
+/// Fails with `OutOfMemory` alone.
+///
+/// Its cost: it reads at most (reach + 2)(d + 1) windows of the tape, which has counted at most 2^62 before; d is the
+/// number of bits up to the meeting, or to the piece's end where there is none. Of items it goes over those that stand
+/// before the meeting, its own and the guess's, and it takes memory for its own, for their marks, and for the guess's
+/// parts of items.
 pub fn seam<T: Tape>(
     alloc: Global,
     tape: &mut T,
@@ -38,24 +42,24 @@ pub fn seam<T: Tape>(
     run: &PieceRun,
 ) -> Result<Seam, PieceError>
     requires lawful { IsLawful rules.now run.now.from state }
-    requires source { run.now.source ≡ T.bits tape.old }
+    requires source { run.now.source ≡ T.signal tape.old }
     requires rules { run.now.rules ≡ rules.now }
     requires room { T.reads_made tape.old ≤ 2 ^ 62 }
 
     ensures items { IfOk result (λ s. s.items
-        ≡ (run_of (T.bits tape.old) rules.now state run.now.from (run.now.to - run.now.from)).1) }
+        ≡ (run_of (T.signal tape.old) rules.now state run.now.from (run.now.to - run.now.from)).1) }
     ensures totals { IfOk result (λ s. s.totals
-        ≡ totals_of (run_of (T.bits tape.old) rules.now state run.now.from (run.now.to - run.now.from)).1) }
+        ≡ totals_of (run_of (T.signal tape.old) rules.now state run.now.from (run.now.to - run.now.from)).1) }
     ensures end { IfOk result (λ s. s.end_state
-        ≡ (run_of (T.bits tape.old) rules.now state run.now.from (run.now.to - run.now.from)).0) }
+        ≡ (run_of (T.signal tape.old) rules.now state run.now.from (run.now.to - run.now.from)).0) }
     ensures met { IfOk result (λ s.
-        IsMeeting (T.bits tape.old) rules.now state State.Searching run.now.from run.now.to s.met_at) }
-    ensures soon { IfOk result (λ s. IsSoonMet (T.bits tape.old) rules.now run.now.from run.now.to s.met_at) }
+        IsMeeting (T.signal tape.old) rules.now state State.Searching run.now.from run.now.to s.met_at) }
+    ensures soon { IfOk result (λ s. IsSoonMet (T.signal tape.old) rules.now run.now.from run.now.to s.met_at) }
     ensures reads { IfOk result (λ s. T.reads_made tape.new
         ≤ T.reads_made tape.old + (rules.now.reach + 2) * (distance run.now.from run.now.to s.met_at + 1)) }
 
     ensures err { IfErr result (λ e. e ≡ OutOfMemory) }
-    ensures same { T.bits tape.new ≡ T.bits tape.old }
+    ensures same { T.signal tape.new ≡ T.signal tape.old }
     ensures reads_most { T.reads_made tape.new
         ≤ T.reads_made tape.old + (rules.now.reach + 2) * (run.now.to - run.now.from + 1) }
 {
@@ -100,7 +104,7 @@ pub(crate) fn go_along<'a, T: Tape>(
     run: &'a PieceRun,
 ) -> Result<Walk<'a>, PieceError>
     requires lawful { IsLawful rules.now run.now.from state }
-    requires source { run.now.source ≡ T.bits tape.old }
+    requires source { run.now.source ≡ T.signal tape.old }
     requires rules { run.now.rules ≡ rules.now }
     requires room { T.reads_made tape.old ≤ 2 ^ 62 }
 
@@ -116,7 +120,7 @@ pub(crate) fn go_along<'a, T: Tape>(
         ≤ T.reads_made tape.old + (run.now.rules.reach + 2) * (w.place - run.now.from + 1)) }
 
     ensures err { IfErr result (λ e. e ≡ OutOfMemory) }
-    ensures same { T.bits tape.new ≡ T.bits tape.old }
+    ensures same { T.signal tape.new ≡ T.signal tape.old }
     ensures reads_most { T.reads_made tape.new
         ≤ T.reads_made tape.old + (run.now.rules.reach + 2) * (run.now.to - run.now.from + 1) }
     ensures few { run.now.to - run.now.from ≤ 2 ^ 36 }

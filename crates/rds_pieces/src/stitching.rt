@@ -1,5 +1,6 @@
 //! The report of a recording from the runs of its pieces.
 ghost use Rattle.std.specs.Prelude.{◌≡◌, ℕ, ◌+◌, ◌-◌, ◌*◌, ◌++◌, ◌≤◌, ◌^◌, IfOk, IfErr, length};
+ghost use Rattle.rds_stream.specs.Recording.{length_of};
 ghost use Rattle.rds_sync.specs.Counting.{IsAtMost};
 ghost use Rattle.rds_sync.specs.Lawful.{IsLawful};
 ghost use Rattle.rds_sync.specs.Report.{report_items};
@@ -22,24 +23,26 @@ use std::alloc::Global;
 /// ends with the group in progress at its end. The runs follow each other from place 0 to the recording's end, one a
 /// piece or more of them joined; there is none where the recording is empty.
 ///
-/// It reads what the seams may read, and at most three windows more; the tape has counted at most 2^61 before. Fails
-/// with `OutOfMemory` alone.
+/// Fails with `OutOfMemory` alone.
+///
+/// Its cost: it reads what the seams may read, and at most three windows more; the tape has counted at most 2^61
+/// before. It takes memory as they do, one after the other, and for all parts of items, of which none is copied.
 pub fn stitch<T: Tape>(
     alloc: Global,
     tape: &mut T,
     rules: &Rules,
     runs: &[PieceRun],
 ) -> Result<Report, PieceError>
-    requires in_a_row { FollowEachOther (T.bits tape.old) rules.now 0 (length (T.bits tape.old)) runs.now }
+    requires in_a_row { FollowEachOther (T.signal tape.old) rules.now 0 (length_of (T.signal tape.old)) runs.now }
     requires room { T.reads_made tape.old ≤ 2 ^ 61 }
 
-    ensures items { IfOk result (λ report. report.items ≡ report_items (T.bits tape.old) rules.now) }
-    ensures totals { IfOk result (λ report. report.totals ≡ totals_of (report_items (T.bits tape.old) rules.now)) }
-    ensures reads { IfOk result (λ _. (n : ℕ) × IsSumOfReads (T.bits tape.old) rules.now State.Searching runs.now n
+    ensures items { IfOk result (λ report. report.items ≡ report_items (T.signal tape.old) rules.now) }
+    ensures totals { IfOk result (λ report. report.totals ≡ totals_of (report_items (T.signal tape.old) rules.now)) }
+    ensures reads { IfOk result (λ _. (n : ℕ) × IsSumOfReads (T.signal tape.old) rules.now State.Searching runs.now n
         × (T.reads_made tape.new ≤ T.reads_made tape.old + n + 3)) }
 
     ensures err { IfErr result (λ e. e ≡ OutOfMemory) }
-    ensures same { T.bits tape.new ≡ T.bits tape.old }
+    ensures same { T.signal tape.new ≡ T.signal tape.old }
 {
     let (end_state, mut report) = carry_over_all(alloc, tape, rules, runs)?;
     let last = closing_items(alloc, finish(tape, rules, end_state))?;
@@ -56,20 +59,20 @@ fn carry_over_all<T: Tape>(
     rules: &Rules,
     runs: &[PieceRun],
 ) -> Result<(State, Report), PieceError>
-    requires in_a_row { FollowEachOther (T.bits tape.old) rules.now 0 (length (T.bits tape.old)) runs.now }
+    requires in_a_row { FollowEachOther (T.signal tape.old) rules.now 0 (length_of (T.signal tape.old)) runs.now }
     requires room { T.reads_made tape.old ≤ 2 ^ 61 }
 
-    ensures whole { IfOk result (λ r. r.1.items ++ items_of_end (T.bits tape.old) rules.now r.0
-        ≡ report_items (T.bits tape.old) rules.now) }
+    ensures whole { IfOk result (λ r. r.1.items ++ items_of_end (T.signal tape.old) rules.now r.0
+        ≡ report_items (T.signal tape.old) rules.now) }
     ensures totals { IfOk result (λ r. r.1.totals ≡ totals_of r.1.items) }
     ensures small { IfOk result (λ r. IsAtMost ((2 ^ 28 - 1) * 2 ^ 36) r.1.totals) }
-    ensures lawful { IfOk result (λ r. IsLawful rules.now (length (T.bits tape.old)) r.0) }
-    ensures reads { IfOk result (λ _. (n : ℕ) × IsSumOfReads (T.bits tape.old) rules.now State.Searching runs.now n
+    ensures lawful { IfOk result (λ r. IsLawful rules.now (length_of (T.signal tape.old)) r.0) }
+    ensures reads { IfOk result (λ _. (n : ℕ) × IsSumOfReads (T.signal tape.old) rules.now State.Searching runs.now n
         × (T.reads_made tape.new ≤ T.reads_made tape.old + n)) }
     ensures room { IfOk result (λ _. T.reads_made tape.new + 16 ≤ 2 ^ 63) }
 
     ensures err { IfErr result (λ e. e ≡ OutOfMemory) }
-    ensures same { T.bits tape.new ≡ T.bits tape.old }
+    ensures same { T.signal tape.new ≡ T.signal tape.old }
 {
     // Runs in a row are one run, and that over the whole recording is the report.
     run_laws();

@@ -1,14 +1,16 @@
 //! The only way of a crew to the bits.
 ghost use Rattle.std.specs.Prelude.{◌≡◌, ℕ, List, ◌<◌, length, IfOk, IfErr};
+ghost use Rattle.rds_stream.specs.Recording.{Signal, length_of};
 ghost use Rattle.rds_sync.specs.Report.{report_items};
 ghost use Rattle.rds_sync.specs.Rules.{RuleNumbers};
 ghost use Rattle.rds_sync.specs.Totals.{totals_of};
 ghost use Rattle.rds_pieces.specs.Cutting.{IsCutting, pieces_of};
-ghost use Rattle.rds_pieces.specs.RunOf.{FollowEachOther, run_at};
+ghost use Rattle.rds_pieces.specs.RunOf.{FollowEachOther, IsRunOf, run_at, run_over};
 ghost use Rattle.rds_pieces.specs.declared.error.PieceError.TheVariants.{OutOfMemory};
 
 use crate::cutting::Cutting;
 use crate::error::PieceError;
+use crate::joining::join_runs;
 use crate::run::{PieceRun, speculate};
 use crate::stitching::stitch;
 use rds_stream::{Counted, Recording};
@@ -20,7 +22,7 @@ use std::snapshot::Snapshot;
 /// The decoding of one recording by one set of rules, piece by piece. Who is lent a work has no other way to the bits.
 pub trait Work {
     /// The bits of the recording that it names.
-    ghost recording: { Self → List ℕ };
+    ghost recording: { Self → Signal };
 
     /// The rules that it names.
     ghost rule_set: { Self → RuleNumbers };
@@ -42,24 +44,33 @@ pub trait Work {
 
     /// The guess of piece `j`. Fails with `OutOfMemory` alone.
     fn guess(&self, alloc: Global, j: u64) -> Result<PieceRun, PieceError>
-        requires fits { IsCutting (length (recording self.now)) (places self.now) }
+        requires fits { IsCutting (length_of (recording self.now)) (places self.now) }
         requires piece { j < pieces_of (places self.now) }
         ensures ok { IfOk result (λ r. r ≡ run_at (recording self.now) (rule_set self.now) (places self.now) j) }
+        ensures err { IfErr result (λ e. e ≡ OutOfMemory) };
+
+    /// The run of both ranges, from the runs of two ranges that follow each other. Fails with `OutOfMemory` alone.
+    fn join(&self, alloc: Global, left: &PieceRun, right: &PieceRun) -> Result<PieceRun, PieceError>
+        requires next { left.now.to ≡ right.now.from }
+        requires left { IsRunOf (recording self.now) (rule_set self.now) left.now }
+        requires right { IsRunOf (recording self.now) (rule_set self.now) right.now }
+        ensures ok { IfOk result (λ r. r
+            ≡ run_over (recording self.now) (rule_set self.now) left.now.from right.now.to) }
         ensures err { IfErr result (λ e. e ≡ OutOfMemory) };
 
     /// The report, from runs that follow each other from place 0 to the recording's end. Fails with `OutOfMemory`
     /// alone.
     fn report(&self, alloc: Global, runs: &[PieceRun]) -> Result<Report, PieceError>
         requires in_a_row { FollowEachOther (recording self.now) (rule_set self.now)
-            0 (length (recording self.now)) runs.now }
+            0 (length_of (recording self.now)) runs.now }
         ensures items { IfOk result (λ report. report.items ≡ report_items (recording self.now) (rule_set self.now)) }
         ensures totals { IfOk result (λ report. report.totals
             ≡ totals_of (report_items (recording self.now) (rule_set self.now))) }
         ensures err { IfErr result (λ e. e ≡ OutOfMemory) };
 }
 
-/// The work over a recording that is lent to it: `guess` is `speculate`, and `report` is `stitch` on a tape of its own.
-/// It can be shared between threads.
+/// The work over a recording that is lent to it: `guess` is `speculate`, and `join` and `report` are `join_runs` and
+/// `stitch`, each on a tape of its own. It can be shared between threads.
 #[derive(Drop)]
 pub struct RecordingWork<'a> {
     recording: &'a Recording,
@@ -82,7 +93,7 @@ impl<'a> RecordingWork<'a> {
         rules: &'a Rules,
         cutting: &'a Cutting,
     ) -> RecordingWork<'a>
-        requires { IsCutting (length recording.now) cutting.now }
+        requires { IsCutting (length_of recording.now) cutting.now }
         ensures { result ≡ record { recording = recording.now; rules = rules.now; places = cutting.now } }
     {
         RecordingWork {
@@ -114,6 +125,16 @@ impl Work for RecordingWork<'_> {
 
     fn guess(&self, alloc: Global, j: u64) -> Result<PieceRun, PieceError> {
         speculate(alloc, self.recording, self.rules, self.cutting, j)
+    }
+
+    fn join(
+        &self,
+        alloc: Global,
+        left: &PieceRun,
+        right: &PieceRun,
+    ) -> Result<PieceRun, PieceError> {
+        let mut tape = Counted::new(self.recording);
+        join_runs(alloc, &mut tape, self.rules, left, right)
     }
 
     fn report(&self, alloc: Global, runs: &[PieceRun]) -> Result<Report, PieceError> {

@@ -5,3 +5,4 @@ pub mod RemainderBits
 pub mod WindowBits
 pub mod Agreement
 pub mod MarkLemmas
+pub mod GapLemmas

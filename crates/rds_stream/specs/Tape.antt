@@ -1,7 +1,8 @@
 -- What a tape shows of itself.
-use Rattle.std.specs.Prelude.{ℕ, List}
+use Rattle.std.specs.Prelude.{ℕ}
+use Rattle.rds_stream.specs.Recording.{Signal}
 
--- the bits that the tape is of, and how many windows were read from it
+-- the recording that the tape is of, and how many windows were read from it
 pub record TapeState : Type 0 where
-  pub bits : List ℕ
+  pub signal : Signal
   pub reads : ℕ

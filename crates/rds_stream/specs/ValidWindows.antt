@@ -1,28 +1,28 @@
 -- The valid windows of a range, one after the other.
-use Rattle.std.specs.Prelude.{◌≡◌, ℕ, ◌+◌, ◌<◌, ◌≤◌, ◌↔◌, List, Option, Some, None, IsSome}
+use Rattle.std.specs.Prelude.{◌≡◌, ℕ, ◌+◌, ◌<◌, ◌≤◌, ◌↔◌, Option, Some, None, IsSome}
 use Rattle.std.specs.Int.{bit_at}
 use Rattle.rds_code.specs.declared.offset.Offset.{Offset}
-use Rattle.rds_stream.specs.Recording.{off}
+use Rattle.rds_stream.specs.Recording.{Signal, off}
 
--- what is left of a range: the places of the bits from `next` to before `end`
+-- what is left of a range: the places of the recording from `next` to before `end`
 pub record WindowsLeft : Type 0 where
-  pub bits : List ℕ
+  pub signal : Signal
   pub next : ℕ
   pub end : ℕ
 
 -- no place from `from` to before `to` has an offset
-abbrev pub NoneValid : List ℕ → ℕ → ℕ → Type 0
+abbrev pub NoneValid : Signal → ℕ → ℕ → Type 0
 NoneValid b from to = (i : ℕ) → from ≤ i → i < to → off b i ≡ None
 
 -- the first valid window of what is left is given, with its place and offset, and what comes after it is left; or there is none
 abbrev pub GivesFirst : WindowsLeft → Option (ℕ × Offset) → WindowsLeft → Type 0
-GivesFirst old None new = NoneValid old.bits old.next old.end × (new ≡ record { bits = old.bits; next = old.end; end = old.end })
+GivesFirst old None new = NoneValid old.signal old.next old.end × (new ≡ record { signal = old.signal; next = old.end; end = old.end })
 GivesFirst old (Some found) new =
-    (old.next ≤ found.0) × (found.0 < old.end) × NoneValid old.bits old.next found.0 × (off old.bits found.0 ≡ Some found.1)
-    × (new ≡ record { bits = old.bits; next = found.0 + 1; end = old.end })
+    (old.next ≤ found.0) × (found.0 < old.end) × NoneValid old.signal old.next found.0 × (off old.signal found.0 ≡ Some found.1)
+    × (new ≡ record { signal = old.signal; next = found.0 + 1; end = old.end })
 
 -- bit k of the word tells whether place `next` + k has an offset, for the places before `ahead`, which are 64 at most
-pub record AreMarks (b : List ℕ) (next ahead word : ℕ) : Type 0 where
+pub record AreMarks (b : Signal) (next ahead word : ℕ) : Type 0 where
   pub order : next ≤ ahead
   pub width : ahead ≤ next + 64
   pub marked : (k : ℕ) → next + k < ahead → (bit_at word k ≡ 1) ↔ IsSome (off b (next + k))

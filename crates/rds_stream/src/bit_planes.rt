@@ -11,7 +11,7 @@
 ghost use Rattle.std.specs.Prelude.{◌≡◌, ℕ, ◌+◌, ◌*◌, ◌<◌, ◌≤◌, length, slice_index};
 ghost use Rattle.std.specs.Int.{bit_at};
 ghost use Rattle.rds_code.specs.Remainder.{rem};
-ghost use Rattle.rds_stream.specs.Recording.{window};
+ghost use Rattle.rds_stream.specs.Recording.{length_of, window};
 ghost use Rattle.rds_stream.specs.Planes.{Hold, HoldInLane, IsWindowAt, lane};
 
 use crate::lanes::{from_on, joined, sum};
@@ -25,8 +25,8 @@ use std::simd::prelude::*;
 /// The first window is that of place 25, and the last place is below the length. It takes no memory.
 pub fn planes(recording: &Recording, at: u64) -> [u64; 10]
     requires first { 25 ≤ at }
-    requires last { at + 64 ≤ length recording.now }
-    ensures { (k : ℕ) → k < 64 → Hold result k (rem (window recording.now (at + k))) }
+    requires last { at + 64 ≤ length_of recording.now }
+    ensures { (k : ℕ) → k < 64 → Hold result k (rem (window recording.now.bits (at + k))) }
 {
     let [zero, one, two, three, four, five, six, seven, eight, nine] = plane_lanes(recording, at);
     [
@@ -47,8 +47,8 @@ pub fn planes(recording: &Recording, at: u64) -> [u64; 10]
 #[inline(always)]
 pub(crate) fn plane_lanes(recording: &Recording, at: u64) -> [u64x2; 10]
     requires first { 25 ≤ at }
-    requires last { at + 64 ≤ length recording.now }
-    ensures { (j k : ℕ) → j < 2 → k < 32 → HoldInLane result j k (rem (window recording.now (at + (32 * j + k)))) }
+    requires last { at + 64 ≤ length_of recording.now }
+    ensures { (j k : ℕ) → j < 2 → k < 32 → HoldInLane result j k (rem (window recording.now.bits (at + (32 * j + k)))) }
 {
     laws::blocks_have_one_remainder();
     planes_of(u64x2::from_array(recording.places(at - 25)))

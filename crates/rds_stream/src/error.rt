@@ -14,6 +14,9 @@ pub enum StreamError {
     /// A recording holds at most 2^36 bits.
     #[error("more than 2^36 bits")]
     TooLong,
+    /// The gaps of a recording each have a place, lie within its bits, and begin at or after the end of the one before.
+    #[error("gaps that are empty, out of order or past the bits")]
+    BadGaps,
     /// The system refused memory.
     #[error("out of memory")]
     OutOfMemory,
@@ -22,7 +25,7 @@ pub enum StreamError {
 impl StreamError {
     ghost use Rattle.rds_stream.specs.Refusals.{number_of, name_of};
 
-    /// The number of the refusal: 4, 5 or 8.
+    /// The number of the refusal: 4, 5, 8 or 16.
     pub fn number(self) -> u8
         ensures { result ≡ number_of self }
     {
@@ -30,6 +33,7 @@ impl StreamError {
             StreamError::BitsPastBytes => 4,
             StreamError::TooLong => 5,
             StreamError::OutOfMemory => 8,
+            StreamError::BadGaps => 16,
         }
     }
 
@@ -41,6 +45,7 @@ impl StreamError {
             StreamError::BitsPastBytes => "BitsPastBytes",
             StreamError::TooLong => "TooLong",
             StreamError::OutOfMemory => "OutOfMemory",
+            StreamError::BadGaps => "BadGaps",
         }
     }
 }

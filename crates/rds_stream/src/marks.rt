@@ -2,14 +2,16 @@
 //!
 //! A mark is a one just where all ten planes agree with one of the five offset words, so marks are exact both ways:
 //! each valid window is marked, and no other is looked at.
-ghost use Rattle.std.specs.Prelude.{◌≡◌, ◌≢◌, ℕ, ◌+◌, ◌-◌, ◌<◌, ◌≤◌, ◌^◌, ◌↔◌, length, slice_index, IsSome};
+ghost use Rattle.std.specs.Prelude.{◌≡◌, ◌≢◌, ℕ, ◌+◌, ◌-◌, ◌<◌, ◌≤◌, ◌^◌, ◌↔◌, false, slice_index, IsSome};
 ghost use Rattle.std.specs.Int.{bit_at};
 ghost use Rattle.rds_code.specs.Offsets.{offset_of as the_offset_of};
 ghost use Rattle.rds_stream.specs.Planes.{HoldInLane};
-ghost use Rattle.rds_stream.specs.Recording.{off};
+ghost use Rattle.rds_stream.specs.Recording.{length_of, off};
+ghost use Rattle.rds_stream.specs.Inside.Sections.{IsSection};
 ghost use Rattle.rds_stream.specs.ValidWindows.{AreMarks, NoneValid};
 
 use crate::bit_planes::plane_lanes;
+use crate::gaps::Section;
 use crate::lanes::{either, joined, narrowed};
 use crate::recording::Recording;
 use rds_code::Offset;
@@ -25,11 +27,12 @@ pub(crate) struct Marks {
 }
 
 impl Marks {
-    /// The marks of the places from `from` on to before `end`, of 64 at most.
+    /// The marks of the places from `from` on to before `end`, of 64 at most. None of their windows touches a gap.
     fn of(recording: &Recording, from: u64, end: u64) -> Marks
         requires first { 25 ≤ from }
         requires order { from ≤ end }
-        requires within { end ≤ length recording.now }
+        requires within { end ≤ length_of recording.now }
+        requires clear { IsSection recording.now from end false }
         ensures marks { AreMarks recording.now result.next result.ahead result.word }
         ensures from { result.next ≡ from }
         ensures forward { (result.ahead ≤ end) × (from < end → from < result.ahead) }
@@ -48,21 +51,48 @@ impl Marks {
         }
     }
 
-    /// Goes on from marks without a one to the next ones that have one, or up to `end` where there are none.
-    pub(crate) fn next_marked(self, recording: &Recording, end: u64) -> Marks
+    /// Goes on from marks without a one, to the next places of the section that they end in, or of the one after it.
+    fn next(self, recording: &Recording, section: &mut Section, end: u64) -> Marks
+        requires first { 25 ≤ self.ahead }
+        requires order { self.ahead < end }
+        requires within { end ≤ length_of recording.now }
+        requires section { IsSection recording.now section.old.from section.old.to section.old.touched }
+        ensures marks { AreMarks recording.now result.next result.ahead result.word }
+        ensures forward { (self.ahead ≤ result.next) × (self.ahead < result.ahead) × (result.ahead ≤ end) }
+        ensures over { NoneValid recording.now self.ahead result.next }
+        ensures section { IsSection recording.now section.new.from section.new.to section.new.touched }
+    {
+        *section = recording.section_at(*section, self.ahead);
+        let limit = end.min(section.to);
+        if section.touched {
+            Marks {
+                next: limit,
+                ahead: limit,
+                word: 0,
+            }
+        } else {
+            Marks::of(recording, self.ahead, limit)
+        }
+    }
+
+    /// Goes on from marks to the next ones that have a one, or up to `end` where there are none; to these same marks,
+    /// where they have one.
+    pub(crate) fn next_marked(self, recording: &Recording, section: &mut Section, end: u64) -> Marks
         requires marks { AreMarks recording.now self.next self.ahead self.word }
         requires first { self.ahead < end → 25 ≤ self.ahead }
         requires order { self.ahead ≤ end }
-        requires within { end ≤ length recording.now }
+        requires within { end ≤ length_of recording.now }
+        requires section { IsSection recording.now section.old.from section.old.to section.old.touched }
         ensures marks { AreMarks recording.now result.next result.ahead result.word }
         ensures forward { (self.next ≤ result.next) × (result.ahead ≤ end) }
         ensures first { result.ahead < end → 25 ≤ result.ahead }
         ensures over { NoneValid recording.now self.next result.next }
         ensures ended { result.word ≡ 0 → result.ahead ≡ end }
+        ensures section { IsSection recording.now section.new.from section.new.to section.new.touched }
     {
         let mut marks = self;
         while marks.word == 0 && marks.ahead < end {
-            marks = Marks::of(recording, marks.ahead, end);
+            marks = marks.next(recording, section, end);
         }
         marks
     }
@@ -72,7 +102,8 @@ impl Marks {
 #[inline(always)]
 fn at_once(recording: &Recording, at: u64) -> u64
     requires first { 25 ≤ at }
-    requires last { at + 64 ≤ length recording.now }
+    requires last { at + 64 ≤ length_of recording.now }
+    requires clear { IsSection recording.now at (at + 64) false }
     ensures { (k : ℕ) → k < 64 → (bit_at result k ≡ 1) ↔ IsSome (off recording.now (at + k)) }
 {
     prove!(at < recording.len());
@@ -84,12 +115,13 @@ fn one_by_one(recording: &Recording, from: u64, to: u64) -> u64
     requires first { 25 ≤ from }
     requires order { from ≤ to }
     requires few { to < from + 64 }
-    requires within { to ≤ length recording.now }
+    requires within { to ≤ length_of recording.now }
+    requires clear { IsSection recording.now from to false }
     ensures { AreMarks recording.now from to result }
 {
     let mut marks = 0;
     for place in from..to {
-        if recording.offset(place).is_some() {
+        if recording.stored_offset(place).is_some() {
             marks |= 1 << (place - from);
         }
     }

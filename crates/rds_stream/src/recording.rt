@@ -1,178 +1,212 @@
-//! A recording: packed bits with places.
-ghost use Rattle.std.specs.Prelude.{◌≡◌, List, ℕ, ◌+◌, ◌*◌, ◌^◌, ◌<◌, ◌≤◌, ◌↔◌, vec_len, length, slice_index, All, if◌then◌else◌, IfOk, IsOk};
-ghost use Rattle.rds_stream.specs.declared.error.StreamError.TheVariants.{TooLong, BitsPastBytes};
+//! A recording: demodulated bits with places, and the gaps in them.
+ghost use Rattle.std.specs.Prelude.{◌≡◌, ◌≢◌, ℕ, List, ◌+◌, ◌*◌, ◌^◌, ◌<◌, ◌≤◌, ◌↔◌, vec_len, length, slice_index, if◌then◌else◌, Err, IfOk, IsOk, false};
 ghost use Rattle.std.specs.Int.{bit_at};
-ghost use Rattle.rds_stream.specs.Recording.{packed_bit, bits_of, window, off};
+ghost use Rattle.rds_code.specs.Remainder.{rem};
+ghost use Rattle.rds_code.specs.Offsets.{offset_of as the_offset_of};
+ghost use Rattle.rds_stream.specs.declared.error.StreamError.TheVariants.{BadGaps, BitsPastBytes, TooLong};
+ghost use Rattle.rds_stream.specs.Inside.Sections.{IsSection};
+ghost use Rattle.rds_stream.specs.Recording.{AreGaps, Signal, bits_of, length_of, off, touched, ungapped, window};
 
-use crate::bit_order::lowest_first;
 use crate::error::StreamError;
+use crate::gaps::{Section, are_gaps, first_after};
+use crate::packed::Packed;
 use rds_code::{Offset, offset_of, rem26};
 use std::marker::Model;
 
 /// The first place at which a window ends: 26 bits lead up to it.
 pub const FIRST_WINDOW: u64 = 25;
 
-/// The most bits that a recording may hold.
-const MOST_BITS: u64 = 1 << 36;
-
-/// Ones in the 26 places of a block.
-const BLOCK: u32 = (1 << 26) - 1;
-
-/// Demodulated bits with their places from 0 on. Contracts see the list of the bits, each 0 or 1.
+/// Demodulated bits with their places from 0 on, and the gaps in them: ranges of places whose bits mean nothing, as
+/// where a receiver dropped samples. Contracts see the list of the bits, each 0 or 1, and the list of the gaps.
+///
+/// A window that has a place in a gap is said to touch it. No offset and no block is read from such a window.
 ///
 /// A recording never changes, and threads may share it.
 #[derive(Drop)]
 pub struct Recording {
-    bytes: Vec<u8>,
-    bits: u64,
+    packed: Packed,
+    gaps: Vec<(u64, u64)>,
 }
 
 impl Model for Recording {
-    ghost Value = { List ℕ };
+    ghost Value = { Signal };
 
-    ghost view = { λ r. bits_of r.bytes.items r.bits };
+    ghost view = { λ r. record { bits = r.packed; gaps = r.gaps.items } };
 
-    ghost invariant = { λ r. (r.bits ≤ 2 ^ 36) × (r.bits ≤ 8 * vec_len r.bytes) };
-}
-
-/// The bit at a place of packed bytes, the highest bit of a byte first.
-fn bit_of(bytes: &[u8], place: u64) -> u8
-    requires { place < 8 * length bytes.now }
-    ensures value { result ≡ packed_bit bytes.now place }
-    ensures digit { result < 2 }
-{
-    bytes[(place / 8) as usize] >> (7 - place % 8) & 1
+    ghost invariant = { λ r. AreGaps (length r.packed) r.gaps.items };
 }
 
 impl Recording {
-    /// The first `bits` bits of the bytes, the highest bit of a byte first. Bits past them are no part of the recording.
+    /// The first `bits` bits of the bytes, the highest bit of a byte first, without gaps. Bits past them are no part of
+    /// the recording.
     ///
-    /// Refuses more than 2^36 bits, and then more than the bytes hold; the bytes come back as they were. Takes no memory.
+    /// Refuses more than 2^36 bits, and then more than the bytes hold; the bytes come back as they were. Takes no
+    /// memory.
     pub fn from_bytes(bytes: Vec<u8>, bits: u64) -> Result<Recording, (StreamError, Vec<u8>)>
-        ensures held { IfOk result (λ recording. recording ≡ bits_of bytes.items bits) }
+        ensures held { IfOk result (λ recording. recording ≡ ungapped (bits_of bytes.items bits)) }
         ensures taken { IsOk result ↔ ((bits ≤ 2 ^ 36) × (bits ≤ 8 * vec_len bytes)) }
 
         // What is too long is refused as such, whether or not the bytes hold it.
         ensures too_long { (result ≡ Err (TooLong, bytes)) ↔ (2 ^ 36 < bits) }
         ensures past_bytes { (result ≡ Err (BitsPastBytes, bytes)) ↔ ((bits ≤ 2 ^ 36) × (8 * vec_len bytes < bits)) }
     {
-        if bits > MOST_BITS {
-            return Err((StreamError::TooLong, bytes));
+        if let Some(error) = Packed::refusal(&bytes, bits) {
+            return Err((error, bytes));
         }
-        if bits.div_ceil(8) > bytes.len() as u64 {
-            return Err((StreamError::BitsPastBytes, bytes));
+        let gaps = Vec::new(*bytes.allocator());
+        Ok(Recording {
+            packed: Packed::new(bytes, bits),
+            gaps,
+        })
+    }
+
+    /// The same with gaps: each is the places from its first number to before its second.
+    ///
+    /// Refuses more than 2^36 bits, then more than the bytes hold, and then gaps of which one has no place, or goes
+    /// past the bits, or begins before the end of the one before it; the bytes and the gaps come back as they were.
+    /// Takes no memory.
+    pub fn with_gaps(
+        bytes: Vec<u8>,
+        bits: u64,
+        gaps: Vec<(u64, u64)>,
+    ) -> Result<Recording, (StreamError, Vec<u8>, Vec<(u64, u64)>)>
+        ensures held { IfOk result (λ recording.
+            recording ≡ record { bits = bits_of bytes.items bits; gaps = gaps.items }) }
+        ensures taken { IsOk result ↔ ((bits ≤ 2 ^ 36) × (bits ≤ 8 * vec_len bytes) × AreGaps bits gaps.items) }
+
+        // What is too long is refused as such, whether or not the bytes hold it, and both before the gaps are looked
+        // at.
+        ensures too_long { (result ≡ Err (TooLong, bytes, gaps)) ↔ (2 ^ 36 < bits) }
+        ensures past_bytes { (result ≡ Err (BitsPastBytes, bytes, gaps))
+            ↔ ((bits ≤ 2 ^ 36) × (8 * vec_len bytes < bits)) }
+        ensures bad_gaps { (result ≡ Err (BadGaps, bytes, gaps))
+            ↔ ((bits ≤ 2 ^ 36) × (bits ≤ 8 * vec_len bytes) × (AreGaps bits gaps.items → ⊥)) }
+    {
+        if let Some(error) = Packed::refusal(&bytes, bits) {
+            return Err((error, bytes, gaps));
         }
-        Ok(Recording { bytes, bits })
+        if !are_gaps(&gaps, bits) {
+            return Err((StreamError::BadGaps, bytes, gaps));
+        }
+        Ok(Recording {
+            packed: Packed::new(bytes, bits),
+            gaps,
+        })
     }
 
     /// The number of bits, at most 2^36.
     pub fn len(&self) -> u64
-        ensures value { result ≡ length self.now }
+        ensures value { result ≡ length_of self.now }
         ensures limit { result ≤ 2 ^ 36 }
     {
-        self.bits
+        self.packed.len()
     }
 
-    /// Whether the bit at `place`, which is below the length, is a one.
+    /// Whether the bit at `place`, which is below the length, is a one; in a gap too it is the bit as stored.
     pub fn bit(&self, place: u64) -> bool
-        requires { place < length self.now }
-        ensures { slice_index self.now place ≡ (if result then 1 else 0) }
+        requires { place < length_of self.now }
+        ensures { slice_index self.now.bits place ≡ (if result then 1 else 0) }
     {
-        bit_of(&self.bytes, place) == 1
+        self.packed.bit(place)
     }
 
-    /// The 26 bits that end at `place`, the first one highest (EN 50067:1998, 2.1). `place` is at least 25, and below the
-    /// length.
+    /// The 26 bits that end at `place`, the first one highest (EN 50067:1998, 2.1), as they are stored, whether or not
+    /// they touch a gap. `place` is at least 25, and below the length.
     pub fn window(&self, place: u64) -> u32
         requires first { 25 ≤ place }
-        requires last { place < length self.now }
-        ensures value { result ≡ window self.now place }
+        requires last { place < length_of self.now }
+        ensures value { result ≡ window self.now.bits place }
         ensures block { result < 2 ^ 26 }
     {
-        // A window lies in the eight bytes up to that of its last bit, or begins with the first ones.
-        let last = (place / 8) as usize;
-        if last < 7 {
-            return self.early_window(place);
-        }
-        let bytes = self.bytes.as_slice();
-        let eight = [
-            bytes[last - 7],
-            bytes[last - 6],
-            bytes[last - 5],
-            bytes[last - 4],
-            bytes[last - 3],
-            bytes[last - 2],
-            bytes[last - 1],
-            bytes[last],
-        ];
-        (u64::from_be_bytes(eight) >> (7 - place % 8) & BLOCK as u64) as u32
+        self.packed.window(place)
     }
 
-    /// The offset of the 26 bits that end at `place`: the one whose word is their remainder (EN 50067:1998, 2.3 and annex A),
-    /// or none. `place` is at least 25, and below the length.
+    /// Whether one of the 26 places up to `place` lies in a gap. `place` is at least 25, and below the length.
+    ///
+    /// Takes a binary search through the gaps, and no time where there are none.
+    pub fn touches(&self, place: u64) -> bool
+        requires first { 25 ≤ place }
+        requires last { place < length_of self.now }
+        ensures { result ≡ touched self.now place }
+    {
+        self.section(place).touched
+    }
+
+    /// The offset of the 26 bits that end at `place`: the one whose word is their remainder (EN 50067:1998, 2.3 and
+    /// annex A), or none; none too where they touch a gap, which is this project's rule. `place` is at least 25, and
+    /// below the length.
     ///
     /// A window that has an offset is called valid, and may still be no block.
     pub fn offset(&self, place: u64) -> Option<Offset>
         requires first { 25 ≤ place }
-        requires last { place < length self.now }
+        requires last { place < length_of self.now }
         ensures { result ≡ off self.now place }
+    {
+        // Few windows have an offset by chance, so it is looked for before the gaps are.
+        let offset = self.stored_offset(place)?;
+        if self.touches(place) {
+            None
+        } else {
+            Some(offset)
+        }
+    }
+
+    /// The offset of the 26 bits that end at `place` as they are stored, whether or not they touch a gap.
+    #[inline(always)]
+    pub(crate) fn stored_offset(&self, place: u64) -> Option<Offset>
+        requires first { 25 ≤ place }
+        requires last { place < length_of self.now }
+        ensures { result ≡ the_offset_of (rem (window self.now.bits place)) }
     {
         offset_of(rem26(self.window(place)))
     }
 
-    /// `window` at a place that may have fewer than seven bytes before its own.
-    fn early_window(&self, place: u64) -> u32
+    /// The longest section that begins at `place`, which is at least 25, and below the length.
+    fn section(&self, place: u64) -> Section
         requires first { 25 ≤ place }
-        requires last { place < length self.now }
-        ensures value { result ≡ window self.now place }
-        ensures block { result < 2 ^ 26 }
+        requires last { place < length_of self.now }
+        ensures from { result.from ≡ place }
+        ensures forward { (place < result.to) × (result.to ≤ length_of self.now) }
+        ensures alike { IsSection self.now result.from result.to result.touched }
     {
-        // A window lies in four bytes, or in five where it begins with the last bit of one.
-        let last = (place / 8) as usize;
-        let bytes = self.bytes.as_slice();
-        let four = [
-            bytes[last - 3],
-            bytes[last - 2],
-            bytes[last - 1],
-            bytes[last],
-        ];
-        let before = if place % 8 == 0 { bytes[last - 4] } else { 0 };
-        let places = (before as u64) << 32 | u32::from_be_bytes(four) as u64;
-        (places >> (7 - place % 8) & BLOCK as u64) as u32
+        let len = self.len();
+        let (to, touched) = match first_after(&self.gaps, len, place - FIRST_WINDOW) {
+            Some((from, to)) if from <= place => (len.min(to + FIRST_WINDOW), true),
+            Some((from, _)) => (from, false),
+            None => (len, false),
+        };
+        Section {
+            from: place,
+            to,
+            touched,
+        }
+    }
+
+    /// A section that has `place`, which is at least 25, and below the length: the one that is known, or else one that
+    /// is looked for.
+    #[inline(always)]
+    pub(crate) fn section_at(&self, known: Section, place: u64) -> Section
+        requires first { 25 ≤ place }
+        requires last { place < length_of self.now }
+        requires known { IsSection self.now known.from known.to known.touched }
+        ensures has { (result.from ≤ place) × (place < result.to) }
+        ensures alike { IsSection self.now result.from result.to result.touched }
+    {
+        if known.from <= place && place < known.to {
+            known
+        } else {
+            self.section(place)
+        }
     }
 
     /// The bits at the 89 places from `from` on, the first one lowest, in two words of 57 places: the second begins 32
     /// places after the first, so the windows at 64 places lie in them.
     #[inline(always)]
     pub(crate) fn places(&self, from: u64) -> [u64; 2]
-        requires { from + 89 ≤ length self.now }
+        requires { from + 89 ≤ length_of self.now }
         ensures { (j k : ℕ) → j < 2 → k < 57
-            → bit_at (slice_index result j) k ≡ slice_index self.now (from + (32 * j + k)) }
+            → bit_at (slice_index result j) k ≡ slice_index self.now.bits (from + (32 * j + k)) }
     {
-        // They lie in twelve bytes.
-        let first = (from / 8) as usize;
-        let bytes = self.bytes.as_slice();
-        [
-            eight_bytes(bytes, first) >> (from % 8),
-            eight_bytes(bytes, first + 4) >> (from % 8),
-        ]
+        self.packed.places(from)
     }
-}
-
-/// The bits of the eight bytes from `first` on, the first one lowest.
-#[inline(always)]
-fn eight_bytes(bytes: &[u8], first: usize) -> u64
-    requires { first + 8 ≤ length bytes.now }
-    ensures { (k : ℕ) → k < 64 → bit_at result k ≡ packed_bit bytes.now (8 * first + k) }
-{
-    lowest_first([
-        bytes[first],
-        bytes[first + 1],
-        bytes[first + 2],
-        bytes[first + 3],
-        bytes[first + 4],
-        bytes[first + 5],
-        bytes[first + 6],
-        bytes[first + 7],
-    ])
 }

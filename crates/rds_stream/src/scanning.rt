@@ -1,7 +1,7 @@
 //! All valid windows of a range.
 ghost use Rattle.std.specs.Prelude.{◌≡◌, ◌≤◌, length, IfOk, IsOkUnless};
 ghost use Rattle.rds_stream.specs.declared.error.StreamError.TheVariants.{OutOfMemory};
-ghost use Rattle.rds_stream.specs.Recording.{valid_windows};
+ghost use Rattle.rds_stream.specs.Recording.{length_of, valid_windows};
 
 use crate::error::StreamError;
 use crate::recording::Recording;
@@ -19,7 +19,7 @@ pub fn scan(
     to: u64,
 ) -> Result<Vec<(u64, Offset)>, StreamError>
     requires order { from ≤ to }
-    requires end { to ≤ length recording.now }
+    requires end { to ≤ length_of recording.now }
     ensures found { IfOk result (λ found. found.items ≡ valid_windows recording.now from to) }
     ensures memory { IsOkUnless result OutOfMemory }
 {

@@ -1,8 +1,9 @@
-//! A tape: the bits of a recording, and a count of the windows that were read.
-ghost use Rattle.std.specs.Prelude.{◌≡◌, List, ℕ, ◌+◌, ◌^◌, ◌<◌, ◌≤◌, length};
-ghost use Rattle.rds_stream.specs.Recording.{window};
+//! A tape: a recording, and a count of the windows that were read.
+ghost use Rattle.std.specs.Prelude.{◌≡◌, ℕ, ◌+◌, ◌^◌, ◌<◌, ◌≤◌, IfSome};
+ghost use Rattle.rds_stream.specs.Recording.{Signal, heard, length_of};
 ghost use Rattle.rds_stream.specs.Tape.{TapeState};
 
+use crate::reader::Reader;
 use crate::recording::Recording;
 use std::marker::Model;
 use std::snapshot::Snapshot;
@@ -11,15 +12,15 @@ use std::snapshot::Snapshot;
 ///
 /// A call that is lent a tape has no other way to the bits.
 pub trait Tape {
-    /// The bits that the tape is of.
-    ghost bits: { Self → List ℕ };
+    /// The recording that the tape is of.
+    ghost signal: { Self → Signal };
 
     /// How many windows were read.
     ghost reads_made: { Self → ℕ };
 
     /// The number of bits, at most 2^36.
     fn len(&self) -> u64
-        ensures value { result ≡ length (bits self.now) }
+        ensures value { result ≡ length_of (signal self.now) }
         ensures limit { result ≤ 2 ^ 36 };
 
     /// How many windows were read.
@@ -28,52 +29,52 @@ pub trait Tape {
 
     /// The recording that the tape is of, for contracts alone.
     fn source(&self) -> Snapshot<Recording>
-        ensures { result.value ≡ bits self.now };
+        ensures { result.value ≡ signal self.now };
 
-    /// The 26 bits that end at `place`, the first one highest; `place` is at least 25, and below the length. It adds one
-    /// to `reads`, which is below 2^63 before the call.
-    fn window(&mut self, place: u64) -> u32
+    /// The 26 bits that end at `place`, the first one highest, or none where they touch a gap; `place` is at least 25,
+    /// and below the length. It adds one to `reads` either way, which is below 2^63 before the call.
+    fn window(&mut self, place: u64) -> Option<u32>
         requires first { 25 ≤ place }
-        requires last { place < length (bits self.old) }
+        requires last { place < length_of (signal self.old) }
         requires room { reads_made self.old < 2 ^ 63 }
-        ensures value { result ≡ window (bits self.old) place }
-        ensures block { result < 2 ^ 26 }
+        ensures value { result ≡ heard (signal self.old) place }
+        ensures block { IfSome result (λ window. window < 2 ^ 26) }
         ensures counts { reads_made self.new ≡ reads_made self.old + 1 }
-        ensures same { bits self.new ≡ bits self.old };
+        ensures same { signal self.new ≡ signal self.old };
 }
 
 /// A tape over a recording that is lent to it.
 #[derive(Drop)]
 pub struct Counted<'a> {
-    recording: &'a Recording,
+    reader: Reader<'a>,
     reads: u64,
 }
 
 impl<'a> Model for Counted<'a> {
     ghost Value = { TapeState };
 
-    ghost view = { λ t. record { bits = t.recording.now; reads = t.reads } };
+    ghost view = { λ t. record { signal = t.reader; reads = t.reads } };
 }
 
 impl Counted<'_> {
     /// A tape from which nothing was read yet. Takes no memory.
     pub fn new(recording: &Recording) -> Counted<'_>
-        ensures { result ≡ record { bits = recording.now; reads = 0 } }
+        ensures { result ≡ record { signal = recording.now; reads = 0 } }
     {
         Counted {
-            recording,
+            reader: Reader::new(recording),
             reads: 0,
         }
     }
 }
 
 impl Tape for Counted<'_> {
-    ghost bits = { λ t. t.bits };
+    ghost signal = { λ t. t.signal };
 
     ghost reads_made = { λ t. t.reads };
 
     fn len(&self) -> u64 {
-        self.recording.len()
+        self.reader.recording().len()
     }
 
     fn reads(&self) -> u64 {
@@ -81,11 +82,11 @@ impl Tape for Counted<'_> {
     }
 
     fn source(&self) -> Snapshot<Recording> {
-        Snapshot::of(self.recording)
+        Snapshot::of(self.reader.recording())
     }
 
-    fn window(&mut self, place: u64) -> u32 {
+    fn window(&mut self, place: u64) -> Option<u32> {
         self.reads += 1;
-        self.recording.window(place)
+        self.reader.window(place)
     }
 }

@@ -1,20 +1,25 @@
 //! The valid windows of a range, one after the other.
 ghost use Rattle.std.specs.Prelude.{◌≡◌, ◌≤◌, ◌<◌, ◌-◌, length};
 ghost use Rattle.std.specs.Iterator.{at_most};
+ghost use Rattle.rds_stream.specs.Recording.{length_of};
+ghost use Rattle.rds_stream.specs.Inside.Sections.{IsSection};
 ghost use Rattle.rds_stream.specs.ValidWindows.{WindowsLeft, GivesFirst, AreMarks};
 
+use crate::gaps::Section;
 use crate::marks::{Marks, above, lowest};
 use crate::recording::{FIRST_WINDOW, Recording};
 use rds_code::Offset;
 use std::marker::Model;
 
-/// The valid windows of a range, each with its place and its offset, by rising place.
+/// The valid windows of a range, each with its place and its offset, by rising place. Windows that touch a gap are left
+/// out.
 ///
 /// It goes over 64 places at once, no further than it is asked for, and takes no memory. Contracts see which places are
 /// left.
 #[derive(Drop)]
 pub struct ValidWindows<'a> {
     recording: &'a Recording,
+    section: Section,
     marks: Marks,
     end: u64,
 }
@@ -22,10 +27,11 @@ pub struct ValidWindows<'a> {
 impl<'a> Model for ValidWindows<'a> {
     ghost Value = { WindowsLeft };
 
-    ghost view = { λ w. record { bits = w.recording.now; next = w.marks.next; end = w.end } };
+    ghost view = { λ w. record { signal = w.recording.now; next = w.marks.next; end = w.end } };
 
     ghost invariant = { λ w. AreMarks w.recording.now w.marks.next w.marks.ahead w.marks.word
-        × (w.marks.ahead < w.end → 25 ≤ w.marks.ahead) × (w.marks.ahead ≤ w.end) × (w.end ≤ length w.recording.now) };
+        × (w.marks.ahead < w.end → 25 ≤ w.marks.ahead) × (w.marks.ahead ≤ w.end) × (w.end ≤ length_of w.recording.now)
+        × IsSection w.recording.now w.section.from w.section.to w.section.touched };
 }
 
 impl ValidWindows<'_> {
@@ -33,11 +39,16 @@ impl ValidWindows<'_> {
     /// recording.
     pub fn new(recording: &Recording, from: u64, to: u64) -> ValidWindows<'_>
         requires order { from ≤ to }
-        requires end { to ≤ length recording.now }
-        ensures { result ≡ record { bits = recording.now; next = from; end = to } }
+        requires end { to ≤ length_of recording.now }
+        ensures { result ≡ record { signal = recording.now; next = from; end = to } }
     {
         ValidWindows {
             recording,
+            section: Section {
+                from,
+                to: from,
+                touched: false,
+            },
             marks: Marks {
                 next: from,
                 ahead: from.max(FIRST_WINDOW.min(to)),
@@ -56,7 +67,9 @@ impl<'a> Iterator for ValidWindows<'a> {
     ghost remaining = { λ w. at_most (w.end - w.next) };
 
     fn next(&mut self) -> Option<(u64, Offset)> {
-        let marks = self.marks.next_marked(self.recording, self.end);
+        let marks = self
+            .marks
+            .next_marked(self.recording, &mut self.section, self.end);
         if marks.word == 0 {
             self.marks = Marks {
                 next: self.end,
@@ -72,7 +85,7 @@ impl<'a> Iterator for ValidWindows<'a> {
             ahead: marks.ahead,
             word: above(marks.word, bit),
         };
-        let offset = self.recording.offset(place)?;
+        let offset = self.recording.stored_offset(place)?;
         Some((place, offset))
     }
 }

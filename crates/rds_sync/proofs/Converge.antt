@@ -1,11 +1,11 @@
 -- Any two runs meet on a sound.
-use Rattle.std.proofs.Common.{◌≡◌, ◌≢◌, ℕ, zero, suc, ◌+◌, ◌-◌, ◌*◌, ◌%◌, ◌/◌, ◌<◌, ◌≤◌, List, Bool, true, false, Option, Some, None, refl, sym, ap, ap₂, ◌∙◌, arith, add-zero, zero-add, inl, inr, ⊎_elim, eqb, cond}
+use Rattle.std.proofs.Common.{◌≡◌, ◌≢◌, ℕ, zero, suc, ◌+◌, ◌-◌, ◌*◌, ◌%◌, ◌/◌, ◌<◌, ◌≤◌, Bool, true, false, Option, Some, None, refl, sym, ap, ap₂, ◌∙◌, arith, add-zero, zero-add, inl, inr, ⊎_elim, eqb, cond}
 use Rattle.std.proofs.Math.Nat.{suc-add, mul-le-mul_right}
 use Rattle.std.proofs.lemmas.Bool.{ne_eqb, eq-eqb, cases_Bool, cases_eq, cases_lt, eqb-true}
 use Rattle.std.proofs.lemmas.List.Sums.{sum_by-cons}
 use Rattle.std.specs.Prelude.{◌==◌, is_some, count_by}
 use Rattle.std.specs.List.{range_with_len, list_any}
-use Rattle.rds_stream.specs.Recording.{off}
+use Rattle.rds_stream.specs.Recording.{Signal, off}
 use Rattle.rds_sync.specs.declared.state.State.{State}
 use Rattle.rds_sync.specs.declared.state.State.TheVariants.{Searching, Locked}
 use Rattle.rds_sync.specs.declared.loss.Bad.{Bad}
@@ -20,7 +20,7 @@ use Rattle.rds_sync.specs.Step.{run, step, locked_after, bad_with}
 use Rattle.rds_sync.specs.Convergence.{IsSound, IsLastFour, sound_blocks, SoundRangesHaveFours, RunsConverge}
 use Rattle.rds_sync.proofs.RivalLemmas.{every_26, few_in_phase}
 
-module _ (b : List ℕ) (rules : RuleNumbers) where
+module _ (b : Signal) (rules : RuleNumbers) where
   -- the state after the next bits from place a
   abbrev after : State → ℕ → ℕ → State
   after s a zero = s
@@ -189,7 +189,7 @@ module _ (b : List ℕ) (rules : RuleNumbers) where
         ∙ rw (place, number_next k) (stays d (suc k) (bad_after rules.loss true bad) (cond (number_after c k == 4) 1 f) (suc r)
         (lawful_kept rules.loss bad true h kept) (clean_more rules.loss bad r clean) (omega arith) (omega arith) (rw (← moved) four)))
 
-module _ (b : List ℕ) (rules : RuleNumbers) (p c last : ℕ) (sequence : (k : ℕ) → k ≤ last → has_number b (p + 26 * k) (number_after c k) ≡ true) where
+module _ (b : Signal) (rules : RuleNumbers) (p c last : ℕ) (sequence : (k : ℕ) → k ≤ last → has_number b (p + 26 * k) (number_after c k) ≡ true) where
   -- a search that finds block k of the sequence is between two groups after the last block, which has number 4
   search_joins : (d q k : ℕ) → IsLoss rules.loss → p + 26 * k ≡ q + d → k ≤ last → number_after c last ≡ 4
       → ((r : ℕ) → q ≤ r → r < q + d → acquired b rules r ≡ None) → acquired b rules (q + d) ≡ Some (number_after c k)
@@ -262,7 +262,7 @@ module _ (b : List ℕ) (rules : RuleNumbers) (p c last : ℕ) (sequence : (k : 
         (λ r l u. elim (cases_eq r p) [ inl same ↦ rw same e | inr other ↦ quiet r l (omega arith) (λ j e2. absurd (omega arith)) ])
         (rw at (seq_acquires 1 reach (omega arith) some))
 
-module _ (b : List ℕ) (rules : RuleNumbers) where
+module _ (b : Signal) (rules : RuleNumbers) where
   -- how many of the next n places of this phase have an offset
   abbrev valid : ℕ → ℕ → ℕ
   valid due n = count_by (λ r. is_some (off b r)) (every_26 due n)
@@ -410,7 +410,7 @@ sound_ranges_have_fours b rules j s p c sound =
     )
 
 -- the range ends before the next block of number 4
-ends_soon : (s to p c last : ℕ) (b : List ℕ) → IsLastFour b s to p c last → to ≤ p + 26 * (last + 4)
+ends_soon : (s to p c last : ℕ) (b : Signal) → IsLastFour b s to p c last → to ≤ p + 26 * (last + 4)
 ends_soon s to p c last b four = elim (cases_lt (p + 26 * (last + 4)) to) [
   | inl within ↦
       let number = four.number in

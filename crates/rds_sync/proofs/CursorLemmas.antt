@@ -4,7 +4,7 @@ use Rattle.std.proofs.lemmas.List.{map-append, length-map}
 use Rattle.std.proofs.Math.Seq.{take-append-add}
 use Rattle.rds_sync.specs.declared.item.Item.{Item}
 use Rattle.rds_sync.specs.declared.kept.Kept.{Kept}
-use Rattle.rds_sync.specs.Kept.{item_of, items_of}
+use Rattle.rds_sync.specs.Inside.Kept.{item_of, items_of}
 
 -- the first of them, and then as many as are left
 pub taken_first : (others : List Item) (kept taken rest : List Kept) (after : List Item) (left : ℕ) → kept ≡ taken ++ rest → length taken ≤ left

@@ -1,6 +1,7 @@
 -- The block that is due: what it does to its lock, and what it gives.
-use Rattle.std.proofs.Common.{◌≡◌, ℕ, ◌+◌, ◌%◌, ◌<◌, List, [], ◌∷◌, Bool, true, false, refl, sym, ap, ◌∙◌, arith}
+use Rattle.std.proofs.Common.{◌≡◌, ℕ, ◌+◌, ◌%◌, ◌<◌, [], ◌∷◌, Bool, true, false, refl, sym, ap, ◌∙◌, arith}
 use Rattle.std.proofs.lemmas.Bool.{eq-eqb, ne_eqb}
+use Rattle.rds_stream.specs.Recording.{Signal}
 use Rattle.rds_sync.specs.declared.due.Due.{Due}
 use Rattle.rds_sync.specs.declared.due.Due.TheVariants.{Inside, Closed, Lost}
 use Rattle.rds_sync.specs.declared.due.Lock.{Lock}
@@ -8,21 +9,21 @@ use Rattle.rds_sync.specs.declared.item.Item.TheVariants.{Group, LostLock}
 use Rattle.rds_sync.specs.declared.loss.Bad.{Bad}
 use Rattle.rds_sync.specs.declared.state.State.TheVariants.{Searching, Locked}
 use Rattle.rds_sync.specs.Acquiring.{has_number}
-use Rattle.rds_sync.specs.Due.{state_in, state_of, IsKept, IsAfter}
+use Rattle.rds_sync.specs.Inside.Due.{state_in, state_of, IsKept, IsAfter}
 use Rattle.rds_sync.specs.Groups.{group}
 use Rattle.rds_sync.specs.Loss.{bad_after, are_too_many}
 use Rattle.rds_sync.specs.Rules.{RuleNumbers}
 use Rattle.rds_sync.specs.Step.{step, items_at, locked_after, group_after}
 use Rattle.rds_sync.proofs.RunLemmas.{step-keeping, items-keeping, step-losing, items-losing}
 
-pub group_after-inside : (b : List ℕ) (rules : RuleNumbers) (first number due : ℕ) → number < 4 → group_after b rules first number due ≡ []
+pub group_after-inside : (b : Signal) (rules : RuleNumbers) (first number due : ℕ) → number < 4 → group_after b rules first number due ≡ []
 group_after-inside b rules first number due inside = rw (ne_eqb number 4 (λ e. omega arith), group_after) refl
 
-pub group_after-four : (b : List ℕ) (rules : RuleNumbers) (first number due : ℕ) → number ≡ 4
+pub group_after-four : (b : Signal) (rules : RuleNumbers) (first number due : ℕ) → number ≡ 4
     → group_after b rules first number due ≡ Group (group b rules first number due) ∷ []
 group_after-four b rules first number due four = rw (eq-eqb number 4 four, group_after) refl
 
-module _ (b : List ℕ) (rules : RuleNumbers) (lock : Lock) (good : Bool) (good_is : good ≡ has_number b lock.due lock.number) where
+module _ (b : Signal) (rules : RuleNumbers) (lock : Lock) (good : Bool) (good_is : good ≡ has_number b lock.due lock.number) where
   -- whether the lock is lost, by whether its block is good
   too_many : (t : Bool) → are_too_many rules.loss (bad_after rules.loss good lock.bad) ≡ t
       → are_too_many rules.loss (bad_after rules.loss (has_number b lock.due lock.number) lock.bad) ≡ t

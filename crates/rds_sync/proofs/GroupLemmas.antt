@@ -11,7 +11,7 @@ use Rattle.rds_code.specs.declared.reading.Reading.TheVariants.{Valid, Corrected
 use Rattle.rds_code.specs.Offsets.{number, offset_of}
 use Rattle.rds_code.specs.Reading.{reading, corrected, by_only, corrections, wanted_offsets, information}
 use Rattle.rds_code.specs.Remainder.{rem}
-use Rattle.rds_stream.specs.Recording.{window}
+use Rattle.rds_stream.specs.Recording.{Signal, heard, reading_heard, reading_at}
 use Rattle.rds_sync.specs.declared.item.Version.{Version}
 use Rattle.rds_sync.specs.declared.item.Version.TheVariants.{A, B, Unknown}
 use Rattle.rds_sync.specs.declared.item.Block.{Block}
@@ -23,20 +23,23 @@ use Rattle.rds_sync.proofs.GroupBlocks.{block_at-read, block_at-missing}
 use Rattle.rds_sync.specs.GroupLaws.{VersionIsRead, VersionsDiffer, GroupIsRead}
 
 -- which of C and C' is wanted matters for block 3 alone
-pub reading-wanted_1 : (w limit : ℕ) (wanted : Wanted) → reading w 1 Either limit ≡ reading w 1 wanted limit
-reading-wanted_1 w limit OnlyC = refl
-reading-wanted_1 w limit OnlyCx = refl
-reading-wanted_1 w limit Either = refl
+reading-wanted_1 : (h : Option ℕ) (limit : ℕ) (wanted : Wanted) → reading_heard h 1 Either limit ≡ reading_heard h 1 wanted limit
+reading-wanted_1 None limit wanted = refl
+reading-wanted_1 (Some w) limit OnlyC = refl
+reading-wanted_1 (Some w) limit OnlyCx = refl
+reading-wanted_1 (Some w) limit Either = refl
 
-pub reading-wanted_2 : (w limit : ℕ) (wanted : Wanted) → reading w 2 Either limit ≡ reading w 2 wanted limit
-reading-wanted_2 w limit OnlyC = refl
-reading-wanted_2 w limit OnlyCx = refl
-reading-wanted_2 w limit Either = refl
+reading-wanted_2 : (h : Option ℕ) (limit : ℕ) (wanted : Wanted) → reading_heard h 2 Either limit ≡ reading_heard h 2 wanted limit
+reading-wanted_2 None limit wanted = refl
+reading-wanted_2 (Some w) limit OnlyC = refl
+reading-wanted_2 (Some w) limit OnlyCx = refl
+reading-wanted_2 (Some w) limit Either = refl
 
-pub reading-wanted_4 : (w limit : ℕ) (wanted : Wanted) → reading w 4 Either limit ≡ reading w 4 wanted limit
-reading-wanted_4 w limit OnlyC = refl
-reading-wanted_4 w limit OnlyCx = refl
-reading-wanted_4 w limit Either = refl
+reading-wanted_4 : (h : Option ℕ) (limit : ℕ) (wanted : Wanted) → reading_heard h 4 Either limit ≡ reading_heard h 4 wanted limit
+reading-wanted_4 None limit wanted = refl
+reading-wanted_4 (Some w) limit OnlyC = refl
+reading-wanted_4 (Some w) limit OnlyCx = refl
+reading-wanted_4 (Some w) limit Either = refl
 
 -- a block that was corrected is not valid
 by_only-valid : (w : ℕ) (pairs : List (Offset × ℕ)) (o : Offset) (info : ℕ) → by_only w pairs ≢ Valid o info
@@ -45,7 +48,7 @@ by_only-valid w (pair ∷ []) o info e = cc e
 by_only-valid w (pair ∷ other ∷ pairs) o info e = cc e
 
 -- a valid block has the number that it is read as
-pub reading-number : (w x limit : ℕ) (wanted : Wanted) (o : Offset) (info : ℕ) → reading w x wanted limit ≡ Valid o info → number o ≡ x
+reading-number : (w x limit : ℕ) (wanted : Wanted) (o : Offset) (info : ℕ) → reading w x wanted limit ≡ Valid o info → number o ≡ x
 reading-number w x limit wanted o info e = at_case (offset_of (rem w)) e where
   at_case : (r : Option Offset)
       → elim r as (λ _. Reading) [
@@ -62,6 +65,10 @@ reading-number w x limit wanted o info e = at_case (offset_of (rem w)) e where
         let not_valid : corrected w x wanted limit ≡ Valid o info = rw other at t in
         absurd (by_only-valid w (corrections (wanted_offsets x wanted) limit w) o info not_valid)
   ]
+
+heard-number : (h : Option ℕ) (x limit : ℕ) (wanted : Wanted) (o : Offset) (info : ℕ) → reading_heard h x wanted limit ≡ Valid o info → number o ≡ x
+heard-number None x limit wanted o info e = cc e
+heard-number (Some w) x limit wanted o info e = reading-number w x limit wanted o info e
 
 number_3 : (o : Offset) → number o ≡ 3 → (o ≡ C) ⊎ (o ≡ Cx)
 number_3 OA e = absurd (omega arith)
@@ -217,7 +224,7 @@ module _ (one two three four : Block) where
 
 -- blocks
 
-module _ (b : List ℕ) (rules : RuleNumbers) (f x p : ℕ) where
+module _ (b : Signal) (rules : RuleNumbers) (f x p : ℕ) where
   abbrev second : Block
   second = block_at b rules f x p Either 2
 
@@ -234,14 +241,14 @@ module _ (b : List ℕ) (rules : RuleNumbers) (f x p : ℕ) where
     | inr after ↦ elim (cases_lt x 3) [
       | inl late ↦ let none : Missing ≡ Read (Valid o info) = sym (block_at-missing b rules f x p (wanted_beside second) 3 (inr late)) ∙ e in cc none
       | inr before ↦
-          let is : Read (reading (window b (p - 26 * (x - 3))) 3 (wanted_beside second) rules.burst) ≡ Read (Valid o info) =
+          let is : Read (reading_at b (p - 26 * (x - 3)) 3 (wanted_beside second) rules.burst) ≡ Read (Valid o info) =
           sym (block_at-read b rules f x p (wanted_beside second) 3 after before) ∙ e in
-          reading-number (window b (p - 26 * (x - 3))) 3 rules.burst (wanted_beside second) o info (cc is)
+          heard-number (heard b (p - 26 * (x - 3))) 3 rules.burst (wanted_beside second) o info (cc is)
     ]
   ]
 
   read_as : 1 ≤ f → x ≤ 4 → (y : ℕ) → f ≤ y → y ≤ x
-      → slice_get the_group.blocks (y - 1) ≡ Some (Read (reading (window b (p - 26 * (x - y))) y (wanted_beside second) rules.burst))
+      → slice_get the_group.blocks (y - 1) ≡ Some (Read (reading_at b (p - 26 * (x - y)) y (wanted_beside second) rules.burst))
   read_as low high zero after before = absurd (omega arith)
   read_as low high (suc zero) after before = ap Some (block_at-read b rules f x p Either 1 after before ∙ ap Read (reading-wanted_1 _ rules.burst (wanted_beside second)))
   read_as low high (suc (suc zero)) after before = ap Some (block_at-read b rules f x p Either 2 after before ∙ ap Read (reading-wanted_2 _ rules.burst (wanted_beside second)))

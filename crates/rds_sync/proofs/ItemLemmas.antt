@@ -1,6 +1,7 @@
 -- How many items a run gives, and that they are the report's.
 use Rattle.std.proofs.Common.{◌≡◌, ◌≢◌, ℕ, zero, suc, ◌+◌, ◌-◌, ◌*◌, ◌≤◌, List, [], ◌∷◌, ◌++◌, length, Option, Some, None, ap, ap₂, ◌∙◌, refl, arith, length-append, inl, inr}
 use Rattle.std.proofs.lemmas.Bool.{eq-eqb, ne_eqb, cases_Bool, cases_eq}
+use Rattle.rds_stream.specs.Recording.{Signal, length_of}
 use Rattle.rds_sync.specs.Acquiring.{acquired}
 use Rattle.rds_sync.specs.Loss.{IsLoss, are_too_many}
 use Rattle.rds_sync.specs.Report.{report_items}
@@ -13,7 +14,7 @@ use Rattle.rds_sync.proofs.RunIsReport.{run_is_report}
 use Rattle.rds_sync.proofs.RunLemmas.{items-keeping, items-losing, items-searching, items-acquiring, items-waiting}
 
 -- a bit gives at most two items
-items_at-few : (b : List ℕ) (rules : RuleNumbers) (i : ℕ) (s : State) → length (items_at b rules i s) ≤ 2
+items_at-few : (b : Signal) (rules : RuleNumbers) (i : ℕ) (s : State) → length (items_at b rules i s) ≤ 2
 items_at-few b rules i Searching = at_case (acquired b rules i) refl where
   at_case : (w : Option ℕ) → acquired b rules i ≡ w → length (items_at b rules i Searching) ≤ 2
   at_case None e = rw (items-searching b rules i e) (omega arith)
@@ -33,7 +34,7 @@ items_at-few b rules i (Locked due x bad f) = elim (cases_eq due i) [
 ]
 
 -- so a run gives at most two a bit
-pub run_items-few : (b : List ℕ) (rules : RuleNumbers) (s : State) (a n : ℕ) → length (run b rules s a n).1 ≤ 2 * n
+pub run_items-few : (b : Signal) (rules : RuleNumbers) (s : State) (a n : ℕ) → length (run b rules s a n).1 ≤ 2 * n
 run_items-few b rules s a zero = omega arith
 run_items-few b rules s a (suc n) =
     omega (
@@ -43,7 +44,7 @@ run_items-few b rules s a (suc n) =
       length-append (items_at b rules a s) (run b rules (step b rules a s) (a + 1) n).1,
     )
 
-items_of_end-few : (b : List ℕ) (rules : RuleNumbers) (s : State) → length (items_of_end b rules s) ≤ 1
+items_of_end-few : (b : Signal) (rules : RuleNumbers) (s : State) → length (items_of_end b rules s) ≤ 1
 items_of_end-few b rules Searching = omega arith
 items_of_end-few b rules (Locked due x bad f) = elim (cases_eq x 1) [
   | inl one ↦ rw (eq-eqb x 1 one, items_of_end) (omega arith)
@@ -55,16 +56,16 @@ pub some_given : (given : List Item) (item : Item) (others : List Item) → give
 some_given given item others is none = cc
 
 -- the items of a run over a whole recording, with those of its end
-pub report-run : (b : List ℕ) (rules : RuleNumbers) (n : ℕ) (s : State) (items : List Item) → IsLoss rules.loss → n ≡ length b
+pub report-run : (b : Signal) (rules : RuleNumbers) (n : ℕ) (s : State) (items : List Item) → IsLoss rules.loss → n ≡ length_of b
     → s ≡ (run b rules Searching 0 (n - 0)).0 → items ≡ (run b rules Searching 0 (n - 0)).1
     → items ++ items_of_end b rules s ≡ report_items b rules
 report-run b rules n s items loss whole state_is items_are =
-    let bits : n - 0 ≡ length b = omega arith in
+    let bits : n - 0 ≡ length_of b = omega arith in
     ap₂ (λ (t : State) (is : List Item). is ++ items_of_end b rules t) state_is items_are
     ∙ ap (λ (m : ℕ). (run b rules Searching 0 m).1 ++ items_of_end b rules (run b rules Searching 0 m).0) bits
     ∙ run_is_report b rules loss
 
-pub report-few : (b : List ℕ) (rules : RuleNumbers) (n : ℕ) (s : State) (items ended : List Item)
+pub report-few : (b : Signal) (rules : RuleNumbers) (n : ℕ) (s : State) (items ended : List Item)
     → items ≡ (run b rules Searching 0 (n - 0)).1 → ended ≡ items_of_end b rules s → length (items ++ ended) ≤ 2 * n + 1
 report-few b rules n s items ended items_are end_is =
     omega (

@@ -6,7 +6,7 @@ use Rattle.std.proofs.lemmas.List.Elements.{recursion_from_All, All-from_recursi
 use Rattle.rds_sync.specs.declared.item.Item.{Item}
 use Rattle.rds_sync.specs.declared.kept.Kept.{Kept}
 use Rattle.rds_sync.specs.declared.kept.Kept.TheVariants.{WithC, WithCx, Other}
-use Rattle.rds_sync.specs.Kept.{item_of, items_of, IsFound}
+use Rattle.rds_sync.specs.Inside.Kept.{item_of, items_of, IsFound}
 
 same_beside : (others : List Item) (x : Item) (k : Kept) → IsFound others k → item_of (others ++ x ∷ []) k ≡ item_of others k
 same_beside others x (WithC place words) found = refl

@@ -1,12 +1,12 @@
 -- Where a place acquires, and the states that follow on a lawful one.
-use Rattle.std.proofs.Common.{◌≡◌, ℕ, zero, suc, ◌+◌, ◌-◌, ◌*◌, ◌%◌, ◌<◌, ◌≤◌, List, Bool, true, false, Option, Some, None, refl, sym, ap, subst, arith, inl, inr, ⊎_elim}
+use Rattle.std.proofs.Common.{◌≡◌, ℕ, zero, suc, ◌+◌, ◌-◌, ◌*◌, ◌%◌, ◌<◌, ◌≤◌, Bool, true, false, Option, Some, None, refl, sym, ap, subst, arith, inl, inr, ⊎_elim}
 use Rattle.std.proofs.lemmas.Bool.{ne_eqb, cases_eq, cases_lt, cases_Bool, eqb-true, lt-ltb}
 use Rattle.std.specs.Prelude.{◌==◌}
 use Rattle.std.specs.List.{list_any, range_with_len}
 use Rattle.rds_code.specs.declared.offset.Offset.{Offset}
 use Rattle.rds_code.specs.declared.offset.Offset.TheVariants.{A, B, C, Cx, D}
 use Rattle.rds_code.specs.Offsets.{number}
-use Rattle.rds_stream.specs.Recording.{off}
+use Rattle.rds_stream.specs.Recording.{Signal, off}
 use Rattle.rds_sync.specs.declared.state.State.{State}
 use Rattle.rds_sync.specs.declared.state.State.TheVariants.{Searching, Locked}
 use Rattle.rds_sync.specs.declared.loss.Bad.{Bad}
@@ -26,7 +26,7 @@ number-range C = (omega arith, omega arith)
 number-range Cx = (omega arith, omega arith)
 number-range D = (omega arith, omega arith)
 
-module _ (b : List ℕ) where
+module _ (b : Signal) where
   -- no window ends before place 25
   pub off-place : (i : ℕ) (o : Offset) → off b i ≡ Some o → 25 ≤ i
   unfolding off
@@ -54,7 +54,7 @@ any-range p a (suc n) h = elim (cases_Bool (p a)) [
       (found.0, omega (arith, found.1), omega (arith, found.2), found.3)
 ]
 
-module _ (b : List ℕ) (rules : RuleNumbers) where
+module _ (b : Signal) (rules : RuleNumbers) where
   -- what it is that a place acquires
   pub record IsAcquired (i x : ℕ) : Type 0 where
     pub offset : Offset
@@ -132,7 +132,7 @@ pub lawful-numbers : (rules : RuleNumbers) (place due number : ℕ) (bad : Bad) 
 lawful-numbers rules place due number bad first lawful =
     ⊎_elim (λ o. (omega (arith, o), omega (arith, o), omega (arith, o))) (λ o. (omega (arith, o), omega (arith, o), omega (arith, o))) lawful.in_order
 
-module _ (b : List ℕ) (rules : RuleNumbers) where
+module _ (b : Signal) (rules : RuleNumbers) where
   -- one bit leads from a lawful state to a lawful state
   pub lawful-step : IsLoss rules.loss → (i : ℕ) (s : State) → IsLawful rules i s → IsLawful rules (i + 1) (step b rules i s)
   lawful-step loss i Searching lawful = at_case (acquired b rules i) refl where
@@ -185,7 +185,7 @@ lawful-waiting rules place later due number bad first lawful order before =
     record { soon = (before, omega (arith, soon.1)); few_bad = lawful.few_bad; enough_bits = lawful.enough_bits; in_order = lawful.in_order }
 
 -- the state after the block that is due is lawful
-pub lawful-due : (b : List ℕ) (rules : RuleNumbers) (place due number : ℕ) (bad : Bad) (first : ℕ) → IsLoss rules.loss → IsLawfulLock rules place due number bad first
+pub lawful-due : (b : Signal) (rules : RuleNumbers) (place due number : ℕ) (bad : Bad) (first : ℕ) → IsLoss rules.loss → IsLawfulLock rules place due number bad first
     → IsLawful rules (due + 1) (step b rules due (Locked due number bad first))
 lawful-due b rules place due number bad first loss lawful =
     lawful-step b rules loss due (Locked due number bad first)

@@ -2,6 +2,7 @@
 use Rattle.std.proofs.Common.{◌≡◌, ◌≢◌, ℕ, suc, ◌+◌, ◌-◌, ◌*◌, ◌%◌, ◌≤◌, List, [], ◌∷◌, ◌++◌, Bool, true, false, refl, sym, ◌∙◌, arith, inl, inr, cond}
 use Rattle.std.proofs.lemmas.Bool.{ne_eqb, cases_eq, cases_lt, le-leb, lt-leb, eq-eqb}
 use Rattle.std.specs.Prelude.{◌==◌}
+use Rattle.rds_stream.specs.Recording.{Signal}
 use Rattle.rds_sync.specs.declared.loss.Bad.{Bad}
 use Rattle.rds_sync.specs.declared.state.State.{State}
 use Rattle.rds_sync.specs.declared.state.State.TheVariants.{Searching, Locked}
@@ -21,7 +22,7 @@ cond_same : (c : Bool) (n : ℕ) → cond c n n ≡ n
 cond_same true n = refl
 cond_same false n = refl
 
-module _ (b : List ℕ) (rules : RuleNumbers) (a x : ℕ) where
+module _ (b : Signal) (rules : RuleNumbers) (a x : ℕ) where
   -- what is kept of the bad blocks once block k was read
   abbrev pub bad : ℕ → Bad
   bad k = bad_at (is_good b rules a x) rules.loss k

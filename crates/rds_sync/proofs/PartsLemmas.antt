@@ -4,7 +4,7 @@ use Rattle.std.proofs.lemmas.List.{get_or-drop, get_or_append_left}
 use Rattle.std.proofs.lemmas.Option.{slice_get-get_or, get_or_from_slice_get}
 use Rattle.std.proofs.Math.Seq.{drop-append-add}
 use Rattle.rds_sync.specs.declared.item.Item.{Item}
-use Rattle.rds_sync.specs.Parts.{items_in, IsInFirst}
+use Rattle.rds_sync.specs.Inside.Parts.{items_in, IsInFirst}
 
 -- a number that the first part reaches, if there is a part
 abbrev pub StartsInFirst : List (List Item) → ℕ → Type 0

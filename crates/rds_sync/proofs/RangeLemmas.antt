@@ -6,7 +6,7 @@ use Rattle.std.proofs.lemmas.List.{drop-take, drop-drop, drop-map, take-map, get
 use Rattle.std.proofs.lemmas.Option.{slice_get-get_or, get_or_from_slice_get}
 use Rattle.rds_sync.specs.declared.item.Item.{Item}
 use Rattle.rds_sync.specs.declared.kept.Kept.{Kept}
-use Rattle.rds_sync.specs.Kept.{item_of, items_of}
+use Rattle.rds_sync.specs.Inside.Kept.{item_of, items_of}
 
 -- how long it is
 pub range_len : {X : Type 0} (xs : List X) (from to : ℕ) → from ≤ to → to ≤ length xs → length (slice_range xs from to) ≡ to - from

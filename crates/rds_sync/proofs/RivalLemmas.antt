@@ -6,7 +6,7 @@ use Rattle.std.specs.List.Sorted.{IsStrictlyIncreasing}
 use Rattle.std.proofs.lemmas.List.Elements.{All-filter, filter_passes}
 use Rattle.std.proofs.lemmas.List.Kept.{IsStrictlyIncreasing-filter}
 use Rattle.std.proofs.lemmas.List.Sums.{length-filter}
-use Rattle.rds_stream.specs.Recording.{off}
+use Rattle.rds_stream.specs.Recording.{Signal, off}
 use Rattle.rds_sync.specs.Rules.{RuleNumbers}
 use Rattle.rds_sync.specs.Convergence.{IsSound, IsRival, sound_blocks}
 
@@ -33,7 +33,7 @@ every_26_rises first n k h =
     let high = nth_every_26 first n (k + 1) 0 (omega (arith, h, few)) in
     omega (arith, low, high)
 
-module _ (b : List ℕ) (rules : RuleNumbers) (j s p c : ℕ) (sound : IsSound b rules j s p c) where
+module _ (b : Signal) (rules : RuleNumbers) (j s p c : ℕ) (sound : IsSound b rules j s p c) where
   -- no more places of another phase than the sequence's have an offset than rivals share one
   pub few_in_phase : (phase : ℕ) → s ≤ phase → phase < s + 26 → phase ≢ p
       → count_by (λ r. is_some (off b r)) (every_26 phase (sound_blocks rules.loss j)) ≤ j

@@ -1,8 +1,9 @@
 -- The items of the run from Searching are those of the locks, one after the other: the run is the report.
-use Rattle.std.proofs.Common.{◌≡◌, ◌≢◌, ℕ, zero, suc, ◌+◌, ◌-◌, ◌*◌, ◌≤◌, List, [], ◌∷◌, ◌++◌, length, Bool, true, false, Option, Some, None, refl, sym, ap, ◌∙◌, arith, append_assoc, add-one, one-add, inl, inr}
+use Rattle.std.proofs.Common.{◌≡◌, ◌≢◌, ℕ, zero, suc, ◌+◌, ◌-◌, ◌*◌, ◌≤◌, List, [], ◌∷◌, ◌++◌, Bool, true, false, Option, Some, None, refl, sym, ap, ◌∙◌, arith, append_assoc, add-one, one-add, inl, inr}
 use Rattle.std.proofs.lemmas.Bool.{ne_eqb, cases_Bool, cases_eq, eq-eqb}
 use Rattle.std.specs.Prelude.{MatchOption, filter_map, find}
 use Rattle.std.specs.List.{range_with_len}
+use Rattle.rds_stream.specs.Recording.{Signal, length_of}
 use Rattle.rds_sync.specs.declared.state.State.TheVariants.{Searching}
 use Rattle.rds_sync.specs.declared.item.Item.{Item}
 use Rattle.rds_sync.specs.declared.item.Item.TheVariants.{Acquired, LostLock}
@@ -25,7 +26,7 @@ find_low p c (suc d) k e = elim (cases_Bool (p c)) [
       let more : c + 1 ≤ k = find_low p (c + 1) d k (sym f ∙ e) in omega arith
 ]
 
-module _ (b : List ℕ) (rules : RuleNumbers) (a x : ℕ) where
+module _ (b : Signal) (rules : RuleNumbers) (a x : ℕ) where
   -- where the lock ends
   read_none : end b rules a x ≡ None → read_blocks b rules a x ≡ places b rules a x
   read_none e = rw (e, read_blocks) refl
@@ -77,8 +78,8 @@ module _ (b : List ℕ) (rules : RuleNumbers) (a x : ℕ) where
   find_later : (k d : ℕ) → loses_at b rules a x k ≡ false → find (loses_at b rules a x) (range_with_len k (suc d)) ≡ find (loses_at b rules a x) (range_with_len (suc k) d)
   find_later k d e = rw (← add-one k, e, find) refl
 
-  tail : (fuel : ℕ) → ((q m : ℕ) → q + m ≡ length b → m ≤ fuel → whole b rules Searching q m ≡ items_from b rules fuel q)
-      → 1 ≤ x → (d k bits : ℕ) → suc k + d ≡ places b rules a x → a + 26 * k + 1 + bits ≡ length b → bits ≤ fuel
+  tail : (fuel : ℕ) → ((q m : ℕ) → q + m ≡ length_of b → m ≤ fuel → whole b rules Searching q m ≡ items_from b rules fuel q)
+      → 1 ≤ x → (d k bits : ℕ) → suc k + d ≡ places b rules a x → a + 26 * k + 1 + bits ≡ length_of b → bits ≤ fuel
       → end b rules a x ≡ find (loses_at b rules a x) (range_with_len (suc k) d)
       → closes b rules a x k ++ whole b rules (S b rules a x k) (a + 26 * k + 1) bits ≡ groups_from k (read_blocks b rules a x - k) ++ (loss_items b rules a x ++ rest fuel)
   tail fuel again low zero k bits all total few e =
@@ -118,10 +119,10 @@ module _ (b : List ℕ) (rules : RuleNumbers) (a x : ℕ) where
         ∙ append_assoc (closes b rules a x k) (G b rules a x (suc k) ∷ []) (LostLock (a + 26 * suc k) ∷ items_from b rules fuel (a + 26 * suc k + 1))))
   ]
 
-module _ (b : List ℕ) (rules : RuleNumbers) where
+module _ (b : Signal) (rules : RuleNumbers) where
   -- one lock from its first place on
-  from_lock : (fuel : ℕ) → ((q m : ℕ) → q + m ≡ length b → m ≤ fuel → whole b rules Searching q m ≡ items_from b rules fuel q) → IsLoss rules.loss
-      → (a x left : ℕ) → acquired b rules a ≡ Some x → a + (left + 1) ≡ length b → left ≤ fuel
+  from_lock : (fuel : ℕ) → ((q m : ℕ) → q + m ≡ length_of b → m ≤ fuel → whole b rules Searching q m ≡ items_from b rules fuel q) → IsLoss rules.loss
+      → (a x left : ℕ) → acquired b rules a ≡ Some x → a + (left + 1) ≡ length_of b → left ≤ fuel
       → whole b rules Searching a (suc left) ≡ items_of_lock b rules a x ++ rest b rules a x fuel
   from_lock fuel again loss a x left e total few =
       let range = acquired-range b rules a x e in
@@ -145,18 +146,18 @@ module _ (b : List ℕ) (rules : RuleNumbers) where
       ∙ ap (λ (r : ℕ). groups_from b rules a x 0 r ++ (loss_items b rules a x ++ rest b rules a x fuel)) none_before
       ∙ sym (append_assoc (groups_from b rules a x 0 (read_blocks b rules a x)) (loss_items b rules a x) (rest b rules a x fuel)))
 
-  locks_are : IsLoss rules.loss → (fuel q m : ℕ) → q + m ≡ length b → m ≤ fuel → whole b rules Searching q m ≡ items_from b rules fuel q
+  locks_are : IsLoss rules.loss → (fuel q m : ℕ) → q + m ≡ length_of b → m ≤ fuel → whole b rules Searching q m ≡ items_from b rules fuel q
   locks_are loss zero q zero total few = refl
   locks_are loss zero q (suc m) total few = absurd (omega arith)
   locks_are loss (suc fuel) q m total few =
-      let left : length b - q ≡ m = omega arith in
+      let left : length_of b - q ≡ m = omega arith in
       rw (left, items_from) (at_case (locks_are loss fuel) (first_lock b rules q m) refl (found b rules q m)) where
-        at_case : ((q2 m2 : ℕ) → q2 + m2 ≡ length b → m2 ≤ fuel → whole b rules Searching q2 m2 ≡ items_from b rules fuel q2)
+        at_case : ((q2 m2 : ℕ) → q2 + m2 ≡ length_of b → m2 ≤ fuel → whole b rules Searching q2 m2 ≡ items_from b rules fuel q2)
             → (o : Option (ℕ × ℕ)) → first_lock b rules q m ≡ o → MatchOption o (whole b rules Searching q m ≡ []) (Found b rules (whole b rules Searching q m) (q + m) q)
             → whole b rules Searching q m ≡ elim (first_lock b rules q m) as (λ _. List Item) [ None ↦ [] | Some l ↦ items_of_lock b rules l.0 l.1 ++ rest b rules l.0 l.1 fuel ]
         at_case again None e h = rw e h
         at_case again (Some l) e h = rw e (h.4 ∙ from_lock fuel again loss l.0 l.1 h.0 h.3 (h.1 ∙ total) (omega (arith, h.1, h.2)))
 
   -- the items of the run over the whole recording, and of its end, are the report's
-  pub run_is_report : IsLoss rules.loss → (run b rules Searching 0 (length b)).1 ++ items_of_end b rules (run b rules Searching 0 (length b)).0 ≡ report_items b rules
-  run_is_report loss = whole_is b rules Searching 0 (length b) ∙ locks_are loss (length b) 0 (length b) (omega arith) (omega arith)
+  pub run_is_report : IsLoss rules.loss → (run b rules Searching 0 (length_of b)).1 ++ items_of_end b rules (run b rules Searching 0 (length_of b)).0 ≡ report_items b rules
+  run_is_report loss = whole_is b rules Searching 0 (length_of b) ∙ locks_are loss (length_of b) 0 (length_of b) (omega arith) (omega arith)

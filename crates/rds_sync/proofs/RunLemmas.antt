@@ -2,6 +2,7 @@
 use Rattle.std.proofs.Common.{◌≡◌, ◌≢◌, ℕ, zero, suc, ◌+◌, ◌-◌, ◌<◌, ◌≤◌, List, [], ◌∷◌, ◌++◌, true, false, Some, None, refl, sym, ap, ap₂, ◌∙◌, arith, append_assoc, append-nil, add-zero, zero-add}
 use Rattle.std.proofs.Math.Nat.{suc-add}
 use Rattle.std.proofs.lemmas.Bool.{ne_eqb, eq-eqb}
+use Rattle.rds_stream.specs.Recording.{Signal}
 use Rattle.rds_sync.specs.declared.state.State.{State}
 use Rattle.rds_sync.specs.declared.state.State.TheVariants.{Searching, Locked}
 use Rattle.rds_sync.specs.declared.item.Item.{Item}
@@ -13,7 +14,7 @@ use Rattle.rds_sync.specs.Acquiring.{acquired}
 use Rattle.rds_sync.specs.Groups.{group}
 use Rattle.rds_sync.specs.Step.{run, step, items_at, locked_after, bad_with, group_after}
 
-module _ (b : List ℕ) (rules : RuleNumbers) where
+module _ (b : Signal) (rules : RuleNumbers) where
   -- one bit
 
   pub step-acquiring : (i x : ℕ) → acquired b rules i ≡ Some x → step b rules i Searching ≡ locked_after i x (none_bad rules.loss) x
@@ -135,7 +136,7 @@ module _ (b : List ℕ) (rules : RuleNumbers) where
       ∙ run-searching (a + 1) n (λ i low high. none i (omega arith) (omega arith))
 
 -- a step, by its first state and its places
-module _ (b : List ℕ) (rules : RuleNumbers) (s : State) (place after : ℕ) where
+module _ (b : Signal) (rules : RuleNumbers) (s : State) (place after : ℕ) where
   module _ (due number : ℕ) (bad : Bad) (first : ℕ) (is : s ≡ Locked due number bad first) where
     pub run-due : place ≤ due → after ≡ due + 1
         → run b rules s place (after - place) ≡ (step b rules due (Locked due number bad first), items_at b rules due (Locked due number bad first))
@@ -147,7 +148,7 @@ module _ (b : List ℕ) (rules : RuleNumbers) (s : State) (place after : ℕ) wh
     run-early order before = rw is (run-waiting b rules due number bad first place (after - place) (omega arith))
 
 -- a run over a range and its next, each as a state and items
-pub run-further : (b : List ℕ) (rules : RuleNumbers) (s now t : State) (items found : List Item) (from place after : ℕ)
+pub run-further : (b : Signal) (rules : RuleNumbers) (s now t : State) (items found : List Item) (from place after : ℕ)
     → from ≤ place → place ≤ after → run b rules s from (place - from) ≡ (now, items)
     → t ≡ (run b rules now place (after - place)).0 → found ≡ (run b rules now place (after - place)).1
     → run b rules s from (after - from) ≡ (t, items ++ found)
@@ -157,7 +158,7 @@ run-further b rules s now t items found from place after low high so_far state_i
     ∙ ap₂ (λ (u : State) (is : List Item). (u, items ++ is)) (sym state_is) (sym found_is)
 
 -- a search up to and including one place
-pub run-found : (b : List ℕ) (rules : RuleNumbers) (place here : ℕ) → place ≤ here → ((j : ℕ) → place ≤ j → j < here → acquired b rules j ≡ None)
+pub run-found : (b : Signal) (rules : RuleNumbers) (place here : ℕ) → place ≤ here → ((j : ℕ) → place ≤ j → j < here → acquired b rules j ≡ None)
     → run b rules Searching place (here + 1 - place) ≡ (step b rules here Searching, items_at b rules here Searching)
 run-found b rules place here order none =
     let bits : here + 1 - place ≡ (here - place) + 1 = omega arith in
@@ -168,7 +169,7 @@ run-found b rules place here order none =
     ∙ run-one b rules Searching here)
 
 -- a search of all places of a range
-pub run-unfound : (b : List ℕ) (rules : RuleNumbers) (place to : ℕ) → place ≤ to → ((j : ℕ) → place ≤ j → j < to → acquired b rules j ≡ None)
+pub run-unfound : (b : Signal) (rules : RuleNumbers) (place to : ℕ) → place ≤ to → ((j : ℕ) → place ≤ j → j < to → acquired b rules j ≡ None)
     → run b rules Searching place (to - place) ≡ (Searching, [])
 run-unfound b rules place to order none = run-searching b rules place (to - place) (λ j low high. none j low (omega arith))
 
@@ -178,7 +179,7 @@ none_first [] ys e = refl
 none_first (x ∷ xs) ys e = cc
 
 -- a run that gives nothing gave nothing before its last bit
-pub run-quiet : (b : List ℕ) (rules : RuleNumbers) (s : State) (place to : ℕ) → place < to → (run b rules s place (to - place)).1 ≡ []
+pub run-quiet : (b : Signal) (rules : RuleNumbers) (s : State) (place to : ℕ) → place < to → (run b rules s place (to - place)).1 ≡ []
     → (run b rules s place (to - 1 - place)).1 ≡ []
 run-quiet b rules s place to order nothing =
     let bits : to - place ≡ (to - 1 - place) + 1 = omega arith in

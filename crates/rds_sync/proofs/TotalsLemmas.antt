@@ -11,7 +11,7 @@ use Rattle.rds_sync.specs.Totals.{totals_of, sum_blocks, count_blocks, is_valid,
 use Rattle.rds_sync.specs.declared.kept.Kept.{Kept}
 use Rattle.rds_sync.specs.declared.kept.Kept.TheVariants.{WithC, WithCx, Other}
 use Rattle.rds_sync.specs.Counting.{plus, whole_totals, block_totals, IsAtMost, IsRest}
-use Rattle.rds_sync.specs.Kept.{item_of}
+use Rattle.rds_sync.specs.Inside.Kept.{item_of}
 
 -- the totals of two lists, one after the other
 pub totals_of-append : (xs ys : List Item) → totals_of (xs ++ ys) ≡ plus (totals_of xs) (totals_of ys)

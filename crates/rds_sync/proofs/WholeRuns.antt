@@ -3,6 +3,7 @@
 use Rattle.std.proofs.Common.{◌≡◌, ◌≢◌, ℕ, zero, suc, ◌+◌, ◌≤◌, List, [], ◌++◌, Option, Some, None, refl, ap, ap₂, ◌∙◌, arith, append_assoc, add-zero, zero-add}
 use Rattle.std.proofs.Math.Nat.{suc-add}
 use Rattle.std.specs.Prelude.{MatchOption}
+use Rattle.rds_stream.specs.Recording.{Signal}
 use Rattle.rds_sync.specs.declared.loss.Bad.{Bad}
 use Rattle.rds_sync.specs.declared.state.State.{State}
 use Rattle.rds_sync.specs.declared.state.State.TheVariants.{Searching, Locked}
@@ -13,7 +14,7 @@ use Rattle.rds_sync.specs.Step.{run, step, items_at, items_of_end}
 use Rattle.rds_sync.specs.Report.{first_lock}
 use Rattle.rds_sync.proofs.RunLemmas.{items-searching, step-searching, items-waiting, step-waiting}
 
-module _ (b : List ℕ) (rules : RuleNumbers) where
+module _ (b : Signal) (rules : RuleNumbers) where
   -- the items of the next bits from place a, and of the end
   abbrev pub whole : State → ℕ → ℕ → List Item
   whole s a zero = items_of_end b rules s

@@ -7,7 +7,7 @@
 use Rattle.std.specs.Prelude.{◌≡◌, ◌≢◌, ℕ, ◌+◌, ◌-◌, ◌*◌, ◌%◌, ◌<◌, ◌≤◌, max, List, IsTrue, is_some, length, None}
 use Rattle.std.specs.List.{All}
 use Rattle.std.specs.List.Sorted.{IsStrictlyIncreasing}
-use Rattle.rds_stream.specs.Recording.{off}
+use Rattle.rds_stream.specs.Recording.{Signal, length_of, off}
 use Rattle.rds_sync.specs.declared.loss.Loss.{Loss}
 use Rattle.rds_sync.specs.declared.loss.Loss.TheVariants.{Run, Share}
 use Rattle.rds_sync.specs.declared.state.State.{State}
@@ -18,7 +18,7 @@ use Rattle.rds_sync.specs.Lawful.{IsLawful}
 use Rattle.rds_sync.specs.Step.{run}
 use Rattle.rds_sync.specs.Acquiring.{acquired, has_number, number_after}
 
-module _ (b : List ℕ) (from to : ℕ) where
+module _ (b : Signal) (from to : ℕ) where
   -- each place p + 26 k of the range has an offset of the number that counts on from c
   pub record IsSequence (p c : ℕ) : Type 0 where
     pub first : (from ≤ p) × (p < from + 26)
@@ -50,8 +50,8 @@ abbrev pub sound_bits : Loss → ℕ → ℕ
 sound_bits loss j = 26 * sound_blocks loss j
 
 -- from s on, a sequence of p and c, where no rival acquires, and no more than j rivals have one place modulo 26
-pub record IsSound (b : List ℕ) (rules : RuleNumbers) (j s p c : ℕ) : Type 0 where
-  pub inside : s + sound_bits rules.loss j ≤ length b
+pub record IsSound (b : Signal) (rules : RuleNumbers) (j s p c : ℕ) : Type 0 where
+  pub inside : s + sound_bits rules.loss j ≤ length_of b
   pub number : (1 ≤ c) × (c ≤ 4)
   pub sequence : IsSequence b s (s + sound_bits rules.loss j) p c
   pub none_acquires : (r : ℕ) → IsRival b s (s + sound_bits rules.loss j) p r → acquired b rules r ≡ None
@@ -59,17 +59,17 @@ pub record IsSound (b : List ℕ) (rules : RuleNumbers) (j s p c : ℕ) : Type 0
 
 -- where a sound range begins at s, and the places up to `to` - 1 are those up to its last block of number 4, this is the state
 -- after them: between two groups, with none of their blocks bad
-abbrev pub IsConverged : List ℕ → RuleNumbers → ℕ → ℕ → State → Type 0
+abbrev pub IsConverged : Signal → RuleNumbers → ℕ → ℕ → State → Type 0
 IsConverged b rules s to end = (j p c last : ℕ) → IsSound b rules j s p c → IsLastFour b s (s + sound_bits rules.loss j) p c last
     → to ≡ p + 26 * last + 1
     → end ≡ Locked (p + 26 * last + 26) 1 (none_bad rules.loss) 1
 
 -- a sound range has a last block of number 4
 abbrev pub SoundRangesHaveFours : Type 0
-SoundRangesHaveFours = (b : List ℕ) (rules : RuleNumbers) (j s p c : ℕ) → IsSound b rules j s p c
+SoundRangesHaveFours = (b : Signal) (rules : RuleNumbers) (j s p c : ℕ) → IsSound b rules j s p c
     → (last : ℕ) × IsLastFour b s (s + sound_bits rules.loss j) p c last
 
 -- over a sound range, the runs from all lawful states are in one state after its last block of number 4
 abbrev pub RunsConverge : Type 0
-RunsConverge = (b : List ℕ) (rules : RuleNumbers) → IsLoss rules.loss → 1 ≤ rules.reach
+RunsConverge = (b : Signal) (rules : RuleNumbers) → IsLoss rules.loss → 1 ≤ rules.reach
     → (s to : ℕ) (t : State) → IsLawful rules s t → IsConverged b rules s to (run b rules t s (to - s)).0

@@ -3,6 +3,7 @@ pub mod Words
 pub mod ZeroGroup
 pub mod RunsOverTheZeroGroup
 pub mod DamagedBlocks
+pub mod Gaps
 pub mod BothOffsetsFit
 pub mod VersionB
 pub mod OtherGroups

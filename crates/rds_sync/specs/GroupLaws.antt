@@ -1,16 +1,16 @@
 -- What a group says, read off its blocks. The places of the blocks, the type and bit B0 are those of EN 50067:1998, 2.1 and 3.1.2;
 -- which of two versions holds, and when they are in conflict, is this project's rule.
-use Rattle.std.specs.Prelude.{◌≡◌, ◌≢◌, ◌↔◌, ℕ, ◌+◌, ◌-◌, ◌*◌, ◌<◌, ◌≤◌, ◌⊎◌, List, Some, None, IsTrue, length, slice_get, option_map}
+use Rattle.std.specs.Prelude.{◌≡◌, ◌≢◌, ◌↔◌, ℕ, ◌+◌, ◌-◌, ◌*◌, ◌<◌, ◌≤◌, ◌⊎◌, Some, None, IsTrue, length, slice_get, option_map}
 use Rattle.rds_code.specs.declared.offset.Offset.{Offset}
 use Rattle.rds_code.specs.declared.offset.Offset.TheVariants.{C, Cx}
 use Rattle.rds_code.specs.declared.reading.Reading.TheVariants.{Valid, Corrected}
-use Rattle.rds_code.specs.Reading.{reading}
-use Rattle.rds_stream.specs.Recording.{window}
+use Rattle.rds_stream.specs.Recording.{Signal, reading_at}
 use Rattle.rds_sync.specs.declared.item.Version.{Version}
 use Rattle.rds_sync.specs.declared.item.Version.TheVariants.{A, B, Unknown}
 use Rattle.rds_sync.specs.declared.item.Block.{Block}
 use Rattle.rds_sync.specs.declared.item.Block.TheVariants.{Missing, Read}
 use Rattle.rds_sync.specs.declared.item.Group.{Group}
+use Rattle.rds_sync.specs.Lawful.{HaveRoom}
 use Rattle.rds_sync.specs.Rules.{RuleNumbers}
 use Rattle.rds_sync.specs.Groups.{info_of, type_in, version_of_bit, version_of_offset, are_complete, wanted_beside, group}
 
@@ -19,10 +19,10 @@ abbrev pub IsBlock : Group → ℕ → Block → Type 0
 IsBlock group y block = slice_get group.blocks (y - 1) ≡ Some block
 
 -- block y ends 26 (x - y) places before the last block that was read, and the others are missing
-pub record BlocksAreRead (b : List ℕ) (rules : RuleNumbers) (f x p : ℕ) (group : Group) (second : Block) : Type 0 where
+pub record BlocksAreRead (b : Signal) (rules : RuleNumbers) (f x p : ℕ) (group : Group) (second : Block) : Type 0 where
   pub four : length group.blocks ≡ 4
   pub begins : group.place + 26 * (x - f) + 25 ≡ p
-  pub read : (y : ℕ) → f ≤ y → y ≤ x → IsBlock group y (Read (reading (window b (p - 26 * (x - y))) y (wanted_beside second) rules.burst))
+  pub read : (y : ℕ) → f ≤ y → y ≤ x → IsBlock group y (Read (reading_at b (p - 26 * (x - y)) y (wanted_beside second) rules.burst))
   pub missing : (y : ℕ) → 1 ≤ y → y ≤ 4 → (y < f) ⊎ (x < y) → IsBlock group y Missing
 
 -- the version is that of a valid block 3; else that of bit B0, where block 2 has an information word; else that of a corrected
@@ -43,7 +43,7 @@ VersionsDiffer second third = (o : Offset) × (info : ℕ) × (word : ℕ)
     × (third ≡ Read (Valid o info)) × (info_of second ≡ Some word) × (version_of_offset o ≢ version_of_bit word)
 
 -- what the group says of its blocks f to x, of which the last ends at place p
-pub record GroupIsRead (b : List ℕ) (rules : RuleNumbers) (f x p : ℕ) (group : Group) : Type 0 where
+pub record GroupIsRead (b : Signal) (rules : RuleNumbers) (f x p : ℕ) (group : Group) : Type 0 where
   pub second : Block
   pub third : Block
   pub is_second : IsBlock group 2 second
@@ -57,5 +57,5 @@ pub record GroupIsRead (b : List ℕ) (rules : RuleNumbers) (f x p : ℕ) (group
 
 -- a group says what its blocks say
 abbrev pub GroupsAreRead : Type 0
-GroupsAreRead = (b : List ℕ) (rules : RuleNumbers) (f x p : ℕ) → 1 ≤ f → f ≤ x → x ≤ 4 → 26 * (x - f) + 25 ≤ p
+GroupsAreRead = (b : Signal) (rules : RuleNumbers) (f x p : ℕ) → 1 ≤ f → f ≤ x → x ≤ 4 → HaveRoom f x p
     → GroupIsRead b rules f x p (group b rules f x p)

@@ -1,6 +1,7 @@
 -- The laws of runs and reports, over the definitions alone. This project's rules.
 use Rattle.std.specs.Prelude.{◌≡◌, ◌≢◌, ◌↔◌, ℕ, ◌+◌, ◌-◌, ◌*◌, ◌<◌, ◌≤◌, ◌⊎◌, List, [], ◌++◌, Some, None, length, Bool, nat_lt, min, if◌then◌else◌}
 use Rattle.std.specs.Int.{bit_at}
+use Rattle.rds_stream.specs.Recording.{Signal, length_of}
 use Rattle.rds_sync.specs.declared.loss.Loss.{Loss}
 use Rattle.rds_sync.specs.declared.loss.Loss.TheVariants.{Run, Share}
 use Rattle.rds_sync.specs.declared.loss.Bad.TheVariants.{Mask}
@@ -17,29 +18,29 @@ use Rattle.rds_sync.specs.Report.{report_items}
 
 -- the items of the run over a whole recording, with those of its end, are the report's
 abbrev pub RunsAreReports : Type 0
-RunsAreReports = (b : List ℕ) (rules : RuleNumbers) → IsLoss rules.loss
-    → let whole = run b rules Searching 0 (length b) in whole.1 ++ items_of_end b rules whole.0 ≡ report_items b rules
+RunsAreReports = (b : Signal) (rules : RuleNumbers) → IsLoss rules.loss
+    → let whole = run b rules Searching 0 (length_of b) in whole.1 ++ items_of_end b rules whole.0 ≡ report_items b rules
 
 -- a run over a range, and then from its end over the next range, is the run over both
 abbrev pub RunsJoin : Type 0
-RunsJoin = (b : List ℕ) (rules : RuleNumbers) (s : State) (from middle to : ℕ) → from ≤ middle → middle ≤ to
+RunsJoin = (b : Signal) (rules : RuleNumbers) (s : State) (from middle to : ℕ) → from ≤ middle → middle ≤ to
     → let first = run b rules s from (middle - from) in
     let next = run b rules first.0 middle (to - middle) in
     run b rules s from (to - from) ≡ (next.0, first.1 ++ next.1)
 
 -- one bit leads from a lawful state to a lawful state
 abbrev pub StepsAreLawful : Type 0
-StepsAreLawful = (b : List ℕ) (rules : RuleNumbers) → IsLoss rules.loss
+StepsAreLawful = (b : Signal) (rules : RuleNumbers) → IsLoss rules.loss
     → (place : ℕ) (s : State) → IsLawful rules place s → IsLawful rules (place + 1) (step b rules place s)
 
 -- a run leads from a lawful state to a lawful state
 abbrev pub RunsAreLawful : Type 0
-RunsAreLawful = (b : List ℕ) (rules : RuleNumbers) → IsLoss rules.loss
+RunsAreLawful = (b : Signal) (rules : RuleNumbers) → IsLoss rules.loss
     → (s : State) (from to : ℕ) → from ≤ to → IsLawful rules from s → IsLawful rules to (run b rules s from (to - from)).0
 
 -- two runs over one range that are in one state before some bit have one end, and from that bit on the same items
 abbrev pub RunsMerge : Type 0
-RunsMerge = (b : List ℕ) (rules : RuleNumbers) (s t : State) (from middle to : ℕ) → from ≤ middle → middle ≤ to
+RunsMerge = (b : Signal) (rules : RuleNumbers) (s t : State) (from middle to : ℕ) → from ≤ middle → middle ≤ to
     → let one = run b rules s from in
     let other = run b rules t from in
     (one (middle - from)).0 ≡ (other (middle - from)).0
@@ -50,33 +51,33 @@ RunsMerge = (b : List ℕ) (rules : RuleNumbers) (s t : State) (from middle to :
 
 -- a run over one bit is that bit
 abbrev pub OneBitRuns : Type 0
-OneBitRuns = (b : List ℕ) (rules : RuleNumbers) (s : State) (place : ℕ)
+OneBitRuns = (b : Signal) (rules : RuleNumbers) (s : State) (place : ℕ)
     → run b rules s place 1 ≡ (step b rules place s, items_at b rules place s)
 
 -- while a block is waited for, a run changes nothing and gives nothing
 abbrev pub LocksWait : Type 0
-LocksWait = (b : List ℕ) (rules : RuleNumbers) (due number : ℕ) (bad : Bad) (first from to : ℕ) → from ≤ to → to ≤ due
+LocksWait = (b : Signal) (rules : RuleNumbers) (due number : ℕ) (bad : Bad) (first from to : ℕ) → from ≤ to → to ≤ due
     → run b rules (Locked due number bad first) from (to - from) ≡ (Locked due number bad first, [])
 
 -- while no place acquires, a search changes nothing and gives nothing
 abbrev pub SearchesGoOn : Type 0
-SearchesGoOn = (b : List ℕ) (rules : RuleNumbers) (from to : ℕ) → from ≤ to
+SearchesGoOn = (b : Signal) (rules : RuleNumbers) (from to : ℕ) → from ≤ to
     → ((i : ℕ) → from ≤ i → i < to → acquired b rules i ≡ None)
     → run b rules Searching from (to - from) ≡ (Searching, [])
 
 -- a bit gives an item exactly where it changes the state, and the state was a search or is between groups afterwards
 abbrev pub ItemsMarkChanges : Type 0
-ItemsMarkChanges = (b : List ℕ) (rules : RuleNumbers) (place : ℕ) (s : State) → IsLawful rules place s
+ItemsMarkChanges = (b : Signal) (rules : RuleNumbers) (place : ℕ) (s : State) → IsLawful rules place s
     → (items_at b rules place s ≢ []) ↔ ((step b rules place s ≢ s) × ((s ≡ Searching) ⊎ IsBetweenGroups (step b rules place s)))
 
 -- a run gives at most two items a bit
 abbrev pub RunsGiveFewItems : Type 0
-RunsGiveFewItems = (b : List ℕ) (rules : RuleNumbers) (s : State) (from to : ℕ) → from ≤ to
+RunsGiveFewItems = (b : Signal) (rules : RuleNumbers) (s : State) (from to : ℕ) → from ≤ to
     → length (run b rules s from (to - from)).1 ≤ 2 * (to - from)
 
 -- no place before 51 acquires, and each acquires with a number from 1 to 4
 abbrev pub AcquisitionsAreLate : Type 0
-AcquisitionsAreLate = (b : List ℕ) (rules : RuleNumbers) (i x : ℕ) → acquired b rules i ≡ Some x → (51 ≤ i) × (1 ≤ x) × (x ≤ 4)
+AcquisitionsAreLate = (b : Signal) (rules : RuleNumbers) (i x : ℕ) → acquired b rules i ≡ Some x → (51 ≤ i) × (1 ≤ x) × (x ≤ 4)
 
 -- bit i of a mask tells whether block k - i was bad, where that is one of the last `of` blocks, and is 0 elsewhere
 abbrev pub MasksTellBlocks : Type 0

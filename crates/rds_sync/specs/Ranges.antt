@@ -5,6 +5,16 @@ use Rattle.rds_sync.specs.declared.loss.Loss.TheVariants.{Run, Share}
 use Rattle.rds_sync.specs.Loss.{IsLoss}
 use Rattle.rds_sync.specs.Rules.{RuleNumbers}
 
+-- the longest burst that is corrected, the farthest partner, and the most blocks that a rule of loss looks at
+abbrev pub longest_burst : ℕ
+longest_burst = 5
+
+abbrev pub farthest_reach : ℕ
+farthest_reach = 8
+
+abbrev pub most_blocks : ℕ
+most_blocks = 64
+
 -- how many blocks a rule of loss looks at
 abbrev pub blocks_seen : Loss → ℕ
 blocks_seen (Run n) = n
@@ -12,22 +22,22 @@ blocks_seen (Share bad of) = of
 
 -- the numbers that a rule of loss may have
 abbrev pub IsLossInRange : Loss → Type 0
-IsLossInRange loss = IsLoss loss × (blocks_seen loss ≤ 64)
+IsLossInRange loss = IsLoss loss × (blocks_seen loss ≤ most_blocks)
 
 -- the numbers that rules may have
 pub record IsInRange (rules : RuleNumbers) : Type 0 where
-  pub burst : rules.burst ≤ 5
+  pub burst : rules.burst ≤ longest_burst
   pub some_reach : 1 ≤ rules.reach
-  pub reach : rules.reach ≤ 8
+  pub reach : rules.reach ≤ farthest_reach
   pub some_loss : IsLoss rules.loss
-  pub loss : blocks_seen rules.loss ≤ 64
+  pub loss : blocks_seen rules.loss ≤ most_blocks
 
 -- a number of bad blocks in a row that a rule may not have
 abbrev pub IsRunOutside : Loss → Type 0
-IsRunOutside (Run n) = (n < 1) ⊎ (64 < n)
+IsRunOutside (Run n) = (n < 1) ⊎ (most_blocks < n)
 IsRunOutside (Share bad of) = ⊥
 
 -- a share of bad blocks that a rule may not have
 abbrev pub IsShareOutside : Loss → Type 0
 IsShareOutside (Run n) = ⊥
-IsShareOutside (Share bad of) = (bad < 1) ⊎ (of < bad) ⊎ (64 < of)
+IsShareOutside (Share bad of) = (bad < 1) ⊎ (of < bad) ⊎ (most_blocks < of)

@@ -1,5 +1,6 @@
 -- A stretch of a run: up to and including the next bit that gives an item.
 use Rattle.std.specs.Prelude.{◌≡◌, ◌≢◌, ℕ, ◌-◌, ◌<◌, ◌≤◌, ◌⊎◌, List, [], ◌++◌}
+use Rattle.rds_stream.specs.Recording.{Signal}
 use Rattle.rds_sync.specs.declared.item.Item.{Item}
 use Rattle.rds_sync.specs.declared.stretches.Reached.{Reached}
 use Rattle.rds_sync.specs.declared.state.State.{State}
@@ -7,7 +8,7 @@ use Rattle.rds_sync.specs.Lawful.{IsLawful}
 use Rattle.rds_sync.specs.Rules.{RuleNumbers}
 use Rattle.rds_sync.specs.Step.{run}
 
-module _ (b : List ℕ) (rules : RuleNumbers) (s : State) (place to : ℕ) where
+module _ (b : Signal) (rules : RuleNumbers) (s : State) (place to : ℕ) where
   -- how far the run from state s before `place` came: nothing was given before the last bit that it went over, and that bit
   -- gave an item or is the last before `to`
   pub record IsStretch (reached : Reached) : Type 0 where

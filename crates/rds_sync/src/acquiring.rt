@@ -3,10 +3,10 @@
 ghost use Rattle.std.specs.Prelude.{◌≡◌, ◌≤◌, ◌<◌, ◌+◌, ◌-◌, ◌*◌, ◌%◌, ◌^◌, ◌==◌, ◌∷◌, ℕ, List, length, IfSome, Option, None, Some, false, option_map};
 ghost use Rattle.std.specs.List.{list_any, range_with_len};
 ghost use Rattle.rds_code.specs.declared.offset.Offset.{Offset};
-ghost use Rattle.rds_stream.specs.Recording.{window, off};
+ghost use Rattle.rds_stream.specs.Recording.{Signal, length_of, heard, off};
 ghost use Rattle.rds_sync.specs.Acquiring.{acquired, has_partner, is_in_step};
 ghost use Rattle.rds_sync.specs.Advance.{items_in};
-ghost use Rattle.rds_sync.specs.Due.{state_in};
+ghost use Rattle.rds_sync.specs.Inside.Due.{state_in};
 ghost use Rattle.rds_sync.specs.Groups.{group};
 ghost use Rattle.rds_sync.specs.Loss.{none_bad};
 ghost use Rattle.rds_sync.specs.Step.{items_at, locked_after, group_after};
@@ -16,16 +16,16 @@ use crate::due::Lock;
 use crate::item::{Block, Group, Item};
 use crate::loss::Loss;
 use crate::rules::Rules;
-use rds_code::{Offset, Wanted, offset_of, rem26};
-use rds_stream::{FIRST_WINDOW, Recording, Tape};
+use rds_code::{Offset, Wanted};
+use rds_stream::{FIRST_WINDOW, Recording, Tape, offset_heard};
 
-/// A block that acquires: the place at which it ends, the number with which it does, and its
-/// window.
+/// A block that acquires: the place at which it ends, the number with which it does, and what was
+/// heard there.
 #[derive(Clone, Copy)]
 pub(crate) struct Acquisition {
     pub place: u64,
     pub number: u8,
-    pub window: u32,
+    pub heard: Option<u32>,
 }
 
 impl Acquisition {
@@ -40,8 +40,8 @@ impl Acquisition {
 
     /// What its bit gives: itself, and as block 4 the group that it closes alone.
     pub fn items(self, rules: &Rules) -> [Option<Item>; 2]
-        requires block { (25 ≤ self.place) × (self.window < 2 ^ 26) }
-        ensures { (b : List ℕ) → self.window ≡ window b self.place → items_in result
+        requires block { (25 ≤ self.place) × IfSome self.heard (λ window. window < 2 ^ 26) }
+        ensures { (b : Signal) → self.heard ≡ heard b self.place → items_in result
             ≡ Acquired self.place self.number ∷ group_after b rules.now self.number self.number self.place }
     {
         let acquired = Item::Acquired {
@@ -57,10 +57,10 @@ impl Acquisition {
 
     /// The group of this block alone, as its block 4.
     fn group(self, rules: &Rules) -> Group
-        requires block { (25 ≤ self.place) × (self.window < 2 ^ 26) }
-        ensures { (b : List ℕ) → self.window ≡ window b self.place → result ≡ group b rules.now 4 4 self.place }
+        requires block { (25 ≤ self.place) × IfSome self.heard (λ window. window < 2 ^ 26) }
+        ensures { (b : Signal) → self.heard ≡ heard b self.place → result ≡ group b rules.now 4 4 self.place }
     {
-        let last = Block::Read(rules.read(self.window, 4, Wanted::Either));
+        let last = Block::Read(rules.read(self.heard, 4, Wanted::Either));
         let blocks = [Block::Missing, Block::Missing, Block::Missing, last];
         Group::of_blocks(self.place - 25, blocks)
     }
@@ -79,22 +79,22 @@ fn is_in_step(offset: Option<Offset>, number: u8, distance: u32) -> bool
 
 /// Whether and how a place acquires: as a valid block with a partner.
 pub(crate) fn acquire<T: Tape>(tape: &mut T, rules: &Rules, place: u64) -> Option<Acquisition>
-    requires within { place < length (T.bits tape.old) }
+    requires within { place < length_of (T.signal tape.old) }
     requires counted { T.reads_made tape.old + 16 ≤ 2 ^ 63 }
     ensures number { option_map (λ found. found.number) result
-        ≡ acquired (T.bits tape.old) rules.now place }
+        ≡ acquired (T.signal tape.old) rules.now place }
     ensures place { IfSome result (λ found. found.place ≡ place) }
-    ensures window { IfSome result (λ found. found.window ≡ window (T.bits tape.old) place) }
-    ensures block { IfSome result (λ found. (25 ≤ place) × (found.window < 2 ^ 26)) }
+    ensures heard { IfSome result (λ found. found.heard ≡ heard (T.signal tape.old) place) }
+    ensures block { IfSome result (λ found. (25 ≤ place) × IfSome found.heard (λ window. window < 2 ^ 26)) }
     ensures range { IfSome result (λ found. (1 ≤ found.number) × (found.number ≤ 4)) }
-    ensures same { T.bits tape.new ≡ T.bits tape.old }
+    ensures same { T.signal tape.new ≡ T.signal tape.old }
     ensures reads { T.reads_made tape.new ≤ T.reads_made tape.old + (rules.now.reach + 1) }
 {
     if place < FIRST_WINDOW {
         return None;
     }
-    let window = tape.window(place);
-    let Some(offset) = offset_of(rem26(window)) else {
+    let heard = tape.window(place);
+    let Some(offset) = offset_heard(heard) else {
         return None;
     };
     let number = offset.number();
@@ -102,7 +102,7 @@ pub(crate) fn acquire<T: Tape>(tape: &mut T, rules: &Rules, place: u64) -> Optio
         Some(Acquisition {
             place,
             number,
-            window,
+            heard,
         })
     } else {
         None
@@ -111,11 +111,11 @@ pub(crate) fn acquire<T: Tape>(tape: &mut T, rules: &Rules, place: u64) -> Optio
 
 /// Whether a block of this number at a place has a partner within reach.
 fn has_partner<T: Tape>(tape: &mut T, rules: &Rules, place: u64, number: u8) -> bool
-    requires within { place < length (T.bits tape.old) }
+    requires within { place < length_of (T.signal tape.old) }
     requires counted { T.reads_made tape.old + 8 ≤ 2 ^ 63 }
     ensures value { result
-        ≡ list_any (has_partner (T.bits tape.old) place number) (range_with_len 1 rules.now.reach) }
-    ensures same { T.bits tape.new ≡ T.bits tape.old }
+        ≡ list_any (has_partner (T.signal tape.old) place number) (range_with_len 1 rules.now.reach) }
+    ensures same { T.signal tape.new ≡ T.signal tape.old }
     ensures reads { T.reads_made tape.new ≤ T.reads_made tape.old + rules.now.reach }
     ensures few { T.reads_made tape.new ≤ T.reads_made tape.old + 8 }
 {
@@ -130,10 +130,10 @@ fn has_partner<T: Tape>(tape: &mut T, rules: &Rules, place: u64, number: u8) -> 
 /// Whether the window so many blocks back is valid, with the number that a block there has.
 fn is_partner<T: Tape>(tape: &mut T, place: u64, number: u8, distance: u32) -> bool
     requires distance { distance ≤ 8 }
-    requires within { place < length (T.bits tape.old) }
+    requires within { place < length_of (T.signal tape.old) }
     requires counted { T.reads_made tape.old < 2 ^ 63 }
-    ensures value { result ≡ has_partner (T.bits tape.old) place number distance }
-    ensures same { T.bits tape.new ≡ T.bits tape.old }
+    ensures value { result ≡ has_partner (T.signal tape.old) place number distance }
+    ensures same { T.signal tape.new ≡ T.signal tape.old }
     ensures reads { T.reads_made tape.new ≤ T.reads_made tape.old + 1 }
 {
     let before = place.saturating_sub(26 * u64::from(distance));
@@ -142,22 +142,22 @@ fn is_partner<T: Tape>(tape: &mut T, place: u64, number: u8, distance: u32) -> b
 
 /// The offset of the window at a place, if it is valid; there is no window before place 25.
 fn offset_at<T: Tape>(tape: &mut T, place: u64) -> Option<Offset>
-    requires within { place < length (T.bits tape.old) }
+    requires within { place < length_of (T.signal tape.old) }
     requires counted { T.reads_made tape.old < 2 ^ 63 }
-    ensures value { result ≡ off (T.bits tape.old) place }
-    ensures same { T.bits tape.new ≡ T.bits tape.old }
+    ensures value { result ≡ off (T.signal tape.old) place }
+    ensures same { T.signal tape.new ≡ T.signal tape.old }
     ensures reads { T.reads_made tape.new ≤ T.reads_made tape.old + 1 }
 {
     if place < FIRST_WINDOW {
         None
     } else {
-        offset_of(rem26(tape.window(place)))
+        offset_heard(tape.window(place))
     }
 }
 
 /// Whether a block of this number at a place of a recording has a partner within reach.
 pub(crate) fn has_partner_in(rec: &Recording, rules: &Rules, place: u64, number: u8) -> bool
-    requires { place < length rec.now }
+    requires { place < length_of rec.now }
     ensures { result ≡ list_any (has_partner rec.now place number) (range_with_len 1 rules.now.reach) }
 {
     for distance in 1..rules.reach() + 1 {
@@ -171,7 +171,7 @@ pub(crate) fn has_partner_in(rec: &Recording, rules: &Rules, place: u64, number:
 /// Whether the window so many blocks back is valid, with the number that a block there has.
 fn is_partner_in(rec: &Recording, place: u64, number: u8, distance: u32) -> bool
     requires distance { distance ≤ 8 }
-    requires within { place < length rec.now }
+    requires within { place < length_of rec.now }
     ensures { result ≡ has_partner rec.now place number distance }
 {
     let before = place.saturating_sub(26 * u64::from(distance));

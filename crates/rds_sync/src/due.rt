@@ -1,7 +1,7 @@
 //! What a block does to the lock that it was due in, whichever way it was read.
 
 ghost use Rattle.std.specs.Prelude.{◌≡◌, ◌≤◌, ◌<◌, ◌^◌};
-ghost use Rattle.rds_sync.specs.Due.{state_in, IsAfter};
+ghost use Rattle.rds_sync.specs.Inside.Due.{state_in, IsAfter};
 ghost use Rattle.rds_sync.specs.Loss.{IsLawfulBad};
 ghost use Rattle.rds_sync.specs.Ranges.{IsLossInRange};
 ghost use Rattle.rds_sync.specs.Step.{locked_after};

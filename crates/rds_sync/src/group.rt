@@ -1,24 +1,22 @@
-//! How a group is read: block by block from its windows, and what its blocks say of it.
+//! How a group is read: block by block from what was heard of it, and what its blocks say of it.
 
-ghost use Rattle.std.specs.Prelude.{◌≡◌, ◌≤◌, ◌<◌, ◌+◌, ◌-◌, ◌*◌, ◌^◌, ◌&&◌, nat_le, nat_lt, if◌then◌else◌};
-ghost use Rattle.rds_code.specs.Remainder.{rem};
-ghost use Rattle.rds_code.specs.Offsets.{offset_of as the_offset_of};
-ghost use Rattle.rds_stream.specs.Recording.{window as the_window};
+ghost use Rattle.std.specs.Prelude.{◌≡◌, ◌≤◌, ◌<◌, ◌+◌, ◌-◌, ◌*◌, ◌^◌, ◌&&◌, nat_le, nat_lt, if◌then◌else◌, IfSome};
 ghost use Rattle.rds_sync.specs.Groups.{info_of, are_complete, version_by_bit, version_of_offset, version, differ, in_conflict, wanted_beside, group_of, block_at, blocks_at, group};
-ghost use Rattle.rds_sync.specs.Reads.{is_numbered};
-ghost use Rattle.rds_sync.specs.GroupParts.{IsGroupPart};
+ghost use Rattle.rds_stream.specs.Recording.{offset_heard as the_offset_heard};
+ghost use Rattle.rds_sync.specs.Acquiring.{is_numbered};
+ghost use Rattle.rds_sync.specs.Inside.GroupParts.{IsGroupPart};
 
 use crate::item::{Block, Group, Version};
 use crate::rules::Rules;
-use rds_code::{Offset, Reading, Wanted, offset_of, rem26};
-use rds_stream::Tape;
+use rds_code::{Offset, Reading, Wanted};
+use rds_stream::{Tape, offset_heard};
 
-/// Whether a window is valid, with an offset of this number.
-pub(crate) fn is_numbered(window: u32, number: u8) -> bool
-    requires { window < 2 ^ 26 }
-    ensures { result ≡ is_numbered window number }
+/// Whether what was heard has an offset of this number.
+pub(crate) fn is_numbered(heard: Option<u32>, number: u8) -> bool
+    requires { IfSome heard (λ window. window < 2 ^ 26) }
+    ensures { result ≡ is_numbered (the_offset_heard heard) number }
 {
-    match offset_of(rem26(window)) {
+    match offset_heard(heard) {
         Some(offset) => offset.number() == number,
         None => false,
     }
@@ -136,18 +134,18 @@ impl Group {
     }
 }
 
-/// The blocks of a group that are read: `first` to `last`. The last one ends at `place` and has
-/// this window.
+/// The blocks of a group that are read: `first` to `last`. The last one ends at `place`, where this
+/// was heard.
 #[derive(Clone, Copy)]
 pub(crate) struct GroupPart {
     pub first: u8,
     pub last: u8,
     pub place: u64,
-    pub window: u32,
+    pub heard: Option<u32>,
 }
 
-/// Block `number`, 1 to 4, of the group that `part` describes; `Missing` outside it. Only a block before the last takes a
-/// window from the tape.
+/// Block `number`, 1 to 4, of the group that `part` describes; `Missing` outside it. Only a block before the last takes
+/// a window from the tape.
 fn read_at<T: Tape>(
     tape: &mut T,
     rules: &Rules,
@@ -156,31 +154,31 @@ fn read_at<T: Tape>(
     wanted: Wanted,
 ) -> Block
     requires number { (1 ≤ number) × (number ≤ 4) }
-    requires part { IsGroupPart (T.bits tape.old) part }
+    requires part { IsGroupPart (T.signal tape.old) part }
     requires counted { T.reads_made tape.old < 2 ^ 63 }
     ensures value { result
-        ≡ block_at (T.bits tape.old) rules.now part.first part.last part.place wanted number }
-    ensures same { T.bits tape.new ≡ T.bits tape.old }
+        ≡ block_at (T.signal tape.old) rules.now part.first part.last part.place wanted number }
+    ensures same { T.signal tape.new ≡ T.signal tape.old }
     ensures reads { T.reads_made tape.new
         ≡ T.reads_made tape.old + (if nat_le part.first number && nat_lt number part.last then 1 else 0) }
 {
     if number < part.first || part.last < number {
         return Block::Missing;
     }
-    let window = if number == part.last {
-        part.window
+    let heard = if number == part.last {
+        part.heard
     } else {
         tape.window(part.place - 26 * u64::from(part.last - number))
     };
-    Block::Read(rules.read(window, number, wanted))
+    Block::Read(rules.read(heard, number, wanted))
 }
 
 /// The four blocks of the group that `part` describes. Each block before the last takes one window from the tape.
 pub(crate) fn read_blocks<T: Tape>(tape: &mut T, rules: &Rules, part: GroupPart) -> [Block; 4]
-    requires part { IsGroupPart (T.bits tape.old) part }
+    requires part { IsGroupPart (T.signal tape.old) part }
     requires counted { T.reads_made tape.old + 4 ≤ 2 ^ 63 }
-    ensures value { result ≡ blocks_at (T.bits tape.old) rules.now part.first part.last part.place }
-    ensures same { T.bits tape.new ≡ T.bits tape.old }
+    ensures value { result ≡ blocks_at (T.signal tape.old) rules.now part.first part.last part.place }
+    ensures same { T.signal tape.new ≡ T.signal tape.old }
     ensures reads { T.reads_made tape.new ≡ T.reads_made tape.old + (part.last - part.first) }
 {
     let one = read_at(tape, rules, part, 1, Wanted::Either);
@@ -192,10 +190,10 @@ pub(crate) fn read_blocks<T: Tape>(tape: &mut T, rules: &Rules, part: GroupPart)
 
 /// The group that `part` describes, read from the tape.
 pub(crate) fn read_group<T: Tape>(tape: &mut T, rules: &Rules, part: GroupPart) -> Group
-    requires part { IsGroupPart (T.bits tape.old) part }
+    requires part { IsGroupPart (T.signal tape.old) part }
     requires counted { T.reads_made tape.old + 4 ≤ 2 ^ 63 }
-    ensures value { result ≡ group (T.bits tape.old) rules.now part.first part.last part.place }
-    ensures same { T.bits tape.new ≡ T.bits tape.old }
+    ensures value { result ≡ group (T.signal tape.old) rules.now part.first part.last part.place }
+    ensures same { T.signal tape.new ≡ T.signal tape.old }
     ensures reads { T.reads_made tape.new ≡ T.reads_made tape.old + (part.last - part.first) }
 {
     let blocks = read_blocks(tape, rules, part);

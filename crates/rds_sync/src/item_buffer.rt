@@ -2,7 +2,7 @@
 
 ghost use Rattle.std.specs.Prelude.{◌≡◌, ◌==◌, ◌<◌, ◌++◌, [], ◌∷◌, All, length, slice_get, Some, IfOk, OnOk, OnErr};
 ghost use Rattle.rds_sync.specs.Groups.{group_of};
-ghost use Rattle.rds_sync.specs.Kept.{items_of, IsFound};
+ghost use Rattle.rds_sync.specs.Inside.Kept.{items_of, IsFound};
 
 use crate::item::{Block, Group, Item};
 use crate::items::Items;
@@ -26,7 +26,7 @@ impl Model for ItemBuffer {
 
     ghost Value = { List Item };
 
-    ghost use Rattle.rds_sync.specs.Kept.{items_of, IsFound};
+    ghost use Rattle.rds_sync.specs.Inside.Kept.{items_of, IsFound};
 
     ghost view = { λ s. items_of s.others.items s.kept.items };
 

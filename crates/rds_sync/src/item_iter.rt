@@ -2,9 +2,9 @@
 
 ghost use Rattle.std.specs.Prelude.{◌≡◌, ◌<◌, ◌≤◌, ◌+◌, ◌++◌, [], All, length, drop, take, MatchOption};
 ghost use Rattle.std.specs.Iterator.{YieldsFirst, item_count};
-ghost use Rattle.rds_sync.specs.Cursors.{items_ahead, IsSound};
-ghost use Rattle.rds_sync.specs.Kept.{items_of, IsFound};
-ghost use Rattle.rds_sync.specs.Parts.{items_in, IsInFirst};
+ghost use Rattle.rds_sync.specs.Inside.Cursors.{items_ahead, IsSound};
+ghost use Rattle.rds_sync.specs.Inside.Kept.{items_of, IsFound};
+ghost use Rattle.rds_sync.specs.Inside.Parts.{items_in, IsInFirst};
 
 use crate::item::Item;
 use crate::kept::Kept;
@@ -80,7 +80,7 @@ impl<'a> Model for ItemIter<'a> {
 
     ghost Value = { List Item };
 
-    ghost use Rattle.rds_sync.specs.Cursors.{items_ahead, IsSound};
+    ghost use Rattle.rds_sync.specs.Inside.Cursors.{items_ahead, IsSound};
 
     ghost view = { λ s. take s.left (items_ahead s.cursor) };
 

@@ -1,7 +1,7 @@
 //! Items that never change any more.
 
 ghost use Rattle.std.specs.Prelude.{◌≡◌, ◌==◌, ◌<◌, ◌≤◌, ◌++◌, [], length, drop, take, slice_get, slice_range, Some, IfOk, OnOk, OnErr};
-ghost use Rattle.rds_sync.specs.Parts.{items_in, IsAt, IsInFirst};
+ghost use Rattle.rds_sync.specs.Inside.Parts.{items_in, IsAt, IsInFirst};
 
 use crate::item::Item;
 use crate::item_buffer::ItemBuffer;
@@ -26,7 +26,7 @@ impl Model for Items {
 
     ghost Value = { List Item };
 
-    ghost use Rattle.rds_sync.specs.Parts.{items_in};
+    ghost use Rattle.rds_sync.specs.Inside.Parts.{items_in};
 
     ghost view = { λ s. items_in s.parts.items };
 

@@ -4,7 +4,7 @@ ghost use Rattle.std.specs.Prelude.{◌≡◌, List, IfSome};
 ghost use Rattle.rds_code.specs.declared.reading.Reading.TheVariants.{Valid};
 ghost use Rattle.rds_sync.specs.declared.item.Block.TheVariants.{Read};
 ghost use Rattle.rds_sync.specs.Groups.{group_of};
-ghost use Rattle.rds_sync.specs.Kept.{whole_blocks, item_of, IsFound};
+ghost use Rattle.rds_sync.specs.Inside.Kept.{whole_blocks, item_of, IsFound};
 
 use crate::item::{Block, Group, Item};
 use rds_code::{Offset, Reading};

@@ -1,5 +1,5 @@
-//! The laws of runs and reports, over the definitions alone. Each function here does nothing: its contract is a law, which the
-//! check of this crate proves, and which a proof above it may cite.
+//! The laws of runs and reports, over the definitions alone. Each function here does nothing: its contract is a law,
+//! which the check of this crate proves, and which a proof above it may cite.
 
 ghost use Rattle.rds_sync.specs.Convergence.{SoundRangesHaveFours, RunsConverge};
 ghost use Rattle.rds_sync.specs.Counting.{TotalsJoin};
@@ -76,7 +76,8 @@ pub fn runs_are_shares()
     ensures { RunsAreShares }
 {}
 
-/// A group says what its blocks say: their places, its type, its version, whether it is in conflict, whether it is complete.
+/// A group says what its blocks say: their places, its type, its version, whether it is in conflict, whether it is
+/// complete.
 pub fn groups_are_read()
     ensures { GroupsAreRead }
 {}
@@ -86,8 +87,8 @@ pub fn totals_join()
     ensures { TotalsJoin }
 {}
 
-/// Over a sound range, in which the blocks of a station stand and little else looks like one, the runs from all lawful states
-/// come into one state: between two groups, after the range's last block of number 4, which there is.
+/// Over a sound range, in which the blocks of a station stand and little else looks like one, the runs from all lawful
+/// states come into one state: between two groups, after the range's last block of number 4, which there is.
 pub fn runs_converge()
     ensures fours { SoundRangesHaveFours }
     ensures converge { RunsConverge }

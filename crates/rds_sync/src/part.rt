@@ -1,7 +1,7 @@
 //! A part of a list of items: whose items, from where to where.
 
 ghost use Rattle.std.specs.Prelude.{◌≡◌, ◌<◌, ◌≤◌, All, length, drop, slice_get, Some, IfOk};
-ghost use Rattle.rds_sync.specs.Kept.{items_of, IsFound};
+ghost use Rattle.rds_sync.specs.Inside.Kept.{items_of, IsFound};
 
 use crate::item::Item;
 use crate::item_buffer::ItemBuffer;

@@ -14,7 +14,7 @@ use crate::rules::Rules;
 use crate::state::State;
 use crate::step::finish;
 use crate::totals::Totals;
-use rds_stream::{Counted, Recording};
+use rds_stream::{Counted, Reader, Recording};
 use std::alloc::Global;
 
 /// What was found in a recording: its items, in order of place, and their totals.
@@ -36,7 +36,15 @@ pub fn decode_plain(alloc: Global, rec: &Recording, rules: &Rules) -> Result<Rep
 {
     prove!(1 <= rules.reach());
     let mut found = ItemBuffer::new(alloc);
-    let end = run_onto(rec, rules, State::Searching, 0, rec.len(), &mut found)?;
+    let mut reader = Reader::new(rec);
+    let end = run_onto(
+        &mut reader,
+        rules,
+        State::Searching,
+        0,
+        rec.len(),
+        &mut found,
+    )?;
     let mut tape = Counted::new(rec);
     push_group(&mut found, finish(&mut tape, rules, end))?;
     let items = found.freeze()?;

@@ -1,13 +1,14 @@
 //! The rules by which synchronism is acquired, kept and lost.
 
-ghost use Rattle.std.specs.Prelude.{◌≡◌, ◌<◌, ◌≤◌, ◌⊎◌, ◌↔◌, ◌^◌, IfOk, IsErrOf};
-ghost use Rattle.rds_code.specs.Reading.{reading};
-ghost use Rattle.rds_sync.specs.Ranges.{IsInRange, IsRunOutside, IsShareOutside};
+ghost use Rattle.std.specs.Prelude.{◌≡◌, ◌≢◌, ◌<◌, ◌≤◌, ◌⊎◌, ◌↔◌, ◌^◌, IfErr, IfOk, IfSome, IsErrOf};
+ghost use Rattle.rds_stream.specs.Recording.{reading_heard};
+ghost use Rattle.rds_sync.specs.Ranges.{IsInRange, IsRunOutside, IsShareOutside, farthest_reach, longest_burst, most_blocks};
 ghost use Rattle.rds_sync.specs.declared.loss.Loss.TheVariants.{Run, Share};
 
 use crate::error::SyncError;
 use crate::loss::Loss;
-use rds_code::{BurstTable, Reading, Wanted, read_block};
+use rds_code::{BurstTable, Reading, Wanted};
+use rds_stream::read_heard;
 use std::alloc::Global;
 use std::marker::Model;
 
@@ -79,11 +80,12 @@ impl Rules {
     pub fn new(alloc: Global, burst: u32, reach: u32, loss: u32) -> Result<Rules, SyncError>
         ensures numbers { IfOk result (λ rules. (rules.burst ≡ burst) × (rules.reach ≡ reach) × (rules.loss ≡ Run loss)) }
 
-        ensures burst_range { IsErrOf result SyncError.BurstRange ↔ (5 < burst) }
+        ensures burst_range { IsErrOf result SyncError.BurstRange ↔ (longest_burst < burst) }
         ensures reach_range { IsErrOf result SyncError.ReachRange
-            ↔ ((burst ≤ 5) × ((reach < 1) ⊎ (8 < reach))) }
+            ↔ ((burst ≤ longest_burst) × ((reach < 1) ⊎ (farthest_reach < reach))) }
         ensures loss_range { IsErrOf result SyncError.LossRange
-            ↔ ((burst ≤ 5) × (1 ≤ reach) × (reach ≤ 8) × ((loss < 1) ⊎ (64 < loss))) }
+            ↔ ((burst ≤ longest_burst) × (1 ≤ reach) × (reach ≤ farthest_reach) × ((loss < 1) ⊎ (most_blocks < loss))) }
+        ensures no_share_range { IfErr result (λ e. e ≢ SyncError.ShareRange) }
     {
         Rules::of(
             alloc,
@@ -109,11 +111,12 @@ impl Rules {
     ) -> Result<Rules, SyncError>
         ensures numbers { IfOk result (λ rules. (rules.burst ≡ burst) × (rules.reach ≡ reach) × (rules.loss ≡ Share bad of)) }
 
-        ensures burst_range { IsErrOf result SyncError.BurstRange ↔ (5 < burst) }
+        ensures burst_range { IsErrOf result SyncError.BurstRange ↔ (longest_burst < burst) }
         ensures reach_range { IsErrOf result SyncError.ReachRange
-            ↔ ((burst ≤ 5) × ((reach < 1) ⊎ (8 < reach))) }
+            ↔ ((burst ≤ longest_burst) × ((reach < 1) ⊎ (farthest_reach < reach))) }
         ensures share_range { IsErrOf result SyncError.ShareRange
-            ↔ ((burst ≤ 5) × (1 ≤ reach) × (reach ≤ 8) × ((bad < 1) ⊎ (of < bad) ⊎ (64 < of))) }
+            ↔ ((burst ≤ longest_burst) × (1 ≤ reach) × (reach ≤ farthest_reach) × ((bad < 1) ⊎ (of < bad) ⊎ (most_blocks < of))) }
+        ensures no_loss_range { IfErr result (λ e. e ≢ SyncError.LossRange) }
     {
         Rules::of(
             alloc,
@@ -158,13 +161,13 @@ impl Rules {
         self.numbers.loss
     }
 
-    /// The window read as the block of this number, corrected where these rules allow it.
+    /// What was heard, read as the block of this number, corrected where these rules allow it.
     #[inline]
-    pub(crate) fn read(&self, window: u32, number: u8, wanted: Wanted) -> Reading
-        requires block { window < 2 ^ 26 }
+    pub(crate) fn read(&self, heard: Option<u32>, number: u8, wanted: Wanted) -> Reading
+        requires block { IfSome heard (λ window. window < 2 ^ 26) }
         requires number { (1 ≤ number) × (number ≤ 4) }
-        ensures { result ≡ reading window number wanted self.now.burst }
+        ensures { result ≡ reading_heard heard number wanted self.now.burst }
     {
-        read_block(&self.table, window, number, wanted, self.burst() as u8)
+        read_heard(&self.table, heard, number, wanted, self.burst() as u8)
     }
 }

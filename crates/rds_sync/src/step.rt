@@ -1,8 +1,9 @@
 //! A run over a tape, step by step: a bit while searching, a block while locked.
 
 ghost use Rattle.std.specs.Prelude.{◌≡◌, ◌≤◌, ◌<◌, ◌+◌, ◌-◌, ◌*◌, ◌^◌, length};
+ghost use Rattle.rds_stream.specs.Recording.{length_of};
 ghost use Rattle.rds_sync.specs.Advance.{next_place, reads_most, items_in, group_item};
-ghost use Rattle.rds_sync.specs.Due.{state_in};
+ghost use Rattle.rds_sync.specs.Inside.Due.{state_in};
 ghost use Rattle.rds_sync.specs.Lawful.{IsLawful, IsLawfulLock};
 ghost use Rattle.rds_sync.specs.Step.{step, items_at, run, items_of_end};
 
@@ -35,18 +36,18 @@ pub struct Step {
 pub fn advance<T: Tape>(tape: &mut T, rules: &Rules, state: State, place: u64, to: u64) -> Step
     requires lawful { IsLawful rules.now place state }
     requires before { place < to }
-    requires within { to ≤ length (T.bits tape.old) }
+    requires within { to ≤ length_of (T.signal tape.old) }
     requires counted { T.reads_made tape.old + 16 ≤ 2 ^ 63 }
 
     ensures place { result.place ≡ next_place state place to }
     ensures state { result.state
-        ≡ (run (T.bits tape.old) rules.now state place (result.place - place)).0 }
+        ≡ (run (T.signal tape.old) rules.now state place (result.place - place)).0 }
     ensures items { items_in result.items
-        ≡ (run (T.bits tape.old) rules.now state place (result.place - place)).1 }
+        ≡ (run (T.signal tape.old) rules.now state place (result.place - place)).1 }
     ensures lawful { IsLawful rules.now result.place result.state }
     ensures forward { (place < result.place) × (result.place ≤ to) }
 
-    ensures same { T.bits tape.new ≡ T.bits tape.old }
+    ensures same { T.signal tape.new ≡ T.signal tape.old }
     ensures reads { T.reads_made tape.new ≤ T.reads_made tape.old + reads_most rules.now state to }
 {
     prove!(to <= tape.len());
@@ -79,12 +80,12 @@ pub fn advance<T: Tape>(tape: &mut T, rules: &Rules, state: State, place: u64, t
 /// was read, or none. Asks the tape, which has counted at most 2^63 - 16 windows before, for at
 /// most three, and takes no memory.
 pub fn finish<T: Tape>(tape: &mut T, rules: &Rules, state: State) -> Option<Group>
-    requires lawful { IsLawful rules.now (length (T.bits tape.old)) state }
+    requires lawful { IsLawful rules.now (length_of (T.signal tape.old)) state }
     requires counted { T.reads_made tape.old + 16 ≤ 2 ^ 63 }
 
-    ensures group { group_item result ≡ items_of_end (T.bits tape.old) rules.now state }
+    ensures group { group_item result ≡ items_of_end (T.signal tape.old) rules.now state }
 
-    ensures same { T.bits tape.new ≡ T.bits tape.old }
+    ensures same { T.signal tape.new ≡ T.signal tape.old }
     ensures reads { T.reads_made tape.new ≤ T.reads_made tape.old + 3 }
 {
     match state {
@@ -95,12 +96,12 @@ pub fn finish<T: Tape>(tape: &mut T, rules: &Rules, state: State) -> Option<Grou
             ..
         } if number != 1 => {
             let place = due - 26;
-            let window = tape.window(place);
+            let heard = tape.window(place);
             let part = GroupPart {
                 first,
                 last: number - 1,
                 place,
-                window,
+                heard,
             };
             Some(read_group(tape, rules, part))
         }
@@ -110,14 +111,14 @@ pub fn finish<T: Tape>(tape: &mut T, rules: &Rules, state: State) -> Option<Grou
 
 /// The bit at a place, while searching.
 fn search<T: Tape>(tape: &mut T, rules: &Rules, place: u64) -> Step
-    requires within { place < length (T.bits tape.old) }
+    requires within { place < length_of (T.signal tape.old) }
     requires place { place < 2 ^ 36 }
     requires counted { T.reads_made tape.old + 16 ≤ 2 ^ 63 }
     ensures place { result.place ≡ place + 1 }
-    ensures state { result.state ≡ step (T.bits tape.old) rules.now place State.Searching }
+    ensures state { result.state ≡ step (T.signal tape.old) rules.now place State.Searching }
     ensures items { items_in result.items
-        ≡ items_at (T.bits tape.old) rules.now place State.Searching }
-    ensures same { T.bits tape.new ≡ T.bits tape.old }
+        ≡ items_at (T.signal tape.old) rules.now place State.Searching }
+    ensures same { T.signal tape.new ≡ T.signal tape.old }
     ensures reads { T.reads_made tape.new ≤ T.reads_made tape.old + (rules.now.reach + 1) }
 {
     match acquire(tape, rules, place) {
@@ -137,24 +138,24 @@ fn search<T: Tape>(tape: &mut T, rules: &Rules, place: u64) -> Step
 /// The block that is due, while locked.
 fn read_due<T: Tape>(tape: &mut T, rules: &Rules, lock: Lock) -> Step
     requires lawful { IsLawfulLock rules.now lock.due lock.due lock.number lock.bad lock.first }
-    requires within { lock.due < length (T.bits tape.old) }
+    requires within { lock.due < length_of (T.signal tape.old) }
     requires place { lock.due < 2 ^ 36 }
     requires counted { T.reads_made tape.old + 16 ≤ 2 ^ 63 }
     ensures place { result.place ≡ lock.due + 1 }
-    ensures state { result.state ≡ step (T.bits tape.old) rules.now lock.due (state_in lock) }
-    ensures items { items_in result.items ≡ items_at (T.bits tape.old) rules.now lock.due (state_in lock) }
-    ensures same { T.bits tape.new ≡ T.bits tape.old }
+    ensures state { result.state ≡ step (T.signal tape.old) rules.now lock.due (state_in lock) }
+    ensures items { items_in result.items ≡ items_at (T.signal tape.old) rules.now lock.due (state_in lock) }
+    ensures same { T.signal tape.new ≡ T.signal tape.old }
     ensures reads { T.reads_made tape.new ≤ T.reads_made tape.old + 4 }
 {
-    let window = tape.window(lock.due);
+    let heard = tape.window(lock.due);
     let part = GroupPart {
         first: lock.first,
         last: lock.number,
         place: lock.due,
-        window,
+        heard,
     };
     let place = lock.due + 1;
-    match lock.after(rules.loss(), is_numbered(window, lock.number)) {
+    match lock.after(rules.loss(), is_numbered(heard, lock.number)) {
         Due::Inside(next) => Step {
             place,
             state: next.state(),

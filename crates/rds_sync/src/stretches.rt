@@ -2,8 +2,9 @@
 //! up to the next bit that gives an item.
 
 ghost use Rattle.std.specs.Prelude.{◌≡◌, ◌≤◌, ◌<◌, ◌-◌, ◌++◌, length, IfOk, OnOk, IsOkUnless};
+ghost use Rattle.rds_stream.specs.Recording.{length_of};
 ghost use Rattle.rds_sync.specs.Advance.{items_in};
-ghost use Rattle.rds_sync.specs.Due.{state_in};
+ghost use Rattle.rds_sync.specs.Inside.Due.{state_in};
 ghost use Rattle.rds_sync.specs.Lawful.{IsLawful, IsLawfulLock};
 ghost use Rattle.rds_sync.specs.Stretch.{IsStretch, IsStretchOnto};
 ghost use Rattle.rds_sync.specs.Step.{run};
@@ -17,7 +18,7 @@ use crate::item_buffer::ItemBuffer;
 use crate::lock::{blocks_before, follow};
 use crate::rules::Rules;
 use crate::state::State;
-use rds_stream::{Recording, ValidWindows};
+use rds_stream::{Reader, ValidWindows};
 
 /// How far a run came, and the state there.
 #[derive(Clone, Copy, Debug, PartialEq, Eq)]
@@ -33,9 +34,14 @@ pub struct Reached {
 /// to `items`.
 ///
 /// A run over a range is made of stretches, and so is a decoder that notes where items are given.
-/// Windows may begin before `place`. Fails with `OutOfMemory` alone.
+/// Windows may begin before `place`. The reader goes on with them, and is of the same recording as
+/// before. Fails with `OutOfMemory` alone.
+///
+/// Its cost: a search goes over 64 places at once, and looks up to `reach` windows back from each
+/// valid one; a lock reads a window every 26 bits, and first, once more, the up to three of the
+/// group in progress that were read before. It takes memory for the items alone.
 pub fn stretch(
-    rec: &Recording,
+    reader: &mut Reader<'_>,
     rules: &Rules,
     state: State,
     place: u64,
@@ -44,14 +50,15 @@ pub fn stretch(
 ) -> Result<Reached, SyncError>
     requires lawful { IsLawful rules.now place state }
     requires order { place < to }
-    requires within { to ≤ length rec.now }
-    ensures reached { IfOk result (λ reached. IsStretch rec.now rules.now state place to reached) }
+    requires within { to ≤ length_of reader.old }
+    ensures reached { IfOk result (λ reached. IsStretch reader.old rules.now state place to reached) }
     ensures items { IfOk result (λ reached. items.new
-        ≡ items.old ++ (run rec.now rules.now state place (reached.place - place)).1) }
+        ≡ items.old ++ (run reader.old rules.now state place (reached.place - place)).1) }
+    ensures same { reader.new ≡ reader.old }
     ensures only_memory { IsOkUnless result SyncError.OutOfMemory }
 {
     match state {
-        State::Searching => search(rec, rules, place, to, items),
+        State::Searching => search(reader, rules, place, to, items),
         State::Locked {
             due,
             number,
@@ -64,25 +71,27 @@ pub fn stretch(
                 bad,
                 first,
             };
-            keep_lock(rec, rules, lock, place, to, items)
+            keep_lock(reader, rules, lock, place, to, items)
         }
     }
 }
 
 /// Searches up to and including the first place that acquires, or up to `to`.
 fn search(
-    rec: &Recording,
+    reader: &mut Reader<'_>,
     rules: &Rules,
     place: u64,
     to: u64,
     items: &mut ItemBuffer,
 ) -> Result<Reached, SyncError>
     requires order { place < to }
-    requires within { to ≤ length rec.now }
+    requires within { to ≤ length_of reader.old }
     ensures reached { IfOk result (λ reached.
-        IsStretchOnto rec.now rules.now Searching place to items.old reached items.new) }
+        IsStretchOnto reader.old rules.now Searching place to items.old reached items.new) }
+    ensures same { reader.new ≡ reader.old }
     ensures only_memory { IsOkUnless result SyncError.OutOfMemory }
 {
+    let rec = reader.recording();
     prove!(to <= rec.len());
     for (here, offset) in ValidWindows::new(rec, place, to) {
         // A window is valid by chance at one place in two hundred: so its partners are looked up in
@@ -92,7 +101,7 @@ fn search(
             let found = Acquisition {
                 place: here,
                 number,
-                window: rec.window(here),
+                heard: reader.window(here),
             };
             push_found(items, found.items(rules))?;
             return Ok(Reached {
@@ -125,7 +134,7 @@ fn push_found(items: &mut ItemBuffer, found: [Option<Item>; 2]) -> Result<(), Sy
 /// Follows a lock from block to block, up to and including the next block that closes a group, or
 /// up to `to` where none is due before it.
 fn keep_lock(
-    rec: &Recording,
+    reader: &mut Reader<'_>,
     rules: &Rules,
     lock: Lock,
     place: u64,
@@ -134,18 +143,19 @@ fn keep_lock(
 ) -> Result<Reached, SyncError>
     requires lawful { IsLawfulLock rules.now place lock.due lock.number lock.bad lock.first }
     requires order { place < to }
-    requires within { to ≤ length rec.now }
+    requires within { to ≤ length_of reader.old }
     ensures reached { IfOk result (λ reached.
-        IsStretchOnto rec.now rules.now (state_in lock) place to
+        IsStretchOnto reader.old rules.now (state_in lock) place to
         items.old reached items.new) }
+    ensures same { reader.new ≡ reader.old }
     ensures only_memory { IsOkUnless result SyncError.OutOfMemory }
 {
     prove!(1 <= rules.reach());
-    let mut blocks = blocks_before(rec, rules, lock);
+    let mut blocks = blocks_before(reader, rules, lock);
     let mut now = lock;
     while now.due < to {
         let past = now.due + 1;
-        match follow(rec, rules, now, &mut blocks, items)? {
+        match follow(reader, rules, now, &mut blocks, items)? {
             Due::Inside(next) => now = next,
             Due::Closed(next) => {
                 return Ok(Reached {

@@ -31,7 +31,7 @@ pub struct Totals {
 impl Totals {
     ghost use Rattle.rds_sync.specs.Totals.{totals_of};
     ghost use Rattle.rds_sync.specs.Counting.{plus, whole_totals, block_totals, IsAtMost, FitTogether, IsRest};
-    ghost use Rattle.rds_sync.specs.Kept.{items_of, IsFound};
+    ghost use Rattle.rds_sync.specs.Inside.Kept.{items_of, IsFound};
 
     /// The totals of no items.
     pub const NONE: Totals = Totals {

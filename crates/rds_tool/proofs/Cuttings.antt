@@ -7,11 +7,11 @@ use Rattle.std.proofs.lemmas.List.{get_or_push, length_push}
 use Rattle.rds_pieces.specs.Cutting.{IsCutting}
 use Rattle.rds_tool.specs.Cuts.{are_inner, places_at, rise_between}
 
-and_both : (a b : Bool) → (a && b) ≡ true → (a ≡ true) × (b ≡ true)
+pub and_both : (a b : Bool) → (a && b) ≡ true → (a ≡ true) × (b ≡ true)
 and_both true b h = (refl, h)
 and_both false b h = cc h
 
-both_and : (a b : Bool) → a ≡ true → b ≡ true → (a && b) ≡ true
+pub both_and : (a b : Bool) → a ≡ true → b ≡ true → (a && b) ≡ true
 both_and true b p q = q
 both_and false b p q = cc p
 

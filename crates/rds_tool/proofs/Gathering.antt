@@ -5,7 +5,7 @@ use Rattle.std.specs.Io.KnownBytes.{Appends}
 use Rattle.std.proofs.Math.Seq.{split_at, take-add}
 use Rattle.std.proofs.lemmas.Grind.{common_steps, flat_map-append}
 use Rattle.rds_tool.specs.Outcome.{WritesPrefix}
-use Rattle.rds_tool.specs.Texts.{joined}
+use Rattle.rds_tool.specs.Inside.Texts.{joined}
 use Rattle.rds_tool.proofs.Steps.{prefix_more, prefix_wider}
 
 -- ---- writing them

@@ -1,15 +1,20 @@
 -- What the typed getters read, by the rows of a parse.
-use Rattle.std.proofs.Common.{◌≡◌, ◌≢◌, ◌⊎◌, inl, inr, arith, slice_index, ◌∙◌, ℕ, List, Option, Some, None, Result, Ok, Err, sym, subst, refl, codes, Bool, ap}
-use Rattle.std.specs.Prelude.{IfSome, IfNone, IfOk}
+use Rattle.std.proofs.Common.{◌≡◌, ◌≢◌, ◌⊎◌, inl, inr, arith, slice_index, ◌∙◌, ℕ, List, [], Bor, Option, Some, None, Result, Ok, Err, sym, subst, refl, codes, Bool, ap}
+use Rattle.std.specs.Global.{Vec}
+use Rattle.std.specs.Option.{ok_or, option_map}
+use Rattle.std.specs.Prelude.{IfSome, IfNone, IfErr, IfOk}
 use Rattle.std.specs.Result.{result_ok}
 use Rattle.std.specs.declared.num.ParseIntError.{ParseIntError}
 use Rattle.std.specs.Str.Parse.{ExplainsUnsignedError, HasUnsignedDigitsIfOk, ParsesUnsigned}
-use Rattle.clap.specs.Words.{ReadsOne, Row, Text, TriesOne, one_of, one_text, rows_of}
+use Rattle.clap.specs.Words.{ReadsOne, Row, Text, TriesOne, first_value, one_of, one_text, rows_of}
 use Rattle.clap.specs.declared.parser.matches.Found.{Found}
-use Rattle.clap.proofs.WalkLemmas.{one_text-rows}
+use Rattle.clap.proofs.WalkLemmas.{first_value-rows, one_text-rows}
 use Rattle.rds_sync.specs.declared.loss.Loss.{Loss}
 use Rattle.rds_sync.specs.declared.loss.Loss.TheVariants.{Run, Share}
-use Rattle.rds_tool.specs.CommandLine.{AreSettings, IsFlag, IsInput, IsJob, MaySpell, Spells, SpellsLoss}
+use Rattle.rds_tool.specs.CommandLine.{AreSettings, GivesNoInput, GivesNoJob, IsFlag, IsInput, IsJob, MaySpell, ReadsRecording, gaps_asked_for, gaps_spelled, Spells, SpellsLoss}
+use Rattle.rds_tool.specs.GapText.{gaps_of}
+use Rattle.rds_tool.specs.declared.entries.NoJob.{NoJob}
+use Rattle.rds_tool.specs.declared.entries.NoJob.TheVariants.{Entries, Gaps, Memory}
 use Rattle.rds_tool.specs.declared.job.Input.{Input}
 use Rattle.rds_tool.specs.declared.job.Job.{Job}
 use Rattle.rds_tool.specs.declared.job.Job.TheVariants.{Encode, List as ListJob, Scan, Totals}
@@ -83,6 +88,36 @@ number_none width f id (Some n) value = tt
 number_none width f id None value =
     λ n h. number_none_at width (one_text f id) value n (subst (λ (o : Option Text). Spells width o n) (sym (one_text-rows f id)) h)
 
+-- ---- the gaps
+
+module _ (f : Found) (given : Option (Bor Text)) (is : option_map (λ s. s.now) given ≡ first_value f (codes "gaps")) where
+  asked_for : gaps_asked_for (rows_of f) ≡ gaps_spelled (option_map (λ s. s.now) given)
+  asked_for = ap gaps_spelled (sym (is ∙ first_value-rows f (codes "gaps")))
+
+  -- where the option isn't given there are none
+  pub no_gaps : given ≡ None → (gaps : List (ℕ × ℕ)) → gaps ≡ [] → gaps_asked_for (rows_of f) ≡ Some gaps
+  no_gaps none gaps empty = rw empty (asked_for ∙ ap (λ (o : Option (Bor Text)). gaps_spelled (option_map (λ s. s.now) o)) none)
+
+  -- where it is, they are those of its text, if that spells some
+  module _ (text : Bor Text) (some : given ≡ Some text) (gaps : Option (Vec (ℕ × ℕ))) (spelled : option_map (λ g. g.items) gaps ≡ gaps_of text.now) where
+    asked_as : gaps_asked_for (rows_of f) ≡ option_map (λ g. g.items) gaps
+    asked_as = asked_for ∙ ap (λ (o : Option (Bor Text)). gaps_spelled (option_map (λ s. s.now) o)) some ∙ sym spelled
+
+    pub read_gaps : (read : Result (Vec (ℕ × ℕ)) NoJob) → read ≡ ok_or gaps Gaps → IfOk read (λ v. gaps_asked_for (rows_of f) ≡ Some v.items)
+    read_gaps read e = rw (e, asked_as) (by gaps)
+      where
+        by : (o : Option (Vec (ℕ × ℕ))) → IfOk (ok_or o Gaps) (λ v. option_map (λ g. g.items) o ≡ Some v.items)
+        by (Some v) = refl
+        by None = tt
+
+    pub unread_gaps : (read : Result (Vec (ℕ × ℕ)) NoJob) → read ≡ ok_or gaps Gaps
+        → IfErr read (λ why. (why ≡ Memory) ⊎ ((why ≡ Gaps) × (gaps_asked_for (rows_of f) ≡ None)))
+    unread_gaps read e = rw (e, asked_as) (by gaps)
+      where
+        by : (o : Option (Vec (ℕ × ℕ))) → IfErr (ok_or o Gaps) (λ why. (why ≡ Memory) ⊎ ((why ≡ Gaps) × (option_map (λ g. g.items) o ≡ None)))
+        by (Some v) = tt
+        by None = inr (refl, refl)
+
 -- ---- entries that give no job
 
 -- a share that is no number
@@ -96,14 +131,6 @@ no_input name rows other none (Scan input) h = none input h.1
 no_input name rows other none (ListJob input settings) h = none input h.1
 no_input name rows other none (Totals input settings) h = none input h.1
 no_input name rows other none (Encode hex) h = other h.0
-
--- no settings, no job but a scan or one to encode
-pub no_settings : (name : Text) (rows : List Row) → name ≢ codes "scan" → name ≢ codes "encode" → ((settings : Settings) → AreSettings rows settings → ⊥)
-    → (job : Job) → IsJob name rows job → ⊥
-no_settings name rows scan encode none (Scan input) h = scan h.0
-no_settings name rows scan encode none (ListJob input settings) h = none settings h.2
-no_settings name rows scan encode none (Totals input settings) h = none settings h.2
-no_settings name rows scan encode none (Encode hex) h = encode h.0
 
 first_is : (name word : Text) (b : ℕ) → name ≡ word → slice_index word 0 ≡ b → slice_index name 0 ≡ b
 first_is name word b p q = ap (λ (t : Text). slice_index t 0) p ∙ q
@@ -119,3 +146,17 @@ not_encode name (inr (inl p)) e =
 not_encode name (inr (inr p)) e =
     let a : slice_index name 0 ≡ 116 = first_is name (codes "totals") 116 p refl in
     let b : slice_index name 0 ≡ 101 = first_is name (codes "encode") 101 e refl in omega arith
+
+-- an input that can't be had is a job that can't, for the same reason
+pub without_input : (name : Text) (rows : List Row) (why : NoJob) → ReadsRecording name → GivesNoInput rows why → GivesNoJob (Some (name, rows)) why
+without_input name rows Memory reads none = tt
+without_input name rows Gaps reads none = (reads, none)
+without_input name rows Entries reads none = ((λ bad. none.0 bad.1), no_input name rows (not_encode name reads) none.1)
+
+-- no settings, no job but a scan or one to encode
+pub no_settings : (name : Text) (rows : List Row) → name ≢ codes "scan" → name ≢ codes "encode" → ((settings : Settings) → AreSettings rows settings → ⊥)
+    → (job : Job) → IsJob name rows job → ⊥
+no_settings name rows scan encode none (Scan input) h = scan h.0
+no_settings name rows scan encode none (ListJob input settings) h = none settings h.2
+no_settings name rows scan encode none (Totals input settings) h = none settings h.2
+no_settings name rows scan encode none (Encode hex) h = encode h.0

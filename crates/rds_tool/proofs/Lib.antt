@@ -8,4 +8,7 @@ pub mod Texts
 pub mod Cuttings
 pub mod Passing
 pub mod Reading
+pub mod GapTexts
+pub mod GapLists
+pub mod Recorded
 pub mod Gathering

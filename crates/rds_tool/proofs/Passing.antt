@@ -4,7 +4,7 @@ use Rattle.std.specs.Prelude.{IfErr, OnErr}
 use Rattle.std.specs.Result.{IsErr, IsErrAnd}
 use Rattle.rds_tool.specs.declared.error.ToolError.{ToolError}
 
-pub passed : {T : Type 0} (r : Result T ToolError) (e : ToolError) → IsErr r × IsErrAnd r (λ x. x ≡ e) → r ≡ Err e
+pub passed : {T E : Type 0} (r : Result T E) (e : E) → IsErr r × IsErrAnd r (λ x. x ≡ e) → r ≡ Err e
 passed (Ok x) e h = cc h.0
 passed (Err x) e h = ap (λ y. Err y) h.1
 
@@ -13,7 +13,7 @@ pub passed_kind : {T : Type 0} (r : Result T ToolError) (e k : ToolError) → r 
 passed_kind r e k p q = cc
 
 -- and what holds of it holds of the answer
-pub passes : {T : Type 0} (r : Result T ToolError) (e : ToolError) (P : ToolError → Type 0) → IsErr r × IsErrAnd r (λ x. x ≡ e) → P e → IfErr r P
+pub passes : {T E : Type 0} (r : Result T E) (e : E) (P : E → Type 0) → IsErr r × IsErrAnd r (λ x. x ≡ e) → P e → IfErr r P
 passes r e P h p = subst (λ x. IfErr x P) (sym (passed r e h)) p
 
 -- what holds in any case holds where there is an error

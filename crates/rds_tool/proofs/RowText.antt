@@ -20,7 +20,7 @@ use Rattle.rds_sync.specs.declared.item.Block.TheVariants.{Missing, Read}
 use Rattle.rds_sync.specs.declared.item.Version.{Version}
 use Rattle.rds_sync.specs.declared.item.Version.TheVariants.{A as VA, B as VB, Unknown}
 use Rattle.rds_tool.specs.Listing.{block_text, hex_digits, kind_text, row, version_text, word_text}
-use Rattle.rds_tool.specs.RowWriter.{IsPlain}
+use Rattle.rds_tool.specs.Inside.RowWriter.{IsPlain}
 
 -- ---- fields without quotes
 

@@ -3,7 +3,7 @@ use Rattle.std.proofs.Common.{◌↔◌, ◌||◌, arith, ◌++◌, ◌∙◌, �
 use Rattle.std.specs.Prelude.{IfErr, IfOk, IfSome, OnErr, OnOk}
 use Rattle.std.specs.List.{filter}
 use Rattle.hex.specs.Hex.{decode_of, decode_sized}
-use Rattle.rds_stream.specs.Recording.{bits_of}
+use Rattle.rds_stream.specs.Recording.{Signal, bits_of, length_of}
 use Rattle.hex.specs.declared.error.FromHexError.{FromHexError}
 use Rattle.rds_sync.specs.Report.{report_items}
 use Rattle.rds_sync.specs.Rules.{RuleNumbers}
@@ -12,7 +12,7 @@ use Rattle.rds_sync.specs.declared.report.Report.{Report}
 use Rattle.rds_sync.specs.declared.totals.Totals.{Totals as TotalsOf}
 use Rattle.rds_tool.specs.Cuts.{cuts_bits, has_pieces}
 use Rattle.rds_tool.specs.GroupText.{line_text, lines_of, lines_text, words_of, words_or_refusal, group_text}
-use Rattle.rds_tool.specs.Input.{and_then, bytes_of, claimed, decoded, first_bits, is_blank, or_hex_text, recording_of}
+use Rattle.rds_tool.specs.Input.{and_then, bytes_of, claimed, decoded, first_bits, is_blank, may_be_gaps, or_hex_text, recording_of}
 use Rattle.rds_tool.specs.Listing.{report_text, totals_text}
 use Rattle.rds_tool.specs.Outcome.{WritesPrefix, cut_recording, list_text, outcome, text_of_task, totals_list}
 use Rattle.rds_tool.specs.Plans.{PlanOf, crew_of, cut_by, plan_of}
@@ -21,7 +21,7 @@ use Rattle.rds_sync.specs.declared.loss.Loss.TheVariants.{Run, Share}
 use Rattle.rds_tool.specs.Rules.{loss_of, rules_of}
 use Rattle.rds_tool.specs.Tasks.{AsksForThreads, MayStartThreads, task_of}
 use Rattle.rds_tool.specs.declared.error.ToolError.{ToolError}
-use Rattle.rds_tool.specs.declared.error.ToolError.TheVariants.{BadCutting, BitsPastBytes, BurstRange, CrewRange, LossRange, NoWorker, OutOfMemory, ReachRange, Read, ShareRange, TooLong, TooManyTurns, Write}
+use Rattle.rds_tool.specs.declared.error.ToolError.TheVariants.{BadCutting, BadGaps, BitsPastBytes, BurstRange, CrewRange, LossRange, NoWorker, OutOfMemory, ReachRange, Read, ShareRange, TooLong, TooManyTurns, Write}
 use Rattle.rds_tool.specs.declared.job.Cuts.{Cuts}
 use Rattle.rds_tool.specs.declared.job.Input.{Input}
 use Rattle.rds_tool.specs.declared.job.Job.{Job}
@@ -33,7 +33,7 @@ use Rattle.rds_tool.proofs.Passing.{passed_kind}
 
 -- ---- the texts
 
-module _ (input : Input) (plan : PlanOf) (held bits : List ℕ) where
+module _ (input : Input) (plan : PlanOf) (held : List ℕ) (bits : Signal) where
   cut : recording_of input held ≡ Ok bits → cut_by plan.cuts bits ≡ Ok bits → cut_recording input plan.cuts held ≡ Ok bits
   cut recorded fits = ap (λ r. and_then r (cut_by plan.cuts)) recorded ∙ fits
 
@@ -58,7 +58,7 @@ module _ (input : Input) (plan : PlanOf) (held bits : List ℕ) where
   totals_if_made (Ok report) recorded fits o = totals_made report (cut recorded fits) o
   totals_if_made (Err e) recorded fits o = tt
 
-pub totals_counted : (totals : TotalsOf) (work bits : List ℕ) (given rules : RuleNumbers)
+pub totals_counted : (totals : TotalsOf) (work bits : Signal) (given rules : RuleNumbers)
     → totals ≡ totals_of (report_items work given) → work ≡ bits → given ≡ rules → totals ≡ totals_of (report_items bits rules)
 totals_counted totals work bits given rules counted same_bits same_rules = counted ∙ ap₂ (λ b r. totals_of (report_items b r)) same_bits same_rules
 
@@ -103,11 +103,12 @@ bytes_errs : (hex : Bool) (decoded held : Result (List ℕ) ToolError) → IfErr
 bytes_errs true decoded held h k = h
 bytes_errs false decoded held h k = k
 
-first_errs : (long past : Bool) (bits : List ℕ)
-    → let r : Result (List ℕ) ToolError = if long then Err TooLong else if past then Err BitsPastBytes else Ok bits in IfErr r IsOfOutcome
-first_errs true past bits = tt
-first_errs false true bits = tt
-first_errs false false bits = tt
+first_errs : (long past bad : Bool) (recording : Signal)
+    → let r : Result Signal ToolError = if long then Err TooLong else if past then Err BitsPastBytes else if bad then Err BadGaps else Ok recording in IfErr r IsOfOutcome
+first_errs true past bad recording = tt
+first_errs false true bad recording = tt
+first_errs false false true recording = tt
+first_errs false false false recording = tt
 
 hex_errs : (r : Result (List ℕ) FromHexError) → IfErr (or_hex_text r) IsOfOutcome
 hex_errs (Ok bytes) = tt
@@ -115,17 +116,17 @@ hex_errs (Err e) = tt
 
 recording_errs : (input : Input) (held : List ℕ) → IfErr (recording_of input held) IsOfOutcome
 recording_errs input held =
-    then_errs IsOfOutcome (bytes_of input held) (λ bytes. first_bits (claimed input.bits bytes) bytes)
+    then_errs IsOfOutcome (bytes_of input held) (λ bytes. first_bits (claimed input.bits bytes) input.gaps bytes)
     (bytes_errs input.hex (decoded held) (Ok held) (hex_errs (decode_of (filter (λ b. not (is_blank b)) held))) tt)
-    (λ bytes. let n = claimed input.bits bytes in first_errs (nat_lt (2 ^ 36) n) (nat_lt (8 * length bytes) n) (bits_of bytes n))
+    (λ bytes. let n = claimed input.bits bytes in first_errs (nat_lt (2 ^ 36) n) (nat_lt (8 * length bytes) n) (not (may_be_gaps 0 input.gaps n)) (record { bits = bits_of bytes n; gaps = input.gaps }))
 
-cut_by_errs : (fits : Bool) (bits : List ℕ) → let r : Result (List ℕ) ToolError = if fits then Ok bits else Err BadCutting in IfErr r IsOfOutcome
+cut_by_errs : (fits : Bool) (bits : Signal) → let r : Result Signal ToolError = if fits then Ok bits else Err BadCutting in IfErr r IsOfOutcome
 cut_by_errs true bits = tt
 cut_by_errs false bits = tt
 
 cut_errs : (input : Input) (cuts : Cuts) (held : List ℕ) → IfErr (cut_recording input cuts held) IsOfOutcome
 cut_errs input cuts held =
-    then_errs IsOfOutcome (recording_of input held) (cut_by cuts) (recording_errs input held) (λ bits. cut_by_errs (cuts_bits cuts (length bits)) bits)
+    then_errs IsOfOutcome (recording_of input held) (cut_by cuts) (recording_errs input held) (λ bits. cut_by_errs (cuts_bits cuts (length_of bits)) bits)
 
 words_errs : (r : Result (List ℕ) FromHexError) → IfErr (words_or_refusal r) IsOfOutcome
 words_errs (Ok bytes) = tt

@@ -1,7 +1,7 @@
 -- The command line, as `clap` reads it, and the job that its words ask for. This project's rule.
-use Rattle.std.specs.Prelude.{◌≡◌, ◌≢◌, ◌⊎◌, ◌<◌, ◌^◌, ⊤, Bool, IfOk, List, None, Option, Result, Some, [], codes, false, pos, true, ℕ, ◌∷◌}
+use Rattle.std.specs.Prelude.{◌≡◌, ◌≢◌, ◌⊎◌, ◌<◌, ◌^◌, ◌++◌, ⊤, Bool, IfOk, List, None, Option, Result, Some, [], codes, false, pos, string_bytes, true, ℕ, ◌∷◌}
 use Rattle.std.specs.Str.Parse.{IsNumeral, digits_value, without_leading_plus}
-use Rattle.clap.specs.Words.{App, IsAmong, Kinds, Row, Rule, Text, app_of, fault_of, new_app, new_rule, one_of, subcommand_of, with_rule, with_subcommand}
+use Rattle.clap.specs.Words.{App, IsAmong, Kinds, Row, Rule, Text, app_of, fault_of, first_of, new_app, new_rule, one_of, subcommand_of, with_rule, with_subcommand}
 use Rattle.clap.specs.declared.builder.action.ArgAction.TheVariants.{Set, SetTrue}
 use Rattle.clap.specs.declared.builder.command.Command.{Command}
 use Rattle.clap.specs.declared.builder.command.Command.TheViews.{out-Command as fields_of}
@@ -10,8 +10,12 @@ use Rattle.clap.specs.declared.error.kind.ErrorKind.{ErrorKind}
 use Rattle.clap.specs.declared.error.kind.ErrorKind.TheVariants as kind
 use Rattle.rds_sync.specs.declared.loss.Loss.{Loss}
 use Rattle.rds_sync.specs.declared.loss.Loss.TheVariants.{Run, Share}
+use Rattle.rds_tool.specs.GapText.{gaps_of}
+use Rattle.rds_tool.specs.declared.cli.CliFault.{CliFault}
 use Rattle.rds_tool.specs.declared.cli.FaultKind.{FaultKind}
-use Rattle.rds_tool.specs.declared.cli.FaultKind.TheVariants.{Help, Memory, Words}
+use Rattle.rds_tool.specs.declared.cli.FaultKind.TheVariants.{Help, Memory, Version, Words}
+use Rattle.rds_tool.specs.declared.entries.NoJob.{NoJob}
+use Rattle.rds_tool.specs.declared.entries.NoJob.TheVariants as no
 use Rattle.rds_tool.specs.declared.job.Cuts.{Cuts}
 use Rattle.rds_tool.specs.declared.job.Cuts.TheVariants.{At, Even}
 use Rattle.rds_tool.specs.declared.job.Input.{Input}
@@ -52,9 +56,13 @@ number_rule name default = record (value_rule name) { parser = Some (parser.Sign
 abbrev pub share_rule : Rule
 share_rule = record (value_rule (codes "share")) { parser = Some (parser.Signed (pos 0) (pos 4294967295)) }
 
+-- `--gaps TEXT`, of any text
+abbrev pub gaps_rule : Rule
+gaps_rule = value_rule (codes "gaps")
+
 -- the options of a command that reads a recording
 abbrev pub with_input : App → App
-with_input command = with_rule (with_rule command hex_rule) bits_rule
+with_input command = with_rule (with_rule (with_rule command hex_rule) bits_rule) gaps_rule
 
 -- the options of one that reads it by the rules of a synchroniser, piece by piece
 abbrev pub with_rules : App → App
@@ -72,9 +80,9 @@ ruled_app name = with_rules (with_input (new_app name))
 abbrev pub encode_app : App
 encode_app = with_rule (new_app (codes "encode")) hex_rule
 
--- the program, which wants a command
+-- the program, which has a version and wants a command
 abbrev pub bare_app : App
-bare_app = let app = new_app (codes "rds") in record app { top = record app.top { subcommand_required = true } }
+bare_app = let app = new_app (codes "rds") in record app { top = record app.top { has_version = true; subcommand_required = true } }
 
 abbrev pub rds_app : App
 rds_app = with_subcommand (with_subcommand (with_subcommand (with_subcommand bare_app
@@ -105,10 +113,20 @@ MaySpell width entry (Some n) = Spells width entry n
 abbrev pub IsFlag : Option Text → Bool → Type 0
 IsFlag entry b = (entry ≡ None → b ≡ false) × (entry ≡ Some (codes "true") → b ≡ true) × (entry ≡ Some (codes "false") → b ≡ false)
 
+-- the gaps that a text spells, and none where there is no text
+abbrev pub gaps_spelled : Option Text → Option (List (ℕ × ℕ))
+gaps_spelled None = Some []
+gaps_spelled (Some text) = gaps_of text
+
+-- the gaps that the entries ask for, where they spell some
+abbrev pub gaps_asked_for : List Row → Option (List (ℕ × ℕ))
+gaps_asked_for rows = gaps_spelled (first_of (codes "gaps") rows)
+
 -- the input that the entries give
 pub record IsInput (rows : List Row) (input : Input) : Type 0 where
   pub hex : IsFlag (one_of (codes "hex") rows) input.hex
   pub bits : MaySpell 64 (one_of (codes "bits") rows) input.bits
+  pub gaps : gaps_asked_for rows ≡ Some input.gaps
 
 -- the entry spells how many pieces an even cutting has at most
 abbrev pub SpellsPieces : Option Text → Cuts → Type 0
@@ -141,10 +159,44 @@ IsJobOf (Some entries) job = IsJob entries.0 entries.1 job
 
 -- ---- when there is no job
 
--- the kind of answer that these faults and entries allow: help where it was asked for; a refusal of the words where
--- they have another fault, or where none of them is at fault and yet no job has their entries; want of memory ever
+-- the command reads a recording
+abbrev pub ReadsRecording : Text → Type 0
+ReadsRecording name = (name ≡ codes "scan") ⊎ ((name ≡ codes "list") ⊎ (name ≡ codes "totals"))
+
+-- it does, and its entry for gaps spells none
+abbrev pub HasBadGaps : Option (Text × List Row) → Type 0
+HasBadGaps None = ⊥
+HasBadGaps (Some entries) = ReadsRecording entries.0 × (gaps_asked_for entries.1 ≡ None)
+
+-- the entries give no input, for that reason; gaps that aren't any come first
+abbrev pub GivesNoInput : List Row → NoJob → Type 0
+GivesNoInput rows no.Memory = ⊤
+GivesNoInput rows no.Gaps = gaps_asked_for rows ≡ None
+GivesNoInput rows no.Entries = (gaps_asked_for rows ≢ None) × ((input : Input) → IsInput rows input → ⊥)
+
+-- nor a job
+abbrev pub GivesNoJob : Option (Text × List Row) → NoJob → Type 0
+GivesNoJob entries no.Memory = ⊤
+GivesNoJob entries no.Gaps = HasBadGaps entries
+GivesNoJob entries no.Entries = (HasBadGaps entries → ⊥) × ((job : Job) → IsJobOf entries job → ⊥)
+
+-- the kind is a fault of the words: nothing to be shown was asked for, and memory is not at fault
+abbrev pub IsFault : ErrorKind → Type 0
+IsFault k = (k ≢ kind.DisplayHelp) × (k ≢ kind.DisplayVersion) × (k ≢ kind.OutOfMemory)
+
+-- the kind of answer that these faults and entries allow: help or the version where it was asked for; a refusal of the
+-- words where they have a fault, or where none of them is at fault and yet no job has their entries; want of memory ever
 abbrev pub MayAnswer : Kinds → Option (Text × List Row) → FaultKind → Type 0
 MayAnswer faults entries Help = IsAmong kind.DisplayHelp faults
-MayAnswer faults entries Words = ((k : ErrorKind) × (k ≢ kind.DisplayHelp) × IsAmong k faults)
+MayAnswer faults entries Version = IsAmong kind.DisplayVersion faults
+MayAnswer faults entries Words = ((k : ErrorKind) × IsFault k × IsAmong k faults)
     ⊎ ((faults ≡ []) × ((job : Job) → IsJobOf entries job → ⊥))
 MayAnswer faults entries Memory = ⊤
+
+-- what is shown where the gaps are none
+abbrev pub bad_gaps_text : Text
+bad_gaps_text = codes "bad --gaps" ++ 10 ∷ []
+
+-- that, or memory was refused
+abbrev pub SaysBadGaps : CliFault → Type 0
+SaysBadGaps fault = (fault.kind ≡ Memory) ⊎ ((fault.kind ≡ Words) × (string_bytes fault.text ≡ bad_gaps_text))

@@ -4,6 +4,7 @@ pub mod Words
 pub mod Rows
 pub mod HexText
 pub mod GroupLines
+pub mod GapTexts
 pub mod Recordings
 pub mod SettingsRefused
 pub mod Refused

@@ -1,11 +1,11 @@
 -- The recording that an input stands for. This project's rule.
-use Rattle.std.specs.Prelude.{◌*◌, ◌==◌, ◌^◌, ◌||◌, ℕ, Bool, Err, List, None, Ok, Option, Result, Some, if◌then◌else◌, length, nat_lt, not}
+use Rattle.std.specs.Prelude.{◌*◌, ◌==◌, ◌^◌, ◌||◌, ◌&&◌, ◌∷◌, ℕ, Bool, Err, List, [], None, Ok, Option, Result, Some, if◌then◌else◌, length, nat_le, nat_lt, not, true}
 use Rattle.std.specs.List.{filter}
 use Rattle.hex.specs.Hex.{decode_of}
 use Rattle.hex.specs.declared.error.FromHexError.{FromHexError}
-use Rattle.rds_stream.specs.Recording.{bits_of}
+use Rattle.rds_stream.specs.Recording.{Signal, bits_of}
 use Rattle.rds_tool.specs.declared.error.ToolError.{ToolError}
-use Rattle.rds_tool.specs.declared.error.ToolError.TheVariants.{BitsPastBytes, HexText, TooLong}
+use Rattle.rds_tool.specs.declared.error.ToolError.TheVariants.{BadGaps, BitsPastBytes, HexText, TooLong}
 use Rattle.rds_tool.specs.declared.job.Input.{Input}
 
 -- the second step, if the first was not refused
@@ -35,13 +35,19 @@ abbrev pub claimed : Option ℕ → List ℕ → ℕ
 claimed (Some bits) bytes = bits
 claimed None bytes = 8 * length bytes
 
--- the first so many bits of the bytes: at most 2^36, and no more than the bytes hold
-abbrev pub first_bits : ℕ → List ℕ → Result (List ℕ) ToolError
-first_bits bits bytes =
+-- whether n bits may have these gaps: each begins at or after the end of the one before it, or `low`, has a place, and ends by n
+abbrev pub may_be_gaps : ℕ → List (ℕ × ℕ) → ℕ → Bool
+may_be_gaps low [] n = true
+may_be_gaps low (gap ∷ gaps) n = nat_le low gap.0 && nat_lt gap.0 gap.1 && nat_le gap.1 n && may_be_gaps gap.1 gaps n
+
+-- the first so many bits of the bytes, with these gaps: at most 2^36 bits, and no more than the bytes hold
+abbrev pub first_bits : ℕ → List (ℕ × ℕ) → List ℕ → Result Signal ToolError
+first_bits bits gaps bytes =
     if nat_lt (2 ^ 36) bits then Err TooLong
     else if nat_lt (8 * length bytes) bits then Err BitsPastBytes
-    else Ok (bits_of bytes bits)
+    else if not (may_be_gaps 0 gaps bits) then Err BadGaps
+    else Ok (record { bits = bits_of bytes bits; gaps = gaps })
 
--- the bits of the recording, by all bytes that the reader held
-abbrev pub recording_of : Input → List ℕ → Result (List ℕ) ToolError
-recording_of input held = and_then (bytes_of input held) (λ bytes. first_bits (claimed input.bits bytes) bytes)
+-- the recording, by all bytes that the reader held
+abbrev pub recording_of : Input → List ℕ → Result Signal ToolError
+recording_of input held = and_then (bytes_of input held) (λ bytes. first_bits (claimed input.bits bytes) input.gaps bytes)

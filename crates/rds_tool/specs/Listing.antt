@@ -1,11 +1,11 @@
 -- The rows of a listing, as bytes. This project's rule.
-use Rattle.std.specs.Prelude.{◌++◌, ◌/◌, ◌%◌, ◌∷◌, ℕ, Bool, List, None, Option, Some, [], codes, decimal, false, length, map, slice_index, suc, true, zero}
+use Rattle.std.specs.Prelude.{◌++◌, ◌/◌, ◌%◌, ◌∷◌, ℕ, Bool, List, None, Option, Some, [], codes, decimal, false, map, slice_index, suc, true, zero}
 use Rattle.std.specs.List.{flat_map, join_with_byte}
 use Rattle.hex.specs.Hex.{upper_digits}
 use Rattle.rds_code.specs.Offsets.{name}
 use Rattle.rds_code.specs.declared.offset.Offset.{Offset}
 use Rattle.rds_code.specs.declared.reading.Reading.TheVariants.{Corrected, Lost, Valid}
-use Rattle.rds_stream.specs.Recording.{valid_windows}
+use Rattle.rds_stream.specs.Recording.{Signal, length_of, valid_windows}
 use Rattle.rds_sync.specs.declared.item.Block.{Block}
 use Rattle.rds_sync.specs.declared.item.Block.TheVariants.{Missing, Read}
 use Rattle.rds_sync.specs.declared.item.Item.{Item}
@@ -31,8 +31,8 @@ abbrev pub window_row : ℕ × Offset → List ℕ
 window_row w = row (decimal w.0 ∷ name w.1 ∷ [])
 
 -- the rows of the valid windows of a recording, by rising place
-abbrev pub scan_text : List ℕ → List ℕ
-scan_text bits = flat_map window_row (valid_windows bits 0 (length bits))
+abbrev pub scan_text : Signal → List ℕ
+scan_text recording = flat_map window_row (valid_windows recording 0 (length_of recording))
 
 -- ---- the fields of a group
 

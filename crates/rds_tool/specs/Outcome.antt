@@ -2,6 +2,7 @@
 -- project's rule.
 use Rattle.std.specs.Prelude.{◌++◌, ◌≡◌, ◌⊎◌, ℕ, Err, List, Ok, Option, Result}
 use Rattle.std.specs.Io.KnownBytes.{Appends}
+use Rattle.rds_stream.specs.Recording.{Signal}
 use Rattle.rds_sync.specs.Report.{report_items}
 use Rattle.rds_sync.specs.Rules.{RuleNumbers}
 use Rattle.rds_sync.specs.Totals.{totals_of}
@@ -19,22 +20,22 @@ use Rattle.rds_tool.specs.declared.task.Task.{Task}
 use Rattle.rds_tool.specs.declared.task.Task.TheVariants as task
 
 -- the listing of the report of a recording
-abbrev pub list_text : RuleNumbers → List ℕ → List ℕ
-list_text rules bits = report_text (report_items bits rules) (totals_of (report_items bits rules))
+abbrev pub list_text : RuleNumbers → Signal → List ℕ
+list_text rules recording = report_text (report_items recording rules) (totals_of (report_items recording rules))
 
 -- the listing of its totals alone
-abbrev pub totals_list : RuleNumbers → List ℕ → List ℕ
-totals_list rules bits = totals_text (totals_of (report_items bits rules))
+abbrev pub totals_list : RuleNumbers → Signal → List ℕ
+totals_list rules recording = totals_text (totals_of (report_items recording rules))
 
--- the bits of the recording, if they can be cut so
-abbrev pub cut_recording : Input → Cuts → List ℕ → Result (List ℕ) ToolError
+-- the recording, if its bits can be cut so
+abbrev pub cut_recording : Input → Cuts → List ℕ → Result Signal ToolError
 cut_recording input cuts held = and_then (recording_of input held) (cut_by cuts)
 
 -- the text of a task over the bytes held, or the refusal of these bytes; no text depends on the cuts or the workers
 abbrev pub text_of_task : Task → List ℕ → Result (List ℕ) ToolError
-text_of_task (task.Scan input) held = and_then (recording_of input held) (λ bits. Ok (scan_text bits))
-text_of_task (task.List input plan) held = and_then (cut_recording input plan.cuts held) (λ bits. Ok (list_text plan.rules bits))
-text_of_task (task.Totals input plan) held = and_then (cut_recording input plan.cuts held) (λ bits. Ok (totals_list plan.rules bits))
+text_of_task (task.Scan input) held = and_then (recording_of input held) (λ recording. Ok (scan_text recording))
+text_of_task (task.List input plan) held = and_then (cut_recording input plan.cuts held) (λ recording. Ok (list_text plan.rules recording))
+text_of_task (task.Totals input plan) held = and_then (cut_recording input plan.cuts held) (λ recording. Ok (totals_list plan.rules recording))
 text_of_task (task.Encode hex) held = encoded_text hex held
 
 -- the text of a job over the bytes held, or its refusal; the settings are looked at first

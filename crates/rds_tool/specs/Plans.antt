@@ -1,5 +1,6 @@
 -- What settings say of a synchroniser and its crew, once they are in their ranges. This project's rule.
-use Rattle.std.specs.Prelude.{◌≡◌, ◌≤◌, ◌||◌, ℕ, Err, List, Ok, Result, if◌then◌else◌, length, nat_lt, not, true}
+use Rattle.std.specs.Prelude.{◌≡◌, ◌≤◌, ◌||◌, ℕ, Err, Ok, Result, if◌then◌else◌, nat_lt, not, true}
+use Rattle.rds_stream.specs.Recording.{Signal, length_of}
 use Rattle.rds_sync.specs.Rules.{RuleNumbers}
 use Rattle.rds_tool.specs.Cuts.{cuts_bits, has_pieces}
 use Rattle.rds_tool.specs.Input.{and_then}
@@ -35,6 +36,6 @@ plan_of settings =
     and_then (crew_of settings) (λ _.
     Ok (record { rules = rules; workers = settings.workers; cuts = settings.cuts })))
 
--- the bits, if they can be cut so
-abbrev pub cut_by : Cuts → List ℕ → Result (List ℕ) ToolError
-cut_by cuts bits = if cuts_bits cuts (length bits) then Ok bits else Err BadCutting
+-- the recording, if its bits can be cut so
+abbrev pub cut_by : Cuts → Signal → Result Signal ToolError
+cut_by cuts recording = if cuts_bits cuts (length_of recording) then Ok recording else Err BadCutting

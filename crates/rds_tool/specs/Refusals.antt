@@ -9,7 +9,7 @@ use Rattle.rds_stream.specs.declared.error.StreamError.TheVariants as stream
 use Rattle.rds_sync.specs.declared.error.SyncError.{SyncError}
 use Rattle.rds_sync.specs.declared.error.SyncError.TheVariants as sync
 use Rattle.rds_tool.specs.declared.error.ToolError.{ToolError}
-use Rattle.rds_tool.specs.declared.error.ToolError.TheVariants.{BadCutting, BitsPastBytes, BurstRange, CrewRange, GroupText, HexText, LossRange, NoWorker, OutOfMemory, ReachRange, Read, ShareRange, TooLong, TooManyTurns, Write}
+use Rattle.rds_tool.specs.declared.error.ToolError.TheVariants.{BadCutting, BadGaps, BitsPastBytes, BurstRange, CrewRange, GroupText, HexText, LossRange, NoWorker, OutOfMemory, ReachRange, Read, ShareRange, TooLong, TooManyTurns, Write}
 
 -- the number of a refusal
 abbrev pub number_of : ToolError → ℕ
@@ -28,6 +28,7 @@ number_of GroupText = 12
 number_of TooManyTurns = 13
 number_of NoWorker = 14
 number_of ShareRange = 15
+number_of BadGaps = 16
 
 -- the name of a refusal
 abbrev pub name_of : ToolError → List ℕ
@@ -46,11 +47,13 @@ name_of GroupText = codes "GroupText"
 name_of TooManyTurns = codes "TooManyTurns"
 name_of NoWorker = codes "NoWorker"
 name_of ShareRange = codes "ShareRange"
+name_of BadGaps = codes "BadGaps"
 
 -- the refusals of the layers below
 abbrev pub of_stream : StreamError → ToolError
 of_stream stream.TooLong = TooLong
 of_stream stream.BitsPastBytes = BitsPastBytes
+of_stream stream.BadGaps = BadGaps
 of_stream stream.OutOfMemory = OutOfMemory
 
 abbrev pub of_sync : SyncError → ToolError

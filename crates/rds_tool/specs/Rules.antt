@@ -1,5 +1,6 @@
 -- The rules that settings give. This project's rule.
 use Rattle.std.specs.Prelude.{◌||◌, Err, Ok, Result, if◌then◌else◌, nat_lt}
+use Rattle.rds_sync.specs.Ranges.{farthest_reach, longest_burst, most_blocks}
 use Rattle.rds_sync.specs.Rules.{RuleNumbers}
 use Rattle.rds_sync.specs.declared.loss.Loss.{Loss}
 use Rattle.rds_sync.specs.declared.loss.Loss.TheVariants.{Run, Share}
@@ -10,12 +11,12 @@ use Rattle.rds_tool.specs.declared.job.Settings.{Settings}
 
 -- the rule of loss, if it is in its range
 abbrev pub loss_of : Loss → Result Loss ToolError
-loss_of (Run n) = if nat_lt n 1 || nat_lt 64 n then Err LossRange else Ok (Run n)
-loss_of (Share bad of) = if nat_lt bad 1 || nat_lt of bad || nat_lt 64 of then Err ShareRange else Ok (Share bad of)
+loss_of (Run n) = if nat_lt n 1 || nat_lt most_blocks n then Err LossRange else Ok (Run n)
+loss_of (Share bad of) = if nat_lt bad 1 || nat_lt of bad || nat_lt most_blocks of then Err ShareRange else Ok (Share bad of)
 
 -- the rules of these settings, or the first that is out of its range
 abbrev pub rules_of : Settings → Result RuleNumbers ToolError
 rules_of settings =
-    if nat_lt 5 settings.burst then Err BurstRange
-    else if nat_lt settings.reach 1 || nat_lt 8 settings.reach then Err ReachRange
+    if nat_lt longest_burst settings.burst then Err BurstRange
+    else if nat_lt settings.reach 1 || nat_lt farthest_reach settings.reach then Err ReachRange
     else and_then (loss_of settings.loss) (λ loss. Ok (record { burst = settings.burst; reach = settings.reach; loss = loss }))

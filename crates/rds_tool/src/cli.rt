@@ -1,14 +1,13 @@
 //! A command line as a job.
-ghost use Rattle.std.specs.Prelude.{◌≡◌, ◌≢◌, ◌⊎◌, [], IfErr, IfOk, OnOk, map, string_bytes};
+ghost use Rattle.std.specs.Prelude.{◌≡◌, ◌≢◌, ◌⊎◌, [], IfErr, IfOk, IsErrAnd, OnOk, map, string_bytes};
 ghost use Rattle.clap.specs.Kinds.{FailsBy};
 ghost use Rattle.clap.specs.Values.{kind_of};
 ghost use Rattle.clap.specs.Words.{subcommand_rows_of};
-ghost use Rattle.rds_tool.specs.CommandLine.{IsJobOf, MayAnswer};
-ghost use Rattle.rds_tool.specs.CommandLine.{entries_of, faults_of};
+ghost use Rattle.rds_tool.specs.CommandLine.{HasBadGaps, IsFault, IsJobOf, MayAnswer, SaysBadGaps, entries_of, faults_of};
 
 use crate::Job;
 use crate::commands::rds_command;
-use crate::entries::job_in;
+use crate::entries::{NoJob, job_in};
 use clap::ArgMatches;
 use clap::error::ErrorKind;
 use std::alloc::Global;
@@ -18,6 +17,8 @@ use std::alloc::Global;
 pub enum FaultKind {
     /// Help was asked for.
     Help,
+    /// The program's name and version were asked for.
+    Version,
     /// The words aren't a command line.
     Words,
     /// A growth of memory was refused.
@@ -27,7 +28,7 @@ pub enum FaultKind {
 /// What to show in place of doing a job.
 #[derive(Debug, Drop)]
 pub struct CliFault {
-    /// Whether that is help that was asked for, or why the words were refused.
+    /// Whether that is what was asked for, or why the words were refused.
     pub kind: FaultKind,
     /// The text to show, its line ends included. It is empty where memory was refused.
     pub text: String,
@@ -35,21 +36,23 @@ pub struct CliFault {
 
 /// The job that a command line asks for. The words begin with the program's name.
 ///
-/// Without a job, the answer is help where it was asked for, or a fault where `clap` finds one in the words or no job has their
-/// entries. Either can be want of memory instead.
+/// Without a job, the answer is help or the version where that was asked for, or a fault where `clap` finds one in the
+/// words or no job has their entries. Gaps that spell none are answered by the text `bad --gaps` and a line feed, once `clap` finds no
+/// fault. Each can be want of memory instead.
 pub fn job_of(alloc: Global, words: &[&str]) -> Result<Job, CliFault>
     ensures entries { IfOk result (IsJobOf (entries_of (map (λ word. word.now) words.now))) }
     ensures faultless { OnOk result (faults_of (map (λ word. word.now) words.now) ≡ []) }
     ensures refused { IfErr result (λ fault. MayAnswer (faults_of (map (λ word. word.now) words.now)) (entries_of (map (λ word. word.now) words.now)) fault.kind) }
+    ensures gaps { faults_of (map (λ word. word.now) words.now) ≡ [] → HasBadGaps (entries_of (map (λ word. word.now) words.now)) → IsErrAnd result SaysBadGaps }
     ensures memory { IfErr result (λ fault. fault.kind ≡ FaultKind.Memory → string_bytes fault.text ≡ []) }
 {
     let matches = match matches_of(alloc, words) {
         Ok(matches) => matches,
         Err(error) => return Err(fault_of(alloc, &error)),
     };
-    match job_in(&matches) {
-        Some(job) => Ok(job),
-        None => Err(no_job(alloc)),
+    match job_in(alloc, &matches) {
+        Ok(job) => Ok(job),
+        Err(why) => Err(no_job(alloc, why)),
     }
 }
 
@@ -64,12 +67,14 @@ fn matches_of<'a>(alloc: Global, words: &'a [&'a str]) -> Result<ArgMatches<'a>,
 /// What is shown for an error of `clap`.
 fn fault_of(alloc: Global, error: &clap::Error) -> CliFault
     ensures help { result.kind ≡ FaultKind.Help → kind_of error.now ≡ ErrorKind.DisplayHelp }
-    ensures words { result.kind ≡ FaultKind.Words → (kind_of error.now ≢ ErrorKind.DisplayHelp) × (kind_of error.now ≢ ErrorKind.OutOfMemory) }
+    ensures version { result.kind ≡ FaultKind.Version → kind_of error.now ≡ ErrorKind.DisplayVersion }
+    ensures words { result.kind ≡ FaultKind.Words → IsFault (kind_of error.now) }
     ensures memory { result.kind ≡ FaultKind.Memory → string_bytes result.text ≡ [] }
 {
     let kind = match error.kind() {
         ErrorKind::OutOfMemory => return out_of_memory(alloc),
         ErrorKind::DisplayHelp => FaultKind::Help,
+        ErrorKind::DisplayVersion => FaultKind::Version,
         _ => FaultKind::Words,
     };
     match error.to_string(alloc) {
@@ -79,11 +84,17 @@ fn fault_of(alloc: Global, error: &clap::Error) -> CliFault
 }
 
 /// What is shown where the words are parsed and yet no job has their entries.
-fn no_job(alloc: Global) -> CliFault
-    ensures kind { (result.kind ≡ FaultKind.Words) ⊎ (result.kind ≡ FaultKind.Memory) }
+fn no_job(alloc: Global, why: NoJob) -> CliFault
+    ensures kind { (result.kind ≡ FaultKind.Memory) ⊎ ((result.kind ≡ FaultKind.Words) × (why ≢ NoJob.Memory)) }
+    ensures gaps { why ≡ NoJob.Gaps → SaysBadGaps result }
     ensures memory { result.kind ≡ FaultKind.Memory → string_bytes result.text ≡ [] }
 {
-    match "error: these words ask for no job\n".to_string(alloc) {
+    let text = match why {
+        NoJob::Gaps => "bad --gaps\n",
+        NoJob::Entries => "error: these words ask for no job\n",
+        NoJob::Memory => return out_of_memory(alloc),
+    };
+    match text.to_string(alloc) {
         Ok(text) => CliFault {
             kind: FaultKind::Words,
             text,

@@ -1,7 +1,7 @@
 //! The commands of the program, their options and their help.
 ghost use Rattle.std.specs.Prelude.{◌≡◌, codes, false};
 ghost use Rattle.clap.specs.Words.{App, new_app, rule_of, with_rule, with_subcommand};
-ghost use Rattle.rds_tool.specs.CommandLine.{Makes, ReadsAs, bare_app, bits_rule, encode_app, hex_rule, number_rule, rds_app, recording_app, ruled_app, share_rule, value_rule, with_input, with_rules};
+ghost use Rattle.rds_tool.specs.CommandLine.{Makes, ReadsAs, bare_app, bits_rule, encode_app, gaps_rule, hex_rule, number_rule, rds_app, recording_app, ruled_app, share_rule, value_rule, with_input, with_rules};
 
 use crate::help;
 use clap::{Arg, ArgAction, Command};
@@ -25,7 +25,9 @@ pub fn rds_command<'a>(alloc: Global) -> Made<'a>
 fn bare_command<'a>(alloc: Global) -> Command<'a>
     ensures { ReadsAs result bare_app }
 {
-    named(alloc, "rds", help::RDS, help::RDS_AFTER).subcommand_required(true)
+    named(alloc, "rds", help::RDS, help::RDS_AFTER)
+        .version(help::VERSION)
+        .subcommand_required(true)
 }
 
 fn scan_command<'a>(alloc: Global) -> Made<'a>
@@ -67,7 +69,8 @@ fn recording_command<'a>(alloc: Global, command: Command<'a>) -> Made<'a>
     ensures { (app : App) → ReadsAs command.entry app → Makes result (with_input app) }
 {
     let command = command.arg(hex_option(alloc, help::HEX_INPUT))?;
-    command.arg(bits_option(alloc))
+    let command = command.arg(bits_option(alloc))?;
+    command.arg(gaps_option(alloc))
 }
 
 /// Such a command with the rules of the synchroniser and the size of its crew too.
@@ -99,14 +102,21 @@ fn bits_option<'a>(alloc: Global) -> Arg<'a>
     ensures local { result.global ≡ false }
 {
     let parser = clap::value_parser!(u64).range(0..=1_099_511_627_776);
-    value_option(alloc, "bits", help::BITS).value_parser(parser)
+    value_option(alloc, "bits", "N", help::BITS).value_parser(parser)
+}
+
+fn gaps_option<'a>(alloc: Global) -> Arg<'a>
+    ensures rule { rule_of result ≡ gaps_rule }
+    ensures local { result.global ≡ false }
+{
+    value_option(alloc, "gaps", "TEXT", help::GAPS)
 }
 
 fn number_option<'a>(alloc: Global, name: &'a str, default: &'a str, help: &'a str) -> Arg<'a>
     ensures rule { rule_of result ≡ number_rule name.entry.now default.entry.now }
     ensures local { result.global ≡ false }
 {
-    value_option(alloc, name, help)
+    value_option(alloc, name, "N", help)
         .value_parser(clap::value_parser!(u32))
         .default_value(default)
 }
@@ -115,17 +125,17 @@ fn share_option<'a>(alloc: Global) -> Arg<'a>
     ensures rule { rule_of result ≡ share_rule }
     ensures local { result.global ≡ false }
 {
-    value_option(alloc, "share", help::SHARE).value_parser(clap::value_parser!(u32))
+    value_option(alloc, "share", "N", help::SHARE).value_parser(clap::value_parser!(u32))
 }
 
-/// An option with one value, which any parser may still read.
-fn value_option<'a>(alloc: Global, name: &'a str, help: &'a str) -> Arg<'a>
+/// An option with one value, which help calls so and any parser may still read.
+fn value_option<'a>(alloc: Global, name: &'a str, value: &'a str, help: &'a str) -> Arg<'a>
     ensures rule { rule_of result ≡ value_rule name.entry.now }
     ensures local { result.global ≡ false }
 {
     Arg::new(alloc, name)
         .long(name)
-        .value_name("N")
+        .value_name(value)
         .action(ArgAction::Set)
         .help(help)
 }

@@ -63,7 +63,7 @@ pub fn transcribe<R: Threads + Wait + Sync, S: Source, K: Sink>(
     transcribe_gated(rt, alloc, reader, writer, job, &OpenGate)
 }
 
-/// [`transcribe`] with a gate, which the crew of a list or of totals calls round each piece.
+/// [`transcribe`] with a gate, which the crew of a list or of totals calls round each piece and each join.
 pub fn transcribe_gated<R: Threads + Wait + Sync, S: Source, K: Sink, G: Gate + Sync>(
     rt: &R,
     alloc: Global,

@@ -1,49 +1,91 @@
 //! The entries of a parsed command line, as a job.
-ghost use Rattle.std.specs.Prelude.{◌≡◌, IfNone, IfSome, List, Option, codes, ℕ};
+ghost use Rattle.std.specs.Prelude.{◌≡◌, ◌⊎◌, IfErr, IfNone, IfOk, IfSome, List, None, Option, Some, codes, ℕ};
 ghost use Rattle.clap.specs.Words.{found_of, one_of, rows_of, subcommand_rows_of};
 ghost use Rattle.rds_sync.specs.declared.loss.Loss.{Loss};
+ghost use Rattle.rds_tool.specs.declared.entries.NoJob.TheVariants.{Memory};
 ghost use Rattle.rds_tool.specs.declared.job.Cuts.{Cuts};
 ghost use Rattle.rds_tool.specs.declared.job.Input.{Input};
 ghost use Rattle.rds_tool.specs.declared.job.Job.{Job};
 ghost use Rattle.rds_tool.specs.declared.job.Settings.{Settings};
-ghost use Rattle.rds_tool.specs.CommandLine.{AreSettings, IsFlag, IsInput, IsJob, IsJobOf, MaySpell, Spells, SpellsLoss, SpellsPieces};
+ghost use Rattle.rds_tool.specs.CommandLine.{AreSettings, GivesNoInput, GivesNoJob, IsFlag, IsInput, IsJob, IsJobOf, MaySpell, Spells, SpellsLoss, SpellsPieces, gaps_asked_for};
 
+use crate::gap_text::gaps_of;
 use crate::{Cuts, Input, Job, Settings};
 use clap::ArgMatches;
 use rds_sync::Loss;
+use std::alloc::{AllocError, Global};
 
-/// The job of a parsed command line, or none where no job has its entries.
-pub fn job_in(matches: &ArgMatches<'_>) -> Option<Job>
-    ensures job { IfSome result (IsJobOf (subcommand_rows_of matches.now)) }
-    ensures none { IfNone result ((job : Job) → IsJobOf (subcommand_rows_of matches.now) job → ⊥) }
-{
-    let (name, entries) = matches.subcommand()?;
-    job_named(name, entries)
+/// Why entries are no job.
+#[derive(Clone, Copy, Debug, PartialEq, Eq)]
+pub enum NoJob {
+    /// `--gaps` spells no gaps.
+    Gaps,
+    /// Another entry is none that a job has.
+    Entries,
+    /// A growth of memory was refused.
+    Memory,
 }
 
-fn job_named(name: &str, entries: &ArgMatches<'_>) -> Option<Job>
-    ensures job { IfSome result (IsJob name.now (rows_of (found_of entries.now))) }
-    ensures none { IfNone result ((job : Job) → IsJob name.now (rows_of (found_of entries.now)) job → ⊥) }
-{
-    match name {
-        "scan" => Some(Job::Scan(input_in(entries)?)),
-        "list" => Some(Job::List(input_in(entries)?, settings_in(entries)?)),
-        "totals" => Some(Job::Totals(input_in(entries)?, settings_in(entries)?)),
-        "encode" => Some(Job::Encode {
-            hex: hex_in(entries),
-        }),
-        _ => None,
+impl From<AllocError> for NoJob {
+    ghost from_gives = { λ _ why. why ≡ Memory };
+
+    fn from(_error: AllocError) -> NoJob {
+        NoJob::Memory
     }
 }
 
-fn input_in(entries: &ArgMatches<'_>) -> Option<Input>
-    ensures input { IfSome result (IsInput (rows_of (found_of entries.now))) }
-    ensures none { IfNone result ((input : Input) → IsInput (rows_of (found_of entries.now)) input → ⊥) }
+/// The job of a parsed command line, or why there is none.
+pub fn job_in(alloc: Global, matches: &ArgMatches<'_>) -> Result<Job, NoJob>
+    ensures job { IfOk result (IsJobOf (subcommand_rows_of matches.now)) }
+    ensures none { IfErr result (GivesNoJob (subcommand_rows_of matches.now)) }
 {
-    Some(Input {
+    let (name, entries) = matches.subcommand().ok_or(NoJob::Entries)?;
+    job_named(alloc, name, entries)
+}
+
+fn job_named(alloc: Global, name: &str, entries: &ArgMatches<'_>) -> Result<Job, NoJob>
+    ensures job { IfOk result (IsJob name.now (rows_of (found_of entries.now))) }
+    ensures none { IfErr result (GivesNoJob (Some (name.now, rows_of (found_of entries.now)))) }
+{
+    match name {
+        "scan" => Ok(Job::Scan(input_in(alloc, entries)?)),
+        "list" => {
+            let input = input_in(alloc, entries)?;
+            Ok(Job::List(input, settings_in(entries).ok_or(NoJob::Entries)?))
+        }
+        "totals" => {
+            let input = input_in(alloc, entries)?;
+            Ok(Job::Totals(input, settings_in(entries).ok_or(NoJob::Entries)?))
+        }
+        "encode" => Ok(Job::Encode {
+            hex: hex_in(entries),
+        }),
+        _ => Err(NoJob::Entries),
+    }
+}
+
+/// The gaps are looked at first.
+fn input_in(alloc: Global, entries: &ArgMatches<'_>) -> Result<Input, NoJob>
+    ensures input { IfOk result (IsInput (rows_of (found_of entries.now))) }
+    ensures none { IfErr result (GivesNoInput (rows_of (found_of entries.now))) }
+{
+    let gaps = gaps_in(alloc, entries)?;
+    Ok(Input {
         hex: hex_in(entries),
-        bits: bits_in(entries)?,
+        bits: bits_in(entries).ok_or(NoJob::Entries)?,
+        gaps,
     })
+}
+
+fn gaps_in(alloc: Global, entries: &ArgMatches<'_>) -> Result<Vec<(u64, u64)>, NoJob>
+    ensures gaps { IfOk result (λ gaps. gaps_asked_for (rows_of (found_of entries.now)) ≡ Some gaps.items) }
+    ensures none { IfErr result (λ why. (why ≡ NoJob.Memory)
+        ⊎ ((why ≡ NoJob.Gaps) × (gaps_asked_for (rows_of (found_of entries.now)) ≡ None))) }
+{
+    match entries.get_str("gaps") {
+        None => Ok(Vec::new(alloc)),
+        Some(text) => gaps_of(alloc, text)?.ok_or(NoJob::Gaps),
+    }
 }
 
 fn settings_in(entries: &ArgMatches<'_>) -> Option<Settings>

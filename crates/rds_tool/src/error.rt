@@ -58,10 +58,13 @@ pub enum ToolError {
     /// The share is not at least 1 bad block of at most 64.
     #[error("the share is not at least 1 bad block of at most 64")]
     ShareRange,
+    /// The gaps don't lie in order among the bits, or one of them has no place.
+    #[error("the gaps are none that the recording may have")]
+    BadGaps,
 }
 
 impl ToolError {
-    /// The number of the refusal: 1 to 15.
+    /// The number of the refusal: 1 to 16.
     pub fn number(self) -> u8
         ensures { result ≡ number_of self }
     {
@@ -81,6 +84,7 @@ impl ToolError {
             ToolError::TooManyTurns => 13,
             ToolError::NoWorker => 14,
             ToolError::ShareRange => 15,
+            ToolError::BadGaps => 16,
         }
     }
 
@@ -104,6 +108,7 @@ impl ToolError {
             ToolError::TooManyTurns => "TooManyTurns",
             ToolError::NoWorker => "NoWorker",
             ToolError::ShareRange => "ShareRange",
+            ToolError::BadGaps => "BadGaps",
         }
     }
 }
@@ -131,6 +136,7 @@ impl From<StreamError> for ToolError {
         match error {
             StreamError::TooLong => ToolError::TooLong,
             StreamError::BitsPastBytes => ToolError::BitsPastBytes,
+            StreamError::BadGaps => ToolError::BadGaps,
             StreamError::OutOfMemory => ToolError::OutOfMemory,
         }
     }

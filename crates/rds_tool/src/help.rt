@@ -1,15 +1,20 @@
-//! The texts of the program's help.
+//! The texts of the program's help, whose lines have at most 80 characters. `clap` puts 21 of them before an option's
+//! text, and the default after it.
+
+/// The version of the program.
+pub const VERSION: &str = "0.2";
 
 pub const RDS: &str =
-    "Decodes and encodes Radio Data System bits, from standard input to standard output";
+    "Decodes and encodes Radio Data System bits, standard input to standard output";
 
 pub const RDS_AFTER: &str =
-    "A recording is packed bytes, or with --hex their digits: place 0 is the highest bit
-of the first byte. A block is 26 bits and is named by the place of its last bit.
+    "A recording is packed bytes, or with --hex their digits: place 0 is the highest
+bit of the first byte. A block is 26 bits and is named by the place of its last
+bit.
 
-Exit status: 0 where the text was written or help was asked for, 2 where the
-words aren't a command line, 1 for a refusal. A refusal writes nothing, but for
-10, and one line 'refused NUMBER NAME' goes to standard error:
+Exit status: 0 where the text was written, or help or the version was asked for,
+2 where the words aren't a command line, 1 for a refusal. A refusal writes
+nothing, but for 10, and one line 'refused NUMBER NAME' goes to standard error:
 
    1 BurstRange     --burst is above 5
    2 ReachRange     --reach is not 1 to 8
@@ -21,25 +26,30 @@ words aren't a command line, 1 for a refusal. A refusal writes nothing, but for
    8 OutOfMemory    memory was refused
    9 Read           reading failed
   10 Write          writing failed; a part of the text may have been written
-  11 HexText        hexadecimal input with an odd number of digits or a strange byte
+  11 HexText        hexadecimal input with an odd number of digits, or with a
+                    byte that is neither a digit nor blank
   12 GroupText      a line for 'encode' that is neither empty nor 16 digits
   13 TooManyTurns   16777216 reads gave bytes and no end had come
   14 NoWorker       a thread wasn't started
-  15 ShareRange     --share is 0 or above --of, or --of is above 64";
+  15 ShareRange     --share is 0 or above --of, or --of is above 64
+  16 BadGaps        --gaps are not in order, go past the recording, or one of
+                    them has no place";
 
 pub const SCAN: &str = "List each place at which 26 bits have an offset word as remainder";
 
 pub const SCAN_AFTER: &str =
-    "Writes a row 'PLACE,OFFSET' for each 26 bits in a row whose remainder is an offset
-word, by rising place. PLACE is that of the last of them, from 0; OFFSET is A, B,
-C, Cx (C') or D.
+    "Writes a row 'PLACE,OFFSET' for each 26 bits in a row whose remainder is an
+offset word and that touch no gap, by rising place. PLACE is that of the last of
+them, from 0; OFFSET is A, B, C, Cx (C') or D.
 
 'rds --help' lists the refusals.";
 
-pub const LIST: &str = "List acquisitions, groups and losses of synchronism, and then the totals";
+pub const LIST: &str = "List acquisitions, groups and losses of synchronism, then the totals";
 
 pub const LIST_AFTER: &str =
-    "Writes rows of eight fields, by rising place; a field that says nothing is '-'.
+    "Writes rows of eight fields, in the order of the bit that completes what they
+tell: an acquisition stands above its group, whose place is less. A field that
+says nothing is '-'.
 
   acquired,PLACE,NUMBER  synchronism was acquired by the block at PLACE, read as
                          block NUMBER, 1 to 4
@@ -48,11 +58,12 @@ pub const LIST_AFTER: &str =
   lost,PLACE             synchronism was lost at the block at PLACE
   total,NAME,VALUE       the twelve totals, as 'rds totals' writes them
 
-TYPE is 0 to 15, or '-' where block 2 isn't known. VERSION is A, B or ?; with '!'
-block 3 is valid and block 2 names the other version. A block is one of
+TYPE is 0 to 15, or '-' where block 2 isn't known. VERSION is A, B or ?; with
+'!' block 3 is valid and block 2 names the other version. A block is one of
 
   none            it lies before the acquiring block, or wasn't reached
-  lost            it was read and is neither valid nor corrected
+  lost            it was read and is neither valid nor corrected; so is each
+                  block that touches a gap
   B:2540          valid, with its offset and its information word
   C:0000~0008000  corrected, with the bits of the block that were inverted
 
@@ -60,7 +71,7 @@ with hexadecimal digits after ':' and '~'.
 
 'rds --help' lists the refusals.";
 
-pub const TOTALS: &str = "Count valid, corrected and lost blocks, groups and losses of synchronism";
+pub const TOTALS: &str = "Count valid, corrected and lost blocks, groups, losses of synchronism";
 
 pub const TOTALS_AFTER: &str =
     "Writes twelve rows 'total,NAME,VALUE', each with five fields '-' after it:
@@ -80,33 +91,41 @@ pub const ENCODE: &str = "Encode groups that are given as lines of hexadecimal w
 
 pub const ENCODE_AFTER: &str =
     "Each line has 16 hexadecimal digits of either case, the information words of
-blocks 1 to 4. Spaces, tabs and carriage returns don't count, and empty lines are
-skipped. Block 3 gets C or C' by the version bit, bit 11 of the second word. The
-blocks of a group are written as 13 bytes.
+blocks 1 to 4. Spaces, tabs and carriage returns don't count, and empty lines
+are skipped. Block 3 gets C or C' by the version bit, bit 11 of the second word.
+The blocks of a group are written as 13 bytes.
 
 'rds --help' lists the refusals.";
 
-pub const HEX_INPUT: &str =
-    "Read hexadecimal digits of either case; spaces, tabs and line ends don't count";
+pub const HEX_INPUT: &str = "Read hexadecimal digits of either case; spaces, tabs and
+line ends don't count";
 
-pub const HEX_OUTPUT: &str = "Write each group as a line of 26 lower-case hexadecimal digits";
+pub const HEX_OUTPUT: &str = "Write each group as a line of 26 lower-case hexadecimal
+digits";
 
-pub const BITS: &str =
-    "Length of the recording in bits, 0 to 68719476736 [default: all of the input]";
+pub const BITS: &str = "Length of the recording in bits, 0 to 68719476736
+[default: all of the input]";
 
-pub const BURST: &str = "Correct bursts of errors of up to N bits, 0 to 5";
+pub const GAPS: &str = "Places whose bits mean nothing, as FROM-TO,FROM-TO and so
+on, in order; TO is the first place after a gap";
 
-pub const REACH: &str = "Acquire where a block that fits lies up to N blocks back, 1 to 8";
+pub const BURST: &str = "Correct bursts of errors of up to N bits,
+0 to 5";
 
-pub const LOSS: &str = "Lose synchronism after N blocks in a row that aren't valid, 1 to 64";
+pub const REACH: &str = "Acquire where a block that fits lies up to N blocks back,
+1 to 8";
 
-pub const SHARE: &str =
-    "Lose synchronism where N of the last blocks aren't valid, 1 to 64, in place of --loss";
+pub const LOSS: &str = "Lose synchronism after N blocks in a row that aren't
+valid, 1 to 64";
 
-pub const OF: &str = "Look at the last N blocks for --share, at most 64";
+pub const SHARE: &str = "Lose synchronism where N of the last blocks aren't valid,
+1 to 64, in place of --loss";
 
-pub const PIECES: &str =
-    "Cut the recording into up to N pieces, 1 or more; the output stays the same";
+pub const OF: &str = "Look at the last N blocks for --share,
+at most 64";
 
-pub const WORKERS: &str =
-    "Decode the pieces by up to N threads, 1 to 256; the output stays the same";
+pub const PIECES: &str = "Cut the recording into up to N pieces, 1 or more; the
+output stays the same";
+
+pub const WORKERS: &str = "Decode the pieces by up to N threads, 1 to 256; the
+output stays the same";

@@ -1,27 +1,47 @@
 //! From the bytes that a reader held to the recording that they stand for.
 ghost use Rattle.std.specs.Prelude.{◌≡◌, ◌⊎◌, Err, IfErr, IfOk, Ok};
-ghost use Rattle.rds_tool.specs.Input.{decoded, recording_of as the_recording_of};
+ghost use Rattle.rds_tool.specs.Input.{decoded, first_bits as the_first_bits, recording_of as the_recording_of};
 
 use crate::{Input, ToolError};
 use hex::FromHexError;
 use rds_stream::Recording;
-use std::alloc::Global;
+use std::alloc::{AllocError, Global};
+
+impl Input {
+    /// The same, with gaps of its own.
+    pub(crate) fn copied(&self, alloc: Global) -> Result<Input, AllocError>
+        ensures { IfOk result (λ copy. copy ≡ self.now) }
+    {
+        Ok(Input {
+            hex: self.hex,
+            bits: self.bits,
+            gaps: Vec::from_slice(alloc, self.gaps.as_slice())?,
+        })
+    }
+}
 
 /// The recording of an input.
-pub fn recording_of(alloc: Global, input: &Input, held: Vec<u8>) -> Result<Recording, ToolError>
-    ensures ok { IfOk result (λ recording. the_recording_of input.now held.items ≡ Ok recording) }
-    ensures refused { IfErr result (λ error. (error ≡ ToolError.OutOfMemory) ⊎ (the_recording_of input.now held.items ≡ Err error)) }
+pub fn recording_of(alloc: Global, input: Input, held: Vec<u8>) -> Result<Recording, ToolError>
+    ensures ok { IfOk result (λ recording. the_recording_of input held.items ≡ Ok recording) }
+    ensures refused { IfErr result (λ error. (error ≡ ToolError.OutOfMemory) ⊎ (the_recording_of input held.items ≡ Err error)) }
 {
-    let bytes = if input.hex {
+    let Input { hex, bits, gaps } = input;
+    let bytes = if hex {
         hex_bytes(alloc, held.as_slice())?
     } else {
         held
     };
     let all = (bytes.len() as u64).saturating_mul(8);
-    let recording = Recording::from_bytes(bytes, input.bits.unwrap_or(all));
-    match recording {
+    first_bits(bytes, bits.unwrap_or(all), gaps)
+}
+
+/// So many of the first bits, with these gaps.
+fn first_bits(bytes: Vec<u8>, bits: u64, gaps: Vec<(u64, u64)>) -> Result<Recording, ToolError>
+    ensures { result ≡ the_first_bits bits gaps.items bytes.items }
+{
+    match Recording::with_gaps(bytes, bits, gaps) {
         Ok(recording) => Ok(recording),
-        Err((error, _bytes)) => Err(ToolError::from(error)),
+        Err((error, _bytes, _gaps)) => Err(ToolError::from(error)),
     }
 }
 

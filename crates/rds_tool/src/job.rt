@@ -1,9 +1,12 @@
 //! What is asked for.
+ghost use Rattle.std.specs.Cmp.{partial_equiv_from_equiv};
+ghost use Rattle.rds_tool.specs.InputOf.{says_same, says_same_equiv};
 
 use rds_sync::Loss;
+use std::marker::Model;
 
 /// The recording that a job reads.
-#[derive(Clone, Copy, Debug, PartialEq, Eq)]
+#[derive(Debug, Drop)]
 pub struct Input {
     /// Whether the input is hexadecimal text, in which space, tab, carriage return and line feed don't
     /// count; else it is the recording's bytes themselves.
@@ -11,6 +14,32 @@ pub struct Input {
     /// How many bits the recording has; without it, all those of its bytes. More than 2^36 is refused as `TooLong`, more
     /// than the bytes hold as `BitsPastBytes`.
     pub bits: Option<u64>,
+    /// The gaps in the recording: ranges of places whose bits mean nothing, each from its first number to before its second.
+    /// Each has a place, lies below the number of bits, and begins at or after the end of the one before it. Anything else is
+    /// refused as `BadGaps`.
+    pub gaps: Vec<(u64, u64)>,
+}
+
+impl Model for Input {
+    ghost use Rattle.rds_tool.specs.InputOf.{InputOf};
+
+    ghost Value = { InputOf };
+
+    ghost view = { λ i. record { hex = i.hex; bits = i.bits; gaps = i.gaps.items } };
+}
+
+impl PartialEq for Input {
+    ghost eq = { says_same };
+
+    ghost laws = { partial_equiv_from_equiv says_same_equiv };
+
+    fn eq(&self, other: &Input) -> bool {
+        self.hex == other.hex && self.bits == other.bits && self.gaps == other.gaps
+    }
+}
+
+impl Eq for Input {
+    ghost laws = { says_same_equiv };
 }
 
 /// Where a recording is cut into pieces. The listing doesn't depend on it.
@@ -46,7 +75,7 @@ pub struct Settings {
 pub enum Job {
     /// A row for each valid window of a recording: its place and its offset.
     Scan(Input),
-    /// A row for each item of the recording's report, by rising place, and then its twelve totals.
+    /// A row for each item of the recording's report, in the order of the bits that complete them, and then its twelve totals.
     List(Input, Settings),
     /// The twelve totals alone.
     Totals(Input, Settings),

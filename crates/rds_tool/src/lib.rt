@@ -1,37 +1,52 @@
 //! The tool behind the program `rds`: words become a job, and a job makes text of what a reader holds.
 //!
-//! [`job_of`] reads a command line. [`transcribe`] reads all bytes of a [`Source`], works, by threads where there are
-//! pieces and workers for them, and writes the whole text to a [`Sink`]. [`FromRead`] and [`ToWrite`] make these of a
-//! reader and a writer of std:
+//! A job lists the valid windows of a recording, the items of its report, or the totals alone, or encodes groups. It is
+//! told which bits the recording has and which gaps are in them, by which rules it is decoded, in which pieces, and by
+//! how many workers.
+//!
+//! # Example
 //!
 //! ```text
-//! let job = Job::Scan(Input { hex: true, bits: None });
+//! let job = Job::Scan(Input { hex: true, bits: None, gaps: Vec::new(alloc) });
 //! let mut reader = FromRead::new(b"00003f000019800005a00001b4".as_slice());
 //! let mut writer = ToWrite::new(Vec::new(alloc));
 //! transcribe(&rt, alloc, &mut reader, &mut writer, &job)?;
 //! // The writer holds "25,A\n51,B\n77,C\n96,B\n103,D\n".
 //! ```
 //!
+//! # What there is
+//!
+//! - [`job_of`]: the [`Job`] that a command line asks for, or a [`CliFault`].
+//! - [`Job`], of [`Input`], [`Settings`], [`Cuts`] and [`Loss`]: what is asked for.
+//! - [`transcribe`]: reads all bytes of a [`Source`], works, by threads where there are pieces and workers for them,
+//!   and writes the whole text to a [`Sink`]. [`transcribe_gated`] is the same with a gate, by which a caller hears of
+//!   the workers.
+//! - [`FromRead`] and [`ToWrite`]: a source and a sink of a reader and a writer of std.
+//! - [`ToolError`]: the refusals 1 to 16.
+//!
 //! # What callers may rely on
 //!
-//! - Where `transcribe` answers `Ok`, the reader is at its end, and what was written is the text that the job makes of all
-//!   bytes that the reader held, if reader and writer tell their bytes. Of a `List` that is the listing of the report of
-//!   the recording, lock by lock, for every cutting and any number of workers; `specs/Outcome.antt` says it for each job.
-//!   [`transcribe_gated`] is the same with a gate, by which a caller hears of the workers.
+//! - Where `transcribe` answers `Ok`, the reader is at its end, and what was written is the text that the job makes of
+//!   all bytes that the reader held, if reader and writer tell their bytes. Of a `List` that is the listing of the
+//!   report of the recording, lock by lock, for every cutting and any number of workers; `specs/Outcome.antt` says it
+//!   for each job.
 //! - Each refusal is a [`ToolError`] and comes where it should: `Read` and `Write` exactly where a call of the device
-//!   failed, settings out of their range before anything is read, `NoWorker` only where more than one worker is asked for. If
-//!   the reader tells its bytes, `TooManyTurns` comes only after 16,777,216 of them, and any other but `OutOfMemory` exactly
-//!   where the job and the bytes call for it.
-//! - After any refusal but `Write` the writer is as it was; after `Write`, if reader and writer tell their bytes, what was
-//!   written is a prefix of the text.
-//! - Where `job_of` answers `Ok`, the job holds the entries that `clap` read, defaults too. Where it answers a fault, it is
-//!   help that was asked for, or `clap` finds a fault in the words, or no job has their entries, or memory was refused.
+//!   failed, settings out of their range before anything is read, `NoWorker` only where more than one worker is asked
+//!   for. If the reader tells its bytes, `TooManyTurns` comes only after 16,777,216 of them, and any other but
+//!   `OutOfMemory` exactly where the job and the bytes call for it: `BadGaps`, for gaps that are empty, out of order or
+//!   past the bits, after `TooLong` and `BitsPastBytes`, and before `BadCutting`.
+//! - After any refusal but `Write` the writer is as it was; after `Write`, if reader and writer tell their bytes, what
+//!   was written is a prefix of the text.
+//! - Where `job_of` answers `Ok`, the job holds the entries that `clap` read, defaults too, and its gaps are the pairs
+//!   that `--gaps` spells. Where it answers a fault, it is help or the version that was asked for, or `clap` finds a
+//!   fault in the words, or no job has their entries, or memory was refused.
 //!
 //! # What it leaves to others
 //!
-//! What a block, a recording and a report are is said below, in `rds_code`, `rds_stream` and `rds_sync`. No contract says
-//! when memory or a thread is refused, that workers run at the same time, that a [`ToWrite`] flushes its writer (std says
-//! nothing of what a flush does), what a file or a pipe holds, or what the texts of help and faults are: these are for tests.
+//! What a block, a recording and a report are is said below, in `rds_code`, `rds_stream` and `rds_sync`. No contract
+//! says when memory or a thread is refused, that workers run at the same time, that a [`ToWrite`] flushes its writer
+//! (std says nothing of what a flush does), what a file or a pipe holds, or what the texts of help, version and faults
+//! are: these are for tests.
 #![tactic(auto)]
 
 mod cli;
@@ -42,6 +57,7 @@ mod engine;
 mod entries;
 mod error;
 mod field;
+mod gap_text;
 mod help;
 mod input;
 mod job;

@@ -2,7 +2,7 @@
 ghost use Rattle.std.specs.Prelude.{◌++◌, ◌-◌, ◌<◌, ◌≡◌, ◌≤◌, IfErr, IfOk, OnOk, drop, length, take};
 ghost use Rattle.std.specs.List.{All, flat_map};
 ghost use Rattle.rds_tool.specs.Listing.{item_row, kind_text, report_text, total_row, totals_text, version_text, window_row};
-ghost use Rattle.rds_tool.specs.RowWriter.{IsBetween, IsPlain, text_of};
+ghost use Rattle.rds_tool.specs.Inside.RowWriter.{IsBetween, IsPlain, text_of};
 
 use crate::ToolError;
 use crate::field::Field;

@@ -2,7 +2,7 @@
 ghost use Rattle.std.specs.Prelude.{◌++◌, ◌≡◌, ◌≤◌, IfErr, IfOk, OnOk, [], length, map};
 ghost use Rattle.std.specs.List.{AllByRecursion};
 ghost use Rattle.rds_tool.specs.Listing.{row};
-ghost use Rattle.rds_tool.specs.RowWriter.{IsBetween, IsPlain, text_of};
+ghost use Rattle.rds_tool.specs.Inside.RowWriter.{IsBetween, IsPlain, text_of};
 
 use crate::ToolError;
 use csv::{Writer, WriterBuilder};

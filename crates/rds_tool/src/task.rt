@@ -36,24 +36,30 @@ impl<'a> Task<'a> {
         ensures settings { IfErr (task_of job.now) (λ error. result ≡ Err error) }
     {
         match job {
-            Job::Scan(input) => Ok(Task::Scan(*input)),
-            Job::List(input, settings) => Ok(Task::List(*input, Plan::of(alloc, settings)?)),
-            Job::Totals(input, settings) => Ok(Task::Totals(*input, Plan::of(alloc, settings)?)),
+            Job::Scan(input) => Ok(Task::Scan(input.copied(alloc)?)),
+            Job::List(input, settings) => {
+                let plan = Plan::of(alloc, settings)?;
+                Ok(Task::List(input.copied(alloc)?, plan))
+            }
+            Job::Totals(input, settings) => {
+                let plan = Plan::of(alloc, settings)?;
+                Ok(Task::Totals(input.copied(alloc)?, plan))
+            }
             Job::Encode { hex } => Ok(Task::Encode { hex: *hex }),
         }
     }
 
     /// The text that the task makes of the bytes that a reader held. A crew calls the gate.
     pub fn text<R: Threads + Wait + Sync, G: Gate + Sync>(
-        &self,
+        self,
         rt: &R,
         alloc: Global,
         held: Vec<u8>,
         gate: &G,
     ) -> Result<Text, ToolError>
-        ensures ok { IfOk result (λ text. text_of_task self.now held.items ≡ Ok text) }
-        ensures refused { IfErr result (λ error. (error ≡ ToolError.OutOfMemory) ⊎ (((error ≡ ToolError.NoWorker) × MayStartThreads self.now)
-            ⊎ (text_of_task self.now held.items ≡ Err error))) }
+        ensures ok { IfOk result (λ text. text_of_task self.entry held.items ≡ Ok text) }
+        ensures refused { IfErr result (λ error. (error ≡ ToolError.OutOfMemory) ⊎ (((error ≡ ToolError.NoWorker) × MayStartThreads self.entry)
+            ⊎ (text_of_task self.entry held.items ≡ Err error))) }
     {
         match self {
             Task::Scan(input) => {
@@ -63,16 +69,16 @@ impl<'a> Task<'a> {
                 Ok(Text::whole(alloc, rows))
             }
             Task::List(input, plan) => {
-                let report = report_of(rt, alloc, input, plan, held, gate)?;
+                let report = report_of(rt, alloc, input, &plan, held, gate)?;
                 report_rows(rt, alloc, &report, plan.workers())
             }
             Task::Totals(input, plan) => {
-                let report = report_of(rt, alloc, input, plan, held, gate)?;
+                let report = report_of(rt, alloc, input, &plan, held, gate)?;
                 let rows = totals_rows(alloc, &report.totals)?;
                 Ok(Text::whole(alloc, rows))
             }
             Task::Encode { hex } => {
-                let blocks = encode_lines(alloc, *hex, held.as_slice())?;
+                let blocks = encode_lines(alloc, hex, held.as_slice())?;
                 Ok(Text::whole(alloc, blocks))
             }
         }
@@ -83,15 +89,15 @@ impl<'a> Task<'a> {
 fn report_of<R: Threads + Wait, G: Gate + Sync>(
     rt: &R,
     alloc: Global,
-    input: &Input,
+    input: Input,
     plan: &Plan<'_>,
     held: Vec<u8>,
     gate: &G,
 ) -> Result<Report, ToolError>
-    ensures list { IfOk result (λ report. text_of_task (task.List input.now plan.now) held.items ≡ Ok (report_text report.items report.totals)) }
-    ensures totals { IfOk result (λ report. text_of_task (task.Totals input.now plan.now) held.items ≡ Ok (totals_text report.totals)) }
+    ensures list { IfOk result (λ report. text_of_task (task.List input plan.now) held.items ≡ Ok (report_text report.items report.totals)) }
+    ensures totals { IfOk result (λ report. text_of_task (task.Totals input plan.now) held.items ≡ Ok (totals_text report.totals)) }
     ensures refused { IfErr result (λ error. (error ≡ ToolError.OutOfMemory) ⊎ (((error ≡ ToolError.NoWorker) × (1 < plan.now.workers))
-        ⊎ (cut_recording input.now plan.now.cuts held.items ≡ Err error))) }
+        ⊎ (cut_recording input plan.now.cuts held.items ≡ Err error))) }
 {
     let recording = recording_of(alloc, input, held)?;
     plan.report(rt, alloc, &recording, gate)

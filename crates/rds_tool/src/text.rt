@@ -2,7 +2,7 @@
 ghost use Rattle.std.specs.Prelude.{◌++◌, ◌<◌, ◌^◌, ◌≡◌, ◌↔◌, IfErr, IsErrOf, Ok, OnErr, OnOk};
 ghost use Rattle.std.specs.Io.KnownBytes.{Appends};
 ghost use Rattle.rds_tool.specs.Outcome.{WritesPrefix};
-ghost use Rattle.rds_tool.specs.Texts.{joined};
+ghost use Rattle.rds_tool.specs.Inside.Texts.{joined};
 
 use crate::{Failed, Sink, ToolError};
 use std::alloc::Global;
@@ -18,7 +18,7 @@ pub struct Text {
 
 impl Model for Text {
     ghost use Rattle.std.specs.Prelude.{◌++◌, List, ℕ};
-    ghost use Rattle.rds_tool.specs.Texts.{joined};
+    ghost use Rattle.rds_tool.specs.Inside.Texts.{joined};
 
     ghost Value = { List ℕ };
 

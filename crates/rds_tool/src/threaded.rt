@@ -3,7 +3,7 @@ ghost use Rattle.std.specs.Prelude.{◌*◌, ◌<◌, ◌≡◌, ◌≤◌, IfEr
 ghost use Rattle.std.specs.Fork.{slice_chunk};
 ghost use Rattle.std.specs.List.{flat_map};
 ghost use Rattle.rds_tool.specs.Listing.{item_row};
-ghost use Rattle.rds_tool.specs.Texts.{joined};
+ghost use Rattle.rds_tool.specs.Inside.Texts.{joined};
 
 use crate::ToolError;
 use crate::listing::item_rows;

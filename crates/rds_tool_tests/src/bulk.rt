@@ -1,13 +1,8 @@
 //! Inputs of more than a million bytes.
 use crate::devices::gives_for;
-use rds_tool::{Input, Job};
+use crate::jobs::scan_of_digits;
 use std::alloc::{AllocError, Global};
 use std::test::Fail;
-
-const HEX: Job = Job::Scan(Input {
-    hex: true,
-    bits: None,
-});
 
 /// So many zeros, a line feed after each 64, and then a zero group: a recording of four bits a digit.
 fn digits(alloc: Global, zeros: usize) -> Result<Vec<u8>, AllocError> {
@@ -27,6 +22,7 @@ fn digits(alloc: Global, zeros: usize) -> Result<Vec<u8>, AllocError> {
 fn a_million_digits_are_scanned(rt: HostRuntime) -> Result<(), Fail> {
     let digits = digits(rt.alloc(), 1_048_576)?;
     let rows = b"4194329,A\n4194355,B\n4194381,C\n4194400,B\n4194407,D\n";
-    assert!(rt; gives_for(&rt, rt.alloc(), &HEX, digits.as_slice(), Ok(rows)));
+    let job = scan_of_digits(rt.alloc());
+    assert!(rt; gives_for(&rt, rt.alloc(), &job, digits.as_slice(), Ok(rows)));
     Ok(())
 }

@@ -100,6 +100,7 @@ const RULES: Rules = (2, 3, Run(10));
 /// Two workers on two groups, a piece each.
 const TWO_WORKERS: Crew = Crew {
     bits: None,
+    gaps: &[],
     rules: RULES,
     workers: 2,
     pieces: At(&[104]),
@@ -183,6 +184,7 @@ fn refuses_in_order(rt: HostRuntime) {
     for (bits, rules, workers, pieces, digits, error) in REFUSED.iter() {
         let crew = Crew {
             bits: *bits,
+            gaps: &[],
             rules: *rules,
             workers: *workers,
             pieces: *pieces,
@@ -208,6 +210,7 @@ fn refuses_cuttings_before_or_after_reading(rt: HostRuntime) {
     for (workers, pieces, error, reads) in READS.iter() {
         let crew = Crew {
             bits: None,
+            gaps: &[],
             rules: RULES,
             workers: *workers,
             pieces: *pieces,

@@ -1,8 +1,8 @@
 //! Lists and totals in pieces: the bytes are those of one piece and one worker.
 use crate::samples::Pieces::{At, Even};
 use crate::samples::{
-    A_BURST, A_LOSS, A_LOSS_BY_SHARE, EIGHT_GROUPS, EIGHT_GROUPS_FAR, NOTHING, Pieces, Sample,
-    TWO_GROUPS,
+    A_BURST, A_GAP, A_LOSS, A_LOSS_BY_SHARE, EIGHT_GROUPS, EIGHT_GROUPS_FAR, NOTHING, Pieces,
+    Sample, TWO_GROUPS,
 };
 use std::alloc::Global;
 use std::sync::Wait;
@@ -21,9 +21,10 @@ fn is_same<R: Threads + Wait + Sync>(
         && sample.is_given(rt, alloc, 256, pieces)
 }
 
-/// The same for two groups, and for two with a loss by either rule.
+/// The same for two groups, for two with a gap, and for two with a loss by either rule.
 fn are_same<R: Threads + Wait + Sync>(rt: &R, alloc: Global, pieces: Pieces<'_>) -> bool {
     is_same(rt, alloc, &TWO_GROUPS, pieces)
+        && is_same(rt, alloc, &A_GAP, pieces)
         && is_same(rt, alloc, &A_LOSS, pieces)
         && is_same(rt, alloc, &A_LOSS_BY_SHARE, pieces)
 }

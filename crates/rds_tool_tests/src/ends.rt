@@ -1,6 +1,7 @@
 //! What readers and writers of std are handed. No contract says it: one that gives or takes a byte a call has all
 //! clauses too, but would end at 16,777,216 bytes, and go through a call of the system for each.
-use rds_tool::{FromRead, Input, Job, ToWrite, ToolError, transcribe};
+use crate::jobs::{scan_of_digits, scan_of_no_bits};
+use rds_tool::{FromRead, ToWrite, ToolError, transcribe};
 use std::alloc::{AllocError, Global};
 use std::io;
 use std::io::{Read, Write};
@@ -96,17 +97,6 @@ impl Write for Notes {
     }
 }
 
-/// A scan of no bits, which reads its whole input and writes nothing.
-const NO_BITS: Job = Job::Scan(Input {
-    hex: false,
-    bits: Some(0),
-});
-
-const HEX: Job = Job::Scan(Input {
-    hex: true,
-    bits: None,
-});
-
 // 260 reads give 65,536 bytes or the rest, and one more is the end.
 #[test]
 fn a_reader_of_std_is_asked_for_65536_bytes_at_once(rt: HostRuntime) {
@@ -124,7 +114,7 @@ fn a_reader_of_std_is_asked_for_65536_bytes_at_once(rt: HostRuntime) {
 fn is_read<R: Sync + Threads + Wait>(rt: &R, alloc: Global, zeros: Zeros<'_>) -> bool {
     let mut reader = FromRead::new(zeros);
     let mut writer = ToWrite::new(Vec::new(alloc));
-    transcribe(rt, alloc, &mut reader, &mut writer, &NO_BITS).is_ok()
+    transcribe(rt, alloc, &mut reader, &mut writer, &scan_of_no_bits(alloc)).is_ok()
 }
 
 // The text has 26 bytes, of which the writer takes 10 a call.
@@ -140,7 +130,7 @@ fn a_writer_of_std_is_handed_all_that_is_left(rt: HostRuntime) {
 fn written<R: Sync + Threads + Wait>(rt: &R, alloc: Global, step: usize) -> Notes {
     let mut reader = FromRead::new(b"00003f000019800005a00001b4".as_slice());
     let mut writer = ToWrite::new(Notes::new(alloc, step, false));
-    let _answer = transcribe(rt, alloc, &mut reader, &mut writer, &HEX);
+    let _answer = transcribe(rt, alloc, &mut reader, &mut writer, &scan_of_digits(alloc));
     writer.into_inner()
 }
 
@@ -148,7 +138,13 @@ fn written<R: Sync + Threads + Wait>(rt: &R, alloc: Global, step: usize) -> Note
 fn a_failing_flush_is_a_refusal_of_an_empty_text_too(rt: HostRuntime) {
     let mut reader = FromRead::new(b"".as_slice());
     let mut writer = ToWrite::new(Notes::new(rt.alloc(), 1, true));
-    let answer = transcribe(&rt, rt.alloc(), &mut reader, &mut writer, &NO_BITS);
+    let answer = transcribe(
+        &rt,
+        rt.alloc(),
+        &mut reader,
+        &mut writer,
+        &scan_of_no_bits(rt.alloc()),
+    );
     let under = writer.into_inner();
     assert!(rt; answer == Err(ToolError::Write) && under.writes == 0 && under.flushes == 1);
 }

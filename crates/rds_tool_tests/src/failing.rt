@@ -1,20 +1,11 @@
 //! Devices that give or take little, fail, or have no end.
 use crate::devices::{Failure, SlowReader, SlowWriter, Withholding, gives};
-use rds_tool::{FromRead, Input, Job, Sink, Source, ToWrite, ToolError, transcribe};
+use crate::jobs::{scan_of_digits, scan_of_no_bits};
+use rds_tool::{FromRead, Sink, Source, ToWrite, ToolError, transcribe};
 use std::alloc::Global;
 use std::sync::Wait;
 use std::test::Fail;
 use std::thread::Threads;
-
-const HEX: Job = Job::Scan(Input {
-    hex: true,
-    bits: None,
-});
-
-const NO_BITS: Job = Job::Scan(Input {
-    hex: false,
-    bits: Some(0),
-});
 
 const ZERO_GROUP: &[u8] = b"00003f000019800005a00001b4";
 
@@ -24,7 +15,8 @@ const ROWS: &[u8] = b"25,A\n51,B\n77,C\n96,B\n103,D\n";
 fn a_failing_read_ends_the_reading(rt: HostRuntime) {
     for k in 1..28u64 {
         let mut reader = SlowReader::new(ZERO_GROUP, 1, k);
-        let is_refused = gives(&rt, rt.alloc(), &HEX, &mut reader, Err(ToolError::Read));
+        let job = scan_of_digits(rt.alloc());
+        let is_refused = gives(&rt, rt.alloc(), &job, &mut reader, Err(ToolError::Read));
         assert!(rt;
             is_refused && reader.failures == 1 && reader.reads == k,
             "at {k}"
@@ -96,7 +88,7 @@ impl Ending<'_> {
     ) -> bool {
         let mut reader = SlowReader::new(ZERO_GROUP, step, 0);
         let mut writer = SlowWriter::new(alloc, step, failure);
-        let answer = transcribe(rt, alloc, &mut reader, &mut writer, &HEX);
+        let answer = transcribe(rt, alloc, &mut reader, &mut writer, &scan_of_digits(alloc));
         answer == self.answer
             && writer.failures == answer.is_err() as u64
             && writer.writes == self.writes
@@ -121,7 +113,7 @@ fn hands_on<R: Threads + Wait + Sync>(
 ) -> bool {
     let mut reader = FromRead::new(ZERO_GROUP);
     let mut writer = ToWrite::new(Withholding::new(alloc, flush_fails));
-    let answer = transcribe(rt, alloc, &mut reader, &mut writer, &HEX);
+    let answer = transcribe(rt, alloc, &mut reader, &mut writer, &scan_of_digits(alloc));
     let failures = writer.failures();
     let under = writer.into_inner();
     answer == wanted
@@ -160,7 +152,7 @@ fn is_read<R: Threads + Wait + Sync>(
     reads: u64,
 ) -> bool {
     let mut reader = SlowReader::new(bytes, step, 0);
-    gives(rt, alloc, &NO_BITS, &mut reader, wanted)
+    gives(rt, alloc, &scan_of_no_bits(alloc), &mut reader, wanted)
         && reader.reads == reads
         && reader.least_buffer == 65_536
 }

@@ -17,6 +17,10 @@ mod ends;
 #[cfg(test)]
 mod failing;
 #[cfg(test)]
+mod front_pages;
+#[cfg(test)]
+mod jobs;
+#[cfg(test)]
 mod lines;
 #[cfg(test)]
 mod samples;

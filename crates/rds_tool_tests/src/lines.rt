@@ -1,6 +1,8 @@
 //! Command lines, as jobs. Those that are none are tried on the built program.
+use crate::jobs::ungapped;
 use rds_tool::{Cuts, Input, Job, Loss, Settings, job_of};
 use std::alloc::Global;
+use std::test::Fail;
 
 /// Whether the words are taken as the job.
 fn gives(alloc: Global, words: &[&str], job: Job) -> bool {
@@ -13,10 +15,7 @@ fn gives(alloc: Global, words: &[&str], job: Job) -> bool {
 #[test]
 fn words_of_a_scan_are_its_input(rt: HostRuntime) {
     for (words, hex, bits) in &INPUTS {
-        let job = Job::Scan(Input {
-            hex: *hex,
-            bits: *bits,
-        });
+        let job = Job::Scan(ungapped(rt.alloc(), *hex, *bits));
         assert!(rt; gives(rt.alloc(), words, job), "{words:?}");
     }
 }
@@ -34,6 +33,29 @@ const INPUTS: [(&[&str], bool, Option<u64>); 4] = [
 ];
 
 #[test]
+fn words_of_a_scan_are_its_gaps(rt: HostRuntime) -> Result<(), Fail> {
+    for (words, gaps) in GAPS {
+        let input = Input {
+            hex: false,
+            bits: None,
+            gaps: gaps.to_vec(rt.alloc())?,
+        };
+        assert!(rt; gives(rt.alloc(), words, Job::Scan(input)), "{words:?}");
+    }
+    Ok(())
+}
+
+/// Words of a scan, and its gaps.
+const GAPS: [(&[&str], &[(u64, u64)]); 3] = [
+    (&["rds", "scan", "--gaps", "104-105"], &[(104, 105)]),
+    (&["rds", "scan", "--gaps=5-5,010-0020"], &[(5, 5), (10, 20)]),
+    (
+        &["rds", "scan", "--gaps", "999999999999-0,3-2"],
+        &[(999_999_999_999, 0), (3, 2)],
+    ),
+];
+
+#[test]
 fn words_of_a_list_are_its_settings(rt: HostRuntime) {
     for (words, [burst, reach, loss, workers], pieces) in SETTINGS {
         let settings = Settings {
@@ -43,13 +65,7 @@ fn words_of_a_list_are_its_settings(rt: HostRuntime) {
             workers,
             cuts: Cuts::Even(pieces),
         };
-        let job = Job::List(
-            Input {
-                hex: true,
-                bits: None,
-            },
-            settings,
-        );
+        let job = Job::List(ungapped(rt.alloc(), true, None), settings);
         assert!(rt; gives(rt.alloc(), words, job), "{words:?}");
     }
 }
@@ -96,10 +112,7 @@ fn words_of_a_share_are_its_rule_of_loss(rt: HostRuntime) {
             workers: 4,
             cuts: Cuts::Even(16),
         };
-        let input = Input {
-            hex: false,
-            bits: None,
-        };
+        let input = ungapped(rt.alloc(), false, None);
         assert!(rt;
             gives(rt.alloc(), words, Job::Totals(input, settings)),
             "{words:?}"

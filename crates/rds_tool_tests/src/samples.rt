@@ -14,6 +14,7 @@ pub type Rules = (u32, u32, Loss);
 pub struct Sample {
     /// The recording, in hexadecimal digits.
     pub digits: &'static str,
+    pub gaps: &'static [(u64, u64)],
     pub rules: Rules,
     /// The rows of its list.
     pub list: &'static str,
@@ -33,6 +34,7 @@ macro_rules! sample {
     (@ $digits:expr, $rules:expr, $items:literal, $($name:literal $count:literal),*) => {
         Sample {
             digits: $digits,
+            gaps: &[],
             rules: $rules,
             list: concat!($items $(, "total,", $name, ",", $count, ",-,-,-,-,-\n")*),
             totals: concat!($("total,", $name, ",", $count, ",-,-,-,-,-\n"),*),
@@ -111,6 +113,19 @@ pub const A_LOSS_BY_SHARE: Sample = sample!(
     5 0 0 0 0 0 2 0 3 0 2 1
 );
 
+/// Two groups, with a gap in block 1 of the second: the block is lost, though its bits are as sent.
+pub const A_GAP: Sample = Sample {
+    gaps: &[(104, 105)],
+    ..sample!(
+        TWO_GROUPS_DIGITS,
+        (2, 3, Run(10)),
+        "acquired,51,2,-,-,-,-,-\n\
+         group,26,0,A,none,B:0000,C:0000,D:0000\n\
+         group,104,0,A,lost,B:0000,C:0000,D:0000\n",
+        6 0 0 0 0 0 1 0 2 0 1 0
+    )
+};
+
 /// One group, block 4 damaged by a burst of five bits.
 pub const A_BURST: Sample = sample!(
     "00003f000019800005a00001a5",
@@ -131,6 +146,7 @@ impl Sample {
     ) -> bool {
         let crew = Crew {
             bits: None,
+            gaps: self.gaps,
             rules: self.rules,
             workers,
             pieces,
@@ -157,6 +173,7 @@ pub enum Pieces<'a> {
 pub struct Crew<'a> {
     /// The bits of the recording, if that isn't all.
     pub bits: Option<u64>,
+    pub gaps: &'a [(u64, u64)],
     pub rules: Rules,
     pub workers: u32,
     pub pieces: Pieces<'a>,
@@ -165,12 +182,12 @@ pub struct Crew<'a> {
 impl Crew<'_> {
     /// The job to list.
     pub fn list(&self, alloc: Global) -> Result<Job, AllocError> {
-        Ok(Job::List(self.input(), self.settings(alloc)?))
+        Ok(Job::List(self.input(alloc)?, self.settings(alloc)?))
     }
 
     /// The job to write the totals.
     pub fn totals(&self, alloc: Global) -> Result<Job, AllocError> {
-        Ok(Job::Totals(self.input(), self.settings(alloc)?))
+        Ok(Job::Totals(self.input(alloc)?, self.settings(alloc)?))
     }
 
     /// Whether a list of these digits gives the one, and their totals the other.
@@ -186,11 +203,12 @@ impl Crew<'_> {
             && job_gives(rt, alloc, self.totals(alloc), digits, totals)
     }
 
-    fn input(&self) -> Input {
-        Input {
+    fn input(&self, alloc: Global) -> Result<Input, AllocError> {
+        Ok(Input {
             hex: true,
             bits: self.bits,
-        }
+            gaps: self.gaps.to_vec(alloc)?,
+        })
     }
 
     fn settings(&self, alloc: Global) -> Result<Settings, AllocError> {

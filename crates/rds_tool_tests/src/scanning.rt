@@ -1,7 +1,8 @@
 //! Scans, from bytes to rows.
 use crate::devices::gives_for;
+use crate::jobs::ungapped;
 use rds_tool::ToolError::{BitsPastBytes, HexText, TooLong};
-use rds_tool::{Input, Job, ToolError};
+use rds_tool::{Job, ToolError};
 
 /// The input is hexadecimal.
 const HEX: bool = true;
@@ -50,10 +51,7 @@ static SCANS: [Scan; 13] = [
 #[test]
 fn lists_the_valid_windows(rt: HostRuntime) {
     for (hex, bits, input, wanted) in SCANS.iter() {
-        let job = Job::Scan(Input {
-            hex: *hex,
-            bits: *bits,
-        });
+        let job = Job::Scan(ungapped(rt.alloc(), *hex, *bits));
         assert!(rt;
             gives_for(&rt, rt.alloc(), &job, input, *wanted),
             "{input:?}"
@@ -61,7 +59,7 @@ fn lists_the_valid_windows(rt: HostRuntime) {
     }
 }
 
-static REFUSALS: [(ToolError, u8, &str); 15] = [
+static REFUSALS: [(ToolError, u8, &str); 16] = [
     (ToolError::BurstRange, 1, "BurstRange"),
     (ToolError::ReachRange, 2, "ReachRange"),
     (ToolError::LossRange, 3, "LossRange"),
@@ -77,6 +75,7 @@ static REFUSALS: [(ToolError, u8, &str); 15] = [
     (ToolError::TooManyTurns, 13, "TooManyTurns"),
     (ToolError::NoWorker, 14, "NoWorker"),
     (ToolError::ShareRange, 15, "ShareRange"),
+    (ToolError::BadGaps, 16, "BadGaps"),
 ];
 
 #[test]

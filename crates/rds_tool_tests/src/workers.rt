@@ -56,6 +56,7 @@ fn work_at_once<R: Sync + Threads + Wait>(
 ) -> bool {
     let crew = Crew {
         bits: None,
+        gaps: &[],
         rules: TWO_GROUPS.rules,
         workers,
         pieces,

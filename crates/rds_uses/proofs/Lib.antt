@@ -2,3 +2,5 @@ pub mod Meetings
 pub mod Outcomes
 pub mod CommandLines
 pub mod Rests
+pub mod SoundSignal
+pub mod GapFacts

@@ -1,15 +1,16 @@
 -- A run from Searching is in the guess's state at once.
 use Rattle.std.proofs.Common.{◌≡◌, ℕ, ◌+◌, ◌-◌, ◌*◌, ◌<◌, ◌≤◌, ◌⊎◌, List, [], ◌∷◌, Option, Some, None, length, refl, ap, inl, inr, arith}
 use Rattle.std.proofs.lemmas.Bool.{cases_lt}
+use Rattle.rds_stream.specs.Recording.{Signal}
 use Rattle.rds_sync.specs.declared.state.State.TheVariants.{Searching}
 use Rattle.rds_sync.specs.Lawful.{IsBetweenGroups}
 use Rattle.rds_sync.specs.Rules.{RuleNumbers}
 use Rattle.rds_sync.specs.Step.{run}
-use Rattle.rds_pieces.specs.Meeting.{IsMeeting, MeetAt, MeetFirstAt, distance}
+use Rattle.rds_pieces.specs.Meeting.{IsMeeting, MeetAt, distance}
 use Rattle.rds_pieces.specs.RunOf.{RunOf, FollowEachOther}
 use Rattle.rds_pieces.specs.Seams.{IsSumOfReads}
 
-module _ (b : List ℕ) (rules : RuleNumbers) where
+module _ (b : Signal) (rules : RuleNumbers) where
   meet_here : (from to : ℕ) → from ≤ to → MeetAt b rules Searching Searching from to from
   meet_here from to order =
       let none : from - from ≡ 0 = omega arith in

@@ -1,16 +1,17 @@
 -- What jobs make of the bits of bytes.
-use Rattle.std.proofs.Common.{◌≡◌, ℕ, ◌+◌, ◌*◌, ◌^◌, ◌≤◌, ◌++◌, List, [], Bool, true, false, Option, Some, None, Result, Ok, Err, cond, length, refl, sym, ap, ◌∙◌, arith}
+use Rattle.std.proofs.Common.{◌≡◌, ℕ, ◌*◌, ◌^◌, ◌≤◌, List, [], Bool, true, false, None, Some, Result, Ok, Err, cond, length, sym, ap, arith}
 use Rattle.std.proofs.lemmas.Bool.Decides.{nat_tests}
+use Rattle.rds_stream.specs.Recording.{Signal, bits_of, length_of}
 use Rattle.rds_sync.specs.Rules.{RuleNumbers}
 use Rattle.rds_tool.specs.Cuts.{cuts_bits}
-use Rattle.rds_tool.specs.Input.{and_then, recording_of}
+use Rattle.rds_tool.specs.Input.{and_then, may_be_gaps, recording_of}
 use Rattle.rds_tool.specs.Listing.{scan_text}
 use Rattle.rds_tool.specs.Outcome.{outcome, list_text, totals_list, text_of_task, Writes}
-use Rattle.rds_tool.specs.Plans.{PlanOf, crew_of, cut_by}
+use Rattle.rds_tool.specs.Plans.{crew_of}
 use Rattle.rds_tool.specs.Rules.{rules_of}
 use Rattle.rds_tool.specs.declared.error.ToolError.{ToolError}
 use Rattle.rds_tool.specs.declared.error.ToolError.TheVariants.{BadCutting}
-use Rattle.rds_tool.specs.declared.job.Cuts.{Cuts}
+use Rattle.rds_tool.specs.declared.job.Input.{Input}
 use Rattle.rds_tool.specs.declared.job.Job.{Job}
 use Rattle.rds_tool.specs.declared.job.Job.TheVariants as job
 use Rattle.rds_tool.specs.declared.job.Settings.{Settings}
@@ -25,7 +26,7 @@ pub written : (outcome : Result (List ℕ) ToolError) (new : List ℕ) → Write
 written (Ok text) new is = ap Ok (sym is)
 written (Err e) new is = absurd is
 
-module _ (make : List ℕ → List ℕ) (bits text : List ℕ) where
+module _ (make : Signal → List ℕ) (bits : Signal) (text : List ℕ) where
   if_cut : (fits : Bool) → and_then (cond fits (Ok bits) (Err BadCutting)) (λ bits. Ok (make bits)) ≡ Ok text → text ≡ make bits
   if_cut true is = let same : Ok (make bits) ≡ Ok text = is in cc
   if_cut false is = let none : Err BadCutting ≡ Ok text = is in cc
@@ -35,7 +36,7 @@ module _ (bytes text : List ℕ) (few : 8 * length bytes ≤ 2 ^ 36) (rules : Ru
       → and_then (and_then (and_then crew (λ _. Ok (record { rules = rules; workers = settings.workers; cuts = settings.cuts }))) (λ plan. Ok (task.List plain plan)))
       (λ task. text_of_task task bytes) ≡ Ok text
       → text ≡ list_text rules (all_bits bytes)
-  list_if_crew (Ok done) is = if_cut (list_text rules) (all_bits bytes) text (cuts_bits settings.cuts (length (all_bits bytes))) (rw (all_bits-few bytes few) at is)
+  list_if_crew (Ok done) is = if_cut (list_text rules) (all_bits bytes) text (cuts_bits settings.cuts (length_of (all_bits bytes))) (rw (all_bits-few bytes few) at is)
   list_if_crew (Err e) is = let none : Err e ≡ Ok text = is in cc
 
   pub list-text : rules_of settings ≡ Ok rules → outcome (job.List plain settings) bytes ≡ Ok text → text ≡ list_text rules (all_bits bytes)
@@ -45,7 +46,7 @@ module _ (bytes text : List ℕ) (few : 8 * length bytes ≤ 2 ^ 36) (rules : Ru
       → and_then (and_then (and_then crew (λ _. Ok (record { rules = rules; workers = settings.workers; cuts = settings.cuts }))) (λ plan. Ok (task.Totals plain plan)))
       (λ task. text_of_task task bytes) ≡ Ok text
       → text ≡ totals_list rules (all_bits bytes)
-  totals_if_crew (Ok done) is = if_cut (totals_list rules) (all_bits bytes) text (cuts_bits settings.cuts (length (all_bits bytes))) (rw (all_bits-few bytes few) at is)
+  totals_if_crew (Ok done) is = if_cut (totals_list rules) (all_bits bytes) text (cuts_bits settings.cuts (length_of (all_bits bytes))) (rw (all_bits-few bytes few) at is)
   totals_if_crew (Err e) is = let none : Err e ≡ Ok text = is in cc
 
   pub totals-text : rules_of settings ≡ Ok rules → outcome (job.Totals plain settings) bytes ≡ Ok text → text ≡ totals_list rules (all_bits bytes)
@@ -78,4 +79,23 @@ module _ (bytes new : List ℕ) (few : 8 * length bytes ≤ 2 ^ 36) where
   scanned asked by is =
       let text = written (outcome asked bytes) new is in
       let made = rw (by, all_bits-few bytes few) at text in
+      cc
+
+module _ (bytes : List ℕ) (few : 8 * length bytes ≤ 2 ^ 36) (gaps : List (ℕ × ℕ)) where
+  -- the bytes themselves with gaps, and what they stand for
+  abbrev pub gapped : Input
+  gapped = record { hex = false; bits = None; gaps = gaps }
+
+  abbrev pub recorded : Signal
+  recorded = record { bits = bits_of bytes (8 * length bytes); gaps = gaps }
+
+  few_with_gaps : may_be_gaps 0 gaps (8 * length bytes) ≡ true → recording_of gapped bytes ≡ Ok recorded
+  few_with_gaps lawful = grind (arith, nat_tests)
+
+  -- what a scan of them writes
+  pub scanned_with_gaps : (new : List ℕ) → may_be_gaps 0 gaps (8 * length bytes) ≡ true
+      → Writes (Some []) (Some new) (outcome (job.Scan gapped) bytes) → new ≡ scan_text recorded
+  scanned_with_gaps new lawful is =
+      let text = written (outcome (job.Scan gapped) bytes) new is in
+      let made = rw (few_with_gaps lawful) at text in
       cc

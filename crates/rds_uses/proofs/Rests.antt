@@ -1,7 +1,7 @@
 -- The first items of a list, and the rest of it.
-use Rattle.std.proofs.Common.{◌≡◌, ℕ, ◌-◌, ◌++◌, List, length, take, drop, ap, arith, slice_range, subst, sym}
+use Rattle.std.proofs.Common.{◌≡◌, ℕ, ◌-◌, List, length, take, drop, ap, arith, slice_range, subst, sym}
 use Rattle.std.proofs.lemmas.List.{take-append-drop, take_rest}
-use Rattle.rds_sync.specs.Counting.{IsRest, TotalsJoin, plus}
+use Rattle.rds_sync.specs.Counting.{IsRest, TotalsJoin}
 use Rattle.rds_sync.specs.Totals.{totals_of}
 use Rattle.rds_sync.specs.declared.item.Item.{Item}
 

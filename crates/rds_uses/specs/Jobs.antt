@@ -1,19 +1,19 @@
 -- The jobs that the callers ask for: of the bytes of a recording, all their bits.
-use Rattle.std.specs.Prelude.{◌≡◌, ℕ, ◌*◌, List, None, Ok, false, length}
-use Rattle.rds_stream.specs.Recording.{bits_of}
+use Rattle.std.specs.Prelude.{◌≡◌, ℕ, ◌*◌, List, [], None, Ok, false, length}
+use Rattle.rds_stream.specs.Recording.{Signal, bits_of, ungapped}
 use Rattle.rds_sync.specs.Rules.{RuleNumbers}
 use Rattle.rds_tool.specs.Rules.{rules_of}
 use Rattle.rds_tool.specs.declared.job.Input.{Input}
 use Rattle.rds_tool.specs.declared.job.Job.{Job}
 use Rattle.rds_tool.specs.declared.job.Job.TheVariants as job
 
--- all bits of the bytes
-abbrev pub all_bits : List ℕ → List ℕ
-all_bits bytes = bits_of bytes (8 * length bytes)
+-- all bits of the bytes, without gaps
+abbrev pub all_bits : List ℕ → Signal
+all_bits bytes = ungapped (bits_of bytes (8 * length bytes))
 
--- the input is the bytes themselves, and all their bits
+-- the input is the bytes themselves and all their bits, without gaps
 abbrev pub plain : Input
-plain = record { hex = false; bits = None }
+plain = record { hex = false; bits = None; gaps = [] }
 
 -- it asks for the listing by these rules, whoever works, and however the recording is cut
 abbrev pub IsListBy : Job → RuleNumbers → Type 0

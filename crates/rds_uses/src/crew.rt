@@ -1,5 +1,6 @@
 //! What a user of `rds_crew` relies on: the report of a crew is that of one decoder, and each refusal has its cause.
 ghost use Rattle.std.specs.Prelude.{◌≡◌, ◌≤◌, ◌⊎◌, IfErr, IfOk, IsErrOf, length};
+ghost use Rattle.rds_stream.specs.Recording.{length_of};
 ghost use Rattle.rds_crew.specs.declared.error.CrewError.TheVariants.{CrewRange, NoWorker, OutOfMemory};
 ghost use Rattle.rds_pieces.specs.Cutting.{IsCutting, pieces_of};
 ghost use Rattle.rds_sync.specs.Report.{report_items};
@@ -21,7 +22,7 @@ pub fn decoded_by_four<R: Threads + Wait + Sync>(
     rules: &Rules,
     cutting: &Cutting,
 ) -> Result<Report, CrewError>
-    requires { IsCutting (length recording.now) cutting.now }
+    requires { IsCutting (length_of recording.now) cutting.now }
     ensures items { IfOk result (λ report. report.items ≡ report_items recording.now rules.now) }
     ensures totals { IfOk result (λ report. report.totals ≡ totals_of (report_items recording.now rules.now)) }
     ensures refused { IfErr result (λ error. (error ≡ OutOfMemory) ⊎ (error ≡ NoWorker)) }
@@ -38,7 +39,7 @@ pub fn decoded_in_one_piece<R: Threads + Wait + Sync>(
     rules: &Rules,
     cutting: &Cutting,
 ) -> Result<Report, CrewError>
-    requires fits { IsCutting (length recording.now) cutting.now }
+    requires fits { IsCutting (length_of recording.now) cutting.now }
     requires one { pieces_of cutting.now ≤ 1 }
     ensures { IfErr result (λ error. error ≡ OutOfMemory) }
 {
@@ -54,7 +55,7 @@ pub fn too_many_workers<R: Threads + Wait + Sync>(
     rules: &Rules,
     cutting: &Cutting,
 ) -> Result<Report, CrewError>
-    requires { IsCutting (length recording.now) cutting.now }
+    requires { IsCutting (length_of recording.now) cutting.now }
     ensures { IsErrOf result CrewRange }
 {
     let work = RecordingWork::new(recording, rules, cutting);

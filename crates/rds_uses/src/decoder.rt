@@ -1,5 +1,6 @@
 //! A decoder as a user of the libraries writes it: from bytes to a report, piece by piece.
 ghost use Rattle.std.specs.Prelude.{◌≡◌, ◌*◌, ◌≤◌, ◌^◌, IfOk, IfSome, length, vec_len};
+ghost use Rattle.rds_stream.specs.Recording.{length_of};
 ghost use Rattle.rds_pieces.specs.Cutting.{IsCutting};
 ghost use Rattle.rds_pieces.specs.RunOf.{runs_of};
 ghost use Rattle.rds_sync.specs.Report.{report_items};
@@ -41,7 +42,7 @@ fn guesses(
     rules: &Rules,
     cutting: &Cutting,
 ) -> Result<Vec<PieceRun>, PieceError>
-    requires { IsCutting (length recording.now) cutting.now }
+    requires { IsCutting (length_of recording.now) cutting.now }
     ensures { IfOk result (λ runs. runs.items ≡ runs_of recording.now rules.now cutting.now) }
 {
     let mut runs = Vec::new(alloc);

@@ -1,7 +1,8 @@
 //! What a user of lists of items relies on, and of their totals.
 ghost use Rattle.std.specs.Prelude.{◌≡◌, ◌-◌, ◌+◌, ◌<◌, ◌≤◌, ◌^◌, ◌++◌, ◌∷◌, [], IfOk, IfSome, None, Some, drop, false, length, slice_get, true};
 ghost use Rattle.rds_sync.specs.Totals.{totals_of};
-ghost use Rattle.rds_sync.specs.Counting.{plus};
+ghost use Rattle.rds_sync.specs.Counting.{IsAtMost, IsRest, plus};
+ghost use Rattle.rds_sync.specs.declared.totals.Totals.{Totals as TheTotals};
 
 use rds_sync::{Item, ItemBuffer, Items, Totals, laws};
 use std::alloc::{AllocError, Global};
@@ -102,6 +103,15 @@ pub fn totals_of_rest(items: &Items, first: usize) -> Totals
 {
     laws::totals_join();
     Totals::of(items).less(Totals::of_range(items, 0, first))
+}
+
+/// What is left of totals is no more than they are: it may be added to them.
+pub fn rest_and_all(all: Totals, part: Totals) -> Totals
+    requires small { IsAtMost (2 ^ 62) all }
+    requires part { (rest : TheTotals) × IsRest part all rest }
+    ensures { (rest : TheTotals) → IsRest part all rest → result ≡ plus rest all }
+{
+    all.less(part).plus(all)
 }
 
 /// Three lists are not too long for the sum of their totals.

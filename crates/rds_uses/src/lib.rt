@@ -6,10 +6,11 @@
 //!
 //! - [`code`]: remainders, offsets, bursts, blocks as they are sent and read.
 //! - [`stream`]: recordings, their windows, scans, planes and tapes.
+//! - [`gaps`]: gaps in recordings, and what is read where one is touched.
 //! - [`sync`]: rules, lawful states, steps, runs and reports.
 //! - [`loss`]: what bad blocks do to a lock, by either rule.
 //! - [`items`]: lists of items, and their totals.
-//! - [`pieces`]: cuttings, guesses, seams, and what is stitched of them.
+//! - [`pieces`]: cuttings, guesses, seams, joins, and what is stitched of them.
 //! - [`decoder`]: all of these together, from bytes to a report.
 //! - [`crew`]: the reports of crews.
 //! - [`dealer`]: numbers that are dealt to seats.
@@ -25,6 +26,7 @@ pub mod crew;
 pub mod dealer;
 pub mod decoder;
 pub mod devices;
+pub mod gaps;
 pub mod items;
 pub mod loss;
 pub mod pieces;

@@ -1,17 +1,21 @@
-//! What a user of `rds_pieces` relies on: cuttings, guesses, seams, and the report that is stitched of them.
-ghost use Rattle.std.specs.Prelude.{◌≡◌, ◌+◌, ◌-◌, ◌*◌, ◌<◌, ◌≤◌, ◌^◌, ◌++◌, ◌∷◌, [], IfOk, IfErr, IfSome, Some, length, slice_index, false, true};
+//! What a user of `rds_pieces` relies on: cuttings, guesses, seams, joins, and the report that is stitched of them.
+ghost use Rattle.std.specs.Prelude.{◌≡◌, ℕ, ◌+◌, ◌-◌, ◌*◌, ◌<◌, ◌≤◌, ◌^◌, ◌++◌, ◌∷◌, [], IfOk, IfErr, IfSome, Some, length, slice_index, false, true};
+ghost use Rattle.rds_stream.specs.Recording.{length_of};
 ghost use Rattle.rds_sync.specs.declared.state.State.TheVariants.{Searching};
+ghost use Rattle.rds_sync.specs.declared.loss.Loss.TheVariants.{Run};
+ghost use Rattle.rds_sync.specs.Convergence.{IsSound};
+ghost use Rattle.rds_sync.specs.Lawful.{IsLawful};
 ghost use Rattle.rds_sync.specs.Report.{report_items};
 ghost use Rattle.rds_sync.specs.Step.{run as run_of};
 ghost use Rattle.rds_sync.specs.Totals.{totals_of};
 ghost use Rattle.rds_pieces.specs.Cutting.{IsCutting, pieces_of};
 ghost use Rattle.rds_pieces.specs.Guess.{guess};
-ghost use Rattle.rds_pieces.specs.RunOf.{FollowEachOther, run_over};
+ghost use Rattle.rds_pieces.specs.RunOf.{FollowEachOther, IsRunOf, end_of, run_over};
 ghost use Rattle.rds_pieces.specs.declared.error.PieceError.TheVariants.{BadCutting, OutOfMemory};
 
 use rds_pieces::{
-    Cutting, Mark, Marks, PieceError, PieceRun, RecordingWork, Seam, Work, laws, seam, speculate,
-    stitch,
+    Cutting, Mark, Marks, PieceError, PieceRun, RecordingWork, Seam, Work, join_runs, laws, seam,
+    speculate, stitch,
 };
 use rds_stream::{Counted, Recording, Tape};
 use rds_sync::{Items, Loss, Report, Rules, State, SyncError, Totals, laws as laws_of_runs};
@@ -65,8 +69,8 @@ pub fn neighbours_touch(cutting: &Cutting, j: u64) -> bool
 
 /// A list with room for a bit a piece is long enough.
 pub fn bits_beyond_pieces(recording: &Recording, cutting: &Cutting) -> u64
-    requires { IsCutting (length recording.now) cutting.now }
-    ensures { result + pieces_of cutting.now ≡ length recording.now }
+    requires { IsCutting (length_of recording.now) cutting.now }
+    ensures { result + pieces_of cutting.now ≡ length_of recording.now }
 {
     laws::pieces_are_few();
     recording.len() - cutting.pieces()
@@ -81,7 +85,7 @@ pub fn second_guess(
     rules: &Rules,
     cutting: &Cutting,
 ) -> Result<PieceRun, PieceError>
-    requires fits { IsCutting (length recording.now) cutting.now }
+    requires fits { IsCutting (length_of recording.now) cutting.now }
     requires two { pieces_of cutting.now ≡ 2 }
     ensures run { IfOk result (λ run. run
         ≡ run_over recording.now rules.now (slice_index cutting.now 1) (slice_index cutting.now 2)) }
@@ -97,7 +101,7 @@ pub fn guessed_as_run(
     rules: &Rules,
     run: &PieceRun,
 ) -> Result<bool, SyncError>
-    requires range { (run.now.from ≤ run.now.to) × (run.now.to ≤ length recording.now) }
+    requires range { (run.now.from ≤ run.now.to) × (run.now.to ≤ length_of recording.now) }
     requires source { run.now.source ≡ recording.now }
     requires rules { run.now.rules ≡ rules.now }
     ensures { IfOk result (λ same. same ≡ true) }
@@ -153,7 +157,7 @@ pub fn carried_on(
     rules: &Rules,
     run: &PieceRun,
 ) -> Result<(Items, Seam), PieceError>
-    requires range { (run.now.from ≤ run.now.to) × (run.now.to ≤ length recording.now) }
+    requires range { (run.now.from ≤ run.now.to) × (run.now.to ≤ length_of recording.now) }
     requires source { run.now.source ≡ recording.now }
     requires rules { run.now.rules ≡ rules.now }
     ensures items { IfOk result (λ both. both.0 ++ both.1.items
@@ -178,7 +182,7 @@ pub fn met_at_once<T: Tape>(
     run: &PieceRun,
 ) -> Result<Seam, PieceError>
     requires range { run.now.from ≤ run.now.to }
-    requires source { run.now.source ≡ T.bits tape.old }
+    requires source { run.now.source ≡ T.signal tape.old }
     requires rules { run.now.rules ≡ rules.now }
     requires room { T.reads_made tape.old ≤ 2 ^ 62 }
     ensures met { IfOk result (λ seam. seam.met_at ≡ Some run.now.from) }
@@ -194,15 +198,114 @@ pub fn cost_of_seam<T: Tape>(
     rules: &Rules,
     run: &PieceRun,
 ) -> Result<Seam, PieceError>
-    requires source { run.now.source ≡ T.bits tape.old }
+    requires source { run.now.source ≡ T.signal tape.old }
     requires rules { run.now.rules ≡ rules.now }
     requires room { T.reads_made tape.old ≤ 2 ^ 62 }
     ensures refused { IfErr result (λ error. error ≡ OutOfMemory) }
     ensures reads { T.reads_made tape.new
         ≤ T.reads_made tape.old + (rules.now.reach + 2) * (run.now.to - run.now.from + 1) }
-    ensures same { T.bits tape.new ≡ T.bits tape.old }
+    ensures same { T.signal tape.new ≡ T.signal tape.old }
 {
     seam(alloc, tape, rules, State::Searching, run)
+}
+
+/// On sound signal from the piece's first place on, a seam meets the guess within 416 bits by a loss of ten blocks.
+pub fn met_on_sound_signal(
+    alloc: Global,
+    recording: &Recording,
+    rules: &Rules,
+    state: State,
+    run: &PieceRun,
+) -> Result<Option<u64>, PieceError>
+    requires lawful { IsLawful rules.now run.now.from state }
+    requires source { run.now.source ≡ recording.now }
+    requires rules { run.now.rules ≡ rules.now }
+    requires loss { rules.now.loss ≡ Run 10 }
+    requires sound { (p : ℕ) × (c : ℕ) × IsSound recording.now rules.now 0 run.now.from p c }
+    requires inside { run.now.from + 416 ≤ run.now.to }
+    ensures { IfOk result (λ met. (place : ℕ) × (met ≡ Some place) × (place ≤ run.now.from + 416)) }
+{
+    let seam = seam(alloc, &mut Counted::new(recording), rules, state, run)?;
+    Ok(seam.met_at)
+}
+
+// ---- joins
+
+/// The guesses of two pieces joined are the guess of the whole recording, marks too.
+pub fn joined_guesses(
+    alloc: Global,
+    recording: &Recording,
+    rules: &Rules,
+    cutting: &Cutting,
+) -> Result<PieceRun, PieceError>
+    requires fits { IsCutting (length_of recording.now) cutting.now }
+    requires two { pieces_of cutting.now ≡ 2 }
+    ensures run { IfOk result (λ run. run ≡ run_over recording.now rules.now 0 (length_of recording.now)) }
+    ensures refused { IfErr result (λ error. error ≡ OutOfMemory) }
+{
+    let left = speculate(alloc, recording, rules, cutting, 0)?;
+    let right = speculate(alloc, recording, rules, cutting, 1)?;
+    join_runs(alloc, &mut Counted::new(recording), rules, &left, &right)
+}
+
+/// A join whose left run ends in a search meets the right one at once, and costs the reach and two windows at most.
+pub fn join_behind_search<T: Tape>(
+    alloc: Global,
+    tape: &mut T,
+    rules: &Rules,
+    left: &PieceRun,
+    right: &PieceRun,
+) -> Result<PieceRun, PieceError>
+    requires next { left.now.to ≡ right.now.from }
+    requires left { IsRunOf (T.signal tape.old) rules.now left.now }
+    requires right { IsRunOf (T.signal tape.old) rules.now right.now }
+    requires room { T.reads_made tape.old ≤ 2 ^ 62 }
+    requires search { end_of left.now ≡ Searching }
+    requires range { right.now.from ≤ right.now.to }
+    ensures reads { IfOk result (λ _. T.reads_made tape.new ≤ T.reads_made tape.old + (rules.now.reach + 2)) }
+{
+    join_runs(alloc, tape, rules, left, right)
+}
+
+/// On sound signal from the cut on, a join costs the windows of 416 bits at most by a loss of ten blocks.
+pub fn join_on_sound_signal<T: Tape>(
+    alloc: Global,
+    tape: &mut T,
+    rules: &Rules,
+    left: &PieceRun,
+    right: &PieceRun,
+) -> Result<PieceRun, PieceError>
+    requires next { left.now.to ≡ right.now.from }
+    requires left { IsRunOf (T.signal tape.old) rules.now left.now }
+    requires right { IsRunOf (T.signal tape.old) rules.now right.now }
+    requires room { T.reads_made tape.old ≤ 2 ^ 62 }
+    requires loss { rules.now.loss ≡ Run 10 }
+    requires sound { (p : ℕ) × (c : ℕ) × IsSound (T.signal tape.old) rules.now 0 right.now.from p c }
+    requires inside { right.now.from + 416 ≤ right.now.to }
+    ensures reads { IfOk result (λ _. T.reads_made tape.new
+        ≤ T.reads_made tape.old + (rules.now.reach + 2) * 417) }
+{
+    join_runs(alloc, tape, rules, left, right)
+}
+
+/// What a join costs where memory is refused: the refusal, and no more windows than else; the tape is of the same bits.
+pub fn cost_of_join<T: Tape>(
+    alloc: Global,
+    tape: &mut T,
+    rules: &Rules,
+    left: &PieceRun,
+    right: &PieceRun,
+) -> Result<PieceRun, PieceError>
+    requires next { left.now.to ≡ right.now.from }
+    requires left { IsRunOf (T.signal tape.old) rules.now left.now }
+    requires right { IsRunOf (T.signal tape.old) rules.now right.now }
+    requires room { T.reads_made tape.old ≤ 2 ^ 62 }
+    ensures refused { IfErr result (λ error. error ≡ OutOfMemory) }
+    ensures reads { T.reads_made tape.new
+        ≤ T.reads_made tape.old + (rules.now.reach + 2) * (right.now.to - right.now.from + 1) }
+    ensures same { T.signal tape.new ≡ T.signal tape.old }
+{
+    join_runs(alloc, tape, rules, left, right)
 }
 
 // ---- reports
@@ -214,7 +317,7 @@ pub fn decoded_in_two_pieces(
     rules: &Rules,
     cutting: &Cutting,
 ) -> Result<Report, PieceError>
-    requires fits { IsCutting (length recording.now) cutting.now }
+    requires fits { IsCutting (length_of recording.now) cutting.now }
     requires two { pieces_of cutting.now ≡ 2 }
     ensures items { IfOk result (λ report. report.items ≡ report_items recording.now rules.now) }
     ensures totals { IfOk result (λ report. report.totals ≡ totals_of (report_items recording.now rules.now)) }
@@ -234,11 +337,11 @@ pub fn cost_of_one_piece<T: Tape>(
     rules: &Rules,
     runs: &[PieceRun],
 ) -> Result<Report, PieceError>
-    requires in_a_row { FollowEachOther (T.bits tape.old) rules.now 0 (length (T.bits tape.old)) runs.now }
+    requires in_a_row { FollowEachOther (T.signal tape.old) rules.now 0 (length_of (T.signal tape.old)) runs.now }
     requires one { length runs.now ≡ 1 }
     requires room { T.reads_made tape.old ≤ 2 ^ 61 }
     ensures reads { IfOk result (λ _. T.reads_made tape.new ≤ T.reads_made tape.old + (rules.now.reach + 2) + 3) }
-    ensures same { T.bits tape.new ≡ T.bits tape.old }
+    ensures same { T.signal tape.new ≡ T.signal tape.old }
 {
     stitch(alloc, tape, rules, runs)
 }
@@ -252,9 +355,9 @@ pub fn row_after_join(
     right: &PieceRun,
     after: &[PieceRun],
 )
-    requires { FollowEachOther recording.now rules.now 0 (length recording.now)
+    requires { FollowEachOther recording.now rules.now 0 (length_of recording.now)
         (before.now ++ left.now ∷ right.now ∷ after.now) }
-    ensures { FollowEachOther recording.now rules.now 0 (length recording.now)
+    ensures { FollowEachOther recording.now rules.now 0 (length_of recording.now)
         (before.now ++ run_over recording.now rules.now left.now.from right.now.to ∷ after.now) }
 {
     laws::joined_runs_follow();
@@ -264,7 +367,7 @@ pub fn row_after_join(
 
 /// The report of a work that is cut into one piece: that of the recording and the rules that it names.
 pub fn report_of_work<W: Work>(alloc: Global, work: &W) -> Result<Report, PieceError>
-    requires fits { IsCutting (length (W.recording work.now)) (W.places work.now) }
+    requires fits { IsCutting (length_of (W.recording work.now)) (W.places work.now) }
     requires one { pieces_of (W.places work.now) ≡ 1 }
     ensures items { IfOk result (λ report. report.items
         ≡ report_items (W.recording work.now) (W.rule_set work.now)) }
@@ -278,6 +381,19 @@ pub fn report_of_work<W: Work>(alloc: Global, work: &W) -> Result<Report, PieceE
     work.report(alloc, runs.as_slice())
 }
 
+/// The guesses of a work that is cut into two pieces, joined by it: the guess of the whole recording.
+pub fn joined_by_work<W: Work>(alloc: Global, work: &W) -> Result<PieceRun, PieceError>
+    requires fits { IsCutting (length_of (W.recording work.now)) (W.places work.now) }
+    requires two { pieces_of (W.places work.now) ≡ 2 }
+    ensures run { IfOk result (λ run. run
+        ≡ run_over (W.recording work.now) (W.rule_set work.now) 0 (length_of (W.recording work.now))) }
+    ensures refused { IfErr result (λ error. error ≡ OutOfMemory) }
+{
+    let left = work.guess(alloc, 0)?;
+    let right = work.guess(alloc, 1)?;
+    work.join(alloc, &left, &right)
+}
+
 /// What a work names, as a caller sees it.
 pub fn names_of_work<W: Work>(work: &W) -> (Snapshot<Recording>, Loss, u64)
     ensures source { result.0.value ≡ W.recording work.now }
@@ -289,7 +405,7 @@ pub fn names_of_work<W: Work>(work: &W) -> (Snapshot<Recording>, Loss, u64)
 
 /// The work over a recording names what it was given.
 pub fn work_of_recording(recording: &Recording, rules: &Rules, cutting: &Cutting) -> bool
-    requires { IsCutting (length recording.now) cutting.now }
+    requires { IsCutting (length_of recording.now) cutting.now }
     ensures { result ≡ true }
 {
     let work = RecordingWork::new(recording, rules, cutting);

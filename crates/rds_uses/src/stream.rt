@@ -2,13 +2,15 @@
 ghost use Rattle.std.specs.Prelude.{◌≡◌, ℕ, ◌+◌, ◌-◌, ◌*◌, ◌<◌, ◌≤◌, ◌^◌, IsTrue, IfSome, None, Some, Err, length, slice_index, true, vec_len};
 ghost use Rattle.std.specs.Int.{bit_at};
 ghost use Rattle.rds_code.specs.Remainder.{rem};
-ghost use Rattle.rds_code.specs.Offsets.{offset_of as the_offset_of};
-ghost use Rattle.rds_stream.specs.Recording.{bits_of, off, valid_windows, window};
+ghost use Rattle.rds_stream.specs.Recording.{bits_of, length_of, off, ungapped, valid_windows, window};
 ghost use Rattle.rds_stream.specs.ValidWindows.{NoneValid};
 ghost use Rattle.rds_stream.specs.declared.error.StreamError.TheVariants.{BitsPastBytes, OutOfMemory, TooLong};
 
-use rds_code::{Offset, offset_of, rem26};
-use rds_stream::{Counted, FIRST_WINDOW, Recording, StreamError, Tape, ValidWindows, planes, scan};
+use rds_code::{Offset, rem26};
+use rds_stream::{
+    Counted, FIRST_WINDOW, Reader, Recording, StreamError, Tape, ValidWindows, offset_heard,
+    planes, scan,
+};
 use std::alloc::Global;
 use std::snapshot::Snapshot;
 
@@ -18,7 +20,7 @@ use std::snapshot::Snapshot;
 pub fn recorded(bytes: Vec<u8>, bits: u64) -> Option<Recording>
     requires few { bits ≤ 2 ^ 36 }
     requires held { bits ≤ 8 * vec_len bytes }
-    ensures { result ≡ Some (bits_of bytes.items bits) }
+    ensures { result ≡ Some (ungapped (bits_of bytes.items bits)) }
 {
     match Recording::from_bytes(bytes, bits) {
         Ok(recording) => Some(recording),
@@ -45,42 +47,51 @@ pub fn past_the_bytes(bytes: Vec<u8>, bits: u64) -> Result<Recording, (StreamErr
 
 /// The last bit, and a place for it in a table of bytes: no sum goes wrong.
 pub fn last_bit(recording: &Recording) -> bool
-    requires { 0 < length recording.now }
-    ensures { IsTrue result → slice_index recording.now (length recording.now - 1) ≡ 1 }
+    requires { 0 < length_of recording.now }
+    ensures { IsTrue result → slice_index recording.now.bits (length_of recording.now - 1) ≡ 1 }
 {
     recording.bit(recording.len() - 1)
 }
 
 /// How many bits there would be after so many more.
 pub fn len_with(recording: &Recording, more: u32) -> u64
-    ensures { result ≡ length recording.now + more }
+    ensures { result ≡ length_of recording.now + more }
 {
     recording.len() + u64::from(more)
 }
 
-/// A window is a block, and its offset is that of its remainder.
+/// The offset of a place is that of what is heard there.
 pub fn offsets_agree(recording: &Recording, place: u64) -> bool
     requires first { 25 ≤ place }
-    requires last { place < length recording.now }
+    requires last { place < length_of recording.now }
     ensures { result ≡ true }
 {
-    recording.offset(place) == offset_of(rem26(recording.window(place)))
+    recording.offset(place) == offset_heard(Reader::new(recording).window(place))
 }
 
-/// The window at the first place that has one, as it is read from a tape.
+/// A window as it is stored is a block, whose remainder can be taken.
+pub fn stored_remainder(recording: &Recording, place: u64) -> u16
+    requires first { 25 ≤ place }
+    requires last { place < length_of recording.now }
+    ensures { result ≡ rem (window recording.now.bits place) }
+{
+    rem26(recording.window(place))
+}
+
+/// What is heard at the first place that has a window, as it is read from a tape.
 pub fn windows_agree(recording: &Recording) -> bool
-    requires { 26 ≤ length recording.now }
+    requires { 26 ≤ length_of recording.now }
     ensures { result ≡ true }
 {
     let mut tape = Counted::new(recording);
-    tape.window(FIRST_WINDOW) == recording.window(FIRST_WINDOW)
+    tape.window(FIRST_WINDOW) == Reader::new(recording).window(FIRST_WINDOW)
 }
 
 // ---- many places
 
 /// All valid windows of a recording, by rising place.
 pub fn all_valid(alloc: Global, recording: &Recording) -> Option<Vec<(u64, Offset)>>
-    ensures { IfSome result (λ found. found.items ≡ valid_windows recording.now 0 (length recording.now)) }
+    ensures { IfSome result (λ found. found.items ≡ valid_windows recording.now 0 (length_of recording.now)) }
 {
     scan(alloc, recording, 0, recording.len()).ok()
 }
@@ -96,7 +107,7 @@ pub fn refusal_of_scan(alloc: Global, recording: &Recording) -> Option<StreamErr
 pub fn first_valid(recording: &Recording) -> Option<(u64, Offset)>
     ensures some { IfSome result (λ found. off recording.now found.0 ≡ Some found.1) }
     ensures first { IfSome result (λ found. NoneValid recording.now 0 found.0) }
-    ensures none { result ≡ None → NoneValid recording.now 0 (length recording.now) }
+    ensures none { result ≡ None → NoneValid recording.now 0 (length_of recording.now) }
 {
     ValidWindows::new(recording, 0, recording.len()).next()
 }
@@ -104,7 +115,7 @@ pub fn first_valid(recording: &Recording) -> Option<(u64, Offset)>
 /// How far the second valid window lies behind the first: they come by rising place, within the recording.
 pub fn gap_of_first_two(recording: &Recording) -> Option<u64>
     ensures after { IfSome result (λ gap. 0 < gap) }
-    ensures within { IfSome result (λ gap. gap < length recording.now) }
+    ensures within { IfSome result (λ gap. gap < length_of recording.now) }
 {
     let mut windows = ValidWindows::new(recording, 0, recording.len());
     let (first, _offset) = windows.next()?;
@@ -115,8 +126,8 @@ pub fn gap_of_first_two(recording: &Recording) -> Option<u64>
 /// At bit 63 the planes hold the remainder of the window 63 places on.
 pub fn last_of_planes(recording: &Recording, at: u64) -> [u64; 10]
     requires first { 25 ≤ at }
-    requires last { at + 64 ≤ length recording.now }
-    ensures { (r : ℕ) → r < 10 → bit_at (slice_index result r) 63 ≡ bit_at (rem (window recording.now (at + 63))) r }
+    requires last { at + 64 ≤ length_of recording.now }
+    ensures { (r : ℕ) → r < 10 → bit_at (slice_index result r) 63 ≡ bit_at (rem (window recording.now.bits (at + 63))) r }
 {
     planes(recording, at)
 }
@@ -130,20 +141,20 @@ pub fn reads_of_new(recording: &Recording) -> u64
     Counted::new(recording).reads()
 }
 
-/// The offset of a tape's last window: one window is counted, and the tape is of the same bits.
+/// The offset of a tape's last place: one window is counted, and the tape is of the same recording.
 pub fn last_offset<T: Tape>(tape: &mut T) -> Option<Offset>
-    requires some { 26 ≤ length (T.bits tape.old) }
+    requires some { 26 ≤ length_of (T.signal tape.old) }
     requires room { T.reads_made tape.old < 2 ^ 63 }
-    ensures offset { result ≡ the_offset_of (rem (window (T.bits tape.old) (length (T.bits tape.old) - 1))) }
+    ensures offset { result ≡ off (T.signal tape.old) (length_of (T.signal tape.old) - 1) }
     ensures counted { T.reads_made tape.new ≡ T.reads_made tape.old + 1 }
-    ensures same { T.bits tape.new ≡ T.bits tape.old }
+    ensures same { T.signal tape.new ≡ T.signal tape.old }
 {
-    offset_of(rem26(tape.window(tape.len() - 1)))
+    offset_heard(tape.window(tape.len() - 1))
 }
 
 /// What a caller sees of the count: one more after a window.
 pub fn seen_to_count<T: Tape>(tape: &mut T) -> bool
-    requires some { 26 ≤ length (T.bits tape.old) }
+    requires some { 26 ≤ length_of (T.signal tape.old) }
     requires room { T.reads_made tape.old < 2 ^ 63 }
     ensures { result ≡ true }
 {
@@ -154,14 +165,21 @@ pub fn seen_to_count<T: Tape>(tape: &mut T) -> bool
 
 /// How many bits a tape would have after so many more.
 pub fn tape_len_with<T: Tape>(tape: &T, more: u32) -> u64
-    ensures { result ≡ length (T.bits tape.now) + more }
+    ensures { result ≡ length_of (T.signal tape.now) + more }
 {
     tape.len() + u64::from(more)
 }
 
 /// The recording of a tape, for contracts.
 pub fn recording_of<T: Tape>(tape: &T) -> Snapshot<Recording>
-    ensures { result.value ≡ T.bits tape.now }
+    ensures { result.value ≡ T.signal tape.now }
 {
     tape.source()
+}
+
+/// How many bits there are where a reader reads.
+pub fn len_of_read(reader: &Reader<'_>) -> u64
+    ensures { result ≡ length_of reader.now }
+{
+    reader.recording().len()
 }

@@ -1,10 +1,13 @@
 //! What a user of `rds_sync` relies on: rules, lawful states, steps over a tape, runs over a range, and reports.
 ghost use Rattle.std.specs.Prelude.{◌≡◌, ◌≢◌, ℕ, ◌+◌, ◌-◌, ◌*◌, ◌<◌, ◌≤◌, ◌^◌, ◌++◌, ◌↔◌, [], IsTrue, IfOk, IfErr, IsErrOf, None, Some, count_by, length, slice_get, true};
+ghost use Rattle.rds_stream.specs.Recording.{length_of};
 ghost use Rattle.rds_sync.specs.declared.item.Block.{Block as ABlock};
 ghost use Rattle.rds_sync.specs.declared.error.SyncError.TheVariants.{BurstRange, LossRange, OutOfMemory, ReachRange, ShareRange};
 ghost use Rattle.rds_sync.specs.declared.loss.Loss.TheVariants.{Run, Share};
+ghost use Rattle.rds_sync.specs.declared.state.State.{State as AState};
 ghost use Rattle.rds_sync.specs.declared.state.State.TheVariants.{Searching};
 ghost use Rattle.rds_sync.specs.Advance.{group_item, items_in};
+ghost use Rattle.rds_sync.specs.Convergence.{IsLastFour, IsSound, sound_bits};
 ghost use Rattle.rds_sync.specs.GroupLaws.{IsBlock};
 ghost use Rattle.rds_sync.specs.Groups.{group as group_at, info_of};
 ghost use Rattle.rds_sync.specs.Lawful.{IsBetweenGroups, IsLawful};
@@ -15,7 +18,7 @@ ghost use Rattle.rds_sync.specs.Report.{report_items};
 ghost use Rattle.rds_sync.specs.Step.{items_at, run as run_of, step};
 ghost use Rattle.rds_sync.specs.Totals.{is_group, totals_of};
 
-use rds_stream::{Counted, Recording, Tape};
+use rds_stream::{Counted, Reader, Recording, Tape};
 use rds_sync::{
     Bad, Block, Group, ItemBuffer, Items, Loss, Reached, Report, RuleNumbers, Rules, State, Step,
     SyncError, Totals, advance, decode_plain, finish, laws, run, stretch,
@@ -41,14 +44,16 @@ pub fn usual_rules(alloc: Global) -> Result<Rules, SyncError>
 
 /// The same by their numbers alone.
 pub fn counted_rules(alloc: Global) -> Result<Rules, SyncError>
-    ensures { IfOk result (λ rules. rules ≡ record { burst = 2; reach = 3; loss = Run 10 }) }
+    ensures rules { IfOk result (λ rules. rules ≡ record { burst = 2; reach = 3; loss = Run 10 }) }
+    ensures refused { IfErr result (λ error. error ≡ OutOfMemory) }
 {
     Rules::new(alloc, 2, 3, 10)
 }
 
 /// Rules that lose a lock where 10 of the last 12 blocks are bad.
 pub fn shared_rules(alloc: Global) -> Result<Rules, SyncError>
-    ensures { IfOk result (λ rules. rules ≡ record { burst = 2; reach = 3; loss = Share 10 12 }) }
+    ensures rules { IfOk result (λ rules. rules ≡ record { burst = 2; reach = 3; loss = Share 10 12 }) }
+    ensures refused { IfErr result (λ error. error ≡ OutOfMemory) }
 {
     Rules::with_share(alloc, 2, 3, 10, 12)
 }
@@ -216,12 +221,12 @@ pub fn lawful_after_run(recording: &Recording, rules: &Rules, state: State, from
 pub fn two_steps<T: Tape>(tape: &mut T, rules: &Rules, state: State, place: u64, to: u64) -> Reached
     requires lawful { IsLawful rules.now place state }
     requires before { place < to }
-    requires within { to ≤ length (T.bits tape.old) }
+    requires within { to ≤ length_of (T.signal tape.old) }
     requires counted { T.reads_made tape.old + 32 ≤ 2 ^ 63 }
     ensures moved { (place < result.place) × (result.place ≤ to) }
-    ensures state { result.state ≡ (run_of (T.bits tape.old) rules.now state place (result.place - place)).0 }
+    ensures state { result.state ≡ (run_of (T.signal tape.old) rules.now state place (result.place - place)).0 }
     ensures lawful { IsLawful rules.now result.place result.state }
-    ensures same { T.bits tape.new ≡ T.bits tape.old }
+    ensures same { T.signal tape.new ≡ T.signal tape.old }
     ensures reads { T.reads_made tape.new ≤ T.reads_made tape.old + 18 }
 {
     let _reach = rules.reach();
@@ -243,9 +248,9 @@ pub fn two_steps<T: Tape>(tape: &mut T, rules: &Rules, state: State, place: u64,
 /// What a step finds is what the run over its bits gives.
 pub fn found_by_step<T: Tape>(tape: &mut T, rules: &Rules, place: u64, to: u64) -> Step
     requires before { place < to }
-    requires within { to ≤ length (T.bits tape.old) }
+    requires within { to ≤ length_of (T.signal tape.old) }
     requires counted { T.reads_made tape.old + 16 ≤ 2 ^ 63 }
-    ensures { items_in result.items ≡ (run_of (T.bits tape.old) rules.now Searching place (result.place - place)).1 }
+    ensures { items_in result.items ≡ (run_of (T.signal tape.old) rules.now Searching place (result.place - place)).1 }
 {
     advance(tape, rules, State::Searching, place, to)
 }
@@ -253,7 +258,7 @@ pub fn found_by_step<T: Tape>(tape: &mut T, rules: &Rules, place: u64, to: u64) 
 /// A search goes bit by bit, and reads no more than its own window and one for each block of its reach.
 pub fn search_one_bit<T: Tape>(tape: &mut T, rules: &Rules, place: u64, to: u64) -> u64
     requires before { place < to }
-    requires within { to ≤ length (T.bits tape.old) }
+    requires within { to ≤ length_of (T.signal tape.old) }
     requires counted { T.reads_made tape.old + 16 ≤ 2 ^ 63 }
     ensures place { result ≡ place + 1 }
     ensures reads { T.reads_made tape.new ≤ T.reads_made tape.old + (rules.now.reach + 1) }
@@ -271,32 +276,33 @@ pub fn no_group_after_search<T: Tape>(tape: &mut T, rules: &Rules) -> Option<Gro
 
 /// The end of a recording costs three windows at most, and the tape is of the same bits.
 pub fn cost_of_end<T: Tape>(tape: &mut T, rules: &Rules, state: State) -> Option<Group>
-    requires lawful { IsLawful rules.now (length (T.bits tape.old)) state }
+    requires lawful { IsLawful rules.now (length_of (T.signal tape.old)) state }
     requires counted { T.reads_made tape.old + 16 ≤ 2 ^ 63 }
     ensures reads { T.reads_made tape.new ≤ T.reads_made tape.old + 3 }
-    ensures same { T.bits tape.new ≡ T.bits tape.old }
+    ensures same { T.signal tape.new ≡ T.signal tape.old }
 {
     finish(tape, rules, state)
 }
 
 // ---- runs over a range
 
-/// A stretch moves on and stays in the range, and appends what the run over its bits gives.
+/// A stretch moves on and stays in the range, and appends what the run over its bits gives; its reader can go on.
 pub fn one_stretch(
-    recording: &Recording,
+    reader: &mut Reader<'_>,
     rules: &Rules,
     place: u64,
     to: u64,
     items: &mut ItemBuffer,
 ) -> Result<Reached, SyncError>
     requires before { place < to }
-    requires within { to ≤ length recording.now }
+    requires within { to ≤ length_of reader.old }
     ensures moved { IfOk result (λ reached. (place < reached.place) × (reached.place ≤ to)) }
     ensures items { IfOk result (λ reached. items.new
-        ≡ items.old ++ (run_of recording.now rules.now Searching place (reached.place - place)).1) }
+        ≡ items.old ++ (run_of reader.old rules.now Searching place (reached.place - place)).1) }
     ensures refused { IfErr result (λ error. error ≡ OutOfMemory) }
+    ensures same { reader.new ≡ reader.old }
 {
-    stretch(recording, rules, State::Searching, place, to, items)
+    stretch(reader, rules, State::Searching, place, to, items)
 }
 
 /// The run over a recording in two parts, with the group at its end: the items are the report's.
@@ -306,7 +312,7 @@ pub fn decoded_in_two(
     rules: &Rules,
     middle: u64,
 ) -> Result<(Items, Items, Option<Group>), SyncError>
-    requires { middle ≤ length recording.now }
+    requires { middle ≤ length_of recording.now }
     ensures items { IfOk result (λ found. (found.0 ++ found.1) ++ group_item found.2
         ≡ report_items recording.now rules.now) }
     ensures refused { IfErr result (λ error. error ≡ OutOfMemory) }
@@ -333,7 +339,7 @@ pub fn merged_ends(
     requires one { IsLawful rules.now from states.0 }
     requires other { IsLawful rules.now from states.1 }
     requires order { from ≤ middle }
-    requires within { middle ≤ length recording.now }
+    requires within { middle ≤ length_of recording.now }
     requires met { (run_of recording.now rules.now states.0 from (middle - from)).0
         ≡ (run_of recording.now rules.now states.1 from (middle - from)).0 }
     ensures { IfOk result (λ ends. ends.0 ≡ ends.1) }
@@ -345,6 +351,39 @@ pub fn merged_ends(
     Ok((one, other))
 }
 
+/// Over a sound range, up to its last block of number 4, runs from any two lawful states come into one state.
+pub fn converged_ends(
+    alloc: Global,
+    recording: &Recording,
+    rules: &Rules,
+    states: (State, State),
+    from: u64,
+    to: u64,
+) -> Result<(State, State), SyncError>
+    requires one { IsLawful rules.now from states.0 }
+    requires other { IsLawful rules.now from states.1 }
+    requires order { from ≤ to }
+    requires within { to ≤ length_of recording.now }
+    requires sound { (j : ℕ) × (p : ℕ) × (c : ℕ) × (last : ℕ) × IsSound recording.now rules.now j from p c
+        × IsLastFour recording.now from (from + sound_bits rules.now.loss j) p c last × (to ≡ p + 26 * last + 1) }
+    ensures { IfOk result (λ ends. ends.0 ≡ ends.1) }
+{
+    let (one, _items) = run(alloc, recording, rules, states.0, from, to)?;
+    let (other, _items) = run(alloc, recording, rules, states.1, from, to)?;
+    Ok((one, other))
+}
+
+/// There is such an end within a sound range, whoever runs.
+pub fn has_one_end(recording: &Recording, rules: &Rules, from: u64)
+    ensures { (j p c : ℕ) → IsSound recording.now rules.now j from p c
+        → (to : ℕ) × (to ≤ from + sound_bits rules.now.loss j)
+        × ((s t : AState) → IsLawful rules.now from s → IsLawful rules.now from t
+        → (run_of recording.now rules.now s from (to - from)).0 ≡ (run_of recording.now rules.now t from (to - from)).0) }
+{
+    laws::runs_converge();
+    let _numbers = rules.numbers();
+}
+
 /// A run over one bit is that bit.
 pub fn run_of_one_bit(
     alloc: Global,
@@ -352,7 +391,7 @@ pub fn run_of_one_bit(
     rules: &Rules,
     place: u64,
 ) -> Result<State, SyncError>
-    requires { place < length recording.now }
+    requires { place < length_of recording.now }
     ensures { IfOk result (λ end. end ≡ step recording.now rules.now place Searching) }
 {
     let _len = recording.len();
@@ -381,7 +420,7 @@ pub fn nothing_while_waiting(
     requires order { from ≤ due }
     requires soon { due ≤ from + 25 }
     requires whole { 25 ≤ due }
-    requires within { due < length recording.now }
+    requires within { due < length_of recording.now }
     ensures { IfOk result (λ items. items ≡ []) }
 {
     let _loss = rules.loss();
@@ -402,7 +441,7 @@ pub fn nothing_at_first(
     recording: &Recording,
     rules: &Rules,
 ) -> Result<(State, Items), SyncError>
-    requires { 51 ≤ length recording.now }
+    requires { 51 ≤ length_of recording.now }
     ensures state { IfOk result (λ end. end.0 ≡ Searching) }
     ensures items { IfOk result (λ end. end.1 ≡ []) }
 {
@@ -423,7 +462,7 @@ pub fn item_of_change(recording: &Recording, rules: &Rules, state: State, place:
 
 /// The items of a run need room for two a bit at most.
 pub fn room_for_items(alloc: Global, recording: &Recording, rules: &Rules) -> Result<u64, SyncError>
-    ensures { IfOk result (λ left. left ≤ 2 * length recording.now) }
+    ensures { IfOk result (λ left. left ≤ 2 * length_of recording.now) }
 {
     laws::runs_give_few_items();
     let len = recording.len();

@@ -1,12 +1,15 @@
 //! What a user of `rds_tool` relies on: what is written, what is left as it was, and each refusal by its cause.
-ghost use Rattle.std.specs.Prelude.{◌≡◌, ◌≢◌, ℕ, ◌*◌, ◌<◌, ◌≤◌, ◌^◌, ◌++◌, ◌⊎◌, List, Err, IfErr, IfSome, IsErrOf, Ok, OnOk, length, true};
+ghost use Rattle.std.specs.Prelude.{◌≡◌, ◌≢◌, ℕ, ◌*◌, ◌<◌, ◌≤◌, ◌^◌, ◌++◌, ◌⊎◌, ◌↔◌, List, Err, IfErr, IfSome, IsErrOf, None, Ok, OnOk, false, length, true};
 ghost use Rattle.std.specs.Io.KnownBytes.{IsAtEnd};
+ghost use Rattle.rds_stream.specs.Recording.{bits_of};
 ghost use Rattle.rds_sync.specs.Report.{report_items};
 ghost use Rattle.rds_sync.specs.Totals.{totals_of};
 ghost use Rattle.rds_tool.specs.GroupText.{encoded_text};
+ghost use Rattle.rds_tool.specs.Input.{may_be_gaps};
 ghost use Rattle.rds_tool.specs.Listing.{report_text, scan_text, totals_text};
-ghost use Rattle.rds_tool.specs.Outcome.{outcome};
-ghost use Rattle.rds_tool.specs.declared.error.ToolError.TheVariants.{BurstRange, OutOfMemory, Read, Write};
+ghost use Rattle.rds_tool.specs.Outcome.{IsOutside, WritesPrefix, outcome};
+ghost use Rattle.rds_tool.specs.Tasks.{AsksForThreads, task_of};
+ghost use Rattle.rds_tool.specs.declared.error.ToolError.TheVariants.{BadGaps, BurstRange, NoWorker, OutOfMemory, Read, TooManyTurns, Write};
 ghost use Rattle.rds_uses.specs.Jobs.{IsListBy, IsTotalsBy, all_bits, plain};
 
 use rds_crew::Gate;
@@ -79,6 +82,30 @@ pub fn windows<R: Threads + Wait + Sync>(
     }
 }
 
+/// The rows of the valid windows where there are gaps: of those that touch none.
+pub fn windows_with_gaps<R: Threads + Wait + Sync>(
+    rt: &R,
+    alloc: Global,
+    bytes: &[u8],
+    gaps: Vec<(u64, u64)>,
+) -> Option<Vec<u8>>
+    requires few { 8 * length bytes.now ≤ 2 ^ 36 }
+    requires gaps { may_be_gaps 0 gaps.items (8 * length bytes.now) ≡ true }
+    ensures { IfSome result (λ text. text.items
+        ≡ scan_text (record { bits = bits_of bytes.now (8 * length bytes.now); gaps = gaps.items })) }
+{
+    let job = Job::Scan(Input {
+        hex: false,
+        bits: None,
+        gaps,
+    });
+    let mut writer = ToWrite::new(Vec::new(alloc));
+    match transcribe(rt, alloc, &mut FromRead::new(bytes), &mut writer, &job) {
+        Ok(()) => Some(writer.into_inner()),
+        Err(_) => None,
+    }
+}
+
 /// The blocks of the groups that lines of digits spell, in digits.
 pub fn encoded<R: Threads + Wait + Sync>(
     rt: &R,
@@ -115,6 +142,49 @@ pub fn gated_listing<R: Threads + Wait + Sync, G: Gate + Sync>(
         Ok(()) => Some(writer.into_inner()),
         Err(_) => None,
     }
+}
+
+/// With a gate too: the reader is at its end after success; a failed call of either device is what is answered; 13 comes of
+/// a long input alone, 14 where threads are asked for, and any other refusal where the job and the bytes call for it.
+pub fn gated_causes<R: Threads + Wait + Sync, S: Source, K: Sink, G: Gate + Sync>(
+    rt: &R,
+    alloc: Global,
+    reader: &mut S,
+    writer: &mut K,
+    job: &Job,
+    gate: &G,
+) -> Result<(), ToolError>
+    requires reads { S.failed reader.old < 2 ^ 63 }
+    requires writes { K.failed writer.old < 2 ^ 63 }
+    ensures end { OnOk result (IsAtEnd (S.remaining reader.new)) }
+    ensures read { IsErrOf result Read ↔ (S.failed reader.old < S.failed reader.new) }
+    ensures write { IsErrOf result Write ↔ (K.failed writer.old < K.failed writer.new) }
+    ensures turns { IsErrOf result TooManyTurns → IfSome (S.remaining reader.old) (λ held. 16777216 ≤ length held) }
+    ensures no_worker { IsErrOf result NoWorker → AsksForThreads job.now }
+    ensures refused { IfErr result (λ error. IsOutside error
+        ⊎ IfSome (S.remaining reader.old) (λ held. outcome job.now held ≡ Err error)) }
+{
+    transcribe_gated(rt, alloc, reader, writer, job, gate)
+}
+
+/// With a gate too: settings out of their range are refused before anything is read; nothing was written after any refusal
+/// but that of the writer, and then a first part of the text.
+pub fn gated_remains<R: Threads + Wait + Sync, S: Source, K: Sink, G: Gate + Sync>(
+    rt: &R,
+    alloc: Global,
+    reader: &mut S,
+    writer: &mut K,
+    job: &Job,
+    gate: &G,
+) -> Result<(), ToolError>
+    requires reads { S.failed reader.old < 2 ^ 63 }
+    requires writes { K.failed writer.old < 2 ^ 63 }
+    ensures settings { IfErr (task_of job.now) (λ error. (result ≡ Err error) × (reader.new ≡ reader.old)) }
+    ensures untouched { IfErr result (λ error. error ≢ Write → writer.new ≡ writer.old) }
+    ensures prefix { IsErrOf result Write → IfSome (S.remaining reader.old)
+        (λ held. WritesPrefix (K.contents writer.old) (K.contents writer.new) (outcome job.now held)) }
+{
+    transcribe_gated(rt, alloc, reader, writer, job, gate)
 }
 
 /// A text that grows: by the whole outcome, by a prefix of it where the writer fails, and else not at all.
@@ -205,6 +275,27 @@ pub fn few_causes<R: Threads + Wait + Sync>(
 {
     let mut writer = ToWrite::new(Vec::new(alloc));
     transcribe(rt, alloc, &mut FromRead::new(bytes), &mut writer, job).err()
+}
+
+/// Gaps that the recording can't have are refused, and as such, where memory and the devices do not fail.
+pub fn bad_gaps<R: Threads + Wait + Sync>(
+    rt: &R,
+    alloc: Global,
+    bytes: &[u8],
+    gaps: Vec<(u64, u64)>,
+) -> Option<ToolError>
+    requires few { length bytes.now < 16777216 }
+    requires gaps { may_be_gaps 0 gaps.items (8 * length bytes.now) ≡ false }
+    ensures refused { result ≢ None }
+    ensures cause { IfSome result (λ error. (error ≡ BadGaps) ⊎ ((error ≡ OutOfMemory) ⊎ ((error ≡ Read) ⊎ (error ≡ Write)))) }
+{
+    let job = Job::Scan(Input {
+        hex: false,
+        bits: None,
+        gaps,
+    });
+    let mut writer = ToWrite::new(Vec::new(alloc));
+    transcribe(rt, alloc, &mut FromRead::new(bytes), &mut writer, &job).err()
 }
 
 /// Settings out of their range are refused as such, and nothing is read.

@@ -12,49 +12,72 @@ use std::sync::atomic::{AtomicU64, Ordering};
 use std::test::Fail;
 use std::thread::Threads;
 
-/// The turns after which a worker no longer waits for the other.
+/// The turns after which a worker no longer waits for others.
 const MOST_TURNS: u64 = 1_000_000_000;
 
-/// A journal at which piece 0 waits until piece 1 is begun.
+/// What one worker waits for: that others come, so many of them.
 #[derive(Drop)]
-struct Watch<'a, R> {
-    journal: &'a Journal<'a, R>,
-    second_begun: AtomicU64,
+pub struct Meeting {
+    wanted: u64,
+    come: AtomicU64,
     misses: AtomicU64,
 }
 
-impl<'a, R> Watch<'a, R> {
-    fn new(journal: &'a Journal<'a, R>) -> Watch<'a, R> {
-        Watch {
-            journal,
-            second_begun: AtomicU64::new(0),
+impl Meeting {
+    pub fn of(wanted: u64) -> Meeting {
+        Meeting {
+            wanted,
+            come: AtomicU64::new(0),
             misses: AtomicU64::new(0),
         }
     }
 
-    /// Turns until piece 1 is begun, and notes a miss at the limit.
-    fn wait_for_second(&self) {
+    pub fn come(&self) {
+        self.come.fetch_add(1, Ordering::SeqCst);
+    }
+
+    /// Turns until the others have come, and notes a miss at the limit.
+    pub fn wait(&self) {
         for _ in 0..MOST_TURNS {
-            if self.second_begun.load(Ordering::SeqCst) == 1 {
+            if self.come.load(Ordering::SeqCst) == self.wanted {
                 return;
             }
         }
         self.misses.fetch_add(1, Ordering::SeqCst);
     }
+
+    pub fn was_missed(&self) -> bool {
+        self.misses.load(Ordering::SeqCst) != 0
+    }
+}
+
+/// A journal at which piece 0 waits until piece 1 is begun.
+#[derive(Drop)]
+struct Watch<'a, R> {
+    journal: &'a Journal<'a, R>,
+    second: Meeting,
 }
 
 impl<R: Wait> Gate for Watch<'_, R> {
     fn begin(&self, j: u64) {
         self.journal.begin(j);
         if j == 0 {
-            self.wait_for_second();
+            self.second.wait();
         } else {
-            self.second_begun.store(1, Ordering::SeqCst);
+            self.second.come();
         }
     }
 
     fn done(&self, j: u64, run: &PieceRun) {
         self.journal.done(j, run);
+    }
+
+    fn join_begin(&self, level: u32, m: u64) {
+        self.journal.join_begin(level, m);
+    }
+
+    fn join_done(&self, level: u32, m: u64, run: &PieceRun) {
+        self.journal.join_done(level, m, run);
     }
 }
 
@@ -62,18 +85,21 @@ impl<R: Wait> Gate for Watch<'_, R> {
 const HALVES: Cuts<'_> = Cuts::At(&[104]);
 
 /// What one worker does with two pieces, in order.
-const EVENTS: [Event; 7] = [
+const EVENTS: [Event; 10] = [
     Event::Begun(0),
     Event::Guessed(0),
     Event::Done(0),
     Event::Begun(1),
     Event::Guessed(1),
     Event::Done(1),
+    Event::JoinBegun(1, 0),
+    Event::Joined(0, 208),
+    Event::JoinDone(1, 0),
     Event::Reported,
 ];
 
 /// Decodes the sample, cut so, by a work that notes its calls, and asserts that the report is its own.
-fn decode_noted<R: Abort + Sync + Threads + Wait, G: Gate + Sync>(
+pub fn decode_noted<R: Abort + Sync + Threads + Wait, G: Gate + Sync>(
     rt: &R,
     alloc: Global,
     sample: Sample,
@@ -93,40 +119,20 @@ fn decode_noted<R: Abort + Sync + Threads + Wait, G: Gate + Sync>(
 /// A gate at which piece 0 waits until the other three are done, each over the range that the cuts give it.
 #[derive(Drop)]
 struct HeldBack {
-    others_done: AtomicU64,
-    misses: AtomicU64,
-}
-
-impl HeldBack {
-    fn new() -> HeldBack {
-        HeldBack {
-            others_done: AtomicU64::new(0),
-            misses: AtomicU64::new(0),
-        }
-    }
-
-    /// Turns until the other three are done, and notes a miss at the limit.
-    fn wait_for_others(&self) {
-        for _ in 0..MOST_TURNS {
-            if self.others_done.load(Ordering::SeqCst) == 3 {
-                return;
-            }
-        }
-        self.misses.fetch_add(1, Ordering::SeqCst);
-    }
+    others: Meeting,
 }
 
 impl Gate for HeldBack {
     fn begin(&self, j: u64) {
         if j == 0 {
-            self.wait_for_others();
+            self.others.wait();
         }
     }
 
     fn done(&self, j: u64, run: &PieceRun) {
         let range = QUARTERS.get(j as usize).copied();
         if j > 0 && range == Some((run.from(), run.to())) {
-            self.others_done.fetch_add(1, Ordering::SeqCst);
+            self.others.come();
         }
     }
 }
@@ -140,25 +146,34 @@ fn a_worker_makes_all_else_while_another_is_held_back(rt: HostRuntime) -> Result
     let sample = Sample::zero_groups(rt.alloc(), 2, 3)?;
     let cutting = sample.cut(rt.alloc(), Cuts::At(&[52, 104, 156]))?;
     let work = RecordingWork::new(&sample.recording, &sample.rules, &cutting);
-    let gate = HeldBack::new();
+    let gate = HeldBack {
+        others: Meeting::of(3),
+    };
     assert_decoded(&rt, rt.alloc(), &sample, &work, 2, &gate)?;
-    assert!(rt; gate.misses.load(Ordering::SeqCst) == 0);
+    assert!(rt; !gate.others.was_missed());
     Ok(())
 }
 
-// One thread that makes both pieces in turn would miss, since piece 0 waits for piece 1. A crew that
-// drops the runs of its workers would guess again, or report other runs than the gate was shown.
+// One thread that makes both pieces in turn would miss, since piece 0 waits for piece 1. A crew that drops the runs of
+// its workers would guess or join again, or report another run than the gate was shown.
 #[test]
 fn two_workers_run_at_the_same_time_and_their_runs_make_the_report(
     rt: HostRuntime,
 ) -> Result<(), Fail> {
     let sample = Sample::zero_groups(rt.alloc(), 2, 3)?;
     let journal = Journal::new(&rt, rt.alloc());
-    let watch = Watch::new(&journal);
+    let watch = Watch {
+        journal: &journal,
+        second: Meeting::of(1),
+    };
     decode_noted(&rt, rt.alloc(), sample, HALVES, 2, &journal, &watch)?;
-    assert!(rt; watch.misses.load(Ordering::SeqCst) == 0);
+    assert!(rt; !watch.second.was_missed());
     assert!(rt; journal.has_each_once(&EVENTS));
-    assert!(rt; journal.reported_is_shown([(0, 104), (104, 208)]));
+    assert!(rt; journal.is_over(Event::Done(0), (0, 104)));
+    assert!(rt; journal.is_over(Event::Done(1), (104, 208)));
+    assert!(rt; journal.has_runs_of(Event::Joined(0, 208), &[Event::Done(0), Event::Done(1)]));
+    assert!(rt; journal.is_over(Event::JoinDone(1, 0), (0, 208)));
+    assert!(rt; journal.has_runs_of(Event::Reported, &[Event::JoinDone(1, 0)]));
     Ok(())
 }
 

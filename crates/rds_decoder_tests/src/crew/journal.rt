@@ -13,6 +13,11 @@ pub enum Event {
     Begun(u64),
     Guessed(u64),
     Done(u64),
+    /// A join is begun, by its level and its number there.
+    JoinBegun(u32, u64),
+    /// Two runs are joined: the first place of the left one, and the place after the right one.
+    Joined(u64, u64),
+    JoinDone(u32, u64),
     Reported,
 }
 
@@ -36,16 +41,14 @@ impl Shown {
     }
 }
 
-/// A gate that keeps what happens, in order, and the runs: those that it is shown of the first two pieces, and those
-/// that a report is made of.
+/// A gate that keeps what happens, in order, and the runs: those that it is shown, that are joined, and that a report
+/// is made of, each beside its event.
 #[derive(Drop)]
 pub struct Journal<'a, R> {
     rt: &'a R,
     alloc: Global,
     events: Mutex<Vec<Event>>,
-    reported: Mutex<Vec<Shown>>,
-    first_shown: Mutex<Option<Shown>>,
-    second_shown: Mutex<Option<Shown>>,
+    runs: Mutex<Vec<(Event, Shown)>>,
 }
 
 impl<'a, R: Wait> Journal<'a, R> {
@@ -54,9 +57,7 @@ impl<'a, R: Wait> Journal<'a, R> {
             rt,
             alloc,
             events: Mutex::new(Vec::new(alloc)),
-            reported: Mutex::new(Vec::new(alloc)),
-            first_shown: Mutex::new(None),
-            second_shown: Mutex::new(None),
+            runs: Mutex::new(Vec::new(alloc)),
         }
     }
 
@@ -65,15 +66,20 @@ impl<'a, R: Wait> Journal<'a, R> {
         let _kept = self.events.lock(self.rt).push(event);
     }
 
-    /// Keeps a run that a report is made of.
-    fn keep_reported(&self, run: &PieceRun) -> Result<(), AllocError> {
+    /// Keeps a run of an event, beside those that it has.
+    fn keep_run(&self, event: Event, run: &PieceRun) -> Result<(), AllocError> {
         let shown = Shown::of(self.alloc, run)?;
-        Ok(self.reported.lock(self.rt).push(shown)?)
+        Ok(self.runs.lock(self.rt).push((event, shown))?)
     }
 
     /// Whether that is what happened.
     pub fn has(&self, events: &[Event]) -> bool {
         self.events.lock(self.rt).as_slice() == events
+    }
+
+    /// Whether that is what happened last.
+    pub fn ends_with(&self, events: &[Event]) -> bool {
+        self.events.lock(self.rt).as_slice().ends_with(events)
     }
 
     /// Whether each of these happened once, and nothing else.
@@ -97,37 +103,39 @@ impl<'a, R: Wait> Journal<'a, R> {
         count
     }
 
-    /// Where the run that was done of piece `j` is kept.
-    fn shown_of(&self, j: usize) -> Option<&Mutex<Option<Shown>>> {
-        match j {
-            0 => Some(&self.first_shown),
-            1 => Some(&self.second_shown),
-            _ => None,
-        }
-    }
-
-    /// Whether that is the run that was done of piece `j`.
-    fn was_shown(&self, j: usize, run: &Shown) -> bool {
-        match self.shown_of(j) {
-            Some(shown) => shown.lock(self.rt).as_ref() == Some(run),
-            None => false,
-        }
-    }
-
-    /// Whether these are two runs, over the two ranges, and those that the gate was shown.
-    fn were_shown(&self, runs: &[Shown], ranges: [(u64, u64); 2]) -> bool {
-        for (j, run) in runs.iter().enumerate() {
-            if ranges.get(j).copied() != Some((run.from, run.to)) || !self.was_shown(j, run) {
+    /// Whether the runs of an event are those that these others have, one each, in this order.
+    pub fn has_runs_of(&self, event: Event, others: &[Event]) -> bool {
+        let runs = self.runs.lock(self.rt);
+        for (i, other) in others.iter().enumerate() {
+            let run = run_of(runs.as_slice(), event, i);
+            if run.is_none() || run != run_of(runs.as_slice(), *other, 0) {
                 return false;
             }
         }
-        runs.len() == 2
+        run_of(runs.as_slice(), event, others.len()).is_none()
     }
 
-    /// Whether the report was made of the runs that the gate was shown, which are two, over these ranges.
-    pub fn reported_is_shown(&self, ranges: [(u64, u64); 2]) -> bool {
-        self.were_shown(self.reported.lock(self.rt).as_slice(), ranges)
+    /// Whether the first run of an event is over that range.
+    pub fn is_over(&self, event: Event, range: (u64, u64)) -> bool {
+        match run_of(self.runs.lock(self.rt).as_slice(), event, 0) {
+            Some(run) => (run.from, run.to) == range,
+            None => false,
+        }
     }
+}
+
+/// Run `i` of an event, from 0 on.
+fn run_of(runs: &[(Event, Shown)], event: Event, i: usize) -> Option<&Shown> {
+    let mut before = 0usize;
+    for (kept, run) in runs {
+        if *kept == event {
+            if before == i {
+                return Some(run);
+            }
+            before = before.saturating_add(1);
+        }
+    }
+    None
 }
 
 impl<R: Wait> Gate for Journal<'_, R> {
@@ -137,9 +145,16 @@ impl<R: Wait> Gate for Journal<'_, R> {
 
     fn done(&self, j: u64, run: &PieceRun) {
         self.keep(Event::Done(j));
-        if let Some(shown) = self.shown_of(j as usize) {
-            *shown.lock(self.rt) = Shown::of(self.alloc, run).ok();
-        }
+        let _kept = self.keep_run(Event::Done(j), run);
+    }
+
+    fn join_begin(&self, level: u32, m: u64) {
+        self.keep(Event::JoinBegun(level, m));
+    }
+
+    fn join_done(&self, level: u32, m: u64, run: &PieceRun) {
+        self.keep(Event::JoinDone(level, m));
+        let _kept = self.keep_run(Event::JoinDone(level, m), run);
     }
 }
 
@@ -174,10 +189,23 @@ impl<'a, R: Wait, W: Work> Work for Noted<'a, R, W> {
         self.inner.guess(alloc, j)
     }
 
+    fn join(
+        &self,
+        alloc: Global,
+        left: &PieceRun,
+        right: &PieceRun,
+    ) -> Result<PieceRun, PieceError> {
+        let event = Event::Joined(left.from(), right.to());
+        self.journal.keep(event);
+        self.journal.keep_run(event, left)?;
+        self.journal.keep_run(event, right)?;
+        self.inner.join(alloc, left, right)
+    }
+
     fn report(&self, alloc: Global, runs: &[PieceRun]) -> Result<Report, PieceError> {
         self.journal.keep(Event::Reported);
         for run in runs {
-            self.journal.keep_reported(run)?;
+            self.journal.keep_run(Event::Reported, run)?;
         }
         self.inner.report(alloc, runs)
     }

@@ -1,10 +1,14 @@
 //! What crews answer: one report whatever the pieces and the workers, and refusals.
-ghost use Rattle.std.specs.Prelude.{length};
+ghost use Rattle.std.specs.Prelude.{◌<◌, length};
+ghost use Rattle.rds_stream.specs.Recording.{length_of};
 ghost use Rattle.rds_pieces.specs.Cutting.{IsCutting};
 
+use crate::pieces::stitching::random_cuts;
 use crate::samples::{Cuts, Sample};
+use crate::sync::losses::random_recording;
 use rds_crew::{CrewError, Gate, OpenGate, decode_crew};
 use rds_pieces::{PieceError, RecordingWork, Work};
+use rds_sync::{Rules, decode_plain};
 use std::alloc::Global;
 use std::process::Abort;
 use std::sync::Wait;
@@ -20,7 +24,7 @@ pub fn assert_decoded<R: Abort + Threads + Wait, W: Work + Sync, G: Gate + Sync>
     workers: u32,
     gate: &G,
 ) -> Result<(), CrewError>
-    requires { IsCutting (length (W.recording work.now)) (W.places work.now) }
+    requires { IsCutting (length_of (W.recording work.now)) (W.places work.now) }
 {
     let report = decode_crew(rt, alloc, work, workers, gate)?;
     assert!(rt; sample.gives(&report), "{workers} workers");
@@ -66,12 +70,73 @@ fn pieces_of_one_bit_give_the_report_too(rt: HostRuntime) -> Result<(), Fail> {
     assert_zero_groups(&rt, rt.alloc(), (2, 3), Cuts::Even(208))
 }
 
-// With reach 4 the guess of the second piece locks on a wrong phase and never meets the run from the
-// first bit; with reach 3 it meets it at 208.
+#[test]
+fn three_and_five_pieces_give_the_report_too(rt: HostRuntime) -> Result<(), Fail> {
+    for &pieces in &[3, 5] {
+        assert_zero_groups(&rt, rt.alloc(), (2, 3), Cuts::Even(pieces))?;
+        assert_zero_groups(&rt, rt.alloc(), (8, 3), Cuts::Even(pieces))?;
+        assert_zero_groups(&rt, rt.alloc(), (8, 4), Cuts::Even(pieces))?;
+    }
+    Ok(())
+}
+
+/// Two pieces, three and five, of which the last four have guesses on a wrong phase where reach is 4.
+const WRONG_PHASES: [&[u64]; 3] = [&[190], &[190, 398], &[190, 294, 398, 606]];
+
+// With reach 4 the guess from 190 on locks on a wrong phase and never meets the run from the first bit; with reach 3 it
+// meets it at 208.
 #[test]
 fn a_guess_that_never_meets_gives_the_same_report(rt: HostRuntime) -> Result<(), Fail> {
     for &reach in &[3, 4] {
-        assert_zero_groups(&rt, rt.alloc(), (8, reach), Cuts::At(&[190]))?;
+        for cuts in WRONG_PHASES.iter() {
+            assert_zero_groups(&rt, rt.alloc(), (8, reach), Cuts::At(cuts))?;
+        }
+    }
+    Ok(())
+}
+
+/// Groups of which about one byte in so many is damaged, and the report of one decoder.
+fn random_sample(alloc: Global, seed: u64, rarity: u64) -> Result<Sample, Fail> {
+    let recording = random_recording(alloc, seed, rarity)?;
+    let rules = Rules::new(alloc, 2, 3, 4)?;
+    let report = decode_plain(alloc, &recording, &rules)?;
+    Ok(Sample {
+        recording,
+        rules,
+        report,
+    })
+}
+
+/// Asserts that one to nine workers answer the sample's report, each crew over a cutting of its own, with a cut at one
+/// place of so many.
+fn assert_random_cuttings<R: Abort + Threads + Wait>(
+    rt: &R,
+    alloc: Global,
+    sample: &Sample,
+    one_of: u64,
+) -> Result<(), Fail>
+    requires { 0 < one_of }
+{
+    for workers in 1..10u32 {
+        let seed = u64::from(workers) * 0x9E37_79B9;
+        let cuts = random_cuts(alloc, sample.recording.len(), one_of, seed)?;
+        let cutting = sample.cut(alloc, Cuts::At(cuts.as_slice()))?;
+        let work = RecordingWork::new(&sample.recording, &sample.rules, &cutting);
+        assert_decoded(rt, alloc, sample, &work, workers, &OpenGate)?;
+    }
+    Ok(())
+}
+
+// From bytes of which each is damaged, which is noise, to one damaged byte in four groups.
+#[test]
+fn random_cuttings_of_random_recordings_give_the_report_of_one_decoder(
+    rt: HostRuntime,
+) -> Result<(), Fail> {
+    for &rarity in &[1, 4, 13, 52] {
+        let sample = random_sample(rt.alloc(), rarity, rarity)?;
+        for &one_of in &[60, 300, 1_500] {
+            assert_random_cuttings(&rt, rt.alloc(), &sample, one_of)?;
+        }
     }
     Ok(())
 }

@@ -1,5 +1,6 @@
 //! The guesses of pieces, and their marks.
 ghost use Rattle.std.specs.Prelude.{length, IfOk};
+ghost use Rattle.rds_stream.specs.Recording.{length_of};
 ghost use Rattle.rds_pieces.specs.Cutting.{IsCutting};
 ghost use Rattle.rds_pieces.specs.RunOf.{FollowEachOther};
 
@@ -11,9 +12,9 @@ use std::test::Fail;
 
 /// The guesses of all pieces, in order.
 pub fn guesses<W: Work>(alloc: Global, work: &W) -> Result<Vec<PieceRun>, PieceError>
-    requires { IsCutting (length (W.recording work.now)) (W.places work.now) }
+    requires { IsCutting (length_of (W.recording work.now)) (W.places work.now) }
     ensures { IfOk result (λ v. FollowEachOther (W.recording work.now) (W.rule_set work.now) 0
-        (length (W.recording work.now)) v.items) }
+        (length_of (W.recording work.now)) v.items) }
 {
     laws::pieces_follow();
     let mut runs = Vec::new(alloc);
@@ -25,7 +26,7 @@ pub fn guesses<W: Work>(alloc: Global, work: &W) -> Result<Vec<PieceRun>, PieceE
 }
 
 /// The marks of two zero groups, cut between them.
-const MARKS: [[Mark; 3]; 2] = [
+pub const MARKS: [[Mark; 3]; 2] = [
     [
         Mark {
             place: 0,

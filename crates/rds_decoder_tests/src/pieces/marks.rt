@@ -1,5 +1,6 @@
 //! Marks as they are kept, in rows, and totals as they are added up, against plain lists.
-ghost use Rattle.std.specs.Prelude.{◌≤◌, length};
+ghost use Rattle.std.specs.Prelude.{◌≤◌};
+ghost use Rattle.rds_stream.specs.Recording.{length_of};
 
 use crate::pieces::stitching::random_cuts;
 use crate::samples::{Cuts, Sample};
@@ -64,7 +65,7 @@ fn marks_in_rows_come_back_as_they_were(rt: HostRuntime) -> Result<(), Fail> {
 /// The marks of a guess by their definition: at the first place, and behind each bit after which the run has more
 /// items.
 fn plain_marks(alloc: Global, sample: &Sample, from: u64, to: u64) -> Result<Vec<Mark>, Fail>
-    requires { to ≤ length sample.now.recording }
+    requires { to ≤ length_of sample.now.recording }
 {
     let (recording, rules) = (&sample.recording, &sample.rules);
     let mut marks = Vec::new(alloc);

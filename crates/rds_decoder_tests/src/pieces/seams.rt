@@ -1,5 +1,6 @@
 //! Seams: where the true state meets a guess, and how much is read until then.
-ghost use Rattle.std.specs.Prelude.{◌≡◌, ◌≤◌, length, IfOk};
+ghost use Rattle.std.specs.Prelude.{◌≡◌, ◌≤◌, IfOk};
+ghost use Rattle.rds_stream.specs.Recording.{length_of};
 ghost use Rattle.rds_sync.specs.Lawful.{IsLawful};
 
 use crate::pieces::stitching::assert_stitched;
@@ -16,7 +17,7 @@ const CUT: Cuts<'_> = Cuts::At(&[190]);
 
 /// The state of one decoder before the bit at that place.
 fn state_before(alloc: Global, sample: &Sample, place: u64) -> Result<State, SyncError>
-    requires { place ≤ length sample.now.recording }
+    requires { place ≤ length_of sample.now.recording }
     ensures { IfOk result (λ s. IsLawful sample.now.rules place s) }
 {
     let (recording, rules) = (&sample.recording, &sample.rules);
@@ -28,7 +29,7 @@ fn state_before(alloc: Global, sample: &Sample, place: u64) -> Result<State, Syn
 fn seam_before(alloc: Global, sample: &Sample, guess: &PieceRun) -> Result<(Option<u64>, u64), Fail>
     requires source { guess.now.source ≡ sample.now.recording }
     requires rules { guess.now.rules ≡ sample.now.rules }
-    requires inside { guess.now.from ≤ length sample.now.recording }
+    requires inside { guess.now.from ≤ length_of sample.now.recording }
 {
     let state = state_before(alloc, sample, guess.from())?;
     let mut tape = Counted::new(&sample.recording);

@@ -1,9 +1,10 @@
 //! The report of pieces is that of one decoder.
-ghost use Rattle.std.specs.Prelude.{◌<◌, length};
+ghost use Rattle.std.specs.Prelude.{◌<◌};
+ghost use Rattle.rds_stream.specs.Recording.{length_of};
 ghost use Rattle.rds_pieces.specs.Cutting.{IsCutting};
 
 use crate::pieces::guesses::guesses;
-use crate::samples::{Cuts, Sample};
+use crate::samples::{Cuts, Sample, next_random};
 use rds_pieces::{Cutting, PieceError, RecordingWork, Work, stitch};
 use rds_stream::{Counted, Tape};
 use rds_sync::Report;
@@ -13,7 +14,7 @@ use std::test::Fail;
 
 /// The report by guesses and seams, and how many windows the seams and the end read.
 fn by_pieces(alloc: Global, sample: &Sample, cutting: &Cutting) -> Result<(Report, u64), PieceError>
-    requires { IsCutting (length sample.now.recording) cutting.now }
+    requires { IsCutting (length_of sample.now.recording) cutting.now }
 {
     let work = RecordingWork::new(&sample.recording, &sample.rules, cutting);
     let runs = guesses(alloc, &work)?;
@@ -76,13 +77,6 @@ fn silence_is_met_at_once_and_read_by_no_seam(rt: HostRuntime) -> Result<(), Fai
     Ok(())
 }
 
-/// The next of a row of numbers that look random and are the same in each run.
-fn next_random(number: u64) -> u64 {
-    let number = number ^ (number << 13);
-    let number = number ^ (number >> 7);
-    number ^ (number << 17)
-}
-
 /// Places below `end`, about one of so many, where `seed` says which.
 pub fn random_cuts(alloc: Global, end: u64, one_of: u64, seed: u64) -> Result<Vec<u64>, PieceError>
     requires { 0 < one_of }
@@ -133,9 +127,22 @@ fn random_cuts_of_a_station_give_the_report_of_one_decoder(rt: HostRuntime) -> R
     Ok(assert_random_cuttings(&rt, rt.alloc(), &sample)?)
 }
 
+/// Gaps close to each other and far apart, over a signal that is damaged more and less.
+#[test]
+fn random_cuts_of_recordings_with_gaps_give_the_report_of_one_decoder(
+    rt: HostRuntime,
+) -> Result<(), Fail> {
+    for &(bytes, places) in &[(100, 60), (20, 130), (40, 300)] {
+        let sample = Sample::gapped(rt.alloc(), bytes, places, 0x9E37_79B9)?;
+        assert!(rt; sample.report.totals.lost > 0 && sample.report.totals.groups > 0);
+        assert_random_cuttings(&rt, rt.alloc(), &sample)?;
+    }
+    Ok(())
+}
+
 /// The report by a work's own calls. A work can be lent to threads.
 fn by_work<W: Work + Sync>(alloc: Global, work: &W) -> Result<Report, PieceError>
-    requires { IsCutting (length (W.recording work.now)) (W.places work.now) }
+    requires { IsCutting (length_of (W.recording work.now)) (W.places work.now) }
 {
     let runs = guesses(alloc, work)?;
     work.report(alloc, runs.as_slice())

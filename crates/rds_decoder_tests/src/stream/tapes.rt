@@ -7,9 +7,9 @@ use std::test::Fail;
 fn counts_three(tape: &mut Counted<'_>) -> bool {
     tape.len() == 104
         && tape.reads() == 0
-        && tape.window(25) == 0x0FC
-        && tape.window(25) == 0x0FC
-        && tape.window(25) == 0x0FC
+        && tape.window(25) == Some(0x0FC)
+        && tape.window(25) == Some(0x0FC)
+        && tape.window(25) == Some(0x0FC)
         && tape.reads() == 3
 }
 

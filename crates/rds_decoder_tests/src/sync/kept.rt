@@ -1,7 +1,7 @@
 //! Items as they are kept, against plain lists of them.
 ghost use Rattle.std.specs.Prelude.{◌≡◌, ◌≤◌, length, IfOk};
 
-use crate::samples::recording_of;
+use crate::samples::{next_random, recording_of};
 use crate::sync::steps::by_steps;
 use rds_code::{Offset, encode_block};
 use rds_stream::Recording;
@@ -9,13 +9,6 @@ use rds_sync::{Item, ItemBuffer, Items, Rules, State, Totals, Version, run};
 use std::alloc::{AllocError, Global};
 use std::test::Fail;
 use std::thread;
-
-/// The next of a row of numbers that look random and are the same in each run.
-fn next_random(number: u64) -> u64 {
-    let number = number ^ (number << 13);
-    let number = number ^ (number >> 7);
-    number ^ (number << 17)
-}
 
 /// A number up to `most`, by a random one.
 fn up_to(most: usize, number: u64) -> usize

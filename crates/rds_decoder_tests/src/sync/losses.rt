@@ -1,5 +1,5 @@
-//! Locks and where they are lost, by both rules: known reports, lawful states, and random recordings against a plain program
-//! over whole locks.
+//! Locks and where they are lost, by both rules: known reports, lawful states, and random recordings against a plain
+//! program over whole locks.
 use crate::samples::{ONE_BAD, TWO_BAD, damaged_groups, recording_of, zero_bytes};
 use crate::sync::items::items_text;
 use rds_stream::Recording;
@@ -200,7 +200,7 @@ fn next_random(number: u64) -> u64 {
 }
 
 /// Zero groups of which about one byte in `rarity` is damaged, as the seed has it.
-fn random_recording(alloc: Global, seed: u64, rarity: u64) -> Result<Recording, Fail> {
+pub fn random_recording(alloc: Global, seed: u64, rarity: u64) -> Result<Recording, Fail> {
     let mut bytes = zero_bytes(alloc, 8_000)?;
     let mut number = seed;
     for byte in bytes.iter_mut() {

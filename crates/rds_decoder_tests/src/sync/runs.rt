@@ -1,9 +1,10 @@
 //! Runs over ranges of a recording, by stretches too.
 ghost use Rattle.std.specs.Prelude.{◌≤◌, length};
+ghost use Rattle.rds_stream.specs.Recording.{length_of};
 
 use crate::samples::{StateNumbers, default_rules, state_of, zero_groups};
 use crate::sync::items::items_text;
-use rds_stream::Recording;
+use rds_stream::{Reader, Recording};
 use rds_sync::{ItemBuffer, Items, Reached, Rules, State, SyncError, run, stretch};
 use std::alloc::Global;
 use std::process::Abort;
@@ -111,7 +112,7 @@ fn cut_run(
     rules: &Rules,
     cut: u64,
 ) -> Result<(State, Items), SyncError>
-    requires { cut ≤ length rec.now }
+    requires { cut ≤ length_of rec.now }
 {
     let (middle, mut items) = run(alloc, rec, rules, State::Searching, 0, cut)?;
     let (after, later) = run(alloc, rec, rules, middle, cut, rec.len())?;
@@ -157,7 +158,8 @@ fn stretched(
         return Ok(None);
     }
     let mut items = ItemBuffer::new(alloc);
-    let reached = stretch(rec, rules, state, place, rec.len(), &mut items)?;
+    let mut reader = Reader::new(rec);
+    let reached = stretch(&mut reader, rules, state, place, rec.len(), &mut items)?;
     let is_found = items_text(alloc, items.freeze()?.iter())?.as_str() == found;
     Ok(is_found.then_some(reached))
 }

@@ -1,10 +1,10 @@
 -- Where runs meet: the guess of a piece with the run from the state that is true there, and small ranges in full.
-use Rattle.std.specs.Prelude.{◌≡◌, ◌<◌, ◌==◌, ℕ, zero, suc, List, [], ◌∷◌, ◌++◌, None, Some, refl}
+use Rattle.std.specs.Prelude.{◌≡◌, ◌<◌, ◌==◌, ℕ, zero, suc, [], ◌∷◌, ◌++◌, None, Some, refl}
 use Rattle.std.proofs.Common.{ap, sym}
 use Rattle.std.proofs.Math.Nat.{le_of_suc-le-suc, not-suc-le-zero}
 use Rattle.std.proofs.lemmas.Bool.{false≢true, le-leb, leb-true}
 use Rattle.rds_code.specs.Remainder.{rem}
-use Rattle.rds_stream.specs.Recording.{bits_of, window, off}
+use Rattle.rds_stream.specs.Recording.{Signal, bits_of, ungapped, window, touched, heard, off}
 use Rattle.rds_sync.specs.declared.state.State.{State}
 use Rattle.rds_sync.specs.declared.state.State.TheVariants.{Searching, Locked}
 use Rattle.rds_sync.specs.Acquiring.{acquired, has_number}
@@ -20,44 +20,44 @@ number_due (Locked due number bad first) = number
 
 -- ---- three zero groups, cut at 190, where the true state waits for the block 4 that ends at 207
 
-abbrev pub bits : List ℕ
-bits = bits_of (zero_group ++ zero_group ++ zero_group) 312
+abbrev pub b : Signal
+b = ungapped (bits_of (zero_group ++ zero_group ++ zero_group) 312)
 
 abbrev pub cut_at_190 : RuleNumbers → ℕ → Type 0
-cut_at_190 rules = MeetAt bits rules (locked 207 4 0 1) Searching 190 312
+cut_at_190 rules = MeetAt b rules (locked 207 4 0 1) Searching 190 312
 
 -- the guess acquires at that block, and both wait for the next block 1
 pub behind_207 : cut_at_190 (rules_of 2 3 10) 208
-unfolding acquired has_number group rem window off
+unfolding acquired has_number group rem window touched heard off
 behind_207 = record { inside = (leb-true 190 208 refl, leb-true 208 312 refl); same = refl; between = refl }
 
 pub not_before : cut_at_190 (rules_of 2 3 10) 207 → ⊥
-unfolding acquired has_number group rem window off
+unfolding acquired has_number group rem window touched heard off
 not_before met = false≢true (sym (ap (λ state. number_due state == 4) met.same))
 
 -- one block later they are in one state too, but in a group
 pub not_in_a_group : cut_at_190 (rules_of 2 3 10) 234 → ⊥
-unfolding acquired has_number group rem window off
+unfolding acquired has_number group rem window touched heard off
 not_in_a_group met = false≢true (ap (λ number. number == 1) met.between)
 
 -- with reach 4 the guess locks at a false phase, and then they are never in one state
 pub not_in_the_phase : cut_at_190 (rules_of 2 4 10) 208 → ⊥
-unfolding acquired has_number group rem window off
+unfolding acquired has_number group rem window touched heard off
 not_in_the_phase met = false≢true (sym (ap (λ state. number_due state == 1) met.same))
 
 -- the end of the range counts, and no place past it
-pub at_the_end : MeetAt bits (rules_of 2 3 10) (locked 207 4 0 1) Searching 190 208 208
-unfolding acquired has_number group rem window off
+pub at_the_end : MeetAt b (rules_of 2 3 10) (locked 207 4 0 1) Searching 190 208 208
+unfolding acquired has_number group rem window touched heard off
 at_the_end = record { inside = (leb-true 190 208 refl, leb-true 208 208 refl); same = refl; between = refl }
 
-pub not_past_the_end : MeetAt bits (rules_of 2 3 10) (locked 207 4 0 1) Searching 190 207 208 → ⊥
+pub not_past_the_end : MeetAt b (rules_of 2 3 10) (locked 207 4 0 1) Searching 190 207 208 → ⊥
 not_past_the_end met = false≢true (le-leb 208 207 met.inside.1)
 
 -- ---- three bits without a window: a lock is lost at place 1 by the first bad block, and the run is a search from
 -- place 2 on
 
-abbrev pub three_bits : List ℕ
-three_bits = 0 ∷ 0 ∷ 0 ∷ []
+abbrev pub three_bits : Signal
+three_bits = ungapped (0 ∷ 0 ∷ 0 ∷ [])
 
 abbrev pub with_search : ℕ → ℕ → ℕ → Type 0
 with_search from to = MeetAt three_bits (rules_of 2 3 1) (locked 1 4 0 1) Searching from to

@@ -1,8 +1,8 @@
 -- Runs over ranges of one zero group, from states of their own.
-use Rattle.std.specs.Prelude.{◌≡◌, ℕ, List, [], ◌∷◌, refl, Some, None}
+use Rattle.std.specs.Prelude.{◌≡◌, [], ◌∷◌, refl, Some, None}
 use Rattle.rds_code.specs.Remainder.{rem}
 use Rattle.rds_code.specs.declared.offset.Offset.TheVariants.{A as OA, B as OB, C, D}
-use Rattle.rds_stream.specs.Recording.{bits_of, window, off}
+use Rattle.rds_stream.specs.Recording.{Signal, bits_of, ungapped, window, touched, heard, off}
 use Rattle.rds_sync.specs.declared.state.State.TheVariants.{Searching, Locked}
 use Rattle.rds_sync.specs.declared.loss.Bad.TheVariants.{Run as InARow}
 use Rattle.rds_sync.specs.declared.item.Version.TheVariants.{A, Unknown}
@@ -13,43 +13,43 @@ use Rattle.rds_sync.specs.Step.{run, items_of_end}
 use Rattle.rds_sync.specs.Examples.Words.{zero_group, default_rules, missing, valid, corrected, lost, group_at}
 use Rattle.rds_sync.specs.Examples.ZeroGroup.{items_of_whole}
 
-abbrev pub bits : List ℕ
-bits = bits_of zero_group 104
+abbrev pub b : Signal
+b = ungapped (bits_of zero_group 104)
 
-pub before_the_first_lock : run bits default_rules Searching 0 51 ≡ (Searching, [])
-unfolding acquired has_number group rem window off
+pub before_the_first_lock : run b default_rules Searching 0 51 ≡ (Searching, [])
+unfolding acquired has_number group rem window touched heard off
 before_the_first_lock = refl
 
-pub past_block_2 : run bits default_rules Searching 0 60 ≡ (Locked 77 3 (InARow 0) 2, Acquired 51 2 ∷ [])
-unfolding acquired has_number group rem window off
+pub past_block_2 : run b default_rules Searching 0 60 ≡ (Locked 77 3 (InARow 0) 2, Acquired 51 2 ∷ [])
+unfolding acquired has_number group rem window touched heard off
 past_block_2 = refl
 
-pub whole : run bits default_rules Searching 0 104 ≡ (Locked 129 1 (InARow 0) 1, items_of_whole)
-unfolding acquired has_number group rem window off
+pub whole : run b default_rules Searching 0 104 ≡ (Locked 129 1 (InARow 0) 1, items_of_whole)
+unfolding acquired has_number group rem window touched heard off
 whole = refl
 
 -- a tenth bad block at place 30 loses the lock, and the search after it acquires at place 51
-pub lost_and_found : run bits default_rules (Locked 30 1 (InARow 9) 1) 20 84 ≡ (
+pub lost_and_found : run b default_rules (Locked 30 1 (InARow 9) 1) 20 84 ≡ (
   Locked 129 1 (InARow 0) 1,
   group_at 5 None Unknown lost missing missing missing ∷ LostLock 30 ∷ items_of_whole,
 )
-unfolding acquired has_number group rem window off
+unfolding acquired has_number group rem window touched heard off
 lost_and_found = refl
 
 -- from place 60 on, the windows before it still serve as partners
-pub past_block_3 : run bits default_rules Searching 60 18 ≡ (Locked 103 4 (InARow 0) 3, Acquired 77 3 ∷ [])
-unfolding acquired has_number group rem window off
+pub past_block_3 : run b default_rules Searching 60 18 ≡ (Locked 103 4 (InARow 0) 3, Acquired 77 3 ∷ [])
+unfolding acquired has_number group rem window touched heard off
 past_block_3 = refl
 
-pub from_block_3 : run bits default_rules Searching 60 44 ≡ (
+pub from_block_3 : run b default_rules Searching 60 44 ≡ (
   Locked 129 1 (InARow 0) 1,
   Acquired 77 3 ∷ group_at 52 None A missing missing (valid C 0) (valid D 0) ∷ [],
 )
-unfolding acquired has_number group rem window off
+unfolding acquired has_number group rem window touched heard off
 from_block_3 = refl
 
 -- at the bit of a loss nothing is acquired, though place 51 would be: the next place that acquires is 77
-pub nothing_acquired_at_a_loss : run bits default_rules (Locked 51 1 (InARow 9) 1) 30 74 ≡ (
+pub nothing_acquired_at_a_loss : run b default_rules (Locked 51 1 (InARow 9) 1) 30 74 ≡ (
   Locked 129 1 (InARow 0) 1,
   group_at 26 None Unknown (corrected OA 0x0300 0x00c0000) missing missing missing
       ∷ LostLock 51
@@ -57,10 +57,10 @@ pub nothing_acquired_at_a_loss : run bits default_rules (Locked 51 1 (InARow 9) 
       ∷ group_at 52 None A missing missing (valid C 0) (valid D 0)
       ∷ [],
 )
-unfolding acquired has_number group rem window off
+unfolding acquired has_number group rem window touched heard off
 nothing_acquired_at_a_loss = refl
 
 -- the end of the recording closes the group in progress
-pub closed_by_the_end : items_of_end bits default_rules (Locked 103 4 (InARow 0) 2) ≡ group_at 26 (Some 0) A missing (valid OB 0) (valid C 0) missing ∷ []
-unfolding acquired has_number group rem window off
+pub closed_by_the_end : items_of_end b default_rules (Locked 103 4 (InARow 0) 2) ≡ group_at 26 (Some 0) A missing (valid OB 0) (valid C 0) missing ∷ []
+unfolding acquired has_number group rem window touched heard off
 closed_by_the_end = refl

@@ -6,38 +6,38 @@ use Rattle.std.proofs.lemmas.Bool.{eqb-true, false≢true, cases_lt}
 use Rattle.std.proofs.lemmas.List.FromFn.{get_or-range_with_len, length-range_with_len}
 use Rattle.std.proofs.lemmas.List.Sums.{AllPass-from_list_all}
 use Rattle.rds_code.specs.Remainder.{rem}
-use Rattle.rds_stream.specs.Recording.{bits_of, window, off}
+use Rattle.rds_stream.specs.Recording.{Signal, bits_of, ungapped, window, touched, heard, off}
 use Rattle.rds_sync.specs.Rules.{RuleNumbers}
 use Rattle.rds_sync.specs.Acquiring.{acquired, has_number, number_after}
 use Rattle.rds_sync.specs.Convergence.{IsSound, IsRival, AreRivals}
 use Rattle.rds_sync.specs.Examples.Words.{rules_of}
 use Rattle.rds_sync.specs.Examples.EightZeroGroups.{bytes}
 
-abbrev pub bits : List ℕ
-bits = bits_of bytes 832
+abbrev pub b : Signal
+b = ungapped (bits_of bytes 832)
 
 abbrev pub rules : RuleNumbers
 rules = rules_of 2 3 1
 
 -- the windows that are valid by chance: three at place 19 modulo 26, two at place 18
-pub valid_by_chance : filter (λ r. is_some (off bits r) && not (r % 26 == 25)) (range_with_len 104 260)
+pub valid_by_chance : filter (λ r. is_some (off b r) && not (r % 26 == 25)) (range_with_len 104 260)
     ≡ 123 ∷ 200 ∷ 227 ∷ 304 ∷ 331 ∷ []
-unfolding rem window off
+unfolding rem window touched heard off
 valid_by_chance = refl
 
 -- what holds at each place of the range, as a test
 unfoldable is_as_told : ℕ → Bool
-is_as_told r = (r % 26 == 25) || (not (is_some (acquired bits rules r)) && (not (is_some (off bits r)) || (r % 104 == 19) || (r % 104 == 96)))
+is_as_told r = (r % 26 == 25) || (not (is_some (acquired b rules r)) && (not (is_some (off b r)) || (r % 104 == 19) || (r % 104 == 96)))
 
 all_as_told : list_all is_as_told (range_with_len 104 260) ≡ true
-unfolding is_as_told acquired has_number rem window off
+unfolding is_as_told acquired has_number rem window touched heard off
 all_as_told = refl
 
 unfoldable is_block : ℕ → Bool
-is_block k = has_number bits (129 + 26 * k) (number_after 1 k)
+is_block k = has_number b (129 + 26 * k) (number_after 1 k)
 
 all_blocks : list_all is_block (range_with_len 0 10) ≡ true
-unfolding is_block has_number rem window off
+unfolding is_block has_number rem window touched heard off
 all_blocks = refl
 
 -- what all places of a range pass, each does
@@ -47,7 +47,7 @@ each test from n all i within =
     subst (λ (r : ℕ). test r ≡ true) (get_or-range_with_len from n i 0 within)
     (AllPass-from_list_all test (range_with_len from n) all i 0 (omega (arith, long, within)))
 
-block : (k : ℕ) → 129 + 26 * k < 364 → has_number bits (129 + 26 * k) (number_after 1 k) ≡ true
+block : (k : ℕ) → 129 + 26 * k < 364 → has_number b (129 + 26 * k) (number_after 1 k) ≡ true
 unfolding is_block
 block k within =
     let same : 0 + k ≡ k = omega arith in
@@ -67,15 +67,15 @@ told false true true false true e off_it = (refl, λ _. inr refl)
 told false true true false false e off_it = absurd (false≢true e)
 
 -- a rival does not acquire, and is at one of two places modulo 104
-pub rival : (r : ℕ) → IsRival bits 104 364 129 r → (acquired bits rules r ≡ None) × ((r % 104 ≡ 19) ⊎ (r % 104 ≡ 96))
+pub rival : (r : ℕ) → IsRival b 104 364 129 r → (acquired b rules r ≡ None) × ((r % 104 ≡ 19) ⊎ (r % 104 ≡ 96))
 unfolding is_as_told
 rival r is =
     let inside = is.inside in
     let place : 104 + (r - 104) ≡ r = omega (arith, inside) in
     let said : is_as_told r ≡ true = subst (λ (q : ℕ). is_as_told q ≡ true) place (each is_as_told 104 260 all_as_told (r - 104) (omega (arith, inside))) in
     let other : (r % 26 == 25) ≢ true = λ e. is.elsewhere ((r - 129) / 26) (omega (arith, inside, eqb-true (r % 26) 25 e)) in
-    let both = told (r % 26 == 25) (not (is_some (acquired bits rules r))) (is_some (off bits r)) (r % 104 == 19) (r % 104 == 96) said other in (
-      none_of (acquired bits rules r) both.0,
+    let both = told (r % 26 == 25) (not (is_some (acquired b rules r))) (is_some (off b r)) (r % 104 == 19) (r % 104 == 96) said other in (
+      none_of (acquired b rules r) both.0,
       elim (both.1 is.valid) [
         | inl one ↦ inl (eqb-true (r % 104) 19 one)
         | inr two ↦ inr (eqb-true (r % 104) 96 two)
@@ -83,7 +83,7 @@ rival r is =
     )
 
 -- so rivals with one place modulo 26 are 104 places apart
-few : (phase : ℕ) (rivals : List ℕ) → AreRivals bits 104 364 129 phase rivals → length rivals ≤ 3
+few : (phase : ℕ) (rivals : List ℕ) → AreRivals b 104 364 129 phase rivals → length rivals ≤ 3
 few phase rivals are = elim (cases_lt 3 (length rivals)) [
   | inl many ↦
       let at = λ (k : ℕ) (within : k < length rivals). are.1 k 0 within in
@@ -102,9 +102,9 @@ few phase rivals are = elim (cases_lt 3 (length rivals)) [
   | inr small ↦ small
 ]
 
-pub is_sound : IsSound bits rules 3 104 129 1
+pub is_sound : IsSound b rules 3 104 129 1
 is_sound =
-    let long : length bits ≡ 832 = refl in
+    let long : length b.bits ≡ 832 = refl in
     record {
       inside = omega (arith, long);
       number = (omega arith, omega arith);

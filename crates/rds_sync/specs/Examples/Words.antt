@@ -2,7 +2,7 @@
 use Rattle.std.specs.Prelude.{◌≡◌, ℕ, List, [], ◌∷◌, Option, false}
 use Rattle.rds_code.specs.declared.offset.Offset.{Offset}
 use Rattle.rds_code.specs.declared.reading.Reading.TheVariants.{Valid, Corrected, Lost}
-use Rattle.rds_stream.specs.Recording.{bits_of}
+use Rattle.rds_stream.specs.Recording.{Signal, bits_of, ungapped}
 use Rattle.rds_sync.specs.Rules.{RuleNumbers}
 use Rattle.rds_sync.specs.declared.loss.Loss.TheVariants.{Run, Share}
 use Rattle.rds_sync.specs.declared.loss.Bad.TheVariants.{Run as InARow}
@@ -71,6 +71,10 @@ totals valid burst1 burst2 burst3 burst4 burst5 lost bits groups complete acquir
   losses = losses;
 }
 
--- the first bits of these bytes have a report of these items and totals
+-- a recording has a report of these items and totals
+abbrev pub IsReported : Signal → RuleNumbers → List Item → Totals → Type 0
+IsReported b rules items twelve = (report_items b rules ≡ items) × (totals_of items ≡ twelve)
+
+-- the first bits of these bytes have it
 abbrev pub HasReport : List ℕ → ℕ → RuleNumbers → List Item → Totals → Type 0
-HasReport bytes bits rules items twelve = (report_items (bits_of bytes bits) rules ≡ items) × (totals_of items ≡ twelve)
+HasReport bytes bits rules items twelve = IsReported (ungapped (bits_of bytes bits)) rules items twelve

@@ -1,9 +1,10 @@
 -- Words of command lines: the command, the text of each option's entry, and what `clap` finds wrong with them.
 use Rattle.std.specs.Prelude.{◌≡◌, List, None, Option, Some, [], ◌∷◌, codes, map, refl}
+use Rattle.std.specs.Option.{option_map}
 use Rattle.clap.specs.Takes.{flags_pass, walk_passes}
 use Rattle.clap.specs.Faults.{defaults_fault, flags_fault, walk_fault}
 use Rattle.clap.specs.Walk.{bundle_met, walked}
-use Rattle.clap.specs.Words.{Row, Text, one_of}
+use Rattle.clap.specs.Words.{Row, Text, first_of, one_of}
 use Rattle.clap.specs.declared.error.kind.ErrorKind.TheVariants as kind
 use Rattle.rds_tool.specs.CommandLine.{entries_of, faults_of}
 
@@ -54,6 +55,13 @@ pub totals : asked_by each_option
 unfolding walked
 totals = refl
 
+-- gaps are taken as they are written
+pub gaps : option_map (λ entries. first_of (codes "gaps") entries.1)
+    (entries_of (codes "rds" ∷ codes "list" ∷ codes "--gaps" ∷ codes "5" ∷ []))
+    ≡ Some (Some (codes "5"))
+unfolding walked
+gaps = refl
+
 pub encode : asked_by (codes "rds" ∷ codes "encode" ∷ codes "--hex" ∷ [])
     ≡ Some (codes "encode", Some (codes "true") ∷ None ∷ None ∷ None ∷ None ∷ None ∷ None ∷ [])
 unfolding walked
@@ -69,6 +77,15 @@ pub help : faults_of (codes "rds" ∷ codes "list" ∷ codes "--help" ∷ []) �
 unfolding walked bundle_met flags_pass walk_passes flags_fault walk_fault defaults_fault
 help = refl
 
+pub version : faults_of (codes "rds" ∷ codes "--version" ∷ []) ≡ kind.DisplayVersion ∷ []
+unfolding walked bundle_met flags_pass walk_passes flags_fault walk_fault defaults_fault
+version = refl
+
+-- a command has no version of its own
+pub no_version : faults_of (codes "rds" ∷ codes "scan" ∷ codes "--version" ∷ []) ≡ kind.UnknownArgument ∷ []
+unfolding walked bundle_met flags_pass walk_passes flags_fault walk_fault defaults_fault
+no_version = refl
+
 pub no_command : faults_of (codes "rds" ∷ []) ≡ kind.MissingSubcommand ∷ []
 unfolding walked bundle_met flags_pass walk_passes flags_fault walk_fault defaults_fault
 no_command = refl
@@ -77,6 +94,14 @@ pub no_such_option : faults_of (codes "rds" ∷ codes "scan" ∷ codes "--burst"
     ≡ kind.UnknownArgument ∷ []
 unfolding walked bundle_met flags_pass walk_passes flags_fault walk_fault defaults_fault
 no_such_option = refl
+
+pub any_gaps : faults_of (codes "rds" ∷ codes "scan" ∷ codes "--gaps=" ∷ []) ≡ []
+unfolding walked bundle_met flags_pass walk_passes flags_fault walk_fault defaults_fault
+any_gaps = refl
+
+pub no_gaps_to_encode : faults_of (codes "rds" ∷ codes "encode" ∷ codes "--gaps=1-2" ∷ []) ≡ kind.UnknownArgument ∷ []
+unfolding walked bundle_met flags_pass walk_passes flags_fault walk_fault defaults_fault
+no_gaps_to_encode = refl
 
 -- 2^40 bits are taken, and one more is not; 2^32 is past every other number
 pub most_bits : faults_of (codes "rds" ∷ codes "scan" ∷ codes "--bits" ∷ codes "1099511627776" ∷ []) ≡ []

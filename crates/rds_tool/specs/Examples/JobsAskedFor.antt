@@ -1,5 +1,5 @@
 -- The job that words ask for, and what may be answered where they ask for help, have a fault, or ask for a job.
-use Rattle.std.specs.Prelude.{Bool, List, None, Option, Some, [], ◌∷◌, codes, false, is_some, length, nat_eq, refl, true}
+use Rattle.std.specs.Prelude.{◌≡◌, Bool, List, None, Option, Some, [], ◌∷◌, codes, false, is_some, length, nat_eq, refl, slice_index, true}
 use Rattle.std.proofs.Common.{ap, inl, inr, sym}
 use Rattle.std.proofs.lemmas.Bool.{false≢true, leb-true}
 use Rattle.clap.specs.Takes.{flags_pass, walk_passes}
@@ -8,10 +8,10 @@ use Rattle.clap.specs.Walk.{bundle_met, walked}
 use Rattle.clap.specs.Words.{Text}
 use Rattle.clap.specs.declared.error.kind.ErrorKind.{ErrorKind}
 use Rattle.clap.specs.declared.error.kind.ErrorKind.TheVariants as kind
-use Rattle.rds_tool.specs.CommandLine.{IsFlag, IsJobOf, MayAnswer, Spells, entries_of, faults_of}
-use Rattle.rds_tool.specs.declared.cli.FaultKind.TheVariants.{Help, Memory, Words}
+use Rattle.rds_tool.specs.CommandLine.{HasBadGaps, IsFlag, IsJobOf, MayAnswer, Spells, entries_of, faults_of}
+use Rattle.rds_tool.specs.declared.cli.FaultKind.TheVariants.{Help, Memory, Version, Words}
 use Rattle.rds_tool.specs.declared.job.Job.{Job}
-use Rattle.rds_tool.specs.declared.job.Job.TheVariants.{Encode, Scan, Totals}
+use Rattle.rds_tool.specs.declared.job.Job.TheVariants.{Encode, List as ListJob, Scan, Totals}
 use Rattle.rds_tool.specs.Examples.CommandLines.{each_option}
 use Rattle.rds_tool.specs.Examples.Words.{hex_bits, raw_input, settings_of}
 
@@ -47,7 +47,7 @@ pub totals : IsJobOf (entries_of each_option) totals_job
 unfolding walked
 totals = (
   refl,
-  (record { hex = flag; bits = zero_bits }),
+  (record { hex = flag; bits = zero_bits; gaps = refl }),
   (record {
     burst = ((leb-true 1 1 refl, (leb-true 2 10 refl, tt)), leb-true 2 4294967296 refl, refl);
     reach = ((leb-true 1 1 refl, (leb-true 5 10 refl, tt)), leb-true 5 4294967296 refl, refl);
@@ -59,17 +59,58 @@ totals = (
 
 pub scan : IsJobOf (entries_of (codes "rds" ∷ codes "scan" ∷ [])) (Scan raw_input)
 unfolding walked
-scan = (refl, record { hex = no_flag; bits = refl })
+scan = (refl, record { hex = no_flag; bits = refl; gaps = refl })
+
+pub scan_with_gaps : IsJobOf (entries_of (codes "rds" ∷ codes "scan" ∷ codes "--gaps" ∷ codes "104-105,120-130" ∷ []))
+    (Scan (record raw_input { gaps = (104, 105) ∷ (120, 130) ∷ [] }))
+unfolding walked
+scan_with_gaps = (refl, record { hex = no_flag; bits = refl; gaps = refl })
 
 pub encode : IsJobOf (entries_of (codes "rds" ∷ codes "encode" ∷ codes "--hex" ∷ [])) (Encode true)
 unfolding walked
 encode = (refl, flag)
+
+-- ---- gaps that are none
+
+abbrev pub begins_with_e : Text → Bool
+begins_with_e text = nat_eq (slice_index text 0) 101
+
+abbrev pub for_bad_gaps : List Text
+for_bad_gaps = codes "rds" ∷ codes "scan" ∷ codes "--gaps" ∷ codes "5" ∷ []
+
+pub bad_gaps : HasBadGaps (entries_of for_bad_gaps)
+unfolding walked
+bad_gaps = (inl refl, refl)
+
+pub empty_gaps : HasBadGaps (entries_of (codes "rds" ∷ codes "scan" ∷ codes "--gaps=" ∷ []))
+unfolding walked
+empty_gaps = (inl refl, refl)
+
+-- such words ask for no job, though they have no other fault
+pub no_fault_of_gaps : faults_of for_bad_gaps ≡ []
+unfolding walked bundle_met flags_pass walk_passes flags_fault walk_fault defaults_fault
+no_fault_of_gaps = refl
+
+pub no_job_of_bad_gaps : (job : Job) → IsJobOf (entries_of for_bad_gaps) job → ⊥
+unfolding walked
+no_job_of_bad_gaps (Scan input) (name, is) = false≢true (ap is_some is.gaps)
+no_job_of_bad_gaps (ListJob input settings) (name, is, by) = false≢true (ap is_some is.gaps)
+no_job_of_bad_gaps (Totals input settings) (name, is, by) = false≢true (ap is_some is.gaps)
+no_job_of_bad_gaps (Encode hex) (name, is) = false≢true (ap begins_with_e name)
 
 -- ---- answers that are no job
 
 abbrev pub is_help : ErrorKind → Bool
 is_help kind.DisplayHelp = true
 is_help other = false
+
+abbrev pub is_version : ErrorKind → Bool
+is_version kind.DisplayVersion = true
+is_version other = false
+
+abbrev pub is_memory : ErrorKind → Bool
+is_memory kind.OutOfMemory = true
+is_memory other = false
 
 abbrev pub is_empty : List ErrorKind → Bool
 is_empty [] = true
@@ -85,16 +126,48 @@ help = inl refl
 -- help is no fault of the words
 pub no_fault_of_help : MayAnswer (faults_of for_help) None Words → ⊥
 unfolding walked bundle_met flags_pass walk_passes flags_fault walk_fault defaults_fault
-no_fault_of_help (inl (k, no_help, inl is)) = no_help is
-no_fault_of_help (inl (k, no_help, inr other)) = other
+no_fault_of_help (inl (k, is_fault, inl is)) = is_fault.0 is
+no_fault_of_help (inl (k, is_fault, inr other)) = other
 no_fault_of_help (inr (no_faults, without)) = false≢true (ap is_empty no_faults)
+
+abbrev pub for_version : List Text
+for_version = codes "rds" ∷ codes "--version" ∷ []
+
+pub version : MayAnswer (faults_of for_version) (entries_of for_version) Version
+unfolding walked bundle_met flags_pass walk_passes flags_fault walk_fault defaults_fault
+version = inl refl
+
+-- nor is the version, and neither is the other
+pub no_fault_of_version : MayAnswer (faults_of for_version) None Words → ⊥
+unfolding walked bundle_met flags_pass walk_passes flags_fault walk_fault defaults_fault
+no_fault_of_version (inl (k, is_fault, inl is)) = is_fault.1 is
+no_fault_of_version (inl (k, is_fault, inr other)) = other
+no_fault_of_version (inr (no_faults, without)) = false≢true (ap is_empty no_faults)
+
+pub no_help_by_version : MayAnswer (faults_of for_version) None Help → ⊥
+unfolding walked bundle_met flags_pass walk_passes flags_fault walk_fault defaults_fault
+no_help_by_version (inl is) = false≢true (sym (ap is_help is))
+no_help_by_version (inr other) = other
+
+pub no_version_by_help : MayAnswer (faults_of for_help) None Version → ⊥
+unfolding walked bundle_met flags_pass walk_passes flags_fault walk_fault defaults_fault
+no_version_by_help (inl is) = false≢true (sym (ap is_version is))
+no_version_by_help (inr other) = other
 
 abbrev pub no_command : List Text
 no_command = codes "rds" ∷ []
 
 pub fault : MayAnswer (faults_of no_command) (entries_of no_command) Words
 unfolding walked bundle_met flags_pass walk_passes flags_fault walk_fault defaults_fault
-fault = inl (kind.MissingSubcommand, (λ is. false≢true (ap is_help is)), inl refl)
+fault = inl (
+  kind.MissingSubcommand,
+  (
+    (λ is. false≢true (ap is_help is)),
+    (λ is. false≢true (ap is_version is)),
+    (λ is. false≢true (ap is_memory is)),
+  ),
+  inl refl,
+)
 
 pub no_help : MayAnswer (faults_of no_command) (entries_of no_command) Help → ⊥
 unfolding walked bundle_met flags_pass walk_passes flags_fault walk_fault defaults_fault
@@ -111,7 +184,7 @@ unfolding walked bundle_met flags_pass walk_passes flags_fault walk_fault defaul
 not_help among = among
 
 pub not_words : MayAnswer [] (entries_of each_option) Words → ⊥
-not_words (inl (k, other, among)) = among
+not_words (inl (k, is_fault, among)) = among
 not_words (inr (none, without)) = without totals_job totals
 
 pub memory : MayAnswer [] None Memory

@@ -5,7 +5,7 @@ use Rattle.hex.specs.Hex.{decode_pairs}
 use Rattle.rds_tool.specs.Outcome.{outcome}
 use Rattle.rds_tool.specs.Refusals.{name_of, number_of}
 use Rattle.rds_tool.specs.declared.error.ToolError.{ToolError}
-use Rattle.rds_tool.specs.declared.error.ToolError.TheVariants.{BadCutting, BitsPastBytes, BurstRange, CrewRange, GroupText, HexText, LossRange, NoWorker, OutOfMemory, ReachRange, Read, TooLong, TooManyTurns, Write}
+use Rattle.rds_tool.specs.declared.error.ToolError.TheVariants.{BadCutting, BadGaps, BitsPastBytes, BurstRange, CrewRange, GroupText, HexText, LossRange, NoWorker, OutOfMemory, ReachRange, Read, ShareRange, TooLong, TooManyTurns, Write}
 use Rattle.rds_tool.specs.declared.job.Cuts.TheVariants.{At}
 use Rattle.rds_tool.specs.declared.job.Job.TheVariants.{Encode, List as ListJob, Scan, Totals}
 use Rattle.rds_tool.specs.Examples.Words.{cut_settings, default_settings, hex_bits, hex_input, raw_bits, settings_of}
@@ -41,19 +41,29 @@ bits_of_a_scan = refl
 pub line_of_an_encoding : outcome (Encode false) (codes "123425405244532") ≡ Err GroupText
 line_of_an_encoding = refl
 
+-- gaps are looked at after the bits and before the cuts
+pub gaps_of_a_scan : outcome (Scan (record (raw_bits 8) { gaps = (5, 5) ∷ [] })) (codes "1") ≡ Err BadGaps
+gaps_of_a_scan = refl
+
+pub bits_before_gaps : outcome (Scan (record (raw_bits 9) { gaps = (5, 5) ∷ [] })) (codes "1") ≡ Err BitsPastBytes
+bits_before_gaps = refl
+
 -- places are looked at once the bits are known
 module _ (places : Vec ℕ) where
   pub bits_before_places : outcome (ListJob (raw_bits 9) (cut_settings 1 (At places))) (codes "1") ≡ Err BitsPastBytes
   bits_before_places = refl
+
+  pub gaps_before_places : outcome (ListJob (record (raw_bits 8) { gaps = (5, 5) ∷ [] }) (cut_settings 1 (At places))) (codes "1") ≡ Err BadGaps
+  gaps_before_places = refl
 
 -- ---- numbers and names
 
 abbrev pub all : List ToolError
 all = BurstRange ∷ ReachRange ∷ LossRange ∷ BitsPastBytes ∷ TooLong ∷ BadCutting ∷ CrewRange ∷ OutOfMemory ∷ Read
     ∷ Write ∷ HexText ∷ GroupText
-    ∷ TooManyTurns ∷ NoWorker ∷ []
+    ∷ TooManyTurns ∷ NoWorker ∷ ShareRange ∷ BadGaps ∷ []
 
-pub numbers : map number_of all ≡ 1 ∷ 2 ∷ 3 ∷ 4 ∷ 5 ∷ 6 ∷ 7 ∷ 8 ∷ 9 ∷ 10 ∷ 11 ∷ 12 ∷ 13 ∷ 14 ∷ []
+pub numbers : map number_of all ≡ 1 ∷ 2 ∷ 3 ∷ 4 ∷ 5 ∷ 6 ∷ 7 ∷ 8 ∷ 9 ∷ 10 ∷ 11 ∷ 12 ∷ 13 ∷ 14 ∷ 15 ∷ 16 ∷ []
 numbers = refl
 
 pub names : map name_of all
@@ -61,5 +71,5 @@ pub names : map name_of all
     ∷ codes "BadCutting"
     ∷ codes "CrewRange" ∷ codes "OutOfMemory" ∷ codes "Read" ∷ codes "Write" ∷ codes "HexText" ∷ codes "GroupText"
     ∷ codes "TooManyTurns"
-    ∷ codes "NoWorker" ∷ []
+    ∷ codes "NoWorker" ∷ codes "ShareRange" ∷ codes "BadGaps" ∷ []
 names = refl

@@ -12,17 +12,17 @@ line text = text ++ 10 ∷ []
 
 -- hexadecimal text, and bytes as they are, both with all their bits
 abbrev pub hex_input : Input
-hex_input = record { hex = true; bits = None }
+hex_input = record { hex = true; bits = None; gaps = [] }
 
 abbrev pub raw_input : Input
-raw_input = record { hex = false; bits = None }
+raw_input = record { hex = false; bits = None; gaps = [] }
 
 -- so many bits of hexadecimal text, and of bytes as they are
 abbrev pub hex_bits : ℕ → Input
-hex_bits bits = record { hex = true; bits = Some bits }
+hex_bits bits = record { hex = true; bits = Some bits; gaps = [] }
 
 abbrev pub raw_bits : ℕ → Input
-raw_bits bits = record { hex = false; bits = Some bits }
+raw_bits bits = record { hex = false; bits = Some bits; gaps = [] }
 
 -- the rules, the workers and the most pieces
 abbrev pub settings_of : ℕ → ℕ → ℕ → ℕ → ℕ → Settings

@@ -3,7 +3,7 @@ use Rattle.std.proofs.lemmas.Bool.{cases_eq}
 use Rattle.std.proofs.lemmas.List.{get_or-set_same, get_or-set_other}
 use Rattle.rds_code.specs.Remainder.{rem}
 use Rattle.rds_code.specs.Bursts.{IsBurst}
-use Rattle.rds_code.specs.BurstTable.{HasBurst}
+use Rattle.rds_code.specs.Inside.BurstTable.{HasBurst}
 use Rattle.rds_code.proofs.BurstLemmas.{burst_is_one}
 use Rattle.rds_code.proofs.RemainderLemmas.{rem-lt}
 use Rattle.rds_code.proofs.table.enter.Goals as goal

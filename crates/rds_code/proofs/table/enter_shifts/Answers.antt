@@ -2,7 +2,7 @@ use Rattle.std.proofs.Common.{◌≡◌, ℕ, ◌+◌, ◌*◌, ◌%◌, ◌^◌
 use Rattle.std.proofs.Math.Nat.{mul-le-mul_right}
 use borrow.Author.Count.{below_more}
 use Rattle.rds_code.specs.Bursts.{IsBurst}
-use Rattle.rds_code.specs.BurstTable.{IsSound, HasBurst}
+use Rattle.rds_code.specs.Inside.BurstTable.{IsSound, HasBurst}
 use Rattle.rds_code.proofs.BurstLemmas.{pattern_is_burst}
 use Rattle.rds_code.proofs.table.enter_shifts.Goals as goal
 use Rattle.rds_code.proofs.table.enter_shifts.Goals.{then-burst, else-burst}

@@ -1,7 +1,7 @@
 use Rattle.std.proofs.Common.{All, rules, subst}
 use Rattle.std.specs.Vec.Iter.{into_iter_items}
 use Rattle.std.proofs.lemmas.List.Elements.{All-head, All-rest, All-push, All-same}
-use Rattle.rds_crew.specs.Drawn.{IsDrawn, IsWorkerOf}
+use Rattle.rds_crew.specs.Inside.Drawn.{IsDrawn, IsWorkerOf}
 use Rattle.rds_crew.proofs.Gathered.{of_promise}
 use Rattle.rds_crew.proofs.team.gather.Goals as goal
 

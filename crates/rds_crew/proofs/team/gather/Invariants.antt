@@ -1,6 +1,6 @@
 use Rattle.std.proofs.Common.{◌≡◌, ◌+◌, ◌≤◌, All, length, false, vec_len, vec_items, vec_capacity}
 use Rattle.std.specs.Vec.Iter.{into_iter_items, into_iter_len}
-use Rattle.rds_crew.specs.Drawn.{IsDrawn, IsWorkerOf}
+use Rattle.rds_crew.specs.Inside.Drawn.{IsDrawn, IsWorkerOf}
 use Rattle.rds_crew.proofs.team.gather.Given as goal
 
 abbrev pub invariant-loop-thread : goal.invariant-loop-thread

@@ -3,7 +3,7 @@ use Rattle.std.specs.Vec.Iter.{into_iter_items}
 use Rattle.std.proofs.lemmas.List.Elements.{All-head, All-rest, All-push, All-same}
 use Rattle.rds_pieces.specs.RunOf.{RunOf}
 use Rattle.rds_crew.specs.Seats.{IsOf, HasRested}
-use Rattle.rds_crew.specs.Drawn.{IsDrawn}
+use Rattle.rds_crew.specs.Inside.Drawn.{IsDrawn}
 use Rattle.rds_crew.proofs.Gathered.{drawn_within, gathered_more, all_full, all_in_order}
 use Rattle.rds_crew.proofs.team.in_order.Goals as goal
 

@@ -1,7 +1,7 @@
 use Rattle.std.proofs.Common.{◌≡◌, ◌+◌, ◌≤◌, All, vec_len, vec_capacity}
 use Rattle.std.specs.Vec.Iter.{into_iter_items, into_iter_len}
 use Rattle.rds_crew.specs.Seats.{IsOf, HasRested}
-use Rattle.rds_crew.specs.Drawn.{IsDrawn}
+use Rattle.rds_crew.specs.Inside.Drawn.{IsDrawn}
 use Rattle.rds_crew.proofs.Gathered.{IsGathered}
 use Rattle.rds_crew.proofs.team.in_order.Given as goal
 

@@ -2,7 +2,7 @@ use Rattle.std.proofs.Common.{◌≡◌, ap, ◌∙◌, rules}
 use Rattle.std.proofs.lemmas.List.Elements.{All-rest, All-push, All-same}
 use Rattle.rds_crew.specs.declared.drawing.DrawPromise.{DrawPromise}
 use Rattle.rds_crew.specs.Seats.{IsFresh}
-use Rattle.rds_crew.specs.Drawn.{IsWorkerOf}
+use Rattle.rds_crew.specs.Inside.Drawn.{IsWorkerOf}
 use Rattle.rds_crew.proofs.team.start_workers.Goals as goal
 
 pub loop-seat-preserved : goal.loop-seat-preserved

@@ -1,7 +1,7 @@
 use Rattle.std.proofs.Common.{◌≡◌, ◌+◌, ◌≤◌, All, length, vec_len, vec_items, vec_capacity}
 use Rattle.std.specs.Vec.Iter.{into_iter_items, into_iter_len}
 use Rattle.rds_crew.specs.Seats.{IsFresh}
-use Rattle.rds_crew.specs.Drawn.{IsWorkerOf}
+use Rattle.rds_crew.specs.Inside.Drawn.{IsWorkerOf}
 use Rattle.rds_crew.proofs.team.start_workers.Given as goal
 
 abbrev pub invariant-loop-seat : goal.invariant-loop-seat

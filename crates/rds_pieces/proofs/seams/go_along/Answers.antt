@@ -1,12 +1,13 @@
 use Rattle.std.proofs.Common.{◌≡◌, ◌≢◌, ℕ, List, ◌++◌, [], ◌+◌, ◌-◌, ◌≤◌, length, get_or, drop, sym, ap, ◌∙◌, subst, arith, refl}
+use Rattle.rds_stream.specs.Recording.{Signal, length_of}
 use Rattle.rds_sync.specs.Rules.{RuleNumbers}
 use Rattle.rds_sync.specs.Lawful.{IsLawful, IsBetweenGroups}
 use Rattle.rds_sync.specs.Advance.{reads_most}
 use Rattle.rds_sync.specs.Step.{run}
 use Rattle.rds_pieces.specs.declared.mark.Mark.{Mark}
-use Rattle.rds_pieces.specs.Advance.{IsStepTo}
-use Rattle.rds_pieces.specs.MarksOn.{marks_on}
-use Rattle.rds_pieces.specs.Walk.{next_place}
+use Rattle.rds_pieces.specs.Inside.Advance.{IsStepTo}
+use Rattle.rds_pieces.specs.Inside.MarksOn.{marks_on}
+use Rattle.rds_pieces.specs.Inside.Walk.{next_place}
 use Rattle.rds_pieces.proofs.BesideLemmas.{beside_start, beside_near, beside_next, place_after}
 use Rattle.rds_pieces.proofs.MarkLaws.{marks_on-more, last_index}
 use Rattle.rds_pieces.proofs.ReadsLemmas.{paid_room, paid_most, paid_start, paid_on, paid_step, paid_all}
@@ -40,7 +41,7 @@ advance_marked-requires-clause-inside g c =
     let high = limit_inside r.source r.rules r.from r.to c.run_laws.ensures c.range-from.ensures.rules.some_loss c.args.state c.along.place beside.index c.along.limit c.along.state beside.carried
     (place_after r.source r.rules r.from r.to c.args.state c.along.place c.along.state c.along.mark c.along.ahead c.along.limit beside) in
     let all = c.range-from.ensures.inside.1 in
-    let bits = ap (λ (b : List ℕ). length b) c.along.invariant.same in
+    let bits = ap (λ (b : Signal). length_of b) c.along.invariant.same in
     omega (arith, high, all, bits)
 
 pub along-init : goal.along-init
@@ -83,14 +84,14 @@ along-preserved-in-Some-next g c =
     let after_mark = place_after r.source r.rules r.from r.to c.args.state c.along.place c.along.state c.along.mark c.along.ahead c.along.limit beside in
     let apart : ¬ ((c.along.state ≡ c.along.mark.state) × IsBetweenGroups c.along.state) = λ p. (let t = c.meets.ensures.1 p in let f = c.if-meets.false in cc) in
     let goes : IsStepTo r.source r.rules c.along.state c.along.place c.along.limit c.in_ok-reached.reached c.in_ok-reached.after =
-    renamed (λ b rules. IsStepTo b rules c.along.state c.along.place c.along.limit c.in_ok-reached.reached c.in_ok-reached.after) (g.T.Tape.bits c.along.tape) r.source c.args.rules.now r.rules
+    renamed (λ b rules. IsStepTo b rules c.along.state c.along.place c.along.limit c.in_ok-reached.reached c.in_ok-reached.after) (g.T.Tape.signal c.along.tape) r.source c.args.rules.now r.rules
     inv.same (sym c.requires.rules) c.in_ok-reached.ensures.step in
     let given : c.advance_marked.new.items ≡ c.along.items ++ (run r.source r.rules c.along.state c.along.place (c.in_ok-reached.reached - c.along.place)).1 =
     renamed (λ b rules. c.advance_marked.new.items ≡ c.along.items ++ (run b rules c.along.state c.along.place (c.in_ok-reached.reached - c.along.place)).1)
-    (g.T.Tape.bits c.along.tape) r.source c.args.rules.now r.rules inv.same (sym c.requires.rules) c.in_ok-reached.ensures.items in
+    (g.T.Tape.signal c.along.tape) r.source c.args.rules.now r.rules inv.same (sym c.requires.rules) c.in_ok-reached.ensures.items in
     let marked : c.advance_marked.new.marks ≡ c.along.marks ++ marks_on r.source r.rules c.along.state c.along.place (length c.along.items) (c.in_ok-reached.reached - c.along.place) =
     renamed (λ b rules. c.advance_marked.new.marks ≡ c.along.marks ++ marks_on b rules c.along.state c.along.place (length c.along.items) (c.in_ok-reached.reached - c.along.place))
-    (g.T.Tape.bits c.along.tape) r.source c.args.rules.now r.rules inv.same (sym c.requires.rules) c.in_ok-reached.ensures.marks in
+    (g.T.Tape.signal c.along.tape) r.source c.args.rules.now r.rules inv.same (sym c.requires.rules) c.in_ok-reached.ensures.marks in
     let few = subst (λ (y : RuleNumbers). g.T.Tape.reads_made c.advance_marked.new.tape ≤ g.T.Tape.reads_made c.along.tape + reads_most y c.along.state c.along.limit) (sym c.requires.rules) c.advance_marked.ensures.reads in
     record {
       beside = beside_next r.source r.rules r.from r.to c.run_laws.ensures some c.args.state c.along.place c.in_ok-reached.reached c.along.state c.in_ok-reached.after c.along.mark c.in-Some-next.passed
@@ -116,14 +117,14 @@ along-preserved-then-place-limit g c =
     let after_mark = place_after r.source r.rules r.from r.to c.args.state c.along.place c.along.state c.along.mark c.along.ahead c.along.limit beside in
     let apart : ¬ ((c.along.state ≡ c.along.mark.state) × IsBetweenGroups c.along.state) = λ p. (let t = c.meets.ensures.1 p in let f = c.if-meets.false in cc) in
     let goes : IsStepTo r.source r.rules c.along.state c.along.place c.along.limit c.in_ok-reached.reached c.in_ok-reached.after =
-    renamed (λ b rules. IsStepTo b rules c.along.state c.along.place c.along.limit c.in_ok-reached.reached c.in_ok-reached.after) (g.T.Tape.bits c.along.tape) r.source c.args.rules.now r.rules
+    renamed (λ b rules. IsStepTo b rules c.along.state c.along.place c.along.limit c.in_ok-reached.reached c.in_ok-reached.after) (g.T.Tape.signal c.along.tape) r.source c.args.rules.now r.rules
     inv.same (sym c.requires.rules) c.in_ok-reached.ensures.step in
     let given : c.advance_marked.new.items ≡ c.along.items ++ (run r.source r.rules c.along.state c.along.place (c.in_ok-reached.reached - c.along.place)).1 =
     renamed (λ b rules. c.advance_marked.new.items ≡ c.along.items ++ (run b rules c.along.state c.along.place (c.in_ok-reached.reached - c.along.place)).1)
-    (g.T.Tape.bits c.along.tape) r.source c.args.rules.now r.rules inv.same (sym c.requires.rules) c.in_ok-reached.ensures.items in
+    (g.T.Tape.signal c.along.tape) r.source c.args.rules.now r.rules inv.same (sym c.requires.rules) c.in_ok-reached.ensures.items in
     let marked : c.advance_marked.new.marks ≡ c.along.marks ++ marks_on r.source r.rules c.along.state c.along.place (length c.along.items) (c.in_ok-reached.reached - c.along.place) =
     renamed (λ b rules. c.advance_marked.new.marks ≡ c.along.marks ++ marks_on b rules c.along.state c.along.place (length c.along.items) (c.in_ok-reached.reached - c.along.place))
-    (g.T.Tape.bits c.along.tape) r.source c.args.rules.now r.rules inv.same (sym c.requires.rules) c.in_ok-reached.ensures.marks in
+    (g.T.Tape.signal c.along.tape) r.source c.args.rules.now r.rules inv.same (sym c.requires.rules) c.in_ok-reached.ensures.marks in
     let few = subst (λ (y : RuleNumbers). g.T.Tape.reads_made c.advance_marked.new.tape ≤ g.T.Tape.reads_made c.along.tape + reads_most y c.along.state c.along.limit) (sym c.requires.rules) c.advance_marked.ensures.reads in
     record {
       beside = beside_near r.source r.rules r.from r.to c.run_laws.ensures some c.args.state c.along.place c.in_ok-reached.reached c.along.state c.in_ok-reached.after c.along.mark
@@ -149,14 +150,14 @@ along-preserved g c =
     let after_mark = place_after r.source r.rules r.from r.to c.args.state c.along.place c.along.state c.along.mark c.along.ahead c.along.limit beside in
     let apart : ¬ ((c.along.state ≡ c.along.mark.state) × IsBetweenGroups c.along.state) = λ p. (let t = c.meets.ensures.1 p in let f = c.if-meets.false in cc) in
     let goes : IsStepTo r.source r.rules c.along.state c.along.place c.along.limit c.in_ok-reached.reached c.in_ok-reached.after =
-    renamed (λ b rules. IsStepTo b rules c.along.state c.along.place c.along.limit c.in_ok-reached.reached c.in_ok-reached.after) (g.T.Tape.bits c.along.tape) r.source c.args.rules.now r.rules
+    renamed (λ b rules. IsStepTo b rules c.along.state c.along.place c.along.limit c.in_ok-reached.reached c.in_ok-reached.after) (g.T.Tape.signal c.along.tape) r.source c.args.rules.now r.rules
     inv.same (sym c.requires.rules) c.in_ok-reached.ensures.step in
     let given : c.advance_marked.new.items ≡ c.along.items ++ (run r.source r.rules c.along.state c.along.place (c.in_ok-reached.reached - c.along.place)).1 =
     renamed (λ b rules. c.advance_marked.new.items ≡ c.along.items ++ (run b rules c.along.state c.along.place (c.in_ok-reached.reached - c.along.place)).1)
-    (g.T.Tape.bits c.along.tape) r.source c.args.rules.now r.rules inv.same (sym c.requires.rules) c.in_ok-reached.ensures.items in
+    (g.T.Tape.signal c.along.tape) r.source c.args.rules.now r.rules inv.same (sym c.requires.rules) c.in_ok-reached.ensures.items in
     let marked : c.advance_marked.new.marks ≡ c.along.marks ++ marks_on r.source r.rules c.along.state c.along.place (length c.along.items) (c.in_ok-reached.reached - c.along.place) =
     renamed (λ b rules. c.advance_marked.new.marks ≡ c.along.marks ++ marks_on b rules c.along.state c.along.place (length c.along.items) (c.in_ok-reached.reached - c.along.place))
-    (g.T.Tape.bits c.along.tape) r.source c.args.rules.now r.rules inv.same (sym c.requires.rules) c.in_ok-reached.ensures.marks in
+    (g.T.Tape.signal c.along.tape) r.source c.args.rules.now r.rules inv.same (sym c.requires.rules) c.in_ok-reached.ensures.marks in
     let few = subst (λ (y : RuleNumbers). g.T.Tape.reads_made c.advance_marked.new.tape ≤ g.T.Tape.reads_made c.along.tape + reads_most y c.along.state c.along.limit) (sym c.requires.rules) c.advance_marked.ensures.reads in
     record {
       beside = beside_near r.source r.rules r.from r.to c.run_laws.ensures some c.args.state c.along.place c.in_ok-reached.reached c.along.state c.in_ok-reached.after c.along.mark

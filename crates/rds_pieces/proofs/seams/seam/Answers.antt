@@ -43,7 +43,7 @@ returns-in_ok-append-in-Some-clause-items g c =
     let met = met_from r.source r.rules c.args.state r.from r.to w.place w.met c.in-Some.passed c.in-Some.is c.in_ok-place.ensures.met in
     items_taken r.source r.rules c.run_laws.ensures c.args.state r.from r.to w.place c.in-Some.passed met [] c.in_ok-items.items (drop c.in-Some.passed.items c.items.result.now) c.append.new.self
     (c.in_ok-items.ensures ∙ c.in_ok-place.ensures.items) (ap (λ (is : List Item). drop c.in-Some.passed.items is) c.items.ensures) c.in_ok-append-in-Some.ensures.ok
-    ∙ ap (λ (x : State × List Item). x.1) (run_over r.source (g.T.Tape.bits c.args.tape.now) r.rules c.args.rules.now c.args.state r.from (r.to - r.from) c.requires.source c.requires.rules)
+    ∙ ap (λ (x : State × List Item). x.1) (run_over r.source (g.T.Tape.signal c.args.tape.now) r.rules c.args.rules.now c.args.state r.from (r.to - r.from) c.requires.source c.requires.rules)
 
 pub returns-in_ok-append-in-Some-clause-totals : goal.returns-in_ok-append-in-Some-clause-totals
 returns-in_ok-append-in-Some-clause-totals g c =
@@ -53,7 +53,7 @@ returns-in_ok-append-in-Some-clause-totals g c =
     c.plus-totals.ensures.value
     ∙ totals_taken r.source r.rules c.run_laws.ensures c.args.state r.from r.to w.place c.in-Some.passed met c.of-totals.result c.totals_from.result
     (c.of-totals.ensures.value ∙ ap (λ (is : List Item). totals_of is) (c.in_ok-items.ensures ∙ c.in_ok-place.ensures.items)) c.totals_from.ensures
-    ∙ ap (λ (x : State × List Item). totals_of x.1) (run_over r.source (g.T.Tape.bits c.args.tape.now) r.rules c.args.rules.now c.args.state r.from (r.to - r.from) c.requires.source c.requires.rules)
+    ∙ ap (λ (x : State × List Item). totals_of x.1) (run_over r.source (g.T.Tape.signal c.args.tape.now) r.rules c.args.rules.now c.args.state r.from (r.to - r.from) c.requires.source c.requires.rules)
 
 pub returns-in_ok-append-in-Some-clause-soon : goal.returns-in_ok-append-in-Some-clause-soon
 returns-in_ok-append-in-Some-clause-soon g c =
@@ -62,7 +62,7 @@ returns-in_ok-append-in-Some-clause-soon g c =
     let met = met_from r.source r.rules c.args.state r.from r.to w.place w.met c.in-Some.passed c.in-Some.is c.in_ok-place.ensures.met in
     let range = c.in_ok-place.ensures.rules in
     let lawful = subst (λ (x : RuleNumbers). IsLawful x r.from c.args.state) (sym c.requires.rules) c.requires.lawful in
-    renamed (λ b rules. IsSoonMet b rules r.from r.to (Some w.place)) r.source (g.T.Tape.bits c.args.tape.now) r.rules c.args.rules.now c.requires.source c.requires.rules
+    renamed (λ b rules. IsSoonMet b rules r.from r.to (Some w.place)) r.source (g.T.Tape.signal c.args.tape.now) r.rules c.args.rules.now c.requires.source c.requires.rules
     (soon_met r.source r.rules c.args.state Searching r.from r.to c.run_laws.ensures c.runs_converge.ensures.fours c.runs_converge.ensures.converge
     range.some_loss range.some_reach lawful tt (Some w.place) met.first)
 
@@ -73,7 +73,7 @@ returns-in_ok-append-in-Some-clause-end g c =
     let met = met_from r.source r.rules c.args.state r.from r.to w.place w.met c.in-Some.passed c.in-Some.is c.in_ok-place.ensures.met in
     c.end_state.ensures
     ∙ end_taken r.source r.rules c.run_laws.ensures c.args.state r.from r.to w.place c.in-Some.passed met
-    ∙ ap (λ (x : State × List Item). x.0) (run_over r.source (g.T.Tape.bits c.args.tape.now) r.rules c.args.rules.now c.args.state r.from (r.to - r.from) c.requires.source c.requires.rules)
+    ∙ ap (λ (x : State × List Item). x.0) (run_over r.source (g.T.Tape.signal c.args.tape.now) r.rules c.args.rules.now c.args.state r.from (r.to - r.from) c.requires.source c.requires.rules)
 
 pub returns-in-None-clause-totals : goal.returns-in-None-clause-totals
 returns-in-None-clause-totals g c =
@@ -82,7 +82,7 @@ returns-in-None-clause-totals g c =
     let unmet = unmet_from r.source r.rules c.args.state r.from r.to w.place w.met c.in-None.is c.in_ok-place.ensures.met in
     c.of-totals.ensures.value ∙ ap (λ (is : List Item). totals_of is) (c.in_ok-items.ensures ∙ c.in_ok-place.ensures.items)
     ∙ ap (λ (p : ℕ). totals_of (run r.source r.rules c.args.state r.from (p - r.from)).1) unmet.ends
-    ∙ ap (λ (x : State × List Item). totals_of x.1) (run_over r.source (g.T.Tape.bits c.args.tape.now) r.rules c.args.rules.now c.args.state r.from (r.to - r.from) c.requires.source c.requires.rules)
+    ∙ ap (λ (x : State × List Item). totals_of x.1) (run_over r.source (g.T.Tape.signal c.args.tape.now) r.rules c.args.rules.now c.args.state r.from (r.to - r.from) c.requires.source c.requires.rules)
 
 pub returns-in-None-clause-soon : goal.returns-in-None-clause-soon
 returns-in-None-clause-soon g c =
@@ -91,6 +91,6 @@ returns-in-None-clause-soon g c =
     let unmet = unmet_from r.source r.rules c.args.state r.from r.to w.place w.met c.in-None.is c.in_ok-place.ensures.met in
     let range = c.in_ok-place.ensures.rules in
     let lawful = subst (λ (x : RuleNumbers). IsLawful x r.from c.args.state) (sym c.requires.rules) c.requires.lawful in
-    renamed (λ b rules. IsSoonMet b rules r.from r.to None) r.source (g.T.Tape.bits c.args.tape.now) r.rules c.args.rules.now c.requires.source c.requires.rules
+    renamed (λ b rules. IsSoonMet b rules r.from r.to None) r.source (g.T.Tape.signal c.args.tape.now) r.rules c.args.rules.now c.requires.source c.requires.rules
     (soon_met r.source r.rules c.args.state Searching r.from r.to c.run_laws.ensures c.runs_converge.ensures.fours c.runs_converge.ensures.converge
     range.some_loss range.some_reach lawful tt None unmet.never)

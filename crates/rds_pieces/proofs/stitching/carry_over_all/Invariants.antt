@@ -5,7 +5,7 @@ use Rattle.rds_pieces.proofs.stitching.carry_over_all.Given as goal
 
 abbrev pub invariant-loop-run : goal.invariant-loop-run
 invariant-loop-run g l = record {
-  stitched : IsStitched (g.T.Tape.bits l.fn.tape) l.rules l.runs (g.T.Tape.reads_made l.fn.tape) l.run-index l.state l.items (g.T.Tape.reads_made l.tape);
+  stitched : IsStitched (g.T.Tape.signal l.fn.tape) l.rules l.runs (g.T.Tape.reads_made l.fn.tape) l.run-index l.state l.items (g.T.Tape.reads_made l.tape);
   counted : l.totals ≡ totals_of l.items;
-  same : g.T.Tape.bits l.tape ≡ g.T.Tape.bits l.fn.tape;
+  same : g.T.Tape.signal l.tape ≡ g.T.Tape.signal l.fn.tape;
 }

@@ -8,7 +8,7 @@ use Rattle.rds_stream.proofs.bit_planes.plane_lanes.Goals as goal
 
 pub returns : goal.returns
 returns c j k lane within =
-    let b = c.args.recording.now in
+    let b = c.args.recording.now.bits in
     let at = c.args.at in
     let places = get_or c.places.result j 0 in
     let place = at + (32 * j + k) in

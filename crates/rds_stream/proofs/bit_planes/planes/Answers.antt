@@ -7,7 +7,7 @@ use Rattle.rds_stream.proofs.bit_planes.planes.Goals as goal
 
 pub returns : goal.returns
 returns c k within =
-    let b = c.args.recording.now in
+    let b = c.args.recording.now.bits in
     let j = k / 32 in
     let bit = k % 32 in
     let lane : j < 2 = omega arith in

@@ -1,6 +1,6 @@
-use Rattle.std.proofs.Common.{◌≡◌, ◌↔◌, ℕ, ◌+◌, ◌-◌, ◌∙◌, sym, subst, ap, refl, arith, get_or}
+use Rattle.std.proofs.Common.{◌≡◌, ◌↔◌, ◌+◌, ◌-◌, ◌∙◌, sym, subst, ap, refl, arith, get_or}
 use Rattle.std.specs.Int.{bit_at}
-use Rattle.std.proofs.lemmas.Nat.Bits.{bit_at_ones, bit_at-zero, bit_at-lt, shr_and_one}
+use Rattle.std.proofs.lemmas.Nat.Bits.{bit_at_ones, bit_at-zero, shr_and_one}
 use Rattle.std.proofs.lemmas.Simd.{get_or-replicate}
 use Rattle.rds_stream.specs.Planes.{lane}
 use Rattle.rds_stream.proofs.Agreement.{Agree, agree_more, agree_is, not_one}

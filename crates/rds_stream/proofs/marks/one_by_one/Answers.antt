@@ -1,7 +1,8 @@
-use Rattle.std.proofs.Common.{ℕ, List, Option, IsSome, true≢false, ◌≡◌, ◌+◌, ◌∙◌, sym, subst, arith}
+use Rattle.std.proofs.Common.{ℕ, Option, IsSome, true≢false, ◌+◌, ◌∙◌, sym, subst, arith}
 use Rattle.rds_code.specs.declared.offset.Offset.{Offset}
 use Rattle.rds_stream.specs.Recording.{off}
 use Rattle.rds_stream.specs.ValidWindows.{AreMarks}
+use Rattle.rds_stream.proofs.WindowLists.{off_clear}
 use Rattle.rds_stream.proofs.MarkLemmas.{is_marked, not_marked, none_is}
 use Rattle.rds_stream.proofs.marks.one_by_one.Goals as goal
 use Rattle.rds_stream.proofs.marks.one_by_one.Goals.{then-is_some, else-is_some}
@@ -12,9 +13,10 @@ loop-place-preserved c =
     let from = c.args.from in
     let p = c.loop-place.place in
     let now = c.loop-place.invariant in
+    let offset = off_clear b p (omega (arith, c.requires.first)) (c.requires.clear p (omega arith) (omega arith)) ∙ sym c.stored_offset.ensures in
     elim c.if-is_some.branch [
       | then-is_some w ↦ subst (λ (word : ℕ). AreMarks b from (p + 1) word) (sym w.marks-is) (is_marked b from p c.loop-place.marks now (omega arith)
-          (subst (λ (o : Option Offset). IsSome o) c.offset.ensures (sym c.is_some.ensures ∙ w.if-is_some.true)))
+          (subst (λ (o : Option Offset). IsSome o) (sym offset) (sym c.is_some.ensures ∙ w.if-is_some.true)))
       | else-is_some w ↦ subst (λ (word : ℕ). AreMarks b from (p + 1) word) (sym w.marks-is) (not_marked b from p c.loop-place.marks now (omega arith)
-          (none_is (off b p) (λ some. true≢false (sym (subst (λ (o : Option Offset). IsSome o) (sym c.offset.ensures) some) ∙ (sym c.is_some.ensures ∙ w.if-is_some.false)))))
+          (none_is (off b p) (λ some. true≢false (sym (subst (λ (o : Option Offset). IsSome o) offset some) ∙ (sym c.is_some.ensures ∙ w.if-is_some.false)))))
     ]

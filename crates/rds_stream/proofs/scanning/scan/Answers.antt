@@ -1,17 +1,17 @@
-use Rattle.std.proofs.Common.{◌≡◌, ◌+◌, ◌-◌, ◌<◌, ◌≤◌, ◌++◌, ◌∷◌, [], ℕ, List, Option, Some, None, refl, sym, ap, ◌∙◌, subst, arith}
+use Rattle.std.proofs.Common.{◌≡◌, ◌+◌, ◌-◌, ◌≤◌, ◌++◌, ◌∷◌, [], ℕ, List, Some, None, sym, ap, ◌∙◌, subst, arith}
 use Rattle.rds_code.specs.declared.offset.Offset.{Offset}
-use Rattle.rds_stream.specs.Recording.{off, valid_windows}
+use Rattle.rds_stream.specs.Recording.{Signal, off, valid_windows}
 use Rattle.rds_stream.specs.ValidWindows.{WindowsLeft, GivesFirst, NoneValid}
 use Rattle.rds_stream.proofs.WindowLists.{valid_over, valid_with}
 use Rattle.rds_stream.proofs.scanning.scan.Invariants.{HasScanned}
 use Rattle.rds_stream.proofs.scanning.scan.Goals as goal
 
-module _ (b : List ℕ) (from to : ℕ) (old : WindowsLeft) (items : List (ℕ × Offset)) (has : HasScanned b from to old items) where
+module _ (b : Signal) (from to : ℕ) (old : WindowsLeft) (items : List (ℕ × Offset)) (has : HasScanned b from to old items) where
   -- up to a place before which no other window is valid
-  up_to : (p : ℕ) → old.next ≤ p → NoneValid old.bits old.next p → items ≡ valid_windows b from p
+  up_to : (p : ℕ) → old.next ≤ p → NoneValid old.signal old.next p → items ≡ valid_windows b from p
   up_to p low none =
       let end : old.next + (p - old.next) ≡ p = omega arith in
-      let here : NoneValid b old.next p = subst (λ (bits : List ℕ). NoneValid bits old.next p) has.bits none in
+      let here : NoneValid b old.next p = subst (λ (bits : Signal). NoneValid bits old.next p) has.bits none in
       has.so_far ∙ sym (valid_over b from old.next (p - old.next) has.from_on (λ j l h. here j l (omega arith))) ∙ ap (valid_windows b from) end
 
   one_more : (found : ℕ × Offset) (new : WindowsLeft) → GivesFirst old (Some found) new → HasScanned b from to new (items ++ found ∷ [])
@@ -22,7 +22,7 @@ module _ (b : List ℕ) (from to : ℕ) (old : WindowsLeft) (items : List (ℕ �
         from_on = omega (arith, has.from_on, gives.0);
         limit = omega (arith, gives.1, has.end);
         so_far = ap (λ xs. xs ++ found ∷ []) (up_to found.0 gives.0 gives.2)
-            ∙ valid_with b from found.0 found.1 (omega (arith, has.from_on, gives.0)) (subst (λ (bits : List ℕ). off bits found.0 ≡ Some found.1) has.bits gives.3);
+            ∙ valid_with b from found.0 found.1 (omega (arith, has.from_on, gives.0)) (subst (λ (bits : Signal). off bits found.0 ≡ Some found.1) has.bits gives.3);
       })
 
   all : (new : WindowsLeft) → GivesFirst old None new → items ≡ valid_windows b from to

@@ -1,12 +1,12 @@
-use Rattle.std.proofs.Common.{◌≡◌, ◌≤◌, ℕ, List, length}
+use Rattle.std.proofs.Common.{◌≡◌, ◌≤◌, ℕ, List}
 use Rattle.rds_code.specs.declared.offset.Offset.{Offset}
-use Rattle.rds_stream.specs.Recording.{valid_windows}
+use Rattle.rds_stream.specs.Recording.{Signal, valid_windows}
 use Rattle.rds_stream.specs.ValidWindows.{WindowsLeft}
 use Rattle.rds_stream.proofs.scanning.scan.Given as goal
 
 -- what was found so far is all that is valid so far
-pub record HasScanned (b : List ℕ) (from to : ℕ) (left : WindowsLeft) (found : List (ℕ × Offset)) : Type 0 where
-  pub bits : left.bits ≡ b
+pub record HasScanned (b : Signal) (from to : ℕ) (left : WindowsLeft) (found : List (ℕ × Offset)) : Type 0 where
+  pub bits : left.signal ≡ b
   pub end : left.end ≡ to
   pub from_on : from ≤ left.next
   pub limit : left.next ≤ to

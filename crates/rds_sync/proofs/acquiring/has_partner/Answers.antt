@@ -1,14 +1,15 @@
-use Rattle.std.proofs.Common.{◌≡◌, ◌+◌, ℕ, List, false, ap, sym, ◌∙◌, arith}
+use Rattle.std.proofs.Common.{◌≡◌, ◌+◌, false, ap, sym, ◌∙◌, arith}
+use Rattle.rds_stream.specs.Recording.{Signal}
 use Rattle.rds_sync.specs.Acquiring.{has_partner}
-use Rattle.rds_sync.proofs.WindowLemmas.{any-later}
+use Rattle.rds_sync.proofs.HeardLemmas.{any-later}
 use Rattle.rds_sync.proofs.acquiring.has_partner.Goals as goal
 
 pub loop-distance-preserved : goal.loop-distance-preserved
 loop-distance-preserved g c =
     let tried = c.loop-distance.invariant in
-    let bits = g.T.Tape.bits c.args.tape.now in
+    let bits = g.T.Tape.signal c.args.tape.now in
     let fails : has_partner bits c.args.place c.args.number c.loop-distance.distance ≡ false =
-    ap (λ (b : List ℕ). has_partner b c.args.place c.args.number c.loop-distance.distance) (sym tried.same)
+    ap (λ (b : Signal). has_partner b c.args.place c.args.number c.loop-distance.distance) (sym tried.same)
     ∙ sym c.is_partner.ensures.value ∙ c.if-is_partner.false in
     record {
       same = c.is_partner.ensures.same ∙ tried.same;

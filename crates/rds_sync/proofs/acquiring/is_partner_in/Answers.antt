@@ -1,6 +1,6 @@
 use Rattle.std.proofs.Common.{◌<◌, ◌*◌, ◌-◌, sym, ◌∙◌, arith}
 use Rattle.std.proofs.lemmas.Bool.{lt-leb}
-use Rattle.rds_sync.proofs.WindowLemmas.{has_partner-early}
+use Rattle.rds_sync.proofs.HeardLemmas.{has_partner-early}
 use Rattle.rds_sync.proofs.acquiring.is_partner_in.Goals as goal
 
 pub returns-else-before-ge-FIRST_WINDOW : goal.returns-else-before-ge-FIRST_WINDOW

@@ -1,7 +1,8 @@
-use Rattle.std.proofs.Common.{◌≡◌, ◌+◌, ◌≤◌, ℕ, Bool, true, false, List, [], ◌∷◌, ap, ◌∙◌, arith}
+use Rattle.std.proofs.Common.{◌≡◌, ◌+◌, ◌≤◌, ℕ, Bool, true, false, [], ◌∷◌, ap, ◌∙◌, arith}
 use Rattle.std.specs.Prelude.{if◌then◌else◌, nat_le, nat_lt, ◌&&◌}
 use Rattle.rds_code.specs.declared.reading.Wanted.{Wanted}
 use Rattle.rds_code.specs.declared.reading.Wanted.TheVariants.{Either}
+use Rattle.rds_stream.specs.Recording.{Signal}
 use Rattle.rds_sync.specs.declared.item.Block.{Block}
 use Rattle.rds_sync.specs.Groups.{block_at, blocks_at, wanted_beside}
 use Rattle.rds_sync.specs.Rules.{RuleNumbers}
@@ -9,7 +10,7 @@ use Rattle.rds_sync.proofs.GroupBlocks.{blocks_before, blocks_at-read}
 use Rattle.rds_sync.proofs.group.read_blocks.Goals as goal
 
 -- the blocks, read over bits that stay the same
-all_read : (b after_one after_two after_three : List ℕ) (rules : RuleNumbers) (f x p : ℕ) (one two three four : Block) (wanted : Wanted)
+all_read : (b after_one after_two after_three : Signal) (rules : RuleNumbers) (f x p : ℕ) (one two three four : Block) (wanted : Wanted)
     → after_one ≡ b → after_two ≡ after_one → after_three ≡ after_two → wanted ≡ wanted_beside two
     → one ≡ block_at b rules f x p Either 1 → two ≡ block_at after_one rules f x p Either 2
     → three ≡ block_at after_two rules f x p wanted 3 → four ≡ block_at after_three rules f x p Either 4
@@ -18,13 +19,13 @@ all_read b after_one after_two after_three rules f x p one two three four wanted
     let two_same : after_two ≡ b = same_two ∙ same_one in
     let three_same : after_three ≡ b = same_three ∙ two_same in
     blocks_at-read b rules f x p one two three four is_one
-    (is_two ∙ ap (λ (bits : List ℕ). block_at bits rules f x p Either 2) same_one)
-    (is_three ∙ ap (λ (bits : List ℕ). block_at bits rules f x p wanted 3) two_same ∙ ap (λ (w : Wanted). block_at b rules f x p w 3) wanted_is)
-    (is_four ∙ ap (λ (bits : List ℕ). block_at bits rules f x p Either 4) three_same)
+    (is_two ∙ ap (λ (bits : Signal). block_at bits rules f x p Either 2) same_one)
+    (is_three ∙ ap (λ (bits : Signal). block_at bits rules f x p wanted 3) two_same ∙ ap (λ (w : Wanted). block_at b rules f x p w 3) wanted_is)
+    (is_four ∙ ap (λ (bits : Signal). block_at bits rules f x p Either 4) three_same)
 
 pub returns-clause-value : goal.returns-clause-value
 returns-clause-value g c =
-    let bits = g.T.Tape.bits in
+    let bits = g.T.Tape.signal in
     let s = c.args.part in
     all_read (bits c.args.tape.now) (bits c.read_at-one.new.tape) (bits c.read_at-two.new.tape) (bits c.read_at-three.new.tape)
     c.args.rules.now s.first s.last s.place c.read_at-one.result c.read_at-two.result c.read_at-three.result c.read_at-four.result c.wanted_beside.result

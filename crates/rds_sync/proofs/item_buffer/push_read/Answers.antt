@@ -1,5 +1,5 @@
 use Rattle.std.proofs.lemmas.List.Elements.{All-push}
-use Rattle.rds_sync.specs.Kept.{IsFound}
+use Rattle.rds_sync.specs.Inside.Kept.{IsFound}
 use Rattle.rds_sync.proofs.item_buffer.push_read.Goals as goal
 
 pub returns-in_ok-push-in-Some-clause-found : goal.returns-in_ok-push-in-Some-clause-found

@@ -1,6 +1,6 @@
 use Rattle.std.proofs.Common.{◌-◌, List, drop, length, ap, sym, ◌∙◌, arith, length-append}
 use Rattle.rds_sync.specs.declared.item.Item.{Item}
-use Rattle.rds_sync.specs.Parts.{items_in}
+use Rattle.rds_sync.specs.Inside.Parts.{items_in}
 use Rattle.rds_sync.proofs.PartsLemmas.{past_first}
 use Rattle.rds_sync.proofs.items.parts_from.Goals as goal
 

@@ -1,6 +1,6 @@
 use Rattle.std.proofs.Common.{◌≡◌, ℕ, ◌≤◌, List, ◌++◌, drop, length, take}
 use Rattle.rds_sync.specs.declared.item.Item.{Item}
-use Rattle.rds_sync.specs.Parts.{items_in}
+use Rattle.rds_sync.specs.Inside.Parts.{items_in}
 use Rattle.rds_sync.proofs.PartsLemmas.{StartsInFirst}
 use Rattle.rds_sync.proofs.items.push_parts.Given as goal
 

@@ -4,4 +4,4 @@ use Rattle.rds_sync.proofs.lock.blocks_before.Given as goal
 
 -- the blocks before this number were read
 abbrev pub invariant-loop-number : goal.invariant-loop-number
-invariant-loop-number l = l.blocks ≡ blocks_at l.rec l.rules l.lock.first (l.number - 1) (l.lock.due - 26 * (l.lock.number - l.number) - 26)
+invariant-loop-number l = (l.reader ≡ l.fn.reader) × (l.blocks ≡ blocks_at l.fn.reader l.rules l.lock.first (l.number - 1) (l.lock.due - 26 * (l.lock.number - l.number) - 26))

@@ -4,9 +4,9 @@ use Rattle.rds_sync.specs.declared.item.Group.{Group as GroupRecord}
 use Rattle.rds_sync.specs.declared.item.Item.{Item}
 use Rattle.rds_sync.specs.declared.item.Item.TheVariants.{Group, LostLock}
 use Rattle.rds_sync.specs.declared.loss.Loss.{Loss}
-use Rattle.rds_sync.specs.Due.{IsAfter}
+use Rattle.rds_sync.specs.Inside.Due.{IsAfter}
 use Rattle.rds_sync.specs.Groups.{blocks_at}
-use Rattle.rds_sync.specs.Locks.{IsFollowed}
+use Rattle.rds_sync.specs.Inside.Locks.{IsFollowed}
 use Rattle.rds_sync.proofs.DueLemmas.{step-due, items-inside, items-closed, items-lost, kept-next}
 use Rattle.rds_sync.proofs.GroupBlocks.{group-blocks}
 use Rattle.rds_sync.proofs.ItemLemmas.{some_given}
@@ -24,7 +24,7 @@ with_loss xs ys zs found closed closing due pushed lost same found_is =
 pub returns-in-Inside-clause-state : goal.returns-in-Inside-clause-state
 returns-in-Inside-clause-state c =
     let after = subst (λ (loss : Loss). IsAfter loss c.args.lock c.read_due-good.result c.after-due.result) c.loss-loss.ensures.value c.after-due.ensures in
-    sym (step-due c.args.rec.now c.args.rules.now c.args.lock c.read_due-good.result c.read_due-good.ensures.valid c.after-due.result after)
+    sym (step-due c.args.reader.now c.args.rules.now c.args.lock c.read_due-good.result c.read_due-good.ensures.valid c.after-due.result after)
 
 pub returns-in-Inside-clause-items : goal.returns-in-Inside-clause-items
 returns-in-Inside-clause-items c =
@@ -33,12 +33,12 @@ returns-in-Inside-clause-items c =
     let good = c.read_due-good.result in
     let after = subst (λ (loss : Loss). IsAfter loss lock good c.after-due.result) c.loss-loss.ensures.value c.after-due.ensures in
     let inside = subst (λ (due : Due). IsAfter rules.loss lock good due) c.in-Inside.is after in
-    sym (ap (λ (is : List Item). c.args.items.now ++ is) (items-inside c.args.rec.now rules lock good c.read_due-good.ensures.valid c.in-Inside.field-0 inside)
+    sym (ap (λ (is : List Item). c.args.items.now ++ is) (items-inside c.args.reader.now rules lock good c.read_due-good.ensures.valid c.in-Inside.field-0 inside)
     ∙ append-nil c.args.items.now)
 
 pub returns-in-Inside-clause-followed : goal.returns-in-Inside-clause-followed
 returns-in-Inside-clause-followed c =
-    let b = c.args.rec.now in
+    let b = c.args.reader.now in
     let rules = c.args.rules.now in
     let lock = c.args.lock in
     let good = c.read_due-good.result in
@@ -58,11 +58,11 @@ returns-in-Inside-clause-followed c =
 pub returns-in_ok-push_closed-in-Closed-clause-state : goal.returns-in_ok-push_closed-in-Closed-clause-state
 returns-in_ok-push_closed-in-Closed-clause-state c =
     let after = subst (λ (loss : Loss). IsAfter loss c.args.lock c.read_due-good.result c.after-due.result) c.loss-loss.ensures.value c.after-due.ensures in
-    sym (step-due c.args.rec.now c.args.rules.now c.args.lock c.read_due-good.result c.read_due-good.ensures.valid c.after-due.result after)
+    sym (step-due c.args.reader.now c.args.rules.now c.args.lock c.read_due-good.result c.read_due-good.ensures.valid c.after-due.result after)
 
 pub returns-in_ok-push_closed-in-Closed-clause-items : goal.returns-in_ok-push_closed-in-Closed-clause-items
 returns-in_ok-push_closed-in-Closed-clause-items c =
-    let b = c.args.rec.now in
+    let b = c.args.reader.now in
     let rules = c.args.rules.now in
     let lock = c.args.lock in
     let good = c.read_due-good.result in
@@ -75,7 +75,7 @@ returns-in_ok-push_closed-in-Closed-clause-items c =
 
 pub returns-in_ok-push_closed-in-Closed-clause-followed : goal.returns-in_ok-push_closed-in-Closed-clause-followed
 returns-in_ok-push_closed-in-Closed-clause-followed c =
-    let b = c.args.rec.now in
+    let b = c.args.reader.now in
     let rules = c.args.rules.now in
     let lock = c.args.lock in
     let good = c.read_due-good.result in
@@ -87,11 +87,11 @@ returns-in_ok-push_closed-in-Closed-clause-followed c =
 pub returns-in_ok-push-in-Lost-clause-state : goal.returns-in_ok-push-in-Lost-clause-state
 returns-in_ok-push-in-Lost-clause-state c =
     let after = subst (λ (loss : Loss). IsAfter loss c.args.lock c.read_due-good.result c.after-due.result) c.loss-loss.ensures.value c.after-due.ensures in
-    sym (step-due c.args.rec.now c.args.rules.now c.args.lock c.read_due-good.result c.read_due-good.ensures.valid c.after-due.result after)
+    sym (step-due c.args.reader.now c.args.rules.now c.args.lock c.read_due-good.result c.read_due-good.ensures.valid c.after-due.result after)
 
 pub returns-in_ok-push-in-Lost-clause-items : goal.returns-in_ok-push-in-Lost-clause-items
 returns-in_ok-push-in-Lost-clause-items c =
-    let b = c.args.rec.now in
+    let b = c.args.reader.now in
     let rules = c.args.rules.now in
     let lock = c.args.lock in
     let good = c.read_due-good.result in
@@ -104,7 +104,7 @@ returns-in_ok-push-in-Lost-clause-items c =
 
 pub returns-in_ok-push-in-Lost-clause-followed : goal.returns-in_ok-push-in-Lost-clause-followed
 returns-in_ok-push-in-Lost-clause-followed c =
-    let b = c.args.rec.now in
+    let b = c.args.reader.now in
     let rules = c.args.rules.now in
     let lock = c.args.lock in
     let good = c.read_due-good.result in

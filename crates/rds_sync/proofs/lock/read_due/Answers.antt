@@ -1,29 +1,29 @@
-use Rattle.std.proofs.Common.{◌≡◌, ◌-◌, ℕ, List, get_or, set, ap, ◌∙◌, arith}
-use Rattle.rds_code.specs.Reading.{reading}
+use Rattle.std.proofs.Common.{◌≡◌, ◌-◌, ℕ, List, Option, get_or, set, ap, ◌∙◌, arith}
+use Rattle.rds_stream.specs.Recording.{reading_heard}
 use Rattle.rds_sync.specs.declared.item.Block.{Block}
 use Rattle.rds_sync.specs.declared.item.Block.TheVariants.{Read}
 use Rattle.rds_code.specs.declared.reading.Wanted.TheVariants.{Either}
 use Rattle.rds_sync.specs.Groups.{block_at, wanted_beside}
 use Rattle.rds_sync.proofs.GroupBlocks.{blocks_at-next}
-use Rattle.rds_sync.proofs.WindowLemmas.{good-reading}
+use Rattle.rds_sync.proofs.HeardLemmas.{good-reading}
 use Rattle.rds_sync.proofs.lock.read_due.Goals as goal
 use Rattle.rds_sync.proofs.lock.read_due.Goals.{then-lock-eq3, else-lock-eq3}
 
 pub returns-clause-valid : goal.returns-clause-valid
 returns-clause-valid c =
     c.is_valid-valid.ensures
-    ∙ good-reading c.args.rec.now c.args.lock.due c.args.lock.number c.window.result c.if-lock-eq3.wanted c.args.rules.now.burst c.read-reading.result
+    ∙ good-reading c.args.reader.now c.args.lock.due c.args.lock.number c.window.result c.if-lock-eq3.wanted c.args.rules.now.burst c.read-reading.result
     (omega arith) c.window.ensures.value c.read-reading.ensures
 
 pub returns-clause-blocks : goal.returns-clause-blocks
 returns-clause-blocks c =
     let l = c.args.lock in
-    let b = c.args.rec.now in
+    let b = c.args.reader.now in
     let rules = c.args.rules.now in
     ap (λ (blocks : List Block). set blocks (l.number - 1) (Read c.read-reading.result)) c.requires.in_progress
     ∙ blocks_at-next b rules l.first l.number l.due c.if-lock-eq3.wanted (Read c.read-reading.result) (omega arith) (omega arith) (omega arith)
     (ap Read c.read-reading.ensures
-    ∙ ap (λ (w : ℕ). Read (reading w l.number c.if-lock-eq3.wanted rules.burst)) c.window.ensures.value)
+    ∙ ap (λ (h : Option ℕ). Read (reading_heard h l.number c.if-lock-eq3.wanted rules.burst)) c.window.ensures.value)
     (λ other. elim c.if-lock-eq3.branch [
       | then-lock-eq3 w ↦ absurd (other w.if-lock-eq3.true)
       | else-lock-eq3 w ↦ w.wanted-is

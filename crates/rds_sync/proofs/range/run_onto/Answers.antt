@@ -1,28 +1,32 @@
-use Rattle.std.proofs.Common.{◌-◌, List, ◌++◌, ap, sym, refl, ◌∙◌, append_assoc, arith}
+use Rattle.std.proofs.Common.{◌-◌, List, ◌++◌, ap, sym, subst, refl, ◌∙◌, append_assoc, arith}
+use Rattle.rds_stream.specs.Recording.{Signal}
 use Rattle.rds_sync.specs.declared.item.Item.{Item}
 use Rattle.rds_sync.specs.declared.state.State.{State}
 use Rattle.rds_sync.specs.Step.{run}
+use Rattle.rds_sync.specs.Stretch.{IsStretch}
 use Rattle.rds_sync.proofs.RunLemmas.{run-further}
 use Rattle.rds_sync.proofs.range.run_onto.Goals as goal
 
 pub loop-place-preserved : goal.loop-place-preserved
 loop-place-preserved c =
     let far = c.loop-place.invariant in
-    let b = c.args.rec.now in
+    let b = c.args.reader.now in
     let rules = c.args.rules.now in
     let l = c.loop-place in
     let r = c.in_ok-reached.reached in
-    let came = c.in_ok-reached.ensures.reached in
+    let came = subst (λ (signal : Signal). IsStretch signal rules l.now l.place c.args.to r) far.same c.in_ok-reached.ensures.reached in
     let so_far = run b rules c.args.state c.args.from (l.place - c.args.from) in
     let more = (run b rules l.now l.place (r.place - l.place)).1 in
     let further = run-further b rules c.args.state l.now r.state so_far.1 more c.args.from l.place r.place far.from_on
     (omega (arith, came.forward)) (ap (λ (s : State). (s, so_far.1)) (sym far.state)) came.state refl in
     record {
+      same = c.in_ok-reached.ensures.same ∙ far.same;
       from_on = omega (arith, far.from_on, came.forward);
       limit = came.limit;
       lawful = came.lawful;
       state = sym (ap (λ (after : State × List Item). after.0) further);
       found = c.in_ok-reached.ensures.items
+          ∙ ap (λ (signal : Signal). l.items ++ (run signal rules l.now l.place (r.place - l.place)).1) far.same
           ∙ ap (λ (is : List Item). is ++ more) far.found
           ∙ append_assoc c.args.items.now so_far.1 more
           ∙ ap (λ (after : State × List Item). c.args.items.now ++ after.1) (sym further);

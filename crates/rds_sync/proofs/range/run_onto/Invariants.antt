@@ -1,4 +1,5 @@
 use Rattle.std.proofs.Common.{◌≡◌, ◌≤◌, ◌-◌, ◌++◌, ℕ, List}
+use Rattle.rds_stream.specs.Recording.{Signal}
 use Rattle.rds_sync.specs.declared.state.State.{State}
 use Rattle.rds_sync.specs.declared.item.Item.{Item}
 use Rattle.rds_sync.specs.Rules.{RuleNumbers}
@@ -6,8 +7,9 @@ use Rattle.rds_sync.specs.Lawful.{IsLawful}
 use Rattle.rds_sync.specs.Step.{run}
 use Rattle.rds_sync.proofs.range.run_onto.Given as goal
 
--- the run has come to this place
-pub record HasRun (b : List ℕ) (rules : RuleNumbers) (s : State) (from to place : ℕ) (now : State) (before items : List Item) : Type 0 where
+-- the run has come to this place, by a reader of the recording
+pub record HasRun (b read : Signal) (rules : RuleNumbers) (s : State) (from to place : ℕ) (now : State) (before items : List Item) : Type 0 where
+  pub same : read ≡ b
   pub from_on : from ≤ place
   pub limit : place ≤ to
   pub lawful : IsLawful rules place now
@@ -15,7 +17,7 @@ pub record HasRun (b : List ℕ) (rules : RuleNumbers) (s : State) (from to plac
   pub found : items ≡ before ++ (run b rules s from (place - from)).1
 
 abbrev pub invariant-loop-place : goal.invariant-loop-place
-invariant-loop-place l = HasRun l.rec l.rules l.fn.state l.from l.to l.place l.now l.fn.items l.items
+invariant-loop-place l = HasRun l.fn.reader l.reader l.rules l.fn.state l.from l.to l.place l.now l.fn.items l.items
 
 abbrev pub decreases-loop-place : goal.decreases-loop-place
 decreases-loop-place l = l.to - l.place

@@ -10,7 +10,7 @@ use Rattle.rds_sync.proofs.step.advance.Goals as goal
 
 pub returns-in-Searching-clause-lawful : goal.returns-in-Searching-clause-lawful
 returns-in-Searching-clause-lawful g c =
-    let b = g.T.Tape.bits c.args.tape.now in
+    let b = g.T.Tape.signal c.args.tape.now in
     let rules = c.args.rules.now in
     subst (λ (t : State). IsLawful rules c.search.result.place t) (sym c.search.ensures.state)
     (subst (λ (p : ℕ). IsLawful rules p (step b rules c.args.place Searching)) (sym c.search.ensures.place)
@@ -22,7 +22,7 @@ returns-in-Locked-clause-state g c =
     let lock = lawful-lock c.args.rules.now c.args.state c.args.place l.due l.number l.bad l.first l.is c.requires.lawful in
     c.read_due.ensures.state
     ∙ sym (ap (λ (r : State × List Item). r.0)
-    (run-due (g.T.Tape.bits c.args.tape.now) c.args.rules.now c.args.state c.args.place c.read_due.result.place l.due l.number l.bad l.first l.is
+    (run-due (g.T.Tape.signal c.args.tape.now) c.args.rules.now c.args.state c.args.place c.read_due.result.place l.due l.number l.bad l.first l.is
     lock.soon.0 c.read_due.ensures.place))
 
 pub returns-in-Locked-clause-items : goal.returns-in-Locked-clause-items
@@ -31,19 +31,19 @@ returns-in-Locked-clause-items g c =
     let lock = lawful-lock c.args.rules.now c.args.state c.args.place l.due l.number l.bad l.first l.is c.requires.lawful in
     c.read_due.ensures.items
     ∙ sym (ap (λ (r : State × List Item). r.1)
-    (run-due (g.T.Tape.bits c.args.tape.now) c.args.rules.now c.args.state c.args.place c.read_due.result.place l.due l.number l.bad l.first l.is
+    (run-due (g.T.Tape.signal c.args.tape.now) c.args.rules.now c.args.state c.args.place c.read_due.result.place l.due l.number l.bad l.first l.is
     lock.soon.0 c.read_due.ensures.place))
 
 pub returns-in-Locked-2-clause-state : goal.returns-in-Locked-2-clause-state
 returns-in-Locked-2-clause-state g c =
     let l = c.in-Locked in
     sym (ap (λ (r : State × List Item). r.0)
-    (run-early (g.T.Tape.bits c.args.tape.now) c.args.rules.now c.args.state c.args.place c.args.to l.due l.number l.bad l.first l.is
+    (run-early (g.T.Tape.signal c.args.tape.now) c.args.rules.now c.args.state c.args.place c.args.to l.due l.number l.bad l.first l.is
     (omega (arith, c.requires.before)) c.if-due-to.false))
 
 pub returns-in-Locked-2-clause-items : goal.returns-in-Locked-2-clause-items
 returns-in-Locked-2-clause-items g c =
     let l = c.in-Locked in
     sym (ap (λ (r : State × List Item). r.1)
-    (run-early (g.T.Tape.bits c.args.tape.now) c.args.rules.now c.args.state c.args.place c.args.to l.due l.number l.bad l.first l.is
+    (run-early (g.T.Tape.signal c.args.tape.now) c.args.rules.now c.args.state c.args.place c.args.to l.due l.number l.bad l.first l.is
     (omega (arith, c.requires.before)) c.if-due-to.false))

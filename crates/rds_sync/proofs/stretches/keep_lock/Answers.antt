@@ -1,13 +1,15 @@
 use Rattle.std.proofs.Common.{◌≡◌, ◌≤◌, ◌+◌, ◌-◌, ◌++◌, ℕ, List, [], refl, ap, ap₂, sym, subst, ◌∙◌, arith, append-nil, inl, inr}
+use Rattle.rds_stream.specs.Recording.{Signal}
 use Rattle.rds_sync.specs.declared.item.Block.{Block}
 use Rattle.rds_sync.specs.declared.item.Item.{Item}
 use Rattle.rds_sync.specs.declared.due.Due.{Due}
+use Rattle.rds_sync.specs.declared.due.Due.TheVariants.{Inside, Closed, Lost}
 use Rattle.rds_sync.specs.declared.due.Lock.{Lock}
 use Rattle.rds_sync.specs.declared.state.State.{State}
 use Rattle.rds_sync.specs.declared.state.State.TheVariants.{Locked}
 use Rattle.rds_sync.specs.Lawful.{IsLawful}
-use Rattle.rds_sync.specs.Due.{state_of}
-use Rattle.rds_sync.specs.Locks.{IsFollowed}
+use Rattle.rds_sync.specs.Inside.Due.{state_in, state_of}
+use Rattle.rds_sync.specs.Inside.Locks.{IsFollowed}
 use Rattle.rds_sync.specs.Loss.{IsLoss}
 use Rattle.rds_sync.specs.Rules.{RuleNumbers}
 use Rattle.rds_sync.specs.Step.{step, items_at, run}
@@ -16,8 +18,8 @@ use Rattle.rds_sync.proofs.RunLemmas.{run-further, run-due, run-early, run-quiet
 use Rattle.rds_sync.proofs.stretches.keep_lock.Invariants.{HasFollowed}
 use Rattle.rds_sync.proofs.stretches.keep_lock.Goals as goal
 
-module _ (b : List ℕ) (rules : RuleNumbers) (s : State) (place to : ℕ) (now : Lock) (before items : List Item) (blocks : List Block)
-    (loss : IsLoss rules.loss) (followed : HasFollowed b rules s place to before now blocks items) where
+module _ (b read : Signal) (rules : RuleNumbers) (s : State) (place to : ℕ) (now : Lock) (before items : List Item) (blocks : List Block)
+    (loss : IsLoss rules.loss) (followed : HasFollowed b read rules s place to before now blocks items) where
   abbrev lock : State
   lock = Locked now.due now.number now.bad now.first
 
@@ -39,9 +41,17 @@ module _ (b : List ℕ) (rules : RuleNumbers) (s : State) (place to : ℕ) (now 
       run-further b rules s lock _ [] [] place followed.next later followed.from_on low followed.so_far
       (sym (ap (λ (r : State × List Item). r.0) wait)) (sym (ap (λ (r : State × List Item). r.1) wait))
 
+-- what the block that is due does over what was read, it does over the recording
+module _ (b read : Signal) (rules : RuleNumbers) (lock : Lock) (same : read ≡ b) where
+  state_over : (t : State) → t ≡ step read rules lock.due (state_in lock) → t ≡ step b rules lock.due (state_in lock)
+  state_over t is = is ∙ ap (λ (signal : Signal). step signal rules lock.due (state_in lock)) same
+
+  items_over : (before after : List Item) → after ≡ before ++ items_at read rules lock.due (state_in lock) → after ≡ before ++ items_at b rules lock.due (state_in lock)
+  items_over before after is = is ∙ ap (λ (signal : Signal). before ++ items_at signal rules lock.due (state_in lock)) same
+
 pub loop-now-preserved : goal.loop-now-preserved
 loop-now-preserved c =
-    let b = c.args.rec.now in
+    let b = c.args.reader.now in
     let rules = c.args.rules.now in
     let a = c.args.lock in
     let s : State = Locked a.due a.number a.bad a.first in
@@ -50,28 +60,35 @@ loop-now-preserved c =
     let now = l.now in
     let followed = l.invariant in
     let soon = followed.lawful.soon in
-    let more = one_more b rules s c.args.place c.args.to now c.args.items.now l.items l.blocks loss followed in
-    let state_is = ap (λ (o : Due). state_of o) (sym c.in-Inside.is) ∙ c.in_ok-next.ensures.state in
-    let goes = subst (λ (o : Due). IsFollowed b rules now c.follow.new.blocks o) c.in-Inside.is c.in_ok-next.ensures.followed in
+    let more = one_more b c.loop-now.reader rules s c.args.place c.args.to now c.args.items.now l.items l.blocks loss followed in
+    let state_is = ap (λ (o : Due). state_of o) (sym c.in-Inside.is) ∙ state_over b c.loop-now.reader rules now followed.same _ c.in_ok-next.ensures.state in
+    let goes = subst (λ (signal : Signal). IsFollowed signal rules now c.follow.new.blocks (Inside c.in-Inside.next)) followed.same
+    (subst (λ (o : Due). IsFollowed c.loop-now.reader rules now c.follow.new.blocks o) c.in-Inside.is c.in_ok-next.ensures.followed) in
     record {
+      same = c.in_ok-next.ensures.same ∙ followed.same;
       next = now.due + 1;
       from_on = omega (arith, followed.from_on, soon.0);
       limit = omega (arith, c.loop-now-test.true);
       lawful = subst (λ (t : State). IsLawful rules (now.due + 1) t) (sym state_is)
-          (lawful_after b rules s c.args.place c.args.to now c.args.items.now l.items l.blocks loss followed);
+          (lawful_after b c.loop-now.reader rules s c.args.place c.args.to now c.args.items.now l.items l.blocks loss followed);
       in_progress = goes.in_progress;
       so_far = more ∙ ap₂ (λ (t : State) (is : List Item). (t, is)) (sym state_is) goes.nothing;
-      items_are = c.in_ok-next.ensures.items ∙ ap₂ (λ (is js : List Item). is ++ js) followed.items_are goes.nothing ∙ append-nil c.args.items.now;
+      items_are = items_over b c.loop-now.reader rules now followed.same _ _ c.in_ok-next.ensures.items ∙ ap₂ (λ (is js : List Item). is ++ js) followed.items_are goes.nothing ∙ append-nil c.args.items.now;
     }
 
 pub loop-now-smaller : goal.loop-now-smaller
 loop-now-smaller c =
-    let goes = subst (λ (o : Due). IsFollowed c.args.rec.now c.args.rules.now c.loop-now.now c.follow.new.blocks o) c.in-Inside.is c.in_ok-next.ensures.followed in
+    let b = c.args.reader.now in
+    let rules = c.args.rules.now in
+    let now = c.loop-now.now in
+    let followed = c.loop-now.invariant in
+    let goes = subst (λ (signal : Signal). IsFollowed signal rules now c.follow.new.blocks (Inside c.in-Inside.next)) followed.same
+    (subst (λ (o : Due). IsFollowed c.loop-now.reader rules now c.follow.new.blocks o) c.in-Inside.is c.in_ok-next.ensures.followed) in
     omega (arith, goes.due, c.loop-now-test.true)
 
 pub returns-in-Closed-clause-reached : goal.returns-in-Closed-clause-reached
 returns-in-Closed-clause-reached c =
-    let b = c.args.rec.now in
+    let b = c.args.reader.now in
     let rules = c.args.rules.now in
     let a = c.args.lock in
     let s : State = Locked a.due a.number a.bad a.first in
@@ -80,25 +97,26 @@ returns-in-Closed-clause-reached c =
     let now = l.now in
     let followed = l.invariant in
     let soon = followed.lawful.soon in
-    let more = one_more b rules s c.args.place c.args.to now c.args.items.now l.items l.blocks loss followed in
-    let state_is = c.state.ensures ∙ ap (λ (o : Due). state_of o) (sym c.in-Closed.is) ∙ c.in_ok-next.ensures.state in
-    let given = subst (λ (o : Due). IsFollowed b rules now c.follow.new.blocks o) c.in-Closed.is c.in_ok-next.ensures.followed in
+    let more = one_more b c.loop-now.reader rules s c.args.place c.args.to now c.args.items.now l.items l.blocks loss followed in
+    let state_is = c.state.ensures ∙ ap (λ (o : Due). state_of o) (sym c.in-Closed.is) ∙ state_over b c.loop-now.reader rules now followed.same _ c.in_ok-next.ensures.state in
+    let given = subst (λ (signal : Signal). IsFollowed signal rules now c.follow.new.blocks (Closed c.in-Closed.next)) followed.same
+    (subst (λ (o : Due). IsFollowed c.loop-now.reader rules now c.follow.new.blocks o) c.in-Closed.is c.in_ok-next.ensures.followed) in
     let last : now.due + 1 - 1 ≡ now.due = omega arith in (
       record {
         forward = omega (arith, followed.from_on, soon.0);
         limit = omega (arith, c.loop-now-test.true);
         state = state_is ∙ sym (ap (λ (r : State × List Item). r.0) more);
-        quiet = rw last (ap (λ (r : State × List Item). r.1) (waited b rules s c.args.place c.args.to now c.args.items.now l.items l.blocks loss followed now.due soon.0 (omega arith)));
+        quiet = rw last (ap (λ (r : State × List Item). r.1) (waited b c.loop-now.reader rules s c.args.place c.args.to now c.args.items.now l.items l.blocks loss followed now.due soon.0 (omega arith)));
         ended = inr (λ none. given (sym (ap (λ (r : State × List Item). r.1) more) ∙ none));
         lawful = subst (λ (t : State). IsLawful rules (now.due + 1) t) (sym state_is)
-            (lawful_after b rules s c.args.place c.args.to now c.args.items.now l.items l.blocks loss followed);
+            (lawful_after b c.loop-now.reader rules s c.args.place c.args.to now c.args.items.now l.items l.blocks loss followed);
       },
-      c.in_ok-next.ensures.items ∙ ap₂ (λ (is js : List Item). is ++ js) followed.items_are (sym (ap (λ (r : State × List Item). r.1) more)),
+      items_over b c.loop-now.reader rules now followed.same _ _ c.in_ok-next.ensures.items ∙ ap₂ (λ (is js : List Item). is ++ js) followed.items_are (sym (ap (λ (r : State × List Item). r.1) more)),
     )
 
 pub returns-in-Lost-clause-reached : goal.returns-in-Lost-clause-reached
 returns-in-Lost-clause-reached c =
-    let b = c.args.rec.now in
+    let b = c.args.reader.now in
     let rules = c.args.rules.now in
     let a = c.args.lock in
     let s : State = Locked a.due a.number a.bad a.first in
@@ -107,25 +125,26 @@ returns-in-Lost-clause-reached c =
     let now = l.now in
     let followed = l.invariant in
     let soon = followed.lawful.soon in
-    let more = one_more b rules s c.args.place c.args.to now c.args.items.now l.items l.blocks loss followed in
-    let state_is = ap (λ (o : Due). state_of o) (sym c.in-Lost.is) ∙ c.in_ok-next.ensures.state in
-    let given = subst (λ (o : Due). IsFollowed b rules now c.follow.new.blocks o) c.in-Lost.is c.in_ok-next.ensures.followed in
+    let more = one_more b c.loop-now.reader rules s c.args.place c.args.to now c.args.items.now l.items l.blocks loss followed in
+    let state_is = ap (λ (o : Due). state_of o) (sym c.in-Lost.is) ∙ state_over b c.loop-now.reader rules now followed.same _ c.in_ok-next.ensures.state in
+    let given = subst (λ (signal : Signal). IsFollowed signal rules now c.follow.new.blocks Lost) followed.same
+    (subst (λ (o : Due). IsFollowed c.loop-now.reader rules now c.follow.new.blocks o) c.in-Lost.is c.in_ok-next.ensures.followed) in
     let last : now.due + 1 - 1 ≡ now.due = omega arith in (
       record {
         forward = omega (arith, followed.from_on, soon.0);
         limit = omega (arith, c.loop-now-test.true);
         state = state_is ∙ sym (ap (λ (r : State × List Item). r.0) more);
-        quiet = rw last (ap (λ (r : State × List Item). r.1) (waited b rules s c.args.place c.args.to now c.args.items.now l.items l.blocks loss followed now.due soon.0 (omega arith)));
+        quiet = rw last (ap (λ (r : State × List Item). r.1) (waited b c.loop-now.reader rules s c.args.place c.args.to now c.args.items.now l.items l.blocks loss followed now.due soon.0 (omega arith)));
         ended = inr (λ none. given (sym (ap (λ (r : State × List Item). r.1) more) ∙ none));
         lawful = subst (λ (t : State). IsLawful rules (now.due + 1) t) (sym state_is)
-            (lawful_after b rules s c.args.place c.args.to now c.args.items.now l.items l.blocks loss followed);
+            (lawful_after b c.loop-now.reader rules s c.args.place c.args.to now c.args.items.now l.items l.blocks loss followed);
       },
-      c.in_ok-next.ensures.items ∙ ap₂ (λ (is js : List Item). is ++ js) followed.items_are (sym (ap (λ (r : State × List Item). r.1) more)),
+      items_over b c.loop-now.reader rules now followed.same _ _ c.in_ok-next.ensures.items ∙ ap₂ (λ (is js : List Item). is ++ js) followed.items_are (sym (ap (λ (r : State × List Item). r.1) more)),
     )
 
 pub returns-clause-reached : goal.returns-clause-reached
 returns-clause-reached c =
-    let b = c.args.rec.now in
+    let b = c.args.reader.now in
     let rules = c.args.rules.now in
     let a = c.args.lock in
     let s : State = Locked a.due a.number a.bad a.first in
@@ -133,7 +152,7 @@ returns-clause-reached c =
     let l = c.loop-now in
     let now = l.now in
     let followed = l.invariant in
-    let wait = waited b rules s c.args.place c.args.to now c.args.items.now l.items l.blocks loss followed c.args.to followed.limit c.loop-now-test.false in
+    let wait = waited b c.loop-now.reader rules s c.args.place c.args.to now c.args.items.now l.items l.blocks loss followed c.args.to followed.limit c.loop-now-test.false in
     let nothing = ap (λ (r : State × List Item). r.1) wait in (
       record {
         forward = c.requires.order;

@@ -1,17 +1,20 @@
 use Rattle.std.proofs.Common.{◌≡◌, ◌≤◌, ◌-◌, ℕ, List, []}
+use Rattle.rds_stream.specs.Recording.{Signal}
 use Rattle.rds_sync.specs.declared.item.Block.{Block}
 use Rattle.rds_sync.specs.declared.item.Item.{Item}
 use Rattle.rds_sync.specs.declared.due.Lock.{Lock}
 use Rattle.rds_sync.specs.declared.state.State.{State}
 use Rattle.rds_sync.specs.declared.state.State.TheVariants.{Locked}
 use Rattle.rds_sync.specs.Lawful.{IsLawfulLock}
-use Rattle.rds_sync.specs.Locks.{IsInProgress}
+use Rattle.rds_sync.specs.Inside.Locks.{IsInProgress}
 use Rattle.rds_sync.specs.Rules.{RuleNumbers}
 use Rattle.rds_sync.specs.Step.{run}
 use Rattle.rds_sync.proofs.stretches.keep_lock.Given as goal
 
--- the run from state s is in this lock before the bit at some place, with the blocks of its group, and gave nothing
-pub record HasFollowed (b : List ℕ) (rules : RuleNumbers) (s : State) (place to : ℕ) (before : List Item) (now : Lock) (blocks : List Block) (items : List Item) : Type 0 where
+-- the run from state s is in this lock before the bit at some place, with the blocks of its group, and gave nothing; what was read
+-- is the recording
+pub record HasFollowed (b read : Signal) (rules : RuleNumbers) (s : State) (place to : ℕ) (before : List Item) (now : Lock) (blocks : List Block) (items : List Item) : Type 0 where
+  pub same : read ≡ b
   pub next : ℕ
   pub from_on : place ≤ next
   pub limit : next ≤ to
@@ -21,7 +24,7 @@ pub record HasFollowed (b : List ℕ) (rules : RuleNumbers) (s : State) (place t
   pub items_are : items ≡ before
 
 abbrev pub invariant-loop-now : goal.invariant-loop-now
-invariant-loop-now l = HasFollowed l.rec l.rules (Locked l.fn.lock.due l.fn.lock.number l.fn.lock.bad l.fn.lock.first) l.place l.to l.initial.items l.now l.blocks l.items
+invariant-loop-now l = HasFollowed l.fn.reader l.reader l.rules (Locked l.fn.lock.due l.fn.lock.number l.fn.lock.bad l.fn.lock.first) l.place l.to l.initial.items l.now l.blocks l.items
 
 abbrev pub decreases-loop-now : goal.decreases-loop-now
 decreases-loop-now l = l.to - l.now.due

@@ -1,12 +1,13 @@
 use Rattle.std.proofs.Common.{◌≡◌, ◌≤◌, ◌<◌, ◌+◌, ◌-◌, ◌++◌, ℕ, true, false, List, Some, None, refl, ap, sym, subst, ◌∙◌, arith, append-nil, inl, inr}
+use Rattle.std.specs.List.{list_any, range_with_len}
 use Rattle.std.proofs.lemmas.Bool.{cases_lt}
 use Rattle.rds_code.specs.declared.offset.Offset.{Offset}
-use Rattle.rds_stream.specs.Recording.{off}
+use Rattle.rds_stream.specs.Recording.{Signal, heard, off}
 use Rattle.rds_stream.specs.ValidWindows.{WindowsLeft, GivesFirst, NoneValid}
 use Rattle.rds_sync.specs.declared.item.Item.{Item}
 use Rattle.rds_sync.specs.declared.state.State.{State}
 use Rattle.rds_sync.specs.declared.state.State.TheVariants.{Searching}
-use Rattle.rds_sync.specs.Acquiring.{acquired}
+use Rattle.rds_sync.specs.Acquiring.{acquired, has_partner}
 use Rattle.rds_sync.specs.Advance.{items_in}
 use Rattle.rds_sync.specs.Lawful.{IsLawful}
 use Rattle.rds_sync.specs.Rules.{RuleNumbers}
@@ -16,24 +17,25 @@ use Rattle.rds_sync.specs.Step.{step, locked_after}
 use Rattle.rds_sync.proofs.ItemLemmas.{some_given}
 use Rattle.rds_sync.proofs.RunLemmas.{step-acquiring, items-acquiring, run-found, run-quiet, run-unfound}
 use Rattle.rds_sync.proofs.LawfulLemmas.{acquired-none, lawful-step, number-range, off-place}
-use Rattle.rds_sync.proofs.WindowLemmas.{acquired-offset}
+use Rattle.rds_sync.proofs.HeardLemmas.{acquired-offset}
 use Rattle.rds_sync.proofs.stretches.search.Invariants.{HasSearched}
 use Rattle.rds_sync.proofs.stretches.search.Goals as goal
 
-module _ (b : List ℕ) (rules : RuleNumbers) (place to : ℕ) (old : WindowsLeft) (before items : List Item)
-    (searched : HasSearched b rules place to old before items) where
+module _ (b read : Signal) (rules : RuleNumbers) (place to : ℕ) (old : WindowsLeft) (before items : List Item)
+    (searched : HasSearched b read rules place to old before items) where
   -- no place acquires up to one before which no window is valid
-  none_before : (p : ℕ) → NoneValid old.bits old.next p → (j : ℕ) → place ≤ j → j < p → acquired b rules j ≡ None
+  none_before : (p : ℕ) → NoneValid old.signal old.next p → (j : ℕ) → place ≤ j → j < p → acquired b rules j ≡ None
   none_before p none j low high = elim (cases_lt j old.next) [
     | inl earlier ↦ searched.none j low earlier
-    | inr late ↦ acquired-none b rules j (subst (λ (bits : List ℕ). off bits j ≡ None) searched.bits (none j late high))
+    | inr late ↦ acquired-none b rules j (subst (λ (bits : Signal). off bits j ≡ None) searched.signal (none j late high))
   ]
 
   -- the window that is given next does not acquire
-  one_more : (found : ℕ × Offset) (new : WindowsLeft) → GivesFirst old (Some found) new → acquired b rules found.0 ≡ None → HasSearched b rules place to new before items
+  one_more : (found : ℕ × Offset) (new : WindowsLeft) → GivesFirst old (Some found) new → acquired b rules found.0 ≡ None → HasSearched b read rules place to new before items
   one_more found new gives this =
-      subst (λ (left : WindowsLeft). HasSearched b rules place to left before items) (sym gives.4) (record {
-        bits = searched.bits;
+      subst (λ (left : WindowsLeft). HasSearched b read rules place to left before items) (sym gives.4) (record {
+        same = searched.same;
+        signal = searched.signal;
         end = searched.end;
         from_on = omega (arith, searched.from_on, gives.0);
         none = λ j low high. elim (cases_lt j found.0) [
@@ -46,7 +48,7 @@ module _ (b : List ℕ) (rules : RuleNumbers) (place to : ℕ) (old : WindowsLef
       })
 
   offset_is : (found : ℕ × Offset) (new : WindowsLeft) → GivesFirst old (Some found) new → off b found.0 ≡ Some found.1
-  offset_is found new gives = subst (λ (bits : List ℕ). off bits found.0 ≡ Some found.1) searched.bits gives.3
+  offset_is found new gives = subst (λ (bits : Signal). off bits found.0 ≡ Some found.1) searched.signal gives.3
 
   from_here : (found : ℕ × Offset) (new : WindowsLeft) → GivesFirst old (Some found) new → (place ≤ found.0) × (found.0 < to)
   from_here found new gives = (omega (arith, searched.from_on, gives.0), omega (arith, gives.1, searched.end))
@@ -56,28 +58,30 @@ module _ (b : List ℕ) (rules : RuleNumbers) (place to : ℕ) (old : WindowsLef
 
 pub loop-here-preserved : goal.loop-here-preserved
 loop-here-preserved c =
-    let b = c.args.rec.now in
+    let b = c.args.reader.now in
     let rules = c.args.rules.now in
     let here = c.in-Some.here in
     let offset = c.in-Some.offset in
     let searched = c.loop-here.invariant.2 in
     let old = c.loop-here.here-iterator in
     let given = c.in-Some.ensures.steps in
-    let is = offset_is b rules c.args.place c.args.to old c.args.items.now c.loop-here.items searched (here, offset) c.next.new.self given in
+    let is = offset_is b c.loop-here.reader rules c.args.place c.args.to old c.args.items.now c.loop-here.items searched (here, offset) c.next.new.self given in
+    let partner_is = c.has_partner_in.ensures
+    ∙ ap (λ (signal : Signal). list_any (has_partner signal here c.number-number.result) (range_with_len 1 rules.reach)) c.recording-rec.ensures in
     let none = acquired-offset b rules here c.number-number.result offset c.has_partner_in.result false
-    is c.number-number.ensures c.has_partner_in.ensures c.if-has_partner_in.false in
-    (tt, tt, one_more b rules c.args.place c.args.to old c.args.items.now c.loop-here.items searched (here, offset) c.next.new.self given none)
+    is c.number-number.ensures partner_is c.if-has_partner_in.false in
+    (tt, tt, one_more b c.loop-here.reader rules c.args.place c.args.to old c.args.items.now c.loop-here.items searched (here, offset) c.next.new.self given none)
 
 pub window-requires-clause-first : goal.window-requires-clause-first
 window-requires-clause-first c =
-    off-place c.args.rec.now c.in-Some.here c.in-Some.offset
-    (offset_is c.args.rec.now c.args.rules.now c.args.place c.args.to c.loop-here.here-iterator c.args.items.now c.loop-here.items
+    off-place c.args.reader.now c.in-Some.here c.in-Some.offset
+    (offset_is c.args.reader.now c.loop-here.reader c.args.rules.now c.args.place c.args.to c.loop-here.here-iterator c.args.items.now c.loop-here.items
     c.loop-here.invariant.2 (c.in-Some.here, c.in-Some.offset) c.next.new.self c.in-Some.ensures.steps)
 
 pub items-requires : goal.items-requires
 items-requires c =
-    let late = off-place c.args.rec.now c.in-Some.here c.in-Some.offset
-    (offset_is c.args.rec.now c.args.rules.now c.args.place c.args.to c.loop-here.here-iterator c.args.items.now c.loop-here.items
+    let late = off-place c.args.reader.now c.in-Some.here c.in-Some.offset
+    (offset_is c.args.reader.now c.loop-here.reader c.args.rules.now c.args.place c.args.to c.loop-here.here-iterator c.args.items.now c.loop-here.items
     c.loop-here.invariant.2 (c.in-Some.here, c.in-Some.offset) c.next.new.self c.in-Some.ensures.steps) in
     record { block = (late, c.window.ensures.block) }
 
@@ -86,7 +90,7 @@ lock-requires-clause-number c = omega (arith, c.number-number.ensures, number-ra
 
 pub returns-then-has_partner_in-clause-reached : goal.returns-then-has_partner_in-clause-reached
 returns-then-has_partner_in-clause-reached c =
-    let b = c.args.rec.now in
+    let b = c.args.reader.now in
     let rules = c.args.rules.now in
     let here = c.in-Some.here in
     let offset = c.in-Some.offset in
@@ -94,18 +98,20 @@ returns-then-has_partner_in-clause-reached c =
     let old = c.loop-here.here-iterator in
     let given = c.in-Some.ensures.steps in
     let number = c.number-number.result in
-    let is = offset_is b rules c.args.place c.args.to old c.args.items.now c.loop-here.items searched (here, offset) c.next.new.self given in
-    let range = from_here b rules c.args.place c.args.to old c.args.items.now c.loop-here.items searched (here, offset) c.next.new.self given in
-    let none = none_before b rules c.args.place c.args.to old c.args.items.now c.loop-here.items searched here given.2 in
+    let is = offset_is b c.loop-here.reader rules c.args.place c.args.to old c.args.items.now c.loop-here.items searched (here, offset) c.next.new.self given in
+    let range = from_here b c.loop-here.reader rules c.args.place c.args.to old c.args.items.now c.loop-here.items searched (here, offset) c.next.new.self given in
+    let none = none_before b c.loop-here.reader rules c.args.place c.args.to old c.args.items.now c.loop-here.items searched here given.2 in
+    let partner_is = c.has_partner_in.ensures
+    ∙ ap (λ (signal : Signal). list_any (has_partner signal here number) (range_with_len 1 rules.reach)) c.recording-rec.ensures in
     let e : acquired b rules here ≡ Some number =
     acquired-offset b rules here number offset c.has_partner_in.result true
-    is c.number-number.ensures c.has_partner_in.ensures c.if-has_partner_in.true in
+    is c.number-number.ensures partner_is c.if-has_partner_in.true in
     let run_is = run-found b rules c.args.place here range.0 none in
     let state_is : c.state.result ≡ step b rules here Searching =
     c.state.ensures ∙ c.lock.ensures
     ∙ ap (λ (loss : Loss). locked_after here number (none_bad loss) number) c.loss.ensures.value
     ∙ sym (step-acquiring b rules here number e) in
-    let given = c.items.ensures b c.window.ensures.value ∙ sym (items-acquiring b rules here number e) in
+    let given = c.items.ensures b (c.window.ensures.value ∙ ap (λ (signal : Signal). heard signal here) searched.same) ∙ sym (items-acquiring b rules here number e) in
     let last : here + 1 - 1 ≡ here = omega arith in (
       record {
         forward = omega (arith, range.0);
@@ -123,10 +129,10 @@ returns-then-has_partner_in-clause-reached c =
 
 pub returns-clause-reached : goal.returns-clause-reached
 returns-clause-reached c =
-    let b = c.args.rec.now in
+    let b = c.args.reader.now in
     let rules = c.args.rules.now in
     let searched = c.loop-here.invariant.2 in
-    let none = all b rules c.args.place c.args.to c.loop-here.here-iterator c.args.items.now c.loop-here.items searched c.next.new.self c.in-None.ensures.steps in
+    let none = all b c.loop-here.reader rules c.args.place c.args.to c.loop-here.here-iterator c.args.items.now c.loop-here.items searched c.next.new.self c.in-None.ensures.steps in
     let run_is = run-unfound b rules c.args.place c.args.to (omega arith) none in
     let nothing = ap (λ (r : State × List Item). r.1) run_is in (
       record {

@@ -30,7 +30,7 @@ pub returns-in_err-task-clause-prefix : goal.returns-in_err-task-clause-prefix
 returns-in_err-task-clause-prefix g c = λ p. absurd ((task_inside g c).1 p)
 
 -- the refusal of a text is no device's
-text_inside : (g : Over) (c : goal.Joined-task-2 g)
+text_inside : (g : Over) (c : goal.After-from_residual-in_err-text g)
     → (c.from_residual-in_err-text.result ≢ Err Read) × (c.from_residual-in_err-text.result ≢ Err Write) × (c.from_residual-in_err-text.result ≢ Err TooManyTurns)
 text_inside g c =
     let task = c.in_ok-task.task in

@@ -1,7 +1,7 @@
 use Rattle.std.proofs.Common.{◌++◌, ◌-◌, ◌≡◌, drop, take}
 use Rattle.std.specs.List.{flat_map}
 use Rattle.rds_tool.specs.Listing.{item_row}
-use Rattle.rds_tool.specs.RowWriter.{IsBetween, text_of}
+use Rattle.rds_tool.specs.Inside.RowWriter.{IsBetween, text_of}
 use Rattle.rds_tool.proofs.listing.item_rows.Given as goal
 
 abbrev pub invariant-loop-item : goal.invariant-loop-item

@@ -1,7 +1,7 @@
 use Rattle.std.proofs.Common.{Bor, List, get_or, length, map, refl, rules, ◌≡◌, ℕ}
 use Rattle.rds_sync.specs.declared.item.Item.TheVariants.{Group}
 use Rattle.rds_tool.specs.Listing.{item_fields}
-use Rattle.rds_tool.specs.RowWriter.{IsPlain}
+use Rattle.rds_tool.specs.Inside.RowWriter.{IsPlain}
 use Rattle.rds_tool.proofs.RowText.{block_plain, decimal_plain, four_blocks, version_plain}
 use Rattle.rds_tool.proofs.listing.push_group.Goals as goal
 

@@ -1,7 +1,7 @@
 use Rattle.std.proofs.Common.{◌++◌, ◌≡◌, take}
 use Rattle.std.specs.List.{flat_map}
 use Rattle.rds_tool.specs.Listing.{total_row}
-use Rattle.rds_tool.specs.RowWriter.{IsBetween, text_of}
+use Rattle.rds_tool.specs.Inside.RowWriter.{IsBetween, text_of}
 use Rattle.rds_tool.proofs.listing.push_named.Given as goal
 
 abbrev pub invariant-loop-name : goal.invariant-loop-name

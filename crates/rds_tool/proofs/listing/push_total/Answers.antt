@@ -1,5 +1,5 @@
 use Rattle.std.proofs.Common.{refl, rules}
-use Rattle.rds_tool.specs.RowWriter.{IsPlain}
+use Rattle.rds_tool.specs.Inside.RowWriter.{IsPlain}
 use Rattle.rds_tool.proofs.RowText.{decimal_plain}
 use Rattle.rds_tool.proofs.listing.push_total.Goals as goal
 

@@ -1,5 +1,5 @@
 use Rattle.std.proofs.Common.{rules}
-use Rattle.rds_tool.specs.RowWriter.{IsPlain}
+use Rattle.rds_tool.specs.Inside.RowWriter.{IsPlain}
 use Rattle.rds_tool.proofs.RowText.{decimal_plain, name_plain}
 use Rattle.rds_tool.proofs.listing.push_window.Goals as goal
 

@@ -1,7 +1,7 @@
 use Rattle.std.proofs.Common.{◌≡◌, take}
 use Rattle.std.specs.List.{flat_map}
 use Rattle.rds_tool.specs.Listing.{window_row}
-use Rattle.rds_tool.specs.RowWriter.{IsBetween, text_of}
+use Rattle.rds_tool.specs.Inside.RowWriter.{IsBetween, text_of}
 use Rattle.rds_tool.proofs.listing.window_rows.Given as goal
 
 abbrev pub invariant-loop-place : goal.invariant-loop-place

@@ -1,6 +1,6 @@
 use Rattle.std.proofs.Common.{take, ◌≡◌}
 use Rattle.std.specs.Io.KnownBytes.{Appends}
-use Rattle.rds_tool.specs.Texts.{joined}
+use Rattle.rds_tool.specs.Inside.Texts.{joined}
 use Rattle.rds_tool.proofs.text.write_parts.Given as goal
 
 abbrev pub invariant-loop-part : goal.invariant-loop-part

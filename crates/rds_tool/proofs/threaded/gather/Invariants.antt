@@ -2,7 +2,7 @@ use Rattle.std.proofs.Common.{◌*◌, ◌≡◌, drop, length, take}
 use Rattle.std.specs.List.{flat_map}
 use Rattle.std.specs.Vec.Iter.{into_iter_items}
 use Rattle.rds_tool.specs.Listing.{item_row}
-use Rattle.rds_tool.specs.Texts.{joined}
+use Rattle.rds_tool.specs.Inside.Texts.{joined}
 use Rattle.rds_tool.proofs.threaded.gather.Given as goal
 
 abbrev pub invariant-loop-text : goal.invariant-loop-text

@@ -1,5 +1,4 @@
-use Rattle.std.proofs.Common.{refl, subst}
-use Rattle.rds_code.specs.Bursts.{IsBurst}
+use Rattle.std.proofs.Common.{refl}
 use Rattle.rds_code.specs.declared.offset.Offset.TheVariants.{C}
 use Rattle.rds_uses.proofs.code.taken_for_other_version.Goals as goal
 

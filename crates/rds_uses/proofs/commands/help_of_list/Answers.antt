@@ -1,18 +1,14 @@
-use Rattle.std.proofs.Common.{◌≡◌, [], ◌∷◌, Result, Ok, Err, OnOk, map, rules}
+use Rattle.std.proofs.Common.{◌≡◌, map, rules}
 use Rattle.std.proofs.lemmas.Result.{IfErr-weaker}
 use Rattle.clap.specs.declared.error.kind.ErrorKind.TheVariants as kind
-use Rattle.rds_uses.proofs.CommandLines.{asks_for_help, help_of_list, help_or_memory}
+use Rattle.rds_uses.proofs.CommandLines.{asks_for_help, help_of_list, help_or_memory, never_ok}
 use Rattle.rds_uses.proofs.commands.help_of_list.Goals as goal
-
-never_ok : {T E : Type 0} (answer : Result T E) → OnOk answer (kind.DisplayHelp ∷ [] ≡ []) → OnOk answer ⊥
-never_ok (Ok job) h = let no : kind.DisplayHelp ∷ [] ≡ [] = h in cc
-never_ok (Err fault) h = tt
 
 pub returns-clause-no_job : goal.returns-clause-no_job
 returns-clause-no_job c =
     let words_are : map (λ word. word.now) c.as_slice.result.now ≡ help_of_list = search rules in
     let faultless = c.job_of.ensures.faultless in
-    never_ok c.job_of.result (rw (words_are, asks_for_help) at faultless)
+    never_ok kind.DisplayHelp c.job_of.result (rw (words_are, asks_for_help) at faultless)
 
 pub returns-clause-help : goal.returns-clause-help
 returns-clause-help c =

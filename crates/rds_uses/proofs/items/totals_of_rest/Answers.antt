@@ -1,5 +1,4 @@
-use Rattle.std.proofs.Common.{◌≡◌, drop}
-use Rattle.rds_sync.specs.Counting.{IsRest}
+use Rattle.std.proofs.Common.{drop}
 use Rattle.rds_sync.specs.Totals.{totals_of}
 use Rattle.rds_uses.proofs.Rests.{totals_rest}
 use Rattle.rds_uses.proofs.items.totals_of_rest.Goals as goal

@@ -1,4 +1,5 @@
 use Rattle.std.proofs.Common.{ℕ, ◌+◌, ◌≤◌, ◌≡◌, List, Ok, Err, IfOk, length, arith}
+use Rattle.rds_stream.specs.Recording.{Signal}
 use Rattle.rds_pieces.specs.RunOf.{RunOf, FollowEachOther}
 use Rattle.rds_pieces.specs.Seams.{IsSumOfReads}
 use Rattle.rds_pieces.specs.declared.error.PieceError.{PieceError}
@@ -8,7 +9,7 @@ use Rattle.rds_sync.specs.declared.state.State.TheVariants.{Searching}
 use Rattle.rds_uses.proofs.Meetings.{one_seam}
 use Rattle.rds_uses.proofs.pieces.cost_of_one_piece.Goals as goal
 
-cheap : (b : List ℕ) (rules : RuleNumbers) (runs : List RunOf) (len old new : ℕ) (result : _) → FollowEachOther b rules 0 len runs → length runs ≡ 1
+cheap : (b : Signal) (rules : RuleNumbers) (runs : List RunOf) (len old new : ℕ) (result : _) → FollowEachOther b rules 0 len runs → length runs ≡ 1
     → IfOk result (λ (_ : Report). (n : ℕ) × IsSumOfReads b rules Searching runs n × (new ≤ old + n + 3))
     → IfOk {E = PieceError} result (λ (_ : Report). new ≤ old + (rules.reach + 2) + 3)
 cheap b rules runs len old new (Ok report) row one reads = omega (arith, reads.2, one_seam b rules runs len reads.0 row one reads.1)

@@ -1,4 +1,5 @@
-use Rattle.std.proofs.Common.{ℕ, ◌+◌, ◌*◌, ◌≤◌, List, Result, Ok, Err, IfOk, arith}
+use Rattle.std.proofs.Common.{ℕ, ◌+◌, ◌*◌, ◌≤◌, Ok, Err, IfOk, arith}
+use Rattle.rds_stream.specs.Recording.{Signal}
 use Rattle.rds_pieces.specs.Meeting.{IsMeeting, distance}
 use Rattle.rds_pieces.specs.declared.error.PieceError.{PieceError}
 use Rattle.rds_pieces.specs.declared.meeting.Seam.{Seam}
@@ -7,7 +8,7 @@ use Rattle.rds_sync.specs.declared.state.State.TheVariants.{Searching}
 use Rattle.rds_uses.proofs.Meetings.{met_at_once, cost_at_once}
 use Rattle.rds_uses.proofs.pieces.met_at_once.Goals as goal
 
-cheap : (b : List ℕ) (rules : RuleNumbers) (from to old new : ℕ) (result : _) → from ≤ to
+cheap : (b : Signal) (rules : RuleNumbers) (from to old new : ℕ) (result : _) → from ≤ to
     → IfOk result (λ (s : Seam). IsMeeting b rules Searching Searching from to s.met_at)
     → IfOk result (λ (s : Seam). new ≤ old + (rules.reach + 2) * (distance from to s.met_at + 1))
     → IfOk {E = PieceError} result (λ _. new ≤ old + (rules.reach + 2))

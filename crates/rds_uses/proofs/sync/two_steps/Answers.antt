@@ -1,4 +1,4 @@
-use Rattle.std.proofs.Common.{ℕ, ◌+◌, ◌≤◌, Bool, true, false, nat_lt, arith}
+use Rattle.std.proofs.Common.{ℕ, ◌≤◌, Bool, true, false, nat_lt, arith}
 use Rattle.rds_sync.specs.Advance.{reads_most}
 use Rattle.rds_sync.specs.Rules.{RuleNumbers}
 use Rattle.rds_sync.specs.declared.state.State.{State}

@@ -1,6 +1,6 @@
 use Rattle.std.proofs.Common.{◌≡◌, ℕ, ◌∙◌, sym, ap, subst, arith, List, length, get_or, replicate, take, drop, ◌++◌}
 use Rattle.std.proofs.lemmas.List.{get_or-replicate, take-append-le, take_all, length-replicate}
-use Rattle.rds_code.specs.BurstTable.{IsSound, IsBurstTable}
+use Rattle.rds_code.specs.Inside.BurstTable.{IsSound, IsBurstTable}
 use Rattle.rds_code.proofs.table.BurstTable.new.Goals as goal
 
 -- nothing stands in an empty table

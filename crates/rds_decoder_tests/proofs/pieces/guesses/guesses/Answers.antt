@@ -1,6 +1,7 @@
-use Rattle.std.proofs.Common.{◌≡◌, ℕ, List, [], ◌∷◌, ◌++◌, length, map, sym, ap, ap₂, ◌∙◌, subst, arith}
+use Rattle.std.proofs.Common.{◌≡◌, ℕ, List, [], ◌∷◌, ◌++◌, map, sym, ap, ap₂, ◌∙◌, subst, arith}
 use Rattle.std.specs.List.{range_with_len}
 use Rattle.std.proofs.lemmas.List.FromFn.{map-range_with_len_more}
+use Rattle.rds_stream.specs.Recording.{length_of}
 use Rattle.rds_pieces.specs.Cutting.{pieces_of}
 use Rattle.rds_pieces.specs.RunOf.{RunOf, run_at, FollowEachOther}
 use Rattle.rds_decoder_tests.proofs.pieces.guesses.guesses.Goals as goal
@@ -17,6 +18,6 @@ returns g c =
     let rules = g.W.Work.rule_set c.args.work.now in
     let count = c.pieces-j-end.ensures ∙ ap (λ (ps : List ℕ). pieces_of ps) c.cutting.ensures in
     let all : c.loop-j.j ≡ pieces_of (g.W.Work.places c.args.work.now) = omega arith in
-    subst (λ (rs : List RunOf). FollowEachOther b rules 0 (length b) rs)
+    subst (λ (rs : List RunOf). FollowEachOther b rules 0 (length_of b) rs)
     (sym (c.loop-j.invariant ∙ ap (λ (n : ℕ). map (run_at b rules (g.W.Work.places c.args.work.now)) (range_with_len 0 n)) all))
     (c.pieces_follow.ensures b rules (g.W.Work.places c.args.work.now) c.requires)

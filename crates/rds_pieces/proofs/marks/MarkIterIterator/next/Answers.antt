@@ -2,7 +2,7 @@ use Rattle.std.proofs.Common.{◌+◌, ◌∷◌, ◌∙◌, List, drop, ap}
 use Rattle.std.specs.List.{flat_map}
 use Rattle.rds_pieces.specs.declared.mark.Mark.{Mark}
 use Rattle.rds_pieces.specs.declared.marks.Row.{Row}
-use Rattle.rds_pieces.specs.Rows.{marks_in}
+use Rattle.rds_pieces.specs.Inside.Rows.{marks_in}
 use Rattle.rds_pieces.proofs.MarkRows.{left_begins, left_goes_on, next_row}
 use Rattle.rds_pieces.proofs.marks.MarkIterIterator.next.Goals as goal
 

@@ -8,7 +8,7 @@ use Rattle.rds_pieces.proofs.work.RecordingWorkWork.report.Goals as goal
 
 pub returns-clause-totals : goal.returns-clause-totals
 returns-clause-totals c =
-    renamed (λ b rules. IfOk c.stitch.result (λ report. report.totals ≡ totals_of (report_items b rules))) c.new-tape.result.bits c.args.self.now.recording c.self.inside.rules.now c.args.self.now.rules
-    (ap (λ (t : TapeState). t.bits) c.new-tape.ensures ∙ ap (λ (w : WorkOf). w.recording) c.self.view_is)
+    renamed (λ b rules. IfOk c.stitch.result (λ report. report.totals ≡ totals_of (report_items b rules))) c.new-tape.result.signal c.args.self.now.recording c.self.inside.rules.now c.args.self.now.rules
+    (ap (λ (t : TapeState). t.signal) c.new-tape.ensures ∙ ap (λ (w : WorkOf). w.recording) c.self.view_is)
     (ap (λ (w : WorkOf). w.rules) c.self.view_is)
     c.stitch.ensures.totals

@@ -12,4 +12,5 @@ invariant_of-result c =
       λ more. omega arith,
       omega (arith, c.requires.order),
       c.requires.end,
+      λ i low high. absurd (omega arith),
     )

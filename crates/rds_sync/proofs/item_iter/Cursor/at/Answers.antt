@@ -2,8 +2,8 @@ use Rattle.std.proofs.Common.{◌<◌, List, ◌++◌, drop, length, ap, sym, su
 use Rattle.std.proofs.lemmas.List.{drop-map, drop-append-le, take_rest}
 use Rattle.rds_sync.specs.declared.item.Item.{Item}
 use Rattle.rds_sync.specs.declared.kept.Kept.{Kept}
-use Rattle.rds_sync.specs.Kept.{item_of, items_of}
-use Rattle.rds_sync.specs.Parts.{items_in, IsInFirst}
+use Rattle.rds_sync.specs.Inside.Kept.{item_of, items_of}
+use Rattle.rds_sync.specs.Inside.Parts.{items_in, IsInFirst}
 use Rattle.rds_sync.proofs.item_iter.Cursor.at.Goals as goal
 
 pub returns-in-Some-clause-ahead : goal.returns-in-Some-clause-ahead

@@ -1,6 +1,6 @@
 use Rattle.std.proofs.Common.{◌≡◌, length}
 use Rattle.rds_sync.specs.declared.item_iter.Cursor.{Cursor}
-use Rattle.rds_sync.specs.Cursors.{items_ahead, IsSound}
+use Rattle.rds_sync.specs.Inside.Cursors.{items_ahead, IsSound}
 use Rattle.rds_sync.proofs.item_iter.Cursor.settled.Given as goal
 
 -- it stands at the same place, and is sound

@@ -2,9 +2,9 @@ use Rattle.std.proofs.Common.{◌≤◌, List, All, length, take, ap, sym, subst
 use Rattle.std.proofs.lemmas.List.Elements.{All-take}
 use Rattle.rds_sync.specs.declared.item.Item.{Item}
 use Rattle.rds_sync.specs.declared.kept.Kept.{Kept}
-use Rattle.rds_sync.specs.Cursors.{items_ahead}
-use Rattle.rds_sync.specs.Kept.{IsFound}
-use Rattle.rds_sync.specs.Parts.{items_in}
+use Rattle.rds_sync.specs.Inside.Cursors.{items_ahead}
+use Rattle.rds_sync.specs.Inside.Kept.{IsFound}
+use Rattle.rds_sync.specs.Inside.Parts.{items_in}
 use Rattle.rds_sync.proofs.CursorLemmas.{some_taken, taken_first}
 use Rattle.rds_sync.proofs.item_iter.ItemIter.next_kept.Goals as goal
 

@@ -2,9 +2,9 @@ use Rattle.std.proofs.Common.{◌≡◌, suc, List, ◌∷◌, ◌++◌, All, le
 use Rattle.std.proofs.lemmas.List.Elements.{All-drop}
 use Rattle.rds_sync.specs.declared.item.Item.{Item}
 use Rattle.rds_sync.specs.declared.kept.Kept.{Kept}
-use Rattle.rds_sync.specs.Cursors.{items_ahead}
-use Rattle.rds_sync.specs.Kept.{items_of, IsFound}
-use Rattle.rds_sync.specs.Parts.{items_in}
+use Rattle.rds_sync.specs.Inside.Cursors.{items_ahead}
+use Rattle.rds_sync.specs.Inside.Kept.{items_of, IsFound}
+use Rattle.rds_sync.specs.Inside.Parts.{items_in}
 use Rattle.rds_sync.proofs.item_iter.ItemIterIterator.next.Goals as goal
 
 pub invariant_of-self-2 : goal.invariant_of-self-2

@@ -1,6 +1,6 @@
 use Rattle.std.proofs.Common.{◌<◌, List, length, slice_get, ap, sym, ◌∙◌, arith}
 use Rattle.rds_sync.specs.declared.item.Item.{Item}
-use Rattle.rds_sync.specs.Parts.{items_in}
+use Rattle.rds_sync.specs.Inside.Parts.{items_in}
 use Rattle.rds_sync.proofs.PartsLemmas.{found_there}
 use Rattle.rds_sync.proofs.items.Items.get.Goals as goal
 

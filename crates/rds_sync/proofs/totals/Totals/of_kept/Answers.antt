@@ -6,7 +6,7 @@ use Rattle.rds_sync.specs.declared.kept.Kept.{Kept}
 use Rattle.rds_sync.specs.declared.kept.Kept.TheVariants.{WithC, Other}
 use Rattle.rds_sync.specs.declared.totals.Totals.{Totals}
 use Rattle.rds_sync.specs.Counting.{plus, whole_totals, IsAtMost}
-use Rattle.rds_sync.specs.Kept.{item_of, items_of, IsFound}
+use Rattle.rds_sync.specs.Inside.Kept.{item_of, items_of, IsFound}
 use Rattle.rds_sync.specs.Totals.{totals_of}
 use Rattle.rds_sync.proofs.TotalsLemmas.{totals_of-append, IsAtMost-more, plus_swap, plus_whole, whole_counts}
 use Rattle.rds_sync.proofs.totals.Totals.of_kept.Invariants.{HasCounted}

@@ -3,7 +3,7 @@ use Rattle.rds_sync.specs.declared.item.Item.{Item}
 use Rattle.rds_sync.specs.declared.kept.Kept.{Kept}
 use Rattle.rds_sync.specs.declared.totals.Totals.{Totals}
 use Rattle.rds_sync.specs.Counting.{plus, whole_totals, IsAtMost}
-use Rattle.rds_sync.specs.Kept.{items_of}
+use Rattle.rds_sync.specs.Inside.Kept.{items_of}
 use Rattle.rds_sync.specs.Totals.{totals_of}
 use Rattle.rds_sync.proofs.totals.Totals.of_kept.Given as goal
 

@@ -3,7 +3,7 @@ use Rattle.std.proofs.lemmas.List.{length-map}
 use Rattle.rds_sync.specs.declared.item.Item.{Item}
 use Rattle.rds_sync.specs.declared.totals.Totals.{Totals}
 use Rattle.rds_sync.specs.Counting.{plus}
-use Rattle.rds_sync.specs.Kept.{item_of, items_of}
+use Rattle.rds_sync.specs.Inside.Kept.{item_of, items_of}
 use Rattle.rds_sync.proofs.RangeLemmas.{range_len}
 use Rattle.rds_sync.proofs.TotalsLemmas.{totals_of-append, IsAtMost-more}
 use Rattle.rds_sync.proofs.totals.Totals.of_range.Goals as goal

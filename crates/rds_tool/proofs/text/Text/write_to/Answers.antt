@@ -1,6 +1,6 @@
 use Rattle.std.proofs.Common.{Ok, subst, ◌++◌, ◌≡◌}
 use Rattle.rds_tool.specs.Outcome.{WritesPrefix}
-use Rattle.rds_tool.specs.Texts.{joined}
+use Rattle.rds_tool.specs.Inside.Texts.{joined}
 use Rattle.rds_tool.proofs.Passing.{on_any_err}
 use Rattle.rds_tool.proofs.Steps.{appends_kept, appends_more, prefix_more, prefix_whole}
 use Rattle.rds_tool.proofs.text.Text.write_to.Goals as goal

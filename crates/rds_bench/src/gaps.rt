@@ -1,0 +1,65 @@
+//! One decoder, and the valid windows, over a recording without gaps and over the same with many.
+use crate::sample::Sample;
+use crate::timing::Timing;
+use anyhow::Result;
+use rds_stream::{Recording, ValidWindows};
+use rds_sync::{Rules, decode_plain};
+use std::alloc::{AllocError, Global};
+use std::time::Instant;
+
+/// There is a gap of one place in so many: 100,000 of them in a recording of 100,000,000 bits.
+const EVERY: u64 = 1_000;
+
+pub fn measure(rt: &HostRuntime, bits: u64, sample: Sample) -> Result<()> {
+    let whole = sample.recording(rt.alloc(), bits)?;
+    let gapped = with_gaps(rt.alloc(), bits, sample)?;
+    let rules = Rules::new(rt.alloc(), 2, 3, 10)?;
+
+    let mut timing = Timing::new(whole.len());
+    time_decoder(rt, &mut timing, "one decoder", &whole, &rules)?;
+    time_decoder(rt, &mut timing, "over many gaps", &gapped, &rules)?;
+
+    let mut timing = Timing::new(whole.len());
+    time_windows(rt, &mut timing, "valid windows", &whole)?;
+    time_windows(rt, &mut timing, "outside many gaps", &gapped)
+}
+
+fn time_decoder(
+    rt: &HostRuntime,
+    timing: &mut Timing,
+    form: &str,
+    recording: &Recording,
+    rules: &Rules,
+) -> Result<()> {
+    let start = Instant::now(rt)?;
+    let totals = decode_plain(rt.alloc(), recording, rules)?.totals;
+    timing.show(rt, form, start, totals.valid)
+}
+
+fn time_windows(
+    rt: &HostRuntime,
+    timing: &mut Timing,
+    form: &str,
+    recording: &Recording,
+) -> Result<()> {
+    let start = Instant::now(rt)?;
+    let found = ValidWindows::new(recording, 0, recording.len()).count();
+    timing.show(rt, form, start, found as u64)
+}
+
+fn with_gaps(alloc: Global, bits: u64, sample: Sample) -> Result<Recording> {
+    let bytes = sample.bytes(alloc, bits)?;
+    let held = (bytes.len() as u64).saturating_mul(8);
+    let gaps = gaps_in(alloc, held)?;
+    Ok(Recording::with_gaps(bytes, held, gaps).map_err(|refused| refused.0)?)
+}
+
+/// Gaps of one place, apart by about as many, at places of no pattern.
+fn gaps_in(alloc: Global, bits: u64) -> Result<Vec<(u64, u64)>, AllocError> {
+    let mut gaps = Vec::new(alloc);
+    for k in 0..bits / EVERY {
+        let from = k * EVERY + k % (EVERY - 1) * 7_919 % (EVERY - 1);
+        gaps.push((from, from + 1))?;
+    }
+    Ok(gaps)
+}

@@ -1,0 +1,154 @@
+//! Sixteen guesses made into one report: stitched from left to right, and joined by a tree.
+ghost use Rattle.std.specs.Prelude.{IfOk};
+ghost use Rattle.rds_stream.specs.Recording.{length_of};
+ghost use Rattle.rds_pieces.specs.Cutting.{IsCutting};
+ghost use Rattle.rds_pieces.specs.RunOf.{FollowEachOther};
+
+use crate::sample::Sample;
+use crate::timing::Timing;
+use anyhow::{Context, Result, bail};
+use rds_crew::{Gate, decode_crew};
+use rds_pieces::{Cutting, PieceError, PieceRun, RecordingWork, Work, laws};
+use rds_sync::Rules;
+use std::alloc::{AllocError, Global};
+use std::sync::{Mutex, Wait};
+use std::thread::Threads;
+use std::time::Instant;
+
+const PIECES: u64 = 16;
+
+/// How many blocks back a guess may look for its partner: with four it locks on a false phase of zero groups.
+const REACH: u32 = 4;
+
+/// The bits of a group.
+const GROUP: u64 = 104;
+
+/// Where in a group the pieces but the first begin, by turns: from there on zero groups show their own phase first, or
+/// a false one, on which a guess stays.
+const BEGINS: [u64; 2] = [22, 86];
+
+/// A tree of so many workers: how its joins are shown, and how with the guesses before them.
+struct Form {
+    workers: u32,
+    joins: &'static str,
+    all: &'static str,
+}
+
+const FORMS: [Form; 2] = [
+    Form {
+        workers: 1,
+        joins: "a tree, one worker",
+        all: "with its guesses",
+    },
+    Form {
+        workers: 4,
+        joins: "a tree, four workers",
+        all: "with their guesses",
+    },
+];
+
+pub fn measure<T: Sync + Threads + Wait>(
+    rt: &HostRuntime,
+    threads: &T,
+    bits: u64,
+    sample: Sample,
+) -> Result<()> {
+    let recording = sample.recording(rt.alloc(), bits)?;
+    let rules = Rules::new(rt.alloc(), 2, REACH, 10)?;
+    let len = recording.len();
+    let Ok(cutting) = Cutting::new(places(rt.alloc(), len)?, len) else {
+        bail!("too few bits for {PIECES} pieces")
+    };
+    let work = RecordingWork::new(&recording, &rules, &cutting);
+    time_all(rt, threads, &work, len)
+}
+
+/// The places of sixteen pieces of about one length.
+fn places(alloc: Global, len: u64) -> Result<Vec<u64>, AllocError> {
+    let mut places = Vec::new(alloc);
+    places.push(0)?;
+    for j in 1..PIECES {
+        let group = (len / GROUP / PIECES).saturating_mul(j);
+        let begin = BEGINS[(j % 2) as usize];
+        places.push(group.saturating_mul(GROUP).saturating_add(begin))?;
+    }
+    places.push(len)?;
+    Ok(places)
+}
+
+/// A gate that keeps when the first join is begun. By then all guesses are made.
+#[derive(Drop)]
+struct Stopwatch<'a, T> {
+    rt: &'a HostRuntime,
+    threads: &'a T,
+    begun: Mutex<Option<Instant>>,
+}
+
+impl<T: Wait> Gate for Stopwatch<'_, T> {
+    fn begin(&self, _j: u64) {}
+
+    fn done(&self, _j: u64, _run: &PieceRun) {}
+
+    fn join_begin(&self, level: u32, m: u64) {
+        if level == 1 && m == 0 {
+            *self.begun.lock(self.threads) = Instant::now(self.rt).ok();
+        }
+    }
+}
+
+fn time_all<T: Sync + Threads + Wait, W: Work + Sync>(
+    rt: &HostRuntime,
+    threads: &T,
+    work: &W,
+    bits: u64,
+) -> Result<()>
+    requires { IsCutting (length_of (W.recording work.now)) (W.places work.now) }
+{
+    let mut timing = Timing::new(bits);
+    let runs = guesses(rt.alloc(), work)?;
+    let start = Instant::now(rt)?;
+    let valid = work.report(rt.alloc(), runs.as_slice())?.totals.valid;
+    timing.show(rt, "left to right", start, valid)?;
+    drop(runs);
+    for form in FORMS.iter() {
+        time_tree(rt, threads, work, &mut timing, form)?;
+    }
+    Ok(())
+}
+
+/// The guesses of all pieces, in order.
+fn guesses<W: Work>(alloc: Global, work: &W) -> Result<Vec<PieceRun>, PieceError>
+    requires { IsCutting (length_of (W.recording work.now)) (W.places work.now) }
+    ensures { IfOk result (λ runs. FollowEachOther (W.recording work.now) (W.rule_set work.now) 0
+        (length_of (W.recording work.now)) runs.items) }
+{
+    laws::pieces_follow();
+    let mut runs = Vec::new(alloc);
+    for j in 0..work.cutting().pieces() {
+        let run = work.guess(alloc, j)?;
+        runs.push(run)?;
+    }
+    Ok(runs)
+}
+
+/// Times the joins alone, and then with the guesses before them.
+fn time_tree<T: Sync + Threads + Wait, W: Work + Sync>(
+    rt: &HostRuntime,
+    threads: &T,
+    work: &W,
+    timing: &mut Timing,
+    form: &Form,
+) -> Result<()>
+    requires { IsCutting (length_of (W.recording work.now)) (W.places work.now) }
+{
+    let gate = Stopwatch {
+        rt,
+        threads,
+        begun: Mutex::new(None),
+    };
+    let start = Instant::now(rt)?;
+    let report = decode_crew(threads, rt.alloc(), work, form.workers, &gate)?;
+    let begun = gate.begun.into_inner().context("no join was begun")?;
+    timing.show(rt, form.joins, begun, report.totals.valid)?;
+    timing.show(rt, form.all, start, report.totals.valid)
+}

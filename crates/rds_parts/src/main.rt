@@ -1,0 +1,100 @@
+//! `rds_parts`: calls that a crew is made of, each by itself: a join, a report stitched of two guesses, a dealer.
+//!
+//! tests/refusals.sh refuses memory to it, allocation by allocation. A call that was refused is made once more of the
+//! same recording, rules and runs, which have to be as they were: a refused allocation changes no answer of these calls.
+#![tactic(auto)]
+
+ghost use Rattle.std.specs.Prelude.{◌≡◌, IfOk};
+ghost use Rattle.rds_stream.specs.Recording.{length_of};
+ghost use Rattle.rds_pieces.specs.Cutting.{IsCutting, pieces_of};
+
+mod calls;
+
+use calls::Found;
+use rds_crew::{CrewError, Dealer};
+use rds_pieces::Cutting;
+use rds_stream::Recording;
+use rds_sync::Rules;
+use std::alloc::{AllocError, Global};
+use std::process::ExitCode;
+
+/// The bits of the group of four zero words.
+const ZERO_GROUP: [u8; 13] = [0, 0, 0x3F, 0, 0, 0x19, 0x80, 0, 0x05, 0xA0, 0, 0x01, 0xB4];
+
+fn main(rt: HostRuntime) -> ExitCode {
+    match answers(rt.alloc()) {
+        Ok(text) => {
+            let _ = print!(rt; "{text}");
+            ExitCode::SUCCESS
+        }
+        // Nothing else can be refused here.
+        Err(AllocError) => {
+            let _ = eprintln!(rt; "refused 8 OutOfMemory");
+            ExitCode::from(1)
+        }
+    }
+}
+
+/// What the calls answer over eight zero groups cut at place 190: by reach 3 the runs meet soon, by reach 4 never.
+fn answers(alloc: Global) -> Result<String, AllocError> {
+    let recording = eight_groups(alloc)?;
+    let mut text = String::new(alloc);
+    push_found(alloc, &mut text, &recording, 3)?;
+    push_found(alloc, &mut text, &recording, 4)?;
+    let seats = match seats(alloc) {
+        Ok(seats) => seats,
+        Err(_) => seats(alloc).map_err(|_| AllocError)?,
+    };
+    writeln!(text, "{seats} seats")?;
+    Ok(text)
+}
+
+fn eight_groups(alloc: Global) -> Result<Recording, AllocError> {
+    let mut bytes = Vec::new(alloc);
+    for _ in 0..8u32 {
+        bytes.extend_from_slice(&ZERO_GROUP)?;
+    }
+    Recording::from_bytes(bytes, 832).map_err(|_| AllocError)
+}
+
+/// A row of what a join and a report find by this reach.
+fn push_found(
+    alloc: Global,
+    text: &mut String,
+    recording: &Recording,
+    reach: u32,
+) -> Result<(), AllocError> {
+    let rules = Rules::new(alloc, 2, reach, 10).map_err(|_| AllocError)?;
+    let cutting = cut(alloc, recording)?;
+    let joined = calls::joined(alloc, recording, &rules, &cutting).map_err(|_| AllocError)?;
+    let stitched = calls::stitched(alloc, recording, &rules, &cutting).map_err(|_| AllocError)?;
+    push_row(text, "joined", joined)?;
+    push_row(text, "stitched", stitched)
+}
+
+fn push_row(text: &mut String, call: &str, found: Found) -> Result<(), AllocError> {
+    let Found {
+        items,
+        valid,
+        reads,
+    } = found;
+    writeln!(
+        text,
+        "{call} {items} items, {valid} valid blocks, {reads} windows"
+    )
+}
+
+/// The two pieces of the recording with a cut at place 190.
+fn cut(alloc: Global, recording: &Recording) -> Result<Cutting, AllocError>
+    ensures fits { IfOk result (λ cutting. IsCutting (length_of recording.now) cutting) }
+    ensures two { IfOk result (λ cutting. pieces_of cutting ≡ 2) }
+{
+    let places = vec![in alloc; 0, 190, recording.len()]?;
+    Cutting::new(places, recording.len()).map_err(|_| AllocError)
+}
+
+/// How many seats a dealer of eight numbers has, made for three.
+fn seats(alloc: Global) -> Result<usize, CrewError> {
+    let (_dealer, seats) = Dealer::new(alloc, 8, 3)?;
+    Ok(seats.len())
+}

@@ -1,0 +1,49 @@
+//! The valid windows of a recording, one place after the other.
+ghost use Rattle.std.specs.Prelude.{◌<◌, ◌^◌};
+
+use rds_code::plain;
+use rds_stream::Recording;
+use std::alloc::{AllocError, Global};
+
+/// A row for each place whose last 26 bits lie in no gap and leave an offset word.
+pub fn rows(
+    alloc: Global,
+    recording: &Recording,
+    gaps: &[(u64, u64)],
+) -> Result<String, AllocError> {
+    let mut text = String::new(alloc);
+    let mut window = 0u32;
+    let mut sound = 0u64;
+    for place in 0..recording.len() {
+        window = (window << 1 | u32::from(recording.bit(place))) % (1 << 26);
+        sound = if is_in(gaps, place) {
+            0
+        } else {
+            sound.saturating_add(1)
+        };
+        if let Some(name) = offset_name(window)
+            && 26 <= sound
+        {
+            writeln!(text, "{place},{name}")?;
+        }
+    }
+    Ok(text)
+}
+
+fn is_in(gaps: &[(u64, u64)], place: u64) -> bool {
+    gaps.iter().any(|gap| gap.0 <= place && place < gap.1)
+}
+
+/// The offset that 26 bits have, by long division.
+fn offset_name(window: u32) -> Option<&'static str>
+    requires { window < 2 ^ 26 }
+{
+    match plain::rem26(window) {
+        0x0FC => Some("A"),
+        0x198 => Some("B"),
+        0x168 => Some("C"),
+        0x350 => Some("Cx"),
+        0x1B4 => Some("D"),
+        _ => None,
+    }
+}

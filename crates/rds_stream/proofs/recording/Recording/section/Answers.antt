@@ -1,0 +1,32 @@
+use Rattle.std.proofs.Common.{ℕ, ◌-◌, List, arith, subst, true, false, length}
+use Rattle.rds_stream.specs.Recording.{Signal}
+use Rattle.rds_stream.specs.Inside.Gaps.{AllEndBy, IsFirstAfter}
+use Rattle.rds_stream.specs.Inside.Sections.{IsSection}
+use Rattle.rds_stream.proofs.GapLemmas.{touched_on, clear_before, clear_after}
+use Rattle.rds_stream.proofs.recording.Recording.section.Goals as goal
+
+pub returns-in-Some-clause-alike : goal.returns-in-Some-clause-alike
+returns-in-Some-clause-alike c =
+    let held : Signal = record { bits = c.self.inside.packed; gaps = c.self.inside.gaps.items } in
+    let place = c.args.place in
+    let to = c.min.result in
+    let gap : ℕ × ℕ = (c.in-Some.from, c.in-Some.to) in
+    let is = subst (λ (gaps : List (ℕ × ℕ)). IsFirstAfter gaps (place - 25) gap) c.deref.ensures.value c.in-Some.ensures in
+    subst (λ (b : Signal). IsSection b place to true) c.self.view_is
+    (touched_on held c.self.invariant place c.requires.first gap is c.if-from-place.true to (omega (arith, c.min.ensures)))
+
+pub returns-in-Some-2-clause-alike : goal.returns-in-Some-2-clause-alike
+returns-in-Some-2-clause-alike c =
+    let held : Signal = record { bits = c.self.inside.packed; gaps = c.self.inside.gaps.items } in
+    let place = c.args.place in
+    let gap : ℕ × ℕ = (c.in-Some.from, c.in-Some.to) in
+    let is = subst (λ (gaps : List (ℕ × ℕ)). IsFirstAfter gaps (place - 25) gap) c.deref.ensures.value c.in-Some.ensures in
+    subst (λ (b : Signal). IsSection b place c.in-Some.from false) c.self.view_is (clear_before held c.self.invariant place c.requires.first gap is)
+
+pub returns-in-None-clause-alike : goal.returns-in-None-clause-alike
+returns-in-None-clause-alike c =
+    let held : Signal = record { bits = c.self.inside.packed; gaps = c.self.inside.gaps.items } in
+    let place = c.args.place in
+    let to = c.len-len.result in
+    let over = subst (λ (gaps : List (ℕ × ℕ)). AllEndBy gaps (length gaps) (place - 25)) c.deref.ensures.value c.in-None.ensures in
+    subst (λ (b : Signal). IsSection b place to false) c.self.view_is (clear_after held c.self.invariant place c.requires.first over to)

@@ -1,0 +1,11 @@
+use Rattle.std.proofs.Common.{ℕ, List, ap, sym, ◌∙◌, subst, length}
+use Rattle.rds_stream.specs.Recording.{AreGaps}
+use Rattle.rds_stream.proofs.Places.{length-bits_of}
+use Rattle.rds_stream.proofs.recording.Recording.with_gaps.Goals as goal
+
+pub invariant_of-result : goal.invariant_of-result
+invariant_of-result c =
+    let bits = c.args.bits in
+    let long = sym (ap length c.new.ensures ∙ length-bits_of c.args.bytes.items bits) in
+    subst (λ (n : ℕ). AreGaps n c.args.gaps.items) long
+    (subst (λ (gaps : List (ℕ × ℕ)). AreGaps bits gaps) c.deref.ensures.value (c.are_gaps.ensures.0 c.if-not-are_gaps.false))

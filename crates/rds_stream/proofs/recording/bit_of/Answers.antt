@@ -1,6 +1,0 @@
-use Rattle.std.proofs.Common.{◌-◌, ◌/◌, ◌%◌, get_or}
-use Rattle.std.proofs.lemmas.Nat.Bits.{shr_and_one}
-use Rattle.rds_stream.proofs.recording.bit_of.Goals as goal
-
-pub returns-clause-value : goal.returns-clause-value
-returns-clause-value c = shr_and_one (get_or c.args.bytes.now (c.args.place / 8) 0) (7 - c.args.place % 8)

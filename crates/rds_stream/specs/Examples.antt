@@ -1,0 +1,3 @@
+-- Worked examples of the definitions: theorems that the checker computes.
+pub mod ZeroGroup
+pub mod RemaindersInPlanes

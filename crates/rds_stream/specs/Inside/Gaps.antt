@@ -1,0 +1,15 @@
+-- The first gap that goes past a place.
+use Rattle.std.specs.Prelude.{◌≡◌, ℕ, ◌<◌, ◌≤◌, List, length}
+use Rattle.std.specs.List.{AllWithin, HoldsAt}
+
+-- the first n gaps end at or before the place
+abbrev pub AllEndBy : List (ℕ × ℕ) → ℕ → ℕ → Type 0
+AllEndBy gaps n place = AllWithin (λ gap. gap.1 ≤ place) gaps 0 n
+
+-- this gap is the first that does not
+pub record IsFirstAfter (gaps : List (ℕ × ℕ)) (place : ℕ) (gap : ℕ × ℕ) : Type 0 where
+  pub index : ℕ
+  pub within : index < length gaps
+  pub is : HoldsAt (λ g. g ≡ gap) gaps index
+  pub past : place < gap.1
+  pub before : AllEndBy gaps index place

@@ -1,0 +1,45 @@
+//! Gaps: ranges of places whose bits mean nothing, by rising place.
+ghost use Rattle.std.specs.Prelude.{◌≡◌, ℕ, List, ◌<◌, ◌≤◌, ◌↔◌, length, true, false};
+ghost use Rattle.std.specs.List.{All, AllAdjacentBelow};
+ghost use Rattle.std.specs.Option.{MatchOption};
+ghost use Rattle.rds_stream.specs.Recording.{AreGaps};
+ghost use Rattle.rds_stream.specs.Inside.Gaps.{AllEndBy, IsFirstAfter};
+
+/// Places in a row whose windows all touch a gap, or of which none does: those from `from` to before `to`.
+#[derive(Clone, Copy, Drop)]
+pub(crate) struct Section {
+    pub from: u64,
+    pub to: u64,
+    pub touched: bool,
+}
+
+/// Whether these are gaps that so many bits may have: each has a place and lies within the bits, and each begins at or
+/// after the end of the one before it.
+pub(crate) fn are_gaps(gaps: &[(u64, u64)], bits: u64) -> bool
+    ensures { (result ≡ true) ↔ AreGaps bits gaps.now }
+{
+    are_within(gaps, bits) && are_apart(gaps)
+}
+
+/// Whether each has a place and lies within so many bits.
+fn are_within(gaps: &[(u64, u64)], bits: u64) -> bool
+    ensures { (result ≡ true) ↔ All (λ gap. (gap.0 < gap.1) × (gap.1 ≤ bits)) gaps.now }
+{
+    gaps.iter().all(|&(from, to)| from < to && to <= bits)
+}
+
+/// Whether each begins at or after the end of the one before it.
+fn are_apart(gaps: &[(u64, u64)]) -> bool
+    ensures { (result ≡ true) ↔ AllAdjacentBelow (λ gap next. gap.1 ≤ next.0) gaps.now (length gaps.now) }
+{
+    gaps.is_sorted_by(|gap, next| gap.1 <= next.0)
+}
+
+/// The first gap that goes past `place`, if there is one.
+pub(crate) fn first_after(gaps: &[(u64, u64)], bits: u64, place: u64) -> Option<(u64, u64)>
+    requires { AreGaps bits gaps.now }
+    ensures { MatchOption result (AllEndBy gaps.now (length gaps.now) place) (IsFirstAfter gaps.now place) }
+{
+    let before = gaps.partition_point(|gap| gap.1 <= place);
+    gaps.get(before).copied()
+}

@@ -1,0 +1,166 @@
+//! Packed bits with places.
+ghost use Rattle.std.specs.Prelude.{◌≡◌, List, ℕ, ◌+◌, ◌*◌, ◌^◌, ◌<◌, ◌≤◌, ◌↔◌, vec_len, length, slice_index, All, if◌then◌else◌, IfOk, IsOk};
+ghost use Rattle.rds_stream.specs.declared.error.StreamError.TheVariants.{TooLong, BitsPastBytes};
+ghost use Rattle.std.specs.Int.{bit_at};
+ghost use Rattle.rds_stream.specs.Recording.{packed_bit, bits_of, window};
+
+use crate::bit_order::lowest_first;
+use crate::error::StreamError;
+use std::marker::Model;
+
+/// The most bits that a recording may hold.
+const MOST_BITS: u64 = 1 << 36;
+
+/// Ones in the 26 places of a block.
+const BLOCK: u32 = (1 << 26) - 1;
+
+/// Packed bits with their places from 0 on. Contracts see the list of the bits, each 0 or 1.
+#[derive(Drop)]
+pub(crate) struct Packed {
+    bytes: Vec<u8>,
+    bits: u64,
+}
+
+impl Model for Packed {
+    ghost Value = { List ℕ };
+
+    ghost view = { λ r. bits_of r.bytes.items r.bits };
+
+    ghost invariant = { λ r. (r.bits ≤ 2 ^ 36) × (r.bits ≤ 8 * vec_len r.bytes) };
+}
+
+/// The bit at a place of packed bytes, the highest bit of a byte first.
+fn bit_of(bytes: &[u8], place: u64) -> u8
+    requires { place < 8 * length bytes.now }
+    ensures value { result ≡ packed_bit bytes.now place }
+    ensures digit { result < 2 }
+{
+    bytes[(place / 8) as usize] >> (7 - place % 8) & 1
+}
+
+impl Packed {
+    /// Why the bytes are not taken for so many bits, where they are not.
+    pub fn refusal(bytes: &Vec<u8>, bits: u64) -> Option<StreamError>
+        ensures taken { (result ≡ None) ↔ ((bits ≤ 2 ^ 36) × (bits ≤ 8 * vec_len bytes.now)) }
+
+        // What is too long is refused as such, whether or not the bytes hold it.
+        ensures too_long { (result ≡ Some TooLong) ↔ (2 ^ 36 < bits) }
+        ensures past_bytes { (result ≡ Some BitsPastBytes) ↔ ((bits ≤ 2 ^ 36) × (8 * vec_len bytes.now < bits)) }
+    {
+        if bits > MOST_BITS {
+            return Some(StreamError::TooLong);
+        }
+        if bits.div_ceil(8) > bytes.len() as u64 {
+            return Some(StreamError::BitsPastBytes);
+        }
+        None
+    }
+
+    /// The first `bits` bits of the bytes, the highest bit of a byte first.
+    pub fn new(bytes: Vec<u8>, bits: u64) -> Packed
+        requires limit { bits ≤ 2 ^ 36 }
+        requires held { bits ≤ 8 * vec_len bytes }
+        ensures { result ≡ bits_of bytes.items bits }
+    {
+        Packed { bytes, bits }
+    }
+
+    /// The number of bits, at most 2^36.
+    pub fn len(&self) -> u64
+        ensures value { result ≡ length self.now }
+        ensures limit { result ≤ 2 ^ 36 }
+    {
+        self.bits
+    }
+
+    /// Whether the bit at `place`, which is below the length, is a one.
+    pub fn bit(&self, place: u64) -> bool
+        requires { place < length self.now }
+        ensures { slice_index self.now place ≡ (if result then 1 else 0) }
+    {
+        bit_of(&self.bytes, place) == 1
+    }
+
+    /// The 26 bits that end at `place`, the first one highest (EN 50067:1998, 2.1). `place` is at least 25, and below
+    /// the length.
+    pub fn window(&self, place: u64) -> u32
+        requires first { 25 ≤ place }
+        requires last { place < length self.now }
+        ensures value { result ≡ window self.now place }
+        ensures block { result < 2 ^ 26 }
+    {
+        // A window lies in the eight bytes up to that of its last bit, or begins with the first ones.
+        let last = (place / 8) as usize;
+        if last < 7 {
+            return self.early_window(place);
+        }
+        let bytes = self.bytes.as_slice();
+        let eight = [
+            bytes[last - 7],
+            bytes[last - 6],
+            bytes[last - 5],
+            bytes[last - 4],
+            bytes[last - 3],
+            bytes[last - 2],
+            bytes[last - 1],
+            bytes[last],
+        ];
+        (u64::from_be_bytes(eight) >> (7 - place % 8) & BLOCK as u64) as u32
+    }
+
+    /// `window` at a place that may have fewer than seven bytes before its own.
+    fn early_window(&self, place: u64) -> u32
+        requires first { 25 ≤ place }
+        requires last { place < length self.now }
+        ensures value { result ≡ window self.now place }
+        ensures block { result < 2 ^ 26 }
+    {
+        // A window lies in four bytes, or in five where it begins with the last bit of one.
+        let last = (place / 8) as usize;
+        let bytes = self.bytes.as_slice();
+        let four = [
+            bytes[last - 3],
+            bytes[last - 2],
+            bytes[last - 1],
+            bytes[last],
+        ];
+        let before = if place % 8 == 0 { bytes[last - 4] } else { 0 };
+        let places = (before as u64) << 32 | u32::from_be_bytes(four) as u64;
+        (places >> (7 - place % 8) & BLOCK as u64) as u32
+    }
+
+    /// The bits at the 89 places from `from` on, the first one lowest, in two words of 57 places: the second begins 32
+    /// places after the first, so the windows at 64 places lie in them.
+    #[inline(always)]
+    pub fn places(&self, from: u64) -> [u64; 2]
+        requires { from + 89 ≤ length self.now }
+        ensures { (j k : ℕ) → j < 2 → k < 57
+            → bit_at (slice_index result j) k ≡ slice_index self.now (from + (32 * j + k)) }
+    {
+        // They lie in twelve bytes.
+        let first = (from / 8) as usize;
+        let bytes = self.bytes.as_slice();
+        [
+            eight_bytes(bytes, first) >> (from % 8),
+            eight_bytes(bytes, first + 4) >> (from % 8),
+        ]
+    }
+}
+
+/// The bits of the eight bytes from `first` on, the first one lowest.
+#[inline(always)]
+fn eight_bytes(bytes: &[u8], first: usize) -> u64
+    requires { first + 8 ≤ length bytes.now }
+    ensures { (k : ℕ) → k < 64 → bit_at result k ≡ packed_bit bytes.now (8 * first + k) }
+{
+    lowest_first([
+        bytes[first],
+        bytes[first + 1],
+        bytes[first + 2],
+        bytes[first + 3],
+        bytes[first + 4],
+        bytes[first + 5],
+        bytes[first + 6],
+        bytes[first + 7],
+    ])
+}

@@ -1,0 +1,82 @@
+//! A recording that is read in turn.
+ghost use Rattle.std.specs.Prelude.{◌≡◌, ◌<◌, ◌≤◌, ◌^◌, IfSome};
+ghost use Rattle.rds_stream.specs.Recording.{Signal, heard, length_of};
+ghost use Rattle.rds_stream.specs.Inside.Sections.{IsSection};
+
+use crate::gaps::Section;
+use crate::recording::Recording;
+use std::marker::Model;
+
+/// A recording whose windows are read one after the other.
+///
+/// It remembers how far the next gap is, so that a reader that goes forward looks for a gap only where it comes to one
+/// or leaves one; any other order gives the same windows. Contracts see the recording.
+#[derive(Drop)]
+pub struct Reader<'a> {
+    recording: &'a Recording,
+    section: Section,
+}
+
+impl<'a> Model for Reader<'a> {
+    ghost Value = { Signal };
+
+    ghost view = { λ r. r.recording.now };
+
+    ghost invariant = { λ r. IsSection r.recording.now r.section.from r.section.to r.section.touched };
+}
+
+impl<'a> Reader<'a> {
+    /// A reader of this recording. Takes no memory.
+    pub fn new(recording: &'a Recording) -> Reader<'a>
+        ensures { result ≡ recording.now }
+    {
+        Reader {
+            recording,
+            section: Section {
+                from: 0,
+                to: 0,
+                touched: false,
+            },
+        }
+    }
+
+    /// The recording.
+    pub fn recording(&self) -> &'a Recording
+        ensures { result.now ≡ self.now }
+    {
+        self.recording
+    }
+
+    /// The 26 bits that end at `place`, the first one highest (EN 50067:1998, 2.1), or none where they touch a gap.
+    /// `place` is at least 25, and below the length.
+    #[inline(always)]
+    pub fn window(&mut self, place: u64) -> Option<u32>
+        requires first { 25 ≤ place }
+        requires last { place < length_of self.old }
+        ensures value { result ≡ heard self.old place }
+        ensures block { IfSome result (λ window. window < 2 ^ 26) }
+        ensures same { self.new ≡ self.old }
+    {
+        let Section { from, to, touched } = self.section;
+        if touched || place < from || to <= place {
+            return self.look(place);
+        }
+        Some(self.recording.window(place))
+    }
+
+    /// `window`, where a gap is touched or may be: it is looked for again, unless the section is known.
+    fn look(&mut self, place: u64) -> Option<u32>
+        requires first { 25 ≤ place }
+        requires last { place < length_of self.old }
+        ensures value { result ≡ heard self.old place }
+        ensures block { IfSome result (λ window. window < 2 ^ 26) }
+        ensures same { self.new ≡ self.old }
+    {
+        self.section = self.recording.section_at(self.section, place);
+        if self.section.touched {
+            None
+        } else {
+            Some(self.recording.window(place))
+        }
+    }
+}

@@ -1,0 +1,89 @@
+-- What is heard at a place says of a recording: of offsets, of acquiring, and of the reading of a block.
+use Rattle.std.proofs.Common.{◌≡◌, ℕ, suc, ◌+◌, ◌-◌, ◌*◌, ◌<◌, ◌≤◌, List, [], ◌∷◌, Bool, true, false, Option, Some, None, refl, sym, ap, ap₂, ◌∙◌, arith, eqb}
+use Rattle.std.proofs.lemmas.Bool.{le-ltb, lt-ltb}
+use Rattle.std.specs.List.{list_any, range_with_len}
+use Rattle.rds_code.specs.declared.offset.Offset.{Offset}
+use Rattle.rds_code.specs.declared.reading.Wanted.{Wanted}
+use Rattle.rds_code.specs.declared.reading.Reading.{Reading}
+use Rattle.rds_code.specs.declared.reading.Reading.TheVariants.{Valid}
+use Rattle.rds_code.specs.Offsets.{number, offset_of}
+use Rattle.rds_code.specs.Reading.{reading, read_from, information, corrected, corrections, wanted_offsets, by_only}
+use Rattle.rds_code.specs.Remainder.{rem}
+use Rattle.rds_stream.specs.Recording.{Signal, heard, offset_heard, reading_heard, off}
+use Rattle.rds_sync.specs.declared.item.Block.TheVariants.{Read}
+use Rattle.rds_sync.specs.Acquiring.{acquired, has_number, has_partner, is_in_step, is_numbered}
+use Rattle.rds_sync.specs.Rules.{RuleNumbers}
+use Rattle.rds_sync.specs.Totals.{is_valid}
+use Rattle.rds_sync.proofs.LawfulLemmas.{acquired-none, acquired-some}
+
+-- a block is valid where its window has an offset of the number
+valid-by_only : (w : ℕ) (pairs : List (Offset × ℕ)) → is_valid (Read (by_only w pairs)) ≡ false
+valid-by_only w [] = refl
+valid-by_only w ((o, e) ∷ []) = refl
+valid-by_only w (one ∷ two ∷ pairs) = refl
+
+valid-reading : (w x : ℕ) (wanted : Wanted) (limit : ℕ) → is_valid (Read (reading w x wanted limit)) ≡ is_numbered (offset_heard (Some w)) x
+valid-reading w x wanted limit = at_case (offset_of (rem w)) where
+  own : (o : Offset) (t : Bool) → is_valid (Read (elim t as (λ _. Reading) [ true ↦ Valid o (information w) | false ↦ corrected w x wanted limit ])) ≡ t
+  own o true = refl
+  own o false = valid-by_only w (corrections (wanted_offsets x wanted) limit w)
+
+  at_case : (o : Option Offset) → is_valid (Read (read_from w x wanted limit o)) ≡ elim o as (λ _. Bool) [ None ↦ false | Some p ↦ eqb (number p) x ]
+  at_case None = valid-by_only w (corrections (wanted_offsets x wanted) limit w)
+  at_case (Some o) = own o (eqb (number o) x)
+
+-- and where nothing was heard, it is not
+valid-heard : (h : Option ℕ) (x : ℕ) (wanted : Wanted) (limit : ℕ) → is_valid (Read (reading_heard h x wanted limit)) ≡ is_numbered (offset_heard h) x
+valid-heard None x wanted limit = refl
+valid-heard (Some w) x wanted limit = valid-reading w x wanted limit
+
+-- no window ends before place 25
+pub off-early : (b : Signal) (i : ℕ) → i < 25 → off b i ≡ None
+unfolding off
+off-early b i early = rw (lt-ltb i 25 early, off) refl
+
+-- from there on the offset is that of what was heard
+pub off-heard : (b : Signal) (i : ℕ) → 25 ≤ i → off b i ≡ offset_heard (heard b i)
+unfolding off
+off-heard b i late = rw (le-ltb i 25 late, off) refl
+
+-- and so is whether a place has a number
+has_number-heard : (b : Signal) (i x : ℕ) → 25 ≤ i → has_number b i x ≡ is_numbered (offset_heard (heard b i)) x
+unfolding has_number
+has_number-heard b i x late =
+    ap (λ (o : Option Offset). elim o as (λ _. Bool) [ None ↦ false | Some p ↦ eqb (number p) x ]) (off-heard b i late)
+
+-- the same, of what was taken as heard
+pub good-heard : (b : Signal) (i x : ℕ) (h : Option ℕ) (good : Bool) → 25 ≤ i → h ≡ heard b i → good ≡ is_numbered (offset_heard h) x → good ≡ has_number b i x
+good-heard b i x h good late heard_is good_is =
+    good_is ∙ ap (λ (w : Option ℕ). is_numbered (offset_heard w) x) heard_is ∙ sym (has_number-heard b i x late)
+
+-- a block is valid where its place has its number
+pub good-reading : (b : Signal) (i x : ℕ) (h : Option ℕ) (wanted : Wanted) (limit : ℕ) (read : Reading) → 25 ≤ i → h ≡ heard b i
+    → read ≡ reading_heard h x wanted limit → is_valid (Read read) ≡ has_number b i x
+good-reading b i x h wanted limit read late heard_is read_is =
+    ap (λ (r : Reading). is_valid (Read r)) read_is ∙ valid-heard h x wanted limit
+    ∙ ap (λ (w : Option ℕ). is_numbered (offset_heard w) x) heard_is ∙ sym (has_number-heard b i x late)
+
+-- a test that fails at the first place of a range is left to the others
+pub any-later : (p : ℕ → Bool) (k end : ℕ) → k < end → p k ≡ false
+    → list_any p (range_with_len k (end - k)) ≡ list_any p (range_with_len (k + 1) (end - (k + 1)))
+any-later p k end within fails =
+    let more : end - k ≡ suc (end - (k + 1)) = omega arith in
+    rw (more, fails) refl
+
+pub acquired-early : (b : Signal) (rules : RuleNumbers) (i : ℕ) → i < 25 → acquired b rules i ≡ None
+acquired-early b rules i early = acquired-none b rules i (off-early b i early)
+
+-- whether a place with an offset acquires is a matter of its partner
+pub acquired-offset : (b : Signal) (rules : RuleNumbers) (i n : ℕ) (o : Offset) (found answer : Bool) → off b i ≡ Some o → n ≡ number o
+    → found ≡ list_any (has_partner b i n) (range_with_len 1 rules.reach) → found ≡ answer
+    → acquired b rules i ≡ elim answer as (λ _. Option ℕ) [ true ↦ Some n | false ↦ None ]
+acquired-offset b rules i n o found answer here is_number is_found answered =
+    acquired-some b rules i o here
+    ∙ sym (ap₂ (λ (t : Bool) (x : ℕ). elim t as (λ _. Option ℕ) [ true ↦ Some x | false ↦ None ])
+    (sym answered ∙ is_found ∙ ap (λ (x : ℕ). list_any (has_partner b i x) (range_with_len 1 rules.reach)) is_number) is_number)
+
+-- before place 25 there is no partner
+pub has_partner-early : (b : Signal) (i x k : ℕ) → i - 26 * k < 25 → has_partner b i x k ≡ false
+has_partner-early b i x k early = ap (λ (o : Option Offset). is_in_step o x k) (off-early b (i - 26 * k) early)

@@ -1,0 +1,36 @@
+-- A lock that is followed from block to block, with the blocks of the group in progress.
+use Rattle.std.specs.Prelude.{◌≡◌, ◌≢◌, ◌+◌, ◌-◌, ◌<◌, List, []}
+use Rattle.rds_stream.specs.Recording.{Signal, length_of}
+use Rattle.rds_sync.specs.declared.item.Block.{Block}
+use Rattle.rds_sync.specs.declared.due.Due.{Due}
+use Rattle.rds_sync.specs.declared.due.Due.TheVariants.{Inside, Closed, Lost}
+use Rattle.rds_sync.specs.declared.due.Lock.{Lock}
+use Rattle.rds_sync.specs.Inside.Due.{state_in}
+use Rattle.rds_sync.specs.Groups.{blocks_at}
+use Rattle.rds_sync.specs.Lawful.{AreInOrder, HaveRoom}
+use Rattle.rds_sync.specs.Loss.{IsLawfulBad}
+use Rattle.rds_sync.specs.Rules.{RuleNumbers}
+use Rattle.rds_sync.specs.Step.{items_at}
+
+-- these are the blocks of the group in progress
+abbrev pub IsInProgress : Signal → RuleNumbers → Lock → List Block → Type 0
+IsInProgress b rules lock blocks = blocks ≡ blocks_at b rules lock.first (lock.number - 1) (lock.due - 26)
+
+-- a lock that can be followed: it is not lost, and the blocks of its group that are read already lie in the recording
+pub record IsReadable (b : Signal) (rules : RuleNumbers) (lock : Lock) : Type 0 where
+  pub few_bad : IsLawfulBad rules.loss lock.bad
+  pub start : HaveRoom lock.first lock.number lock.due
+  pub reached : lock.due < length_of b + 26
+  pub in_order : AreInOrder lock.first lock.number
+
+-- where the group goes on, nothing was given, the next block is due after 26 places, and the blocks are those read so far
+pub record GoesOn (b : Signal) (rules : RuleNumbers) (lock next : Lock) (blocks : List Block) : Type 0 where
+  pub nothing : items_at b rules lock.due (state_in lock) ≡ []
+  pub due : next.due ≡ lock.due + 26
+  pub in_progress : IsInProgress b rules next blocks
+
+-- and where the block closed it, an item was given
+abbrev pub IsFollowed : Signal → RuleNumbers → Lock → List Block → Due → Type 0
+IsFollowed b rules lock blocks (Inside next) = GoesOn b rules lock next blocks
+IsFollowed b rules lock blocks (Closed next) = items_at b rules lock.due (state_in lock) ≢ []
+IsFollowed b rules lock blocks Lost = items_at b rules lock.due (state_in lock) ≢ []

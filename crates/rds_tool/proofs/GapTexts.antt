@@ -1,0 +1,44 @@
+-- Gaps that texts spell: each place, and one gap after the other.
+use Rattle.std.proofs.Common.{◌++◌, ◌<◌, ◌≤◌, ◌^◌, ◌&&◌, ◌∷◌, ◌≡◌, List, None, Result, Ok, Err, true, false, arith, Option, Some, [], ap, length, refl, ℕ}
+use Rattle.std.specs.Char.{is_ascii_digit}
+use Rattle.std.specs.List.{list_all}
+use Rattle.std.specs.Result.{OkIff, result_ok}
+use Rattle.std.specs.Str.{all_ascii_digits}
+use Rattle.std.specs.Str.Parse.{ParsesUnsigned, digits_value}
+use Rattle.std.proofs.lemmas.Bool.Decides.{nat_tests}
+use Rattle.std.proofs.lemmas.Str.Parse.{IsNumeralModel, digits_value_short, numerals_by_value, parse_digits, tells_all_ascii_digits}
+use Rattle.rds_tool.specs.GapText.{is_place, place_of}
+
+-- ---- places
+
+pub all_digits : (text : List ℕ) → list_all is_ascii_digit text ≡ all_ascii_digits text
+all_digits [] = refl
+all_digits (c ∷ cs) = ap (λ b. is_ascii_digit c && b) (all_digits cs)
+
+-- digits in std's words
+own : IsNumeralModel (λ (ds : List ℕ). all_ascii_digits ds ≡ true) (digits_value 10)
+own = numerals_by_value (λ (ds : List ℕ). all_ascii_digits ds ≡ true) tells_all_ascii_digits
+
+-- twelve digits at most, as std reads them
+module _ {E : Type 0} (text : List ℕ) (few : length text ≤ 12) (digits : all_ascii_digits text ≡ true) where
+  read_as : (r : Result ℕ E) → OkIff r ((0 < length text) × (digits_value 10 text < 2 ^ 64)) (digits_value 10 text) → result_ok r ≡ place_of text
+  read_as (Ok n) (some, is) =
+      let place : is_place text ≡ true = grind (arith, nat_tests) in
+      rw (place, is) refl
+  read_as (Err e) none =
+      let small : digits_value 10 text < 10 ^ 12 = digits_value_short own text 12 digits few in
+      let unread : 0 < length text → ⊥ = λ some. none (some, omega (arith, small)) in
+      let empty : length text ≡ 0 = omega (arith, unread) in
+      let no_place : is_place text ≡ false = grind (arith, nat_tests) in
+      rw no_place refl
+
+  pub place_read : (r : Result ℕ E) → ParsesUnsigned 64 10 text r → result_ok r ≡ place_of text
+  place_read r is =
+      read_as r (parse_digits own 64 text r is digits)
+
+-- ---- gaps
+
+-- the gaps so far, and then those of the texts that are left
+abbrev pub with_rest : List (ℕ × ℕ) → Option (List (ℕ × ℕ)) → Option (List (ℕ × ℕ))
+with_rest gaps None = None
+with_rest gaps (Some others) = Some (gaps ++ others)

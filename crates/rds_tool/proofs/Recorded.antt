@@ -1,0 +1,61 @@
+-- A recording with gaps that was made, or refused, is what the definition says.
+use Rattle.std.proofs.Common.{◌≡◌, ◌≤◌, ◌<◌, ◌*◌, ◌^◌, ◌∙◌, ◌↔◌, ℕ, Bool, Err, Ok, Result, ap, arith, false, inl, inr, length, refl, sym, true}
+use Rattle.std.specs.Global.{Vec}
+use Rattle.std.specs.Prelude.{IfOk, IsOk, vec_len}
+use Rattle.std.proofs.lemmas.Bool.{cases_lt, false≢true, le-ltb, lt-ltb}
+use Rattle.rds_stream.specs.Recording.{AreGaps, Signal, bits_of}
+use Rattle.rds_stream.specs.declared.error.StreamError.{StreamError}
+use Rattle.rds_stream.specs.declared.error.StreamError.TheVariants as stream
+use Rattle.rds_tool.specs.Input.{first_bits, may_be_gaps}
+use Rattle.rds_tool.specs.Refusals.{of_stream}
+use Rattle.rds_tool.proofs.GapLists.{are_gaps, pass_as_gaps}
+
+abbrev Made : Type 0
+Made = Result Signal (StreamError × Vec ℕ × Vec (ℕ × ℕ))
+
+-- the refusal, if it is one
+abbrev error_of : Made → StreamError
+error_of (Ok recording) = stream.OutOfMemory
+error_of (Err refused) = refused.0
+
+module _ (bytes : Vec ℕ) (bits : ℕ) (gaps : Vec (ℕ × ℕ)) (made : Made)
+    (taken : IsOk made ↔ ((bits ≤ 2 ^ 36) × (bits ≤ 8 * vec_len bytes) × AreGaps bits gaps.items)) where
+  pub made_is : (recording : Signal) → made ≡ Ok recording → IfOk made (λ r. r ≡ record { bits = bits_of bytes.items bits; gaps = gaps.items })
+      → Ok recording ≡ first_bits bits gaps.items bytes.items
+  made_is recording is held =
+      let ok : IsOk made = rw is refl in
+      let all = taken.0 ok in
+      let same : recording ≡ record { bits = bits_of bytes.items bits; gaps = gaps.items } = rw is at held in
+      let short = le-ltb (2 ^ 36) bits all.0 in
+      let within = le-ltb (8 * length bytes.items) bits (omega (arith, all.1, bytes.ok.0)) in
+      rw (short, within, pass_as_gaps gaps.items bits all.2, same) refl
+
+  module _ (error : StreamError) (b : Vec ℕ) (g : Vec (ℕ × ℕ)) (is : made ≡ Err (error, b, g))
+      (too_long : (made ≡ Err (stream.TooLong, bytes, gaps)) ↔ (2 ^ 36 < bits))
+      (past : (made ≡ Err (stream.BitsPastBytes, bytes, gaps)) ↔ ((bits ≤ 2 ^ 36) × (8 * vec_len bytes < bits)))
+      (bad : (made ≡ Err (stream.BadGaps, bytes, gaps)) ↔ ((bits ≤ 2 ^ 36) × (bits ≤ 8 * vec_len bytes) × (AreGaps bits gaps.items → ⊥))) where
+    same_error : (other : StreamError) → made ≡ Err (other, bytes, gaps) → error ≡ other
+    same_error other so = sym (ap error_of is) ∙ ap error_of so
+
+    no_recording : IsOk made → ⊥
+    no_recording ok = let none : false ≡ true = rw is at ok in false≢true none
+
+    by_gaps : bits ≤ 2 ^ 36 → bits ≤ 8 * length bytes.items → (lawful : Bool) → may_be_gaps 0 gaps.items bits ≡ lawful
+        → Err (of_stream error) ≡ first_bits bits gaps.items bytes.items
+    by_gaps short within true passes = absurd (no_recording (taken.1 (short, omega (arith, within, bytes.ok.0), are_gaps gaps.items bits passes)))
+    by_gaps short within false fails =
+        let unlawful : AreGaps bits gaps.items → ⊥ = λ are. false≢true (sym fails ∙ pass_as_gaps gaps.items bits are) in
+        let e = same_error stream.BadGaps (bad.1 (short, omega (arith, within, bytes.ok.0), unlawful)) in
+        rw (le-ltb (2 ^ 36) bits short, le-ltb (8 * length bytes.items) bits within, fails, e) refl
+
+    pub refused_is : Err (of_stream error) ≡ first_bits bits gaps.items bytes.items
+    refused_is =
+        elim (cases_lt (2 ^ 36) bits) [
+          | inl long ↦ let e = same_error stream.TooLong (too_long.1 long) in rw (lt-ltb (2 ^ 36) bits long, e) refl
+          | inr short ↦ elim (cases_lt (8 * length bytes.items) bits) [
+            | inl more ↦
+                let e = same_error stream.BitsPastBytes (past.1 (short, omega (arith, more, bytes.ok.0))) in
+                rw (le-ltb (2 ^ 36) bits short, lt-ltb (8 * length bytes.items) bits more, e) refl
+            | inr within ↦ by_gaps short within (may_be_gaps 0 gaps.items bits) refl
+          ]
+        ]

@@ -1,0 +1,31 @@
+-- What an input says. This project's rule.
+use Rattle.std.specs.Prelude.{ℕ, ◌==◌, Bool, List, Option}
+use Rattle.std.specs.Bool.{beq}
+use Rattle.std.specs.Cmp.{IsEquivalence, and_equiv, bool_eq_equiv, nat_eq_equiv, on_equiv}
+use Rattle.std.specs.Cmp.Lexicographic.{lists_equiv, options_equiv, pointwise}
+use Rattle.std.specs.Option.{option_eq}
+use Rattle.std.specs.Ordering.{eq_of_both, on}
+
+-- whether it is hexadecimal text, how many bits are claimed, and the gaps: each the places from its first number to before its
+-- second
+pub record InputOf : Type 0 where
+  pub hex : Bool
+  pub bits : Option ℕ
+  pub gaps : List (ℕ × ℕ)
+
+-- whether two gaps have the same ends
+abbrev pub same_gap : ℕ × ℕ → ℕ × ℕ → Bool
+same_gap = eq_of_both (on (λ (gap : ℕ × ℕ). gap.0) ◌==◌) (on (λ (gap : ℕ × ℕ). gap.1) ◌==◌)
+
+-- whether two inputs say the same
+abbrev pub says_same : InputOf → InputOf → Bool
+says_same = eq_of_both (on (λ (i : InputOf). i.hex) beq) (eq_of_both (on (λ (i : InputOf). i.bits) (option_eq ◌==◌))
+    (on (λ (i : InputOf). i.gaps) (pointwise same_gap)))
+
+same_gap_equiv : IsEquivalence same_gap
+same_gap_equiv = and_equiv (on_equiv (λ (gap : ℕ × ℕ). gap.0) nat_eq_equiv) (on_equiv (λ (gap : ℕ × ℕ). gap.1) nat_eq_equiv)
+
+pub says_same_equiv : IsEquivalence says_same
+says_same_equiv =
+    and_equiv (on_equiv (λ (i : InputOf). i.hex) bool_eq_equiv)
+    (and_equiv (on_equiv (λ (i : InputOf). i.bits) (options_equiv nat_eq_equiv)) (on_equiv (λ (i : InputOf). i.gaps) (lists_equiv same_gap_equiv)))

@@ -1,0 +1,3 @@
+-- What the bodies of this crate cite, and no contract of a public function.
+pub mod RowWriter
+pub mod Texts

@@ -1,0 +1,12 @@
+use Rattle.std.proofs.Common.{◌+◌, ◌*◌, ◌∙◌, refl, sym, arith}
+use Rattle.rds_uses.proofs.sync.has_one_end.Goals as goal
+
+pub returns : goal.returns
+returns c j p k sound =
+    let b = c.args.recording.now in
+    let rules = c.args.rules.now in
+    let range = c.numbers-numbers.ensures.range in
+    let four = c.runs_converge.ensures.fours b rules j c.args.from p k sound in
+    let to = p + 26 * four.0 + 1 in
+    let ends = c.runs_converge.ensures.converge b rules range.some_loss range.some_reach c.args.from to in
+    (to, omega (arith, four.1.inside), λ s t one other. ends s one j p k four.0 sound four.1 refl ∙ sym (ends t other j p k four.0 sound four.1 refl))

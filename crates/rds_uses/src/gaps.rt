@@ -1,0 +1,178 @@
+//! What a user relies on of gaps: which are taken, and that nothing is read where one is touched.
+ghost use Rattle.std.specs.Prelude.{◌≡◌, ◌≢◌, ℕ, ◌+◌, ◌*◌, ◌<◌, ◌≤◌, ◌^◌, [], ◌∷◌, None, Some, Err, IfSome, true, false, vec_len};
+ghost use Rattle.rds_code.specs.Remainder.{rem};
+ghost use Rattle.rds_code.specs.Offsets.{offset_of as the_offset_of};
+ghost use Rattle.rds_code.specs.Reading.{reading};
+ghost use Rattle.rds_code.specs.declared.reading.Reading.TheVariants.{Lost};
+ghost use Rattle.rds_stream.specs.Recording.{AreGaps, bits_of, length_of, off, touched, window};
+ghost use Rattle.rds_stream.specs.ValidWindows.{NoneValid};
+ghost use Rattle.rds_stream.specs.declared.error.StreamError.TheVariants.{BadGaps, BitsPastBytes, TooLong};
+ghost use Rattle.rds_sync.specs.Advance.{items_in};
+ghost use Rattle.rds_sync.specs.Groups.{group as group_at};
+ghost use Rattle.rds_sync.specs.declared.state.State.TheVariants.{Searching};
+
+use rds_code::{BurstTable, Offset, Reading, Wanted};
+use rds_stream::{Counted, Reader, Recording, StreamError, Tape, offset_heard, read_heard};
+use rds_sync::{Group, Rules, State, Step, advance, laws};
+
+// ---- which gaps are taken
+
+/// What comes back where gaps are refused: why, the bytes and the gaps.
+type Refused = (StreamError, Vec<u8>, Vec<(u64, u64)>);
+
+/// So many of the first bits of the bytes, with gaps that lie among them.
+pub fn recorded_with_gaps(bytes: Vec<u8>, bits: u64, gaps: Vec<(u64, u64)>) -> Option<Recording>
+    requires few { bits ≤ 2 ^ 36 }
+    requires held { bits ≤ 8 * vec_len bytes }
+    requires gaps { AreGaps bits gaps.items }
+    ensures { result ≡ Some (record { bits = bits_of bytes.items bits; gaps = gaps.items }) }
+{
+    Recording::with_gaps(bytes, bits, gaps).ok()
+}
+
+/// Gaps that do not lie among the bits in order are refused, and the bytes and the gaps come back.
+pub fn bad_gaps(bytes: Vec<u8>, bits: u64, gaps: Vec<(u64, u64)>) -> Result<Recording, Refused>
+    requires few { bits ≤ 2 ^ 36 }
+    requires held { bits ≤ 8 * vec_len bytes }
+    requires gaps { AreGaps bits gaps.items → ⊥ }
+    ensures { result ≡ Err (BadGaps, bytes, gaps) }
+{
+    Recording::with_gaps(bytes, bits, gaps)
+}
+
+/// More bits than the bytes hold are refused as such, whatever the gaps.
+pub fn bits_before_gaps(
+    bytes: Vec<u8>,
+    bits: u64,
+    gaps: Vec<(u64, u64)>,
+) -> Result<Recording, Refused>
+    requires few { bits ≤ 2 ^ 36 }
+    requires more { 8 * vec_len bytes < bits }
+    ensures { result ≡ Err (BitsPastBytes, bytes, gaps) }
+{
+    Recording::with_gaps(bytes, bits, gaps)
+}
+
+/// More bits than a recording may have are refused as such, whatever the gaps.
+pub fn length_before_gaps(
+    bytes: Vec<u8>,
+    bits: u64,
+    gaps: Vec<(u64, u64)>,
+) -> Result<Recording, Refused>
+    requires { 2 ^ 36 < bits }
+    ensures { result ≡ Err (TooLong, bytes, gaps) }
+{
+    Recording::with_gaps(bytes, bits, gaps)
+}
+
+// ---- what is read where a gap is touched, and where none is
+
+/// A window that touches a gap has no offset.
+pub fn offset_in_gap(recording: &Recording, place: u64) -> Option<Offset>
+    requires first { 25 ≤ place }
+    requires last { place < length_of recording.now }
+    requires touched { touched recording.now place ≡ true }
+    ensures { result ≡ None }
+{
+    recording.offset(place)
+}
+
+/// Whether a window touches a gap is told: then it is not heard, and else it is the window as it is stored.
+pub fn heard_or_touched(recording: &Recording, place: u64) -> bool
+    requires first { 25 ≤ place }
+    requires last { place < length_of recording.now }
+    ensures { result ≡ true }
+{
+    let mut reader = Reader::new(recording);
+    let heard = if recording.touches(place) {
+        None
+    } else {
+        Some(recording.window(place))
+    };
+    reader.window(place) == heard
+}
+
+/// A block that touches a gap is lost, whatever its bits are.
+pub fn block_in_gap(
+    table: &BurstTable,
+    recording: &Recording,
+    place: u64,
+    number: u8,
+    wanted: Wanted,
+) -> Reading
+    requires first { 25 ≤ place }
+    requires last { place < length_of recording.now }
+    requires touched { touched recording.now place ≡ true }
+    requires number { (1 ≤ number) × (number ≤ 4) }
+    ensures { result ≡ Lost }
+{
+    let heard = Reader::new(recording).window(place);
+    read_heard(table, heard, number, wanted, 5)
+}
+
+/// One that touches none is read from the window as it is stored.
+pub fn block_outside_gaps(
+    table: &BurstTable,
+    recording: &Recording,
+    place: u64,
+    number: u8,
+    wanted: Wanted,
+) -> Reading
+    requires first { 25 ≤ place }
+    requires last { place < length_of recording.now }
+    requires clear { touched recording.now place ≡ false }
+    requires number { (1 ≤ number) × (number ≤ 4) }
+    ensures { result ≡ reading (window recording.now.bits place) number wanted 5 }
+{
+    let heard = Reader::new(recording).window(place);
+    read_heard(table, heard, number, wanted, 5)
+}
+
+/// A reader gives the same whichever places it was asked for before.
+pub fn read_back_and_forth(reader: &mut Reader<'_>, place: u64, before: u64) -> bool
+    requires first { (25 ≤ place) × (25 ≤ before) }
+    requires last { (place < length_of reader.old) × (before < length_of reader.old) }
+    ensures result { result ≡ true }
+    ensures same { reader.new ≡ reader.old }
+{
+    let one = reader.window(place);
+    let _before = reader.window(before);
+    reader.window(place) == one
+}
+
+/// The offset of what a tape hears is that of the place, in a gap and outside; a window is counted either way.
+pub fn offset_on_tape(recording: &Recording, place: u64) -> (Option<Offset>, u64)
+    requires first { 25 ≤ place }
+    requires last { place < length_of recording.now }
+    ensures offset { result.0 ≡ off recording.now place }
+    ensures counted { result.1 ≡ 1 }
+{
+    let mut tape = Counted::new(recording);
+    let heard = tape.window(place);
+    (offset_heard(heard), tape.reads())
+}
+
+// ---- what a synchroniser makes of it
+
+/// A place whose window touches a gap does not acquire: the search goes on, and gives nothing.
+pub fn nothing_acquired_in_gap<T: Tape>(tape: &mut T, rules: &Rules, place: u64, to: u64) -> Step
+    requires before { place < to }
+    requires within { to ≤ length_of (T.signal tape.old) }
+    requires counted { T.reads_made tape.old + 16 ≤ 2 ^ 63 }
+    requires touched { touched (T.signal tape.old) place ≡ true }
+    ensures state { result.state ≡ Searching }
+    ensures items { items_in result.items ≡ [] }
+{
+    advance(tape, rules, State::Searching, place, to)
+}
+
+/// A group whose block 4 touches a gap is not complete, whatever the bits of that block are.
+pub fn incomplete_in_gap(recording: &Recording, rules: &Rules, place: u64, group: &Group) -> bool
+    requires place { 103 ≤ place }
+    requires group { group.now ≡ group_at recording.now rules.now 1 4 place }
+    requires touched { touched recording.now place ≡ true }
+    ensures { result ≡ false }
+{
+    laws::groups_are_read();
+    group.is_complete()
+}

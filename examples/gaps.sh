@@ -1,0 +1,17 @@
+#!/bin/sh
+# A log of dropped samples as the option --gaps, from lines `start length` on standard input, in bits from 0:
+#   rds list $(examples/gaps.sh < dropped.log) < recording.bin
+# Lines may stand in any order, and those that overlap or follow one another are one gap. Nothing is written where nothing
+# was dropped. Fails where a line is no such pair. A system takes about 131,000 characters in one word, some 6,000 gaps.
+# Needs awk.
+sort -n | awk '
+  function close_gap() { if (end > begin) { text = text sep sprintf("%.0f-%.0f", begin, end); sep = "," } }
+  !NF { next }
+  NF != 2 || $1 !~ /^[0-9]+$/ || $2 !~ /^[0-9]+$/ {
+    print "gaps: \"" $0 "\" is not a start and a length" > "/dev/stderr"
+    failed = 1
+    exit 1
+  }
+  $1 + 0 > end + 0 { close_gap(); begin = $1; end = $1 }
+  $1 + $2 > end + 0 { end = $1 + $2 }
+  END { if (failed) exit 1; close_gap(); if (text != "") print "--gaps=" text }'

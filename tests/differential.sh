@@ -1,0 +1,128 @@
+#!/usr/bin/env bash
+# Two programs beside one another: tests/differential.sh PATH-TO-RDS PATH-TO-RDS_PLAIN [FIRST [LAST]]
+#
+# For each seed from FIRST to LAST (1 to 120) rds_plain makes a recording, and lines of groups. What rds writes of them,
+# by rules, cuttings and workers that are drawn from the seed, has to be what rds_plain writes, which decodes in one
+# piece by one thread, and has nothing of what cuts, stitches and lists. A run that differs is shown by its seed and its
+# words. The last line is 'N passed, M failed', and the exit status says whether all passed.
+
+set -u
+export LC_ALL=C
+
+usage='usage: tests/differential.sh PATH-TO-RDS PATH-TO-RDS_PLAIN [FIRST [LAST]]'
+rds=$(realpath "${1:?$usage}")
+plain=$(realpath "${2:?$usage}")
+[ -x "$rds" ] && [ -x "$plain" ] || { echo "$usage" >&2 && exit 1; }
+first=${3:-1}
+last=${4:-120}
+work=$(mktemp -d)
+trap 'rm -rf "$work"' EXIT
+cd "$work" || exit 1
+passed=0
+failed=0
+
+# draw FROM TO: the next number of the seed's row, into $drawn
+draw() {
+    row=$((row * 16807 % 2147483647))
+    drawn=$(($1 + row / 7 % ($2 - $1 + 1)))
+}
+
+# draw_rules: rules of either kind, as words for rds and as numbers for rds_plain
+draw_rules() {
+    draw 0 5
+    burst=$drawn
+    draw 1 8
+    reach=$drawn
+    draw 0 2
+    case $drawn in
+        0) draw 1 64 && loss=$drawn && words="--loss $loss" ;;
+        1) draw 1 6 && loss=$drawn && words="--loss $loss" ;;
+        2) draw 1 64 && of=$drawn && draw 1 "$of" && loss="$drawn $of" && words="--share $drawn --of $of" ;;
+    esac
+    words="--burst $burst --reach $reach $words"
+    rules="$burst $reach $loss"
+}
+
+# draw_crew: a few pieces, or more than there are groups, and 1 to 9 workers
+draw_crew() {
+    draw 0 2
+    case $drawn in
+        0) draw 1 9 ;;
+        1) draw 10 100 ;;
+        2) draw 101 4000 ;;
+    esac
+    words="$words --pieces $drawn"
+    draw 1 9
+    words="$words --workers $drawn"
+}
+
+# draw_gaps BITS: none, or up to 36 within so many bits, in order; some begin where the one before ends, and some are long
+draw_gaps() {
+    local count from to=0 text=
+    draw 0 9
+    count=$((drawn < 4 ? 0 : (drawn - 3) * (drawn - 3)))
+    for _ in $(seq "$count"); do
+        draw 0 $((2 * $1 / (count + 1)))
+        from=$((to + (drawn % 7 ? drawn : 0)))
+        draw 1 99
+        to=$((from + (drawn < 95 ? drawn % 9 + 1 : 10 * drawn)))
+        [ "$to" -le "$1" ] || break
+        text=$text,$from-$to
+    done
+    gaps=${text#,}
+}
+
+# compare WORDS..: rds on the file in, against the file wanted
+compare() {
+    if "$rds" "$@" <in 2>err | cmp -s - wanted; then
+        passed=$((passed + 1))
+    else
+        failed=$((failed + 1))
+        echo "FAILED: seed $seed: rds $*"
+    fi
+}
+
+# try_encode: the lines of the seed; a line that is no group is refused by both
+try_encode() {
+    "$plain" lines "$seed" >in || exit 1
+    if "$plain" encode <in >wanted 2>/dev/null; then
+        compare encode
+        od -An -v -tx1 wanted | tr -d ' \n' | fold -w 26 | sed '$a\' >digits
+        mv digits wanted
+        compare encode --hex
+    elif "$rds" encode <in >text 2>err || [ -s text ] || [ "$(cat err)" != 'refused 12 GroupText' ]; then
+        failed=$((failed + 1))
+        echo "FAILED: seed $seed: a line that is no group"
+    else
+        passed=$((passed + 1))
+    fi
+}
+
+for seed in $(seq "$first" "$last"); do
+    row=$((seed * 2654435761 % 2147483647))
+    "$plain" make "$seed" >in || exit 1
+    held=$((8 * $(stat -c %s in)))
+    draw 0 40
+    bits=$((drawn < held ? held - drawn : 0))
+    draw_gaps "$bits"
+    input="--bits $bits${gaps:+ --gaps $gaps}"
+    "$plain" scan "$bits" "${gaps:--}" <in >wanted || exit 1
+    # shellcheck disable=SC2086
+    compare scan $input
+    for job in list list totals; do
+        draw_rules
+        # shellcheck disable=SC2086
+        "$plain" "$job" "$bits" "${gaps:--}" $rules <in >wanted || exit 1
+        for _ in 1 2; do
+            crew_words=$words
+            draw_crew
+            # shellcheck disable=SC2086
+            compare "$job" $input $words
+            words=$crew_words
+        done
+    done
+    try_encode
+done
+
+echo "$passed passed, $failed failed"
+[ "$failed" = 0 ]
