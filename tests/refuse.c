@@ -2,12 +2,14 @@
  *
  * REFUSE_CALL names the call: alloc, read, write or thread. REFUSE_AT is the number of the call that is refused, from 1 on
  * (0 refuses none); where REFUSE_ON is set, all after it are refused too. REFUSE_COUNT names a file to which the number
- * of such calls is written when the program ends, and REFUSE_BYTES one for the bytes that allocations asked for, which
- * tests/work.sh looks at. Reads are those of standard input, writes those of standard output.
+ * of such calls is written when the program ends, REFUSE_BYTES one for the bytes that allocations asked for, and
+ * REFUSE_PEAK one for the most bytes that were held at a time, which tests/work.sh looks at. Reads are those of standard
+ * input, writes those of standard output.
  */
 #define _GNU_SOURCE
 #include <dlfcn.h>
 #include <errno.h>
+#include <malloc.h>
 #include <pthread.h>
 #include <stdatomic.h>
 #include <stdio.h>
@@ -17,6 +19,8 @@
 
 static atomic_long calls;
 static atomic_long bytes;
+static atomic_long held;
+static atomic_long peak;
 static long refused_at;
 static int refused_on;
 static char refused_call;
@@ -53,6 +57,7 @@ __attribute__((destructor)) static void tell(void)
     refused_call = 0;
     write_number("REFUSE_COUNT", (long)calls);
     write_number("REFUSE_BYTES", (long)bytes);
+    write_number("REFUSE_PEAK", (long)peak);
 }
 
 /* Any other ends by this call, which calls none. */
@@ -75,45 +80,73 @@ extern void *__libc_malloc(size_t);
 extern void *__libc_calloc(size_t, size_t);
 extern void *__libc_realloc(void *, size_t);
 extern void *__libc_memalign(size_t, size_t);
+extern void __libc_free(void *);
+
+/* Memory that is held from now on, if there is any. */
+static void *taken(void *memory)
+{
+    if (!memory)
+        return NULL;
+    long size = (long)malloc_usable_size(memory);
+    long now = atomic_fetch_add(&held, size) + size;
+    long most = peak;
+    while (most < now && !atomic_compare_exchange_weak(&peak, &most, now))
+        ;
+    return memory;
+}
+
+/* Memory that is no longer held. */
+static void gone(void *memory)
+{
+    if (memory)
+        atomic_fetch_sub(&held, (long)malloc_usable_size(memory));
+}
+
+static void *refused_memory(void)
+{
+    errno = ENOMEM;
+    return NULL;
+}
 
 void *malloc(size_t size)
 {
-    if (!is_refused_memory(size))
-        return __libc_malloc(size);
-    errno = ENOMEM;
-    return NULL;
+    return is_refused_memory(size) ? refused_memory() : taken(__libc_malloc(size));
 }
 
 void *calloc(size_t count, size_t size)
 {
-    if (!is_refused_memory(count * size))
-        return __libc_calloc(count, size);
-    errno = ENOMEM;
-    return NULL;
+    return is_refused_memory(count * size) ? refused_memory() : taken(__libc_calloc(count, size));
 }
 
+/* Memory that moves is counted once, where it comes to. */
 void *realloc(void *old, size_t size)
 {
-    if (!is_refused_memory(size))
-        return __libc_realloc(old, size);
-    errno = ENOMEM;
-    return NULL;
+    if (is_refused_memory(size))
+        return refused_memory();
+    long before = old ? (long)malloc_usable_size(old) : 0;
+    void *new = __libc_realloc(old, size);
+    if (new)
+        atomic_fetch_sub(&held, before);
+    return taken(new);
 }
 
 void *aligned_alloc(size_t align, size_t size)
 {
-    if (!is_refused_memory(size))
-        return __libc_memalign(align, size);
-    errno = ENOMEM;
-    return NULL;
+    return is_refused_memory(size) ? refused_memory() : taken(__libc_memalign(align, size));
 }
 
 int posix_memalign(void **out, size_t align, size_t size)
 {
     if (is_refused_memory(size))
         return ENOMEM;
-    *out = __libc_memalign(align, size);
+    *out = taken(__libc_memalign(align, size));
     return *out ? 0 : ENOMEM;
+}
+
+void free(void *memory)
+{
+    gone(memory);
+    __libc_free(memory);
 }
 
 ssize_t read(int from, void *buffer, size_t size)

@@ -1,12 +1,12 @@
 #!/usr/bin/env bash
 # Work done twice: tests/work.sh PATH-TO-RDS [--measure]
 #
-# Counts the allocations, the bytes that they ask for and the threads of some jobs, and compares them with the bounds of
-# tests/work.bounds: a second pass over a recording, a run that is made again or a list that is copied shows there, and
-# nowhere else. Threads are as many as the line says. Recordings are a few megabytes long, but for those of the smallest
-# jobs, where a table that is made twice shows. With --measure the bounds are written anew: the most of three runs, and
-# a tenth to spare, of the smallest jobs a hundredth. Calls are counted by the library of tests/refuse.c, which refuses
-# none of them here.
+# Counts the allocations, the bytes that they ask for, the most bytes held at a time and the threads of some jobs, and
+# compares them with the bounds of tests/work.bounds: a second pass over a recording, a run that is made again, a list that
+# is copied or one that is kept for too long shows there, and nowhere else. Threads are as many as the line says.
+# Recordings are a few megabytes long, but for those of the smallest jobs, where a table that is made twice shows. With
+# --measure the bounds are written anew: the most of three runs, and a tenth to spare, of the smallest jobs a hundredth.
+# Calls are counted by the library of tests/refuse.c, which refuses none of them here.
 # The last line is 'N passed, M failed', and the exit status says whether all passed.
 
 set -u
@@ -38,25 +38,24 @@ noise 17 200000 >noise
 noise 19 160000 | sed 's/.\{104\}/&\n/' >words
 station 40 | od -An -v -tx1 >digits
 
-# count CALL INPUT WORDS..: how many such calls the job makes of the input, and how many bytes allocations ask for
+# count CALL INPUT WORDS..: how many such calls the job makes of the input, how many bytes allocations ask for, and how
+# many it holds at its peak
 count() {
     local call=$1 input=$2
     shift 2
-    rm -f calls bytes
-    REFUSE_CALL=$call REFUSE_AT=0 REFUSE_COUNT="$work/calls" REFUSE_BYTES="$work/bytes" \
+    rm -f calls bytes peak
+    REFUSE_CALL=$call REFUSE_AT=0 REFUSE_COUNT="$work/calls" REFUSE_BYTES="$work/bytes" REFUSE_PEAK="$work/peak" \
         LD_PRELOAD="$work/refuse.so" "$rds" "$@" <"$input" >out || return 1
-    echo "$(cat calls) $(cat bytes)"
+    echo "$(cat calls) $(cat bytes) $(cat peak)"
 }
 
-# most INPUT WORDS..: the most allocations and bytes of three runs
+# most INPUT WORDS..: the most allocations and bytes, in all and at the peak, of three runs
 most() {
-    local calls=0 bytes=0 now
+    local runs=''
     for _ in 1 2 3; do
-        now=$(count alloc "$@") || return 1
-        [ "${now% *}" -gt "$calls" ] && calls=${now% *}
-        [ "${now#* }" -gt "$bytes" ] && bytes=${now#* }
+        runs+="$(count alloc "$@")"$'\n' || return 1
     done
-    echo "$calls $bytes"
+    awk 'NF { for (i = 1; i <= NF; i++) if ($i > most[i]) most[i] = $i } END { print most[1], most[2], most[3] }' <<<"$runs"
 }
 
 # spared COUNT: with something to spare
@@ -72,23 +71,26 @@ within() {
     fi
 }
 
-# A line is: allocations, bytes, threads, input, and the words of the job.
-while read -r calls bytes threads input job; do
-    case $calls in '#'*) [ -n "$measure" ] && echo "$calls $bytes $threads $input $job" >>measured; continue ;; esac
+# A line is: allocations, bytes in all, bytes at the peak, threads, input, and the words of the job.
+while read -r calls bytes peak threads input job; do
+    case $calls in '#'*) [ -n "$measure" ] && echo "$calls $bytes $peak $threads $input $job" >>measured; continue ;; esac
     if [ -n "$measure" ]; then
         # shellcheck disable=SC2086
-        now=$(most "$input" $job) || exit 1
+        read -r calls bytes peak < <(most "$input" $job) && [ -n "$peak" ] || exit 1
         spare=10
-        [ "${now#* }" -lt 1000000 ] && spare=100
-        echo "$(spared "${now% *}") $(spared "${now#* }") $threads $input $job" >>measured
+        [ "$bytes" -lt 1000000 ] && spare=100
+        echo "$(spared "$calls") $(spared "$bytes") $(spared "$peak") $threads $input $job" >>measured
         continue
     fi
     # shellcheck disable=SC2086
-    now=$(count alloc "$input" $job) && started=$(count thread "$input" $job) || exit 1
-    within allocations "${now% *}" "$calls"
-    within bytes "${now#* }" "$bytes"
-    within 'threads started' "${started% *}" "$threads"
-    within 'threads missing' $((threads - ${started% *})) 0
+    read -r now_calls now_bytes now_peak < <(count alloc "$input" $job) && [ -n "$now_peak" ] || exit 1
+    # shellcheck disable=SC2086
+    read -r started _ < <(count thread "$input" $job) && [ -n "$started" ] || exit 1
+    within allocations "$now_calls" "$calls"
+    within bytes "$now_bytes" "$bytes"
+    within 'bytes at the peak' "$now_peak" "$peak"
+    within 'threads started' "$started" "$threads"
+    within 'threads missing' $((threads - started)) 0
 done <"$here/work.bounds"
 
 if [ -n "$measure" ]; then

@@ -5,6 +5,7 @@ ghost use Rattle.rds_code.specs.Inside.BurstTable.{IsSound, HasBurst};
 
 use crate::burst::Burst;
 use crate::error::CodeError;
+use crate::block::BLOCK_BITS;
 use crate::remainder::rem26;
 use std::alloc::{AllocError, Global};
 use std::marker::Model;
@@ -93,9 +94,9 @@ fn enter_shifts(patterns: &mut [u32], pattern: u32)
     ensures entered { (shift : ℕ) → shift < 26 → pattern * 2 ^ shift < 2 ^ 26 → HasBurst patterns.new (pattern * 2 ^ shift) }
     ensures kept { (e : ℕ) → IsBurst 5 e → HasBurst patterns.old e → HasBurst patterns.new e }
 {
-    for shift in 0..26u32 {
+    for shift in 0..BLOCK_BITS {
         let burst = pattern << shift;
-        if burst < 1 << 26 {
+        if burst < 1 << BLOCK_BITS {
             enter(patterns, burst);
         }
     }

@@ -8,12 +8,13 @@ ghost use Rattle.rds_pieces.specs.Inside.Later.{later, due_of, state_later};
 ghost use Rattle.rds_pieces.specs.Inside.MarksOn.{recounted};
 
 use crate::mark::Mark;
+use rds_code::BLOCK_BITS;
 use rds_sync::State;
 use std::alloc::{AllocError, Global};
 use std::marker::Model;
 
-/// The bits of a group.
-const GROUP_BITS: u64 = 104;
+/// The bits of a group: four blocks.
+const GROUP_BITS: u64 = 4 * BLOCK_BITS as u64;
 
 /// One mark or more, each a group and one item after the one before it, and else alike.
 #[derive(Clone, Copy, Debug)]

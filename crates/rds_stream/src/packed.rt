@@ -6,13 +6,14 @@ ghost use Rattle.rds_stream.specs.Recording.{packed_bit, bits_of, window};
 
 use crate::bit_order::lowest_first;
 use crate::error::StreamError;
+use rds_code::BLOCK_BITS;
 use std::marker::Model;
 
 /// The most bits that a recording may hold.
 const MOST_BITS: u64 = 1 << 36;
 
-/// Ones in the 26 places of a block.
-const BLOCK: u32 = (1 << 26) - 1;
+/// Ones in the places of a block.
+const BLOCK: u32 = (1 << BLOCK_BITS) - 1;
 
 /// Packed bits with their places from 0 on. Contracts see the list of the bits, each 0 or 1.
 #[derive(Drop)]

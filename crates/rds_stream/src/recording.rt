@@ -10,11 +10,11 @@ ghost use Rattle.rds_stream.specs.Recording.{AreGaps, Signal, bits_of, length_of
 use crate::error::StreamError;
 use crate::gaps::{Section, are_gaps, first_after};
 use crate::packed::Packed;
-use rds_code::{Offset, offset_of, rem26};
+use rds_code::{BLOCK_BITS, Offset, offset_of, rem26};
 use std::marker::Model;
 
-/// The first place at which a window ends: 26 bits lead up to it.
-pub const FIRST_WINDOW: u64 = 25;
+/// The first place at which a window ends: 25, since a block's bits lead up to it.
+pub const FIRST_WINDOW: u64 = BLOCK_BITS as u64 - 1;
 
 /// Demodulated bits with their places from 0 on, and the gaps in them: ranges of places whose bits mean nothing, as
 /// where a receiver dropped samples. Contracts see the list of the bits, each 0 or 1, and the list of the gaps.

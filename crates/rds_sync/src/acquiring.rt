@@ -12,7 +12,7 @@ ghost use Rattle.rds_sync.specs.Loss.{none_bad};
 ghost use Rattle.rds_sync.specs.Step.{items_at, locked_after, group_after};
 ghost use Rattle.rds_sync.specs.declared.item.Item.TheVariants.{Acquired};
 
-use crate::due::Lock;
+use crate::due::{BLOCK_PLACES, Lock};
 use crate::item::{Block, Group, Item};
 use crate::loss::Loss;
 use crate::rules::Rules;
@@ -62,7 +62,7 @@ impl Acquisition {
     {
         let last = Block::Read(rules.read(self.heard, 4, Wanted::Either));
         let blocks = [Block::Missing, Block::Missing, Block::Missing, last];
-        Group::of_blocks(self.place - 25, blocks)
+        Group::of_blocks(self.place - FIRST_WINDOW, blocks)
     }
 }
 
@@ -136,7 +136,7 @@ fn is_partner<T: Tape>(tape: &mut T, place: u64, number: u8, distance: u32) -> b
     ensures same { T.signal tape.new ≡ T.signal tape.old }
     ensures reads { T.reads_made tape.new ≤ T.reads_made tape.old + 1 }
 {
-    let before = place.saturating_sub(26 * u64::from(distance));
+    let before = place.saturating_sub(BLOCK_PLACES * u64::from(distance));
     is_in_step(offset_at(tape, before), number, distance)
 }
 
@@ -174,6 +174,6 @@ fn is_partner_in(rec: &Recording, place: u64, number: u8, distance: u32) -> bool
     requires within { place < length_of rec.now }
     ensures { result ≡ has_partner rec.now place number distance }
 {
-    let before = place.saturating_sub(26 * u64::from(distance));
+    let before = place.saturating_sub(BLOCK_PLACES * u64::from(distance));
     before >= FIRST_WINDOW && is_in_step(rec.offset(before), number, distance)
 }

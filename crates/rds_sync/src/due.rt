@@ -8,6 +8,10 @@ ghost use Rattle.rds_sync.specs.Step.{locked_after};
 
 use crate::loss::{Bad, Loss};
 use crate::state::State;
+use rds_code::BLOCK_BITS;
+
+/// How far the last bits of two blocks in a row lie apart, in places.
+pub(crate) const BLOCK_PLACES: u64 = BLOCK_BITS as u64;
 
 /// The block that is due, and where its group and its lock's bad blocks stand.
 #[derive(Clone, Copy)]
@@ -38,7 +42,7 @@ impl Lock {
         ensures { state_in result ≡ locked_after place number bad first }
     {
         Lock {
-            due: place + 26,
+            due: place + BLOCK_PLACES,
             number: number % 4 + 1,
             bad,
             first: if number == 4 { 1 } else { first },

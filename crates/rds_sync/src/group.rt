@@ -6,10 +6,11 @@ ghost use Rattle.rds_stream.specs.Recording.{offset_heard as the_offset_heard};
 ghost use Rattle.rds_sync.specs.Acquiring.{is_numbered};
 ghost use Rattle.rds_sync.specs.Inside.GroupParts.{IsGroupPart};
 
+use crate::due::BLOCK_PLACES;
 use crate::item::{Block, Group, Version};
 use crate::rules::Rules;
 use rds_code::{Offset, Reading, Wanted};
-use rds_stream::{Tape, offset_heard};
+use rds_stream::{FIRST_WINDOW, Tape, offset_heard};
 
 /// Whether what was heard has an offset of this number.
 pub(crate) fn is_numbered(heard: Option<u32>, number: u8) -> bool
@@ -168,7 +169,7 @@ fn read_at<T: Tape>(
     let heard = if number == part.last {
         part.heard
     } else {
-        tape.window(part.place - 26 * u64::from(part.last - number))
+        tape.window(part.place - BLOCK_PLACES * u64::from(part.last - number))
     };
     Block::Read(rules.read(heard, number, wanted))
 }
@@ -197,6 +198,6 @@ pub(crate) fn read_group<T: Tape>(tape: &mut T, rules: &Rules, part: GroupPart) 
     ensures reads { T.reads_made tape.new ≡ T.reads_made tape.old + (part.last - part.first) }
 {
     let blocks = read_blocks(tape, rules, part);
-    let place = part.place - 26 * u64::from(part.last - part.first) - 25;
+    let place = part.place - BLOCK_PLACES * u64::from(part.last - part.first) - FIRST_WINDOW;
     Group::of_blocks(place, blocks)
 }

@@ -14,13 +14,13 @@ ghost use Rattle.rds_sync.specs.Step.{step, items_at};
 ghost use Rattle.rds_sync.specs.Totals.{is_valid};
 ghost use Rattle.rds_sync.specs.declared.item.Block.TheVariants.{Read};
 
-use crate::due::{Due, Lock};
+use crate::due::{BLOCK_PLACES, Due, Lock};
 use crate::error::SyncError;
 use crate::item::{Block, Item};
 use crate::item_buffer::ItemBuffer;
 use crate::rules::Rules;
 use rds_code::{Reading, Wanted};
-use rds_stream::Reader;
+use rds_stream::{FIRST_WINDOW, Reader};
 
 /// The blocks of a group of which none was read.
 const NO_BLOCKS: [Block; 4] = [Block::Missing; 4];
@@ -33,7 +33,7 @@ pub(crate) fn blocks_before(reader: &mut Reader<'_>, rules: &Rules, lock: Lock) 
 {
     let mut blocks = NO_BLOCKS;
     for number in lock.first..lock.number {
-        let due = lock.due - 26 * u64::from(lock.number - number);
+        let due = lock.due - BLOCK_PLACES * u64::from(lock.number - number);
         let _ = read_due(
             reader,
             rules,
@@ -85,7 +85,7 @@ fn push_closed(items: &mut ItemBuffer, lock: Lock, blocks: &[Block; 4]) -> Resul
         ++ Item.Group (group_of (lock.due - 26 * (lock.number - lock.first) - 25) blocks.now) ∷ []) }
     ensures only_memory { IsOkUnless result SyncError.OutOfMemory }
 {
-    let place = lock.due - 26 * u64::from(lock.number - lock.first) - 25;
+    let place = lock.due - BLOCK_PLACES * u64::from(lock.number - lock.first) - FIRST_WINDOW;
     items.push_group(place, blocks)?;
     Ok(())
 }

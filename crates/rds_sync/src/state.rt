@@ -3,8 +3,10 @@
 ghost use Rattle.std.specs.Prelude.{◌≡◌, ◌≤◌, ◌<◌, ◌^◌, ◌↔◌, IsTrue};
 ghost use Rattle.rds_sync.specs.Rules.{RuleNumbers};
 
+use crate::due::BLOCK_PLACES;
 use crate::loss::Bad;
 use crate::rules::Rules;
+use rds_stream::FIRST_WINDOW;
 
 /// The state before a bit.
 #[derive(Clone, Copy, Debug, PartialEq, Eq)]
@@ -41,9 +43,9 @@ impl State {
                 first,
             } => {
                 place <= due
-                    && due - place <= 25
+                    && due - place < BLOCK_PLACES
                     && rules.loss().is_lawful_bad(bad)
-                    && 26 * u64::from(number.saturating_sub(first)) + 25 <= due
+                    && BLOCK_PLACES * u64::from(number.saturating_sub(first)) + FIRST_WINDOW <= due
                     && (number == 1 && first == 1 || 1 <= first && first < number && number <= 4)
             }
         }

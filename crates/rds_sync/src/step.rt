@@ -8,7 +8,7 @@ ghost use Rattle.rds_sync.specs.Lawful.{IsLawful, IsLawfulLock};
 ghost use Rattle.rds_sync.specs.Step.{step, items_at, run, items_of_end};
 
 use crate::acquiring::acquire;
-use crate::due::{Due, Lock};
+use crate::due::{BLOCK_PLACES, Due, Lock};
 use crate::group::{GroupPart, is_numbered, read_group};
 use crate::item::{Group, Item};
 use crate::rules::Rules;
@@ -95,7 +95,7 @@ pub fn finish<T: Tape>(tape: &mut T, rules: &Rules, state: State) -> Option<Grou
             first,
             ..
         } if number != 1 => {
-            let place = due - 26;
+            let place = due - BLOCK_PLACES;
             let heard = tape.window(place);
             let part = GroupPart {
                 first,
