@@ -3,9 +3,9 @@ ghost use Rattle.rds_code.specs.Remainder.{rem};
 ghost use Rattle.rds_code.specs.Bursts.{IsBurst};
 ghost use Rattle.rds_code.specs.Inside.BurstTable.{IsSound, HasBurst};
 
+use crate::block::BLOCK_BITS;
 use crate::burst::Burst;
 use crate::error::CodeError;
-use crate::block::BLOCK_BITS;
 use crate::remainder::rem26;
 use std::alloc::{AllocError, Global};
 use std::marker::Model;
