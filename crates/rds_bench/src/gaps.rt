@@ -2,7 +2,7 @@
 use crate::sample::Sample;
 use crate::timing::Timing;
 use anyhow::Result;
-use rds_stream::{Recording, ValidWindows};
+use rds_stream::{Recording, StreamError, ValidWindows};
 use rds_sync::{Rules, decode_plain};
 use std::alloc::{AllocError, Global};
 use std::time::Instant;
@@ -51,7 +51,14 @@ fn with_gaps(alloc: Global, bits: u64, sample: Sample) -> Result<Recording> {
     let bytes = sample.bytes(alloc, bits)?;
     let held = (bytes.len() as u64).saturating_mul(8);
     let gaps = gaps_in(alloc, held)?;
-    Ok(Recording::with_gaps(bytes, held, gaps).map_err(|refused| refused.0)?)
+    Ok(gapped(bytes, held, gaps)?)
+}
+
+fn gapped(bytes: Vec<u8>, bits: u64, gaps: Vec<(u64, u64)>) -> Result<Recording, StreamError> {
+    match Recording::with_gaps(bytes, bits, gaps) {
+        Ok(recording) => Ok(recording),
+        Err((refused, _, _)) => Err(refused),
+    }
 }
 
 /// Gaps of one place, apart by about as many, at places of no pattern.

@@ -1,0 +1,140 @@
+"""Copies of crates in which functions have a hole for their proof, so that few are proved anew."""
+
+import os
+import re
+import shutil
+from dataclasses import dataclass
+
+TOP = os.path.dirname(os.path.dirname(os.path.abspath(__file__)))
+KIT = os.path.dirname(os.path.dirname(os.path.realpath(shutil.which("rt") or "")))
+LIBRARIES = ["rds_code", "rds_stream", "rds_sync", "rds_pieces", "rds_crew", "rds_tool"]
+HOLE = """use Rattle.{crate}.proofs.{path}.Statement.{{statement}}
+
+pub {name}_spec : {{M : Type 1}} → statement M
+{name}_spec 𝓤 𝓛 𝓜 𝓡 w = ?
+"""
+
+
+@dataclass(eq=False)
+class Function:
+    crate: str
+    file: str
+    path: str  # as the crate's proofs have it
+    is_public: bool
+    place: tuple  # from its attributes to the end of its body
+    body: str
+    clauses: list
+
+    def proof(self, folder):
+        """The folder of its proof below the crates in `folder`."""
+        return f"{folder}/{self.crate}/proofs/{self.path.replace('.', '/')}"
+
+    def put_hole(self, folder):
+        """Puts a hole in the place of its proof, where the proof has a folder of the function's name."""
+        if self.body and self.path.replace(".", "").isidentifier():
+            shutil.rmtree(self.proof(folder), ignore_errors=True)
+            os.makedirs(self.proof(folder))
+            with open(f"{self.proof(folder)}/Proof.antt", "w") as out:
+                out.write(HOLE.format(crate=self.crate, path=self.path, name=self.path.rpartition(".")[2]))
+
+
+def blanked(text):
+    """The text without its comments and strings, all else in its place."""
+    return re.sub(r"//.*|\"(?:\\.|[^\"\\])*\"|'(?:\\.|[^'\\])'", lambda it: re.sub(r"[^\n]", " ", it[0]), text)
+
+
+def past(text, at):
+    """The place after the bracket that closes the one at `at`."""
+    depth = 0
+    for place in range(at, len(text)):
+        depth += (text[place] in "({[") - (text[place] in ")}]")
+        if depth == 0:
+            return place + 1
+
+
+def holders(text):
+    """Each `impl` and `trait`: where it begins and ends, the type or trait, and what proofs call it."""
+    for it in re.finditer(r"^(?:pub(?:\(crate\))? )?(?:impl|trait)\b([^{;]*)", text, re.M):
+        said = re.sub(r"&(?:'\w+ )?", "Ref", re.sub(r"\bFrom<(\w+)[^ ]* for", r"From\1 for", it[1]))
+        while "<" in said:
+            said = re.sub(r"<[^<>]*>", "", said)
+        trait, _, kind = re.sub(r":(?!:).*", "", said).rpartition(" for ")
+        yield it.end(), past(text, it.end()), kind.split()[0], kind.split()[0] + trait.strip().rpartition(":")[2]
+
+
+def functions_of(folder):
+    """All functions of a crate."""
+    crate, modules = os.path.basename(folder), sorted(it[:-3] for it in os.listdir(f"{folder}/src"))
+    texts = {it: blanked(open(f"{folder}/src/{it}.rt").read()) for it in modules}
+    exported = set(re.findall(r"\w+", " ".join(re.findall(r"pub (?:use \w+::|mod )([^;]*);", texts["lib"]))))
+    home = {kind: it for it in texts for kind in re.findall(r"^pub.* (?:struct|enum|trait) (\w+)", texts[it], re.M)}
+    for module, text in texts.items():
+        inside = list(holders(text))
+        for it in re.finditer(r"^(?: *#\[.*\]\n)* *(pub(?:\(crate\))? |)(?:const )?fn (\w+)", text, re.M):
+            kind, owner = next((names for start, end, *names in inside if start < it.end() < end), (None, None))
+            # The result's type, which may hold `[T; N]`, ends where clauses, a body or a `;` begin.
+            at, clauses = past(text, text.index("(", it.end())), []
+            at += re.match(r"(?:\[.*?\]|(?!\s(?:requires|ensures|ghost|where)\b)[^{;])*", text[at:]).end()
+            while said := re.match(r"\s*(requires|ensures|ghost)\b\*?\s*(\w*)[^{;]*(?={)", text[at:]):
+                end = past(text, at + said.end())
+                if said[1] == "ensures":
+                    clauses.append((said[2] or str(len(clauses) + 1), (at, end)))
+                at = end
+            at += re.match(r"\s*", text[at:]).end()
+            end = past(text, at) if text[at] == "{" else at
+            is_open = it[1] == "pub " or not it[1] and (owner != kind or end == at)
+            path = ".".join(filter(None, [home.get(kind, module), owner, it[2]]))
+            is_public = is_open and bool({module, kind or it[2]} & exported)
+            yield Function(
+                crate, f"{crate}/src/{module}.rt", path, is_public, (it.start(), end), text[at:end], clauses
+            )
+
+
+def copied(folder, crates):
+    """Copies crates to `folder`, with holes for the proofs of the libraries; gives the libraries' functions."""
+    functions = []
+    for crate in crates:
+        shutil.copytree(f"{TOP}/crates/{crate}", f"{folder}/{crate}", ignore=shutil.ignore_patterns("out"))
+        functions += functions_of(f"{folder}/{crate}") if crate in LIBRARIES else []
+    for f in functions:
+        f.put_hole(folder)
+    return functions
+
+
+def used_by(crate):
+    """What a crate stands on, by crates.txt: libraries of this repository, and others."""
+    with open(f"{TOP}/crates.txt", encoding="utf-8") as it:
+        names = re.search(rf"^{crate}\b[^:#\n]*:(.*)", it.read(), re.M)[1].split()
+    return [it for it in LIBRARIES if it in names], [it for it in names if it not in LIBRARIES]
+
+
+def below(crate):
+    """The libraries that a crate and those below it stand on, lowest first."""
+    found = {it for name in used_by(crate)[0] for it in [name, *below(name)]}
+    return [it for it in LIBRARIES if it in found]
+
+
+def is_built(crate):
+    """Whether what `rt` built of a library is newer than its sources and theirs below it."""
+    folders = [f"{TOP}/crates/{it}/{part}" for it in [*below(crate), crate] for part in ("src", "specs", "proofs")]
+    files = (f"{at}/{name}" for folder in folders for at, _, names in os.walk(folder) for name in names)
+    rlib = f"{TOP}/crates/{crate}/out/rlib/{crate}.rlib"
+    return os.path.isdir(rlib) and os.path.getmtime(rlib) > max(os.path.getmtime(it) for it in files)
+
+
+def words(folder, crate, only, are_copied):
+    """The words that check these functions of a copy. The libraries below are copies beside it, or as `rt` built them."""
+    kit = {"core", "std", *(name for it in [*below(crate), crate] for name in used_by(it)[1])}
+    said = f"{KIT}/bin/rattle check --crate-name {crate} src/lib.rt --allow-holes".split()
+    said += ["--incremental", f"{folder}/kept_{crate}", "--logic-built", f"{KIT}/logic_built"]
+    said += ["--antt-project", f"{KIT}/rattle/logic/antt-project.json", "-L", f"dependency={KIT}/rlibs"]
+    said += [word for it in sorted(kit) for word in ("--extern", f"{it}={KIT}/rlibs/{it}.rlib")]
+    for it in below(crate):
+        rlib = f"{TOP}/crates/{it}/out/rlib/{it}.rlib"
+        if are_copied:
+            said += ["--lib", f"{it}:{','.join(['core', 'std', *sum(used_by(it), [])])}={folder}/{it}/src/lib.rt"]
+        elif it in used_by(crate)[0]:
+            said += ["--extern", f"{it}={rlib}", "-L", f"dependency={os.path.dirname(rlib)}"]
+        else:
+            said += ["-L", f"dependency={os.path.dirname(rlib)}"]
+    return said + [word for it in sorted(only) for word in ("--only", it)]
