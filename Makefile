@@ -26,6 +26,7 @@ run: build/rds
 
 test: toolchain
 	$(RT) ci
+	tests/wrong_bodies.py
 	tests/program.sh crates/rds/out/rds
 	tests/listings.sh crates/rds/out/rds
 	tests/differential.sh crates/rds/out/rds crates/rds_plain/out/rds_plain
