@@ -3,5 +3,4 @@ mod blocks;
 mod bursts;
 mod laws;
 mod offsets;
-mod refusals;
 mod remainders;

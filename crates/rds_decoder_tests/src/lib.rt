@@ -5,7 +5,8 @@
 //! - `sync`: rules, steps, runs and whole reports.
 //! - `pieces`: cuttings, guesses, seams and stitched reports, against what one decoder finds.
 //! - `crew`: the reports of crews, and what their gates and works see.
-//! - `front_pages`: the examples of the libraries' front pages.
+//! - `front_pages`: examples of the libraries' front pages.
+//! - `refusals`: their numbers and names.
 //! - `samples`: what they decode.
 #![tactic(auto)]
 
@@ -17,6 +18,8 @@ mod crew;
 mod front_pages;
 #[cfg(test)]
 mod pieces;
+#[cfg(test)]
+mod refusals;
 #[cfg(test)]
 mod samples;
 #[cfg(test)]

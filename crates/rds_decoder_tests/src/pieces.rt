@@ -2,8 +2,8 @@
 mod convergence;
 mod cuttings;
 pub mod guesses;
-mod joins;
+pub mod joins;
 mod marks;
-mod meetings;
+pub mod reports;
 mod seams;
-pub mod stitching;
+mod stitching;

@@ -8,8 +8,8 @@ use rds_code::{Offset, Reading};
 use rds_pieces::{Cutting, PieceError};
 use rds_stream::{Recording, StreamError};
 use rds_sync::{
-    Bad, Block, Group, Item, ItemBuffer, Items, Report, Rules, State, SyncError, Totals, Version,
-    decode_plain,
+    Block, Group, Item, ItemBuffer, Items, Loss, Report, RuleNumbers, Rules, SyncError, Totals,
+    Version, decode_plain,
 };
 use std::alloc::{AllocError, Global};
 use std::test::Fail;
@@ -69,42 +69,46 @@ pub fn zero_groups(alloc: Global, bits: u64) -> Result<Recording, StreamError> {
     recording_of(zero_bytes(alloc, bits)?, bits)
 }
 
-/// Block 1 of the second of two zero groups, inverted by a burst of span 6: the bytes that are changed.
-pub const ONE_BAD: [(usize, u8); 2] = [(15, 0x08), (16, 0x40)];
+/// Blocks 1 and 3 of the second of two zero groups, inverted by a burst of span 6 each: the bytes that are changed.
+const TWO_BAD: [(usize, u8); 3] = [(15, 0x08), (16, 0x40), (22, 0x84)];
 
-/// That block, and block 3.
-pub const TWO_BAD: [(usize, u8); 3] = [(15, 0x08), (16, 0x40), (22, 0x84)];
-
-/// Two zero groups, with these bytes changed.
-pub fn damaged_groups(alloc: Global, damaged: &[(usize, u8)]) -> Result<Recording, Fail> {
+/// Two zero groups with those bytes changed.
+fn two_bad(alloc: Global) -> Result<Recording, StreamError> {
     let mut bytes = zero_bytes(alloc, 208)?;
-    for &(at, mask) in damaged {
+    for &(at, mask) in &TWO_BAD {
         if let Some(byte) = bytes.get_mut(at) {
             *byte ^= mask;
         }
     }
-    Ok(recording_of(bytes, 208)?)
+    recording_of(bytes, 208)
 }
 
 /// Reading by the default numbers: bursts of 2 bits, 3 blocks back, lost after 10.
-pub fn default_rules(alloc: Global) -> Result<Rules, SyncError> {
+fn default_rules(alloc: Global) -> Result<Rules, SyncError> {
     Rules::new(alloc, 2, 3, 10)
 }
 
-/// A state by its numbers: those of a lock (`due`, `number`, how many blocks in a row were bad, and `first`), or none while
-/// searching.
-pub type StateNumbers = Option<(u64, u8, u8, u8)>;
-
-pub fn state_of(numbers: StateNumbers) -> State {
-    match numbers {
-        None => State::Searching,
-        Some((due, number, bad, first)) => State::Locked {
-            due,
-            number,
-            bad: Bad::Run(bad),
-            first,
-        },
-    }
+/// What a sample is a recording of.
+#[derive(Clone, Copy)]
+pub enum Signal {
+    /// So many zero groups, one after the other, read with this reach.
+    ZeroGroups(u8, u32),
+    /// So many zero bytes, in which there is no block.
+    Silence(u32),
+    /// Two groups of which the second has two bad blocks among three, which lose the lock.
+    TwoBad,
+    /// Eight zero groups, whose lock is lost so.
+    EightGroups(Loss),
+    /// A station's groups, with every bit of one group turned.
+    Station,
+    /// A station's groups with damaged bits and with gaps: one bit in so many bytes is inverted, and there is a gap in
+    /// so many places, where the third number says which.
+    Gapped(u64, u64, u64),
+    /// Zero groups of which about one byte in so many is damaged, where the first number says which, whose lock is lost
+    /// so.
+    Noisy(u64, u64, Loss),
+    /// Zero groups of which bytes are lost and turned at random, by rules that the number chooses.
+    Torn(u32),
 }
 
 /// A recording, the rules that it is read by, and the report that they have to give.
@@ -116,8 +120,16 @@ pub struct Sample {
 }
 
 impl Sample {
-    /// So many zero groups, one after the other.
-    pub fn zero_groups(alloc: Global, groups: u8, reach: u32) -> Result<Sample, Fail> {
+    pub fn of(alloc: Global, signal: Signal) -> Result<Sample, Fail> {
+        match signal {
+            Signal::ZeroGroups(groups, reach) => Sample::zero_groups(alloc, groups, reach),
+            Signal::Silence(bytes) => Sample::silence(alloc, bytes),
+            _ => Ok(Sample::decoded(alloc, recorded(alloc, signal)?, rules_for(signal))?),
+        }
+    }
+
+    /// Zero groups, and the report that is known of them.
+    fn zero_groups(alloc: Global, groups: u8, reach: u32) -> Result<Sample, Fail> {
         let groups = u64::from(groups);
         let recording = zero_groups(alloc, 104 * groups)?;
         let rules = Rules::new(alloc, 2, reach, 10)?;
@@ -132,9 +144,9 @@ impl Sample {
         })
     }
 
-    /// So many zero bytes, in which there is no block.
-    pub fn silence(alloc: Global, bytes: u8) -> Result<Sample, Fail> {
-        let zeros = vec![in alloc; 0u8; usize::from(bytes)]?;
+    /// Zero bytes, and an empty report.
+    fn silence(alloc: Global, bytes: u32) -> Result<Sample, Fail> {
+        let zeros = vec![in alloc; 0u8; bytes as usize]?;
         let recording = recording_of(zeros, 8 * u64::from(bytes))?;
         let rules = default_rules(alloc)?;
         Ok(Sample {
@@ -147,50 +159,13 @@ impl Sample {
         })
     }
 
-    /// A station's groups, with every bit of one group turned, and the report of one decoder.
-    pub fn station(alloc: Global) -> Result<Sample, Fail> {
-        let recording = recording_of(station_bytes(alloc)?, 20 * 104)?;
-        let rules = Rules::new(alloc, 2, 3, 3)?;
-        let report = decode_plain(alloc, &recording, &rules)?;
-        Ok(Sample {
-            recording,
-            rules,
-            report,
-        })
-    }
-
-    /// Two groups of which the second has two bad blocks among three, which lose the lock.
-    pub fn two_bad(alloc: Global) -> Result<Sample, Fail> {
-        Sample::by_share(alloc, damaged_groups(alloc, &TWO_BAD)?, 2, 3)
-    }
-
-    /// A recording in which so many bad blocks of the last lose a lock, and the report of one decoder.
-    pub fn by_share(
+    /// A recording, rules of these numbers, and the report of one decoder.
+    pub fn decoded(
         alloc: Global,
         recording: Recording,
-        bad: u32,
-        of: u32,
-    ) -> Result<Sample, Fail> {
-        let rules = Rules::with_share(alloc, 2, 3, bad, of)?;
-        let report = decode_plain(alloc, &recording, &rules)?;
-        Ok(Sample {
-            recording,
-            rules,
-            report,
-        })
-    }
-
-    /// A station's groups with damaged bits and with gaps, as `seed` says, and the report of one decoder: one bit in so many
-    /// bytes is inverted, and there is a gap in so many places.
-    pub fn gapped(alloc: Global, bytes: u64, places: u64, seed: u64) -> Result<Sample, Fail>
-        requires bytes { 0 < bytes }
-        requires places { 1 < places }
-    {
-        let mut sent = station_bytes(alloc)?;
-        invert_some(&mut sent, bytes, seed);
-        let gaps = random_gaps(alloc, 20 * 104, places, seed)?;
-        let recording = gapped_recording(sent, 20 * 104, gaps)?;
-        let rules = Rules::new(alloc, 2, 3, 3)?;
+        numbers: RuleNumbers,
+    ) -> Result<Sample, SyncError> {
+        let rules = Rules::of(alloc, numbers)?;
         let report = decode_plain(alloc, &recording, &rules)?;
         Ok(Sample {
             recording,
@@ -216,7 +191,7 @@ impl Sample {
 }
 
 /// Where a recording is cut.
-#[derive(Clone, Copy, Debug)]
+#[derive(Clone, Copy)]
 pub enum Cuts<'a> {
     /// Into at most so many pieces of one length, 1 or more.
     Even(u64),
@@ -300,6 +275,81 @@ fn station_bytes(alloc: Global) -> Result<Vec<u8>, AllocError> {
         bytes.extend_from_slice(&sent.to_be_bytes()[3..])?;
     }
     Ok(bytes)
+}
+
+/// The recording of a signal whose report is not known.
+fn recorded(alloc: Global, signal: Signal) -> Result<Recording, Fail> {
+    match signal {
+        Signal::TwoBad => Ok(two_bad(alloc)?),
+        Signal::Station => Ok(recording_of(station_bytes(alloc)?, 20 * 104)?),
+        Signal::Gapped(bytes, places, seed) => Ok(gapped_station(alloc, bytes, places, seed)?),
+        Signal::Noisy(seed, rarity, _) => noisy_groups(alloc, seed, rarity),
+        Signal::Torn(number) => torn_groups(alloc, u64::from(number) * 0x9E37_79B9),
+        _ => Ok(zero_groups(alloc, 832)?),
+    }
+}
+
+/// The numbers of the rules that it is read by.
+fn rules_for(signal: Signal) -> RuleNumbers {
+    let (burst, reach, loss) = match signal {
+        Signal::TwoBad => (2, 3, Loss::Share { bad: 2, of: 3 }),
+        Signal::EightGroups(loss) | Signal::Noisy(_, _, loss) => (2, 3, loss),
+        Signal::Torn(number) => (number % 6, 1 + number % 8, Loss::Run(1 + number % 11)),
+        _ => (2, 3, Loss::Run(3)),
+    };
+    RuleNumbers { burst, reach, loss }
+}
+
+/// A station's groups, damaged in about one of so many bytes, with a gap in so many places.
+fn gapped_station(
+    alloc: Global,
+    bytes: u64,
+    places: u64,
+    seed: u64,
+) -> Result<Recording, StreamError> {
+    let gaps = random_gaps(alloc, 20 * 104, places.max(2), seed)?;
+    let mut sent = station_bytes(alloc)?;
+    invert_some(&mut sent, bytes.max(1), seed);
+    gapped_recording(sent, 20 * 104, gaps)
+}
+
+/// Zero groups of which about one byte in `rarity` is damaged, as the seed has it.
+fn noisy_groups(alloc: Global, seed: u64, rarity: u64) -> Result<Recording, Fail> {
+    let mut bytes = zero_bytes(alloc, 8_000)?;
+    damage_some(&mut bytes, seed, rarity);
+    Ok(recording_of(bytes, 8_000)?)
+}
+
+/// Turns bits of about one byte in `rarity`.
+fn damage_some(bytes: &mut [u8], seed: u64, rarity: u64) {
+    let mut number = seed;
+    for byte in bytes {
+        number = number
+            .wrapping_mul(0x5851_F42D_4C95_7F2D)
+            .wrapping_add(0x1405_7B7E_F767_814F);
+        if (number >> 33) % rarity.max(1) == 0 {
+            *byte ^= ((number >> 50) & 0xFF) as u8;
+        }
+    }
+}
+
+/// Zero groups of which bytes are lost and turned at random.
+fn torn_groups(alloc: Global, seed: u64) -> Result<Recording, Fail> {
+    let mut bytes = Vec::new(alloc);
+    let mut number = seed;
+    for byte in &zero_bytes(alloc, 40 * 104)? {
+        number = next_random(number);
+        if number % 61 != 0 {
+            let turned = if number % 37 == 0 {
+                (number >> 56) as u8
+            } else {
+                0
+            };
+            bytes.push(byte ^ turned)?;
+        }
+    }
+    let bits = (bytes.len() as u64).saturating_mul(8);
+    Ok(recording_of(bytes, bits)?)
 }
 
 /// Block 2 of the first group acquires, and the rest of it is its group; then come whole groups.

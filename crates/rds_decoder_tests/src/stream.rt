@@ -1,8 +1,5 @@
 //! Tests of `rds_stream`.
-mod gaps;
-mod planes;
+pub mod gaps;
 mod recordings;
 mod scans;
-mod tapes;
 mod windows;
-mod windows_left;

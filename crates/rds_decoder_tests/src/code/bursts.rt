@@ -4,19 +4,6 @@ ghost use Rattle.std.specs.Prelude.{◌<◌, ◌≤◌};
 use rds_code::BurstTable;
 use std::test::Fail;
 
-/// How many remainders tell a burst of this span.
-fn bursts_of_span(table: &BurstTable, span: u8) -> u32 {
-    let mut count = 0u32;
-    for remainder in 0..1024u16 {
-        if let Some(burst) = table.find(remainder, 5)
-            && burst.span() == span
-        {
-            count = count.wrapping_add(1);
-        }
-    }
-    count
-}
-
 /// The pattern, the span and the ones of the burst that the remainder tells, of at most so many bits.
 fn found(table: &BurstTable, remainder: u16, limit: u8) -> Option<(u32, u8, u8)>
     requires remainder { remainder < 1024 }
@@ -36,9 +23,6 @@ fn tells_bursts(table: &BurstTable) -> bool {
 #[test]
 fn bursts_are_found_by_their_remainders(rt: HostRuntime) -> Result<(), Fail> {
     let table = BurstTable::new(rt.alloc())?;
-    for &(span, count) in &[(1, 26), (2, 25), (3, 48), (4, 92), (5, 176)] {
-        assert!(rt; bursts_of_span(&table, span) == count, "of span {span}");
-    }
     assert!(rt; tells_bursts(&table));
     Ok(())
 }

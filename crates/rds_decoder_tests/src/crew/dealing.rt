@@ -1,5 +1,5 @@
 //! Dealers and their seats: what each call answers, to one thread and to eight.
-ghost use Rattle.std.specs.Prelude.{◌≡◌, All, length};
+ghost use Rattle.std.specs.Prelude.{◌≡◌, None, All, length};
 ghost use Rattle.rds_crew.specs.Seats.{IsFresh, IsOf, HasRested};
 
 use rds_crew::{Closed, CrewError, Dealer, Seat};
@@ -13,70 +13,53 @@ fn state_of(seat: &Seat) -> (Option<u64>, bool, u64, u64) {
     (seat.holding(), seat.ended(), seat.finished(), seat.told())
 }
 
-#[test]
-fn two_seats_take_turns(rt: HostRuntime) -> Result<(), Fail> {
-    let (dealer, mut seats) = Dealer::new(rt.alloc(), 2, 2)?;
-    let b = seats.pop().expect(&rt, "two seats");
-    let a = seats.pop().expect(&rt, "two seats");
+/// Whether a seat gets none, and has ended then, having finished one and been told of so many.
+fn ends(dealer: &Dealer, seat: Seat, told: u64) -> bool
+    requires own { IsOf dealer.now seat }
+    requires empty { seat.view.held ≡ None }
+{
+    let (none, seat) = dealer.draw(seat);
+    none.is_none() && state_of(&seat) == (None, true, 1, told)
+}
+
+/// Whether two seats of a dealer of two pieces draw one each, in order, and see what the other has finished.
+fn take_turns(dealer: &Dealer, a: Seat, b: Seat) -> bool
+    requires a { IsFresh dealer.now a }
+    requires b { IsFresh dealer.now b }
+{
     let (Some(first), a) = dealer.draw(a) else {
-        panic!(rt; "a draws")
+        return false;
     };
     let (Some(second), b) = dealer.draw(b) else {
-        panic!(rt; "b draws")
+        return false;
     };
-    assert_eq!(rt; (first, second), (0, 1));
+    let held = (state_of(&a), state_of(&b));
     let (none_done, b) = dealer.progress(b);
     let a = dealer.finish(a, first);
     let (one_done, b) = dealer.progress(b);
     let b = dealer.finish(b, second);
     let (both_done, a) = dealer.progress(a);
-    assert_eq!(rt; (none_done, one_done, both_done), (0, 1, 2));
-    let (None, a) = dealer.draw(a) else {
-        panic!(rt; "a ends")
+    held == ((Some(0), false, 0, 0), (Some(1), false, 0, 0))
+        && (none_done, one_done, both_done) == (0, 1, 2)
+        && ends(dealer, a, 2)
+        && ends(dealer, b, 1)
+}
+
+/// Whether the two seats of such a dealer do.
+fn two_take_turns(alloc: Global) -> Result<bool, CrewError> {
+    let (dealer, mut seats) = Dealer::new(alloc, 2, 2)?;
+    let Some(b) = seats.pop() else {
+        return Ok(false);
     };
-    let (None, b) = dealer.draw(b) else {
-        panic!(rt; "b ends")
+    let Some(a) = seats.pop() else {
+        return Ok(false);
     };
-    let mut back = Vec::new(rt.alloc());
-    back.push(a)?;
-    back.push(b)?;
-    let closed = dealer.close(back);
-    assert_eq!(rt; (closed.drawn, closed.finished), (2, 2));
-    Ok(())
+    Ok(take_turns(&dealer, a, b))
 }
 
 #[test]
-fn a_seat_tells_what_it_did(rt: HostRuntime) -> Result<(), Fail> {
-    let (dealer, mut seats) = Dealer::new(rt.alloc(), 1, 1)?;
-    let seat = seats.pop().expect(&rt, "one seat");
-    assert_eq!(rt; state_of(&seat), (None, false, 0, 0));
-    let (Some(j), seat) = dealer.draw(seat) else {
-        panic!(rt; "the seat draws")
-    };
-    assert_eq!(rt; state_of(&seat), (Some(0), false, 0, 0));
-    let seat = dealer.finish(seat, j);
-    assert_eq!(rt; state_of(&seat), (None, false, 1, 0));
-    let (_done, seat) = dealer.progress(seat);
-    assert_eq!(rt; state_of(&seat), (None, false, 1, 1));
-    let (_none, seat) = dealer.draw(seat);
-    assert_eq!(rt; state_of(&seat), (None, true, 1, 1));
-    Ok(())
-}
-
-#[test]
-fn a_dealer_of_no_pieces_ends_its_seat(rt: HostRuntime) -> Result<(), Fail> {
-    let (dealer, mut seats) = Dealer::new(rt.alloc(), 0, 1)?;
-    let seat = seats.pop().expect(&rt, "one seat");
-    let (None, seat) = dealer.draw(seat) else {
-        panic!(rt; "none is left")
-    };
-    let (None, seat) = dealer.draw(seat) else {
-        panic!(rt; "none is left")
-    };
-    let mut back = Vec::new(rt.alloc());
-    back.push(seat)?;
-    let closed = dealer.close(back);
-    assert_eq!(rt; (closed.drawn, closed.finished), (0, 0));
+fn two_seats_take_turns(rt: HostRuntime) -> Result<(), Fail> {
+    assert!(rt; two_take_turns(rt.alloc())?);
     Ok(())
 }
 
@@ -86,15 +69,16 @@ fn seats_made(alloc: Global, seats: u32) -> Result<usize, CrewError> {
     Ok(made.len())
 }
 
+/// Whether so many seats are refused.
+fn are_refused(alloc: Global, seats: u32) -> bool {
+    seats_made(alloc, seats).err() == Some(CrewError::CrewRange)
+}
+
 #[test]
 fn a_dealer_has_1_to_256_seats(rt: HostRuntime) -> Result<(), Fail> {
-    for seats in [0u32, 257, u32::MAX] {
-        let refusal = seats_made(rt.alloc(), seats).err();
-        assert!(rt; refusal == Some(CrewError::CrewRange), "{seats} seats");
-    }
-    for seats in [1u32, 256] {
-        assert_eq!(rt; seats_made(rt.alloc(), seats)?, seats as usize);
-    }
+    let alloc = rt.alloc();
+    assert!(rt; are_refused(alloc, 0) && are_refused(alloc, 257) && are_refused(alloc, u32::MAX));
+    assert!(rt; seats_made(alloc, 1)? == 1 && seats_made(alloc, 256)? == 256);
     Ok(())
 }
 
@@ -156,12 +140,22 @@ fn deal<R: Threads + Sync>(
     Ok(close_all(alloc, dealer, counted)?)
 }
 
+/// Whether so many threads draw all pieces and finish them.
+fn are_dealt<R: Threads + Sync>(
+    rt: &R,
+    alloc: Global,
+    pieces: u32,
+    seats: u32,
+) -> Result<bool, CrewError> {
+    let (counted, closed) = deal(rt, alloc, pieces, seats)?;
+    let all = u64::from(pieces);
+    Ok(counted == all && closed.drawn == all && closed.finished == all)
+}
+
 #[test]
 fn eight_threads_draw_a_thousand_pieces(rt: HostRuntime) -> Result<(), Fail> {
-    let (counted, closed) = deal(&rt, rt.alloc(), 1000, 8)?;
-    assert_eq!(rt;
-        (counted, closed.drawn, closed.finished),
-        (1000, 1000, 1000)
-    );
+    assert!(rt; are_dealt(&rt, rt.alloc(), 1000, 8)?);
+    // A dealer of no pieces ends its seat.
+    assert!(rt; are_dealt(&rt, rt.alloc(), 0, 1)?);
     Ok(())
 }

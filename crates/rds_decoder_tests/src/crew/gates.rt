@@ -1,12 +1,11 @@
 //! What gates and works see of a crew at its work. No contract says it: neither that workers run at the same time,
 //! nor when a gate is called, nor whose runs make the report.
-use crate::crew::journal::{Event, Journal, Noted};
-use crate::crew::reports::assert_decoded;
-use crate::samples::{Cuts, Sample};
+use crate::crew::journal::{Event, Journal, NO_JOIN, Noted};
+use crate::crew::reports::{is_decoded, is_signal_decoded};
+use crate::samples::{Cuts, Sample, Signal};
 use rds_crew::Gate;
 use rds_pieces::{PieceRun, RecordingWork};
 use std::alloc::Global;
-use std::process::Abort;
 use std::sync::Wait;
 use std::sync::atomic::{AtomicU64, Ordering};
 use std::test::Fail;
@@ -81,6 +80,9 @@ impl<R: Wait> Gate for Watch<'_, R> {
     }
 }
 
+/// What most crews here decode.
+const TWO_GROUPS: Signal = Signal::ZeroGroups(2, 3);
+
 /// The cut between two zero groups.
 const HALVES: Cuts<'_> = Cuts::At(&[104]);
 
@@ -98,22 +100,37 @@ const EVENTS: [Event; 10] = [
     Event::Reported,
 ];
 
-/// Decodes the sample, cut so, by a work that notes its calls, and asserts that the report is its own.
-pub fn decode_noted<R: Abort + Sync + Threads + Wait, G: Gate + Sync>(
+/// Whether a crew decodes a sample, cut so, as it is reported, by a work that notes its calls.
+fn is_cut_noted<R: Sync + Threads + Wait, G: Gate + Sync>(
     rt: &R,
     alloc: Global,
-    sample: Sample,
+    sample: &Sample,
     cuts: Cuts<'_>,
     workers: u32,
     journal: &Journal<'_, R>,
     gate: &G,
-) -> Result<(), Fail> {
+) -> Result<bool, Fail> {
     let cutting = sample.cut(alloc, cuts)?;
     let work = Noted {
         journal,
         inner: RecordingWork::new(&sample.recording, &sample.rules, &cutting),
+        refused: NO_JOIN,
     };
-    Ok(assert_decoded(rt, alloc, &sample, &work, workers, gate)?)
+    Ok(is_decoded(rt, alloc, sample, &work, workers, gate)?)
+}
+
+/// Whether it decodes a signal so.
+pub fn is_noted<R: Sync + Threads + Wait, G: Gate + Sync>(
+    rt: &R,
+    alloc: Global,
+    signal: Signal,
+    cuts: Cuts<'_>,
+    workers: u32,
+    journal: &Journal<'_, R>,
+    gate: &G,
+) -> Result<bool, Fail> {
+    let sample = Sample::of(alloc, signal)?;
+    is_cut_noted(rt, alloc, &sample, cuts, workers, journal, gate)
 }
 
 /// A gate at which piece 0 waits until the other three are done, each over the range that the cuts give it.
@@ -143,15 +160,23 @@ const QUARTERS: [(u64, u64); 4] = [(0, 52), (52, 104), (104, 156), (156, 208)];
 // Fixed shares would miss: there piece 2 waits behind piece 0.
 #[test]
 fn a_worker_makes_all_else_while_another_is_held_back(rt: HostRuntime) -> Result<(), Fail> {
-    let sample = Sample::zero_groups(rt.alloc(), 2, 3)?;
-    let cutting = sample.cut(rt.alloc(), Cuts::At(&[52, 104, 156]))?;
-    let work = RecordingWork::new(&sample.recording, &sample.rules, &cutting);
     let gate = HeldBack {
         others: Meeting::of(3),
     };
-    assert_decoded(&rt, rt.alloc(), &sample, &work, 2, &gate)?;
+    let cuts = Cuts::At(&[52, 104, 156]);
+    assert!(rt; is_signal_decoded(&rt, rt.alloc(), TWO_GROUPS, cuts, 2, &gate)?);
     assert!(rt; !gate.others.was_missed());
     Ok(())
+}
+
+/// Whether each event happened once, over the range that it has to be, and the workers' runs make the report.
+fn shows_both_workers<R: Wait>(journal: &Journal<'_, R>) -> bool {
+    journal.has_each_once(&EVENTS)
+        && journal.is_over(Event::Done(0), (0, 104))
+        && journal.is_over(Event::Done(1), (104, 208))
+        && journal.has_runs_of(Event::Joined(0, 208), &[Event::Done(0), Event::Done(1)])
+        && journal.is_over(Event::JoinDone(1, 0), (0, 208))
+        && journal.has_runs_of(Event::Reported, &[Event::JoinDone(1, 0)])
 }
 
 // One thread that makes both pieces in turn would miss, since piece 0 waits for piece 1. A crew that drops the runs of
@@ -160,45 +185,29 @@ fn a_worker_makes_all_else_while_another_is_held_back(rt: HostRuntime) -> Result
 fn two_workers_run_at_the_same_time_and_their_runs_make_the_report(
     rt: HostRuntime,
 ) -> Result<(), Fail> {
-    let sample = Sample::zero_groups(rt.alloc(), 2, 3)?;
     let journal = Journal::new(&rt, rt.alloc());
     let watch = Watch {
         journal: &journal,
         second: Meeting::of(1),
     };
-    decode_noted(&rt, rt.alloc(), sample, HALVES, 2, &journal, &watch)?;
-    assert!(rt; !watch.second.was_missed());
-    assert!(rt; journal.has_each_once(&EVENTS));
-    assert!(rt; journal.is_over(Event::Done(0), (0, 104)));
-    assert!(rt; journal.is_over(Event::Done(1), (104, 208)));
-    assert!(rt; journal.has_runs_of(Event::Joined(0, 208), &[Event::Done(0), Event::Done(1)]));
-    assert!(rt; journal.is_over(Event::JoinDone(1, 0), (0, 208)));
-    assert!(rt; journal.has_runs_of(Event::Reported, &[Event::JoinDone(1, 0)]));
+    assert!(rt; is_noted(&rt, rt.alloc(), TWO_GROUPS, HALVES, 2, &journal, &watch)?);
+    assert!(rt; !watch.second.was_missed() && shows_both_workers(&journal));
     Ok(())
 }
 
 #[test]
 fn the_gate_is_called_before_and_after_each_piece(rt: HostRuntime) -> Result<(), Fail> {
-    let sample = Sample::zero_groups(rt.alloc(), 2, 3)?;
     let journal = Journal::new(&rt, rt.alloc());
-    decode_noted(&rt, rt.alloc(), sample, HALVES, 1, &journal, &journal)?;
-    assert!(rt; journal.has(&EVENTS));
+    assert!(rt; is_noted(&rt, rt.alloc(), TWO_GROUPS, HALVES, 1, &journal, &journal)?);
+    assert!(rt; journal.has(0, &EVENTS));
     Ok(())
 }
 
 #[test]
 fn no_bits_have_no_pieces_and_an_empty_report(rt: HostRuntime) -> Result<(), Fail> {
-    let sample = Sample::silence(rt.alloc(), 0)?;
     let journal = Journal::new(&rt, rt.alloc());
-    decode_noted(
-        &rt,
-        rt.alloc(),
-        sample,
-        Cuts::Even(16),
-        4,
-        &journal,
-        &journal,
-    )?;
-    assert!(rt; journal.has(&[Event::Reported]));
+    let (none, cuts) = (Signal::Silence(0), Cuts::Even(16));
+    assert!(rt; is_noted(&rt, rt.alloc(), none, cuts, 4, &journal, &journal)?);
+    assert!(rt; journal.has(0, &[Event::Reported]));
     Ok(())
 }

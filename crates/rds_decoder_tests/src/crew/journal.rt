@@ -1,6 +1,6 @@
 //! A gate and a work that keep what a crew does.
 use rds_crew::Gate;
-use rds_pieces::{Cutting, Mark, PieceError, PieceRun, Work};
+use rds_pieces::{Cutting, Mark, PieceError, PieceRun, RecordingWork, Work};
 use rds_stream::Recording;
 use rds_sync::{Item, Report, Rules};
 use std::alloc::{AllocError, Global};
@@ -72,14 +72,22 @@ impl<'a, R: Wait> Journal<'a, R> {
         Ok(self.runs.lock(self.rt).push((event, shown))?)
     }
 
-    /// Whether that is what happened.
-    pub fn has(&self, events: &[Event]) -> bool {
-        self.events.lock(self.rt).as_slice() == events
+    /// Keeps a join, and the runs that it is of.
+    fn keep_join(
+        &self,
+        range: (u64, u64),
+        left: &PieceRun,
+        right: &PieceRun,
+    ) -> Result<(), AllocError> {
+        let event = Event::Joined(range.0, range.1);
+        self.keep(event);
+        self.keep_run(event, left)?;
+        self.keep_run(event, right)
     }
 
-    /// Whether that is what happened last.
-    pub fn ends_with(&self, events: &[Event]) -> bool {
-        self.events.lock(self.rt).as_slice().ends_with(events)
+    /// Whether that is what happened from event `first` on.
+    pub fn has(&self, first: usize, events: &[Event]) -> bool {
+        self.events.lock(self.rt).as_slice().get(first..) == Some(events)
     }
 
     /// Whether each of these happened once, and nothing else.
@@ -158,19 +166,23 @@ impl<R: Wait> Gate for Journal<'_, R> {
     }
 }
 
-/// A work that passes each call on to another, and keeps it in a journal.
+/// The range of a join that no crew makes.
+pub const NO_JOIN: (u64, u64) = (0, 0);
+
+/// A work over a recording that keeps each call in a journal, and refuses memory to the join over one range.
 #[derive(Drop)]
-pub struct Noted<'a, R, W> {
+pub struct Noted<'a, R> {
     pub journal: &'a Journal<'a, R>,
-    pub inner: W,
+    pub inner: RecordingWork<'a>,
+    pub refused: (u64, u64),
 }
 
-impl<'a, R: Wait, W: Work> Work for Noted<'a, R, W> {
-    ghost recording = { λ w. W.recording w.inner };
+impl<R: Wait> Work for Noted<'_, R> {
+    ghost recording = { λ w. w.inner.recording };
 
-    ghost rule_set = { λ w. W.rule_set w.inner };
+    ghost rule_set = { λ w. w.inner.rules };
 
-    ghost places = { λ w. W.places w.inner };
+    ghost places = { λ w. w.inner.places };
 
     fn source(&self) -> Snapshot<Recording> {
         self.inner.source()
@@ -195,10 +207,11 @@ impl<'a, R: Wait, W: Work> Work for Noted<'a, R, W> {
         left: &PieceRun,
         right: &PieceRun,
     ) -> Result<PieceRun, PieceError> {
-        let event = Event::Joined(left.from(), right.to());
-        self.journal.keep(event);
-        self.journal.keep_run(event, left)?;
-        self.journal.keep_run(event, right)?;
+        let range = (left.from(), right.to());
+        self.journal.keep_join(range, left, right)?;
+        if range == self.refused {
+            return Err(PieceError::OutOfMemory);
+        }
         self.inner.join(alloc, left, right)
     }
 

@@ -1,15 +1,14 @@
 //! The tree of joins, as gates and works see it: which runs are joined, in which order, and side by side.
-use crate::crew::gates::{Meeting, decode_noted};
-use crate::crew::journal::{Event, Journal};
-use crate::crew::reports::assert_decoded;
-use crate::samples::{Cuts, Sample};
-use rds_crew::{CrewError, Gate, OpenGate, decode_crew};
-use rds_pieces::{Cutting, PieceError, PieceRun, RecordingWork, Work};
-use rds_stream::Recording;
-use rds_sync::{Report, Rules};
+use crate::crew::gates::{Meeting, is_noted};
+use crate::crew::journal::{Event, Journal, Noted};
+use crate::crew::reports::{is_decoded, is_signal_decoded};
+use crate::samples::{Cuts, Sample, Signal};
+use rds_crew::{CrewError, Gate, OpenGate};
+use rds_pieces::{PieceError, PieceRun, RecordingWork};
 use std::alloc::Global;
-use std::snapshot::Snapshot;
+use std::sync::Wait;
 use std::test::Fail;
+use std::thread::Threads;
 
 /// A gate at which join 0 of level 1 waits until join 1 of that level is begun.
 #[derive(Drop)]
@@ -34,18 +33,21 @@ impl Gate for BesideEachOther {
 // Joins that are made one after the other would miss.
 #[test]
 fn the_joins_of_a_level_are_made_at_the_same_time(rt: HostRuntime) -> Result<(), Fail> {
-    let sample = Sample::zero_groups(rt.alloc(), 4, 3)?;
-    let cutting = sample.cut(rt.alloc(), Cuts::At(&[104, 208, 312]))?;
-    let work = RecordingWork::new(&sample.recording, &sample.rules, &cutting);
     let gate = BesideEachOther {
         second: Meeting::of(1),
     };
-    assert_decoded(&rt, rt.alloc(), &sample, &work, 2, &gate)?;
+    let (four, cuts) = (Signal::ZeroGroups(4, 3), Cuts::At(&[104, 208, 312]));
+    assert!(rt; is_signal_decoded(&rt, rt.alloc(), four, cuts, 2, &gate)?);
     assert!(rt; !gate.second.was_missed());
     Ok(())
 }
 
-/// What comes after the guesses of five pieces of a group each, by one worker.
+/// Five zero groups, and the cuts between them.
+const FIVE_GROUPS: Signal = Signal::ZeroGroups(5, 3);
+
+const BETWEEN: Cuts<'_> = Cuts::At(&[104, 208, 312, 416]);
+
+/// What comes after the 15 events of the guesses of five pieces of a group each, by one worker.
 const LEVELS: [Event; 13] = [
     Event::JoinBegun(1, 0),
     Event::Joined(0, 208),
@@ -77,88 +79,79 @@ const LENT: [(Event, &[Event]); 5] = [
     (Event::Reported, &[Event::JoinDone(3, 0)]),
 ];
 
+/// Whether those are.
+fn shows_all_joins<R: Wait>(journal: &Journal<'_, R>) -> bool {
+    for &(event, others) in &LENT {
+        if !journal.has_runs_of(event, others) {
+            return false;
+        }
+    }
+    journal.has(15, &LEVELS)
+}
+
 #[test]
 fn neighbours_are_joined_level_by_level_and_the_last_goes_up_as_it_is(
     rt: HostRuntime,
 ) -> Result<(), Fail> {
-    let sample = Sample::zero_groups(rt.alloc(), 5, 3)?;
-    let cuts = Cuts::At(&[104, 208, 312, 416]);
     let journal = Journal::new(&rt, rt.alloc());
-    decode_noted(&rt, rt.alloc(), sample, cuts, 1, &journal, &journal)?;
-    assert!(rt; journal.ends_with(&LEVELS));
-    for (event, others) in LENT.iter() {
-        assert!(rt; journal.has_runs_of(*event, others));
-    }
+    assert!(rt; is_noted(&rt, rt.alloc(), FIVE_GROUPS, BETWEEN, 1, &journal, &journal)?);
+    assert!(rt; shows_all_joins(&journal));
     Ok(())
 }
 
-/// A work whose join over that range is refused memory.
-#[derive(Drop)]
-struct ShortOfMemory<'a> {
-    inner: RecordingWork<'a>,
+/// Whether that join, refused memory, is the refusal of a crew of so many workers.
+fn is_refusal<R: Sync + Threads + Wait>(
+    rt: &R,
+    alloc: Global,
+    sample: &Sample,
     refused: (u64, u64),
-}
-
-impl Work for ShortOfMemory<'_> {
-    ghost recording = { λ w. w.inner.recording };
-
-    ghost rule_set = { λ w. w.inner.rules };
-
-    ghost places = { λ w. w.inner.places };
-
-    fn source(&self) -> Snapshot<Recording> {
-        self.inner.source()
-    }
-
-    fn rules(&self) -> &Rules {
-        self.inner.rules()
-    }
-
-    fn cutting(&self) -> &Cutting {
-        self.inner.cutting()
-    }
-
-    fn guess(&self, alloc: Global, j: u64) -> Result<PieceRun, PieceError> {
-        self.inner.guess(alloc, j)
-    }
-
-    fn join(
-        &self,
-        alloc: Global,
-        left: &PieceRun,
-        right: &PieceRun,
-    ) -> Result<PieceRun, PieceError> {
-        if (left.from(), right.to()) == self.refused {
-            return Err(PieceError::OutOfMemory);
-        }
-        self.inner.join(alloc, left, right)
-    }
-
-    fn report(&self, alloc: Global, runs: &[PieceRun]) -> Result<Report, PieceError> {
-        self.inner.report(alloc, runs)
-    }
+    workers: u32,
+) -> Result<bool, PieceError> {
+    let cutting = sample.cut(alloc, BETWEEN)?;
+    let work = Noted {
+        journal: &Journal::new(rt, alloc),
+        inner: RecordingWork::new(&sample.recording, &sample.rules, &cutting),
+        refused,
+    };
+    let answer = is_decoded(rt, alloc, sample, &work, workers, &OpenGate);
+    Ok(answer.err() == Some(CrewError::OutOfMemory))
 }
 
 /// The joins of five pieces of a group each, by their ranges.
 const RANGES: [(u64, u64); 4] = [(0, 208), (208, 416), (0, 416), (0, 520)];
 
-// Each is refused in turn, to one worker and to several.
+/// Whether each of them is, refused in turn.
+fn are_refusals<R: Sync + Threads + Wait>(
+    rt: &R,
+    alloc: Global,
+    sample: &Sample,
+    workers: u32,
+) -> Result<bool, Fail> {
+    for &refused in &RANGES {
+        if !is_refusal(rt, alloc, sample, refused, workers)? {
+            return Ok(false);
+        }
+    }
+    Ok(true)
+}
+
+/// Whether they are over five groups.
+fn are_refusals_of_five<R: Sync + Threads + Wait>(
+    rt: &R,
+    alloc: Global,
+    workers: u32,
+) -> Result<bool, Fail> {
+    let sample = Sample::of(alloc, FIVE_GROUPS)?;
+    are_refusals(rt, alloc, &sample, workers)
+}
+
 #[test]
 fn a_join_that_is_refused_memory_is_the_crews_refusal(rt: HostRuntime) -> Result<(), Fail> {
-    let sample = Sample::zero_groups(rt.alloc(), 5, 3)?;
-    let cutting = sample.cut(rt.alloc(), Cuts::At(&[104, 208, 312, 416]))?;
-    for &refused in &RANGES {
-        for &workers in &[1, 2, 9] {
-            let work = ShortOfMemory {
-                inner: RecordingWork::new(&sample.recording, &sample.rules, &cutting),
-                refused,
-            };
-            let refusal = decode_crew(&rt, rt.alloc(), &work, workers, &OpenGate).err();
-            assert!(rt;
-                refusal == Some(CrewError::OutOfMemory),
-                "{refused:?}, {workers} workers"
-            );
-        }
+    for &workers in &[1, 2, 9] {
+        assert!(rt;
+            are_refusals_of_five(&rt, rt.alloc(), workers)?,
+            "{workers} workers"
+        );
     }
     Ok(())
 }

@@ -1,35 +1,20 @@
-//! Neighbours joined are the guess of both ranges, in whatever order many are joined.
+//! Neighbours joined are the guess of both ranges, in whatever order many are joined: `reports` has the cuttings.
 ghost use Rattle.std.specs.Prelude.{◌≡◌, ◌+◌, ◌<◌, ◌≤◌, ◌-◌, slice_index, IfOk};
 ghost use Rattle.rds_stream.specs.Recording.{length_of};
 ghost use Rattle.rds_pieces.specs.Cutting.{IsCutting, pieces_of};
-ghost use Rattle.rds_pieces.specs.RunOf.{run_over};
+ghost use Rattle.rds_pieces.specs.RunOf.{IsRunOf, run_over};
 
-use crate::pieces::guesses::MARKS;
-use crate::pieces::stitching::random_cuts;
-use crate::samples::{Cuts, Sample, next_random, recording_of, zero_bytes};
-use rds_pieces::{Mark, PieceError, PieceRun, RecordingWork, Work, join_runs, laws, speculate};
-use rds_stream::{Counted, Recording, Tape};
-use rds_sync::{Bad, Report, Rules, State, decode_plain};
+use crate::samples::{Cuts, Sample, Signal, next_random};
+use rds_pieces::{PieceError, PieceRun, RecordingWork, Work, join_runs, laws, speculate};
+use rds_stream::{Counted, Tape};
+use rds_sync::Report;
 use std::alloc::Global;
-use std::process::Abort;
 use std::slice;
 use std::test::Fail;
 
-/// The last mark of two zero groups, read as one piece or joined of two; those before it are the first guess's.
-const LAST_MARK: Mark = Mark {
-    place: 208,
-    state: State::Locked {
-        due: 233,
-        number: 1,
-        bad: Bad::Run(0),
-        first: 1,
-    },
-    items: 3,
-};
-
 /// In which order the runs of many pieces are joined.
 #[derive(Clone, Copy)]
-enum Order {
+pub enum Order {
     /// Level by level: runs 2m and 2m + 1 of a level are run m of the next.
     Levels,
     /// In one that looks random, where the number says which.
@@ -85,9 +70,9 @@ fn joined<W: Work>(
     work.join(alloc, &left, &right)
 }
 
-/// The guesses of all pieces of a sample, cut so, joined, and the report that they give. It has bits.
-fn joined_all<R: Abort>(
-    rt: &R,
+/// The guesses of all pieces of a sample, cut so, joined, and the report that they give. No bits are no pieces, which
+/// nothing joins.
+fn joined_all(
     alloc: Global,
     sample: &Sample,
     cuts: Cuts<'_>,
@@ -96,11 +81,22 @@ fn joined_all<R: Abort>(
     let cutting = sample.cut(alloc, cuts)?;
     let work = RecordingWork::new(&sample.recording, &sample.rules, &cutting);
     let pieces = cutting.pieces();
-    assert!(rt; pieces > 0);
+    if pieces == 0 {
+        return Err(PieceError::BadCutting);
+    }
     let run = joined(alloc, &work, 0, pieces, order)?;
     laws::pieces_are_few();
     let report = work.report(alloc, slice::from_ref(&run))?;
     Ok((run, report))
+}
+
+/// The guess of a whole sample, in one piece.
+fn guess_of(alloc: Global, sample: &Sample) -> Result<PieceRun, PieceError> {
+    let cutting = sample.cut(alloc, Cuts::Even(1))?;
+    if cutting.pieces() == 0 {
+        return Err(PieceError::BadCutting);
+    }
+    speculate(alloc, &sample.recording, &sample.rules, &cutting, 0)
 }
 
 /// Whether both are the same run.
@@ -113,163 +109,69 @@ fn are_same(one: &PieceRun, other: &PieceRun) -> bool {
         && one.marks().iter().eq(other.marks().iter())
 }
 
-/// Asserts that the pieces of a sample, cut so and joined, are its guess and give its report.
-fn assert_joined<R: Abort>(
-    rt: &R,
+/// Whether the pieces of a sample, cut so and joined, are that guess and give its report.
+fn are_guess(
+    alloc: Global,
+    sample: &Sample,
+    guess: &PieceRun,
+    cuts: Cuts<'_>,
+    order: Order,
+) -> Result<bool, PieceError> {
+    let (run, report) = joined_all(alloc, sample, cuts, order)?;
+    Ok(are_same(&run, guess) && sample.gives(&report))
+}
+
+/// Whether the pieces of a sample, cut so and joined, are its guess and give its report.
+pub fn are_joined(
     alloc: Global,
     sample: &Sample,
     cuts: Cuts<'_>,
     order: Order,
-) -> Result<(), PieceError> {
-    let (whole, _report) = joined_all(rt, alloc, sample, Cuts::Even(1), Order::Levels)?;
-    let (run, report) = joined_all(rt, alloc, sample, cuts, order)?;
-    assert!(rt; are_same(&run, &whole) && sample.gives(&report), "{cuts:?}");
-    Ok(())
+) -> Result<bool, PieceError> {
+    let guess = guess_of(alloc, sample)?;
+    are_guess(alloc, sample, &guess, cuts, order)
 }
 
-/// The runs of both sides of a cut joined, and how many windows that read.
-fn joined_at<R: Abort>(
-    rt: &R,
+/// How many windows the join of two runs reads.
+fn reads_of_join(
     alloc: Global,
     sample: &Sample,
-    cut: u64,
-) -> Result<(PieceRun, u64), PieceError> {
+    left: &PieceRun,
+    right: &PieceRun,
+) -> Result<u64, PieceError>
+    requires next { left.now.to ≡ right.now.from }
+    requires left { IsRunOf sample.now.recording sample.now.rules left.now }
+    requires right { IsRunOf sample.now.recording sample.now.rules right.now }
+{
+    let mut tape = Counted::new(&sample.recording);
+    let _run = join_runs(alloc, &mut tape, &sample.rules, left, right)?;
+    Ok(tape.reads())
+}
+
+/// How many windows the join of both sides of a cut reads.
+fn reads_at(alloc: Global, sample: &Sample, cut: u64) -> Result<u64, PieceError> {
     let cutting = sample.cut(alloc, Cuts::At(&[cut]))?;
-    assert!(rt; cutting.pieces() == 2);
+    if cutting.pieces() != 2 {
+        return Err(PieceError::BadCutting);
+    }
     let left = speculate(alloc, &sample.recording, &sample.rules, &cutting, 0)?;
     let right = speculate(alloc, &sample.recording, &sample.rules, &cutting, 1)?;
-    let mut tape = Counted::new(&sample.recording);
-    let run = join_runs(alloc, &mut tape, &sample.rules, &left, &right)?;
-    Ok((run, tape.reads()))
+    reads_of_join(alloc, sample, &left, &right)
 }
 
-/// Whether a run of two zero groups has their marks: none at the cut but that of the item before it.
-fn has_marks_of_both(run: &PieceRun) -> bool {
-    let mut marks = run.marks().iter();
-    for mark in &MARKS[0] {
-        if marks.next() != Some(*mark) {
-            return false;
-        }
-    }
-    marks.next() == Some(LAST_MARK) && marks.next().is_none()
+/// How many windows the join of eight zero groups at 190 reads.
+fn reads_at_190(alloc: Global, reach: u32) -> Result<u64, Fail> {
+    let reads = {
+        let sample = Sample::of(alloc, Signal::ZeroGroups(8, reach))?;
+        reads_at(alloc, &sample, 190)
+    };
+    Ok(reads?)
 }
 
-#[test]
-fn marks_of_joined_runs_count_the_items_of_both(rt: HostRuntime) -> Result<(), Fail> {
-    let sample = Sample::zero_groups(rt.alloc(), 2, 3)?;
-    let (run, reads) = joined_at(&rt, rt.alloc(), &sample, 104)?;
-    assert!(rt; has_marks_of_both(&run) && run.items().len() == 3);
-    assert!(rt; reads <= 5 * 105);
-    Ok(())
-}
-
+// With reach 3 the runs meet at 208, with reach 4 never: there the guess is on a false phase.
 #[test]
 fn a_join_reads_no_more_than_its_seam(rt: HostRuntime) -> Result<(), Fail> {
-    let met = Sample::zero_groups(rt.alloc(), 8, 3)?;
-    let (_run, reads) = joined_at(&rt, rt.alloc(), &met, 190)?;
-    assert!(rt; reads <= 5 * 19);
-    let false_phase = Sample::zero_groups(rt.alloc(), 8, 4)?;
-    let (_run, reads) = joined_at(&rt, rt.alloc(), &false_phase, 190)?;
-    assert!(rt; reads <= 6 * 643);
-    Ok(())
-}
-
-#[test]
-fn runs_joined_at_every_cut_are_the_guess_of_the_whole(rt: HostRuntime) -> Result<(), Fail> {
-    let sample = Sample::zero_groups(rt.alloc(), 2, 3)?;
-    for cut in 1..208 {
-        assert_joined(&rt, rt.alloc(), &sample, Cuts::At(&[cut]), Order::Levels)?;
-    }
-    Ok(())
-}
-
-#[test]
-fn three_and_five_pieces_joined_level_by_level_give_the_report(
-    rt: HostRuntime,
-) -> Result<(), Fail> {
-    let two = Sample::zero_groups(rt.alloc(), 2, 3)?;
-    let met = Sample::zero_groups(rt.alloc(), 8, 3)?;
-    let false_phase = Sample::zero_groups(rt.alloc(), 8, 4)?;
-    for sample in [&two, &met, &false_phase] {
-        for pieces in [1, 2, 3, 5] {
-            assert_joined(&rt, rt.alloc(), sample, Cuts::Even(pieces), Order::Levels)?;
-        }
-        let three = Cuts::At(&[26, 190]);
-        assert_joined(&rt, rt.alloc(), sample, three, Order::Levels)?;
-        let five = Cuts::At(&[1, 51, 104, 190]);
-        assert_joined(&rt, rt.alloc(), sample, five, Order::Levels)?;
-    }
-    Ok(())
-}
-
-/// Zero groups of which bytes are lost and turned at random.
-fn random_recording(alloc: Global, seed: u64) -> Result<Recording, Fail> {
-    let mut bytes = Vec::new(alloc);
-    let mut number = seed;
-    for byte in &zero_bytes(alloc, 40 * 104)? {
-        number = next_random(number);
-        if number % 61 != 0 {
-            let turned = if number % 37 == 0 {
-                (number >> 56) as u8
-            } else {
-                0
-            };
-            bytes.push(byte ^ turned)?;
-        }
-    }
-    let bits = (bytes.len() as u64).saturating_mul(8);
-    Ok(recording_of(bytes, bits)?)
-}
-
-/// Such a recording, by rules that `number` chooses, and the report of one decoder.
-fn random_sample(alloc: Global, number: u32) -> Result<Sample, Fail> {
-    let recording = random_recording(alloc, u64::from(number) * 0x9E37_79B9)?;
-    let rules = Rules::new(alloc, number % 6, 1 + number % 8, 1 + number % 11)?;
-    let report = decode_plain(alloc, &recording, &rules)?;
-    Ok(Sample {
-        recording,
-        rules,
-        report,
-    })
-}
-
-/// Asserts that random cuttings of a sample, joined in random orders, are its guess and give its report.
-fn assert_joined_at_random<R: Abort>(
-    rt: &R,
-    alloc: Global,
-    sample: &Sample,
-    seed: u64,
-) -> Result<(), PieceError> {
-    for one_of in [7, 60, 300, 1000] {
-        let cuts = random_cuts(alloc, sample.recording.len(), one_of, seed)?;
-        assert_joined(
-            rt,
-            alloc,
-            sample,
-            Cuts::At(cuts.as_slice()),
-            Order::Random(seed),
-        )?;
-    }
-    Ok(())
-}
-
-#[test]
-fn random_cuttings_joined_in_random_orders_give_the_report_of_one_decoder(
-    rt: HostRuntime,
-) -> Result<(), Fail> {
-    for number in 1..13u32 {
-        let sample = random_sample(rt.alloc(), number)?;
-        assert!(rt; sample.report.totals.acquired >= 2, "{number}");
-        assert_joined_at_random(&rt, rt.alloc(), &sample, u64::from(number) * 0x5851_F42D)?;
-    }
-    Ok(())
-}
-
-#[test]
-fn a_loss_by_a_share_is_joined_at_every_cut(rt: HostRuntime) -> Result<(), Fail> {
-    let sample = Sample::two_bad(rt.alloc())?;
-    for cut in 1..208 {
-        assert_joined(&rt, rt.alloc(), &sample, Cuts::At(&[cut]), Order::Levels)?;
-    }
+    assert!(rt; reads_at_190(rt.alloc(), 3)? <= 5 * 19);
+    assert!(rt; reads_at_190(rt.alloc(), 4)? <= 6 * 643);
     Ok(())
 }

@@ -1,12 +1,12 @@
 //! Marks as they are kept, in rows, and totals as they are added up, against plain lists.
-ghost use Rattle.std.specs.Prelude.{◌≤◌};
+ghost use Rattle.std.specs.Prelude.{◌≡◌, ◌≤◌};
 ghost use Rattle.rds_stream.specs.Recording.{length_of};
 
-use crate::pieces::stitching::random_cuts;
-use crate::samples::{Cuts, Sample};
-use rds_pieces::{Mark, Marks, PieceError, PieceRun, seam, speculate};
-use rds_stream::Counted;
-use rds_sync::{Bad, Items, State, Totals, run};
+use crate::pieces::reports::random_cuts;
+use crate::pieces::seams::{are_counted, seam_from};
+use crate::samples::{Cuts, Sample, Signal};
+use rds_pieces::{Mark, Marks, PieceRun, speculate};
+use rds_sync::{Bad, State, run};
 use std::alloc::{AllocError, Global};
 use std::test::Fail;
 
@@ -89,18 +89,22 @@ fn plain_marks(alloc: Global, sample: &Sample, from: u64, to: u64) -> Result<Vec
     Ok(marks)
 }
 
-/// Whether these are the totals of these items.
-fn are_counted(items: &Items, totals: Totals) -> bool {
-    items.len() <= 1 << 40 && totals == Totals::of(items)
-}
-
-/// Whether the marks of a guess are those of its definition, and its totals those of its items.
-fn is_plain(alloc: Global, sample: &Sample, guess: &PieceRun) -> Result<bool, Fail> {
+/// Whether the marks of a guess are those of its definition, and its totals and those of the seam before it, from a
+/// search, are those of their items.
+fn is_plain(alloc: Global, sample: &Sample, guess: &PieceRun) -> Result<bool, Fail>
+    requires source { guess.now.source ≡ sample.now.recording }
+    requires rules { guess.now.rules ≡ sample.now.rules }
+{
     if guess.to() > sample.recording.len() {
         return Ok(false);
     }
     let plain = plain_marks(alloc, sample, guess.from(), guess.to())?;
-    Ok(guess.marks().iter().eq(plain.iter().copied()) && are_counted(guess.items(), guess.totals()))
+    let seam = seam_from(alloc, sample, guess, State::Searching)?;
+    Ok(
+        seam.is_counted
+            && guess.marks().iter().eq(plain.iter().copied())
+            && are_counted(guess.items(), guess.totals()),
+    )
 }
 
 /// Whether all guesses of a cutting are so.
@@ -115,37 +119,25 @@ fn are_plain(alloc: Global, sample: &Sample, cuts: Cuts<'_>) -> Result<bool, Fai
     Ok(true)
 }
 
-#[test]
-fn guesses_of_a_damaged_recording_have_their_marks_and_totals(rt: HostRuntime) -> Result<(), Fail> {
-    let sample = Sample::station(rt.alloc())?;
-    assert!(rt; are_plain(rt.alloc(), &sample, Cuts::Even(1))?);
+/// Whether those of random cuttings are so, and that of the whole.
+fn are_plain_at_random(alloc: Global, sample: &Sample) -> Result<bool, Fail> {
     for seed in 1..6u64 {
-        let cuts = random_cuts(rt.alloc(), sample.recording.len(), 300, seed * 0x9E37_79B9)?;
-        assert!(rt;
-            are_plain(rt.alloc(), &sample, Cuts::At(cuts.as_slice()))?,
-            "{cuts:?}"
-        );
-    }
-    Ok(())
-}
-
-/// Whether the seam before each piece, from a search, has the totals of its items.
-fn seams_are_counted(alloc: Global, sample: &Sample, cuts: Cuts<'_>) -> Result<bool, Fail> {
-    let cutting = sample.cut(alloc, cuts)?;
-    for j in 0..cutting.pieces() {
-        let guess = speculate(alloc, &sample.recording, &sample.rules, &cutting, j)?;
-        let mut tape = Counted::new(&sample.recording);
-        let seam = seam(alloc, &mut tape, &sample.rules, State::Searching, &guess)?;
-        if !are_counted(&seam.items, seam.totals) {
+        let cuts = random_cuts(alloc, sample.recording.len(), 300, seed * 0x9E37_79B9)?;
+        if !are_plain(alloc, sample, Cuts::At(cuts.as_slice()))? {
             return Ok(false);
         }
     }
-    Ok(true)
+    are_plain(alloc, sample, Cuts::Even(1))
+}
+
+/// Whether those of a station are.
+fn are_plain_of_a_station(alloc: Global) -> Result<bool, Fail> {
+    let sample = Sample::of(alloc, Signal::Station)?;
+    are_plain_at_random(alloc, &sample)
 }
 
 #[test]
-fn seams_have_the_totals_of_their_items(rt: HostRuntime) -> Result<(), Fail> {
-    let sample = Sample::station(rt.alloc())?;
-    assert!(rt; seams_are_counted(rt.alloc(), &sample, Cuts::Even(7))?);
+fn guesses_of_a_damaged_recording_have_their_marks_and_totals(rt: HostRuntime) -> Result<(), Fail> {
+    assert!(rt; are_plain_of_a_station(rt.alloc())?);
     Ok(())
 }

@@ -1,83 +1,96 @@
 //! Seams: where the true state meets a guess, and how much is read until then.
-ghost use Rattle.std.specs.Prelude.{◌≡◌, ◌≤◌, IfOk};
-ghost use Rattle.rds_stream.specs.Recording.{length_of};
-ghost use Rattle.rds_sync.specs.Lawful.{IsLawful};
+ghost use Rattle.std.specs.Prelude.{◌≡◌};
 
-use crate::pieces::stitching::assert_stitched;
-use crate::samples::{Cuts, Sample};
-use rds_pieces::{PieceRun, seam, speculate};
+use crate::pieces::guesses::guess_from;
+use crate::pieces::stitching::reads_stitched;
+use crate::samples::{Cuts, Sample, Signal};
+use rds_pieces::{PieceError, PieceRun, seam};
 use rds_stream::{Counted, Tape};
-use rds_sync::{State, SyncError, run};
+use rds_sync::{Items, State, SyncError, Totals, run};
 use std::alloc::Global;
-use std::process::Abort;
 use std::test::Fail;
 
-/// The one cut of the eight zero groups here.
-const CUT: Cuts<'_> = Cuts::At(&[190]);
+/// What a seam shows: where it meets, how many windows it reads, and whether its totals are those of its items.
+#[derive(Clone, Copy)]
+pub struct Shown {
+    pub met_at: Option<u64>,
+    pub reads: u64,
+    pub is_counted: bool,
+}
+
+/// Whether these are the totals of these items.
+pub fn are_counted(items: &Items, totals: Totals) -> bool {
+    items.len() <= 1 << 40 && totals == Totals::of(items)
+}
+
+/// The seam from that state over a guess, or one that shows nothing where no run is in that state there.
+pub fn seam_from(
+    alloc: Global,
+    sample: &Sample,
+    guess: &PieceRun,
+    state: State,
+) -> Result<Shown, PieceError>
+    requires source { guess.now.source ≡ sample.now.recording }
+    requires rules { guess.now.rules ≡ sample.now.rules }
+{
+    if !state.is_lawful(&sample.rules, guess.from()) {
+        return Ok(Shown {
+            met_at: None,
+            reads: 0,
+            is_counted: false,
+        });
+    }
+    let mut tape = Counted::new(&sample.recording);
+    let seam = seam(alloc, &mut tape, &sample.rules, state, guess)?;
+    Ok(Shown {
+        met_at: seam.met_at,
+        reads: tape.reads(),
+        is_counted: are_counted(&seam.items, seam.totals),
+    })
+}
 
 /// The state of one decoder before the bit at that place.
-fn state_before(alloc: Global, sample: &Sample, place: u64) -> Result<State, SyncError>
-    requires { place ≤ length_of sample.now.recording }
-    ensures { IfOk result (λ s. IsLawful sample.now.rules place s) }
-{
+fn state_before(alloc: Global, sample: &Sample, place: u64) -> Result<State, SyncError> {
     let (recording, rules) = (&sample.recording, &sample.rules);
+    let place = place.min(recording.len());
     let (state, _items) = run(alloc, recording, rules, State::Searching, 0, place)?;
     Ok(state)
 }
 
-/// Where the true state meets that guess, and how many windows the seam read.
-fn seam_before(alloc: Global, sample: &Sample, guess: &PieceRun) -> Result<(Option<u64>, u64), Fail>
-    requires source { guess.now.source ≡ sample.now.recording }
-    requires rules { guess.now.rules ≡ sample.now.rules }
-    requires inside { guess.now.from ≤ length_of sample.now.recording }
-{
-    let state = state_before(alloc, sample, guess.from())?;
-    let mut tape = Counted::new(&sample.recording);
-    let seam = seam(alloc, &mut tape, &sample.rules, state, guess)?;
-    Ok((seam.met_at, tape.reads()))
+/// The seam at 190 from the true state.
+fn true_seam(alloc: Global, sample: &Sample) -> Result<Shown, Fail> {
+    let state = state_before(alloc, sample, 190)?;
+    let guess = guess_from(alloc, sample, 190)?;
+    Ok(seam_from(alloc, sample, &guess, state)?)
 }
 
-/// The seam before the second piece.
-fn second_seam<R: Abort>(
-    rt: &R,
-    alloc: Global,
-    sample: &Sample,
-) -> Result<(Option<u64>, u64), Fail> {
-    let cutting = sample.cut(alloc, CUT)?;
-    assert!(rt; cutting.pieces() == 2);
-    let guess = speculate(alloc, &sample.recording, &sample.rules, &cutting, 1)?;
-    seam_before(alloc, sample, &guess)
-}
-
-/// Asserts where the seam is, how many windows it reads at most, and how many are read in all.
-fn assert_seam<R: Abort>(
-    rt: &R,
+/// Whether a sample, cut at 190, has its seam there and reads so many windows at most, and so many in all.
+fn is_seam(
     alloc: Global,
     sample: &Sample,
     met_at: Option<u64>,
-    most_reads: (u64, u64),
-) -> Result<(), Fail> {
-    let (met, reads) = second_seam(rt, alloc, sample)?;
-    assert!(rt; met == met_at && reads <= most_reads.0);
-    let reads = assert_stitched(rt, alloc, sample, CUT)?;
-    assert!(rt; reads <= most_reads.1);
-    Ok(())
+    most: u64,
+    most_in_all: u64,
+) -> Result<bool, Fail> {
+    let seam = true_seam(alloc, sample)?;
+    let is_soon = match reads_stitched(alloc, sample, Cuts::At(&[190]))? {
+        Some(reads) => reads <= most_in_all,
+        None => false,
+    };
+    Ok(is_soon && seam.met_at == met_at && seam.reads <= most)
 }
 
-#[test]
-fn a_guess_at_a_false_phase_is_never_met(rt: HostRuntime) -> Result<(), Fail> {
-    let sample = Sample::zero_groups(rt.alloc(), 8, 4)?;
-    assert_seam(&rt, rt.alloc(), &sample, None, (6 * 643, 6 * 643 + 6 + 3))
+/// Whether eight zero groups have it: in all they read at most what one place more needs, and three.
+fn has_seam(alloc: Global, reach: u32, met_at: Option<u64>, most: u64) -> Result<bool, Fail> {
+    let most_in_all = most.saturating_add(u64::from(reach) + 2 + 3);
+    let sample = Sample::of(alloc, Signal::ZeroGroups(8, reach))?;
+    is_seam(alloc, &sample, met_at, most, most_in_all)
 }
 
 #[test]
 fn a_guess_on_the_true_phase_is_met_after_its_first_group(rt: HostRuntime) -> Result<(), Fail> {
-    let sample = Sample::zero_groups(rt.alloc(), 8, 3)?;
-    assert_seam(
-        &rt,
-        rt.alloc(),
-        &sample,
-        Some(208),
-        (5 * 19, 5 * 19 + 5 + 3),
-    )
+    assert!(rt; has_seam(rt.alloc(), 3, Some(208), 5 * 19)?);
+    // At a false phase it is never met.
+    assert!(rt; has_seam(rt.alloc(), 4, None, 6 * 643)?);
+    Ok(())
 }

@@ -1,5 +1,5 @@
 //! Recordings, and how they are refused.
-use crate::samples::{recording_of, zero_groups};
+use crate::samples::recording_of;
 use rds_stream::{Recording, StreamError};
 use std::alloc::{AllocError, Global};
 use std::test::Fail;
@@ -15,11 +15,15 @@ fn has_bits(recording: &Recording, bits: &[u8]) -> bool {
     recording.len() == bits.len() as u64
 }
 
+/// Whether a recording of 14 bits in two bytes has them. The two bits past the end are no part of it.
+fn has_fourteen(alloc: Global) -> Result<bool, StreamError> {
+    let held = recording_of([0b1100_1010, 0b0111_0111].to_vec(alloc)?, 14)?;
+    Ok(has_bits(&held, &[1, 1, 0, 0, 1, 0, 1, 0, 0, 1, 1, 1, 0, 1]))
+}
+
 #[test]
 fn bits_come_from_the_highest_of_the_first_byte_on(rt: HostRuntime) -> Result<(), Fail> {
-    // The two bits past the end are no part of the recording.
-    let held = recording_of([0b1100_1010, 0b0111_0111].to_vec(rt.alloc())?, 14)?;
-    assert!(rt; has_bits(&held, &[1, 1, 0, 0, 1, 0, 1, 0, 0, 1, 1, 1, 0, 1]));
+    assert!(rt; has_fourteen(rt.alloc())?);
     Ok(())
 }
 
@@ -37,19 +41,5 @@ fn is_refused(alloc: Global, bits: u64, error: StreamError) -> Result<bool, Allo
 fn bits_that_are_not_there_are_refused(rt: HostRuntime) -> Result<(), Fail> {
     assert!(rt; is_refused(rt.alloc(), 33, StreamError::BitsPastBytes)?);
     assert!(rt; is_refused(rt.alloc(), (1 << 36) + 1, StreamError::TooLong)?);
-    let refusal = StreamError::OutOfMemory;
-    assert!(rt; refusal.number() == 8 && refusal.name() == "OutOfMemory");
-    Ok(())
-}
-
-/// Recordings may be lent to threads.
-#[test]
-fn recordings_are_shared(rt: HostRuntime) -> Result<(), Fail> {
-    fn shared<T: Send + Sync>(value: &T) -> &T {
-        value
-    }
-
-    let once = zero_groups(rt.alloc(), 104)?;
-    assert!(rt; shared(&once).len() == 104);
     Ok(())
 }

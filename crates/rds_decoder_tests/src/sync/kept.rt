@@ -2,10 +2,11 @@
 ghost use Rattle.std.specs.Prelude.{◌≡◌, ◌≤◌, length, IfOk};
 
 use crate::samples::{next_random, recording_of};
+use crate::sync::runs::whole_run;
 use crate::sync::steps::by_steps;
 use rds_code::{Offset, encode_block};
 use rds_stream::Recording;
-use rds_sync::{Item, ItemBuffer, Items, Rules, State, Totals, Version, run};
+use rds_sync::{Item, ItemBuffer, Items, Rules, SyncError, Totals, Version};
 use std::alloc::{AllocError, Global};
 use std::test::Fail;
 use std::thread;
@@ -60,13 +61,24 @@ fn groups_of_all_kinds(alloc: Global, seed: u64) -> Result<Recording, Fail> {
     Ok(recording_of(bytes, 60 * 104)?)
 }
 
-/// Items of all kinds as a run keeps them, and the same in a plain list.
-fn items_of_all_kinds(alloc: Global, seed: u64) -> Result<(Items, Vec<Item>), Fail> {
+/// Items as they are kept, and a plain list of the same beside them.
+#[derive(Drop)]
+struct Beside {
+    items: Items,
+    plain: Vec<Item>,
+}
+
+/// Items of all kinds, as a run keeps them and as steps give them.
+fn of_all_kinds(alloc: Global, seed: u64) -> Result<Beside, Fail> {
     let rec = groups_of_all_kinds(alloc, seed)?;
+    Ok(run_beside_steps(alloc, &rec)?)
+}
+
+fn run_beside_steps(alloc: Global, rec: &Recording) -> Result<Beside, SyncError> {
     let rules = Rules::new(alloc, 2, 3, 3)?;
-    let (_, items) = run(alloc, &rec, &rules, State::Searching, 0, rec.len())?;
-    let (_, _, plain) = by_steps(alloc, &rec, &rules)?;
-    Ok((items, plain))
+    let (_, _, plain) = by_steps(alloc, rec, &rules)?;
+    let (_, items) = whole_run(alloc, rec, &rules)?;
+    Ok(Beside { items, plain })
 }
 
 /// Whether the items in that range are these.
@@ -110,30 +122,69 @@ fn is_whole(item: &Item, version: Version, conflict: bool) -> bool {
     }
 }
 
+/// Whether there is such a group.
+fn has_whole(plain: &[Item], version: Version, conflict: bool) -> bool {
+    for item in plain {
+        if is_whole(item, version, conflict) {
+            return true;
+        }
+    }
+    false
+}
+
+/// Whether there are whole groups of each version, with and without a conflict, and bad blocks, corrected ones and
+/// losses.
+fn has_all_kinds(alloc: Global, seed: u64) -> Result<bool, Fail> {
+    let kept = of_all_kinds(alloc, seed)?;
+    let Some(totals) = totals_of(&kept.items, 0, kept.items.len()) else {
+        return Ok(false);
+    };
+    let plain = kept.plain.as_slice();
+    Ok(
+        has_whole(plain, Version::A, false)
+            && has_whole(plain, Version::A, true)
+            && has_whole(plain, Version::B, false)
+            && has_whole(plain, Version::B, true)
+            && totals.lost > 0
+            && totals.bits > 0
+            && totals.losses > 0
+            && totals.acquired > 1,
+    )
+}
+
 #[test]
 fn samples_have_items_of_all_kinds(rt: HostRuntime) -> Result<(), Fail> {
-    let (items, plain) = items_of_all_kinds(rt.alloc(), 11)?;
-    let Some(totals) = totals_of(&items, 0, items.len()) else {
-        return Ok(assert!(rt; false));
-    };
-    let rows = [
-        (Version::A, false),
-        (Version::A, true),
-        (Version::B, false),
-        (Version::B, true),
-    ];
-    for &(version, conflict) in &rows {
-        assert!(rt; plain.iter().any(|item| is_whole(item, version, conflict)));
-    }
-    assert!(rt; totals.lost > 0 && totals.bits > 0 && totals.losses > 0 && totals.acquired > 1);
+    assert!(rt; has_all_kinds(rt.alloc(), 11)?);
     Ok(())
+}
+
+/// Whether a list joined of what is left of these from each item on is that.
+fn are_joined_from_each(alloc: Global, kept: &Beside) -> Result<bool, AllocError> {
+    let plain = kept.plain.as_slice();
+    for from in 0..=kept.items.len() {
+        let mut rest = Items::new(alloc);
+        rest.append(&kept.items, from)?;
+        if !is_each(&rest, &plain[from.min(plain.len())..]) {
+            return Ok(false);
+        }
+    }
+    Ok(true)
+}
+
+/// Whether a run keeps what steps over a tape give, and so do lists joined of it.
+fn is_kept_beside(alloc: Global, seed: u64) -> Result<bool, Fail> {
+    let kept = of_all_kinds(alloc, seed)?;
+    Ok(
+        kept.plain.len() > 60
+            && are(&kept.items, &kept.plain)
+            && are_joined_from_each(alloc, &kept)?,
+    )
 }
 
 #[test]
 fn a_run_keeps_what_steps_over_a_tape_give(rt: HostRuntime) -> Result<(), Fail> {
     for seed in 1..6u64 {
-        let (items, plain) = items_of_all_kinds(rt.alloc(), seed * 0x9E37_79B9)?;
-        assert!(rt; plain.len() > 60 && are(&items, &plain), "{seed}");
+        assert!(rt; is_kept_beside(rt.alloc(), seed * 0x9E37_79B9)?, "{seed}");
     }
     Ok(())
 }
@@ -177,21 +228,27 @@ fn is_kept(alloc: Global, plain: &[Item]) -> Result<bool, AllocError> {
     Ok(is_buffer_of(&buffer, plain) && are(&buffer.freeze()?, plain))
 }
 
-#[test]
-fn a_buffer_keeps_what_is_pushed_in_any_order(rt: HostRuntime) -> Result<(), Fail> {
-    let (_, plain) = items_of_all_kinds(rt.alloc(), 7)?;
-    for count in 0..40usize {
-        let items = picked(rt.alloc(), &plain, count, 0x1234_5678 ^ count as u64)?;
-        assert!(rt; is_kept(rt.alloc(), &items)?, "{count}");
-    }
-    Ok(())
+/// Whether so many of these, picked at random, are kept.
+fn are_picked(alloc: Global, plain: &[Item], count: usize) -> Result<bool, AllocError> {
+    let items = picked(alloc, plain, count, 0x1234_5678 ^ count as u64)?;
+    is_kept(alloc, &items)
 }
 
-/// A list and a plain list beside it.
-#[derive(Drop)]
-struct Beside {
-    items: Items,
-    plain: Vec<Item>,
+/// Whether up to 39 of a run's items are.
+fn are_pushed(alloc: Global, seed: u64) -> Result<bool, Fail> {
+    let kept = of_all_kinds(alloc, seed)?;
+    for count in 0..40usize {
+        if !are_picked(alloc, &kept.plain, count)? {
+            return Ok(false);
+        }
+    }
+    Ok(true)
+}
+
+#[test]
+fn a_buffer_keeps_what_is_pushed_in_any_order(rt: HostRuntime) -> Result<(), Fail> {
+    assert!(rt; are_pushed(rt.alloc(), 7)?);
+    Ok(())
 }
 
 impl Beside {
@@ -232,29 +289,28 @@ fn stay_beside(alloc: Global, one: &Beside, other: &Beside, seed: u64) -> Result
     Ok(are(&joined.items, &joined.plain))
 }
 
-#[test]
-fn lists_are_joined_from_any_item_on(rt: HostRuntime) -> Result<(), Fail> {
-    let (items, plain) = items_of_all_kinds(rt.alloc(), 11)?;
-    let few = picked(rt.alloc(), &plain, 9, 12)?;
-    let one = Beside { items, plain };
-    let other = Beside {
-        items: pushed(rt.alloc(), &few)?.freeze()?,
-        plain: few,
-    };
+/// Nine of the items, picked at random, in a buffer and beside it.
+fn few_of(alloc: Global, plain: &[Item]) -> Result<Beside, AllocError> {
+    let plain = picked(alloc, plain, 9, 12)?;
+    let items = pushed(alloc, &plain)?.freeze()?;
+    Ok(Beside { items, plain })
+}
+
+/// Whether a run's items and a few of them stay beside what they are joined to.
+fn all_stay_beside(alloc: Global) -> Result<bool, Fail> {
+    let one = of_all_kinds(alloc, 11)?;
+    let other = few_of(alloc, &one.plain)?;
     for seed in 1..9u64 {
-        assert!(rt; stay_beside(rt.alloc(), &one, &other, seed)?, "{seed}");
+        if !stay_beside(alloc, &one, &other, seed)? {
+            return Ok(false);
+        }
     }
-    Ok(())
+    Ok(true)
 }
 
 #[test]
-fn a_list_is_joined_from_each_item_on(rt: HostRuntime) -> Result<(), Fail> {
-    let (items, plain) = items_of_all_kinds(rt.alloc(), 13)?;
-    for from in 0..=items.len() {
-        let mut rest = Items::new(rt.alloc());
-        rest.append(&items, from)?;
-        assert!(rt; is_each(&rest, &plain[from.min(plain.len())..]), "{from}");
-    }
+fn lists_are_joined_from_any_item_on(rt: HostRuntime) -> Result<(), Fail> {
+    assert!(rt; all_stay_beside(rt.alloc())?);
     Ok(())
 }
 
@@ -266,22 +322,36 @@ fn totals_of(items: &Items, from: usize, to: usize) -> Option<Totals> {
     None
 }
 
-#[test]
-fn totals_are_those_of_the_items_one_by_one(rt: HostRuntime) -> Result<(), Fail> {
-    let (items, plain) = items_of_all_kinds(rt.alloc(), 17)?;
-    let other = pushed(rt.alloc(), &plain)?.freeze()?;
-    for from in 0..=plain.len() {
-        for to in from..=plain.len() {
-            assert!(rt; totals_of(&items, from, to) == totals_of(&other, from, to));
+/// Whether each range of both has the same totals.
+fn have_one_total(items: &Items, other: &Items) -> bool {
+    for from in 0..=items.len() {
+        for to in from..=items.len() {
+            if totals_of(items, from, to) != totals_of(other, from, to) {
+                return false;
+            }
         }
     }
+    true
+}
+
+/// Whether a run's items have the totals of the same pushed one by one.
+fn are_totals_of_each(alloc: Global, seed: u64) -> Result<bool, Fail> {
+    let kept = of_all_kinds(alloc, seed)?;
+    let other = pushed(alloc, &kept.plain)?.freeze()?;
+    Ok(have_one_total(&kept.items, &other))
+}
+
+#[test]
+fn totals_are_those_of_the_items_one_by_one(rt: HostRuntime) -> Result<(), Fail> {
+    assert!(rt; are_totals_of_each(rt.alloc(), 17)?);
     Ok(())
 }
 
 #[test]
 fn two_threads_read_one_list(rt: HostRuntime) -> Result<(), Fail> {
-    let (items, plain) = items_of_all_kinds(rt.alloc(), 19)?;
+    let kept = of_all_kinds(rt.alloc(), 19)?;
+    let items = &kept.items;
     let (one, other) = thread::join(&rt, || items.iter().count(), || items.len());
-    assert!(rt; one == plain.len() && other == plain.len());
+    assert!(rt; one == kept.plain.len() && other == kept.plain.len());
     Ok(())
 }

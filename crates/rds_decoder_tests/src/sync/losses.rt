@@ -1,108 +1,54 @@
-//! Locks and where they are lost, by both rules: known reports, lawful states, and random recordings against a plain
-//! program over whole locks.
-use crate::samples::{ONE_BAD, TWO_BAD, damaged_groups, recording_of, zero_bytes};
-use crate::sync::items::items_text;
+//! Locks and where they are lost, by both rules: lawful states, and random recordings against a plain program over
+//! whole locks.
+use crate::samples::{Sample, Signal};
 use rds_stream::Recording;
-use rds_sync::{Bad, Item, Loss, RuleNumbers, Rules, State, SyncError, decode_plain, run};
+use rds_sync::{Bad, Item, Items, Loss, RuleNumbers, Rules, State, SyncError};
 use std::alloc::{AllocError, Global};
-use std::process::Abort;
 use std::test::Fail;
 
-/// What a recording gives by a share, after its first group.
-struct Row {
-    damaged: &'static [(usize, u8)],
-    bad: u32,
-    of: u32,
-    found: &'static str,
-    end: u64,
-}
-
-const ROWS: [Row; 4] = [
-    Row {
-        damaged: &ONE_BAD,
-        bad: 1,
-        of: 4,
-        found: "group 104 - ? lost none none none; lost 129; acquired 155 2; group 130 0 A none B:0000 C:0000 D:0000",
-        end: 0,
-    },
-    Row {
-        damaged: &ONE_BAD,
-        bad: 2,
-        of: 4,
-        found: "group 104 0 A lost B:0000 C:0000 D:0000",
-        end: 8,
-    },
-    Row {
-        damaged: &TWO_BAD,
-        bad: 2,
-        of: 3,
-        found: "group 104 0 A lost B:0000 lost none; lost 181; acquired 207 4; group 182 - ? none none none D:0000",
-        end: 0,
-    },
-    Row {
-        damaged: &TWO_BAD,
-        bad: 2,
-        of: 2,
-        found: "group 104 0 A lost B:0000 lost D:0000",
-        end: 2,
-    },
+/// A rule of loss, what a lock keeps, and whether it may.
+const KEPT: [(Loss, Bad, bool); 6] = [
+    (Loss::Share { bad: 2, of: 4 }, Bad::Run(0), false),
+    (
+        Loss::Share { bad: 64, of: 64 },
+        Bad::Mask(u64::MAX - 1),
+        true,
+    ),
+    (Loss::Share { bad: 64, of: 64 }, Bad::Mask(u64::MAX), false),
+    (Loss::Run(10), Bad::Run(9), true),
+    (Loss::Run(10), Bad::Run(10), false),
+    (Loss::Run(10), Bad::Mask(0), false),
 ];
 
-/// What all of them begin with.
-const FIRST: &str = "acquired 51 2; group 26 0 A none B:0000 C:0000 D:0000; ";
-
-/// Whether the row's recording gives its items and ends with its mask.
-fn is_found(alloc: Global, row: &Row) -> Result<bool, Fail> {
-    let rec = damaged_groups(alloc, row.damaged)?;
-    let rules = Rules::with_share(alloc, 2, 3, row.bad, row.of)?;
-    let (end, items) = run(alloc, &rec, &rules, State::Searching, 0, rec.len())?;
-    let text = items_text(alloc, items.iter())?;
-    let mut whole = String::new(alloc);
-    whole.push_str(FIRST)?;
-    whole.push_str(row.found)?;
-    let ends = match end {
-        State::Locked { bad, .. } => bad == Bad::Mask(row.end),
-        State::Searching => false,
-    };
-    Ok(ends && text.as_str() == whole.as_str())
-}
-
-#[test]
-fn shares_give_known_items(rt: HostRuntime) -> Result<(), Fail> {
-    for row in &ROWS {
-        assert!(rt; is_found(rt.alloc(), row)?, "{} of {}", row.bad, row.of);
-    }
-    Ok(())
-}
-
-/// A lock at place 207, before block 1, with these bad blocks.
-fn lock_with(bad: Bad) -> State {
-    State::Locked {
+/// Whether a lock before block 1, with these bad blocks, is lawful where a lock is lost so.
+fn is_lawful(alloc: Global, loss: Loss, bad: Bad) -> Result<bool, SyncError> {
+    let lock = State::Locked {
         due: 207,
         number: 1,
         bad,
         first: 1,
-    }
+    };
+    let numbers = RuleNumbers {
+        burst: 2,
+        reach: 3,
+        loss,
+    };
+    Ok(lock.is_lawful(&Rules::of(alloc, numbers)?, 200))
 }
 
 #[test]
 fn masks_are_lawful_below_their_blocks_and_a_loss(rt: HostRuntime) -> Result<(), Fail> {
-    let rules = Rules::with_share(rt.alloc(), 2, 3, 2, 4)?;
+    let share = Loss::Share { bad: 2, of: 4 };
     for mask in 0..32u64 {
         let lawful = mask < 16 && mask.count_ones() < 2;
         assert!(rt;
-            lock_with(Bad::Mask(mask)).is_lawful(&rules, 200) == lawful,
+            is_lawful(rt.alloc(), share, Bad::Mask(mask))? == lawful,
             "{mask}"
         );
     }
-    assert!(rt; !lock_with(Bad::Run(0)).is_lawful(&rules, 200));
-    let widest = Rules::with_share(rt.alloc(), 2, 3, 64, 64)?;
-    assert!(rt; lock_with(Bad::Mask(u64::MAX - 1)).is_lawful(&widest, 200));
-    assert!(rt; !lock_with(Bad::Mask(u64::MAX)).is_lawful(&widest, 200));
-    let row = Rules::new(rt.alloc(), 2, 3, 10)?;
-    assert!(rt; lock_with(Bad::Run(9)).is_lawful(&row, 200));
-    assert!(rt; !lock_with(Bad::Run(10)).is_lawful(&row, 200));
-    assert!(rt; !lock_with(Bad::Mask(0)).is_lawful(&row, 200));
+    for &(loss, bad, lawful) in &KEPT {
+        assert!(rt; is_lawful(rt.alloc(), loss, bad)? == lawful);
+    }
     Ok(())
 }
 
@@ -156,19 +102,21 @@ fn is_lost(loss: Loss, good: &[bool]) -> bool {
 fn turns_of(alloc: Global, rec: &Recording, rules: &RuleNumbers) -> Result<Vec<Turn>, AllocError> {
     let mut turns = Vec::new(alloc);
     let mut good = Vec::new(alloc);
-    let (mut start, mut number) = (0, 0);
+    let (mut due, mut number) = (0, 0u8);
     for place in 0..rec.len() {
         if number == 0 {
             number = acquired_at(rec, u64::from(rules.reach), place);
             if number != 0 {
                 turns.push(Turn::Acquired(place))?;
-                good = vec![in alloc; true]?;
-                start = place;
+                good.clear();
+                good.push(true)?;
+                due = place.saturating_add(26);
             }
-        } else if place > start && (place - start) % 26 == 0 {
-            let blocks = (place - start) / 26;
+        } else if place == due {
+            let blocks = good.len() as u64;
             let expected = (u64::from(number % 4) + 3 + blocks % 4) % 4 + 1;
             good.push(u64::from(number_at(rec, place)) == expected)?;
+            due = due.saturating_add(26);
             if is_lost(rules.loss, good.as_slice()) {
                 turns.push(Turn::Lost(place))?;
                 number = 0;
@@ -178,56 +126,35 @@ fn turns_of(alloc: Global, rec: &Recording, rules: &RuleNumbers) -> Result<Vec<T
     Ok(turns)
 }
 
-/// Where the report says that locks begin and end.
-fn reported_turns(alloc: Global, rec: &Recording, rules: &Rules) -> Result<Vec<Turn>, SyncError> {
-    let report = decode_plain(alloc, rec, rules)?;
-    let mut turns = Vec::new(alloc);
-    for item in report.items.iter() {
-        match item {
-            Item::Acquired { place, .. } => turns.push(Turn::Acquired(place))?,
-            Item::LostLock { place } => turns.push(Turn::Lost(place))?,
-            Item::Group(_) => {}
+/// Whether these items have locks that begin and end there.
+fn have_turns(items: &Items, turns: &[Turn]) -> bool {
+    let mut left = turns.iter();
+    for item in items {
+        let turn = match item {
+            Item::Acquired { place, .. } => Turn::Acquired(place),
+            Item::LostLock { place } => Turn::Lost(place),
+            Item::Group(_) => continue,
+        };
+        if left.next() != Some(&turn) {
+            return false;
         }
     }
-    Ok(turns)
+    left.next().is_none()
 }
 
-/// The next of a row of numbers that look random and are the same in each run.
-fn next_random(number: u64) -> u64 {
-    number
-        .wrapping_mul(0x5851_F42D_4C95_7F2D)
-        .wrapping_add(0x1405_7B7E_F767_814F)
+/// Whether the report of a sample has the locks of the plain program.
+fn has_locks(alloc: Global, sample: &Sample) -> Result<bool, AllocError> {
+    let turns = turns_of(alloc, &sample.recording, &sample.rules.numbers())?;
+    Ok(have_turns(&sample.report.items, turns.as_slice()))
 }
 
-/// Zero groups of which about one byte in `rarity` is damaged, as the seed has it.
-pub fn random_recording(alloc: Global, seed: u64, rarity: u64) -> Result<Recording, Fail> {
-    let mut bytes = zero_bytes(alloc, 8_000)?;
-    let mut number = seed;
-    for byte in bytes.iter_mut() {
-        number = next_random(number);
-        let one_of = (number >> 33) % rarity.max(1);
-        if one_of == 0 {
-            *byte ^= ((number >> 50) & 0xFF) as u8;
-        }
-    }
-    Ok(recording_of(bytes, 8_000)?)
-}
-
-/// Asserts that the report of a random recording has the locks of the plain program.
-fn assert_locks<R: Abort>(rt: &R, alloc: Global, seed: u64, loss: Loss) -> Result<(), Fail> {
-    let rec = random_recording(alloc, seed, seed % 13 + 2)?;
-    let rules = Rules::of(
-        alloc,
-        RuleNumbers {
-            burst: 2,
-            reach: 3,
-            loss,
-        },
-    )?;
-    let turns = turns_of(alloc, &rec, &rules.numbers())?;
-    let reported = reported_turns(alloc, &rec, &rules)?;
-    assert!(rt; turns == reported, "seed {seed}, {loss:?}");
-    Ok(())
+/// Whether that of a signal has.
+fn is_locked_so(alloc: Global, signal: Signal) -> Result<bool, Fail> {
+    let answer = {
+        let sample = Sample::of(alloc, signal)?;
+        has_locks(alloc, &sample)
+    };
+    Ok(answer?)
 }
 
 const LOSSES: [Loss; 6] = [
@@ -243,7 +170,8 @@ const LOSSES: [Loss; 6] = [
 fn random_recordings_have_the_locks_of_a_plain_program(rt: HostRuntime) -> Result<(), Fail> {
     for &loss in &LOSSES {
         for seed in 1..9u64 {
-            assert_locks(&rt, rt.alloc(), seed, loss)?;
+            let noisy = Signal::Noisy(seed, seed % 13 + 2, loss);
+            assert!(rt; is_locked_so(rt.alloc(), noisy)?, "{seed}");
         }
     }
     Ok(())

@@ -5,7 +5,7 @@ use Rattle.rds_pieces.specs.WorkOf.{WorkOf}
 use Rattle.rds_decoder_tests.proofs.pieces.joins.joined_all.Goals as goal
 
 pub report-requires : goal.report-requires
-report-requires g c =
+report-requires c =
     let w = c.new-work.result in
     let r = c.in_ok-run.run' in
     let cut = c.in_ok-cutting.ensures in
