@@ -1,8 +1,9 @@
-//! Examples of the libraries' front pages, and what comes out of them. Those of the synchroniser, of pieces, of joins,
-//! of crews and of dealers stand among the tests of these.
-use crate::samples::{gapped_recording, zero_bytes};
+//! Examples of the libraries' front pages, and what comes out of them. Those of pieces, of joins, of crews and of dealers
+//! stand among the tests of these.
+use crate::samples::{gapped_recording, zero_bytes, zero_groups};
 use rds_code::{BurstTable, Offset, Reading, Wanted, encode_block, is_block, read_block};
 use rds_stream::{Reader, Recording, StreamError, read_heard, scan};
+use rds_sync::{Item, Items, Rules, SyncError, decode_plain};
 use std::alloc::Global;
 use std::test::Fail;
 
@@ -62,5 +63,37 @@ fn is_lost_in_a_gap(alloc: Global, table: &BurstTable) -> Result<bool, StreamErr
 fn of_the_block_code_and_of_recordings(rt: HostRuntime) -> Result<(), Fail> {
     let table = BurstTable::new(rt.alloc())?;
     assert!(rt; is_corrected(&table) && is_lost_in_a_gap(rt.alloc(), &table)?);
+    Ok(())
+}
+
+/// The places of two zero groups, and their type. Block 2 of the first acquired.
+const GROUPS: [(u64, Option<u8>); 2] = [(26, Some(0)), (104, Some(0))];
+
+fn have_groups(items: &Items) -> bool {
+    let mut left = GROUPS.iter();
+    for item in items {
+        if let Item::Group(group) = item
+            && left.next() != Some(&(group.place, group.kind))
+        {
+            return false;
+        }
+    }
+    left.next().is_none()
+}
+
+/// Whether one decoder reports them.
+fn are_reported(alloc: Global, recording: &Recording) -> Result<bool, SyncError> {
+    let rules = Rules::new(alloc, 2, 3, 10)?;
+    Ok(have_groups(&decode_plain(alloc, recording, &rules)?.items))
+}
+
+fn two_groups_are_reported(alloc: Global) -> Result<bool, Fail> {
+    let recording = zero_groups(alloc, 208)?;
+    Ok(are_reported(alloc, &recording)?)
+}
+
+#[test]
+fn of_the_synchroniser(rt: HostRuntime) -> Result<(), Fail> {
+    assert!(rt; two_groups_are_reported(rt.alloc())?);
     Ok(())
 }
