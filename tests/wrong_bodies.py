@@ -128,6 +128,8 @@ def try_all(room, crate):
         for body in part:
             body.found = refusal(body, ran.stdout)
             print(f"{body.name}: {'refused: ' + body.found if body.found else 'NOT REFUSED'}", flush=True)
+        if os.environ.get("KEEP"):
+            write(f"{os.environ['KEEP']}/{crate}.{len(part)}.txt", ran.stdout)
         if not all(it.found for it in part):
             print(f"{crate}: the end of what was said in that run:\n{ran.stdout[-3000:]}", flush=True)
     return bodies
@@ -140,8 +142,7 @@ def main(names):
             sys.exit(f"{it} is not proved: no wrong body is tried above it")
     lanes = len(os.sched_getaffinity(0))
     with tempfile.TemporaryDirectory(prefix="wrong-bodies-") as room, ThreadPoolExecutor(lanes) as pool:
-        # The largest first.
-        tried = sum(pool.map(lambda it: try_all(room, it), reversed(crates)), [])
+        tried = sum(pool.map(lambda it: try_all(room, it), crates), [])
     failed = [it.name for it in tried if not it.found]
     print(f"wrong bodies: {len(tried) - len(failed)} refused, {len(failed)} not: {' '.join(failed)}")
     return 1 if failed or not tried else 0
