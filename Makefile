@@ -5,7 +5,7 @@ PREFIX ?= /usr/local
 
 SOURCES := crates.txt $(shell find crates -name out -prune -o \( -name '*.rt' -o -name '*.antt' \) -print)
 
-.PHONY: all run test install clean toolchain
+.PHONY: all run test wrong-bodies program install clean toolchain
 all: build/rds
 
 toolchain:
@@ -24,16 +24,22 @@ run: build/rds
 	@echo "Its totals:"
 	@build/rds totals < examples/station.bin
 
+# What rt ci built is tried while the wrong bodies are; measured when nothing else runs.
 test: toolchain
 	$(RT) ci
+	+$(MAKE) --no-print-directory -j 2 -O wrong-bodies program
+	crates/rds_bench/out/rds_bench --check
+
+wrong-bodies:
 	tests/wrong_bodies.py
+
+program:
 	tests/program.sh crates/rds/out/rds
 	tests/listings.sh crates/rds/out/rds
 	tests/differential.sh crates/rds/out/rds crates/rds_plain/out/rds_plain
 	tests/refusals.sh crates/rds/out/rds crates/rds_parts/out/rds_parts
 	tests/work.sh crates/rds/out/rds
 	tests/recipes.sh crates/rds/out/rds
-	crates/rds_bench/out/rds_bench --check
 
 # The program, its manual page, and the scripts of the recipes.
 install: build/rds

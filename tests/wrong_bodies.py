@@ -1,11 +1,12 @@
 #!/usr/bin/env python3
-"""Makes the wrong bodies of crates/*/wrong/, many at a time, and fails unless the prover refuses each.
+"""Makes the wrong bodies of crates/*/wrong/, all of a crate at once, and fails unless the prover refuses each.
 
     tests/wrong_bodies.py [CRATE..]
 
 A wrong body is an edit, as those of must-fail/ are; a line `fails: FUNCTION` names one that it makes wrong from outside
 its body, by a constant say. In a copy every function has a hole for its proof, but for the edited ones, which are
-checked from the contracts of what they call, each edited once in a run. A wrong body is refused
+checked from the contracts of what they call. A second edit of a function is made in a twin of it, a copy of the function
+behind it under another name, with the same contract and the same proof. A wrong body is refused
 
 - by a goal, where `search` leaves one of its function open that it proves of the right body: one, that is, for which
   the right proof, checked by `rt ci`, has no answer by hand;
@@ -19,9 +20,9 @@ import subprocess
 import sys
 import tempfile
 from concurrent.futures import ThreadPoolExecutor
-from dataclasses import dataclass
+from dataclasses import dataclass, replace
 
-from holes import LIBRARIES, TOP, below, copied, is_built, words
+from holes import LIBRARIES, TOP, below, copied, functions_of, is_built, words
 
 CRATES = f"{TOP}/crates"
 # What a check says of an answer that names what an edit took away.
@@ -66,40 +67,63 @@ def wrong_body(crate, file, functions):
     return body
 
 
-def parted(bodies):
-    """The wrong bodies in parts, no two of a part of one function."""
-    while bodies:
-        taken, left, busy = [], [], set()
-        for it in bodies:
-            (left if busy & set(it.functions) else taken).append(it)
-            busy |= set() if it in left else set(it.functions)
-        yield taken
-        bodies = left
+def edited(text, edits):
+    """The text with these edits; from the back, so that the places before stay as they are."""
+    for _, at, old, new in sorted(edits, key=lambda it: it[1], reverse=True):
+        text = text[:at] + new + text[at + len(old) :]
+    return text
 
 
-def prepare(folder, functions, part):
-    """Puts the wrong bodies of a part into the copy, and the right proofs of their functions."""
-    texts = {f.file: read(f"{CRATES}/{f.file}") for f in functions}
-    # From the back, so that the places before stay as they are.
-    for path, at, old, new in sorted((it for body in part for it in body.edits), reverse=True):
-        texts[path] = texts[path][:at] + new + texts[path][at + len(old) :]
-    for path, text in texts.items():
-        write(f"{folder}/{path}", text)
-    for f in functions:
-        f.put_hole(folder)
-    for f in (f for body in part for f in body.functions):
-        shutil.rmtree(f.proof(folder), ignore_errors=True)
-        if os.path.isdir(f.proof(CRATES)):
-            shutil.copytree(f.proof(CRATES), f.proof(folder))
+def put_twin(folder, body, number):
+    """Makes this wrong body one of a twin of its function; gives the twin."""
+    f, start, end = body.functions[0], *body.functions[0].place
+    if len(body.functions) > 1 or not all(start <= at < end for _, at, _, _ in body.edits):
+        sys.exit(f"{body.name}: another wrong body has {f.path}, and this one is no edit of that function alone")
+    inside = [(path, at - start, old, new) for path, at, old, new in body.edits]
+    name = f.path.rpartition(".")[2]
+    text = re.sub(rf"\bfn {name}\b", f"fn {name}_{number}", edited(read(f"{CRATES}/{f.file}")[start:end], inside), count=1)
+    body.edits = [(f.file, end, "", f"\n\n{text}")]
+    twin = replace(f, path=f"{f.path}_{number}")
+    body.functions = [twin]
+    put_proof(folder, f, twin)
 
 
-def refusal(body, said):
+def put_proof(folder, f, twin):
+    """Puts the right proof of a function into the copy, for it or a twin of it."""
+    shutil.rmtree(twin.proof(folder), ignore_errors=True)
+    for at, _, names in os.walk(f.proof(CRATES)):
+        to = at.replace(f.proof(CRATES), twin.proof(folder), 1)
+        os.makedirs(to)
+        for it in names:
+            write(f"{to}/{it}", re.sub(rf"\bproofs\.{f.path}\b", f"proofs.{twin.path}", read(f"{at}/{it}")))
+
+
+def prepare(folder, crate, bodies):
+    """Puts the wrong bodies into the copy, and the right proofs of their functions."""
+    count = {}
+    for body in bodies:
+        if any(f in count for f in body.functions):
+            count[body.functions[0]] += 1
+            put_twin(folder, body, count[body.functions[0]])
+        else:
+            count |= dict.fromkeys(body.functions, 1)
+            for f in body.functions:
+                put_proof(folder, f, f)
+    edits = [it for body in bodies for it in body.edits]
+    for path in {it[0] for it in edits}:
+        write(f"{folder}/{path}", edited(read(f"{CRATES}/{path}"), [it for it in edits if it[0] == path]))
+    places = {f.path: f.place for f in functions_of(f"{folder}/{crate}")}
+    for body in bodies:
+        body.functions = [replace(f, place=places[f.path]) for f in body.functions]
+
+
+def refusal(folder, body, said):
     """What the prover refuses of a wrong body, if it does: goals, or lines of the answers by hand."""
     goals, lines = [], []
     for f in body.functions:
-        first, last = (read(f"{CRATES}/{f.file}").count("\n", 0, at) + 1 for at in f.place)
-        answers = f"proofs/{f.path.replace('.', '/')}/Answers.antt"
-        text = read(f"{CRATES}/{f.crate}/{answers}") if os.path.isfile(f"{CRATES}/{f.crate}/{answers}") else ""
+        first, last = (read(f"{folder}/{f.file}").count("\n", 0, at) + 1 for at in f.place)
+        answers = f"{f.proof('.').partition(f'{f.crate}/')[2]}/Answers.antt"
+        text = read(f"{folder}/{f.crate}/{answers}") if os.path.isfile(f"{folder}/{f.crate}/{answers}") else ""
         by_hand = re.findall(r"^pub (\S+) : goal\.", text, re.M)
         source = f.file.partition("/")[2]
         left_open = rf"^note: {source}:(\d+):\d+: .*\(`([^`]+)`\)(?:;|$)"
@@ -111,27 +135,23 @@ def refusal(body, said):
 
 
 def try_all(room, crate):
-    """Tries the wrong bodies of a crate, a part of them in a run."""
+    """Tries the wrong bodies of a crate, all in one run."""
     functions = copied(room, [crate])
     files = sorted(it for it in os.listdir(f"{CRATES}/{crate}/wrong") if it.endswith(".edit"))
     bodies = [wrong_body(crate, it, functions) for it in files]
-    for part in parted(bodies):
-        prepare(room, functions, part)
-        asked = {f.path.replace(".", "::") for it in part for f in it.functions}
-        ran = subprocess.run(
-            words(room, crate, asked, are_copied=False),
-            cwd=f"{room}/{crate}",
-            stdout=subprocess.PIPE,
-            stderr=subprocess.STDOUT,
-            text=True,
-        )
-        for body in part:
-            body.found = refusal(body, ran.stdout)
-            print(f"{body.name}: {'refused: ' + body.found if body.found else 'NOT REFUSED'}", flush=True)
-        if os.environ.get("KEEP"):
-            write(f"{os.environ['KEEP']}/{crate}.{len(part)}.txt", ran.stdout)
-        if not all(it.found for it in part):
-            print(f"{crate}: the end of what was said in that run:\n{ran.stdout[-3000:]}", flush=True)
+    prepare(room, crate, bodies)
+    ran = subprocess.run(
+        words(room, crate, {f.path.replace(".", "::") for it in bodies for f in it.functions}, are_copied=False),
+        cwd=f"{room}/{crate}",
+        stdout=subprocess.PIPE,
+        stderr=subprocess.STDOUT,
+        text=True,
+    )
+    for body in bodies:
+        body.found = refusal(room, body, ran.stdout)
+        print(f"{body.name}: {'refused: ' + body.found if body.found else 'NOT REFUSED'}", flush=True)
+    if not all(it.found for it in bodies):
+        print(f"{crate}: the end of what was said in that run:\n{ran.stdout[-3000:]}", flush=True)
     return bodies
 
 
@@ -142,7 +162,8 @@ def main(names):
             sys.exit(f"{it} is not proved: no wrong body is tried above it")
     lanes = len(os.sched_getaffinity(0))
     with tempfile.TemporaryDirectory(prefix="wrong-bodies-") as room, ThreadPoolExecutor(lanes) as pool:
-        tried = sum(pool.map(lambda it: try_all(room, it), crates), [])
+        # The largest first.
+        tried = sum(pool.map(lambda it: try_all(room, it), reversed(crates)), [])
     failed = [it.name for it in tried if not it.found]
     print(f"wrong bodies: {len(tried) - len(failed)} refused, {len(failed)} not: {' '.join(failed)}")
     return 1 if failed or not tried else 0

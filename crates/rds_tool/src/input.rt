@@ -1,6 +1,6 @@
 //! From the bytes that a reader held to the recording that they stand for.
 ghost use Rattle.std.specs.Prelude.{◌≡◌, ◌⊎◌, Err, IfErr, IfOk, Ok};
-ghost use Rattle.rds_tool.specs.Input.{decoded, first_bits as the_first_bits, recording_of as the_recording_of};
+ghost use Rattle.rds_tool.specs.Input.{decoded, first_bits as the_first_bits, is_blank as blank, recording_of as the_recording_of};
 
 use crate::{Input, ToolError};
 use hex::FromHexError;
@@ -45,6 +45,13 @@ fn first_bits(bytes: Vec<u8>, bits: u64, gaps: Vec<(u64, u64)>) -> Result<Record
     }
 }
 
+/// Space, tab, carriage return and line feed.
+fn is_blank(byte: u8) -> bool
+    ensures { result ≡ blank byte }
+{
+    matches!(byte, b' ' | b'\t' | b'\r' | b'\n')
+}
+
 /// The bytes of hexadecimal text, in which blanks don't count.
 fn hex_bytes(alloc: Global, text: &[u8]) -> Result<Vec<u8>, ToolError>
     ensures ok { IfOk result (λ bytes. decoded text.now ≡ Ok bytes.items) }
@@ -53,7 +60,7 @@ fn hex_bytes(alloc: Global, text: &[u8]) -> Result<Vec<u8>, ToolError>
     let digits: Vec<u8> = text
         .iter()
         .copied()
-        .filter(|b| !matches!(*b, b' ' | b'\t' | b'\r' | b'\n'))
+        .filter(|b| !is_blank(*b))
         .collect(alloc)?;
     match hex::decode(alloc, digits.as_slice()) {
         Ok(bytes) => Ok(bytes),
