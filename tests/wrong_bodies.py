@@ -1,7 +1,7 @@
 #!/usr/bin/env python3
 """Makes the wrong bodies of crates/*/wrong/, all of a crate at once, and fails unless the prover refuses each.
 
-    tests/wrong_bodies.py [CRATE..]
+    tests/wrong_bodies.py [--right] [CRATE..]
 
 A wrong body is an edit, as those of must-fail/ are; a line `fails: FUNCTION` names one that it makes wrong from outside
 its body, by a constant say. In a copy every function has a hole for its proof, but for the edited ones, which are
@@ -11,6 +11,8 @@ behind it under another name, with the same contract and the same proof. A wrong
 - by a goal, where `search` leaves one of its function open that it proves of the right body: one, that is, for which
   the right proof, checked by `rt ci`, has no answer by hand;
 - else by a line of those answers, where the prover refuses what stands there; not where it names what is gone.
+
+With --right the right bodies are tried in the same way, in the place of the wrong ones, and none may be refused.
 """
 
 import os
@@ -134,11 +136,13 @@ def refusal(folder, body, said):
     return ", ".join(dict.fromkeys(goals or lines))
 
 
-def try_all(room, crate):
-    """Tries the wrong bodies of a crate, all in one run."""
+def try_all(room, crate, are_right):
+    """Tries the wrong bodies of a crate, all in one run, or the right ones in their places."""
     functions = copied(room, [crate])
     files = sorted(it for it in os.listdir(f"{CRATES}/{crate}/wrong") if it.endswith(".edit"))
     bodies = [wrong_body(crate, it, functions) for it in files]
+    for body in bodies if are_right else []:
+        body.edits = [(path, at, old, old) for path, at, old, _ in body.edits]
     prepare(room, crate, bodies)
     ran = subprocess.run(
         words(room, crate, {f.path.replace(".", "::") for it in bodies for f in it.functions}, are_copied=False),
@@ -150,24 +154,26 @@ def try_all(room, crate):
     for body in bodies:
         body.found = refusal(room, body, ran.stdout)
         print(f"{body.name}: {'refused: ' + body.found if body.found else 'NOT REFUSED'}", flush=True)
-    if not all(it.found for it in bodies):
+    if any(bool(it.found) == are_right for it in bodies):
         print(f"{crate}: the end of what was said in that run:\n{ran.stdout[-3000:]}", flush=True)
     return bodies
 
 
-def main(names):
+def main(names, are_right):
     crates = [it for it in LIBRARIES if it in (names or LIBRARIES) and os.path.isdir(f"{CRATES}/{it}/wrong")]
     for it in (it for it in LIBRARIES if any(it in below(crate) for crate in crates) and not is_built(it)):
         if subprocess.run(["rt", "lib"], cwd=f"{CRATES}/{it}", stdout=subprocess.DEVNULL).returncode:
             sys.exit(f"{it} is not proved: no wrong body is tried above it")
+    # Those that take longest come first.
+    crates.sort(key=lambda it: len(os.listdir(f"{CRATES}/{it}/wrong")), reverse=True)
     lanes = len(os.sched_getaffinity(0))
     with tempfile.TemporaryDirectory(prefix="wrong-bodies-") as room, ThreadPoolExecutor(lanes) as pool:
-        # The largest first.
-        tried = sum(pool.map(lambda it: try_all(room, it), reversed(crates)), [])
-    failed = [it.name for it in tried if not it.found]
-    print(f"wrong bodies: {len(tried) - len(failed)} refused, {len(failed)} not: {' '.join(failed)}")
+        tried = sum(pool.map(lambda it: try_all(room, it, are_right), crates), [])
+    failed = [it.name for it in tried if bool(it.found) == are_right]
+    kind, other = ("right", "as they must be") if are_right else ("wrong", "refused")
+    print(f"{kind} bodies: {len(tried) - len(failed)} {other}, {len(failed)} not: {' '.join(failed)}")
     return 1 if failed or not tried else 0
 
 
 if __name__ == "__main__":
-    sys.exit(main(sys.argv[1:]))
+    sys.exit(main([it for it in sys.argv[1:] if it != "--right"], "--right" in sys.argv))

@@ -47,11 +47,14 @@ fn time_windows(
     timing.show(rt, form, start, found as u64)
 }
 
-fn with_gaps(alloc: Global, bits: u64, sample: Sample) -> Result<Recording> {
-    let bytes = sample.bytes(alloc, bits)?;
-    let held = (bytes.len() as u64).saturating_mul(8);
-    let gaps = gaps_in(alloc, held)?;
-    Ok(gapped(bytes, held, gaps)?)
+fn with_gaps(alloc: Global, bits: u64, sample: Sample) -> Result<Recording, StreamError> {
+    gapped_bytes(alloc, sample.bytes(alloc, bits)?)
+}
+
+fn gapped_bytes(alloc: Global, bytes: Vec<u8>) -> Result<Recording, StreamError> {
+    let bits = (bytes.len() as u64).saturating_mul(8);
+    let gaps = gaps_in(alloc, bits)?;
+    gapped(bytes, bits, gaps)
 }
 
 fn gapped(bytes: Vec<u8>, bits: u64, gaps: Vec<(u64, u64)>) -> Result<Recording, StreamError> {

@@ -108,13 +108,18 @@ fn report(rt: &HostRuntime, words: &[&str]) -> Result<Report> {
     Ok(decode_plain(rt.alloc(), &recording(rt, words)?, &rules)?)
 }
 
+/// A number of the rules.
+fn setting(words: &[&str], before: usize) -> Result<u32> {
+    Ok(u32::try_from(number(words, before)?)?)
+}
+
 fn rules(alloc: Global, words: &[&str]) -> Result<Rules> {
-    let burst = u32::try_from(number(words, 2)?)?;
-    let reach = u32::try_from(number(words, 3)?)?;
-    let loss = u32::try_from(number(words, 4)?)?;
+    let burst = setting(words, 2)?;
+    let reach = setting(words, 3)?;
+    let loss = setting(words, 4)?;
     if words.len() < 6 {
         return Ok(Rules::new(alloc, burst, reach, loss)?);
     }
-    let of = u32::try_from(number(words, 5)?)?;
+    let of = setting(words, 5)?;
     Ok(Rules::with_share(alloc, burst, reach, loss, of)?)
 }
