@@ -77,7 +77,7 @@ def edited(text, edits):
 
 
 def put_twin(folder, body, number):
-    """Makes this wrong body one of a twin of its function; gives the twin."""
+    """Makes this wrong body one of a twin of its function."""
     f, start, end = body.functions[0], *body.functions[0].place
     if len(body.functions) > 1 or not all(start <= at < end for _, at, _, _ in body.edits):
         sys.exit(f"{body.name}: another wrong body has {f.path}, and this one is no edit of that function alone")
@@ -151,6 +151,8 @@ def try_all(room, crate, are_right):
         stderr=subprocess.STDOUT,
         text=True,
     )
+    if not re.search(r"^only=\d+ ", ran.stdout, re.M):
+        sys.exit(f"{crate}: the run came to no end:\n{ran.stdout[-3000:]}")
     for body in bodies:
         body.found = refusal(room, body, ran.stdout)
         print(f"{body.name}: {'refused: ' + body.found if body.found else 'NOT REFUSED'}", flush=True)

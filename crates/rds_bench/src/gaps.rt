@@ -13,15 +13,25 @@ const EVERY: u64 = 1_000;
 pub fn measure(rt: &HostRuntime, bits: u64, sample: Sample) -> Result<()> {
     let whole = sample.recording(rt.alloc(), bits)?;
     let gapped = with_gaps(rt.alloc(), bits, sample)?;
+    time_both(rt, &whole, &gapped)
+}
+
+fn time_both(rt: &HostRuntime, whole: &Recording, gapped: &Recording) -> Result<()> {
+    time_decoders(rt, whole, gapped)?;
+    time_searches(rt, whole, gapped)
+}
+
+fn time_decoders(rt: &HostRuntime, whole: &Recording, gapped: &Recording) -> Result<()> {
     let rules = Rules::new(rt.alloc(), 2, 3, 10)?;
-
     let mut timing = Timing::new(whole.len());
-    time_decoder(rt, &mut timing, "one decoder", &whole, &rules)?;
-    time_decoder(rt, &mut timing, "over many gaps", &gapped, &rules)?;
+    time_decoder(rt, &mut timing, "one decoder", whole, &rules)?;
+    time_decoder(rt, &mut timing, "over many gaps", gapped, &rules)
+}
 
+fn time_searches(rt: &HostRuntime, whole: &Recording, gapped: &Recording) -> Result<()> {
     let mut timing = Timing::new(whole.len());
-    time_windows(rt, &mut timing, "valid windows", &whole)?;
-    time_windows(rt, &mut timing, "outside many gaps", &gapped)
+    time_windows(rt, &mut timing, "valid windows", whole)?;
+    time_windows(rt, &mut timing, "outside many gaps", gapped)
 }
 
 fn time_decoder(

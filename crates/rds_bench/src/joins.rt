@@ -105,15 +105,20 @@ fn time_all<T: Sync + Threads + Wait, W: Work + Sync>(
     requires { IsCutting (length_of (W.recording work.now)) (W.places work.now) }
 {
     let mut timing = Timing::new(bits);
-    let runs = guesses(rt.alloc(), work)?;
-    let start = Instant::now(rt)?;
-    let valid = work.report(rt.alloc(), runs.as_slice())?.totals.valid;
-    timing.show(rt, "left to right", start, valid)?;
-    drop(runs);
+    time_stitching(rt, work, &mut timing)?;
     for form in FORMS.iter() {
         time_tree(rt, threads, work, &mut timing, form)?;
     }
     Ok(())
+}
+
+fn time_stitching<W: Work>(rt: &HostRuntime, work: &W, timing: &mut Timing) -> Result<()>
+    requires { IsCutting (length_of (W.recording work.now)) (W.places work.now) }
+{
+    let runs = guesses(rt.alloc(), work)?;
+    let start = Instant::now(rt)?;
+    let valid = work.report(rt.alloc(), runs.as_slice())?.totals.valid;
+    timing.show(rt, "left to right", start, valid)
 }
 
 /// The guesses of all pieces, in order.

@@ -8,6 +8,27 @@ use std::sync::Wait;
 use std::thread::Threads;
 use std::time::Instant;
 
+/// A crew of so many workers, and how its time is shown.
+struct Crew {
+    workers: u32,
+    form: &'static str,
+}
+
+const CREWS: [Crew; 3] = [
+    Crew {
+        workers: 1,
+        form: "one worker",
+    },
+    Crew {
+        workers: 2,
+        form: "two workers",
+    },
+    Crew {
+        workers: 4,
+        form: "four workers",
+    },
+];
+
 /// The whole way, reading and writing memory: a listing, or its totals alone.
 pub fn measure<T: Threads + Wait + Sync>(
     rt: &HostRuntime,
@@ -27,13 +48,35 @@ fn time_crews<T: Threads + Wait + Sync>(
     listing: bool,
 ) -> Result<()> {
     let mut timing = Timing::new((bytes.len() as u64).saturating_mul(8));
-    for (workers, form) in [(1, "one worker"), (2, "two workers"), (4, "four workers")] {
-        let job = job_of(rt.alloc(), workers, listing);
-        let start = Instant::now(rt)?;
-        let written = written_by(threads, rt.alloc(), bytes, &job)?;
-        timing.show(rt, form, start, written)?;
+    for crew in CREWS.iter() {
+        time_crew(rt, threads, &mut timing, bytes, crew, listing)?;
     }
     Ok(())
+}
+
+fn time_crew<T: Threads + Wait + Sync>(
+    rt: &HostRuntime,
+    threads: &T,
+    timing: &mut Timing,
+    bytes: &[u8],
+    crew: &Crew,
+    listing: bool,
+) -> Result<()> {
+    let job = job_of(rt.alloc(), crew.workers, listing);
+    time_job(rt, threads, timing, bytes, crew.form, &job)
+}
+
+fn time_job<T: Threads + Wait + Sync>(
+    rt: &HostRuntime,
+    threads: &T,
+    timing: &mut Timing,
+    bytes: &[u8],
+    form: &str,
+    job: &Job,
+) -> Result<()> {
+    let start = Instant::now(rt)?;
+    let written = written_by(threads, rt.alloc(), bytes, job)?;
+    timing.show(rt, form, start, written)
 }
 
 /// How many bytes the job writes of these.

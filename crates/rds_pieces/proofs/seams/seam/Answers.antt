@@ -1,4 +1,4 @@
-use Rattle.std.proofs.Common.{ℕ, ◌-◌, List, [], Some, None, length, drop, sym, ap, subst, ◌∙◌, arith}
+use Rattle.std.proofs.Common.{ℕ, ◌+◌, ◌-◌, ◌*◌, ◌≤◌, List, [], Some, None, length, drop, sym, ap, subst, ◌∙◌, arith}
 use Rattle.rds_sync.specs.declared.state.State.TheVariants.{Searching}
 use Rattle.rds_sync.specs.Lawful.{IsLawful}
 use Rattle.rds_sync.specs.Rules.{RuleNumbers}
@@ -6,6 +6,7 @@ use Rattle.rds_sync.specs.declared.state.State.{State}
 use Rattle.rds_sync.specs.declared.item.Item.{Item}
 use Rattle.rds_sync.specs.Step.{run}
 use Rattle.rds_sync.specs.Totals.{totals_of}
+use Rattle.rds_pieces.specs.Meeting.{IsMeeting}
 use Rattle.rds_pieces.specs.Soon.{IsSoonMet}
 use Rattle.rds_pieces.proofs.SeamLemmas.{renamed, run_over}
 use Rattle.rds_pieces.proofs.SoonLemmas.{soon_met}
@@ -55,6 +56,24 @@ returns-in_ok-append-in-Some-clause-totals g c =
     (c.of-totals.ensures.value ∙ ap (λ (is : List Item). totals_of is) (c.in_ok-items.ensures ∙ c.in_ok-place.ensures.items)) c.totals_from.ensures
     ∙ ap (λ (x : State × List Item). totals_of x.1) (run_over r.source (g.T.Tape.signal c.args.tape.now) r.rules c.args.rules.now c.args.state r.from (r.to - r.from) c.requires.source c.requires.rules)
 
+pub returns-in_ok-append-in-Some-clause-met : goal.returns-in_ok-append-in-Some-clause-met
+returns-in_ok-append-in-Some-clause-met g c =
+    let r = c.args.run.now in
+    let w = c.in_ok-place.field-0 in
+    let met = met_from r.source r.rules c.args.state r.from r.to w.place w.met c.in-Some.passed c.in-Some.is c.in_ok-place.ensures.met in
+    renamed (λ b rules. IsMeeting b rules c.args.state Searching r.from r.to (Some w.place)) r.source (g.T.Tape.signal c.args.tape.now) r.rules c.args.rules.now c.requires.source c.requires.rules met.first
+
+pub returns-in_ok-append-in-Some-clause-reads : goal.returns-in_ok-append-in-Some-clause-reads
+returns-in_ok-append-in-Some-clause-reads g c =
+    let r = c.args.run.now in
+    let w = c.in_ok-place.field-0 in
+    subst (λ (rules : RuleNumbers). g.T.Tape.reads_made c.go_along.new.tape ≤ g.T.Tape.reads_made c.args.tape.now + (rules.reach + 2) * (w.place - r.from + 1)) c.requires.rules c.in_ok-place.ensures.reads
+
+pub returns-in_ok-append-in-Some-clause-reads_most : goal.returns-in_ok-append-in-Some-clause-reads_most
+returns-in_ok-append-in-Some-clause-reads_most g c =
+    let r = c.args.run.now in
+    subst (λ (rules : RuleNumbers). g.T.Tape.reads_made c.go_along.new.tape ≤ g.T.Tape.reads_made c.args.tape.now + (rules.reach + 2) * (r.to - r.from + 1)) c.requires.rules c.in_ok-place.ensures.reads_most
+
 pub returns-in_ok-append-in-Some-clause-soon : goal.returns-in_ok-append-in-Some-clause-soon
 returns-in_ok-append-in-Some-clause-soon g c =
     let r = c.args.run.now in
@@ -83,6 +102,18 @@ returns-in-None-clause-totals g c =
     c.of-totals.ensures.value ∙ ap (λ (is : List Item). totals_of is) (c.in_ok-items.ensures ∙ c.in_ok-place.ensures.items)
     ∙ ap (λ (p : ℕ). totals_of (run r.source r.rules c.args.state r.from (p - r.from)).1) unmet.ends
     ∙ ap (λ (x : State × List Item). totals_of x.1) (run_over r.source (g.T.Tape.signal c.args.tape.now) r.rules c.args.rules.now c.args.state r.from (r.to - r.from) c.requires.source c.requires.rules)
+
+pub returns-in-None-clause-met : goal.returns-in-None-clause-met
+returns-in-None-clause-met g c =
+    let r = c.args.run.now in
+    let w = c.in_ok-place.field-0 in
+    let unmet = unmet_from r.source r.rules c.args.state r.from r.to w.place w.met c.in-None.is c.in_ok-place.ensures.met in
+    renamed (λ b rules. IsMeeting b rules c.args.state Searching r.from r.to None) r.source (g.T.Tape.signal c.args.tape.now) r.rules c.args.rules.now c.requires.source c.requires.rules unmet.never
+
+pub returns-in-None-clause-reads : goal.returns-in-None-clause-reads
+returns-in-None-clause-reads g c =
+    let r = c.args.run.now in
+    subst (λ (rules : RuleNumbers). g.T.Tape.reads_made c.go_along.new.tape ≤ g.T.Tape.reads_made c.args.tape.now + (rules.reach + 2) * (r.to - r.from + 1)) c.requires.rules c.in_ok-place.ensures.reads_most
 
 pub returns-in-None-clause-soon : goal.returns-in-None-clause-soon
 returns-in-None-clause-soon g c =
