@@ -1,6 +1,5 @@
 //! A job whose settings were looked at.
 ghost use Rattle.std.specs.Prelude.{◌<◌, ◌≡◌, ◌⊎◌, Err, IfErr, IfOk, Ok};
-ghost use Rattle.rds_tool.specs.GroupText.{encoded_text};
 ghost use Rattle.rds_tool.specs.Listing.{report_text, totals_text};
 ghost use Rattle.rds_tool.specs.Outcome.{cut_recording, text_of_task};
 ghost use Rattle.rds_tool.specs.declared.task.Task.TheVariants as task;
@@ -63,63 +62,27 @@ impl<'a> Task<'a> {
             ⊎ (text_of_task self.entry held.items ≡ Err error))) }
     {
         match self {
-            Task::Scan(input) => scanned(alloc, input, held),
-            Task::List(input, plan) => listed(rt, alloc, input, &plan, held, gate),
-            Task::Totals(input, plan) => totalled(rt, alloc, input, &plan, held, gate),
-            Task::Encode { hex } => encoded(alloc, hex, held),
+            Task::Scan(input) => {
+                let recording = recording_of(alloc, input, held)?;
+                let windows = scan(alloc, &recording, 0, recording.len())?;
+                let rows = window_rows(alloc, windows.as_slice())?;
+                Ok(Text::whole(alloc, rows))
+            }
+            Task::List(input, plan) => {
+                let report = report_of(rt, alloc, input, &plan, held, gate)?;
+                report_rows(rt, alloc, &report, plan.workers())
+            }
+            Task::Totals(input, plan) => {
+                let report = report_of(rt, alloc, input, &plan, held, gate)?;
+                let rows = totals_rows(alloc, &report.totals)?;
+                Ok(Text::whole(alloc, rows))
+            }
+            Task::Encode { hex } => {
+                let blocks = encode_lines(alloc, hex, held.as_slice())?;
+                Ok(Text::whole(alloc, blocks))
+            }
         }
     }
-}
-
-fn scanned(alloc: Global, input: Input, held: Vec<u8>) -> Result<Text, ToolError>
-    ensures ok { IfOk result (λ text. text_of_task (task.Scan input) held.items ≡ Ok text) }
-    ensures refused { IfErr result (λ error. (error ≡ ToolError.OutOfMemory) ⊎ (text_of_task (task.Scan input) held.items ≡ Err error)) }
-{
-    let recording = recording_of(alloc, input, held)?;
-    let windows = scan(alloc, &recording, 0, recording.len())?;
-    let rows = window_rows(alloc, windows.as_slice())?;
-    Ok(Text::whole(alloc, rows))
-}
-
-fn listed<R: Threads + Wait + Sync, G: Gate + Sync>(
-    rt: &R,
-    alloc: Global,
-    input: Input,
-    plan: &Plan<'_>,
-    held: Vec<u8>,
-    gate: &G,
-) -> Result<Text, ToolError>
-    ensures ok { IfOk result (λ text. text_of_task (task.List input plan.now) held.items ≡ Ok text) }
-    ensures refused { IfErr result (λ error. (error ≡ ToolError.OutOfMemory) ⊎ (((error ≡ ToolError.NoWorker) × (1 < plan.now.workers))
-        ⊎ (text_of_task (task.List input plan.now) held.items ≡ Err error))) }
-{
-    let report = report_of(rt, alloc, input, plan, held, gate)?;
-    report_rows(rt, alloc, &report, plan.workers())
-}
-
-fn totalled<R: Threads + Wait, G: Gate + Sync>(
-    rt: &R,
-    alloc: Global,
-    input: Input,
-    plan: &Plan<'_>,
-    held: Vec<u8>,
-    gate: &G,
-) -> Result<Text, ToolError>
-    ensures ok { IfOk result (λ text. text_of_task (task.Totals input plan.now) held.items ≡ Ok text) }
-    ensures refused { IfErr result (λ error. (error ≡ ToolError.OutOfMemory) ⊎ (((error ≡ ToolError.NoWorker) × (1 < plan.now.workers))
-        ⊎ (text_of_task (task.Totals input plan.now) held.items ≡ Err error))) }
-{
-    let report = report_of(rt, alloc, input, plan, held, gate)?;
-    let rows = totals_rows(alloc, &report.totals)?;
-    Ok(Text::whole(alloc, rows))
-}
-
-fn encoded(alloc: Global, hex: bool, held: Vec<u8>) -> Result<Text, ToolError>
-    ensures ok { IfOk result (λ text. encoded_text hex held.items ≡ Ok text) }
-    ensures refused { IfErr result (λ error. (error ≡ ToolError.OutOfMemory) ⊎ (encoded_text hex held.items ≡ Err error)) }
-{
-    let blocks = encode_lines(alloc, hex, held.as_slice())?;
-    Ok(Text::whole(alloc, blocks))
 }
 
 /// The report of the recording that the bytes give. They are dropped with it, so that no text is made beside them.

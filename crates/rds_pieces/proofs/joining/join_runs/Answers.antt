@@ -1,4 +1,4 @@
-use Rattle.std.proofs.Common.{◌≤◌, ◌+◌, ◌*◌, ℕ, sym, subst, ◌∙◌}
+use Rattle.std.proofs.Common.{◌≤◌, ◌+◌, ◌-◌, ◌*◌, ℕ, sym, subst, ◌∙◌}
 use Rattle.rds_sync.specs.declared.state.State.{State}
 use Rattle.rds_sync.specs.declared.state.State.TheVariants.{Searching}
 use Rattle.rds_sync.specs.Lawful.{IsLawful}
@@ -40,3 +40,8 @@ returns-clause-reads g c =
       renamed (λ b rules. IsMeeting b rules (end_of l) Searching r.from r.to met.0) r.source (g.T.Tape.signal c.args.tape.now) r.rules c.args.rules.now c.requires.right.0 c.requires.right.1 meeting,
       subst (λ (rules : RuleNumbers). g.T.Tape.reads_made c.go_along.new.tape ≤ g.T.Tape.reads_made c.args.tape.now + seam_reads rules r.from r.to met.0) c.requires.right.1 reads,
     )
+
+pub returns-clause-reads_most : goal.returns-clause-reads_most
+returns-clause-reads_most g c =
+    let r = c.args.right.now in
+    subst (λ (rules : RuleNumbers). g.T.Tape.reads_made c.go_along.new.tape ≤ g.T.Tape.reads_made c.args.tape.now + (rules.reach + 2) * (r.to - r.from + 1)) c.requires.right.1 c.in_ok-walk.ensures.reads_most
