@@ -37,6 +37,8 @@ station 160 >station
 noise 17 200000 >noise
 noise 19 160000 | sed 's/.\{104\}/&\n/' >words
 station 40 | od -An -v -tx1 >digits
+# a byte of every 64 spoilt: marks in many rows
+station 40 | od -An -v -tx1 | awk 'NR % 4 == 0 { $2 = "ff" } 1' >damaged
 
 # count CALL INPUT WORDS..: how many such calls the job makes of the input, how many bytes allocations ask for, and how
 # many it holds at its peak

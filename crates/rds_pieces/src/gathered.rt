@@ -22,16 +22,17 @@ pub(crate) struct Gathered {
 }
 
 impl Gathered {
-    /// Nothing. Takes no memory.
-    pub fn new(alloc: Global) -> Gathered
-        ensures items { result.items ≡ [] }
-        ensures marks { result.marks ≡ [] }
+    /// Nothing, with room for the rows of all marks to come.
+    pub fn with_room(alloc: Global, rows: usize) -> Result<Gathered, PieceError>
+        ensures items { IfOk result (λ r. r.items ≡ []) }
+        ensures marks { IfOk result (λ r. r.marks ≡ []) }
+        ensures err { IfErr result (λ e. e ≡ OutOfMemory) }
     {
-        Gathered {
+        Ok(Gathered {
             items: Items::new(alloc),
             totals: Totals::NONE,
-            marks: Marks::new(alloc),
-        }
+            marks: Marks::with_room(alloc, rows)?,
+        })
     }
 
     /// Puts the items of a list from number `first` on behind these, and marks that count the items of that list:

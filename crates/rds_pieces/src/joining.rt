@@ -100,7 +100,9 @@ fn gather(
     } = walk;
     let gone = items.freeze()?;
     let counted = Totals::of(&gone);
-    let both = Gathered::new(alloc)
+    let rows = left.marks().rows().saturating_add(marks.rows());
+    let none = Gathered::with_room(alloc, rows.saturating_add(right.marks().rows()))?;
+    let both = none
         .and(left.items(), 0, left.totals(), left.marks().iter())?
         .and(&gone, 0, counted, marks.iter())?;
     match met {

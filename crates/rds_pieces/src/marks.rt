@@ -1,7 +1,7 @@
 //! The marks of a run, kept in rows: while a station is locked and each group gives one item, all of its marks are one
 //! row.
 ghost use Rattle.std.specs.Prelude.{◌≡◌, ℕ, ◌+◌, ◌-◌, ◌*◌, ◌++◌, ◌<◌, ◌^◌, ◌↔◌, [], ◌∷◌, IsTrue, MatchOption, OnOk};
-ghost use Rattle.std.specs.Prelude.{◌≤◌, OnErr, drop, map};
+ghost use Rattle.std.specs.Prelude.{◌≤◌, IfOk, OnErr, drop, map};
 ghost use Rattle.std.specs.List.{All, flat_map};
 ghost use Rattle.std.specs.Iterator.{YieldsFirst, item_count};
 ghost use Rattle.rds_pieces.specs.Inside.Later.{later, due_of, state_later};
@@ -208,6 +208,20 @@ impl Marks {
         Marks {
             rows: Vec::new(alloc),
         }
+    }
+
+    /// No marks, with room for so many rows.
+    pub(crate) fn with_room(alloc: Global, rows: usize) -> Result<Marks, AllocError>
+        ensures { IfOk result (λ marks. marks ≡ []) }
+    {
+        Ok(Marks {
+            rows: Vec::with_capacity(alloc, rows)?,
+        })
+    }
+
+    /// How many rows keep them.
+    pub(crate) fn rows(&self) -> usize {
+        self.rows.len()
     }
 
     /// Appends a mark. A refusal leaves the list as it was.

@@ -38,7 +38,7 @@ and-requires-clause-fit c =
     let inside = c.range.ensures.inside in
     let few = c.range.ensures.few in
     totals_of_two l.source l.rules laws.readings c.range.ensures.rules.burst laws.totals Searching Searching 0 0 l.from (l.to - l.from) (omega (arith, inside, few))
-    c.new.result.totals c.totals.result (c.new.result.counted ∙ ap (λ (is : List Item). totals_of is) c.new.ensures.items) c.totals.ensures
+    c.in_ok-none.none.totals c.totals.result (c.in_ok-none.none.counted ∙ ap (λ (is : List Item). totals_of is) c.in_ok-none.ensures.items) c.totals.ensures
 
 pub and-requires-clause-high : goal.and-requires-clause-high
 and-requires-clause-high c =
@@ -46,7 +46,7 @@ and-requires-clause-high c =
     let r = c.args.right.now in
     let w = c.args.walk in
     let laws = c.run_laws.ensures in
-    marks-high l.source l.rules laws l.from (l.to - l.from) c.iter.result c.items.result.now (c.iter.ensures ∙ c.marks-2.ensures) c.items.ensures
+    marks-high l.source l.rules laws l.from (l.to - l.from) c.iter.result c.items.result.now (c.iter.ensures ∙ c.marks-4.ensures) c.items.ensures
 
 pub and-requires-2-clause-fit : goal.and-requires-2-clause-fit
 and-requires-2-clause-fit c =
@@ -55,8 +55,8 @@ and-requires-2-clause-fit c =
     let w = c.args.walk in
     let laws = c.run_laws.ensures in
     let gone = c.in_ok-gone.ensures ∙ c.requires.items in
-    let first = left_gathered l.source l.rules laws l.from l.to r.from c.requires.next c.range.ensures.inside.0 c.new.result.items c.items.result.now c.in_ok-and.field-0.items
-    c.new.result.marks c.iter.result c.in_ok-and.field-0.marks c.new.ensures.items c.new.ensures.marks c.items.ensures (c.iter.ensures ∙ c.marks-2.ensures)
+    let first = left_gathered l.source l.rules laws l.from l.to r.from c.requires.next c.range.ensures.inside.0 c.in_ok-none.none.items c.items.result.now c.in_ok-and.field-0.items
+    c.in_ok-none.none.marks c.iter.result c.in_ok-and.field-0.marks c.in_ok-none.ensures.items c.in_ok-none.ensures.marks c.items.ensures (c.iter.ensures ∙ c.marks-4.ensures)
     c.in_ok-and.ensures.items c.in_ok-and.ensures.marks in
     let inside = ap (λ (b : Signal). length_of b) c.requires.beside.0 in
     let within = c.requires.walk.inside in
@@ -109,8 +109,8 @@ and-requires-in-Some-clause-fit c =
     let w = c.args.walk in
     let laws = c.run_laws.ensures in
     let gone = c.in_ok-gone.ensures ∙ c.requires.items in
-    let first = left_gathered l.source l.rules laws l.from l.to r.from c.requires.next c.range.ensures.inside.0 c.new.result.items c.items.result.now c.in_ok-and.field-0.items
-    c.new.result.marks c.iter.result c.in_ok-and.field-0.marks c.new.ensures.items c.new.ensures.marks c.items.ensures (c.iter.ensures ∙ c.marks-2.ensures)
+    let first = left_gathered l.source l.rules laws l.from l.to r.from c.requires.next c.range.ensures.inside.0 c.in_ok-none.none.items c.items.result.now c.in_ok-and.field-0.items
+    c.in_ok-none.none.marks c.iter.result c.in_ok-and.field-0.marks c.in_ok-none.ensures.items c.in_ok-none.ensures.marks c.items.ensures (c.iter.ensures ∙ c.marks-4.ensures)
     c.in_ok-and.ensures.items c.in_ok-and.ensures.marks in
     let on = walk_gathered l.source l.rules laws l.from l.to r.from c.requires.next c.range.ensures.inside.0 w.place c.in_ok-and.field-0.items c.in_ok-gone.gone c.in_ok-both.both.items
     c.in_ok-and.field-0.marks c.iter-2.result c.in_ok-both.both.marks gone (c.iter-2.ensures ∙ c.requires.marks) c.in_ok-both.ensures.items c.in_ok-both.ensures.marks in
@@ -157,8 +157,8 @@ returns-in-Some-clause-guess c =
     let w = c.args.walk in
     let laws = c.run_laws.ensures in
     let gone = c.in_ok-gone.ensures ∙ c.requires.items in
-    let first = left_gathered l.source l.rules laws l.from l.to r.from c.requires.next c.range.ensures.inside.0 c.new.result.items c.items.result.now c.in_ok-and.field-0.items
-    c.new.result.marks c.iter.result c.in_ok-and.field-0.marks c.new.ensures.items c.new.ensures.marks c.items.ensures (c.iter.ensures ∙ c.marks-2.ensures)
+    let first = left_gathered l.source l.rules laws l.from l.to r.from c.requires.next c.range.ensures.inside.0 c.in_ok-none.none.items c.items.result.now c.in_ok-and.field-0.items
+    c.in_ok-none.none.marks c.iter.result c.in_ok-and.field-0.marks c.in_ok-none.ensures.items c.in_ok-none.ensures.marks c.items.ensures (c.iter.ensures ∙ c.marks-4.ensures)
     c.in_ok-and.ensures.items c.in_ok-and.ensures.marks in
     let on = walk_gathered l.source l.rules laws l.from l.to r.from c.requires.next c.range.ensures.inside.0 w.place c.in_ok-and.field-0.items c.in_ok-gone.gone c.in_ok-both.both.items
     c.in_ok-and.field-0.marks c.iter-2.result c.in_ok-both.both.marks gone (c.iter-2.ensures ∙ c.requires.marks) c.in_ok-both.ensures.items c.in_ok-both.ensures.marks in
@@ -184,8 +184,8 @@ returns-clause-guess c =
     let w = c.args.walk in
     let laws = c.run_laws.ensures in
     let gone = c.in_ok-gone.ensures ∙ c.requires.items in
-    let first = left_gathered l.source l.rules laws l.from l.to r.from c.requires.next c.range.ensures.inside.0 c.new.result.items c.items.result.now c.in_ok-and.field-0.items
-    c.new.result.marks c.iter.result c.in_ok-and.field-0.marks c.new.ensures.items c.new.ensures.marks c.items.ensures (c.iter.ensures ∙ c.marks-2.ensures)
+    let first = left_gathered l.source l.rules laws l.from l.to r.from c.requires.next c.range.ensures.inside.0 c.in_ok-none.none.items c.items.result.now c.in_ok-and.field-0.items
+    c.in_ok-none.none.marks c.iter.result c.in_ok-and.field-0.marks c.in_ok-none.ensures.items c.in_ok-none.ensures.marks c.items.ensures (c.iter.ensures ∙ c.marks-4.ensures)
     c.in_ok-and.ensures.items c.in_ok-and.ensures.marks in
     let on = walk_gathered l.source l.rules laws l.from l.to r.from c.requires.next c.range.ensures.inside.0 w.place c.in_ok-and.field-0.items c.in_ok-gone.gone c.in_ok-both.both.items
     c.in_ok-and.field-0.marks c.iter-2.result c.in_ok-both.both.marks gone (c.iter-2.ensures ∙ c.requires.marks) c.in_ok-both.ensures.items c.in_ok-both.ensures.marks in
