@@ -1,4 +1,4 @@
-use Rattle.std.proofs.Common.{length, arith}
+use Rattle.std.proofs.Common.{arith}
 use Rattle.rds_stream.specs.Recording.{length_of}
 use Rattle.rds_uses.proofs.Meetings.{one_seam, sum_of_one}
 use Rattle.rds_uses.proofs.pieces.cost_where_refused.Goals as goal
