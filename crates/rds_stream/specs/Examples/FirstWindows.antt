@@ -1,12 +1,12 @@
 -- The first valid window of what is left of the zero group, and what is left after it.
-use Rattle.std.specs.Prelude.{◌≡◌, ℕ, ◌+◌, ◌-◌, ◌<◌, ◌≤◌, List, Option, Some, None, map, get_or, is_some, refl}
+use Rattle.std.specs.Prelude.{◌≡◌, ℕ, ◌+◌, ◌-◌, List, Option, Some, None, map, get_or, is_some, refl}
 use Rattle.std.specs.List.{range_with_len}
 use Rattle.std.proofs.Common.{◌∙◌, ap, arith, sym, true≢false}
 use Rattle.std.proofs.lemmas.List.FromFn.{get_or-map-range_with_len}
 use Rattle.rds_code.specs.declared.offset.Offset.{Offset}
 use Rattle.rds_code.specs.declared.offset.Offset.TheVariants.{B, D}
 use Rattle.rds_code.specs.Remainder.{rem}
-use Rattle.rds_stream.specs.Recording.{Signal, window, touched, heard, off}
+use Rattle.rds_stream.specs.Recording.{window, touched, heard, off}
 use Rattle.rds_stream.specs.ValidWindows.{WindowsLeft, GivesFirst, NoneValid}
 use Rattle.rds_stream.specs.Examples.ZeroGroup.{once}
 
