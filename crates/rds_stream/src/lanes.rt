@@ -6,7 +6,7 @@ ghost use Rattle.rds_stream.specs.Planes.{HasLanes};
 use std::simd::prelude::*;
 
 /// How many windows end in the places of one lane: 57 places lie in it, and 26 make a window.
-pub(crate) const LANE: u64 = 32;
+const LANE: u64 = 32;
 
 /// Each lane from the place `by` places on.
 #[inline(always)]
