@@ -12,7 +12,8 @@ ghost use Rattle.std.specs.Prelude.{◌≡◌, ℕ, ◌+◌, ◌*◌, ◌<◌, �
 ghost use Rattle.std.specs.Int.{bit_at};
 ghost use Rattle.rds_code.specs.Remainder.{rem};
 ghost use Rattle.rds_stream.specs.Recording.{length_of, window};
-ghost use Rattle.rds_stream.specs.Planes.{Hold, HoldInLane, IsWindowAt, lane};
+ghost use Rattle.rds_stream.specs.Planes.{Hold};
+ghost use Rattle.rds_stream.specs.Inside.Lanes.{HoldInLane, IsWindowAt, lane};
 
 use crate::lanes::{from_on, joined, sum};
 use crate::recording::Recording;

@@ -3,7 +3,8 @@ ghost use Rattle.std.specs.Prelude.{◌≡◌, ◌≤◌, ◌<◌, ◌-◌};
 ghost use Rattle.std.specs.Iterator.{at_most};
 ghost use Rattle.rds_stream.specs.Recording.{length_of};
 ghost use Rattle.rds_stream.specs.Inside.Sections.{IsSection};
-ghost use Rattle.rds_stream.specs.ValidWindows.{WindowsLeft, GivesFirst, AreMarks};
+ghost use Rattle.rds_stream.specs.ValidWindows.{WindowsLeft, GivesFirst};
+ghost use Rattle.rds_stream.specs.Inside.Marks.{AreMarks};
 
 use crate::gaps::Section;
 use crate::marks::{Marks, above, lowest};

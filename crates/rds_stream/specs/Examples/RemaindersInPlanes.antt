@@ -9,7 +9,8 @@ use Rattle.std.proofs.lemmas.Bool.{false≢true, le-leb, leb-true}
 use Rattle.std.proofs.lemmas.List.FromFn.{get_or-map-range_with_len}
 use Rattle.rds_code.specs.Remainder.{rem}
 use Rattle.rds_stream.specs.Recording.{window}
-use Rattle.rds_stream.specs.Planes.{Hold, IsWindowAt}
+use Rattle.rds_stream.specs.Planes.{Hold}
+use Rattle.rds_stream.specs.Inside.Lanes.{IsWindowAt}
 use Rattle.rds_stream.specs.Examples.ZeroGroup.{once}
 
 -- bit r of the remainder at place 25 + k is bit k of plane r
