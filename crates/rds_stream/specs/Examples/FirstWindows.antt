@@ -38,7 +38,7 @@ pub at_96 : off once 96 ≡ Some B
 unfolding rem window touched heard off
 at_96 = refl
 
--- place 96 has one
+-- so these places and the next do not all have none
 pub not_none_78_to_97 : NoneValid once 78 97 → ⊥
 not_none_78_to_97 none = true≢false (ap is_some (sym at_96 ∙ none 96 (omega arith) (omega arith)))
 
