@@ -194,7 +194,7 @@ if has perl awk; then
   }
   same 'blocks read where samples were dropped' 2 "$(read_in_gaps "$work/day.csv")"
   same 'none where they are marked' 0 "$(read_in_gaps "$work/gaps.csv")"
-  # shellcheck disable=SC2086
+  # shellcheck disable=SC2016
   fails 'no listing by a log of something else' 'gaps: "104 + 1" is not a start and a length' \
     eval 'gaps=$(examples/gaps.sh <<< "104 + 1") && "$program" list $gaps < examples/station.bin'
   same 'a log in any order' --gaps=5-6,104-115,120-130 "$(printf '120 10\n104 1\n\n110 5\n5 1\n105 7\n7 0\n' | examples/gaps.sh)"
