@@ -35,7 +35,7 @@ exec perl -e '
                   : (0x2540 + $at % 16, unpack "n2", substr $text, $at % 16 * 4, 4);
   }
   close $lines or die "make_day: $rds encode failed\n";
-  $SIG{PIPE} = "DEFAULT";
+  $SIG{PIPE} = $SIG{TERM};
   open my $sent, "<:raw", $ENV{SENT} or die "make_day: $ENV{SENT} cannot be read\n";
   my $bits = do { local $/; unpack "B*", <$sent> };
   close $sent;

@@ -22,7 +22,7 @@ exec perl -e '
   open my $lines, "|-", q("$RDS" encode > "$SENT") or die "measure_corrections: $rds does not run\n";
   printf $lines "%04X %04X %04X %04X\n", @$_ for @sent;
   close $lines or die "measure_corrections: $rds encode failed\n";
-  $SIG{PIPE} = "DEFAULT";
+  $SIG{PIPE} = $SIG{TERM};
   open my $in, "<:raw", $ENV{SENT} or die "measure_corrections: $ENV{SENT} cannot be read\n";
   my $clean = do { local $/; unpack "B*", <$in> };
   close $in;

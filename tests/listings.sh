@@ -65,7 +65,7 @@ diff "$here/listings.sums" sums | sed 's/^/FAILED: /'
 
 # each crew makes the text that one worker makes of one piece
 for input in clean damaged slips noise mixed station empty; do
-    "$rds" list --hex --pieces 1 --workers 1 <"$input" >wanted || exit 1
+    "$rds" list --hex --pieces 1 --workers 1 <"$input" >wanted || fail "list of $input by one worker"
     for crew in '1 2' '2 2' '5 3' '16 4' '97 16' '3 256'; do
         if "$rds" list --hex --pieces "${crew% *}" --workers "${crew#* }" <"$input" | cmp -s - wanted; then
             pass
