@@ -5,7 +5,8 @@
 # was dropped. Fails where a line is no such pair: `&&` then keeps rds from listing without the gaps. A system takes about
 # 131,000 characters in one word, some 6,000 gaps.
 # Needs awk.
-sort -n | awk '
+lines=$(sort -n) || exit 1
+printf '%s\n' "$lines" | awk '
   function close_gap() { if (end > begin) { text = text sep sprintf("%.0f-%.0f", begin, end); sep = "," } }
   !NF { next }
   NF != 2 || $1 !~ /^[0-9]+$/ || $2 !~ /^[0-9]+$/ {

@@ -194,6 +194,7 @@ if has perl awk; then
   }
   same 'blocks read where samples were dropped' 2 "$(read_in_gaps "$work/day.csv")"
   same 'none where they are marked' 0 "$(read_in_gaps "$work/gaps.csv")"
+  same 'the status where no log can be read' 1 "$(examples/gaps.sh < examples 2>/dev/null; echo $?)"
   # shellcheck disable=SC2016
   fails 'no listing by a log of something else' 'gaps: "104 + 1" is not a start and a length' \
     eval 'gaps=$(examples/gaps.sh <<< "104 + 1") && "$program" list $gaps < examples/station.bin'
