@@ -24,13 +24,13 @@ const CHUNK: usize = 65_536;
 /// whatever order their threads ended. The premise is that reader and writer tell their bytes, as those over memory do.
 /// The listing and the report are defined over whole locks, with no word of pieces or workers.
 ///
-/// Refusals come in this order: those of the settings (`BurstRange`, `ReachRange`, `LossRange`, `CrewRange`, and
-/// `BadCutting` for no piece), before anything is read, those of the reader (`Read`, `TooManyTurns`), those of the job and
-/// the bytes (`HexText`, `TooLong`, `BitsPastBytes`, `BadCutting`, or `GroupText`), `NoWorker`, where more than one worker
-/// is asked for and the system started no thread for one, and those of the writer (`Write`). `OutOfMemory` may come wherever
-/// memory is taken. The rows of a list are made by as many threads as well, and without one that is not started. The text is
-/// complete before its first byte is written, and no thread outlives the call. Reader and writer have counted fewer than 2^63
-/// failures before.
+/// Refusals come in this order: those of the settings (`BurstRange`, `ReachRange`, `LossRange` or by the share
+/// `ShareRange`, `CrewRange`, and `BadCutting` for no piece), before anything is read, those of the reader (`Read`,
+/// `TooManyTurns`), those of the job and the bytes (`HexText`, `TooLong`, `BitsPastBytes`, `BadGaps`, `BadCutting`, or
+/// `GroupText`), `NoWorker`, where more than one worker is asked for and the system refused to start a thread, and those of
+/// the writer (`Write`). `OutOfMemory` may come wherever memory is taken. The rows of a list are made by as many threads as
+/// well, and without one that is not started. The text is complete before its first byte is written, and no thread outlives
+/// the call. Reader and writer have counted fewer than 2^63 failures before.
 pub fn transcribe<R: Threads + Wait + Sync, S: Source, K: Sink>(
     rt: &R,
     alloc: Global,
@@ -45,11 +45,12 @@ pub fn transcribe<R: Threads + Wait + Sync, S: Source, K: Sink>(
     ensures end { OnOk result (IsAtEnd (S.remaining reader.new)) }
     ensures ok { OnOk result (IfSome (S.remaining reader.old) (λ held. Writes (K.contents writer.old) (K.contents writer.new) (outcome job.now held))) }
 
-    // A refusal for the devices' sake comes exactly where one failed, one for a thread's only where there may be some, and
-    // another is that of the job.
+    // A refusal for the devices' sake comes exactly where one failed, one for the reads' only after as many bytes at least, one
+    // for a thread's only where there may be some, and another is that of the job.
     ensures read { IsErrOf result ToolError.Read ↔ (S.failed reader.old < S.failed reader.new) }
     ensures write { IsErrOf result ToolError.Write ↔ (K.failed writer.old < K.failed writer.new) }
-    ensures turns { IsErrOf result ToolError.TooManyTurns → IfSome (S.remaining reader.old) (λ held. 16777216 ≤ length held) }
+    ensures turns { IsErrOf result ToolError.TooManyTurns → (more : List ℕ)
+        × Consumes (S.remaining reader.old) (S.remaining reader.new) more × (16777216 ≤ length more) }
     ensures no_worker { IsErrOf result ToolError.NoWorker → AsksForThreads job.now }
     ensures refused { IfErr result (λ error. IsOutside error ⊎ IfSome (S.remaining reader.old) (λ held. outcome job.now held ≡ Err error)) }
 
@@ -80,7 +81,8 @@ pub fn transcribe_gated<R: Threads + Wait + Sync, S: Source, K: Sink, G: Gate + 
     ensures ok { OnOk result (IfSome (S.remaining reader.old) (λ held. Writes (K.contents writer.old) (K.contents writer.new) (outcome job.now held))) }
     ensures read { IsErrOf result ToolError.Read ↔ (S.failed reader.old < S.failed reader.new) }
     ensures write { IsErrOf result ToolError.Write ↔ (K.failed writer.old < K.failed writer.new) }
-    ensures turns { IsErrOf result ToolError.TooManyTurns → IfSome (S.remaining reader.old) (λ held. 16777216 ≤ length held) }
+    ensures turns { IsErrOf result ToolError.TooManyTurns → (more : List ℕ)
+        × Consumes (S.remaining reader.old) (S.remaining reader.new) more × (16777216 ≤ length more) }
     ensures no_worker { IsErrOf result ToolError.NoWorker → AsksForThreads job.now }
     ensures refused { IfErr result (λ error. IsOutside error ⊎ IfSome (S.remaining reader.old) (λ held. outcome job.now held ≡ Err error)) }
     ensures settings { IfErr (task_of job.now) (λ error. (result ≡ Err error) × (reader.new ≡ reader.old)) }
@@ -100,7 +102,8 @@ fn read_all<S: Source>(alloc: Global, reader: &mut S) -> Result<Vec<u8>, ToolErr
     ensures end { OnOk result (IsAtEnd (S.remaining reader.new)) }
     ensures read { IsErrOf result ToolError.Read ↔ (S.failed reader.old < S.failed reader.new) }
     ensures kinds { IfErr result (λ error. (error ≡ ToolError.OutOfMemory) ⊎ ((error ≡ ToolError.Read) ⊎ (error ≡ ToolError.TooManyTurns))) }
-    ensures turns { IsErrOf result ToolError.TooManyTurns → IfSome (S.remaining reader.old) (λ held. 16777216 ≤ length held) }
+    ensures turns { IsErrOf result ToolError.TooManyTurns → (more : List ℕ)
+        × Consumes (S.remaining reader.old) (S.remaining reader.new) more × (16777216 ≤ length more) }
 {
     let mut bytes = Vec::new(alloc);
     let mut buf = zeros(alloc, CHUNK)?;
