@@ -144,8 +144,9 @@ pub fn gated_listing<R: Threads + Wait + Sync, G: Gate + Sync>(
     }
 }
 
-/// With a gate too: the reader is at its end after success; a failed call of either device is what is answered; 13 comes of
-/// a long input alone, 14 where threads are asked for, and any other refusal where the job and the bytes call for it.
+/// With a gate too: the reader is at its end after success; a failed call of either device is what is answered; 13 comes
+/// where as many bytes were read alone, 14 where threads are asked for, and any other refusal where the job and the bytes
+/// call for it.
 pub fn gated_causes<R: Threads + Wait + Sync, S: Source, K: Sink, G: Gate + Sync>(
     rt: &R,
     alloc: Global,
