@@ -1,7 +1,5 @@
 -- What jobs make of the bits of bytes.
-use Rattle.std.proofs.Common.{◌≡◌, ℕ, ◌*◌, ◌^◌, ◌≤◌, List, [], Bool, true, false, Option, None, Some, Result, Ok, Err, cond, length, length-append, sym, ap, arith}
-use Rattle.std.specs.Io.KnownBytes.{Consumes}
-use Rattle.std.specs.Prelude.{IfSome}
+use Rattle.std.proofs.Common.{◌≡◌, ℕ, ◌*◌, ◌^◌, ◌≤◌, List, [], Bool, true, false, None, Some, Result, Ok, Err, cond, length, sym, ap, arith}
 use Rattle.std.proofs.lemmas.Bool.Decides.{nat_tests}
 use Rattle.rds_stream.specs.Recording.{Signal, bits_of, length_of}
 use Rattle.rds_sync.specs.Rules.{RuleNumbers}
@@ -19,12 +17,6 @@ use Rattle.rds_tool.specs.declared.job.Job.TheVariants as job
 use Rattle.rds_tool.specs.declared.job.Settings.{Settings}
 use Rattle.rds_tool.specs.declared.task.Task.TheVariants as task
 use Rattle.rds_uses.specs.Jobs.{all_bits, plain, IsListBy, IsTotalsBy}
-
--- no more is read than there is
-pub read_within : (a b : Option (List ℕ)) (xs : List ℕ) (n : ℕ) → Consumes a b xs → n ≤ length xs → IfSome a (λ held. n ≤ length held)
-read_within None b xs n p h = tt
-read_within (Some a) None xs n p h = absurd p
-read_within (Some a) (Some b) xs n p h = omega (arith, simp length-append at (ap length p))
 
 pub all_bits-few : (bytes : List ℕ) → 8 * length bytes ≤ 2 ^ 36 → recording_of plain bytes ≡ Ok (all_bits bytes)
 all_bits-few bytes few = grind (arith, nat_tests)

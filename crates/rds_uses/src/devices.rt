@@ -64,9 +64,7 @@ pub fn counts_failed_write<K: Sink>(writer: &mut K, bytes: &[u8]) -> bool
 {
     let before = writer.failures();
     match writer.write(bytes) {
-        Ok(count) => {
-            writer.failures() == before + u64::from(count == 0 && !bytes.is_empty())
-        }
+        Ok(count) => { writer.failures() == before + u64::from(count == 0 && !bytes.is_empty()) }
         Err(Failed) => writer.failures() == before + 1,
     }
 }

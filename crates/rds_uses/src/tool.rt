@@ -145,8 +145,8 @@ pub fn gated_listing<R: Threads + Wait + Sync, G: Gate + Sync>(
 }
 
 /// With a gate too: the reader is at its end after success; a failed call of either device is what is answered; 13 comes
-/// where as many bytes were read alone, 14 where threads are asked for, and any other refusal where the job and the bytes
-/// call for it.
+/// only where 16,777,216 bytes or more were read, 14 only where threads are asked for, and any other refusal where the job
+/// and the bytes call for it.
 pub fn gated_causes<R: Threads + Wait + Sync, S: Source, K: Sink, G: Gate + Sync>(
     rt: &R,
     alloc: Global,
