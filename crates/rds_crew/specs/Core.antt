@@ -1,6 +1,6 @@
 -- The dealer's core: a machine of two counts and three events, which knows of no seats and no threads. This project's
 -- rule.
-use Rattle.std.specs.Prelude.{◌≡◌, ℕ, ◌+◌, List, [], ◌∷◌, Option, Some, None, cond, ltb}
+use Rattle.std.specs.Prelude.{◌≡◌, ℕ, ◌+◌, List, [], ◌∷◌, Option, Some, None, if◌then◌else◌, nat_lt}
 use Rattle.rds_crew.specs.declared.deal.Event.{Event}
 use Rattle.rds_crew.specs.declared.deal.Event.TheVariants.{Draw, Finish, Progress}
 
@@ -17,7 +17,7 @@ start = counts 0 0
 
 -- a ticket below the number of pieces is the number of a piece, and any other tells that none is left
 abbrev pub number_of_ticket : ℕ → ℕ → Option ℕ
-number_of_ticket pieces t = cond (ltb t pieces) (Some t) None
+number_of_ticket pieces t = if nat_lt t pieces then Some t else None
 
 -- what the core replies to each event, and its counts after it
 abbrev pub draw : ℕ → Counts → Option ℕ × Counts

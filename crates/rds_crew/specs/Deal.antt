@@ -1,6 +1,6 @@
 -- What a seat of a dealer knows, and the rule over the dealer's two words and what all of its seats know. This
 -- project's rule.
-use Rattle.std.specs.Prelude.{◌≡◌, ℕ, ◌+◌, ◌^◌, ◌<◌, ◌≤◌, min, cond, eqb, ltb, List, [], ◌∷◌, ◌++◌, length, slice_index, count_by, sum_by, Option, Some, None, IfSome}
+use Rattle.std.specs.Prelude.{◌≡◌, ℕ, ◌+◌, ◌^◌, ◌<◌, ◌≤◌, min, ◌==◌, if◌then◌else◌, nat_lt, List, [], ◌∷◌, ◌++◌, length, slice_index, count_by, sum_by, Option, Some, None, IfSome}
 use mathlib.Core.Option.{some}
 use lib.ListN.{get_elem?}
 use Rattle.atomic_table.specs.Table.{State}
@@ -11,11 +11,11 @@ use Rattle.rds_crew.specs.Core.{counts, Runs}
 
 -- how often x stands in the list
 abbrev pub times : ℕ → List ℕ → ℕ
-times x xs = count_by (eqb x) xs
+times x xs = count_by (λ y. x == y) xs
 
 -- 1 for a number below n, and else 0
 abbrev pub once_below : ℕ → ℕ → ℕ
-once_below x n = cond (ltb x n) 1 0
+once_below x n = if nat_lt x n then 1 else 0
 
 abbrev pub held_count : Option ℕ → ℕ
 held_count None = 0

@@ -20,7 +20,7 @@ pub struct Seat {
 }
 
 impl Model for Seat {
-    ghost use Rattle.std.specs.Prelude.{◌≡◌, [], ◌≤◌, ◌<◌, ◌^◌, cond};
+    ghost use Rattle.std.specs.Prelude.{◌≡◌, [], ◌≤◌, ◌<◌, ◌^◌, if◌then◌else◌};
     ghost use Rattle.rds_crew.specs.Seats.{SeatValue};
 
     ghost Value = { SeatValue };
@@ -32,7 +32,7 @@ impl Model for Seat {
 
     ghost invariant = { λ s. (s.token.me.1 ≡ [])
         × (s.token.me.0.held ≡ s.holding)
-        × (s.token.me.0.ended ≡ cond s.ended 1 0)
+        × (s.token.me.0.ended ≡ (if s.ended then 1 else 0))
         × (s.token.me.0.finished ≡ s.finished)
         × (s.token.me.0.told ≡ s.told)
         × (s.token.me.0.share ≡ 1)

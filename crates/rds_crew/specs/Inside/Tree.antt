@@ -1,5 +1,5 @@
 -- The tree of joins: level by level, neighbours are joined until one run is left. This project's rule.
-use Rattle.std.specs.Prelude.{ℕ, List, [], ◌∷◌, get_or}
+use Rattle.std.specs.Prelude.{ℕ, List, [], ◌∷◌, slice_index_or}
 use Rattle.rds_stream.specs.Recording.{Signal}
 use Rattle.rds_sync.specs.Rules.{RuleNumbers}
 use Rattle.rds_pieces.specs.RunOf.{RunOf, run_over}
@@ -13,4 +13,4 @@ module _ (b : Signal) (rules : RuleNumbers) where
 
   -- run m of the level above
   abbrev pub run_above : List RunOf → ℕ → RunOf
-  run_above runs m = get_or (level_above runs) m (run_over b rules 0 0)
+  run_above runs m = slice_index_or (level_above runs) m (run_over b rules 0 0)
