@@ -21,3 +21,4 @@ pub mod EightZeroGroups
 pub mod GuessesThatDiffer
 pub mod Shares
 pub mod SoundRange
+pub mod SoundLengths

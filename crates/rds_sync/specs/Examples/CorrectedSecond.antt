@@ -13,8 +13,7 @@ use Rattle.rds_sync.specs.Examples.Words.{zero_group, rules_of, valid, corrected
 use Rattle.rds_sync.specs.Examples.ZeroGroup.{items_of_whole}
 
 -- a zero group, then one of version A with a bit of block 2 inverted, and block 3 by 0x0000038: C with that burst
--- fits, and C' with
--- 0x0000200
+-- fits, and C' with 0x0000200
 abbrev pub version_a : List ℕ
 version_a = zero_group ++ 0x00 ∷ 0x00 ∷ 0x3f ∷ 0x00 ∷ 0x00 ∷ 0x39 ∷ 0x80 ∷ 0x00 ∷ 0x05 ∷ 0x40 ∷ 0x00 ∷ 0x01 ∷ 0xb4
     ∷ []

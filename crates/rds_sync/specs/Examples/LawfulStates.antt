@@ -1,10 +1,12 @@
 -- Lawful states at the ends of what is lawful, and states just past them.
-use Rattle.std.specs.Prelude.{◌≡◌, ◌≤◌, ◌<◌, ◌⊎◌, ◌==◌, ℕ, refl}
+use Rattle.std.specs.Prelude.{◌==◌, refl}
+use Rattle.std.specs.Int.Count.{ones}
 use Rattle.std.proofs.Common.{ap, inl, inr}
 use Rattle.std.proofs.lemmas.Bool.{false≢true, le-leb, leb-true}
-use Rattle.rds_sync.specs.declared.state.State.TheVariants.{Searching}
-use Rattle.rds_sync.specs.Lawful.{IsBetweenGroups, IsLawful}
-use Rattle.rds_sync.specs.Examples.Words.{default_rules, locked, rules_of}
+use Rattle.rds_sync.specs.declared.state.State.TheVariants.{Searching, Locked}
+use Rattle.rds_sync.specs.declared.loss.Bad.TheVariants.{Mask}
+use Rattle.rds_sync.specs.Lawful.{AreInOrder, IsBetweenGroups, IsLawful}
+use Rattle.rds_sync.specs.Examples.Words.{default_rules, rules_of, rules_with_share, locked}
 
 pub search_at_0 : IsLawful default_rules 0 Searching
 search_at_0 = tt
@@ -47,6 +49,27 @@ all_but_one_of_64 = record {
 pub lost : IsLawful default_rules 129 (locked 129 1 10 1) → ⊥
 lost lawful = false≢true (le-leb 11 10 lawful.few_bad)
 
+-- by the share: of the last four blocks the oldest is bad
+pub oldest_bad : IsLawful (rules_with_share 2 4) 129 (Locked 129 1 (Mask 8) 1)
+unfolding ones
+oldest_bad = record {
+  soon = (leb-true 129 129 refl, leb-true 129 154 refl);
+  few_bad = (leb-true 9 16 refl, leb-true 2 2 refl);
+  enough_bits = leb-true 25 129 refl;
+  in_order = inl (refl, refl);
+}
+
+pub past_4_blocks : IsLawful (rules_with_share 2 4) 129 (Locked 129 1 (Mask 16) 1) → ⊥
+past_4_blocks lawful = false≢true (le-leb 17 16 lawful.few_bad.0)
+
+pub lost_by_share : IsLawful (rules_with_share 2 4) 129 (Locked 129 1 (Mask 3) 1) → ⊥
+unfolding ones
+lost_by_share lawful = false≢true (le-leb 3 2 lawful.few_bad.1)
+
+-- what is kept is of the rule's kind
+pub mask_by_run : IsLawful default_rules 129 (Locked 129 1 (Mask 0) 1) → ⊥
+mask_by_run lawful = lawful.few_bad
+
 -- ---- where its group may begin
 
 -- the first block of the group ends at place 25, the least
@@ -63,9 +86,6 @@ before_the_start lawful = false≢true (le-leb 51 50 lawful.enough_bits)
 
 -- ---- which numbers it may have
 
-abbrev pub AreInOrder : ℕ → ℕ → Type 0
-AreInOrder number first = ((number ≡ 1) × (first ≡ 1)) ⊎ ((1 ≤ first) × (first < number) × (number ≤ 4))
-
 pub last_of_a_group : IsLawful default_rules 129 (locked 129 4 0 3)
 last_of_a_group = record {
   soon = (leb-true 129 129 refl, leb-true 129 154 refl);
@@ -77,7 +97,7 @@ last_of_a_group = record {
 pub past_4 : IsLawful default_rules 129 (locked 129 5 0 1) → ⊥
 past_4 lawful = out_of_order lawful.in_order
   where
-    out_of_order : AreInOrder 5 1 → ⊥
+    out_of_order : AreInOrder 1 5 → ⊥
     out_of_order (inl (is_1, first)) = false≢true (ap (λ x. x == 1) is_1)
     out_of_order (inr (some, before, few)) = false≢true (le-leb 5 4 few)
 
@@ -92,7 +112,7 @@ first_is_due lawful = out_of_order lawful.in_order
 pub new_group_after_2 : IsLawful default_rules 129 (locked 129 1 0 2) → ⊥
 new_group_after_2 lawful = out_of_order lawful.in_order
   where
-    out_of_order : AreInOrder 1 2 → ⊥
+    out_of_order : AreInOrder 2 1 → ⊥
     out_of_order (inl (is_1, first)) = false≢true (ap (λ x. x == 1) first)
     out_of_order (inr (some, before, few)) = false≢true (le-leb 3 1 before)
 

@@ -16,7 +16,6 @@ use Rattle.rds_sync.specs.Report.{report_items}
 use Rattle.rds_sync.specs.Totals.{totals_of}
 use Rattle.rds_sync.specs.declared.state.State.{State}
 use Rattle.rds_sync.specs.declared.state.State.TheVariants.{Locked}
-use Rattle.rds_sync.specs.declared.loss.Bad.TheVariants.{Run as InARow}
 
 -- four information words 0 in a group of version A, with their checkwords
 abbrev pub zero_group : List ℕ
