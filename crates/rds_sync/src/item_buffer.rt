@@ -122,6 +122,7 @@ fn keep(others: &mut Vec<Item>, item: Item) -> Result<usize, AllocError>
     ensures refused { OnErr result (others.new.items ≡ others.old.items) }
 {
     let number = others.len();
+    // Each kind by itself: Rattle has no proof of a push of an item as a whole.
     match item {
         Item::Acquired { place, number } => others.push(Item::Acquired { place, number })?,
         Item::Group(group) => others.push(Item::Group(group))?,
@@ -157,6 +158,7 @@ fn push_read(
 fn group_of(place: u64, blocks: &[Block; 4]) -> Group
     ensures { result ≡ group_of place blocks.now }
 {
+    // Block by block: Rattle has no proof of a copy of an array of blocks as a whole.
     let [one, two, three, four] = *blocks;
     Group::of_blocks(place, [one, two, three, four])
 }

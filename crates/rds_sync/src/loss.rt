@@ -6,12 +6,15 @@ ghost use Rattle.rds_sync.specs.Ranges.{IsLossInRange, IsRunOutside, IsShareOuts
 
 use crate::error::SyncError;
 
+/// The most blocks that a rule of loss looks at: a mask has a bit for each.
+const MOST_BLOCKS: u32 = 64;
+
 /// When a lock is lost. This project's rules: the standard leaves them to the receiver.
 #[derive(Clone, Copy, Debug, PartialEq, Eq)]
 pub enum Loss {
     /// After so many bad blocks in a row: 1 to 64.
     Run(u32),
-    /// Where `bad` of the last `of` blocks are bad: at least 1 of at most 64.
+    /// Where `bad` of the last `of` blocks are bad: 1 ≤ bad ≤ of ≤ 64.
     Share { bad: u32, of: u32 },
 }
 
@@ -33,8 +36,10 @@ impl Loss {
         ensures share { IsErrOf result SyncError.ShareRange ↔ IsShareOutside self }
     {
         match self {
-            Loss::Run(loss) if loss < 1 || loss > 64 => Err(SyncError::LossRange),
-            Loss::Share { bad, of } if bad < 1 || of < bad || of > 64 => Err(SyncError::ShareRange),
+            Loss::Run(loss) if loss < 1 || loss > MOST_BLOCKS => Err(SyncError::LossRange),
+            Loss::Share { bad, of } if bad < 1 || of < bad || of > MOST_BLOCKS => Err(
+                SyncError::ShareRange,
+            ),
             _ => Ok(()),
         }
     }

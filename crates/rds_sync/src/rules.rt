@@ -12,6 +12,10 @@ use rds_stream::read_heard;
 use std::alloc::Global;
 use std::marker::Model;
 
+const LONGEST_BURST: u32 = 5;
+
+const FARTHEST_REACH: u32 = 8;
+
 /// The numbers of a synchroniser's rules.
 #[derive(Clone, Copy, Debug, PartialEq, Eq)]
 pub struct RuleNumbers {
@@ -50,18 +54,18 @@ impl Rules {
     pub fn of(alloc: Global, numbers: RuleNumbers) -> Result<Rules, SyncError>
         ensures numbers { IfOk result (λ rules. rules ≡ numbers) }
 
-        ensures burst_range { IsErrOf result SyncError.BurstRange ↔ (5 < numbers.burst) }
+        ensures burst_range { IsErrOf result SyncError.BurstRange ↔ (longest_burst < numbers.burst) }
         ensures reach_range { IsErrOf result SyncError.ReachRange
-            ↔ ((numbers.burst ≤ 5) × ((numbers.reach < 1) ⊎ (8 < numbers.reach))) }
+            ↔ ((numbers.burst ≤ longest_burst) × ((numbers.reach < 1) ⊎ (farthest_reach < numbers.reach))) }
         ensures loss_range { IsErrOf result SyncError.LossRange
-            ↔ ((numbers.burst ≤ 5) × (1 ≤ numbers.reach) × (numbers.reach ≤ 8) × IsRunOutside numbers.loss) }
+            ↔ ((numbers.burst ≤ longest_burst) × (1 ≤ numbers.reach) × (numbers.reach ≤ farthest_reach) × IsRunOutside numbers.loss) }
         ensures share_range { IsErrOf result SyncError.ShareRange
-            ↔ ((numbers.burst ≤ 5) × (1 ≤ numbers.reach) × (numbers.reach ≤ 8) × IsShareOutside numbers.loss) }
+            ↔ ((numbers.burst ≤ longest_burst) × (1 ≤ numbers.reach) × (numbers.reach ≤ farthest_reach) × IsShareOutside numbers.loss) }
     {
-        if numbers.burst > 5 {
+        if numbers.burst > LONGEST_BURST {
             return Err(SyncError::BurstRange);
         }
-        if numbers.reach < 1 || numbers.reach > 8 {
+        if numbers.reach < 1 || numbers.reach > FARTHEST_REACH {
             return Err(SyncError::ReachRange);
         }
         numbers.loss.check()?;
@@ -98,7 +102,7 @@ impl Rules {
     }
 
     /// Rules that correct and acquire as those of [`new`](Rules::new), and lose a lock where `bad`
-    /// of the last `of` blocks read in it are bad (at least 1 of at most 64).
+    /// of the last `of` blocks read in it are bad (1 ≤ bad ≤ of ≤ 64).
     ///
     /// Refuses a burst, then a reach, then a share out of its range, and otherwise only want of
     /// memory.
