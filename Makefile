@@ -2,6 +2,8 @@
 # crate before it builds it.
 RT     ?= rt
 PREFIX ?= /usr/local
+# tests/*.py ask for it by this name
+export RT
 
 SOURCES := crates.txt $(shell find crates -name out -prune -o \( -name '*.rt' -o -name '*.antt' \) -print)
 
@@ -12,8 +14,10 @@ toolchain:
 	@command -v $(RT) >/dev/null || { \
 	  echo "rds: the Rattle toolchain is missing: there is no '$(RT)' on the PATH (README.md, 'What you need')" >&2; exit 1; }
 
-# `rt run` proves and builds what is missing, keeps the program, and runs it: here for its help alone.
-build/rds: $(SOURCES) | toolchain
+# `rt run` proves and builds what is missing, keeps the program, and runs it: here for its help alone. The toolchain is asked
+# for only where there is something to build, so that a program that stands can be installed without it.
+build/rds: $(SOURCES)
+	@$(MAKE) --no-print-directory toolchain
 	cd crates/rds && $(RT) run -- --help >/dev/null
 	@mkdir -p build
 	cp crates/rds/out/rds $@
@@ -40,13 +44,21 @@ wrong-bodies-of-code:
 wrong-bodies:
 	tests/wrong_bodies.py rds_stream rds_sync rds_pieces rds_crew rds_tool
 
+# A script that hangs is ended, and named: all of them take a few minutes together. `timeout` puts it out of the terminal's
+# reach, so an interrupt is handed on.
+define within_limit
+@echo $(1)
+@trap 'kill $$!' INT TERM; timeout 1200 $(1) & wait $$! || { status=$$?; \
+  [ $$status != 124 ] || echo "$(firstword $(1)): ended, since it ran for more than 1200 seconds" >&2; exit $$status; }
+endef
+
 program:
-	tests/program.sh crates/rds/out/rds
-	tests/listings.sh crates/rds/out/rds
-	tests/differential.sh crates/rds/out/rds crates/rds_plain/out/rds_plain
-	tests/refusals.sh crates/rds/out/rds crates/rds_parts/out/rds_parts
-	tests/work.sh crates/rds/out/rds
-	tests/recipes.sh crates/rds/out/rds
+	$(call within_limit,tests/program.sh crates/rds/out/rds)
+	$(call within_limit,tests/listings.sh crates/rds/out/rds)
+	$(call within_limit,tests/differential.sh crates/rds/out/rds crates/rds_plain/out/rds_plain)
+	$(call within_limit,tests/refusals.sh crates/rds/out/rds crates/rds_parts/out/rds_parts)
+	$(call within_limit,tests/work.sh crates/rds/out/rds)
+	$(call within_limit,tests/recipes.sh crates/rds/out/rds)
 
 # The program, its manual page, and the scripts of the recipes.
 install: build/rds
@@ -57,5 +69,5 @@ install: build/rds
 	install -m 644 examples/README.md examples/station.bin $(DESTDIR)$(PREFIX)/share/rds/examples
 
 clean:
-	rm -rf build
+	rm -rf build tests/__pycache__
 	find crates -name out -prune -exec rm -rf {} +

@@ -20,8 +20,10 @@ awk -F, -v bits="$1" -v seconds="${2:-60}" '
       else valid[at]++
     }
   }
+  $1 == "total" && $2 == "losses" { whole = 1 }
   END {
     if (interval < 26) exit 2
+    if (!whole) { print "block_errors: the listing does not end in its totals: it is cut off, or rds was refused" > "/dev/stderr"; exit 1 }
     print "begin_s,end_s,sent,valid,corrected,lost,missing,bad_percent"
     for (at = 0; at * interval < bits; at++) {
       begin = at * interval

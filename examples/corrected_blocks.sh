@@ -23,4 +23,6 @@ awk -F, '
       split($i, part, /[:~]/)
       print $2 "," $3 "," $4 "," i - 4 "," part[1] "," part[2] "," part[3] "," span(part[3])
     }
-  }'
+  }
+  $1 == "total" && $2 == "losses" { whole = 1 }
+  END { if (!whole) { print "corrected_blocks: the listing does not end in its totals: it is cut off, or rds was refused" > "/dev/stderr"; exit 1 } }'

@@ -1,10 +1,12 @@
 #!/bin/sh
 # A log of dropped samples as the option --gaps, from lines `start length` on standard input, in bits from 0:
-#   rds list $(examples/gaps.sh < dropped.log) < recording.bin
+#   gaps=$(examples/gaps.sh < dropped.log) && rds list $gaps < recording.bin > listing.csv
 # Lines may stand in any order, and those that overlap or follow one another are one gap. Nothing is written where nothing
-# was dropped. Fails where a line is no such pair. A system takes about 131,000 characters in one word, some 6,000 gaps.
+# was dropped. Fails where a line is no such pair: `&&` then keeps rds from listing without the gaps. A system takes about
+# 131,000 characters in one word, some 6,000 gaps.
 # Needs awk.
-sort -n | awk '
+lines=$(sort -n) || exit 1
+printf '%s\n' "$lines" | awk '
   function close_gap() { if (end > begin) { text = text sep sprintf("%.0f-%.0f", begin, end); sep = "," } }
   !NF { next }
   NF != 2 || $1 !~ /^[0-9]+$/ || $2 !~ /^[0-9]+$/ {

@@ -5,7 +5,7 @@
 # With --whole, groups that lack a block are left out, so that the lines can go back into `rds encode`.
 # Needs awk.
 case ${1:-} in ''|--whole) ;; *) echo 'usage: hex_groups.sh [--whole] < LISTING' >&2; exit 2;; esac
-awk -F, -v whole="${1:-}" '
+awk -F, -v only_whole="${1:-}" '
   $1 == "group" {
     line = ""
     lacks = 0
@@ -14,5 +14,7 @@ awk -F, -v whole="${1:-}" '
       if (!colon) lacks = 1
       line = line (i > 5 ? " " : "") (colon ? substr($i, colon + 1, 4) : "----")
     }
-    if (!(lacks && whole != "")) print line
-  }'
+    if (!(lacks && only_whole != "")) print line
+  }
+  $1 == "total" && $2 == "losses" { whole = 1 }
+  END { if (!whole) { print "hex_groups: the listing does not end in its totals: it is cut off, or rds was refused" > "/dev/stderr"; exit 1 } }'

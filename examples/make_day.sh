@@ -11,7 +11,13 @@
 exec perl -e '
   use strict;
   my ($file, $hours, $seed) = @ARGV;
-  my $rds = $ENV{RDS} // "rds";
+  # The shell line below names both by the environment, since any byte may stand in their names.
+  my $rds = $ENV{RDS} //= "rds";
+  $ENV{SENT} = "$file.sent";
+  END { unlink $ENV{SENT} if $ENV{SENT} }
+  $SIG{$_} = sub { exit 1 } for qw(HUP INT TERM);
+  # An encoder that ends early is seen when its pipe is closed.
+  $SIG{PIPE} = "IGNORE";
   my $groups = int($hours * 3600 * 1187.5 / 104);
 
   # A generator of our own, so that every perl makes the same numbers: 31 bits at a time.
@@ -20,7 +26,7 @@ exec perl -e '
 
   # The groups: 0A with the letters of the name, two at a time, and 2A with those of a text, four at a time.
   my ($name, $text) = ("PAXOLIDU", "A recording to try the tools on: three hours, an outage, a slip" . " ");
-  open my $lines, "|-", "$rds encode > $file.sent" or die "make_day: $rds does not run\n";
+  open my $lines, "|-", q("$RDS" encode > "$SENT") or die "make_day: $rds does not run\n";
   for my $n (0 .. $groups - 1) {
     my $programme = $n < $groups * 2 / 3 ? 0xD393 : 0xD312;
     my $at = int($n / 2);
@@ -29,10 +35,10 @@ exec perl -e '
                   : (0x2540 + $at % 16, unpack "n2", substr $text, $at % 16 * 4, 4);
   }
   close $lines or die "make_day: $rds encode failed\n";
-  open my $sent, "<:raw", "$file.sent" or die;
+  $SIG{PIPE} = $SIG{TERM};
+  open my $sent, "<:raw", $ENV{SENT} or die "make_day: $ENV{SENT} cannot be read\n";
   my $bits = do { local $/; unpack "B*", <$sent> };
   close $sent;
-  unlink "$file.sent";
 
   # One bit in a thousand: the distance to the next is drawn, and not each bit.
   my $turned = 0;
@@ -62,4 +68,4 @@ exec perl -e '
   close $out or die "make_day: $file cannot be written\n";
   printf "bits %d\nturned %d\noff_air_s %.0f %.0f\nslip_s %.0f\nprogramme_s %.0f\ndropped %d\n", length $bits, $turned,
     $off / 1187.5, $on / 1187.5, $slip / 1187.5, int($groups * 2 / 3) * 104 / 1187.5, $dropped;
-' "$1" "${2:-3}" "${3:-1}"
+' -- "$1" "${2:-3}" "${3:-1}"

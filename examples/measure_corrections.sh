@@ -6,17 +6,24 @@
 # RDS names the program (rds). Needs perl.
 exec perl -e '
   use strict;
+  use File::Temp;
   my ($groups, $seed) = @ARGV;
-  my $rds = $ENV{RDS} // "rds";
+  my $rds = $ENV{RDS} //= "rds";
+  # The shell lines below name both by the environment, since any byte may stand in their names. The file goes with $file.
+  my $file = File::Temp->new;
+  $ENV{SENT} = "$file";
+  $SIG{$_} = sub { exit 1 } for qw(HUP INT TERM);
+  # An encoder that ends early is seen when its pipe is closed.
+  $SIG{PIPE} = "IGNORE";
   my $state = $seed % 2147483648;
   sub random { $state = ($state * 1103515245 + 12345) % 2147483648; return $state / 2147483648 }
-  my $file = "/tmp/measure_corrections.$$";
 
   my @sent = map { my @words = map { int(random() * 65536) } 1 .. 4; \@words } 1 .. $groups;
-  open my $lines, "|-", "$rds encode > $file" or die;
+  open my $lines, "|-", q("$RDS" encode > "$SENT") or die "measure_corrections: $rds does not run\n";
   printf $lines "%04X %04X %04X %04X\n", @$_ for @sent;
   close $lines or die "measure_corrections: $rds encode failed\n";
-  open my $in, "<:raw", $file or die;
+  $SIG{PIPE} = $SIG{TERM};
+  open my $in, "<:raw", $ENV{SENT} or die "measure_corrections: $ENV{SENT} cannot be read\n";
   my $clean = do { local $/; unpack "B*", <$in> };
   close $in;
 
@@ -28,12 +35,12 @@ exec perl -e '
       last if $i >= length $bits;
       substr($bits, $i, 1) =~ tr/01/10/;
     }
-    open my $out, ">:raw", $file or die;
+    open my $out, ">:raw", $ENV{SENT} or die "measure_corrections: $ENV{SENT} cannot be written\n";
     print $out pack "B*", $bits;
-    close $out;
+    close $out or die "measure_corrections: $ENV{SENT} cannot be written\n";
     for my $burst (1, 2, 3, 4, 5) {
       my ($valid, $corrected, $lost, $wrong) = (0, 0, 0, 0);
-      open my $listing, "-|", "$rds list --loss 64 --burst $burst < $file" or die;
+      open my $listing, "-|", qq("\$RDS" list --loss 64 --burst $burst < "\$SENT") or die "measure_corrections: $rds does not run\n";
       while (<$listing>) {
         chomp;
         my ($kind, $place, undef, undef, @blocks) = split /,/;
@@ -50,10 +57,9 @@ exec perl -e '
           elsif ($blocks[$i] ne "none") { $valid++ }
         }
       }
-      close $listing;
+      close $listing or die "measure_corrections: $rds list failed\n";
       printf "%s,%d,%d,%d,%d,%d,%.2f\n", $rate, $burst, $valid, $corrected, $lost, $wrong,
         $corrected ? 100 * $wrong / $corrected : 0;
     }
   }
-  unlink $file;
-' "${1:-100000}" "${2:-1}"
+' -- "${1:-100000}" "${2:-1}"

@@ -9,4 +9,7 @@ awk -F, '
   NR == 1 { print "begin_s,end_s,length_s"; next }
   $4 * 10 < $3 { if (!open) begin = $1; open = 1; end = $2; next }
   { close_row() }
-  END { close_row() }'
+  END {
+    if (!NR) { print "off_air: there is nothing in the input" > "/dev/stderr"; exit 1 }
+    close_row()
+  }'

@@ -19,4 +19,5 @@ exec perl -e '
   }
   $bits or die "pack_bits: there is no 0 and no 1 in the input\n";
   print pack "B*", $rest;
+  close STDOUT or die "pack_bits: writing failed: $!\n";
 '

@@ -19,4 +19,5 @@ exec perl -e '
   }
   $read or die "pack_bytes: there is no byte in the input\n";
   print pack "B*", $rest;
+  close STDOUT or die "pack_bytes: writing failed: $!\n";
 '

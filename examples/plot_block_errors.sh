@@ -11,7 +11,8 @@ case ${1:-} in
 esac
 table=$(mktemp) || exit 1
 trap 'rm -f "$table"' EXIT
-cat > "$table"
+trap 'exit 1' HUP INT TERM
+cat > "$table" || exit 1
 [ "$(wc -l < "$table")" -gt 1 ] || { echo 'plot_block_errors: there is no interval in the input' >&2; exit 1; }
 gnuplot <<END
 set terminal $terminal

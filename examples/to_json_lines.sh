@@ -17,4 +17,6 @@ awk -F, '
     printf "{\"kind\":\"group\",\"place\":%s,\"type\":%s,\"version\":%s,\"conflict\":%s,\"blocks\":[%s,%s,%s,%s]}\n",
       $2, $3 == "-" ? "null" : $3, substr($4, 1, 1) == "?" ? "null" : "\"" substr($4, 1, 1) "\"",
       index($4, "!") ? "true" : "false", block($5), block($6), block($7), block($8)
-  }'
+  }
+  $1 == "total" && $2 == "losses" { whole = 1 }
+  END { if (!whole) { print "to_json_lines: the listing does not end in its totals: it is cut off, or rds was refused" > "/dev/stderr"; exit 1 } }'

@@ -3,13 +3,20 @@
 # first 250,000 bytes of FILE, and prints for each how many groups are complete, with the command that turns the whole
 # file into what rds reads. A station gives eleven complete groups a second in the right form, and hardly any in another.
 #   examples/which_form.sh FILE
-# RDS names the program (rds). Needs perl.
-[ $# = 1 ] && [ -r "$1" ] || { echo 'usage: which_form.sh FILE' >&2; exit 2; }
+# RDS names the program (rds). Needs perl, xxd, awk.
+[ $# = 1 ] || { echo 'usage: which_form.sh FILE' >&2; exit 2; }
+[ -r "$1" ] || { echo "which_form: $1 cannot be read" >&2; exit 1; }
 rds=${RDS:-rds}
-here=$(dirname "$0")
+# A command that is missing would look like a form without groups.
+for tool in "$rds" perl xxd awk; do
+  command -v "$tool" >/dev/null || { echo "which_form: there is no $tool here" >&2; exit 1; }
+done
+# The folder of this script in quotes, since it stands in commands.
+here=\'$(dirname "$0" | sed "s/'/'\\\\''/g")\'
 work=$(mktemp -d) || exit 1
 trap 'rm -rf "$work"' EXIT
-head -c 250000 "$1" > "$work/start"
+trap 'exit 1' HUP INT TERM
+head -c 250000 < "$1" > "$work/start" || exit 1
 
 highest='cat'
 lowest="perl -0777 -pe '\$_ = pack q(B*), unpack q(b*), \$_'"

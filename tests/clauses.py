@@ -16,7 +16,7 @@ import subprocess
 import sys
 from dataclasses import dataclass, field
 
-from holes import LIBRARIES, TOP, copied, functions_of, words
+from holes import LIBRARIES, TOP, copied, functions_of, read, words, write
 
 # A caller of more functions than these is asked only of clauses that no other caller needs.
 FEW = 8
@@ -34,26 +34,32 @@ class Clause:
 
 
 def copies(folder):
-    """Makes the copy, and another that stays as it is; gives the libraries' functions."""
+    """Makes the copy, and another that stays as it is; gives the libraries' functions.
+
+    The other has its name only once both are whole, so that a copying that was broken off is done again.
+    """
     if not os.path.isdir(f"{folder}/as_was"):
         copied(folder, [*LIBRARIES, "rds_uses"])
+        begun = f"{folder}/as_was_begun"
+        shutil.rmtree(begun, ignore_errors=True)
         for crate in [*LIBRARIES, "rds_uses"]:
-            shutil.copytree(f"{TOP}/crates/{crate}", f"{folder}/as_was/{crate}", ignore=shutil.ignore_patterns("out"))
+            shutil.copytree(f"{TOP}/crates/{crate}", f"{begun}/{crate}", ignore=shutil.ignore_patterns("out"))
+        os.rename(begun, f"{folder}/as_was")
     return [f for it in LIBRARIES for f in functions_of(f"{folder}/as_was/{it}")]
 
 
 def check_without(folder, clauses, callers):
     """What a check says of each of these callers, once these clauses are gone."""
     for file in (f"{it}/src/{entry}" for it in LIBRARIES for entry in os.listdir(f"{folder}/as_was/{it}/src")):
-        text = open(f"{folder}/as_was/{file}").read()
+        text = read(f"{folder}/as_was/{file}")
         for start, end in (it.place for it in clauses if it.file == file):
             text = text[:start] + re.sub(r"[^\n]", " ", text[start:end]) + text[end:]
-        with open(f"{folder}/{file}", "w") as out:
-            out.write(text)
+        write(f"{folder}/{file}", text)
     check = [*words(folder, "rds_uses", callers, are_copied=True), "--jobs", "2"]
-    ran = subprocess.run(check, cwd=f"{folder}/rds_uses", stdout=subprocess.PIPE, stderr=subprocess.STDOUT, text=True)
-    with open(f"{folder}/last.txt", "w") as out:
-        out.write(ran.stdout)
+    ran = subprocess.run(
+        check, cwd=f"{folder}/rds_uses", stdout=subprocess.PIPE, stderr=subprocess.STDOUT, encoding="utf-8"
+    )
+    write(f"{folder}/last.txt", ran.stdout)
     said = dict(re.findall(r"^fn (?:rds_uses::)?(\S+): (.*)", ran.stdout, re.M))
     for it in said:
         while same := re.search(r" the same .* as `(?:rds_uses::)?(.*)`", said[it]):
@@ -79,7 +85,7 @@ def main(folder, words):
     said = check_without(folder, [], {it.partition("::")[0] for it in bodies})
     if open_ones := [it for it in bodies if not re.match(HELD, said[it])]:
         sys.exit(f"not proved to begin with: {', '.join(open_ones)}")
-    known = open(table).read() if os.path.isfile(table) else ""
+    known = read(table) if os.path.isfile(table) else ""
     for f in functions:
         hole, call = f"`Rattle.{f.crate}.proofs.{f.path}.Proof.", f".{f.path.rpartition('.')[2]}("
         callers = {it for it in bodies if hole in said[it] or not f.body and call in bodies[it]}
@@ -99,9 +105,14 @@ def main(folder, words):
 
 def note(table, clauses):
     """Adds what was found to the table."""
-    with open(table, "a") as out:
+    with open(table, "a", encoding="utf-8") as out:
         out.writelines(f"{it.title}: {', '.join(sorted(it.failed)) or 'nobody'}\n" for it in clauses)
 
 
 if __name__ == "__main__":
+    if "--help" in sys.argv:
+        print(__doc__)
+        sys.exit()
+    if len(sys.argv) < 2:
+        sys.exit(__doc__)
     main(os.path.abspath(sys.argv[1]), sys.argv[2:])

@@ -1,25 +1,23 @@
 #!/usr/bin/env bash
 # Two programs beside one another: tests/differential.sh PATH-TO-RDS PATH-TO-RDS_PLAIN [FIRST [LAST]]
 #
-# For each seed from FIRST to LAST (1 to 120) rds_plain makes a recording, and lines of groups. What rds writes of them,
+# For each seed from FIRST (1) to LAST (120, or FIRST where that is more) rds_plain makes a recording, and lines of groups. What rds writes of them,
 # by rules, cuttings and workers that are drawn from the seed, has to be what rds_plain writes, which decodes in one
 # piece by one thread, and has nothing of what cuts, stitches and lists. A run that differs is shown by its seed and its
 # words. The last line is 'N passed, M failed', and the exit status says whether all passed.
 
-set -u
-export LC_ALL=C
-
 usage='usage: tests/differential.sh PATH-TO-RDS PATH-TO-RDS_PLAIN [FIRST [LAST]]'
-rds=$(realpath "${1:?$usage}")
-plain=$(realpath "${2:?$usage}")
-[ -x "$rds" ] && [ -x "$plain" ] || { echo "$usage" >&2 && exit 1; }
+# shellcheck source-path=SCRIPTDIR source=common.sh
+. "$(dirname "$0")/common.sh"
+check_programs "${1:-}" "${2:-}"
+rds=$(realpath "$1")
+plain=$(realpath "$2")
+for it in "${@:3}"; do
+    [[ $it =~ ^(0|[1-9][0-9]{0,8})$ ]] || misused
+done
 first=${3:-1}
-last=${4:-120}
-work=$(mktemp -d)
-trap 'rm -rf "$work"' EXIT
+last=${4:-$((first > 120 ? first : 120))}
 cd "$work" || exit 1
-passed=0
-failed=0
 
 # draw FROM TO: the next number of the seed's row, into $drawn
 draw() {
@@ -75,10 +73,9 @@ draw_gaps() {
 # compare WORDS..: rds on the file in, against the file wanted
 compare() {
     if "$rds" "$@" <in 2>err | cmp -s - wanted; then
-        passed=$((passed + 1))
+        pass
     else
-        failed=$((failed + 1))
-        echo "FAILED: seed $seed: rds $*"
+        fail "seed $seed: rds $*"
     fi
 }
 
@@ -91,10 +88,9 @@ try_encode() {
         mv digits wanted
         compare encode --hex
     elif "$rds" encode <in >text 2>err || [ -s text ] || [ "$(cat err)" != 'refused 12 GroupText' ]; then
-        failed=$((failed + 1))
-        echo "FAILED: seed $seed: a line that is no group"
+        fail "seed $seed: a line that is no group"
     else
-        passed=$((passed + 1))
+        pass
     fi
 }
 
@@ -124,5 +120,4 @@ for seed in $(seq "$first" "$last"); do
     try_encode
 done
 
-echo "$passed passed, $failed failed"
-[ "$failed" = 0 ]
+finish

@@ -3,10 +3,12 @@
 import os
 import re
 import shutil
+import sys
 from dataclasses import dataclass
 
 TOP = os.path.dirname(os.path.dirname(os.path.abspath(__file__)))
-KIT = os.path.dirname(os.path.dirname(os.path.realpath(shutil.which("rt") or "")))
+RT = shutil.which(os.environ.get("RT", "rt")) or sys.exit("there is no Rattle toolchain (rt) on the PATH")
+KIT = os.path.dirname(os.path.dirname(os.path.realpath(RT)))
 LIBRARIES = ["rds_code", "rds_stream", "rds_sync", "rds_pieces", "rds_crew", "rds_tool"]
 HOLE = """use Rattle.{crate}.proofs.{path}.Statement.{{statement}}
 
@@ -34,8 +36,18 @@ class Function:
         if self.body and self.path.replace(".", "").isidentifier():
             shutil.rmtree(self.proof(folder), ignore_errors=True)
             os.makedirs(self.proof(folder))
-            with open(f"{self.proof(folder)}/Proof.antt", "w") as out:
-                out.write(HOLE.format(crate=self.crate, path=self.path, name=self.path.rpartition(".")[2]))
+            text = HOLE.format(crate=self.crate, path=self.path, name=self.path.rpartition(".")[2])
+            write(f"{self.proof(folder)}/Proof.antt", text)
+
+
+def read(path):
+    with open(path, encoding="utf-8") as it:
+        return it.read()
+
+
+def write(path, text):
+    with open(path, "w", encoding="utf-8") as it:
+        it.write(text)
 
 
 def blanked(text):
@@ -65,7 +77,7 @@ def holders(text):
 def functions_of(folder):
     """All functions of a crate."""
     crate, modules = os.path.basename(folder), sorted(it[:-3] for it in os.listdir(f"{folder}/src"))
-    texts = {it: blanked(open(f"{folder}/src/{it}.rt").read()) for it in modules}
+    texts = {it: blanked(read(f"{folder}/src/{it}.rt")) for it in modules}
     exported = set(re.findall(r"\w+", " ".join(re.findall(r"pub (?:use \w+::|mod )([^;]*);", texts["lib"]))))
     home = {kind: it for it in texts for kind in re.findall(r"^pub.* (?:struct|enum|trait) (\w+)", texts[it], re.M)}
     for module, text in texts.items():
@@ -91,10 +103,14 @@ def functions_of(folder):
 
 
 def copied(folder, crates):
-    """Copies crates to `folder`, with holes for the proofs of the libraries; gives the libraries' functions."""
+    """Copies crates to `folder`, with holes for the proofs of the libraries; gives the libraries' functions.
+
+    What a copying that was broken off left there is written over.
+    """
     functions = []
     for crate in crates:
-        shutil.copytree(f"{TOP}/crates/{crate}", f"{folder}/{crate}", ignore=shutil.ignore_patterns("out"))
+        here, there = f"{TOP}/crates/{crate}", f"{folder}/{crate}"
+        shutil.copytree(here, there, ignore=shutil.ignore_patterns("out"), dirs_exist_ok=True)
         functions += functions_of(f"{folder}/{crate}") if crate in LIBRARIES else []
     for f in functions:
         f.put_hole(folder)
@@ -103,8 +119,7 @@ def copied(folder, crates):
 
 def used_by(crate):
     """What a crate stands on, by crates.txt: libraries of this repository, and others."""
-    with open(f"{TOP}/crates.txt", encoding="utf-8") as it:
-        names = re.search(rf"^{crate}\b[^:#\n]*:(.*)", it.read(), re.M)[1].split()
+    names = re.search(rf"^{crate}\b[^:#\n]*:(.*)", read(f"{TOP}/crates.txt"), re.M)[1].split()
     return [it for it in LIBRARIES if it in names], [it for it in names if it not in LIBRARIES]
 
 

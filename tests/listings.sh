@@ -2,24 +2,17 @@
 # Listings byte for byte: tests/listings.sh PATH-TO-RDS [--write]
 #
 # Makes recordings of all kinds, always the same ones: clean, damaged, with slips of bits, noise, cut off, a station's. The
-# sum of each text that is made of one has to be that in tests/listings.sums (--write writes the file anew), and has to be
-# the same for every cutting and number of workers. The last line is 'N passed, M failed', and the exit status says whether
-# all passed.
+# sum of each text that is made of one has to be that in tests/listings.sums (--write writes the file anew), and the
+# listing of each recording by the default rules has to be the same by several cuttings and numbers of workers. The last
+# line is 'N passed, M failed', and the exit status says whether all passed.
 
-set -u
-export LC_ALL=C
-
-rds=$(realpath "${1:?"usage: tests/listings.sh PATH-TO-RDS [--write]"}")
-here=$(dirname "$(realpath "$0")")
-work=$(mktemp -d)
-trap 'rm -rf "$work"' EXIT
+usage='usage: tests/listings.sh PATH-TO-RDS [--write]'
+# shellcheck source-path=SCRIPTDIR source=common.sh
+. "$(dirname "$0")/common.sh"
+check_programs "${1:-}"
+case ${2:-} in '' | --write) ;; *) misused ;; esac
+rds=$(realpath "$1")
 cd "$work" || exit 1
-
-# words SEED COUNT: pseudo-random words of four digits, four on a line
-words() {
-    awk -v x="$1" -v n="$2" 'function word() { x = x * 16807 % 2147483647; return int(x / 32768) }
-        BEGIN { while (n--) printf "%04x%04x%04x%04x\n", word(), word(), word(), word() }'
-}
 
 # damaged SEED RARITY: lines of digits, of which one digit in so many is another
 damaged() {
@@ -55,25 +48,31 @@ done >>jobs
 
 while read -r input job; do
     # shellcheck disable=SC2086
-    "$rds" $job --hex <"$input" 2>&1 | sha256sum | sed "s/-$/$input $job/"
+    if sum=$("$rds" $job --hex <"$input" | sha256sum); then
+        echo "${sum%-}$input $job"
+    else
+        echo "refused  $input $job"
+    fi
 done <jobs >sums
-[ "${2:-}" = --write ] && cp sums "$here/listings.sums"
-passed=$(sort sums "$here/listings.sums" | uniq -d | wc -l)
-failed=$(($(wc -l <jobs) - passed))
+if [ "${2:-}" = --write ]; then
+    if grep '^refused' sums; then exit 1; fi
+    cp sums "$here/listings.sums" || exit 1
+fi
+passed=$(comm -12 <(sort sums) <(sort "$here/listings.sums") | wc -l)
+# Those that have no sum, or another one, and sums without a job.
+failed=$(($(sed 's/^[^ ]* *//' sums "$here/listings.sums" | sort -u | wc -l) - passed))
 diff "$here/listings.sums" sums | sed 's/^/FAILED: /'
 
 # each crew makes the text that one worker makes of one piece
 for input in clean damaged slips noise mixed station empty; do
-    "$rds" list --hex --pieces 1 --workers 1 <"$input" >wanted
+    "$rds" list --hex --pieces 1 --workers 1 <"$input" >wanted || fail "list of $input by one worker"
     for crew in '1 2' '2 2' '5 3' '16 4' '97 16' '3 256'; do
-        if "$rds" list --hex --pieces "${crew% *}" --workers "${crew#* }" <"$input" 2>&1 | cmp -s - wanted; then
-            passed=$((passed + 1))
+        if "$rds" list --hex --pieces "${crew% *}" --workers "${crew#* }" <"$input" | cmp -s - wanted; then
+            pass
         else
-            failed=$((failed + 1))
-            echo "FAILED: list of $input by pieces and workers $crew"
+            fail "list of $input by pieces and workers $crew"
         fi
     done
 done
 
-echo "$passed passed, $failed failed"
-[ "$failed" = 0 ]
+finish

@@ -4,13 +4,11 @@
 # Each case runs the program on some input and compares its exit status, its standard output and its standard error.
 # The last line is 'N passed, M failed', and the exit status says whether all passed.
 
-set -u
-
-rds=${1:?"usage: tests/program.sh PATH-TO-RDS"}
-work=$(mktemp -d)
-trap 'rm -rf "$work"' EXIT
-passed=0
-failed=0
+usage='usage: tests/program.sh PATH-TO-RDS'
+# shellcheck source-path=SCRIPTDIR source=common.sh
+. "$(dirname "$0")/common.sh"
+check_programs "${1:-}"
+rds=$(realpath "$1")
 
 # check NAME STATUS STDOUT STDERR INPUT WORDS..
 #
@@ -28,10 +26,9 @@ check() {
 judge() {
     local name=$1
     if [ "$2" = "$3" ] && matches "$4" "$work/out" && matches "$5" "$work/err"; then
-        passed=$((passed + 1))
+        pass
     else
-        failed=$((failed + 1))
-        printf 'FAILED: %s (status %s, wanted %s)\n' "$name" "$3" "$2"
+        fail "$name (status $3, wanted $2)"
         sed 's/^/    out: /' "$work/out" | head -20
         sed 's/^/    err: /' "$work/err" | head -20
     fi
@@ -324,9 +321,8 @@ judge 'help into closed output' 0 $? '' ''
 "$rds" --version >&- 2>"$work/err"
 judge 'version into closed output' 0 $? '' ''
 # more than a pipe holds, so that the program still writes when `head` has left
-station=$(dirname "$0")/../examples/station.bin
+station=$here/../examples/station.bin
 { cat "$station" "$station" "$station" | "$rds" list 2>"$work/err"; echo $? >"$work/status"; } | head -n 1 >"$work/out"
 judge 'output to a reader that leaves early' 1 "$(cat "$work/status")" "$acquired" 'refused 10 Write\n'
 
-printf '%d passed, %d failed\n' "$passed" "$failed"
-[ "$failed" -eq 0 ]
+finish

@@ -1,21 +1,24 @@
 #!/usr/bin/env bash
-# Runs the recipes of README.md and examples/ with the program at $1, and compares what they write with what it must
-# be. A recipe whose tool is not on this machine is skipped, by name. Ends in a line 'N passed, M failed'.
-set -u
+# Runs the recipes of README.md and examples/: tests/recipes.sh PATH-TO-RDS
+#
+# Compares what they write with what it must be. A recipe whose tool is not on this machine is skipped, by name. The last
+# line is 'N passed, M failed', and the exit status says whether all passed.
+
+usage='usage: tests/recipes.sh PATH-TO-RDS'
+# shellcheck source-path=SCRIPTDIR source=common.sh
+. "$(dirname "$0")/common.sh"
+check_programs "${1:-}"
 program=$(realpath "$1")
 export RDS=$program
-cd "$(dirname "$0")/.." || exit 2
-work=$(mktemp -d)
-trap 'rm -rf "$work"' EXIT
-passed=0 failed=0
+cd "$here/.." || exit 1
 
 # same NAME WANTED GOT
 same() {
   if [[ $2 == "$3" ]]; then
-    passed=$((passed + 1))
+    pass
   else
-    failed=$((failed + 1))
-    printf 'FAILED %s\n  wanted: %s\n  got:    %s\n' "$1" "$2" "$3"
+    fail "$1"
+    printf '  wanted: %s\n  got:    %s\n' "$2" "$3"
   fi
 }
 
@@ -26,6 +29,9 @@ fails() {
   if said=$("$@" 2>&1 >/dev/null); then said="status 0: $said"; fi
   same "$name" "$text" "$said"
 }
+
+# onto_full COMMAND..: the command, whose output is a full device
+onto_full() { "$@" > /dev/full; }
 
 # has TOOL..: whether they are here; says what is left out where one isn't
 has() {
@@ -48,6 +54,13 @@ numpy_python() {
 zero_group=00003f000019800005a00001b4
 station() { "$program" list < examples/station.bin; }
 
+# A listing that was cut off, and what each script says of it.
+cut=$work/cut.csv
+station | sed -n 1,1000p > "$cut"
+is_cut='the listing does not end in its totals: it is cut off, or rds was refused'
+# the last row of a listing
+last_row=total,losses,0,-,-,-,-,-
+
 # ---- the sample
 
 same 'a first decode' "acquired,51,2,-,-,-,-,-
@@ -64,18 +77,26 @@ same 'every block 1 of a complete group names the programme' 1922 \
 
 # ---- bits that come in another form
 
-if has perl xxd; then
+if has perl xxd awk; then
   bits=$(xxd -r -p <<< "$zero_group" | xxd -b -c 1 | awk '{ print $2 }')
   same 'a text of 0 and 1 packed' "$zero_group" "$(examples/pack_bits.sh <<< "$bits" | xxd -p)"
   same 'the packed text decoded' 'group,26,0,A,none,B:0000,C:0000,none' \
     "$(examples/pack_bits.sh <<< "$bits" | "$program" list --bits 103 | grep '^group,')"
   fails 'a text of something else' 'pack_bits: character 3 is neither 0 nor 1' examples/pack_bits.sh <<< '01x0'
   fails 'a text without a bit' 'pack_bits: there is no 0 and no 1 in the input' examples/pack_bits.sh <<< ' '
+  if [[ -c /dev/full ]]; then
+    fails 'a text packed onto a full device' 'pack_bits: writing failed: No space left on device' \
+      onto_full examples/pack_bits.sh <<< "$bits"
+  fi
 
   tr -d ' \n' <<< "$bits" | tr 01 '\000\001' > "$work/bits.u8"
   same 'one byte a bit packed' "$zero_group" "$(examples/pack_bytes.sh < "$work/bits.u8" | xxd -p)"
   fails 'bytes that are no bits' 'pack_bytes: byte 1 is 0xD3, neither 0x00 nor 0x01' examples/pack_bytes.sh < examples/station.bin
   fails 'no byte at all' 'pack_bytes: there is no byte in the input' examples/pack_bytes.sh < /dev/null
+  if [[ -c /dev/full ]]; then
+    fails 'one byte a bit packed onto a full device' 'pack_bytes: writing failed: No space left on device' \
+      onto_full examples/pack_bytes.sh < "$work/bits.u8"
+  fi
   if python=$(numpy_python); then
     same 'one byte a bit packed by numpy' "$zero_group" "$("$python" examples/pack_bytes.py < "$work/bits.u8" | xxd -p)"
     fails 'bytes that are no bits, by numpy' 'pack_bytes: byte 1 is 0xD3, neither 0x00 nor 0x01' \
@@ -95,6 +116,14 @@ if has perl xxd; then
   same 'the form of bits before differential decoding' 'packed bytes, before differential decoding' "$(forms "$work/encoded")"
   xxd -p examples/station.bin > "$work/digits"
   same 'the form of hexadecimal digits' 'hexadecimal digits' "$(forms "$work/digits")"
+  mkdir "$work/the user's scripts"
+  cp examples/*.sh "$work/the user's scripts"
+  xxd -b -c 1 examples/station.bin | awk '{ printf "%s", $2 }' | tr 01 '\000\001' > "$work/station.u8"
+  cure=$("$work/the user's scripts/which_form.sh" "$work/station.u8" | sort -rn | sed -n '1s/^ *1922  one byte a bit  *//p')
+  same 'the cure by a script in a folder of any name' "$(cksum < examples/station.bin)" "$(sh -c "$cure" < "$work/station.u8" | cksum)"
+  fails 'the form of a file that is not there' "which_form: $work/none cannot be read" examples/which_form.sh "$work/none"
+  fails 'the form by a program that is not there' "which_form: there is no $work/none here" \
+    env RDS="$work/none" examples/which_form.sh examples/station.bin
   same 'the mistakes are to be seen in the totals' 'total,complete,0,-,-,-,-,-' \
     "$("$program" totals < "$work/encoded" | grep complete)"
 fi
@@ -104,6 +133,8 @@ fi
 if has perl awk; then
   same 'what was made' 'bits 12824967 turned 12846 off_air_s 3600 4500 slip_s 5400 programme_s 7200 dropped 2510' \
     "$(examples/make_day.sh "$work/day.bin" | tr '\n' ' ' | sed 's/ $//')"
+  fails 'a day by an encoder that fails' 'make_day: false encode failed' env RDS=false examples/make_day.sh "$work/none"
+  same 'nothing is left of it' '' "$(find "$work" -name 'none*')"
   "$program" list < "$work/day.bin" > "$work/day.csv"
   length=$(($(wc -c < "$work/day.bin") * 8))
   same 'block errors by the half hour' 'begin_s,end_s,sent,valid,corrected,lost,missing,bad_percent
@@ -118,7 +149,9 @@ if has perl awk; then
     "$(examples/block_errors.sh "$length" 1800 < "$work/day.csv" | awk -F, 'NR > 1 { valid += $4; corrected += $5; lost += $6 }
       END { print valid, corrected, lost }')"
   same 'an hour off the air is bad' 'begin_s,end_s,sent,valid,corrected,lost,missing,bad_percent 0,3600,164423,0,0,0,164423,100.00' \
-    "$(examples/block_errors.sh 4275000 3600 < /dev/null | tr '\n' ' ' | sed 's/ $//')"
+    "$(examples/block_errors.sh 4275000 3600 <<< "$last_row" | tr '\n' ' ' | sed 's/ $//')"
+  fails 'block errors of a cut listing' "block_errors: $is_cut" examples/block_errors.sh "$length" < "$cut"
+  fails 'off the air of nothing' 'off_air: there is nothing in the input' examples/off_air.sh < /dev/null
   fails 'no length' 'usage: block_errors.sh BITS [SECONDS] < LISTING' examples/block_errors.sh < /dev/null
   same 'when it was off the air' 'begin_s,end_s,length_s 3600,4500,900' \
     "$(examples/block_errors.sh "$length" 10 < "$work/day.csv" | examples/off_air.sh | tr '\n' ' ' | sed 's/ $//')"
@@ -126,6 +159,12 @@ if has perl awk; then
 0,3600,D393,40055
 4500,7200,D393,30015
 7200,10800,D312,40004' "$(examples/programmes.sh < "$work/day.csv")"
+  # of one programme: 10 seconds without a group, and a bit more
+  same 'the programmes on both sides of an outage' 'begin_s,end_s,programme,groups
+0,10,D393,2
+20,20,D393,1' "$(printf '%s\n' group,{0,11979,23959}',0,A,A:D393,B:0548,C:E100,D:5041' "$last_row" | examples/programmes.sh 1)"
+  fails 'the programmes of a cut listing' "programmes: $is_cut" examples/programmes.sh < "$cut"
+  fails 'the corrected blocks of a cut listing' "corrected_blocks: $is_cut" examples/corrected_blocks.sh < "$cut"
   same 'which blocks were corrected' 'place,type,version,block,offset,word,burst,span
 624,0,A,4,D,4455,0000040,1
 832,0,A,4,D,5041,0100000,1' "$(examples/corrected_blocks.sh < "$work/day.csv" | sed -n 1,3p)"
@@ -136,7 +175,8 @@ if has perl awk; then
 
   same 'dropped samples as gaps' --gaps=9618725-9618730,10259973-10260103,10901221-10903596 \
     "$(examples/gaps.sh < "$work/day.bin.dropped")"
-  "$program" list $(examples/gaps.sh < "$work/day.bin.dropped") < "$work/day.bin" > "$work/gaps.csv"
+  # shellcheck disable=SC2086
+  gaps=$(examples/gaps.sh < "$work/day.bin.dropped") && "$program" list $gaps < "$work/day.bin" > "$work/gaps.csv"
   # read_in_gaps LISTING: how many blocks that touch a gap are neither missing nor lost
   read_in_gaps() {
     awk -v log_of_gaps="$work/day.bin.dropped" -F, '
@@ -154,11 +194,15 @@ if has perl awk; then
   }
   same 'blocks read where samples were dropped' 2 "$(read_in_gaps "$work/day.csv")"
   same 'none where they are marked' 0 "$(read_in_gaps "$work/gaps.csv")"
+  same 'the status where no log can be read' 1 "$(examples/gaps.sh < examples 2>/dev/null; echo $?)"
+  # shellcheck disable=SC2016
+  fails 'no listing by a log of something else' 'gaps: "104 + 1" is not a start and a length' \
+    eval 'gaps=$(examples/gaps.sh <<< "104 + 1") && "$program" list $gaps < examples/station.bin'
   same 'a log in any order' --gaps=5-6,104-115,120-130 "$(printf '120 10\n104 1\n\n110 5\n5 1\n105 7\n7 0\n' | examples/gaps.sh)"
   same 'nothing dropped' '' "$(examples/gaps.sh < /dev/null)"
   fails 'a log of something else' 'gaps: "104 + 1" is not a start and a length' examples/gaps.sh <<< '104 + 1'
 
-  if has gnuplot; then
+  if has gnuplot xxd; then
     examples/block_errors.sh "$length" 60 < "$work/day.csv" > "$work/errors.csv"
     examples/plot_block_errors.sh "$work/errors.png" < "$work/errors.csv"
     same 'a picture as PNG' 89504e470d0a1a0a "$(xxd -p -l 8 "$work/errors.png")"
@@ -181,24 +225,29 @@ if has awk; then
 {"kind":"lost","place":129}' \
     "$(echo "${zero_group}000037400019800005a00001b4" | "$program" list --hex --loss 1 | examples/to_json_lines.sh | sed -n 3,4p)"
   same 'as many objects as rows' "$(station | wc -l)" "$(station | examples/to_json_lines.sh | wc -l)"
+  fails 'the hexadecimal words of a cut listing' "hex_groups: $is_cut" examples/hex_groups.sh < "$cut"
+  fails 'a cut listing as JSON' "to_json_lines: $is_cut" examples/to_json_lines.sh < "$cut"
+  fails 'a listing without its last row as JSON' "to_json_lines: $is_cut" examples/to_json_lines.sh < <(station | sed '$d')
   if has jq; then
     same 'the objects are JSON' "$(station | wc -l)" "$(station | examples/to_json_lines.sh | jq -c .kind | wc -l)"
   fi
 fi
 same 'the line that is no group' '3:1234 2540 5244 532' \
-  "$(printf '1234 2540 5244 5320\n\n1234 2540 5244 532\n' | grep -nvE '^([[:blank:]]*[[:xdigit:]]){16}[[:blank:]]*$|^[[:blank:]]*$')"
+  "$(printf '1234 2540 5244 5320\r\n\r\n1234 2540 5244 532\r\n' | tr -d '\r' | grep -nvE '^([[:blank:]]*[[:xdigit:]]){16}[[:blank:]]*$|^[[:blank:]]*$')"
 
 if has sqlite3; then
   station | examples/to_sqlite.sh "$work/listing.db"
   same 'a listing in a database' '1923|integer|integer|1|7691' "$(sqlite3 "$work/listing.db" \
     "SELECT COUNT(*), MIN(typeof(place)), MIN(typeof(type)), (SELECT COUNT(*) FROM acquired),
             (SELECT value FROM totals WHERE name = 'valid') FROM groups")"
+  fails 'a cut listing in a database' "to_sqlite: $is_cut" examples/to_sqlite.sh "$work/cut.db" < "$cut"
+  same 'no database of it' '' "$(find "$work" -name 'cut.db*')"
   fails 'a database that is there' "to_sqlite: $work/listing.db is there already" examples/to_sqlite.sh "$work/listing.db" < /dev/null
 fi
 
 # ---- many recordings
 
-if has parallel; then
+if has parallel xxd; then
   mkdir "$work/recordings"
   cp examples/station.bin "$work/recordings/a station.bin"
   xxd -r -p <<< "$zero_group" > "$work/recordings/zero.bin"
@@ -206,7 +255,16 @@ if has parallel; then
   same 'a folder of listings' "$(station | cksum) $("$program" list < "$work/recordings/zero.bin" | cksum)" \
     "$(cksum < "$work/listings/a station.csv") $(cksum < "$work/listings/zero.csv")"
   examples/decode_folder.sh "$work/recordings" "$work/listings" 2>/dev/null
-  same 'done once' 2 "$(tail -n +2 "$work/listings/joblog" | wc -l | tr -d ' ')"
+  same 'done once' 0 "$(tail -n +2 "$work/listings/joblog" | wc -l | tr -d ' ')"
+  # one that comes later and sorts first, and a listing that was begun
+  cp "$work/recordings/zero.bin" "$work/recordings/A late one.bin"
+  mv "$work/listings/zero.csv" "$work/listings/zero.csv.part"
+  examples/decode_folder.sh "$work/recordings" "$work/listings" 2>/dev/null
+  same 'what has no listing yet is done' "2 $("$program" list < "$work/recordings/zero.bin" | cksum)" \
+    "$(tail -n +2 "$work/listings/joblog" | wc -l | tr -d ' ') $(cksum < "$work/listings/A late one.csv")"
+  same 'nothing is left begun' 'A late one.csv a station.csv joblog zero.csv ' "$(find "$work/listings" -type f -printf '%f\n' | sort | tr '\n' ' ')"
+  fails 'a folder that is not there' "decode_folder: there is no folder $work/none to read" \
+    examples/decode_folder.sh "$work/none" "$work/listings"
 fi
 
 # ---- the manual page
@@ -215,5 +273,4 @@ if has mandoc; then
   same 'the manual page' '' "$(mandoc -T lint -W warning rds.1 2>&1)"
 fi
 
-echo "$passed passed, $failed failed"
-[[ $failed == 0 ]]
+finish

@@ -8,20 +8,16 @@
 # that are refused once more. The calls are refused by a small library, which the C compiler makes of tests/refuse.c.
 # The last line is 'N passed, M failed', and the exit status says whether all passed.
 
-set -u
-
 usage='usage: tests/refusals.sh PATH-TO-RDS PATH-TO-RDS_PARTS'
-program=$(realpath "${1:?$usage}")
-parts=$(realpath "${2:?$usage}")
-here=$(dirname "$0")
-work=$(mktemp -d)
-trap 'rm -rf "$work"' EXIT
-passed=0
-failed=0
+# shellcheck source-path=SCRIPTDIR source=common.sh
+. "$(dirname "$0")/common.sh"
+check_programs "${1:-}" "${2:-}"
+program=$(realpath "$1")
+parts=$(realpath "$2")
 rows=0
 declare -A tried=([alloc]=0 [read]=0 [write]=0 [thread]=0)
 
-${CC:-cc} -O1 -shared -fPIC -o "$work/refuse.so" "$here/refuse.c" -ldl || exit 1
+make_refuse
 
 # run CALL AT WORDS..: the program on the input in the work folder, with its call AT of that kind refused
 run() {
@@ -77,10 +73,9 @@ each() {
             run "$call" "$at" "$@"
             status=$?
             if judge "$call" "$status" "$at"; then
-                passed=$((passed + 1))
+                pass
             else
-                failed=$((failed + 1))
-                echo "FAILED: ${program##*/} $*: $call $at of $count refused${on:+, and all after it} (status $status)"
+                fail "${program##*/} $*: $call $at of $count refused${on:+, and all after it} (status $status)"
             fi
         done
     done
@@ -139,15 +134,12 @@ each alloc
 
 for call in "${!tried[@]}"; do
     if [ "${tried[$call]}" = 0 ]; then
-        failed=$((failed + 1))
-        echo "FAILED: no job makes a call of the kind $call"
+        fail "no job makes a call of the kind $call"
     fi
 done
 
 if [ "$rows" != 2 ]; then
-    failed=$((failed + 1))
-    echo "FAILED: the jobs start $rows threads for rows, and not 2"
+    fail "the jobs start $rows threads for rows, and not 2"
 fi
 
-echo "$passed passed, $failed failed"
-[ "$failed" = 0 ]
+finish

@@ -9,33 +9,23 @@
 # Calls are counted by the library of tests/refuse.c, which refuses none of them here.
 # The last line is 'N passed, M failed', and the exit status says whether all passed.
 
-set -u
-export LC_ALL=C
-
-rds=$(realpath "${1:?"usage: tests/work.sh PATH-TO-RDS [--measure]"}")
-measure=${2:-}
-here=$(dirname "$(realpath "$0")")
-work=$(mktemp -d)
-trap 'rm -rf "$work"' EXIT
+usage='usage: tests/work.sh PATH-TO-RDS [--measure]'
+# shellcheck source-path=SCRIPTDIR source=common.sh
+. "$(dirname "$0")/common.sh"
+check_programs "${1:-}"
+case ${2:-} in '' | --measure) measure=${2:-} ;; *) misused ;; esac
+rds=$(realpath "$1")
 cd "$work" || exit 1
-passed=0
-failed=0
 
-${CC:-cc} -O1 -shared -fPIC -o refuse.so "$here/refuse.c" -ldl || exit 1
-
-# noise SEED COUNT: so many lines of sixteen pseudo-random digits
-noise() {
-    awk -v x="$1" -v n="$2" 'function word() { x = x * 16807 % 2147483647; return int(x / 32768) }
-        BEGIN { while (n--) printf "%04x%04x%04x%04x\n", word(), word(), word(), word() }'
-}
+make_refuse
 
 # station COUNT: a station's groups, so many times over
 station() { for _ in $(seq "$1"); do cat "$here/../examples/station.bin"; done; }
 
 : >empty
 station 160 >station
-noise 17 200000 >noise
-noise 19 160000 | sed 's/.\{104\}/&\n/' >words
+words 17 200000 >noise
+words 19 160000 >words
 station 40 | od -An -v -tx1 >digits
 # a byte of every 64 spoilt: marks in many rows
 station 40 | od -An -v -tx1 | awk 'NR % 4 == 0 { $2 = "ff" } 1' >damaged
@@ -66,10 +56,9 @@ spared() { echo $(($1 + $1 / spare)); }
 # within NAME MEASURED BOUND: whether it is no more than the bound
 within() {
     if [ "$2" -le "$3" ]; then
-        passed=$((passed + 1))
+        pass
     else
-        failed=$((failed + 1))
-        echo "FAILED: $job: $2 $1, where $3 are allowed"
+        fail "$job: $2 $1, where $3 are allowed"
     fi
 }
 
@@ -99,5 +88,4 @@ if [ -n "$measure" ]; then
     cp measured "$here/work.bounds"
     exit
 fi
-echo "$passed passed, $failed failed"
-[ "$failed" = 0 ]
+finish

@@ -24,7 +24,7 @@ import tempfile
 from concurrent.futures import ThreadPoolExecutor
 from dataclasses import dataclass, replace
 
-from holes import LIBRARIES, TOP, below, copied, functions_of, is_built, words
+from holes import LIBRARIES, RT, TOP, below, copied, functions_of, is_built, read, words, write
 
 CRATES = f"{TOP}/crates"
 # What a check says of an answer that names what an edit took away.
@@ -37,16 +37,6 @@ class WrongBody:
     edits: list  # (file, place, old, new)
     functions: list
     found: str = ""  # why the prover refuses it
-
-
-def read(path):
-    with open(path, encoding="utf-8") as it:
-        return it.read()
-
-
-def write(path, text):
-    with open(path, "w", encoding="utf-8") as it:
-        it.write(text)
 
 
 def wrong_body(crate, file, functions):
@@ -149,7 +139,7 @@ def try_all(room, crate, are_right):
         cwd=f"{room}/{crate}",
         stdout=subprocess.PIPE,
         stderr=subprocess.STDOUT,
-        text=True,
+        encoding="utf-8",
     )
     if not re.search(r"^only=\d+ ", ran.stdout, re.M):
         sys.exit(f"{crate}: the run came to no end:\n{ran.stdout[-3000:]}")
@@ -162,9 +152,12 @@ def try_all(room, crate, are_right):
 
 
 def main(names, are_right):
-    crates = [it for it in LIBRARIES if it in (names or LIBRARIES) and os.path.isdir(f"{CRATES}/{it}/wrong")]
+    crates = [it for it in LIBRARIES if os.path.isdir(f"{CRATES}/{it}/wrong")]
+    if unknown := [it for it in names if it not in crates]:
+        sys.exit(f"there are no wrong bodies of {', '.join(unknown)}")
+    crates = [it for it in crates if it in (names or crates)]
     for it in (it for it in LIBRARIES if any(it in below(crate) for crate in crates) and not is_built(it)):
-        if subprocess.run(["rt", "lib"], cwd=f"{CRATES}/{it}", stdout=subprocess.DEVNULL).returncode:
+        if subprocess.run([RT, "lib"], cwd=f"{CRATES}/{it}", stdout=subprocess.DEVNULL).returncode:
             sys.exit(f"{it} is not proved: no wrong body is tried above it")
     # Those that take longest come first.
     crates.sort(key=lambda it: len(os.listdir(f"{CRATES}/{it}/wrong")), reverse=True)
@@ -178,4 +171,7 @@ def main(names, are_right):
 
 
 if __name__ == "__main__":
+    if "--help" in sys.argv:
+        print(__doc__)
+        sys.exit()
     sys.exit(main([it for it in sys.argv[1:] if it != "--right"], "--right" in sys.argv))

@@ -2,7 +2,7 @@
 //!
 //! Each measurement is a function in a file of its own. It times the forms of one task in the same run, one after the
 //! other, over the same bits, and shows each as a ratio to the first: times of two runs say little of one another.
-//! `--check` runs them all in a second, and fails where a ratio is lost.
+//! `--check` runs those that have a bound in a second, and fails where a ratio is lost.
 #![tactic(auto)]
 
 mod deals;
@@ -23,7 +23,7 @@ use std::sync::Wait;
 use std::thread::Threads;
 
 const USAGE: &str = "usage: rds_bench MEASUREMENT [BITS [SAMPLE]]
-       rds_bench --check    all of them over short recordings: an error where a ratio is lost
+       rds_bench --check    those that have a bound, over short recordings: an error where a ratio is lost
 
   scan       the valid windows: a list, one after the other, place by place, by long division
   remainder  the remainder by tables, and by long division

@@ -11,7 +11,7 @@ const BITS: u64 = 8_000_000;
 /// How often a measurement may lose a ratio before it has failed: another program may disturb one.
 const ATTEMPTS: u32 = 8;
 
-/// The measurements, each with its sample.
+/// The measurements that have a bound, each with its sample.
 const MEASURED: [(&str, Sample); 9] = [
     ("scan", Sample::Noise),
     ("remainder", Sample::Noise),
@@ -24,7 +24,7 @@ const MEASURED: [(&str, Sample); 9] = [
     ("list", Sample::Station),
 ];
 
-/// Measures all tasks over short recordings: an error where one keeps losing a ratio.
+/// Measures the tasks that have a bound, over short recordings: an error where one keeps losing a ratio.
 pub fn check<T: Sync + Threads + Wait>(rt: &HostRuntime, threads: &T) -> Result<()> {
     for (name, sample) in MEASURED.iter() {
         println!(rt; "{name}:")?;

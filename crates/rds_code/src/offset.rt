@@ -66,7 +66,7 @@ const NO_WORD: u16 = 0xFFFF;
 /// The offset words by their bits 2 to 4, in which no two of them are alike.
 static CANDIDATES: [u16; 8] = [NO_WORD, NO_WORD, 0x168, NO_WORD, 0x350, 0x1B4, 0x198, 0x0FC];
 
-/// The offset whose word is `remainder`, or none.
+/// The offset whose word is `remainder`, or none (EN 50067:1998, 2.3 and Annex A).
 ///
 /// Nearly all remainders are no offset word. One comparison tells, so that the processor foresees the branch.
 pub fn offset_of(remainder: u16) -> Option<Offset>

@@ -3,6 +3,8 @@ ghost use Rattle.std.specs.Prelude.{◌≡◌, ◌^◌, ◌<◌};
 ghost use Rattle.rds_code.specs.Remainder.{rem, IsRemainder};
 
 /// The remainder of the block `w`, a word of 26 bits, by the generator, by long division: below 1024.
+///
+/// EN 50067:1998, section 2.3 and Annex B.
 pub fn rem26(w: u32) -> u16
     requires { w < 2 ^ 26 }
     ensures value { result ≡ rem w }

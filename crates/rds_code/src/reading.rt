@@ -9,7 +9,7 @@ use crate::offset::{Offset, offset_of};
 use crate::remainder::rem26;
 use crate::table::BurstTable;
 
-/// Which offsets are tried where block 3 is corrected. It is looked at for block 3 alone.
+/// Which offsets are tried where block 3 is corrected: this project's rule. It is looked at for block 3 alone.
 #[derive(Clone, Copy, Debug, PartialEq, Eq, Hash)]
 pub enum Wanted {
     /// C, as block 2 of the same group names version A.
@@ -20,7 +20,7 @@ pub enum Wanted {
     Either,
 }
 
-/// What a window says where it is read as a block.
+/// What a window says where it is read as a block: this project's rule.
 #[derive(Clone, Copy, Debug, PartialEq, Eq, Hash)]
 pub enum Reading {
     /// The window is a block with this offset; `info` is its information word.
@@ -38,7 +38,8 @@ pub enum Reading {
     Lost,
 }
 
-/// Reads the window `w` as block `number`, 1 to 4, and corrects a burst of up to `limit` bits, 0 to 5.
+/// Reads the window `w`, a word of 26 bits, as block `number`, 1 to 4, and corrects a burst of up to `limit` bits, 0 to
+/// 5.
 ///
 /// The window is valid where its remainder is an offset word of that number, whatever is wanted. Else it is corrected
 /// where one pair alone of a wanted offset and a burst fits, and else lost: this project's rule.

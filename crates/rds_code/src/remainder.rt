@@ -2,7 +2,7 @@
 //!
 //! Remainders are linear: that of a sum of words is the sum of theirs. A block is the sum of its lowest ten bits,
 //! which are their own remainder, and of the two bytes above them, whose remainders stand in tables.
-ghost use Rattle.std.specs.Prelude.{◌≡◌, ◌+◌, ◌*◌, ◌%◌, ◌^◌, ◌<◌};
+ghost use Rattle.std.specs.Prelude.{◌≡◌, ◌^◌, ◌<◌};
 ghost use Rattle.rds_code.specs.Remainder.{rem, IsRemainder};
 
 use crate::byte_remainders::{of_high, of_middle};

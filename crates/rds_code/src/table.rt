@@ -1,4 +1,4 @@
-ghost use Rattle.std.specs.Prelude.{◌≡◌, ℕ, ◌+◌, ◌*◌, ◌%◌, ◌^◌, ◌<◌, ◌≤◌, length, IfOk, replicate};
+ghost use Rattle.std.specs.Prelude.{◌≡◌, ℕ, ◌*◌, ◌%◌, ◌^◌, ◌<◌, ◌≤◌, length, IfOk, replicate};
 ghost use Rattle.rds_code.specs.Remainder.{rem};
 ghost use Rattle.rds_code.specs.Bursts.{IsBurst};
 ghost use Rattle.rds_code.specs.Inside.BurstTable.{IsSound, HasBurst};
@@ -10,7 +10,7 @@ use crate::remainder::rem26;
 use std::alloc::{AllocError, Global};
 use std::marker::Model;
 
-/// The bursts of up to five bits by their remainders.
+/// The bursts of up to five bits by their remainders (EN 50067:1998, Annex B).
 ///
 /// Their remainders differ, so that a remainder tells its burst. All tables are alike: clauses see nothing of one.
 #[derive(Debug, Drop)]
@@ -41,8 +41,8 @@ impl BurstTable {
         Ok(BurstTable { patterns })
     }
 
-    /// The burst of up to `limit` bits, 0 to 5, whose remainder is `remainder`, below 1024, or none. There is none for
-    /// limit 0, nor for remainder 0.
+    /// The burst of up to `limit` bits, 0 to 5, whose remainder is `remainder`, below 1024, or none (EN 50067:1998,
+    /// Annex B). There is none for limit 0, nor for remainder 0.
     pub fn find(&self, remainder: u16, limit: u8) -> Option<Burst>
         requires remainder { remainder < 1024 }
         requires limit { limit ≤ 5 }

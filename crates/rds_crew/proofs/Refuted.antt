@@ -1,9 +1,11 @@
--- Steps that are no event of the core.
-use Rattle.std.proofs.Common.{◌≡◌, ℕ, ◌+◌, ◌<◌, List, get_or, Option, Some, None, refl, sym, ap, ◌∙◌, arith}
+-- Steps that are no event of the core, and a view that does not fit.
+use Rattle.std.proofs.Common.{◌≡◌, ℕ, ◌+◌, ◌<◌, List, [], ◌∷◌, get_or, Option, Some, None, refl, sym, ap, ◌∙◌, arith}
 use mathlib.Core.Option as maybe
 use Rattle.atomic_table.specs.Table.{step}
 use Rattle.rds_crew.specs.declared.deal.Event.TheVariants.{Draw, Finish, Progress}
+use Rattle.rds_crew.specs.declared.deal.View.{View}
 use Rattle.rds_crew.specs.Core.{Counts, counts}
+use Rattle.rds_crew.specs.Deal.{EndsIn, Fits}
 use Rattle.rds_crew.specs.Steps.{IsEvent}
 use Rattle.rds_crew.proofs.Moves.{number_below}
 
@@ -53,3 +55,16 @@ no_progress_of_tickets slots pieces n reply event =
     let a : 0 ≡ reply = ap (λ (r : ℕ × Counts). r.0) e.1 in
     let b : 1 ≡ reply = ap (λ (r : ℕ × Counts). r.0) f.1 in
     absurd (omega arith)
+
+-- a view that holds another number than the last that it drew
+abbrev pub holds_an_earlier : View
+holds_an_earlier = record { pieces = 2; share = 1; drawn = 0 ∷ 1 ∷ []; held = Some 0; ended = 0; finished = 1; told = 0; log = [] }
+
+ends_in_the_last : EndsIn (0 ∷ 1 ∷ []) 0 → ⊥
+ends_in_the_last ([], e) = cc e
+ends_in_the_last (x ∷ [], e) = cc e
+ends_in_the_last (x ∷ y ∷ [], e) = cc e
+ends_in_the_last (x ∷ y ∷ z ∷ zs, e) = cc e
+
+pub no_fit : (pieces done : ℕ) → Fits pieces done holds_an_earlier → ⊥
+no_fit pieces done fits = ends_in_the_last fits.last

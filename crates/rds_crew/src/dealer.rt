@@ -54,9 +54,9 @@ impl Model for Dealer {
 /// What a dealer counts in the end.
 #[derive(Clone, Copy, Debug, PartialEq, Eq, Drop)]
 pub struct Closed {
-    /// The numbers that were drawn.
+    /// How many numbers were drawn.
     pub drawn: u64,
-    /// Those of them that were finished.
+    /// How many of them were finished.
     pub finished: u64,
 }
 

@@ -12,6 +12,7 @@ mod WalkLemmas
 mod JoinLemmas
 mod SoonLemmas
 mod ReadsLemmas
+mod WayLemmas
 mod SmallTotals
 mod StitchLemmas
 mod RowLemmas

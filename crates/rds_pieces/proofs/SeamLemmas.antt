@@ -156,7 +156,7 @@ module _ (b : Signal) (rules : RuleNumbers) (from to : ℕ) where
             ∙ ap (λ (t : State). (run b rules t place (q - place)).0) (sym c.state_is)
             ∙ ap (λ (r : State × List Item). r.0) (waits b rules laws state place next (q - place) (one_step state place limit next goes.place_is) (omega arith)))
 
-        none_on : (q : ℕ) → q < next → ¬ MeetAt b rules s0 Searching from to q
+        pub none_on : (q : ℕ) → q < next → ¬ MeetAt b rules s0 Searching from to q
         none_on q h meet = elim (cases_lt q place) [
           | inl before ↦ c.none_yet q before meet
           | inr here ↦

@@ -6,11 +6,14 @@ use Rattle.rds_sync.specs.declared.state.State.{State}
 use Rattle.rds_sync.specs.declared.state.State.TheVariants.{Searching, Locked}
 use Rattle.rds_sync.specs.declared.item.Item.{Item}
 use Rattle.rds_sync.specs.Rules.{RuleNumbers}
+use Rattle.rds_sync.specs.Lawful.{IsLawful}
+use Rattle.rds_sync.specs.Loss.{IsLoss}
 use Rattle.rds_sync.specs.Step.{run, items_at}
 use Rattle.rds_pieces.specs.declared.mark.Mark.{Mark}
 use Rattle.rds_sync.specs.Advance.{next_place}
 use Rattle.rds_sync.specs.Stretch.{IsStretch}
 use Rattle.rds_pieces.specs.Guess.{guess, mark_at, marks}
+use Rattle.rds_pieces.specs.Inside.Advance.{IsStepTo}
 use Rattle.rds_pieces.specs.RunLaws.{RunLaws}
 use Rattle.rds_pieces.proofs.RunFacts.{run-append, run-waiting}
 use Rattle.rds_pieces.proofs.GuessLemmas.{marks-quiet, marks-some}
@@ -33,6 +36,24 @@ module _ (b : Signal) (rules : RuleNumbers) where
   waits laws Searching place next zero one h = refl
   waits laws Searching place next (suc n) one h = absurd (omega arith)
   waits laws (Locked due number bad first) place next n one h = run-waiting laws b rules due number bad first place n (omega arith)
+
+  -- where a step towards `to` leads
+  pub step_from : RunLaws → IsLoss rules.loss → (s : State) (place to : ℕ) → place < to → IsLawful rules place s
+      → IsStepTo b rules s place to (next_place s place to) (run b rules s place (next_place s place to - place)).0
+  step_from laws some s place to ahead lawful =
+      let moved = step_moves s ahead lawful in
+      record {
+        place_is = refl;
+        moved = moved;
+        state_is = refl;
+        lawful = laws.lawful_runs b rules some s place (next_place s place to) (omega (arith, moved)) lawful;
+      } where
+        step_moves : (s : State) → place < to → IsLawful rules place s → (place < next_place s place to) × (next_place s place to ≤ to)
+        step_moves Searching ahead lawful = (omega arith, omega arith)
+        step_moves (Locked due number bad first) ahead lawful = let soon = lawful.soon in elim (cases_lt due to) [
+          | inl before ↦ let n : next_place (Locked due number bad first) place to ≡ due + 1 = rw (lt-ltb due to before, next_place) refl in (omega (arith, n, soon), omega (arith, n))
+          | inr late ↦ let n : next_place (Locked due number bad first) place to ≡ to = rw (le-ltb due to late, next_place) refl in (omega (arith, n), omega (arith, n))
+        ]
 
   module _ (from : ℕ) where
     -- a guess that goes one stretch on, of m bits that give nothing and one more

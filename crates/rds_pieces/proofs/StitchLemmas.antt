@@ -58,6 +58,8 @@ module _ (b : Signal) (rules : RuleNumbers) (runs : List RunOf) where
     pub reads_most : reads ≤ base + sum
     pub few : sum ≤ 20 * place
     pub sums : (n : ℕ) → IsSumOfReads b rules state (drop k runs) n → IsSumOfReads b rules Searching runs (sum + n)
+    -- of what all seams may read, as much is left as those of the runs to come may
+    pub left_to_read : (n : ℕ) → IsSumOfReads b rules Searching runs n → (m : ℕ) × IsSumOfReads b rules state (drop k runs) m × (reads + m ≤ base + n)
 
   pub stitched_start : (base : ℕ) (items : List Item) → FollowEachOther b rules 0 (length_of b) runs → length items ≡ 0 → IsStitched base 0 Searching items base
   stitched_start base items follow empty = record {
@@ -70,6 +72,7 @@ module _ (b : Signal) (rules : RuleNumbers) (runs : List RunOf) where
     reads_most = omega arith;
     few = omega arith;
     sums = λ n h. subst (λ (m : ℕ). IsSumOfReads b rules Searching runs m) (let e : n ≡ 0 + n = omega arith in e) h;
+    left_to_read = λ n h. (n, h, omega arith);
   }
 
   module _ (base k : ℕ) (state : State) (items : List Item) (reads : ℕ) (done : IsStitched base k state items reads) (r d : RunOf) (inside : k < length runs) (is : r ≡ get_or runs k d) where
@@ -122,10 +125,27 @@ module _ (b : Signal) (rules : RuleNumbers) (runs : List RunOf) where
           subst (λ (x : Totals). IsAtMost (per_bit * (r.to - r.from)) x) (sym u_is) (run_at_most b rules laws.readings range.burst laws.totals state r.from (r.to - r.from)),
         )
 
+    -- what its seam reads is among what was left, whether or not it comes to an end
+    pub seam_paid : (reads2 : ℕ) → ((met : Option ℕ) → IsMeeting b rules state Searching r.from r.to met → reads2 ≤ reads + seam_reads rules r.from r.to met)
+        → (n : ℕ) → IsSumOfReads b rules Searching runs n
+        → (m : ℕ) × IsSumOfReads b rules (run b rules state r.from (r.to - r.from)).0 (drop (k + 1) runs) m × (reads2 + m ≤ base + n)
+    seam_paid reads2 way n h =
+        let all = done.left_to_read n h in
+        let next : IsSumOfReads b rules state (r ∷ drop (k + 1) runs) all.0 = subst (λ (rs : List RunOf). IsSumOfReads b rules state rs all.0) left all.1 in
+        let read = way next.0 next.2 in
+        let parts = next.4 in
+        let most = all.2 in
+        (next.1, next.3, omega (arith, read, parts, most))
+
+    pub seam_within : (reads2 : ℕ) → ((met : Option ℕ) → IsMeeting b rules state Searching r.from r.to met → reads2 ≤ reads + seam_reads rules r.from r.to met)
+        → (n : ℕ) → IsSumOfReads b rules Searching runs n → reads2 ≤ base + n
+    seam_within reads2 way n h = let most = (seam_paid reads2 way n h).2 in omega (arith, most)
+
     pub stitched_on : RunLaws → IsInRange rules → (after : State) (items2 : List Item) (reads2 : ℕ) (met : Option ℕ)
         → after ≡ (run b rules state r.from (r.to - r.from)).0 → items2 ≡ items ++ (run b rules state r.from (r.to - r.from)).1
-        → IsMeeting b rules state Searching r.from r.to met → reads2 ≤ reads + seam_reads rules r.from r.to met → IsStitched base (k + 1) after items2 reads2
-    stitched_on laws range after items2 reads2 met after_is items2_are meeting read =
+        → IsMeeting b rules state Searching r.from r.to met → reads2 ≤ reads + seam_reads rules r.from r.to met
+        → ((met : Option ℕ) → IsMeeting b rules state Searching r.from r.to met → reads2 ≤ reads + seam_reads rules r.from r.to met) → IsStitched base (k + 1) after items2 reads2
+    stitched_on laws range after items2 reads2 met after_is items2_are meeting read way =
         let n = next_follows.1 in
         let f = from_is in
         let whole = laws.join b rules Searching 0 done.place r.to (omega arith) (omega (arith, n, f)) in
@@ -148,6 +168,9 @@ module _ (b : Signal) (rules : RuleNumbers) (runs : List RunOf) where
               let here : IsSumOfReads b rules state (r ∷ drop (k + 1) runs) (seam_reads rules r.from r.to met + m) = (met, m, meeting, rest, refl) in
               subst (λ (t : ℕ). IsSumOfReads b rules Searching runs t) total
               (done.sums (seam_reads rules r.from r.to met + m) (subst (λ (rs : List RunOf). IsSumOfReads b rules state rs (seam_reads rules r.from r.to met + m)) (sym left) here));
+          left_to_read = λ n h.
+              let rest = seam_paid reads2 way n h in
+              (rest.0, subst (λ (s : State). IsSumOfReads b rules s (drop (k + 1) runs) rest.0) (sym after_is) rest.1, rest.2);
         }
 
   -- once it was carried over all
@@ -180,6 +203,9 @@ module _ (b : Signal) (rules : RuleNumbers) (runs : List RunOf) where
 
     pub lawful_at_end : IsLawful rules (length_of b) state
     lawful_at_end = subst (λ (p : ℕ). IsLawful rules p state) end_is done.lawful
+
+    pub read_at_end : (n : ℕ) → IsSumOfReads b rules Searching runs n → reads ≤ base + n
+    read_at_end n h = let most = (done.left_to_read n h).2 in omega (arith, most)
 
     pub sum_at_end : IsSumOfReads b rules Searching runs done.sum
     sum_at_end =

@@ -29,9 +29,9 @@ use std::alloc::Global;
 /// default rules. Fails with `OutOfMemory` alone.
 ///
 /// Its cost: it reads at most (reach + 2)(d + 1) windows of the tape, which has counted at most 2^62 before; d is the
-/// number of bits of the right range up to the meeting, or to its end where there is none. It takes memory for the
-/// items and marks of the way up to there, for both runs' parts of items, whose items are shared, and for a mark a row
-/// of theirs.
+/// number of bits of the right range up to the meeting, or to its end where there is none; no more where memory is
+/// refused on the way. It takes memory for the items and marks of the way up to there, for both runs' parts of items,
+/// whose items are shared, and for a mark a row of theirs.
 pub fn join_runs<T: Tape>(
     alloc: Global,
     tape: &mut T,
@@ -53,6 +53,9 @@ pub fn join_runs<T: Tape>(
 
     ensures err { IfErr result (λ e. e ≡ OutOfMemory) }
     ensures same { T.signal tape.new ≡ T.signal tape.old }
+    ensures reads_way { (met : Option ℕ)
+        → IsMeeting (T.signal tape.old) rules.now (end_of left.now) State.Searching right.now.from right.now.to met
+        → T.reads_made tape.new ≤ T.reads_made tape.old + seam_reads rules.now right.now.from right.now.to met }
     ensures reads_most { T.reads_made tape.new
         ≤ T.reads_made tape.old + (rules.now.reach + 2) * (right.now.to - right.now.from + 1) }
 {

@@ -4,6 +4,8 @@
 //! A guess begins with a search, so that it may be wrong at first. The run that comes from the bits before is carried
 //! on over the piece until both are in one state with no group in progress: from there on the guess is right.
 //!
+//! The standard speaks of one receiver that reads from the first bit: all rules of pieces are this project's.
+//!
 //! # Example
 //!
 //! ```text
@@ -33,8 +35,8 @@
 //! - [`speculate`]: the guess of a piece, a [`PieceRun`]. It runs over the piece from Searching and keeps, beside the
 //!   items, their totals and the end state, a [`Mark`] at the first place and after every bit that gave an item;
 //!   [`Marks`] keep those of a clean stretch as one.
-//! - [`seam`]: carries the true state over a piece, step by step, until it is at a mark in the guess's state with no
-//!   group in progress; from there on the guess's items are shared, and nothing more is read.
+//! - [`seam`]: carries the true state over a piece, step by step, until it is in the state of the guess's last mark with
+//!   no group in progress; from there on the guess's items are shared, and nothing more is read.
 //! - [`join_runs`]: does so with the run of the range before, marks too, and makes of both the guess of both ranges, so
 //!   that many runs can be joined two by two, neighbours in any order and at the same time.
 //! - [`stitch`]: the report, of runs in a row from the first bit to the last, by a seam over each.

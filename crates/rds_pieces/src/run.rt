@@ -47,9 +47,10 @@ impl Model for PieceRun {
 }
 
 impl PieceRun {
-    /// The piece's first place.
+    /// The piece's first place, which does not lie behind its end, and that lies in the recording.
     pub fn from(&self) -> u64
-        ensures { result ≡ self.now.from }
+        ensures value { result ≡ self.now.from }
+        ensures inside { (self.now.from ≤ self.now.to) × (self.now.to ≤ length_of self.now.source) }
     {
         self.from
     }

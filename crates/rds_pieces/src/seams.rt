@@ -1,11 +1,12 @@
 //! The seam before a piece: how the state that the pieces before it left runs over it.
-ghost use Rattle.std.specs.Prelude.{◌≡◌, ℕ, List, ◌+◌, ◌-◌, ◌*◌, ◌++◌, ◌<◌, ◌≤◌, ◌^◌, [], ◌∷◌, IfOk, IfErr, length};
+ghost use Rattle.std.specs.Prelude.{◌≡◌, ℕ, Option, List, ◌+◌, ◌-◌, ◌*◌, ◌++◌, ◌<◌, ◌≤◌, ◌^◌, [], ◌∷◌, IfOk, IfErr, length};
 ghost use Rattle.rds_sync.specs.Lawful.{IsLawful};
 ghost use Rattle.rds_sync.specs.Ranges.{IsInRange};
 ghost use Rattle.rds_sync.specs.Step.{run as run_of};
 ghost use Rattle.rds_sync.specs.Totals.{totals_of};
 ghost use Rattle.rds_pieces.specs.Inside.MarksOn.{marks_on};
 ghost use Rattle.rds_pieces.specs.Meeting.{IsMeeting, distance};
+ghost use Rattle.rds_pieces.specs.Seams.{seam_reads};
 ghost use Rattle.rds_pieces.specs.Soon.{IsSoonMet};
 ghost use Rattle.rds_pieces.specs.Inside.Walk.{IsWalk, IsMetOrNot, next_place};
 ghost use Rattle.rds_pieces.specs.declared.error.PieceError.TheVariants.{OutOfMemory};
@@ -31,9 +32,9 @@ use std::alloc::Global;
 /// Fails with `OutOfMemory` alone.
 ///
 /// Its cost: it reads at most (reach + 2)(d + 1) windows of the tape, which has counted at most 2^62 before; d is the
-/// number of bits up to the meeting, or to the piece's end where there is none. Of items it goes over those that stand
-/// before the meeting, its own and the guess's, and it takes memory for its own, for their marks, and for the guess's
-/// parts of items.
+/// number of bits up to the meeting, or to the piece's end where there is none. No more is read where memory is refused
+/// on the way. Of items it goes over those that stand before the meeting, its own and the guess's, and it takes memory
+/// for its own, for their marks, and for the guess's parts of items.
 pub fn seam<T: Tape>(
     alloc: Global,
     tape: &mut T,
@@ -60,6 +61,8 @@ pub fn seam<T: Tape>(
 
     ensures err { IfErr result (λ e. e ≡ OutOfMemory) }
     ensures same { T.signal tape.new ≡ T.signal tape.old }
+    ensures reads_way { (met : Option ℕ) → IsMeeting (T.signal tape.old) rules.now state State.Searching run.now.from run.now.to met
+        → T.reads_made tape.new ≤ T.reads_made tape.old + seam_reads rules.now run.now.from run.now.to met }
     ensures reads_most { T.reads_made tape.new
         ≤ T.reads_made tape.old + (rules.now.reach + 2) * (run.now.to - run.now.from + 1) }
 {
@@ -123,6 +126,8 @@ pub(crate) fn go_along<'a, T: Tape>(
     ensures same { T.signal tape.new ≡ T.signal tape.old }
     ensures reads_most { T.reads_made tape.new
         ≤ T.reads_made tape.old + (run.now.rules.reach + 2) * (run.now.to - run.now.from + 1) }
+    ensures reads_way { (met : Option ℕ) → IsMeeting run.now.source run.now.rules state State.Searching run.now.from run.now.to met
+        → T.reads_made tape.new ≤ T.reads_made tape.old + seam_reads run.now.rules run.now.from run.now.to met }
     ensures few { run.now.to - run.now.from ≤ 2 ^ 36 }
     ensures rules { IsInRange run.now.rules }
 {

@@ -25,8 +25,9 @@ use std::alloc::Global;
 ///
 /// Fails with `OutOfMemory` alone.
 ///
-/// Its cost: it reads what the seams may read, and at most three windows more; the tape has counted at most 2^61
-/// before. It takes memory as they do, one after the other, and for all parts of items, of which none is copied.
+/// Its cost: it reads what the seams may read, and at most three windows more, refused memory or not; the tape has
+/// counted at most 2^61 before. It takes memory as they do, one after the other, and for all parts of items, of which
+/// none is copied.
 pub fn stitch<T: Tape>(
     alloc: Global,
     tape: &mut T,
@@ -43,6 +44,8 @@ pub fn stitch<T: Tape>(
 
     ensures err { IfErr result (λ e. e ≡ OutOfMemory) }
     ensures same { T.signal tape.new ≡ T.signal tape.old }
+    ensures reads_way { (n : ℕ) → IsSumOfReads (T.signal tape.old) rules.now State.Searching runs.now n
+        → T.reads_made tape.new ≤ T.reads_made tape.old + n + 3 }
 {
     let (end_state, mut report) = carry_over_all(alloc, tape, rules, runs)?;
     let last = closing_items(alloc, finish(tape, rules, end_state))?;
@@ -73,6 +76,8 @@ fn carry_over_all<T: Tape>(
 
     ensures err { IfErr result (λ e. e ≡ OutOfMemory) }
     ensures same { T.signal tape.new ≡ T.signal tape.old }
+    ensures reads_way { (n : ℕ) → IsSumOfReads (T.signal tape.old) rules.now State.Searching runs.now n
+        → T.reads_made tape.new ≤ T.reads_made tape.old + n }
 {
     // Runs in a row are one run, and that over the whole recording is the report.
     run_laws();

@@ -37,12 +37,17 @@ impl Bits {
     pub fn bytes(&self, alloc: Global) -> Result<Vec<u8>, AllocError> {
         let mut bytes = Vec::new(alloc);
         for eight in self.bits.chunks_exact(8) {
-            let mut byte = 0u8;
-            for bit in eight {
-                byte = byte << 1 | u8::from(*bit);
-            }
-            bytes.push(byte)?;
+            bytes.push(byte_of(eight))?;
         }
         Ok(bytes)
     }
+}
+
+/// The byte of eight bits, the first of them highest.
+fn byte_of(eight: &[bool]) -> u8 {
+    let mut byte = 0u8;
+    for bit in eight {
+        byte = byte << 1 | u8::from(*bit);
+    }
+    byte
 }

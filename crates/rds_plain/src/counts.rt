@@ -1,6 +1,6 @@
 //! Totals that are counted item by item and block by block.
 use rds_code::Reading;
-use rds_sync::{Block, Group, Item};
+use rds_sync::{Block, Group, Item, Items};
 
 /// The twelve totals, in the order of their rows.
 #[derive(Drop)]
@@ -9,7 +9,16 @@ pub struct Counts {
 }
 
 impl Counts {
-    pub fn new() -> Counts {
+    /// Those of these items.
+    pub fn of(items: &Items) -> Counts {
+        let mut counts = Counts::new();
+        for item in items {
+            counts.count(&item);
+        }
+        counts
+    }
+
+    fn new() -> Counts {
         Counts {
             counts: [
                 ("valid", 0),
@@ -32,7 +41,7 @@ impl Counts {
         &self.counts
     }
 
-    pub fn count(&mut self, item: &Item) {
+    fn count(&mut self, item: &Item) {
         match item {
             Item::Acquired { .. } => self.add("acquired", 1),
             Item::Group(group) => self.count_group(group),

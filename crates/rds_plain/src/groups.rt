@@ -1,11 +1,15 @@
 //! Lines of digits, and the groups that they spell.
 use crate::bits::Bits;
 use crate::dice::Dice;
+use crate::offsets;
 use rds_code::plain;
 use std::alloc::{AllocError, Global};
 
 /// The offset words of the blocks of a group of version A, and then of version B.
-const OFFSETS: [[u32; 4]; 2] = [[0x0FC, 0x198, 0x168, 0x1B4], [0x0FC, 0x198, 0x350, 0x1B4]];
+const OFFSETS: [[u16; 4]; 2] = [
+    [offsets::A, offsets::B, offsets::C, offsets::D],
+    [offsets::A, offsets::B, offsets::CX, offsets::D],
+];
 
 /// Lines of digits from a seed: groups, blanks, empty lines, and now and then a line that is no group.
 pub fn lines(alloc: Global, seed: u64) -> Result<String, AllocError> {
@@ -112,7 +116,7 @@ fn push_group(bits: &mut Bits, words: u64) -> Result<(), AllocError> {
     let version = words >> 43 & 1;
     for (number, offset) in OFFSETS[version as usize].iter().enumerate() {
         let word = (words >> (48 - 16 * number as u32) & 0xFFFF) as u32;
-        let checkword = u32::from(plain::rem26(word << 10)) ^ offset;
+        let checkword = u32::from(plain::rem26(word << 10) ^ offset);
         bits.push_block(word << 10 | checkword)?;
     }
     Ok(())

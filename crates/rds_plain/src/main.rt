@@ -22,6 +22,7 @@ mod counts;
 mod dice;
 mod groups;
 mod making;
+mod offsets;
 mod rows;
 mod windows;
 

@@ -1,6 +1,7 @@
 //! Recordings that are made from a seed, of whatever a receiver may hear.
 use crate::bits::Bits;
 use crate::dice::Dice;
+use crate::offsets;
 use rds_code::encode_group;
 use std::alloc::{AllocError, Global};
 
@@ -106,7 +107,7 @@ fn push_group(
     let [first, second, third, fourth] = encode_group(words);
     let third = match heard {
         // C and C' together: the third block has the one in place of the other.
-        Heard::Mixed if dice.one_in(3) => third ^ 0x168 ^ 0x350,
+        Heard::Mixed if dice.one_in(3) => third ^ u32::from(offsets::C ^ offsets::CX),
         _ => third,
     };
     for block in [first, second, third, fourth] {

@@ -63,10 +63,7 @@ fn push_block(text: &mut String, block: &Block) -> Result<(), AllocError> {
 
 /// A row for each total of these items, which are counted one by one.
 pub fn of_totals(alloc: Global, items: &Items) -> Result<String, AllocError> {
-    let mut counts = Counts::new();
-    for item in items {
-        counts.count(&item);
-    }
+    let counts = Counts::of(items);
     let mut text = String::new(alloc);
     for (name, count) in counts.as_slice() {
         writeln!(text, "total,{name},{count},-,-,-,-,-")?;

@@ -1,6 +1,7 @@
 //! The valid windows of a recording, one place after the other.
 ghost use Rattle.std.specs.Prelude.{◌<◌, ◌^◌};
 
+use crate::offsets;
 use rds_code::plain;
 use rds_stream::Recording;
 use std::alloc::{AllocError, Global};
@@ -39,11 +40,11 @@ fn offset_name(window: u32) -> Option<&'static str>
     requires { window < 2 ^ 26 }
 {
     match plain::rem26(window) {
-        0x0FC => Some("A"),
-        0x198 => Some("B"),
-        0x168 => Some("C"),
-        0x350 => Some("Cx"),
-        0x1B4 => Some("D"),
+        offsets::A => Some("A"),
+        offsets::B => Some("B"),
+        offsets::C => Some("C"),
+        offsets::CX => Some("Cx"),
+        offsets::D => Some("D"),
         _ => None,
     }
 }

@@ -6,7 +6,7 @@ use Rattle.std.proofs.lemmas.Bool.{cases_eq, ne_eqb, true≢false}
 use Rattle.std.proofs.lemmas.Nat.Bits.{bit_at_and, bit_at_or, bit_at_xor, bit_at-lt, same_from_bits_below}
 use Rattle.rds_code.specs.declared.offset.Offset.TheVariants.{A, B, C, Cx, D}
 use Rattle.rds_code.specs.Offsets.{word, offset_of}
-use Rattle.rds_stream.specs.Planes.{HoldInLane, lane}
+use Rattle.rds_stream.specs.Inside.Lanes.{HoldInLane, lane}
 
 -- at bit k of lane j the lowest n planes hold the lowest n bits of the word
 abbrev pub Agree : List (List ℕ) → ℕ → ℕ → ℕ → ℕ → Type 0

@@ -6,7 +6,8 @@ use Rattle.std.proofs.lemmas.Nat.Bits.{bit_at-zero, bit_at_set_same, bit_at_set_
 use Rattle.rds_code.specs.declared.offset.Offset.{Offset}
 use Rattle.rds_stream.specs.Recording.{Signal, off}
 use Rattle.rds_stream.proofs.WindowLists.{off_early}
-use Rattle.rds_stream.specs.ValidWindows.{AreMarks, NoneValid}
+use Rattle.rds_stream.specs.ValidWindows.{NoneValid}
+use Rattle.rds_stream.specs.Inside.Marks.{AreMarks}
 
 pub some_is : (o : Option Offset) → IsSome o → (x : Offset) × (o ≡ Some x)
 some_is None some = absurd (true≢false (sym some))

@@ -10,7 +10,7 @@ use Rattle.std.proofs.lemmas.Nat.Bits.{bit_at_xor, bit_at-zero, bit_at_cat_low}
 use Rattle.std.proofs.lemmas.List.FromFn.{get_or-map-range_with_len}
 use Rattle.rds_code.specs.Remainder.{rem}
 use Rattle.rds_code.specs.Laws.{IsLinear}
-use Rattle.rds_stream.specs.Planes.{IsWindowAt, lane}
+use Rattle.rds_stream.specs.Inside.Lanes.{IsWindowAt, lane}
 use Rattle.rds_stream.proofs.BitOrder.{shr_bit}
 
 -- what the generator leaves of each power of x

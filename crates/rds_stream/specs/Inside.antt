@@ -1,3 +1,5 @@
 -- What the bodies of this crate cite, and no contract of a public function.
 pub mod Gaps
+pub mod Lanes
+pub mod Marks
 pub mod Sections

@@ -1,6 +1,5 @@
 -- The valid windows of a range, one after the other.
-use Rattle.std.specs.Prelude.{◌≡◌, ℕ, ◌+◌, ◌<◌, ◌≤◌, ◌↔◌, Option, Some, None, IsSome}
-use Rattle.std.specs.Int.{bit_at}
+use Rattle.std.specs.Prelude.{◌≡◌, ℕ, ◌+◌, ◌<◌, ◌≤◌, Option, Some, None}
 use Rattle.rds_code.specs.declared.offset.Offset.{Offset}
 use Rattle.rds_stream.specs.Recording.{Signal, off}
 
@@ -20,10 +19,3 @@ GivesFirst old None new = NoneValid old.signal old.next old.end × (new ≡ reco
 GivesFirst old (Some found) new =
     (old.next ≤ found.0) × (found.0 < old.end) × NoneValid old.signal old.next found.0 × (off old.signal found.0 ≡ Some found.1)
     × (new ≡ record { signal = old.signal; next = found.0 + 1; end = old.end })
-
--- bit k of the word tells whether place `next` + k has an offset, for the places before `ahead`, which are 64 at most
-pub record AreMarks (b : Signal) (next ahead word : ℕ) : Type 0 where
-  pub order : next ≤ ahead
-  pub width : ahead ≤ next + 64
-  pub marked : (k : ℕ) → next + k < ahead → (bit_at word k ≡ 1) ↔ IsSome (off b (next + k))
-  pub past : (k : ℕ) → ahead ≤ next + k → bit_at word k ≡ 0

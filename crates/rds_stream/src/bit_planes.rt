@@ -8,11 +8,12 @@
 //! where x^26 leaves a one. The highest plane alone is summed up from the places.
 //!
 //! The 64 places go by halves in two lanes of a vector: 57 bits of a lane hold the windows of 32 places.
-ghost use Rattle.std.specs.Prelude.{◌≡◌, ℕ, ◌+◌, ◌*◌, ◌<◌, ◌≤◌, length, slice_index};
+ghost use Rattle.std.specs.Prelude.{◌≡◌, ℕ, ◌+◌, ◌*◌, ◌<◌, ◌≤◌, slice_index};
 ghost use Rattle.std.specs.Int.{bit_at};
 ghost use Rattle.rds_code.specs.Remainder.{rem};
 ghost use Rattle.rds_stream.specs.Recording.{length_of, window};
-ghost use Rattle.rds_stream.specs.Planes.{Hold, HoldInLane, IsWindowAt, lane};
+ghost use Rattle.rds_stream.specs.Planes.{Hold};
+ghost use Rattle.rds_stream.specs.Inside.Lanes.{HoldInLane, IsWindowAt, lane};
 
 use crate::lanes::{from_on, joined, sum};
 use crate::recording::Recording;
@@ -20,9 +21,9 @@ use rds_code::laws;
 use std::simd::prelude::*;
 
 /// The remainders of the windows at the 64 places from `at` on, as ten planes: bit k of plane r, counted from the
-/// lowest, is bit r of the remainder of the window at place `at` + k.
+/// lowest, is bit r of the remainder of the window at place `at` + k. That they stand so is this project's rule.
 ///
-/// The first window is that of place 25, and the last place is below the length. It takes no memory.
+/// `at` is at least 25, and `at` + 63 below the length. It takes no memory.
 pub fn planes(recording: &Recording, at: u64) -> [u64; 10]
     requires first { 25 ≤ at }
     requires last { at + 64 ≤ length_of recording.now }

@@ -1,6 +1,7 @@
 //! Gaps: ranges of places whose bits mean nothing, by rising place.
-ghost use Rattle.std.specs.Prelude.{◌≡◌, ℕ, List, ◌<◌, ◌≤◌, ◌↔◌, length, true, false};
+ghost use Rattle.std.specs.Prelude.{◌≡◌, ◌<◌, ◌≤◌, ◌↔◌, length, true};
 ghost use Rattle.std.specs.List.{All, AllAdjacentBelow};
+ghost use Rattle.std.specs.List.Sorted.{IsNonDecreasingBy};
 ghost use Rattle.std.specs.Option.{MatchOption};
 ghost use Rattle.rds_stream.specs.Recording.{AreGaps};
 ghost use Rattle.rds_stream.specs.Inside.Gaps.{AllEndBy, IsFirstAfter};
@@ -36,8 +37,8 @@ fn are_apart(gaps: &[(u64, u64)]) -> bool
 }
 
 /// The first gap that goes past `place`, if there is one.
-pub(crate) fn first_after(gaps: &[(u64, u64)], bits: u64, place: u64) -> Option<(u64, u64)>
-    requires { AreGaps bits gaps.now }
+pub(crate) fn first_after(gaps: &[(u64, u64)], place: u64) -> Option<(u64, u64)>
+    requires { IsNonDecreasingBy (λ gap. gap.1) gaps.now }
     ensures { MatchOption result (AllEndBy gaps.now (length gaps.now) place) (IsFirstAfter gaps.now place) }
 {
     let before = gaps.partition_point(|gap| gap.1 <= place);

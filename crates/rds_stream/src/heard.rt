@@ -4,8 +4,8 @@ ghost use Rattle.rds_stream.specs.Recording.{offset_heard, reading_heard};
 
 use rds_code::{BurstTable, Offset, Reading, Wanted, offset_of, read_block, rem26};
 
-/// The offset of a window that was heard: the one whose word is its remainder (EN 50067:1998, 2.3 and annex A), or
-/// none. Nothing has no offset: this project's rule.
+/// The offset of a window that was heard, a word of 26 bits: the one whose word is its remainder (EN 50067:1998, 2.3
+/// and annex A), or none. Nothing has no offset: this project's rule.
 #[inline(always)]
 pub fn offset_heard(heard: Option<u32>) -> Option<Offset>
     requires { IfSome heard (λ window. window < 2 ^ 26) }
@@ -14,8 +14,9 @@ pub fn offset_heard(heard: Option<u32>) -> Option<Offset>
     offset_of(rem26(heard?))
 }
 
-/// A window that was heard, read as block `number`, 1 to 4, with bursts of up to `limit` bits corrected, 0 to 5, by
-/// [`read_block`]. Nothing is read as a lost block, whatever bits were stored: this project's rule.
+/// A window that was heard, a word of 26 bits, read as block `number`, 1 to 4, with bursts of up to `limit` bits
+/// corrected, 0 to 5, by [`read_block`]. Nothing is read as a lost block, whatever bits were stored: this project's
+/// rule.
 #[inline(always)]
 pub fn read_heard(
     table: &BurstTable,

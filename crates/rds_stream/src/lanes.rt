@@ -1,12 +1,12 @@
 //! Vectors of two lanes, of which each holds the bits of some places in a row, the first place lowest.
 ghost use Rattle.std.specs.Prelude.{◌≡◌, ℕ, ◌+◌, ◌*◌, ◌/◌, ◌^◌, ◌<◌, bit_and, bit_or, bit_xor, slice_index};
 ghost use Rattle.std.specs.Int.{bit_at};
-ghost use Rattle.rds_stream.specs.Planes.{HasLanes};
+ghost use Rattle.rds_stream.specs.Inside.Lanes.{HasLanes};
 
 use std::simd::prelude::*;
 
 /// How many windows end in the places of one lane: 57 places lie in it, and 26 make a window.
-pub(crate) const LANE: u64 = 32;
+const LANE: u64 = 32;
 
 /// Each lane from the place `by` places on.
 #[inline(always)]

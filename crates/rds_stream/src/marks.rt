@@ -2,13 +2,14 @@
 //!
 //! A mark is a one just where all ten planes agree with one of the five offset words, so marks are exact both ways:
 //! each valid window is marked, and no other is looked at.
-ghost use Rattle.std.specs.Prelude.{◌≡◌, ◌≢◌, ℕ, ◌+◌, ◌-◌, ◌<◌, ◌≤◌, ◌^◌, ◌↔◌, false, slice_index, IsSome};
+ghost use Rattle.std.specs.Prelude.{◌≡◌, ◌≢◌, ℕ, ◌+◌, ◌<◌, ◌≤◌, ◌^◌, ◌↔◌, false, slice_index, IsSome};
 ghost use Rattle.std.specs.Int.{bit_at};
 ghost use Rattle.rds_code.specs.Offsets.{offset_of as the_offset_of};
-ghost use Rattle.rds_stream.specs.Planes.{HoldInLane};
+ghost use Rattle.rds_stream.specs.Inside.Lanes.{HoldInLane};
 ghost use Rattle.rds_stream.specs.Recording.{length_of, off};
 ghost use Rattle.rds_stream.specs.Inside.Sections.{IsSection};
-ghost use Rattle.rds_stream.specs.ValidWindows.{AreMarks, NoneValid};
+ghost use Rattle.rds_stream.specs.ValidWindows.{NoneValid};
+ghost use Rattle.rds_stream.specs.Inside.Marks.{AreMarks};
 
 use crate::bit_planes::plane_lanes;
 use crate::gaps::Section;

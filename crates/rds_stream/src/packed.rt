@@ -1,5 +1,5 @@
 //! Packed bits with places.
-ghost use Rattle.std.specs.Prelude.{◌≡◌, List, ℕ, ◌+◌, ◌*◌, ◌^◌, ◌<◌, ◌≤◌, ◌↔◌, vec_len, length, slice_index, All, if◌then◌else◌, IfOk, IsOk};
+ghost use Rattle.std.specs.Prelude.{◌≡◌, List, ℕ, ◌+◌, ◌*◌, ◌^◌, ◌<◌, ◌≤◌, ◌↔◌, vec_len, length, slice_index, if◌then◌else◌};
 ghost use Rattle.rds_stream.specs.declared.error.StreamError.TheVariants.{TooLong, BitsPastBytes};
 ghost use Rattle.std.specs.Int.{bit_at};
 ghost use Rattle.rds_stream.specs.Recording.{packed_bit, bits_of, window};
@@ -90,7 +90,7 @@ impl Packed {
         ensures value { result ≡ window self.now place }
         ensures block { result < 2 ^ 26 }
     {
-        // A window lies in the eight bytes up to that of its last bit, or begins with the first ones.
+        // The eight bytes up to that of its last bit hold a window; the first 56 places have fewer.
         let last = (place / 8) as usize;
         if last < 7 {
             return self.early_window(place);

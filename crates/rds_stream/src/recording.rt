@@ -1,5 +1,5 @@
 //! A recording: demodulated bits with places, and the gaps in them.
-ghost use Rattle.std.specs.Prelude.{◌≡◌, ◌≢◌, ℕ, List, ◌+◌, ◌*◌, ◌^◌, ◌<◌, ◌≤◌, ◌↔◌, vec_len, length, slice_index, if◌then◌else◌, Err, IfOk, IsOk, false};
+ghost use Rattle.std.specs.Prelude.{◌≡◌, ℕ, ◌+◌, ◌*◌, ◌^◌, ◌<◌, ◌≤◌, ◌↔◌, vec_len, length, slice_index, if◌then◌else◌, Err, IfOk, IsOk};
 ghost use Rattle.std.specs.Int.{bit_at};
 ghost use Rattle.rds_code.specs.Remainder.{rem};
 ghost use Rattle.rds_code.specs.Offsets.{offset_of as the_offset_of};
@@ -38,7 +38,7 @@ impl Model for Recording {
 
 impl Recording {
     /// The first `bits` bits of the bytes, the highest bit of a byte first, without gaps. Bits past them are no part of
-    /// the recording.
+    /// the recording. That bits come packed so is this project's rule.
     ///
     /// Refuses more than 2^36 bits, and then more than the bytes hold; the bytes come back as they were. Takes no
     /// memory.
@@ -60,7 +60,8 @@ impl Recording {
         })
     }
 
-    /// The same with gaps: each is the places from its first number to before its second.
+    /// The same with gaps, which are this project's rule: each is the places from its first number to before its
+    /// second.
     ///
     /// Refuses more than 2^36 bits, then more than the bytes hold, and then gaps of which one has no place, or goes
     /// past the bits, or begins before the end of the one before it; the bytes and the gaps come back as they were.
@@ -121,7 +122,8 @@ impl Recording {
         self.packed.window(place)
     }
 
-    /// Whether one of the 26 places up to `place` lies in a gap. `place` is at least 25, and below the length.
+    /// Whether one of the 26 places up to `place` lies in a gap: this project's rule. `place` is at least 25, and below
+    /// the length.
     ///
     /// Takes a binary search through the gaps, and no time where there are none.
     pub fn touches(&self, place: u64) -> bool
@@ -170,7 +172,7 @@ impl Recording {
         ensures alike { IsSection self.now result.from result.to result.touched }
     {
         let len = self.len();
-        let (to, touched) = match first_after(&self.gaps, len, place - FIRST_WINDOW) {
+        let (to, touched) = match first_after(&self.gaps, place - FIRST_WINDOW) {
             Some((from, to)) if from <= place => (len.min(to + FIRST_WINDOW), true),
             Some((from, _)) => (from, false),
             None => (len, false),

@@ -1,5 +1,5 @@
 //! All valid windows of a range.
-ghost use Rattle.std.specs.Prelude.{◌≡◌, ◌≤◌, length, IfOk, IsOkUnless};
+ghost use Rattle.std.specs.Prelude.{◌≡◌, ◌≤◌, IfOk, IsOkUnless};
 ghost use Rattle.rds_stream.specs.declared.error.StreamError.TheVariants.{OutOfMemory};
 ghost use Rattle.rds_stream.specs.Recording.{length_of, valid_windows};
 
@@ -11,7 +11,8 @@ use std::alloc::Global;
 
 /// All valid windows at the places from `from` to before `to`, each with its offset, by rising place.
 ///
-/// Windows may begin before `from`, and none before the recording. It refuses only where memory is refused.
+/// `from` is at most `to`, and `to` at most the length. Windows may begin before `from`, and none before the recording.
+/// Those that touch a gap are left out: this project's rule. It refuses only where memory is refused.
 pub fn scan(
     alloc: Global,
     recording: &Recording,

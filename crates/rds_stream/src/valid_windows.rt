@@ -1,9 +1,10 @@
 //! The valid windows of a range, one after the other.
-ghost use Rattle.std.specs.Prelude.{◌≡◌, ◌≤◌, ◌<◌, ◌-◌, length};
+ghost use Rattle.std.specs.Prelude.{◌≡◌, ◌≤◌, ◌<◌, ◌-◌};
 ghost use Rattle.std.specs.Iterator.{at_most};
 ghost use Rattle.rds_stream.specs.Recording.{length_of};
 ghost use Rattle.rds_stream.specs.Inside.Sections.{IsSection};
-ghost use Rattle.rds_stream.specs.ValidWindows.{WindowsLeft, GivesFirst, AreMarks};
+ghost use Rattle.rds_stream.specs.ValidWindows.{WindowsLeft, GivesFirst};
+ghost use Rattle.rds_stream.specs.Inside.Marks.{AreMarks};
 
 use crate::gaps::Section;
 use crate::marks::{Marks, above, lowest};
@@ -12,7 +13,7 @@ use rds_code::Offset;
 use std::marker::Model;
 
 /// The valid windows of a range, each with its place and its offset, by rising place. Windows that touch a gap are left
-/// out.
+/// out: this project's rule.
 ///
 /// It goes over 64 places at once, no further than it is asked for, and takes no memory. Contracts see which places are
 /// left.
@@ -35,8 +36,8 @@ impl<'a> Model for ValidWindows<'a> {
 }
 
 impl ValidWindows<'_> {
-    /// The valid windows at the places from `from` to before `to`. They may begin before `from`, and none before the
-    /// recording.
+    /// The valid windows at the places from `from` to before `to`. `from` is at most `to`, and `to` at most the length.
+    /// Windows may begin before `from`, and none before the recording.
     pub fn new(recording: &Recording, from: u64, to: u64) -> ValidWindows<'_>
         requires order { from ≤ to }
         requires end { to ≤ length_of recording.now }
@@ -85,6 +86,7 @@ impl<'a> Iterator for ValidWindows<'a> {
             ahead: marks.ahead,
             word: above(marks.word, bit),
         };
+        // A marked place has an offset.
         let offset = self.recording.stored_offset(place)?;
         Some((place, offset))
     }

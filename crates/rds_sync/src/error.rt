@@ -22,7 +22,7 @@ pub enum SyncError {
     /// Memory was refused.
     #[error("out of memory")]
     OutOfMemory,
-    /// The share is not `bad` of the last `of` blocks, 1 ≤ bad ≤ of ≤ 64.
+    /// The share of bad blocks is not 1 ≤ bad ≤ of ≤ 64.
     #[error("the share is not 1 to 64 bad blocks of as many or more, up to 64")]
     ShareRange,
 }

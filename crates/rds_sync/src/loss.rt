@@ -14,7 +14,7 @@ const MOST_BLOCKS: u32 = 64;
 pub enum Loss {
     /// After so many bad blocks in a row: 1 to 64.
     Run(u32),
-    /// Where `bad` of the last `of` blocks are bad: 1 ≤ bad ≤ of ≤ 64.
+    /// Where `bad` of the last `of` blocks are bad, 1 ≤ bad ≤ of ≤ 64.
     Share { bad: u32, of: u32 },
 }
 

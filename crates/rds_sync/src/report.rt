@@ -17,7 +17,7 @@ use crate::totals::Totals;
 use rds_stream::{Counted, Reader, Recording};
 use std::alloc::Global;
 
-/// What was found in a recording: its items, in order of place, and their totals.
+/// What was found in a recording: its items, in order of place, and their totals. This project's rule.
 #[derive(Drop)]
 pub struct Report {
     /// Acquisitions, groups and losses, in order of place.

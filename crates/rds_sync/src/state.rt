@@ -8,7 +8,7 @@ use crate::loss::Bad;
 use crate::rules::Rules;
 use rds_stream::FIRST_WINDOW;
 
-/// The state before a bit.
+/// The state before a bit: this project's rule, after the flywheel of annex C.
 #[derive(Clone, Copy, Debug, PartialEq, Eq)]
 pub enum State {
     /// No block is known: each bit is tried as the last of a block that acquires.

@@ -7,7 +7,7 @@ use crate::items::Items;
 use crate::kept::Kept;
 use rds_code::Reading;
 
-/// Twelve counts over a list of items. Blocks that are missing are not counted.
+/// Twelve counts over a list of items: this project's rule. Blocks that are missing are not counted.
 #[derive(Clone, Copy, Debug, PartialEq, Eq)]
 pub struct Totals {
     /// Valid blocks.

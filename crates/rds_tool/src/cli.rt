@@ -37,13 +37,15 @@ pub struct CliFault {
 /// The job that a command line asks for. The words begin with the program's name.
 ///
 /// Without a job, the answer is help or the version where that was asked for, or a fault where `clap` finds one in the
-/// words or no job has their entries. Gaps that spell none are answered by the text `bad --gaps` and a line feed, once `clap` finds no
-/// fault. Each can be want of memory instead.
+/// words or no job has their entries. Gaps that spell none are answered by the text `bad --gaps` and a line feed, once
+/// `clap` finds no fault. Each can be want of memory instead.
 pub fn job_of(alloc: Global, words: &[&str]) -> Result<Job, CliFault>
     ensures entries { IfOk result (IsJobOf (entries_of (map (λ word. word.now) words.now))) }
     ensures faultless { OnOk result (faults_of (map (λ word. word.now) words.now) ≡ []) }
-    ensures refused { IfErr result (λ fault. MayAnswer (faults_of (map (λ word. word.now) words.now)) (entries_of (map (λ word. word.now) words.now)) fault.kind) }
-    ensures gaps { faults_of (map (λ word. word.now) words.now) ≡ [] → HasBadGaps (entries_of (map (λ word. word.now) words.now)) → IsErrAnd result SaysBadGaps }
+    ensures refused { IfErr result (λ fault. MayAnswer (faults_of (map (λ word. word.now) words.now))
+        (entries_of (map (λ word. word.now) words.now)) fault.kind) }
+    ensures gaps { faults_of (map (λ word. word.now) words.now) ≡ []
+        → HasBadGaps (entries_of (map (λ word. word.now) words.now)) → IsErrAnd result SaysBadGaps }
     ensures memory { IfErr result (λ fault. fault.kind ≡ FaultKind.Memory → string_bytes fault.text ≡ []) }
 {
     let matches = match matches_of(alloc, words) {
@@ -58,7 +60,8 @@ pub fn job_of(alloc: Global, words: &[&str]) -> Result<Job, CliFault>
 
 /// What `clap` makes of the words.
 fn matches_of<'a>(alloc: Global, words: &'a [&'a str]) -> Result<ArgMatches<'a>, clap::Error>
-    ensures entries { IfOk result (λ matches. subcommand_rows_of matches ≡ entries_of (map (λ word. word.now) words.entry.now)) }
+    ensures entries { IfOk result (λ matches. subcommand_rows_of matches
+        ≡ entries_of (map (λ word. word.now) words.entry.now)) }
     ensures faults { FailsBy (faults_of (map (λ word. word.now) words.entry.now)) result }
 {
     rds_command(alloc)?.try_get_matches_from(words)

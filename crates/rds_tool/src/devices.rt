@@ -14,9 +14,10 @@ pub struct Failed;
 /// An implementor says by `remaining` which bytes are still to come, or `None` where no contract can
 /// name them, as for a file or a pipe.
 pub trait Source {
-    // The bytes that reads will give from here on, where they are known.
+    /// The bytes that reads will give from here on, where they are known.
     ghost remaining: { Self → Option (List ℕ) };
-    // How many calls have failed.
+
+    /// How many calls have failed.
     ghost failed: { Self → ℕ };
 
     /// One read: fills the front of `buf` and answers how many bytes that were.
@@ -37,9 +38,10 @@ pub trait Source {
 ///
 /// An implementor says by `contents` which bytes it holds, or `None` where no contract can name them.
 pub trait Sink {
-    // The bytes that were written, where they are known.
+    /// The bytes that were written, where they are known.
     ghost contents: { Self → Option (List ℕ) };
-    // How many calls have failed.
+
+    /// How many calls have failed.
     ghost failed: { Self → ℕ };
 
     /// One write: takes some bytes from the front of `bytes` and answers how many.

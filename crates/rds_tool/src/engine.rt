@@ -24,13 +24,13 @@ const CHUNK: usize = 65_536;
 /// whatever order their threads ended. The premise is that reader and writer tell their bytes, as those over memory do.
 /// The listing and the report are defined over whole locks, with no word of pieces or workers.
 ///
-/// Refusals come in this order: those of the settings (`BurstRange`, `ReachRange`, `LossRange`, `CrewRange`, and
-/// `BadCutting` for no piece), before anything is read, those of the reader (`Read`, `TooManyTurns`), those of the job and
-/// the bytes (`HexText`, `TooLong`, `BitsPastBytes`, `BadCutting`, or `GroupText`), `NoWorker`, where more than one worker
-/// is asked for and the system started no thread for one, and those of the writer (`Write`). `OutOfMemory` may come wherever
-/// memory is taken. The rows of a list are made by as many threads as well, and without one that is not started. The text is
-/// complete before its first byte is written, and no thread outlives the call. Reader and writer have counted fewer than 2^63
-/// failures before.
+/// Refusals come in this order: those of the settings (`BurstRange`, `ReachRange`, `LossRange` or by the share
+/// `ShareRange`, `CrewRange`, and `BadCutting` for no piece), before anything is read, those of the reader (`Read`,
+/// `TooManyTurns`), those of the job and the bytes (`HexText`, `TooLong`, `BitsPastBytes`, `BadGaps`, `BadCutting`, or
+/// `GroupText`), `NoWorker`, where more than one worker is asked for and the system refused to start a thread, and those
+/// of the writer (`Write`). `OutOfMemory` may come wherever memory is taken. The rows of a list are made by as many
+/// threads as well, and without one that is not started. The text is complete before its first byte is written, and no
+/// thread outlives the call. Reader and writer have counted fewer than 2^63 failures before.
 pub fn transcribe<R: Threads + Wait + Sync, S: Source, K: Sink>(
     rt: &R,
     alloc: Global,
@@ -43,22 +43,26 @@ pub fn transcribe<R: Threads + Wait + Sync, S: Source, K: Sink>(
 
     // The whole input was read, and the text that the job makes of it was written.
     ensures end { OnOk result (IsAtEnd (S.remaining reader.new)) }
-    ensures ok { OnOk result (IfSome (S.remaining reader.old) (λ held. Writes (K.contents writer.old) (K.contents writer.new) (outcome job.now held))) }
+    ensures ok { OnOk result (IfSome (S.remaining reader.old)
+        (λ held. Writes (K.contents writer.old) (K.contents writer.new) (outcome job.now held))) }
 
-    // A refusal for the devices' sake comes exactly where one failed, one for a thread's only where there may be some, and
-    // another is that of the job.
+    // A refusal for the devices' sake comes exactly where one failed, one for the number of reads only where as many
+    // bytes were read, one for a thread's only where there may be some, and another is that of the job.
     ensures read { IsErrOf result ToolError.Read ↔ (S.failed reader.old < S.failed reader.new) }
     ensures write { IsErrOf result ToolError.Write ↔ (K.failed writer.old < K.failed writer.new) }
-    ensures turns { IsErrOf result ToolError.TooManyTurns → IfSome (S.remaining reader.old) (λ held. 16777216 ≤ length held) }
+    ensures turns { IsErrOf result ToolError.TooManyTurns → (more : List ℕ)
+        × Consumes (S.remaining reader.old) (S.remaining reader.new) more × (16777216 ≤ length more) }
     ensures no_worker { IsErrOf result ToolError.NoWorker → AsksForThreads job.now }
-    ensures refused { IfErr result (λ error. IsOutside error ⊎ IfSome (S.remaining reader.old) (λ held. outcome job.now held ≡ Err error)) }
+    ensures refused { IfErr result (λ error. IsOutside error
+        ⊎ IfSome (S.remaining reader.old) (λ held. outcome job.now held ≡ Err error)) }
 
     // Settings out of their range are refused as such before anything is read.
     ensures settings { IfErr (task_of job.now) (λ error. (result ≡ Err error) × (reader.new ≡ reader.old)) }
 
     // What the writer has after a refusal.
     ensures untouched { IfErr result (λ error. error ≢ ToolError.Write → writer.new ≡ writer.old) }
-    ensures prefix { IsErrOf result ToolError.Write → IfSome (S.remaining reader.old) (λ held. WritesPrefix (K.contents writer.old) (K.contents writer.new) (outcome job.now held)) }
+    ensures prefix { IsErrOf result ToolError.Write → IfSome (S.remaining reader.old)
+        (λ held. WritesPrefix (K.contents writer.old) (K.contents writer.new) (outcome job.now held)) }
 {
     transcribe_gated(rt, alloc, reader, writer, job, &OpenGate)
 }
@@ -77,15 +81,19 @@ pub fn transcribe_gated<R: Threads + Wait + Sync, S: Source, K: Sink, G: Gate + 
 
     // Clause by clause as `transcribe`.
     ensures end { OnOk result (IsAtEnd (S.remaining reader.new)) }
-    ensures ok { OnOk result (IfSome (S.remaining reader.old) (λ held. Writes (K.contents writer.old) (K.contents writer.new) (outcome job.now held))) }
+    ensures ok { OnOk result (IfSome (S.remaining reader.old)
+        (λ held. Writes (K.contents writer.old) (K.contents writer.new) (outcome job.now held))) }
     ensures read { IsErrOf result ToolError.Read ↔ (S.failed reader.old < S.failed reader.new) }
     ensures write { IsErrOf result ToolError.Write ↔ (K.failed writer.old < K.failed writer.new) }
-    ensures turns { IsErrOf result ToolError.TooManyTurns → IfSome (S.remaining reader.old) (λ held. 16777216 ≤ length held) }
+    ensures turns { IsErrOf result ToolError.TooManyTurns → (more : List ℕ)
+        × Consumes (S.remaining reader.old) (S.remaining reader.new) more × (16777216 ≤ length more) }
     ensures no_worker { IsErrOf result ToolError.NoWorker → AsksForThreads job.now }
-    ensures refused { IfErr result (λ error. IsOutside error ⊎ IfSome (S.remaining reader.old) (λ held. outcome job.now held ≡ Err error)) }
+    ensures refused { IfErr result (λ error. IsOutside error
+        ⊎ IfSome (S.remaining reader.old) (λ held. outcome job.now held ≡ Err error)) }
     ensures settings { IfErr (task_of job.now) (λ error. (result ≡ Err error) × (reader.new ≡ reader.old)) }
     ensures untouched { IfErr result (λ error. error ≢ ToolError.Write → writer.new ≡ writer.old) }
-    ensures prefix { IsErrOf result ToolError.Write → IfSome (S.remaining reader.old) (λ held. WritesPrefix (K.contents writer.old) (K.contents writer.new) (outcome job.now held)) }
+    ensures prefix { IsErrOf result ToolError.Write → IfSome (S.remaining reader.old)
+        (λ held. WritesPrefix (K.contents writer.old) (K.contents writer.new) (outcome job.now held)) }
 {
     let task = Task::of(alloc, job)?;
     let held = read_all(alloc, reader)?;
@@ -99,8 +107,10 @@ fn read_all<S: Source>(alloc: Global, reader: &mut S) -> Result<Vec<u8>, ToolErr
     ensures ok { IfOk result (λ bytes. IfSome (S.remaining reader.old) (λ held. bytes.items ≡ held)) }
     ensures end { OnOk result (IsAtEnd (S.remaining reader.new)) }
     ensures read { IsErrOf result ToolError.Read ↔ (S.failed reader.old < S.failed reader.new) }
-    ensures kinds { IfErr result (λ error. (error ≡ ToolError.OutOfMemory) ⊎ ((error ≡ ToolError.Read) ⊎ (error ≡ ToolError.TooManyTurns))) }
-    ensures turns { IsErrOf result ToolError.TooManyTurns → IfSome (S.remaining reader.old) (λ held. 16777216 ≤ length held) }
+    ensures kinds { IfErr result (λ error. (error ≡ ToolError.OutOfMemory)
+        ⊎ ((error ≡ ToolError.Read) ⊎ (error ≡ ToolError.TooManyTurns))) }
+    ensures turns { IsErrOf result ToolError.TooManyTurns → (more : List ℕ)
+        × Consumes (S.remaining reader.old) (S.remaining reader.new) more × (16777216 ≤ length more) }
 {
     let mut bytes = Vec::new(alloc);
     let mut buf = zeros(alloc, CHUNK)?;
@@ -121,7 +131,9 @@ fn read_some<S: Source>(
 ) -> Result<bool, ToolError>
     requires count { S.failed reader.old < 2 ^ 63 }
     requires room { 0 < length buf.old }
-    ensures taken { OnOk result ((more : List ℕ) × Consumes (S.remaining reader.old) (S.remaining reader.new) more × (bytes.new.items ≡ bytes.old.items ++ more)) }
+    ensures taken { OnOk result ((more : List ℕ)
+        × Consumes (S.remaining reader.old) (S.remaining reader.new) more
+        × (bytes.new.items ≡ bytes.old.items ++ more)) }
     ensures end { IfOk result (λ is_at_end. is_at_end ≡ true → IsAtEnd (S.remaining reader.new)) }
     ensures grows { IfOk result (λ is_at_end. is_at_end ≡ false → length bytes.old.items < length bytes.new.items) }
     ensures count { OnOk result (S.failed reader.new ≡ S.failed reader.old) }

@@ -55,8 +55,8 @@ pub enum ToolError {
     /// The system refused to start a thread.
     #[error("a thread was not started")]
     NoWorker,
-    /// The share is not at least 1 bad block of at most 64.
-    #[error("the share is not at least 1 bad block of at most 64")]
+    /// The share is not 1 ≤ bad ≤ of ≤ 64.
+    #[error("the share is not 1 to 64 bad blocks of as many or more, up to 64")]
     ShareRange,
     /// The gaps don't lie in order among the bits, or one of them has no place.
     #[error("the gaps are none that the recording may have")]

@@ -76,9 +76,9 @@ pub const TOTALS: &str = "Count valid, corrected and lost blocks, groups, losses
 pub const TOTALS_AFTER: &str =
     "Writes twelve rows 'total,NAME,VALUE', each with five fields '-' after it:
 
-  valid              blocks that were read as they were sent
+  valid              blocks whose remainder is their offset word
   burst1 to burst5   corrected blocks, by the span of their burst in bits
-  lost               blocks that were read and are neither
+  lost               blocks that were read and are neither valid nor corrected
   bits               bits that were corrected
   groups             groups, as 'rds list' lists them
   complete           groups of which all four blocks are valid or corrected

@@ -60,8 +60,8 @@ pub struct Settings {
     pub burst: u32,
     /// How many blocks back an acquiring block looks for another that fits it: 1 to 8.
     pub reach: u32,
-    /// When a lock is lost: after 1 to 64 blocks in a row that are not valid, or where at least 1 of the last blocks, at most
-    /// 64, are not.
+    /// When a lock is lost: after 1 to 64 blocks in a row that are not valid, or where `bad` of the last `of` are not, with
+    /// 1 ≤ bad ≤ of ≤ 64.
     pub loss: Loss,
     /// By how many threads at most the pieces are decoded, and the rows of a list made: 1 to 256. The listing doesn't depend
     /// on it.

@@ -122,7 +122,8 @@ fn cutting_of(alloc: Global, cuts: &Cuts, len: u64) -> Result<Cutting, ToolError
     requires { has_pieces cuts.now ≡ true }
     ensures cutting { IfOk result (λ cutting. IsCutting len cutting) }
     ensures fits { OnOk result (cuts_bits cuts.now len ≡ true) }
-    ensures refused { IfErr result (λ error. (error ≡ ToolError.OutOfMemory) ⊎ ((error ≡ ToolError.BadCutting) × (cuts_bits cuts.now len ≡ false))) }
+    ensures refused { IfErr result (λ error. (error ≡ ToolError.OutOfMemory)
+        ⊎ ((error ≡ ToolError.BadCutting) × (cuts_bits cuts.now len ≡ false))) }
 {
     match cuts {
         Cuts::Even(pieces) => Ok(Cutting::even(alloc, len, *pieces)?),
@@ -134,7 +135,8 @@ fn cutting_of(alloc: Global, cuts: &Cuts, len: u64) -> Result<Cutting, ToolError
 fn cutting_at(alloc: Global, cuts: &[u64], len: u64) -> Result<Cutting, ToolError>
     ensures cutting { IfOk result (λ cutting. IsCutting len cutting) }
     ensures fits { OnOk result (are_inner len cuts.now ≡ true) }
-    ensures refused { IfErr result (λ error. (error ≡ ToolError.OutOfMemory) ⊎ ((error ≡ ToolError.BadCutting) × (are_inner len cuts.now ≡ false))) }
+    ensures refused { IfErr result (λ error. (error ≡ ToolError.OutOfMemory)
+        ⊎ ((error ≡ ToolError.BadCutting) × (are_inner len cuts.now ≡ false))) }
 {
     let places = places_of(alloc, cuts, len)?;
     match Cutting::new(places, len) {

@@ -58,7 +58,8 @@ impl<'a> Task<'a> {
         gate: &G,
     ) -> Result<Text, ToolError>
         ensures ok { IfOk result (λ text. text_of_task self.entry held.items ≡ Ok text) }
-        ensures refused { IfErr result (λ error. (error ≡ ToolError.OutOfMemory) ⊎ (((error ≡ ToolError.NoWorker) × MayStartThreads self.entry)
+        ensures refused { IfErr result (λ error. (error ≡ ToolError.OutOfMemory)
+            ⊎ (((error ≡ ToolError.NoWorker) × MayStartThreads self.entry)
             ⊎ (text_of_task self.entry held.items ≡ Err error))) }
     {
         match self {
@@ -94,9 +95,12 @@ fn report_of<R: Threads + Wait, G: Gate + Sync>(
     held: Vec<u8>,
     gate: &G,
 ) -> Result<Report, ToolError>
-    ensures list { IfOk result (λ report. text_of_task (task.List input plan.now) held.items ≡ Ok (report_text report.items report.totals)) }
-    ensures totals { IfOk result (λ report. text_of_task (task.Totals input plan.now) held.items ≡ Ok (totals_text report.totals)) }
-    ensures refused { IfErr result (λ error. (error ≡ ToolError.OutOfMemory) ⊎ (((error ≡ ToolError.NoWorker) × (1 < plan.now.workers))
+    ensures list { IfOk result (λ report. text_of_task (task.List input plan.now) held.items
+        ≡ Ok (report_text report.items report.totals)) }
+    ensures totals { IfOk result (λ report. text_of_task (task.Totals input plan.now) held.items
+        ≡ Ok (totals_text report.totals)) }
+    ensures refused { IfErr result (λ error. (error ≡ ToolError.OutOfMemory)
+        ⊎ (((error ≡ ToolError.NoWorker) × (1 < plan.now.workers))
         ⊎ (cut_recording input plan.now.cuts held.items ≡ Err error))) }
 {
     let recording = recording_of(alloc, input, held)?;

@@ -8,8 +8,8 @@ use crate::{Failed, Sink, ToolError};
 use std::alloc::Global;
 use std::marker::Model;
 
-/// A text in parts, each of which was made by a thread of its own. They are written one after the other and never copied
-/// together. Clauses see the whole text.
+/// A text in parts, since several threads may make it. They are written one after the other and never copied together.
+/// Clauses see the whole text.
 #[derive(Drop)]
 pub struct Text {
     front: Vec<Vec<u8>>,

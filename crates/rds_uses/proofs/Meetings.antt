@@ -8,7 +8,7 @@ use Rattle.rds_sync.specs.Rules.{RuleNumbers}
 use Rattle.rds_sync.specs.Step.{run}
 use Rattle.rds_pieces.specs.Meeting.{IsMeeting, MeetAt, distance}
 use Rattle.rds_pieces.specs.RunOf.{RunOf, FollowEachOther}
-use Rattle.rds_pieces.specs.Seams.{IsSumOfReads}
+use Rattle.rds_pieces.specs.Seams.{IsSumOfReads, seam_reads}
 
 module _ (b : Signal) (rules : RuleNumbers) where
   meet_here : (from to : ℕ) → from ≤ to → MeetAt b rules Searching Searching from to from
@@ -24,6 +24,9 @@ module _ (b : Signal) (rules : RuleNumbers) where
     at_case (inl later) = absurd (is.least from later (meet_here from to order))
     at_case (inr before) = omega (arith, is.here.inside)
 
+  pub first_meeting : (from to : ℕ) → from ≤ to → IsMeeting b rules Searching Searching from to (Some from)
+  first_meeting from to order = record { here = meet_here from to order; least = λ q before meet. absurd (omega (arith, before, meet.inside)) }
+
   pub cost_at_once : (from to : ℕ) (met : Option ℕ) → met ≡ Some from → (rules.reach + 2) * (distance from to met + 1) ≤ rules.reach + 2
   cost_at_once from to met is =
       let none : from - from ≡ 0 = omega arith in
@@ -38,3 +41,12 @@ module _ (b : Signal) (rules : RuleNumbers) where
       let cost = cost_at_once r.from r.to sum.0 (met_at_once r.from r.to sum.0 order sum.2) in
       omega (arith, cost, sum.3, sum.4)
   one_seam (r ∷ s ∷ rest) len n row one sum = absurd (omega arith)
+
+  pub sum_of_one : (runs : List RunOf) (len : ℕ) → FollowEachOther b rules 0 len runs → length runs ≡ 1 → (n : ℕ) × IsSumOfReads b rules Searching runs n
+  sum_of_one [] len row one = absurd (omega arith)
+  sum_of_one (r ∷ []) len row one =
+      let begin : r.from ≡ 0 = ap (λ (r : RunOf). r.from) row.0 in
+      let n : ℕ = seam_reads rules r.from r.to (Some r.from) in
+      let none : n ≡ n + 0 = omega arith in
+      (n, (Some r.from, 0, first_meeting r.from r.to (omega (arith, begin, row.1)), refl, none))
+  sum_of_one (r ∷ s ∷ rest) len row one = absurd (omega arith)

@@ -57,14 +57,14 @@ pub fn takes_as_said<K: Sink>(writer: &mut K, bytes: &[u8]) -> Result<usize, Fai
     writer.write(bytes)
 }
 
-/// A write that fails is counted.
+/// A write that fails is counted, and so is one that takes no byte of some, and no other.
 pub fn counts_failed_write<K: Sink>(writer: &mut K, bytes: &[u8]) -> bool
     requires { K.failed writer.old < 2 ^ 63 }
     ensures { result ≡ true }
 {
     let before = writer.failures();
     match writer.write(bytes) {
-        Ok(_count) => writer.failures() <= before + 1,
+        Ok(count) => { writer.failures() == before + u64::from(count == 0 && !bytes.is_empty()) }
         Err(Failed) => writer.failures() == before + 1,
     }
 }

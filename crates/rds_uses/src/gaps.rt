@@ -1,11 +1,8 @@
 //! What a user relies on of gaps: which are taken, and that nothing is read where one is touched.
-ghost use Rattle.std.specs.Prelude.{◌≡◌, ◌≢◌, ℕ, ◌+◌, ◌*◌, ◌<◌, ◌≤◌, ◌^◌, [], ◌∷◌, None, Some, Err, IfSome, true, false, vec_len};
-ghost use Rattle.rds_code.specs.Remainder.{rem};
-ghost use Rattle.rds_code.specs.Offsets.{offset_of as the_offset_of};
+ghost use Rattle.std.specs.Prelude.{◌≡◌, ◌+◌, ◌*◌, ◌<◌, ◌≤◌, ◌^◌, [], None, Some, Err, true, false, vec_len};
 ghost use Rattle.rds_code.specs.Reading.{reading};
 ghost use Rattle.rds_code.specs.declared.reading.Reading.TheVariants.{Lost};
 ghost use Rattle.rds_stream.specs.Recording.{AreGaps, bits_of, length_of, off, touched, window};
-ghost use Rattle.rds_stream.specs.ValidWindows.{NoneValid};
 ghost use Rattle.rds_stream.specs.declared.error.StreamError.TheVariants.{BadGaps, BitsPastBytes, TooLong};
 ghost use Rattle.rds_sync.specs.Advance.{items_in};
 ghost use Rattle.rds_sync.specs.Groups.{group as group_at};

@@ -101,7 +101,6 @@ pub fn guessed_as_run(
     rules: &Rules,
     run: &PieceRun,
 ) -> Result<bool, SyncError>
-    requires range { (run.now.from ≤ run.now.to) × (run.now.to ≤ length_of recording.now) }
     requires source { run.now.source ≡ recording.now }
     requires rules { run.now.rules ≡ rules.now }
     ensures { IfOk result (λ same. same ≡ true) }
@@ -157,7 +156,6 @@ pub fn carried_on(
     rules: &Rules,
     run: &PieceRun,
 ) -> Result<(Items, Seam), PieceError>
-    requires range { (run.now.from ≤ run.now.to) × (run.now.to ≤ length_of recording.now) }
     requires source { run.now.source ≡ recording.now }
     requires rules { run.now.rules ≡ rules.now }
     ensures items { IfOk result (λ both. both.0 ++ both.1.items
@@ -181,13 +179,29 @@ pub fn met_at_once<T: Tape>(
     rules: &Rules,
     run: &PieceRun,
 ) -> Result<Seam, PieceError>
-    requires range { run.now.from ≤ run.now.to }
     requires source { run.now.source ≡ T.signal tape.old }
     requires rules { run.now.rules ≡ rules.now }
     requires room { T.reads_made tape.old ≤ 2 ^ 62 }
     ensures met { IfOk result (λ seam. seam.met_at ≡ Some run.now.from) }
     ensures reads { IfOk result (λ _. T.reads_made tape.new ≤ T.reads_made tape.old + (rules.now.reach + 2)) }
 {
+    run.from();
+    seam(alloc, tape, rules, State::Searching, run)
+}
+
+/// A seam that comes from a search costs no more where it is refused memory.
+pub fn cost_from_search<T: Tape>(
+    alloc: Global,
+    tape: &mut T,
+    rules: &Rules,
+    run: &PieceRun,
+) -> Result<Seam, PieceError>
+    requires source { run.now.source ≡ T.signal tape.old }
+    requires rules { run.now.rules ≡ rules.now }
+    requires room { T.reads_made tape.old ≤ 2 ^ 62 }
+    ensures { T.reads_made tape.new ≤ T.reads_made tape.old + (rules.now.reach + 2) }
+{
+    run.from();
     seam(alloc, tape, rules, State::Searching, run)
 }
 
@@ -261,9 +275,28 @@ pub fn join_behind_search<T: Tape>(
     requires right { IsRunOf (T.signal tape.old) rules.now right.now }
     requires room { T.reads_made tape.old ≤ 2 ^ 62 }
     requires search { end_of left.now ≡ Searching }
-    requires range { right.now.from ≤ right.now.to }
     ensures reads { IfOk result (λ _. T.reads_made tape.new ≤ T.reads_made tape.old + (rules.now.reach + 2)) }
 {
+    right.from();
+    join_runs(alloc, tape, rules, left, right)
+}
+
+/// It costs no more where it is refused memory.
+pub fn cost_of_join_behind_search<T: Tape>(
+    alloc: Global,
+    tape: &mut T,
+    rules: &Rules,
+    left: &PieceRun,
+    right: &PieceRun,
+) -> Result<PieceRun, PieceError>
+    requires next { left.now.to ≡ right.now.from }
+    requires left { IsRunOf (T.signal tape.old) rules.now left.now }
+    requires right { IsRunOf (T.signal tape.old) rules.now right.now }
+    requires room { T.reads_made tape.old ≤ 2 ^ 62 }
+    requires search { end_of left.now ≡ Searching }
+    ensures { T.reads_made tape.new ≤ T.reads_made tape.old + (rules.now.reach + 2) }
+{
+    right.from();
     join_runs(alloc, tape, rules, left, right)
 }
 
@@ -342,6 +375,21 @@ pub fn cost_of_one_piece<T: Tape>(
     requires room { T.reads_made tape.old ≤ 2 ^ 61 }
     ensures reads { IfOk result (λ _. T.reads_made tape.new ≤ T.reads_made tape.old + (rules.now.reach + 2) + 3) }
     ensures same { T.signal tape.new ≡ T.signal tape.old }
+{
+    stitch(alloc, tape, rules, runs)
+}
+
+/// It costs no more where it is refused memory.
+pub fn cost_where_refused<T: Tape>(
+    alloc: Global,
+    tape: &mut T,
+    rules: &Rules,
+    runs: &[PieceRun],
+) -> Result<Report, PieceError>
+    requires in_a_row { FollowEachOther (T.signal tape.old) rules.now 0 (length_of (T.signal tape.old)) runs.now }
+    requires one { length runs.now ≡ 1 }
+    requires room { T.reads_made tape.old ≤ 2 ^ 61 }
+    ensures { T.reads_made tape.new ≤ T.reads_made tape.old + (rules.now.reach + 2) + 3 }
 {
     stitch(alloc, tape, rules, runs)
 }

@@ -1,5 +1,5 @@
 //! What a user of `rds_stream` relies on: bits from bytes, windows, scans, planes and tapes.
-ghost use Rattle.std.specs.Prelude.{◌≡◌, ℕ, ◌+◌, ◌-◌, ◌*◌, ◌<◌, ◌≤◌, ◌^◌, IsTrue, IfSome, None, Some, Err, length, slice_index, true, vec_len};
+ghost use Rattle.std.specs.Prelude.{◌≡◌, ℕ, ◌+◌, ◌-◌, ◌*◌, ◌<◌, ◌≤◌, ◌^◌, IfSome, None, Some, Err, if◌then◌else◌, slice_index, true, vec_len};
 ghost use Rattle.std.specs.Int.{bit_at};
 ghost use Rattle.rds_code.specs.Remainder.{rem};
 ghost use Rattle.rds_stream.specs.Recording.{bits_of, length_of, off, ungapped, valid_windows, window};
@@ -45,10 +45,10 @@ pub fn past_the_bytes(bytes: Vec<u8>, bits: u64) -> Result<Recording, (StreamErr
     Recording::from_bytes(bytes, bits)
 }
 
-/// The last bit, and a place for it in a table of bytes: no sum goes wrong.
+/// The last bit, whether it is a one or a zero.
 pub fn last_bit(recording: &Recording) -> bool
     requires { 0 < length_of recording.now }
-    ensures { IsTrue result → slice_index recording.now.bits (length_of recording.now - 1) ≡ 1 }
+    ensures { slice_index recording.now.bits (length_of recording.now - 1) ≡ (if result then 1 else 0) }
 {
     recording.bit(recording.len() - 1)
 }
@@ -113,9 +113,9 @@ pub fn first_valid(recording: &Recording) -> Option<(u64, Offset)>
 }
 
 /// How far the second valid window lies behind the first: they come by rising place, within the recording.
-pub fn gap_of_first_two(recording: &Recording) -> Option<u64>
-    ensures after { IfSome result (λ gap. 0 < gap) }
-    ensures within { IfSome result (λ gap. gap < length_of recording.now) }
+pub fn distance_of_first_two(recording: &Recording) -> Option<u64>
+    ensures after { IfSome result (λ distance. 0 < distance) }
+    ensures within { IfSome result (λ distance. distance < length_of recording.now) }
 {
     let mut windows = ValidWindows::new(recording, 0, recording.len());
     let (first, _offset) = windows.next()?;

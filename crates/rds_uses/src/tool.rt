@@ -1,6 +1,6 @@
 //! What a user of `rds_tool` relies on: what is written, what is left as it was, and each refusal by its cause.
 ghost use Rattle.std.specs.Prelude.{◌≡◌, ◌≢◌, ℕ, ◌*◌, ◌<◌, ◌≤◌, ◌^◌, ◌++◌, ◌⊎◌, ◌↔◌, List, Err, IfErr, IfSome, IsErrOf, None, Ok, OnOk, false, length, true};
-ghost use Rattle.std.specs.Io.KnownBytes.{IsAtEnd};
+ghost use Rattle.std.specs.Io.KnownBytes.{Consumes, IsAtEnd};
 ghost use Rattle.rds_stream.specs.Recording.{bits_of};
 ghost use Rattle.rds_sync.specs.Report.{report_items};
 ghost use Rattle.rds_sync.specs.Totals.{totals_of};
@@ -144,8 +144,9 @@ pub fn gated_listing<R: Threads + Wait + Sync, G: Gate + Sync>(
     }
 }
 
-/// With a gate too: the reader is at its end after success; a failed call of either device is what is answered; 13 comes of
-/// a long input alone, 14 where threads are asked for, and any other refusal where the job and the bytes call for it.
+/// With a gate too: the reader is at its end after success; a failed call of either device is what is answered; 13 comes
+/// only where 16,777,216 bytes or more were read, 14 only where threads are asked for, and any other refusal where the job
+/// and the bytes call for it.
 pub fn gated_causes<R: Threads + Wait + Sync, S: Source, K: Sink, G: Gate + Sync>(
     rt: &R,
     alloc: Global,
@@ -159,7 +160,8 @@ pub fn gated_causes<R: Threads + Wait + Sync, S: Source, K: Sink, G: Gate + Sync
     ensures end { OnOk result (IsAtEnd (S.remaining reader.new)) }
     ensures read { IsErrOf result Read ↔ (S.failed reader.old < S.failed reader.new) }
     ensures write { IsErrOf result Write ↔ (K.failed writer.old < K.failed writer.new) }
-    ensures turns { IsErrOf result TooManyTurns → IfSome (S.remaining reader.old) (λ held. 16777216 ≤ length held) }
+    ensures turns { IsErrOf result TooManyTurns → (more : List ℕ)
+        × Consumes (S.remaining reader.old) (S.remaining reader.new) more × (16777216 ≤ length more) }
     ensures no_worker { IsErrOf result NoWorker → AsksForThreads job.now }
     ensures refused { IfErr result (λ error. IsOutside error
         ⊎ IfSome (S.remaining reader.old) (λ held. outcome job.now held ≡ Err error)) }

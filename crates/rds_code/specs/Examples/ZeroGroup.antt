@@ -1,5 +1,5 @@
 -- Worked example: the group whose four information words are 0, sent again and again. The valid windows end at its four blocks, and at two places inside blocks, both with offset B.
-use Rattle.std.specs.Prelude.{◌≡◌, ℕ, ◌+◌, ◌-◌, ◌*◌, ◌/◌, ◌%◌, ◌^◌, [], ◌∷◌, Option, Some, None, map, refl}
+use Rattle.std.specs.Prelude.{◌≡◌, ℕ, ◌+◌, ◌-◌, ◌*◌, ◌/◌, ◌%◌, ◌^◌, [], ◌∷◌, Option, Some, None, map, refl, bit_xor}
 use Rattle.std.specs.List.{range_with_len, filter_map}
 use Rattle.rds_code.specs.declared.offset.Offset.{Offset}
 use Rattle.rds_code.specs.declared.offset.Offset.TheVariants.{A, B, C, D}
@@ -69,6 +69,11 @@ pub remainders_120 : map (λ i. rem (window_at i)) (range_with_len 120 10) ≡ 0
 unfolding rem
 remainders_120 = refl
 
+-- the second group ends 104 places after the first, and the windows that end in it have the remainders of those
+pub again : map (λ i. rem (window_at i)) (range_with_len 130 78) ≡ map (λ i. rem (window_at (i - 104))) (range_with_len 130 78)
+unfolding rem
+again = refl
+
 -- a place with its offset, where it has one
 abbrev pub valid_at : ℕ → Option (ℕ × Offset)
 valid_at i = elim (offset_of (rem (window_at i))) [ None ↦ None | Some o ↦ Some (i, o) ]
@@ -77,3 +82,13 @@ valid_at i = elim (offset_of (rem (window_at i))) [ None ↦ None | Some o ↦ S
 pub valid_windows : filter_map valid_at (range_with_len 104 104) ≡ (123, B) ∷ (129, A) ∷ (155, B) ∷ (181, C) ∷ (200, B) ∷ (207, D) ∷ []
 unfolding rem
 valid_windows = refl
+
+-- block 1 of the second group damaged at places 124 and 129: no window is valid again before place 155
+abbrev pub damaged_at : ℕ → ℕ
+damaged_at i = bit_xor three_groups (2 ^ (311 - 124) + 2 ^ (311 - 129)) / 2 ^ (311 - i) % 2 ^ 26
+
+pub damaged_130 : map (λ i. rem (damaged_at i)) (range_with_len 130 26)
+    ≡ 0x1BA ∷ 0x374 ∷ 0x351 ∷ 0x31B ∷ 0x38F ∷ 0x2A7 ∷ 0x0F7 ∷ 0x1EE ∷ 0x3DC ∷ 0x201 ∷ 0x1BB ∷ 0x376 ∷ 0x355
+    ∷ 0x313 ∷ 0x39F ∷ 0x287 ∷ 0x0B7 ∷ 0x16F ∷ 0x231 ∷ 0x135 ∷ 0x26A ∷ 0x182 ∷ 0x3EB ∷ 0x281 ∷ 0x0BB ∷ 0x198 ∷ []
+unfolding rem
+damaged_130 = refl

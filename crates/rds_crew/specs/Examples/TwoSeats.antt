@@ -1,12 +1,12 @@
 -- Two pieces and two seats, one call after the other: the first seat draws 0, the second draws 1 and is told that
 -- none is finished, the first finishes, the second is told so and finishes, the first is told of both, and both end.
-use Rattle.std.specs.Prelude.{◌≡◌, ◌+◌, List, [], ◌∷◌, min, Some, None, refl, sum_by}
+use Rattle.std.specs.Prelude.{◌≡◌, ◌+◌, List, [], ◌∷◌, ◌++◌, min, Some, None, refl, sum_by}
 use Rattle.rds_crew.specs.declared.deal.View.{View}
 use Rattle.rds_crew.specs.declared.deal.Event.{Event}
 use Rattle.rds_crew.specs.declared.deal.Event.TheVariants.{Draw, Finish, Progress}
 use Rattle.rds_crew.specs.Core.{counts, start, Runs}
 use Rattle.rds_crew.specs.Deal.{once_below, fresh, share_of, drawn_of, ended_of, finished_of, times_of}
-use Rattle.rds_crew.specs.Steps.{after}
+use Rattle.rds_crew.specs.Steps.{after, kept_shares, one_share, pooled}
 
 -- the newest first
 abbrev pub events : List Event
@@ -51,3 +51,12 @@ second_number_once = refl
 
 pub third_number_never : sum_by (times_of 2) views ≡ once_below 2 (min 4 2)
 third_number_never = refl
+
+-- taken back, the second first: what it was told last is the other's word, and its numbers and its events come first
+pub both_seats : pooled second_seat first_seat
+    ≡ record { pieces = 2; share = 2; drawn = 1 ∷ 0 ∷ []; held = None; ended = 2; finished = 2; told = 2; log = second_seat.log ++ first_seat.log }
+both_seats = refl
+
+-- and a share given away before they began
+pub one_share_goes : (kept_shares (fresh 2 2) ≡ fresh 2 1) × (one_share (fresh 2 2) ≡ fresh 2 1)
+one_share_goes = (refl, refl)

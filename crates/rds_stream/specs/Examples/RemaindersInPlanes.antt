@@ -1,11 +1,17 @@
 -- The remainders of the windows of the zero group at the places 25 to 88, as ten planes.
-use Rattle.std.specs.Prelude.{◌≡◌, ◌<◌, ◌==◌, List, [], ◌∷◌, ℕ, get_or, map, refl}
+use Rattle.std.specs.Prelude.{◌≡◌, ◌-◌, ◌<◌, ◌==◌, List, [], ◌∷◌, ℕ, get_or, map, refl, slice_index}
 use Rattle.std.specs.List.{range_with_len}
+use Rattle.std.specs.Int.{bit_at}
+use Rattle.std.specs.Int.Digits.{number_from_digits}
 use Rattle.std.proofs.Common.{◌∙◌, ap, sym}
 use Rattle.std.proofs.Math.Nat.{zero-add}
 use Rattle.std.proofs.lemmas.Bool.{false≢true, le-leb, leb-true}
 use Rattle.std.proofs.lemmas.List.FromFn.{get_or-map-range_with_len}
-use Rattle.rds_stream.specs.Planes.{Hold, IsWindowAt}
+use Rattle.rds_code.specs.Remainder.{rem}
+use Rattle.rds_stream.specs.Recording.{window}
+use Rattle.rds_stream.specs.Planes.{Hold}
+use Rattle.rds_stream.specs.Inside.Lanes.{IsWindowAt}
+use Rattle.rds_stream.specs.Examples.ZeroGroup.{once}
 
 -- bit r of the remainder at place 25 + k is bit k of plane r
 abbrev pub planes : List ℕ
@@ -16,6 +22,14 @@ planes =
 -- the bits of the group, the first lowest
 abbrev pub places : ℕ
 places = 0x5A00001980000FC0000
+
+-- what stands at bit k of the planes, that of plane 9 highest: at each of the 64 the remainder of its window
+abbrev pub column : ℕ → ℕ
+column k = number_from_digits 2 (map (λ r. bit_at (slice_index planes (9 - r)) k) (range_with_len 0 10))
+
+pub all_columns : map column (range_with_len 0 64) ≡ map (λ i. rem (window once.bits i)) (range_with_len 25 64)
+unfolding rem window
+all_columns = refl
 
 -- two functions that agree below n
 pub agree : (f g : ℕ → ℕ) (n : ℕ) → map f (range_with_len 0 n)

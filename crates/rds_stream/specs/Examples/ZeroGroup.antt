@@ -16,8 +16,8 @@ once = ungapped (bits_of zero_group 104)
 abbrev pub twice : Signal
 twice = ungapped (bits_of (zero_group ++ zero_group) 208)
 
--- from place 25 to place 129, from where on they come again, the windows are those of which `rds_code` gives the remainders
-pub windows : map (window twice.bits) (range_with_len 25 105) ≡ map window_at (range_with_len 25 105)
+-- the windows are those of which `rds_code` gives the remainders, at each place that has one
+pub windows : map (window twice.bits) (range_with_len 25 183) ≡ map window_at (range_with_len 25 183)
 unfolding window
 windows = refl
 

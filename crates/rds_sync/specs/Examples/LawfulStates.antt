@@ -3,10 +3,10 @@ use Rattle.std.specs.Prelude.{◌==◌, refl}
 use Rattle.std.specs.Int.Count.{ones}
 use Rattle.std.proofs.Common.{ap, inl, inr}
 use Rattle.std.proofs.lemmas.Bool.{false≢true, le-leb, leb-true}
-use Rattle.rds_sync.specs.declared.state.State.TheVariants.{Searching, Locked}
 use Rattle.rds_sync.specs.declared.loss.Bad.TheVariants.{Mask}
+use Rattle.rds_sync.specs.declared.state.State.TheVariants.{Searching, Locked}
 use Rattle.rds_sync.specs.Lawful.{AreInOrder, IsBetweenGroups, IsLawful}
-use Rattle.rds_sync.specs.Examples.Words.{default_rules, rules_of, rules_with_share, locked}
+use Rattle.rds_sync.specs.Examples.Words.{default_rules, locked, rules_of, rules_with_share}
 
 pub search_at_0 : IsLawful default_rules 0 Searching
 search_at_0 = tt
@@ -49,26 +49,26 @@ all_but_one_of_64 = record {
 pub lost : IsLawful default_rules 129 (locked 129 1 10 1) → ⊥
 lost lawful = false≢true (le-leb 11 10 lawful.few_bad)
 
--- by the share: of the last four blocks the oldest is bad
-pub oldest_bad : IsLawful (rules_with_share 2 4) 129 (Locked 129 1 (Mask 8) 1)
+-- ---- which masks there may be, by a share of two of four
+
+pub oldest_of_four : IsLawful (rules_with_share 2 4) 129 (Locked 129 1 (Mask 8) 1)
 unfolding ones
-oldest_bad = record {
+oldest_of_four = record {
   soon = (leb-true 129 129 refl, leb-true 129 154 refl);
   few_bad = (leb-true 9 16 refl, leb-true 2 2 refl);
   enough_bits = leb-true 25 129 refl;
   in_order = inl (refl, refl);
 }
 
-pub past_4_blocks : IsLawful (rules_with_share 2 4) 129 (Locked 129 1 (Mask 16) 1) → ⊥
-past_4_blocks lawful = false≢true (le-leb 17 16 lawful.few_bad.0)
+pub fifth_of_four : IsLawful (rules_with_share 2 4) 129 (Locked 129 1 (Mask 16) 1) → ⊥
+fifth_of_four lawful = false≢true (le-leb 17 16 lawful.few_bad.0)
 
-pub lost_by_share : IsLawful (rules_with_share 2 4) 129 (Locked 129 1 (Mask 3) 1) → ⊥
+pub two_of_four : IsLawful (rules_with_share 2 4) 129 (Locked 129 1 (Mask 3) 1) → ⊥
 unfolding ones
-lost_by_share lawful = false≢true (le-leb 3 2 lawful.few_bad.1)
+two_of_four lawful = false≢true (le-leb 3 2 lawful.few_bad.1)
 
--- what is kept is of the rule's kind
-pub mask_by_run : IsLawful default_rules 129 (Locked 129 1 (Mask 0) 1) → ⊥
-mask_by_run lawful = lawful.few_bad
+pub mask_by_a_run : IsLawful default_rules 129 (Locked 129 1 (Mask 0) 1) → ⊥
+mask_by_a_run lawful = lawful.few_bad
 
 -- ---- where its group may begin
 

@@ -11,8 +11,8 @@ use Rattle.rds_tool.specs.CommandLine.{entries_of, faults_of}
 -- the entries of the options, in the order of the help
 abbrev pub texts : List Row → List (Option Text)
 texts rows = map (λ name. one_of name rows)
-    (codes "hex" ∷ codes "bits" ∷ codes "burst" ∷ codes "reach" ∷ codes "loss" ∷ codes "pieces" ∷ codes "workers"
-    ∷ [])
+    (codes "hex" ∷ codes "bits" ∷ codes "burst" ∷ codes "reach" ∷ codes "loss" ∷ codes "share" ∷ codes "of"
+    ∷ codes "pieces" ∷ codes "workers" ∷ [])
 
 -- the command and these
 abbrev pub asked_by : List Text → Option (Text × List (Option Text))
@@ -21,12 +21,12 @@ asked_by words = elim (entries_of words) [ None ↦ None | Some entries ↦ Some
 -- ---- options and their defaults
 
 pub scan : asked_by (codes "rds" ∷ codes "scan" ∷ [])
-    ≡ Some (codes "scan", Some (codes "false") ∷ None ∷ None ∷ None ∷ None ∷ None ∷ None ∷ [])
+    ≡ Some (codes "scan", Some (codes "false") ∷ None ∷ None ∷ None ∷ None ∷ None ∷ None ∷ None ∷ None ∷ [])
 unfolding walked
 scan = refl
 
 pub scan_of_bits : asked_by (codes "rds" ∷ codes "scan" ∷ codes "--bits" ∷ codes "104" ∷ codes "--hex" ∷ [])
-    ≡ Some (codes "scan", Some (codes "true") ∷ Some (codes "104") ∷ None ∷ None ∷ None ∷ None ∷ None ∷ [])
+    ≡ Some (codes "scan", Some (codes "true") ∷ Some (codes "104") ∷ None ∷ None ∷ None ∷ None ∷ None ∷ None ∷ None ∷ [])
 unfolding walked
 scan_of_bits = refl
 
@@ -34,7 +34,7 @@ pub list : asked_by (codes "rds" ∷ codes "list" ∷ [])
     ≡ Some (
       codes "list",
       Some (codes "false") ∷ None ∷ Some (codes "2") ∷ Some (codes "3") ∷ Some (codes "10")
-          ∷ Some (codes "16") ∷ Some (codes "4") ∷ [],
+          ∷ None ∷ Some (codes "64") ∷ Some (codes "16") ∷ Some (codes "4") ∷ [],
     )
 unfolding walked
 list = refl
@@ -50,7 +50,7 @@ pub totals : asked_by each_option
     ≡ Some (
       codes "totals",
       Some (codes "true") ∷ Some (codes "0") ∷ Some (codes "1") ∷ Some (codes "4")
-          ∷ Some (codes "5") ∷ Some (codes "6") ∷ Some (codes "7") ∷ [],
+          ∷ Some (codes "5") ∷ None ∷ Some (codes "64") ∷ Some (codes "6") ∷ Some (codes "7") ∷ [],
     )
 unfolding walked
 totals = refl
@@ -63,7 +63,7 @@ unfolding walked
 gaps = refl
 
 pub encode : asked_by (codes "rds" ∷ codes "encode" ∷ codes "--hex" ∷ [])
-    ≡ Some (codes "encode", Some (codes "true") ∷ None ∷ None ∷ None ∷ None ∷ None ∷ None ∷ [])
+    ≡ Some (codes "encode", Some (codes "true") ∷ None ∷ None ∷ None ∷ None ∷ None ∷ None ∷ None ∷ None ∷ [])
 unfolding walked
 encode = refl
 

@@ -8,7 +8,9 @@ use Rattle.clap.specs.Walk.{bundle_met, walked}
 use Rattle.clap.specs.Words.{Text}
 use Rattle.clap.specs.declared.error.kind.ErrorKind.{ErrorKind}
 use Rattle.clap.specs.declared.error.kind.ErrorKind.TheVariants as kind
-use Rattle.rds_tool.specs.CommandLine.{HasBadGaps, IsFlag, IsJobOf, MayAnswer, Spells, entries_of, faults_of}
+use Rattle.rds_sync.specs.declared.loss.Loss.{Loss}
+use Rattle.rds_sync.specs.declared.loss.Loss.TheVariants.{Run, Share}
+use Rattle.rds_tool.specs.CommandLine.{HasBadGaps, IsFlag, IsJobOf, MayAnswer, Spells, SpellsLoss, entries_of, faults_of}
 use Rattle.rds_tool.specs.declared.cli.FaultKind.TheVariants.{Help, Memory, Version, Words}
 use Rattle.rds_tool.specs.declared.job.Job.{Job}
 use Rattle.rds_tool.specs.declared.job.Job.TheVariants.{Encode, List as ListJob, Scan, Totals}
@@ -37,6 +39,27 @@ plus_seven = ((leb-true 1 1 refl, (leb-true 8 10 refl, tt)), leb-true 8 42949672
 
 pub twenty_five : Spells 32 (Some (codes "25")) 25
 twenty_five = ((leb-true 1 2 refl, (leb-true 3 10 refl, (leb-true 6 10 refl, tt))), leb-true 26 4294967296 refl, refl)
+
+-- ---- the rule of loss
+
+-- the one that the words give
+abbrev pub GiveLoss : List Text → Loss → Type 0
+GiveLoss words loss = elim (entries_of words) [ None ↦ ⊥ | Some entries ↦ SpellsLoss entries.1 loss ]
+
+-- a share, and a number in a row beside it, which is not looked at
+abbrev pub for_share : List Text
+for_share = codes "rds" ∷ codes "list" ∷ codes "--share" ∷ codes "2" ∷ codes "--loss" ∷ codes "5" ∷ []
+
+pub share : GiveLoss for_share (Share 2 64)
+unfolding walked
+share = (
+  ((leb-true 1 1 refl, (leb-true 3 10 refl, tt)), leb-true 3 4294967296 refl, refl),
+  ((leb-true 1 2 refl, (leb-true 7 10 refl, (leb-true 5 10 refl, tt))), leb-true 65 4294967296 refl, refl),
+)
+
+pub not_in_a_row : GiveLoss for_share (Run 5) → ⊥
+unfolding walked
+not_in_a_row (none, five) = false≢true (sym (ap is_some none))
 
 -- ---- jobs
 

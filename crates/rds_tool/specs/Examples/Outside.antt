@@ -4,7 +4,7 @@ use Rattle.std.proofs.Common.{ap, inl, inr}
 use Rattle.std.proofs.lemmas.Bool.{false≢true}
 use Rattle.rds_tool.specs.Outcome.{IsOutside}
 use Rattle.rds_tool.specs.declared.error.ToolError.{ToolError}
-use Rattle.rds_tool.specs.declared.error.ToolError.TheVariants.{BadCutting, BitsPastBytes, BurstRange, CrewRange, GroupText, HexText, LossRange, NoWorker, OutOfMemory, ReachRange, Read, TooLong, TooManyTurns, Write}
+use Rattle.rds_tool.specs.declared.error.ToolError.TheVariants.{BadCutting, BadGaps, BitsPastBytes, BurstRange, CrewRange, GroupText, HexText, LossRange, NoWorker, OutOfMemory, ReachRange, Read, ShareRange, TooLong, TooManyTurns, Write}
 
 -- memory, threads and the devices
 abbrev pub comes_from_outside : ToolError → Bool
@@ -28,7 +28,7 @@ IsDecided e = IsOutside e → ⊥
 
 pub decided : IsDecided BurstRange × IsDecided ReachRange × IsDecided LossRange × IsDecided BitsPastBytes
     × IsDecided TooLong × IsDecided BadCutting
-    × IsDecided CrewRange × IsDecided HexText × IsDecided GroupText
+    × IsDecided CrewRange × IsDecided HexText × IsDecided GroupText × IsDecided ShareRange × IsDecided BadGaps
 decided = (
   (λ is. false≢true (outside BurstRange is)),
   (λ is. false≢true (outside ReachRange is)),
@@ -39,6 +39,8 @@ decided = (
   (λ is. false≢true (outside CrewRange is)),
   (λ is. false≢true (outside HexText is)),
   (λ is. false≢true (outside GroupText is)),
+  (λ is. false≢true (outside ShareRange is)),
+  (λ is. false≢true (outside BadGaps is)),
 )
 
 pub undecided : IsOutside OutOfMemory × IsOutside NoWorker × IsOutside Read × IsOutside Write × IsOutside TooManyTurns

@@ -1,11 +1,11 @@
 -- Settings at the ends of their ranges and past them, and which of two that are out of range is refused.
 use Rattle.std.specs.Prelude.{◌≡◌, ◌∷◌, [], Err, Ok, map, refl, true, false}
-use Rattle.rds_sync.specs.declared.loss.Loss.TheVariants.{Run}
+use Rattle.rds_sync.specs.declared.loss.Loss.TheVariants.{Run, Share}
 use Rattle.rds_tool.specs.Cuts.{are_inner, places_at}
 use Rattle.rds_tool.specs.Plans.{plan_of}
-use Rattle.rds_tool.specs.declared.error.ToolError.TheVariants.{BadCutting, BurstRange, CrewRange, LossRange, ReachRange}
+use Rattle.rds_tool.specs.declared.error.ToolError.TheVariants.{BadCutting, BurstRange, CrewRange, LossRange, ReachRange, ShareRange}
 use Rattle.rds_tool.specs.declared.job.Cuts.TheVariants.{Even}
-use Rattle.rds_tool.specs.Examples.Words.{settings_of}
+use Rattle.rds_tool.specs.Examples.Words.{settings_of, share_settings}
 
 pub least : plan_of (settings_of 0 1 1 1 1) ≡ Ok (record {
   rules = record { burst = 0; reach = 1; loss = Run 1 };
@@ -17,6 +17,10 @@ least = refl
 pub most : plan_of (settings_of 5 8 64 256 4294967295)
     ≡ Ok (record { rules = record { burst = 5; reach = 8; loss = Run 64 }; workers = 256; cuts = Even 4294967295 })
 most = refl
+
+pub whole_share : plan_of (share_settings 2 64 64 4)
+    ≡ Ok (record { rules = record { burst = 2; reach = 3; loss = Share 64 64 }; workers = 4; cuts = Even 16 })
+whole_share = refl
 
 -- past one end alone
 pub burst : plan_of (settings_of 6 3 10 4 16) ≡ Err BurstRange
@@ -33,6 +37,15 @@ no_loss = refl
 
 pub loss : plan_of (settings_of 2 3 65 4 16) ≡ Err LossRange
 loss = refl
+
+pub no_share : plan_of (share_settings 2 0 4 4) ≡ Err ShareRange
+no_share = refl
+
+pub share_above_of : plan_of (share_settings 2 5 4 4) ≡ Err ShareRange
+share_above_of = refl
+
+pub share_of_65 : plan_of (share_settings 2 1 65 4) ≡ Err ShareRange
+share_of_65 = refl
 
 pub no_workers : plan_of (settings_of 2 3 10 0 16) ≡ Err CrewRange
 no_workers = refl
@@ -55,6 +68,12 @@ then_loss = refl
 
 pub then_workers : plan_of (settings_of 2 3 10 0 0) ≡ Err CrewRange
 then_workers = refl
+
+pub burst_before_share : plan_of (share_settings 6 0 4 4) ≡ Err BurstRange
+burst_before_share = refl
+
+pub share_before_workers : plan_of (share_settings 2 0 4 0) ≡ Err ShareRange
+share_before_workers = refl
 
 -- cuts inside a recording: they rise, above 0 and below its length
 pub rising_cuts : are_inner 208 (1 ∷ 104 ∷ 207 ∷ []) ≡ true

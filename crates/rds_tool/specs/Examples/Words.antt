@@ -1,6 +1,6 @@
 -- Short words for the examples.
 use Rattle.std.specs.Prelude.{ℕ, List, [], ◌∷◌, ◌++◌, None, Some, false, true}
-use Rattle.rds_sync.specs.declared.loss.Loss.TheVariants.{Run}
+use Rattle.rds_sync.specs.declared.loss.Loss.TheVariants.{Run, Share}
 use Rattle.rds_tool.specs.declared.job.Cuts.{Cuts}
 use Rattle.rds_tool.specs.declared.job.Cuts.TheVariants.{Even}
 use Rattle.rds_tool.specs.declared.job.Input.{Input}
@@ -28,6 +28,11 @@ raw_bits bits = record { hex = false; bits = Some bits; gaps = [] }
 abbrev pub settings_of : ℕ → ℕ → ℕ → ℕ → ℕ → Settings
 settings_of burst reach loss workers pieces =
     record { burst = burst; reach = reach; loss = Run loss; workers = workers; cuts = Even pieces }
+
+-- the same, where a lock is lost by a share of the last blocks
+abbrev pub share_settings : ℕ → ℕ → ℕ → ℕ → Settings
+share_settings burst bad of workers =
+    record { burst = burst; reach = 3; loss = Share bad of; workers = workers; cuts = Even 16 }
 
 abbrev pub default_settings : Settings
 default_settings = settings_of 2 3 10 4 16

@@ -5,7 +5,7 @@ use Rattle.rds_crew.proofs.Filling.{taken_more}
 use Rattle.rds_crew.proofs.slots.values_of.Goals as goal
 
 pub loop-slot-init : goal.loop-slot-init
-loop-slot-init g c = record { taken = search rules; full = rw c.into_iter-slot-iterator.ensures.into_iter_gives.0 c.requires }
+loop-slot-init g c = record { count = search rules; room = search rules; taken = search rules; full = rw c.into_iter-slot-iterator.ensures.into_iter_gives.0 c.requires }
 
 pub unreachable-requires : goal.unreachable-requires
 unreachable-requires g c =
@@ -19,6 +19,8 @@ loop-slot-preserved g c =
     let old = into_iter_items c.loop-slot.slot-iterator in
     let rest = into_iter_items c.next.new.self in
     record {
-      taken = taken_more c.args.slots.items old rest c.loop-slot.values.items c.push.new.self.items c.in-Some.slot c.in-Some-slot.value was.taken c.in-Some.ensures.steps.0 c.in-Some-slot.is c.in_ok-push.ensures.items;
+      count = search rules;
+      room = search rules;
+      taken = taken_more c.args.slots.items old rest c.loop-slot.values.items c.push_reserved.new.self.items c.in-Some.slot c.in-Some-slot.value was.taken c.in-Some.ensures.steps.0 c.in-Some-slot.is c.push_reserved.ensures.items;
       full = All-tail IsSome c.in-Some.slot rest (subst (All IsSome) c.in-Some.ensures.steps.0 was.full);
     }

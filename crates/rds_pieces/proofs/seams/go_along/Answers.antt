@@ -11,6 +11,7 @@ use Rattle.rds_pieces.specs.Inside.Walk.{next_place}
 use Rattle.rds_pieces.proofs.BesideLemmas.{beside_start, beside_near, beside_next, place_after}
 use Rattle.rds_pieces.proofs.MarkLaws.{marks_on-more, last_index}
 use Rattle.rds_pieces.proofs.ReadsLemmas.{paid_room, paid_most, paid_start, paid_on, paid_step, paid_all}
+use Rattle.rds_pieces.proofs.WayLemmas.{way_paid, way_step}
 use Rattle.rds_pieces.proofs.SeamLemmas.{renamed, found, unread, said, IsCarried, items_on, limit_ahead, limit_inside, met_first, never_met}
 use Rattle.rds_pieces.proofs.seams.go_along.Goals as goal
 
@@ -227,3 +228,32 @@ pub returns-then-place-to-clause-reads_most : goal.returns-then-place-to-clause-
 returns-then-place-to-clause-reads_most g c =
     let r = c.args.run.now in
     paid_all r.source r.rules (g.T.Tape.reads_made c.args.tape.now) r.from (g.T.Tape.reads_made c.along.tape) c.along.place r.to c.along.state c.along.invariant.beside.carried.inside.1 c.along.invariant.paid
+
+pub returns-in_err-reached-clause-reads_way : goal.returns-in_err-reached-clause-reads_way
+returns-in_err-reached-clause-reads_way g c = λ met first. (
+    let r = c.args.run.now in
+    let inv = c.along.invariant in
+    let beside = inv.beside in
+    let apart : ¬ ((c.along.state ≡ (get_or (found r.source r.rules r.from r.to) beside.index (unread r.source r.rules r.from r.to)).state) × IsBetweenGroups c.along.state) =
+    λ p. (let t = c.meets.ensures.1 (p.0 ∙ sym (ap (λ (m : Mark). m.state) beside.passed_is), p.1) in let f = c.if-meets.false in cc) in
+    let after_mark = place_after r.source r.rules r.from r.to c.args.state c.along.place c.along.state c.along.mark c.along.ahead c.along.limit beside in
+    let other : c.along.place ≢ r.to = λ e. c.if-place-to.false (e ∙ sym c.range-from.ensures.end) in
+    let few = subst (λ (y : RuleNumbers). g.T.Tape.reads_made c.advance_marked.new.tape ≤ g.T.Tape.reads_made c.along.tape + reads_most y c.along.state c.along.limit) (sym c.requires.rules) c.advance_marked.ensures.reads in
+    way_step r.source r.rules (g.T.Tape.reads_made c.args.tape.now) r.from r.to c.args.state met c.run_laws.ensures c.range-from.ensures.rules.some_loss first
+    (g.T.Tape.reads_made c.along.tape) (g.T.Tape.reads_made c.advance_marked.new.tape) c.along.place beside.index c.along.limit c.along.state beside.carried apart other after_mark inv.paid few)
+
+pub returns-then-meets-clause-reads_way : goal.returns-then-meets-clause-reads_way
+returns-then-meets-clause-reads_way g c = λ met first. (
+    let r = c.args.run.now in
+    let inv = c.along.invariant in
+    let carried = inv.beside.carried in
+    way_paid r.source r.rules (g.T.Tape.reads_made c.args.tape.now) r.from r.to c.args.state met first (g.T.Tape.reads_made c.along.tape) c.along.place c.along.state
+    carried.inside.1 carried.none_yet inv.paid)
+
+pub returns-then-place-to-clause-reads_way : goal.returns-then-place-to-clause-reads_way
+returns-then-place-to-clause-reads_way g c = λ met first. (
+    let r = c.args.run.now in
+    let inv = c.along.invariant in
+    let carried = inv.beside.carried in
+    way_paid r.source r.rules (g.T.Tape.reads_made c.args.tape.now) r.from r.to c.args.state met first (g.T.Tape.reads_made c.along.tape) c.along.place c.along.state
+    carried.inside.1 carried.none_yet inv.paid)

@@ -7,7 +7,7 @@ use Rattle.rds_sync.specs.Counting.{plus}
 use Rattle.rds_sync.specs.Totals.{totals_of}
 use Rattle.rds_sync.specs.Step.{run}
 use Rattle.rds_pieces.specs.Meeting.{IsMeeting}
-use Rattle.rds_pieces.proofs.StitchLemmas.{stitched_start, source_is, rules_are, lawful_here, fits_next, stitched_on, stitched_few, sum_at_end, whole_at_end, small_at_end, lawful_at_end}
+use Rattle.rds_pieces.proofs.StitchLemmas.{stitched_start, source_is, rules_are, lawful_here, fits_next, stitched_on, stitched_few, seam_within, read_at_end, sum_at_end, whole_at_end, small_at_end, lawful_at_end}
 use Rattle.rds_pieces.proofs.stitching.carry_over_all.Goals as goal
 
 pub loop-run-init : goal.loop-run-init
@@ -66,7 +66,8 @@ loop-run-preserved g c =
           (c.in_ok-seam.ensures.end ∙ ap (λ (x : Signal). (run x rules here r.from (r.to - r.from)).0) same)
           (more ∙ ap (λ (is : List Item). c.loop-run.items ++ is) (c.in_ok-seam.ensures.items ∙ ap (λ (x : Signal). (run x rules here r.from (r.to - r.from)).1) same))
           (subst (λ (x : Signal). IsMeeting x rules here Searching r.from r.to c.in_ok-seam.seam.met_at) same c.in_ok-seam.ensures.met)
-          c.in_ok-seam.ensures.reads;
+          c.in_ok-seam.ensures.reads
+          (λ met first. c.seam.ensures.reads_way met (subst (λ (x : Signal). IsMeeting x rules here Searching r.from r.to met) (sym same) first));
       counted = c.plus-totals.ensures.value
           ∙ ap₂ (λ (t u : Totals). plus t u) c.loop-run.invariant.counted (c.in_ok-seam.ensures.totals ∙ ap (λ (is : List Item). totals_of is) (sym c.in_ok-seam.ensures.items))
           ∙ sym (c.run_laws.ensures.totals c.loop-run.items c.in_ok-seam.seam.items).joined ∙ ap (λ (is : List Item). totals_of is) (sym more);
@@ -106,3 +107,22 @@ returns-clause-room g c =
     let few = stitched_few (g.T.Tape.signal c.args.tape.now) c.args.rules.now c.args.runs.now (g.T.Tape.reads_made c.args.tape.now) c.loop-run.run-index c.loop-run.state c.loop-run.items
     (g.T.Tape.reads_made c.loop-run.tape) c.loop-run.invariant.stitched (let l = c.len-len.ensures.limit in let v = c.len-len.ensures.value in omega (arith, l, v)) c.requires.room in
     omega (arith, few)
+
+pub returns-in_err-seam-clause-reads_way : goal.returns-in_err-seam-clause-reads_way
+returns-in_err-seam-clause-reads_way g c =
+    let r = c.run-item.result in
+    seam_within (g.T.Tape.signal c.args.tape.now) c.args.rules.now c.args.runs.now (g.T.Tape.reads_made c.args.tape.now) c.loop-run.run-index c.loop-run.state c.loop-run.items
+    (g.T.Tape.reads_made c.loop-run.tape) c.loop-run.invariant.stitched r r c.loop-run-test.true c.run-item.is (g.T.Tape.reads_made c.seam.new.tape)
+    (λ met first. c.seam.ensures.reads_way met (subst (λ (x : Signal). IsMeeting x c.args.rules.now c.loop-run.state Searching r.from r.to met) (sym c.loop-run.invariant.same) first))
+
+pub returns-in_err-append-clause-reads_way : goal.returns-in_err-append-clause-reads_way
+returns-in_err-append-clause-reads_way g c =
+    let r = c.run-item.result in
+    seam_within (g.T.Tape.signal c.args.tape.now) c.args.rules.now c.args.runs.now (g.T.Tape.reads_made c.args.tape.now) c.loop-run.run-index c.loop-run.state c.loop-run.items
+    (g.T.Tape.reads_made c.loop-run.tape) c.loop-run.invariant.stitched r r c.loop-run-test.true c.run-item.is (g.T.Tape.reads_made c.seam.new.tape)
+    (λ met first. c.seam.ensures.reads_way met (subst (λ (x : Signal). IsMeeting x c.args.rules.now c.loop-run.state Searching r.from r.to met) (sym c.loop-run.invariant.same) first))
+
+pub returns-clause-reads_way : goal.returns-clause-reads_way
+returns-clause-reads_way g c =
+    read_at_end (g.T.Tape.signal c.args.tape.now) c.args.rules.now c.args.runs.now (g.T.Tape.reads_made c.args.tape.now) c.loop-run.run-index c.loop-run.state c.loop-run.items
+    (g.T.Tape.reads_made c.loop-run.tape) c.loop-run.invariant.stitched c.loop-run-test.false

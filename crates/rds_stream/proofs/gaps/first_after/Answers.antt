@@ -4,7 +4,6 @@ use Rattle.std.specs.List.Sorted.{IsPartitionPoint}
 use Rattle.std.specs.Option.{MatchOption, option_copied}
 use Rattle.std.proofs.lemmas.List.Sorted.{IsPartitionPoint-from_clause, IsPartitionedBy-leb}
 use Rattle.rds_stream.specs.Inside.Gaps.{AllEndBy, IsFirstAfter}
-use Rattle.rds_stream.proofs.GapLemmas.{ends_rise}
 use Rattle.rds_stream.proofs.gaps.first_after.Goals as goal
 
 -- the gap after those that end by the place, where there is one
@@ -25,7 +24,7 @@ pub returns : goal.returns
 returns c =
     let gaps = c.args.gaps.now in
     let place = c.args.place in
-    let parted = IsPartitionedBy-leb (λ (gap : ℕ × ℕ). gap.1) gaps place (ends_rise c.args.bits gaps c.requires) in
+    let parted = IsPartitionedBy-leb (λ (gap : ℕ × ℕ). gap.1) gaps place c.requires in
     let point = IsPartitionPoint-from_clause (λ (gap : ℕ × ℕ). leb gap.1 place) gaps _ c.partition_point-before.ensures.partitioned parted (λ a r q k. search rules) in
     subst (λ (o : Option (ℕ × ℕ)). MatchOption o (AllEndBy gaps (length gaps) place) (IsFirstAfter gaps place)) (sym c.copied.ensures)
     (after_those gaps place c.partition_point-before.result c.get.result point c.get.ensures.lookup.3)

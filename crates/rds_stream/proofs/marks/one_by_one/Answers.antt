@@ -1,7 +1,7 @@
 use Rattle.std.proofs.Common.{ℕ, Option, IsSome, true≢false, ◌+◌, ◌∙◌, sym, subst, arith}
 use Rattle.rds_code.specs.declared.offset.Offset.{Offset}
 use Rattle.rds_stream.specs.Recording.{off}
-use Rattle.rds_stream.specs.ValidWindows.{AreMarks}
+use Rattle.rds_stream.specs.Inside.Marks.{AreMarks}
 use Rattle.rds_stream.proofs.WindowLists.{off_clear}
 use Rattle.rds_stream.proofs.MarkLemmas.{is_marked, not_marked, none_is}
 use Rattle.rds_stream.proofs.marks.one_by_one.Goals as goal

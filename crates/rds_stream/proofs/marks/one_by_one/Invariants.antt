@@ -1,4 +1,4 @@
-use Rattle.rds_stream.specs.ValidWindows.{AreMarks}
+use Rattle.rds_stream.specs.Inside.Marks.{AreMarks}
 use Rattle.rds_stream.proofs.marks.one_by_one.Given as goal
 
 abbrev pub invariant-loop-place : goal.invariant-loop-place

@@ -2,7 +2,7 @@ use Rattle.std.proofs.Common.{arith, ◌∙◌}
 use Rattle.std.proofs.lemmas.Grind.{common_steps}
 use Rattle.rds_tool.proofs.Passing.{passed, passes}
 use Rattle.rds_tool.proofs.Reading.{end_told, kind_told, ok_told, read_told, turns_not_told}
-use Rattle.rds_tool.proofs.Steps.{read_more, read_whole, read_within}
+use Rattle.rds_tool.proofs.Steps.{read_more, read_whole}
 use Rattle.rds_tool.proofs.engine.read_all.Goals as goal
 
 pub returns-then-is_at_end-clause-ok : goal.returns-then-is_at_end-clause-ok
@@ -21,7 +21,7 @@ turns-preserved g c =
     }
 
 pub returns-clause-turns : goal.returns-clause-turns
-returns-clause-turns g c = λ _. read_within _ _ _ _ c.turns.invariant.taken (omega arith)
+returns-clause-turns g c = λ _. (c.turns.bytes.items, c.turns.invariant.taken, omega arith)
 
 pub returns-in_err-is_at_end-clause-read : goal.returns-in_err-is_at_end-clause-read
 returns-in_err-is_at_end-clause-read g c =

@@ -19,4 +19,4 @@ cheap b rules s from to old new (Ok r) search order reads =
 cheap b rules s from to old new (Err e) search order reads = tt
 
 pub returns : goal.returns
-returns g c = record { reads = cheap _ _ _ _ _ _ _ c.join_runs.result c.requires.search c.requires.range c.join_runs.ensures.reads }
+returns g c = record { reads = cheap _ _ _ _ _ _ _ c.join_runs.result c.requires.search c.from.ensures.inside.0 c.join_runs.ensures.reads }

@@ -17,4 +17,4 @@ cheap b rules from to old new (Ok s) order met reads =
 cheap b rules from to old new (Err e) order met reads = tt
 
 pub returns-clause-reads : goal.returns-clause-reads
-returns-clause-reads g c = cheap _ _ _ _ _ _ c.seam.result c.requires.range c.seam.ensures.met c.seam.ensures.reads
+returns-clause-reads g c = cheap _ _ _ _ _ _ c.seam.result c.from.ensures.inside.0 c.seam.ensures.met c.seam.ensures.reads

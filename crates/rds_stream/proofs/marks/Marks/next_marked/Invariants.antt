@@ -3,7 +3,8 @@ use Rattle.rds_stream.specs.declared.marks.Marks.{Marks}
 use Rattle.rds_stream.specs.Recording.{Signal}
 use Rattle.rds_stream.specs.declared.gaps.Section.{Section}
 use Rattle.rds_stream.specs.Inside.Sections.{IsSection}
-use Rattle.rds_stream.specs.ValidWindows.{AreMarks, NoneValid}
+use Rattle.rds_stream.specs.ValidWindows.{NoneValid}
+use Rattle.rds_stream.specs.Inside.Marks.{AreMarks}
 use Rattle.rds_stream.proofs.marks.Marks.next_marked.Given as goal
 
 -- no place from `from` to the first of these marks has an offset, and what is known is a section

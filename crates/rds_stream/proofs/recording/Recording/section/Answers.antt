@@ -1,9 +1,16 @@
-use Rattle.std.proofs.Common.{ℕ, ◌-◌, List, arith, subst, true, false, length}
+use Rattle.std.proofs.Common.{ℕ, ◌-◌, List, arith, subst, sym, true, false, length}
+use Rattle.std.specs.List.Sorted.{IsNonDecreasingBy}
 use Rattle.rds_stream.specs.Recording.{Signal}
 use Rattle.rds_stream.specs.Inside.Gaps.{AllEndBy, IsFirstAfter}
 use Rattle.rds_stream.specs.Inside.Sections.{IsSection}
-use Rattle.rds_stream.proofs.GapLemmas.{touched_on, clear_before, clear_after}
+use Rattle.rds_stream.proofs.GapLemmas.{ends_rise, touched_on, clear_before, clear_after}
 use Rattle.rds_stream.proofs.recording.Recording.section.Goals as goal
+
+pub first_after-requires : goal.first_after-requires
+first_after-requires c =
+    let gaps = c.self.inside.gaps.items in
+    subst (λ (gs : List (ℕ × ℕ)). IsNonDecreasingBy (λ (gap : ℕ × ℕ). gap.1) gs) (sym c.deref.ensures.value)
+    (ends_rise (length c.self.inside.packed) gaps c.self.invariant)
 
 pub returns-in-Some-clause-alike : goal.returns-in-Some-clause-alike
 returns-in-Some-clause-alike c =

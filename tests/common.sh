@@ -1,0 +1,50 @@
+# shellcheck shell=bash
+# What the scripts of this folder have in common. Each sources it, and says before in $usage how it is called.
+#
+# It makes a folder $work that goes when the script ends, and counts what passes and fails.
+
+set -uo pipefail
+export LC_ALL=C
+
+here=$(dirname "$(realpath "${BASH_SOURCE[0]}")")
+work=$(mktemp -d) || exit 1
+trap 'rm -rf "$work"' EXIT
+passed=0
+failed=0
+
+misused() {
+    # shellcheck disable=SC2154
+    echo "$usage" >&2
+    exit 2
+}
+
+# check_programs PATH..: ends the script where one is no program
+check_programs() {
+    local it
+    for it in "$@"; do
+        if ! [ -f "$it" ] || ! [ -x "$it" ]; then misused; fi
+    done
+}
+
+pass() { passed=$((passed + 1)); }
+
+# fail TEXT..: counts a failure, and says what it is
+fail() {
+    failed=$((failed + 1))
+    echo "FAILED: $*"
+}
+
+# finish: the last line, and whether all passed; nothing tried is no success
+finish() {
+    echo "$passed passed, $failed failed"
+    [ "$failed" = 0 ] && [ "$passed" -gt 0 ]
+}
+
+# words SEED COUNT: so many lines of four pseudo-random words of four digits each
+words() {
+    awk -v x="$1" -v n="$2" 'function word() { x = x * 16807 % 2147483647; return int(x / 32768) }
+        BEGIN { while (n--) printf "%04x%04x%04x%04x\n", word(), word(), word(), word() }'
+}
+
+# make_refuse: the library that refuses and counts calls
+make_refuse() { ${CC:-cc} -O1 -shared -fPIC -o "$work/refuse.so" "$here/refuse.c" -ldl || exit 1; }
