@@ -3,7 +3,7 @@
 //! A good block costs one window, one remainder and one comparison: it is read once, where it is
 //! due, and kept until its group closes. Nothing is read in between.
 
-ghost use Rattle.std.specs.Prelude.{◌≡◌, ◌≤◌, ◌<◌, ◌+◌, ◌-◌, ◌*◌, ◌^◌, ◌++◌, [], ◌∷◌, List, length, IfOk, OnOk, IsOkUnless};
+ghost use Rattle.std.specs.Prelude.{◌≡◌, ◌≤◌, ◌<◌, ◌+◌, ◌-◌, ◌*◌, ◌^◌, ◌++◌, [], ◌∷◌, List, length, take, IfOk, OnOk, OnErr, IsOkUnless};
 ghost use Rattle.rds_stream.specs.Recording.{length_of};
 ghost use Rattle.rds_sync.specs.Acquiring.{has_number};
 ghost use Rattle.rds_sync.specs.Groups.{blocks_at, group_of};
@@ -83,6 +83,7 @@ fn push_closed(items: &mut ItemBuffer, lock: Lock, blocks: &[Block; 4]) -> Resul
     requires start { HaveRoom lock.first lock.number lock.due }
     ensures ok { OnOk result (items.new ≡ items.old
         ++ Item.Group (group_of (lock.due - 26 * (lock.number - lock.first) - 25) blocks.now) ∷ []) }
+    ensures refused { OnErr result (items.new ≡ items.old) }
     ensures only_memory { IsOkUnless result SyncError.OutOfMemory }
 {
     let place = lock.due - BLOCK_PLACES * u64::from(lock.number - lock.first) - FIRST_WINDOW;
@@ -104,6 +105,7 @@ pub(crate) fn follow(
     ensures state { IfOk result (λ due. state_of due ≡ step reader.old rules.now lock.due (state_in lock)) }
     ensures items { OnOk result (items.new ≡ items.old
         ++ items_at reader.old rules.now lock.due (state_in lock)) }
+    ensures refused { OnErr result (take (length items.old) items.new ≡ items.old) }
     ensures followed { IfOk result (IsFollowed reader.old rules.now lock blocks.new) }
     ensures same { reader.new ≡ reader.old }
     ensures only_memory { IsOkUnless result SyncError.OutOfMemory }

@@ -17,7 +17,8 @@ use rds_stream::{Reader, Recording};
 use std::alloc::Global;
 
 /// The run from `state` over the bits at `from` to `to` - 1: the state after them, and what they
-/// gave, in order. Windows may begin before `from`.
+/// gave, in order. Windows may begin before `from`. Runs are this project's rule, after EN
+/// 50067:1998, annex C.
 ///
 /// Where a sound range begins at `from`, and the run ends with its last block of number 4, it ends
 /// between two groups, with none of their blocks bad, whatever `state` was.

@@ -26,8 +26,8 @@ pub struct Report {
     pub totals: Totals,
 }
 
-/// The report of a recording: the items of its locks, in order, with that of its end, and their
-/// totals. Fails with `OutOfMemory` alone.
+/// The report of a recording, this project's rule: the items of its locks, in order, with that of
+/// its end, and their totals. Fails with `OutOfMemory` alone.
 pub fn decode_plain(alloc: Global, rec: &Recording, rules: &Rules) -> Result<Report, SyncError>
     ensures items { IfOk result (λ report. report.items ≡ report_items rec.now rules.now) }
     ensures totals { IfOk result (λ report. report.totals

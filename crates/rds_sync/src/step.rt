@@ -28,7 +28,7 @@ pub struct Step {
 
 /// One step of a run from a state that is lawful before `place`, towards `to`: a bit while
 /// searching; while locked, up to and including the block that is due, or up to `to` where that
-/// comes first.
+/// comes first. Runs are this project's rule, after EN 50067:1998, annex C.
 ///
 /// It asks the tape for at most `reach` + 1 windows while searching, and at most four while
 /// locked; for none where no block is due before `to`. The tape has counted at most 2^63 - 16
@@ -77,8 +77,8 @@ pub fn advance<T: Tape>(tape: &mut T, rules: &Rules, state: State, place: u64, t
 }
 
 /// The group in progress at the end of the recording, where the run ended in `state`, as far as it
-/// was read, or none. Asks the tape, which has counted at most 2^63 - 16 windows before, for at
-/// most three, and takes no memory.
+/// was read, or none: this project's rule. Asks the tape, which has counted at most 2^63 - 16
+/// windows before, for at most three, and takes no memory.
 pub fn finish<T: Tape>(tape: &mut T, rules: &Rules, state: State) -> Option<Group>
     requires lawful { IsLawful rules.now (length_of (T.signal tape.old)) state }
     requires counted { T.reads_made tape.old + 16 ≤ 2 ^ 63 }

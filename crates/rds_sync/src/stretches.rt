@@ -1,7 +1,7 @@
 //! A stretch of a run over a recording: a search from place to place, or a lock from block to block,
 //! up to the next bit that gives an item.
 
-ghost use Rattle.std.specs.Prelude.{◌≡◌, ◌≤◌, ◌<◌, ◌-◌, ◌++◌, length, IfOk, OnOk, IsOkUnless};
+ghost use Rattle.std.specs.Prelude.{◌≡◌, ◌≤◌, ◌<◌, ◌-◌, ◌++◌, length, take, IfOk, OnOk, OnErr, IsOkUnless};
 ghost use Rattle.rds_stream.specs.Recording.{length_of};
 ghost use Rattle.rds_sync.specs.Advance.{items_in};
 ghost use Rattle.rds_sync.specs.Inside.Due.{state_in};
@@ -35,7 +35,9 @@ pub struct Reached {
 ///
 /// A run over a range is made of stretches, and so is a decoder that notes where items are given.
 /// Windows may begin before `place`. The reader goes on with them, and is of the same recording as
-/// before. Fails with `OutOfMemory` alone.
+/// before. Runs and stretches are this project's rule, after EN 50067:1998, annex C.
+///
+/// Fails with `OutOfMemory` alone. Refused memory, it may have appended an item.
 ///
 /// Its cost: a search goes over 64 places at once, and looks up to `reach` windows back from each
 /// valid one; a lock reads a window every 26 bits, and first, once more, the up to three of the
@@ -54,6 +56,7 @@ pub fn stretch(
     ensures reached { IfOk result (λ reached. IsStretch reader.old rules.now state place to reached) }
     ensures items { IfOk result (λ reached. items.new
         ≡ items.old ++ (run reader.old rules.now state place (reached.place - place)).1) }
+    ensures refused { OnErr result (take (length items.old) items.new ≡ items.old) }
     ensures same { reader.new ≡ reader.old }
     ensures only_memory { IsOkUnless result SyncError.OutOfMemory }
 {
@@ -88,6 +91,7 @@ fn search(
     requires within { to ≤ length_of reader.old }
     ensures reached { IfOk result (λ reached.
         IsStretchOnto reader.old rules.now Searching place to items.old reached items.new) }
+    ensures refused { OnErr result (take (length items.old) items.new ≡ items.old) }
     ensures same { reader.new ≡ reader.old }
     ensures only_memory { IsOkUnless result SyncError.OutOfMemory }
 {
@@ -119,6 +123,7 @@ fn search(
 /// Appends what was found.
 fn push_found(items: &mut ItemBuffer, found: [Option<Item>; 2]) -> Result<(), SyncError>
     ensures ok { OnOk result (items.new ≡ items.old ++ items_in found) }
+    ensures refused { OnErr result (take (length items.old) items.new ≡ items.old) }
     ensures only_memory { IsOkUnless result SyncError.OutOfMemory }
 {
     let [first, second] = found;
@@ -147,6 +152,7 @@ fn keep_lock(
     ensures reached { IfOk result (λ reached.
         IsStretchOnto reader.old rules.now (state_in lock) place to
         items.old reached items.new) }
+    ensures refused { OnErr result (take (length items.old) items.new ≡ items.old) }
     ensures same { reader.new ≡ reader.old }
     ensures only_memory { IsOkUnless result SyncError.OutOfMemory }
 {

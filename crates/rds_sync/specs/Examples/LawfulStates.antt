@@ -1,11 +1,11 @@
 -- Lawful states at the ends of what is lawful, and states just past them.
-use Rattle.std.specs.Prelude.{◌≡◌, ◌≤◌, ◌<◌, ◌⊎◌, ◌==◌, ℕ, refl}
+use Rattle.std.specs.Prelude.{◌==◌, refl}
 use Rattle.std.specs.Int.Count.{ones}
 use Rattle.std.proofs.Common.{ap, inl, inr}
 use Rattle.std.proofs.lemmas.Bool.{false≢true, le-leb, leb-true}
 use Rattle.rds_sync.specs.declared.loss.Bad.TheVariants.{Mask}
 use Rattle.rds_sync.specs.declared.state.State.TheVariants.{Searching, Locked}
-use Rattle.rds_sync.specs.Lawful.{IsBetweenGroups, IsLawful}
+use Rattle.rds_sync.specs.Lawful.{AreInOrder, IsBetweenGroups, IsLawful}
 use Rattle.rds_sync.specs.Examples.Words.{default_rules, locked, rules_of, rules_with_share}
 
 pub search_at_0 : IsLawful default_rules 0 Searching
@@ -86,9 +86,6 @@ before_the_start lawful = false≢true (le-leb 51 50 lawful.enough_bits)
 
 -- ---- which numbers it may have
 
-abbrev pub AreInOrder : ℕ → ℕ → Type 0
-AreInOrder number first = ((number ≡ 1) × (first ≡ 1)) ⊎ ((1 ≤ first) × (first < number) × (number ≤ 4))
-
 pub last_of_a_group : IsLawful default_rules 129 (locked 129 4 0 3)
 last_of_a_group = record {
   soon = (leb-true 129 129 refl, leb-true 129 154 refl);
@@ -100,7 +97,7 @@ last_of_a_group = record {
 pub past_4 : IsLawful default_rules 129 (locked 129 5 0 1) → ⊥
 past_4 lawful = out_of_order lawful.in_order
   where
-    out_of_order : AreInOrder 5 1 → ⊥
+    out_of_order : AreInOrder 1 5 → ⊥
     out_of_order (inl (is_1, first)) = false≢true (ap (λ x. x == 1) is_1)
     out_of_order (inr (some, before, few)) = false≢true (le-leb 5 4 few)
 
@@ -115,7 +112,7 @@ first_is_due lawful = out_of_order lawful.in_order
 pub new_group_after_2 : IsLawful default_rules 129 (locked 129 1 0 2) → ⊥
 new_group_after_2 lawful = out_of_order lawful.in_order
   where
-    out_of_order : AreInOrder 1 2 → ⊥
+    out_of_order : AreInOrder 2 1 → ⊥
     out_of_order (inl (is_1, first)) = false≢true (ap (λ x. x == 1) first)
     out_of_order (inr (some, before, few)) = false≢true (le-leb 3 1 before)
 
