@@ -1,5 +1,5 @@
 //! What a user of `rds_sync` relies on: rules, lawful states, steps over a tape, runs over a range, and reports.
-ghost use Rattle.std.specs.Prelude.{◌≡◌, ◌≢◌, ℕ, ◌+◌, ◌-◌, ◌*◌, ◌<◌, ◌≤◌, ◌^◌, ◌++◌, ◌↔◌, [], IsTrue, IfOk, IfErr, IsErrOf, None, Some, count_by, length, slice_get, true};
+ghost use Rattle.std.specs.Prelude.{◌≡◌, ◌≢◌, ℕ, ◌+◌, ◌-◌, ◌*◌, ◌<◌, ◌≤◌, ◌^◌, ◌++◌, ◌↔◌, [], IsTrue, IfOk, IfErr, IsErrOf, None, OnErr, Some, count_by, length, slice_get, take, true};
 ghost use Rattle.rds_stream.specs.Recording.{length_of};
 ghost use Rattle.rds_sync.specs.declared.item.Block.{Block as ABlock};
 ghost use Rattle.rds_sync.specs.declared.error.SyncError.TheVariants.{BurstRange, LossRange, OutOfMemory, ReachRange, ShareRange};
@@ -286,7 +286,8 @@ pub fn cost_of_end<T: Tape>(tape: &mut T, rules: &Rules, state: State) -> Option
 
 // ---- runs over a range
 
-/// A stretch moves on and stays in the range, and appends what the run over its bits gives; its reader can go on.
+/// A stretch moves on and stays in the range, and appends what the run over its bits gives; its reader can go on. Refused
+/// memory, it leaves what was found before.
 pub fn one_stretch(
     reader: &mut Reader<'_>,
     rules: &Rules,
@@ -300,6 +301,7 @@ pub fn one_stretch(
     ensures items { IfOk result (λ reached. items.new
         ≡ items.old ++ (run_of reader.old rules.now Searching place (reached.place - place)).1) }
     ensures refused { IfErr result (λ error. error ≡ OutOfMemory) }
+    ensures left { OnErr result (take (length items.old) items.new ≡ items.old) }
     ensures same { reader.new ≡ reader.old }
 {
     stretch(reader, rules, State::Searching, place, to, items)
