@@ -267,6 +267,13 @@ if has parallel xxd; then
     examples/decode_folder.sh "$work/none" "$work/listings"
 fi
 
+# ---- recipes that have a file of their own
+
+for part in "$here"/recipes/*.sh; do
+  # shellcheck source=/dev/null
+  [[ -f $part ]] && . "$part"
+done
+
 # ---- the manual page
 
 if has mandoc; then
