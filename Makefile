@@ -58,6 +58,7 @@ program:
 	$(call within_limit,tests/differential.sh crates/rds/out/rds crates/rds_plain/out/rds_plain)
 	$(call within_limit,tests/refusals.sh crates/rds/out/rds crates/rds_parts/out/rds_parts)
 	$(call within_limit,tests/work.sh crates/rds/out/rds)
+	$(call within_limit,tests/growth.sh crates/rds/out/rds)
 	$(call within_limit,tests/recipes.sh crates/rds/out/rds)
 
 # The program, its manual page, and the scripts of the recipes.

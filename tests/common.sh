@@ -6,11 +6,33 @@
 set -uo pipefail
 export LC_ALL=C
 
+# Where a tool is missing a script ends, and says which; this is called in a process of its own.
+trap 'exit 1' TERM
+command_not_found_handle() {
+    echo "${0##*/}: there is no '$1' on the PATH" >&2
+    kill $$
+    return 127
+}
+
 here=$(dirname "$(realpath "${BASH_SOURCE[0]}")")
 work=$(mktemp -d) || exit 1
 trap 'rm -rf "$work"' EXIT
+all_tools=$PATH
 passed=0
 failed=0
+
+# needs TOOL..: the tools that a script calls beside those of this page. From here on it finds no others, so that the row is
+# whole; and it ends where one is missing.
+needs() {
+    local tool at
+    mkdir "$work/tools" || exit 1
+    for tool in dirname realpath mktemp rm mkdir awk "$@"; do
+        at=$(type -P "$tool") || command_not_found_handle "$tool"
+        ln -sf "$at" "$work/tools/$tool" || exit 1
+    done
+    # shellcheck disable=SC2123
+    PATH=$work/tools
+}
 
 misused() {
     # shellcheck disable=SC2154
@@ -46,5 +68,5 @@ words() {
         BEGIN { while (n--) printf "%04x%04x%04x%04x\n", word(), word(), word(), word() }'
 }
 
-# make_refuse: the library that refuses and counts calls
-make_refuse() { ${CC:-cc} -O1 -shared -fPIC -o "$work/refuse.so" "$here/refuse.c" -ldl || exit 1; }
+# make_refuse: the library that refuses and counts calls. The compiler finds tools of its own on the PATH.
+make_refuse() { PATH=$all_tools ${CC:-cc} -O1 -shared -fPIC -o "$work/refuse.so" "$here/refuse.c" -ldl || exit 1; }
