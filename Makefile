@@ -53,6 +53,7 @@ define within_limit
 endef
 
 program:
+	$(call within_limit,tests/scripts.sh crates/rds/out/rds)
 	$(call within_limit,tests/program.sh crates/rds/out/rds)
 	$(call within_limit,tests/listings.sh crates/rds/out/rds)
 	$(call within_limit,tests/differential.sh crates/rds/out/rds crates/rds_plain/out/rds_plain)

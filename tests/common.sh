@@ -26,7 +26,7 @@ failed=0
 needs() {
     local tool at
     mkdir "$work/tools" || exit 1
-    for tool in dirname realpath mktemp rm mkdir awk "$@"; do
+    for tool in dirname realpath mktemp rm mkdir tail awk "$@"; do
         at=$(type -P "$tool") || command_not_found_handle "$tool"
         ln -sf "$at" "$work/tools/$tool" || exit 1
     done
@@ -60,6 +60,18 @@ fail() {
 finish() {
     echo "$passed passed, $failed failed"
     [ "$failed" = 0 ] && [ "$passed" -gt 0 ]
+}
+
+# broken FILE TEXT..: ends the script, since a table of its can't be used
+broken() {
+    echo "${0##*/}: ${1##*/}: ${*:2}" >&2
+    exit 1
+}
+
+# check_table FILE: ends the script where the table is empty, or was cut off within a line
+check_table() {
+    [ -s "$1" ] || broken "$1" 'there is no line'
+    [ -z "$(tail -c 1 "$1")" ] || broken "$1" 'the last line is cut off'
 }
 
 # words SEED COUNT: so many lines of four pseudo-random words of four digits each

@@ -8,10 +8,12 @@
 
 usage='usage: tests/listings.sh PATH-TO-RDS [--write]'
 # shellcheck source-path=SCRIPTDIR source=common.sh
-. "$(dirname "$0")/common.sh"
+. "$(dirname "$0")/common.sh" || exit
 check_programs "${1:-}"
 case ${2:-} in '' | --write) ;; *) misused ;; esac
 rds=$(realpath "$1")
+needs cat cmp cp grep head od sha256sum
+table=$here/listings.sums
 cd "$work" || exit 1
 
 # damaged SEED RARITY: lines of digits, of which one digit in so many is another
@@ -46,6 +48,21 @@ for bits in 1 26 1037 99999; do
     echo "station list --bits $bits"
 done >>jobs
 
+# ---- the table: the sum of each text
+
+declare -A wanted=()
+[ -n "${2:-}" ] || check_table "$table"
+while read -r sum job; do
+    [ -z "${wanted[$job]:-}" ] || broken "$table" "two lines of $job"
+    grep -qxF -e "$job" jobs || broken "$table" "there is no text $job"
+    wanted[$job]=$sum
+done <"$table"
+while read -r job; do
+    [ -n "${2:-}${wanted[$job]:-}" ] || broken "$table" "no line of $job"
+done <jobs
+
+# ---- the texts
+
 while read -r input job; do
     # shellcheck disable=SC2086
     if sum=$("$rds" $job --hex <"$input" | sha256sum); then
@@ -56,12 +73,12 @@ while read -r input job; do
 done <jobs >sums
 if [ "${2:-}" = --write ]; then
     if grep '^refused' sums; then exit 1; fi
-    cp sums "$here/listings.sums" || exit 1
+    cp sums "$table" || exit 1
+    exit
 fi
-passed=$(comm -12 <(sort sums) <(sort "$here/listings.sums") | wc -l)
-# Those that have no sum, or another one, and sums without a job.
-failed=$(($(sed 's/^[^ ]* *//' sums "$here/listings.sums" | sort -u | wc -l) - passed))
-diff "$here/listings.sums" sums | sed 's/^/FAILED: /'
+while read -r sum job; do
+    if [ "$sum" = "${wanted[$job]}" ]; then pass; else fail "another text of $job: $sum"; fi
+done <sums
 
 # each crew makes the text that one worker makes of one piece
 for input in clean damaged slips noise mixed station empty; do

@@ -6,9 +6,10 @@
 
 usage='usage: tests/program.sh PATH-TO-RDS'
 # shellcheck source-path=SCRIPTDIR source=common.sh
-. "$(dirname "$0")/common.sh"
+. "$(dirname "$0")/common.sh" || exit
 check_programs "${1:-}"
 rds=$(realpath "$1")
+needs cat cmp grep head sed
 
 # check NAME STATUS STDOUT STDERR INPUT WORDS..
 #

@@ -10,10 +10,11 @@
 
 usage='usage: tests/refusals.sh PATH-TO-RDS PATH-TO-RDS_PARTS'
 # shellcheck source-path=SCRIPTDIR source=common.sh
-. "$(dirname "$0")/common.sh"
+. "$(dirname "$0")/common.sh" || exit
 check_programs "${1:-}" "${2:-}"
 program=$(realpath "$1")
 parts=$(realpath "$2")
+needs cat cmp grep sed seq stat
 rows=0
 declare -A tried=([alloc]=0 [read]=0 [write]=0 [thread]=0)
 
@@ -44,10 +45,9 @@ wrote_nothing() { [ ! -s "$work/out" ]; }
 
 # calls_of CALL WORDS..: how many such calls a job makes
 calls_of() {
-    local count
     rm -f "$work/count"
     run "$1" 0 "${@:2}"
-    read -r count _ <"$work/count" && echo "$count"
+    sed -n "s/^$1 //p" "$work/count" | grep .
 }
 
 # judge CALL STATUS AT: whether the last run answered as it may where call AT of that kind is refused; the threads that
