@@ -6,10 +6,12 @@
 set -uo pipefail
 export LC_ALL=C
 
-# Where a tool is missing a script ends, and says which; this is called in a process of its own.
+# Where a tool is missing a script ends, and says which, wherever the errors of that command go. This is called in a process
+# of its own.
+exec {own_errors}>&2
 trap 'exit 1' TERM
 command_not_found_handle() {
-    echo "${0##*/}: there is no '$1' on the PATH" >&2
+    echo "${0##*/}: there is no '$1' on the PATH" >&"$own_errors"
     kill $$
     return 127
 }

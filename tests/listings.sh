@@ -16,28 +16,7 @@ needs cat cmp cp grep head od sha256sum
 table=$here/listings.sums
 cd "$work" || exit 1
 
-# damaged SEED RARITY: lines of digits, of which one digit in so many is another
-damaged() {
-    awk -v x="$1" -v m="$2" '{
-        line = ""
-        for (i = 1; i <= length($0); i++) {
-            x = x * 16807 % 2147483647
-            line = line (x % m ? substr($0, i, 1) : sprintf("%x", int(x / m) % 16))
-        }
-        print line
-    }'
-}
-
-# slipped EVERY: lines of digits; each so many-th loses its first digit, and 50 lines on one has a digit more
-slipped() { awk -v m="$1" 'NR % m == 0 { $0 = substr($0, 2) } NR % m == 50 { $0 = "5" $0 } { print }'; }
-
-words 11 20000 | "$rds" encode --hex >clean || exit 1
-damaged 12 97 <clean >damaged
-head -n 4900 clean | slipped 100 | damaged 13 800 >slips
-words 14 6000 >noise
-{ head -n 700 clean; head -n 900 noise; tail -n 800 damaged; head -n 300 slips; head -n 3 noise; } >mixed
-od -An -v -tx1 "$here/../examples/station.bin" >station
-: >empty
+# ---- the texts that are made: recordings, and jobs
 
 for input in clean damaged slips noise mixed station empty; do
     for job in scan list totals 'list --burst 0 --reach 1 --loss 1' 'list --burst 5 --reach 8 --loss 64'; do
@@ -54,12 +33,37 @@ declare -A wanted=()
 [ -n "${2:-}" ] || check_table "$table"
 while read -r sum job; do
     [ -z "${wanted[$job]:-}" ] || broken "$table" "two lines of $job"
-    grep -qxF -e "$job" jobs || broken "$table" "there is no text $job"
+    grep -qxF -e "$job" jobs || [ -n "${2:-}" ] || broken "$table" "there is no text $job"
     wanted[$job]=$sum
 done <"$table"
 while read -r job; do
     [ -n "${2:-}${wanted[$job]:-}" ] || broken "$table" "no line of $job"
 done <jobs
+
+# damaged SEED RARITY: lines of digits, of which one digit in so many is another
+damaged() {
+    awk -v x="$1" -v m="$2" '{
+        line = ""
+        for (i = 1; i <= length($0); i++) {
+            x = x * 16807 % 2147483647
+            line = line (x % m ? substr($0, i, 1) : sprintf("%x", int(x / m) % 16))
+        }
+        print line
+    }'
+}
+
+# slipped EVERY: lines of digits; each so many-th loses its first digit, and 50 lines on one has a digit more
+slipped() { awk -v m="$1" 'NR % m == 0 { $0 = substr($0, 2) } NR % m == 50 { $0 = "5" $0 } { print }'; }
+
+# ---- the recordings
+
+words 11 20000 | "$rds" encode --hex >clean || exit 1
+damaged 12 97 <clean >damaged
+head -n 4900 clean | slipped 100 | damaged 13 800 >slips
+words 14 6000 >noise
+{ head -n 700 clean; head -n 900 noise; tail -n 800 damaged; head -n 300 slips; head -n 3 noise; } >mixed
+od -An -v -tx1 "$here/../examples/station.bin" >station
+: >empty
 
 # ---- the texts
 

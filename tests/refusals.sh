@@ -123,6 +123,9 @@ job "$(zeros 8)" list --hex --pieces 8 --workers 3
 job "$(zeros 8)" list --hex --pieces 4 --workers 2 --reach 4
 job '0000 0000 0000 0000\n' encode --hex
 job '1234 2540 5244 5320\n   \n\n0000080000000000' encode
+# two groups encoded as digits, and the list of these
+job '1234 2540 5244 5320\n0000 0800 0000 0000\n' encode --hex
+job '12341a89501ac52449594c83fb\n00003f02002c10000d400001b4\n' list --hex --pieces 2 --workers 2
 # rows for three threads
 for _ in 1 2 3 4 5 6 7; do cat "$here/../examples/station.bin"; done >"$work/in"
 all_of list --pieces 2 --workers 3
