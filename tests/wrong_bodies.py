@@ -10,7 +10,11 @@ behind it under another name, with the same contract and the same proof. A wrong
 
 - by a goal, where `search` leaves one of its function open that it proves of the right body: one, that is, for which
   the right proof, checked by `rt ci`, has no answer by hand;
-- else by a line of those answers, where the prover refuses what stands there; not where it names what is gone.
+- else by a line of those answers, where the prover refuses what stands there; not where it names what is gone. An edit that
+  leaves the meaning as it was can do as much, since answers follow the form of the body: so this counts only for an edit of
+  which docs/TESTING.md says what is false of it, in its table of answers that name the old body.
+
+An edit with a line `equal: WHY` leaves the meaning as it was: it may be refused by lines, and by no goal.
 
 With --right the right bodies are tried in the same way, in the place of the wrong ones, and none may be refused.
 """
@@ -23,10 +27,13 @@ import sys
 import tempfile
 from concurrent.futures import ThreadPoolExecutor
 from dataclasses import dataclass, replace
+from glob import glob
 
 from holes import LIBRARIES, RT, TOP, below, copied, functions_of, is_built, read, words, write
 
 CRATES = f"{TOP}/crates"
+# The page that says what is false of an edit that is refused by lines of answers alone, and the heading of its table.
+TOLD, TABLE = "docs/TESTING.md", "### Answers that name the old body"
 # What a check says of an answer that names what an edit took away.
 GONE = "has no field|is not in scope|has no `|was not admitted"
 
@@ -36,13 +43,41 @@ class WrongBody:
     name: str
     edits: list  # (file, place, old, new)
     functions: list
-    found: str = ""  # why the prover refuses it
+    is_equal: bool  # it leaves the meaning as it was
+    goals: list = ()  # what the prover refuses of it
+    lines: list = ()
+
+    def is_refused(self, told):
+        """Whether that is a refusal, where these edits are told of."""
+        return bool(self.goals) or bool(self.lines) and name_of(self.name) in told
+
+    def report(self, told):
+        if self.goals or self.is_refused(told):
+            return "refused: " + ", ".join(self.goals or self.lines)
+        if self.lines:
+            return f"NOT REFUSED, but for {', '.join(self.lines)}: {TOLD} does not tell what is false of it"
+        return "NOT REFUSED"
+
+
+def name_of(path):
+    """The name of an edit."""
+    return os.path.basename(path).removesuffix(".edit")
+
+
+def told_of():
+    """The edits of which the page tells what is false. Each has to be there."""
+    told = set(re.findall(r"^\| (\w+) ", read(f"{TOP}/{TOLD}").partition(TABLE)[2].partition("\n###")[0], re.M)) - {"Edit"}
+    edits = {name_of(it) for it in glob(f"{CRATES}/*/wrong/*.edit") + glob(f"{CRATES}/*/must-fail/*.edit")}
+    if gone := sorted(told - edits):
+        sys.exit(f"{TOLD}, '{TABLE.strip('# ')}', tells of edits that are not there: {', '.join(gone)}")
+    return told
 
 
 def wrong_body(crate, file, functions):
     """Reads an edit, and finds the functions that it makes wrong."""
     lines = [it.partition(": ")[::2] for it in read(f"{CRATES}/{crate}/wrong/{file}").splitlines()]
-    body = WrongBody(f"{crate}/{file}", [], [f for f in functions if ("fails", f.path.replace(".", "::")) in lines])
+    outside = [f for f in functions if ("fails", f.path.replace(".", "::")) in lines]
+    body = WrongBody(f"{crate}/{file}", [], outside, any(key == "equal" for key, _ in lines))
     path, old = "", ""
     for key, said in lines:
         path = f"{crate}/{said}" if key == "file" else path
@@ -123,10 +158,17 @@ def refusal(folder, body, said):
             goals += [goal] if first <= int(line) <= last and goal not in by_hand else []
         errors = re.findall(rf"^\./{answers}:(\d+):\d+: error: (.*)", said, re.M)
         lines += [f"line {at} of {answers}" for at, why in errors if not re.search(GONE, why)]
-    return ", ".join(dict.fromkeys(goals or lines))
+    return list(dict.fromkeys(goals)), list(dict.fromkeys(lines))
 
 
-def try_all(room, crate, are_right):
+def is_as_wanted(body, told, are_right):
+    """Whether a wrong body is refused, and one that leaves the meaning as it was is not; nor any right one."""
+    if are_right:
+        return not body.goals and not body.lines
+    return not body.is_refused(told) if body.is_equal else body.is_refused(told)
+
+
+def try_all(room, crate, told, are_right):
     """Tries the wrong bodies of a crate, all in one run, or the right ones in their places."""
     functions = copied(room, [crate])
     files = sorted(it for it in os.listdir(f"{CRATES}/{crate}/wrong") if it.endswith(".edit"))
@@ -144,14 +186,16 @@ def try_all(room, crate, are_right):
     if not re.search(r"^only=\d+ ", ran.stdout, re.M):
         sys.exit(f"{crate}: the run came to no end:\n{ran.stdout[-3000:]}")
     for body in bodies:
-        body.found = refusal(room, body, ran.stdout)
-        print(f"{body.name}: {'refused: ' + body.found if body.found else 'NOT REFUSED'}", flush=True)
-    if any(bool(it.found) == are_right for it in bodies):
+        body.goals, body.lines = refusal(room, body, ran.stdout)
+        kind = ", which leaves the meaning as it was" if body.is_equal else ""
+        print(f"{body.name}{kind}: {body.report(told)}", flush=True)
+    if not all(is_as_wanted(it, told, are_right) for it in bodies):
         print(f"{crate}: the end of what was said in that run:\n{ran.stdout[-3000:]}", flush=True)
     return bodies
 
 
 def main(names, are_right):
+    told = told_of()
     crates = [it for it in LIBRARIES if os.path.isdir(f"{CRATES}/{it}/wrong")]
     if unknown := [it for it in names if it not in crates]:
         sys.exit(f"there are no wrong bodies of {', '.join(unknown)}")
@@ -163,10 +207,10 @@ def main(names, are_right):
     crates.sort(key=lambda it: len(os.listdir(f"{CRATES}/{it}/wrong")), reverse=True)
     lanes = len(os.sched_getaffinity(0))
     with tempfile.TemporaryDirectory(prefix="wrong-bodies-") as room, ThreadPoolExecutor(lanes) as pool:
-        tried = sum(pool.map(lambda it: try_all(room, it, are_right), crates), [])
-    failed = [it.name for it in tried if bool(it.found) == are_right]
-    kind, other = ("right", "as they must be") if are_right else ("wrong", "refused")
-    print(f"{kind} bodies: {len(tried) - len(failed)} {other}, {len(failed)} not: {' '.join(failed)}")
+        tried = sum(pool.map(lambda it: try_all(room, it, told, are_right), crates), [])
+    failed = [it.name for it in tried if not is_as_wanted(it, told, are_right)]
+    kind = "right" if are_right else "wrong"
+    print(f"{kind} bodies: {len(tried) - len(failed)} as they must be, {len(failed)} not: {' '.join(failed)}")
     return 1 if failed or not tried else 0
 
 
