@@ -4,6 +4,7 @@ mod cuttings;
 pub mod guesses;
 pub mod joins;
 mod marks;
+mod phases;
 pub mod reports;
 mod seams;
 mod stitching;

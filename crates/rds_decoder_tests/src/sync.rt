@@ -1,8 +1,9 @@
 //! Tests of `rds_sync`.
+mod bad_blocks;
 mod kept;
 mod losses;
 mod reports;
 mod rules;
 mod runs;
-mod steps;
+pub mod steps;
 mod ways;

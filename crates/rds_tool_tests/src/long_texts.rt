@@ -22,7 +22,8 @@ fn zero_groups(alloc: Global) -> Result<Vec<u8>, AllocError> {
 }
 
 /// Their totals.
-const TOTALS: &str = "total,valid,7999,-,-,-,-,-\ntotal,burst1,0,-,-,-,-,-\ntotal,burst2,0,-,-,-,-,-\n\
+const TOTALS: &str =
+    "total,valid,7999,-,-,-,-,-\ntotal,burst1,0,-,-,-,-,-\ntotal,burst2,0,-,-,-,-,-\n\
     total,burst3,0,-,-,-,-,-\ntotal,burst4,0,-,-,-,-,-\ntotal,burst5,0,-,-,-,-,-\n\
     total,lost,0,-,-,-,-,-\ntotal,bits,0,-,-,-,-,-\ntotal,groups,2000,-,-,-,-,-\n\
     total,complete,1999,-,-,-,-,-\ntotal,acquired,1,-,-,-,-,-\ntotal,losses,0,-,-,-,-,-\n";
@@ -77,9 +78,17 @@ fn a_text_of_80_kilobytes_goes_in_few_writes(rt: HostRuntime) -> Result<(), Fail
     let text = rows(rt.alloc())?;
     let (bytes, text) = (bytes.as_slice(), text.as_str());
     assert!(rt; text.len() > 80_000);
-    for &(workers, step) in &[(1u32, usize::MAX), (4, usize::MAX), (1, 65_536), (4, 65_536)] {
+    for &(workers, step) in &[
+        (1u32, usize::MAX),
+        (4, usize::MAX),
+        (1, 65_536),
+        (4, 65_536),
+    ] {
         let writes = writes_of(&rt, rt.alloc(), bytes, text, workers, step)?;
-        assert!(rt; matches!(writes, Some(1..=12)), "{writes:?} by {workers}, {step} a call");
+        assert!(rt;
+            matches!(writes, Some(1..=12)),
+            "{writes:?} by {workers}, {step} a call"
+        );
     }
     Ok(())
 }

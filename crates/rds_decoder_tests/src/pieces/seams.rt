@@ -57,10 +57,10 @@ fn state_before(alloc: Global, sample: &Sample, place: u64) -> Result<State, Syn
     Ok(state)
 }
 
-/// The seam at 190 from the true state.
-fn true_seam(alloc: Global, sample: &Sample) -> Result<Shown, Fail> {
-    let state = state_before(alloc, sample, 190)?;
-    let guess = guess_from(alloc, sample, 190)?;
+/// The seam at that place from the true state.
+pub fn true_seam(alloc: Global, sample: &Sample, from: u64) -> Result<Shown, Fail> {
+    let state = state_before(alloc, sample, from)?;
+    let guess = guess_from(alloc, sample, from)?;
     Ok(seam_from(alloc, sample, &guess, state)?)
 }
 
@@ -72,7 +72,7 @@ fn is_seam(
     most: u64,
     most_in_all: u64,
 ) -> Result<bool, Fail> {
-    let seam = true_seam(alloc, sample)?;
+    let seam = true_seam(alloc, sample, 190)?;
     let is_soon = match reads_stitched(alloc, sample, Cuts::At(&[190]))? {
         Some(reads) => reads <= most_in_all,
         None => false,

@@ -1,7 +1,8 @@
 //! The scans of all ranges, and of those about words, against a look at each place.
-use crate::samples::{recording_of, zero_bytes};
+use crate::samples::{recording_of, zero_bytes, zero_groups};
 use crate::stream::gaps::{Gapped, finds_its_places};
-use rds_stream::StreamError;
+use rds_code::Offset;
+use rds_stream::{StreamError, scan};
 use std::alloc::Global;
 use std::test::Fail;
 
@@ -62,5 +63,21 @@ fn finds_about_words(alloc: Global) -> Result<bool, StreamError> {
 #[test]
 fn a_scan_of_any_range_is_that_of_its_places(rt: HostRuntime) -> Result<(), Fail> {
     assert!(rt; finds_all(rt.alloc())? && finds_about_words(rt.alloc())?);
+    Ok(())
+}
+
+/// The scan of places 129 to 130 of two zero groups.
+fn scan_of_one_place(alloc: Global) -> Result<Vec<(u64, Offset)>, StreamError> {
+    let recording = zero_groups(alloc, 208)?;
+    if recording.len() < 130 {
+        return Err(StreamError::BitsPastBytes);
+    }
+    scan(alloc, &recording, 129, 130)
+}
+
+#[test]
+fn the_scan_of_place_129_alone_is_its_window(rt: HostRuntime) -> Result<(), Fail> {
+    let found = scan_of_one_place(rt.alloc())?;
+    assert!(rt; found.as_slice() == [(129, Offset::A)].as_slice());
     Ok(())
 }

@@ -21,6 +21,26 @@ fn push_found(items: &mut Vec<Item>, found: &[Option<Item>; 2]) -> Result<(), Al
     Ok(())
 }
 
+/// What the steps from that state and place on find.
+pub fn found_from(
+    alloc: Global,
+    rec: &Recording,
+    rules: &Rules,
+    state: State,
+    place: u64,
+) -> Result<Vec<Item>, AllocError> {
+    let mut tape = Counted::new(rec);
+    let mut items = Vec::new(alloc);
+    let (mut state, mut place) = (state, place);
+    for _ in 0..rec.len() {
+        if let Some(step) = step_from(&mut tape, rules, state, place) {
+            push_found(&mut items, &step.items)?;
+            (state, place) = (step.state, step.place);
+        }
+    }
+    Ok(items)
+}
+
 /// The state and the place after as many steps as there are, and what they found.
 pub fn by_steps(
     alloc: Global,
