@@ -7,12 +7,12 @@
 #   listing_awk -v least=3 "$listing"' .. '
 # The rules of $listing end it with status 2 at a row that is none of a listing, and with status 1 where the listing does not
 # end in its totals, or does not fit the length of the recording, $bits, if it is known.
+# shellcheck disable=SC2034  # what it sets is used by who sources it
 # shellcheck source-path=SCRIPTDIR source=times.sh
 . "$(dirname -- "$0")/times.sh"
-# shellcheck disable=SC2034  # used by who sources it
 bits='' trusted='' taken=0
 
-# shellcheck disable=SC2016,SC2034  # used by who sources it
+# shellcheck disable=SC2016
 listing=$times'
   function die(status, text) {
     print script ": " text > "/dev/stderr"
@@ -68,7 +68,6 @@ length_of() {
 
 # listing_option WORD ..: takes the option that comes first, of $taken words; false where none does
 listing_option() {
-  # shellcheck disable=SC2034
   taken=2
   case ${1-} in
     --length) length_of "${2-}" ;;
