@@ -2,6 +2,7 @@
 import argparse
 import datetime
 import functools
+import signal
 import sys
 
 
@@ -13,6 +14,13 @@ class Block:
         self.offset = name
         self.corrected = "~" in word
         self.word = int(word[:4], 16)
+
+
+def set_streams():
+    """Any bytes can be read, UTF-8 is written, and a reader that leaves early, as head does, ends the script without a word."""
+    sys.stdin.reconfigure(encoding="ascii", errors="replace")
+    sys.stdout.reconfigure(encoding="utf-8")
+    signal.signal(signal.SIGPIPE, signal.SIG_DFL)
 
 
 # A station sends few different blocks.

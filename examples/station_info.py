@@ -299,8 +299,7 @@ def main():
     parser = argparse.ArgumentParser(description=__doc__, formatter_class=argparse.RawDescriptionHelpFormatter)
     listing.Times.add_options(parser)
     times = listing.Times(parser.parse_args())
-    sys.stdin.reconfigure(encoding="ascii", errors="replace")
-    sys.stdout.reconfigure(encoding="utf-8")
+    listing.set_streams()
     out = csv.writer(sys.stdout, lineterminator="\n")
     out.writerow(["time_s", "programme", "item", "value", "place", *times.head()[1:]])
 
