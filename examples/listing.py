@@ -1,6 +1,8 @@
 """Groups of a listing of `rds list`, and the times of their places, for the Python scripts of this folder."""
 import argparse
 import datetime
+import functools
+import signal
 import sys
 
 
@@ -14,23 +16,32 @@ class Block:
         self.word = int(word[:4], 16)
 
 
+def set_streams():
+    """Any bytes can be read, UTF-8 is written, and a reader that leaves early, as head does, ends the script without a word."""
+    sys.stdin.reconfigure(encoding="ascii", errors="replace")
+    sys.stdout.reconfigure(encoding="utf-8")
+    signal.signal(signal.SIGPIPE, signal.SIG_DFL)
+
+
+# A station sends few different blocks.
+@functools.lru_cache(65536)
+def block_of(field):
+    return None if field in ("none", "lost") else Block(field)
+
+
 class Group:
-    """A group: the places of its first bit that was read and after its last one, and its blocks.
+    """A group: the places of its first bit that was read and after its last one, its blocks, and whether all four are valid.
 
     A block that is lost or was not read is None. After an acquisition the first group is `fresh`: what was received before may
     have been another station.
     """
 
     def __init__(self, place, fields, fresh):
-        read = [i for i, field in enumerate(fields) if field != "none"]
         self.place = place
-        self.end = place + 26 * (read[-1] - read[0] + 1)
-        self.blocks = [None if field in ("none", "lost") else Block(field) for field in fields]
+        self.end = place + 26 * (4 - fields.count("none"))
+        self.blocks = [block_of(field) for field in fields]
+        self.valid = all(block and not block.corrected for block in self.blocks)
         self.fresh = fresh
-
-    def valid(self):
-        """Whether all four blocks are valid."""
-        return all(block and not block.corrected for block in self.blocks)
 
 
 def groups(rows, script):
