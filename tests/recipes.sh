@@ -30,6 +30,15 @@ fails() {
   same "$name" "$text" "$said"
 }
 
+# refused NAME STATUS TEXT COMMAND..: the command, whose input is this function's, ends in the status with TEXT as its first fault
+refused() {
+  local name=$1 wanted="$2 $3" said status
+  shift 3
+  said=$("$@" 2>&1 >/dev/null)
+  status=$?
+  same "$name" "$wanted" "$status ${said%%$'\n'*}"
+}
+
 # onto_full COMMAND..: the command, whose output is a full device
 onto_full() { "$@" > /dev/full; }
 

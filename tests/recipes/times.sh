@@ -3,15 +3,6 @@
 # sources it.
 # shellcheck disable=SC2154
 
-# refused NAME STATUS TEXT COMMAND..: the command, whose input is this function's, ends in the status with TEXT as its first fault
-refused() {
-  local name=$1 wanted="$2 $3" said status
-  shift 3
-  said=$("$@" 2>&1 >/dev/null)
-  status=$?
-  same "$name" "$wanted" "$status ${said%%$'\n'*}"
-}
-
 # group PLACE SECOND THIRD FOURTH: a group of the station as a row of a listing
 group() { echo "group,$1,$((0x$2 >> 12)),A,A:D393,B:$2,C:$3,D:$4"; }
 
