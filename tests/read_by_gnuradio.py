@@ -38,7 +38,8 @@ def local(clock):
 
 with open(sys.argv[1], "rb") as file:
     bits = [byte >> i & 1 for byte in file.read() for i in range(7, -1, -1)]
-graph, source, decoder, parser, last = gr.top_block(), blocks.vector_source_b(bits), rds.decoder(False, False), rds.parser(False, False, 0), Last()
+graph, source, last = gr.top_block(), blocks.vector_source_b(bits), Last()
+decoder, parser = rds.decoder(False, False), rds.parser(False, False, 0)
 graph.connect(source, decoder)
 graph.msg_connect((decoder, "out"), (parser, "in"))
 graph.msg_connect((parser, "out"), (last, "in"))

@@ -223,13 +223,14 @@ if has perl awk; then
     examples/plot_block_errors.sh "$work/errors.png" < "$work/errors.csv"
     same 'a picture as PNG' 89504e470d0a1a0a "$(xxd -p -l 8 "$work/errors.png")"
     (cd "$work" && "$here/../examples/plot_block_errors.sh" -- "-the day's errors.svg" < errors.csv)
-    same 'a picture as SVG, with its axes, of a name with a quote' '>hours from 2026-03-29T00:30:00.000Z< >per cent of the blocks sent<' \
-      "$(grep -oE '>(hours from [^<]*|per cent of the blocks sent)<' "$work/-the day's errors.svg" | sort | tr '\n' ' ' | sed 's/ $//')"
+    same 'a picture as SVG, with its axes, of a name with a quote' '>hours from 2026-03-29T00:30:00.000Z<
+>per cent of the blocks sent<' "$(grep -oE '>(hours from [^<]*|per cent of the blocks sent)<' "$work/-the day's errors.svg" | sort)"
     fails 'a picture of nothing' 'plot_block_errors: there is no interval in the input' \
       examples/plot_block_errors.sh "$work/none.png" < /dev/null
     fails 'a picture where there is no folder' "plot_block_errors: $work/none/errors.png cannot be written" \
       examples/plot_block_errors.sh "$work/none/errors.png" < "$work/errors.csv"
-    same 'nothing of it on standard output' '' "$(examples/plot_block_errors.sh "$work/none/errors.png" < "$work/errors.csv" 2>/dev/null)"
+    same 'nothing of it on standard output' '' \
+      "$(examples/plot_block_errors.sh "$work/none/errors.png" < "$work/errors.csv" 2>/dev/null)"
     # A day whose second half is dead air.
     { echo begin_s,end_s,sent,valid,corrected,lost,missing,bad_percent
       for ((s = 0; s < 86400; s += 60)); do

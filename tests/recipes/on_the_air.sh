@@ -33,13 +33,15 @@ hexadecimal() { printf "$1" | od -An -v -tx1 | tr -d ' \n' | tr a-f A-F; }
 # name_groups VERSION FLAGS TEXT [PAIRS OF FREQUENCIES..]: group 0, a pair of the eight characters each; FLAGS are traffic
 # announcement (16), music (8) and decoder (4)
 name_groups() {
-  local version=$1 flags=$2 codes segment pairs
+  local version=$1 flags=$2 codes segment pairs third
   codes=$(hexadecimal "$3")
-  pairs=("${@:4}")
+  # where there is no list its head says so, and after its end stand fillers
+  pairs=("${@:4}" CDCD CDCD CDCD CDCD)
+  [[ $# != 3 ]] || pairs=(E0CD E0CD E0CD E0CD)
   for segment in 0 1 2 3; do
-    # without a list its head says so, and after its end stand fillers
-    [[ $version == 0 ]] || pairs[segment]=$identification
-    words_of 0 "$version" $((flags | segment)) "${pairs[segment]:-$([[ $# == 3 ]] && echo E0CD || echo CDCD)}" "${codes:segment * 4:4}"
+    third=${pairs[segment]}
+    [[ $version == 0 ]] || third=$identification
+    words_of 0 "$version" $((flags | segment)) "$third" "${codes:segment * 4:4}"
   done
 }
 
@@ -109,13 +111,16 @@ D318,text,A text of 32 characters in all..' "$(said < "$work/says.csv")"
 0.087,D318,programme,D318,104,2026-03-29T00:30:00.087Z' \
     "$(python3 examples/station_info.py --start 2026-03-29T00:30:00Z --rate 1190 < "$work/says.csv" | sed -n 1,2p)"
   same 'the basic character set' 'D318,name,Köln ¤$' "$(name_groups 0 8 'K\227ln \044\253\040' | listing_of | said | grep name)"
-  same 'all of it but ASCII' 'áàéèíìóòúùÑÇŞß¡Ĳâäêëîïôöûüñçşǧıĳª α©‰Ǧěňőπ€£$←↑→↓º¹²³±İńűµ¿÷°¼½¾§ ÁÀÉÈÍÌÓÒÚÙŘČŠŽÐĿÂÄÊËÎÏÔÖÛÜřčšžđŀÃ ÅÆŒŷÝÕØÞŊŔĆŚŹŦðãåæœŵýõøþŋŕćśźŧ ― ‖ ¯ ¤' "$(
-    { codes() { printf '\\%03o' $(seq $(($1)) $(($2))); }
-      for range in '0x80 0xA0' '0xA1 0xBF' '0xC0 0xE0' '0xE1 0xFE'; do
-        # shellcheck disable=SC2086
-        text_groups 0 0 "$(codes $range)\\r"
-      done
-      text_groups 0 0 '^ ` ~ $\r'; } | listing_of | said | sed -n 's/.*,text,//p' | tr '\n' ' ' | sed 's/ $//')"
+  # codes FROM TO: all characters from one to another
+  # shellcheck disable=SC2046
+  codes() { printf '\\%03o' $(seq $(($1)) $(($2))); }
+  same 'all of it but ASCII' 'áàéèíìóòúùÑÇŞß¡Ĳâäêëîïôöûüñçşǧıĳ
+ªα©‰Ǧěňőπ€£$←↑→↓º¹²³±İńűµ¿÷°¼½¾§
+ÁÀÉÈÍÌÓÒÚÙŘČŠŽÐĿÂÄÊËÎÏÔÖÛÜřčšžđŀ
+ÃÅÆŒŷÝÕØÞŊŔĆŚŹŦðãåæœŵýõøþŋŕćśźŧ
+― ‖ ¯ ¤' "$({ text_groups 0 0 "$(codes 0x80 0x9F)\\r"; text_groups 0 0 "$(codes 0xA0 0xBF)\\r"
+    text_groups 0 0 "$(codes 0xC0 0xDF)\\r"; text_groups 0 0 "$(codes 0xE0 0xFE)\\r"
+    text_groups 0 0 '^ ` ~ $\r'; } | listing_of | said | sed -n 's/.*,text,//p')"
 
   # ---- alternative frequencies
 
@@ -124,7 +129,8 @@ D318,text,A text of 32 characters in all..' "$(said < "$work/says.csv")"
   same 'one frequency' '98.1 ' "$(frequencies E16A)"
   same 'no list' 'none ' "$(frequencies E0CD)"
   same 'a list that does not end' '' "$(frequencies E501 6A02 7CCD)"
-  same 'frequencies by method B' '"89.3: 99.5 101.7" 95.0: 89.0 ' "$(frequencies E512 1278 8E12 CDCD | sed 's/^\(89.*\) $/"\1" /')$(frequencies E34B 4B0F)"
+  same 'frequencies by method B' '89.3: 99.5 101.7 ' "$(frequencies E512 1278 8E12)"
+  same 'lists of two transmitters' '95.0: 89.0 89.0: 95.0 ' "$(frequencies E34B 4B0F E30F 0F4B)"
   same 'long and medium wave' '87.6 0.279 0.531 1.602 ' "$(frequencies E401 FA0F FA10 FA87)"
 
   # ---- what counts
@@ -146,24 +152,26 @@ D318,text,A text of 32 characters in all..' "$(said < "$work/says.csv")"
     "$({ named; named; named; } | damaged "s/,C:[^,]*/,lost/; 3,6s/,D:[^,]*/,lost/; 7,10s/,D:[^,]*/&$correction/" | grep ,name,)"
   same 'a wrong correction once is passed over' 'D318,name,PAXO 318' \
     "$({ named; named; named; } | damaged "7s/,D:[^,]*/,D:5151$correction/" | grep ,name,)"
-  same 'a name by groups of the other version' 'D318,name,PAXO 318' "$(name_groups 1 8 'PAXO 318' | listing_of | said | grep ,name,)"
+  same 'a name by groups of the other version' 'D318,name,PAXO 318' \
+    "$(name_groups 1 8 'PAXO 318' | listing_of | said | grep ,name,)"
   same 'a text of which blocks 4 were lost' '' "$(text_groups 0 0 'A text\r' | damaged 's/,D:[^,]*/,lost/' | grep ,text,)"
-  same 'a text by halves of groups' 'D318,text,A text' "$({ text_groups 0 0 'A text\r'; text_groups 0 0 'A text\r'; text_groups 0 0 'A text\r'
-    text_groups 0 0 'A text\r'; text_groups 0 0 'A text\r'; } | damaged '3,8s/,D:[^,]*/,lost/; 9,12s/,C:[^,]*/,lost/' | grep ,text,)"
+  same 'a text by halves of groups' 'D318,text,A text' "$(for _ in 1 2 3 4 5; do text_groups 0 0 'A text\r'; done |
+    damaged '3,8s/,D:[^,]*/,lost/; 9,12s/,C:[^,]*/,lost/' | grep ,text,)"
   same 'a text without an end, after its turns' 'D318,text,Twelve signs' "$({ text_groups 0 0 'Twelve signs'
     text_groups 0 0 'Twelve signs'; text_groups 0 0 'Twelve signs'; } | listing_of | said | grep ,text,)"
   same 'another name is no mixture' 'D318,name,PAXO 318 D318,name,PAXO NEW' \
-    "$({ named; name_groups 0 8 'PAXO NEW' E0CD | tail -n 3; name_groups 0 8 'PAXO NEW' E0CD; } | listing_of | said | grep ,name, | tr '\n' ' ' |
-      sed 's/ $//')"
+    "$({ named; name_groups 0 8 'PAXO NEW' E0CD | tail -n 3; name_groups 0 8 'PAXO NEW' E0CD; } | listing_of | said |
+      grep ,name, | tr '\n' ' ' | sed 's/ $//')"
   same 'another programme is another station' 'D318,programme,D318 D318,name,PAXO 318 D319,programme,D319 D319,name,PAXO 319 ' \
-    "$({ named; identification=D319; named | head -n 2; name_groups 0 8 'PAXO 319' E0CD | tail -n 2; name_groups 0 8 'PAXO 319' E0CD; } |
-      listing_of | said | grep -E ',(name|programme),' | tr '\n' ' ')"
+    "$({ named; identification=D319; named | head -n 2; name_groups 0 8 'PAXO 319' E0CD | tail -n 2
+      name_groups 0 8 'PAXO 319' E0CD; } | listing_of | said | grep -E ',(name|programme),' | tr '\n' ' ')"
   same 'a programme once in a corrected block is none' 'D318,programme,D318' \
     "$({ named; named; } | damaged "5s/,A:[^,]*/,A:D319$correction/" | grep ,programme,)"
   # After an acquisition a group without block 1 may be of another station.
   same 'a group of no programme after an acquisition' '' \
     "$({ named; named; } | damaged -e '4s/^/acquired,51,2,-,-,-,-,-\n/' -e '4,99s/,A:[^,]*/,lost/' | grep ,name,)"
-  refused 'what is said by block errors' 2 'station_info: row 1 is none of a listing of rds list' python3 examples/station_info.py <<< begin_s,end_s
+  refused 'what is said by block errors' 2 'station_info: row 1 is none of a listing of rds list' \
+    python3 examples/station_info.py <<< begin_s,end_s
   refused 'what a cut listing says' 1 "station_info: $is_cut" python3 examples/station_info.py < "$cut"
 
   # ---- the same groups read by gr-rds, an independent implementation, where it is
@@ -171,8 +179,8 @@ D318,text,A text of 32 characters in all..' "$(said < "$work/says.csv")"
   gnuradio_python=/usr/bin/python3
   if "$gnuradio_python" -c 'import rds' 2>/dev/null; then
     # its words: the programme, the name, the text, and the clock by UTC with hours of offset
-    { name_groups 0 8 'PAXO 318' E0CD; name_groups 0 8 'PAXO 318' E0CD; text_groups 0 0 'A text that ends as such texts do: with a blank or two'
-      text_groups 0 0 'A text that ends as such texts do: with a blank or two'; clock_group 61128 1 30 4; } > "$work/ascii.txt"
+    { named; named; clock_group 61128 1 30 4
+      for _ in 1 2; do text_groups 0 0 'A text that is as long as it is, and ends in blanks alone'; done; } > "$work/ascii.txt"
     for groups in "$work/ascii.txt" ''; do
       if [[ $groups ]]; then
         { echo "$identification F000 0000 0000"; cat "$groups" "$groups"; } | "$program" encode > "$work/reading.bin"

@@ -12,14 +12,18 @@ if has awk; then
   # ---- --start and --rate
 
   # date_of START PLACE: when a bit was received, by the system's own date
-  date_of() { TZ=UTC0 date -d "@$(awk -v start="$(date -d "$1" +%s)" -v place="$2" 'BEGIN { printf "%.3f", start + place / 1187.5 }')" \
-    +%Y-%m-%dT%H:%M:%S.%3NZ; }
+  date_of() {
+    local seconds
+    seconds=$(awk -v start="$(date -d "$1" +%s)" -v place="$2" 'BEGIN { printf "%.3f", start + place / 1187.5 }')
+    TZ=UTC0 date -d "@$seconds" +%Y-%m-%dT%H:%M:%S.%3NZ
+  }
   for start in 1970-01-01T00:00:00Z 1999-12-31T23:59:59Z 2000-02-28T23:59:59Z 2024-02-29T12:00:00Z 2026-03-29T00:30:00Z \
     2026-12-31T23:59:59Z 2100-02-28T23:30:00Z; do
     wanted='' got=''
     for place in 0 1188 5937500 68719476700; do
       wanted+="$(date_of "$start" "$place") "
-      got+="$({ group "$place" 0548 E0CD 5041; echo "$last_row"; } | examples/group_types.sh --start "$start" | sed -n '2s/.*,//p') "
+      got+="$({ group "$place" 0548 E0CD 5041; echo "$last_row"; } | examples/group_types.sh --start "$start" |
+        sed -n '2s/.*,//p') "
     done
     same "UTC from $start on" "$wanted" "$got"
   done
@@ -59,7 +63,8 @@ if has awk; then
     "$(examples/off_air.sh --share 5 208000 < "$work/outages.csv" | tail -n +2 | cut -d, -f4,5 | tr '\n' ',')"
   same 'by a longer pause one programme' '0.000,174.282,D393,1366,0,206960' \
     "$(examples/programmes.sh --pause 60 < "$work/outages.csv" | tail -n +2)"
-  refused 'a share above all' 2 'off_air: --share takes up to 100 per cent' examples/off_air.sh --share 101 208000 < "$work/outages.csv"
+  refused 'a share above all' 2 'off_air: --share takes up to 100 per cent' \
+    examples/off_air.sh --share 101 208000 < "$work/outages.csv"
 
   # ---- the length of a recording
 
@@ -73,13 +78,15 @@ if has awk; then
     "$(cd "$work" && "$here/../examples/block_errors.sh" -- "-a station's.bin" < station.csv)"
   past='row 1924 is of a bit past the 199888 of the recording: it is of another one, or its length is wrong'
   refused 'a recording shorter than its rows' 1 "off_air: $past" examples/off_air.sh 199888 < "$work/station.csv"
-  refused 'a length beside other options' 1 "corrected_blocks: $past" examples/corrected_blocks.sh --length 199888 < "$work/station.csv"
+  refused 'a length beside other options' 1 "corrected_blocks: $past" \
+    examples/corrected_blocks.sh --length 199888 < "$work/station.csv"
   longer='the recording has 1600000 bits, but the last row is of bit 199991, more than a tenth before: '
   longer+='its length is wrong, or nothing was received for long (--trust-length)'
   refused 'a recording longer than its rows' 1 "block_errors: $longer" examples/block_errors.sh 1600000 < "$work/station.csv"
   same 'a longer one that is to be believed' '168.414,1347.368,1178.954,199992,1600000' \
     "$(examples/off_air.sh --trust-length 1600000 < "$work/station.csv" | tail -n 1)"
-  refused 'a recording that is not there' 2 "off_air: $work/none cannot be read" examples/off_air.sh "$work/none" < "$work/station.csv"
+  refused 'a recording that is not there' 2 "off_air: $work/none cannot be read" \
+    examples/off_air.sh "$work/none" < "$work/station.csv"
 
   # ---- a table of something else
 
@@ -119,7 +126,10 @@ if has python3 awk; then
       print "total,losses,0,-,-,-,-,-" }'
   }
   # ppm_of ARGUMENTS OF clock_times: the parts in a million that the script finds, and seconds of the start, rounded
-  ppm_of() { clock_times "$@" | python3 examples/clock_rate.py | awk -F, 'NR == 2 { printf "%d %s", $5 + ($5 < 0 ? -0.5 : 0.5), substr($7, 1, 19) }'; }
+  ppm_of() {
+    clock_times "$@" | python3 examples/clock_rate.py |
+      awk -F, 'NR == 2 { printf "%d %s", $5 + ($5 < 0 ? -0.5 : 0.5), substr($7, 1, 19) }'
+  }
   same 'a clock that is right' '0 2026-03-29T00:30:17' "$(ppm_of 24 0 0)"
   same 'a clock that is fast' '37 2026-03-29T00:30:17' "$(ppm_of 24 37 0)"
   same 'a clock that is slow, with ten seconds absent' '-120 2026-03-29T00:30:17' "$(ppm_of 24 -120 11875)"
