@@ -5,12 +5,14 @@
   times=$(rds list < recording.bin | python3 examples/clock_rate.py --options)
 
 A group of clock time (4A) ends as a minute of UTC begins, within a tenth of a second. Those whose four blocks are valid are put
-into stretches, within which places and times go together to half a second: another one begins where samples were dropped and no bits
-stand for them, where the station's clock was put right, or at a group that says a wrong time. The rate is the slope by least
-squares that all stretches have in common. Prints, as CSV, how many groups and stretches there are, the hours from the first to the
-last group, the bits a second, by how many parts in a million they are off 1,187.5, by how many of them that may be wrong (twice
-the standard error), and when the recording began by the longest stretch; with --options, the last as options of the other scripts,
---start TIME --rate BITS. Fails where no stretch has three groups over ten minutes.
+into stretches, within which places and times go together to half a second: another one begins where samples were dropped and no
+bits stand for them, where the station's clock was put right, or at a group that says a wrong time. The rate is the slope by least
+squares that all stretches have in common.
+
+Prints, as CSV, how many groups and stretches there are, the hours from the first to the last group, the bits a second, by how
+many parts in a million they are off 1,187.5, by how many of them that may be wrong (twice the standard error), and when the
+recording began by the longest stretch; with --options, the rate and the beginning as options of the other scripts, --start TIME
+--rate BITS. Fails where no stretch has three groups over ten minutes.
 """
 import argparse
 import datetime

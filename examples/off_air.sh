@@ -28,7 +28,8 @@ listing_awk -v share="$share" -v shortest="$shortest" "$listing"'
   # a stretch without blocks that count, from bit to bit
   function stretch(begin, end) {
     if (end - begin < shortest * rate || end <= begin) return
-    printf "%s,%s,%s,%.0f,%.0f%s\n", seconds(begin), seconds(end), seconds(end - begin), begin, end, utc_column(begin) utc_column(end)
+    printf "%s,%s,%s,%.0f,%.0f%s\n", seconds(begin), seconds(end), seconds(end - begin), begin, end,
+      utc_column(begin) utc_column(end)
   }
   # a block that counts, by its place
   function on_the_air(place) { stretch(ended, place); ended = place + 26 }

@@ -43,10 +43,11 @@ set xlabel 'hours'.began
 set ylabel 'per cent of the blocks sent'
 set yrange [0:100]
 set xrange [0:end]
+if (end > 12 && end < 48) set xtics 3
 set key outside right top
 set style fill solid noborder
 plot 'heights' using 1:2:3 with filledcurves linecolor rgb '#e0b000' title 'corrected', \
      ''        using 1:3:4 with filledcurves linecolor rgb '#c03020' title 'lost', \
      ''        using 1:4:5 with filledcurves linecolor rgb '#3060a0' title 'missing'
 END
-cat "$work/picture" > "$1" || exit 1
+{ cat "$work/picture" > "$1"; } 2>/dev/null || { echo "plot_block_errors: $1 cannot be written" >&2; exit 1; }

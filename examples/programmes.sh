@@ -22,7 +22,8 @@ case ${1:-3} in *[!0-9]*) misused ;; esac
 listing_awk -v least="${1:-3}" -v pause="$pause" "$listing"'
   function close_row() {
     if (groups && groups >= least)
-      printf "%s,%s,%s,%d,%.0f,%.0f%s\n", seconds(begin), seconds(end), programme, groups, begin, end, utc_column(begin) utc_column(end)
+      printf "%s,%s,%s,%d,%.0f,%.0f%s\n", seconds(begin), seconds(end), programme, groups, begin, end,
+        utc_column(begin) utc_column(end)
     groups = 0
   }
   NR == 1 { print "begin_s,end_s,programme,groups,begin_place,end_place" utc_names("begin_utc,end_utc") }

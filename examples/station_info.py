@@ -110,8 +110,8 @@ class Message:
         return codes if codes and len(codes) == before and len(codes) == 2 * len(self.pairs) else None
 
 
-def frequency(band, code):
-    """A frequency in MHz as text, or None where the code is none: band is 250 for long and medium wave."""
+def frequency(code, band=None):
+    """A frequency in MHz as text, or None where the code is none; after a code of 250 it is one of long or medium wave."""
     if band != 250:
         return f"{87.5 + 0.1 * code:.1f}" if 1 <= code <= 204 else None
     if 1 <= code <= 15:
@@ -133,11 +133,11 @@ class Frequencies:
     def begin(self, word):
         self.head, self.count, self.first = word, (word >> 8) - 224, word & 0xFF
         self.found, self.beside = {}, {}
-        self.note(self.found, None, self.first)
+        self.note(self.found, self.first)
 
     @staticmethod
-    def note(frequencies, band, code):
-        text = frequency(band, code)
+    def note(frequencies, code, band=None):
+        text = frequency(code, band)
         if text:
             frequencies[text] = True
 
@@ -149,16 +149,17 @@ class Frequencies:
                 self.begin(word)
         elif self.head is None:
             return None
+        elif band == 250:
+            self.note(self.found, code, band)
         elif self.first in (band, code):
-            self.note(self.beside, None, code if band == self.first else band)
+            self.note(self.beside, code if band == self.first else band)
         elif not self.beside:
-            self.note(self.found, band, code)
-            if band != 250:
-                self.note(self.found, None, band)
+            self.note(self.found, band)
+            self.note(self.found, code)
         if self.count == 0:
             return "none"
         if len(self.beside) == self.count // 2 and self.beside:
-            return f"{frequency(None, self.first)}: {' '.join(self.beside)}"
+            return f"{frequency(self.first)}: {' '.join(self.beside)}"
         if len(self.found) > self.count:
             # Pairs of a list whose first one was not received.
             self.head = None
