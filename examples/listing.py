@@ -6,6 +6,10 @@ import signal
 import sys
 
 
+# The head of with_header.sh.
+HEAD = "kind,place,type,version,block1,block2,block3,block4".split(",")
+
+
 class Block:
     """A block that was read: its information word, its offset, and whether it was corrected."""
 
@@ -49,6 +53,8 @@ def groups(rows, script):
     whole = fresh = False
     for number, row in enumerate(rows, 1):
         fields = row.rstrip("\n").split(",")
+        if number == 1 and fields == HEAD:
+            continue
         if len(fields) != 8 or fields[0] not in ("group", "acquired", "lost", "total"):
             print(f"{script}: row {number} is none of a listing of rds list", file=sys.stderr)
             sys.exit(2)

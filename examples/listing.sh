@@ -27,6 +27,8 @@ listing=$times'
   }
   function block_place(field, first) { return $2 + 26 * (field - first) }
 
+  # the head of with_header.sh
+  NR == 1 && $0 == "kind,place,type,version,block1,block2,block3,block4" { NR = 0; next }
   NF != 8 || $1 != "group" && $1 != "acquired" && $1 != "lost" && $1 != "total" {
     die(2, "row " NR " is none of a listing of rds list")
   }

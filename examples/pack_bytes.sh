@@ -8,6 +8,7 @@
 case $#${1-}${2-} in 0) one=1 ;; 2--one1 | 2--one255) one=$2 ;; *) echo 'usage: pack_bytes.sh [--one 1|255] < BYTES' >&2; exit 2 ;; esac
 exec perl -e '
   use strict;
+  $SIG{__DIE__} = sub { print STDERR @_; exit 1 };
   binmode STDIN; binmode STDOUT;
   my ($one) = map { chr } @ARGV;
   my ($read, $rest) = (0, "");

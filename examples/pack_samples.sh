@@ -10,6 +10,7 @@
 case $#${1-} in 1s8 | 1s16 | 1f32 | 1wav) ;; *) echo 'usage: pack_samples.sh s8|s16|f32|wav < SAMPLES' >&2; exit 2 ;; esac
 exec perl -e '
   use strict;
+  $SIG{__DIE__} = sub { print STDERR @_; exit 1 };
   binmode STDIN; binmode STDOUT;
   my ($form) = @ARGV;
   sub refuse { die "pack_samples: @_\n" }

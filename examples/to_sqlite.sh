@@ -49,7 +49,7 @@ listing_awk "$listing"'
     if (listed > furthest) furthest = listed
     print NR "," valid "," $0
   }
-  END { printf "%d,,bits,%.0f,,,,,,\n", NR + 1, bits == "" ? furthest : bits }' > "$rows" || exit
+  END { printf "%d,,bits,%.0f,,,,,,\n", NR + 1, (bits == "" ? furthest : bits) }' > "$rows" || exit
 
 # sql TEXT: as a literal
 sql() { printf "'%s'" "$(printf '%s\n' "$1" | sed "s/'/''/g")"; }
@@ -96,4 +96,4 @@ sqlite3 -bail "$database" '.timeout 600000' \
    INSERT INTO acquired_rows SELECT id, f1, row, f2 FROM listing, recordings WHERE kind = 'acquired' AND name = $(sql "$name");
    INSERT INTO lost_rows SELECT id, f1, row FROM listing, recordings WHERE kind = 'lost' AND name = $(sql "$name");
    INSERT INTO totals SELECT id, row, f1, f2 FROM listing, recordings WHERE kind = 'total' AND name = $(sql "$name");
-   COMMIT;" < "$rows"
+   COMMIT;" < "$rows" || exit 1

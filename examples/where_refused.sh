@@ -8,6 +8,7 @@
 # Needs perl.
 exec perl -e '
   use strict;
+  $SIG{__DIE__} = sub { print STDERR @_; exit 1 };
   use File::Temp;
   my $rds = $ENV{RDS} // "rds";
   my $held = do { local $/; binmode STDIN; <STDIN> } // "";

@@ -28,18 +28,20 @@ SELECT station, date(day * 86400, 'unixepoch') AS day, ROUND(seconds / 3600, 2) 
   ROUND(100 * good / sent, 2) AS good_percent
 FROM counts ORDER BY station, day;
 
--- Outages: a second or more in which no group came whole, its four blocks valid. Noise gives none of these.
+-- Outages: a second or more in which no group came whole, its four blocks valid. Noise gives none of these. No clock is so slow
+-- that a second has fewer than 1068 bits.
 CREATE TEMP TABLE silences AS
-  -- before a whole group; no clock is so slow that a second has fewer bits
-  SELECT recording, past AS first, place AS past FROM (
-    SELECT recording, place, LAG(place + 104, 1, 0) OVER (PARTITION BY recording ORDER BY place) AS past
-    FROM group_rows WHERE valid = 4)
-  WHERE place - past >= 1068 OR past = 0;
--- and after the last one
-INSERT INTO silences
-  SELECT recording, COALESCE((
-    SELECT place + 104 FROM group_rows WHERE group_rows.recording = covered.recording AND valid = 4 ORDER BY place DESC LIMIT 1), 0), bits
-  FROM covered;
+  WITH begins(recording, first) AS (
+    SELECT recording, 0 FROM covered
+    UNION ALL
+    SELECT recording, place + 104 FROM group_rows AS this
+    WHERE valid = 4 AND NOT EXISTS (
+      SELECT * FROM group_rows AS next
+      WHERE next.recording = this.recording AND next.place > this.place AND next.place < this.place + 104 + 1068 AND next.valid = 4))
+  SELECT recording, first, COALESCE((
+    SELECT place FROM group_rows AS next
+    WHERE next.recording = begins.recording AND next.place >= first AND next.valid = 4 ORDER BY place LIMIT 1), bits) AS past
+  FROM begins JOIN covered USING (recording);
 
 -- Those on both sides of a cut between two recordings are one outage.
 CREATE TEMP TABLE outages AS

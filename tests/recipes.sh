@@ -251,9 +251,12 @@ if has awk; then
   same 'as many lines as groups' 1923 "$(station | examples/hex_groups.sh | wc -l | tr -d ' ')"
   same 'whole groups go back into encode' 1922 \
     "$(station | examples/hex_groups.sh --whole | "$program" encode | "$program" list | grep -c '^group,')"
-  same 'a group and a loss as JSON' '{"kind":"group","place":104,"type":null,"version":null,"conflict":false,"blocks":[{"lost":true},null,null,null]}
-{"kind":"lost","place":129}' \
+  same 'a group and a loss as JSON' '{"kind":"group","place":104,"time_s":0.088,"type":null,"version":null,"conflict":false,"blocks":[{"lost":true},null,null,null]}
+{"kind":"lost","place":129,"time_s":0.109}' \
     "$(echo "${zero_group}000037400019800005a00001b4" | "$program" list --hex --loss 1 | examples/to_json_lines.sh | sed -n 3,4p)"
+  same 'its time in UTC' '{"kind":"lost","place":129,"time_s":0.109,"time_utc":"2026-03-29T00:30:00.109Z"}' \
+    "$(echo "${zero_group}000037400019800005a00001b4" | "$program" list --hex --loss 1 |
+      examples/to_json_lines.sh --start 2026-03-29T00:30:00Z | sed -n 4p)"
   same 'as many objects as rows' "$(station | wc -l)" "$(station | examples/to_json_lines.sh | wc -l)"
   fails 'the hexadecimal words of a cut listing' "hex_groups: $is_cut" examples/hex_groups.sh < "$cut"
   fails 'a cut listing as JSON' "to_json_lines: $is_cut" examples/to_json_lines.sh < "$cut"
@@ -261,18 +264,6 @@ if has awk; then
   if has jq; then
     same 'the objects are JSON' "$(station | wc -l)" "$(station | examples/to_json_lines.sh | jq -c .kind | wc -l)"
   fi
-fi
-same 'the line that is no group' '3:1234 2540 5244 532' \
-  "$(printf '1234 2540 5244 5320\r\n\r\n1234 2540 5244 532\r\n' | tr -d '\r' | grep -nvE '^([[:blank:]]*[[:xdigit:]]){16}[[:blank:]]*$|^[[:blank:]]*$')"
-
-if has sqlite3; then
-  station | examples/to_sqlite.sh "$work/listing.db"
-  same 'a listing in a database' '1923|integer|integer|1|7691' "$(sqlite3 "$work/listing.db" \
-    "SELECT COUNT(*), MIN(typeof(place)), MIN(typeof(type)), (SELECT COUNT(*) FROM acquired),
-            (SELECT value FROM totals WHERE name = 'valid') FROM groups")"
-  fails 'a cut listing in a database' "to_sqlite: $is_cut" examples/to_sqlite.sh "$work/cut.db" < "$cut"
-  same 'no database of it' '' "$(find "$work" -name 'cut.db*')"
-  fails 'a database that is there' "to_sqlite: $work/listing.db is there already" examples/to_sqlite.sh "$work/listing.db" < /dev/null
 fi
 
 # ---- many recordings
@@ -293,6 +284,15 @@ if has parallel xxd; then
   same 'what has no listing yet is done' "2 $("$program" list < "$work/recordings/zero.bin" | cksum)" \
     "$(tail -n +2 "$work/listings/joblog" | wc -l | tr -d ' ') $(cksum < "$work/listings/A late one.csv")"
   same 'nothing is left begun' 'A late one.csv a station.csv joblog zero.csv ' "$(find "$work/listings" -type f -printf '%f\n' | sort | tr '\n' ' ')"
+  # digits of any suffix, one of them no hexadecimal text, into a folder whose name begins with -
+  echo "$zero_group" > "$work/recordings/the user's.hex [1]"
+  echo "0g" > "$work/recordings/bad.hex [1]"
+  said=$(cd "$work" && "$here/../examples/decode_folder.sh" --suffix '.hex [1]' --options '--hex --burst 0' -- recordings -listings 2>&1; echo $?)
+  same 'what failed, and why' "decode_folder: recordings/bad.hex [1] failed: refused 11 HexText
+decode_folder: not all were decoded; ./-listings/joblog has the status of each
+1" "$(grep -E '^(decode_folder|1$)' <<< "$said")"
+  same 'the others are decoded, by the options' "joblog the user's.csv $("$program" list --hex --burst 0 <<< "$zero_group" | cksum)" \
+    "$(find "$work/-listings" -type f -printf '%f\n' | sort | tr '\n' ' ')$(cksum < "$work/-listings/the user's.csv")"
   fails 'a folder that is not there' "decode_folder: there is no folder $work/none to read" \
     examples/decode_folder.sh "$work/none" "$work/listings"
 fi

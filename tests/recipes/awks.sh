@@ -12,6 +12,7 @@ under() {
 calls_of() {
   local times='--start 2026-03-29T00:30:00Z --rate 1187.6'
   case $1 in
+    check_rds.sh) printf '%s\n' '--pi D393 --listing station.csv' '--last 5 --listing growing.csv' '--listing cut.csv' ;;
     block_errors.sh) echo "$times burst.bin 7 < burst.csv" ;;
     corrected_blocks.sh) echo "$times < burst.csv" ;;
     gaps.sh) printf '%s\n' '< log' '< station.csv' ;;
@@ -21,6 +22,8 @@ calls_of() {
       "$times 100 < burst.csv" "$times 10000000 < burst.csv" ;;
     plot_block_errors.sh) echo 'picture.svg < errors.csv && cat picture.svg' ;;
     programmes.sh) echo "$times --pause 0.2 1 < burst.csv" ;;
+    to_sqlite.sh) echo "$times --length burst.bin new.db name < burst.csv && sqlite3 new.db .dump; rm -f new.db" ;;
+    with_header.sh) echo "$times < burst.csv" ;;
     to_json_lines.sh) printf '%s\n' "$times < burst.csv" '< cut.csv' ;;
     which_form.sh) echo examples/station.bin ;;
     listing.sh | times.sh) : ;;
@@ -43,6 +46,9 @@ if has gawk mawk original-awk busybox xxd; then
     "$program" list < examples/station.bin > station.csv
     printf '120 10\n104 1\n\n110 5\n5 1\n105 7\n7 0\n68719476700 30\n' > log
     cp "$cut" cut.csv
+    cp "$cut" growing.csv
+    # written to at any time from now on, for a check that counts from then
+    touch -d tomorrow growing.csv
     examples/block_errors.sh examples/station.bin 7 < station.csv > errors.csv
   )
   for script in $(cd examples && grep -lE '\bawk\b' ./*.sh); do
