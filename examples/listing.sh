@@ -56,7 +56,7 @@ listing_awk() {
   awk -F, -v script="$script" -v bits="$bits" -v trusted="$trusted" -v start="$start" -v rate="$rate" "$@"
 }
 
-# length_of FILE|BITS: sets $bits
+# length_of FILE|BITS: sets $bits; a word of digits alone is a number, and ./20260329 a file
 length_of() {
   case ${1-} in
     '') misused 'the length of the recording is its file, or a number of bits' ;;

@@ -164,7 +164,7 @@ class Frequencies:
             # Pairs of a list whose first one was not received.
             self.head = None
             return None
-        return " ".join(self.found) if len(self.found) == self.count and not self.beside else None
+        return " ".join(self.found) if len(self.found) == self.count else None
 
 
 def clock(group):

@@ -218,7 +218,7 @@ if has perl awk; then
   same 'nothing dropped' '' "$(examples/gaps.sh < /dev/null)"
   fails 'a log of something else' 'gaps: "104 + 1" is not a start and a length' examples/gaps.sh <<< '104 + 1'
 
-  if has gnuplot xxd; then
+  if has gnuplot xxd python3; then
     examples/block_errors.sh --start 2026-03-29T00:30:00Z "$day" 60 < "$work/day.csv" > "$work/errors.csv"
     examples/plot_block_errors.sh "$work/errors.png" < "$work/errors.csv"
     same 'a picture as PNG' 89504e470d0a1a0a "$(xxd -p -l 8 "$work/errors.png")"
@@ -237,7 +237,9 @@ if has perl awk; then
         if ((s < 43200)); then echo "$s,$((s + 60)),2740,2740,0,0,0,0.00"; else echo "$s,$((s + 60)),2740,0,0,0,2740,100.00"; fi
       done; } > "$work/half.csv"
     examples/plot_block_errors.sh "$work/half.png" < "$work/half.csv"
-    same 'dead air is of one colour, half of the day wide' '3060a0 over 463' "$(tests/picture.py "$work/half.png" 3060a0 120 160)"
+    # How wide the axis is depends on the fonts; of the picture's 1,200 pixels some 900.
+    same 'dead air is of one colour, half of the day wide' '3060a0 over half' \
+      "$(tests/picture.py "$work/half.png" 3060a0 120 160 | awk '{ print $1, $2, (NF == 3 && $3 > 350 && $3 < 550 ? "half" : $0) }')"
     examples/plot_block_errors.sh "$work/half.svg" < "$work/half.csv"
     same 'the axis ends with the day' '0 20 40 60 80 100 0 3 6 9 12 15 18 21 24 ' \
       "$(grep -oE '> *[0-9]+ *<' "$work/half.svg" | tr -d '>< ' | tr '\n' ' ')"

@@ -14,6 +14,7 @@ calls_of() {
   case $1 in
     check_rds.sh) printf '%s\n' '--pi D393 --listing station.csv' '--last 5 --listing growing.csv' '--listing cut.csv' ;;
     block_errors.sh) echo "$times burst.bin 7 < burst.csv" ;;
+    check_rds.sh) printf '%s\n' '--pi D393 --name PAXOLIDU examples/station.bin' '-w 99.5 --rate 1187.6 --listing burst.csv' ;;
     corrected_blocks.sh) echo "$times < burst.csv" ;;
     gaps.sh) printf '%s\n' '< log' '< station.csv' ;;
     group_types.sh) printf '%s\n' "$times < burst.csv" '--start 2026-02-30T00:00:00Z < burst.csv' '< log' '< cut.csv' ;;
@@ -25,13 +26,14 @@ calls_of() {
     to_sqlite.sh) echo "$times --length burst.bin new.db name < burst.csv && sqlite3 new.db .dump; rm -f new.db" ;;
     with_header.sh) echo "$times < burst.csv" ;;
     to_json_lines.sh) printf '%s\n' "$times < burst.csv" '< cut.csv' ;;
+    to_sqlite.sh) echo "$times rows.db one < burst.csv; sqlite3 rows.db .dump; rm -f rows.db" ;;
     which_form.sh) echo examples/station.bin ;;
     listing.sh | times.sh) : ;;
     *) return 1 ;;
   esac
 }
 
-if has gawk mawk original-awk busybox xxd; then
+if has gawk mawk original-awk busybox perl xxd gnuplot sqlite3; then
   for awk in gawk mawk original-awk busybox; do
     mkdir -p "$work/awk/$awk"
     ln -s "$(command -v "$awk")" "$work/awk/$awk/awk"
@@ -53,18 +55,17 @@ if has gawk mawk original-awk busybox xxd; then
   )
   for script in $(cd examples && grep -lE '\bawk\b' ./*.sh); do
     script=${script#./}
-    # One that is not called here, or calls awk by another script alone, is not known to run under all.
     calls_of "$script" > "$work/calls" || fail "$script calls awk, and is not tried under each"
     while IFS= read -r call; do
-      written=
       for awk in gawk mawk original-awk busybox; do
         # what it writes, its status, and its faults
         (cd "$work/awks" && under "$awk" sh -c "examples/$script $call" 2> faults; cat faults) > "$work/awk/$awk/written"
-        same "$script $call under $awk" '' "$(diff "${written:-"$work/awk/$awk/written"}" "$work/awk/$awk/written" | head -n 4)"
-        written=$work/awk/gawk/written
       done
-      # what all write alike may still be a fault of awk's
-      [[ $(wc -l < "$written") -gt 1 ]] || fail "$script $call writes nothing"
+      for awk in mawk original-awk busybox; do
+        same "$script $call under $awk" '' "$(diff "$work/awk/gawk/written" "$work/awk/$awk/written" | head -n 4)"
+      done
+      # what all write alike could be nothing but the status
+      [[ $(wc -l < "$work/awk/gawk/written") -gt 1 ]] || fail "$script $call writes nothing"
     done < "$work/calls"
   done
 fi

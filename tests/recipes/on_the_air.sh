@@ -162,9 +162,12 @@ D318,text,A text of 32 characters in all..' "$(said < "$work/says.csv")"
   same 'another name is no mixture' 'D318,name,PAXO 318 D318,name,PAXO NEW' \
     "$({ named; name_groups 0 8 'PAXO NEW' E0CD | tail -n 3; name_groups 0 8 'PAXO NEW' E0CD; } | listing_of | said |
       grep ,name, | tr '\n' ' ' | sed 's/ $//')"
-  same 'another programme is another station' 'D318,programme,D318 D318,name,PAXO 318 D319,programme,D319 D319,name,PAXO 319 ' \
-    "$({ named; identification=D319; named | head -n 2; name_groups 0 8 'PAXO 319' E0CD | tail -n 2
-      name_groups 0 8 'PAXO 319' E0CD; } | listing_of | said | grep -E ',(name|programme),' | tr '\n' ' ')"
+  # What was said before the change says nothing of the other one, alike or not: its name is not known by two pairs.
+  same 'another programme is another station' 'D318,programme,D318
+D318,type,10 Pop music
+D318,name,PAXO 318
+D319,programme,D319
+D319,type,10 Pop music' "$({ named; identification=D319; named | head -n 2; } | listing_of | said | grep -E ',(name|type|programme),')"
   same 'a programme once in a corrected block is none' 'D318,programme,D318' \
     "$({ named; named; } | damaged "5s/,A:[^,]*/,A:D319$correction/" | grep ,programme,)"
   # After an acquisition a group without block 1 may be of another station.
