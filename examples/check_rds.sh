@@ -98,7 +98,8 @@ end_of_listing() {
   # shellcheck disable=SC2154
   run listing_awk -v whole=1 "$listing"' listed > end { end = listed } END { printf "%.0f\n", end }' < "$work/rows" > "$work/end"
   bits=$(cat "$work/end") trusted=1
-  begin=$(awk -v end="$bits" -v seconds="$last" -v rate="$rate" 'BEGIN { at = end - seconds * rate; printf "%.0f", (at < 0 ? 0 : at) }')
+  begin=$(awk -v end="$bits" -v seconds="$last" -v rate="$rate" '
+    BEGIN { at = end - seconds * rate; printf "%.0f", (at < 0 ? 0 : at) }') || unknown 'awk failed'
   { awk -F, -v begin="$begin" '$1 != "total" && $2 >= begin' < "$work/rows" && echo total,losses,0,-,-,-,-,-; } > "$work/listing"
 }
 

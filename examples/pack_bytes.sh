@@ -3,9 +3,14 @@
 # first bit highest. The last byte is filled with zeros: give rds the number of bits, as
 #   examples/pack_bytes.sh < bits.u8 > bits.bin
 #   rds list --bits "$(wc -c < bits.u8)" < bits.bin
-# With --one 255 a bit is 0x00 or 0xFF. Fails, with a line on standard error, where a byte is anything else, or where there is none.
+# With --one 255 a bit is 0x00 or 0xFF. Fails, with a line on standard error, where a byte is anything else, or where there is
+# none.
 # Needs perl.
-case $#${1-}${2-} in 0) one=1 ;; 2--one1 | 2--one255) one=$2 ;; *) echo 'usage: pack_bytes.sh [--one 1|255] < BYTES' >&2; exit 2 ;; esac
+case $#${1-}${2-} in
+  0) one=1 ;;
+  2--one1 | 2--one255) one=$2 ;;
+  *) echo 'usage: pack_bytes.sh [--one 1|255] < BYTES' >&2; exit 2 ;;
+esac
 exec perl -e '
   use strict;
   $SIG{__DIE__} = sub { print STDERR @_; exit 1 };

@@ -46,7 +46,13 @@ exec perl -e '
   # The bits of samples, as characters, and how many are below zero.
   my %bits = (
     u8 => sub { my ($s) = @_; my $below = ($s =~ tr/\x00-\x7F/0/); $s =~ tr/\x80-\xFF/1/; return $s, $below },
-    s8 => sub { my ($s) = @_; my $below = ($s =~ tr/\x80-\xFF//); $s =~ tr/\x01-\x7F/1/; $s =~ tr/\x00\x80-\xFF/0/; return $s, $below },
+    s8 => sub {
+      my ($s) = @_;
+      my $below = ($s =~ tr/\x80-\xFF//);
+      $s =~ tr/\x01-\x7F/1/;
+      $s =~ tr/\x00\x80-\xFF/0/;
+      return $s, $below;
+    },
     s16 => sub { my @s = unpack "s<*", $_[0]; return join("", map { $_ > 0 ? 1 : 0 } @s), scalar grep { $_ < 0 } @s },
     f32 => sub {
       my @s = unpack "f<*", $_[0];
@@ -66,7 +72,8 @@ exec perl -e '
     my $whole = length($rest) - length($rest) % 8;
     print pack "B*", substr $rest, 0, $whole, "";
   }
-  $above && $below or refuse($above ? "no sample is below zero" : $below ? "no sample is above zero" : "there is no sample in the input");
+  $above || $below or refuse("there is no sample in the input");
+  $above && $below or refuse("no sample is " . ($above ? "below" : "above") . " zero");
   print pack "B*", $rest;
   close STDOUT or refuse("writing failed: $!");
 ' -- "$1"

@@ -13,7 +13,8 @@
 # are reckoned from `start` and `rate` when they are asked for, by views over the tables group_rows, acquired_rows and lost_rows:
 # who finds the clock out later corrects two values. year.sql asks for good blocks by day, and for outages.
 # Needs awk, sqlite3.
-usage='usage: to_sqlite.sh [--station TEXT] [--start TIME] [--rate BITS] [--length FILE|BITS] [--trust-length] DATABASE NAME < LISTING'
+usage='usage: to_sqlite.sh [--station TEXT] [--start TIME] [--rate BITS] [--length FILE|BITS] [--trust-length]'
+usage="$usage DATABASE NAME < LISTING"
 # shellcheck source-path=SCRIPTDIR source=listing.sh
 . "$(dirname -- "$0")/listing.sh"
 station=''
@@ -63,7 +64,8 @@ timed() {
 }
 
 sqlite3 -bail "$database" '.timeout 600000' \
-  'CREATE TEMP TABLE listing(row INTEGER, valid INTEGER, kind TEXT, f1 TEXT, f2 TEXT, f3 TEXT, f4 TEXT, f5 TEXT, f6 TEXT, f7 TEXT)' \
+  'CREATE TEMP TABLE listing(
+     row INTEGER, valid INTEGER, kind TEXT, f1 TEXT, f2 TEXT, f3 TEXT, f4 TEXT, f5 TEXT, f6 TEXT, f7 TEXT)' \
   '.mode csv' '.import --schema temp /dev/stdin listing' \
   "BEGIN IMMEDIATE;
    PRAGMA application_id = $mark;

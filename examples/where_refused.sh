@@ -2,9 +2,9 @@
 # Where the fault is that `rds` refuses: called as rds was, with the same words and the same input,
 #   examples/where_refused.sh encode < groups.txt
 #   examples/where_refused.sh list --hex --gaps=104-105,100-130 < recording.hex
-# writes the refusal, and below it for 12 GroupText each line that is no group, with its number; for 11 HexText the place of the first
-# byte that is neither a digit nor blank, or how many digits there are; for 16 BadGaps the number of the gap, and its fault; for
-# 4 BitsPastBytes how many bits the input holds. Ends in the status of rds. RDS names the program (rds).
+# writes the refusal, and below it for 12 GroupText each line that is no group, with its number; for 11 HexText the place of the
+# first byte that is neither a digit nor blank, or how many digits there are; for 16 BadGaps the number of the gap, and its fault;
+# for 4 BitsPastBytes how many bits the input holds. Ends in the status of rds. RDS names the program (rds).
 # Needs perl.
 exec perl -e '
   use strict;
@@ -75,7 +75,7 @@ exec perl -e '
   }
 
   my ($refusal) = "@lines" =~ /^refused (\d+) /m;
-  print {12 => \&group_text, 11 => \&hex_text, 16 => \&bad_gaps, 4 => sub { "the input holds " . bits_held() . " bits\n" }}->{$refusal}->()
-    if grep { $_ == ($refusal // 0) } 4, 11, 12, 16;
+  my %where = (4 => sub { "the input holds " . bits_held() . " bits\n" }, 11 => \&hex_text, 12 => \&group_text, 16 => \&bad_gaps);
+  print $where{$refusal}->() if $refusal && $where{$refusal};
   exit $status;
 ' -- "$@"

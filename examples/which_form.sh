@@ -91,7 +91,8 @@ fi
 
 sort -rn < "$work/rows" | awk '$1 > 0' > "$work/found"
 awk '$1 > 1 { fits = 1 } END { exit !fits }' "$work/found" || {
-  echo "which_form: in none of the forms that are known here has $1 two complete groups: nothing was received, or its bits are in another form" >&2
+  echo "which_form: in none of the forms that are known here has $1 two complete groups:" \
+    'nothing was received, or its bits are in another form' >&2
   exit 1
 }
 echo 'complete groups, form, command'

@@ -37,7 +37,8 @@ CREATE TEMP TABLE silences AS
     SELECT recording, place + 104 FROM group_rows AS this
     WHERE valid = 4 AND NOT EXISTS (
       SELECT * FROM group_rows AS next
-      WHERE next.recording = this.recording AND next.place > this.place AND next.place < this.place + 104 + 1068 AND next.valid = 4))
+      WHERE next.recording = this.recording AND next.place > this.place AND next.place < this.place + 104 + 1068
+        AND next.valid = 4))
   SELECT recording, first, COALESCE((
     SELECT place FROM group_rows AS next
     WHERE next.recording = begins.recording AND next.place >= first AND next.valid = 4 ORDER BY place LIMIT 1), bits) AS past
@@ -52,8 +53,8 @@ CREATE TEMP TABLE outages AS
   GROUP BY station, number HAVING length >= 1;
 
 SELECT station,
-  CASE WHEN length < 10 THEN 'less than 10 s' WHEN length < 60 THEN 'less than a minute' WHEN length < 600 THEN 'less than 10 minutes'
-    WHEN length < 3600 THEN 'less than an hour' ELSE 'an hour or more' END AS outages,
+  CASE WHEN length < 10 THEN 'less than 10 s' WHEN length < 60 THEN 'less than a minute'
+    WHEN length < 600 THEN 'less than 10 minutes' WHEN length < 3600 THEN 'less than an hour' ELSE 'an hour or more' END AS outages,
   COUNT(*) AS count, ROUND(SUM(length), 1) AS seconds
 FROM outages GROUP BY station, 2 ORDER BY station, MIN(length);
 

@@ -261,6 +261,8 @@ if has awk; then
       examples/to_json_lines.sh --start 2026-03-29T00:30:00Z | sed -n 4p)"
   same 'as many objects as rows' "$(station | wc -l)" "$(station | examples/to_json_lines.sh | wc -l)"
   fails 'the hexadecimal words of a cut listing' "hex_groups: $is_cut" examples/hex_groups.sh < "$cut"
+  refused 'another table as JSON' 2 'to_json_lines: row 1 is none of a listing of rds list' \
+    examples/to_json_lines.sh < examples/README.md
   fails 'a cut listing as JSON' "to_json_lines: $is_cut" examples/to_json_lines.sh < "$cut"
   fails 'a listing without its last row as JSON' "to_json_lines: $is_cut" examples/to_json_lines.sh < <(station | sed '$d')
   if has jq; then

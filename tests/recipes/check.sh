@@ -60,7 +60,7 @@ if has awk; then
   RDS=$work/none judged 'no program' 3 "RDS UNKNOWN - there is no $work/none here" examples/station.bin
   RDS=false judged 'a program that fails' 3 'RDS UNKNOWN - false failed' examples/station.bin
   judged 'no number' 3 'RDS UNKNOWN - -w takes a number; usage: *' -w x examples/station.bin
-  judged 'no digits' 3 'RDS UNKNOWN - --pi takes four hexadecimal digits; usage: *' --pi D39 examples/station.bin
+  judged 'no digits' 3 'RDS UNKNOWN - --pi takes four hexadecimal digits; usage: *' --pi 3930x examples/station.bin
   judged 'no words' 3 'RDS UNKNOWN - usage: *'
 
   if has python3; then

@@ -99,6 +99,7 @@ total,losses,0,-,-,-,-,-,,' "$(station | examples/with_header.sh --start 2026-03
     same "$script reads it with its head" "$(station | "examples/$script" | cksum)" \
       "$(station | examples/with_header.sh | "examples/$script" | cksum)"
   done
+  refused 'another table with a head' 2 'with_header: row 1 is none of a listing of rds list' examples/with_header.sh < examples/README.md
   refused 'a cut listing with a head' 1 "with_header: $is_cut" examples/with_header.sh < "$cut"
   station | examples/with_header.sh --times > "$work/timed.csv"
   refused 'a listing with times' 2 'programmes: row 1 is none of a listing of rds list' examples/programmes.sh < "$work/timed.csv"
