@@ -27,26 +27,30 @@ length_of "$1"
 listing_awk -v share="$share" -v shortest="$shortest" "$listing"'
   # a stretch without blocks that count, from bit to bit
   function stretch(begin, end) {
-    if (end - begin < shortest * rate || end <= begin) return
+    if (end - begin < least || end <= begin) return
     printf "%s,%s,%s,%.0f,%.0f%s\n", seconds(begin), seconds(end), seconds(end - begin), begin, end,
       utc_column(begin) utc_column(end)
   }
-  # a block that counts, by its place
-  function on_the_air(place) { stretch(ended, place); ended = place + 26 }
   BEGIN {
+    least = shortest * rate
     needed = share / 100 * rate / 26
     needed = needed > 1 ? int(needed) + (needed > int(needed)) : 1
   }
   NR == 1 { print "begin_s,end_s,length_s,begin_place,end_place" utc_names("begin_utc,end_utc") }
-  # The valid blocks are numbered; the last ones that may make up a second are kept. Once they do, all of them count.
+  # The valid blocks are numbered; the last ones that may make up a second are kept. Once they do, all of them count. A stretch
+  # ends where one begins that counts.
   $1 == "group" {
     for (i = first; i <= last; i++) {
       if ($i == "lost" || index($i, "~")) continue
-      valid++
-      place[valid % needed] = block_place(i, first)
-      if (valid < needed || place[valid % needed] + 26 - place[(valid + 1) % needed] > rate) continue
+      at = $2 + 26 * (i - first)
+      place[++valid % needed] = at
+      if (valid < needed || at + 26 - place[(valid + 1) % needed] > rate) continue
       if (counted < valid - needed) counted = valid - needed
-      while (counted < valid) on_the_air(place[++counted % needed])
+      while (counted < valid) {
+        at = place[++counted % needed]
+        if (at - ended >= least) stretch(ended, at)
+        ended = at + 26
+      }
     }
   }
   END { stretch(ended, bits) }'

@@ -66,6 +66,21 @@ if has awk; then
   refused 'a share above all' 2 'off_air: --share takes up to 100 per cent' \
     examples/off_air.sh --share 101 208000 < "$work/outages.csv"
 
+  # ---- bits that were dropped and are absent: 2,400 from bit 80,000 on
+
+  { head -c 10000 examples/station.bin; tail -c +10301 examples/station.bin; } > "$work/absent.bin"
+  gaps=$(examples/gaps.sh <<< '80000 2400')
+  # without and with --gaps: complete groups, losses, and when the last group begins
+  for option in '' "$gaps"; do
+    # shellcheck disable=SC2086
+    "$program" list $option < "$work/absent.bin" | awk -F, '$1 == "group" { last = $2 } $2 == "complete" || $2 == "losses" { printf "%s ", $3 }
+      END { print last }'
+  done > "$work/read"
+  # The group that they begin in is the 769th that is whole, the next whole one the 793rd, and 2 of the 1,130 from there on go by
+  # until synchronism is lost and acquired again. A gap of that length takes 23 of them. The last one stood at 199,888.
+  same 'absent bits, and good ones taken away beside them' '1896 1 197488
+1875 1 197488' "$(cat "$work/read")"
+
   # ---- the length of a recording
 
   station > "$work/station.csv"
