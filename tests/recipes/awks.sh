@@ -12,9 +12,9 @@ under() {
 calls_of() {
   local times='--start 2026-03-29T00:30:00Z --rate 1187.6'
   case $1 in
-    check_rds.sh) printf '%s\n' '--pi D393 --listing station.csv' '--last 5 --listing growing.csv' '--listing cut.csv' ;;
     block_errors.sh) echo "$times burst.bin 7 < burst.csv" ;;
-    check_rds.sh) printf '%s\n' '--pi D393 --name PAXOLIDU examples/station.bin' '-w 99.5 --rate 1187.6 --listing burst.csv' ;;
+    check_rds.sh) printf '%s\n' '--pi D393 --name PAXOLIDU examples/station.bin' '-w 99.5 --rate 1187.6 --listing burst.csv' \
+      '--last 5 --listing growing.csv' '--listing cut.csv' ;;
     corrected_blocks.sh) echo "$times < burst.csv" ;;
     gaps.sh) printf '%s\n' '< log' '< station.csv' ;;
     group_types.sh) printf '%s\n' "$times < burst.csv" '--start 2026-02-30T00:00:00Z < burst.csv' '< log' '< cut.csv' ;;
@@ -23,11 +23,10 @@ calls_of() {
       "$times 100 < burst.csv" "$times 10000000 < burst.csv" ;;
     plot_block_errors.sh) echo 'picture.svg < errors.csv && cat picture.svg' ;;
     programmes.sh) echo "$times --pause 0.2 1 < burst.csv" ;;
-    to_sqlite.sh) echo "$times --length burst.bin new.db name < burst.csv && sqlite3 new.db .dump; rm -f new.db" ;;
-    with_header.sh) echo "$times < burst.csv" ;;
     to_json_lines.sh) printf '%s\n' "$times < burst.csv" '< cut.csv' ;;
     to_sqlite.sh) echo "$times rows.db one < burst.csv; sqlite3 rows.db .dump; rm -f rows.db" ;;
     which_form.sh) echo examples/station.bin ;;
+    with_header.sh) echo "$times < burst.csv" ;;
     listing.sh | times.sh) : ;;
     *) return 1 ;;
   esac
