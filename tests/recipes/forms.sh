@@ -13,9 +13,10 @@ if has perl xxd awk; then
   # numbers FORMAT ZERO ONE: a sample a bit, by perl's pack
   numbers() { perl -0777 -ne 'BEGIN { $format = shift; @of = splice @ARGV, 0, 2 } print pack "$format*", map { $of[$_] } split //, unpack "B*", $_' \
     "$@" < examples/station.bin; }
-  # wav KIND BITS CHUNK..: a header of one channel, with other chunks, for the samples on standard input
+  # wav KIND BITS MORE: a header of one channel, with another chunk of so many bytes, for the samples on standard input
   wav() {
     perl -0777 -ne 'BEGIN { ($kind, $bits, $more) = splice @ARGV, 0, 3 }
+      $more = $more ? pack("a4 V", "LIST", $more) . "x" x ($more + $more % 2) : "";
       print "RIFF", pack("V", 36 + length($more) + length $_), "WAVEfmt ",
         pack("V v v V V v v", 16, $kind, 1, 1187, 1187 * $bits / 8, $bits / 8, $bits), $more, "data", pack("V", length $_), $_, "LIST"' "$@"
   }
@@ -28,11 +29,12 @@ if has perl xxd awk; then
   cured 'samples of 16 bits' "$work/samples.16" 'samples of 16 bits'
   numbers 'f<' -0.8 1.3 > "$work/samples.float"
   cured 'soft bits' "$work/samples.float" 'soft bits, float32'
-  numbers C 40 210 | wav 1 8 '' > "$work/8.wav"
+  numbers C 40 210 | wav 1 8 0 > "$work/8.wav"
   cured 'a WAV file of 8 bits' "$work/8.wav" 'a WAV file of a sample a bit'
-  # another chunk, of an odd length, so that the samples are at an odd half of a word
-  wav 1 16 "LIST$(printf '\5')$(printf '\1\1\1')hello!" < "$work/samples.16" > "$work/16.wav"
-  wav 3 32 '' < "$work/samples.float" > "$work/-float.wav"
+  # a chunk of an odd length ends in a byte that it does not count
+  wav 1 16 5 < "$work/samples.16" > "$work/16.wav"
+  cured 'a WAV file of 16 bits' "$work/16.wav" 'a WAV file of a sample a bit'
+  wav 3 32 0 < "$work/samples.float" > "$work/-float.wav"
   (cd "$work" && "$here/../examples/which_form.sh" -- -float.wav > form)
   same 'the form of a WAV file of soft bits, of a name that begins with -' 'a WAV file of a sample a bit' \
     "$(sed -n '2s/^ *[0-9]*  \(.*[a-z]\)   .*/\1/p' "$work/form")"
@@ -66,7 +68,7 @@ if has perl xxd awk; then
   refused 'a sample that is no number' 1 'pack_samples: a sample is no number' examples/pack_samples.sh f32 < <(printf '\0\0\200\177')
   refused 'no header' 1 'pack_samples: there is no RIFF header of a WAV file' examples/pack_samples.sh wav < examples/station.bin
   refused 'a WAV file of other samples' 1 'pack_samples: the WAV file has samples of kind 1 and 24 bits' \
-    examples/pack_samples.sh wav < <(printf abc | wav 1 24 '')
+    examples/pack_samples.sh wav < <(printf abc | wav 1 24 0)
   refused 'no form' 2 'usage: pack_samples.sh s8|s16|f32|wav < SAMPLES' examples/pack_samples.sh < /dev/null
 
   # ---- where a fault is

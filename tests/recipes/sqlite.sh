@@ -45,7 +45,7 @@ if has sqlite3 awk; then
   # A fault at the last of the tables, when all others are changed.
   sqlite3 "$db" "CREATE TRIGGER stop BEFORE INSERT ON totals BEGIN SELECT RAISE(ABORT, 'stopped'); END"
   same 'what is begun and not ended changes nothing' "1 $(cksum < "$work/noisy.csv")" \
-    "$(examples/to_sqlite.sh --station X "$db" "it's" 2>/dev/null; echo $?) $(listing_of "it''s" | cksum)"
+    "$(examples/to_sqlite.sh --station X "$db" "it's" < "$work/station.csv" 2>/dev/null; echo $?) $(listing_of "it''s" | cksum)"
 
   refused 'a cut listing in a database' 1 "to_sqlite: $is_cut" examples/to_sqlite.sh "$work/cut.db" name < "$cut"
   refused 'another table in a database' 2 'to_sqlite: row 1 is none of a listing of rds list' \
