@@ -15,8 +15,10 @@ to pair chips into symbols the one with the greater power is right; a Costas loo
 some 0.2 seconds to lock.
 
 Ends with status 1 and a line on standard error where the input cannot be read; a file that is cut off gives the bits of what is
-there first. Needs numpy and scipy.
+there first. Needs numpy.
 """
+from __future__ import annotations
+
 import argparse
 import dataclasses
 import math
@@ -24,7 +26,6 @@ import struct
 import sys
 
 import numpy
-import scipy.signal
 
 BIT_RATE = 1187.5
 CHIP_RATE = 2 * BIT_RATE
@@ -32,6 +33,7 @@ CARRIER_HZ = 57000
 RATES = range(128000, 3200001)
 SAMPLES_A_CHIP = 8  # at least, of the signal that the clock is found in
 FRAMES_A_BLOCK = 1 << 16
+LARGEST_SAMPLE = 1e12  # well above that of any integer form
 
 
 class Fault(Exception):
@@ -122,9 +124,10 @@ def blocks(stream, form, channel):
         whole = len(data) - len(data) % form.frame
         frames = numpy.frombuffer(data[:whole], form.sample).reshape(-1, form.channels)
         samples = frames[:, channel].astype(float)
-        strange = numpy.flatnonzero(~numpy.isfinite(samples))
+        strange = numpy.flatnonzero(~(numpy.abs(samples) < LARGEST_SAMPLE))
         if strange.size:
-            raise Fault(f"sample {read // form.frame + strange[0] + 1} is not a finite number")
+            yield samples[: strange[0]]
+            raise Fault(f"sample {read // form.frame + strange[0] + 1} is {samples[strange[0]]}, which no signal is made of")
         yield samples
         read += len(data)
     if not read:
@@ -138,43 +141,64 @@ def blocks(stream, form, channel):
 # ---- from samples to bits
 
 
-def chip_shape(x):
-    """The impulse response of cos(pi f td / 4), |f| < 2 / td, at x chips (td / 2) from its middle."""
-    pole = numpy.isclose(numpy.abs(x), 0.25)
-    x = numpy.where(pole, 0, x)
-    return numpy.where(pole, math.pi / 4, numpy.cos(2 * math.pi * x) / (1 - 16 * x * x))
+def at_least(number):
+    """The lowest power of two that is no less."""
+    return 1 << math.ceil(math.log2(number))
 
 
 class Downconverter:
-    """From the multiplex to the chips' filtered signal around 0 Hz, at SAMPLES_A_CHIP or a bit more."""
+    """From the multiplex to the chips' filtered signal around 0 Hz, at SAMPLES_A_CHIP or a bit more.
 
-    REACH = 5  # of the matched filter to each side, in chips
+    It goes by blocks of a quarter to half a second: of a block's Fourier transform the part around the carrier is filtered and
+    transformed back, which shifts it to 0 Hz and leaves fewer samples. Blocks overlap, since the filter reads both ends of
+    a block as neighbours; what lies there is left out.
+    """
+
+    OVERLAPS = 16  # a block is so many overlaps long
 
     def __init__(self, rate):
-        self.decimation = int(rate / (CHIP_RATE * SAMPLES_A_CHIP))
-        self.samples_a_chip = rate / self.decimation / CHIP_RATE
-        # the carrier repeats itself after so many samples
-        period = rate // math.gcd(rate, CARRIER_HZ)
-        self.carrier = numpy.exp(-2j * math.pi * CARRIER_HZ / rate * numpy.arange(period))
-        self.place = 0
-        # whole steps of the decimation to each side, so that the first full sum of the filter is one of those kept
-        side = math.ceil(self.REACH * self.samples_a_chip) * self.decimation
-        taps = chip_shape(numpy.arange(-side, side + 1) * CHIP_RATE / rate) * numpy.kaiser(2 * side + 1, 6)
-        self.taps = taps / numpy.sum(taps)
-        self.rest = numpy.zeros(0, complex)
+        self.rate = rate
+        self.block = at_least(rate / 4)
+        self.overlap = self.block // self.OVERLAPS
+        self.kept = at_least(SAMPLES_A_CHIP * CHIP_RATE * self.block / rate)
+        self.samples_a_chip = self.kept * rate / self.block / CHIP_RATE
+        middle = round(CARRIER_HZ * self.block / rate)
+        reach = math.ceil(CHIP_RATE * self.block / rate)
+        self.bins = middle + numpy.arange(-reach, reach + 1)
+        self.kept_bins = (self.bins - middle) % self.kept
+        self.response = matched_filter(self.bins * rate / self.block - CARRIER_HZ)
+        # the carrier lies beside the middle bin by a part of its width
+        beside = CARRIER_HZ / rate - middle / self.block
+        self.turns = beside * self.block / self.kept * numpy.arange(self.kept)
+        self.place = 0  # of the block's first sample, up to where the carrier begins anew
+        self.rest = numpy.zeros(self.overlap // 2)
 
     def push(self, samples):
-        places = (self.place + numpy.arange(samples.size)) % self.carrier.size
-        self.place = (self.place + samples.size) % self.carrier.size
-        signal = numpy.concatenate([self.rest, samples * self.carrier[places]])
-        count = (signal.size - self.taps.size) // self.decimation + 1
-        if count <= 0:
-            self.rest = signal
-            return numpy.zeros(0, complex)
-        self.rest = signal[count * self.decimation:]
-        used = signal[: (count - 1) * self.decimation + self.taps.size]
-        first = (self.taps.size - 1) // self.decimation
-        return scipy.signal.upfirdn(self.taps, used, 1, self.decimation)[first: first + count]
+        self.rest = numpy.concatenate([self.rest, samples])
+        done = [numpy.zeros(0, complex)]
+        while self.rest.size >= self.block:
+            done.append(self.of_block(self.rest[: self.block]))
+            self.rest = self.rest[self.block - self.overlap:]
+            self.place = (self.place + self.block - self.overlap) % self.rate
+        return numpy.concatenate(done)
+
+    def of_block(self, samples):
+        spectrum = numpy.zeros(self.kept, complex)
+        spectrum[self.kept_bins] = numpy.fft.rfft(samples)[self.bins] * self.response
+        turns = self.turns + self.place * CARRIER_HZ % self.rate / self.rate
+        signal = numpy.fft.ifft(spectrum) * numpy.exp(-2j * math.pi * turns)
+        margin = self.kept // self.OVERLAPS // 2
+        return signal[margin: self.kept - margin]
+
+    def finish(self):
+        """The signal up to the last sample, and as much silence as the chips need that are cut by the end."""
+        due = (self.rest.size - self.overlap // 2) * self.kept / self.block + 2 * self.samples_a_chip
+        return self.push(numpy.zeros(self.block))[: int(due)]
+
+
+def matched_filter(frequencies):
+    """Of a chip, by the distance from the carrier: as the standard shapes what is sent, the receiver filters."""
+    return numpy.where(numpy.abs(frequencies) < CHIP_RATE, numpy.cos(math.pi * frequencies / (2 * CHIP_RATE)), 0)
 
 
 def loop_gains(bandwidth):
@@ -304,13 +328,20 @@ class Receiver:
     """From samples of the multiplex to bits."""
 
     def __init__(self, rate):
-        down = Downconverter(rate)
-        self.stages = [down, ClockLoop(down.samples_a_chip), Pairing(), CarrierLoop(), DifferentialDecoder()]
+        self.down = Downconverter(rate)
+        self.stages = [ClockLoop(self.down.samples_a_chip), Pairing(), CarrierLoop(), DifferentialDecoder()]
 
     def push(self, samples):
+        return self.bits(self.down.push(samples))
+
+    def finish(self):
+        """The bits of the last samples, which waited for more."""
+        return self.bits(self.down.finish())
+
+    def bits(self, signal):
         for stage in self.stages:
-            samples = stage.push(samples)
-        return samples
+            signal = stage.push(signal)
+        return signal
 
 
 class BitWriter:
@@ -343,7 +374,8 @@ def arguments():
         description="The bits of RDS from an FM multiplex signal, one byte a bit, demodulated and decoded differentially.",
         epilog="The sample rate is 128000 or more. Without --raw the input is a WAV file.")
     parser.add_argument("input", nargs="?", default="-", metavar="FILE", help="the multiplex [default: standard input]")
-    parser.add_argument("--raw", choices=sorted(RAW_SAMPLES), help="samples alone: 16-bit integers or 32-bit floating point, low byte first")
+    parser.add_argument("--raw", choices=sorted(RAW_SAMPLES),
+                        help="samples alone, low byte first: 16-bit integers or 32-bit floating point")
     parser.add_argument("--rate", type=int, metavar="N", help="samples a second, with --raw")
     parser.add_argument("--channel", type=int, metavar="N", help="of a WAV file of several channels, 1 the first")
     parser.add_argument("--packed", action="store_true", help="write eight bits a byte, the first highest")
@@ -375,6 +407,7 @@ def receive(options):
         for samples in blocks(source, form, channel):
             writer.push(receiver.push(samples))
     finally:
+        writer.push(receiver.finish())
         writer.finish()
     if not writer.written:
         raise Fault("the input is too short for a bit")
@@ -384,7 +417,9 @@ def main():
     options = arguments()
     try:
         receive(options)
-    except (Fault, OSError) as fault:
+    except OSError as fault:
+        sys.exit(f"bits_from_mpx: {fault.filename + ': ' if fault.filename else ''}{fault.strerror}")
+    except Fault as fault:
         sys.exit(f"bits_from_mpx: {fault}")
 
 

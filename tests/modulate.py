@@ -17,7 +17,6 @@ import struct
 import sys
 
 import numpy
-import scipy.signal
 
 BIT_RATE = 1187.5
 CHIP_RATE = 2 * BIT_RATE  # a biphase symbol is two impulses of opposite sign, here named chips
@@ -25,7 +24,7 @@ CARRIER_HZ = 57000
 PILOT_HZ = 19000
 CHANNEL_HZ = 4800
 AUDIO_LEVEL, PILOT_LEVEL, RDS_LEVEL = 0.8, 0.09, 0.03
-REACH = 12  # chips on each side beyond which an impulse is left out: its shape has fallen below a thousandth
+REACH = 8  # chips on each side beyond which an impulse is left out: its shape has fallen to a thousandth
 
 
 def arguments():
@@ -66,10 +65,16 @@ def baseband(chips, times):
     return signal / numpy.sqrt(numpy.mean(signal**2))
 
 
+def low_noise(random, size, rate):
+    """Noise up to 15 kHz."""
+    spectrum = numpy.fft.rfft(random.standard_normal(size))
+    spectrum[numpy.fft.rfftfreq(size, 1 / rate) > 15000] = 0
+    return numpy.fft.irfft(spectrum, size)
+
+
 def audio(random, times, rate):
     """A stereo programme: the sum of both channels, and their difference at 38 kHz, within -1 and 1 but for rare peaks."""
-    lowpass = scipy.signal.firwin(255, 15000, fs=rate)
-    both, left, right = (scipy.signal.fftconvolve(random.standard_normal(times.size), lowpass, "same") for _ in range(3))
+    both, left, right = (low_noise(random, times.size, rate) for _ in range(3))
     middle, side = both + (left + right) / 2, (left - right) / 2
     programme = middle + side * numpy.sin(2 * numpy.pi * 2 * PILOT_HZ * times)
     return programme / (4 * numpy.std(programme))
