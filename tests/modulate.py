@@ -66,10 +66,11 @@ def baseband(chips, times):
 
 
 def low_noise(random, size, rate):
-    """Noise up to 15 kHz."""
-    spectrum = numpy.fft.rfft(random.standard_normal(size))
-    spectrum[numpy.fft.rfftfreq(size, 1 / rate) > 15000] = 0
-    return numpy.fft.irfft(spectrum, size)
+    """Noise up to 15 kHz, cut out of more than is asked for: the lengths that transform fast are powers of two."""
+    longer = 1 << size.bit_length()
+    spectrum = numpy.fft.rfft(random.standard_normal(longer))
+    spectrum[numpy.fft.rfftfreq(longer, 1 / rate) > 15000] = 0
+    return numpy.fft.irfft(spectrum, longer)[:size]
 
 
 def audio(random, times, rate):
