@@ -6,12 +6,14 @@
 
 The multiplex is what an FM demodulator gives before de-emphasis, at 128,000 samples a second or more: a WAV file (the first
 channel is read), or with --raw samples alone. The same receiver as bits_from_mpx.py, for those who want its steps in a flowgraph
-of their own: half a biphase symbol is called a chip, and chips come at 2,375 a second. Its loops take about half a second to lock.
+of their own: half a biphase symbol is called a chip, and chips come at 2,375 a second. Its loops take about half a second to lock, and a file's last
+two or three bits stay in its filters.
 
 Needs GNU Radio 3.10 (Debian's package gnuradio); gr-rds is not needed.
 """
 import argparse
 import math
+import os
 import sys
 
 from gnuradio import analog, blocks, digital, filter as filters, gr
@@ -102,11 +104,13 @@ def bits_to_file(flowgraph, symbols, name):
 
 
 def arguments():
-    parser = argparse.ArgumentParser(description="The bits of RDS from an FM multiplex signal by GNU Radio's blocks, one byte a bit.",
-                                     epilog="The sample rate is 128000 or more. Without --raw the input is a WAV file.")
+    parser = argparse.ArgumentParser(
+        description="The bits of RDS from an FM multiplex signal by GNU Radio's blocks, one byte a bit.",
+        epilog="The sample rate is 128000 or more. Without --raw the input is a WAV file.")
     parser.add_argument("input", metavar="MULTIPLEX")
     parser.add_argument("output", metavar="BITS")
-    parser.add_argument("--raw", choices=sorted(RAW_SOURCES), help="samples alone, low byte first: 16-bit integers or 32-bit floating point")
+    parser.add_argument("--raw", choices=sorted(RAW_SOURCES),
+                        help="samples alone, low byte first: 16-bit integers or 32-bit floating point")
     parser.add_argument("--rate", type=int, metavar="N", help="samples a second, with --raw")
     options = parser.parse_args()
     if bool(options.raw) != (options.rate is not None):
@@ -125,6 +129,8 @@ def main():
     except RuntimeError as fault:
         sys.exit(f"bits_from_gnuradio: {options.input} cannot be read, or {options.output} not be written: {fault}")
     flowgraph.run()
+    if not os.path.getsize(options.output):
+        sys.exit("bits_from_gnuradio: the input is too short for a bit")
 
 
 if __name__ == "__main__":

@@ -2,7 +2,7 @@
 # Measures how many groups receivers find in a multiplex, by the noise: the table of examples/README.md. No test, since it needs
 # gnuradio and gr-rds (Debian's packages) and takes minutes:
 #   tests/measure_receivers.sh PATH-TO-RDS [GROUPS]
-# Prints a row for each signal: of GROUPS (1000) groups of random words how many were received as they were sent. PYTHON names the
+# Prints a row for each signal: of GROUPS (500) groups of random words how many were received as they were sent. PYTHON names the
 # python that has numpy and GNU Radio (/usr/bin/python3).
 
 usage='usage: tests/measure_receivers.sh PATH-TO-RDS [GROUPS]'
@@ -10,7 +10,7 @@ usage='usage: tests/measure_receivers.sh PATH-TO-RDS [GROUPS]'
 . "$(dirname "$0")/common.sh"
 check_programs "${1:-}"
 program=$(realpath "$1")
-count=${2:-1000}
+count=${2:-500}
 python=${PYTHON:-/usr/bin/python3}
 cd "$here/.." || exit 1
 
@@ -39,9 +39,10 @@ row() {
   echo "| $signal | $numpy | $gnuradio | $grrds | $by_grrds |"
 }
 
-# shellcheck disable=SC2016
-echo '| Signal to noise | `bits_from_mpx.py`, `rds` | `bits_from_gnuradio.py`, `rds` | gr-rds'"'"' receiver, `rds` | the same, its own decoder |'
-echo '|---|---|---|---|---|'
+cat <<'HEAD'
+| Signal to noise | `bits_from_mpx.py`, `rds` | `bits_from_gnuradio.py`, `rds` | gr-rds' receiver, `rds` | gr-rds' receiver and decoder |
+|---|---|---|---|---|
+HEAD
 for level in 30 20 15 12 10 8 6 4 2 1 0 -1 -2 -3 -4; do row "$level dB" --snr "$level"; done
 row '20 dB, 57 kHz off by 5 Hz' --snr 20 --carrier-offset 5
 row '20 dB, bits 100 ppm too fast' --snr 20 --clock-offset 100

@@ -45,7 +45,8 @@ options_of() { "$program" "$@" --help | sed -n '/^Options:/,/^$/s/^ *\(-[a-zA-Z]
 # in_readme COMMAND: the options that README's table names for it
 in_readme() {
   sed -n '/^| Option | Of |/,/^$/p' README.md |
-    awk -F'|' -v of="$1" 'NR > 2 && ($3 ~ "^ *all *$" || index($3, "`" of "`")) { split($2, words, /[` ]+/); print words[2] }' | one_line
+    awk -F'|' -v of="$1" 'NR > 2 && ($3 ~ "^ *all *$" || index($3, "`" of "`")) { split($2, words, /[` ]+/); print words[2] }' |
+    one_line
 }
 
 # by_bash WORD..: what bash offers for the last word of the line
@@ -90,8 +91,8 @@ fi
 
 # dpkg_there WORD..: dpkg on the root folder, by none of this machine's settings that leave out files
 dpkg_there() {
-  dpkg --root="$root" --log="$work/dpkg.log" --force-not-root --force-script-chrootless --path-include='*' "$@" > "$work/said" 2>&1 ||
-    { cat "$work/said"; return 1; }
+  dpkg --root="$root" --log="$work/dpkg.log" --force-not-root --force-script-chrootless --path-include='*' "$@" \
+    > "$work/said" 2>&1 || { cat "$work/said"; return 1; }
 }
 
 # files_there: what stands in the root folder but for dpkg's own

@@ -84,19 +84,36 @@ if has awk && python=$(numpy_python); then
   fails 'too low a rate' 'bits_from_mpx: a sample rate of 127999 is not 128000 to 3200000' \
     from_mpx --raw s16 --rate 127999 "$work/silence.s16"
   sed '1s/WAVEfmt \(....\)../WAVEfmt \1\x07\x00/' "$work/multiplex.wav" > "$work/strange.wav"
-  fails 'samples of another format' \
-    'bits_from_mpx: WAV samples of format 7 with 16 bits are not read: integers of 16 or 32 bits are, and floating point of 32 or 64' \
-    from_mpx "$work/strange.wav"
+  fails 'samples of another format' "bits_from_mpx: WAV samples of format 7 with 16 bits are not read: integers of 16 or 32 bits are,\
+ and floating point of 32 or 64" from_mpx "$work/strange.wav"
   fails 'a sample that is no number' 'bits_from_mpx: sample 101 is nan, which no signal is made of' \
     from_mpx --raw f32 --rate 192000 < <(head -c 400 "$work/multiplex.f32"; printf '\0\0\300\177')
   fails 'a multiplex that is not there' "bits_from_mpx: $work/none: No such file or directory" from_mpx "$work/none"
   if [[ -c /dev/full ]]; then
-    fails 'bits onto a full device' 'bits_from_mpx: No space left on device' onto_full "$python" examples/bits_from_mpx.py "$work/cut.wav"
+    fails 'bits onto a full device' 'bits_from_mpx: No space left on device' \
+      onto_full "$python" examples/bits_from_mpx.py "$work/cut.wav"
   fi
   for words in '--raw s16' '--rate 171000' '--raw s16 --rate fast' '--raw s16 --rate 171000 --channel 1'; do
     # shellcheck disable=SC2086
     same "no command line: $words" 2 "$(from_mpx $words "$work/silence.s16" >/dev/null 2>&1; echo $?)"
   done
+
+  # GNU Radio's loops lock within half a second, and the last bits stay in its filters
+  if "$python" -c 'import gnuradio' 2>/dev/null; then
+    from_gnuradio() { "$python" examples/bits_from_gnuradio.py "$@"; }
+    for form in "$work/multiplex.wav" "--raw f32 --rate 192000 $work/multiplex.f32"; do
+      # shellcheck disable=SC2086
+      from_gnuradio $form "$work/gnuradio.u8" 2>/dev/null
+      same "by GNU Radio, of ${form/$work/}" "$(groups_sent | sed '$d' | tail -n 18)" \
+        "$("$python" examples/pack_bytes.py < "$work/gnuradio.u8" | "$program" list | examples/hex_groups.sh --whole | tail -n 18)"
+    done
+    same 'too low a rate for GNU Radio' 'bits_from_gnuradio: a sample rate of 127999 is not 128000 to 3200000' \
+      "$(from_gnuradio --raw s16 --rate 127999 "$work/silence.s16" "$work/none" 2>&1 | grep ^bits_from_gnuradio)"
+    same 'no sample for GNU Radio' 'bits_from_gnuradio: the input is too short for a bit' \
+      "$(from_gnuradio --raw s16 --rate 171000 /dev/null "$work/none" 2>&1 | grep ^bits_from_gnuradio)"
+  else
+    echo 'skipped: the recipe that needs GNU Radio'
+  fi
 
   # README's lines from a stick to a listing, with a signal in place of the stick
   mkdir "$work/tools" "$work/stick"
