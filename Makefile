@@ -78,6 +78,7 @@ install: $(PROGRAM)
 
 # All of that as a Debian package below build.
 deb: $(PROGRAM)
+	@mkdir -p build
 	@packaging/make_deb.sh $(PROGRAM) build
 
 clean:

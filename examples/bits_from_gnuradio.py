@@ -6,8 +6,8 @@
 
 The multiplex is what an FM demodulator gives before de-emphasis, at 128,000 samples a second or more: a WAV file (the first
 channel is read), or with --raw samples alone. The same receiver as bits_from_mpx.py, for those who want its steps in a flowgraph
-of their own: half a biphase symbol is called a chip, and chips come at 2,375 a second. Its loops take about half a second to lock, and a file's last
-two or three bits stay in its filters.
+of their own: half a biphase symbol is called a chip, and chips come at 2,375 a second. Its loops take about half a second to
+lock, and a file's last two or three bits stay in its filters.
 
 Needs GNU Radio 3.10 (Debian's package gnuradio); gr-rds is not needed.
 """

@@ -7,7 +7,8 @@ It knows nothing of the receivers: the shape of a symbol is that of IEC 62106, t
 sample rate and any error of the clocks can be had.
 
 The multiplex, by deviation, 75 kHz being 1: left and right channel (noise up to 15 kHz, some of it in both), pilot 0.09 at
-19 kHz, their difference at 38 kHz, RDS 0.03 at 57 kHz in phase with the third harmonic of the pilot, and white noise.
+19 kHz, their difference at 38 kHz, RDS with the power of a carrier of 0.03 at 57 kHz, in phase with the third harmonic of the
+pilot, and white noise.
 
 The signal-to-noise ratio of --snr is that in the channel of RDS: the mean power of RDS by the power of the noise between
 54.6 and 59.4 kHz, the 4.8 kHz that the standard's shaping leaves.

@@ -65,7 +65,7 @@ by_zsh() {
     functions[_rds]=$(<completions/_rds)
     words=("$@")
     CURRENT=$#
-    _rds' zsh "$@" | sed -n 's/^([^)]*)//; s/\[.*//; /^\(--\)\{0,1\}[a-z-]*$/p' | one_line
+    _rds' zsh "$@" | sed -n 's/^([^)]*)//; s/\[.*//; /^\(--\)\{0,1\}[a-z][a-z-]*$/p' | one_line
 }
 
 commands=$(commands_of)
