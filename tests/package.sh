@@ -89,9 +89,13 @@ fi
 
 # ---- the package
 
+# Installing gives files to root, or seems to.
+as_root=()
+((UID == 0)) || as_root=(fakeroot)
+
 # dpkg_there WORD..: dpkg on the root folder, by none of this machine's settings that leave out files
 dpkg_there() {
-  dpkg --root="$root" --log="$work/dpkg.log" --force-not-root --force-script-chrootless --path-include='*' "$@" \
+  "${as_root[@]}" dpkg --root="$root" --log="$work/dpkg.log" --force-not-root --force-script-chrootless --path-include='*' "$@" \
     > "$work/said" 2>&1 || { cat "$work/said"; return 1; }
 }
 
@@ -100,7 +104,8 @@ files_there() { (cd "$root" && find . -path ./var/lib/dpkg -prune -o ! -type d -
 
 station() { "$program" list < examples/station.bin; }
 
-if has dpkg dpkg-deb dpkg-shlibdeps strip lintian; then
+if has dpkg dpkg-deb dpkg-shlibdeps strip lintian "${as_root[@]}"; then
+  export SOURCE_DATE_EPOCH=1700000000
   mkdir "$work/a folder"
   package=$(packaging/make_deb.sh "$program" "$work/a folder")
   same 'its name' "$work/a folder/rds_$("$program" --version | sed 's/^rds //')-1_$(dpkg --print-architecture).deb" "$package"
@@ -120,7 +125,7 @@ if has dpkg dpkg-deb dpkg-shlibdeps strip lintian; then
   same 'the installed program' "$(station | cksum)" \
     "$("$root/usr/bin/rds" list < "$root/usr/share/rds/examples/station.bin" | cksum)"
   same 'the installed manual page' "$(cksum < rds.1)" "$(gzip -dc "$root/usr/share/man/man1/rds.1.gz" | cksum)"
-  same 'the installed examples' "$(git ls-files examples 2>/dev/null | sed 's/^examples/\/usr\/share\/rds\/examples/' | sort)" \
+  same 'the installed examples' "$(find examples -maxdepth 1 -type f | sed 's/^/\/usr\/share\/rds\//' | sort)" \
     "$(files_there | grep /examples/)"
   same 'an installed script' "$(station | examples/hex_groups.sh | cksum)" \
     "$(station | "$root/usr/share/rds/examples/hex_groups.sh" | cksum)"
