@@ -421,6 +421,9 @@ def main():
         sys.exit(f"bits_from_mpx: {fault.filename + ': ' if fault.filename else ''}{fault.strerror}")
     except Fault as fault:
         sys.exit(f"bits_from_mpx: {fault}")
+    except KeyboardInterrupt:
+        # the bits received up to here have been written
+        sys.exit(130)
 
 
 if __name__ == "__main__":

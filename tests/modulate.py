@@ -31,7 +31,8 @@ REACH = 8  # chips on each side beyond which an impulse is left out: its shape h
 def arguments():
     parser = argparse.ArgumentParser(description=__doc__.split("\n")[0])
     parser.add_argument("--rate", type=int, default=192000, help="samples a second")
-    parser.add_argument("--form", choices=["wav16", "wav32f", "s16", "f32"], default="s16", help="WAV, or samples alone")
+    parser.add_argument("--form", choices=["wav16", "wav32f", "rf64", "s16", "f32"], default="s16",
+                        help="WAV, WAV as programs write it where a file may pass 4 GB, or samples alone")
     parser.add_argument("--snr", type=float, default=30, help="signal-to-noise ratio in the channel of RDS, dB")
     parser.add_argument("--carrier-offset", type=float, default=0, help="of the 57 kHz alone, Hz")
     parser.add_argument("--clock-offset", type=float, default=0, help="of the bits alone, parts in a million")
@@ -97,18 +98,30 @@ def multiplex(bits, options):
 
 
 def samples_as_bytes(signal, form):
-    if form.endswith("16"):
+    if form in ("wav16", "rf64", "s16"):
         # the peak of 75 kHz at a third of the scale, so that noise isn't cut off
         return numpy.clip(numpy.rint(signal * 32767 / 3), -32768, 32767).astype("<i2").tobytes()
     return signal.astype("<f4").tobytes()
 
 
+def chunk(name, body):
+    return name + struct.pack("<I", len(body)) + body
+
+
 def wav_header(form, rate, channels, length):
-    code, width = (1, 2) if form == "wav16" else (3, 4)
+    """Up to the samples, of so many bytes."""
+    code, width = (3, 4) if form == "wav32f" else (1, 2)
     block = width * channels
     described = struct.pack("<HHIIHH", code, channels, rate, rate * block, block, 8 * width)
-    return b"RIFF" + struct.pack("<I", 36 + length) + b"WAVEfmt " + struct.pack("<I", 16) + described + \
-        b"data" + struct.pack("<I", length)
+    if form != "rf64":
+        head = b"WAVE" + chunk(b"fmt ", described) + b"data" + struct.pack("<I", length)
+        return b"RIFF" + struct.pack("<I", len(head) + length) + head
+    # lengths stand in a chunk of their own; the format is extensible, with its code in the first bytes of a GUID
+    guid = struct.pack("<H", code) + bytes.fromhex("000000001000800000aa00389b71")
+    extensible = struct.pack("<H", 0xFFFE) + described[2:] + struct.pack("<HHI", 22, 8 * width, 0) + guid
+    rest = chunk(b"fmt ", extensible) + b"data" + struct.pack("<I", 0xFFFFFFFF)
+    lengths = struct.pack("<QQQI", 4 + 36 + len(rest) + length, length, length // block, 0)
+    return b"RF64" + struct.pack("<I", 0xFFFFFFFF) + b"WAVE" + chunk(b"ds64", lengths) + rest
 
 
 def main():
@@ -121,7 +134,7 @@ def main():
         silent = numpy.zeros((signal.size, options.channels - 1))
         signal = numpy.column_stack([silent, signal])
     samples = samples_as_bytes(signal, options.form)
-    if options.form.startswith("wav"):
+    if options.form in ("wav16", "wav32f", "rf64"):
         sys.stdout.buffer.write(wav_header(options.form, options.rate, options.channels, len(samples)))
     sys.stdout.buffer.write(samples)
 

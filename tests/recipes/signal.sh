@@ -47,6 +47,13 @@ if has awk && python=$(numpy_python); then
   done
   multiplex --form wav32f > "$work/multiplex.wav"
   same 'a WAV file of floating point' "$(groups_sent | tail -n +2)" "$(groups_received "$work/multiplex.wav")"
+  multiplex --form rf64 > "$work/long.wav"
+  same 'a WAV file of the long form' "$(groups_sent | tail -n +2)" "$(groups_received "$work/long.wav")"
+  # half a sample more would be a fault
+  printf LIST. >> "$work/long.wav"
+  same 'what follows its samples is none' 0 "$(from_mpx "$work/long.wav" >/dev/null 2>&1; echo $?)"
+  same 'a WAV file from a pipe, which does not say how long it is' "$(groups_sent | tail -n +2)" \
+    "$(multiplex --form wav16 | { head -c 40; printf '\377\377\377\377'; tail -c +5; } | groups_received)"
   multiplex --form f32 > "$work/multiplex.f32"
   same 'samples of floating point' "$(groups_sent | tail -n +2)" "$(groups_received --raw f32 --rate 192000 "$work/multiplex.f32")"
   multiplex --form wav16 --channels 2 > "$work/stereo.wav"
@@ -84,8 +91,8 @@ if has awk && python=$(numpy_python); then
   fails 'too low a rate' 'bits_from_mpx: a sample rate of 127999 is not 128000 to 3200000' \
     from_mpx --raw s16 --rate 127999 "$work/silence.s16"
   sed '1s/WAVEfmt \(....\)../WAVEfmt \1\x07\x00/' "$work/multiplex.wav" > "$work/strange.wav"
-  fails 'samples of another format' "bits_from_mpx: WAV samples of format 7 with 16 bits are not read: integers of 16 or 32 bits are,\
- and floating point of 32 or 64" from_mpx "$work/strange.wav"
+  fails 'samples of another format' "bits_from_mpx: WAV samples of format 7 with 16 bits are not read: integers of 16 or 32 bits\
+ are, and floating point of 32 or 64" from_mpx "$work/strange.wav"
   fails 'a sample that is no number' 'bits_from_mpx: sample 101 is nan, which no signal is made of' \
     from_mpx --raw f32 --rate 192000 < <(head -c 400 "$work/multiplex.f32"; printf '\0\0\300\177')
   fails 'a multiplex that is not there' "bits_from_mpx: $work/none: No such file or directory" from_mpx "$work/none"
