@@ -138,4 +138,9 @@ STICK
   same 'their listing' "$(groups_received --raw s16 --rate 171000 "$work/silence.s16")" \
     "$(examples/hex_groups.sh --whole < "$work/stick/listing.csv")"
   same 'their totals' "$(grep '^total,' "$work/stick/listing.csv")" "$(cat "$work/stick/totals")"
+  # and its line for a WAV file
+  cp "$work/multiplex.wav" "$work/stick/multiplex.wav"
+  line=$(grep -oE 'python3 [^`]* multiplex\.wav > bits\.bin' README.md)
+  (cd "$work/stick" && PATH=$work/tools:$PATH bash <<< "$line")
+  same 'the bits of a WAV file' "$(from_mpx --packed "$work/multiplex.wav" | cksum)" "$(cksum < "$work/stick/bits.bin")"
 fi
