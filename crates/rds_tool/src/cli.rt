@@ -12,8 +12,7 @@ use clap::ArgMatches;
 use clap::error::ErrorKind;
 use std::alloc::Global;
 
-const BAD_LOSS: &str =
-    "bad --loss or --of: --of needs --share, and --loss excludes it\n";
+const BAD_LOSS: &str = "bad --loss or --of: --of needs --share, and --loss excludes it\n";
 
 /// Why words are no job.
 #[derive(Clone, Copy, Debug, PartialEq, Eq)]

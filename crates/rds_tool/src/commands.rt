@@ -33,7 +33,16 @@ fn bare_command<'a>(alloc: Global) -> Command<'a>
 fn scan_command<'a>(alloc: Global) -> Made<'a>
     ensures { Makes result (recording_app (codes "scan")) }
 {
-    recording_command(alloc, named(alloc, "scan", help::SCAN, help::SCAN_USAGE, help::SCAN_AFTER))
+    recording_command(
+        alloc,
+        named(
+            alloc,
+            "scan",
+            help::SCAN,
+            help::SCAN_USAGE,
+            help::SCAN_AFTER,
+        ),
+    )
 }
 
 fn list_command<'a>(alloc: Global) -> Made<'a>
@@ -41,7 +50,13 @@ fn list_command<'a>(alloc: Global) -> Made<'a>
 {
     ruled_command(
         alloc,
-        named(alloc, "list", help::LIST, help::LIST_USAGE, help::LIST_AFTER),
+        named(
+            alloc,
+            "list",
+            help::LIST,
+            help::LIST_USAGE,
+            help::LIST_AFTER,
+        ),
     )
 }
 
@@ -50,14 +65,26 @@ fn totals_command<'a>(alloc: Global) -> Made<'a>
 {
     ruled_command(
         alloc,
-        named(alloc, "totals", help::TOTALS, help::TOTALS_USAGE, help::TOTALS_AFTER),
+        named(
+            alloc,
+            "totals",
+            help::TOTALS,
+            help::TOTALS_USAGE,
+            help::TOTALS_AFTER,
+        ),
     )
 }
 
 fn encode_command<'a>(alloc: Global) -> Made<'a>
     ensures { Makes result encode_app }
 {
-    let command = named(alloc, "encode", help::ENCODE, help::ENCODE_USAGE, help::ENCODE_AFTER);
+    let command = named(
+        alloc,
+        "encode",
+        help::ENCODE,
+        help::ENCODE_USAGE,
+        help::ENCODE_AFTER,
+    );
     command.arg(hex_option(alloc, help::HEX_OUTPUT))
 }
 
