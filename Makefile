@@ -10,7 +10,7 @@ export RT
 
 SOURCES := crates.txt $(shell find crates -name out -prune -o \( -name '*.rt' -o -name '*.antt' \) -print)
 
-.PHONY: all run test proofs wrong-bodies wrong-bodies-of-code program install deb clean toolchain
+.PHONY: all run quick test proofs wrong-bodies wrong-bodies-of-code program install deb clean toolchain
 all: build/rds
 
 toolchain:
@@ -25,11 +25,15 @@ build/rds: $(SOURCES)
 	@mkdir -p build
 	cp crates/rds/out/rds $@
 
-run: build/rds
-	@echo "The first rows of the sample recording:"
-	@build/rds list < examples/station.bin | sed -n '1,10p'
-	@echo "Its totals:"
-	@build/rds totals < examples/station.bin
+# The sample alone may go by an unproved build, which is slow, but there in a minute.
+run: toolchain
+	@if $(MAKE) -sq build/rds; then build/rds list < examples/station.bin; else \
+	  echo "built without proof for this sample, in a minute or so; 'make' proves rds and builds build/rds" >&2; \
+	  cd crates/rds && $(RT) try -- list < ../../examples/station.bin 2>/dev/null; fi | \
+	  sed -n -e '1,10p' -e '11s/.*/[..]/p' -e '/^total/p'
+
+quick: toolchain
+	tests/quick.sh
 
 # The wrong bodies of the lowest library need nothing that rt ci builds: they are tried while it has one crate to prove.
 # What it built is tried while the others are; measured when nothing else runs.
@@ -37,6 +41,8 @@ test: toolchain
 	+$(MAKE) --no-print-directory -j 2 proofs wrong-bodies-of-code
 	+$(MAKE) --no-print-directory -j 2 -O wrong-bodies program
 	crates/rds_bench/out/rds_bench --check
+	@mkdir -p build
+	@[ -n "$$(git status --porcelain)" ] || git rev-parse HEAD > build/passed
 
 proofs:
 	$(RT) ci
@@ -56,11 +62,13 @@ define within_limit
 endef
 
 program:
+	$(call within_limit,tests/scripts.sh crates/rds/out/rds)
 	$(call within_limit,tests/program.sh crates/rds/out/rds)
 	$(call within_limit,tests/listings.sh crates/rds/out/rds)
 	$(call within_limit,tests/differential.sh crates/rds/out/rds crates/rds_plain/out/rds_plain)
 	$(call within_limit,tests/refusals.sh crates/rds/out/rds crates/rds_parts/out/rds_parts)
 	$(call within_limit,tests/work.sh crates/rds/out/rds)
+	$(call within_limit,tests/growth.sh crates/rds/out/rds)
 	$(call within_limit,tests/recipes.sh crates/rds/out/rds)
 	$(call within_limit,tests/package.sh crates/rds/out/rds)
 

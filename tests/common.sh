@@ -6,11 +6,35 @@
 set -uo pipefail
 export LC_ALL=C
 
+# Where a tool is missing a script ends, and says which, wherever the errors of that command go. This is called in a process
+# of its own.
+exec {own_errors}>&2
+trap 'exit 1' TERM
+command_not_found_handle() {
+    echo "${0##*/}: there is no '$1' on the PATH" >&"$own_errors"
+    kill $$
+    return 127
+}
+
 here=$(dirname "$(realpath "${BASH_SOURCE[0]}")")
 work=$(mktemp -d) || exit 1
 trap 'rm -rf "$work"' EXIT
+all_tools=$PATH
 passed=0
 failed=0
+
+# needs TOOL..: the tools that a script calls beside those of this page. From here on it finds no others, so that the row is
+# whole; and it ends where one is missing.
+needs() {
+    local tool at
+    mkdir "$work/tools" || exit 1
+    for tool in dirname realpath mktemp rm mkdir tail awk "$@"; do
+        at=$(type -P "$tool") || command_not_found_handle "$tool"
+        ln -sf "$at" "$work/tools/$tool" || exit 1
+    done
+    # shellcheck disable=SC2123
+    PATH=$work/tools
+}
 
 misused() {
     # shellcheck disable=SC2154
@@ -40,11 +64,23 @@ finish() {
     [ "$failed" = 0 ] && [ "$passed" -gt 0 ]
 }
 
+# broken FILE TEXT..: ends the script, since a table of its can't be used
+broken() {
+    echo "${0##*/}: ${1##*/}: ${*:2}" >&2
+    exit 1
+}
+
+# check_table FILE: ends the script where the table is empty, or was cut off within a line
+check_table() {
+    [ -s "$1" ] || broken "$1" 'there is no line'
+    [ -z "$(tail -c 1 "$1")" ] || broken "$1" 'the last line is cut off'
+}
+
 # words SEED COUNT: so many lines of four pseudo-random words of four digits each
 words() {
     awk -v x="$1" -v n="$2" 'function word() { x = x * 16807 % 2147483647; return int(x / 32768) }
         BEGIN { while (n--) printf "%04x%04x%04x%04x\n", word(), word(), word(), word() }'
 }
 
-# make_refuse: the library that refuses and counts calls
-make_refuse() { ${CC:-cc} -O1 -shared -fPIC -o "$work/refuse.so" "$here/refuse.c" -ldl || exit 1; }
+# make_refuse: the library that refuses and counts calls. The compiler finds tools of its own on the PATH.
+make_refuse() { PATH=$all_tools ${CC:-cc} -O1 -shared -fPIC -o "$work/refuse.so" "$here/refuse.c" -ldl || exit 1; }

@@ -8,7 +8,7 @@
 
 usage='usage: tests/differential.sh PATH-TO-RDS PATH-TO-RDS_PLAIN [FIRST [LAST]]'
 # shellcheck source-path=SCRIPTDIR source=common.sh
-. "$(dirname "$0")/common.sh"
+. "$(dirname "$0")/common.sh" || exit
 check_programs "${1:-}" "${2:-}"
 rds=$(realpath "$1")
 plain=$(realpath "$2")
@@ -17,6 +17,7 @@ for it in "${@:3}"; do
 done
 first=${3:-1}
 last=${4:-$((first > 120 ? first : 120))}
+needs cat cmp fold mv od sed seq stat tr
 cd "$work" || exit 1
 
 # draw FROM TO: the next number of the seed's row, into $drawn

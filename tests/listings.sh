@@ -8,11 +8,37 @@
 
 usage='usage: tests/listings.sh PATH-TO-RDS [--write]'
 # shellcheck source-path=SCRIPTDIR source=common.sh
-. "$(dirname "$0")/common.sh"
+. "$(dirname "$0")/common.sh" || exit
 check_programs "${1:-}"
 case ${2:-} in '' | --write) ;; *) misused ;; esac
 rds=$(realpath "$1")
+needs cat cmp cp grep head od sha256sum
+table=$here/listings.sums
 cd "$work" || exit 1
+
+# ---- the texts that are made: recordings, and jobs
+
+for input in clean damaged slips noise mixed station empty; do
+    for job in scan list totals 'list --burst 0 --reach 1 --loss 1' 'list --burst 5 --reach 8 --loss 64'; do
+        echo "$input $job"
+    done
+done >jobs
+for bits in 1 26 1037 99999; do
+    echo "station list --bits $bits"
+done >>jobs
+
+# ---- the table: the sum of each text
+
+declare -A wanted=()
+[ -n "${2:-}" ] || check_table "$table"
+while read -r sum job; do
+    [ -z "${wanted[$job]:-}" ] || broken "$table" "two lines of $job"
+    grep -qxF -e "$job" jobs || [ -n "${2:-}" ] || broken "$table" "there is no text $job"
+    wanted[$job]=$sum
+done <"$table"
+while read -r job; do
+    [ -n "${2:-}${wanted[$job]:-}" ] || broken "$table" "no line of $job"
+done <jobs
 
 # damaged SEED RARITY: lines of digits, of which one digit in so many is another
 damaged() {
@@ -29,6 +55,8 @@ damaged() {
 # slipped EVERY: lines of digits; each so many-th loses its first digit, and 50 lines on one has a digit more
 slipped() { awk -v m="$1" 'NR % m == 0 { $0 = substr($0, 2) } NR % m == 50 { $0 = "5" $0 } { print }'; }
 
+# ---- the recordings
+
 words 11 20000 | "$rds" encode --hex >clean || exit 1
 damaged 12 97 <clean >damaged
 head -n 4900 clean | slipped 100 | damaged 13 800 >slips
@@ -37,14 +65,7 @@ words 14 6000 >noise
 od -An -v -tx1 "$here/../examples/station.bin" >station
 : >empty
 
-for input in clean damaged slips noise mixed station empty; do
-    for job in scan list totals 'list --burst 0 --reach 1 --loss 1' 'list --burst 5 --reach 8 --loss 64'; do
-        echo "$input $job"
-    done
-done >jobs
-for bits in 1 26 1037 99999; do
-    echo "station list --bits $bits"
-done >>jobs
+# ---- the texts
 
 while read -r input job; do
     # shellcheck disable=SC2086
@@ -56,12 +77,12 @@ while read -r input job; do
 done <jobs >sums
 if [ "${2:-}" = --write ]; then
     if grep '^refused' sums; then exit 1; fi
-    cp sums "$here/listings.sums" || exit 1
+    cp sums "$table" || exit 1
+    exit
 fi
-passed=$(comm -12 <(sort sums) <(sort "$here/listings.sums") | wc -l)
-# Those that have no sum, or another one, and sums without a job.
-failed=$(($(sed 's/^[^ ]* *//' sums "$here/listings.sums" | sort -u | wc -l) - passed))
-diff "$here/listings.sums" sums | sed 's/^/FAILED: /'
+while read -r sum job; do
+    if [ "$sum" = "${wanted[$job]}" ]; then pass; else fail "another text of $job: $sum"; fi
+done <sums
 
 # each crew makes the text that one worker makes of one piece
 for input in clean damaged slips noise mixed station empty; do

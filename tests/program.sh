@@ -6,9 +6,10 @@
 
 usage='usage: tests/program.sh PATH-TO-RDS'
 # shellcheck source-path=SCRIPTDIR source=common.sh
-. "$(dirname "$0")/common.sh"
+. "$(dirname "$0")/common.sh" || exit
 check_programs "${1:-}"
 rds=$(realpath "$1")
+needs cat cmp grep head python3 sed
 
 # check NAME STATUS STDOUT STDERR INPUT WORDS..
 #
@@ -338,5 +339,25 @@ judge 'version into closed output' 1 $? '' 'refused 10 Write\n'
 station=$here/../examples/station.bin
 { cat "$station" "$station" "$station" | "$rds" list 2>"$work/err"; echo $? >"$work/status"; } | head -n 1 >"$work/out"
 judge 'output to a reader that leaves early' 1 "$(cat "$work/status")" "$acquired" 'refused 10 Write\n'
+
+# What README says of the system's limits: a small stack, pipes that do not block, and a length that is too long, which is
+# found once all of the input, more than a pipe holds, was read.
+(ulimit -s 128 && exec "$rds" list --hex <"$work/in" >"$work/out" 2>"$work/err")
+judge 'a stack of 128 KiB' 0 $? '*acquired,51,2,' ''
+not_blocking='import os, subprocess, sys
+read, write = os.pipe()
+os.set_blocking(write if sys.argv[1] == "output" else read, False)
+input = open(sys.argv[2]) if sys.argv[1] == "output" else read
+output = write if sys.argv[1] == "output" else subprocess.DEVNULL
+sys.exit(subprocess.run(sys.argv[3:], stdin=input, stdout=output).returncode)'
+: >"$work/out"
+PATH=$all_tools python3 -c "$not_blocking" input - "$rds" scan 2>"$work/err"
+judge 'input that does not block' 1 $? '' 'refused 9 Read\n'
+cat "$station" "$station" "$station" >"$work/long"
+PATH=$all_tools python3 -c "$not_blocking" output "$work/long" "$rds" list 2>"$work/err"
+judge 'output that does not block' 1 $? '' 'refused 10 Write\n'
+{ cat "$station" "$station" "$station" && echo whole >"$work/given"; } | "$rds" scan --bits 68719476737 >"$work/out" 2>"$work/err"
+judge 'a length that is too long, of an input that is read to its end' 1 "${PIPESTATUS[1]}" '' 'refused 5 TooLong\n'
+if [ -s "$work/given" ]; then pass; else fail 'an input is read to its end before its length is refused'; fi
 
 finish

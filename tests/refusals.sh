@@ -10,10 +10,11 @@
 
 usage='usage: tests/refusals.sh PATH-TO-RDS PATH-TO-RDS_PARTS'
 # shellcheck source-path=SCRIPTDIR source=common.sh
-. "$(dirname "$0")/common.sh"
+. "$(dirname "$0")/common.sh" || exit
 check_programs "${1:-}" "${2:-}"
 program=$(realpath "$1")
 parts=$(realpath "$2")
+needs cat cmp grep sed seq stat
 rows=0
 declare -A tried=([alloc]=0 [read]=0 [write]=0 [thread]=0)
 
@@ -44,10 +45,9 @@ wrote_nothing() { [ ! -s "$work/out" ]; }
 
 # calls_of CALL WORDS..: how many such calls a job makes
 calls_of() {
-    local count
     rm -f "$work/count"
     run "$1" 0 "${@:2}"
-    read -r count _ <"$work/count" && echo "$count"
+    sed -n "s/^$1 //p" "$work/count" | grep .
 }
 
 # judge CALL STATUS AT: whether the last run answered as it may where call AT of that kind is refused; the threads that
@@ -123,6 +123,9 @@ job "$(zeros 8)" list --hex --pieces 8 --workers 3
 job "$(zeros 8)" list --hex --pieces 4 --workers 2 --reach 4
 job '0000 0000 0000 0000\n' encode --hex
 job '1234 2540 5244 5320\n   \n\n0000080000000000' encode
+# two groups encoded as digits, and the list of these
+job '1234 2540 5244 5320\n0000 0800 0000 0000\n' encode --hex
+job '12341a89501ac52449594c83fb\n00003f02002c10000d400001b4\n' list --hex --pieces 2 --workers 2
 # rows for three threads
 for _ in 1 2 3 4 5 6 7; do cat "$here/../examples/station.bin"; done >"$work/in"
 all_of list --pieces 2 --workers 3

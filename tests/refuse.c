@@ -1,10 +1,10 @@
-/* Refuses one call of a program to the C library, for tests/refusals.sh, which preloads this library, or counts them.
+/* Refuses one call of a program to the C library, for tests/refusals.sh, which preloads this library, and counts calls.
  *
  * REFUSE_CALL names the call: alloc, read, write or thread. REFUSE_AT is the number of the call that is refused, from 1 on
- * (0 refuses none); where REFUSE_ON is set, all after it are refused too. REFUSE_COUNT names a file to which the number
- * of such calls is written when the program ends, REFUSE_BYTES one for the bytes that allocations asked for, and
- * REFUSE_PEAK one for the most bytes that were held at a time, which tests/work.sh looks at. Reads are those of standard
- * input, writes those of standard output.
+ * (0 refuses none); where REFUSE_ON is set, all after it are refused too. REFUSE_COUNT names a file to which is written,
+ * when the program ends, a line for each of these four with the number of such calls, and the lines bytes and peak: the
+ * bytes that allocations asked for, and the most that were held at a time. tests/work.sh looks at all of them. Reads are
+ * those of standard input, writes those of standard output.
  */
 #define _GNU_SOURCE
 #include <dlfcn.h>
@@ -14,23 +14,28 @@
 #include <stdatomic.h>
 #include <stdio.h>
 #include <stdlib.h>
+#include <string.h>
 #include <sys/syscall.h>
 #include <unistd.h>
 
-static atomic_long calls;
+enum call { ALLOC, READ, WRITE, THREAD, CALLS };
+
+static const char *const names[CALLS] = {"alloc", "read", "write", "thread"};
+static atomic_long calls[CALLS];
 static atomic_long bytes;
 static atomic_long held;
 static atomic_long peak;
 static long refused_at;
 static int refused_on;
-static char refused_call;
+static enum call refused_call = CALLS;
+static int has_ended;
 
-static int is_refused(char call)
+static int is_refused(enum call call)
 {
-    if (call != refused_call)
+    if (has_ended)
         return 0;
-    long now = atomic_fetch_add(&calls, 1) + 1;
-    return refused_at && (now == refused_at || (refused_on && now > refused_at));
+    long now = atomic_fetch_add(&calls[call], 1) + 1;
+    return call == refused_call && refused_at && (now == refused_at || (refused_on && now > refused_at));
 }
 
 __attribute__((constructor)) static void start(void)
@@ -38,26 +43,23 @@ __attribute__((constructor)) static void start(void)
     const char *call = getenv("REFUSE_CALL"), *at = getenv("REFUSE_AT");
     refused_at = at ? atol(at) : 0;
     refused_on = getenv("REFUSE_ON") != NULL;
-    refused_call = call ? call[0] : 0;
-}
-
-static void write_number(const char *name, long number)
-{
-    const char *path = getenv(name);
-    FILE *file = path ? fopen(path, "w") : NULL;
-    if (file) {
-        fprintf(file, "%ld\n", number);
-        fclose(file);
-    }
+    for (enum call it = ALLOC; it < CALLS; it++)
+        if (call && strcmp(call, names[it]) == 0)
+            refused_call = it;
 }
 
 /* A program that starts no thread ends by exit, which calls destructors. */
 __attribute__((destructor)) static void tell(void)
 {
-    refused_call = 0;
-    write_number("REFUSE_COUNT", (long)calls);
-    write_number("REFUSE_BYTES", (long)bytes);
-    write_number("REFUSE_PEAK", (long)peak);
+    const char *path = getenv("REFUSE_COUNT");
+    FILE *file;
+    has_ended = 1;
+    if (!path || !(file = fopen(path, "w")))
+        return;
+    for (enum call it = ALLOC; it < CALLS; it++)
+        fprintf(file, "%s %ld\n", names[it], (long)calls[it]);
+    fprintf(file, "bytes %ld\npeak %ld\n", (long)bytes, (long)peak);
+    fclose(file);
 }
 
 /* Any other ends by this call, which calls none. */
@@ -71,9 +73,9 @@ void _exit(int status)
 /* Whether an allocation of so many bytes is refused. */
 static int is_refused_memory(size_t size)
 {
-    if (refused_call == 'a')
+    if (!has_ended)
         atomic_fetch_add(&bytes, (long)size);
-    return is_refused('a');
+    return is_refused(ALLOC);
 }
 
 extern void *__libc_malloc(size_t);
@@ -154,7 +156,7 @@ ssize_t read(int from, void *buffer, size_t size)
     static ssize_t (*real)(int, void *, size_t);
     if (!real)
         real = (ssize_t (*)(int, void *, size_t))dlsym(RTLD_NEXT, "read");
-    if (from == STDIN_FILENO && is_refused('r')) {
+    if (from == STDIN_FILENO && is_refused(READ)) {
         errno = EIO;
         return -1;
     }
@@ -166,7 +168,7 @@ ssize_t write(int to, const void *buffer, size_t size)
     static ssize_t (*real)(int, const void *, size_t);
     if (!real)
         real = (ssize_t (*)(int, const void *, size_t))dlsym(RTLD_NEXT, "write");
-    if (to == STDOUT_FILENO && is_refused('w')) {
+    if (to == STDOUT_FILENO && is_refused(WRITE)) {
         errno = EIO;
         return -1;
     }
@@ -178,7 +180,7 @@ int pthread_create(pthread_t *thread, const pthread_attr_t *attributes, void *(*
     static int (*real)(pthread_t *, const pthread_attr_t *, void *(*)(void *), void *);
     if (!real)
         real = (int (*)(pthread_t *, const pthread_attr_t *, void *(*)(void *), void *))dlsym(RTLD_NEXT, "pthread_create");
-    if (is_refused('t'))
+    if (is_refused(THREAD))
         return EAGAIN;
     return real(thread, attributes, body, argument);
 }

@@ -1,21 +1,73 @@
 #!/usr/bin/env bash
-# Work done twice: tests/work.sh PATH-TO-RDS [--measure]
+# Work done twice: tests/work.sh PATH-TO-RDS [--measure JOB..]
 #
 # Counts the allocations, the bytes that they ask for, the most bytes held at a time and the threads of some jobs, and
 # compares them with the bounds of tests/work.bounds: a second pass over a recording, a run that is made again, a list that
-# is copied or one that is kept for too long shows there, and nowhere else. Threads are as many as the line says.
-# Recordings are a few megabytes long, but for those of the smallest jobs, where a table that is made twice shows. With
-# --measure the bounds are written anew: the most of three runs, and a tenth to spare, of the smallest jobs a hundredth.
+# is copied or one that is kept for too long shows there, and nowhere else. Threads are as many as the line says. Each job
+# has one line there, and is found by its name: its input, and its words. Reads and writes are counted too: one for each ten
+# thousand bytes, and a few, are allowed.
+# Recordings are a few megabytes long, but for those of the smallest jobs, where a table that is made twice shows.
+# With --measure the bounds of the jobs that are named, such as 'empty list --workers 1', are written anew, and shown: the
+# most of three runs, and a tenth to spare, of the smallest jobs a hundredth. The threads of a new job are those that it started.
 # Calls are counted by the library of tests/refuse.c, which refuses none of them here.
 # The last line is 'N passed, M failed', and the exit status says whether all passed.
 
-usage='usage: tests/work.sh PATH-TO-RDS [--measure]'
+usage='usage: tests/work.sh PATH-TO-RDS [--measure JOB..]'
 # shellcheck source-path=SCRIPTDIR source=common.sh
-. "$(dirname "$0")/common.sh"
+. "$(dirname "$0")/common.sh" || exit
 check_programs "${1:-}"
-case ${2:-} in '' | --measure) measure=${2:-} ;; *) misused ;; esac
+if [ $# -gt 1 ] && { [ "$2" != --measure ] || [ $# = 2 ]; }; then misused; fi
 rds=$(realpath "$1")
+needs cat cp grep od seq stat
+table=$here/work.bounds
 cd "$work" || exit 1
+
+gaps=1000-1001,500000-500300,900000-900001,900013-900014
+cat >jobs <<END
+empty scan
+empty list --workers 1
+empty totals --workers 256
+empty encode
+station scan
+digits scan --hex
+digits scan --hex --bits 0
+station list --pieces 1 --workers 1
+station list --pieces 16 --workers 1
+station list --pieces 16 --workers 4
+station totals --pieces 16 --workers 1
+station totals --pieces 16 --workers 4
+station totals --pieces 3 --workers 256
+damaged totals --hex --pieces 16 --workers 4
+noise list --hex --pieces 16 --workers 1
+noise totals --hex --pieces 16 --workers 4
+version_b list --pieces 16 --workers 1
+version_b totals --pieces 16 --workers 4
+station list --gaps $gaps --pieces 16 --workers 1
+version_b totals --gaps $gaps --pieces 16 --workers 1
+station list --share 8 --of 40 --pieces 16 --workers 1
+damaged totals --hex --share 8 --of 40 --pieces 16 --workers 1
+words encode
+words encode --hex
+END
+
+# ---- the table: the bounds of each job by its name
+
+declare -A bounds=()
+check_table "$table"
+while read -r line; do
+    case $line in '#'*) continue ;; esac
+    [[ $line =~ ^([0-9]+\ [0-9]+\ [0-9]+\ [0-9]+)\ (.*)$ ]] || broken "$table" "no line of bounds: $line"
+    [ -z "${bounds[${BASH_REMATCH[2]}]:-}" ] || broken "$table" "two lines of the job ${BASH_REMATCH[2]}"
+    bounds[${BASH_REMATCH[2]}]=${BASH_REMATCH[1]}
+done <"$table"
+for job in "${!bounds[@]}" "${@:3}"; do
+    grep -qxF -e "$job" jobs || broken "$table" "there is no job $job"
+done
+while read -r job; do
+    [ $# -gt 1 ] || [ -n "${bounds[$job]:-}" ] || broken "$table" "no line of the job $job"
+done <jobs
+
+# ---- the inputs
 
 make_refuse
 
@@ -29,29 +81,47 @@ words 19 160000 >words
 station 40 | od -An -v -tx1 >digits
 # a byte of every 64 spoilt: marks in many rows
 station 40 | od -An -v -tx1 | awk 'NR % 4 == 0 { $2 = "ff" } 1' >damaged
+# groups of version B, whose block 3 has the programme of block 1
+words 23 300000 | awk '{ print "d393" substr($0, 5, 1) "8" substr($0, 7, 2) "d393" substr($0, 13) }' | "$rds" encode >version_b
 
-# count CALL INPUT WORDS..: how many such calls the job makes of the input, how many bytes allocations ask for, and how
-# many it holds at its peak
+# ---- what a job takes
+
+# count INPUT WORDS..: the counts of the job, into $allocations, $bytes, $peak, $reads, $writes and $threads
 count() {
-    local call=$1 input=$2
-    shift 2
-    rm -f calls bytes peak
-    REFUSE_CALL=$call REFUSE_AT=0 REFUSE_COUNT="$work/calls" REFUSE_BYTES="$work/bytes" REFUSE_PEAK="$work/peak" \
-        LD_PRELOAD="$work/refuse.so" "$rds" "$@" <"$input" >out || return 1
-    echo "$(cat calls) $(cat bytes) $(cat peak)"
+    local input=$1 name number
+    shift
+    rm -f counts
+    REFUSE_COUNT="$work/counts" LD_PRELOAD="$work/refuse.so" "$rds" "$@" <"$input" >out || exit 1
+    while read -r name number; do
+        case $name in
+            alloc) allocations=$number ;;
+            bytes) bytes=$number ;;
+            peak) peak=$number ;;
+            read) reads=$number ;;
+            write) writes=$number ;;
+            thread) threads=$number ;;
+        esac
+    done <counts || exit 1
 }
 
-# most INPUT WORDS..: the most allocations and bytes, in all and at the peak, of three runs
-most() {
-    local runs=''
+# keep_most: the most so far of each number that has a bound
+keep_most() {
+    ((allocations <= most[0])) || most[0]=$allocations
+    ((bytes <= most[1])) || most[1]=$bytes
+    ((peak <= most[2])) || most[2]=$peak
+}
+
+# measured INPUT WORDS..: bounds of the job, from three runs
+measured() {
+    local most=(0 0 0) spare=10 kept
     for _ in 1 2 3; do
-        runs+="$(count alloc "$@")"$'\n' || return 1
+        count "$@"
+        keep_most
     done
-    awk 'NF { for (i = 1; i <= NF; i++) if ($i > most[i]) most[i] = $i } END { print most[1], most[2], most[3] }' <<<"$runs"
+    ((most[1] >= 1000000)) || spare=100
+    kept=${bounds[$*]:-}
+    echo "$((most[0] + most[0] / spare)) $((most[1] + most[1] / spare)) $((most[2] + most[2] / spare)) ${kept##* }"
 }
-
-# spared COUNT: with something to spare
-spared() { echo $(($1 + $1 / spare)); }
 
 # within NAME MEASURED BOUND: whether it is no more than the bound
 within() {
@@ -62,30 +132,54 @@ within() {
     fi
 }
 
-# A line is: allocations, bytes in all, bytes at the peak, threads, input, and the words of the job.
-while read -r calls bytes peak threads input job; do
-    case $calls in '#'*) [ -n "$measure" ] && echo "$calls $bytes $peak $threads $input $job" >>measured; continue ;; esac
-    if [ -n "$measure" ]; then
-        # shellcheck disable=SC2086
-        read -r calls bytes peak < <(most "$input" $job) && [ -n "$peak" ] || exit 1
-        spare=10
-        [ "$bytes" -lt 1000000 ] && spare=100
-        echo "$(spared "$calls") $(spared "$bytes") $(spared "$peak") $threads $input $job" >>measured
-        continue
-    fi
-    # shellcheck disable=SC2086
-    read -r now_calls now_bytes now_peak < <(count alloc "$input" $job) && [ -n "$now_peak" ] || exit 1
-    # shellcheck disable=SC2086
-    read -r started _ < <(count thread "$input" $job) && [ -n "$started" ] || exit 1
-    within allocations "$now_calls" "$calls"
-    within bytes "$now_bytes" "$bytes"
-    within 'bytes at the peak' "$now_peak" "$peak"
-    within 'threads started' "$started" "$threads"
-    within 'threads missing' $((threads - started)) 0
-done <"$here/work.bounds"
+# some BYTES: how many reads or writes so many bytes may take
+some() { echo $(($1 / 10000 + 4)); }
 
-if [ -n "$measure" ]; then
-    cp measured "$here/work.bounds"
+# try BOUNDS INPUT WORDS..: whether the job keeps within its bounds
+try() {
+    local bound
+    read -ra bound <<<"$1"
+    shift
+    count "$@"
+    within allocations "$allocations" "${bound[0]}"
+    within bytes "$bytes" "${bound[1]}"
+    within 'bytes at the peak' "$peak" "${bound[2]}"
+    within 'threads started' "$threads" "${bound[3]}"
+    within 'threads missing' $((bound[3] - threads)) 0
+    within reads "$reads" "$(some "$(stat -c %s "$1")")"
+    within writes "$writes" "$(some "$(stat -c %s out)")"
+}
+
+# ---- the bounds of some jobs, written anew
+
+if [ $# -gt 1 ]; then
+    for job in "${@:3}"; do
+        before=${bounds[$job]:-}
+        # shellcheck disable=SC2086
+        now=$(measured $job) || exit 1
+        if [ -z "$before" ]; then
+            # shellcheck disable=SC2086
+            count $job
+            now="${now% } $threads"
+        fi
+        bounds[$job]=$now
+        echo "$job: ${before:-no bound} -> $now"
+    done
+    {
+        grep '^#' "$table"
+        while read -r job; do
+            [ -z "${bounds[$job]:-}" ] || echo "${bounds[$job]} $job"
+        done <jobs
+    } >written
+    cp written "$table"
     exit
 fi
+
+# ---- all jobs
+
+while read -r job; do
+    # shellcheck disable=SC2086
+    try "${bounds[$job]}" $job
+done <jobs
+
 finish

@@ -1,11 +1,13 @@
 //! What readers and writers of std are handed. No contract says it: one that gives or takes a byte a call has all
 //! clauses too, but would end at 16,777,216 bytes, and go through a call of the system for each.
-use crate::jobs::{scan_of_digits, scan_of_no_bits};
+use crate::devices::{SlowReader, gives, is_answer};
+use crate::jobs::{scan_of_bytes, scan_of_digits, scan_of_no_bits};
 use rds_tool::{FromRead, ToWrite, ToolError, transcribe};
 use std::alloc::{AllocError, Global};
 use std::io;
 use std::io::{Read, Write};
 use std::sync::Wait;
+use std::test::Fail;
 use std::thread::Threads;
 
 /// What a reader notes: how often it was read, and the sizes of the buffers that it was handed.
@@ -32,22 +34,33 @@ impl Reads {
     }
 }
 
-/// A reader of std that gives zeros, as many as it is told.
+/// A reader of std that gives all that it may of these bytes.
 #[derive(Drop)]
-struct Zeros<'a> {
-    left: usize,
+struct Noted<'a> {
+    left: &'a [u8],
     reads: &'a mut Reads,
 }
 
-impl Read for Zeros<'_> {
+impl Read for Noted<'_> {
     fn read(&mut self, buf: &mut [u8]) -> io::Result<usize> {
         self.reads.note(buf.len());
-        let count = self.left.min(buf.len());
-        buf[..count].fill(0);
-        self.left -= count;
+        let count = self.left.len().min(buf.len());
+        let (front, rest) = self.left.split_at(count);
+        buf[..count].copy_from_slice(front);
+        self.left = rest;
         Ok(count)
     }
 }
+
+/// 17,000,000 bytes: zeros, in which no window is valid, and then the group of four zero words.
+fn long_input(alloc: Global) -> Result<Vec<u8>, AllocError> {
+    let mut bytes = vec![in alloc; 0u8; 16_999_987]?;
+    bytes.extend_from_slice(&[0, 0, 0x3F, 0, 0, 0x19, 0x80, 0, 5, 0xA0, 0, 1, 0xB4])?;
+    Ok(bytes)
+}
+
+/// The rows of its scan: the windows of that group.
+const ROWS: &[u8] = b"135999921,A\n135999947,B\n135999973,C\n135999992,B\n135999999,D\n";
 
 /// A writer of std that takes at most `step` bytes a call, and notes how many it is handed in the first two.
 #[derive(Drop)]
@@ -99,22 +112,49 @@ impl Write for Notes {
 
 // 260 reads give 65,536 bytes or the rest, and one more is the end.
 #[test]
-fn a_reader_of_std_is_asked_for_65536_bytes_at_once(rt: HostRuntime) {
+fn a_reader_of_std_is_asked_for_65536_bytes_at_once(rt: HostRuntime) -> Result<(), Fail> {
+    let bytes = long_input(rt.alloc())?;
     let mut reads = Reads::new();
-    let zeros = Zeros {
-        left: 17_000_000,
+    let noted = Noted {
+        left: bytes.as_slice(),
         reads: &mut reads,
     };
-    assert!(rt; is_read(&rt, rt.alloc(), zeros));
+    assert!(rt; is_scanned(&rt, rt.alloc(), noted));
     assert!(rt; reads.count == 261);
     assert!(rt; reads.least_buffer == 65_536 && reads.most_buffer == 65_536);
+    Ok(())
 }
 
-/// Whether all of these zeros are read.
-fn is_read<R: Sync + Threads + Wait>(rt: &R, alloc: Global, zeros: Zeros<'_>) -> bool {
-    let mut reader = FromRead::new(zeros);
+/// Whether all of these bytes are read, and the whole text is written.
+fn is_scanned<R: Sync + Threads + Wait>(rt: &R, alloc: Global, noted: Noted<'_>) -> bool {
+    let mut reader = FromRead::new(noted);
     let mut writer = ToWrite::new(Vec::new(alloc));
-    transcribe(rt, alloc, &mut reader, &mut writer, &scan_of_no_bits(alloc)).is_ok()
+    let answer = transcribe(rt, alloc, &mut reader, &mut writer, &scan_of_bytes(alloc));
+    is_answer(answer, writer.into_inner().as_slice(), Ok(ROWS))
+}
+
+/// Whether a reader that gives so many of these bytes a read is answered so.
+fn is_read_by<R: Sync + Threads + Wait>(
+    rt: &R,
+    alloc: Global,
+    bytes: &[u8],
+    step: usize,
+    wanted: Result<&[u8], ToolError>,
+) -> bool {
+    let mut reader = SlowReader::new(bytes, step, 0);
+    gives(rt, alloc, &scan_of_bytes(alloc), &mut reader, wanted)
+}
+
+#[test]
+fn of_17000000_bytes_the_whole_text_is_written_but_for_a_byte_a_read(
+    rt: HostRuntime,
+) -> Result<(), Fail> {
+    let bytes = long_input(rt.alloc())?;
+    let bytes = bytes.as_slice();
+    assert!(rt; is_read_by(&rt, rt.alloc(), bytes, 1, Err(ToolError::TooManyTurns)));
+    assert!(rt; is_read_by(&rt, rt.alloc(), bytes, 2, Ok(ROWS)));
+    assert!(rt; is_read_by(&rt, rt.alloc(), bytes, usize::MAX, Ok(ROWS)));
+    Ok(())
 }
 
 // The text has 26 bytes, of which the writer takes 10 a call.

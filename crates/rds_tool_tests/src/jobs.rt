@@ -16,6 +16,11 @@ pub fn scan_of_digits(alloc: Global) -> Job {
     Job::Scan(ungapped(alloc, true, None))
 }
 
+/// A scan of all bits of bytes.
+pub fn scan_of_bytes(alloc: Global) -> Job {
+    Job::Scan(ungapped(alloc, false, None))
+}
+
 /// A scan of no bits, which reads its whole input and writes nothing.
 pub fn scan_of_no_bits(alloc: Global) -> Job {
     Job::Scan(ungapped(alloc, false, Some(0)))

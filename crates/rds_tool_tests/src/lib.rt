@@ -23,6 +23,8 @@ mod jobs;
 #[cfg(test)]
 mod lines;
 #[cfg(test)]
+mod long_texts;
+#[cfg(test)]
 mod samples;
 #[cfg(test)]
 mod scanning;

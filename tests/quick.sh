@@ -1,0 +1,39 @@
+#!/usr/bin/env bash
+# What a change is likely to have broken: tests/quick.sh, or `make quick`
+#
+# Checks each crate of which a file differs from the commit that last passed `make test` (build/passed; where there is none,
+# from the last commit), lowest first, and runs its tests where it is one of tests; builds the program; and runs those tests
+# of the built program that take seconds. Over warm `out/` folders that takes up to five minutes. It tries no wrong body, and
+# neither proves nor runs a crate above that did not change, unless the program stands on it: that is for `make test`.
+
+set -euo pipefail
+cd "$(dirname "$(realpath "$0")")/.."
+rt=${RT:-rt}
+passed=$(cat build/passed 2>/dev/null || true)
+since=$(git rev-parse --verify --quiet "${passed:-HEAD}^{commit}" || echo HEAD)
+
+# has_changed CRATE: whether a file of it differs from that commit, or is new
+has_changed() {
+    ! git diff --quiet "$since" -- "crates/$1" || [ -n "$(git ls-files --others --exclude-standard "crates/$1")" ]
+}
+
+echo "crates that differ from $(git log -1 --format='%h (%s)' "$since"):"
+mapfile -t crates < <(sed -n 's/^\([a-z_]*\)\b[^#]*:.*/\1/p' crates.txt)
+for crate in "${crates[@]}"; do
+    has_changed "$crate" || continue
+    step=check
+    [[ $crate != *_tests ]] || step="test"
+    echo "$crate: rt $step"
+    (cd "crates/$crate" && "$rt" $step)
+done
+
+make --no-print-directory build/rds
+for script in program listings work growth; do
+    echo "tests/$script.sh build/rds"
+    "tests/$script.sh" build/rds
+done
+plain=crates/rds_plain/out/rds_plain
+if [ -x "$plain" ]; then
+    echo "tests/differential.sh build/rds $plain 1 20"
+    tests/differential.sh build/rds "$plain" 1 20
+fi
