@@ -2,12 +2,15 @@
 # crate before it builds it.
 RT     ?= rt
 PREFIX ?= /usr/local
+# what is installed, and where completion for zsh goes
+PROGRAM ?= build/rds
+ZSH_COMPLETIONS ?= $(PREFIX)/share/zsh/site-functions
 # tests/*.py ask for it by this name
 export RT
 
 SOURCES := crates.txt $(shell find crates -name out -prune -o \( -name '*.rt' -o -name '*.antt' \) -print)
 
-.PHONY: all run quick test proofs wrong-bodies wrong-bodies-of-code program install clean toolchain
+.PHONY: all run quick test proofs wrong-bodies wrong-bodies-of-code program install deb clean toolchain
 all: build/rds
 
 toolchain:
@@ -67,14 +70,24 @@ program:
 	$(call within_limit,tests/work.sh crates/rds/out/rds)
 	$(call within_limit,tests/growth.sh crates/rds/out/rds)
 	$(call within_limit,tests/recipes.sh crates/rds/out/rds)
+	$(call within_limit,tests/package.sh crates/rds/out/rds)
 
-# The program, its manual page, and the scripts of the recipes.
-install: build/rds
-	install -d $(DESTDIR)$(PREFIX)/bin $(DESTDIR)$(PREFIX)/share/man/man1 $(DESTDIR)$(PREFIX)/share/rds/examples
-	install -m 755 build/rds $(DESTDIR)$(PREFIX)/bin/rds
-	install -m 644 rds.1 $(DESTDIR)$(PREFIX)/share/man/man1/rds.1
-	install -m 755 examples/*.sh examples/*.py $(DESTDIR)$(PREFIX)/share/rds/examples
-	install -m 644 examples/README.md examples/station.bin $(DESTDIR)$(PREFIX)/share/rds/examples
+# The program, its manual page, the scripts of the recipes, and completion for bash and zsh.
+SHARE = $(DESTDIR)$(PREFIX)/share
+install: $(PROGRAM)
+	install -d $(DESTDIR)$(PREFIX)/bin $(SHARE)/man/man1 $(SHARE)/rds/examples $(SHARE)/bash-completion/completions
+	install -d $(DESTDIR)$(ZSH_COMPLETIONS)
+	install -m 755 $(PROGRAM) $(DESTDIR)$(PREFIX)/bin/rds
+	install -m 644 rds.1 $(SHARE)/man/man1/rds.1
+	install -m 755 examples/*.sh examples/*.py $(SHARE)/rds/examples
+	install -m 644 $(filter-out %.sh %.py,$(wildcard examples/*.*)) $(SHARE)/rds/examples
+	install -m 644 completions/rds.bash $(SHARE)/bash-completion/completions/rds
+	install -m 644 completions/_rds $(DESTDIR)$(ZSH_COMPLETIONS)/_rds
+
+# All of that as a Debian package below build.
+deb: $(PROGRAM)
+	@mkdir -p build
+	@packaging/make_deb.sh $(PROGRAM) build
 
 clean:
 	rm -rf build tests/__pycache__

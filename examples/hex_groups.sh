@@ -4,8 +4,12 @@
 #   rds list < recording.bin | examples/hex_groups.sh | redsea --input hex
 # With --whole, groups that lack a block are left out, so that the lines can go back into `rds encode`.
 # Needs awk.
-case ${1:-} in ''|--whole) ;; *) echo 'usage: hex_groups.sh [--whole] < LISTING' >&2; exit 2;; esac
-awk -F, -v only_whole="${1:-}" '
+usage='usage: hex_groups.sh [--whole] < LISTING'
+# shellcheck source-path=SCRIPTDIR source=listing.sh
+. "$(dirname -- "$0")/listing.sh"
+case $#${1-} in 0 | 1--whole) ;; *) misused ;; esac
+# shellcheck disable=SC2154
+listing_awk -v only_whole="${1-}" "$listing"'
   $1 == "group" {
     line = ""
     lacks = 0
@@ -15,6 +19,4 @@ awk -F, -v only_whole="${1:-}" '
       line = line (i > 5 ? " " : "") (colon ? substr($i, colon + 1, 4) : "----")
     }
     if (!(lacks && only_whole != "")) print line
-  }
-  $1 == "total" && $2 == "losses" { whole = 1 }
-  END { if (!whole) { print "hex_groups: the listing does not end in its totals: it is cut off, or rds was refused" > "/dev/stderr"; exit 1 } }'
+  }'

@@ -6,6 +6,7 @@
 # Needs perl.
 exec perl -e '
   use strict;
+  $SIG{__DIE__} = sub { print STDERR @_; exit 1 };
   binmode STDIN; binmode STDOUT;
   my ($read, $bits, $rest) = (0, 0, "");
   while (read(STDIN, my $text, 1 << 20)) {

@@ -91,8 +91,8 @@ Options:
       --loss <N>     Lose synchronism after N blocks in a row that aren't
                      valid, 1 to 64 [default: 10]
       --share <N>    Lose synchronism where N of the last blocks aren't valid,
-                     1 to 64, in place of --loss
-      --of <N>       Look at the last N blocks for --share,
+                     1 to 64; not beside --loss
+      --of <N>       Look at the last N blocks; with --share alone,
                      at most 64 [default: 64]
       --pieces <N>   Cut the recording into up to N pieces, 1 or more; the
                      output stays the same [default: 16]
@@ -128,6 +128,10 @@ check 'a command is asked for' 2 '' '*requires a subcommand' ''
 check 'no such command' 2 '' '*tune' '' tune
 check 'no such option' 2 '' "*unexpected argument '--speed'" '' list --speed 3
 check 'a stray word' 2 '' '*stray' '' scan stray
+for command in scan list totals encode; do
+    check "a file among the words of $command" 2 '' "*Usage: rds $command [OPTIONS] < INPUT > OUTPUT" '' "$command" file.bin
+done
+check 'a file for a command' 2 '' '*Usage: rds <COMMAND> [OPTIONS] < INPUT > OUTPUT' '' file.bin
 check 'a flag twice' 2 '' '*--hex' '' scan --hex --hex
 check 'bits above 2^40' 2 '' '*1099511627777' '' scan --bits 1099511627777
 check 'bits that are no number' 2 '' '*--bits' '' scan --bits ten
@@ -146,6 +150,14 @@ for gaps in '' 5 a-b 5- 1-2, ,1-2 1-2,,3-4 1-2-3 +1-2 '1-2, 3-4' '1-2;3-4' 0-100
     check "gaps '$gaps'" 2 '' 'bad --gaps\n' '' scan --gaps "$gaps"
     check "gaps '$gaps' of a list" 2 '' 'bad --gaps\n' '' list --hex --gaps="$gaps" --burst 6
 done
+# Options of both rules of loss, a default's own number too: the words are no command line, though the parser takes them.
+bad_loss='bad --loss or --of: --of needs --share, and --loss excludes it\n'
+for words in '--share 2 --loss 10' '--loss 0 --share 2 --of 3' '--of 64' '--loss 10 --of 3' '--of 0 --burst 6' '--of 3 --gaps 1-2'; do
+    check "list of $words" 2 '' "$bad_loss" '' list --hex $words
+    check "totals of $words" 2 '' "$bad_loss" '' totals $words
+done
+check 'bad gaps before a bad loss' 2 '' 'bad --gaps\n' '' list --of 3 --gaps 5
+check 'a fault of the parser before a bad loss' 2 '' '*--reach' '' list --of 3 --reach three
 check 'a gap that begins with a hyphen' 2 '' '*unexpected argument' '' scan --gaps -5
 check 'a fault of the parser before bad gaps' 2 '' '*--bits' '' scan --gaps 5 --bits ten
 check 'gaps twice' 2 '' '*--gaps' '' scan --gaps 1-2 --gaps 3-4
@@ -212,8 +224,6 @@ for crew in '1 1' '2 2' '208 1' '208 256'; do
 done
 check 'list of two bad blocks that never stand together' 0 \
     "${first}group,104,0,A,lost,B:0000,lost,D:0000\n$(totals 5 0 0 0 0 0 2 0 2 0 1 0)" '' "$two_bad" list --hex --share 2 --of 2
-check 'the loss is not looked at beside a share' 0 "$two_of_three" '' "$two_bad" list --hex --share 2 --of 3 --loss 0
-check 'what a share is of is not looked at without one' 0 "$first$(totals 3 0 0 0 0 0 0 0 1 0 1 0)" '' "$zero" list --hex --of 0
 check 'totals by a share of the default' 0 "$(totals 5 0 0 0 0 0 2 0 3 0 2 1)" '' "$two_bad" totals --hex --share 2
 check 'list of version B' 0 \
     "${acquired}group,26,0,B,none,B:0800,Cx:0000,D:0000\n$(totals 3 0 0 0 0 0 0 0 1 0 1 0)" '' \
@@ -314,15 +324,17 @@ judge 'closed output' 1 $? '' 'refused 10 Write\n'
 if [ -c /dev/full ]; then
     "$rds" scan --hex <"$work/in" >/dev/full 2>"$work/err"
     judge 'full output' 1 $? '' 'refused 10 Write\n'
-    "$rds" --help >/dev/full 2>"$work/err"
-    judge 'help into full output' 0 $? '' ''
+    for words in --help --version 'help list' 'list --help'; do
+        "$rds" $words >/dev/full 2>"$work/err"
+        judge "$words into full output" 1 $? '' 'refused 10 Write\n'
+    done
 fi
 : >"$work/out"
 "$rds" --help >&- 2>"$work/err"
-judge 'help into closed output' 0 $? '' ''
+judge 'help into closed output' 1 $? '' 'refused 10 Write\n'
 : >"$work/out"
 "$rds" --version >&- 2>"$work/err"
-judge 'version into closed output' 0 $? '' ''
+judge 'version into closed output' 1 $? '' 'refused 10 Write\n'
 # more than a pipe holds, so that the program still writes when `head` has left
 station=$here/../examples/station.bin
 { cat "$station" "$station" "$station" | "$rds" list 2>"$work/err"; echo $? >"$work/status"; } | head -n 1 >"$work/out"

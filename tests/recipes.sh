@@ -30,6 +30,15 @@ fails() {
   same "$name" "$text" "$said"
 }
 
+# refused NAME STATUS TEXT COMMAND..: the command, whose input is this function's, ends in the status with TEXT as its first fault
+refused() {
+  local name=$1 wanted="$2 $3" said status
+  shift 3
+  said=$("$@" 2>&1 >/dev/null)
+  status=$?
+  same "$name" "$wanted" "$status ${said%%$'\n'*}"
+}
+
 # onto_full COMMAND..: the command, whose output is a full device
 onto_full() { "$@" > /dev/full; }
 
@@ -136,41 +145,48 @@ if has perl awk; then
   fails 'a day by an encoder that fails' 'make_day: false encode failed' env RDS=false examples/make_day.sh "$work/none"
   same 'nothing is left of it' '' "$(find "$work" -name 'none*')"
   "$program" list < "$work/day.bin" > "$work/day.csv"
-  length=$(($(wc -c < "$work/day.bin") * 8))
+  day=$work/day.bin
   same 'block errors by the half hour' 'begin_s,end_s,sent,valid,corrected,lost,missing,bad_percent
-0,1800,82211,80089,2103,19,0,2.58
+0,1800,82212,80089,2103,19,1,2.58
 1800,3600,82212,80109,2078,25,0,2.56
 3600,5400,82211,40036,1077,187,40911,51.30
 5400,7200,82212,80123,2058,31,0,2.54
 7200,9000,82211,80091,2095,25,0,2.58
-9000,10800,82211,79965,2130,31,85,2.73' "$(examples/block_errors.sh "$length" 1800 < "$work/day.csv")"
-  same 'their sums are the totals' "$(awk -F, '$2 == "valid" { valid = $3 } $2 ~ /^burst/ { corrected += $3 } $2 == "lost" { lost = $3 }
-      END { print valid, corrected, lost }' "$work/day.csv")" \
-    "$(examples/block_errors.sh "$length" 1800 < "$work/day.csv" | awk -F, 'NR > 1 { valid += $4; corrected += $5; lost += $6 }
-      END { print valid, corrected, lost }')"
+9000,10800,82210,79965,2130,31,84,2.73' "$(examples/block_errors.sh "$day" 1800 < "$work/day.csv")"
+  # sums TABLE: rows whose parts are not what was sent, all that was sent, and the sums of valid, corrected and lost
+  sums() {
+    awk -F, 'NR > 1 { wrong += $3 != $4 + $5 + $6 + $7; sent += $3; valid += $4; corrected += $5; lost += $6 }
+      END { print wrong, sent, valid, corrected, lost }' "$1"
+  }
+  wanted="0 $(($(wc -c < "$day") * 8 / 26)) $(awk -F, '$2 == "valid" { valid = $3 } $2 ~ /^burst/ { corrected += $3 }
+    $2 == "lost" { lost = $3 } END { print valid, corrected, lost }' "$work/day.csv")"
+  for seconds in 1 7 60 1800 7777; do
+    examples/block_errors.sh "$day" "$seconds" < "$work/day.csv" > "$work/errors.csv"
+    same "by $seconds seconds the parts add up to what was sent, and the rows to the totals" "$wanted" "$(sums "$work/errors.csv")"
+  done
   same 'an hour off the air is bad' 'begin_s,end_s,sent,valid,corrected,lost,missing,bad_percent 0,3600,164423,0,0,0,164423,100.00' \
     "$(examples/block_errors.sh 4275000 3600 <<< "$last_row" | tr '\n' ' ' | sed 's/ $//')"
-  fails 'block errors of a cut listing' "block_errors: $is_cut" examples/block_errors.sh "$length" < "$cut"
-  fails 'off the air of nothing' 'off_air: there is nothing in the input' examples/off_air.sh < /dev/null
-  fails 'no length' 'usage: block_errors.sh BITS [SECONDS] < LISTING' examples/block_errors.sh < /dev/null
-  same 'when it was off the air' 'begin_s,end_s,length_s 3600,4500,900' \
-    "$(examples/block_errors.sh "$length" 10 < "$work/day.csv" | examples/off_air.sh | tr '\n' ' ' | sed 's/ $//')"
-  same 'the programmes' 'begin_s,end_s,programme,groups
-0,3600,D393,40055
-4500,7200,D393,30015
-7200,10800,D312,40004' "$(examples/programmes.sh < "$work/day.csv")"
-  # of one programme: 10 seconds without a group, and a bit more
-  same 'the programmes on both sides of an outage' 'begin_s,end_s,programme,groups
-0,10,D393,2
-20,20,D393,1' "$(printf '%s\n' group,{0,11979,23959}',0,A,A:D393,B:0548,C:E100,D:5041' "$last_row" | examples/programmes.sh 1)"
+  fails 'block errors of a cut listing' "block_errors: $is_cut" examples/block_errors.sh 4275000 < "$cut"
+  fails 'no length' 'usage: block_errors.sh [--start TIME] [--rate BITS] [--trust-length] FILE|BITS [SECONDS] < LISTING' \
+    examples/block_errors.sh < /dev/null
+  same 'when it was off the air, and when samples were dropped' 'begin_s,end_s,length_s,begin_place,end_place
+3599.976,4500.025,900.049,4274972,5343780
+9179.959,9182.017,2.058,10901201,10903645' "$(examples/off_air.sh "$day" < "$work/day.csv")"
+  same 'for longer than a minute' 3599.976,4500.025,900.049,4274972,5343780 \
+    "$(examples/off_air.sh --shortest 60 "$day" < "$work/day.csv" | tail -n +2)"
+  fails 'off the air of nothing' "off_air: $is_cut" examples/off_air.sh 4275000 < /dev/null
+  same 'the programmes' 'begin_s,end_s,programme,groups,begin_place,end_place
+0.088,3600.020,D393,40055,104,4275024
+4500.069,7200.040,D393,30015,5343832,8550047
+7200.040,10799.972,D312,40004,8550047,12824967' "$(examples/programmes.sh < "$work/day.csv")"
   fails 'the programmes of a cut listing' "programmes: $is_cut" examples/programmes.sh < "$cut"
   fails 'the corrected blocks of a cut listing' "corrected_blocks: $is_cut" examples/corrected_blocks.sh < "$cut"
-  same 'which blocks were corrected' 'place,type,version,block,offset,word,burst,span
-624,0,A,4,D,4455,0000040,1
-832,0,A,4,D,5041,0100000,1' "$(examples/corrected_blocks.sh < "$work/day.csv" | sed -n 1,3p)"
+  same 'which blocks were corrected' 'place,type,version,block,offset,word,burst,span,time_s
+624,0,A,4,D,4455,0000040,1,0.591
+832,0,A,4,D,5041,0100000,1,0.766' "$(examples/corrected_blocks.sh < "$work/day.csv" | sed -n 1,3p)"
   same 'as many as the totals say' "$(awk -F, '$2 ~ /^burst/ { n += $3 } END { print n }' "$work/day.csv")" \
     "$(examples/corrected_blocks.sh < "$work/day.csv" | tail -n +2 | wc -l | tr -d ' ')"
-  same 'a span of five' '26,0,A,4,D,0000,0000011,5' \
+  same 'a span of five' '26,0,A,4,D,0000,0000011,5,0.066' \
     "$(echo 00003f000019800005a00001a5 | "$program" list --hex --burst 5 | examples/corrected_blocks.sh | sed -n 2p)"
 
   same 'dropped samples as gaps' --gaps=9618725-9618730,10259973-10260103,10901221-10903596 \
@@ -202,15 +218,31 @@ if has perl awk; then
   same 'nothing dropped' '' "$(examples/gaps.sh < /dev/null)"
   fails 'a log of something else' 'gaps: "104 + 1" is not a start and a length' examples/gaps.sh <<< '104 + 1'
 
-  if has gnuplot xxd; then
-    examples/block_errors.sh "$length" 60 < "$work/day.csv" > "$work/errors.csv"
+  if has gnuplot xxd python3; then
+    examples/block_errors.sh --start 2026-03-29T00:30:00Z "$day" 60 < "$work/day.csv" > "$work/errors.csv"
     examples/plot_block_errors.sh "$work/errors.png" < "$work/errors.csv"
     same 'a picture as PNG' 89504e470d0a1a0a "$(xxd -p -l 8 "$work/errors.png")"
-    examples/plot_block_errors.sh "$work/errors.svg" < "$work/errors.csv"
-    same 'a picture as SVG, with its axes' '>hours< >per cent of the blocks sent<' \
-      "$(grep -oE '>(hours|per cent of the blocks sent)<' "$work/errors.svg" | sort | tr '\n' ' ' | sed 's/ $//')"
+    (cd "$work" && "$here/../examples/plot_block_errors.sh" -- "-the day's errors.svg" < errors.csv)
+    same 'a picture as SVG, with its axes, of a name with a quote' '>hours from 2026-03-29T00:30:00.000Z<
+>per cent of the blocks sent<' "$(grep -oE '>(hours from [^<]*|per cent of the blocks sent)<' "$work/-the day's errors.svg" | sort)"
     fails 'a picture of nothing' 'plot_block_errors: there is no interval in the input' \
       examples/plot_block_errors.sh "$work/none.png" < /dev/null
+    fails 'a picture where there is no folder' "plot_block_errors: $work/none/errors.png cannot be written" \
+      examples/plot_block_errors.sh "$work/none/errors.png" < "$work/errors.csv"
+    same 'nothing of it on standard output' '' \
+      "$(examples/plot_block_errors.sh "$work/none/errors.png" < "$work/errors.csv" 2>/dev/null)"
+    # A day whose second half is dead air.
+    { echo begin_s,end_s,sent,valid,corrected,lost,missing,bad_percent
+      for ((s = 0; s < 86400; s += 60)); do
+        if ((s < 43200)); then echo "$s,$((s + 60)),2740,2740,0,0,0,0.00"; else echo "$s,$((s + 60)),2740,0,0,0,2740,100.00"; fi
+      done; } > "$work/half.csv"
+    examples/plot_block_errors.sh "$work/half.png" < "$work/half.csv"
+    # How wide the axis is depends on the fonts; of the picture's 1,200 pixels some 900.
+    same 'dead air is of one colour, half of the day wide' '3060a0 over half' \
+      "$(tests/picture.py "$work/half.png" 3060a0 120 160 | awk '{ print $1, $2, (NF == 3 && $3 > 350 && $3 < 550 ? "half" : $0) }')"
+    examples/plot_block_errors.sh "$work/half.svg" < "$work/half.csv"
+    same 'the axis ends with the day' '0 20 40 60 80 100 0 3 6 9 12 15 18 21 24 ' \
+      "$(grep -oE '> *[0-9]+ *<' "$work/half.svg" | tr -d '>< ' | tr '\n' ' ')"
   fi
 fi
 
@@ -221,28 +253,21 @@ if has awk; then
   same 'as many lines as groups' 1923 "$(station | examples/hex_groups.sh | wc -l | tr -d ' ')"
   same 'whole groups go back into encode' 1922 \
     "$(station | examples/hex_groups.sh --whole | "$program" encode | "$program" list | grep -c '^group,')"
-  same 'a group and a loss as JSON' '{"kind":"group","place":104,"type":null,"version":null,"conflict":false,"blocks":[{"lost":true},null,null,null]}
-{"kind":"lost","place":129}' \
+  same 'a group and a loss as JSON' '{"kind":"group","place":104,"time_s":0.088,"type":null,"version":null,"conflict":false,"blocks":[{"lost":true},null,null,null]}
+{"kind":"lost","place":129,"time_s":0.109}' \
     "$(echo "${zero_group}000037400019800005a00001b4" | "$program" list --hex --loss 1 | examples/to_json_lines.sh | sed -n 3,4p)"
+  same 'its time in UTC' '{"kind":"lost","place":129,"time_s":0.109,"time_utc":"2026-03-29T00:30:00.109Z"}' \
+    "$(echo "${zero_group}000037400019800005a00001b4" | "$program" list --hex --loss 1 |
+      examples/to_json_lines.sh --start 2026-03-29T00:30:00Z | sed -n 4p)"
   same 'as many objects as rows' "$(station | wc -l)" "$(station | examples/to_json_lines.sh | wc -l)"
   fails 'the hexadecimal words of a cut listing' "hex_groups: $is_cut" examples/hex_groups.sh < "$cut"
+  refused 'another table as JSON' 2 'to_json_lines: row 1 is none of a listing of rds list' \
+    examples/to_json_lines.sh < examples/README.md
   fails 'a cut listing as JSON' "to_json_lines: $is_cut" examples/to_json_lines.sh < "$cut"
   fails 'a listing without its last row as JSON' "to_json_lines: $is_cut" examples/to_json_lines.sh < <(station | sed '$d')
   if has jq; then
     same 'the objects are JSON' "$(station | wc -l)" "$(station | examples/to_json_lines.sh | jq -c .kind | wc -l)"
   fi
-fi
-same 'the line that is no group' '3:1234 2540 5244 532' \
-  "$(printf '1234 2540 5244 5320\r\n\r\n1234 2540 5244 532\r\n' | tr -d '\r' | grep -nvE '^([[:blank:]]*[[:xdigit:]]){16}[[:blank:]]*$|^[[:blank:]]*$')"
-
-if has sqlite3; then
-  station | examples/to_sqlite.sh "$work/listing.db"
-  same 'a listing in a database' '1923|integer|integer|1|7691' "$(sqlite3 "$work/listing.db" \
-    "SELECT COUNT(*), MIN(typeof(place)), MIN(typeof(type)), (SELECT COUNT(*) FROM acquired),
-            (SELECT value FROM totals WHERE name = 'valid') FROM groups")"
-  fails 'a cut listing in a database' "to_sqlite: $is_cut" examples/to_sqlite.sh "$work/cut.db" < "$cut"
-  same 'no database of it' '' "$(find "$work" -name 'cut.db*')"
-  fails 'a database that is there' "to_sqlite: $work/listing.db is there already" examples/to_sqlite.sh "$work/listing.db" < /dev/null
 fi
 
 # ---- many recordings
@@ -263,6 +288,15 @@ if has parallel xxd; then
   same 'what has no listing yet is done' "2 $("$program" list < "$work/recordings/zero.bin" | cksum)" \
     "$(tail -n +2 "$work/listings/joblog" | wc -l | tr -d ' ') $(cksum < "$work/listings/A late one.csv")"
   same 'nothing is left begun' 'A late one.csv a station.csv joblog zero.csv ' "$(find "$work/listings" -type f -printf '%f\n' | sort | tr '\n' ' ')"
+  # digits of any suffix, one of them no hexadecimal text, into a folder whose name begins with -
+  echo "$zero_group" > "$work/recordings/the user's.hex [1]"
+  echo "0g" > "$work/recordings/bad.hex [1]"
+  said=$(cd "$work" && "$here/../examples/decode_folder.sh" --suffix '.hex [1]' --options '--hex --burst 0' -- recordings -listings 2>&1; echo $?)
+  same 'what failed, and why' "decode_folder: recordings/bad.hex [1] failed: refused 11 HexText
+decode_folder: not all were decoded; ./-listings/joblog has the status of each
+1" "$(grep -E '^(decode_folder|1$)' <<< "$said")"
+  same 'the others are decoded, by the options' "joblog the user's.csv $("$program" list --hex --burst 0 <<< "$zero_group" | cksum)" \
+    "$(find "$work/-listings" -type f -printf '%f\n' | sort | tr '\n' ' ')$(cksum < "$work/-listings/the user's.csv")"
   fails 'a folder that is not there' "decode_folder: there is no folder $work/none to read" \
     examples/decode_folder.sh "$work/none" "$work/listings"
 fi

@@ -68,8 +68,10 @@ fn show(rt: &HostRuntime, fault: &CliFault) -> ExitCode {
     let text = fault.text.as_str();
     match fault.kind {
         FaultKind::Help | FaultKind::Version => {
-            let _ = print!(rt; "{text}");
-            ExitCode::SUCCESS
+            match print!(rt; "{text}") {
+                Ok(()) => ExitCode::SUCCESS,
+                Err(_) => refuse(rt, ToolError::Write),
+            }
         }
         FaultKind::Words => {
             let _ = eprint!(rt; "{text}");

@@ -1,20 +1,26 @@
 -- What the typed getters read, by the rows of a parse.
+use Rattle.std.proofs.lemmas.Bool.{false≢true}
 use Rattle.std.proofs.Common.{◌≡◌, ◌≢◌, ◌⊎◌, inl, inr, arith, slice_index, ◌∙◌, ℕ, List, [], Bor, Option, Some, None, Result, Ok, Err, sym, subst, refl, codes, Bool, ap}
 use Rattle.std.specs.Global.{Vec}
 use Rattle.std.specs.Option.{ok_or, option_map}
-use Rattle.std.specs.Prelude.{IfSome, IfNone, IfErr, IfOk}
+use Rattle.std.specs.Prelude.{IfSome, IfNone, IfErr, IfOk, find, option_and_then}
+use Rattle.std.specs.Str.{bytes_eq}
 use Rattle.std.specs.Result.{result_ok}
 use Rattle.std.specs.declared.num.ParseIntError.{ParseIntError}
 use Rattle.std.specs.Str.Parse.{ExplainsUnsignedError, HasUnsignedDigitsIfOk, ParsesUnsigned}
-use Rattle.clap.specs.Words.{ReadsOne, Row, Text, TriesOne, first_value, one_of, one_text, rows_of}
+use Rattle.clap.specs.Words.{ReadsOne, Row, Text, TriesOne, first_value, matched_of, one_of, one_text, rows_of}
+use Rattle.clap.specs.Facts.{Entry}
+use Rattle.clap.specs.Walk.{row_of}
 use Rattle.clap.specs.declared.parser.matches.Found.{Found}
-use Rattle.clap.proofs.WalkLemmas.{first_value-rows, one_text-rows}
+use Rattle.clap.specs.declared.parser.matches.MatchedArg.{MatchedArg}
+use Rattle.clap.proofs.WalkLemmas.{find_row, first_value-rows, one_text-rows}
+use Rattle.clap.specs.declared.parser.matches.ValueSource.{ValueSource}
 use Rattle.rds_sync.specs.declared.loss.Loss.{Loss}
 use Rattle.rds_sync.specs.declared.loss.Loss.TheVariants.{Run, Share}
-use Rattle.rds_tool.specs.CommandLine.{AreSettings, GivesNoInput, GivesNoJob, IsFlag, IsInput, IsJob, MaySpell, ReadsRecording, gaps_asked_for, gaps_spelled, Spells, SpellsLoss}
+use Rattle.rds_tool.specs.CommandLine.{AreSettings, GivesNoJob, GivesNoRuled, IsFlag, IsInput, IsJob, MaySpell, gaps_asked_for, gaps_spelled, is_given, is_of_words, Spells, SpellsLoss}
 use Rattle.rds_tool.specs.GapText.{gaps_of}
 use Rattle.rds_tool.specs.declared.entries.NoJob.{NoJob}
-use Rattle.rds_tool.specs.declared.entries.NoJob.TheVariants.{Entries, Gaps, Memory}
+use Rattle.rds_tool.specs.declared.entries.NoJob.TheVariants.{Entries, Gaps, Loss as BadLoss, Memory}
 use Rattle.rds_tool.specs.declared.job.Input.{Input}
 use Rattle.rds_tool.specs.declared.job.Job.{Job}
 use Rattle.rds_tool.specs.declared.job.Job.TheVariants.{Encode, List as ListJob, Scan, Totals}
@@ -88,6 +94,19 @@ number_none width f id (Some n) value = tt
 number_none width f id None value =
     λ n h. number_none_at width (one_text f id) value n (subst (λ (o : Option Text). Spells width o n) (sym (one_text-rows f id)) h)
 
+-- whence an entry is
+source_rows : (f : Found) (id : Text)
+    → option_and_then (λ (a : MatchedArg). a.source) (matched_of f id) ≡ option_and_then (λ (r : Row). r.source) (find (λ r. bytes_eq r.id id) (rows_of f))
+source_rows f id = by (find (λ e. bytes_eq e.0.now id) f.entries.items) ∙ ap (option_and_then (λ (r : Row). r.source)) (sym (find_row f.entries.items id))
+  where
+    by : (o : Option Entry) → option_and_then (λ (a : MatchedArg). a.source) (option_map (λ e. e.1) o) ≡ option_and_then (λ (r : Row). r.source) (option_map row_of o)
+    by None = refl
+    by (Some e) = refl
+
+pub given_rows : (f : Found) (id : Text) (source : Option ValueSource) → source ≡ option_and_then (λ (a : MatchedArg). a.source) (matched_of f id)
+    → is_given id (rows_of f) ≡ is_of_words source
+given_rows f id source is = ap is_of_words (sym (is ∙ source_rows f id))
+
 -- ---- the gaps
 
 module _ (f : Found) (given : Option (Bor Text)) (is : option_map (λ s. s.now) given ≡ first_value f (codes "gaps")) where
@@ -147,16 +166,27 @@ not_encode name (inr (inr p)) e =
     let a : slice_index name 0 ≡ 116 = first_is name (codes "totals") 116 p refl in
     let b : slice_index name 0 ≡ 101 = first_is name (codes "encode") 101 e refl in omega arith
 
--- an input that can't be had is a job that can't, for the same reason
-pub without_input : (name : Text) (rows : List Row) (why : NoJob) → ReadsRecording name → GivesNoInput rows why → GivesNoJob (Some (name, rows)) why
-without_input name rows Memory reads none = tt
-without_input name rows Gaps reads none = (reads, none)
-without_input name rows Entries reads none = ((λ bad. none.0 bad.1), no_input name rows (not_encode name reads) none.1)
+-- no input and settings, no job but a scan or one to encode
+no_ruled : (name : Text) (rows : List Row) → name ≢ codes "scan" → name ≢ codes "encode"
+    → ((input : Input) (settings : Settings) → IsInput rows input → AreSettings rows settings → ⊥) → (job : Job) → IsJob name rows job → ⊥
+no_ruled name rows scan encode none (Scan input) h = scan h.0
+no_ruled name rows scan encode none (ListJob input settings) h = none input settings h.1 h.2
+no_ruled name rows scan encode none (Totals input settings) h = none input settings h.1 h.2
+no_ruled name rows scan encode none (Encode hex) h = encode h.0
 
--- no settings, no job but a scan or one to encode
-pub no_settings : (name : Text) (rows : List Row) → name ≢ codes "scan" → name ≢ codes "encode" → ((settings : Settings) → AreSettings rows settings → ⊥)
-    → (job : Job) → IsJob name rows job → ⊥
-no_settings name rows scan encode none (Scan input) h = scan h.0
-no_settings name rows scan encode none (ListJob input settings) h = none settings h.2
-no_settings name rows scan encode none (Totals input settings) h = none settings h.2
-no_settings name rows scan encode none (Encode hex) h = encode h.0
+not_scan : (name : Text) → (name ≡ codes "list") ⊎ (name ≡ codes "totals") → name ≢ codes "scan"
+not_scan name (inl p) e =
+    let a : slice_index name 0 ≡ 108 = first_is name (codes "list") 108 p refl in
+    let b : slice_index name 0 ≡ 115 = first_is name (codes "scan") 115 e refl in omega arith
+not_scan name (inr p) e =
+    let a : slice_index name 0 ≡ 116 = first_is name (codes "totals") 116 p refl in
+    let b : slice_index name 0 ≡ 115 = first_is name (codes "scan") 115 e refl in omega arith
+
+-- why there is no input with settings is why there is no job
+pub without_ruled : (name : Text) (rows : List Row) (why : NoJob) → (name ≡ codes "list") ⊎ (name ≡ codes "totals") → GivesNoRuled rows why
+    → GivesNoJob (Some (name, rows)) why
+without_ruled name rows Memory rules none = tt
+without_ruled name rows Gaps rules none = (inr rules, none)
+without_ruled name rows BadLoss rules none = ((λ bad. none.0 bad.1), (rules, none.1))
+without_ruled name rows Entries rules none =
+    ((λ bad. none.0 bad.1), (λ bad. false≢true (sym none.1 ∙ bad.1)), no_ruled name rows (not_scan name rules) (not_encode name (inr rules)) none.2)

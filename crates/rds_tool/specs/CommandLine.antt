@@ -1,5 +1,6 @@
 -- The command line, as `clap` reads it, and the job that its words ask for. This project's rule.
-use Rattle.std.specs.Prelude.{◌≡◌, ◌≢◌, ◌⊎◌, ◌<◌, ◌^◌, ◌++◌, ⊤, Bool, IfOk, List, None, Option, Result, Some, [], codes, false, pos, string_bytes, true, ℕ, ◌∷◌}
+use Rattle.std.specs.Prelude.{◌≡◌, ◌≢◌, ◌⊎◌, ◌<◌, ◌^◌, ◌++◌, ⊤, Bool, IfOk, List, None, Option, Result, Some, [], codes, false, find, if◌then◌else◌, option_and_then, pos, string_bytes, true, ℕ, ◌∷◌}
+use Rattle.std.specs.Str.{bytes_eq}
 use Rattle.std.specs.Str.Parse.{IsNumeral, digits_value, without_leading_plus}
 use Rattle.clap.specs.Words.{App, IsAmong, Kinds, Row, Rule, Text, app_of, fault_of, first_of, new_app, new_rule, one_of, subcommand_of, with_rule, with_subcommand}
 use Rattle.clap.specs.declared.builder.action.ArgAction.TheVariants.{Set, SetTrue}
@@ -8,6 +9,8 @@ use Rattle.clap.specs.declared.builder.command.Command.TheViews.{out-Command as 
 use Rattle.clap.specs.declared.builder.value_parser.ValueParser.TheVariants as parser
 use Rattle.clap.specs.declared.error.kind.ErrorKind.{ErrorKind}
 use Rattle.clap.specs.declared.error.kind.ErrorKind.TheVariants as kind
+use Rattle.clap.specs.declared.parser.matches.ValueSource.{ValueSource}
+use Rattle.clap.specs.declared.parser.matches.ValueSource.TheVariants.{CommandLine}
 use Rattle.rds_sync.specs.declared.loss.Loss.{Loss}
 use Rattle.rds_sync.specs.declared.loss.Loss.TheVariants.{Run, Share}
 use Rattle.rds_tool.specs.GapText.{gaps_of}
@@ -138,8 +141,21 @@ abbrev pub SpellsLoss : List Row → Loss → Type 0
 SpellsLoss rows (Run n) = (one_of (codes "share") rows ≡ None) × Spells 32 (one_of (codes "loss") rows) n
 SpellsLoss rows (Share bad of) = Spells 32 (one_of (codes "share") rows) bad × Spells 32 (one_of (codes "of") rows) of
 
+abbrev pub is_of_words : Option ValueSource → Bool
+is_of_words (Some CommandLine) = true
+is_of_words other = false
+
+-- the words gave the option, and not its default alone
+abbrev pub is_given : Text → List Row → Bool
+is_given name rows = is_of_words (option_and_then (λ row. row.source) (find (λ row. bytes_eq row.id name) rows))
+
+-- the words give an option that the rule of loss leaves out: `--loss` beside `--share`, or `--of` without it
+abbrev pub mixes_losses : List Row → Bool
+mixes_losses rows = if is_given (codes "share") rows then is_given (codes "loss") rows else is_given (codes "of") rows
+
 -- the settings that the entries give
 pub record AreSettings (rows : List Row) (settings : Settings) : Type 0 where
+  pub one_rule : mixes_losses rows ≡ false
   pub burst : Spells 32 (one_of (codes "burst") rows) settings.burst
   pub reach : Spells 32 (one_of (codes "reach") rows) settings.reach
   pub loss : SpellsLoss rows settings.loss
@@ -168,17 +184,31 @@ abbrev pub HasBadGaps : Option (Text × List Row) → Type 0
 HasBadGaps None = ⊥
 HasBadGaps (Some entries) = ReadsRecording entries.0 × (gaps_asked_for entries.1 ≡ None)
 
--- the entries give no input, for that reason; gaps that aren't any come first
-abbrev pub GivesNoInput : List Row → NoJob → Type 0
-GivesNoInput rows no.Memory = ⊤
-GivesNoInput rows no.Gaps = gaps_asked_for rows ≡ None
-GivesNoInput rows no.Entries = (gaps_asked_for rows ≢ None) × ((input : Input) → IsInput rows input → ⊥)
+-- the command goes by a rule of loss, of which the words give options that do not go together
+abbrev pub HasBadLoss : Option (Text × List Row) → Type 0
+HasBadLoss None = ⊥
+HasBadLoss (Some entries) = ((entries.0 ≡ codes "list") ⊎ (entries.0 ≡ codes "totals")) × (mixes_losses entries.1 ≡ true)
+
+-- the entries give no settings, for that reason
+abbrev pub GivesNoSettings : List Row → NoJob → Type 0
+GivesNoSettings rows no.Loss = mixes_losses rows ≡ true
+GivesNoSettings rows no.Entries = (mixes_losses rows ≡ false) × ((settings : Settings) → AreSettings rows settings → ⊥)
+GivesNoSettings rows other = ⊥
+
+-- no input and settings; gaps that aren't any come first, and then the rule of loss
+abbrev pub GivesNoRuled : List Row → NoJob → Type 0
+GivesNoRuled rows no.Memory = ⊤
+GivesNoRuled rows no.Gaps = gaps_asked_for rows ≡ None
+GivesNoRuled rows no.Loss = (gaps_asked_for rows ≢ None) × (mixes_losses rows ≡ true)
+GivesNoRuled rows no.Entries = (gaps_asked_for rows ≢ None) × (mixes_losses rows ≡ false)
+    × ((input : Input) (settings : Settings) → IsInput rows input → AreSettings rows settings → ⊥)
 
 -- nor a job
 abbrev pub GivesNoJob : Option (Text × List Row) → NoJob → Type 0
 GivesNoJob entries no.Memory = ⊤
 GivesNoJob entries no.Gaps = HasBadGaps entries
-GivesNoJob entries no.Entries = (HasBadGaps entries → ⊥) × ((job : Job) → IsJobOf entries job → ⊥)
+GivesNoJob entries no.Loss = (HasBadGaps entries → ⊥) × HasBadLoss entries
+GivesNoJob entries no.Entries = (HasBadGaps entries → ⊥) × (HasBadLoss entries → ⊥) × ((job : Job) → IsJobOf entries job → ⊥)
 
 -- the kind is a fault of the words: nothing to be shown was asked for, and memory is not at fault
 abbrev pub IsFault : ErrorKind → Type 0
@@ -200,3 +230,11 @@ bad_gaps_text = codes "bad --gaps" ++ 10 ∷ []
 -- that, or memory was refused
 abbrev pub SaysBadGaps : CliFault → Type 0
 SaysBadGaps fault = (fault.kind ≡ Memory) ⊎ ((fault.kind ≡ Words) × (string_bytes fault.text ≡ bad_gaps_text))
+
+-- what is shown where options of a rule of loss do not go together
+abbrev pub bad_loss_text : Text
+bad_loss_text = codes "bad --loss or --of: --of needs --share, and --loss excludes it" ++ 10 ∷ []
+
+-- that, or memory was refused
+abbrev pub SaysBadLoss : CliFault → Type 0
+SaysBadLoss fault = (fault.kind ≡ Memory) ⊎ ((fault.kind ≡ Words) × (string_bytes fault.text ≡ bad_loss_text))

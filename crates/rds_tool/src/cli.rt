@@ -3,7 +3,7 @@ ghost use Rattle.std.specs.Prelude.{◌≡◌, ◌≢◌, ◌⊎◌, [], IfErr, 
 ghost use Rattle.clap.specs.Kinds.{FailsBy};
 ghost use Rattle.clap.specs.Values.{kind_of};
 ghost use Rattle.clap.specs.Words.{subcommand_rows_of};
-ghost use Rattle.rds_tool.specs.CommandLine.{HasBadGaps, IsFault, IsJobOf, MayAnswer, SaysBadGaps, entries_of, faults_of};
+ghost use Rattle.rds_tool.specs.CommandLine.{HasBadGaps, HasBadLoss, IsFault, IsJobOf, MayAnswer, SaysBadGaps, SaysBadLoss, entries_of, faults_of};
 
 use crate::Job;
 use crate::commands::rds_command;
@@ -11,6 +11,8 @@ use crate::entries::{NoJob, job_in};
 use clap::ArgMatches;
 use clap::error::ErrorKind;
 use std::alloc::Global;
+
+const BAD_LOSS: &str = "bad --loss or --of: --of needs --share, and --loss excludes it\n";
 
 /// Why words are no job.
 #[derive(Clone, Copy, Debug, PartialEq, Eq)]
@@ -37,8 +39,9 @@ pub struct CliFault {
 /// The job that a command line asks for. The words begin with the program's name.
 ///
 /// Without a job, the answer is help or the version where that was asked for, or a fault where `clap` finds one in the
-/// words or no job has their entries. Gaps that spell none are answered by the text `bad --gaps` and a line feed, once
-/// `clap` finds no fault. Each can be want of memory instead.
+/// words or no job has their entries. Once `clap` finds no fault, gaps that spell none are answered by the text `bad --gaps`
+/// and a line feed, and else `--loss` beside `--share`, or `--of` without it, by a text that begins with
+/// `bad --loss or --of`. Each can be want of memory instead.
 pub fn job_of(alloc: Global, words: &[&str]) -> Result<Job, CliFault>
     ensures entries { IfOk result (IsJobOf (entries_of (map (λ word. word.now) words.now))) }
     ensures faultless { OnOk result (faults_of (map (λ word. word.now) words.now) ≡ []) }
@@ -46,6 +49,9 @@ pub fn job_of(alloc: Global, words: &[&str]) -> Result<Job, CliFault>
         (entries_of (map (λ word. word.now) words.now)) fault.kind) }
     ensures gaps { faults_of (map (λ word. word.now) words.now) ≡ []
         → HasBadGaps (entries_of (map (λ word. word.now) words.now)) → IsErrAnd result SaysBadGaps }
+    ensures loss { faults_of (map (λ word. word.now) words.now) ≡ []
+        → HasBadLoss (entries_of (map (λ word. word.now) words.now))
+        → (HasBadGaps (entries_of (map (λ word. word.now) words.now)) → ⊥) → IsErrAnd result SaysBadLoss }
     ensures memory { IfErr result (λ fault. fault.kind ≡ FaultKind.Memory → string_bytes fault.text ≡ []) }
 {
     let matches = match matches_of(alloc, words) {
@@ -90,10 +96,12 @@ fn fault_of(alloc: Global, error: &clap::Error) -> CliFault
 fn no_job(alloc: Global, why: NoJob) -> CliFault
     ensures kind { (result.kind ≡ FaultKind.Memory) ⊎ ((result.kind ≡ FaultKind.Words) × (why ≢ NoJob.Memory)) }
     ensures gaps { why ≡ NoJob.Gaps → SaysBadGaps result }
+    ensures loss { why ≡ NoJob.Loss → SaysBadLoss result }
     ensures memory { result.kind ≡ FaultKind.Memory → string_bytes result.text ≡ [] }
 {
     let text = match why {
         NoJob::Gaps => "bad --gaps\n",
+        NoJob::Loss => BAD_LOSS,
         NoJob::Entries => "error: these words ask for no job\n",
         NoJob::Memory => return out_of_memory(alloc),
     };

@@ -25,7 +25,7 @@ pub fn rds_command<'a>(alloc: Global) -> Made<'a>
 fn bare_command<'a>(alloc: Global) -> Command<'a>
     ensures { ReadsAs result bare_app }
 {
-    named(alloc, "rds", help::RDS, help::RDS_AFTER)
+    named(alloc, "rds", help::RDS, help::RDS_USAGE, help::RDS_AFTER)
         .version(help::VERSION)
         .subcommand_required(true)
 }
@@ -33,13 +33,31 @@ fn bare_command<'a>(alloc: Global) -> Command<'a>
 fn scan_command<'a>(alloc: Global) -> Made<'a>
     ensures { Makes result (recording_app (codes "scan")) }
 {
-    recording_command(alloc, named(alloc, "scan", help::SCAN, help::SCAN_AFTER))
+    recording_command(
+        alloc,
+        named(
+            alloc,
+            "scan",
+            help::SCAN,
+            help::SCAN_USAGE,
+            help::SCAN_AFTER,
+        ),
+    )
 }
 
 fn list_command<'a>(alloc: Global) -> Made<'a>
     ensures { Makes result (ruled_app (codes "list")) }
 {
-    ruled_command(alloc, named(alloc, "list", help::LIST, help::LIST_AFTER))
+    ruled_command(
+        alloc,
+        named(
+            alloc,
+            "list",
+            help::LIST,
+            help::LIST_USAGE,
+            help::LIST_AFTER,
+        ),
+    )
 }
 
 fn totals_command<'a>(alloc: Global) -> Made<'a>
@@ -47,21 +65,42 @@ fn totals_command<'a>(alloc: Global) -> Made<'a>
 {
     ruled_command(
         alloc,
-        named(alloc, "totals", help::TOTALS, help::TOTALS_AFTER),
+        named(
+            alloc,
+            "totals",
+            help::TOTALS,
+            help::TOTALS_USAGE,
+            help::TOTALS_AFTER,
+        ),
     )
 }
 
 fn encode_command<'a>(alloc: Global) -> Made<'a>
     ensures { Makes result encode_app }
 {
-    let command = named(alloc, "encode", help::ENCODE, help::ENCODE_AFTER);
+    let command = named(
+        alloc,
+        "encode",
+        help::ENCODE,
+        help::ENCODE_USAGE,
+        help::ENCODE_AFTER,
+    );
     command.arg(hex_option(alloc, help::HEX_OUTPUT))
 }
 
-fn named<'a>(alloc: Global, name: &'a str, about: &'a str, after: &'a str) -> Command<'a>
+fn named<'a>(
+    alloc: Global,
+    name: &'a str,
+    about: &'a str,
+    usage: &'a str,
+    after: &'a str,
+) -> Command<'a>
     ensures { ReadsAs result (new_app name.entry.now) }
 {
-    Command::new(alloc, name).about(about).after_help(after)
+    Command::new(alloc, name)
+        .about(about)
+        .override_usage(usage)
+        .after_help(after)
 }
 
 /// A command that reads a recording, with the options that say how.

@@ -1,5 +1,5 @@
 //! The entries of a parsed command line, as a job.
-ghost use Rattle.std.specs.Prelude.{◌≡◌, ◌⊎◌, IfErr, IfNone, IfOk, IfSome, List, None, Option, Some, codes, ℕ};
+ghost use Rattle.std.specs.Prelude.{◌≡◌, ◌⊎◌, IfErr, IfNone, IfOk, IfSome, List, None, Option, Some, codes, false, ℕ};
 ghost use Rattle.clap.specs.Words.{found_of, one_of, rows_of, subcommand_rows_of};
 ghost use Rattle.rds_sync.specs.declared.loss.Loss.{Loss};
 ghost use Rattle.rds_tool.specs.declared.entries.NoJob.TheVariants.{Memory};
@@ -7,11 +7,12 @@ ghost use Rattle.rds_tool.specs.declared.job.Cuts.{Cuts};
 ghost use Rattle.rds_tool.specs.declared.job.Input.{Input};
 ghost use Rattle.rds_tool.specs.declared.job.Job.{Job};
 ghost use Rattle.rds_tool.specs.declared.job.Settings.{Settings};
-ghost use Rattle.rds_tool.specs.CommandLine.{AreSettings, GivesNoInput, GivesNoJob, IsFlag, IsInput, IsJob, IsJobOf, MaySpell, Spells, SpellsLoss, SpellsPieces, gaps_asked_for};
+ghost use Rattle.rds_tool.specs.CommandLine.{AreSettings, GivesNoJob, GivesNoRuled, GivesNoSettings, IsFlag, IsInput, IsJob, IsJobOf, MaySpell, Spells, SpellsLoss, SpellsPieces, gaps_asked_for, is_given as the_words_give, mixes_losses as the_mixing_of_losses};
 
 use crate::gap_text::gaps_of;
 use crate::{Cuts, Input, Job, Settings};
 use clap::ArgMatches;
+use clap::parser::ValueSource;
 use rds_sync::Loss;
 use std::alloc::{AllocError, Global};
 
@@ -20,6 +21,8 @@ use std::alloc::{AllocError, Global};
 pub enum NoJob {
     /// `--gaps` spells no gaps.
     Gaps,
+    /// `--loss` was given beside `--share`, or `--of` without it.
+    Loss,
     /// Another entry is none that a job has.
     Entries,
     /// A growth of memory was refused.
@@ -48,14 +51,17 @@ fn job_named(alloc: Global, name: &str, entries: &ArgMatches<'_>) -> Result<Job,
     ensures none { IfErr result (GivesNoJob (Some (name.now, rows_of (found_of entries.now)))) }
 {
     match name {
-        "scan" => Ok(Job::Scan(input_in(alloc, entries)?)),
+        "scan" => {
+            let gaps = gaps_in(alloc, entries)?;
+            Ok(Job::Scan(input_in(entries, gaps).ok_or(NoJob::Entries)?))
+        }
         "list" => {
-            let input = input_in(alloc, entries)?;
-            Ok(Job::List(input, settings_in(entries).ok_or(NoJob::Entries)?))
+            let (input, settings) = ruled_in(alloc, entries)?;
+            Ok(Job::List(input, settings))
         }
         "totals" => {
-            let input = input_in(alloc, entries)?;
-            Ok(Job::Totals(input, settings_in(entries).ok_or(NoJob::Entries)?))
+            let (input, settings) = ruled_in(alloc, entries)?;
+            Ok(Job::Totals(input, settings))
         }
         "encode" => Ok(Job::Encode {
             hex: hex_in(entries),
@@ -64,15 +70,26 @@ fn job_named(alloc: Global, name: &str, entries: &ArgMatches<'_>) -> Result<Job,
     }
 }
 
-/// The gaps are looked at first.
-fn input_in(alloc: Global, entries: &ArgMatches<'_>) -> Result<Input, NoJob>
-    ensures input { IfOk result (IsInput (rows_of (found_of entries.now))) }
-    ensures none { IfErr result (GivesNoInput (rows_of (found_of entries.now))) }
+/// The gaps are looked at first, and then the rule of loss: what is wrong with either is said.
+fn ruled_in(alloc: Global, entries: &ArgMatches<'_>) -> Result<(Input, Settings), NoJob>
+    ensures ruled { IfOk result (λ ruled. IsInput (rows_of (found_of entries.now)) ruled.0
+        × AreSettings (rows_of (found_of entries.now)) ruled.1) }
+    ensures none { IfErr result (GivesNoRuled (rows_of (found_of entries.now))) }
 {
     let gaps = gaps_in(alloc, entries)?;
-    Ok(Input {
+    let settings = settings_in(entries)?;
+    let input = input_in(entries, gaps).ok_or(NoJob::Entries)?;
+    Ok((input, settings))
+}
+
+fn input_in(entries: &ArgMatches<'_>, gaps: Vec<(u64, u64)>) -> Option<Input>
+    ensures input { gaps_asked_for (rows_of (found_of entries.now)) ≡ Some gaps.items
+        → IfSome result (IsInput (rows_of (found_of entries.now))) }
+    ensures none { IfNone result ((input : Input) → IsInput (rows_of (found_of entries.now)) input → ⊥) }
+{
+    Some(Input {
         hex: hex_in(entries),
-        bits: bits_in(entries).ok_or(NoJob::Entries)?,
+        bits: bits_in(entries)?,
         gaps,
     })
 }
@@ -88,8 +105,19 @@ fn gaps_in(alloc: Global, entries: &ArgMatches<'_>) -> Result<Vec<(u64, u64)>, N
     }
 }
 
-fn settings_in(entries: &ArgMatches<'_>) -> Option<Settings>
-    ensures settings { IfSome result (AreSettings (rows_of (found_of entries.now))) }
+fn settings_in(entries: &ArgMatches<'_>) -> Result<Settings, NoJob>
+    ensures settings { IfOk result (AreSettings (rows_of (found_of entries.now))) }
+    ensures none { IfErr result (GivesNoSettings (rows_of (found_of entries.now))) }
+{
+    if mixes_losses(entries) {
+        return Err(NoJob::Loss);
+    }
+    numbers_in(entries).ok_or(NoJob::Entries)
+}
+
+fn numbers_in(entries: &ArgMatches<'_>) -> Option<Settings>
+    ensures settings { the_mixing_of_losses (rows_of (found_of entries.now)) ≡ false
+        → IfSome result (AreSettings (rows_of (found_of entries.now))) }
     ensures none { IfNone result ((settings : Settings) → AreSettings (rows_of (found_of entries.now)) settings → ⊥) }
 {
     Some(Settings {
@@ -101,7 +129,29 @@ fn settings_in(entries: &ArgMatches<'_>) -> Option<Settings>
     })
 }
 
-/// The rule of loss: by the share, where there is one, or else by the number in a row. The other's option is not looked at.
+/// Whether the words give an option of the rule of loss that is not asked for.
+fn mixes_losses(entries: &ArgMatches<'_>) -> bool
+    ensures { result ≡ the_mixing_of_losses (rows_of (found_of entries.now)) }
+{
+    if is_given(entries, "share") {
+        is_given(entries, "loss")
+    } else {
+        is_given(entries, "of")
+    }
+}
+
+/// Whether the words give the option: a default doesn't count.
+fn is_given(entries: &ArgMatches<'_>, name: &str) -> bool
+    ensures { result ≡ the_words_give name.now (rows_of (found_of entries.now)) }
+{
+    match entries.value_source(name) {
+        Some(ValueSource::CommandLine) => true,
+        Some(ValueSource::DefaultValue) => false,
+        None => false,
+    }
+}
+
+/// The rule of loss: by the share, where there is one, or else by the number in a row.
 fn loss_in(entries: &ArgMatches<'_>) -> Option<Loss>
     ensures loss { IfSome result (SpellsLoss (rows_of (found_of entries.now))) }
     ensures none { IfNone result ((loss : Loss) → SpellsLoss (rows_of (found_of entries.now)) loss → ⊥) }

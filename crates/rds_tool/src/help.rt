@@ -7,6 +7,9 @@ pub const VERSION: &str = "0.2";
 pub const RDS: &str =
     "Decodes and encodes Radio Data System bits, standard input to standard output";
 
+/// Input is standard input: a file's name among the words is no input, and each usage says so.
+pub const RDS_USAGE: &str = "rds <COMMAND> [OPTIONS] < INPUT > OUTPUT";
+
 pub const RDS_AFTER: &str =
     "A recording is packed bytes, or with --hex their digits: place 0 is the highest
 bit of the first byte. A block is 26 bits and is named by the place of its last
@@ -37,6 +40,8 @@ nothing, but for 10, and one line 'refused NUMBER NAME' goes to standard error:
 
 pub const SCAN: &str = "List each place at which 26 bits have an offset word as remainder";
 
+pub const SCAN_USAGE: &str = "rds scan [OPTIONS] < INPUT > OUTPUT";
+
 pub const SCAN_AFTER: &str =
     "Writes a row 'PLACE,OFFSET' for each 26 bits in a row whose remainder is an
 offset word and that touch no gap, by rising place. PLACE is that of the last of
@@ -45,6 +50,8 @@ them, from 0; OFFSET is A, B, C, Cx (C') or D.
 'rds --help' lists the refusals.";
 
 pub const LIST: &str = "List acquisitions, groups and losses of synchronism, then the totals";
+
+pub const LIST_USAGE: &str = "rds list [OPTIONS] < INPUT > OUTPUT";
 
 pub const LIST_AFTER: &str =
     "Writes rows of eight fields, in the order of the bit that completes what they
@@ -73,6 +80,8 @@ with hexadecimal digits after ':' and '~'.
 
 pub const TOTALS: &str = "Count valid, corrected and lost blocks, groups, losses of synchronism";
 
+pub const TOTALS_USAGE: &str = "rds totals [OPTIONS] < INPUT > OUTPUT";
+
 pub const TOTALS_AFTER: &str =
     "Writes twelve rows 'total,NAME,VALUE', each with five fields '-' after it:
 
@@ -88,6 +97,8 @@ pub const TOTALS_AFTER: &str =
 'rds --help' lists the refusals.";
 
 pub const ENCODE: &str = "Encode groups that are given as lines of hexadecimal words";
+
+pub const ENCODE_USAGE: &str = "rds encode [OPTIONS] < INPUT > OUTPUT";
 
 pub const ENCODE_AFTER: &str =
     "Each line has 16 hexadecimal digits of either case, the information words of
@@ -119,9 +130,9 @@ pub const LOSS: &str = "Lose synchronism after N blocks in a row that aren't
 valid, 1 to 64";
 
 pub const SHARE: &str = "Lose synchronism where N of the last blocks aren't valid,
-1 to 64, in place of --loss";
+1 to 64; not beside --loss";
 
-pub const OF: &str = "Look at the last N blocks for --share,
+pub const OF: &str = "Look at the last N blocks; with --share alone,
 at most 64";
 
 pub const PIECES: &str = "Cut the recording into up to N pieces, 1 or more; the

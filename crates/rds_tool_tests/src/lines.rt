@@ -124,11 +124,7 @@ fn words_of_a_share_are_its_rule_of_loss(rt: HostRuntime) {
 const SHARES: [(&[&str], u32, u32); 3] = [
     (&["rds", "totals", "--share", "20"], 20, 64),
     (&["rds", "totals", "--of", "4", "--share=0"], 0, 4),
-    (
-        &["rds", "totals", "--loss", "1", "--share", "5", "--of", "70"],
-        5,
-        70,
-    ),
+    (&["rds", "totals", "--share", "5", "--of", "70"], 5, 70),
 ];
 
 #[test]

@@ -6,7 +6,7 @@ use Rattle.clap.specs.Walk.{bundle_met, walked}
 use Rattle.clap.specs.Words.{Text}
 use Rattle.clap.specs.declared.error.kind.ErrorKind.{ErrorKind}
 use Rattle.clap.specs.declared.error.kind.ErrorKind.TheVariants as kind
-use Rattle.rds_tool.specs.CommandLine.{HasBadGaps, IsJobOf, MayAnswer, entries_of, faults_of}
+use Rattle.rds_tool.specs.CommandLine.{HasBadGaps, HasBadLoss, IsJobOf, MayAnswer, entries_of, faults_of}
 use Rattle.rds_tool.specs.declared.cli.FaultKind.{FaultKind}
 use Rattle.rds_tool.specs.declared.cli.FaultKind.TheVariants.{Help, Memory, Version, Words}
 use Rattle.rds_tool.specs.declared.job.Input.{Input}
@@ -71,6 +71,23 @@ no_fault_of_gaps = refl
 pub has_bad_gaps : HasBadGaps (entries_of scan_with_bad_gaps)
 unfolding walked
 has_bad_gaps = (inl refl, refl)
+
+-- ---- two rules of loss
+
+abbrev pub list_by_two_losses : List Text
+list_by_two_losses = codes "rds" ∷ codes "list" ∷ codes "--share" ∷ codes "2" ∷ codes "--loss" ∷ codes "10" ∷ []
+
+pub no_fault_of_losses : faults_of list_by_two_losses ≡ []
+unfolding walked bundle_met flags_pass walk_passes flags_fault walk_fault defaults_fault
+no_fault_of_losses = refl
+
+pub has_bad_loss : HasBadLoss (entries_of list_by_two_losses)
+unfolding walked
+has_bad_loss = (inl refl, refl)
+
+pub has_good_gaps : HasBadGaps (entries_of list_by_two_losses) → ⊥
+unfolding walked
+has_good_gaps bad = let no : (let none : List (ℕ × ℕ) = [] in Some none) ≡ None = bad.1 in cc
 
 -- a refusal that says so is one
 pub refused_so : {T E : Type 0} (answer : Result T E) (P : E → Type 0) → IsErrAnd answer P → OnOk answer ⊥ × IfErr answer P

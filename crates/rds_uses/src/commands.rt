@@ -11,6 +11,8 @@ static SCAN_WITH_A_GAP: [&str; 4] = ["rds", "scan", "--gaps", "104-105"];
 
 static SCAN_WITH_BAD_GAPS: [&str; 4] = ["rds", "scan", "--gaps", "5"];
 
+static LIST_BY_TWO_LOSSES: [&str; 6] = ["rds", "list", "--share", "2", "--loss", "10"];
+
 static HELP_OF_LIST: [&str; 3] = ["rds", "list", "--help"];
 
 static VERSION: [&str; 2] = ["rds", "--version"];
@@ -37,6 +39,16 @@ pub fn scan_with_bad_gaps(alloc: Global) -> Result<Job, CliFault>
         ⊎ ((fault.kind ≡ FaultKind.Words) × (string_bytes fault.text ≡ codes "bad --gaps" ++ 10 ∷ []))) }
 {
     job_of(alloc, SCAN_WITH_BAD_GAPS.as_slice())
+}
+
+/// `rds list --share 2 --loss 10` is no job, though 10 is the default: it is told that one excludes the other, or memory was
+/// refused.
+pub fn list_by_two_losses(alloc: Global) -> Result<Job, CliFault>
+    ensures no_job { OnOk result ⊥ }
+    ensures told { IfErr result (λ fault. (fault.kind ≡ FaultKind.Memory) ⊎ ((fault.kind ≡ FaultKind.Words)
+        × (string_bytes fault.text ≡ codes "bad --loss or --of: --of needs --share, and --loss excludes it" ++ 10 ∷ []))) }
+{
+    job_of(alloc, LIST_BY_TWO_LOSSES.as_slice())
 }
 
 /// `rds list --help` is no job: help is shown, or memory was refused.

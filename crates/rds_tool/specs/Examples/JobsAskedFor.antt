@@ -2,6 +2,7 @@
 use Rattle.std.specs.Prelude.{◌≡◌, Bool, List, None, Option, Some, [], ◌∷◌, codes, false, is_some, length, nat_eq, refl, slice_index, true}
 use Rattle.std.proofs.Common.{ap, inl, inr, sym}
 use Rattle.std.proofs.lemmas.Bool.{false≢true, leb-true}
+use Rattle.std.specs.Option.{option_map}
 use Rattle.clap.specs.Takes.{flags_pass, walk_passes}
 use Rattle.clap.specs.Faults.{defaults_fault, flags_fault, walk_fault}
 use Rattle.clap.specs.Walk.{bundle_met, walked}
@@ -10,7 +11,7 @@ use Rattle.clap.specs.declared.error.kind.ErrorKind.{ErrorKind}
 use Rattle.clap.specs.declared.error.kind.ErrorKind.TheVariants as kind
 use Rattle.rds_sync.specs.declared.loss.Loss.{Loss}
 use Rattle.rds_sync.specs.declared.loss.Loss.TheVariants.{Run, Share}
-use Rattle.rds_tool.specs.CommandLine.{HasBadGaps, IsFlag, IsJobOf, MayAnswer, Spells, SpellsLoss, entries_of, faults_of}
+use Rattle.rds_tool.specs.CommandLine.{HasBadGaps, HasBadLoss, IsFlag, IsJobOf, MayAnswer, Spells, SpellsLoss, entries_of, faults_of, mixes_losses}
 use Rattle.rds_tool.specs.declared.cli.FaultKind.TheVariants.{Help, Memory, Version, Words}
 use Rattle.rds_tool.specs.declared.job.Job.{Job}
 use Rattle.rds_tool.specs.declared.job.Job.TheVariants.{Encode, List as ListJob, Scan, Totals}
@@ -42,13 +43,16 @@ twenty_five = ((leb-true 1 2 refl, (leb-true 3 10 refl, (leb-true 6 10 refl, tt)
 
 -- ---- the rule of loss
 
+abbrev pub begins_with_l : Text → Bool
+begins_with_l text = nat_eq (slice_index text 0) 108
+
 -- the one that the words give
 abbrev pub GiveLoss : List Text → Loss → Type 0
 GiveLoss words loss = elim (entries_of words) [ None ↦ ⊥ | Some entries ↦ SpellsLoss entries.1 loss ]
 
--- a share, and a number in a row beside it, which is not looked at
+-- a share of the default number of blocks
 abbrev pub for_share : List Text
-for_share = codes "rds" ∷ codes "list" ∷ codes "--share" ∷ codes "2" ∷ codes "--loss" ∷ codes "5" ∷ []
+for_share = codes "rds" ∷ codes "list" ∷ codes "--share" ∷ codes "2" ∷ []
 
 pub share : GiveLoss for_share (Share 2 64)
 unfolding walked
@@ -57,9 +61,56 @@ share = (
   ((leb-true 1 2 refl, (leb-true 7 10 refl, (leb-true 5 10 refl, tt))), leb-true 65 4294967296 refl, refl),
 )
 
-pub not_in_a_row : GiveLoss for_share (Run 5) → ⊥
+pub not_in_a_row : GiveLoss for_share (Run 10) → ⊥
 unfolding walked
-not_in_a_row (none, five) = false≢true (sym (ap is_some none))
+not_in_a_row (none, ten) = false≢true (sym (ap is_some none))
+
+-- whether they mix two
+abbrev pub mixed_by : List Text → Option Bool
+mixed_by words = option_map (λ entries. mixes_losses entries.1) (entries_of words)
+
+abbrev pub for_loss_beside_share : List Text
+for_loss_beside_share = codes "rds" ∷ codes "list" ∷ codes "--share" ∷ codes "2" ∷ codes "--loss" ∷ codes "10" ∷ []
+
+abbrev pub for_of_without_share : List Text
+for_of_without_share = codes "rds" ∷ codes "totals" ∷ codes "--of=64" ∷ []
+
+-- what stands there by default does not count, and the same number given does
+pub defaults_alone : mixed_by (codes "rds" ∷ codes "list" ∷ []) ≡ Some false
+unfolding walked
+defaults_alone = refl
+
+pub a_share_alone : mixed_by for_share ≡ Some false
+unfolding walked
+a_share_alone = refl
+
+pub a_share_of : mixed_by (codes "rds" ∷ codes "list" ∷ codes "--of" ∷ codes "3" ∷ codes "--share" ∷ codes "2" ∷ []) ≡ Some false
+unfolding walked
+a_share_of = refl
+
+pub a_loss_alone : mixed_by (codes "rds" ∷ codes "list" ∷ codes "--loss" ∷ codes "5" ∷ []) ≡ Some false
+unfolding walked
+a_loss_alone = refl
+
+pub a_loss_beside_a_share : HasBadLoss (entries_of for_loss_beside_share)
+unfolding walked
+a_loss_beside_a_share = (inl refl, refl)
+
+pub an_of_without_a_share : HasBadLoss (entries_of for_of_without_share)
+unfolding walked
+an_of_without_a_share = (inr refl, refl)
+
+-- such words ask for no job, though they have no other fault
+pub no_fault_of_loss : faults_of for_loss_beside_share ≡ []
+unfolding walked bundle_met flags_pass walk_passes flags_fault walk_fault defaults_fault
+no_fault_of_loss = refl
+
+pub no_job_of_both : (job : Job) → IsJobOf (entries_of for_loss_beside_share) job → ⊥
+unfolding walked
+no_job_of_both (Scan input) (name, is) = false≢true (sym (ap begins_with_l name))
+no_job_of_both (ListJob input settings) (name, is, by) = false≢true (sym by.one_rule)
+no_job_of_both (Totals input settings) (name, is, by) = false≢true (sym (ap begins_with_l name))
+no_job_of_both (Encode hex) (name, is) = false≢true (sym (ap begins_with_l name))
 
 -- ---- jobs
 
@@ -72,6 +123,7 @@ totals = (
   refl,
   (record { hex = flag; bits = zero_bits; gaps = refl }),
   (record {
+    one_rule = refl;
     burst = ((leb-true 1 1 refl, (leb-true 2 10 refl, tt)), leb-true 2 4294967296 refl, refl);
     reach = ((leb-true 1 1 refl, (leb-true 5 10 refl, tt)), leb-true 5 4294967296 refl, refl);
     loss = (refl, ((leb-true 1 1 refl, (leb-true 6 10 refl, tt)), leb-true 6 4294967296 refl, refl));

@@ -1,0 +1,36 @@
+# Completion of rds for bash: source it, or install it as rds below bash-completion's folder completions.
+
+# What each command takes; tests/package.sh compares it with the program's help.
+_rds_options() {
+  local input='--hex --bits --gaps --help'
+  local rules='--burst --reach --loss --share --of --pieces --workers'
+  case $1 in
+    scan) echo "$input" ;;
+    list | totals) echo "$input $rules" ;;
+    encode) echo '--hex --help' ;;
+    '') echo 'scan list totals encode help --help --version' ;;
+  esac
+}
+
+# The numbers of an option that takes few of them.
+_rds_values() {
+  case $1 in
+    --burst) echo 0 1 2 3 4 5 ;;
+    --reach) echo 1 2 3 4 5 6 7 8 ;;
+    --workers) echo 1 2 4 8 16 ;;
+  esac
+}
+
+_rds() {
+  local word=${COMP_WORDS[COMP_CWORD]} before=${COMP_WORDS[COMP_CWORD - 1]} command='' offered
+  ((COMP_CWORD > 1)) && command=${COMP_WORDS[1]}
+  case $before in
+    --bits | --gaps | --burst | --reach | --loss | --share | --of | --pieces | --workers) offered=$(_rds_values "$before") ;;
+    help) offered='scan list totals encode' ;;
+    *) offered=$(_rds_options "$command") ;;
+  esac
+  mapfile -t COMPREPLY < <(compgen -W "$offered" -- "$word")
+}
+
+# What stands behind < and > is a file's name, which bash completes by itself.
+complete -F _rds rds
