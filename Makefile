@@ -27,10 +27,12 @@ build/rds: $(SOURCES)
 
 # The sample alone may go by an unproved build, which is slow, but there in a minute.
 run: toolchain
-	@if $(MAKE) -sq build/rds; then build/rds list < examples/station.bin; else \
+	@mkdir -p build
+	@if $(MAKE) -sq build/rds; then build/rds list < examples/station.bin > build/sample.csv; else \
 	  echo "built without proof for this sample, in a minute or so; 'make' proves rds and builds build/rds" >&2; \
-	  cd crates/rds && $(RT) try -- list < ../../examples/station.bin 2>/dev/null; fi | \
-	  sed -n -e '1,10p' -e '11s/.*/[..]/p' -e '/^total/p'
+	  (cd crates/rds && $(RT) try -- list) < examples/station.bin > build/sample.csv 2> build/try.log || \
+	    { cat build/try.log >&2; exit 1; }; fi
+	@sed -n -e '1,10p' -e '11s/.*/[..]/p' -e '/^total/p' build/sample.csv
 
 quick: toolchain
 	tests/quick.sh
