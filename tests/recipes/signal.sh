@@ -115,9 +115,9 @@ if has awk && python=$(numpy_python); then
         "$("$python" examples/pack_bytes.py < "$work/gnuradio.u8" | "$program" list | examples/hex_groups.sh --whole | tail -n 18)"
     done
     same 'too low a rate for GNU Radio' 'bits_from_gnuradio: a sample rate of 127999 is not 128000 to 3200000' \
-      "$(from_gnuradio --raw s16 --rate 127999 "$work/silence.s16" "$work/none" 2>&1 | grep ^bits_from_gnuradio)"
+      "$(from_gnuradio --raw s16 --rate 127999 "$work/silence.s16" "$work/no bits" 2>&1 | grep ^bits_from_gnuradio)"
     same 'no sample for GNU Radio' 'bits_from_gnuradio: the input is too short for a bit' \
-      "$(from_gnuradio --raw s16 --rate 171000 /dev/null "$work/none" 2>&1 | grep ^bits_from_gnuradio)"
+      "$(from_gnuradio --raw s16 --rate 171000 /dev/null "$work/no bits" 2>&1 | grep ^bits_from_gnuradio)"
   else
     echo 'skipped: the recipe that needs GNU Radio'
   fi
