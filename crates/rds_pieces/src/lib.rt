@@ -64,11 +64,9 @@
 mod advance;
 mod cutting;
 mod error;
-mod gathered;
 mod joining;
+mod joint;
 pub mod laws;
-mod mark;
-mod marks;
 mod meeting;
 mod run;
 mod seams;
@@ -77,9 +75,8 @@ mod work;
 
 pub use cutting::Cutting;
 pub use error::PieceError;
-pub use joining::join_runs;
-pub use mark::Mark;
-pub use marks::{MarkIter, Marks};
+pub use joining::{join_runs, joint_of};
+pub use joint::Joint;
 pub use meeting::Seam;
 pub use run::{PieceRun, speculate};
 pub use seams::seam;
