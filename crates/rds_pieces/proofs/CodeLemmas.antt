@@ -1,5 +1,6 @@
 -- What is kept of the items of a run that goes on, and of one that takes over from a guess.
-use Rattle.std.proofs.Common.{◌≡◌, ℕ, zero, suc, ◌+◌, ◌-◌, ◌≤◌, List, [], ◌∷◌, ◌++◌, length, map, drop, refl, sym, ap, ap₂, ◌∙◌, arith}
+use Rattle.std.proofs.Common.{◌≡◌, ℕ, zero, suc, ◌+◌, ◌-◌, ◌≤◌, ◌^◌, List, [], ◌∷◌, ◌++◌, length, map, drop, refl, sym, ap, ap₂, ◌∙◌, arith}
+use Rattle.std.proofs.lemmas.List.{length-map}
 use Rattle.rds_stream.specs.Recording.{Signal}
 use Rattle.rds_sync.specs.declared.state.State.{State}
 use Rattle.rds_sync.specs.declared.state.State.TheVariants.{Searching}
@@ -8,7 +9,7 @@ use Rattle.rds_sync.specs.declared.mark.Mark.{Mark}
 use Rattle.rds_sync.specs.Rules.{RuleNumbers}
 use Rattle.rds_sync.specs.Ranges.{IsLossInRange}
 use Rattle.rds_sync.specs.Step.{run}
-use Rattle.rds_sync.specs.Codes.{KeptOf, kept_of, behind, kept_from}
+use Rattle.rds_sync.specs.Codes.{KeptOf, kept_of, behind, kept_from, code_of}
 use Rattle.rds_sync.specs.Marks.{marks_from}
 use Rattle.rds_pieces.specs.Guess.{guess, marks}
 use Rattle.rds_pieces.specs.Meeting.{MeetAt}
@@ -37,3 +38,11 @@ guess_marks laws b rules loss from bits kept is =
     ∙ ap₂ (λ (a : ℕ) (ms : List Mark). let m : Mark = record { place = a; state = Searching; items = 0 } in m ∷ ms) (sym first)
     (sym (laws.marks b rules loss Searching from 0 bits tt))
     ∙ sym (marks-are b rules laws from bits)
+
+-- the codes of a run are few
+pub codes_few : RunLaws → (b : Signal) (rules : RuleNumbers) (s : State) (from to : ℕ) → from ≤ to → to - from ≤ 2 ^ 36 → (kept : KeptOf) → kept ≡ kept_of (run b rules s from (to - from)).1
+    → length kept.codes ≤ 2 ^ 40
+codes_few laws b rules s from to low few kept is =
+    let most = laws.few_items b rules s from to low in
+    let len = ap (λ (k : KeptOf). length k.codes) is ∙ length-map (run b rules s from (to - from)).1 code_of in
+    omega (arith, most, len, few)

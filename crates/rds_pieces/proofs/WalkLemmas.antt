@@ -98,6 +98,11 @@ module _ (b : Signal) (rules : RuleNumbers) (laws : RunLaws) (s : State) (from t
   pub rest_items : (run b rules (ours place).0 place (to - place)).1 ≡ drop passed.items (theirs to).1
   rest_items = ap (λ (t : State). (run b rules t place (to - place)).1) met.first.here.same ∙ sym rest_is_run
 
+  pub count_taken : length (theirs to).1 ≡ passed.items + length (run b rules (ours place).0 place (to - place)).1
+  count_taken =
+      guess_goes_on
+      ∙ ap₂ (λ (k : ℕ) (t : State). k + length (run b rules t place (to - place)).1) (sym met.items_are) (sym met.first.here.same)
+
   -- what is kept of the run
   pub kept_taken : (own : KeptOf) → own ≡ kept_of (ours place).1 → kept_of (ours to).1 ≡ behind own (kept_from passed.items (kept_of (theirs to).1))
   kept_taken own is =

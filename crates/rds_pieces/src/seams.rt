@@ -69,6 +69,7 @@ pub fn seam<T: Tape>(
     // A run and the guess that are in one state go on as one, and over a sound range they come into one.
     run_laws();
     runs_converge();
+    let (from, to) = run.range();
     let Walk {
         place,
         state: reached,
@@ -78,12 +79,12 @@ pub fn seam<T: Tape>(
     let counted = codes.totals();
     let mut items = Items::none(alloc, tape.source(), rules);
     let start = Mark {
-        place: run.from(),
+        place: from,
         state,
         items: 0,
     };
     // The first of its marks is where it starts.
-    let mut own = codes.marks_from(rules, start.place, state);
+    let mut own = codes.marks_from(rules, from, state);
     let _ = own.next();
     items.push_run(start, own, place, codes.len() as u64)?;
     match met {
@@ -93,7 +94,7 @@ pub fn seam<T: Tape>(
                 state: reached,
                 items: passed.items as u64,
             };
-            items.push_run(here, passed.ahead, run.to(), run.codes().len() as u64)?;
+            items.push_run(here, passed.ahead, to, run.codes().len() as u64)?;
             Ok(Seam {
                 items,
                 totals: counted.plus(run.totals_from(passed.items)),

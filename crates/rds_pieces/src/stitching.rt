@@ -66,9 +66,10 @@ fn carry_over_all<T: Tape>(
     requires in_a_row { FollowEachOther (T.signal tape.old) rules.now 0 (length_of (T.signal tape.old)) runs.now }
     requires room { T.reads_made tape.old ≤ 2 ^ 61 }
 
-    ensures whole { IfOk result (λ r. r.1.items ++ items_of_end (T.signal tape.old) rules.now r.0
+    ensures named { IfOk result (λ r. r.1.items ≡ listed (T.signal tape.old) rules.now r.1.items.list) }
+    ensures whole { IfOk result (λ r. r.1.items.list ++ items_of_end (T.signal tape.old) rules.now r.0
         ≡ report_items (T.signal tape.old) rules.now) }
-    ensures totals { IfOk result (λ r. r.1.totals ≡ totals_of r.1.items) }
+    ensures totals { IfOk result (λ r. r.1.totals ≡ totals_of r.1.items.list) }
     ensures small { IfOk result (λ r. IsAtMost ((2 ^ 28 - 1) * 2 ^ 36) r.1.totals) }
     ensures lawful { IfOk result (λ r. IsLawful rules.now (length_of (T.signal tape.old)) r.0) }
     ensures reads { IfOk result (λ _. (n : ℕ) × IsSumOfReads (T.signal tape.old) rules.now State.Searching runs.now n

@@ -10,7 +10,7 @@ use Rattle.rds_pieces.specs.Soon.{MeetSoon}
 use Rattle.rds_pieces.proofs.SeamLemmas.{renamed}
 use Rattle.rds_pieces.proofs.SoonLemmas.{soon_met, meet_soon}
 use Rattle.rds_pieces.proofs.WalkLemmas.{meeting_of}
-use Rattle.rds_pieces.proofs.joining.join_runs.Goals as goal
+use Rattle.rds_pieces.proofs.joining.joint_of.Goals as goal
 
 pub returns-clause-soon : goal.returns-clause-soon
 returns-clause-soon g c =
