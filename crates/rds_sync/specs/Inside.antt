@@ -5,3 +5,4 @@ pub mod GroupParts
 pub mod Kept
 pub mod Locks
 pub mod Parts
+pub mod CodeParts
