@@ -6,3 +6,5 @@ pub mod Kept
 pub mod Locks
 pub mod Parts
 pub mod CodeParts
+pub mod CodeTotals
+pub mod CodeCursors

@@ -1,7 +1,7 @@
 //! A part of what a run keeps.
 
 ghost use Rattle.std.specs.Prelude.{◌≡◌, ◌≤◌, ◌<◌, ◌+◌, ◌*◌, ◌^◌, [], ◌∷◌, false, length, map, IfOk, OnOk, OnErr};
-ghost use Rattle.rds_sync.specs.Codes.{kept_of, no_codes, behind, kept_from, locks_among, totals_of_codes, is_locked, outcome_of, blocks};
+ghost use Rattle.rds_sync.specs.Codes.{AreLocks, kept_of, no_codes, behind, kept_from, locks_among, totals_of_codes, is_locked, outcome_of, blocks};
 ghost use Rattle.rds_sync.specs.Inside.CodeParts.{kept_as};
 ghost use Rattle.rds_sync.specs.Words.{IsKeepable, IsSmall, code_in};
 
@@ -60,7 +60,8 @@ impl CodePart {
 
     /// How many codes there are.
     pub fn len(&self) -> usize
-        ensures { result ≡ length self.now.codes }
+        ensures value { result ≡ length self.now.codes }
+        ensures locks { AreLocks self.now }
     {
         let CodePart {
             words,
@@ -140,7 +141,8 @@ impl CodePart {
 
     /// The words, and the places of the acquisitions among them.
     pub fn lent(&self) -> (&[u16], &[u64])
-        ensures { kept_as result.0.now result.1.now ≡ self.now }
+        ensures value { kept_as result.0.now result.1.now ≡ self.now }
+        ensures locks { AreLocks self.now }
     {
         (
             &self.words[self.words_passed..],
