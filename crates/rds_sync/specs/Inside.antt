@@ -8,3 +8,4 @@ pub mod Parts
 pub mod CodeParts
 pub mod CodeTotals
 pub mod CodeCursors
+pub mod CodeRuns
