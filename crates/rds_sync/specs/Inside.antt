@@ -5,3 +5,7 @@ pub mod GroupParts
 pub mod Kept
 pub mod Locks
 pub mod Parts
+pub mod CodeParts
+pub mod CodeTotals
+pub mod CodeCursors
+pub mod CodeRuns
