@@ -4,9 +4,10 @@ ghost use Rattle.std.specs.Prelude.{◌≡◌, ◌==◌, ◌+◌, ◌-◌, ◌<�
 ghost use Rattle.rds_stream.specs.Recording.{length_of};
 ghost use Rattle.rds_sync.specs.Advance.{group_item};
 ghost use Rattle.rds_sync.specs.Decoding.{listed};
-ghost use Rattle.rds_sync.specs.Inside.Spans.{IsSpan, IsAt, items_in};
+ghost use Rattle.rds_sync.specs.Inside.Spans.{AreBehind, IsAt};
 ghost use Rattle.rds_sync.specs.Lawful.{IsLawful};
 ghost use Rattle.rds_sync.specs.Marks.{marks_on};
+ghost use Rattle.rds_sync.specs.Ranges.{IsInRange};
 ghost use Rattle.rds_sync.specs.Rules.{RuleNumbers};
 ghost use Rattle.rds_sync.specs.Step.{run};
 ghost use Rattle.rds_stream.specs.Recording.{Signal};
@@ -115,7 +116,7 @@ impl Items {
     }
 
     /// Appends the items of the run from `first.state` over the places from `first.place` to before `to`, in spans that
-    /// are cut at marks. `marks` are those of that run, and say of it what [`marks`](crate::Codes::marks) says: how many
+    /// are cut at marks. `marks` are those of that run, and say of it what [`marks_from`](crate::Codes::marks_from) does: how many
     /// items stand before each, `first.items` of them before `first`, and `items` before `to`.
     ///
     /// Its cost is that of the marks, a few steps each; a span takes memory once in some thousand items. Refused memory,
@@ -131,7 +132,20 @@ impl Items {
             (self.old.list ++ (run self.old.source self.old.rules first.state first.place (to - first.place)).1)) }
         ensures refused { OnErr result (self.new ≡ self.old) }
     {
-        Ok(())
+        let before = self.spans.len();
+        let Some(len) = self.len.checked_add((items - first.items) as usize) else {
+            return Err(AllocError);
+        };
+        match push_spans(&self.source, self.rules, &mut self.spans, first, marks, to, items) {
+            Ok(()) => {
+                self.len = len;
+                Ok(())
+            }
+            Err(error) => {
+                self.spans.truncate(before);
+                Err(error)
+            }
+        }
     }
 
     /// Appends the `items` items of the run from `state` over the places from `from` to before `to`, in one span: to
@@ -208,4 +222,45 @@ fn spans_from(spans: &[Span], from: usize) -> (&[Span], usize)
         rest = others;
     }
     (rest, left)
+}
+
+/// Appends the spans of a run, as [`push_run`](Items::push_run) does.
+fn push_spans(
+    source: &Snapshot<Recording>,
+    rules: RuleNumbers,
+    spans: &mut Vec<Span>,
+    first: Mark,
+    marks: Marks<'_>,
+    to: u64,
+    items: u64,
+) -> Result<(), AllocError>
+    requires range { IsInRange rules }
+    requires lawful { IsLawful rules first.place first.state }
+    requires order { first.place ≤ to }
+    requires within { to ≤ length_of source.now.value }
+    requires marks { marks ≡ marks_on source.now.value rules first.state first.place first.items (to - first.place) }
+    requires count { items ≡ first.items + length (run source.now.value rules first.state first.place (to - first.place)).1 }
+    ensures ok { OnOk result (AreBehind source.now.value rules spans.old.items spans.new.items
+        (run source.now.value rules first.state first.place (to - first.place)).1) }
+    ensures refused { OnErr result (take (length spans.old.items) spans.new.items ≡ spans.old.items) }
+{
+    let mut start = first;
+    for mark in marks {
+        if mark.items - start.items >= SPAN_ITEMS {
+            spans.push(Span::Run {
+                place: start.place,
+                state: start.state,
+                to: mark.place,
+                items: (mark.items - start.items) as usize,
+            })?;
+            start = mark;
+        }
+    }
+    spans.push(Span::Run {
+        place: start.place,
+        state: start.state,
+        to,
+        items: (items - start.items) as usize,
+    })?;
+    Ok(())
 }

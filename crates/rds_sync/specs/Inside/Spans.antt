@@ -38,3 +38,10 @@ module _ (b : Signal) (rules : RuleNumbers) where
     pub same : drop left (items_in rest) ≡ drop from (items_in spans)
     pub passed : length (items_in rest) + from ≡ length (items_in spans) + left
     pub all : All IsSpan rest
+
+  -- the spans after those that stood before, and what they give
+  pub record AreBehind (before after : List Span) (items : List Item) : Type 0 where
+    pub more : List Span
+    pub same : after ≡ before ++ more
+    pub all : All IsSpan more
+    pub given : items_in more ≡ items
