@@ -72,10 +72,18 @@ impl<'a> Decoder<'a> {
 
     /// The state after the last bit of the range. Items that were not asked for are passed over.
     pub fn end_state(self) -> State
-        ensures { result ≡ self.end }
+        ensures { result ≡ self.entry.end }
     {
-        let mut decoder = self;
-        end_of(&mut decoder.reader, decoder.rules, decoder.state, decoder.place, decoder.to)
+        let Decoder {
+            reader,
+            rules,
+            place,
+            state,
+            to,
+            ready: _,
+        } = self;
+        let mut reader = reader;
+        end_of(&mut reader, rules, state, place, to)
     }
 }
 
@@ -98,11 +106,13 @@ impl<'a> Iterator for Decoder<'a> {
         self.place = step.place;
         self.state = step.state;
         let [first, second] = step.items;
-        if first.is_none() {
-            return second;
+        match first {
+            Some(item) => {
+                self.ready = second;
+                Some(item)
+            }
+            None => second,
         }
-        self.ready = second;
-        first
     }
 }
 

@@ -9,7 +9,8 @@ use crate::item::Item;
 use crate::rules::Rules;
 use crate::span::Span;
 use crate::state::State;
-use rds_stream::Recording;
+use crate::step::finish;
+use rds_stream::{Counted, Recording};
 use std::iter::FusedIterator;
 use std::marker::Model;
 
@@ -139,6 +140,9 @@ fn first_of<'a>(
             *decoder = Decoder::new(recording, rules, state, place, to);
             decoder.next()
         }
-        Span::End(group) => Some(Item::Group(group)),
+        Span::End { state } => match finish(&mut Counted::new(recording), rules, state) {
+            Some(group) => Some(Item::Group(group)),
+            None => None,
+        },
     }
 }

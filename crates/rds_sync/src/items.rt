@@ -1,18 +1,17 @@
 //! The items of a report.
 
-ghost use Rattle.std.specs.Prelude.{◌≡◌, ◌==◌, ◌+◌, ◌-◌, ◌<◌, ◌≤◌, ◌++◌, [], length, take, slice_get, slice_range, OnOk, OnErr};
+ghost use Rattle.std.specs.Prelude.{◌≡◌, ◌==◌, ◌+◌, ◌-◌, ◌<◌, ◌≤◌, ◌++◌, [], All, length, take, slice_get, slice_range, OnOk, OnErr};
 ghost use Rattle.rds_stream.specs.Recording.{length_of};
-ghost use Rattle.rds_sync.specs.Advance.{group_item};
 ghost use Rattle.rds_sync.specs.Decoding.{listed};
-ghost use Rattle.rds_sync.specs.Inside.Spans.{AreBehind, IsAt};
+ghost use Rattle.rds_sync.specs.Inside.Spans.{AreBehind, IsAt, IsSpan};
 ghost use Rattle.rds_sync.specs.Lawful.{IsLawful};
 ghost use Rattle.rds_sync.specs.Marks.{marks_on};
 ghost use Rattle.rds_sync.specs.Ranges.{IsInRange};
 ghost use Rattle.rds_sync.specs.Rules.{RuleNumbers};
-ghost use Rattle.rds_sync.specs.Step.{run};
+ghost use Rattle.rds_sync.specs.Step.{run, items_of_end};
 ghost use Rattle.rds_stream.specs.Recording.{Signal};
 
-use crate::item::{Group, Item};
+use crate::item::Item;
 use crate::item_iter::ItemIter;
 use crate::mark::Mark;
 use crate::marks::Marks;
@@ -172,19 +171,19 @@ impl Items {
         Ok(())
     }
 
-    /// Appends the group that the recording's end closes, as [`finish`](crate::finish) gives it, if there is one.
-    /// Refused memory, it leaves the list as it was.
-    pub fn close(&mut self, group: Option<Group>) -> Result<(), AllocError>
-        ensures ok { OnOk result (self.new ≡ listed self.old.source self.old.rules (self.old.list ++ group_item group)) }
+    /// Appends the item of the recording's end, where the run over it ended in `state`: the group in progress, if there
+    /// is one. Refused memory, it leaves the list as it was.
+    pub fn close(&mut self, state: State) -> Result<(), AllocError>
+        requires lawful { IsLawful self.old.rules (length_of self.old.source) state }
+        ensures ok { OnOk result (self.new ≡ listed self.old.source self.old.rules
+            (self.old.list ++ items_of_end self.old.source self.old.rules state)) }
         ensures refused { OnErr result (self.new ≡ self.old) }
     {
-        let Some(group) = group else {
-            return Ok(());
-        };
-        let Some(len) = self.len.checked_add(1) else {
+        let end = Span::End { state };
+        let Some(len) = self.len.checked_add(end.len()) else {
             return Err(AllocError);
         };
-        self.spans.push(Span::End(group))?;
+        self.spans.push(end)?;
         self.len = len;
         Ok(())
     }
@@ -209,7 +208,7 @@ impl Items {
 /// The spans from that on which holds item number `from`, and its number in that span; no spans,
 /// where there is no such item.
 fn spans_from(spans: &[Span], from: usize) -> (&[Span], usize)
-    ensures { (b : Signal) (rules : RuleNumbers) → IsAt b rules spans.now from result.0.now result.1 }
+    ensures { (b : Signal) (rules : RuleNumbers) → All (IsSpan b rules) spans.now → IsAt b rules spans.now from result.0.now result.1 }
 {
     let mut rest = spans;
     let mut left = from;

@@ -76,13 +76,13 @@ fn is_valid(reading: &Reading) -> bool
 }
 
 /// The group that the block just read closes.
-pub(crate) fn closed_group(lock: Lock, blocks: &[Block; 4]) -> Group
+pub(crate) fn closed_group(lock: Lock, blocks: [Block; 4]) -> Group
     requires order { lock.first ≤ lock.number }
     requires start { HaveRoom lock.first lock.number lock.due }
-    ensures { result ≡ group_of (lock.due - 26 * (lock.number - lock.first) - 25) blocks.now }
+    ensures { result ≡ group_of (lock.due - 26 * (lock.number - lock.first) - 25) blocks }
 {
     let place = lock.due - BLOCK_PLACES * u64::from(lock.number - lock.first) - FIRST_WINDOW;
-    Group::of_blocks(place, *blocks)
+    Group::of_blocks(place, blocks)
 }
 
 /// Follows a lock by the block that is due.

@@ -49,7 +49,7 @@ pub fn decode_plain(alloc: Global, rec: &Recording, rules: &Rules) -> Result<Rep
     let mut marks = codes.marks_from(rules, 0, State::Searching);
     let _first = marks.next();
     items.push_run(first, marks, len, codes.len() as u64)?;
-    items.close(group)?;
+    items.close(end)?;
     Ok(Report {
         items,
         totals: codes.totals().plus(Totals::of_end(group)),

@@ -5,7 +5,6 @@ ghost use Rattle.rds_stream.specs.Recording.{Signal};
 ghost use Rattle.rds_sync.specs.Inside.Spans.{items_of, IsSpan};
 ghost use Rattle.rds_sync.specs.Rules.{RuleNumbers};
 
-use crate::item::Group;
 use crate::state::State;
 
 /// Items in a row, named by what gives them.
@@ -18,8 +17,8 @@ pub(crate) enum Span {
         to: u64,
         items: usize,
     },
-    /// The group that the recording's end closes.
-    End(Group),
+    /// The item of the recording's end after a run that ended in `state`: one, or none.
+    End { state: State },
 }
 
 impl Span {
@@ -29,7 +28,10 @@ impl Span {
     {
         match self {
             Span::Run { items, .. } => *items,
-            Span::End(_) => 1,
+            Span::End {
+                state: State::Locked { number, .. },
+            } if *number != 1 => 1,
+            Span::End { .. } => 0,
         }
     }
 }

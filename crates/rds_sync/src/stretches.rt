@@ -105,7 +105,7 @@ fn keep_lock(reader: &mut Reader<'_>, rules: &Rules, lock: Lock, place: u64, to:
                 return Step {
                     place: now.due + 1,
                     state: next.state(),
-                    items: [Some(Item::Group(closed_group(now, &blocks))), None],
+                    items: [Some(Item::Group(closed_group(now, blocks))), None],
                 };
             }
             Due::Lost => {
@@ -113,7 +113,7 @@ fn keep_lock(reader: &mut Reader<'_>, rules: &Rules, lock: Lock, place: u64, to:
                     place: now.due + 1,
                     state: State::Searching,
                     items: [
-                        Some(Item::Group(closed_group(now, &blocks))),
+                        Some(Item::Group(closed_group(now, blocks))),
                         Some(Item::LostLock { place: now.due }),
                     ],
                 };

@@ -2,19 +2,18 @@
 use Rattle.std.specs.Prelude.{◌≡◌, ℕ, ◌+◌, ◌-◌, ◌<◌, ◌≤◌, List, [], ◌∷◌, ◌++◌, All, drop, length}
 use Rattle.rds_stream.specs.Recording.{Signal, length_of}
 use Rattle.rds_sync.specs.declared.item.Item.{Item}
-use Rattle.rds_sync.specs.declared.item.Item.TheVariants.{Group}
 use Rattle.rds_sync.specs.declared.span.Span.{Span}
 use Rattle.rds_sync.specs.declared.span.Span.TheVariants.{Run, End}
 use Rattle.rds_sync.specs.Lawful.{IsLawful}
 use Rattle.rds_sync.specs.Ranges.{IsInRange}
 use Rattle.rds_sync.specs.Rules.{RuleNumbers}
-use Rattle.rds_sync.specs.Step.{run}
+use Rattle.rds_sync.specs.Step.{run, items_of_end}
 
 module _ (b : Signal) (rules : RuleNumbers) where
   -- the items of a span
   abbrev pub items_of : Span → List Item
   items_of (Run place state to items) = (run b rules state place (to - place)).1
-  items_of (End group) = Group group ∷ []
+  items_of (End state) = items_of_end b rules state
 
   -- the items of the spans, one after the other
   abbrev pub items_in : List Span → List Item
@@ -25,7 +24,7 @@ module _ (b : Signal) (rules : RuleNumbers) where
   abbrev pub IsSpan : Span → Type 0
   IsSpan (Run place state to items) =
       IsLawful rules place state × (place ≤ to) × (to ≤ length_of b) × (items ≡ length (run b rules state place (to - place)).1)
-  IsSpan (End group) = Unit {0}
+  IsSpan (End state) = IsLawful rules (length_of b) state
 
   -- the spans and the number of their items
   pub record AreSpans (spans : List Span) (len : ℕ) : Type 0 where
