@@ -1,10 +1,11 @@
 -- The marks of a run from its locks and codes.
-use Rattle.std.proofs.Common.{◌≡◌, ◌≢◌, ℕ, zero, suc, ◌+◌, ◌-◌, ◌*◌, ◌^◌, ◌<◌, ◌≤◌, ◌⊎◌, List, [], ◌∷◌, ◌++◌, length, Bool, true, false, refl, sym, ap, ap₂, ◌∙◌, subst, arith, inl, inr, add-zero}
+use Rattle.std.proofs.Common.{◌≡◌, ◌≢◌, ℕ, zero, suc, ◌+◌, ◌-◌, ◌*◌, ◌^◌, ◌<◌, ◌≤◌, ◌⊎◌, min, List, [], ◌∷◌, ◌++◌, length, Bool, true, false, refl, sym, ap, ap₂, ◌∙◌, subst, arith, inl, inr, add-zero}
 use Rattle.std.specs.Prelude.{if◌then◌else◌, Some}
 use Rattle.std.proofs.lemmas.Bool.{ne_eqb, eq-eqb}
 use Rattle.std.proofs.Math.Nat.{mod-eq_of_lt}
 use Rattle.std.proofs.Math.Pow.{pow_pos}
 use Rattle.rds_stream.specs.Recording.{Signal}
+use Rattle.rds_sync.specs.declared.mark.Mark.{Mark}
 use Rattle.rds_sync.specs.declared.state.State.{State}
 use Rattle.rds_sync.specs.declared.state.State.TheVariants.{Searching, Locked}
 use Rattle.rds_sync.specs.declared.item.Item.{Item}
@@ -12,18 +13,20 @@ use Rattle.rds_sync.specs.declared.item.Item.TheVariants.{Acquired, Group, LostL
 use Rattle.rds_sync.specs.declared.loss.Loss.{Loss}
 use Rattle.rds_sync.specs.declared.loss.Loss.TheVariants.{Run, Share}
 use Rattle.rds_sync.specs.declared.loss.Bad.{Bad}
-use Rattle.rds_sync.specs.declared.loss.Bad.TheVariants.{Mask}
+use Rattle.rds_sync.specs.declared.loss.Bad.TheVariants.{Run as InARow, Mask}
 use Rattle.rds_sync.specs.Rules.{RuleNumbers}
-use Rattle.rds_sync.specs.Loss.{IsLoss, none_bad, bad_after}
+use Rattle.rds_sync.specs.Loss.{IsLoss, IsLawfulBad, none_bad, bad_after}
+use Rattle.rds_sync.specs.Ranges.{blocks_seen}
 use Rattle.rds_sync.specs.Acquiring.{acquired, has_number, is_numbered}
 use Rattle.rds_sync.specs.Lawful.{IsLawful}
 use Rattle.rds_sync.specs.Groups.{group}
 use Rattle.rds_sync.specs.Step.{run, step, items_at, locked_after, bad_with}
 use Rattle.rds_sync.specs.Codes.{Outcome, Code, locked, blocks, ended, codes_of, locks_of}
-use Rattle.rds_sync.specs.Marks.{Mark, mark_where, marks_on, good_at, last_read, bad_over, Spot, after_blocks, begins_with_loss, code_marks, item_marks}
+use Rattle.rds_sync.specs.Marks.{mark_where, marks_on, good_at, last_read, bad_counted, counted_over, Spot, after_blocks, begins_with_loss, code_marks, item_marks}
 use Rattle.rds_sync.specs.MarkLaws.{CodesTellMarks}
 use Rattle.rds_sync.proofs.GroupOutcomes.{outcomes, last-read, good-at}
 use Rattle.rds_sync.proofs.LawfulLemmas.{acquired-facts, acquired-place, lawful-step}
+use Rattle.rds_sync.proofs.LossLemmas.{lawful_none}
 use Rattle.rds_sync.proofs.RunLemmas.{run-first}
 use Rattle.rds_sync.proofs.Bits.{IsGroup, Bit, still, found, found_last, heard, closed, gone, bit}
 
@@ -31,23 +34,30 @@ use Rattle.rds_sync.proofs.Bits.{IsGroup, Bit, still, found, found_last, heard, 
 abbrev spot_at : ℕ → ℕ → ℕ → Bad → Spot
 spot_at x f end bad = record { place = end + 1; state = locked_after end x bad f }
 
+-- a lock that is not lost is counted as it is kept
+counted-is : (loss : Loss) (good : Bool) (bad : Bad) → blocks_seen loss ≤ 64 → IsLawfulBad loss bad → bad_counted loss good bad ≡ bad_after loss good bad
+counted-is (Run n) true (InARow row) few lawful = refl
+counted-is (Run n) false (InARow row) few lawful = let same : min 255 (row + 1) ≡ row + 1 = omega (arith, few, lawful) in ap (λ (r : ℕ). InARow r) same
+counted-is (Run n) good (Mask mask) few lawful = refl
+counted-is (Share n v) good bad few lawful = refl
+
 -- a group's blocks from one that is due: the last alone, or the first of them and then the others
 module _ (loss : Loss) (os : List Outcome) (due x : ℕ) (bad : Bad) (f : ℕ) where
-  after-last : last_read os ≡ x → after_blocks loss os (Locked due x bad f) ≡ spot_at x f due (bad_after loss (good_at os x) bad)
+  after-last : last_read os ≡ x → after_blocks loss os (Locked due x bad f) ≡ spot_at x f due (bad_counted loss (good_at os x) bad)
   after-last e =
       let end : due + 26 * (x - x) ≡ due = omega arith in
       let one : suc x - x ≡ 1 = omega arith in
-      ap (λ (last : ℕ). spot_at last f (due + 26 * (last - x)) (bad_over loss os bad x (suc last - x))) e
-      ∙ ap₂ (λ (p n : ℕ). spot_at x f p (bad_over loss os bad x n)) end one
+      ap (λ (last : ℕ). spot_at last f (due + 26 * (last - x)) (counted_over loss os bad x (suc last - x))) e
+      ∙ ap₂ (λ (p n : ℕ). spot_at x f p (counted_over loss os bad x n)) end one
 
   after-first : (last : ℕ) → last_read os ≡ last → x < last
-      → after_blocks loss os (Locked due x bad f) ≡ after_blocks loss os (Locked (due + 26) (x + 1) (bad_after loss (good_at os x) bad) f)
+      → after_blocks loss os (Locked due x bad f) ≡ after_blocks loss os (Locked (due + 26) (x + 1) (bad_counted loss (good_at os x) bad) f)
   after-first last e more =
       let end : due + 26 * (last - x) ≡ due + 26 + 26 * (last - (x + 1)) = omega arith in
       let count : suc last - x ≡ suc (suc last - (x + 1)) = omega arith in
-      ap (λ (y : ℕ). spot_at y f (due + 26 * (y - x)) (bad_over loss os bad x (suc y - x))) e
-      ∙ ap₂ (λ (p n : ℕ). spot_at last f p (bad_over loss os bad x n)) end count
-      ∙ sym (ap (λ (y : ℕ). spot_at y f (due + 26 + 26 * (y - (x + 1))) (bad_over loss os (bad_after loss (good_at os x) bad) (x + 1) (suc y - (x + 1)))) e)
+      ap (λ (y : ℕ). spot_at y f (due + 26 * (y - x)) (counted_over loss os bad x (suc y - x))) e
+      ∙ ap₂ (λ (p n : ℕ). spot_at last f p (counted_over loss os bad x n)) end count
+      ∙ sym (ap (λ (y : ℕ). spot_at y f (due + 26 + 26 * (y - (x + 1))) (counted_over loss os (bad_counted loss (good_at os x) bad) (x + 1) (suc y - (x + 1)))) e)
 
 -- where no loss comes first, the place before does not matter
 place-free : (loss : Loss) (locks : List ℕ) (codes : List Code) (p q : ℕ) (s : State) (before : ℕ) → begins_with_loss codes ≡ false
@@ -74,16 +84,17 @@ module _ (b : Signal) (rules : RuleNumbers) where
   acquired-number a x e = let f = acquired-facts b rules a x e in ap (λ o. is_numbered o x) f.here ∙ eq-eqb _ x f.number_is
 
   -- after the last block of a group that was read
-  after-group : (a x : ℕ) (bad : Bad) (f : ℕ) → IsGroup f x a
+  after-group : (a x : ℕ) (bad : Bad) (f : ℕ) → blocks_seen rules.loss ≤ 64 → IsLawfulBad rules.loss bad → IsGroup f x a
       → after_blocks rules.loss (outcomes (group b rules f x a)) (Locked a x bad f) ≡ spot_at x f a (bad_with b rules a x bad)
-  after-group a x bad f is =
+  after-group a x bad f few lawful is =
       let place : a - 26 * (x - x) ≡ a = omega arith in
       after-last rules.loss (outcomes (group b rules f x a)) a x bad f (last-read b rules f x a is.some is.order is.four)
+      ∙ ap (λ (c : Bad). spot_at x f a c) (counted-is rules.loss (good_at (outcomes (group b rules f x a)) x) bad few lawful)
       ∙ ap (λ (good : Bool). spot_at x f a (bad_after rules.loss good bad))
       (good-at b rules f x a x is.some is.order (omega arith) is.four is.room ∙ ap (λ (p : ℕ). has_number b p x) place)
 
   -- a run begins with no loss
-  module _ (loss : IsLoss rules.loss) where
+  module _ (loss : IsLoss rules.loss) (few : blocks_seen rules.loss ≤ 64) where
     next-lawful : (a : ℕ) (s t : State) → IsLawful rules a s → step b rules a s ≡ t → IsLawful rules (a + 1) t
     next-lawful a s t lawful e = subst (λ (u : State). IsLawful rules (a + 1) u) e (lawful-step b rules loss a s lawful)
 
@@ -164,13 +175,13 @@ module _ (b : Signal) (rules : RuleNumbers) where
               (items-first s _ _ a n e i ∙ ap (λ (h : ℕ). Group (group b rules h y a) ∷ LostLock a ∷ (run b rules Searching (a + 1) n).1) f_is)
 
     -- a block that is heard gives no mark, and says what the group's code says of it
-    heard-marks : (locks : List ℕ) (items : List Item) (a x : ℕ) (bad : Bad) (f before : ℕ) → IsGroup f x a → x ≢ 4 → NextGroup (a + 26) (x + 1) f items
+    heard-marks : (locks : List ℕ) (items : List Item) (a x : ℕ) (bad : Bad) (f before : ℕ) → IsLawfulBad rules.loss bad → IsGroup f x a → x ≢ 4 → NextGroup (a + 26) (x + 1) f items
         → code_marks rules.loss locks (codes_of items) (record { place = a + 1; state = Locked (a + 26) (x + 1) (bad_with b rules a x bad) f }) before
         ≡ code_marks rules.loss locks (codes_of items) (record { place = a; state = Locked a x bad f }) before
-    heard-marks locks items a x bad f before g ne (inl none) =
+    heard-marks locks items a x bad f before kept g ne (inl none) =
         ap (λ (is : List Item). code_marks rules.loss locks (codes_of is) (record { place = a + 1; state = Locked (a + 26) (x + 1) (bad_with b rules a x bad) f }) before) none
         ∙ sym (ap (λ (is : List Item). code_marks rules.loss locks (codes_of is) (record { place = a; state = Locked a x bad f }) before) none)
-    heard-marks locks items a x bad f before g ne (inr next) =
+    heard-marks locks items a x bad f before kept g ne (inr next) =
         let last : ℕ = next.last in
         let p : ℕ = a + 26 + 26 * (last - (x + 1)) in
         let os : List Outcome = outcomes (group b rules f last p) in
@@ -182,6 +193,7 @@ module _ (b : Signal) (rules : RuleNumbers) where
         good-at b rules f last p x g.some g.order (omega arith) next.range.1 (omega arith) ∙ ap (λ (q : ℕ). has_number b q x) place in
         let same : after_blocks rules.loss os (Locked a x bad f) ≡ after_blocks rules.loss os (Locked (a + 26) (x + 1) (bad_with b rules a x bad) f) =
         after-first rules.loss os a x bad f last (last-read b rules f last p g.some (omega arith) next.range.1) (omega arith)
+        ∙ ap (λ (c : Bad). after_blocks rules.loss os (Locked (a + 26) (x + 1) c f)) (counted-is rules.loss (good_at os x) bad few kept)
         ∙ ap (λ (t : Bool). after_blocks rules.loss os (Locked (a + 26) (x + 1) (bad_after rules.loss t bad) f)) good in
         ap (λ (is : List Item). code_marks rules.loss locks (codes_of is) (record { place = a + 1; state = Locked (a + 26) (x + 1) (bad_with b rules a x bad) f }) before) next.items_are
         ∙ ap (λ (spot : Spot). group_then rules.loss locks os (codes_of next.rest) before spot) (sym same)
@@ -210,6 +222,9 @@ module _ (b : Signal) (rules : RuleNumbers) where
     pub marks : (n a : ℕ) (s : State) (before : ℕ) → IsLawful rules a s → marks_on b rules s a before n ≡ item_marks rules.loss (run b rules s a n).1 s a before
     marks zero a s before lawful = refl
     marks (suc n) a s before lawful = at_case (bit b rules a s lawful) (λ t c l. marks n (a + 1) t c l) where
+      bad-of : (x : ℕ) (bad : Bad) (f : ℕ) → s ≡ Locked a x bad f → IsLawfulBad rules.loss bad
+      bad-of x bad f is = let lock = subst (λ (u : State). IsLawful rules a u) is lawful in lock.few_bad
+
       at_case : Bit b rules a s
           → ((t : State) (c : ℕ) → IsLawful rules (a + 1) t → marks_on b rules t (a + 1) c n ≡ item_marks rules.loss (run b rules t (a + 1) n).1 t (a + 1) c)
           → marks_on b rules s a before (suc n) ≡ item_marks rules.loss (run b rules s a (suc n)).1 s a before
@@ -235,7 +250,7 @@ module _ (b : Signal) (rules : RuleNumbers) where
           let late = acquired-place b rules a 4 acquires in
           let os : List Outcome = outcomes (group b rules 4 4 a) in
           let after : after_blocks rules.loss os (Locked a 4 (none_bad rules.loss) 4) ≡ record { place = a + 1; state = t } =
-          after-group a 4 (none_bad rules.loss) 4 (record { some = omega arith; order = omega arith; four = omega arith; room = omega arith })
+          after-group a 4 (none_bad rules.loss) 4 few (lawful_none rules.loss loss) (record { some = omega arith; order = omega arith; four = omega arith; room = omega arith })
           ∙ ap (λ (good : Bool). spot_at 4 4 a (bad_after rules.loss good (none_bad rules.loss))) (acquired-number a 4 acquires)
           ∙ ap (λ (bad : Bad). spot_at 4 4 a bad) (none-kept rules.loss) in
           first-marks s t (Acquired a 4 ∷ Group (group b rules 4 4 a) ∷ []) a n before e i (rest t (before + 2) later)
@@ -247,7 +262,7 @@ module _ (b : Signal) (rules : RuleNumbers) where
           let later = next-lawful a s t lawful e in
           first-marks s t [] a n before e i (rest t (before + 0) later)
           (ap (λ (k : ℕ). item_marks rules.loss items t (a + 1) k) (add-zero before)
-          ∙ heard-marks (locks_of items) items a x bad f before g ne (next-group n (a + 1) t (a + 26) (x + 1) (bad_with b rules a x bad) f refl later)
+          ∙ heard-marks (locks_of items) items a x bad f before (bad-of x bad f is) g ne (next-group n (a + 1) t (a + 26) (x + 1) (bad_with b rules a x bad) f refl later)
           ∙ sym (ap (λ (u : State). item_marks rules.loss items u a before) is))
       at_case (closed bad f is g e i) rest =
           let t : State = locked_after a 4 (bad_with b rules a 4 bad) f in
@@ -256,15 +271,15 @@ module _ (b : Signal) (rules : RuleNumbers) where
           let os : List Outcome = outcomes (group b rules f 4 a) in
           first-marks s t (Group (group b rules f 4 a) ∷ []) a n before e i (rest t (before + 1) later)
           (group-marks (locks_of items) os (codes_of items) before (before + 1) (record { place = a; state = s }) (record { place = a + 1; state = t })
-          (no-loss n (a + 1) t later) (ap (λ (u : State). after_blocks rules.loss os u) is ∙ after-group a 4 bad f g) refl)
+          (no-loss n (a + 1) t later) (ap (λ (u : State). after_blocks rules.loss os u) is ∙ after-group a 4 bad f few (bad-of 4 bad f is) g) refl)
       at_case (gone x bad f is g e i) rest =
           let items : List Item = (run b rules Searching (a + 1) n).1 in
           let os : List Outcome = outcomes (group b rules f x a) in
-          let spot : after_blocks rules.loss os s ≡ spot_at x f a (bad_with b rules a x bad) = ap (λ (u : State). after_blocks rules.loss os u) is ∙ after-group a x bad f g in
+          let spot : after_blocks rules.loss os s ≡ spot_at x f a (bad_with b rules a x bad) = ap (λ (u : State). after_blocks rules.loss os u) is ∙ after-group a x bad f few (bad-of x bad f is) g in
           let count : before + 2 ≡ before + 1 + 1 = omega arith in
           first-marks s Searching (Group (group b rules f x a) ∷ LostLock a ∷ []) a n before e i (rest Searching (before + 2) (next-lawful a s Searching lawful e))
           (ap₂ (λ (p k : ℕ). record { place = p; state = Searching; items = k } ∷ code_marks rules.loss (locks_of items) (codes_of items) (record { place = p; state = Searching }) k)
           (sym (ap (λ (u : Spot). u.place) spot)) count)
 
 pub codes_tell_marks : CodesTellMarks
-codes_tell_marks b rules loss s a before bits lawful = marks b rules loss bits a s before lawful
+codes_tell_marks b rules loss s a before bits lawful = marks b rules loss.0 loss.1 bits a s before lawful

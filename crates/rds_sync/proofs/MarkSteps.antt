@@ -2,9 +2,10 @@
 use Rattle.std.proofs.Common.{◌≡◌, ℕ, zero, suc, ◌+◌, List, [], ◌∷◌, drop, get_or, refl, sym, ap, ap₂, ◌∙◌, arith, add-zero}
 use Rattle.std.specs.Prelude.{if◌then◌else◌}
 use Rattle.std.proofs.lemmas.List.{drop_more}
+use Rattle.rds_sync.specs.declared.mark.Mark.{Mark}
 use Rattle.rds_sync.specs.declared.loss.Loss.{Loss}
 use Rattle.rds_sync.specs.Codes.{Code, locked, blocks, ended}
-use Rattle.rds_sync.specs.Marks.{Mark, Spot, after_code, goes_on, code_marks, first_lock, locks_after}
+use Rattle.rds_sync.specs.Marks.{Spot, after_code, goes_on, code_marks, first_lock, locks_after}
 use Rattle.rds_sync.specs.MarkLaws.{MarksGoOn, locks_in}
 
 first_is : (l : ℕ) (locks : List ℕ) → first_lock (drop l locks) ≡ get_or locks l 0

@@ -2,4 +2,7 @@
 pub mod Due
 pub mod GroupParts
 pub mod Locks
+pub mod CodeCursors
+pub mod CodeParts
+pub mod CodeTotals
 pub mod Spans

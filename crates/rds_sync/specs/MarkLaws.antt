@@ -2,6 +2,7 @@
 use Rattle.std.specs.Prelude.{◌≡◌, ℕ, ◌+◌, ◌-◌, ◌<◌, ◌≤◌, List, [], ◌∷◌, map, false, length, drop, slice_index_or, if◌then◌else◌}
 use Rattle.rds_stream.specs.Recording.{Signal}
 use Rattle.rds_sync.specs.declared.state.State.{State}
+use Rattle.rds_sync.specs.declared.mark.Mark.{Mark}
 use Rattle.rds_sync.specs.Rules.{RuleNumbers}
 use Rattle.rds_sync.specs.declared.state.State.TheVariants.{Locked}
 use Rattle.rds_sync.specs.declared.loss.Bad.{Bad}
@@ -13,7 +14,7 @@ use Rattle.rds_sync.specs.Lawful.{IsLawful}
 use Rattle.rds_sync.specs.Step.{run}
 use Rattle.rds_sync.specs.declared.loss.Loss.{Loss}
 use Rattle.rds_sync.specs.Codes.{Outcome, outcome_of, Code, ended, is_locked}
-use Rattle.rds_sync.specs.Marks.{Mark, bad_over, marks_on, item_marks, Spot, after_code, goes_on, code_marks}
+use Rattle.rds_sync.specs.Marks.{bad_over, marks_on, item_marks, Spot, after_code, goes_on, code_marks}
 
 -- the marks of a run are those of its locks and codes, under both rules of loss, from each lawful state on
 abbrev pub CodesTellMarks : Type 0

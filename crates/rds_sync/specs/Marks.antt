@@ -57,8 +57,8 @@ bad_over loss os bad y (suc more) = bad_over loss os (bad_after loss (good_at os
 
 -- one block more: a row is counted up to 255, which is more than any lock has that is not lost
 abbrev pub bad_counted : Loss → Bool → Bad → Bad
-bad_counted (Run n) good (InARow row) = InARow (if good then 0 else min 255 (row + 1))
-bad_counted loss good bad = bad_after loss good bad
+bad_counted (Run n) valid (InARow row) = InARow (if valid then 0 else min 255 (row + 1))
+bad_counted loss valid bad = bad_after loss valid bad
 
 -- what is counted once so many blocks from number y on were read
 abbrev pub counted_over : Loss → List Outcome → Bad → ℕ → ℕ → Bad

@@ -1,20 +1,19 @@
 //! What a run keeps of its items: a code of 16 bits each, and the places of the acquisitions.
 
 ghost use Rattle.std.specs.Prelude.{◌≡◌, ◌≤◌, ◌<◌, ◌+◌, ◌*◌, ◌^◌, [], ◌∷◌, length, take, IfOk, OnOk, OnErr};
-ghost use Rattle.rds_sync.specs.Codes.{KeptOf, kept_of, no_codes, behind, kept_from, totals_of_codes, AreLocks};
+ghost use Rattle.rds_sync.specs.Codes.{kept_of, no_codes, behind, kept_from, totals_of_codes, AreLocks};
 ghost use Rattle.rds_sync.specs.Counting.{IsAtMost};
 ghost use Rattle.rds_sync.specs.Lawful.{IsLawful};
 ghost use Rattle.rds_sync.specs.Marks.{marks_from};
 ghost use Rattle.rds_sync.specs.Words.{IsKeepable};
 
 use crate::code_part::CodePart;
+use crate::code_totals::totals_of_words;
 use crate::item::Item;
-use crate::marks::Marks;
-use crate::rules::Rules;
-use crate::state::State;
 use crate::totals::Totals;
 use std::alloc::{AllocError, Global};
 use std::marker::Model;
+use std::mem;
 
 /// What is kept of a list of items: a code each, which says of a group how its blocks came out, of an acquisition the
 /// number of its block, or that the lock was lost; and the places of the acquisitions. This project's rule.
@@ -30,15 +29,12 @@ pub struct Codes {
 }
 
 impl Model for Codes {
-    ghost use Rattle.std.specs.Prelude.{All};
-    ghost use Rattle.rds_sync.specs.Codes.{KeptOf, AreLocks, behind};
+    ghost use Rattle.rds_sync.specs.Codes.{KeptOf, behind};
     ghost use Rattle.rds_sync.specs.Inside.CodeParts.{kept_in};
 
     ghost Value = { KeptOf };
 
     ghost view = { λ s. behind (kept_in s.before.items) s.last };
-
-    ghost invariant = { λ s. All AreLocks s.before.items };
 }
 
 impl Codes {
@@ -53,12 +49,13 @@ impl Codes {
     }
 
     /// No codes, with room for so many. Fails only for want of memory.
-    pub fn with_room(alloc: Global, items: usize) -> Result<Codes, AllocError>
-        ensures { IfOk result (λ codes. codes ≡ no_codes) }
+    pub fn with_room(alloc: Global, codes: usize) -> Result<Codes, AllocError>
+        ensures { IfOk result (λ made. made ≡ no_codes) }
     {
+        let last = CodePart::with_room(alloc, codes)?;
         Ok(Codes {
             before: Vec::new(alloc),
-            last: CodePart::with_room(alloc, items)?,
+            last,
         })
     }
 
@@ -72,16 +69,16 @@ impl Codes {
         }
     }
 
-    /// How many codes there are: of the items that they stand for.
+    /// How many codes there are, of at most 2^40: as many as items that they stand for. They are counted part by part.
     pub fn len(&self) -> usize
         requires { length self.now.codes ≤ 2 ^ 40 }
         ensures { result ≡ length self.now.codes }
     {
-        let mut len = 0;
+        let mut len = self.last.len();
         for part in &self.before {
             len += part.len();
         }
-        len + self.last.len()
+        len
     }
 
     /// Appends the code of an item, and the place of an acquisition. The item is one that can be kept: no number of a
@@ -96,10 +93,10 @@ impl Codes {
     }
 
     /// Appends the codes of `other` from number `first` on, with the places of the acquisitions among them. Its parts
-    /// are moved, and none is copied. Refused memory, the codes may be any.
+    /// are moved, and none is copied; those before are dropped. Refused memory, the codes may be any.
     pub fn append(&mut self, other: Codes, first: usize) -> Result<(), AllocError>
         requires { first ≤ length other.codes }
-        ensures ok { OnOk result (self.new ≡ behind self.old (kept_from first other)) }
+        ensures { OnOk result (self.new ≡ behind self.old (kept_from first other)) }
     {
         let Codes { before, last } = other;
         let mut left = first;
@@ -134,28 +131,18 @@ impl Codes {
         let mut totals = Totals::NONE;
         let mut left = n;
         for part in &self.before {
-            let now = left.min(part.len());
-            totals = totals.plus(part.totals_of_first(now));
+            let (words, _) = part.lent();
+            let now = left.min(words.len());
+            totals = totals.plus(totals_of_words(&words[..now]));
             left -= now;
         }
-        totals.plus(self.last.totals_of_first(left))
-    }
-
-    /// The marks of the run that gave these items, from `state` at `place` on: the place itself, and each place after a
-    /// bit that gave an item, with the state there and how many items stand before it. They are told by the codes and
-    /// the places of the acquisitions, in order, and no bit is read. Takes no memory.
-    pub fn marks_from(&self, rules: &Rules, place: u64, state: State) -> Marks<'_>
-        requires lawful { IsLawful rules.now place state }
-        requires place { place ≤ 2 ^ 36 }
-        requires few { length self.now.codes ≤ 2 ^ 40 }
-        ensures { result ≡ marks_from rules.now.loss self.now place state }
-    {
-        Marks::over(&self.before, &self.last, rules, place, state)
+        let (words, _) = self.last.lent();
+        totals.plus(totals_of_words(&words[..left]))
     }
 
     /// Appends a part.
     fn push_part(&mut self, part: CodePart) -> Result<(), AllocError>
-        ensures ok { OnOk result (self.new ≡ behind self.old part) }
+        ensures { OnOk result (self.new ≡ behind self.old part) }
     {
         let before = mem::replace(&mut self.last, part);
         self.before.push(before)?;

@@ -55,7 +55,7 @@ impl Totals {
     }
 
     /// The totals of so many groups of four valid blocks.
-    fn of_whole(groups: u64) -> Totals
+    pub(crate) fn of_whole(groups: u64) -> Totals
         requires { groups ≤ 2 ^ 40 }
         ensures value { result ≡ whole_totals groups }
         ensures small { IsAtMost (4 * groups) result }

@@ -1,7 +1,7 @@
 //! A code as a word of 16 bits: a group by four bits a block, block 1 lowest; above all groups the acquisitions, by the
 //! number of their block, and the loss.
 
-ghost use Rattle.std.specs.Prelude.{◌≡◌, ◌≤◌, ◌<◌, ◌+◌, ◌^◌, map};
+ghost use Rattle.std.specs.Prelude.{◌≡◌, ◌≤◌, ◌<◌, ◌+◌, ◌^◌, map, count_by};
 ghost use Rattle.rds_sync.specs.Codes.{outcome_of, blocks, is_locked};
 ghost use Rattle.rds_sync.specs.Words.{nibble, word_of, word_of_blocks, code_in};
 
@@ -47,4 +47,17 @@ pub(crate) fn is_locked(word: u16) -> bool
     ensures { result ≡ is_locked (code_in word) }
 {
     LOCKED <= word && word < ENDED
+}
+
+/// How many of these are the words of acquisitions.
+pub(crate) fn locks_in(words: &[u16]) -> usize
+    ensures { result ≡ count_by is_locked (map code_in words.now) }
+{
+    let mut count = 0;
+    for word in words {
+        if is_locked(*word) {
+            count += 1;
+        }
+    }
+    count
 }
