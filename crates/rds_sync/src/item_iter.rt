@@ -52,17 +52,19 @@ impl<'a> ItemIter<'a> {
         requires within { first + count ≤ length (items_in recording.now rules.now spans.now) }
         ensures { result ≡ take count (drop first (items_in recording.now rules.now spans.now)) }
     {
-        let mut items = ItemIter {
+        let mut decoder = Decoder::new(recording, rules, State::Searching, 0, 0);
+        let mut rest = spans;
+        for _number in 0..first {
+            let (_item, after) = next_in(recording, rules, &mut decoder, rest);
+            rest = after;
+        }
+        ItemIter {
             recording,
             rules,
-            decoder: Decoder::new(recording, rules, State::Searching, 0, 0),
-            spans,
-            left: first + count,
-        };
-        for _ in 0..first {
-            let _ = items.next();
+            decoder,
+            spans: rest,
+            left: count,
         }
-        items
     }
 }
 
