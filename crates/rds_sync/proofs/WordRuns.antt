@@ -122,7 +122,7 @@ module _ (laws : BurstLaws) where
     at_case false = tt
     at_case true = reading-short (heard b (p - 26 * (x - y))) y wanted rules.burst low high few
 
-  group-small : (b : Signal) (rules : RuleNumbers) (f x p : ℕ) → rules.burst ≤ 5 → IsSmall (blocks (outcomes (group b rules f x p)))
+  pub group-small : (b : Signal) (rules : RuleNumbers) (f x p : ℕ) → rules.burst ≤ 5 → IsSmall (blocks (outcomes (group b rules f x p)))
   unfolding group
   group-small b rules f x p few =
       let one = block-short b rules f x p Either 1 (omega arith) (omega arith) few in

@@ -1,8 +1,9 @@
 -- What the bodies of this crate cite, and no contract of a public function.
+pub mod CodeCursors
+pub mod CodeParts
+pub mod CodeRuns
+pub mod CodeTotals
 pub mod Due
 pub mod GroupParts
 pub mod Locks
-pub mod CodeCursors
-pub mod CodeParts
-pub mod CodeTotals
 pub mod Spans

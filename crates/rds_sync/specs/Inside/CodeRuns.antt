@@ -1,0 +1,35 @@
+-- A run that keeps codes, part by part: the implementation's own, which no caller sees.
+use Rattle.std.specs.Prelude.{◌≡◌, ℕ, ◌-◌, ◌<◌, ◌≤◌, Bool, true}
+use Rattle.rds_stream.specs.Recording.{Signal}
+use Rattle.rds_sync.specs.declared.due.Lock.{Lock}
+use Rattle.rds_sync.specs.declared.loss.Bad.{Bad}
+use Rattle.rds_sync.specs.declared.loss.Loss.{Loss}
+use Rattle.rds_sync.specs.declared.state.State.{State}
+use Rattle.rds_sync.specs.Codes.{KeptOf, behind, kept_of}
+use Rattle.rds_sync.specs.Inside.Due.{state_in}
+use Rattle.rds_sync.specs.Lawful.{IsLawful}
+use Rattle.rds_sync.specs.Loss.{IsLawfulBad, bad_after}
+use Rattle.rds_sync.specs.Rules.{RuleNumbers}
+use Rattle.rds_sync.specs.Step.{run}
+
+-- how far the run from state s before `place` came, and what was kept of what it gave
+pub record IsCodeStretch (b : Signal) (rules : RuleNumbers) (s : State) (place to : ℕ) (before : KeptOf) (reached : ℕ × State) (after : KeptOf) : Type 0 where
+  pub forward : place < reached.0
+  pub limit : reached.0 ≤ to
+  pub state : reached.1 ≡ (run b rules s place (reached.0 - place)).0
+  pub codes : after ≡ behind before (kept_of (run b rules s place (reached.0 - place)).1)
+  pub lawful : IsLawful rules reached.0 reached.1
+
+-- what is kept of the bad blocks after four good ones
+abbrev pub after_four_good : Loss → Bad → Bad
+after_four_good loss bad = bad_after loss true (bad_after loss true (bad_after loss true (bad_after loss true bad)))
+
+-- the lock came from between two groups to between two others, and what was kept is that of the groups in between
+pub record HasPassed (b : Signal) (rules : RuleNumbers) (lock : Lock) (to : ℕ) (before : KeptOf) (now : Lock) (after : KeptOf) : Type 0 where
+  pub between : (now.number ≡ 1) × (now.first ≡ 1)
+  pub few_bad : IsLawfulBad rules.loss now.bad
+  pub from_on : lock.due ≤ now.due
+  pub limit : lock.due < now.due → now.due - 25 ≤ to
+  pub far : lock.due < now.due → lock.due < now.due - 25
+  pub state : (run b rules (state_in lock) (lock.due - 25) (now.due - lock.due)).0 ≡ state_in now
+  pub codes : after ≡ behind before (kept_of (run b rules (state_in lock) (lock.due - 25) (now.due - lock.due)).1)
