@@ -20,9 +20,11 @@ pub(crate) struct Joins<'a, W, G> {
 }
 
 impl<W: Work, G: Gate> Parts for Joins<'_, W, G> {
+    type Made = PieceRun;
+
     ghost how_many = { λ j. length j.below.now / 2 };
 
-    ghost run_of = { λ j. run_above (W.recording j.work.now) (W.rule_set j.work.now) j.below.now };
+    ghost made_of = { λ j. run_above (W.recording j.work.now) (W.rule_set j.work.now) j.below.now };
 
     ghost ready = { λ j. FollowEachOther (W.recording j.work.now) (W.rule_set j.work.now)
         0 (length_of (W.recording j.work.now)) j.below.now };

@@ -11,4 +11,4 @@ pub returns-clause-runs : goal.returns-clause-runs
 returns-clause-runs g c =
     let b = g.W.Work.recording c.args.work.now in
     let r = g.W.Work.rule_set c.args.work.now in
-    c.in_ok-with_last.ensures ∙ above_in_parts b r c.args.below.items c.in_ok-joined.joined.items (rw c.as_slice.ensures.value at c.in_ok-joined.ensures.runs)
+    c.in_ok-with_last.ensures ∙ above_in_parts b r c.args.below.items c.in_ok-joined.joined.items (rw c.as_slice.ensures.value at c.in_ok-joined.ensures.made)
