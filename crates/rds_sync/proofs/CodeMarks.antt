@@ -79,7 +79,7 @@ none-kept (Run n) = refl
 none-kept (Share n v) = let some : 1 ≤ 2 ^ v = omega (arith, pow_pos v) in ap (λ (m : ℕ). Mask m) (mod-eq_of_lt {n = 0} {m = 2 ^ v} some)
 
 module _ (b : Signal) (rules : RuleNumbers) where
-  acquired-number : (a x : ℕ) → acquired b rules a ≡ Some x → has_number b a x ≡ true
+  pub acquired-number : (a x : ℕ) → acquired b rules a ≡ Some x → has_number b a x ≡ true
   unfolding has_number
   acquired-number a x e = let f = acquired-facts b rules a x e in ap (λ o. is_numbered o x) f.here ∙ eq-eqb _ x f.number_is
 

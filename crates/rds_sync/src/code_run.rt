@@ -1,8 +1,8 @@
 //! A run that keeps codes in place of items.
 
-ghost use Rattle.std.specs.Prelude.{◌≡◌, ◌≤◌, ◌<◌, ◌+◌, ◌-◌, ◌^◌, ◌&&◌, IfOk, OnOk, IsOkUnless};
-ghost use Rattle.rds_stream.specs.Recording.{length_of};
-ghost use Rattle.rds_sync.specs.Acquiring.{has_number};
+ghost use Rattle.std.specs.Prelude.{◌≡◌, ◌≤◌, ◌<◌, ◌+◌, ◌-◌, ◌^◌, ◌&&◌, Some, IfOk, OnOk, IsOkUnless};
+ghost use Rattle.rds_stream.specs.Recording.{Signal, length_of};
+ghost use Rattle.rds_sync.specs.Acquiring.{acquired, has_number};
 ghost use Rattle.rds_sync.specs.Codes.{kept_of, behind};
 ghost use Rattle.rds_sync.specs.Inside.CodeRuns.{IsCodeStretch, HasPassed, after_four_good};
 ghost use Rattle.rds_sync.specs.Inside.Due.{state_in, state_of};
@@ -10,6 +10,7 @@ ghost use Rattle.rds_sync.specs.Inside.Locks.{IsFollowed, IsInProgress, IsReadab
 ghost use Rattle.rds_sync.specs.Lawful.{IsLawful, IsLawfulLock};
 ghost use Rattle.rds_sync.specs.Loss.{IsLawfulBad};
 ghost use Rattle.rds_sync.specs.Ranges.{IsLossInRange};
+ghost use Rattle.rds_sync.specs.Rules.{RuleNumbers};
 ghost use Rattle.rds_sync.specs.Step.{run, step, items_at};
 ghost use Rattle.rds_sync.specs.declared.state.State.TheVariants.{Searching};
 
@@ -27,7 +28,7 @@ use crate::state::State;
 use crate::words::{CLEAN, ENDED};
 use rds_code::laws::{bursts_are_listed, readings_follow_the_rule};
 use rds_stream::{FIRST_WINDOW, Reader, Recording, ValidWindows};
-use std::alloc::Global;
+use std::alloc::{AllocError, Global};
 
 /// How many places a group takes.
 const GROUP_PLACES: u64 = 4 * BLOCK_PLACES;
@@ -148,10 +149,7 @@ fn search_codes(
     for (here, offset) in ValidWindows::new(rec, place, to) {
         let number = offset.number();
         if has_partner_in(rec, rules, here, number) {
-            codes.push_lock(here, number)?;
-            if number == 4 {
-                codes.push_word(LAST_BLOCK)?;
-            }
+            push_found(codes, here, number)?;
             let lock = Lock::after_block(here, number, rules.loss().none_bad(), number);
             return Ok((here + 1, lock.state()));
         }
@@ -161,6 +159,20 @@ fn search_codes(
 
 /// The word of a group of a valid block 4 alone.
 const LAST_BLOCK: u16 = 0x1000;
+
+/// Appends what a block of this number that acquires gives: itself, and as block 4 the group that it closes alone.
+fn push_found(codes: &mut CodePart, place: u64, number: u8) -> Result<(), AllocError>
+    requires place { (25 ≤ place) × (place < 2 ^ 36) }
+    requires number { number ≤ 4 }
+    ensures { (b : Signal) (rules : RuleNumbers) → acquired b rules place ≡ Some number
+        → OnOk result (codes.new ≡ behind codes.old (kept_of (items_at b rules place Searching))) }
+{
+    codes.push_lock(place, number)?;
+    if number == 4 {
+        codes.push_word(LAST_BLOCK)?;
+    }
+    Ok(())
+}
 
 /// Follows a lock over the clean groups that come next, or where there is none up to and including the block that
 /// closes its group, or up to `to` where none is due before it.
@@ -180,6 +192,7 @@ fn keep_codes(
     ensures same { reader.new ≡ reader.old }
     ensures only_memory { IsOkUnless result SyncError.OutOfMemory }
 {
+    prove!(to <= reader.recording().len());
     if lock.number == 1 {
         let next = pass_clean_groups(reader, rules, lock, to, codes)?;
         if next.due > lock.due {
