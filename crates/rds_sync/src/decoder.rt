@@ -44,8 +44,8 @@ impl<'a> Model for Decoder<'a> {
     ghost Value = { DecoderOf };
 
     ghost view = { λ d. record {
-        items = items_in (d.ready ∷ []) ++ (run d.reader d.rules.now d.state d.place (d.to - d.place)).1;
-        end = (run d.reader d.rules.now d.state d.place (d.to - d.place)).0;
+      items = items_in (d.ready ∷ []) ++ (run d.reader d.rules.now d.state d.place (d.to - d.place)).1;
+      end = (run d.reader d.rules.now d.state d.place (d.to - d.place)).0;
     } };
 
     ghost invariant = { λ d. IsLawful d.rules.now d.place d.state × (d.place ≤ d.to) × (d.to ≤ length_of d.reader) };
@@ -54,7 +54,13 @@ impl<'a> Model for Decoder<'a> {
 impl<'a> Decoder<'a> {
     /// The items of the run from `state` over the bits at `from` to `to` - 1. Windows may begin before `from`. The item
     /// of the recording's end is not among them: see [`finish`](crate::finish).
-    pub fn new(rec: &'a Recording, rules: &'a Rules, state: State, from: u64, to: u64) -> Decoder<'a>
+    pub fn new(
+        rec: &'a Recording,
+        rules: &'a Rules,
+        state: State,
+        from: u64,
+        to: u64,
+    ) -> Decoder<'a>
         requires lawful { IsLawful rules.now from state }
         requires order { from ≤ to }
         requires within { to ≤ length_of rec.now }
@@ -102,7 +108,13 @@ impl<'a> Iterator for Decoder<'a> {
         if self.place == self.to {
             return None;
         }
-        let step = stretch(&mut self.reader, self.rules, self.state, self.place, self.to);
+        let step = stretch(
+            &mut self.reader,
+            self.rules,
+            self.state,
+            self.place,
+            self.to,
+        );
         self.place = step.place;
         self.state = step.state;
         let [first, second] = step.items;

@@ -137,7 +137,10 @@ fn first_of<'a>(
 {
     match span {
         Span::Run {
-            place, state, to, ..
+            place,
+            state,
+            to,
+            ..
         } => {
             *decoder = Decoder::new(recording, rules, state, place, to);
             decoder.next()

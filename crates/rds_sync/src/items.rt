@@ -103,7 +103,13 @@ impl Items {
 
     /// The items number `from` to `to` - 1 in order, of the recording and by the rules that they are of. The spans
     /// before them are passed over, and of the first one of theirs what stands before them is decoded.
-    pub fn range<'a>(&'a self, rec: &'a Recording, rules: &'a Rules, from: usize, to: usize) -> ItemIter<'a>
+    pub fn range<'a>(
+        &'a self,
+        rec: &'a Recording,
+        rules: &'a Rules,
+        from: usize,
+        to: usize,
+    ) -> ItemIter<'a>
         requires source { self.now.source ≡ rec.now }
         requires rules { self.now.rules ≡ rules.now }
         requires order { from ≤ to }
@@ -120,7 +126,13 @@ impl Items {
     ///
     /// Its cost is that of the marks, a few steps each; a span takes memory once in some thousand items. Refused memory,
     /// it leaves the list as it was.
-    pub fn push_run(&mut self, first: Mark, marks: Marks<'_>, to: u64, items: u64) -> Result<(), AllocError>
+    pub fn push_run(
+        &mut self,
+        first: Mark,
+        marks: Marks<'_>,
+        to: u64,
+        items: u64,
+    ) -> Result<(), AllocError>
         requires lawful { IsLawful self.old.rules first.place first.state }
         requires order { first.place ≤ to }
         requires within { to ≤ length_of self.old.source }
@@ -135,7 +147,15 @@ impl Items {
         let Some(len) = self.len.checked_add((items - first.items) as usize) else {
             return Err(AllocError);
         };
-        match push_spans(&self.source, self.rules, &mut self.spans, first, marks, to, items) {
+        match push_spans(
+            &self.source,
+            self.rules,
+            &mut self.spans,
+            first,
+            marks,
+            to,
+            items,
+        ) {
             Ok(()) => {
                 self.len = len;
                 Ok(())
@@ -149,7 +169,13 @@ impl Items {
 
     /// Appends the `items` items of the run from `state` over the places from `from` to before `to`, in one span: to
     /// come to one of them, those before it are decoded. Refused memory, it leaves the list as it was.
-    pub fn push_span(&mut self, state: State, from: u64, to: u64, items: usize) -> Result<(), AllocError>
+    pub fn push_span(
+        &mut self,
+        state: State,
+        from: u64,
+        to: u64,
+        items: usize,
+    ) -> Result<(), AllocError>
         requires lawful { IsLawful self.old.rules from state }
         requires order { from ≤ to }
         requires within { to ≤ length_of self.old.source }

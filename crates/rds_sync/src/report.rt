@@ -37,6 +37,7 @@ pub fn decode_plain(alloc: Global, rec: &Recording, rules: &Rules) -> Result<Rep
         ≡ totals_of (report_items rec.now rules.now)) }
     ensures only_memory { IsOkUnless result SyncError.OutOfMemory }
 {
+    prove!(1 <= rules.reach());
     let len = rec.len();
     let (end, codes) = run_codes(alloc, rec, rules, State::Searching, 0, len)?;
     let group = finish(&mut Counted::new(rec), rules, end);

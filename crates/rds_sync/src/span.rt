@@ -18,7 +18,9 @@ pub(crate) enum Span {
         items: usize,
     },
     /// The item of the recording's end after a run that ended in `state`: one, or none.
-    End { state: State },
+    End {
+        state: State,
+    },
 }
 
 impl Span {

@@ -74,15 +74,21 @@ loop-mark-init c =
 
 pub returns-in_err-push-clause-refused : goal.returns-in_err-push-clause-refused
 returns-in_err-push-clause-refused c =
-    grind (arith, common_steps,
-    still_there c.args.source.now.value c.args.rules c.args.to c.args.first c.loop-mark.start c.loop-mark.mark-iterator c.args.spans.now.items
-    c.loop-mark.spans.items c.push.new.self.items c.loop-mark.invariant.2 c.in_err-push.ensures.items)
+    grind (
+      arith,
+      common_steps,
+      still_there c.args.source.now.value c.args.rules c.args.to c.args.first c.loop-mark.start c.loop-mark.mark-iterator c.args.spans.now.items
+          c.loop-mark.spans.items c.push.new.self.items c.loop-mark.invariant.2 c.in_err-push.ensures.items,
+    )
 
 pub loop-mark-preserved-then-mark-start-ge-SPAN_ITEMS : goal.loop-mark-preserved-then-mark-start-ge-SPAN_ITEMS
-loop-mark-preserved-then-mark-start-ge-SPAN_ITEMS c =
-    (tt, tt, cut_there c.args.source.now.value c.args.rules c.args.to c.args.first c.loop-mark.start c.in-Some.mark c.next.new.self c.loop-mark.mark-iterator
-    c.args.spans.now.items c.loop-mark.spans.items c.loop-mark.invariant.2 c.in-Some.ensures.steps c.push.new.self.items
-    (c.in-Some.mark.items - c.loop-mark.start.items) refl c.in_ok-push.ensures.items)
+loop-mark-preserved-then-mark-start-ge-SPAN_ITEMS c = (
+  tt,
+  tt,
+  cut_there c.args.source.now.value c.args.rules c.args.to c.args.first c.loop-mark.start c.in-Some.mark c.next.new.self c.loop-mark.mark-iterator
+      c.args.spans.now.items c.loop-mark.spans.items c.loop-mark.invariant.2 c.in-Some.ensures.steps c.push.new.self.items
+      (c.in-Some.mark.items - c.loop-mark.start.items) refl c.in_ok-push.ensures.items,
+)
 
 pub loop-mark-preserved : goal.loop-mark-preserved
 loop-mark-preserved c =
@@ -94,14 +100,21 @@ loop-mark-preserved c =
 pub overflow_sub-items : goal.overflow_sub-items
 overflow_sub-items c =
     let has = c.loop-mark.invariant.2 in
-    omega (arith, whole-count c.args.source.now.value c.args.rules has.loss c.args.to has.within c.args.first has.lawful c.args.spans.now.items
-    c.loop-mark.start c.loop-mark.spans.items has.cut, c.requires.count)
+    omega (
+      arith,
+      whole-count c.args.source.now.value c.args.rules has.loss c.args.to has.within c.args.first has.lawful c.args.spans.now.items
+          c.loop-mark.start c.loop-mark.spans.items has.cut,
+      c.requires.count,
+    )
 
 pub returns-in_err-push-2-clause-refused : goal.returns-in_err-push-2-clause-refused
 returns-in_err-push-2-clause-refused c =
-    grind (arith, common_steps,
-    still_there c.args.source.now.value c.args.rules c.args.to c.args.first c.loop-mark.start c.loop-mark.mark-iterator c.args.spans.now.items
-    c.loop-mark.spans.items c.push-2.new.self.items c.loop-mark.invariant.2 c.in_err-push-2.ensures.items)
+    grind (
+      arith,
+      common_steps,
+      still_there c.args.source.now.value c.args.rules c.args.to c.args.first c.loop-mark.start c.loop-mark.mark-iterator c.args.spans.now.items
+          c.loop-mark.spans.items c.push-2.new.self.items c.loop-mark.invariant.2 c.in_err-push-2.ensures.items,
+    )
 
 pub returns-clause-ok : goal.returns-clause-ok
 returns-clause-ok c =
