@@ -9,3 +9,4 @@ pub mod CodeParts
 pub mod CodeTotals
 pub mod CodeCursors
 pub mod CodeRuns
+pub mod CodeSpots
