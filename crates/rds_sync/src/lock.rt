@@ -49,7 +49,12 @@ pub(crate) fn blocks_before(reader: &mut Reader<'_>, rules: &Rules, lock: Lock) 
 }
 
 /// Reads the block that is due into its group, and tells whether it is valid.
-pub(crate) fn read_due(reader: &mut Reader<'_>, rules: &Rules, lock: Lock, blocks: &mut [Block; 4]) -> bool
+pub(crate) fn read_due(
+    reader: &mut Reader<'_>,
+    rules: &Rules,
+    lock: Lock,
+    blocks: &mut [Block; 4],
+) -> bool
     requires order { (1 ≤ lock.first) × (lock.first ≤ lock.number) × (lock.number ≤ 4) }
     requires start { HaveRoom lock.first lock.number lock.due }
     requires within { lock.due < length_of reader.old }

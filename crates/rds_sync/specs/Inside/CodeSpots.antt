@@ -1,5 +1,5 @@
 -- A walk along the marks that codes tell: the implementation's own, which no caller sees.
-use Rattle.std.specs.Prelude.{◌≡◌, ℕ, ◌+◌, ◌*◌, ◌^◌, ◌≤◌, List, ⊤, length}
+use Rattle.std.specs.Prelude.{ℕ, ◌+◌, ◌*◌, ◌^◌, ◌≤◌, List, ⊤}
 use Rattle.rds_sync.specs.declared.code_cursor.Cursor.{Cursor}
 use Rattle.rds_sync.specs.declared.loss.Loss.{Loss}
 use Rattle.rds_sync.specs.declared.mark.Mark.{Mark}

@@ -1,4 +1,4 @@
-use Rattle.std.proofs.Common.{◌≡◌, ℕ, ◌-◌, suc}
+use Rattle.std.proofs.Common.{◌≡◌, ◌-◌, suc}
 use Rattle.rds_sync.specs.Marks.{counted_over}
 use Rattle.rds_sync.specs.Words.{blocks_in}
 use Rattle.rds_sync.proofs.marks.counted_over.Given as goal

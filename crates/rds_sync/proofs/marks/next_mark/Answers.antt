@@ -1,10 +1,10 @@
-use Rattle.std.proofs.Common.{◌≡◌, ℕ, ◌+◌, ◌≤◌, ◌^◌, [], ◌∷◌, true, false, length, sym, ap, ◌∙◌, arith}
+use Rattle.std.proofs.Common.{◌≡◌, ◌+◌, true, false, length, sym, ap, ◌∙◌, arith}
 use Rattle.rds_sync.specs.Codes.{KeptOf, no_codes}
 use Rattle.rds_sync.specs.Inside.CodeCursors.{kept_ahead}
 use Rattle.rds_sync.specs.Inside.CodeSpots.{spot_of}
 use Rattle.rds_sync.specs.Marks.{goes_on, code_marks}
 use Rattle.rds_sync.specs.Words.{code_in}
-use Rattle.rds_sync.proofs.MarkWords.{walk-on, mark-here, fewer}
+use Rattle.rds_sync.proofs.MarkWords.{walk-on, mark-here}
 use Rattle.rds_sync.proofs.marks.next_mark.Goals as goal
 
 pub after_word-now-requires-clause-before : goal.after_word-now-requires-clause-before
@@ -36,7 +36,7 @@ loop-word-preserved c =
     let goes : goes_on (code_in c.in-Some.word) rest.codes ≡ true = sym c.goes_on.ensures ∙ c.if-not-goes_on.false in
     record {
       same = sym (walk-on c.args.loss (code_in c.in-Some.word) c.in-Some.place rest (kept_ahead l.ahead) l.now c.after_word-now.result c.in-Some.ensures.ahead
-      c.after_word-now.ensures.spot c.after_word-now.ensures.items goes) ∙ l.invariant.same;
+          c.after_word-now.ensures.spot c.after_word-now.ensures.items goes) ∙ l.invariant.same;
       sound = c.in-Some.ensures.sound;
       before = record { few = omega (arith, l.invariant.before.few, one, c.after_word-now.ensures.items); near = c.after_word-now.ensures.near };
     }
