@@ -50,8 +50,8 @@ pub fn stitch<T: Tape>(
 {
     let (end_state, mut report) = carry_over_all(alloc, tape, rules, runs)?;
     let last = finish(tape, rules, end_state);
-    report.totals = report.totals.plus(Totals::of_closing(&last));
-    report.items.close(last)?;
+    report.totals = report.totals.plus(Totals::of_end(last));
+    report.items.close(end_state)?;
     Ok(report)
 }
 

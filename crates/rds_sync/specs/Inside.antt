@@ -7,3 +7,8 @@ pub mod Due
 pub mod GroupParts
 pub mod Locks
 pub mod Spans
+pub mod CodeParts
+pub mod CodeTotals
+pub mod CodeCursors
+pub mod CodeRuns
+pub mod CodeSpots
