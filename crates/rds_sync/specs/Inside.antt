@@ -7,8 +7,4 @@ pub mod Due
 pub mod GroupParts
 pub mod Locks
 pub mod Spans
-pub mod CodeParts
-pub mod CodeTotals
-pub mod CodeCursors
-pub mod CodeRuns
 pub mod CodeSpots
