@@ -1,14 +1,12 @@
 -- Groups of four valid blocks in a lock, and a block 4 that acquires.
-use Rattle.std.proofs.Common.{◌≡◌, ℕ, zero, suc, ◌+◌, ◌-◌, ◌*◌, ◌<◌, ◌≤◌, List, [], ◌∷◌, ◌++◌, Bool, true, false, length, refl, sym, ap, ap₂, subst, ◌∙◌, arith, map}
+use Rattle.std.proofs.Common.{◌≡◌, ℕ, zero, suc, ◌+◌, ◌-◌, ◌*◌, ◌<◌, ◌≤◌, List, [], ◌∷◌, true, false, length, refl, sym, ap, subst, ◌∙◌, arith}
 use Rattle.rds_stream.specs.Recording.{Signal}
-use Rattle.rds_sync.specs.declared.item.Item.{Item}
 use Rattle.rds_sync.specs.declared.item.Item.TheVariants.{Group}
 use Rattle.rds_sync.specs.declared.loss.Bad.{Bad}
 use Rattle.rds_sync.specs.declared.loss.Loss.{Loss}
-use Rattle.rds_sync.specs.declared.state.State.{State}
 use Rattle.rds_sync.specs.declared.state.State.TheVariants.{Locked}
 use Rattle.rds_sync.specs.Acquiring.{has_number}
-use Rattle.rds_sync.specs.Codes.{Outcome, unread, good, unclear, mended, is_good, outcome_of}
+use Rattle.rds_sync.specs.Codes.{Outcome, unread, good, unclear, mended, is_good}
 use Rattle.rds_sync.specs.Groups.{group}
 use Rattle.rds_sync.specs.Inside.CodeRuns.{after_four_good}
 use Rattle.rds_sync.specs.Loss.{IsLawfulBad, bad_after, are_too_many}
@@ -67,8 +65,8 @@ module _ (b : Signal) (rules : RuleNumbers) (due : ℕ) (late : 25 ≤ due) (val
   pub clean-outcomes : outcomes (group b rules 1 4 (due + 78)) ≡ goods
   clean-outcomes = four-good _ (outcomes-four b rules 1 4 (due + 78)) (at 1 due (omega arith) (omega arith) (omega arith) valid.one) (at 2 (due + 26) (omega arith) (omega arith) (omega arith) valid.two)
       (at 3 (due + 52) (omega arith) (omega arith) (omega arith) valid.three) (at 4 (due + 78) (omega arith) (omega arith) (omega arith) valid.four) where
-    at : (y place : ℕ) → 1 ≤ y → y ≤ 4 → due + 78 - 26 * (4 - y) ≡ place → has_number b place y ≡ true → good_at (outcomes (group b rules 1 4 (due + 78))) y ≡ true
-    at y place low high e h = good-at b rules 1 4 (due + 78) y (omega arith) low high (omega arith) (omega arith) ∙ ap (λ (p : ℕ). has_number b p y) e ∙ h
+        at : (y place : ℕ) → 1 ≤ y → y ≤ 4 → due + 78 - 26 * (4 - y) ≡ place → has_number b place y ≡ true → good_at (outcomes (group b rules 1 4 (due + 78))) y ≡ true
+        at y place low high e h = good-at b rules 1 4 (due + 78) y (omega arith) low high (omega arith) (omega arith) ∙ ap (λ (p : ℕ). has_number b p y) e ∙ h
 
   pub clean-run : (bad : Bad) → IsLawfulBad rules.loss bad
       → run b rules (Locked due 1 bad 1) (due - 25) 104 ≡ (Locked (due + 104) 1 (after_four_good rules.loss bad) 1, Group (group b rules 1 4 (due + 78)) ∷ [])

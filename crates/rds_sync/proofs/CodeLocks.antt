@@ -1,6 +1,5 @@
 -- The places of the acquisitions among codes, where some codes are passed over.
-use Rattle.std.proofs.Common.{◌≡◌, ℕ, zero, suc, ◌+◌, ◌-◌, ◌^◌, ◌<◌, ◌≤◌, List, [], ◌∷◌, ◌++◌, length, get_or, Bool, true, false, refl, sym, ap, ap₂, ◌∙◌, subst, arith, take, drop, map, count_by, length-drop}
-use Rattle.std.specs.List.{All}
+use Rattle.std.proofs.Common.{◌≡◌, ℕ, zero, suc, ◌+◌, ◌^◌, ◌<◌, ◌≤◌, List, [], ◌∷◌, length, Bool, true, false, sym, ap, ap₂, ◌∙◌, arith, take, drop, map, count_by, length-drop}
 use Rattle.std.specs.Prelude.{if◌then◌else◌}
 use Rattle.std.proofs.lemmas.List.{take-append-drop, drop_all, drop-map, take-map}
 use Rattle.std.proofs.lemmas.List.Elements.{All-drop}

@@ -1,15 +1,10 @@
 -- What is kept of runs, one after the other.
-use Rattle.std.proofs.Common.{◌≡◌, ℕ, ◌+◌, ◌-◌, ◌<◌, ◌≤◌, List, [], ◌∷◌, ◌++◌, refl, sym, ap, ap₂, ◌∙◌, subst, arith}
+use Rattle.std.proofs.Common.{◌≡◌, ℕ, List, [], ◌∷◌, ◌++◌, refl, sym, ap, ap₂, ◌∙◌}
 use Rattle.std.proofs.lemmas.List.{map-append}
-use Rattle.rds_stream.specs.Recording.{Signal}
 use Rattle.rds_sync.specs.declared.item.Item.{Item}
 use Rattle.rds_sync.specs.declared.item.Item.TheVariants.{Acquired, Group, LostLock}
-use Rattle.rds_sync.specs.declared.state.State.{State}
-use Rattle.rds_sync.specs.Codes.{Code, KeptOf, behind, kept_of, code_of, codes_of, locks_of}
-use Rattle.rds_sync.specs.Rules.{RuleNumbers}
-use Rattle.rds_sync.specs.Step.{run}
+use Rattle.rds_sync.specs.Codes.{Code, KeptOf, behind, kept_of, code_of, locks_of}
 use Rattle.rds_sync.proofs.CodePartLemmas.{behind-assoc, behind-none}
-use Rattle.rds_sync.proofs.RunLemmas.{run-further}
 
 locks-append : (xs ys : List Item) → locks_of (xs ++ ys) ≡ locks_of xs ++ locks_of ys
 locks-append [] ys = refl

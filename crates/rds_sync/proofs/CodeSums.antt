@@ -1,5 +1,5 @@
 -- The totals of codes, code by code.
-use Rattle.std.proofs.Common.{◌≡◌, ℕ, ◌+◌, Bool, length, List, [], ◌∷◌, ◌++◌, refl, sym, ap, ◌∙◌, arith, take, get_or, ◌<◌, ap₂, map, count_by}
+use Rattle.std.proofs.Common.{◌≡◌, ℕ, ◌+◌, Bool, length, List, [], ◌∷◌, ◌++◌, refl, ap, ◌∙◌, arith, take, get_or, ◌<◌, map, count_by}
 use Rattle.std.specs.Prelude.{if◌then◌else◌}
 use Rattle.std.specs.List.{list_all}
 use Rattle.std.proofs.lemmas.List.{take_more, map-append}

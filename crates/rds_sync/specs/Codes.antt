@@ -1,6 +1,6 @@
 -- What is kept of an item in place of it: of a group how each of its blocks came out, of an acquisition the number of its block.
 -- This project's rule.
-use Rattle.std.specs.Prelude.{◌≡◌, ℕ, ◌+◌, ◌^◌, ◌<◌, List, [], ◌∷◌, ◌++◌, Bool, true, false, ◌==◌, length, take, drop, map, sum_by, count_by, count_ones, if◌then◌else◌}
+use Rattle.std.specs.Prelude.{◌≡◌, ℕ, ◌^◌, ◌<◌, List, [], ◌∷◌, ◌++◌, Bool, true, false, ◌==◌, length, take, drop, map, sum_by, count_by, count_ones, if◌then◌else◌}
 use Rattle.std.specs.List.{All, list_all}
 use Rattle.rds_code.specs.Bursts.{span}
 use Rattle.rds_code.specs.declared.reading.Reading.TheVariants.{Valid, Corrected, Lost}

@@ -2,6 +2,7 @@
 pub mod CodeCursors
 pub mod CodeParts
 pub mod CodeRuns
+pub mod CodeSpots
 pub mod CodeTotals
 pub mod Due
 pub mod GroupParts

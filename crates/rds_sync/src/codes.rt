@@ -10,6 +10,9 @@ ghost use Rattle.rds_sync.specs.Words.{IsKeepable};
 use crate::code_part::CodePart;
 use crate::code_totals::totals_of_words;
 use crate::item::Item;
+use crate::marks::Marks;
+use crate::rules::Rules;
+use crate::state::State;
 use crate::totals::Totals;
 use std::alloc::{AllocError, Global};
 use std::marker::Model;
@@ -138,6 +141,18 @@ impl Codes {
         }
         let (words, _) = self.last.lent();
         totals.plus(totals_of_words(&words[..left]))
+    }
+
+    /// The marks of the run that gave these items, from `state` at `place` on: the place itself, and each place after a
+    /// bit that gave an item, with the state there and how many items stand before it. The codes and the places of the
+    /// acquisitions tell them, in order, and no bit is read. Takes no memory.
+    pub fn marks_from(&self, rules: &Rules, place: u64, state: State) -> Marks<'_>
+        requires lawful { IsLawful rules.now place state }
+        requires place { place ≤ 2 ^ 36 }
+        requires few { length self.now.codes ≤ 2 ^ 40 }
+        ensures { result ≡ marks_from rules.now.loss self.now place state }
+    {
+        Marks::over(&self.before, &self.last, rules, place, state)
     }
 
     /// Appends a part.

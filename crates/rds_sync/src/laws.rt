@@ -6,7 +6,7 @@ ghost use Rattle.rds_sync.specs.CodeLaws.{CodesTellTotals, CodesTellRanges};
 ghost use Rattle.rds_sync.specs.Counting.{TotalsJoin};
 ghost use Rattle.rds_sync.specs.GroupLaws.{GroupsAreRead};
 ghost use Rattle.rds_sync.specs.MarkLaws.{CodesTellMarks, MarksGoOn, WholeGroups};
-ghost use Rattle.rds_sync.specs.Words.{WordsTellCodes, RunsHaveWords};
+ghost use Rattle.rds_sync.specs.Words.{WordsTellCodes, RunsHaveWords, RunsAreKeepable};
 ghost use Rattle.rds_sync.specs.Laws.{RunsAreReports, RunsJoin, StepsAreLawful, RunsAreLawful, RunsMerge, OneBitRuns, LocksWait, SearchesGoOn, ItemsMarkChanges, RunsGiveFewItems, AcquisitionsAreLate, MasksTellBlocks, BadBlocksLose, RunsAreShares};
 
 use rds_code::laws as code_laws;
@@ -117,6 +117,14 @@ pub fn words_tell_codes()
 /// The codes of a run have words.
 pub fn runs_have_words()
     ensures { RunsHaveWords }
+{
+    code_laws::bursts_are_listed();
+    code_laws::readings_follow_the_rule();
+}
+
+/// The items of a run over a recording can be kept.
+pub fn runs_are_keepable()
+    ensures { RunsAreKeepable }
 {
     code_laws::bursts_are_listed();
     code_laws::readings_follow_the_rule();

@@ -1,5 +1,5 @@
 -- A walk over what a run keeps: the implementation's own, which no caller sees.
-use Rattle.std.specs.Prelude.{◌≡◌, ℕ, ◌+◌, [], length, None, Some}
+use Rattle.std.specs.Prelude.{◌≡◌, ℕ, ◌+◌, length, None, Some}
 use Rattle.rds_sync.specs.declared.code_cursor.Cursor.{Cursor}
 use Rattle.rds_sync.specs.Codes.{KeptOf, AreLocks, behind, no_codes}
 use Rattle.rds_sync.specs.Inside.CodeParts.{kept_as, kept_in}

@@ -1,5 +1,5 @@
 -- Codes in parts, as words: the implementation's own, which no caller sees.
-use Rattle.std.specs.Prelude.{ℕ, List, [], ◌∷◌, map}
+use Rattle.std.specs.Prelude.{ℕ, List, map}
 use Rattle.std.specs.List.{flat_map}
 use Rattle.rds_sync.specs.Codes.{KeptOf}
 use Rattle.rds_sync.specs.Words.{code_in}

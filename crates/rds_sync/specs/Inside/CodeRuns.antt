@@ -1,5 +1,5 @@
 -- A run that keeps codes, part by part: the implementation's own, which no caller sees.
-use Rattle.std.specs.Prelude.{◌≡◌, ℕ, ◌-◌, ◌<◌, ◌≤◌, Bool, true}
+use Rattle.std.specs.Prelude.{◌≡◌, ℕ, ◌-◌, ◌<◌, ◌≤◌, true}
 use Rattle.rds_stream.specs.Recording.{Signal}
 use Rattle.rds_sync.specs.declared.due.Lock.{Lock}
 use Rattle.rds_sync.specs.declared.loss.Bad.{Bad}

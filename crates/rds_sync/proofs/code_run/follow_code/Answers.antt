@@ -1,12 +1,11 @@
-use Rattle.std.proofs.Common.{◌≡◌, ◌-◌, ℕ, List, [], ◌∷◌, ◌++◌, ap, ap₂, sym, subst, map, ◌≤◌, ◌∙◌, arith}
+use Rattle.std.proofs.Common.{◌≡◌, ◌-◌, ℕ, List, [], ◌∷◌, ap, ap₂, sym, subst, map, ◌≤◌, ◌∙◌, arith}
 use Rattle.rds_sync.specs.declared.due.Due.{Due}
 use Rattle.rds_sync.specs.declared.item.Block.{Block}
 use Rattle.rds_sync.specs.declared.item.Group.{Group as GroupRecord}
 use Rattle.rds_sync.specs.declared.item.Item.{Item}
-use Rattle.rds_sync.specs.declared.item.Item.TheVariants.{Group, LostLock}
 use Rattle.rds_sync.specs.declared.loss.Loss.{Loss}
 use Rattle.rds_stream.specs.Recording.{Signal}
-use Rattle.rds_sync.specs.Codes.{Outcome, Code, KeptOf, blocks, ended, outcome_of, behind, kept_of}
+use Rattle.rds_sync.specs.Codes.{Outcome, KeptOf, blocks, ended, outcome_of, behind, kept_of}
 use Rattle.rds_sync.specs.Inside.Due.{IsAfter}
 use Rattle.rds_sync.specs.Groups.{blocks_at, group}
 use Rattle.rds_sync.specs.Inside.Locks.{IsFollowed}

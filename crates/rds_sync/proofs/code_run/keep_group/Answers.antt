@@ -1,9 +1,9 @@
-use Rattle.std.proofs.Common.{◌≡◌, ◌≤◌, ◌+◌, ◌-◌, ◌++◌, ℕ, List, [], refl, ap, ap₂, sym, subst, ◌∙◌, arith, append-nil, inl, inr}
+use Rattle.std.proofs.Common.{◌≡◌, ◌≤◌, ◌+◌, ◌-◌, ℕ, List, [], refl, ap, ap₂, sym, subst, ◌∙◌, arith}
 use Rattle.rds_stream.specs.Recording.{Signal}
 use Rattle.rds_sync.specs.declared.item.Block.{Block}
 use Rattle.rds_sync.specs.declared.item.Item.{Item}
 use Rattle.rds_sync.specs.declared.due.Due.{Due}
-use Rattle.rds_sync.specs.declared.due.Due.TheVariants.{Inside, Closed, Lost}
+use Rattle.rds_sync.specs.declared.due.Due.TheVariants.{Inside}
 use Rattle.rds_sync.specs.declared.due.Lock.{Lock}
 use Rattle.rds_sync.specs.declared.state.State.{State}
 use Rattle.rds_sync.specs.declared.state.State.TheVariants.{Locked}
@@ -17,7 +17,7 @@ use Rattle.rds_sync.specs.Codes.{KeptOf, behind, kept_of}
 use Rattle.rds_sync.proofs.CodePartLemmas.{behind-none}
 use Rattle.rds_sync.proofs.CodeRunLemmas.{kept-nothing}
 use Rattle.rds_sync.proofs.LawfulLemmas.{lawful-due, lawful-waiting}
-use Rattle.rds_sync.proofs.RunLemmas.{run-further, run-due, run-early, run-quiet}
+use Rattle.rds_sync.proofs.RunLemmas.{run-further, run-due, run-early}
 use Rattle.rds_sync.proofs.code_run.keep_group.Invariants.{HasFollowed}
 use Rattle.rds_sync.proofs.code_run.keep_group.Goals as goal
 
@@ -103,12 +103,12 @@ returns-in-Closed-clause-reached c =
     let more = one_more b c.loop-now.reader rules s c.args.place c.args.to now c.args.codes.now l.codes l.blocks loss followed in
     let state_is = c.state.ensures ∙ ap (λ (o : Due). state_of o) (sym c.in-Closed.is) ∙ state_over b c.loop-now.reader rules now followed.same _ c.in_ok-next.ensures.state in
     record {
-        forward = omega (arith, followed.from_on, soon.0);
-        limit = omega (arith, c.loop-now-test.true);
-        state = state_is ∙ sym (ap (λ (r : State × List Item). r.0) more);
-        lawful = subst (λ (t : State). IsLawful rules (now.due + 1) t) (sym state_is)
-            (lawful_after b c.loop-now.reader rules s c.args.place c.args.to now c.args.codes.now l.codes l.blocks loss followed);
-        codes = codes_over b c.loop-now.reader rules now followed.same _ _ c.in_ok-next.ensures.codes ∙ ap₂ (λ (kept : KeptOf) (js : List Item). behind kept (kept_of js)) followed.codes_are (sym (ap (λ (r : State × List Item). r.1) more));
+      forward = omega (arith, followed.from_on, soon.0);
+      limit = omega (arith, c.loop-now-test.true);
+      state = state_is ∙ sym (ap (λ (r : State × List Item). r.0) more);
+      lawful = subst (λ (t : State). IsLawful rules (now.due + 1) t) (sym state_is)
+          (lawful_after b c.loop-now.reader rules s c.args.place c.args.to now c.args.codes.now l.codes l.blocks loss followed);
+      codes = codes_over b c.loop-now.reader rules now followed.same _ _ c.in_ok-next.ensures.codes ∙ ap₂ (λ (kept : KeptOf) (js : List Item). behind kept (kept_of js)) followed.codes_are (sym (ap (λ (r : State × List Item). r.1) more));
     }
 
 pub returns-in-Lost-clause-reached : goal.returns-in-Lost-clause-reached
@@ -125,12 +125,12 @@ returns-in-Lost-clause-reached c =
     let more = one_more b c.loop-now.reader rules s c.args.place c.args.to now c.args.codes.now l.codes l.blocks loss followed in
     let state_is = ap (λ (o : Due). state_of o) (sym c.in-Lost.is) ∙ state_over b c.loop-now.reader rules now followed.same _ c.in_ok-next.ensures.state in
     record {
-        forward = omega (arith, followed.from_on, soon.0);
-        limit = omega (arith, c.loop-now-test.true);
-        state = state_is ∙ sym (ap (λ (r : State × List Item). r.0) more);
-        lawful = subst (λ (t : State). IsLawful rules (now.due + 1) t) (sym state_is)
-            (lawful_after b c.loop-now.reader rules s c.args.place c.args.to now c.args.codes.now l.codes l.blocks loss followed);
-        codes = codes_over b c.loop-now.reader rules now followed.same _ _ c.in_ok-next.ensures.codes ∙ ap₂ (λ (kept : KeptOf) (js : List Item). behind kept (kept_of js)) followed.codes_are (sym (ap (λ (r : State × List Item). r.1) more));
+      forward = omega (arith, followed.from_on, soon.0);
+      limit = omega (arith, c.loop-now-test.true);
+      state = state_is ∙ sym (ap (λ (r : State × List Item). r.0) more);
+      lawful = subst (λ (t : State). IsLawful rules (now.due + 1) t) (sym state_is)
+          (lawful_after b c.loop-now.reader rules s c.args.place c.args.to now c.args.codes.now l.codes l.blocks loss followed);
+      codes = codes_over b c.loop-now.reader rules now followed.same _ _ c.in_ok-next.ensures.codes ∙ ap₂ (λ (kept : KeptOf) (js : List Item). behind kept (kept_of js)) followed.codes_are (sym (ap (λ (r : State × List Item). r.1) more));
     }
 
 pub returns-clause-reached : goal.returns-clause-reached
@@ -146,10 +146,10 @@ returns-clause-reached c =
     let wait = waited b c.loop-now.reader rules s c.args.place c.args.to now c.args.codes.now l.codes l.blocks loss followed c.args.to followed.limit c.loop-now-test.false in
     let nothing = ap (λ (r : State × List Item). r.1) wait in
     record {
-        forward = c.requires.order;
-        limit = omega arith;
-        state = c.state-2.ensures ∙ sym (ap (λ (r : State × List Item). r.0) wait);
-        lawful = subst (λ (t : State). IsLawful rules c.args.to t) (sym c.state-2.ensures)
-            (lawful-waiting rules followed.next c.args.to now.due now.number now.bad now.first followed.lawful followed.limit c.loop-now-test.false);
-        codes = followed.codes_are ∙ kept-nothing c.args.codes.now _ nothing;
+      forward = c.requires.order;
+      limit = omega arith;
+      state = c.state-2.ensures ∙ sym (ap (λ (r : State × List Item). r.0) wait);
+      lawful = subst (λ (t : State). IsLawful rules c.args.to t) (sym c.state-2.ensures)
+          (lawful-waiting rules followed.next c.args.to now.due now.number now.bad now.first followed.lawful followed.limit c.loop-now-test.false);
+      codes = followed.codes_are ∙ kept-nothing c.args.codes.now _ nothing;
     }

@@ -1,4 +1,4 @@
-use Rattle.std.proofs.Common.{◌-◌, ◌++◌, List, ap, sym, subst, refl, ◌∙◌, arith}
+use Rattle.std.proofs.Common.{◌-◌, List, ap, sym, subst, refl, ◌∙◌, arith}
 use Rattle.rds_stream.specs.Recording.{Signal}
 use Rattle.rds_sync.specs.declared.item.Item.{Item}
 use Rattle.rds_sync.specs.declared.state.State.{State}

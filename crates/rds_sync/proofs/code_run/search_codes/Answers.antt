@@ -1,8 +1,8 @@
-use Rattle.std.proofs.Common.{◌≡◌, ◌≤◌, ◌<◌, ◌+◌, ◌-◌, ◌++◌, ℕ, true, false, List, Some, None, refl, ap, sym, subst, ◌∙◌, arith, append-nil, inl, inr}
+use Rattle.std.proofs.Common.{◌≡◌, ◌≤◌, ◌<◌, ◌+◌, ℕ, true, false, List, Some, None, ap, sym, subst, ◌∙◌, arith, inl, inr}
 use Rattle.std.specs.List.{list_any, range_with_len}
 use Rattle.std.proofs.lemmas.Bool.{cases_lt}
 use Rattle.rds_code.specs.declared.offset.Offset.{Offset}
-use Rattle.rds_stream.specs.Recording.{Signal, heard, off}
+use Rattle.rds_stream.specs.Recording.{Signal, off}
 use Rattle.rds_stream.specs.ValidWindows.{WindowsLeft, GivesFirst, NoneValid}
 use Rattle.rds_sync.specs.declared.item.Item.{Item}
 use Rattle.rds_sync.specs.declared.state.State.{State}
@@ -16,8 +16,8 @@ use Rattle.rds_sync.specs.Loss.{none_bad}
 use Rattle.rds_sync.specs.declared.loss.Loss.{Loss}
 use Rattle.rds_sync.specs.declared.loss.Bad.{Bad}
 use Rattle.rds_sync.specs.Step.{step, items_at, locked_after}
-use Rattle.rds_sync.proofs.RunLemmas.{step-acquiring, items-acquiring, run-found, run-unfound}
-use Rattle.rds_sync.proofs.LawfulLemmas.{acquired-none, lawful-step, number-range, off-place}
+use Rattle.rds_sync.proofs.RunLemmas.{step-acquiring, run-found, run-unfound}
+use Rattle.rds_sync.proofs.LawfulLemmas.{acquired-none, lawful-step, off-place}
 use Rattle.rds_sync.proofs.HeardLemmas.{acquired-offset}
 use Rattle.rds_sync.proofs.code_run.search_codes.Invariants.{HasSearched}
 use Rattle.rds_sync.proofs.code_run.search_codes.Goals as goal
@@ -72,7 +72,6 @@ loop-here-preserved c =
     let none = acquired-offset b rules here c.number-number.result offset c.has_partner_in.result false
     is c.number-number.ensures partner_is c.if-has_partner_in.false in
     (tt, tt, one_more b b rules c.args.place c.args.to old c.args.codes.now c.loop-here.codes searched (here, offset) c.next.new.self given none)
-
 
 pub push_found-requires-clause-place : goal.push_found-requires-clause-place
 push_found-requires-clause-place c =

@@ -1,4 +1,4 @@
-use Rattle.std.proofs.Common.{◌≡◌, ◌≤◌, ◌<◌, ℕ, List, None}
+use Rattle.std.proofs.Common.{◌≡◌, ◌≤◌, ◌<◌, ℕ, None}
 use Rattle.rds_stream.specs.Recording.{Signal}
 use Rattle.rds_stream.specs.ValidWindows.{WindowsLeft}
 use Rattle.rds_sync.specs.Acquiring.{acquired}

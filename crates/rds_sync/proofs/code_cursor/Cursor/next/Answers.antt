@@ -1,4 +1,4 @@
-use Rattle.std.proofs.Common.{◌≡◌, ℕ, List, ◌∷◌, true, subst, ap, ap₂, sym, ◌∙◌, arith}
+use Rattle.std.proofs.Common.{◌≡◌, ℕ, List, ◌∷◌, true, subst, arith}
 use Rattle.rds_sync.specs.Codes.{AreLocks, is_locked}
 use Rattle.rds_sync.specs.Inside.CodeParts.{kept_as}
 use Rattle.rds_sync.specs.Words.{code_in}

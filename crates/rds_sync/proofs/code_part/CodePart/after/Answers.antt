@@ -30,8 +30,7 @@ invariant_of-result c =
     let p = inside.places_passed in
     let first = c.args.first in
     let n = c.locks_in.result in
-    let kept : first ≤ length (drop w ws) = grind (arith, c.requires, c.self.view_is, length-map) in
-    (
+    let kept : first ≤ length (drop w ws) = grind (arith, c.requires, c.self.view_is, length-map) in (
       omega (arith, kept, length-drop w ws, c.self.invariant.0),
       within ws ps w p first n (grind (arith, c.locks_in.ensures, c.deref.ensures.value)) c.self.invariant.1 are,
       subst (λ (kept : KeptOf). AreLocks kept) (sym (further ws ps w p first n (grind (arith, c.locks_in.ensures, c.deref.ensures.value))))

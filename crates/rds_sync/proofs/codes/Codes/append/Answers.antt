@@ -1,4 +1,4 @@
-use Rattle.std.proofs.Common.{◌≡◌, ◌≤◌, ◌<◌, ◌+◌, ◌-◌, [], ◌∷◌, ◌++◌, ℕ, List, length, ap, sym, subst, ◌∙◌, arith, refl, append-nil, append_assoc, length-append}
+use Rattle.std.proofs.Common.{◌≡◌, ◌≤◌, ◌+◌, ◌-◌, [], ◌∷◌, ◌++◌, ℕ, List, length, ap, sym, subst, ◌∙◌, arith, refl, append-nil, append_assoc, length-append}
 use Rattle.std.specs.Vec.Iter.{into_iter_items}
 use Rattle.rds_sync.specs.Codes.{KeptOf, AreLocks, behind, kept_from}
 use Rattle.rds_sync.specs.Inside.CodeParts.{kept_in}
@@ -24,9 +24,11 @@ loop-part-preserved c =
     let l = c.loop-part in
     let part = c.in-Some.part in
     let are : AreLocks part = c.len-len.ensures.locks in
-    let len : c.len-len.result ≡ length part.codes = c.len-len.ensures.value in
-    (subst (λ (n : ℕ). HasMoved c.args.self.now l.self c.args.first (l.left - n) (l.yielded ++ part ∷ [])) (sym len)
-    (moved-past c.args.self.now l.self c.args.first l.left l.yielded part are l.invariant.0 (omega (arith, c.if-left-len.false, len))), append_assoc l.yielded (part ∷ []) (into_iter_items c.next.new.self) ∙ ap (λ (parts : List KeptOf). l.yielded ++ parts) (sym c.in-Some.ensures.steps.0) ∙ l.invariant.1)
+    let len : c.len-len.result ≡ length part.codes = c.len-len.ensures.value in (
+      subst (λ (n : ℕ). HasMoved c.args.self.now l.self c.args.first (l.left - n) (l.yielded ++ part ∷ [])) (sym len)
+          (moved-past c.args.self.now l.self c.args.first l.left l.yielded part are l.invariant.0 (omega (arith, c.if-left-len.false, len))),
+      append_assoc l.yielded (part ∷ []) (into_iter_items c.next.new.self) ∙ ap (λ (parts : List KeptOf). l.yielded ++ parts) (sym c.in-Some.ensures.steps.0) ∙ l.invariant.1,
+    )
 
 pub after-requires-2 : goal.after-requires-2
 after-requires-2 c =

@@ -1,4 +1,4 @@
-use Rattle.std.proofs.Common.{◌≡◌, ◌≤◌, ◌<◌, ◌+◌, ℕ, length, take, ap, ◌∙◌, arith, length-append, get_or, List}
+use Rattle.std.proofs.Common.{◌≤◌, ◌+◌, length, ap, arith, length-append, List}
 use Rattle.std.proofs.lemmas.List.Folds.{length-flat_map-take}
 use Rattle.rds_sync.specs.Codes.{KeptOf}
 use Rattle.rds_sync.specs.Inside.CodeParts.{kept_in}
