@@ -4,17 +4,15 @@ use Rattle.std.specs.Prelude.{MatchOption}
 use Rattle.std.specs.Iterator.{YieldsFirst}
 use Rattle.std.proofs.Math.Seq.{drop-append-add}
 use Rattle.std.proofs.lemmas.List.Elements.{All-append, All-cons, All-nil}
-use Rattle.rds_stream.specs.Recording.{Signal, length_of}
+use Rattle.rds_stream.specs.Recording.{Signal}
 use Rattle.rds_sync.specs.declared.item.Item.{Item}
 use Rattle.rds_sync.specs.declared.mark.Mark.{Mark}
 use Rattle.rds_sync.specs.declared.span.Span.{Span}
-use Rattle.rds_sync.specs.declared.span.Span.TheVariants.{Run, End}
 use Rattle.rds_sync.specs.declared.state.State.{State}
 use Rattle.rds_sync.specs.Inside.Spans.{items_of, items_in, IsSpan, AreSpans}
 use Rattle.rds_sync.specs.Marks.{mark_where, marks_on}
 use Rattle.rds_sync.specs.Rules.{RuleNumbers}
 use Rattle.rds_sync.specs.Step.{step, items_at, run}
-use Rattle.rds_sync.proofs.RunLemmas.{run-first}
 
 module _ (b : Signal) (rules : RuleNumbers) where
   -- the items of spans in two rows

@@ -1,5 +1,5 @@
 -- Totals of a list that grows.
-use Rattle.std.proofs.Common.{◌≡◌, ◌≢◌, ℕ, ◌+◌, ◌-◌, ◌≤◌, Bool, List, [], ◌∷◌, ◌++◌, length, get_or, refl, sym, ap, ◌∙◌, arith}
+use Rattle.std.proofs.Common.{◌≡◌, ℕ, ◌+◌, ◌-◌, ◌≤◌, Bool, List, [], ◌∷◌, ◌++◌, length, get_or, refl, sym, ap, ◌∙◌, arith}
 use Rattle.std.specs.Prelude.{count_by, slice_index, if◌then◌else◌}
 use Rattle.std.proofs.lemmas.List.Sums.{sum_by-append}
 use Rattle.rds_sync.specs.declared.item.Block.{Block}

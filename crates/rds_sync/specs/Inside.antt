@@ -2,9 +2,9 @@
 pub mod CodeCursors
 pub mod CodeParts
 pub mod CodeRuns
+pub mod CodeSpots
 pub mod CodeTotals
 pub mod Due
 pub mod GroupParts
 pub mod Locks
 pub mod Spans
-pub mod CodeSpots

@@ -1,6 +1,5 @@
 use Rattle.std.proofs.Common.{◌≡◌, List, [], ◌++◌, All, length}
 use Rattle.rds_stream.specs.Recording.{Signal}
-use Rattle.rds_sync.specs.declared.item.Item.{Item}
 use Rattle.rds_sync.specs.declared.span.Span.{Span}
 use Rattle.rds_sync.specs.Decoding.{DecoderOf}
 use Rattle.rds_sync.specs.Inside.Spans.{IsSpan, items_in}

@@ -1,4 +1,4 @@
-use Rattle.std.proofs.Common.{List, All, length}
+use Rattle.std.proofs.Common.{All, length}
 use Rattle.rds_stream.specs.Recording.{Signal}
 use Rattle.rds_sync.specs.Inside.Spans.{IsAt, IsSpan}
 use Rattle.rds_sync.specs.Rules.{RuleNumbers}

@@ -1,4 +1,4 @@
-use Rattle.std.proofs.Common.{◌*◌, ◌^◌, ◌≤◌, List, [], length, ap, ◌∙◌, arith}
+use Rattle.std.proofs.Common.{◌*◌, ◌^◌, [], length, ap, ◌∙◌, arith}
 use Rattle.rds_stream.specs.Recording.{Signal}
 use Rattle.rds_stream.specs.Tape.{TapeState}
 use Rattle.rds_sync.specs.Decoding.{ItemsOf, listed}

@@ -1,4 +1,4 @@
-use Rattle.std.proofs.Common.{◌≡◌, ◌≤◌, ◌+◌, ◌-◌, ◌++◌, ℕ, List, [], ◌∷◌, refl, ap, ap₂, sym, subst, ◌∙◌, arith, append-nil, inl, inr}
+use Rattle.std.proofs.Common.{◌≡◌, ◌≤◌, ◌+◌, ◌-◌, ℕ, List, [], ◌∷◌, refl, ap, ap₂, sym, subst, ◌∙◌, arith, inl, inr}
 use Rattle.rds_stream.specs.Recording.{Signal}
 use Rattle.rds_sync.specs.declared.item.Block.{Block}
 use Rattle.rds_sync.specs.declared.item.Group.{Group as GroupRecord}

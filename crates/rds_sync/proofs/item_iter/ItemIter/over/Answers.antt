@@ -1,4 +1,4 @@
-use Rattle.std.proofs.Common.{◌+◌, ◌<◌, List, ◌++◌, drop, length, length-drop, ap, ◌∙◌, arith}
+use Rattle.std.proofs.Common.{◌<◌, List, ◌++◌, drop, length, length-drop, ap, ◌∙◌, arith}
 use Rattle.std.proofs.lemmas.List.{drop-drop}
 use Rattle.rds_sync.specs.declared.item.Item.{Item}
 use Rattle.rds_sync.specs.Inside.Spans.{items_in}

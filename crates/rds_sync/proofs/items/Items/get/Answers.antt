@@ -1,4 +1,4 @@
-use Rattle.std.proofs.Common.{◌+◌, List, length, slice_get, ap, sym, subst, ◌∙◌, ◌≤◌, ◌<◌, arith}
+use Rattle.std.proofs.Common.{List, length, ap, subst, arith}
 use Rattle.std.specs.Iterator.{YieldsFirst}
 use Rattle.rds_sync.specs.declared.item.Item.{Item}
 use Rattle.rds_sync.specs.Decoding.{ItemsOf}
