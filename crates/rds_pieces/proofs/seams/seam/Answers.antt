@@ -125,6 +125,13 @@ returns-in-Some-clause-reads_way g c = λ met first. (
     (c.go_along.ensures.reads_way met
     (renamed (λ b rules. IsMeeting b rules c.args.state Searching r.from r.to met) (g.T.Tape.signal c.args.tape.now) r.source c.args.rules.now r.rules (sym c.requires.source) (sym c.requires.rules) first)))
 
+pub returns-in_err-push_run-in-Some-clause-reads_way : goal.returns-in_err-push_run-in-Some-clause-reads_way
+returns-in_err-push_run-in-Some-clause-reads_way g c = λ met first. (
+    let r = c.args.run.now in
+    subst (λ (x : RuleNumbers). g.T.Tape.reads_made c.go_along.new.tape ≤ g.T.Tape.reads_made c.args.tape.now + seam_reads x r.from r.to met) c.requires.rules
+    (c.go_along.ensures.reads_way met
+    (renamed (λ b rules. IsMeeting b rules c.args.state Searching r.from r.to met) (g.T.Tape.signal c.args.tape.now) r.source c.args.rules.now r.rules (sym c.requires.source) (sym c.requires.rules) first)))
+
 pub returns-clause-totals : goal.returns-clause-totals
 returns-clause-totals g c =
     let r = c.args.run.now in

@@ -9,8 +9,7 @@ pub returns-clause-items : goal.returns-clause-items
 returns-clause-items g c =
     let r = c.in_ok-end_state.report in
     c.in_ok-close.ensures.ok
-    ∙ ap₂ (λ (x : ItemsOf) (is : List Item). listed x.source x.rules (r.items.list ++ is)) c.in_ok-end_state.ensures.named
-    (c.finish-last.ensures.group ∙ ap (λ (b : Signal). items_of_end b c.args.rules.now c.in_ok-end_state.end_state) c.carry_over_all.ensures.same)
+    ∙ ap (λ (x : ItemsOf). listed x.source x.rules (r.items.list ++ items_of_end x.source x.rules c.in_ok-end_state.end_state)) c.in_ok-end_state.ensures.named
     ∙ ap (λ (is : List Item). listed (g.T.Tape.signal c.args.tape.now) c.args.rules.now is) c.in_ok-end_state.ensures.whole
 
 pub returns-clause-reads : goal.returns-clause-reads

@@ -35,7 +35,7 @@ invariant_of-result c =
     let beside : k.codes ≡ kept_of (guess l.source l.rules r.from (r.to - r.from)).1 =
     right ∙ ap (λ (b : _). kept_of (guess b r.rules r.from (r.to - r.from)).1) c.requires.source ∙ ap (λ (x : _). kept_of (guess l.source x r.from (r.to - r.from)).1) c.requires.rules in
     let whole = joined_kept c.run_laws.ensures l.source l.rules l.from r.from r.to i.codes k.codes taken.0 i.counted taken.2 i.end_state taken.3 taken.1 there joint beside
-    c.append-2.new.self (c.in_ok-append-2.ensures.ok ∙ ap (λ (x : KeptOf). behind x (kept_from taken.1 k.codes)) c.in_ok-append.ensures.ok) in
+    c.append-2.new.self (c.in_ok-append-2.ensures ∙ ap (λ (x : KeptOf). behind x (kept_from taken.1 k.codes)) c.in_ok-append.ensures) in
     let run_is : run_over l.source l.rules l.from r.to ≡ run_over i.source.value i.rules i.from k.to =
     ap (λ (x : RunOf). run_over x.source x.rules x.from r.to) (sym c.left.view_is) ∙ ap (λ (x : RunOf). run_over i.source.value i.rules i.from x.to) (sym c.right.view_is) in
     subst (λ (t : Totals). IsKept (run_over i.source.value i.rules i.from k.to) c.append-2.new.self t taken.3) (sym c.plus.ensures.value)
