@@ -76,6 +76,26 @@ check_table() {
     [ -z "$(tail -c 1 "$1")" ] || broken "$1" 'the last line is cut off'
 }
 
+# as_bytes: the bytes of digits; who calls it needs basenc and tr
+as_bytes() { tr a-f A-F | basenc -d --base16 -i; }
+
+# past_mending: the groups of some lines with three bits each of their blocks 2 and 4 turned, which are no burst. Where one
+# bad block loses a lock, each is lost as soon as it is acquired.
+past_mending() {
+    awk '
+        BEGIN { count = split("8 2 11 8 13 2 21 2 24 8 26 2", turned) }
+        {
+            for (k = 1; k < count; k += 2) {
+                at = turned[k]
+                digit = index("0123456789ABCDEF", toupper(substr($0, at, 1))) - 1
+                bit = turned[k + 1]
+                digit += int(digit / bit) % 2 ? -bit : bit
+                $0 = substr($0, 1, at - 1) substr("0123456789ABCDEF", digit + 1, 1) substr($0, at + 1)
+            }
+            print
+        }'
+}
+
 # words SEED COUNT: so many lines of four pseudo-random words of four digits each
 words() {
     awk -v x="$1" -v n="$2" 'function word() { x = x * 16807 % 2147483647; return int(x / 32768) }

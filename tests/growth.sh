@@ -22,9 +22,6 @@ attempts=5
 
 # ---- inputs of one size, and of four and sixteen times that
 
-# as_bytes: the bytes of digits
-as_bytes() { tr a-f A-F | basenc -d --base16 -i; }
-
 # noise SEED COUNT: so many lines of 26 digits
 noise() { words "$1" "$2" | awk '{ print $0 substr($0, 1, 10) }'; }
 
@@ -38,7 +35,8 @@ awk 'NR % 6 > 1 { getline < "heard" } 1' sent | as_bytes >losing || exit 1
 awk -v x=37 '{ x = x * 16807 % 2147483647; at = x % 104 }
     at < 26 { $0 = substr($0, 1, at) sprintf("%x", int(x / 104) % 16) substr($0, at + 2) } 1' sent | as_bytes >damaged || exit 1
 words 41 8000 >lines
-for input in station hiss losing damaged lines; do
+past_mending <sent | as_bytes >worst || exit 1
+for input in station hiss losing damaged worst lines; do
     for size in 1 4 16; do
         for _ in $(seq "$size"); do cat "$input"; done >"$input.$size"
     done
@@ -110,6 +108,8 @@ for input in station damaged losing hiss; do
 done
 job losing list --loss 1 --reach 8 --pieces 1 --workers 1
 job losing totals --share 3 --of 20 --pieces PIECES --workers 1
+job worst totals --loss 1 --pieces PIECES --workers 2
+job worst list --loss 1 --pieces 1 --workers 1
 job station list --pieces PIECES --workers 2
 job station list --gaps GAPS --workers 1
 job losing totals --gaps GAPS --pieces PIECES --workers 1

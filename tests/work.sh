@@ -18,7 +18,7 @@ usage='usage: tests/work.sh PATH-TO-RDS [--measure JOB..]'
 check_programs "${1:-}"
 if [ $# -gt 1 ] && { [ "$2" != --measure ] || [ $# = 2 ]; }; then misused; fi
 rds=$(realpath "$1")
-needs cat cp grep od seq stat
+needs basenc cat cp grep od seq stat tr
 table=$here/work.bounds
 cd "$work" || exit 1
 
@@ -46,6 +46,20 @@ station list --gaps $gaps --pieces 16 --workers 1
 version_b totals --gaps $gaps --pieces 16 --workers 1
 station list --share 8 --of 40 --pieces 16 --workers 1
 damaged totals --hex --share 8 --of 40 --pieces 16 --workers 1
+wrong0.0005 totals --pieces 16 --workers 4
+wrong0.0005 list --pieces 16 --workers 4
+wrong0.003 totals --pieces 16 --workers 4
+wrong0.003 list --pieces 16 --workers 4
+wrong0.01 totals --pieces 16 --workers 4
+wrong0.01 list --pieces 16 --workers 4
+wrong0.03 totals --pieces 1 --workers 1
+wrong0.03 totals --pieces 16 --workers 4
+wrong0.03 list --pieces 1 --workers 1
+wrong0.03 list --pieces 16 --workers 4
+worst totals --loss 1 --pieces 1 --workers 1
+worst totals --loss 1 --pieces 16 --workers 4
+worst list --loss 1 --pieces 1 --workers 1
+worst list --loss 1 --pieces 16 --workers 4
 words encode
 words encode --hex
 END
@@ -79,10 +93,30 @@ station 160 >station
 words 17 200000 >noise
 words 19 160000 >words
 station 40 | od -An -v -tx1 >digits
-# a byte of every 64 spoilt: marks in many rows
+# a byte of every 64 spoilt
 station 40 | od -An -v -tx1 | awk 'NR % 4 == 0 { $2 = "ff" } 1' >damaged
 # groups of version B, whose block 3 has the programme of block 1
 words 23 300000 | awk '{ print "d393" substr($0, 5, 1) "8" substr($0, 7, 2) "d393" substr($0, 13) }' | "$rds" encode >version_b
+
+
+# wrong SHARE: a station's groups with about that share of their bits turned, one of a byte at most
+wrong() {
+    station 40 | od -An -v -tx1 | awk -v share="$1" -v x=41 '
+        function digit(text, at) { return index("0123456789abcdef", substr(text, at, 1)) - 1 }
+        {
+            for (i = 1; i <= NF; i++) {
+                x = x * 16807 % 2147483647
+                if (x < 8 * share * 2147483647) {
+                    bit = 2 ^ (x % 8)
+                    byte = 16 * digit($i, 1) + digit($i, 2)
+                    $i = sprintf("%02x", int(byte / bit) % 2 ? byte - bit : byte + bit)
+                }
+            }
+            print
+        }' | as_bytes
+}
+for share in 0.0005 0.003 0.01 0.03; do wrong $share >wrong$share; done
+words 47 150000 | "$rds" encode --hex | past_mending | as_bytes >worst
 
 # ---- what a job takes
 

@@ -5,7 +5,7 @@ ghost use Rattle.rds_pieces.specs.Cutting.{IsCutting, pieces_of};
 ghost use Rattle.rds_crew.specs.Seats.{IsFresh};
 
 use crate::sample::Sample;
-use crate::timing::Timing;
+use crate::timing::{Form, Timing};
 use anyhow::Result;
 use rds_crew::{Dealer, Seat};
 use rds_pieces::{Cutting, PieceError, RecordingWork, Work};
@@ -45,11 +45,11 @@ fn time_both<T: Threads + Sync, W: Work + Sync>(
 
     let start = Instant::now(rt)?;
     let guessed = by_shares(threads, rt.alloc(), work)?;
-    timing.show(rt, "shared out beforehand", start, guessed)?;
+    timing.show(rt, Form::free("shared out beforehand"), start, guessed)?;
 
     let start = Instant::now(rt)?;
     let guessed = by_draws(threads, rt.alloc(), work)?;
-    timing.show(rt, "drawn from a dealer", start, guessed)
+    timing.show(rt, Form::free("drawn from a dealer"), start, guessed)
 }
 
 /// How many bits the workers guess where worker k has the pieces k, k + 4, k + 8 and so on.

@@ -1,6 +1,6 @@
 //! One decoder, and the valid windows, over a recording without gaps and over the same with many.
 use crate::sample::Sample;
-use crate::timing::Timing;
+use crate::timing::{Form, Timing};
 use anyhow::Result;
 use rds_stream::{Recording, StreamError, ValidWindows};
 use rds_sync::{Rules, decode_plain};
@@ -9,6 +9,9 @@ use std::time::Instant;
 
 /// There is a gap of one place in so many: 100,000 of them in a recording of 100,000,000 bits.
 const EVERY: u64 = 1_000;
+
+/// The most that many gaps may cost, in hundredths of the time without: each is looked for once.
+const MOST: u128 = 300;
 
 pub fn measure(rt: &HostRuntime, bits: u64, sample: Sample) -> Result<()> {
     let whole = sample.recording(rt.alloc(), bits)?;
@@ -24,20 +27,31 @@ fn time_both(rt: &HostRuntime, whole: &Recording, gapped: &Recording) -> Result<
 fn time_decoders(rt: &HostRuntime, whole: &Recording, gapped: &Recording) -> Result<()> {
     let rules = Rules::new(rt.alloc(), 2, 3, 10)?;
     let mut timing = Timing::new(whole.len());
-    time_decoder(rt, &mut timing, "one decoder", whole, &rules)?;
-    time_decoder(rt, &mut timing, "over many gaps", gapped, &rules)
+    time_decoder(rt, &mut timing, Form::free("one decoder"), whole, &rules)?;
+    time_decoder(
+        rt,
+        &mut timing,
+        Form::at_most("over many gaps", MOST),
+        gapped,
+        &rules,
+    )
 }
 
 fn time_searches(rt: &HostRuntime, whole: &Recording, gapped: &Recording) -> Result<()> {
     let mut timing = Timing::new(whole.len());
-    time_windows(rt, &mut timing, "valid windows", whole)?;
-    time_windows(rt, &mut timing, "outside many gaps", gapped)
+    time_windows(rt, &mut timing, Form::free("valid windows"), whole)?;
+    time_windows(
+        rt,
+        &mut timing,
+        Form::at_most("outside many gaps", MOST),
+        gapped,
+    )
 }
 
 fn time_decoder(
     rt: &HostRuntime,
     timing: &mut Timing,
-    form: &str,
+    form: Form,
     recording: &Recording,
     rules: &Rules,
 ) -> Result<()> {
@@ -49,7 +63,7 @@ fn time_decoder(
 fn time_windows(
     rt: &HostRuntime,
     timing: &mut Timing,
-    form: &str,
+    form: Form,
     recording: &Recording,
 ) -> Result<()> {
     let start = Instant::now(rt)?;

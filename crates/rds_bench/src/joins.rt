@@ -5,7 +5,7 @@ ghost use Rattle.rds_pieces.specs.Cutting.{IsCutting};
 ghost use Rattle.rds_pieces.specs.RunOf.{FollowEachOther};
 
 use crate::sample::Sample;
-use crate::timing::Timing;
+use crate::timing::{Form, Timing};
 use anyhow::{Context, Result, bail};
 use rds_crew::{Gate, decode_crew};
 use rds_pieces::{Cutting, PieceError, PieceRun, RecordingWork, Work, laws};
@@ -28,24 +28,27 @@ const GROUP: u64 = 104;
 const BEGINS: [u64; 2] = [22, 86];
 
 /// A tree of so many workers: how its joins are shown, and how with the guesses before them.
-struct Form {
+#[derive(Clone, Copy)]
+struct Tree {
     workers: u32,
-    joins: &'static str,
-    all: &'static str,
+    joins: Form,
+    all: Form,
 }
 
-const FORMS: [Form; 2] = [
-    Form {
-        workers: 1,
-        joins: "a tree, one worker",
-        all: "with its guesses",
-    },
-    Form {
-        workers: 4,
-        joins: "a tree, four workers",
-        all: "with their guesses",
-    },
-];
+fn trees() -> [Tree; 2] {
+    [
+        Tree {
+            workers: 1,
+            joins: Form::free("a tree, one worker"),
+            all: Form::free("with its guesses"),
+        },
+        Tree {
+            workers: 4,
+            joins: Form::free("a tree, four workers"),
+            all: Form::free("with their guesses"),
+        },
+    ]
+}
 
 pub fn measure<T: Sync + Threads + Wait>(
     rt: &HostRuntime,
@@ -106,8 +109,8 @@ fn time_all<T: Sync + Threads + Wait, W: Work + Sync>(
 {
     let mut timing = Timing::new(bits);
     time_stitching(rt, work, &mut timing)?;
-    for form in FORMS.iter() {
-        time_tree(rt, threads, work, &mut timing, form)?;
+    for tree in &trees() {
+        time_tree(rt, threads, work, &mut timing, tree)?;
     }
     Ok(())
 }
@@ -118,7 +121,7 @@ fn time_stitching<W: Work>(rt: &HostRuntime, work: &W, timing: &mut Timing) -> R
     let runs = guesses(rt.alloc(), work)?;
     let start = Instant::now(rt)?;
     let valid = work.report(rt.alloc(), runs.as_slice())?.totals.valid;
-    timing.show(rt, "left to right", start, valid)
+    timing.show(rt, Form::free("left to right"), start, valid)
 }
 
 /// The guesses of all pieces, in order.
@@ -142,7 +145,7 @@ fn time_tree<T: Sync + Threads + Wait, W: Work + Sync>(
     threads: &T,
     work: &W,
     timing: &mut Timing,
-    form: &Form,
+    tree: &Tree,
 ) -> Result<()>
     requires { IsCutting (length_of (W.recording work.now)) (W.places work.now) }
 {
@@ -152,8 +155,8 @@ fn time_tree<T: Sync + Threads + Wait, W: Work + Sync>(
         begun: Mutex::new(None),
     };
     let start = Instant::now(rt)?;
-    let report = decode_crew(threads, rt.alloc(), work, form.workers, &gate)?;
+    let report = decode_crew(threads, rt.alloc(), work, tree.workers, &gate)?;
     let begun = gate.begun.into_inner().context("no join was begun")?;
-    timing.show(rt, form.joins, begun, report.totals.valid)?;
-    timing.show(rt, form.all, start, report.totals.valid)
+    timing.show(rt, tree.joins, begun, report.totals.valid)?;
+    timing.show(rt, tree.all, start, report.totals.valid)
 }

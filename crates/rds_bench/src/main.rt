@@ -7,6 +7,7 @@
 
 mod deals;
 mod gaps;
+mod guesses;
 mod joins;
 mod remainders;
 mod runs;
@@ -28,6 +29,7 @@ const USAGE: &str = "usage: rds_bench MEASUREMENT [BITS [SAMPLE]]
   scan       the valid windows: a list, one after the other, place by place, by long division
   remainder  the remainder by tables, and by long division
   run        the report of one decoder, and of sixteen pieces by one thread; the valid windows alone
+  guess      the totals of one piece: from its items one by one, and from what a guess keeps of them
   gaps       one decoder, and the valid windows: without gaps, and with one of a bit in a thousand
   deal       sixteen pieces guessed by four workers: shared out beforehand, and drawn from a dealer
   joins      sixteen guesses made into one report: left to right, and by a tree of one worker and of four
@@ -35,9 +37,10 @@ const USAGE: &str = "usage: rds_bench MEASUREMENT [BITS [SAMPLE]]
   list       from bytes to the text of the listing, by one, two and four workers
 
 BITS is the length of the recording that is made up for it, 100000000 where it is not given. SAMPLE is what
-'run', 'gaps', 'deal', 'joins', 'totals' and 'list' decode: 'station', a station's groups as they were sent, where it
-is not given, 'damaged', with one bit of about 500 turned, 'noise', 'late', a sixteenth of noise and then a station,
-or 'zeros', groups of zero words, in which guesses may lock on a false phase.
+'run', 'guess', 'gaps', 'deal', 'joins', 'totals' and 'list' decode: 'station', a station's groups as they were sent,
+where it is not given, 'damaged', with one bit of about 500 turned, 'worst', with blocks 2 and 4 of each group past
+mending, 'noise', 'late', a sixteenth of noise and then a station, or 'zeros', groups of zero words, in which guesses may
+lock on a false phase.
 ";
 
 /// The length of a recording where none is given.
@@ -86,6 +89,7 @@ fn measure<T: Threads + Wait + Sync>(rt: &HostRuntime, threads: &T, asked: &Aske
         "scan" => windows::measure(rt, bits),
         "remainder" => remainders::measure(rt, bits),
         "run" => runs::measure(rt, threads, bits, sample),
+        "guess" => guesses::measure(rt, bits, sample),
         "gaps" => gaps::measure(rt, bits, sample),
         "deal" => deals::measure(rt, threads, bits, sample),
         "joins" => joins::measure(rt, threads, bits, sample),

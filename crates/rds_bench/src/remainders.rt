@@ -1,5 +1,5 @@
 //! The remainder of a block: from tables, and by long division.
-use crate::timing::Timing;
+use crate::timing::{Form, Timing};
 use anyhow::Result;
 use rds_code::{plain, rem26};
 use std::time::Instant;
@@ -10,11 +10,16 @@ pub fn measure(rt: &HostRuntime, blocks: u64) -> Result<()> {
 
     let start = Instant::now(rt)?;
     let found = by_tables(blocks);
-    timing.show(rt, "by tables", start, found)?;
+    timing.show(rt, Form::free("by tables"), start, found)?;
 
     let start = Instant::now(rt)?;
     let found = by_division(blocks);
-    timing.show(rt, "by dividing each block", start, found)
+    timing.show(
+        rt,
+        Form::at_least("by dividing each block", 400),
+        start,
+        found,
+    )
 }
 
 /// The sum of the remainders, which all have to be found for it.

@@ -1,6 +1,6 @@
 //! The report of one decoder, and of pieces that are stitched; beside them the valid windows alone.
 use crate::sample::Sample;
-use crate::timing::Timing;
+use crate::timing::{Form, Timing};
 use anyhow::Result;
 use rds_crew::{OpenGate, decode_crew};
 use rds_pieces::{Cutting, RecordingWork};
@@ -19,7 +19,7 @@ pub fn measure<T: Threads + Wait>(
     sample: Sample,
 ) -> Result<()> {
     let recording = sample.recording(rt.alloc(), bits)?;
-    let rules = Rules::new(rt.alloc(), 2, 3, 10)?;
+    let rules = Rules::new(rt.alloc(), 2, 3, sample.loss())?;
     time_both(rt, threads, &recording, &rules)
 }
 
@@ -33,16 +33,17 @@ fn time_both<T: Threads + Wait>(
 
     let start = Instant::now(rt)?;
     let valid = one_decoder(rt.alloc(), recording, rules)?;
-    timing.show(rt, "one decoder", start, valid)?;
+    timing.show(rt, Form::free("one decoder"), start, valid)?;
 
+    // Each piece is guessed once, and little of it is read again.
     let start = Instant::now(rt)?;
     let valid = sixteen_pieces(threads, rt.alloc(), recording, rules)?;
-    timing.show(rt, "sixteen pieces", start, valid)?;
+    timing.show(rt, Form::at_most("sixteen pieces", 340), start, valid)?;
 
     // What a search has to do, whatever it finds.
     let start = Instant::now(rt)?;
     let windows = ValidWindows::new(recording, 0, recording.len()).count();
-    timing.show(rt, "valid windows alone", start, windows as u64)
+    timing.show(rt, Form::free("valid windows alone"), start, windows as u64)
 }
 
 /// How many valid blocks the report of one decoder counts.

@@ -9,8 +9,11 @@ use std::alloc::{AllocError, Global};
 pub enum Sample {
     /// A station's groups: a decoder locks on the second block and stays locked.
     Station,
-    /// A station's groups with one bit of about 500 turned, as in fair reception.
-    Damaged,
+    /// A station's groups with a bit turned in about one byte of so many.
+    Damaged(u64),
+    /// A station's groups whose blocks 2 and 4 no correction mends. A lock that one bad block loses is lost as soon as it
+    /// is acquired: of what a run keeps there is the most that was found.
+    Worst,
     /// Noise: a window of it is valid about once in two hundred places.
     Noise,
     /// A station that is tuned in late: a sixteenth of noise, then the station's groups.
@@ -20,11 +23,23 @@ pub enum Sample {
 }
 
 impl Sample {
+    /// A station with one bit of about 500 turned, as in fair reception.
+    const FAIR: Sample = Sample::Damaged(63);
+
+    /// After how many bad blocks in a row the lock is lost where this is decoded.
+    pub fn loss(self) -> u32 {
+        match self {
+            Sample::Worst => 1,
+            _ => 10,
+        }
+    }
+
     /// The sample of this name.
     pub fn named(name: &str) -> Option<Sample> {
         match name {
             "station" => Some(Sample::Station),
-            "damaged" => Some(Sample::Damaged),
+            "damaged" => Some(Sample::FAIR),
+            "worst" => Some(Sample::Worst),
             "noise" => Some(Sample::Noise),
             "late" => Some(Sample::Late),
             "zeros" => Some(Sample::Zeros),
@@ -36,7 +51,8 @@ impl Sample {
     pub fn bytes(self, alloc: Global, bits: u64) -> Result<Vec<u8>, AllocError> {
         match self {
             Sample::Station => station(alloc, bits),
-            Sample::Damaged => Ok(damaged(station(alloc, bits)?)),
+            Sample::Damaged(one_of) => Ok(damaged(station(alloc, bits)?, one_of)),
+            Sample::Worst => Ok(past_mending(station(alloc, bits)?)),
             Sample::Noise => noise(alloc, bits),
             Sample::Late => late(alloc, bits),
             Sample::Zeros => zeros(alloc, bits),
@@ -108,14 +124,25 @@ fn late(alloc: Global, bits: u64) -> Result<Vec<u8>, AllocError> {
     Ok(bytes)
 }
 
-/// The bytes with a bit turned in about one of 63.
-fn damaged(bytes: Vec<u8>) -> Vec<u8> {
+/// The bits of blocks 2 and 4 that are turned in a group of thirteen bytes: three of each, which are no burst.
+const TURNED: [u8; 13] = [0, 0, 0, 0x02, 0, 0x80, 0x20, 0, 0, 0, 0x20, 0x08, 0x02];
+
+fn past_mending(bytes: Vec<u8>) -> Vec<u8> {
+    let mut bytes = bytes;
+    for (at, byte) in bytes.iter_mut().enumerate() {
+        *byte ^= TURNED[at % 13];
+    }
+    bytes
+}
+
+/// The bytes with a bit turned in about one of so many.
+fn damaged(bytes: Vec<u8>, one_of: u64) -> Vec<u8> {
     let mut bytes = bytes;
     let mut number = SEED;
     for byte in bytes.iter_mut() {
         number = next_random(number);
-        if number % 63 == 0 {
-            *byte = *byte ^ 1 << (number >> 40 & 7);
+        if number % one_of.max(1) == 0 {
+            *byte ^= 1 << (number >> 40 & 7);
         }
     }
     bytes

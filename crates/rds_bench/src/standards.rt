@@ -12,16 +12,26 @@ const BITS: u64 = 8_000_000;
 const ATTEMPTS: u32 = 8;
 
 /// The measurements that have a bound, each with its sample.
-const MEASURED: [(&str, Sample); 9] = [
+const MEASURED: [(&str, Sample); 18] = [
     ("scan", Sample::Noise),
     ("remainder", Sample::Noise),
     ("run", Sample::Station),
     ("run", Sample::Noise),
+    // Of the bits none, 0.0005, 0.003, 0.01 and 0.03 turned.
+    ("guess", Sample::Station),
+    ("guess", Sample::Damaged(250)),
+    ("guess", Sample::Damaged(42)),
+    ("guess", Sample::Damaged(12)),
+    ("guess", Sample::Damaged(4)),
+    ("guess", Sample::Worst),
     ("gaps", Sample::Station),
     ("gaps", Sample::Noise),
     ("totals", Sample::Station),
+    ("totals", Sample::Damaged(4)),
+    ("totals", Sample::Worst),
     ("totals", Sample::Noise),
     ("list", Sample::Station),
+    ("list", Sample::Damaged(4)),
 ];
 
 /// Measures the tasks that have a bound, over short recordings: an error where one keeps losing a ratio.

@@ -5,65 +5,55 @@
 use anyhow::{Result, bail};
 use std::time::Instant;
 
-/// The least and the most of a form's time, in hundredths of the first form's.
+/// How the time of a form may stand to that of the first one, in hundredths of it.
 #[derive(Clone, Copy)]
-struct Bound {
-    form: &'static str,
-    least: u128,
-    most: u128,
+enum Bound {
+    Free,
+    AtLeast(u128),
+    AtMost(u128),
 }
 
-const BOUNDS: [Bound; 7] = [
-    // The scan goes by planes, and not place by place.
-    Bound {
-        form: "by long division",
-        least: 1000,
-        most: u128::MAX,
-    },
-    // A remainder goes by tables.
-    Bound {
-        form: "by dividing each block",
-        least: 400,
-        most: u128::MAX,
-    },
-    // Each piece is guessed once, and little of it is read again.
-    Bound {
-        form: "sixteen pieces",
-        least: 0,
-        most: 340,
-    },
-    // A place costs no more where there are many gaps: each is looked for once.
-    Bound {
-        form: "over many gaps",
-        least: 0,
-        most: 300,
-    },
-    Bound {
-        form: "outside many gaps",
-        least: 0,
-        most: 300,
-    },
-    // Workers share the work out, and each does its own alone: on one processor they take as long as one.
-    Bound {
-        form: "two workers",
-        least: 0,
-        most: 150,
-    },
-    Bound {
-        form: "four workers",
-        least: 0,
-        most: 150,
-    },
-];
-
-/// An error where the form has a bound, and its ratio is past it.
-fn keep_bound(form: &str, ratio: u128) -> Result<()> {
-    for bound in BOUNDS.iter() {
-        if bound.form == form && (ratio < bound.least || bound.most < ratio) {
-            bail!("'{form}' takes too long or too little beside the first form");
+impl Bound {
+    fn keeps(self, ratio: u128) -> bool {
+        match self {
+            Bound::Free => true,
+            Bound::AtLeast(least) => least <= ratio,
+            Bound::AtMost(most) => ratio <= most,
         }
     }
-    Ok(())
+}
+
+/// A form of a task: how it is shown, and its bound.
+#[derive(Clone, Copy)]
+pub struct Form {
+    name: &'static str,
+    bound: Bound,
+}
+
+impl Form {
+    /// A form without a bound.
+    pub fn free(name: &'static str) -> Form {
+        Form {
+            name,
+            bound: Bound::Free,
+        }
+    }
+
+    /// A form that takes at least so many hundredths of the first one's time.
+    pub fn at_least(name: &'static str, hundredths: u128) -> Form {
+        Form {
+            name,
+            bound: Bound::AtLeast(hundredths),
+        }
+    }
+
+    /// A form that takes at most so many hundredths of the first one's time.
+    pub fn at_most(name: &'static str, hundredths: u128) -> Form {
+        Form {
+            name,
+            bound: Bound::AtMost(hundredths),
+        }
+    }
 }
 
 /// The times of one task's forms over so many bits, each shown as it comes.
@@ -78,19 +68,24 @@ impl Timing {
         Timing { bits, first: None }
     }
 
-    /// Shows the time since `start` and what the form counted, which is the same for all forms that do the task.
-    pub fn show(&mut self, rt: &HostRuntime, form: &str, start: Instant, found: u64) -> Result<()> {
+    /// Shows the time since `start` and what the form counted, which is the same for all forms that do the task: an error
+    /// where the time is past the form's bound.
+    pub fn show(&mut self, rt: &HostRuntime, form: Form, start: Instant, found: u64) -> Result<()> {
         let nanos = u64::try_from(start.elapsed(rt)?.as_nanos()).unwrap_or(u64::MAX);
         let first = *self.first.get_or_insert(nanos);
         let hundredths = nanos as u128 * 100 / self.bits.max(1) as u128;
         let ratio = nanos as u128 * 100 / first.max(1) as u128;
+        let name = form.name;
         println!(rt;
-            "{form:<24} {}.{:02} ns a bit, {}.{:02} times the first, count {found}",
+            "{name:<24} {}.{:02} ns a bit, {}.{:02} times the first, count {found}",
             hundredths / 100,
             hundredths % 100,
             ratio / 100,
             ratio % 100
         )?;
-        keep_bound(form, ratio)
+        if !form.bound.keeps(ratio) {
+            bail!("'{name}' takes too long or too little beside the first form");
+        }
+        Ok(())
     }
 }

@@ -1,6 +1,6 @@
 //! From the bytes of a recording to the text of a listing, by one, two and four workers over sixteen pieces.
 use crate::sample::Sample;
-use crate::timing::Timing;
+use crate::timing::{Form, Timing};
 use anyhow::Result;
 use rds_tool::{Cuts, FromRead, Input, Job, Loss, Settings, ToWrite, transcribe};
 use std::alloc::Global;
@@ -9,25 +9,32 @@ use std::thread::Threads;
 use std::time::Instant;
 
 /// A crew of so many workers, and how its time is shown.
+#[derive(Clone, Copy)]
 struct Crew {
     workers: u32,
-    form: &'static str,
+    form: Form,
 }
 
-const CREWS: [Crew; 3] = [
-    Crew {
-        workers: 1,
-        form: "one worker",
-    },
-    Crew {
-        workers: 2,
-        form: "two workers",
-    },
-    Crew {
-        workers: 4,
-        form: "four workers",
-    },
-];
+/// The most that a crew may take, in hundredths of one worker's time: its workers share the work out, and each does its
+/// own alone, so that on one processor they take as long as one.
+const MOST: u128 = 150;
+
+fn crews() -> [Crew; 3] {
+    [
+        Crew {
+            workers: 1,
+            form: Form::free("one worker"),
+        },
+        Crew {
+            workers: 2,
+            form: Form::at_most("two workers", MOST),
+        },
+        Crew {
+            workers: 4,
+            form: Form::at_most("four workers", MOST),
+        },
+    ]
+}
 
 /// The whole way, reading and writing memory: a listing, or its totals alone.
 pub fn measure<T: Threads + Wait + Sync>(
@@ -38,32 +45,22 @@ pub fn measure<T: Threads + Wait + Sync>(
     listing: bool,
 ) -> Result<()> {
     let bytes = sample.bytes(rt.alloc(), bits)?;
-    time_crews(rt, threads, &bytes, listing)
+    time_crews(rt, threads, &bytes, sample.loss(), listing)
 }
 
 fn time_crews<T: Threads + Wait + Sync>(
     rt: &HostRuntime,
     threads: &T,
     bytes: &[u8],
+    loss: u32,
     listing: bool,
 ) -> Result<()> {
     let mut timing = Timing::new((bytes.len() as u64).saturating_mul(8));
-    for crew in CREWS.iter() {
-        time_crew(rt, threads, &mut timing, bytes, crew, listing)?;
+    for crew in &crews() {
+        let job = job_of(rt.alloc(), crew.workers, loss, listing);
+        time_job(rt, threads, &mut timing, bytes, crew.form, &job)?;
     }
     Ok(())
-}
-
-fn time_crew<T: Threads + Wait + Sync>(
-    rt: &HostRuntime,
-    threads: &T,
-    timing: &mut Timing,
-    bytes: &[u8],
-    crew: &Crew,
-    listing: bool,
-) -> Result<()> {
-    let job = job_of(rt.alloc(), crew.workers, listing);
-    time_job(rt, threads, timing, bytes, crew.form, &job)
 }
 
 fn time_job<T: Threads + Wait + Sync>(
@@ -71,7 +68,7 @@ fn time_job<T: Threads + Wait + Sync>(
     threads: &T,
     timing: &mut Timing,
     bytes: &[u8],
-    form: &str,
+    form: Form,
     job: &Job,
 ) -> Result<()> {
     let start = Instant::now(rt)?;
@@ -92,7 +89,7 @@ fn written_by<T: Threads + Wait + Sync>(
     Ok(writer.into_inner().len() as u64)
 }
 
-fn job_of(alloc: Global, workers: u32, listing: bool) -> Job {
+fn job_of(alloc: Global, workers: u32, loss: u32, listing: bool) -> Job {
     let input = Input {
         hex: false,
         bits: None,
@@ -101,7 +98,7 @@ fn job_of(alloc: Global, workers: u32, listing: bool) -> Job {
     let settings = Settings {
         burst: 2,
         reach: 3,
-        loss: Loss::Run(10),
+        loss: Loss::Run(loss),
         workers,
         cuts: Cuts::Even(16),
     };

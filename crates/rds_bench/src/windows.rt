@@ -1,6 +1,6 @@
 //! The valid windows of a recording: by words of 64 places, place by place, and by long division of each window.
 use crate::sample::Sample;
-use crate::timing::Timing;
+use crate::timing::{Form, Timing};
 use anyhow::Result;
 use rds_code::{offset_of, plain};
 use rds_stream::{Recording, ValidWindows, scan};
@@ -16,19 +16,20 @@ fn time_all(rt: &HostRuntime, recording: &Recording) -> Result<()> {
 
     let start = Instant::now(rt)?;
     let found = scan(rt.alloc(), recording, 0, recording.len())?.len();
-    timing.show(rt, "the scan", start, found as u64)?;
+    timing.show(rt, Form::free("the scan"), start, found as u64)?;
 
     let start = Instant::now(rt)?;
     let found = ValidWindows::new(recording, 0, recording.len()).count();
-    timing.show(rt, "one after the other", start, found as u64)?;
+    timing.show(rt, Form::free("one after the other"), start, found as u64)?;
 
     let start = Instant::now(rt)?;
     let found = by_tables(recording);
-    timing.show(rt, "place by place", start, found)?;
+    timing.show(rt, Form::free("place by place"), start, found)?;
 
+    // The scan goes by planes, and not place by place.
     let start = Instant::now(rt)?;
     let found = by_division(recording);
-    timing.show(rt, "by long division", start, found)
+    timing.show(rt, Form::at_least("by long division", 1000), start, found)
 }
 
 /// How many windows are valid, each remainder taken by tables.

@@ -1,6 +1,7 @@
 //! A crew of workers that makes the report of a work.
 ghost use Rattle.std.specs.Prelude.{◌≡◌, ◌⊎◌, ◌↔◌, ◌<◌, length, IfOk, IsErrOf};
 ghost use Rattle.rds_stream.specs.Recording.{length_of};
+ghost use Rattle.rds_sync.specs.Decoding.{listed};
 ghost use Rattle.rds_sync.specs.Report.{report_items};
 ghost use Rattle.rds_sync.specs.Totals.{totals_of};
 ghost use Rattle.rds_pieces.specs.Cutting.{IsCutting, pieces_of};
@@ -36,7 +37,8 @@ pub const MOST_WORKERS: u32 = 256;
 ///
 /// Its cost: each bit is guessed once, and a join carries the left run on over the right one until the two meet (see
 /// [`join_runs`](rds_pieces::join_runs)): at best at once, at worst to the end of the right one. So each bit is gone
-/// over once, and at most once more for each level. The runs of two levels are held at a time.
+/// over once, and at most once more for each level. The runs of one level are held at a time, and what joins them; runs
+/// are moved up a level, and none is copied.
 pub fn decode_crew<R: Threads + Wait, W: Work + Sync, G: Gate + Sync>(
     rt: &R,
     alloc: Global,
@@ -45,8 +47,8 @@ pub fn decode_crew<R: Threads + Wait, W: Work + Sync, G: Gate + Sync>(
     gate: &G,
 ) -> Result<Report, CrewError>
     requires { IsCutting (length_of (W.recording work.now)) (W.places work.now) }
-    ensures items { IfOk result (λ report. report.items
-        ≡ report_items (W.recording work.now) (W.rule_set work.now)) }
+    ensures items { IfOk result (λ report. report.items ≡ listed (W.recording work.now) (W.rule_set work.now)
+        (report_items (W.recording work.now) (W.rule_set work.now))) }
     ensures totals { IfOk result (λ report. report.totals
         ≡ totals_of (report_items (W.recording work.now) (W.rule_set work.now))) }
     ensures range { IsErrOf result CrewError.CrewRange ↔ ((workers ≡ 0) ⊎ (256 < workers)) }

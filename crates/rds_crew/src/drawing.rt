@@ -1,4 +1,4 @@
-//! One worker: draws numbers with its seat, and makes the run of each.
+//! One worker: draws numbers with its seat, and makes the part of each.
 ghost use Rattle.std.specs.Prelude.{◌≡◌, IfOk, IfErr};
 ghost use Rattle.rds_pieces.specs.declared.error.PieceError.TheVariants.{OutOfMemory};
 ghost use Rattle.rds_crew.specs.Seats.{IsFresh};
@@ -7,38 +7,38 @@ ghost use Rattle.rds_crew.specs.Inside.Drawn.{IsDrawn};
 use crate::dealer::Dealer;
 use crate::parts::Parts;
 use crate::seat::Seat;
-use rds_pieces::{PieceError, PieceRun};
+use rds_pieces::PieceError;
 use std::alloc::Global;
 use std::snapshot::Snapshot;
 use std::thread::{Promise, PromisedHandle};
 
-/// What a worker hands back: its seat, which has ended, and the run of each number that the seat drew, beside that
+/// What a worker hands back: its seat, which has ended, and the part of each number that the seat drew, beside that
 /// number.
-pub(crate) type Drawn = (Seat, Vec<(u64, PieceRun)>);
+pub(crate) type Drawn<M> = (Seat, Vec<(u64, M)>);
 
-/// Draws until nothing is left, and makes the run of each number drawn. Stops at the first that is refused memory:
+/// Draws until nothing is left, and makes the part of each number drawn. Stops at the first that is refused memory:
 /// its seat is dropped with the number that it holds, so that the dealer can't be closed any more.
 pub(crate) fn draw_all<P: Parts>(
     alloc: Global,
     parts: &P,
     dealer: &Dealer,
     seat: Seat,
-) -> Result<Drawn, PieceError>
+) -> Result<Drawn<P::Made>, PieceError>
     requires ready { P.ready parts.now }
     requires all { dealer.now.name.pieces ≡ P.how_many parts.now }
     requires new { IsFresh dealer.now seat }
-    ensures drawn { IfOk result (IsDrawn (P.run_of parts.now) dealer.now) }
+    ensures drawn { IfOk result (IsDrawn (P.made_of parts.now) dealer.now) }
     ensures err { IfErr result (λ e. e ≡ OutOfMemory) }
 {
     let mut seat = seat;
-    let mut runs = Vec::new(alloc);
+    let mut made = Vec::new(alloc);
     loop {
         let (number, holder) = dealer.draw(seat);
         let Some(j) = number else {
-            return Ok((holder, runs));
+            return Ok((holder, made));
         };
-        let run = parts.make(alloc, j)?;
-        runs.push((j, run))?;
+        let part = parts.make(alloc, j)?;
+        made.push((j, part))?;
         seat = dealer.finish(holder, j);
     }
 }
@@ -63,12 +63,15 @@ impl<P: Parts> DrawPromise<P> {
     }
 }
 
-impl<P: Parts> Promise<Result<Drawn, PieceError>> for DrawPromise<P> {
+impl<P: Parts> Promise<Result<Drawn<P::Made>, PieceError>> for DrawPromise<P> {
     ghost use Rattle.std.specs.Prelude.{IfOk};
     ghost use Rattle.rds_crew.specs.Inside.Drawn.{IsDrawn};
 
-    ghost kept_by = { λ p result. IfOk result (IsDrawn (P.run_of p.parts.value) p.dealer.value) };
+    ghost kept_by = { λ p result. IfOk result (IsDrawn (P.made_of p.parts.value) p.dealer.value) };
 }
 
 /// The thread of a worker.
-pub(crate) type Worker<P> = PromisedHandle<Result<Drawn, PieceError>, DrawPromise<P>>;
+pub(crate) type Worker<P> = PromisedHandle<
+    Result<Drawn<<P as Parts>::Made>, PieceError>,
+    DrawPromise<P>,
+>;

@@ -4,9 +4,10 @@
 //! the bits before it did. The guesses are then put in the order of their pieces, and neighbours
 //! are joined, level by level, until one run is left: that of the whole recording, which is made
 //! into the report that one decoder gives, reading from the first bit. What a piece is, how it is
-//! guessed, how two runs are joined and how a run becomes a report is the business of a
+//! guessed, what joins two runs and how a run becomes a report is the business of a
 //! [`Work`](rds_pieces::Work). This crate deals the pieces out, and then the joins of each level,
-//! waits for its workers, and puts in order what they made.
+//! waits for its workers, puts in order what they made, and puts the runs of a level together: they
+//! are moved up, and none is copied.
 //!
 //! # Example
 //!

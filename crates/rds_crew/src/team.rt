@@ -1,4 +1,4 @@
-//! Workers that make all runs of a work between them, each those whose numbers it draws.
+//! Workers that make all parts of a work between them, each those whose numbers it draws.
 ghost use Rattle.std.specs.Prelude.{◌≡◌, ◌⊎◌, ◌<◌, ◌≤◌, [], All, length, map, IfOk, IfErr, IsErrOf, vec_capacity};
 ghost use Rattle.std.specs.List.{range_with_len};
 ghost use Rattle.rds_crew.specs.Seats.{IsFresh};
@@ -10,30 +10,30 @@ use crate::error::CrewError;
 use crate::parts::Parts;
 use crate::seat::Seat;
 use crate::slots::{empty_slots, fill, values_of};
-use rds_pieces::PieceRun;
+use rds_pieces::PieceError;
 use std::alloc::Global;
 use std::sync::Wait;
 use std::thread;
 use std::thread::{Scope, Threads};
 
-/// All runs, in the order of their numbers. They are dealt to as many threads as there are workers or runs, whichever
+/// All parts, in the order of their numbers. They are dealt to as many threads as there are workers or parts, whichever
 /// is less; where that is one, the calling thread makes them all.
 pub(crate) fn make_all<R: Threads + Wait, P: Parts + Sync>(
     rt: &R,
     alloc: Global,
     parts: &P,
     workers: u32,
-) -> Result<Vec<PieceRun>, CrewError>
+) -> Result<Vec<P::Made>, CrewError>
     requires ready { P.ready parts.now }
     requires some { 0 < workers }
     requires few { workers ≤ 256 }
-    ensures runs { IfOk result (λ runs. runs.items
-        ≡ map (P.run_of parts.now) (range_with_len 0 (P.how_many parts.now))) }
+    ensures made { IfOk result (λ made. made.items
+        ≡ map (P.made_of parts.now) (range_with_len 0 (P.how_many parts.now))) }
     ensures err { IfErr result (λ e. (e ≡ CrewError.OutOfMemory) ⊎ (e ≡ CrewError.NoWorker)) }
     ensures no_worker { IsErrOf result CrewError.NoWorker
         → (1 < workers) × (1 < P.how_many parts.now) }
 {
-    // The room for all runs is taken before the first is made.
+    // The room for all parts is taken before the first is made.
     let slots = empty_slots(alloc, parts.count())?;
     let count = slots.len() as u64;
     let threads = count.min(u64::from(workers)) as u32;
@@ -55,12 +55,12 @@ fn draw_alone<P: Parts>(
     parts: &P,
     dealer: &Dealer,
     seats: Vec<Seat>,
-) -> Result<Vec<Drawn>, CrewError>
+) -> Result<Vec<Drawn<P::Made>>, CrewError>
     requires ready { P.ready parts.now }
     requires all { dealer.now.name.pieces ≡ P.how_many parts.now }
     requires new { All (IsFresh dealer.now) seats.items }
     requires one { length seats.items ≡ 1 }
-    ensures drawn { IfOk result (λ drawn. All (IsDrawn (P.run_of parts.now) dealer.now) drawn.items) }
+    ensures drawn { IfOk result (λ drawn. All (IsDrawn (P.made_of parts.now) dealer.now) drawn.items) }
     ensures len { IfOk result (λ drawn. length drawn.items ≡ length seats.items) }
     ensures err { IfErr result (λ e. e ≡ CrewError.OutOfMemory) }
 {
@@ -81,22 +81,22 @@ fn draw_by_threads<R: Threads + Wait, P: Parts + Sync>(
     parts: &P,
     dealer: &Dealer,
     seats: Vec<Seat>,
-) -> Result<Vec<Drawn>, CrewError>
+) -> Result<Vec<Drawn<P::Made>>, CrewError>
     requires ready { P.ready parts.now }
     requires all { dealer.now.name.pieces ≡ P.how_many parts.now }
     requires new { All (IsFresh dealer.now) seats.items }
-    ensures drawn { IfOk result (λ drawn. All (IsDrawn (P.run_of parts.now) dealer.now) drawn.items) }
+    ensures drawn { IfOk result (λ drawn. All (IsDrawn (P.made_of parts.now) dealer.now) drawn.items) }
     ensures len { IfOk result (λ drawn. length drawn.items ≡ length seats.items) }
     ensures err { IfErr result (λ e. (e ≡ CrewError.OutOfMemory) ⊎ (e ≡ CrewError.NoWorker)) }
 {
     thread::scope(
         thread::scope_env(),
         rt,
-        |scope| -> Result<Vec<Drawn>, CrewError>
+        |scope| -> Result<Vec<Drawn<P::Made>>, CrewError>
             requires { P.ready parts.now × (dealer.now.name.pieces ≡ P.how_many parts.now)
                 × All (IsFresh dealer.now) seats.items }
             ensures drawn { IfOk result
-                (λ drawn. All (IsDrawn (P.run_of parts.entry.now) dealer.entry.now) drawn.items) }
+                (λ drawn. All (IsDrawn (P.made_of parts.entry.now) dealer.entry.now) drawn.items) }
             ensures len { IfOk result (λ drawn. length drawn.items ≡ length seats.items) }
             ensures err { IfErr result
                 (λ e. (e ≡ CrewError.OutOfMemory) ⊎ (e ≡ CrewError.NoWorker)) }
@@ -128,7 +128,11 @@ fn start_workers<'s, E, R: Threads, P: Parts + Sync>(
     let mut threads = Vec::with_capacity(alloc, seats.len())?;
     for seat in seats {
         let promise = DrawPromise::new(parts, dealer);
-        let draws = move || draw_all(alloc, parts, dealer, seat);
+        let draws = move || -> Result<Drawn<P::Made>, PieceError>
+            requires { P.ready parts.now × (dealer.now.name.pieces ≡ P.how_many parts.now)
+                × IsFresh dealer.now seat }
+            ensures { IfOk result (IsDrawn (P.made_of parts.entry.now) dealer.entry.now) }
+        { draw_all(alloc, parts, dealer, seat) };
         let Ok(thread) = scope.spawn_with(promise, draws) else {
             wait_for(rt, threads);
             return Err(CrewError::NoWorker);
@@ -151,12 +155,12 @@ fn gather<R: Threads, P: Parts>(
     parts: &P,
     dealer: &Dealer,
     threads: Vec<Worker<P>>,
-    drawn: Vec<Drawn>,
-) -> Result<Vec<Drawn>, CrewError>
+    drawn: Vec<Drawn<P::Made>>,
+) -> Result<Vec<Drawn<P::Made>>, CrewError>
     requires workers { All (IsWorkerOf parts.now dealer.now) threads.items }
     requires none { drawn.items ≡ [] }
     requires room { length threads.items ≤ vec_capacity drawn }
-    ensures drawn { IfOk result (λ all. All (IsDrawn (P.run_of parts.now) dealer.now) all.items) }
+    ensures drawn { IfOk result (λ all. All (IsDrawn (P.made_of parts.now) dealer.now) all.items) }
     ensures len { IfOk result (λ all. length all.items ≡ length threads.items) }
     ensures err { IfErr result (λ e. e ≡ CrewError.OutOfMemory) }
 {
@@ -177,28 +181,28 @@ fn gather<R: Threads, P: Parts>(
     Ok(drawn)
 }
 
-/// The runs that were drawn, in the order of their numbers. That each of them was drawn is known of the dealer, which
+/// The parts that were drawn, in the order of their numbers. That each of them was drawn is known of the dealer, which
 /// is closed with all of its seats.
 fn in_order<P: Parts>(
     alloc: Global,
     parts: &P,
     dealer: Dealer,
-    drawn: Vec<Drawn>,
-    slots: Vec<Option<PieceRun>>,
-) -> Result<Vec<PieceRun>, CrewError>
+    drawn: Vec<Drawn<P::Made>>,
+    slots: Vec<Option<P::Made>>,
+) -> Result<Vec<P::Made>, CrewError>
     requires all { dealer.name.pieces ≡ P.how_many parts.now }
-    requires drawn { All (IsDrawn (P.run_of parts.now) dealer) drawn.items }
+    requires drawn { All (IsDrawn (P.made_of parts.now) dealer) drawn.items }
     requires seats { length drawn.items ≡ dealer.seats }
     requires slots { length slots.items ≡ dealer.name.pieces }
-    ensures runs { IfOk result (λ runs. runs.items
-        ≡ map (P.run_of parts.now) (range_with_len 0 (P.how_many parts.now))) }
+    ensures made { IfOk result (λ made. made.items
+        ≡ map (P.made_of parts.now) (range_with_len 0 (P.how_many parts.now))) }
     ensures err { IfErr result (λ e. e ≡ CrewError.OutOfMemory) }
 {
     let _ = parts;
     let mut slots = slots;
     let mut seats = Vec::with_capacity(alloc, drawn.len())?;
-    for (seat, runs) in drawn {
-        fill(&mut slots, runs);
+    for (seat, made) in drawn {
+        fill(&mut slots, made);
         seats.push_reserved(seat);
     }
     dealer.close(seats);

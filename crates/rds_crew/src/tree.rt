@@ -1,15 +1,15 @@
 //! The tree of joins: neighbours become one run, level by level, until one run is left.
-ghost use Rattle.std.specs.Prelude.{◌≡◌, ◌⊎◌, ◌/◌, ◌*◌, ◌++◌, ◌<◌, ◌≤◌, length, drop, IfOk, IfErr, IsErrOf};
+ghost use Rattle.std.specs.Prelude.{◌≡◌, ◌⊎◌, ◌<◌, ◌≤◌, length, IfOk, IfErr, IsErrOf};
 ghost use Rattle.rds_stream.specs.Recording.{length_of};
 ghost use Rattle.rds_pieces.specs.RunOf.{FollowEachOther};
-ghost use Rattle.rds_crew.specs.Inside.Tree.{level_above};
+ghost use Rattle.rds_crew.specs.Inside.Tree.{joints_of, level_above};
 
 use crate::error::CrewError;
 use crate::gate::Gate;
 use crate::joins::Joins;
 use crate::team::make_all;
-use rds_pieces::{PieceRun, Work};
-use std::alloc::{AllocError, Global};
+use rds_pieces::{Joint, PieceRun, Work};
+use std::alloc::Global;
 use std::sync::Wait;
 use std::thread::Threads;
 
@@ -41,8 +41,8 @@ pub(crate) fn join_all<R: Threads + Wait, W: Work + Sync, G: Gate + Sync>(
     Ok(runs)
 }
 
-/// The runs of a level, from those of the one below, which are dropped once all of its joins are made. The joins are
-/// dealt to the workers by a dealer of their own; a last run without a neighbour goes up as it is.
+/// The runs of a level, from those of the one below. The joins are dealt to the workers by a dealer of their own, and
+/// once all are made, the runs are put together.
 fn join_level<R: Threads + Wait, W: Work + Sync, G: Gate + Sync>(
     rt: &R,
     alloc: Global,
@@ -67,22 +67,38 @@ fn join_level<R: Threads + Wait, W: Work + Sync, G: Gate + Sync>(
         work,
         gate,
     };
-    let joined = make_all(rt, alloc, &joins, workers)?;
-    Ok(with_last(joined, below)?)
+    let joints = make_all(rt, alloc, &joins, workers)?;
+    put_together(alloc, work, below, joints)
 }
 
-/// The joins of a level, and behind them the last run of the one below, where it has no neighbour.
-fn with_last(joined: Vec<PieceRun>, below: Vec<PieceRun>) -> Result<Vec<PieceRun>, AllocError>
-    ensures { IfOk result (λ runs. runs.items
-        ≡ joined.items ++ drop (length below.items / 2 * 2) below.items) }
+/// The runs of a level, from those of the one below and what joins them. A last run without a neighbour goes up as it is.
+fn put_together<W: Work>(
+    alloc: Global,
+    work: &W,
+    below: Vec<PieceRun>,
+    joints: Vec<Joint>,
+) -> Result<Vec<PieceRun>, CrewError>
+    requires in_a_row { FollowEachOther (W.recording work.now) (W.rule_set work.now)
+        0 (length_of (W.recording work.now)) below.items }
+    requires joints { joints.items ≡ joints_of below.items }
+    ensures runs { IfOk result (λ runs. runs.items
+        ≡ level_above (W.recording work.now) (W.rule_set work.now) below.items) }
+    ensures err { IfErr result (λ e. e ≡ CrewError.OutOfMemory) }
 {
-    let (mut runs, mut below) = (joined, below);
-    if below.len() % 2 == 0 {
-        return Ok(runs);
+    let _ = work;
+    let mut above = Vec::with_capacity(alloc, below.len().div_ceil(2))?;
+    let mut runs = below.into_iter();
+    for joint in joints {
+        let (Some(left), Some(right)) = (runs.next(), runs.next()) else {
+            unreachable!()
+        };
+        let Ok(run) = PieceRun::joined(left, joint, right) else {
+            return Err(CrewError::OutOfMemory);
+        };
+        above.push_reserved(run);
     }
-    let Some(last) = below.pop() else {
-        unreachable!()
-    };
-    runs.push(last)?;
-    Ok(runs)
+    if let Some(last) = runs.next() {
+        above.push_reserved(last);
+    }
+    Ok(above)
 }

@@ -3,7 +3,7 @@
 use crate::samples::{gapped_recording, zero_bytes, zero_groups};
 use rds_code::{BurstTable, Offset, Reading, Wanted, encode_block, is_block, read_block};
 use rds_stream::{Reader, Recording, StreamError, read_heard, scan};
-use rds_sync::{Item, Items, Rules, SyncError, decode_plain};
+use rds_sync::{Item, ItemIter, Rules, SyncError, decode_plain};
 use std::alloc::Global;
 use std::test::Fail;
 
@@ -69,7 +69,7 @@ fn of_the_block_code_and_of_recordings(rt: HostRuntime) -> Result<(), Fail> {
 /// The places of two zero groups, and their type. Block 2 of the first acquired.
 const GROUPS: [(u64, Option<u8>); 2] = [(26, Some(0)), (104, Some(0))];
 
-fn have_groups(items: &Items) -> bool {
+fn have_groups(items: ItemIter<'_>) -> bool {
     let mut left = GROUPS.iter();
     for item in items {
         if let Item::Group(group) = item
@@ -84,7 +84,8 @@ fn have_groups(items: &Items) -> bool {
 /// Whether one decoder reports them.
 fn are_reported(alloc: Global, recording: &Recording) -> Result<bool, SyncError> {
     let rules = Rules::new(alloc, 2, 3, 10)?;
-    Ok(have_groups(&decode_plain(alloc, recording, &rules)?.items))
+    let report = decode_plain(alloc, recording, &rules)?;
+    Ok(have_groups(report.items.iter(recording, &rules)))
 }
 
 fn two_groups_are_reported(alloc: Global) -> Result<bool, Fail> {

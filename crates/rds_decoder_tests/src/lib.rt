@@ -7,7 +7,7 @@
 //! - `crew`: the reports of crews, and what their gates and works see.
 //! - `front_pages`: examples of the libraries' front pages.
 //! - `refusals`: their numbers and names.
-//! - `samples`: what they decode.
+//! - `samples` and `kinds`: what they decode.
 #![tactic(auto)]
 
 #[cfg(test)]
@@ -16,6 +16,8 @@ mod code;
 mod crew;
 #[cfg(test)]
 mod front_pages;
+#[cfg(test)]
+mod kinds;
 #[cfg(test)]
 mod pieces;
 #[cfg(test)]

@@ -1,15 +1,15 @@
 //! What the tests decode: recordings, the rules that they are read by, the reports that they have to give, and
 //! cuttings of them.
-ghost use Rattle.std.specs.Prelude.{◌<◌, IfOk};
+ghost use Rattle.std.specs.Prelude.{◌≡◌, ◌<◌, IfOk};
 ghost use Rattle.rds_stream.specs.Recording.{length_of};
 ghost use Rattle.rds_pieces.specs.Cutting.{IsCutting};
 
+use crate::kinds::groups_of_all_kinds;
 use rds_code::{Offset, Reading};
 use rds_pieces::{Cutting, PieceError};
 use rds_stream::{Recording, StreamError};
 use rds_sync::{
-    Block, Group, Item, ItemBuffer, Items, Loss, Report, RuleNumbers, Rules, SyncError, Totals,
-    Version, decode_plain,
+    Block, Group, Item, Loss, Report, RuleNumbers, Rules, SyncError, Totals, Version, decode_plain,
 };
 use std::alloc::{AllocError, Global};
 use std::test::Fail;
@@ -42,18 +42,6 @@ const STATION: [u128; 20] = [
     0xD3_93464953_44B7265A_1D85918D,
     0xD3_93464953_A8073202_2185CFA4,
 ];
-
-/// The totals of no items.
-const NOTHING: Totals = Totals {
-    valid: 0,
-    bursts: [0; 5],
-    lost: 0,
-    bits: 0,
-    groups: 0,
-    complete: 0,
-    acquired: 0,
-    losses: 0,
-};
 
 /// The bytes of zero groups sent one after the other, at least so many bits.
 pub fn zero_bytes(alloc: Global, bits: u64) -> Result<Vec<u8>, AllocError> {
@@ -109,14 +97,17 @@ pub enum Signal {
     Noisy(u64, u64, Loss),
     /// Zero groups of which bytes are lost and turned at random, by rules that the number chooses.
     Torn(u32),
+    /// Groups of all kinds, where the first number says which, and the second how many.
+    OfAllKinds(u64, u32),
 }
 
-/// A recording, the rules that it is read by, and the report that they have to give.
+/// A recording, the rules that it is read by, and what the report has to say that they give.
 #[derive(Drop)]
 pub struct Sample {
     pub recording: Recording,
     pub rules: Rules,
-    pub report: Report,
+    pub items: Vec<Item>,
+    pub totals: Totals,
 }
 
 impl Sample {
@@ -131,31 +122,22 @@ impl Sample {
     /// Zero groups, and the report that is known of them.
     fn zero_groups(alloc: Global, groups: u8, reach: u32) -> Result<Sample, Fail> {
         let groups = u64::from(groups);
-        let recording = zero_groups(alloc, 104 * groups)?;
-        let rules = Rules::new(alloc, 2, reach, 10)?;
-        let items = items_of_zero_groups(alloc, groups)?;
         Ok(Sample {
-            recording,
-            rules,
-            report: Report {
-                items,
-                totals: totals_of_zero_groups(groups),
-            },
+            recording: zero_groups(alloc, 104 * groups)?,
+            rules: Rules::new(alloc, 2, reach, 10)?,
+            items: items_of_zero_groups(alloc, groups)?,
+            totals: totals_of_zero_groups(groups),
         })
     }
 
     /// Zero bytes, and an empty report.
     fn silence(alloc: Global, bytes: u32) -> Result<Sample, Fail> {
         let zeros = vec![in alloc; 0u8; bytes as usize]?;
-        let recording = recording_of(zeros, 8 * u64::from(bytes))?;
-        let rules = default_rules(alloc)?;
         Ok(Sample {
-            recording,
-            rules,
-            report: Report {
-                items: Items::new(alloc),
-                totals: NOTHING,
-            },
+            recording: recording_of(zeros, 8 * u64::from(bytes))?,
+            rules: default_rules(alloc)?,
+            items: Vec::new(alloc),
+            totals: Totals::NONE,
         })
     }
 
@@ -166,11 +148,13 @@ impl Sample {
         numbers: RuleNumbers,
     ) -> Result<Sample, SyncError> {
         let rules = Rules::of(alloc, numbers)?;
-        let report = decode_plain(alloc, &recording, &rules)?;
+        let Report { items, totals } = decode_plain(alloc, &recording, &rules)?;
+        let items = items.iter(&recording, &rules).collect(alloc)?;
         Ok(Sample {
             recording,
             rules,
-            report,
+            items,
+            totals,
         })
     }
 
@@ -185,8 +169,12 @@ impl Sample {
     }
 
     /// Whether that is its report.
-    pub fn gives(&self, report: &Report) -> bool {
-        report.items.iter().eq(self.report.items.iter()) && report.totals == self.report.totals
+    pub fn gives(&self, report: &Report) -> bool
+        requires source { report.now.items.source ≡ self.now.recording }
+        requires rules { report.now.items.rules ≡ self.now.rules }
+    {
+        let items = report.items.iter(&self.recording, &self.rules);
+        items.eq(self.items.iter().copied()) && report.totals == self.totals
     }
 }
 
@@ -285,6 +273,7 @@ fn recorded(alloc: Global, signal: Signal) -> Result<Recording, Fail> {
         Signal::Gapped(bytes, places, seed) => Ok(gapped_station(alloc, bytes, places, seed)?),
         Signal::Noisy(seed, rarity, _) => noisy_groups(alloc, seed, rarity),
         Signal::Torn(number) => torn_groups(alloc, u64::from(number) * 0x9E37_79B9),
+        Signal::OfAllKinds(seed, groups) => groups_of_all_kinds(alloc, seed, groups),
         _ => Ok(zero_groups(alloc, 832)?),
     }
 }
@@ -353,10 +342,10 @@ fn torn_groups(alloc: Global, seed: u64) -> Result<Recording, Fail> {
 }
 
 /// Block 2 of the first group acquires, and the rest of it is its group; then come whole groups.
-fn items_of_zero_groups(alloc: Global, groups: u64) -> Result<Items, AllocError>
+fn items_of_zero_groups(alloc: Global, groups: u64) -> Result<Vec<Item>, AllocError>
     requires { groups < 256 }
 {
-    let mut items = ItemBuffer::new(alloc);
+    let mut items = Vec::new(alloc);
     items.push(Item::Acquired {
         place: 51,
         number: 2,
@@ -376,7 +365,7 @@ fn items_of_zero_groups(alloc: Global, groups: u64) -> Result<Items, AllocError>
     for group in 1..groups {
         items.push(zero_group(104 * group))?;
     }
-    items.freeze()
+    Ok(items)
 }
 
 /// A whole zero group at that place.
@@ -403,7 +392,7 @@ fn totals_of_zero_groups(groups: u64) -> Totals
         groups,
         complete: groups.saturating_sub(1),
         acquired: 1,
-        ..NOTHING
+        ..Totals::NONE
     }
 }
 

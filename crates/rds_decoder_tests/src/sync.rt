@@ -1,9 +1,11 @@
 //! Tests of `rds_sync`.
 mod bad_blocks;
-mod kept;
+pub mod codes;
+pub mod counts;
+mod lists;
 mod losses;
 mod reports;
 mod rules;
-mod runs;
+pub mod runs;
 pub mod steps;
 mod ways;

@@ -1,10 +1,11 @@
 //! Calls on two guesses, each made once more where it is refused.
-ghost use Rattle.std.specs.Prelude.{◌≡◌};
+ghost use Rattle.std.specs.Prelude.{◌≡◌, IfOk};
 ghost use Rattle.rds_stream.specs.Recording.{length_of};
 ghost use Rattle.rds_pieces.specs.Cutting.{IsCutting, pieces_of};
+ghost use Rattle.rds_pieces.specs.JointOf.{joint_of as the_joint_of};
 ghost use Rattle.rds_pieces.specs.RunOf.{FollowEachOther, IsRunOf};
 
-use rds_pieces::{Cutting, PieceError, PieceRun, join_runs, laws, speculate, stitch};
+use rds_pieces::{Cutting, Joint, PieceError, PieceRun, joint_of, laws, speculate, stitch};
 use rds_stream::{Counted, Recording, Tape};
 use rds_sync::Rules;
 use std::alloc::Global;
@@ -12,12 +13,12 @@ use std::alloc::Global;
 /// What a call found, and how many windows it read.
 #[derive(Clone, Copy)]
 pub struct Found {
-    pub items: usize,
+    pub items: u64,
     pub valid: u64,
     pub reads: u64,
 }
 
-/// What a join of the two guesses finds.
+/// What a join of the two guesses finds. They are only lent to what is made once more, and then put together.
 pub fn joined(
     alloc: Global,
     recording: &Recording,
@@ -29,30 +30,37 @@ pub fn joined(
 {
     let left = speculate(alloc, recording, rules, cutting, 0)?;
     let right = speculate(alloc, recording, rules, cutting, 1)?;
-    match join_once(alloc, recording, rules, &left, &right) {
-        Ok(found) => Ok(found),
-        Err(_) => join_once(alloc, recording, rules, &left, &right),
-    }
+    let (joint, reads) = match join_once(alloc, recording, rules, &left, &right) {
+        Ok(made) => made,
+        Err(_) => join_once(alloc, recording, rules, &left, &right)?,
+    };
+    let totals = PieceRun::joined(left, joint, right)?.totals();
+    Ok(Found {
+        items: totals
+            .acquired
+            .saturating_add(totals.groups)
+            .saturating_add(totals.losses),
+        valid: totals.valid,
+        reads,
+    })
 }
 
+/// What joins two guesses, and how many windows that reads.
 fn join_once(
     alloc: Global,
     recording: &Recording,
     rules: &Rules,
     left: &PieceRun,
     right: &PieceRun,
-) -> Result<Found, PieceError>
+) -> Result<(Joint, u64), PieceError>
     requires next { left.now.to ≡ right.now.from }
     requires left { IsRunOf recording.now rules.now left.now }
     requires right { IsRunOf recording.now rules.now right.now }
+    ensures { IfOk result (λ made. made.0 ≡ the_joint_of left.now right.now) }
 {
     let mut tape = Counted::new(recording);
-    let run = join_runs(alloc, &mut tape, rules, left, right)?;
-    Ok(Found {
-        items: run.items().len(),
-        valid: run.totals().valid,
-        reads: tape.reads(),
-    })
+    let joint = joint_of(alloc, &mut tape, rules, left, right)?;
+    Ok((joint, tape.reads()))
 }
 
 /// What the report stitched of the two guesses says.
@@ -86,7 +94,7 @@ fn stitch_once(
     let mut tape = Counted::new(recording);
     let report = stitch(alloc, &mut tape, rules, runs)?;
     Ok(Found {
-        items: report.items.len(),
+        items: report.items.len() as u64,
         valid: report.totals.valid,
         reads: tape.reads(),
     })

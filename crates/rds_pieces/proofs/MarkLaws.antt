@@ -8,21 +8,14 @@ use Rattle.rds_sync.specs.declared.state.State.TheVariants.{Searching}
 use Rattle.rds_sync.specs.declared.item.Item.{Item}
 use Rattle.rds_sync.specs.Rules.{RuleNumbers}
 use Rattle.rds_sync.specs.Step.{run, step, items_at}
-use Rattle.rds_pieces.specs.declared.mark.Mark.{Mark}
+use Rattle.rds_sync.specs.declared.mark.Mark.{Mark}
 use Rattle.rds_pieces.specs.Guess.{guess, mark_at, marks}
-use Rattle.rds_pieces.specs.Inside.Advance.{IsStepTo}
-use Rattle.rds_pieces.specs.Inside.MarksOn.{mark_where, marks_on, recounted}
+use Rattle.rds_sync.specs.Marks.{mark_where, marks_on}
 use Rattle.rds_pieces.specs.Meeting.{MeetAt}
 use Rattle.rds_pieces.specs.RunLaws.{RunLaws}
 use Rattle.rds_pieces.proofs.RunFacts.{none_first, none_rest, run-append}
 use Rattle.rds_pieces.proofs.SeamLemmas.{IsLastMark, unread, found}
-use Rattle.rds_pieces.proofs.StepLemmas.{one_step, waits}
 use Rattle.rds_pieces.proofs.GuessLemmas.{guess_state-more, guess_items-more, marks-none, marks-some}
-
--- a mark more or none
-recounted-where : (less more : ℕ) (is : List Item) (m : Mark) → map (recounted less more) (mark_where is m) ≡ mark_where is (recounted less more m)
-recounted-where less more [] m = refl
-recounted-where less more (i ∷ is) m = refl
 
 add_one_is : (n : ℕ) → suc n ≡ n + 1
 add_one_is n = sym (add-one n)
@@ -63,23 +56,6 @@ module _ (b : Signal) (rules : RuleNumbers) where
       let after : Mark = record { place = a + 1; state = step b rules a s; items = c + length (items_at b rules a s) } in
       ap (λ (ms : List Mark). mark_where (items_at b rules a s) after ++ ms) (marks_on-quiet (step b rules a s) (a + 1) (c + length (items_at b rules a s)) n there)
       ∙ ap (λ (is : List Item). mark_where is after ++ []) here
-
-  -- with other items before them
-  pub marks_on-recounted : (s : State) (a less more k n : ℕ) → map (recounted less more) (marks_on b rules s a (less + k) n) ≡ marks_on b rules s a (more + k) n
-  marks_on-recounted s a less more k zero = refl
-  marks_on-recounted s a less more k (suc n) =
-      let given : List Item = items_at b rules a s in
-      let after : Mark = record { place = a + 1; state = step b rules a s; items = less + k + length given } in
-      let moved : less + k + length given - less + more ≡ more + k + length given = omega arith in
-      let low : less + k + length given ≡ less + (k + length given) = omega arith in
-      let high : more + (k + length given) ≡ more + k + length given = omega arith in
-      map-append (recounted less more) (mark_where given after) (marks_on b rules (step b rules a s) (a + 1) (less + k + length given) n)
-      ∙ ap₂ (λ (xs ys : List Mark). xs ++ ys)
-      (recounted-where less more given after
-      ∙ ap (λ (c : ℕ). mark_where given (record { place = a + 1; state = step b rules a s; items = c })) moved)
-      (ap (λ (c : ℕ). map (recounted less more) (marks_on b rules (step b rules a s) (a + 1) c n)) low
-      ∙ marks_on-recounted (step b rules a s) (a + 1) less more (k + length given) n
-      ∙ ap (λ (c : ℕ). marks_on b rules (step b rules a s) (a + 1) c n) high)
 
   -- what each of them counts
   pub record IsCountedFrom (c most : ℕ) (m : Mark) : Type 0 where
@@ -139,47 +115,6 @@ module _ (b : Signal) (rules : RuleNumbers) where
     at_case rest (i ∷ is) (suc j) l = step_on rest (i ∷ is) j (omega arith)
 
   module _ (laws : RunLaws) where
-    -- over bits of which the last alone gives something
-    pub marks_on-last : (s : State) (a m c : ℕ) → run b rules s a m ≡ (s, [])
-        → marks_on b rules s a c (m + 1)
-        ≡ mark_where (run b rules s a (m + 1)).1 (record { place = a + m + 1; state = (run b rules s a (m + 1)).0; items = c + length (run b rules s a (m + 1)).1 })
-    marks_on-last s a m c e =
-        let whole : run b rules s a (m + 1) ≡ (step b rules (a + m) s, items_at b rules (a + m) s) =
-        run-append laws b rules s a m 1
-        ∙ ap (λ (r : State × List Item). ((run b rules r.0 (a + m) 1).0, r.1 ++ (run b rules r.0 (a + m) 1).1)) e
-        ∙ laws.one_bit b rules s (a + m) in
-        marks_on-append s a c m 1
-        ∙ ap (λ (ms : List Mark). ms ++ marks_on b rules (run b rules s a m).0 (a + m) (c + length (run b rules s a m).1) 1)
-        (marks_on-quiet s a c m (ap (λ (r : State × List Item). r.1) e))
-        ∙ ap (λ (r : State × List Item). marks_on b rules r.0 (a + m) (c + length r.1) 1) e
-        ∙ ap (λ (k : ℕ). marks_on b rules s (a + m) k 1) (add-zero c)
-        ∙ marks_on-one s (a + m) c
-        ∙ ap (λ (r : State × List Item). mark_where r.1 (record { place = a + m + 1; state = r.0; items = c + length r.1 })) (sym whole)
-
-    -- a step that keeps a mark where it gave items
-    pub marks_on-step : (s after : State) (place to next : ℕ) (items items2 : List Item) (marks marks2 : List Mark) → IsStepTo b rules s place to next after
-        → items2 ≡ items ++ (run b rules s place (next - place)).1
-        → (length items < length items2 → marks2 ≡ marks ++ record { place = next; state = after; items = length items2 } ∷ [])
-        → (length items2 ≤ length items → marks2 ≡ marks)
-        → marks2 ≡ marks ++ marks_on b rules s place (length items) (next - place)
-    marks_on-step s after place to next items items2 marks marks2 goes given some none =
-        let forward = goes.moved.0 in
-        let m : ℕ = next - place - 1 in
-        let bits : m + 1 ≡ next - place = omega arith in
-        let spot : place + m + 1 ≡ next = omega arith in
-        let still = waits b rules laws s place next m (one_step s place to next goes.place_is) (omega arith) in
-        let len = ap (λ (is : List Item). length is) given ∙ length-append items (run b rules s place (next - place)).1 in
-        let last = ap (λ (k : ℕ). marks_on b rules s place (length items) k) (sym bits)
-        ∙ marks_on-last s place m (length items) still
-        ∙ ap₂ (λ (k p : ℕ). mark_where (run b rules s place k).1 (record { place = p; state = (run b rules s place k).0; items = length items + length (run b rules s place k).1 })) bits spot
-        ∙ ap₂ (λ (t : State) (k : ℕ). mark_where (run b rules s place (next - place)).1 (record { place = next; state = t; items = k })) (sym goes.state_is) (sym len) in
-        at_case (run b rules s place (next - place)).1 len last where
-          at_case : (is : List Item) → length items2 ≡ length items + length is
-              → marks_on b rules s place (length items) (next - place) ≡ mark_where is (record { place = next; state = after; items = length items2 })
-              → marks2 ≡ marks ++ marks_on b rules s place (length items) (next - place)
-          at_case [] l e = none (omega (arith, l)) ∙ sym (append-nil marks) ∙ ap (λ (ms : List Mark). marks ++ ms) (sym e)
-          at_case (i ∷ is) l e = some (omega (arith, l)) ∙ ap (λ (ms : List Mark). marks ++ ms) (sym e)
-
     -- the marks of a guess are those of a run that goes on from its first place
     pub marks-are : (from n : ℕ) → marks b rules from n ≡ mark_at b rules from 0 ∷ marks_on b rules Searching from 0 n
     marks-are from zero = refl
@@ -228,18 +163,6 @@ module _ (b : Signal) (rules : RuleNumbers) where
         ∙ ap₂ (λ (p k : ℕ). marks_on b rules Searching from 0 (middle - from) ++ marks_on b rules left.0 p k (to - middle)) spot (zero-add (length left.1)))
         ∙ ap (λ (ms : List Mark). ms ++ marks_on b rules left.0 middle (length left.1) (to - middle)) (sym (marks-are from (middle - from)))
 
-    -- the marks of a run up to place p, and from there on
-    pub marks_on-split : (s : State) (from p to c : ℕ) → from ≤ p → p ≤ to
-        → marks_on b rules s from c (to - from)
-        ≡ marks_on b rules s from c (p - from) ++ marks_on b rules (run b rules s from (p - from)).0 p (c + length (run b rules s from (p - from)).1) (to - p)
-    marks_on-split s from p to c low high =
-        let bits : p - from + (to - p) ≡ to - from = omega arith in
-        let spot : from + (p - from) ≡ p = omega arith in
-        let here : State × List Item = run b rules s from (p - from) in
-        ap (λ (k : ℕ). marks_on b rules s from c k) (sym bits)
-        ∙ marks_on-append s from c (p - from) (to - p)
-        ∙ ap (λ (q : ℕ). marks_on b rules s from c (p - from) ++ marks_on b rules here.0 q (c + length here.1) (to - p)) spot
-
     -- the marks of a guess after those up to place p
     pub marks-after : (from p to : ℕ) → from ≤ p → p ≤ to
         → drop (length (marks b rules from (p - from))) (marks b rules from (to - from))
@@ -247,39 +170,6 @@ module _ (b : Signal) (rules : RuleNumbers) where
     marks-after from p to low high =
         ap (λ (ms : List Mark). drop (length (marks b rules from (p - from))) ms) (marks-join from p to low high)
         ∙ drop_at (marks b rules from (p - from)) _ (length (marks b rules from (p - from))) refl
-
-    -- where a run meets the guess, its marks from there on are the guess's, with other items before them
-    pub marks-met : (s : State) (from to p c : ℕ) → MeetAt b rules s Searching from to p
-        → marks_on b rules s from c (to - from)
-        ≡ marks_on b rules s from c (p - from)
-        ++ map (recounted (length (guess b rules from (p - from)).1) (c + length (run b rules s from (p - from)).1))
-        (drop (length (marks b rules from (p - from))) (marks b rules from (to - from)))
-    marks-met s from to p c meet =
-        let i = meet.inside in
-        let more : ℕ = c + length (run b rules s from (p - from)).1 in
-        let less : ℕ = length (guess b rules from (p - from)).1 in
-        let here : more ≡ more + 0 = omega arith in
-        let there : less ≡ less + 0 = omega arith in
-        marks_on-split s from p to c i.0 i.1
-        ∙ ap (λ (ms : List Mark). marks_on b rules s from c (p - from) ++ ms)
-        (ap₂ (λ (t : State) (k : ℕ). marks_on b rules t p k (to - p)) meet.same here
-        ∙ sym (marks_on-recounted (guess b rules from (p - from)).0 p less more 0 (to - p))
-        ∙ ap (λ (k : ℕ). map (recounted less more) (marks_on b rules (guess b rules from (p - from)).0 p k (to - p))) (sym there)
-        ∙ ap (λ (ms : List Mark). map (recounted less more) ms) (sym (marks-after from p to i.0 i.1)))
-
-    -- one step more of a run that goes on
-    pub marks_on-more : (s state : State) (from place next c : ℕ) (before items : List Item) (first marks marks2 : List Mark) → from ≤ place → place ≤ next
-        → state ≡ (run b rules s from (place - from)).0 → items ≡ before ++ (run b rules s from (place - from)).1 → length before ≡ c
-        → marks ≡ first ++ marks_on b rules s from c (place - from) → marks2 ≡ marks ++ marks_on b rules state place (length items) (next - place)
-        → marks2 ≡ first ++ marks_on b rules s from c (next - from)
-    marks_on-more s state from place next c before items first marks marks2 low high state_is items_are count marks_are given =
-        let own : State × List Item = run b rules s from (place - from) in
-        let len = ap (λ (is : List Item). length is) items_are ∙ length-append before own.1 ∙ ap (λ (k : ℕ). k + length own.1) count in
-        given
-        ∙ ap₂ (λ (t : State) (k : ℕ). marks ++ marks_on b rules t place k (next - place)) state_is len
-        ∙ ap (λ (ms : List Mark). ms ++ marks_on b rules own.0 place (c + length own.1) (next - place)) marks_are
-        ∙ append_assoc first (marks_on b rules s from c (place - from)) _
-        ∙ ap (λ (ms : List Mark). first ++ ms) (sym (marks_on-split s from place next c low high))
 
     -- where a run meets the guess, its items from there on are the guess's, and its end is
     pub run-met : (s : State) (from to p : ℕ) → MeetAt b rules s Searching from to p

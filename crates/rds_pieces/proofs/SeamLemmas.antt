@@ -10,12 +10,14 @@ use Rattle.rds_sync.specs.Rules.{RuleNumbers}
 use Rattle.rds_sync.specs.Lawful.{IsLawful, IsBetweenGroups}
 use Rattle.rds_sync.specs.Loss.{IsLoss}
 use Rattle.rds_sync.specs.Step.{run}
-use Rattle.rds_pieces.specs.declared.mark.Mark.{Mark}
+use Rattle.rds_sync.specs.Codes.{KeptOf, kept_of, behind}
+use Rattle.rds_sync.specs.declared.mark.Mark.{Mark}
 use Rattle.rds_pieces.specs.Inside.Advance.{IsStepTo}
 use Rattle.rds_pieces.specs.Guess.{guess, mark_at, marks}
 use Rattle.rds_pieces.specs.Meeting.{MeetAt, MeetFirstAt}
 use Rattle.rds_pieces.specs.RunLaws.{RunLaws}
 use Rattle.rds_pieces.proofs.RunFacts.{run_state-append, run_items-append, lawful-run}
+use Rattle.rds_pieces.proofs.KeptLemmas.{kept-append}
 use Rattle.rds_pieces.proofs.GuessLemmas.{Marked, marked}
 use Rattle.rds_pieces.proofs.MeetingLemmas.{IsNotDueBefore, run_state-between, run_state-quiet}
 use Rattle.rds_pieces.proofs.StepLemmas.{one_step, waits}
@@ -241,12 +243,12 @@ module _ (b : Signal) (rules : RuleNumbers) (from to : ℕ) where
             ap (λ (r : State × List Item). r.1) (laws.join b rules s0 from place next i.0 (omega (arith, m)))
             ∙ ap (λ (t : State). (own s0 place).1 ++ (run b rules t place (next - place)).1) (sym c.state_is)
 
-        pub items_on : (before items more : List Item) → items ≡ before ++ (own s0 place).1 → more ≡ items ++ (run b rules state place (next - place)).1
-            → more ≡ before ++ (own s0 next).1
-        items_on before items more is given =
-            given ∙ ap (λ (xs : List Item). xs ++ (run b rules state place (next - place)).1) is
-            ∙ append_assoc before (own s0 place).1 (run b rules state place (next - place)).1
-            ∙ ap (λ (xs : List Item). before ++ xs) (sym own_items_on)
+        pub codes_on : (codes more : KeptOf) → codes ≡ kept_of (own s0 place).1 → more ≡ behind codes (kept_of (run b rules state place (next - place)).1)
+            → more ≡ kept_of (own s0 next).1
+        codes_on codes more is given =
+            given ∙ ap (λ (k : KeptOf). behind k (kept_of (run b rules state place (next - place)).1)) is
+            ∙ sym (kept-append (own s0 place).1 (run b rules state place (next - place)).1)
+            ∙ ap (λ (xs : List Item). kept_of xs) (sym own_items_on)
 
       -- at the first place, beside the first mark
       pub carried_start : from ≤ to → IsLawful rules from s0 → IsCarried s0 from 0 s0

@@ -24,6 +24,9 @@ use Rattle.rds_sync.specs.Groups.{group, block_at, wanted_beside, are_complete}
 use Rattle.rds_sync.specs.Rules.{RuleNumbers}
 use Rattle.rds_sync.specs.Loss.{are_too_many}
 use Rattle.rds_sync.specs.Step.{run, step, items_at, group_after, bad_with}
+use Rattle.rds_sync.specs.CodeLaws.{CodesTellTotals}
+use Rattle.rds_sync.specs.Codes.{Code, codes_of, totals_of_codes}
+use Rattle.rds_pieces.proofs.KeptLemmas.{codes-take}
 use Rattle.rds_sync.specs.Totals.{totals_of, is_valid, is_lost, is_corrected_by, bits_corrected}
 
 pub at_most_more : (m n : ℕ) (t : Totals) → m ≤ n → IsAtMost m t → IsAtMost n t
@@ -76,11 +79,10 @@ at_most-plus m n t u a b = record {
 }
 
 -- the totals from some item on are the rest
-pub rest_after : TotalsJoin → (items : List Item) (first : ℕ) (whole part : Totals) → whole ≡ totals_of items → part ≡ totals_of (slice_range items 0 first)
-    → IsRest part whole (totals_of (drop first items))
-rest_after join items first whole part whole_is part_is =
-    let none : first - 0 ≡ first = omega arith in
-    let p : part ≡ totals_of (take first items) = part_is ∙ ap (λ (k : ℕ). totals_of (take k items)) none in
+pub rest_after : TotalsJoin → CodesTellTotals → (items : List Item) (first : ℕ) (whole part : Totals) → whole ≡ totals_of items
+    → part ≡ totals_of_codes (take first (codes_of items)) → IsRest part whole (totals_of (drop first items))
+rest_after join tell items first whole part whole_is part_is =
+    let p : part ≡ totals_of (take first items) = part_is ∙ ap (λ (cs : List Code). totals_of_codes cs) (sym (codes-take first items)) ∙ sym (tell (take first items)) in
     let w : whole ≡ totals_of (take first items ++ drop first items) = whole_is ∙ ap (λ (is : List Item). totals_of is) (sym (take-append-drop first items)) in
     let r = join (take first items) (drop first items) in
     record { spans = r.spans; joined = w ∙ r.joined ∙ ap (λ (t : Totals). plus t (totals_of (drop first items))) (sym p) }

@@ -11,15 +11,16 @@ use Rattle.rds_sync.specs.Rules.{RuleNumbers}
 use Rattle.rds_sync.specs.Step.{run}
 use Rattle.rds_sync.specs.Totals.{totals_of}
 use Rattle.rds_pieces.specs.declared.meeting.Passed.{Passed}
-use Rattle.rds_pieces.specs.declared.mark.Mark.{Mark}
+use Rattle.rds_sync.specs.declared.mark.Mark.{Mark}
 use Rattle.rds_pieces.specs.Guess.{guess, marks}
-use Rattle.rds_pieces.specs.Inside.MarksOn.{marks_on, recounted}
+use Rattle.rds_sync.specs.Marks.{marks_on}
+use Rattle.rds_sync.specs.Codes.{KeptOf, kept_of, behind, kept_from}
 use Rattle.rds_pieces.specs.Meeting.{IsMeeting, distance}
-use Rattle.rds_pieces.specs.RunOf.{IsGuess, run_over}
 use Rattle.rds_pieces.specs.RunLaws.{RunLaws}
 use Rattle.rds_pieces.specs.Inside.Walk.{IsMet, IsUnmet, IsMetOrNot}
 use Rattle.rds_pieces.proofs.SmallTotals.{totals_of_two}
-use Rattle.rds_pieces.proofs.MarkLaws.{run-met, marks-met, marks-join, marks-after, counted}
+use Rattle.rds_pieces.proofs.CodeLemmas.{kept-met}
+use Rattle.rds_pieces.proofs.MarkLaws.{run-met, marks-after}
 
 -- where something was passed, it met the guess
 pub met_from : (b : Signal) (rules : RuleNumbers) (s : State) (from to place : ℕ) (o : Option Passed) (passed : Passed) → o ≡ Some passed → IsMetOrNot b rules s from to place o
@@ -86,64 +87,24 @@ module _ (b : Signal) (rules : RuleNumbers) (laws : RunLaws) (s : State) (from t
   pub end_taken : (theirs to).0 ≡ (ours to).0
   end_taken = sym (run-met b rules laws s from to place met.first.here).0
 
-  -- the marks that are taken over
-  pub marks_taken : (before items : List Item) (first found rest found2 : List Mark) (less more c : ℕ)
-      → items ≡ before ++ (ours place).1 → length before ≡ c → less ≡ passed.items → more ≡ length items
-      → found ≡ first ++ marks_on b rules s from c (place - from) → rest ≡ passed.ahead → found2 ≡ found ++ map (recounted less more) rest
-      → found2 ≡ first ++ marks_on b rules s from c (to - from)
-  marks_taken before items first found rest found2 less more c is count less_is more_is found_is left given =
-      let l : less ≡ length (theirs place).1 = less_is ∙ met.items_are in
-      let m : more ≡ c + length (ours place).1 =
-      more_is ∙ ap (λ (xs : List Item). length xs) is ∙ length-append before (ours place).1 ∙ ap (λ (k : ℕ). k + length (ours place).1) count in
-      let here : List Mark = drop (length (marks b rules from (place - from))) (marks b rules from (to - from)) in
-      given
-      ∙ ap₂ (λ (xs ys : List Mark). xs ++ ys) found_is
-      (ap (λ (xs : List Mark). map (recounted less more) xs) (left ∙ met.ahead_are)
-      ∙ ap₂ (λ (x y : ℕ). map (recounted x y) here) l m)
-      ∙ append_assoc first (marks_on b rules s from c (place - from)) (map (recounted (length (theirs place).1) (c + length (ours place).1)) here)
-      ∙ ap (λ (ms : List Mark). first ++ ms) (sym (marks-met b rules laws s from to place c met.first.here))
+  -- the marks that are taken over are those of the run that goes on from the meeting
+  pub rest_marks : (rest : List Mark) → rest ≡ passed.ahead → rest ≡ marks_on b rules (ours place).0 place passed.items (to - place)
+  rest_marks rest left =
+      let i = met.first.here.inside in
+      left ∙ met.ahead_are ∙ marks-after b rules laws from place to i.0 i.1
+      ∙ ap₂ (λ (t : State) (k : ℕ). marks_on b rules t place k (to - place)) (sym met.first.here.same) (sym met.items_are)
 
-  -- what they count
-  module _ (rest : List Mark) (left : rest ≡ passed.ahead) where
-    rest_is : rest ≡ marks_on b rules (theirs place).0 place (length (theirs place).1) (to - place)
-    rest_is =
-        let i = met.first.here.inside in
-        left ∙ met.ahead_are ∙ marks-after b rules laws from place to i.0 i.1
+  -- as are its items
+  pub rest_items : (run b rules (ours place).0 place (to - place)).1 ≡ drop passed.items (theirs to).1
+  rest_items = ap (λ (t : State). (run b rules t place (to - place)).1) met.first.here.same ∙ sym rest_is_run
 
-    pub rest_low : (k : ℕ) (d : Mark) → k < length rest → passed.items ≤ (get_or rest k d).items
-    rest_low k d h =
-        let len = ap (λ (ms : List Mark). length ms) rest_is in
-        let at = counted b rules (theirs place).0 place (length (theirs place).1) (to - place) k d (omega arith) in
-        let low = at.low in
-        let e = ap (λ (ms : List Mark). (get_or ms k d).items) rest_is in
-        let i = met.items_are in
-        omega arith
+  pub count_taken : length (theirs to).1 ≡ passed.items + length (run b rules (ours place).0 place (to - place)).1
+  count_taken =
+      guess_goes_on
+      ∙ ap₂ (λ (k : ℕ) (t : State). k + length (run b rules t place (to - place)).1) (sym met.items_are) (sym met.first.here.same)
 
-    pub rest_high : (k : ℕ) (d : Mark) → k < length rest → (get_or rest k d).items ≤ length (theirs to).1
-    rest_high k d h =
-        let len = ap (λ (ms : List Mark). length ms) rest_is in
-        let at = counted b rules (theirs place).0 place (length (theirs place).1) (to - place) k d (omega arith) in
-        let high = at.high in
-        let e = ap (λ (ms : List Mark). (get_or ms k d).items) rest_is in
-        let whole = guess_goes_on in
-        omega arith
-
--- the guess of both ranges, from that of the first and the run that goes on over the next
-pub joined_guess : (b : Signal) (rules : RuleNumbers) → RunLaws → (from middle to start : ℕ) (s end : State) (items0 items : List Item) (found0 found : List Mark)
-    → from ≤ middle → middle ≤ to → to ≤ length_of b → start ≡ middle → s ≡ (guess b rules from (middle - from)).0
-    → items0 ≡ (guess b rules from (middle - from)).1 → found0 ≡ marks b rules from (middle - from)
-    → items ≡ items0 ++ (run b rules s start (to - start)).1 → end ≡ (run b rules s start (to - start)).0
-    → found ≡ found0 ++ marks_on b rules s start (length items0) (to - start)
-    → IsGuess (run_over b rules from to) items end found
-joined_guess b rules laws from middle to start s end items0 items found0 found low high inside at is items0_is found0_is items_is end_is found_is =
-    let first : State × List Item = guess b rules from (middle - from) in
-    let whole = laws.join b rules Searching from middle to low high in
-    let here : let q : State × ℕ = (s, start) in q ≡ (first.0, middle) = ap₂ (λ (t : State) (p : ℕ). (t, p)) is at in
-    record {
-      inside = (omega arith, inside);
-      items_are = items_is ∙ ap₂ (λ (xs : List Item) (q : State × ℕ). xs ++ (run b rules q.0 q.1 (to - q.1)).1) items0_is here ∙ sym (ap (λ (r : State × List Item). r.1) whole);
-      ends = end_is ∙ ap (λ (q : State × ℕ). (run b rules q.0 q.1 (to - q.1)).0) here ∙ sym (ap (λ (r : State × List Item). r.0) whole);
-      marks_are = found_is
-          ∙ ap₂ (λ (ms : List Mark) (x : List Item × (State × ℕ)). ms ++ marks_on b rules x.1.0 x.1.1 (length x.0) (to - x.1.1)) found0_is (ap₂ (λ (xs : List Item) (q : State × ℕ). (xs, q)) items0_is here)
-          ∙ sym (marks-join b rules laws from middle to low high);
-    }
+  -- what is kept of the run
+  pub kept_taken : (own : KeptOf) → own ≡ kept_of (ours place).1 → kept_of (ours to).1 ≡ behind own (kept_from passed.items (kept_of (theirs to).1))
+  kept_taken own is =
+      kept-met laws b rules s from to place met.first.here
+      ∙ ap₂ (λ (k : KeptOf) (n : ℕ). behind k (kept_from n (kept_of (theirs to).1))) (sym is) (sym met.items_are)

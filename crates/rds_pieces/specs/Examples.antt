@@ -2,5 +2,6 @@
 pub mod EvenCuttings
 pub mod GuessesOfTwoPieces
 pub mod JoinOfTwoGuesses
+pub mod JoinAfterALoss
 pub mod Meetings
 pub mod SumsOfReads

@@ -7,7 +7,7 @@ use Rattle.rds_sync.specs.declared.state.State.TheVariants.{Searching}
 use Rattle.rds_sync.specs.declared.item.Item.{Item}
 use Rattle.rds_sync.specs.Rules.{RuleNumbers}
 use Rattle.rds_sync.specs.Step.{run, items_at}
-use Rattle.rds_pieces.specs.declared.mark.Mark.{Mark}
+use Rattle.rds_sync.specs.declared.mark.Mark.{Mark}
 
 module _ (b : Signal) (rules : RuleNumbers) (from : ℕ) where
   -- the state and the items after so many bits of the piece

@@ -1,6 +1,7 @@
 pub mod Cutting
 pub mod Guess
 pub mod RunOf
+pub mod JointOf
 pub mod Meeting
 pub mod Seams
 pub mod WorkOf

@@ -1,8 +1,11 @@
 -- The laws of runs that the proofs of this crate rest on: those that rds_sync promises.
 use Rattle.rds_code.specs.Laws.{ReadsByRule}
+use Rattle.rds_sync.specs.CodeLaws.{CodesTellTotals}
 use Rattle.rds_sync.specs.Counting.{TotalsJoin}
 use Rattle.rds_sync.specs.Laws.{RunsAreReports, RunsJoin, StepsAreLawful, RunsAreLawful, OneBitRuns, LocksWait}
 use Rattle.rds_sync.specs.Laws.{ItemsMarkChanges, RunsGiveFewItems}
+use Rattle.rds_sync.specs.MarkLaws.{CodesTellMarks}
+use Rattle.rds_sync.specs.Words.{RunsAreKeepable}
 
 pub record RunLaws : Type 0 where
   pub reports : RunsAreReports
@@ -15,3 +18,6 @@ pub record RunLaws : Type 0 where
   pub few_items : RunsGiveFewItems
   pub totals : TotalsJoin
   pub readings : ReadsByRule
+  pub codes : CodesTellTotals
+  pub marks : CodesTellMarks
+  pub keepable : RunsAreKeepable

@@ -1,13 +1,11 @@
 -- What the run of a piece is a run of.
 use Rattle.std.specs.Prelude.{◌≡◌, ℕ, ◌+◌, ◌-◌, ◌≤◌, ◌<◌, List, [], ◌∷◌, map, slice_index}
 use Rattle.std.specs.List.{range_with_len}
-use Rattle.rds_stream.specs.Recording.{Signal, length_of}
+use Rattle.rds_stream.specs.Recording.{Signal}
 use Rattle.rds_sync.specs.declared.state.State.{State}
-use Rattle.rds_sync.specs.declared.item.Item.{Item}
 use Rattle.rds_sync.specs.Rules.{RuleNumbers}
-use Rattle.rds_pieces.specs.declared.mark.Mark.{Mark}
 use Rattle.rds_pieces.specs.Cutting.{pieces_of}
-use Rattle.rds_pieces.specs.Guess.{guess, marks}
+use Rattle.rds_pieces.specs.Guess.{guess}
 
 -- a run is named by its recording, its rules and its range: the places from `from` to `to` - 1
 pub record RunOf : Type 0 where
@@ -15,13 +13,6 @@ pub record RunOf : Type 0 where
   pub rules : RuleNumbers
   pub from : ℕ
   pub to : ℕ
-
--- the items, the end state and the marks are those of the guess of the range
-pub record IsGuess (r : RunOf) (items : List Item) (end_state : State) (found : List Mark) : Type 0 where
-  pub inside : (r.from ≤ r.to) × (r.to ≤ length_of r.source)
-  pub items_are : items ≡ (guess r.source r.rules r.from (r.to - r.from)).1
-  pub ends : end_state ≡ (guess r.source r.rules r.from (r.to - r.from)).0
-  pub marks_are : found ≡ marks r.source r.rules r.from (r.to - r.from)
 
 -- the state after its last bit
 abbrev pub end_of : RunOf → State

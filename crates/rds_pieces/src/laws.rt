@@ -35,4 +35,7 @@ pub(crate) fn run_laws()
     laws::runs_give_few_items();
     laws::totals_join();
     code_laws::readings_follow_the_rule();
+    laws::codes_tell_totals();
+    laws::codes_tell_marks();
+    laws::runs_are_keepable();
 }

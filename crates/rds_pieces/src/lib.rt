@@ -25,20 +25,27 @@
 //! let left = speculate(alloc, &recording, &rules, &cutting, 0)?;
 //! let right = speculate(alloc, &recording, &rules, &cutting, 1)?;
 //! let mut tape = Counted::new(&recording);
-//! let both = join_runs(alloc, &mut tape, &rules, &left, &right)?;
-//! // The guess of both pieces: its items and its end state are those of a run from Searching over both.
+//! // Reads the tape, and only borrows the runs.
+//! let joint = joint_of(alloc, &mut tape, &rules, &left, &right)?;
+//! // Reads nothing, and moves what both runs keep.
+//! let both = PieceRun::joined(left, joint, right)?;
+//! // The guess of both pieces: what it keeps and its end state are those of a run from Searching over both.
 //! ```
 //!
 //! # What there is
 //!
 //! - [`Cutting`]: the places at which a recording is cut.
-//! - [`speculate`]: the guess of a piece, a [`PieceRun`]. It runs over the piece from Searching and keeps, beside the
-//!   items, their totals and the end state, a [`Mark`] at the first place and after every bit that gave an item;
-//!   [`Marks`] keep those of a clean stretch as one.
-//! - [`seam`]: carries the true state over a piece, step by step, until it is in the state of the guess's last mark with
-//!   no group in progress; from there on the guess's items are shared, and nothing more is read.
-//! - [`join_runs`]: does so with the run of the range before, marks too, and makes of both the guess of both ranges, so
-//!   that many runs can be joined two by two, neighbours in any order and at the same time.
+//! - [`speculate`]: the guess of a piece, a [`PieceRun`]: the run over it from Searching. It keeps no items, but their
+//!   [`Codes`](rds_sync::Codes), their totals and the end state. The codes tell its [marks](PieceRun::marks): the first
+//!   place and the place after every bit that gave an item, with the state there.
+//! - [`seam`]: carries the true state over a piece, step by step, until it is in the state of the guess's last mark
+//!   with no group in progress; from there on the items are the guess's, and nothing more is read. It answers a
+//!   [`Seam`], whose items are spans of both runs.
+//! - [`joint_of`]: does so with the end state of the run of the range before. It answers a [`Joint`], with which
+//!   [`PieceRun::joined`] makes of both runs the guess of both ranges. So many runs can be joined two by two,
+//!   neighbours in any order: their joints at the same time, of runs that are only lent, and then each pair by its
+//!   owner.
+//! - [`join_runs`]: both of these at once.
 //! - [`stitch`]: the report, of runs in a row from the first bit to the last, by a seam over each.
 //! - [`Work`] and [`RecordingWork`]: all of these over one recording, one set of rules and one cutting.
 //! - [`laws`]: what holds of pieces themselves.
@@ -47,28 +54,28 @@
 //! # What callers may rely on
 //!
 //! - A [`PieceRun`] is the guess of its range, marks too, for the recording and the rules that it names, a joined one
-//!   too.
+//!   too. It borrows nothing and holds nothing of the recording.
 //! - A seam gives the items, their totals and the end state of the run from the state handed in, and says where the two
 //!   met or that they never did. It reads at most (reach + 2)(d + 1) windows, where d is the number of bits up to the
 //!   meeting, or to the piece's end where there is none; a join reads no more than the seam in it.
 //! - The stitched report is that of whole locks, items and totals.
 //! - A guess is met by the end of any sound range in its piece; on other recordings nothing is promised. A guess that
 //!   locks at a false phase may never be met, and then a seam or a join reads its whole piece.
+//! - A run takes memory for its codes: 2 bytes an item and 8 an acquisition. A seam and a join take as much for their
+//!   way up to the meeting, and a seam for the spans of its items, one in some thousand. No code is copied.
 //!
 //! # What it leaves to others
 //!
 //! Who runs the pieces and the joins, and where: the crates above are lent a [`Work`], which is their only way to the
-//! bits.
+//! bits. The report's items are decoded where recording and rules are lent again: see [`Items`](rds_sync::Items).
 #![tactic(auto)]
 
 mod advance;
 mod cutting;
 mod error;
-mod gathered;
 mod joining;
+mod joint;
 pub mod laws;
-mod mark;
-mod marks;
 mod meeting;
 mod run;
 mod seams;
@@ -77,9 +84,8 @@ mod work;
 
 pub use cutting::Cutting;
 pub use error::PieceError;
-pub use joining::join_runs;
-pub use mark::Mark;
-pub use marks::{MarkIter, Marks};
+pub use joining::{join_runs, joint_of};
+pub use joint::Joint;
 pub use meeting::Seam;
 pub use run::{PieceRun, speculate};
 pub use seams::seam;

@@ -2,9 +2,7 @@
 ghost use Rattle.std.specs.Prelude.{◌≡◌, ◌↔◌, IsTrue};
 ghost use Rattle.rds_sync.specs.Lawful.{IsBetweenGroups};
 
-use crate::mark::Mark;
-use crate::marks::{MarkIter, Marks};
-use rds_sync::{ItemBuffer, Items, State, Totals};
+use rds_sync::{Codes, Items, Mark, Marks, State, Totals};
 
 /// What a piece gives from the state that was handed in.
 #[derive(Drop)]
@@ -26,7 +24,7 @@ pub(crate) struct Passed<'a> {
     /// How many of its items stand before that place.
     pub items: usize,
     /// Its marks behind that place.
-    pub ahead: MarkIter<'a>,
+    pub ahead: Marks<'a>,
 }
 
 /// A run along the guess of a piece, up to where it met the guess, or to the piece's end.
@@ -35,9 +33,8 @@ pub(crate) struct Walk<'a> {
     /// Where it came to, and in which state.
     pub place: u64,
     pub state: State,
-    /// What it gave, and its marks, which count these items.
-    pub items: ItemBuffer,
-    pub marks: Marks,
+    /// The codes of what it gave.
+    pub codes: Codes,
     /// What it passed of the guess, if it met it.
     pub met: Option<Passed<'a>>,
 }

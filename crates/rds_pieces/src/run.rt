@@ -1,49 +1,49 @@
 //! The run of a piece.
 ghost use Rattle.std.specs.Prelude.{◌≡◌, ℕ, List, ◌+◌, ◌-◌, ◌<◌, ◌≤◌, ◌^◌, IfOk, IfErr, length, drop};
 ghost use Rattle.rds_stream.specs.Recording.{length_of};
+ghost use Rattle.rds_sync.specs.Codes.{behind, kept_from, kept_of};
 ghost use Rattle.rds_sync.specs.Ranges.{IsInRange};
 ghost use Rattle.rds_sync.specs.Totals.{totals_of};
 ghost use Rattle.rds_pieces.specs.Cutting.{IsCutting, pieces_of};
 ghost use Rattle.rds_pieces.specs.Guess.{guess, marks};
-ghost use Rattle.rds_pieces.specs.RunOf.{IsGuess, run_at, run_over};
+ghost use Rattle.rds_pieces.specs.JointOf.{joint_of};
+ghost use Rattle.rds_pieces.specs.RunOf.{run_at, run_over};
 ghost use Rattle.rds_pieces.specs.declared.error.PieceError.TheVariants.{OutOfMemory};
 
 use crate::cutting::Cutting;
 use crate::error::PieceError;
-use crate::gathered::Gathered;
+use crate::joint::Joint;
 use crate::laws::run_laws;
-use crate::mark::Mark;
-use crate::marks::Marks;
-use rds_stream::{Reader, Recording};
-use rds_sync::{ItemBuffer, Items, RuleNumbers, Rules, State, Totals, stretch};
+use rds_stream::Recording;
+use rds_sync::{Codes, Marks, RuleNumbers, Rules, State, Totals, run_codes};
 use std::alloc::Global;
 use std::marker::Model;
 use std::snapshot::Snapshot;
 
 /// The guess of a range of places, for the recording and the rules that it names: what a run from Searching at the
-/// range's first place gives, with its marks. Contracts see what it is a run of: the recording's bits, the rules'
-/// numbers and the range. It borrows nothing and holds nothing of the recording.
+/// range's first place gives. It keeps a code of 16 bits for each item, and the place of each acquisition. Contracts see
+/// what it is a run of: the recording's bits, the rules' numbers and the range. It borrows nothing and holds nothing of
+/// the recording.
 #[derive(Drop)]
 pub struct PieceRun {
     source: Snapshot<Recording>,
     rules: RuleNumbers,
     from: u64,
     to: u64,
-    items: Items,
+    codes: Codes,
     counted: Totals,
     end_state: State,
-    marks: Marks,
 }
 
 impl Model for PieceRun {
-    ghost use Rattle.rds_pieces.specs.RunOf.{RunOf, IsGuess, run_over};
+    ghost use Rattle.rds_pieces.specs.RunOf.{RunOf, run_over};
     ghost use Rattle.rds_pieces.specs.Inside.RunInside.{IsKept};
 
     ghost Value = { RunOf };
 
     ghost view = { λ r. run_over r.source.value r.rules r.from r.to };
 
-    ghost invariant = { λ r. IsKept (run_over r.source.value r.rules r.from r.to) r.items r.counted r.end_state r.marks };
+    ghost invariant = { λ r. IsKept (run_over r.source.value r.rules r.from r.to) r.codes r.counted r.end_state };
 }
 
 impl PieceRun {
@@ -73,11 +73,19 @@ impl PieceRun {
         (self.from, self.to)
     }
 
-    /// The items that the bits of the piece give, in order of place.
-    pub fn items(&self) -> &Items
-        ensures { result.now ≡ (guess self.now.source self.now.rules self.now.from (self.now.to - self.now.from)).1 }
+    /// The rules that it names.
+    pub(crate) fn rules(&self) -> RuleNumbers
+        ensures { result ≡ self.now.rules }
     {
-        &self.items
+        self.rules
+    }
+
+    /// The codes of the items that the bits of the piece give, in order of place, and the places of their acquisitions.
+    pub fn codes(&self) -> &Codes
+        ensures { result.now
+            ≡ kept_of (guess self.now.source self.now.rules self.now.from (self.now.to - self.now.from)).1 }
+    {
+        &self.codes
     }
 
     /// The totals of these items.
@@ -95,7 +103,7 @@ impl PieceRun {
             (guess self.now.source self.now.rules self.now.from (self.now.to - self.now.from)).1) }
     {
         run_laws();
-        self.counted.less(Totals::of_range(&self.items, 0, first))
+        self.counted.less(self.codes.totals_of_first(first))
     }
 
     /// The state after the piece's last bit.
@@ -105,44 +113,71 @@ impl PieceRun {
         self.end_state
     }
 
-    /// The marks, by rising place.
-    pub fn marks(&self) -> &Marks
-        ensures { result.now ≡ marks self.now.source self.now.rules self.now.from (self.now.to - self.now.from) }
+    /// The marks, by rising place, told by the codes under the run's own rules.
+    pub fn marks(&self, rules: &Rules) -> Marks<'_>
+        requires { rules.now ≡ self.now.rules }
+        ensures { result ≡ marks self.now.source self.now.rules self.now.from (self.now.to - self.now.from) }
     {
-        &self.marks
+        run_laws();
+        self.codes.marks_from(rules, self.from, State::Searching)
     }
 
-    /// The run of the ranges of two neighbours, from what its guess gives.
-    pub(crate) fn of_both(
-        source: Snapshot<Recording>,
-        left: &PieceRun,
-        right: &PieceRun,
-        joined: Gathered,
-        end_state: State,
-    ) -> PieceRun
-        requires source { source.value ≡ left.now.source }
-        requires guess { IsGuess (run_over left.now.source left.now.rules left.now.from right.now.to)
-            joined.items end_state joined.marks }
-        ensures { result ≡ run_over left.now.source left.now.rules left.now.from right.now.to }
+    /// The run of the ranges of two neighbours, with what joins them. Their codes are moved, and none is copied.
+    /// Fails with `OutOfMemory` alone.
+    pub fn joined(left: PieceRun, joint: Joint, right: PieceRun) -> Result<PieceRun, PieceError>
+        requires next { left.to ≡ right.from }
+        requires source { right.source ≡ left.source }
+        requires rules { right.rules ≡ left.rules }
+        requires joint { joint ≡ joint_of left right }
+        ensures ok { IfOk result (λ r. r ≡ run_over left.source left.rules left.from right.to) }
+        ensures err { IfErr result (λ e. e ≡ OutOfMemory) }
     {
-        PieceRun {
+        // Runs in a row are one run.
+        run_laws();
+        let (own, passed, totals, end_state) = joint.taken();
+        let PieceRun {
             source,
-            rules: left.rules,
-            from: left.from,
-            to: right.to,
-            items: joined.items,
-            counted: joined.totals,
+            rules,
+            from,
+            codes: before,
+            counted,
+            ..
+        } = left;
+        let PieceRun {
+            to,
+            codes: rest,
+            ..
+        } = right;
+        let codes = put_together(before, own, rest, passed)?;
+        Ok(PieceRun {
+            source,
+            rules,
+            from,
+            to,
+            codes,
+            counted: counted.plus(totals),
             end_state,
-            marks: joined.marks,
-        }
+        })
     }
+}
+
+/// The codes of a run, with those of its way on behind them, and behind these the right run's from number `passed` on.
+fn put_together(before: Codes, own: Codes, right: Codes, passed: usize) -> Result<Codes, PieceError>
+    requires { passed ≤ length right.codes }
+    ensures ok { IfOk result (λ codes. codes ≡ behind (behind before own) (kept_from passed right)) }
+    ensures err { IfErr result (λ e. e ≡ OutOfMemory) }
+{
+    let mut codes = before;
+    codes.append(own, 0)?;
+    codes.append(right, passed)?;
+    Ok(codes)
 }
 
 /// Guesses piece `j` of a cutting: runs from Searching at its first place to its end, as if nothing stood before. Its
 /// windows may look before that place. Fails with `OutOfMemory` alone.
 ///
-/// Its cost: the piece is gone over once, as by [`stretch`], and its items once more, for their totals. It takes memory
-/// for the items, and for the marks by rows.
+/// Its cost: the piece is gone over once, as by [`run_codes`], and its codes once more, for their totals. It takes
+/// memory for the codes, 2 bytes an item and 8 an acquisition.
 pub fn speculate(
     alloc: Global,
     rec: &Recording,
@@ -159,61 +194,17 @@ pub fn speculate(
     let (from, to) = (cutting.from(j), cutting.to(j));
     let len = rec.len();
     prove!(to <= len);
-    let (end_state, items, marks) = guess_over(alloc, rec, rules, from, to)?;
-    let counted = Totals::of(&items);
+    let Ok((end_state, codes)) = run_codes(alloc, rec, rules, State::Searching, from, to) else {
+        return Err(PieceError::OutOfMemory);
+    };
+    let counted = codes.totals();
     Ok(PieceRun {
         source: Snapshot::of(rec),
         rules: rules.numbers(),
         from,
         to,
-        items,
+        codes,
         counted,
         end_state,
-        marks,
     })
-}
-
-/// The end state, the items and the marks of the guess of a range.
-fn guess_over(
-    alloc: Global,
-    rec: &Recording,
-    rules: &Rules,
-    from: u64,
-    to: u64,
-) -> Result<(State, Items, Marks), PieceError>
-    requires range { from ≤ to }
-    requires inside { to ≤ length_of rec.now }
-    ensures state { IfOk result (λ r. r.0 ≡ (guess rec.now rules.now from (to - from)).0) }
-    ensures items { IfOk result (λ r. r.1 ≡ (guess rec.now rules.now from (to - from)).1) }
-    ensures marks { IfOk result (λ r. r.2 ≡ marks rec.now rules.now from (to - from)) }
-    ensures err { IfErr result (λ e. e ≡ OutOfMemory) }
-{
-    // Stretches in a row are one run.
-    run_laws();
-    let mut items = ItemBuffer::new(alloc);
-    let mut marks = Marks::new(alloc);
-    let mut reader = Reader::new(rec);
-    let mut place = from;
-    let mut state = State::Searching;
-    marks.push(Mark {
-        place,
-        state,
-        items: 0,
-    })?;
-    while place < to {
-        let before = items.len();
-        let Ok(reached) = stretch(&mut reader, rules, state, place, to, &mut items) else {
-            return Err(PieceError::OutOfMemory);
-        };
-        place = reached.place;
-        state = reached.state;
-        if items.len() > before {
-            marks.push(Mark {
-                place,
-                state,
-                items: items.len() as u64,
-            })?;
-        }
-    }
-    Ok((state, items.freeze()?, marks))
 }

@@ -4,22 +4,22 @@ ghost use Rattle.rds_sync.specs.Lawful.{IsLawful};
 ghost use Rattle.rds_sync.specs.Ranges.{IsInRange};
 ghost use Rattle.rds_sync.specs.Step.{run as run_of};
 ghost use Rattle.rds_sync.specs.Totals.{totals_of};
-ghost use Rattle.rds_pieces.specs.Inside.MarksOn.{marks_on};
+ghost use Rattle.rds_sync.specs.Codes.{kept_of};
+ghost use Rattle.rds_sync.specs.Decoding.{listed};
 ghost use Rattle.rds_pieces.specs.Meeting.{IsMeeting, distance};
 ghost use Rattle.rds_pieces.specs.Seams.{seam_reads};
 ghost use Rattle.rds_pieces.specs.Soon.{IsSoonMet};
 ghost use Rattle.rds_pieces.specs.Inside.Walk.{IsWalk, IsMetOrNot, next_place};
 ghost use Rattle.rds_pieces.specs.declared.error.PieceError.TheVariants.{OutOfMemory};
 
-use crate::advance::advance_marked;
+use crate::advance::advance_onto;
 use crate::error::PieceError;
 use crate::laws::run_laws;
-use crate::marks::{MarkIter, Marks};
 use crate::meeting::{Passed, Seam, Walk, meets};
 use crate::run::PieceRun;
 use rds_stream::Tape;
 use rds_sync::laws::runs_converge;
-use rds_sync::{ItemBuffer, Rules, State, Totals};
+use rds_sync::{Codes, Items, Mark, Marks, Rules, State};
 use std::alloc::Global;
 
 /// Carries the run on from `state`, lawful at the piece's first place, over the piece that `run` guessed, of the tape's
@@ -33,8 +33,8 @@ use std::alloc::Global;
 ///
 /// Its cost: it reads at most (reach + 2)(d + 1) windows of the tape, which has counted at most 2^62 before; d is the
 /// number of bits up to the meeting, or to the piece's end where there is none. No more is read where memory is refused
-/// on the way. Of items it goes over those that stand before the meeting, its own and the guess's, and it takes memory
-/// for its own, for their marks, and for the guess's parts of items.
+/// on the way. It goes over the guess's codes once, and takes memory for the codes of its own way up to the meeting and
+/// for spans of a thousand items or so.
 pub fn seam<T: Tape>(
     alloc: Global,
     tape: &mut T,
@@ -47,8 +47,8 @@ pub fn seam<T: Tape>(
     requires rules { run.now.rules ≡ rules.now }
     requires room { T.reads_made tape.old ≤ 2 ^ 62 }
 
-    ensures items { IfOk result (λ s. s.items
-        ≡ (run_of (T.signal tape.old) rules.now state run.now.from (run.now.to - run.now.from)).1) }
+    ensures items { IfOk result (λ s. s.items ≡ listed (T.signal tape.old) rules.now
+        (run_of (T.signal tape.old) rules.now state run.now.from (run.now.to - run.now.from)).1) }
     ensures totals { IfOk result (λ s. s.totals
         ≡ totals_of (run_of (T.signal tape.old) rules.now state run.now.from (run.now.to - run.now.from)).1) }
     ensures end { IfOk result (λ s. s.end_state
@@ -69,30 +69,43 @@ pub fn seam<T: Tape>(
     // A run and the guess that are in one state go on as one, and over a sound range they come into one.
     run_laws();
     runs_converge();
+    let (from, to) = run.range();
     let Walk {
         place,
-        state: end_state,
-        items,
+        state: reached,
+        codes,
         met,
-        ..
     } = go_along(alloc, tape, rules, state, run)?;
-    let mut items = items.freeze()?;
-    let totals = Totals::of(&items);
+    let counted = codes.totals();
+    let mut items = Items::none(alloc, tape.source(), rules);
+    let start = Mark {
+        place: from,
+        state,
+        items: 0,
+    };
+    // The first of its marks is where it starts.
+    let mut own = codes.marks_from(rules, from, state);
+    let _ = own.next();
+    items.push_run(start, own, place, codes.len() as u64)?;
     match met {
         Some(passed) => {
-            let totals = totals.plus(run.totals_from(passed.items));
-            items.append(run.items(), passed.items)?;
+            let here = Mark {
+                place,
+                state: reached,
+                items: passed.items as u64,
+            };
+            items.push_run(here, passed.ahead, to, run.codes().len() as u64)?;
             Ok(Seam {
                 items,
-                totals,
+                totals: counted.plus(run.totals_from(passed.items)),
                 end_state: run.end_state(),
                 met_at: Some(place),
             })
         }
         None => Ok(Seam {
             items,
-            totals,
-            end_state,
+            totals: counted,
+            end_state: reached,
             met_at: None,
         }),
     }
@@ -115,10 +128,8 @@ pub(crate) fn go_along<'a, T: Tape>(
         IsWalk run.now.source run.now.rules state run.now.from run.now.to w.place w.state) }
     ensures met { IfOk result (λ w.
         IsMetOrNot run.now.source run.now.rules state run.now.from run.now.to w.place w.met) }
-    ensures items { IfOk result (λ w. w.items
-        ≡ (run_of run.now.source run.now.rules state run.now.from (w.place - run.now.from)).1) }
-    ensures marks { IfOk result (λ w. w.marks
-        ≡ marks_on run.now.source run.now.rules state run.now.from 0 (w.place - run.now.from)) }
+    ensures codes { IfOk result (λ w. w.codes
+        ≡ kept_of (run_of run.now.source run.now.rules state run.now.from (w.place - run.now.from)).1) }
     ensures reads { IfOk result (λ w. T.reads_made tape.new
         ≤ T.reads_made tape.old + (run.now.rules.reach + 2) * (w.place - run.now.from + 1)) }
 
@@ -134,8 +145,8 @@ pub(crate) fn go_along<'a, T: Tape>(
     // Steps in a row are one run.
     run_laws();
     let (from, to) = run.range();
-    let (mut items, mut marks) = (ItemBuffer::new(alloc), Marks::new(alloc));
-    let mut ahead = run.marks().iter();
+    let mut codes = Codes::new(alloc);
+    let mut ahead = run.marks(rules);
     let Some(mut mark) = ahead.next() else {
         unreachable!()
     };
@@ -150,8 +161,7 @@ pub(crate) fn go_along<'a, T: Tape>(
             return Ok(Walk {
                 place,
                 state,
-                items,
-                marks,
+                codes,
                 met: Some(passed),
             });
         }
@@ -159,14 +169,11 @@ pub(crate) fn go_along<'a, T: Tape>(
             return Ok(Walk {
                 place,
                 state,
-                items,
-                marks,
+                codes,
                 met: None,
             });
         }
-        let (reached, after) = advance_marked(
-            tape, rules, state, place, limit, &mut items, &mut marks,
-        )?;
+        let (reached, after) = advance_onto(tape, rules, state, place, limit, &mut codes)?;
         place = reached;
         state = after;
         if place != limit {
@@ -180,7 +187,7 @@ pub(crate) fn go_along<'a, T: Tape>(
 }
 
 /// The place of the next of these marks, or the end where none is left.
-fn place_of_next(marks: &MarkIter<'_>, to: u64) -> u64
+fn place_of_next(marks: &Marks<'_>, to: u64) -> u64
     ensures { result ≡ next_place marks.now to }
 {
     match marks.peek() {

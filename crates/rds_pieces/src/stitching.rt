@@ -2,6 +2,7 @@
 ghost use Rattle.std.specs.Prelude.{◌≡◌, ℕ, ◌+◌, ◌-◌, ◌*◌, ◌++◌, ◌≤◌, ◌^◌, IfOk, IfErr, length};
 ghost use Rattle.rds_stream.specs.Recording.{length_of};
 ghost use Rattle.rds_sync.specs.Counting.{IsAtMost};
+ghost use Rattle.rds_sync.specs.Decoding.{listed};
 ghost use Rattle.rds_sync.specs.Lawful.{IsLawful};
 ghost use Rattle.rds_sync.specs.Report.{report_items};
 ghost use Rattle.rds_sync.specs.Step.{items_of_end};
@@ -10,7 +11,6 @@ ghost use Rattle.rds_pieces.specs.RunOf.{FollowEachOther};
 ghost use Rattle.rds_pieces.specs.Seams.{IsSumOfReads};
 ghost use Rattle.rds_pieces.specs.declared.error.PieceError.TheVariants.{OutOfMemory};
 
-use crate::advance::closing_items;
 use crate::error::PieceError;
 use crate::laws::run_laws;
 use crate::run::PieceRun;
@@ -26,8 +26,7 @@ use std::alloc::Global;
 /// Fails with `OutOfMemory` alone.
 ///
 /// Its cost: it reads what the seams may read, and at most three windows more, refused memory or not; the tape has
-/// counted at most 2^61 before. It takes memory as they do, one after the other, and for all parts of items, of which
-/// none is copied.
+/// counted at most 2^61 before. It takes memory as they do, one after the other, and for the spans of all items.
 pub fn stitch<T: Tape>(
     alloc: Global,
     tape: &mut T,
@@ -37,7 +36,8 @@ pub fn stitch<T: Tape>(
     requires in_a_row { FollowEachOther (T.signal tape.old) rules.now 0 (length_of (T.signal tape.old)) runs.now }
     requires room { T.reads_made tape.old ≤ 2 ^ 61 }
 
-    ensures items { IfOk result (λ report. report.items ≡ report_items (T.signal tape.old) rules.now) }
+    ensures items { IfOk result (λ report. report.items
+        ≡ listed (T.signal tape.old) rules.now (report_items (T.signal tape.old) rules.now)) }
     ensures totals { IfOk result (λ report. report.totals ≡ totals_of (report_items (T.signal tape.old) rules.now)) }
     ensures reads { IfOk result (λ _. (n : ℕ) × IsSumOfReads (T.signal tape.old) rules.now State.Searching runs.now n
         × (T.reads_made tape.new ≤ T.reads_made tape.old + n + 3)) }
@@ -48,9 +48,9 @@ pub fn stitch<T: Tape>(
         → T.reads_made tape.new ≤ T.reads_made tape.old + n + 3 }
 {
     let (end_state, mut report) = carry_over_all(alloc, tape, rules, runs)?;
-    let last = closing_items(alloc, finish(tape, rules, end_state))?;
-    report.totals = report.totals.plus(Totals::of(&last));
-    report.items.append(&last, 0)?;
+    let last = finish(tape, rules, end_state);
+    report.totals = report.totals.plus(Totals::of_end(last));
+    report.items.close(end_state)?;
     Ok(report)
 }
 
@@ -65,9 +65,10 @@ fn carry_over_all<T: Tape>(
     requires in_a_row { FollowEachOther (T.signal tape.old) rules.now 0 (length_of (T.signal tape.old)) runs.now }
     requires room { T.reads_made tape.old ≤ 2 ^ 61 }
 
-    ensures whole { IfOk result (λ r. r.1.items ++ items_of_end (T.signal tape.old) rules.now r.0
+    ensures named { IfOk result (λ r. r.1.items ≡ listed (T.signal tape.old) rules.now r.1.items.list) }
+    ensures whole { IfOk result (λ r. r.1.items.list ++ items_of_end (T.signal tape.old) rules.now r.0
         ≡ report_items (T.signal tape.old) rules.now) }
-    ensures totals { IfOk result (λ r. r.1.totals ≡ totals_of r.1.items) }
+    ensures totals { IfOk result (λ r. r.1.totals ≡ totals_of r.1.items.list) }
     ensures small { IfOk result (λ r. IsAtMost ((2 ^ 28 - 1) * 2 ^ 36) r.1.totals) }
     ensures lawful { IfOk result (λ r. IsLawful rules.now (length_of (T.signal tape.old)) r.0) }
     ensures reads { IfOk result (λ _. (n : ℕ) × IsSumOfReads (T.signal tape.old) rules.now State.Searching runs.now n
@@ -83,11 +84,11 @@ fn carry_over_all<T: Tape>(
     run_laws();
     let (len, reach) = (tape.len(), rules.reach());
     prove!(len <= 1 << 36 && 1 <= reach);
-    let (mut items, mut totals) = (Items::new(alloc), Totals::NONE);
+    let (mut items, mut totals) = (Items::none(alloc, tape.source(), rules), Totals::NONE);
     let mut state = State::Searching;
     for run in runs {
         let seam = seam(alloc, tape, rules, state, run)?;
-        items.append(&seam.items, 0)?;
+        items.append(seam.items)?;
         totals = totals.plus(seam.totals);
         state = seam.end_state;
     }

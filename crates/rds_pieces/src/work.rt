@@ -1,16 +1,19 @@
 //! The only way of a crew to the bits.
 ghost use Rattle.std.specs.Prelude.{◌≡◌, ℕ, List, ◌<◌, length, IfOk, IfErr};
 ghost use Rattle.rds_stream.specs.Recording.{Signal, length_of};
+ghost use Rattle.rds_sync.specs.Decoding.{listed};
 ghost use Rattle.rds_sync.specs.Report.{report_items};
 ghost use Rattle.rds_sync.specs.Rules.{RuleNumbers};
 ghost use Rattle.rds_sync.specs.Totals.{totals_of};
 ghost use Rattle.rds_pieces.specs.Cutting.{IsCutting, pieces_of};
-ghost use Rattle.rds_pieces.specs.RunOf.{FollowEachOther, IsRunOf, run_at, run_over};
+ghost use Rattle.rds_pieces.specs.JointOf.{joint_of as the_joint_of};
+ghost use Rattle.rds_pieces.specs.RunOf.{FollowEachOther, IsRunOf, run_at};
 ghost use Rattle.rds_pieces.specs.declared.error.PieceError.TheVariants.{OutOfMemory};
 
 use crate::cutting::Cutting;
 use crate::error::PieceError;
-use crate::joining::join_runs;
+use crate::joining::joint_of;
+use crate::joint::Joint;
 use crate::run::{PieceRun, speculate};
 use crate::stitching::stitch;
 use rds_stream::{Counted, Recording};
@@ -49,13 +52,13 @@ pub trait Work {
         ensures ok { IfOk result (λ r. r ≡ run_at (recording self.now) (rule_set self.now) (places self.now) j) }
         ensures err { IfErr result (λ e. e ≡ OutOfMemory) };
 
-    /// The run of both ranges, from the runs of two ranges that follow each other. Fails with `OutOfMemory` alone.
-    fn join(&self, alloc: Global, left: &PieceRun, right: &PieceRun) -> Result<PieceRun, PieceError>
+    /// What joins the runs of two ranges that follow each other: [`PieceRun::joined`] puts them together. Fails with
+    /// `OutOfMemory` alone.
+    fn join(&self, alloc: Global, left: &PieceRun, right: &PieceRun) -> Result<Joint, PieceError>
         requires next { left.now.to ≡ right.now.from }
         requires left { IsRunOf (recording self.now) (rule_set self.now) left.now }
         requires right { IsRunOf (recording self.now) (rule_set self.now) right.now }
-        ensures ok { IfOk result (λ r. r
-            ≡ run_over (recording self.now) (rule_set self.now) left.now.from right.now.to) }
+        ensures ok { IfOk result (λ joint. joint ≡ the_joint_of left.now right.now) }
         ensures err { IfErr result (λ e. e ≡ OutOfMemory) };
 
     /// The report, from runs that follow each other from place 0 to the recording's end. Fails with `OutOfMemory`
@@ -63,13 +66,14 @@ pub trait Work {
     fn report(&self, alloc: Global, runs: &[PieceRun]) -> Result<Report, PieceError>
         requires in_a_row { FollowEachOther (recording self.now) (rule_set self.now)
             0 (length_of (recording self.now)) runs.now }
-        ensures items { IfOk result (λ report. report.items ≡ report_items (recording self.now) (rule_set self.now)) }
+        ensures items { IfOk result (λ report. report.items ≡ listed (recording self.now) (rule_set self.now)
+            (report_items (recording self.now) (rule_set self.now))) }
         ensures totals { IfOk result (λ report. report.totals
             ≡ totals_of (report_items (recording self.now) (rule_set self.now))) }
         ensures err { IfErr result (λ e. e ≡ OutOfMemory) };
 }
 
-/// The work over a recording that is lent to it: `guess` is `speculate`, and `join` and `report` are `join_runs` and
+/// The work over a recording that is lent to it: `guess` is `speculate`, and `join` and `report` are `joint_of` and
 /// `stitch`, each on a tape of its own. It can be shared between threads.
 #[derive(Drop)]
 pub struct RecordingWork<'a> {
@@ -127,14 +131,9 @@ impl Work for RecordingWork<'_> {
         speculate(alloc, self.recording, self.rules, self.cutting, j)
     }
 
-    fn join(
-        &self,
-        alloc: Global,
-        left: &PieceRun,
-        right: &PieceRun,
-    ) -> Result<PieceRun, PieceError> {
+    fn join(&self, alloc: Global, left: &PieceRun, right: &PieceRun) -> Result<Joint, PieceError> {
         let mut tape = Counted::new(self.recording);
-        join_runs(alloc, &mut tape, self.rules, left, right)
+        joint_of(alloc, &mut tape, self.rules, left, right)
     }
 
     fn report(&self, alloc: Global, runs: &[PieceRun]) -> Result<Report, PieceError> {

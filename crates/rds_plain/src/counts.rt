@@ -1,6 +1,6 @@
 //! Totals that are counted item by item and block by block.
 use rds_code::Reading;
-use rds_sync::{Block, Group, Item, Items};
+use rds_sync::{Block, Group, Item};
 
 /// The twelve totals, in the order of their rows.
 #[derive(Drop)]
@@ -10,10 +10,10 @@ pub struct Counts {
 
 impl Counts {
     /// Those of these items.
-    pub fn of(items: &Items) -> Counts {
+    pub fn of(items: &[Item]) -> Counts {
         let mut counts = Counts::new();
         for item in items {
-            counts.count(&item);
+            counts.count(item);
         }
         counts
     }

@@ -28,7 +28,7 @@ mod windows;
 
 use anyhow::{Context, Result, bail};
 use rds_stream::Recording;
-use rds_sync::{Report, Rules, decode_plain};
+use rds_sync::{Item, Rules, decode_plain};
 use std::alloc::Global;
 use std::env;
 use std::io::{Read, Write};
@@ -51,12 +51,12 @@ fn text_of(rt: &HostRuntime, words: &[&str]) -> Result<Vec<u8>> {
         "encode" => groups::encoded(alloc, input(rt)?.as_slice())?.context("a line is no group"),
         "scan" => scan(rt, rest),
         "list" => {
-            let report = report(rt, rest)?;
-            let mut text = rows::of_items(alloc, &report.items)?;
-            text.push_str(rows::of_totals(alloc, &report.items)?.as_str())?;
+            let items = items(rt, rest)?;
+            let mut text = rows::of_items(alloc, &items)?;
+            text.push_str(rows::of_totals(alloc, &items)?.as_str())?;
             Ok(text.into_bytes())
         }
-        "totals" => Ok(rows::of_totals(alloc, &report(rt, rest)?.items)?.into_bytes()),
+        "totals" => Ok(rows::of_totals(alloc, &items(rt, rest)?)?.into_bytes()),
         _ => bail!("no such command"),
     }
 }
@@ -103,10 +103,15 @@ fn gaps(alloc: Global, words: &[&str]) -> Result<Vec<(u64, u64)>> {
     Ok(gaps)
 }
 
-/// The report of that recording, by the rules that the words after it spell.
-fn report(rt: &HostRuntime, words: &[&str]) -> Result<Report> {
+/// The items of that recording's report, by the rules that the words after it spell.
+fn items(rt: &HostRuntime, words: &[&str]) -> Result<Vec<Item>> {
     let rules = rules(rt.alloc(), words)?;
-    Ok(decode_plain(rt.alloc(), &recording(rt, words)?, &rules)?)
+    reported(rt.alloc(), &recording(rt, words)?, &rules)
+}
+
+fn reported(alloc: Global, recording: &Recording, rules: &Rules) -> Result<Vec<Item>> {
+    let report = decode_plain(alloc, recording, rules)?;
+    Ok(report.items.iter(recording, rules).collect(alloc)?)
 }
 
 /// A number of the rules.

@@ -1,18 +1,18 @@
 //! The rows of a report.
 use crate::counts::Counts;
 use rds_code::Reading;
-use rds_sync::{Block, Group, Item, Items, Version};
+use rds_sync::{Block, Group, Item, Version};
 use std::alloc::{AllocError, Global};
 
 /// A row for each item.
-pub fn of_items(alloc: Global, items: &Items) -> Result<String, AllocError> {
+pub fn of_items(alloc: Global, items: &[Item]) -> Result<String, AllocError> {
     let mut text = String::new(alloc);
     for item in items {
         match item {
             Item::Acquired { place, number } => {
                 writeln!(text, "acquired,{place},{number},-,-,-,-,-")?
             }
-            Item::Group(group) => push_group(&mut text, &group)?,
+            Item::Group(group) => push_group(&mut text, group)?,
             Item::LostLock { place } => writeln!(text, "lost,{place},-,-,-,-,-,-")?,
         }
     }
@@ -62,7 +62,7 @@ fn push_block(text: &mut String, block: &Block) -> Result<(), AllocError> {
 }
 
 /// A row for each total of these items, which are counted one by one.
-pub fn of_totals(alloc: Global, items: &Items) -> Result<String, AllocError> {
+pub fn of_totals(alloc: Global, items: &[Item]) -> Result<String, AllocError> {
     let counts = Counts::of(items);
     let mut text = String::new(alloc);
     for (name, count) in counts.as_slice() {

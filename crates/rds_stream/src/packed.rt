@@ -110,6 +110,7 @@ impl Packed {
     }
 
     /// `window` at a place that may have fewer than seven bytes before its own.
+    #[cold]
     fn early_window(&self, place: u64) -> u32
         requires first { 25 ≤ place }
         requires last { place < length self.now }

@@ -1,11 +1,16 @@
 //! A recording that is read in turn.
-ghost use Rattle.std.specs.Prelude.{◌≡◌, ◌<◌, ◌≤◌, ◌^◌, IfSome};
+ghost use Rattle.std.specs.Prelude.{◌≡◌, ◌<◌, ◌≤◌, ◌+◌, ◌^◌, All, IfSome};
+ghost use Rattle.rds_stream.specs.InARow.{four_heard};
 ghost use Rattle.rds_stream.specs.Recording.{Signal, heard, length_of};
 ghost use Rattle.rds_stream.specs.Inside.Sections.{IsSection};
 
 use crate::gaps::Section;
 use crate::recording::Recording;
+use rds_code::BLOCK_BITS;
 use std::marker::Model;
+
+/// How many places a block takes.
+const PLACES: u64 = BLOCK_BITS as u64;
 
 /// A recording whose windows are read one after the other.
 ///
@@ -64,7 +69,49 @@ impl<'a> Reader<'a> {
         Some(self.recording.window(place))
     }
 
+    /// What `window` tells at `place` and 26, 52 and 78 places on: of four blocks in a row. The last of these places is
+    /// below the length, and `place` below 2^37.
+    #[inline(always)]
+    pub fn four_windows(&mut self, place: u64) -> [Option<u32>; 4]
+        requires first { 25 ≤ place }
+        requires last { place + 78 < length_of self.old }
+        requires near { place < 2 ^ 37 }
+        ensures value { result ≡ four_heard self.old place }
+        ensures blocks { All (λ heard. IfSome heard (λ window. window < 2 ^ 26)) result }
+        ensures same { self.new ≡ self.old }
+    {
+        let Section { from, to, touched } = self.section;
+        if touched || place < from || to <= place + 3 * PLACES {
+            return self.look_at_four(place);
+        }
+        let recording = self.recording;
+        [
+            Some(recording.window(place)),
+            Some(recording.window(place + PLACES)),
+            Some(recording.window(place + 2 * PLACES)),
+            Some(recording.window(place + 3 * PLACES)),
+        ]
+    }
+
+    /// `four_windows`, one by one.
+    #[cold]
+    fn look_at_four(&mut self, place: u64) -> [Option<u32>; 4]
+        requires first { 25 ≤ place }
+        requires last { place + 78 < length_of self.old }
+        requires near { place < 2 ^ 37 }
+        ensures value { result ≡ four_heard self.old place }
+        ensures blocks { All (λ heard. IfSome heard (λ window. window < 2 ^ 26)) result }
+        ensures same { self.new ≡ self.old }
+    {
+        let one = self.window(place);
+        let two = self.window(place + PLACES);
+        let three = self.window(place + 2 * PLACES);
+        let four = self.window(place + 3 * PLACES);
+        [one, two, three, four]
+    }
+
     /// `window`, where a gap is touched or may be: it is looked for again, unless the section is known.
+    #[cold]
     fn look(&mut self, place: u64) -> Option<u32>
         requires first { 25 ≤ place }
         requires last { place < length_of self.old }

@@ -1,12 +1,10 @@
 -- A range of a list.
-use Rattle.std.proofs.Common.{◌≡◌, ℕ, ◌+◌, ◌-◌, ◌<◌, ◌≤◌, List, length, take, drop, slice_range, Some, sym, ap, ◌∙◌, arith}
+use Rattle.std.proofs.Common.{◌≡◌, ℕ, ◌+◌, ◌-◌, ◌<◌, ◌≤◌, List, length, take, drop, slice_range, get_or, Option, Some, None, sym, ap, ◌∙◌, arith}
+use Rattle.std.specs.Iterator.{YieldsFirst}
 use Rattle.std.specs.Prelude.{slice_get}
 use Rattle.std.proofs.lemmas.Grind.{common_steps}
-use Rattle.std.proofs.lemmas.List.{drop-take, drop-drop, drop-map, take-map, get_or-take, get_or-drop}
-use Rattle.std.proofs.lemmas.Option.{slice_get-get_or, get_or_from_slice_get}
-use Rattle.rds_sync.specs.declared.item.Item.{Item}
-use Rattle.rds_sync.specs.declared.kept.Kept.{Kept}
-use Rattle.rds_sync.specs.Inside.Kept.{item_of, items_of}
+use Rattle.std.proofs.lemmas.List.{drop-take, drop-drop, get_or-take, get_or-drop}
+use Rattle.std.proofs.lemmas.Option.{slice_get-get_or, slice_get_past, get_or_from_slice_get}
 
 -- how long it is
 pub range_len : {X : Type 0} (xs : List X) (from to : ℕ) → from ≤ to → to ≤ length xs → length (slice_range xs from to) ≡ to - from
@@ -28,7 +26,18 @@ range_get xs from to i x order within there =
     slice_get-get_or (slice_range xs from to) i x (omega (arith, range_len xs from to (omega arith) within))
     ∙ ap (λ y. Some y) (get_or-take (to - from) (drop from xs) i x short ∙ get_or-drop from xs i x ∙ get_or_from_slice_get xs (from + i) x x there)
 
--- a range of what is kept stands for that range of the items
-pub range_items : (others : List Item) (kept : List Kept) (from to : ℕ) → items_of others (slice_range kept from to) ≡ slice_range (items_of others kept) from to
-range_items others kept from to =
-    sym (ap (λ (is : List Item). take (to - from) is) (drop-map (item_of others) from kept) ∙ take-map (item_of others) (to - from) (drop from kept))
+-- the first element of a range of one
+pub range_first : {X : Type 0} (xs : List X) (i : ℕ) (given : Option X) (left : List X) → i < length xs
+    → YieldsFirst (λ (ys : List X). ys) (slice_range xs i (i + 1)) given left → given ≡ slice_get xs i
+range_first xs i None left within gives =
+    absurd (omega (arith, ap (λ ys. length ys) gives.0, range_len xs i (i + 1) (omega arith) (omega (arith, within))))
+range_first xs i (Some x) left within gives =
+    let one : 0 < i + 1 - i = omega arith in
+    let at : i + 0 ≡ i = omega arith in
+    sym (slice_get-get_or xs i x within
+    ∙ ap (λ y. Some y) (ap (λ k. get_or xs k x) (sym at) ∙ sym (get_or-drop i xs 0 x) ∙ sym (get_or-take (i + 1 - i) (drop i xs) 0 x one)
+    ∙ ap (λ ys. get_or ys 0 x) gives))
+
+-- past the end there is none
+pub range_past : {X : Type 0} (xs : List X) (i : ℕ) → length xs ≤ i → None ≡ slice_get xs i
+range_past xs i far = sym (slice_get_past xs i far)

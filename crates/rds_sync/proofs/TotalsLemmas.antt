@@ -1,5 +1,5 @@
 -- Totals of a list that grows.
-use Rattle.std.proofs.Common.{◌≡◌, ◌≢◌, ℕ, ◌+◌, ◌-◌, ◌≤◌, Bool, List, [], ◌∷◌, ◌++◌, length, get_or, refl, sym, ap, ◌∙◌, arith}
+use Rattle.std.proofs.Common.{◌≡◌, ℕ, ◌+◌, ◌-◌, ◌≤◌, Bool, List, [], ◌∷◌, ◌++◌, length, get_or, refl, sym, ap, ◌∙◌, arith}
 use Rattle.std.specs.Prelude.{count_by, slice_index, if◌then◌else◌}
 use Rattle.std.proofs.lemmas.List.Sums.{sum_by-append}
 use Rattle.rds_sync.specs.declared.item.Block.{Block}
@@ -8,10 +8,7 @@ use Rattle.rds_sync.specs.declared.item.Item.{Item}
 use Rattle.rds_sync.specs.declared.item.Item.TheVariants.{Group as GroupItem}
 use Rattle.rds_sync.specs.declared.totals.Totals.{Totals}
 use Rattle.rds_sync.specs.Totals.{totals_of, sum_blocks, count_blocks, is_valid, is_lost, is_corrected_by, bits_corrected, is_complete}
-use Rattle.rds_sync.specs.declared.kept.Kept.{Kept}
-use Rattle.rds_sync.specs.declared.kept.Kept.TheVariants.{WithC, WithCx, Other}
 use Rattle.rds_sync.specs.Counting.{plus, whole_totals, block_totals, IsAtMost, IsRest}
-use Rattle.rds_sync.specs.Inside.Kept.{item_of}
 
 -- the totals of two lists, one after the other
 pub totals_of-append : (xs ys : List Item) → totals_of (xs ++ ys) ≡ plus (totals_of xs) (totals_of ys)
@@ -108,12 +105,6 @@ pub plus_whole : (t : Totals) (n : ℕ) → plus t (whole_totals (n + 1)) ≡ pl
 plus_whole t n =
     same_counts (omega arith) (omega arith) (omega arith) (omega arith) (omega arith) (omega arith)
     (omega arith) (omega arith) (omega arith) (omega arith) (omega arith) (omega arith)
-
--- what is kept whole counts as such
-pub whole_counts : (others : List Item) (kept : Kept) → ((number : ℕ) → kept ≢ Other number) → totals_of (item_of others kept ∷ []) ≡ whole_totals 1
-whole_counts others (WithC place words) whole = refl
-whole_counts others (WithCx place words) whole = refl
-whole_counts others (Other number) whole = absurd (whole number refl)
 
 five_numbers : (xs : List ℕ) → length xs ≡ 5 → xs ≡ slice_index xs 0 ∷ slice_index xs 1 ∷ slice_index xs 2 ∷ slice_index xs 3 ∷ slice_index xs 4 ∷ []
 five_numbers [] h = absurd (omega (arith, h))

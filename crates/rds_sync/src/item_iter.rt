@@ -1,121 +1,70 @@
 //! A walk over items, in order.
 
-ghost use Rattle.std.specs.Prelude.{◌≡◌, ◌<◌, ◌≤◌, ◌+◌, ◌++◌, [], All, length, drop, take, MatchOption};
+ghost use Rattle.std.specs.Prelude.{◌≡◌, ◌≤◌, ◌+◌, ◌++◌, [], ◌∷◌, All, MatchOption, length, drop, take};
 ghost use Rattle.std.specs.Iterator.{YieldsFirst, item_count};
-ghost use Rattle.rds_sync.specs.Inside.Cursors.{items_ahead, IsSound};
-ghost use Rattle.rds_sync.specs.Inside.Kept.{items_of, IsFound};
-ghost use Rattle.rds_sync.specs.Inside.Parts.{items_in, IsInFirst};
+ghost use Rattle.rds_sync.specs.Inside.Spans.{IsSpan, items_in, items_of};
 
+use crate::decoder::Decoder;
 use crate::item::Item;
-use crate::kept::Kept;
-use crate::part::Part;
+use crate::rules::Rules;
+use crate::span::Span;
+use crate::state::State;
+use crate::step::finish;
+use rds_stream::{Counted, Recording};
 use std::iter::FusedIterator;
 use std::marker::Model;
 
-/// Before an item of a list in parts: what is left of the part that it stands in, and the parts after it.
-#[derive(Clone, Copy)]
-struct Cursor<'a> {
-    kept: &'a [Kept],
-    others: &'a [Item],
-    parts: &'a [Part],
-}
-
-impl<'a> Cursor<'a> {
-    /// Before item number `left` of the first of these parts.
-    fn at(parts: &'a [Part], left: usize) -> Cursor<'a>
-        requires { IsInFirst parts.now left }
-        ensures sound { IsSound result }
-        ensures ahead { items_ahead result ≡ drop left (items_in parts.now) }
-    {
-        match parts.split_first() {
-            Some((part, parts)) => {
-                let (kept, others) = part.lent();
-                Cursor {
-                    kept: &kept[left..],
-                    others,
-                    parts,
-                }
-            }
-            None => Cursor {
-                kept: &[],
-                others: &[],
-                parts,
-            },
-        }
-    }
-
-    /// The same place, in a part that has an item left wherever there is one.
-    fn settled(self) -> Cursor<'a>
-        requires { IsSound self }
-        ensures sound { IsSound result }
-        ensures same { items_ahead result ≡ items_ahead self.entry }
-        ensures settled { length result.kept.now ≡ 0 → items_ahead result ≡ [] }
-    {
-        let mut now = self;
-        while now.kept.is_empty() {
-            let Some((part, parts)) = now.parts.split_first() else {
-                break;
-            };
-            let (kept, others) = part.lent();
-            now = Cursor {
-                kept,
-                others,
-                parts,
-            };
-        }
-        now
-    }
-}
-
-/// Items in order, seen by contracts as the list of those that are left.
+/// Items in order, seen by contracts as the list of those that are left. They are decoded as they are asked for, and
+/// take no memory.
 #[derive(Drop)]
 pub struct ItemIter<'a> {
-    cursor: Cursor<'a>,
+    recording: &'a Recording,
+    rules: &'a Rules,
+    decoder: Decoder<'a>,
+    spans: &'a [Span],
     left: usize,
 }
 
 impl<'a> Model for ItemIter<'a> {
-    ghost use Rattle.std.specs.Prelude.{List, ◌≤◌, length, take};
+    ghost use Rattle.std.specs.Prelude.{List, ◌≤◌, ◌++◌, All, length, take};
     ghost use Rattle.rds_sync.specs.declared.item.Item.{Item};
 
     ghost Value = { List Item };
 
-    ghost use Rattle.rds_sync.specs.Inside.Cursors.{items_ahead, IsSound};
+    ghost use Rattle.rds_sync.specs.Inside.Spans.{IsSpan, items_in, items_of};
 
-    ghost view = { λ s. take s.left (items_ahead s.cursor) };
+    ghost view = { λ s. take s.left (s.decoder.items ++ items_in s.recording.now s.rules.now s.spans.now) };
 
-    ghost invariant = { λ s. IsSound s.cursor × (s.left ≤ length (items_ahead s.cursor)) };
+    ghost invariant = { λ s. All (IsSpan s.recording.now s.rules.now) s.spans.now
+        × (s.left ≤ length (s.decoder.items ++ items_in s.recording.now s.rules.now s.spans.now)) };
 }
 
 impl<'a> ItemIter<'a> {
-    /// So many items of these parts, from number `left` of the first of them on.
-    pub(crate) fn over(parts: &'a [Part], left: usize, count: usize) -> ItemIter<'a>
-        requires first { IsInFirst parts.now left }
-        requires within { left + count ≤ length (items_in parts.now) }
-        ensures { result ≡ take count (drop left (items_in parts.now)) }
+    /// So many items of these spans, from number `first` on.
+    pub(crate) fn over(
+        recording: &'a Recording,
+        rules: &'a Rules,
+        spans: &'a [Span],
+        first: usize,
+        count: usize,
+    ) -> ItemIter<'a>
+        requires spans { All (IsSpan recording.now rules.now) spans.now }
+        requires within { first + count ≤ length (items_in recording.now rules.now spans.now) }
+        ensures { result ≡ take count (drop first (items_in recording.now rules.now spans.now)) }
     {
+        let mut decoder = Decoder::new(recording, rules, State::Searching, 0, 0);
+        let mut rest = spans;
+        for _number in 0..first {
+            let (_item, after) = next_in(recording, rules, &mut decoder, rest);
+            rest = after;
+        }
         ItemIter {
-            cursor: Cursor::at(parts, left),
+            recording,
+            rules,
+            decoder,
+            spans: rest,
             left: count,
         }
-    }
-
-    /// The next items, as many as lie in one part: what is kept of them, and the others that it stands beside.
-    pub(crate) fn next_kept(&mut self) -> Option<(&'a [Kept], &'a [Item])>
-        ensures { MatchOption result (self.old ≡ []) (λ lent. (0 < length lent.0.now)
-            × All (IsFound lent.1.now) lent.0.now × (self.old ≡ items_of lent.1.now lent.0.now ++ self.new)) }
-    {
-        if self.left == 0 {
-            return None;
-        }
-        self.cursor = self.cursor.settled();
-        let (now, rest) = self
-            .cursor
-            .kept
-            .split_at(self.left.min(self.cursor.kept.len()));
-        self.cursor.kept = rest;
-        self.left -= now.len();
-        Some((now, self.cursor.others))
     }
 }
 
@@ -130,11 +79,10 @@ impl<'a> Iterator for ItemIter<'a> {
         if self.left == 0 {
             return None;
         }
-        self.cursor = self.cursor.settled();
-        let (one, rest) = self.cursor.kept.split_first()?;
-        self.cursor.kept = rest;
+        let (item, spans) = next_in(self.recording, self.rules, &mut self.decoder, self.spans);
+        self.spans = spans;
         self.left -= 1;
-        Some(one.item(self.cursor.others))
+        item
     }
 
     fn size_hint(&self) -> (usize, Option<usize>) {
@@ -149,3 +97,57 @@ impl<'a> ExactSizeIterator for ItemIter<'a> {
 }
 
 impl<'a> FusedIterator for ItemIter<'a> {}
+
+/// The next item of a decoder and of the spans after it, and the spans that are then left.
+fn next_in<'a>(
+    recording: &'a Recording,
+    rules: &'a Rules,
+    decoder: &mut Decoder<'a>,
+    spans: &'a [Span],
+) -> (Option<Item>, &'a [Span])
+    requires { All (IsSpan recording.now rules.now) spans.now }
+    ensures spans { All (IsSpan recording.now rules.now) result.1.now }
+    ensures first { MatchOption result.0 (decoder.old.items ++ items_in recording.now rules.now spans.now ≡ [])
+        (λ item. decoder.old.items ++ items_in recording.now rules.now spans.now
+        ≡ item ∷ (decoder.new.items ++ items_in recording.now rules.now result.1.now)) }
+{
+    if let Some(item) = decoder.next() {
+        return (Some(item), spans);
+    }
+    let mut rest = spans;
+    while let Some((span, others)) = rest.split_first() {
+        rest = others;
+        if let Some(item) = first_of(recording, rules, decoder, *span) {
+            return (Some(item), rest);
+        }
+    }
+    (None, rest)
+}
+
+/// The first item of a span, whose others the decoder then gives.
+fn first_of<'a>(
+    recording: &'a Recording,
+    rules: &'a Rules,
+    decoder: &mut Decoder<'a>,
+    span: Span,
+) -> Option<Item>
+    requires span { IsSpan recording.now rules.now span }
+    requires done { decoder.old.items ≡ [] }
+    ensures { YieldsFirst (λ items. items) (items_of recording.now rules.now span) result decoder.new.items }
+{
+    match span {
+        Span::Run {
+            place,
+            state,
+            to,
+            ..
+        } => {
+            *decoder = Decoder::new(recording, rules, state, place, to);
+            decoder.next()
+        }
+        Span::End { state } => match finish(&mut Counted::new(recording), rules, state) {
+            Some(group) => Some(Item::Group(group)),
+            None => None,
+        },
+    }
+}

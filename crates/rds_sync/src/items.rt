@@ -1,148 +1,245 @@
-//! Items that never change any more.
+//! The items of a report.
 
-ghost use Rattle.std.specs.Prelude.{◌≡◌, ◌==◌, ◌<◌, ◌≤◌, ◌++◌, [], length, drop, take, slice_get, slice_range, Some, IfOk, OnOk, OnErr};
-ghost use Rattle.rds_sync.specs.Inside.Parts.{items_in, IsAt, IsInFirst};
+ghost use Rattle.std.specs.Prelude.{◌≡◌, ◌==◌, ◌+◌, ◌-◌, ◌<◌, ◌≤◌, ◌++◌, [], All, length, take, slice_get, slice_range, OnOk, OnErr};
+ghost use Rattle.rds_stream.specs.Recording.{length_of};
+ghost use Rattle.rds_sync.specs.Decoding.{listed};
+ghost use Rattle.rds_sync.specs.Inside.Spans.{AreBehind, IsAt, IsSpan};
+ghost use Rattle.rds_sync.specs.Lawful.{IsLawful};
+ghost use Rattle.rds_sync.specs.Marks.{marks_on};
+ghost use Rattle.rds_sync.specs.Ranges.{IsInRange};
+ghost use Rattle.rds_sync.specs.Rules.{RuleNumbers};
+ghost use Rattle.rds_sync.specs.Step.{run, items_of_end};
+ghost use Rattle.rds_stream.specs.Recording.{Signal};
 
 use crate::item::Item;
-use crate::item_buffer::ItemBuffer;
 use crate::item_iter::ItemIter;
-use crate::part::Part;
+use crate::mark::Mark;
+use crate::marks::Marks;
+use crate::rules::{RuleNumbers, Rules};
+use crate::span::Span;
+use crate::state::State;
+use rds_stream::Recording;
 use std::alloc::{AllocError, Global};
 use std::marker::Model;
+use std::snapshot::Snapshot;
 
-/// A list of items, seen by contracts as that list.
+/// How many items a span of a run has, or a few more: so many are decoded at most to come to one among them.
+const SPAN_ITEMS: u64 = 1024;
+
+/// A list of items of a recording by rules, which it names. Contracts see these, and the list.
 ///
-/// It is made of parts, each shared by all lists that hold it, so that no list copies the items of
-/// another. It may go from thread to thread, and be read by several.
+/// It holds none of its items, but the spans of the runs that give them, some thousand items each; they are decoded
+/// again where the recording and the rules are lent. It borrows nothing, may go from thread to thread, and be read by
+/// several.
 #[derive(Drop)]
 pub struct Items {
-    parts: Vec<Part>,
+    source: Snapshot<Recording>,
+    rules: RuleNumbers,
+    spans: Vec<Span>,
     len: usize,
 }
 
 impl Model for Items {
-    ghost use Rattle.std.specs.Prelude.{◌≡◌, List, length};
-    ghost use Rattle.rds_sync.specs.declared.item.Item.{Item};
+    ghost use Rattle.rds_sync.specs.Decoding.{ItemsOf, listed};
 
-    ghost Value = { List Item };
+    ghost Value = { ItemsOf };
 
-    ghost use Rattle.rds_sync.specs.Inside.Parts.{items_in};
+    ghost use Rattle.rds_sync.specs.Inside.Spans.{items_in, AreSpans};
 
-    ghost view = { λ s. items_in s.parts.items };
+    ghost view = { λ s. listed s.source.value s.rules (items_in s.source.value s.rules s.spans.items) };
 
-    ghost invariant = { λ s. s.len ≡ length (items_in s.parts.items) };
+    ghost invariant = { λ s. AreSpans s.source.value s.rules s.spans.items s.len };
 }
 
 impl Items {
-    /// No items. Takes no memory.
-    pub fn new(alloc: Global) -> Items
-        ensures { result ≡ [] }
+    /// No items of this recording by these rules. Takes no memory.
+    pub fn none(alloc: Global, source: Snapshot<Recording>, rules: &Rules) -> Items
+        ensures { result ≡ listed source.value rules.now [] }
     {
         Items {
-            parts: Vec::new(alloc),
+            source,
+            rules: rules.numbers(),
+            spans: Vec::new(alloc),
             len: 0,
         }
     }
 
-    /// The items of a buffer.
-    pub(crate) fn of_buffer(alloc: Global, buffer: ItemBuffer) -> Result<Items, AllocError>
-        ensures { IfOk result (λ items. items ≡ buffer) }
-    {
-        let len = buffer.len();
-        let mut parts = Vec::new(alloc);
-        if len > 0 {
-            parts.push(Part::of(alloc, buffer)?)?;
-        }
-        Ok(Items { parts, len })
-    }
-
     /// How many items there are.
     pub fn len(&self) -> usize
-        ensures { result ≡ length self.now }
+        ensures { result ≡ length self.now.list }
     {
         self.len
     }
 
     /// Whether there is none.
     pub fn is_empty(&self) -> bool
-        ensures { result ≡ (length self.now == 0) }
+        ensures { result ≡ (length self.now.list == 0) }
     {
         self.len == 0
     }
 
-    /// Item number `i`, the first of which is 0. It is looked for part by part: to go over many, take
+    /// Item number `i`, the first of which is 0, or none where there are not so many. To go over many, take
     /// [`range`](Items::range).
-    pub fn get(&self, i: usize) -> Item
-        requires { i < length self.now }
-        ensures { slice_get self.now i ≡ Some result }
+    pub fn get(&self, rec: &Recording, rules: &Rules, i: usize) -> Option<Item>
+        requires source { self.now.source ≡ rec.now }
+        requires rules { self.now.rules ≡ rules.now }
+        ensures { result ≡ slice_get self.now.list i }
     {
-        let (parts, left) = parts_from(&self.parts, i);
-        parts[0].get(left)
+        if i < self.len {
+            self.range(rec, rules, i, i + 1).next()
+        } else {
+            None
+        }
     }
 
-    /// The items in order.
-    pub fn iter(&self) -> ItemIter<'_>
-        ensures { result ≡ self.now }
+    /// The items in order, of the recording and by the rules that they are of.
+    pub fn iter<'a>(&'a self, rec: &'a Recording, rules: &'a Rules) -> ItemIter<'a>
+        requires source { self.now.source ≡ rec.now }
+        requires rules { self.now.rules ≡ rules.now }
+        ensures { result ≡ self.now.list }
     {
-        self.range(0, self.len)
+        self.range(rec, rules, 0, self.len)
     }
 
-    /// The items number `from` to `to` - 1 in order.
-    pub fn range(&self, from: usize, to: usize) -> ItemIter<'_>
+    /// The items number `from` to `to` - 1 in order, of the recording and by the rules that they are of. The spans
+    /// before them are passed over, and of the first one of theirs what stands before them is decoded.
+    pub fn range<'a>(
+        &'a self,
+        rec: &'a Recording,
+        rules: &'a Rules,
+        from: usize,
+        to: usize,
+    ) -> ItemIter<'a>
+        requires source { self.now.source ≡ rec.now }
+        requires rules { self.now.rules ≡ rules.now }
         requires order { from ≤ to }
-        requires within { to ≤ length self.now }
-        ensures { result ≡ slice_range self.now from to }
+        requires within { to ≤ length self.now.list }
+        ensures { result ≡ slice_range self.now.list from to }
     {
-        let (parts, left) = parts_from(&self.parts, from);
-        ItemIter::over(parts, left, to - from)
+        let (spans, left) = spans_from(&self.spans, from);
+        ItemIter::over(rec, rules, spans, left, to - from)
     }
 
-    /// Appends the items of `other` from number `from` on. They are shared with it: none is copied, and
-    /// of `other` only the parts are gone over. Refused memory, it leaves the list as it was.
-    pub fn append(&mut self, other: &Items, from: usize) -> Result<(), AllocError>
-        requires { from ≤ length other.now }
-        ensures ok { OnOk result (self.new ≡ self.old ++ drop from other.now) }
+    /// Appends the items of the run from `first.state` over the places from `first.place` to before `to`, in spans that
+    /// are cut at marks. `marks` are those of that run, and say of it what [`marks_from`](crate::Codes::marks_from) does: how many
+    /// items stand before each, `first.items` of them before `first`, and `items` before `to`.
+    ///
+    /// Its cost is that of the marks, a few steps each; a span takes memory once in some thousand items. Refused memory,
+    /// it leaves the list as it was.
+    pub fn push_run(
+        &mut self,
+        first: Mark,
+        marks: Marks<'_>,
+        to: u64,
+        items: u64,
+    ) -> Result<(), AllocError>
+        requires lawful { IsLawful self.old.rules first.place first.state }
+        requires order { first.place ≤ to }
+        requires within { to ≤ length_of self.old.source }
+        requires marks { marks ≡ marks_on self.old.source self.old.rules first.state first.place first.items (to - first.place) }
+        requires count { items
+            ≡ first.items + length (run self.old.source self.old.rules first.state first.place (to - first.place)).1 }
+        ensures ok { OnOk result (self.new ≡ listed self.old.source self.old.rules
+            (self.old.list ++ (run self.old.source self.old.rules first.state first.place (to - first.place)).1)) }
         ensures refused { OnErr result (self.new ≡ self.old) }
     {
-        let Some(len) = self.len.checked_add(other.len - from) else {
+        let before = self.spans.len();
+        let Some(len) = self.len.checked_add((items - first.items) as usize) else {
             return Err(AllocError);
         };
-        let before = self.parts.len();
-        let (parts, left) = parts_from(&other.parts, from);
-        match push_parts(&mut self.parts, parts, left) {
+        match push_spans(
+            &self.source,
+            self.rules,
+            &mut self.spans,
+            first,
+            marks,
+            to,
+            items,
+        ) {
             Ok(()) => {
                 self.len = len;
                 Ok(())
             }
             Err(error) => {
-                self.parts.truncate(before);
+                self.spans.truncate(before);
                 Err(error)
             }
         }
     }
-}
 
-impl<'a> IntoIterator for &'a Items {
-    type Item = Item;
+    /// Appends the `items` items of the run from `state` over the places from `from` to before `to`, in one span: to
+    /// come to one of them, those before it are decoded. Refused memory, it leaves the list as it was.
+    pub fn push_span(
+        &mut self,
+        state: State,
+        from: u64,
+        to: u64,
+        items: usize,
+    ) -> Result<(), AllocError>
+        requires lawful { IsLawful self.old.rules from state }
+        requires order { from ≤ to }
+        requires within { to ≤ length_of self.old.source }
+        requires count { items ≡ length (run self.old.source self.old.rules state from (to - from)).1 }
+        ensures ok { OnOk result (self.new ≡ listed self.old.source self.old.rules
+            (self.old.list ++ (run self.old.source self.old.rules state from (to - from)).1)) }
+        ensures refused { OnErr result (self.new ≡ self.old) }
+    {
+        let Some(len) = self.len.checked_add(items) else {
+            return Err(AllocError);
+        };
+        self.spans.push(Span::Run {
+            place: from,
+            state,
+            to,
+            items,
+        })?;
+        self.len = len;
+        Ok(())
+    }
 
-    type IntoIter = ItemIter<'a>;
+    /// Appends the item of the recording's end, where the run over it ended in `state`: the group in progress, if there
+    /// is one. Refused memory, it leaves the list as it was.
+    pub fn close(&mut self, state: State) -> Result<(), AllocError>
+        requires lawful { IsLawful self.old.rules (length_of self.old.source) state }
+        ensures ok { OnOk result (self.new ≡ listed self.old.source self.old.rules
+            (self.old.list ++ items_of_end self.old.source self.old.rules state)) }
+        ensures refused { OnErr result (self.new ≡ self.old) }
+    {
+        let end = Span::End { state };
+        let Some(len) = self.len.checked_add(end.len()) else {
+            return Err(AllocError);
+        };
+        self.spans.push(end)?;
+        self.len = len;
+        Ok(())
+    }
 
-    ghost into_iter_gives = { λ items iter. iter ≡ items.now };
-
-    fn into_iter(self) -> ItemIter<'a> {
-        self.iter()
+    /// Appends the items of `other`, which is of the same recording by the same rules. Its spans are moved. Refused
+    /// memory, it leaves the list as it was.
+    pub fn append(&mut self, other: Items) -> Result<(), AllocError>
+        requires source { other.source ≡ self.old.source }
+        requires rules { other.rules ≡ self.old.rules }
+        ensures ok { OnOk result (self.new ≡ listed self.old.source self.old.rules (self.old.list ++ other.list)) }
+        ensures refused { OnErr result (self.new ≡ self.old) }
+    {
+        let Some(len) = self.len.checked_add(other.len) else {
+            return Err(AllocError);
+        };
+        self.spans.extend_from_slice(&other.spans)?;
+        self.len = len;
+        Ok(())
     }
 }
 
-/// The parts from that on which holds item number `from`, and its number in that part; no parts,
+/// The spans from that on which holds item number `from`, and its number in that span; no spans,
 /// where there is no such item.
-fn parts_from(parts: &[Part], from: usize) -> (&[Part], usize)
-    ensures { IsAt parts.now from result.0.now result.1 }
+fn spans_from(spans: &[Span], from: usize) -> (&[Span], usize)
+    ensures { (b : Signal) (rules : RuleNumbers) → All (IsSpan b rules) spans.now → IsAt b rules spans.now from result.0.now result.1 }
 {
-    let mut rest = parts;
+    let mut rest = spans;
     let mut left = from;
-    while let Some((part, others)) = rest.split_first() {
-        let len = part.len();
+    while let Some((span, others)) = rest.split_first() {
+        let len = span.len();
         if left < len {
             break;
         }
@@ -152,16 +249,48 @@ fn parts_from(parts: &[Part], from: usize) -> (&[Part], usize)
     (rest, left)
 }
 
-/// Appends these parts, the first of them without its first `left` items.
-fn push_parts(parts: &mut Vec<Part>, more: &[Part], left: usize) -> Result<(), AllocError>
-    requires { IsInFirst more.now left }
-    ensures ok { OnOk result (items_in parts.new.items ≡ items_in parts.old.items ++ drop left (items_in more.now)) }
-    ensures refused { OnErr result (take (length parts.old.items) parts.new.items ≡ parts.old.items) }
+/// Appends the spans of a run, as [`push_run`](Items::push_run) does.
+fn push_spans(
+    source: &Snapshot<Recording>,
+    rules: RuleNumbers,
+    spans: &mut Vec<Span>,
+    first: Mark,
+    marks: Marks<'_>,
+    to: u64,
+    items: u64,
+) -> Result<(), AllocError>
+    requires range { IsInRange rules }
+    requires lawful { IsLawful rules first.place first.state }
+    requires order { first.place ≤ to }
+    requires within { to ≤ length_of source.now.value }
+    requires marks { marks ≡ marks_on source.now.value rules first.state first.place first.items (to - first.place) }
+    requires count { items ≡ first.items + length (run source.now.value rules first.state first.place (to - first.place)).1 }
+    ensures ok { OnOk result (AreBehind source.now.value rules spans.old.items spans.new.items
+        (run source.now.value rules first.state first.place (to - first.place)).1) }
+    ensures refused { OnErr result (take (length spans.old.items) spans.new.items ≡ spans.old.items) }
 {
-    let mut first = left;
-    for part in more {
-        parts.push(part.after(first)?)?;
-        first = 0;
+    let mut start = first;
+    let mut left = marks;
+    loop {
+        left.pass_groups(start.items.saturating_add(SPAN_ITEMS));
+        let Some(mark) = left.next() else {
+            break;
+        };
+        if mark.items - start.items >= SPAN_ITEMS {
+            spans.push(Span::Run {
+                place: start.place,
+                state: start.state,
+                to: mark.place,
+                items: (mark.items - start.items) as usize,
+            })?;
+            start = mark;
+        }
     }
+    spans.push(Span::Run {
+        place: start.place,
+        state: start.state,
+        to,
+        items: (items - start.items) as usize,
+    })?;
     Ok(())
 }

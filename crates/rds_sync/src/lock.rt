@@ -3,21 +3,19 @@
 //! A good block costs one window, one remainder and one comparison: it is read once, where it is
 //! due, and kept until its group closes. Nothing is read in between.
 
-ghost use Rattle.std.specs.Prelude.{◌≡◌, ◌≤◌, ◌<◌, ◌+◌, ◌-◌, ◌*◌, ◌^◌, ◌++◌, [], ◌∷◌, List, length, take, IfOk, OnOk, OnErr, IsOkUnless};
+ghost use Rattle.std.specs.Prelude.{◌≡◌, ◌≤◌, ◌<◌, ◌+◌, ◌-◌, ◌*◌, ◌^◌, List};
 ghost use Rattle.rds_stream.specs.Recording.{length_of};
 ghost use Rattle.rds_sync.specs.Acquiring.{has_number};
 ghost use Rattle.rds_sync.specs.Groups.{blocks_at, group_of};
 ghost use Rattle.rds_sync.specs.Lawful.{HaveRoom};
 ghost use Rattle.rds_sync.specs.Inside.Due.{state_in, state_of};
-ghost use Rattle.rds_sync.specs.Inside.Locks.{IsFollowed, IsInProgress, IsReadable};
+ghost use Rattle.rds_sync.specs.Inside.Locks.{IsFollowed, IsInProgress, IsReadable, items_of_due};
 ghost use Rattle.rds_sync.specs.Step.{step, items_at};
 ghost use Rattle.rds_sync.specs.Totals.{is_valid};
 ghost use Rattle.rds_sync.specs.declared.item.Block.TheVariants.{Read};
 
 use crate::due::{BLOCK_PLACES, Due, Lock};
-use crate::error::SyncError;
-use crate::item::{Block, Item};
-use crate::item_buffer::ItemBuffer;
+use crate::item::{Block, Group};
 use crate::rules::Rules;
 use rds_code::{Reading, Wanted};
 use rds_stream::{FIRST_WINDOW, Reader};
@@ -49,7 +47,12 @@ pub(crate) fn blocks_before(reader: &mut Reader<'_>, rules: &Rules, lock: Lock) 
 }
 
 /// Reads the block that is due into its group, and tells whether it is valid.
-fn read_due(reader: &mut Reader<'_>, rules: &Rules, lock: Lock, blocks: &mut [Block; 4]) -> bool
+pub(crate) fn read_due(
+    reader: &mut Reader<'_>,
+    rules: &Rules,
+    lock: Lock,
+    blocks: &mut [Block; 4],
+) -> bool
     requires order { (1 ≤ lock.first) × (lock.first ≤ lock.number) × (lock.number ≤ 4) }
     requires start { HaveRoom lock.first lock.number lock.due }
     requires within { lock.due < length_of reader.old }
@@ -77,18 +80,14 @@ fn is_valid(reading: &Reading) -> bool
     matches!(reading, Reading::Valid { .. })
 }
 
-/// Appends the group that the block just read closes.
-fn push_closed(items: &mut ItemBuffer, lock: Lock, blocks: &[Block; 4]) -> Result<(), SyncError>
+/// The group that the block just read closes.
+pub(crate) fn closed_group(lock: Lock, blocks: [Block; 4]) -> Group
     requires order { lock.first ≤ lock.number }
     requires start { HaveRoom lock.first lock.number lock.due }
-    ensures ok { OnOk result (items.new ≡ items.old
-        ++ Item.Group (group_of (lock.due - 26 * (lock.number - lock.first) - 25) blocks.now) ∷ []) }
-    ensures refused { OnErr result (items.new ≡ items.old) }
-    ensures only_memory { IsOkUnless result SyncError.OutOfMemory }
+    ensures { result ≡ group_of (lock.due - 26 * (lock.number - lock.first) - 25) blocks }
 {
     let place = lock.due - BLOCK_PLACES * u64::from(lock.number - lock.first) - FIRST_WINDOW;
-    items.push_group(place, blocks)?;
-    Ok(())
+    Group::of_blocks(place, blocks)
 }
 
 /// Follows a lock by the block that is due.
@@ -97,30 +96,16 @@ pub(crate) fn follow(
     rules: &Rules,
     lock: Lock,
     blocks: &mut [Block; 4],
-    items: &mut ItemBuffer,
-) -> Result<Due, SyncError>
+) -> Due
     requires readable { IsReadable reader.old rules.now lock }
     requires within { lock.due < length_of reader.old }
     requires in_progress { IsInProgress reader.old rules.now lock blocks.old }
-    ensures state { IfOk result (λ due. state_of due ≡ step reader.old rules.now lock.due (state_in lock)) }
-    ensures items { OnOk result (items.new ≡ items.old
-        ++ items_at reader.old rules.now lock.due (state_in lock)) }
-    ensures refused { OnErr result (take (length items.old) items.new ≡ items.old) }
-    ensures followed { IfOk result (IsFollowed reader.old rules.now lock blocks.new) }
+    ensures state { state_of result ≡ step reader.old rules.now lock.due (state_in lock) }
+    ensures items { items_of_due lock blocks.new result ≡ items_at reader.old rules.now lock.due (state_in lock) }
+    ensures followed { IsFollowed reader.old rules.now lock blocks.new result }
     ensures same { reader.new ≡ reader.old }
-    ensures only_memory { IsOkUnless result SyncError.OutOfMemory }
 {
     prove!(lock.due < reader.recording().len());
-    let loss = rules.loss();
     let good = read_due(reader, rules, lock, blocks);
-    let due = lock.after(loss, good);
-    match due {
-        Due::Inside(_) => {}
-        Due::Closed(_) => push_closed(items, lock, blocks)?,
-        Due::Lost => {
-            push_closed(items, lock, blocks)?;
-            items.push(Item::LostLock { place: lock.due })?;
-        }
-    }
-    Ok(due)
+    lock.after(rules.loss(), good)
 }

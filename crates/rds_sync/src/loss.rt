@@ -94,7 +94,7 @@ impl Loss {
 }
 
 /// The mask of the last `of` blocks, with one block more.
-fn mask_after(mask: u64, good: bool, of: u32) -> u64
+pub(crate) fn mask_after(mask: u64, good: bool, of: u32) -> u64
     requires some { 1 ≤ of }
     requires few { of ≤ 64 }
     ensures { result ≡ (2 * mask + (if good then 0 else 1)) % 2 ^ of }

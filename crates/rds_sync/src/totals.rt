@@ -1,10 +1,8 @@
 //! The totals of a report.
 
-ghost use Rattle.std.specs.Prelude.{◌≡◌, ◌≤◌, ◌<◌, ◌+◌, ◌-◌, ◌*◌, ◌^◌, ℕ, [], ◌∷◌, All, length, slice_range};
+ghost use Rattle.std.specs.Prelude.{◌≡◌, ◌≤◌, ◌<◌, ◌+◌, ◌-◌, ◌*◌, ◌^◌, ℕ, [], ◌∷◌};
 
 use crate::item::{Block, Group, Item};
-use crate::items::Items;
-use crate::kept::Kept;
 use rds_code::Reading;
 
 /// Twelve counts over a list of items: this project's rule. Blocks that are missing are not counted.
@@ -31,7 +29,7 @@ pub struct Totals {
 impl Totals {
     ghost use Rattle.rds_sync.specs.Totals.{totals_of};
     ghost use Rattle.rds_sync.specs.Counting.{plus, whole_totals, block_totals, IsAtMost, FitTogether, IsRest};
-    ghost use Rattle.rds_sync.specs.Inside.Kept.{items_of, IsFound};
+    ghost use Rattle.rds_sync.specs.Advance.{group_item};
 
     /// The totals of no items.
     pub const NONE: Totals = Totals {
@@ -45,51 +43,19 @@ impl Totals {
         losses: 0,
     };
 
-    /// The totals of a list of at most 2^40 items. Takes no memory.
-    pub fn of(items: &Items) -> Totals
-        requires { length items.now ≤ 2 ^ 40 }
-        ensures value { result ≡ totals_of items.now }
-        ensures small { IsAtMost (2 ^ 10 * length items.now) result }
+    /// The totals of the group that a recording's end closes, if there is one.
+    pub fn of_end(group: Option<Group>) -> Totals
+        ensures value { result ≡ totals_of (group_item group) }
+        ensures small { IsAtMost (2 ^ 10) result }
     {
-        Totals::of_range(items, 0, items.len())
-    }
-
-    /// The totals of the items number `from` to `to` - 1, at most 2^40 of them. Takes no memory.
-    pub fn of_range(items: &Items, from: usize, to: usize) -> Totals
-        requires order { from ≤ to }
-        requires within { to ≤ length items.now }
-        requires few { to - from ≤ 2 ^ 40 }
-        ensures value { result ≡ totals_of (slice_range items.now from to) }
-        ensures small { IsAtMost (2 ^ 10 * (to - from)) result }
-    {
-        let mut totals = Totals::NONE;
-        let mut rest = items.range(from, to);
-        while let Some((kept, others)) = rest.next_kept() {
-            totals = totals.plus(Totals::of_kept(kept, others));
+        match group {
+            Some(group) => Totals::of_group(&group),
+            None => Totals::NONE,
         }
-        totals
-    }
-
-    /// The totals of these items as they are kept beside these others. A whole group is counted, and not looked into.
-    fn of_kept(kept: &[Kept], others: &[Item]) -> Totals
-        requires found { All (IsFound others.now) kept.now }
-        requires few { length kept.now ≤ 2 ^ 40 }
-        ensures value { result ≡ totals_of (items_of others.now kept.now) }
-        ensures small { IsAtMost (2 ^ 10 * length kept.now) result }
-    {
-        let mut whole = 0u64;
-        let mut totals = Totals::NONE;
-        for one in kept {
-            match *one {
-                Kept::Other { number } => { totals = totals.plus(Totals::of_item(&others[number])) }
-                _ => whole += 1,
-            }
-        }
-        totals.plus(Totals::of_whole(whole))
     }
 
     /// The totals of so many groups of four valid blocks.
-    fn of_whole(groups: u64) -> Totals
+    pub(crate) fn of_whole(groups: u64) -> Totals
         requires { groups ≤ 2 ^ 40 }
         ensures value { result ≡ whole_totals groups }
         ensures small { IsAtMost (4 * groups) result }
@@ -102,7 +68,8 @@ impl Totals {
         }
     }
 
-    fn of_item(item: &Item) -> Totals
+    /// The totals of one item.
+    pub fn of_item(item: &Item) -> Totals
         ensures value { result ≡ totals_of (item.now ∷ []) }
         ensures small { IsAtMost (2 ^ 10) result }
     {

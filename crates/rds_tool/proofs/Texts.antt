@@ -1,10 +1,11 @@
 -- The texts of the tasks, and what they can't be refused for.
 use Rattle.std.proofs.Common.{◌↔◌, ◌||◌, arith, ◌++◌, ◌∙◌, ◌*◌, ◌^◌, length, not, nat_lt, ◌≡◌, ◌<◌, ◌≢◌, ◌⊎◌, Bool, Err, List, None, Ok, Option, Result, Some, [], ◌∷◌, ap, ap₂, false, if◌then◌else◌, inl, inr, refl, subst, sym, true, ℕ}
-use Rattle.std.specs.Prelude.{IfErr, IfOk, IfSome, OnErr, OnOk}
+use Rattle.std.specs.Prelude.{IfErr, IfOk, IfSome, OnErr}
 use Rattle.std.specs.List.{filter}
 use Rattle.hex.specs.Hex.{decode_of, decode_sized}
 use Rattle.rds_stream.specs.Recording.{Signal, bits_of, length_of}
 use Rattle.hex.specs.declared.error.FromHexError.{FromHexError}
+use Rattle.rds_sync.specs.Decoding.{ItemsOf, listed}
 use Rattle.rds_sync.specs.Report.{report_items}
 use Rattle.rds_sync.specs.Rules.{RuleNumbers}
 use Rattle.rds_sync.specs.Totals.{totals_of}
@@ -37,26 +38,27 @@ module _ (input : Input) (plan : PlanOf) (held : List ℕ) (bits : Signal) where
   cut : recording_of input held ≡ Ok bits → cut_by plan.cuts bits ≡ Ok bits → cut_recording input plan.cuts held ≡ Ok bits
   cut recorded fits = ap (λ r. and_then r (cut_by plan.cuts)) recorded ∙ fits
 
-  list_made : (report : Report) → cut_recording input plan.cuts held ≡ Ok bits → report.items ≡ report_items bits plan.rules
-      → report.totals ≡ totals_of (report_items bits plan.rules) → text_of_task (task.List input plan) held ≡ Ok (report_text report.items report.totals)
-  list_made report fits i o = ap (λ r. and_then r (λ b. Ok (list_text plan.rules b))) fits ∙ ap (λ x. Ok x) (ap₂ report_text (sym i) (sym o))
+  list_made : (report : Report) → recording_of input held ≡ Ok bits → cut_by plan.cuts bits ≡ Ok bits → report.items ≡ listed bits plan.rules (report_items bits plan.rules)
+      → report.totals ≡ totals_of (report_items bits plan.rules) → text_of_task (task.List input plan) held ≡ Ok (report_text report.items.list report.totals)
+  list_made report recorded fits i o =
+      ap (λ r. and_then r (λ b. Ok (list_text plan.rules b))) (cut recorded fits)
+      ∙ ap (λ x. Ok x) (ap₂ report_text (sym (ap (λ (items : ItemsOf). items.list) i)) (sym o))
 
-  totals_made : (report : Report) → cut_recording input plan.cuts held ≡ Ok bits → report.totals ≡ totals_of (report_items bits plan.rules)
-      → text_of_task (task.Totals input plan) held ≡ Ok (totals_text report.totals)
-  totals_made report fits o = ap (λ r. and_then r (λ b. Ok (totals_list plan.rules b))) fits ∙ ap (λ x. Ok (totals_text x)) (sym o)
+  -- the listing of the report that was made, if it was written
+  pub list_if_written : (r : Result (List ℕ) ToolError) (report : Report) → recording_of input held ≡ Ok bits → cut_by plan.cuts bits ≡ Ok bits
+      → report.items ≡ listed bits plan.rules (report_items bits plan.rules) → report.totals ≡ totals_of (report_items bits plan.rules)
+      → IfOk r (λ text. text ≡ report_text report.items.list report.totals) → IfOk r (λ text. text_of_task (task.List input plan) held ≡ Ok text)
+  list_if_written (Ok text) report recorded fits i o written = list_made report recorded fits i o ∙ ap (λ x. Ok x) (sym written)
+  list_if_written (Err e) report recorded fits i o written = tt
 
-  -- the texts that a report stands for, if it was made
-  pub list_if_made : (r : Result Report ToolError) → recording_of input held ≡ Ok bits → OnOk r (cut_by plan.cuts bits ≡ Ok bits)
-      → IfOk r (λ report. report.items ≡ report_items bits plan.rules) → IfOk r (λ report. report.totals ≡ totals_of (report_items bits plan.rules))
-      → IfOk r (λ report. text_of_task (task.List input plan) held ≡ Ok (report_text report.items report.totals))
-  list_if_made (Ok report) recorded fits i o = list_made report (cut recorded fits) i o
-  list_if_made (Err e) recorded fits i o = tt
+  -- the text of its totals alone
+  pub totals_made : (totals : TotalsOf) → recording_of input held ≡ Ok bits → cut_by plan.cuts bits ≡ Ok bits → totals ≡ totals_of (report_items bits plan.rules)
+      → text_of_task (task.Totals input plan) held ≡ Ok (totals_text totals)
+  totals_made totals recorded fits o = ap (λ r. and_then r (λ b. Ok (totals_list plan.rules b))) (cut recorded fits) ∙ ap (λ x. Ok (totals_text x)) (sym o)
 
-  pub totals_if_made : (r : Result Report ToolError) → recording_of input held ≡ Ok bits → OnOk r (cut_by plan.cuts bits ≡ Ok bits)
-      → IfOk r (λ report. report.totals ≡ totals_of (report_items bits plan.rules))
-      → IfOk r (λ report. text_of_task (task.Totals input plan) held ≡ Ok (totals_text report.totals))
-  totals_if_made (Ok report) recorded fits o = totals_made report (cut recorded fits) o
-  totals_if_made (Err e) recorded fits o = tt
+pub items_heard : (items : ItemsOf) (work bits : Signal) (given rules : RuleNumbers)
+    → items ≡ listed work given (report_items work given) → work ≡ bits → given ≡ rules → items ≡ listed bits rules (report_items bits rules)
+items_heard items work bits given rules heard same_bits same_rules = heard ∙ ap₂ (λ b r. listed b r (report_items b r)) same_bits same_rules
 
 pub totals_counted : (totals : TotalsOf) (work bits : Signal) (given rules : RuleNumbers)
     → totals ≡ totals_of (report_items work given) → work ≡ bits → given ≡ rules → totals ≡ totals_of (report_items bits rules)

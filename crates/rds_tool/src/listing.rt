@@ -11,7 +11,8 @@ use crate::text::Text;
 use crate::threaded::item_texts;
 use itoa::Buffer;
 use rds_code::Offset;
-use rds_sync::{Group, Item, Items, Report, Totals, Version};
+use rds_stream::Recording;
+use rds_sync::{Group, Item, Items, Report, Rules, Totals, Version};
 use std::alloc::Global;
 use std::thread::Threads;
 
@@ -32,32 +33,51 @@ pub fn window_rows(alloc: Global, windows: &[(u64, Offset)]) -> Result<Vec<u8>, 
     text_of_rows(rows)
 }
 
-/// The listing of a report: the rows of its items, made by at most so many threads, and then those of its totals.
+/// The listing of a report of this recording by these rules: the rows of its items, made by at most so many threads, and
+/// then those of its totals.
 pub fn report_rows<R: Threads + Sync>(
     rt: &R,
     alloc: Global,
+    heard: Heard<'_>,
     report: &Report,
     workers: u32,
 ) -> Result<Text, ToolError>
-    requires { 0 < workers }
-    ensures rows { IfOk result (λ text. text ≡ report_text report.now.items report.now.totals) }
+    requires some { 0 < workers }
+    requires source { report.now.items.source ≡ heard.recording.now }
+    requires rules { report.now.items.rules ≡ heard.rules.now }
+    ensures rows { IfOk result (λ text. text ≡ report_text report.now.items.list report.now.totals) }
     ensures refused { IfErr result (λ error. error ≡ ToolError.OutOfMemory) }
 {
-    let front = item_texts(rt, alloc, &report.items, workers)?;
+    let front = item_texts(rt, alloc, heard, &report.items, workers)?;
     let last = totals_rows(alloc, &report.totals)?;
     Ok(Text::new(front, last))
 }
 
+/// What items are made from: the recording that they name, and the rules.
+#[derive(Clone, Copy)]
+pub struct Heard<'a> {
+    pub recording: &'a Recording,
+    pub rules: &'a Rules,
+}
+
 /// The rows of the items from one number up to another.
-pub fn item_rows(alloc: Global, items: &Items, from: usize, to: usize) -> Result<Vec<u8>, ToolError>
+pub fn item_rows(
+    alloc: Global,
+    heard: Heard<'_>,
+    items: &Items,
+    from: usize,
+    to: usize,
+) -> Result<Vec<u8>, ToolError>
     requires order { from ≤ to }
-    requires inside { to ≤ length items.now }
-    ensures rows { IfOk result (λ text. text.items ≡ flat_map item_row (take (to - from) (drop from items.now))) }
+    requires inside { to ≤ length items.now.list }
+    requires source { items.now.source ≡ heard.recording.now }
+    requires rules { items.now.rules ≡ heard.rules.now }
+    ensures rows { IfOk result (λ text. text.items ≡ flat_map item_row (take (to - from) (drop from items.now.list))) }
     ensures refused { IfErr result (λ error. error ≡ ToolError.OutOfMemory) }
 {
     let room = (to - from).saturating_mul(USUAL_ROW);
     let mut rows = rows_in_room(alloc, room)?;
-    for item in items.range(from, to) {
+    for item in items.range(heard.recording, heard.rules, from, to) {
         push_item(&mut rows, &item)?;
     }
     text_of_rows(rows)

@@ -1,6 +1,7 @@
 //! By which rules, by how many workers and in which pieces a recording is decoded.
 ghost use Rattle.std.specs.Prelude.{◌<◌, ◌≡◌, ◌≢◌, ◌⊎◌, Err, IfErr, IfOk, IsErrOf, List, Ok, OnOk, false, length, true};
 ghost use Rattle.rds_pieces.specs.Cutting.{IsCutting};
+ghost use Rattle.rds_sync.specs.Decoding.{listed};
 ghost use Rattle.rds_sync.specs.Report.{report_items};
 ghost use Rattle.rds_sync.specs.Totals.{totals_of};
 ghost use Rattle.rds_tool.specs.Cuts.{are_inner, cuts_bits, has_pieces, places_at};
@@ -61,6 +62,13 @@ impl<'a> Plan<'a> {
         }
     }
 
+    /// The rules that the settings give.
+    pub fn rules(&self) -> &Rules
+        ensures { result.now ≡ self.now.rules }
+    {
+        &self.rules
+    }
+
     /// By how many threads at most the work is done.
     pub fn workers(&self) -> u32
         ensures value { result ≡ self.now.workers }
@@ -77,7 +85,8 @@ impl<'a> Plan<'a> {
         recording: &Recording,
         gate: &G,
     ) -> Result<Report, ToolError>
-        ensures items { IfOk result (λ report. report.items ≡ report_items recording.now self.now.rules) }
+        ensures items { IfOk result (λ report. report.items
+            ≡ listed recording.now self.now.rules (report_items recording.now self.now.rules)) }
         ensures totals { IfOk result (λ report. report.totals ≡ totals_of (report_items recording.now self.now.rules)) }
         ensures fits { OnOk result (cut_by self.now.cuts recording.now ≡ Ok recording.now) }
         ensures refused { IfErr result (λ error. (error ≡ ToolError.OutOfMemory) ⊎ ((error ≡ ToolError.NoWorker)

@@ -1,18 +1,18 @@
 //! A job whose settings were looked at.
 ghost use Rattle.std.specs.Prelude.{◌<◌, ◌≡◌, ◌⊎◌, Err, IfErr, IfOk, Ok};
-ghost use Rattle.rds_tool.specs.Listing.{report_text, totals_text};
+ghost use Rattle.rds_tool.specs.Listing.{totals_text};
 ghost use Rattle.rds_tool.specs.Outcome.{cut_recording, text_of_task};
 ghost use Rattle.rds_tool.specs.declared.task.Task.TheVariants as task;
 
 use crate::encode::encode_lines;
 use crate::input::recording_of;
-use crate::listing::{report_rows, totals_rows, window_rows};
+use crate::listing::{Heard, report_rows, totals_rows, window_rows};
 use crate::plan::Plan;
 use crate::text::Text;
 use crate::{Input, Job, ToolError};
 use rds_crew::Gate;
 use rds_stream::scan;
-use rds_sync::Report;
+use rds_sync::Totals;
 use std::alloc::Global;
 use std::sync::Wait;
 use std::thread::Threads;
@@ -69,13 +69,10 @@ impl<'a> Task<'a> {
                 let rows = window_rows(alloc, windows.as_slice())?;
                 Ok(Text::whole(alloc, rows))
             }
-            Task::List(input, plan) => {
-                let report = report_of(rt, alloc, input, &plan, held, gate)?;
-                report_rows(rt, alloc, &report, plan.workers())
-            }
+            Task::List(input, plan) => listing_of(rt, alloc, input, &plan, held, gate),
             Task::Totals(input, plan) => {
-                let report = report_of(rt, alloc, input, &plan, held, gate)?;
-                let rows = totals_rows(alloc, &report.totals)?;
+                let totals = totals_of(rt, alloc, input, &plan, held, gate)?;
+                let rows = totals_rows(alloc, &totals)?;
                 Ok(Text::whole(alloc, rows))
             }
             Task::Encode { hex } => {
@@ -86,23 +83,46 @@ impl<'a> Task<'a> {
     }
 }
 
-/// The report of the recording that the bytes give. They are dropped with it, so that no text is made beside them.
-fn report_of<R: Threads + Wait, G: Gate + Sync>(
+/// The listing of the recording that the bytes give. Its items are decoded again where their rows are made, so the
+/// recording is held until then.
+fn listing_of<R: Threads + Wait + Sync, G: Gate + Sync>(
     rt: &R,
     alloc: Global,
     input: Input,
     plan: &Plan<'_>,
     held: Vec<u8>,
     gate: &G,
-) -> Result<Report, ToolError>
-    ensures list { IfOk result (λ report. text_of_task (task.List input plan.now) held.items
-        ≡ Ok (report_text report.items report.totals)) }
-    ensures totals { IfOk result (λ report. text_of_task (task.Totals input plan.now) held.items
-        ≡ Ok (totals_text report.totals)) }
+) -> Result<Text, ToolError>
+    ensures list { IfOk result (λ text. text_of_task (task.List input plan.now) held.items ≡ Ok text) }
     ensures refused { IfErr result (λ error. (error ≡ ToolError.OutOfMemory)
         ⊎ (((error ≡ ToolError.NoWorker) × (1 < plan.now.workers))
         ⊎ (cut_recording input plan.now.cuts held.items ≡ Err error))) }
 {
     let recording = recording_of(alloc, input, held)?;
-    plan.report(rt, alloc, &recording, gate)
+    let report = plan.report(rt, alloc, &recording, gate)?;
+    let heard = Heard {
+        recording: &recording,
+        rules: plan.rules(),
+    };
+    report_rows(rt, alloc, heard, &report, plan.workers())
+}
+
+/// The totals of the recording that the bytes give, which is dropped before their text is made.
+fn totals_of<R: Threads + Wait, G: Gate + Sync>(
+    rt: &R,
+    alloc: Global,
+    input: Input,
+    plan: &Plan<'_>,
+    held: Vec<u8>,
+    gate: &G,
+) -> Result<Totals, ToolError>
+    ensures totals { IfOk result (λ totals. text_of_task (task.Totals input plan.now) held.items
+        ≡ Ok (totals_text totals)) }
+    ensures refused { IfErr result (λ error. (error ≡ ToolError.OutOfMemory)
+        ⊎ (((error ≡ ToolError.NoWorker) × (1 < plan.now.workers))
+        ⊎ (cut_recording input plan.now.cuts held.items ≡ Err error))) }
+{
+    let recording = recording_of(alloc, input, held)?;
+    let report = plan.report(rt, alloc, &recording, gate)?;
+    Ok(report.totals)
 }

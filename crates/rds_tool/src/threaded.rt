@@ -6,7 +6,7 @@ ghost use Rattle.rds_tool.specs.Listing.{item_row};
 ghost use Rattle.rds_tool.specs.Inside.Texts.{joined};
 
 use crate::ToolError;
-use crate::listing::item_rows;
+use crate::listing::{Heard, item_rows};
 use rds_sync::Items;
 use std::alloc::Global;
 use std::thread;
@@ -19,19 +19,24 @@ const LEAST_ITEMS: usize = 4096;
 pub fn item_texts<R: Threads + Sync>(
     rt: &R,
     alloc: Global,
+    heard: Heard<'_>,
     items: &Items,
     workers: u32,
 ) -> Result<Vec<Vec<u8>>, ToolError>
-    requires { 0 < workers }
-    ensures rows { IfOk result (λ texts. joined texts.items ≡ flat_map item_row items.now) }
+    requires some { 0 < workers }
+    requires source { items.now.source ≡ heard.recording.now }
+    requires rules { items.now.rules ≡ heard.rules.now }
+    ensures rows { IfOk result (λ texts. joined texts.items ≡ flat_map item_row items.now.list) }
     ensures refused { IfErr result (λ error. error ≡ ToolError.OutOfMemory) }
 {
     let parts = parts_of(items.len(), workers as usize);
     let size = items.len().div_ceil(parts);
     let part = |i: usize| -> Result<Vec<u8>, ToolError>
-        ensures rows { IfOk result (λ text. text.items ≡ flat_map item_row (slice_chunk items.entry.now size i)) }
+        requires source { items.now.source ≡ heard.recording.now }
+        requires rules { items.now.rules ≡ heard.rules.now }
+        ensures rows { IfOk result (λ text. text.items ≡ flat_map item_row (slice_chunk items.entry.now.list size i)) }
         ensures refused { IfErr result (λ error. error ≡ ToolError.OutOfMemory) }
-    { rows_of_part(alloc, items, size, i) };
+    { rows_of_part(alloc, heard, items, size, i) };
     let made = thread::map_indices(rt, alloc, parts, &part)?;
     gather(alloc, made, items, size)
 }
@@ -46,13 +51,21 @@ fn parts_of(items: usize, workers: usize) -> usize
 }
 
 /// The rows of part `i` of the items, in parts of so many.
-fn rows_of_part(alloc: Global, items: &Items, size: usize, i: usize) -> Result<Vec<u8>, ToolError>
-    ensures rows { IfOk result (λ text. text.items ≡ flat_map item_row (slice_chunk items.now size i)) }
+fn rows_of_part(
+    alloc: Global,
+    heard: Heard<'_>,
+    items: &Items,
+    size: usize,
+    i: usize,
+) -> Result<Vec<u8>, ToolError>
+    requires source { items.now.source ≡ heard.recording.now }
+    requires rules { items.now.rules ≡ heard.rules.now }
+    ensures rows { IfOk result (λ text. text.items ≡ flat_map item_row (slice_chunk items.now.list size i)) }
     ensures refused { IfErr result (λ error. error ≡ ToolError.OutOfMemory) }
 {
     let from = i.saturating_mul(size).min(items.len());
     let to = from.saturating_add(size).min(items.len());
-    item_rows(alloc, items, from, to)
+    item_rows(alloc, heard, items, from, to)
 }
 
 /// The texts of all parts, or the first refusal.
@@ -63,10 +76,10 @@ fn gather(
     size: usize,
 ) -> Result<Vec<Vec<u8>>, ToolError>
     requires each { (i : ℕ) (d : _) → i < length made.items → IfOk (slice_index_or made.items i d)
-        (λ text. text.items ≡ flat_map item_row (slice_chunk items.now size i)) }
+        (λ text. text.items ≡ flat_map item_row (slice_chunk items.now.list size i)) }
     requires refused { (i : ℕ) (d : _) → i < length made.items → IfErr (slice_index_or made.items i d) (λ error. error ≡ ToolError.OutOfMemory) }
-    requires whole { length items.now ≤ length made.items * size }
-    ensures rows { IfOk result (λ texts. joined texts.items ≡ flat_map item_row items.now) }
+    requires whole { length items.now.list ≤ length made.items * size }
+    ensures rows { IfOk result (λ texts. joined texts.items ≡ flat_map item_row items.now.list) }
     ensures refused { IfErr result (λ error. error ≡ ToolError.OutOfMemory) }
 {
     let mut texts = Vec::new(alloc);

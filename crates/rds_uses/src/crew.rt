@@ -3,6 +3,7 @@ ghost use Rattle.std.specs.Prelude.{◌≡◌, ◌≤◌, ◌⊎◌, IfErr, IfOk
 ghost use Rattle.rds_stream.specs.Recording.{length_of};
 ghost use Rattle.rds_crew.specs.declared.error.CrewError.TheVariants.{CrewRange, NoWorker, OutOfMemory};
 ghost use Rattle.rds_pieces.specs.Cutting.{IsCutting, pieces_of};
+ghost use Rattle.rds_sync.specs.Decoding.{listed};
 ghost use Rattle.rds_sync.specs.Report.{report_items};
 ghost use Rattle.rds_sync.specs.Totals.{totals_of};
 
@@ -23,7 +24,8 @@ pub fn decoded_by_four<R: Threads + Wait + Sync>(
     cutting: &Cutting,
 ) -> Result<Report, CrewError>
     requires { IsCutting (length_of recording.now) cutting.now }
-    ensures items { IfOk result (λ report. report.items ≡ report_items recording.now rules.now) }
+    ensures items { IfOk result (λ report. report.items
+        ≡ listed recording.now rules.now (report_items recording.now rules.now)) }
     ensures totals { IfOk result (λ report. report.totals ≡ totals_of (report_items recording.now rules.now)) }
     ensures refused { IfErr result (λ error. (error ≡ OutOfMemory) ⊎ (error ≡ NoWorker)) }
 {

@@ -17,7 +17,7 @@ use std::alloc::Global;
 pub fn decoded(alloc: Global, bytes: Vec<u8>, pieces: u64) -> Option<Report>
     requires few { 8 * vec_len bytes ≤ 2 ^ 36 }
     requires some { 1 ≤ pieces }
-    ensures { IfSome result (λ report. report.items
+    ensures { IfSome result (λ report. report.items.list
         ≡ report_items (all_bits bytes.items) (record { burst = 2; reach = 3; loss = Run 10 })) }
 {
     let bits = 8 * bytes.len() as u64;

@@ -1,108 +1,250 @@
 //! What a user of lists of items relies on, and of their totals.
-ghost use Rattle.std.specs.Prelude.{◌≡◌, ◌-◌, ◌+◌, ◌<◌, ◌≤◌, ◌^◌, ◌++◌, ◌∷◌, [], IfOk, IfSome, None, Some, drop, false, length, slice_get, true};
-ghost use Rattle.rds_sync.specs.Totals.{totals_of};
+ghost use Rattle.std.specs.Prelude.{◌≡◌, ◌-◌, ◌+◌, ◌<◌, ◌≤◌, ◌^◌, ◌++◌, [], IfErr, IfOk, IfSome, List, None, Some, drop, false, length, slice_get, slice_range, take};
+ghost use Rattle.rds_stream.specs.Recording.{length_of};
+ghost use Rattle.rds_sync.specs.Codes.{kept_of, totals_of_codes};
 ghost use Rattle.rds_sync.specs.Counting.{IsAtMost, IsRest, plus};
+ghost use Rattle.rds_sync.specs.Decoding.{listed};
+ghost use Rattle.rds_sync.specs.Lawful.{IsLawful};
+ghost use Rattle.rds_sync.specs.Marks.{marks_on};
+ghost use Rattle.rds_sync.specs.Report.{report_items};
+ghost use Rattle.rds_sync.specs.Step.{run as run_of};
+ghost use Rattle.rds_sync.specs.Totals.{totals_of};
+ghost use Rattle.rds_sync.specs.declared.error.SyncError.TheVariants.{OutOfMemory};
+ghost use Rattle.rds_sync.specs.declared.item.Item.{Item as AnItem};
+ghost use Rattle.rds_sync.specs.declared.state.State.TheVariants.{Searching};
 ghost use Rattle.rds_sync.specs.declared.totals.Totals.{Totals as TheTotals};
 
-use rds_sync::{Item, ItemBuffer, Items, Totals, laws};
+use rds_stream::{Counted, Recording};
+use rds_sync::{
+    Codes, Item, Items, Mark, Marks, Rules, State, SyncError, Totals, finish, laws, run_codes,
+};
 use std::alloc::{AllocError, Global};
+use std::snapshot::Snapshot;
 
-// ---- items that are found
-
-/// Two items that were pushed are the list.
-pub fn pushed(alloc: Global, first: Item, second: Item) -> Result<Items, AllocError>
-    ensures { IfOk result (λ items. items ≡ first ∷ second ∷ []) }
-{
-    let mut found = ItemBuffer::new(alloc);
-    found.push(first)?;
-    found.push(second)?;
-    found.freeze()
-}
-
-/// Where there was no memory for an item, those before it stay.
-pub fn pushed_or_same(found: &mut ItemBuffer, item: Item) -> bool
-    ensures { result ≡ false → found.new ≡ found.old }
-{
-    found.push(item).is_ok()
-}
-
-/// The last item that was found.
-pub fn last_found(found: &ItemBuffer) -> Option<Item>
-    ensures some { IfSome result (λ item. slice_get found.now (length found.now - 1) ≡ Some item) }
-    ensures none { result ≡ None → found.now ≡ [] }
-{
-    if found.is_empty() {
-        return None;
-    }
-    Some(found.get(found.len() - 1))
-}
-
-// ---- items that are shared
+// ---- items of a recording
 
 /// The last item of a list.
-pub fn last_of(items: &Items) -> Option<Item>
-    ensures some { IfSome result (λ item. slice_get items.now (length items.now - 1) ≡ Some item) }
-    ensures none { result ≡ None → items.now ≡ [] }
+pub fn last_of(items: &Items, recording: &Recording, rules: &Rules) -> Option<Item>
+    requires source { items.now.source ≡ recording.now }
+    requires rules { items.now.rules ≡ rules.now }
+    ensures some { IfSome result (λ item. slice_get items.now.list (length items.now.list - 1) ≡ Some item) }
+    ensures none { result ≡ None → items.now.list ≡ [] }
 {
     if items.is_empty() {
         return None;
     }
-    Some(items.get(items.len() - 1))
+    items.get(recording, rules, items.len() - 1)
 }
 
-/// All of one list, and what stands in another behind its first items.
-pub fn joined(alloc: Global, one: &Items, other: &Items, from: usize) -> Result<Items, AllocError>
-    requires { from ≤ length other.now }
-    ensures { IfOk result (λ items. items ≡ one.now ++ drop from other.now) }
+/// Behind its last item a list has none.
+pub fn none_behind(items: &Items, recording: &Recording, rules: &Rules) -> Option<Item>
+    requires source { items.now.source ≡ recording.now }
+    requires rules { items.now.rules ≡ rules.now }
+    ensures { result ≡ None }
 {
-    let mut items = Items::new(alloc);
-    items.append(one, 0)?;
-    items.append(other, from)?;
-    Ok(items)
-}
-
-/// Where there was no memory for a part, those before it stay.
-pub fn appended_or_same(items: &mut Items, other: &Items) -> bool
-    ensures { result ≡ false → items.new ≡ items.old }
-{
-    items.append(other, 0).is_ok()
+    items.get(recording, rules, items.len())
 }
 
 /// The first item, by going over them.
-pub fn first_of(items: &Items) -> Option<Item>
-    ensures { result ≡ slice_get items.now 0 }
+pub fn first_of(items: &Items, recording: &Recording, rules: &Rules) -> Option<Item>
+    requires source { items.now.source ≡ recording.now }
+    requires rules { items.now.rules ≡ rules.now }
+    ensures { result ≡ slice_get items.now.list 0 }
 {
-    items.iter().next()
+    items.iter(recording, rules).next()
 }
 
 /// The second item, by going over all but the first.
-pub fn second_of(items: &Items) -> Option<Item>
-    requires { 1 ≤ length items.now }
-    ensures { result ≡ slice_get items.now 1 }
+pub fn second_of(items: &Items, recording: &Recording, rules: &Rules) -> Option<Item>
+    requires source { items.now.source ≡ recording.now }
+    requires rules { items.now.rules ≡ rules.now }
+    requires some { 1 ≤ length items.now.list }
+    ensures { result ≡ slice_get items.now.list 1 }
 {
-    items.range(1, items.len()).next()
+    items.range(recording, rules, 1, items.len()).next()
+}
+
+// ---- lists that are made
+
+/// One list and another of the same recording by the same rules.
+pub fn joined(one: Items, other: Items) -> Result<Items, AllocError>
+    requires source { other.source ≡ one.source }
+    requires rules { other.rules ≡ one.rules }
+    ensures { IfOk result (λ items. items ≡ listed one.source one.rules (one.list ++ other.list)) }
+{
+    let mut items = one;
+    items.append(other)?;
+    Ok(items)
+}
+
+/// Where there was no memory for another list, the first stays as it was.
+pub fn appended_or_same(items: &mut Items, other: Items) -> bool
+    requires source { other.source ≡ items.old.source }
+    requires rules { other.rules ≡ items.old.rules }
+    ensures { result ≡ false → items.new ≡ items.old }
+{
+    items.append(other).is_ok()
+}
+
+/// The items of a run in the spans that its marks cut.
+pub fn listed_by_marks(
+    alloc: Global,
+    recording: &Recording,
+    rules: &Rules,
+    state: State,
+    from: u64,
+) -> Result<Items, SyncError>
+    requires lawful { IsLawful rules.now from state }
+    requires within { from ≤ length_of recording.now }
+    ensures { IfOk result (λ items. items ≡ listed recording.now rules.now
+        (run_of recording.now rules.now state from (length_of recording.now - from)).1) }
+{
+    let _loss = rules.loss();
+    laws::codes_tell_marks();
+    laws::runs_give_few_items();
+    let len = recording.len();
+    let (_end, codes) = run_codes(alloc, recording, rules, state, from, len)?;
+    let first = Mark {
+        place: from,
+        state,
+        items: 0,
+    };
+    let mut marks = codes.marks_from(rules, from, state);
+    let _first = marks.next();
+    let mut items = Items::none(alloc, Snapshot::of(recording), rules);
+    items.push_run(first, marks, len, codes.len() as u64)?;
+    Ok(items)
+}
+
+/// The items of a report in one span and that of the recording's end.
+pub fn listed_in_one_span(
+    alloc: Global,
+    recording: &Recording,
+    rules: &Rules,
+) -> Result<Items, SyncError>
+    ensures items { IfOk result (λ items. items
+        ≡ listed recording.now rules.now (report_items recording.now rules.now)) }
+    ensures refused { IfErr result (λ error. error ≡ OutOfMemory) }
+{
+    let _loss = rules.loss();
+    laws::runs_are_reports();
+    laws::runs_give_few_items();
+    let len = recording.len();
+    let (end, codes) = run_codes(alloc, recording, rules, State::Searching, 0, len)?;
+    let mut items = Items::none(alloc, Snapshot::of(recording), rules);
+    items.push_span(State::Searching, 0, len, codes.len())?;
+    items.close(end)?;
+    Ok(items)
+}
+
+/// Where there was no memory for the spans of a run, the list stays as it was.
+pub fn run_or_same(items: &mut Items, first: Mark, marks: Marks<'_>, to: u64, count: u64) -> bool
+    requires lawful { IsLawful items.old.rules first.place first.state }
+    requires order { first.place ≤ to }
+    requires within { to ≤ length_of items.old.source }
+    requires marks { marks
+        ≡ marks_on items.old.source items.old.rules first.state first.place first.items (to - first.place) }
+    requires count { count ≡ first.items
+        + length (run_of items.old.source items.old.rules first.state first.place (to - first.place)).1 }
+    ensures { result ≡ false → items.new ≡ items.old }
+{
+    items.push_run(first, marks, to, count).is_ok()
+}
+
+/// Where there was no memory for one span, it stays too.
+pub fn span_or_same(items: &mut Items, state: State, from: u64, to: u64, count: usize) -> bool
+    requires lawful { IsLawful items.old.rules from state }
+    requires order { from ≤ to }
+    requires within { to ≤ length_of items.old.source }
+    requires count { count ≡ length (run_of items.old.source items.old.rules state from (to - from)).1 }
+    ensures { result ≡ false → items.new ≡ items.old }
+{
+    items.push_span(state, from, to, count).is_ok()
+}
+
+/// And where there was none for the item of the recording's end.
+pub fn closed_or_same(items: &mut Items, state: State) -> bool
+    requires { IsLawful items.old.rules (length_of items.old.source) state }
+    ensures { result ≡ false → items.new ≡ items.old }
+{
+    items.close(state).is_ok()
 }
 
 // ---- totals
 
-/// The totals of a list are those of its first items and those of the rest, added up.
-pub fn totals_in_two(items: &Items, middle: usize) -> Totals
-    requires within { middle ≤ length items.now }
-    requires few { length items.now ≤ 2 ^ 40 }
-    ensures { result ≡ totals_of items.now }
+/// The totals of the items of a range of numbers, item by item.
+pub fn totals_of_range(
+    items: &Items,
+    recording: &Recording,
+    rules: &Rules,
+    from: usize,
+    to: usize,
+) -> Totals
+    requires source { items.now.source ≡ recording.now }
+    requires rules { items.now.rules ≡ rules.now }
+    requires order { from ≤ to }
+    requires within { to ≤ length items.now.list }
+    requires few { length items.now.list ≤ 2 ^ 40 }
+    ensures { result ≡ totals_of (slice_range items.now.list from to) }
 {
     laws::totals_join();
-    Totals::of_range(items, 0, middle).plus(Totals::of_range(items, middle, items.len()))
+    let mut totals = Totals::NONE;
+    for item in items.range(recording, rules, from, to) {
+        totals = totals.plus(Totals::of_item(&item));
+    }
+    totals
+}
+
+/// The totals of the items of a run are those of its first part and those of the rest, added up.
+pub fn totals_in_two(
+    alloc: Global,
+    recording: &Recording,
+    rules: &Rules,
+    middle: u64,
+) -> Result<Totals, SyncError>
+    requires { middle ≤ length_of recording.now }
+    ensures { IfOk result (λ totals. totals
+        ≡ totals_of (run_of recording.now rules.now Searching 0 (length_of recording.now)).1) }
+{
+    laws::runs_join();
+    laws::runs_give_few_items();
+    laws::codes_tell_totals();
+    laws::totals_join();
+    let len = recording.len();
+    let (state, first) = run_codes(alloc, recording, rules, State::Searching, 0, middle)?;
+    let (_end, rest) = run_codes(alloc, recording, rules, state, middle, len)?;
+    Ok(first.totals().plus(rest.totals()))
+}
+
+/// The totals of a report: those of what a run keeps, and of the group at the recording's end.
+pub fn totals_of_report(
+    alloc: Global,
+    recording: &Recording,
+    rules: &Rules,
+) -> Result<Totals, SyncError>
+    ensures { IfOk result (λ totals. totals ≡ totals_of (report_items recording.now rules.now)) }
+{
+    let _loss = rules.loss();
+    laws::runs_are_reports();
+    laws::runs_give_few_items();
+    laws::codes_tell_totals();
+    laws::totals_join();
+    let len = recording.len();
+    let (end, codes) = run_codes(alloc, recording, rules, State::Searching, 0, len)?;
+    let group = finish(&mut Counted::new(recording), rules, end);
+    Ok(codes.totals().plus(Totals::of_end(group)))
 }
 
 /// The totals of the rest of a list are those of all, less those of its first items.
-pub fn totals_of_rest(items: &Items, first: usize) -> Totals
-    requires within { first ≤ length items.now }
-    requires few { length items.now ≤ 2 ^ 40 }
-    ensures { result ≡ totals_of (drop first items.now) }
+pub fn totals_of_rest(codes: &Codes, first: usize) -> Totals
+    requires kept { (items : List AnItem) × (codes.now ≡ kept_of items) }
+    requires within { first ≤ length codes.now.codes }
+    requires few { length codes.now.codes ≤ 2 ^ 40 }
+    ensures { (items : List AnItem) → codes.now ≡ kept_of items → result ≡ totals_of (drop first items) }
 {
+    laws::codes_tell_totals();
     laws::totals_join();
-    Totals::of(items).less(Totals::of_range(items, 0, first))
+    codes.totals().less(codes.totals_of_first(first))
 }
 
 /// What is left of totals is no more than they are: it may be added to them.
@@ -114,12 +256,15 @@ pub fn rest_and_all(all: Totals, part: Totals) -> Totals
     all.less(part).plus(all)
 }
 
-/// Three lists are not too long for the sum of their totals.
-pub fn totals_of_three(items: &Items) -> Totals
-    requires { length items.now ≤ 2 ^ 40 }
-    ensures { result ≡ plus (plus (totals_of items.now) (totals_of items.now)) (totals_of items.now) }
+/// Three lists are not too long for the sum of their totals, nor are the first items of one for that with two.
+pub fn totals_of_three(codes: &Codes, first: usize) -> Totals
+    requires within { first ≤ length codes.now.codes }
+    requires few { length codes.now.codes ≤ 2 ^ 40 }
+    ensures { result ≡ plus (plus (totals_of_codes codes.now.codes) (totals_of_codes codes.now.codes))
+        (totals_of_codes (take first codes.now.codes)) }
 {
-    Totals::of(items)
-        .plus(Totals::of(items))
-        .plus(Totals::of(items))
+    codes
+        .totals()
+        .plus(codes.totals())
+        .plus(codes.totals_of_first(first))
 }

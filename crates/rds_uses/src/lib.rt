@@ -7,10 +7,11 @@
 //! - [`code`]: remainders, offsets, bursts, blocks as they are sent and read.
 //! - [`stream`]: recordings, their windows, scans, planes and tapes.
 //! - [`gaps`]: gaps in recordings, and what is read where one is touched.
-//! - [`sync`]: rules, lawful states, steps, runs and reports.
+//! - [`sync`]: rules, lawful states, steps, runs, their items one after the other, and reports.
+//! - [`codes`]: what a run keeps, and the marks that it tells.
 //! - [`loss`]: what bad blocks do to a lock, by either rule.
-//! - [`items`]: lists of items, and their totals.
-//! - [`pieces`]: cuttings, guesses, seams, joins, and what is stitched of them.
+//! - [`items`]: lists of items of a recording, and their totals.
+//! - [`pieces`]: cuttings, guesses, seams, joins, their joints, and what is stitched of them.
 //! - [`decoder`]: all of these together, from bytes to a report.
 //! - [`crew`]: the reports of crews.
 //! - [`dealer`]: numbers that are dealt to seats.
@@ -21,6 +22,7 @@
 #![tactic(auto)]
 
 pub mod code;
+pub mod codes;
 pub mod commands;
 pub mod crew;
 pub mod dealer;

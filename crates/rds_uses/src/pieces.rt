@@ -1,25 +1,31 @@
 //! What a user of `rds_pieces` relies on: cuttings, guesses, seams, joins, and the report that is stitched of them.
-ghost use Rattle.std.specs.Prelude.{◌≡◌, ℕ, ◌+◌, ◌-◌, ◌*◌, ◌<◌, ◌≤◌, ◌^◌, ◌++◌, ◌∷◌, [], IfOk, IfErr, IfSome, Some, length, slice_index, false, true};
+ghost use Rattle.std.specs.Prelude.{◌≡◌, ℕ, ◌+◌, ◌-◌, ◌*◌, ◌<◌, ◌≤◌, ◌^◌, ◌++◌, ◌∷◌, [], IfOk, IfErr, Some, length, slice_index, true};
 ghost use Rattle.rds_stream.specs.Recording.{length_of};
 ghost use Rattle.rds_sync.specs.declared.state.State.TheVariants.{Searching};
 ghost use Rattle.rds_sync.specs.declared.loss.Loss.TheVariants.{Run};
+ghost use Rattle.rds_sync.specs.Codes.{kept_of};
 ghost use Rattle.rds_sync.specs.Convergence.{IsSound};
+ghost use Rattle.rds_sync.specs.Decoding.{listed};
 ghost use Rattle.rds_sync.specs.Lawful.{IsLawful};
 ghost use Rattle.rds_sync.specs.Report.{report_items};
 ghost use Rattle.rds_sync.specs.Step.{run as run_of};
 ghost use Rattle.rds_sync.specs.Totals.{totals_of};
 ghost use Rattle.rds_pieces.specs.Cutting.{IsCutting, pieces_of};
-ghost use Rattle.rds_pieces.specs.Guess.{guess};
+ghost use Rattle.rds_pieces.specs.Guess.{guess, marks};
+ghost use Rattle.rds_pieces.specs.JointOf.{joint_of as the_joint_of};
 ghost use Rattle.rds_pieces.specs.RunOf.{FollowEachOther, IsRunOf, end_of, run_over};
 ghost use Rattle.rds_pieces.specs.declared.error.PieceError.TheVariants.{BadCutting, OutOfMemory};
 
 use rds_pieces::{
-    Cutting, Mark, Marks, PieceError, PieceRun, RecordingWork, Seam, Work, join_runs, laws, seam,
-    speculate, stitch,
+    Cutting, Joint, PieceError, PieceRun, RecordingWork, Seam, Work, join_runs, joint_of, laws,
+    seam, speculate, stitch,
 };
 use rds_stream::{Counted, Recording, Tape};
-use rds_sync::{Items, Loss, Report, Rules, State, SyncError, Totals, laws as laws_of_runs};
-use std::alloc::Global;
+use rds_sync::{
+    Codes, Decoder, Loss, Mark, Marks, Report, Rules, State, SyncError, Totals,
+    laws as laws_of_runs, run_codes,
+};
+use std::alloc::{AllocError, Global};
 use std::snapshot::Snapshot;
 
 // ---- cuttings
@@ -94,8 +100,19 @@ pub fn second_guess(
     speculate(alloc, recording, rules, cutting, 1)
 }
 
-/// A guess gives the items and the end state of a run from Searching over its range.
-pub fn guessed_as_run(
+/// A guess ends as a run from Searching over its range does.
+pub fn guessed_as_run(recording: &Recording, rules: &Rules, run: &PieceRun) -> bool
+    requires source { run.now.source ≡ recording.now }
+    requires rules { run.now.rules ≡ rules.now }
+    ensures { result ≡ true }
+{
+    let (from, to) = (run.from(), run.to());
+    let decoder = Decoder::new(recording, rules, State::Searching, from, to);
+    decoder.end_state() == run.end_state()
+}
+
+/// It keeps as many items.
+pub fn kept_as_run(
     alloc: Global,
     recording: &Recording,
     rules: &Rules,
@@ -105,22 +122,36 @@ pub fn guessed_as_run(
     requires rules { run.now.rules ≡ rules.now }
     ensures { IfOk result (λ same. same ≡ true) }
 {
-    let (end, items) = rds_sync::run(
-        alloc,
-        recording,
-        rules,
-        State::Searching,
-        run.from(),
-        run.to(),
-    )?;
-    Ok(end == run.end_state() && items.len() == run.items().len())
+    laws_of_runs::runs_give_few_items();
+    let (from, to) = (run.from(), run.to());
+    let _len = recording.len();
+    let (_end, codes) = run_codes(alloc, recording, rules, State::Searching, from, to)?;
+    Ok(codes.len() == run.codes().len())
+}
+
+/// What a guess keeps is what a run from Searching over its range does.
+pub fn codes_of_guess(run: &PieceRun) -> &Codes
+    ensures { result.now
+        ≡ kept_of (run_of run.now.source run.now.rules Searching run.now.from (run.now.to - run.now.from)).1 }
+{
+    run.codes()
 }
 
 /// A guess has a mark at its first place.
-pub fn first_mark(run: &PieceRun) -> Option<Mark>
+pub fn first_mark(run: &PieceRun, rules: &Rules) -> Option<Mark>
+    requires { run.now.rules ≡ rules.now }
     ensures { result ≡ Some (record { place = run.now.from; state = Searching; items = 0 }) }
 {
-    run.marks().iter().peek()
+    run.marks(rules).peek()
+}
+
+/// The marks of a guess, one after the other: at its first place, and after each bit that gave an item.
+pub fn marks_of_guess(alloc: Global, run: &PieceRun, rules: &Rules) -> Result<Vec<Mark>, AllocError>
+    requires { run.now.rules ≡ rules.now }
+    ensures { IfOk result (λ found. found.items
+        ≡ marks run.now.source run.now.rules run.now.from (run.now.to - run.now.from)) }
+{
+    run.marks(rules).collect(alloc)
 }
 
 /// A guess knows the totals of its items.
@@ -130,46 +161,31 @@ pub fn totals_of_guess(run: &PieceRun) -> Totals
     run.totals()
 }
 
-/// Marks that were pushed are the list; where there was no memory for one, those before it stay.
-pub fn pushed_marks(alloc: Global, first: Mark, second: Mark) -> Option<Marks>
-    ensures { IfSome result (λ marks. marks ≡ first ∷ second ∷ []) }
-{
-    let mut marks = Marks::new(alloc);
-    marks.push(first).ok()?;
-    marks.push(second).ok()?;
-    Some(marks)
-}
-
-/// See [`pushed_marks`].
-pub fn marks_where_refused(marks: &mut Marks, mark: Mark) -> bool
-    ensures { result ≡ false → marks.new ≡ marks.old }
-{
-    marks.push(mark).is_ok()
-}
-
 // ---- seams
 
 /// A seam goes on where the run before it stopped: both together are one run, from the first bit to the piece's end.
-pub fn carried_on(
+pub fn carried_on<'a>(
     alloc: Global,
-    recording: &Recording,
-    rules: &Rules,
+    recording: &'a Recording,
+    rules: &'a Rules,
     run: &PieceRun,
-) -> Result<(Items, Seam), PieceError>
+) -> Result<(Decoder<'a>, Seam), PieceError>
     requires source { run.now.source ≡ recording.now }
     requires rules { run.now.rules ≡ rules.now }
-    ensures items { IfOk result (λ both. both.0 ++ both.1.items
+    ensures source { IfOk result (λ both. both.1.items ≡ listed recording.now rules.now both.1.items.list) }
+    ensures items { IfOk result (λ both. both.0.items ++ both.1.items.list
         ≡ (run_of recording.now rules.now Searching 0 run.now.to).1) }
     ensures end { IfOk result (λ both. both.1.end_state ≡ (run_of recording.now rules.now Searching 0 run.now.to).0) }
-    ensures totals { IfOk result (λ both. both.1.totals ≡ totals_of both.1.items) }
+    ensures totals { IfOk result (λ both. both.1.totals ≡ totals_of both.1.items.list) }
 {
+    let _loss = rules.loss();
     laws_of_runs::runs_join();
-    let before = rds_sync::run(alloc, recording, rules, State::Searching, 0, run.from());
-    let Ok((state, items)) = before else {
-        return Err(PieceError::OutOfMemory);
-    };
+    laws_of_runs::runs_are_lawful();
+    let from = run.from();
+    let before = Decoder::new(recording, rules, State::Searching, 0, from);
+    let state = Decoder::new(recording, rules, State::Searching, 0, from).end_state();
     let seam = seam(alloc, &mut Counted::new(recording), rules, state, run)?;
-    Ok((items, seam))
+    Ok((before, seam))
 }
 
 /// A seam that comes from a search meets the guess at once, and costs the reach and two windows more at most.
@@ -245,7 +261,7 @@ pub fn met_on_sound_signal(
 
 // ---- joins
 
-/// The guesses of two pieces joined are the guess of the whole recording, marks too.
+/// The guesses of two pieces joined are the guess of the whole recording.
 pub fn joined_guesses(
     alloc: Global,
     recording: &Recording,
@@ -259,7 +275,7 @@ pub fn joined_guesses(
 {
     let left = speculate(alloc, recording, rules, cutting, 0)?;
     let right = speculate(alloc, recording, rules, cutting, 1)?;
-    join_runs(alloc, &mut Counted::new(recording), rules, &left, &right)
+    join_runs(alloc, &mut Counted::new(recording), rules, left, right)
 }
 
 /// A join whose left run ends in a search meets the right one at once, and costs the reach and two windows at most.
@@ -267,14 +283,14 @@ pub fn join_behind_search<T: Tape>(
     alloc: Global,
     tape: &mut T,
     rules: &Rules,
-    left: &PieceRun,
-    right: &PieceRun,
+    left: PieceRun,
+    right: PieceRun,
 ) -> Result<PieceRun, PieceError>
-    requires next { left.now.to ≡ right.now.from }
-    requires left { IsRunOf (T.signal tape.old) rules.now left.now }
-    requires right { IsRunOf (T.signal tape.old) rules.now right.now }
+    requires next { left.to ≡ right.from }
+    requires left { IsRunOf (T.signal tape.old) rules.now left }
+    requires right { IsRunOf (T.signal tape.old) rules.now right }
     requires room { T.reads_made tape.old ≤ 2 ^ 62 }
-    requires search { end_of left.now ≡ Searching }
+    requires search { end_of left ≡ Searching }
     ensures reads { IfOk result (λ _. T.reads_made tape.new ≤ T.reads_made tape.old + (rules.now.reach + 2)) }
 {
     right.from();
@@ -286,14 +302,14 @@ pub fn cost_of_join_behind_search<T: Tape>(
     alloc: Global,
     tape: &mut T,
     rules: &Rules,
-    left: &PieceRun,
-    right: &PieceRun,
+    left: PieceRun,
+    right: PieceRun,
 ) -> Result<PieceRun, PieceError>
-    requires next { left.now.to ≡ right.now.from }
-    requires left { IsRunOf (T.signal tape.old) rules.now left.now }
-    requires right { IsRunOf (T.signal tape.old) rules.now right.now }
+    requires next { left.to ≡ right.from }
+    requires left { IsRunOf (T.signal tape.old) rules.now left }
+    requires right { IsRunOf (T.signal tape.old) rules.now right }
     requires room { T.reads_made tape.old ≤ 2 ^ 62 }
-    requires search { end_of left.now ≡ Searching }
+    requires search { end_of left ≡ Searching }
     ensures { T.reads_made tape.new ≤ T.reads_made tape.old + (rules.now.reach + 2) }
 {
     right.from();
@@ -305,16 +321,16 @@ pub fn join_on_sound_signal<T: Tape>(
     alloc: Global,
     tape: &mut T,
     rules: &Rules,
-    left: &PieceRun,
-    right: &PieceRun,
+    left: PieceRun,
+    right: PieceRun,
 ) -> Result<PieceRun, PieceError>
-    requires next { left.now.to ≡ right.now.from }
-    requires left { IsRunOf (T.signal tape.old) rules.now left.now }
-    requires right { IsRunOf (T.signal tape.old) rules.now right.now }
+    requires next { left.to ≡ right.from }
+    requires left { IsRunOf (T.signal tape.old) rules.now left }
+    requires right { IsRunOf (T.signal tape.old) rules.now right }
     requires room { T.reads_made tape.old ≤ 2 ^ 62 }
     requires loss { rules.now.loss ≡ Run 10 }
-    requires sound { (p : ℕ) × (c : ℕ) × IsSound (T.signal tape.old) rules.now 0 right.now.from p c }
-    requires inside { right.now.from + 416 ≤ right.now.to }
+    requires sound { (p : ℕ) × (c : ℕ) × IsSound (T.signal tape.old) rules.now 0 right.from p c }
+    requires inside { right.from + 416 ≤ right.to }
     ensures reads { IfOk result (λ _. T.reads_made tape.new
         ≤ T.reads_made tape.old + (rules.now.reach + 2) * 417) }
 {
@@ -326,9 +342,109 @@ pub fn cost_of_join<T: Tape>(
     alloc: Global,
     tape: &mut T,
     rules: &Rules,
+    left: PieceRun,
+    right: PieceRun,
+) -> Result<PieceRun, PieceError>
+    requires next { left.to ≡ right.from }
+    requires left { IsRunOf (T.signal tape.old) rules.now left }
+    requires right { IsRunOf (T.signal tape.old) rules.now right }
+    requires room { T.reads_made tape.old ≤ 2 ^ 62 }
+    ensures refused { IfErr result (λ error. error ≡ OutOfMemory) }
+    ensures reads { T.reads_made tape.new
+        ≤ T.reads_made tape.old + (rules.now.reach + 2) * (right.to - right.from + 1) }
+    ensures same { T.signal tape.new ≡ T.signal tape.old }
+{
+    join_runs(alloc, tape, rules, left, right)
+}
+
+// ---- joints
+
+/// The guesses of two pieces that are joined while they are only lent, and put together by who owns them, are the guess
+/// of the whole recording.
+pub fn joined_by_joint(
+    alloc: Global,
+    recording: &Recording,
+    rules: &Rules,
+    cutting: &Cutting,
+) -> Result<PieceRun, PieceError>
+    requires fits { IsCutting (length_of recording.now) cutting.now }
+    requires two { pieces_of cutting.now ≡ 2 }
+    ensures run { IfOk result (λ run. run ≡ run_over recording.now rules.now 0 (length_of recording.now)) }
+    ensures refused { IfErr result (λ error. error ≡ OutOfMemory) }
+{
+    let left = speculate(alloc, recording, rules, cutting, 0)?;
+    let right = speculate(alloc, recording, rules, cutting, 1)?;
+    let joint = joint_of(alloc, &mut Counted::new(recording), rules, &left, &right)?;
+    PieceRun::joined(left, joint, right)
+}
+
+/// A joint whose left run ends in a search costs the reach and two windows at most.
+pub fn joint_behind_search<T: Tape>(
+    alloc: Global,
+    tape: &mut T,
+    rules: &Rules,
     left: &PieceRun,
     right: &PieceRun,
-) -> Result<PieceRun, PieceError>
+) -> Result<Joint, PieceError>
+    requires next { left.now.to ≡ right.now.from }
+    requires left { IsRunOf (T.signal tape.old) rules.now left.now }
+    requires right { IsRunOf (T.signal tape.old) rules.now right.now }
+    requires room { T.reads_made tape.old ≤ 2 ^ 62 }
+    requires search { end_of left.now ≡ Searching }
+    ensures reads { IfOk result (λ _. T.reads_made tape.new ≤ T.reads_made tape.old + (rules.now.reach + 2)) }
+{
+    right.from();
+    joint_of(alloc, tape, rules, left, right)
+}
+
+/// It costs no more where it is refused memory.
+pub fn cost_of_joint_behind_search<T: Tape>(
+    alloc: Global,
+    tape: &mut T,
+    rules: &Rules,
+    left: &PieceRun,
+    right: &PieceRun,
+) -> Result<Joint, PieceError>
+    requires next { left.now.to ≡ right.now.from }
+    requires left { IsRunOf (T.signal tape.old) rules.now left.now }
+    requires right { IsRunOf (T.signal tape.old) rules.now right.now }
+    requires room { T.reads_made tape.old ≤ 2 ^ 62 }
+    requires search { end_of left.now ≡ Searching }
+    ensures { T.reads_made tape.new ≤ T.reads_made tape.old + (rules.now.reach + 2) }
+{
+    right.from();
+    joint_of(alloc, tape, rules, left, right)
+}
+
+/// On sound signal from the cut on, a joint costs the windows of 416 bits at most by a loss of ten blocks.
+pub fn joint_on_sound_signal<T: Tape>(
+    alloc: Global,
+    tape: &mut T,
+    rules: &Rules,
+    left: &PieceRun,
+    right: &PieceRun,
+) -> Result<Joint, PieceError>
+    requires next { left.now.to ≡ right.now.from }
+    requires left { IsRunOf (T.signal tape.old) rules.now left.now }
+    requires right { IsRunOf (T.signal tape.old) rules.now right.now }
+    requires room { T.reads_made tape.old ≤ 2 ^ 62 }
+    requires loss { rules.now.loss ≡ Run 10 }
+    requires sound { (p : ℕ) × (c : ℕ) × IsSound (T.signal tape.old) rules.now 0 right.now.from p c }
+    requires inside { right.now.from + 416 ≤ right.now.to }
+    ensures reads { IfOk result (λ _. T.reads_made tape.new
+        ≤ T.reads_made tape.old + (rules.now.reach + 2) * 417) }
+{
+    joint_of(alloc, tape, rules, left, right)
+}
+
+/// What a joint costs where memory is refused: the refusal, and no more windows than else; the tape is of the same bits.
+pub fn cost_of_joint<T: Tape>(
+    alloc: Global,
+    tape: &mut T,
+    rules: &Rules,
+    left: &PieceRun,
+    right: &PieceRun,
+) -> Result<Joint, PieceError>
     requires next { left.now.to ≡ right.now.from }
     requires left { IsRunOf (T.signal tape.old) rules.now left.now }
     requires right { IsRunOf (T.signal tape.old) rules.now right.now }
@@ -338,7 +454,18 @@ pub fn cost_of_join<T: Tape>(
         ≤ T.reads_made tape.old + (rules.now.reach + 2) * (right.now.to - right.now.from + 1) }
     ensures same { T.signal tape.new ≡ T.signal tape.old }
 {
-    join_runs(alloc, tape, rules, left, right)
+    joint_of(alloc, tape, rules, left, right)
+}
+
+/// Runs that are put together by their joint are the run of both ranges, or there was no memory.
+pub fn put_together(left: PieceRun, joint: Joint, right: PieceRun) -> Result<PieceRun, PieceError>
+    requires next { left.to ≡ right.from }
+    requires beside { IsRunOf left.source left.rules right }
+    requires joint { joint ≡ the_joint_of left right }
+    ensures run { IfOk result (λ run. run ≡ run_over left.source left.rules left.from right.to) }
+    ensures refused { IfErr result (λ error. error ≡ OutOfMemory) }
+{
+    PieceRun::joined(left, joint, right)
 }
 
 // ---- reports
@@ -352,7 +479,8 @@ pub fn decoded_in_two_pieces(
 ) -> Result<Report, PieceError>
     requires fits { IsCutting (length_of recording.now) cutting.now }
     requires two { pieces_of cutting.now ≡ 2 }
-    ensures items { IfOk result (λ report. report.items ≡ report_items recording.now rules.now) }
+    ensures items { IfOk result (λ report. report.items
+        ≡ listed recording.now rules.now (report_items recording.now rules.now)) }
     ensures totals { IfOk result (λ report. report.totals ≡ totals_of (report_items recording.now rules.now)) }
     ensures refused { IfErr result (λ error. error ≡ OutOfMemory) }
 {
@@ -417,8 +545,8 @@ pub fn row_after_join(
 pub fn report_of_work<W: Work>(alloc: Global, work: &W) -> Result<Report, PieceError>
     requires fits { IsCutting (length_of (W.recording work.now)) (W.places work.now) }
     requires one { pieces_of (W.places work.now) ≡ 1 }
-    ensures items { IfOk result (λ report. report.items
-        ≡ report_items (W.recording work.now) (W.rule_set work.now)) }
+    ensures items { IfOk result (λ report. report.items ≡ listed (W.recording work.now) (W.rule_set work.now)
+        (report_items (W.recording work.now) (W.rule_set work.now))) }
     ensures totals { IfOk result (λ report. report.totals
         ≡ totals_of (report_items (W.recording work.now) (W.rule_set work.now))) }
     ensures refused { IfErr result (λ error. error ≡ OutOfMemory) }
@@ -439,7 +567,8 @@ pub fn joined_by_work<W: Work>(alloc: Global, work: &W) -> Result<PieceRun, Piec
 {
     let left = work.guess(alloc, 0)?;
     let right = work.guess(alloc, 1)?;
-    work.join(alloc, &left, &right)
+    let joint = work.join(alloc, &left, &right)?;
+    PieceRun::joined(left, joint, right)
 }
 
 /// What a work names, as a caller sees it.

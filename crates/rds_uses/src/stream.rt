@@ -87,6 +87,35 @@ pub fn windows_agree(recording: &Recording) -> bool
     tape.window(FIRST_WINDOW) == Reader::new(recording).window(FIRST_WINDOW)
 }
 
+/// What is heard of four blocks in a row is what is heard of each of them, in whichever order.
+pub fn heard_in_a_row(reader: &mut Reader<'_>, place: u64) -> bool
+    requires first { 25 ≤ place }
+    requires last { place + 78 < length_of reader.old }
+    ensures result { result ≡ true }
+    ensures same { reader.new ≡ reader.old }
+{
+    let _len = reader.recording().len();
+    let [one, two, three, four] = reader.four_windows(place);
+    four == reader.window(place + 78)
+        && three == reader.window(place + 52)
+        && two == reader.window(place + 26)
+        && one == reader.window(place)
+}
+
+/// Each of them is a block, whose remainder can be taken.
+pub fn last_remainder(reader: &mut Reader<'_>, place: u64) -> Option<u16>
+    requires first { 25 ≤ place }
+    requires last { place + 78 < length_of reader.old }
+    ensures { IfSome result (λ remainder. remainder < 1024) }
+{
+    let _len = reader.recording().len();
+    let [_, _, _, last] = reader.four_windows(place);
+    match last {
+        Some(window) => Some(rem26(window)),
+        None => None,
+    }
+}
+
 // ---- many places
 
 /// All valid windows of a recording, by rising place.

@@ -1,5 +1,6 @@
-//! What a user of `rds_sync` relies on: rules, lawful states, steps over a tape, runs over a range, and reports.
-ghost use Rattle.std.specs.Prelude.{◌≡◌, ◌≢◌, ℕ, ◌+◌, ◌-◌, ◌*◌, ◌<◌, ◌≤◌, ◌^◌, ◌++◌, ◌↔◌, [], IsTrue, IfOk, IfErr, IsErrOf, None, OnErr, Some, count_by, length, slice_get, take, true};
+//! What a user of `rds_sync` relies on: rules, lawful states, steps over a tape, runs over a range and their items, and
+//! reports.
+ghost use Rattle.std.specs.Prelude.{◌≡◌, ◌≢◌, ℕ, ◌+◌, ◌-◌, ◌*◌, ◌<◌, ◌≤◌, ◌^◌, ◌++◌, ◌↔◌, [], IsTrue, IfOk, IfErr, IsErrOf, None, Some, slice_get, true};
 ghost use Rattle.rds_stream.specs.Recording.{length_of};
 ghost use Rattle.rds_sync.specs.declared.item.Block.{Block as ABlock};
 ghost use Rattle.rds_sync.specs.declared.error.SyncError.TheVariants.{BurstRange, LossRange, OutOfMemory, ReachRange, ShareRange};
@@ -8,6 +9,7 @@ ghost use Rattle.rds_sync.specs.declared.state.State.{State as AState};
 ghost use Rattle.rds_sync.specs.declared.state.State.TheVariants.{Searching};
 ghost use Rattle.rds_sync.specs.Advance.{group_item, items_in};
 ghost use Rattle.rds_sync.specs.Convergence.{IsLastFour, IsSound, sound_bits};
+ghost use Rattle.rds_sync.specs.Decoding.{listed};
 ghost use Rattle.rds_sync.specs.GroupLaws.{IsBlock};
 ghost use Rattle.rds_sync.specs.Groups.{group as group_at, info_of};
 ghost use Rattle.rds_sync.specs.Lawful.{IsBetweenGroups, IsLawful};
@@ -16,12 +18,12 @@ ghost use Rattle.rds_sync.specs.Loss.{IsLawfulBad};
 ghost use Rattle.rds_sync.specs.Ranges.{blocks_seen};
 ghost use Rattle.rds_sync.specs.Report.{report_items};
 ghost use Rattle.rds_sync.specs.Step.{items_at, run as run_of, step};
-ghost use Rattle.rds_sync.specs.Totals.{is_group, totals_of};
+ghost use Rattle.rds_sync.specs.Totals.{totals_of};
 
 use rds_stream::{Counted, Reader, Recording, Tape};
 use rds_sync::{
-    Bad, Block, Group, ItemBuffer, Items, Loss, Reached, Report, RuleNumbers, Rules, State, Step,
-    SyncError, Totals, advance, decode_plain, finish, laws, run, stretch,
+    Bad, Block, Decoder, Group, Item, Loss, Report, RuleNumbers, Rules, State, Step, SyncError,
+    advance, decode_plain, finish, laws, run_codes, stretch,
 };
 use std::alloc::Global;
 
@@ -170,14 +172,6 @@ pub fn has_four_words(recording: &Recording, rules: &Rules, place: u64, group: &
     group.is_complete()
 }
 
-/// The group that stands in a list of items is counted.
-pub fn groups_among(items: &Items) -> u64
-    requires { length items.now ≤ 2 ^ 40 }
-    ensures { result ≡ count_by is_group items.now }
-{
-    Totals::of(items).groups
-}
-
 // ---- states
 
 /// A run from a state that a caller has tested ends in one that needs no test.
@@ -192,7 +186,7 @@ pub fn tested_run(
     if !state.is_lawful(rules, 0) {
         return Ok(true);
     }
-    let (end, _items) = run(alloc, recording, rules, state, 0, recording.len())?;
+    let (end, _codes) = run_codes(alloc, recording, rules, state, 0, recording.len())?;
     Ok(end.is_lawful(rules, recording.len()))
 }
 
@@ -218,14 +212,20 @@ pub fn lawful_after_run(recording: &Recording, rules: &Rules, state: State, from
 // ---- steps over a tape
 
 /// Two steps in a row are one run: they move on, stay in the range, and read eighteen windows at most.
-pub fn two_steps<T: Tape>(tape: &mut T, rules: &Rules, state: State, place: u64, to: u64) -> Reached
+pub fn two_steps<T: Tape>(
+    tape: &mut T,
+    rules: &Rules,
+    state: State,
+    place: u64,
+    to: u64,
+) -> (u64, State)
     requires lawful { IsLawful rules.now place state }
     requires before { place < to }
     requires within { to ≤ length_of (T.signal tape.old) }
     requires counted { T.reads_made tape.old + 32 ≤ 2 ^ 63 }
-    ensures moved { (place < result.place) × (result.place ≤ to) }
-    ensures state { result.state ≡ (run_of (T.signal tape.old) rules.now state place (result.place - place)).0 }
-    ensures lawful { IsLawful rules.now result.place result.state }
+    ensures moved { (place < result.0) × (result.0 ≤ to) }
+    ensures state { result.1 ≡ (run_of (T.signal tape.old) rules.now state place (result.0 - place)).0 }
+    ensures lawful { IsLawful rules.now result.0 result.1 }
     ensures same { T.signal tape.new ≡ T.signal tape.old }
     ensures reads { T.reads_made tape.new ≤ T.reads_made tape.old + 18 }
 {
@@ -233,16 +233,10 @@ pub fn two_steps<T: Tape>(tape: &mut T, rules: &Rules, state: State, place: u64,
     laws::runs_join();
     let first = advance(tape, rules, state, place, to);
     if first.place == to {
-        return Reached {
-            place: first.place,
-            state: first.state,
-        };
+        return (first.place, first.state);
     }
     let second = advance(tape, rules, first.state, first.place, to);
-    Reached {
-        place: second.place,
-        state: second.state,
-    }
+    (second.place, second.state)
 }
 
 /// What a step finds is what the run over its bits gives.
@@ -286,93 +280,156 @@ pub fn cost_of_end<T: Tape>(tape: &mut T, rules: &Rules, state: State) -> Option
 
 // ---- runs over a range
 
-/// A stretch moves on and stays in the range, and appends what the run over its bits gives; its reader can go on. Refused
-/// memory, it leaves what was found before.
-pub fn one_stretch(
-    reader: &mut Reader<'_>,
-    rules: &Rules,
-    place: u64,
-    to: u64,
-    items: &mut ItemBuffer,
-) -> Result<Reached, SyncError>
+/// A stretch moves on and stays in the range, and finds what the run over its bits gives; its reader can go on.
+pub fn one_stretch(reader: &mut Reader<'_>, rules: &Rules, place: u64, to: u64) -> Step
     requires before { place < to }
     requires within { to ≤ length_of reader.old }
-    ensures moved { IfOk result (λ reached. (place < reached.place) × (reached.place ≤ to)) }
-    ensures items { IfOk result (λ reached. items.new
-        ≡ items.old ++ (run_of reader.old rules.now Searching place (reached.place - place)).1) }
-    ensures refused { IfErr result (λ error. error ≡ OutOfMemory) }
-    ensures left { OnErr result (take (length items.old) items.new ≡ items.old) }
+    ensures moved { (place < result.place) × (result.place ≤ to) }
+    ensures items { items_in result.items
+        ≡ (run_of reader.old rules.now Searching place (result.place - place)).1 }
     ensures same { reader.new ≡ reader.old }
 {
-    stretch(reader, rules, State::Searching, place, to, items)
+    stretch(reader, rules, State::Searching, place, to)
 }
 
-/// The run over a recording in two parts, with the group at its end: the items are the report's.
-pub fn decoded_in_two(
-    alloc: Global,
-    recording: &Recording,
+/// Two stretches in a row are one run, from any lawful state to a lawful one.
+pub fn two_stretches(
+    reader: &mut Reader<'_>,
     rules: &Rules,
+    state: State,
+    place: u64,
+    to: u64,
+) -> (u64, State)
+    requires lawful { IsLawful rules.now place state }
+    requires before { place < to }
+    requires within { to ≤ length_of reader.old }
+    ensures state { result.1 ≡ (run_of reader.old rules.now state place (result.0 - place)).0 }
+    ensures lawful { IsLawful rules.now result.0 result.1 }
+{
+    laws::runs_join();
+    let first = stretch(reader, rules, state, place, to);
+    if first.place == to {
+        return (first.place, first.state);
+    }
+    let second = stretch(reader, rules, first.state, first.place, to);
+    (second.place, second.state)
+}
+
+/// A stretch that finds nothing has come to its end.
+pub fn end_of_stretch(
+    reader: &mut Reader<'_>,
+    rules: &Rules,
+    state: State,
+    place: u64,
+    to: u64,
+) -> u64
+    requires lawful { IsLawful rules.now place state }
+    requires before { place < to }
+    requires within { to ≤ length_of reader.old }
+    requires nothing { (run_of reader.old rules.now state place (to - place)).1 ≡ [] }
+    ensures { result ≡ to }
+{
+    laws::runs_join();
+    stretch(reader, rules, state, place, to).place
+}
+
+/// What a stretch finds, its last bit alone gives.
+pub fn found_by_last_bit(
+    reader: &mut Reader<'_>,
+    rules: &Rules,
+    state: State,
+    place: u64,
+    to: u64,
+) -> Step
+    requires lawful { IsLawful rules.now place state }
+    requires before { place < to }
+    requires within { to ≤ length_of reader.old }
+    ensures { items_in result.items ≡ items_at reader.old rules.now (result.place - 1)
+        (run_of reader.old rules.now state place (result.place - 1 - place)).0 }
+{
+    laws::runs_join();
+    laws::one_bit_runs();
+    stretch(reader, rules, state, place, to)
+}
+
+/// The items of the run over a recording in two parts, with the group at its end, are the report's.
+pub fn decoded_in_two<'a>(
+    recording: &'a Recording,
+    rules: &'a Rules,
     middle: u64,
-) -> Result<(Items, Items, Option<Group>), SyncError>
+) -> (Decoder<'a>, Decoder<'a>, Option<Group>)
     requires { middle ≤ length_of recording.now }
-    ensures items { IfOk result (λ found. (found.0 ++ found.1) ++ group_item found.2
-        ≡ report_items recording.now rules.now) }
-    ensures refused { IfErr result (λ error. error ≡ OutOfMemory) }
+    ensures { (result.0.items ++ result.1.items) ++ group_item result.2
+        ≡ report_items recording.now rules.now }
 {
     let _loss = rules.loss();
     let len = recording.len();
     laws::runs_join();
+    laws::runs_are_lawful();
     laws::runs_are_reports();
-    let (state, first) = run(alloc, recording, rules, State::Searching, 0, middle)?;
-    let (state, second) = run(alloc, recording, rules, state, middle, len)?;
-    let group = finish(&mut Counted::new(recording), rules, state);
-    Ok((first, second, group))
+    let first = Decoder::new(recording, rules, State::Searching, 0, middle);
+    let state = Decoder::new(recording, rules, State::Searching, 0, middle).end_state();
+    let second = Decoder::new(recording, rules, state, middle, len);
+    let end = Decoder::new(recording, rules, state, middle, len).end_state();
+    let group = finish(&mut Counted::new(recording), rules, end);
+    (first, second, group)
+}
+
+/// A decoder that was asked for an item ends in the state in which the run does.
+pub fn end_behind_first(recording: &Recording, rules: &Rules) -> (Option<Item>, State)
+    ensures item { result.0
+        ≡ slice_get (run_of recording.now rules.now Searching 0 (length_of recording.now)).1 0 }
+    ensures state { result.1 ≡ (run_of recording.now rules.now Searching 0 (length_of recording.now)).0 }
+{
+    let mut decoder = Decoder::new(recording, rules, State::Searching, 0, recording.len());
+    let item = decoder.next();
+    (item, decoder.end_state())
 }
 
 /// Runs that once are in one state end in one state.
 pub fn merged_ends(
-    alloc: Global,
     recording: &Recording,
     rules: &Rules,
     states: (State, State),
     from: u64,
     middle: u64,
-) -> Result<(State, State), SyncError>
+) -> (State, State)
     requires one { IsLawful rules.now from states.0 }
     requires other { IsLawful rules.now from states.1 }
     requires order { from ≤ middle }
     requires within { middle ≤ length_of recording.now }
     requires met { (run_of recording.now rules.now states.0 from (middle - from)).0
         ≡ (run_of recording.now rules.now states.1 from (middle - from)).0 }
-    ensures { IfOk result (λ ends. ends.0 ≡ ends.1) }
+    ensures { result.0 ≡ result.1 }
 {
     laws::runs_merge();
     let len = recording.len();
-    let (one, _items) = run(alloc, recording, rules, states.0, from, len)?;
-    let (other, _items) = run(alloc, recording, rules, states.1, from, len)?;
-    Ok((one, other))
+    let one = Decoder::new(recording, rules, states.0, from, len);
+    let other = Decoder::new(recording, rules, states.1, from, len);
+    (one.end_state(), other.end_state())
 }
 
 /// Over a sound range, up to its last block of number 4, runs from any two lawful states come into one state.
 pub fn converged_ends(
-    alloc: Global,
     recording: &Recording,
     rules: &Rules,
     states: (State, State),
     from: u64,
     to: u64,
-) -> Result<(State, State), SyncError>
+) -> (State, State)
     requires one { IsLawful rules.now from states.0 }
     requires other { IsLawful rules.now from states.1 }
     requires order { from ≤ to }
     requires within { to ≤ length_of recording.now }
     requires sound { (j : ℕ) × (p : ℕ) × (c : ℕ) × (last : ℕ) × IsSound recording.now rules.now j from p c
         × IsLastFour recording.now from (from + sound_bits rules.now.loss j) p c last × (to ≡ p + 26 * last + 1) }
-    ensures { IfOk result (λ ends. ends.0 ≡ ends.1) }
+    ensures { result.0 ≡ result.1 }
 {
-    let (one, _items) = run(alloc, recording, rules, states.0, from, to)?;
-    let (other, _items) = run(alloc, recording, rules, states.1, from, to)?;
-    Ok((one, other))
+    laws::runs_converge();
+    let _numbers = rules.numbers();
+    let one = Decoder::new(recording, rules, states.0, from, to);
+    let other = Decoder::new(recording, rules, states.1, from, to);
+    (one.end_state(), other.end_state())
 }
 
 /// There is such an end within a sound range, whoever runs.
@@ -387,19 +444,13 @@ pub fn has_one_end(recording: &Recording, rules: &Rules, from: u64)
 }
 
 /// A run over one bit is that bit.
-pub fn run_of_one_bit(
-    alloc: Global,
-    recording: &Recording,
-    rules: &Rules,
-    place: u64,
-) -> Result<State, SyncError>
+pub fn run_of_one_bit(recording: &Recording, rules: &Rules, place: u64) -> State
     requires { place < length_of recording.now }
-    ensures { IfOk result (λ end. end ≡ step recording.now rules.now place Searching) }
+    ensures { result ≡ step recording.now rules.now place Searching }
 {
     let _len = recording.len();
     laws::one_bit_runs();
-    let (end, _items) = run(alloc, recording, rules, State::Searching, place, place + 1)?;
-    Ok(end)
+    Decoder::new(recording, rules, State::Searching, place, place + 1).end_state()
 }
 
 /// So is each run over one bit, whoever makes it.
@@ -411,19 +462,18 @@ pub fn runs_of_one_bit()
 
 /// Up to the block that is due a lock gives nothing.
 pub fn nothing_while_waiting(
-    alloc: Global,
     recording: &Recording,
     rules: &Rules,
     bad: Bad,
     from: u64,
     due: u64,
-) -> Result<Items, SyncError>
+) -> Option<Item>
     requires bad { IsLawfulBad rules.now.loss bad }
     requires order { from ≤ due }
     requires soon { due ≤ from + 25 }
     requires whole { 25 ≤ due }
     requires within { due < length_of recording.now }
-    ensures { IfOk result (λ items. items ≡ []) }
+    ensures { result ≡ None }
 {
     let _loss = rules.loss();
     laws::locks_wait();
@@ -433,23 +483,18 @@ pub fn nothing_while_waiting(
         bad,
         first: 1,
     };
-    let (_end, items) = run(alloc, recording, rules, state, from, due)?;
-    Ok(items)
+    Decoder::new(recording, rules, state, from, due).next()
 }
 
 /// In its first 51 places a recording gives nothing.
-pub fn nothing_at_first(
-    alloc: Global,
-    recording: &Recording,
-    rules: &Rules,
-) -> Result<(State, Items), SyncError>
+pub fn nothing_at_first<'a>(recording: &'a Recording, rules: &'a Rules) -> Decoder<'a>
     requires { 51 ≤ length_of recording.now }
-    ensures state { IfOk result (λ end. end.0 ≡ Searching) }
-    ensures items { IfOk result (λ end. end.1 ≡ []) }
+    ensures state { result.end ≡ Searching }
+    ensures items { result.items ≡ [] }
 {
     laws::acquisitions_are_late();
     laws::searches_go_on();
-    run(alloc, recording, rules, State::Searching, 0, 51)
+    Decoder::new(recording, rules, State::Searching, 0, 51)
 }
 
 /// Where a bit leads to another state, with no group in progress, it gives an item.
@@ -468,13 +513,14 @@ pub fn room_for_items(alloc: Global, recording: &Recording, rules: &Rules) -> Re
 {
     laws::runs_give_few_items();
     let len = recording.len();
-    let (_end, items) = run(alloc, recording, rules, State::Searching, 0, len)?;
-    Ok(2 * len - items.len() as u64)
+    let (_end, codes) = run_codes(alloc, recording, rules, State::Searching, 0, len)?;
+    Ok(2 * len - codes.len() as u64)
 }
 
 /// The report of a recording: the items of its locks, and their totals.
 pub fn report_of(alloc: Global, recording: &Recording, rules: &Rules) -> Result<Report, SyncError>
-    ensures items { IfOk result (λ report. report.items ≡ report_items recording.now rules.now) }
+    ensures items { IfOk result (λ report. report.items
+        ≡ listed recording.now rules.now (report_items recording.now rules.now)) }
     ensures totals { IfOk result (λ report. report.totals ≡ totals_of (report_items recording.now rules.now)) }
     ensures refused { IfErr result (λ error. error ≡ OutOfMemory) }
 {

@@ -2,16 +2,15 @@
 use Rattle.std.specs.Prelude.{◌≡◌, ℕ, ◌<◌, All, Vec, map}
 use Rattle.std.specs.Global.{Global}
 use Rattle.std.specs.declared.thread.PromisedHandle.{PromisedHandle}
-use Rattle.rds_pieces.specs.RunOf.{RunOf}
 use Rattle.rds_crew.specs.declared.drawing.DrawPromise.{DrawPromise}
 use Rattle.rds_crew.specs.Seats.{DealerValue, SeatValue, IsOf, HasRested}
 
--- a seat of this dealer that has rested, and the run of f beside each number that it drew, in the order of the draws
-pub record IsDrawn (f : ℕ → RunOf) (dealer : DealerValue) (drawn : SeatValue × Vec (ℕ × RunOf) Global) : Type 0 where
+-- a seat of this dealer that has rested, and the value of f beside each number that it drew, in the order of the draws
+pub record IsDrawn {X : Type 0} (f : ℕ → X) (dealer : DealerValue) (drawn : SeatValue × Vec (ℕ × X) Global) : Type 0 where
   pub own : IsOf dealer drawn.0
   pub rested : HasRested drawn.0
   pub within : All (λ j. j < dealer.name.pieces) drawn.0.view.drawn
-  pub runs : drawn.1.items ≡ map (λ j. (j, f j)) drawn.0.view.drawn
+  pub made : drawn.1.items ≡ map (λ j. (j, f j)) drawn.0.view.drawn
 
 -- the thread promises what is drawn of these parts from this dealer
 abbrev pub IsWorkerOf : {T P : Type 0} → P → DealerValue → PromisedHandle T (DrawPromise P) → Type 0

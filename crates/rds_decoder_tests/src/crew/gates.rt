@@ -4,7 +4,7 @@ use crate::crew::journal::{Event, Journal, NO_JOIN, Noted};
 use crate::crew::reports::{is_decoded, is_signal_decoded};
 use crate::samples::{Cuts, Sample, Signal};
 use rds_crew::Gate;
-use rds_pieces::{PieceRun, RecordingWork};
+use rds_pieces::{Joint, PieceRun, RecordingWork};
 use std::alloc::Global;
 use std::sync::Wait;
 use std::sync::atomic::{AtomicU64, Ordering};
@@ -75,8 +75,8 @@ impl<R: Wait> Gate for Watch<'_, R> {
         self.journal.join_begin(level, m);
     }
 
-    fn join_done(&self, level: u32, m: u64, run: &PieceRun) {
-        self.journal.join_done(level, m, run);
+    fn join_done(&self, level: u32, m: u64, joint: &Joint) {
+        self.journal.join_done(level, m, joint);
     }
 }
 
@@ -175,12 +175,11 @@ fn shows_both_workers<R: Wait>(journal: &Journal<'_, R>) -> bool {
         && journal.is_over(Event::Done(0), (0, 104))
         && journal.is_over(Event::Done(1), (104, 208))
         && journal.has_runs_of(Event::Joined(0, 208), &[Event::Done(0), Event::Done(1)])
-        && journal.is_over(Event::JoinDone(1, 0), (0, 208))
-        && journal.has_runs_of(Event::Reported, &[Event::JoinDone(1, 0)])
+        && journal.is_over(Event::Reported, (0, 208))
 }
 
 // One thread that makes both pieces in turn would miss, since piece 0 waits for piece 1. A crew that drops the runs of
-// its workers would guess or join again, or report another run than the gate was shown.
+// its workers would guess or join again, or report of runs that are not joined.
 #[test]
 fn two_workers_run_at_the_same_time_and_their_runs_make_the_report(
     rt: HostRuntime,

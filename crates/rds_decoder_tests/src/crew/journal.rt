@@ -1,8 +1,8 @@
 //! A gate and a work that keep what a crew does.
 use rds_crew::Gate;
-use rds_pieces::{Cutting, Mark, PieceError, PieceRun, RecordingWork, Work};
+use rds_pieces::{Cutting, Joint, PieceError, PieceRun, RecordingWork, Work};
 use rds_stream::Recording;
-use rds_sync::{Item, Report, Rules};
+use rds_sync::{Report, Rules, State, Totals};
 use std::alloc::{AllocError, Global};
 use std::snapshot::Snapshot;
 use std::sync::{Mutex, Wait};
@@ -22,22 +22,22 @@ pub enum Event {
 }
 
 /// What a run shows of itself.
-#[derive(PartialEq, Eq, Drop)]
+#[derive(Clone, Copy, PartialEq, Eq)]
 struct Shown {
     from: u64,
     to: u64,
-    items: Vec<Item>,
-    marks: Vec<Mark>,
+    totals: Totals,
+    end_state: State,
 }
 
 impl Shown {
-    fn of(alloc: Global, run: &PieceRun) -> Result<Shown, AllocError> {
-        Ok(Shown {
+    fn of(run: &PieceRun) -> Shown {
+        Shown {
             from: run.from(),
             to: run.to(),
-            items: run.items().iter().collect(alloc)?,
-            marks: run.marks().iter().collect(alloc)?,
-        })
+            totals: run.totals(),
+            end_state: run.end_state(),
+        }
     }
 }
 
@@ -68,8 +68,7 @@ impl<'a, R: Wait> Journal<'a, R> {
 
     /// Keeps a run of an event, beside those that it has.
     fn keep_run(&self, event: Event, run: &PieceRun) -> Result<(), AllocError> {
-        let shown = Shown::of(self.alloc, run)?;
-        Ok(self.runs.lock(self.rt).push((event, shown))?)
+        Ok(self.runs.lock(self.rt).push((event, Shown::of(run)))?)
     }
 
     /// Keeps a join, and the runs that it is of.
@@ -123,12 +122,21 @@ impl<'a, R: Wait> Journal<'a, R> {
         run_of(runs.as_slice(), event, others.len()).is_none()
     }
 
-    /// Whether the first run of an event is over that range.
+    /// Whether an event has one run, which is over that range.
     pub fn is_over(&self, event: Event, range: (u64, u64)) -> bool {
-        match run_of(self.runs.lock(self.rt).as_slice(), event, 0) {
-            Some(run) => (run.from, run.to) == range,
-            None => false,
+        self.has_runs_over(event, &[range])
+    }
+
+    /// Whether the runs of an event are over these ranges, in this order.
+    pub fn has_runs_over(&self, event: Event, ranges: &[(u64, u64)]) -> bool {
+        let runs = self.runs.lock(self.rt);
+        for (i, range) in ranges.iter().enumerate() {
+            match run_of(runs.as_slice(), event, i) {
+                Some(run) if (run.from, run.to) == *range => {}
+                _ => return false,
+            }
         }
+        run_of(runs.as_slice(), event, ranges.len()).is_none()
     }
 }
 
@@ -160,9 +168,8 @@ impl<R: Wait> Gate for Journal<'_, R> {
         self.keep(Event::JoinBegun(level, m));
     }
 
-    fn join_done(&self, level: u32, m: u64, run: &PieceRun) {
+    fn join_done(&self, level: u32, m: u64, _joint: &Joint) {
         self.keep(Event::JoinDone(level, m));
-        let _kept = self.keep_run(Event::JoinDone(level, m), run);
     }
 }
 
@@ -201,12 +208,7 @@ impl<R: Wait> Work for Noted<'_, R> {
         self.inner.guess(alloc, j)
     }
 
-    fn join(
-        &self,
-        alloc: Global,
-        left: &PieceRun,
-        right: &PieceRun,
-    ) -> Result<PieceRun, PieceError> {
+    fn join(&self, alloc: Global, left: &PieceRun, right: &PieceRun) -> Result<Joint, PieceError> {
         let range = (left.from(), right.to());
         self.journal.keep_join(range, left, right)?;
         if range == self.refused {

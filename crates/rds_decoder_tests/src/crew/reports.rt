@@ -1,5 +1,5 @@
 //! What crews answer: one report whatever the pieces and the workers, and refusals.
-ghost use Rattle.std.specs.Prelude.{◌<◌, length};
+ghost use Rattle.std.specs.Prelude.{◌≡◌, ◌<◌, length};
 ghost use Rattle.rds_stream.specs.Recording.{length_of};
 ghost use Rattle.rds_pieces.specs.Cutting.{IsCutting};
 
@@ -22,7 +22,9 @@ pub fn is_decoded<R: Threads + Wait, W: Work + Sync, G: Gate + Sync>(
     workers: u32,
     gate: &G,
 ) -> Result<bool, CrewError>
-    requires { IsCutting (length_of (W.recording work.now)) (W.places work.now) }
+    requires source { W.recording work.now ≡ sample.now.recording }
+    requires rules { W.rule_set work.now ≡ sample.now.rules }
+    requires fits { IsCutting (length_of (W.recording work.now)) (W.places work.now) }
 {
     let report = decode_crew(rt, alloc, work, workers, gate)?;
     Ok(sample.gives(&report))

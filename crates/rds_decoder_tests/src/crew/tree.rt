@@ -64,29 +64,31 @@ const LEVELS: [Event; 13] = [
     Event::Reported,
 ];
 
-/// Which runs are joined or reported there.
-const LENT: [(Event, &[Event]); 5] = [
+/// Of which ranges the runs are that are joined or reported there. Each guess and each join is made once, so that there
+/// is one run over each of them.
+const LENT: [(Event, &[(u64, u64)]); 5] = [
+    (Event::Joined(0, 208), &[(0, 104), (104, 208)]),
+    (Event::Joined(208, 416), &[(208, 312), (312, 416)]),
+    (Event::Joined(0, 416), &[(0, 208), (208, 416)]),
+    (Event::Joined(0, 520), &[(0, 416), (416, 520)]),
+    (Event::Reported, &[(0, 520)]),
+];
+
+/// The guesses that are joined in the first level.
+const GUESSED: [(Event, &[Event]); 2] = [
     (Event::Joined(0, 208), &[Event::Done(0), Event::Done(1)]),
     (Event::Joined(208, 416), &[Event::Done(2), Event::Done(3)]),
-    (
-        Event::Joined(0, 416),
-        &[Event::JoinDone(1, 0), Event::JoinDone(1, 1)],
-    ),
-    (
-        Event::Joined(0, 520),
-        &[Event::JoinDone(2, 0), Event::Done(4)],
-    ),
-    (Event::Reported, &[Event::JoinDone(3, 0)]),
 ];
 
 /// Whether those are.
 fn shows_all_joins<R: Wait>(journal: &Journal<'_, R>) -> bool {
-    for &(event, others) in &LENT {
-        if !journal.has_runs_of(event, others) {
-            return false;
-        }
-    }
-    journal.has(15, &LEVELS)
+    GUESSED
+        .iter()
+        .all(|(event, guesses)| journal.has_runs_of(*event, guesses))
+        && LENT
+            .iter()
+            .all(|(event, ranges)| journal.has_runs_over(*event, ranges))
+        && journal.has(15, &LEVELS)
 }
 
 #[test]

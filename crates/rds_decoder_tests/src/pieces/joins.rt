@@ -1,13 +1,14 @@
 //! Neighbours joined are the guess of both ranges, in whatever order many are joined: `reports` has the cuttings.
-ghost use Rattle.std.specs.Prelude.{◌≡◌, ◌+◌, ◌<◌, ◌≤◌, ◌-◌, slice_index, IfOk};
+ghost use Rattle.std.specs.Prelude.{◌≡◌, ◌+◌, ◌<◌, ◌≤◌, ◌-◌, ◌^◌, length, slice_index, IfOk};
 ghost use Rattle.rds_stream.specs.Recording.{length_of};
+ghost use Rattle.rds_pieces.specs.Guess.{guess};
 ghost use Rattle.rds_pieces.specs.Cutting.{IsCutting, pieces_of};
 ghost use Rattle.rds_pieces.specs.RunOf.{IsRunOf, run_over};
 
 use crate::samples::{Cuts, Sample, Signal, next_random};
 use rds_pieces::{PieceError, PieceRun, RecordingWork, Work, join_runs, laws, speculate};
 use rds_stream::{Counted, Tape};
-use rds_sync::Report;
+use rds_sync::{Codes, Report, laws as sync_laws};
 use std::alloc::Global;
 use std::slice;
 use std::test::Fail;
@@ -67,7 +68,8 @@ fn joined<W: Work>(
     let (before, behind) = order.parted();
     let left = joined(alloc, work, first, middle, before)?;
     let right = joined(alloc, work, middle, end, behind)?;
-    work.join(alloc, &left, &right)
+    let joint = work.join(alloc, &left, &right)?;
+    PieceRun::joined(left, joint, right)
 }
 
 /// The guesses of all pieces of a sample, cut so, joined, and the report that they give. No bits are no pieces, which
@@ -77,7 +79,11 @@ fn joined_all(
     sample: &Sample,
     cuts: Cuts<'_>,
     order: Order,
-) -> Result<(PieceRun, Report), PieceError> {
+) -> Result<(PieceRun, Report), PieceError>
+    ensures run { IfOk result (λ r. IsRunOf sample.now.recording sample.now.rules r.0) }
+    ensures source { IfOk result (λ r. r.1.items.source ≡ sample.now.recording) }
+    ensures rules { IfOk result (λ r. r.1.items.rules ≡ sample.now.rules) }
+{
     let cutting = sample.cut(alloc, cuts)?;
     let work = RecordingWork::new(&sample.recording, &sample.rules, &cutting);
     let pieces = cutting.pieces();
@@ -91,7 +97,9 @@ fn joined_all(
 }
 
 /// The guess of a whole sample, in one piece.
-fn guess_of(alloc: Global, sample: &Sample) -> Result<PieceRun, PieceError> {
+fn guess_of(alloc: Global, sample: &Sample) -> Result<PieceRun, PieceError>
+    ensures { IfOk result (λ guess. IsRunOf sample.now.recording sample.now.rules guess) }
+{
     let cutting = sample.cut(alloc, Cuts::Even(1))?;
     if cutting.pieces() == 0 {
         return Err(PieceError::BadCutting);
@@ -99,14 +107,46 @@ fn guess_of(alloc: Global, sample: &Sample) -> Result<PieceRun, PieceError> {
     speculate(alloc, &sample.recording, &sample.rules, &cutting, 0)
 }
 
-/// Whether both are the same run.
-fn are_same(one: &PieceRun, other: &PieceRun) -> bool {
+/// Whether both tell the same totals of their first 1, 2, 4, 8 and so on items.
+fn tell_the_same(one: &Codes, other: &Codes, len: usize) -> bool
+    requires one { len ≤ length one.now.codes }
+    requires other { len ≤ length other.now.codes }
+    requires few { len ≤ 2 ^ 40 }
+{
+    for power in 0..40u32 {
+        let first = (1usize << power).min(len);
+        if one.totals_of_first(first) != other.totals_of_first(first) {
+            return false;
+        }
+    }
+    true
+}
+
+/// Whether both are the same run of the sample.
+fn are_same(sample: &Sample, one: &PieceRun, other: &PieceRun) -> bool
+    requires one { IsRunOf sample.now.recording sample.now.rules one.now }
+    requires other { IsRunOf sample.now.recording sample.now.rules other.now }
+{
+    let len = kept_by(sample, one);
     one.from() == other.from()
         && one.to() == other.to()
-        && one.items().iter().eq(other.items().iter())
+        && len == kept_by(sample, other)
+        && tell_the_same(one.codes(), other.codes(), len)
         && one.totals() == other.totals()
         && one.end_state() == other.end_state()
-        && one.marks().iter().eq(other.marks().iter())
+        && one.marks(&sample.rules).eq(other.marks(&sample.rules))
+}
+
+/// How many items a run of the sample has.
+pub fn kept_by(sample: &Sample, run: &PieceRun) -> usize
+    requires { IsRunOf sample.now.recording sample.now.rules run.now }
+    ensures value { result ≡ length (guess run.now.source run.now.rules run.now.from (run.now.to - run.now.from)).1 }
+    ensures few { result ≤ 2 ^ 40 }
+{
+    sync_laws::runs_give_few_items();
+    let from = run.from();
+    prove!(from <= sample.recording.len() && sample.recording.len() <= 1 << 36);
+    run.codes().len()
 }
 
 /// Whether the pieces of a sample, cut so and joined, are that guess and give its report.
@@ -116,9 +156,11 @@ fn are_guess(
     guess: &PieceRun,
     cuts: Cuts<'_>,
     order: Order,
-) -> Result<bool, PieceError> {
+) -> Result<bool, PieceError>
+    requires { IsRunOf sample.now.recording sample.now.rules guess.now }
+{
     let (run, report) = joined_all(alloc, sample, cuts, order)?;
-    Ok(are_same(&run, guess) && sample.gives(&report))
+    Ok(are_same(sample, &run, guess) && sample.gives(&report))
 }
 
 /// Whether the pieces of a sample, cut so and joined, are its guess and give its report.
@@ -136,12 +178,12 @@ pub fn are_joined(
 fn reads_of_join(
     alloc: Global,
     sample: &Sample,
-    left: &PieceRun,
-    right: &PieceRun,
+    left: PieceRun,
+    right: PieceRun,
 ) -> Result<u64, PieceError>
-    requires next { left.now.to ≡ right.now.from }
-    requires left { IsRunOf sample.now.recording sample.now.rules left.now }
-    requires right { IsRunOf sample.now.recording sample.now.rules right.now }
+    requires next { left.to ≡ right.from }
+    requires left { IsRunOf sample.now.recording sample.now.rules left }
+    requires right { IsRunOf sample.now.recording sample.now.rules right }
 {
     let mut tape = Counted::new(&sample.recording);
     let _run = join_runs(alloc, &mut tape, &sample.rules, left, right)?;
@@ -156,7 +198,7 @@ fn reads_at(alloc: Global, sample: &Sample, cut: u64) -> Result<u64, PieceError>
     }
     let left = speculate(alloc, &sample.recording, &sample.rules, &cutting, 0)?;
     let right = speculate(alloc, &sample.recording, &sample.rules, &cutting, 1)?;
-    reads_of_join(alloc, sample, &left, &right)
+    reads_of_join(alloc, sample, left, right)
 }
 
 /// How many windows the join of eight zero groups at 190 reads.

@@ -109,7 +109,7 @@ enum Cuttings {
 
 /// Whether the pieces of a sample, cut in those ways, give its report.
 fn give_it(alloc: Global, sample: &Sample, cuttings: Cuttings) -> Result<bool, PieceError> {
-    let totals = sample.report.totals;
+    let totals = sample.totals;
     match cuttings {
         Cuttings::EveryCut => give_it_at_every_cut(alloc, sample),
         Cuttings::Pieces => give_it_in_pieces(alloc, sample),

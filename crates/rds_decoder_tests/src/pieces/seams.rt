@@ -4,9 +4,10 @@ ghost use Rattle.std.specs.Prelude.{◌≡◌};
 use crate::pieces::guesses::guess_from;
 use crate::pieces::stitching::reads_stitched;
 use crate::samples::{Cuts, Sample, Signal};
+use crate::sync::counts::counted;
 use rds_pieces::{PieceError, PieceRun, seam};
 use rds_stream::{Counted, Tape};
-use rds_sync::{Items, State, SyncError, Totals, run};
+use rds_sync::{Decoder, Item, State};
 use std::alloc::Global;
 use std::test::Fail;
 
@@ -16,11 +17,6 @@ pub struct Shown {
     pub met_at: Option<u64>,
     pub reads: u64,
     pub is_counted: bool,
-}
-
-/// Whether these are the totals of these items.
-pub fn are_counted(items: &Items, totals: Totals) -> bool {
-    items.len() <= 1 << 40 && totals == Totals::of(items)
 }
 
 /// The seam from that state over a guess, or one that shows nothing where no run is in that state there.
@@ -40,26 +36,27 @@ pub fn seam_from(
             is_counted: false,
         });
     }
-    let mut tape = Counted::new(&sample.recording);
-    let seam = seam(alloc, &mut tape, &sample.rules, state, guess)?;
+    let (recording, rules) = (&sample.recording, &sample.rules);
+    let mut tape = Counted::new(recording);
+    let seam = seam(alloc, &mut tape, rules, state, guess)?;
+    let items: Vec<Item> = seam.items.iter(recording, rules).collect(alloc)?;
     Ok(Shown {
         met_at: seam.met_at,
         reads: tape.reads(),
-        is_counted: are_counted(&seam.items, seam.totals),
+        is_counted: seam.totals == counted(&items),
     })
 }
 
 /// The state of one decoder before the bit at that place.
-fn state_before(alloc: Global, sample: &Sample, place: u64) -> Result<State, SyncError> {
+fn state_before(sample: &Sample, place: u64) -> State {
     let (recording, rules) = (&sample.recording, &sample.rules);
     let place = place.min(recording.len());
-    let (state, _items) = run(alloc, recording, rules, State::Searching, 0, place)?;
-    Ok(state)
+    Decoder::new(recording, rules, State::Searching, 0, place).end_state()
 }
 
 /// The seam at that place from the true state.
 pub fn true_seam(alloc: Global, sample: &Sample, from: u64) -> Result<Shown, Fail> {
-    let state = state_before(alloc, sample, from)?;
+    let state = state_before(sample, from);
     let guess = guess_from(alloc, sample, from)?;
     Ok(seam_from(alloc, sample, &guess, state)?)
 }

@@ -1,4 +1,5 @@
 //! The report of pieces by guesses and seams, and how much the seams read.
+ghost use Rattle.std.specs.Prelude.{◌≡◌, IfOk};
 ghost use Rattle.rds_stream.specs.Recording.{length_of};
 ghost use Rattle.rds_pieces.specs.Cutting.{IsCutting};
 
@@ -13,6 +14,8 @@ use std::test::Fail;
 /// The report by guesses and seams, and how many windows the seams and the end read.
 fn by_pieces(alloc: Global, sample: &Sample, cutting: &Cutting) -> Result<(Report, u64), PieceError>
     requires { IsCutting (length_of sample.now.recording) cutting.now }
+    ensures source { IfOk result (λ r. r.0.items.source ≡ sample.now.recording) }
+    ensures rules { IfOk result (λ r. r.0.items.rules ≡ sample.now.rules) }
 {
     let work = RecordingWork::new(&sample.recording, &sample.rules, cutting);
     let runs = guesses(alloc, &work)?;
@@ -51,6 +54,8 @@ fn silence_is_met_at_once_and_read_by_no_seam(rt: HostRuntime) -> Result<(), Fai
 /// The report by a work's own calls. A work can be lent to threads.
 fn by_work<W: Work + Sync>(alloc: Global, work: &W) -> Result<Report, PieceError>
     requires { IsCutting (length_of (W.recording work.now)) (W.places work.now) }
+    ensures source { IfOk result (λ report. report.items.source ≡ W.recording work.now) }
+    ensures rules { IfOk result (λ report. report.items.rules ≡ W.rule_set work.now) }
 {
     let runs = guesses(alloc, work)?;
     work.report(alloc, runs.as_slice())

@@ -38,12 +38,7 @@ fn losses(alloc: Global, loss: Loss, first: usize, count: usize) -> Result<u64, 
         loss,
     };
     let recording = with_bad_blocks(alloc, first, count)?;
-    Ok(
-        Sample::decoded(alloc, recording, numbers)?
-            .report
-            .totals
-            .losses,
-    )
+    Ok(Sample::decoded(alloc, recording, numbers)?.totals.losses)
 }
 
 #[test]

@@ -2,7 +2,7 @@
 //! whole locks.
 use crate::samples::{Sample, Signal};
 use rds_stream::Recording;
-use rds_sync::{Bad, Item, Items, Loss, RuleNumbers, Rules, State, SyncError};
+use rds_sync::{Bad, Item, Loss, RuleNumbers, Rules, State, SyncError};
 use std::alloc::{AllocError, Global};
 use std::test::Fail;
 
@@ -127,12 +127,12 @@ fn turns_of(alloc: Global, rec: &Recording, rules: &RuleNumbers) -> Result<Vec<T
 }
 
 /// Whether these items have locks that begin and end there.
-fn have_turns(items: &Items, turns: &[Turn]) -> bool {
+fn have_turns(items: &[Item], turns: &[Turn]) -> bool {
     let mut left = turns.iter();
     for item in items {
         let turn = match item {
-            Item::Acquired { place, .. } => Turn::Acquired(place),
-            Item::LostLock { place } => Turn::Lost(place),
+            Item::Acquired { place, .. } => Turn::Acquired(*place),
+            Item::LostLock { place } => Turn::Lost(*place),
             Item::Group(_) => continue,
         };
         if left.next() != Some(&turn) {
@@ -145,7 +145,7 @@ fn have_turns(items: &Items, turns: &[Turn]) -> bool {
 /// Whether the report of a sample has the locks of the plain program.
 fn has_locks(alloc: Global, sample: &Sample) -> Result<bool, AllocError> {
     let turns = turns_of(alloc, &sample.recording, &sample.rules.numbers())?;
-    Ok(have_turns(&sample.report.items, turns.as_slice()))
+    Ok(have_turns(&sample.items, turns.as_slice()))
 }
 
 /// Whether that of a signal has.

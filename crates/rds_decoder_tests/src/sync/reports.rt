@@ -2,7 +2,7 @@
 //! beside the definitions of `rds_sync`.
 use crate::samples::{Sample, Signal};
 use rds_code::{Offset, Reading};
-use rds_sync::{Block, Group, Item, Report, Totals, Version};
+use rds_sync::{Block, Group, Item, Totals, Version};
 use std::alloc::Global;
 use std::mem::size_of;
 use std::test::Fail;
@@ -69,13 +69,9 @@ const TOTALS: Totals = Totals {
     losses: 1,
 };
 
-fn is_known(report: &Report) -> bool {
-    report.items.iter().eq(ITEMS.iter().copied()) && report.totals == TOTALS
-}
-
 fn two_bad_are_known(alloc: Global) -> Result<bool, Fail> {
     let sample = Sample::of(alloc, Signal::TwoBad)?;
-    Ok(is_known(&sample.report))
+    Ok(sample.items.as_slice() == ITEMS.as_slice() && sample.totals == TOTALS)
 }
 
 #[test]

@@ -1,10 +1,10 @@
 //! One run by all ways to it, over recordings with gaps too.
 use crate::samples::{Sample, Signal};
 use crate::sync::runs::whole_run;
-use crate::sync::steps::by_steps;
+use crate::sync::steps::{by_steps, push_found};
 use rds_stream::{Counted, Reader, Recording};
-use rds_sync::{Item, ItemBuffer, Items, Reached, Rules, State, SyncError, finish, stretch};
-use std::alloc::Global;
+use rds_sync::{Item, Rules, State, finish, stretch};
+use std::alloc::{AllocError, Global};
 use std::test::Fail;
 
 /// The state after as many stretches as there are, and what they found, by one reader.
@@ -12,20 +12,19 @@ fn by_stretches(
     alloc: Global,
     rec: &Recording,
     rules: &Rules,
-) -> Result<(State, Items), SyncError> {
+) -> Result<(State, Vec<Item>), AllocError> {
     let mut reader = Reader::new(rec);
-    let mut items = ItemBuffer::new(alloc);
-    let mut at = Reached {
-        place: 0,
-        state: State::Searching,
-    };
+    let mut items = Vec::new(alloc);
+    let (mut state, mut place) = (State::Searching, 0);
     for _ in 0..rec.len() {
         let to = reader.recording().len();
-        if at.place < to && at.state.is_lawful(rules, at.place) {
-            at = stretch(&mut reader, rules, at.state, at.place, to, &mut items)?;
+        if place < to && state.is_lawful(rules, place) {
+            let step = stretch(&mut reader, rules, state, place, to);
+            push_found(&mut items, &step.items)?;
+            (state, place) = (step.state, step.place);
         }
     }
-    Ok((at.state, items.freeze()?))
+    Ok((state, items))
 }
 
 /// The item that the end of the sample's recording closes.
@@ -40,10 +39,10 @@ fn closed(sample: &Sample, end: State) -> Option<Item> {
 }
 
 /// Whether the items of the run over the sample's recording, with that of its end, are its report's.
-fn are_reported(sample: &Sample, end: State, items: &Items) -> bool {
-    let mut reported = sample.report.items.iter();
+fn are_reported(sample: &Sample, end: State, items: &[Item]) -> bool {
+    let mut reported = sample.items.iter().copied();
     for item in items {
-        if reported.next() != Some(item) {
+        if reported.next() != Some(*item) {
             return false;
         }
     }
@@ -51,9 +50,18 @@ fn are_reported(sample: &Sample, end: State, items: &Items) -> bool {
 }
 
 /// Whether the steps over the sample's recording end and find so.
-fn are_steps(alloc: Global, sample: &Sample, end: State, whole: &Items) -> Result<bool, SyncError> {
-    let (state, place, items) = by_steps(alloc, &sample.recording, &sample.rules)?;
-    Ok(state == end && place == sample.recording.len() && whole.iter().eq(items.iter().copied()))
+fn are_steps(
+    alloc: Global,
+    sample: &Sample,
+    end: State,
+    whole: &[Item],
+) -> Result<bool, AllocError> {
+    let stepped = by_steps(alloc, &sample.recording, &sample.rules)?;
+    Ok(
+        stepped.state == end
+            && stepped.place == sample.recording.len()
+            && stepped.items.as_slice() == whole,
+    )
 }
 
 /// Whether the stretches do.
@@ -61,14 +69,14 @@ fn are_stretches(
     alloc: Global,
     sample: &Sample,
     end: State,
-    whole: &Items,
-) -> Result<bool, SyncError> {
+    whole: &[Item],
+) -> Result<bool, AllocError> {
     let (state, items) = by_stretches(alloc, &sample.recording, &sample.rules)?;
-    Ok(state == end && whole.iter().eq(items.iter()))
+    Ok(state == end && items.as_slice() == whole)
 }
 
 /// Whether the run, the steps and the stretches over the sample's recording end and find the same, as it is reported.
-fn are_one(alloc: Global, sample: &Sample) -> Result<bool, SyncError> {
+fn are_one(alloc: Global, sample: &Sample) -> Result<bool, AllocError> {
     let (end, whole) = whole_run(alloc, &sample.recording, &sample.rules)?;
     Ok(
         are_reported(sample, end, &whole)

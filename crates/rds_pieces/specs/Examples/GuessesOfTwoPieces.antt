@@ -1,5 +1,5 @@
 -- The zero group twice, cut between the two: the guesses of both pieces, and the guess of both ranges.
-use Rattle.std.specs.Prelude.{◌≡◌, [], ◌∷◌, ◌++◌, map, drop, refl}
+use Rattle.std.specs.Prelude.{◌≡◌, [], ◌∷◌, ◌++◌, refl}
 use Rattle.rds_code.specs.Remainder.{rem}
 use Rattle.rds_stream.specs.Recording.{Signal, bits_of, ungapped, window, touched, heard, off}
 use Rattle.rds_sync.specs.declared.loss.Bad.TheVariants.{Run}
@@ -7,8 +7,9 @@ use Rattle.rds_sync.specs.declared.state.State.TheVariants.{Searching, Locked}
 use Rattle.rds_sync.specs.Acquiring.{acquired, has_number}
 use Rattle.rds_sync.specs.Groups.{group}
 use Rattle.rds_sync.specs.Examples.Words.{zero_group, default_rules}
-use Rattle.rds_pieces.specs.Guess.{marks}
-use Rattle.rds_pieces.specs.Inside.MarksOn.{marks_on, recounted}
+use Rattle.rds_pieces.specs.Guess.{guess, marks}
+use Rattle.rds_sync.specs.Marks.{marks_on}
+use Rattle.rds_sync.specs.Codes.{kept_of, kept_from, no_codes}
 
 abbrev pub b : Signal
 b = ungapped (bits_of (zero_group ++ zero_group) 208)
@@ -45,7 +46,7 @@ pub marks_of_the_run_on : marks_on b default_rules (Locked 129 1 (Run 0) 1) 104 
 unfolding acquired has_number group rem window touched heard off
 marks_of_the_run_on = refl
 
--- they meet at the end, where the first has one item more than the second
-pub recounted_at_the_meeting : map (recounted 2 3) (drop 3 (marks b default_rules 104 104)) ≡ []
+-- they meet at the end, and of what is kept of the second nothing is left behind its two items
+pub taken_at_the_end : kept_from 2 (kept_of (guess b default_rules 104 104).1) ≡ no_codes
 unfolding acquired has_number group rem window touched heard off
-recounted_at_the_meeting = refl
+taken_at_the_end = refl

@@ -1,19 +1,19 @@
 -- What the type of a piece's run keeps.
-use Rattle.std.specs.Prelude.{◌≡◌, ◌^◌, ◌≤◌, List}
+use Rattle.std.specs.Prelude.{◌≡◌, ◌+◌, ◌-◌, ◌^◌, ◌≤◌}
 use Rattle.rds_stream.specs.Recording.{length_of}
 use Rattle.rds_sync.specs.declared.state.State.{State}
-use Rattle.rds_sync.specs.declared.item.Item.{Item}
 use Rattle.rds_sync.specs.declared.totals.Totals.{Totals}
+use Rattle.rds_sync.specs.Codes.{KeptOf, kept_of}
 use Rattle.rds_sync.specs.Totals.{totals_of}
 use Rattle.rds_sync.specs.Ranges.{IsInRange}
-use Rattle.rds_pieces.specs.declared.mark.Mark.{Mark}
-use Rattle.rds_pieces.specs.RunOf.{RunOf, IsGuess}
+use Rattle.rds_pieces.specs.Guess.{guess}
+use Rattle.rds_pieces.specs.RunOf.{RunOf}
 
--- it is the guess of its range with the totals of its items, of a recording that has at most 2^36 bits, by rules that
--- are in range
-pub record IsKept (r : RunOf) (items : List Item) (totals : Totals) (end_state : State) (found : List Mark) : Type 0
-  where
-    pub guessed : IsGuess r items end_state found
-    pub counted : totals ≡ totals_of items
-    pub few : length_of r.source ≤ 2 ^ 36
-    pub rules : IsInRange r.rules
+-- codes, totals and end state of the guess of its range, of a recording that has at most 2^36 bits, by rules that are in range
+pub record IsKept (r : RunOf) (kept : KeptOf) (totals : Totals) (end_state : State) : Type 0 where
+  pub inside : (r.from ≤ r.to) × (r.to ≤ length_of r.source)
+  pub kept_is : kept ≡ kept_of (guess r.source r.rules r.from (r.to - r.from)).1
+  pub counted : totals ≡ totals_of (guess r.source r.rules r.from (r.to - r.from)).1
+  pub ends : end_state ≡ (guess r.source r.rules r.from (r.to - r.from)).0
+  pub few : length_of r.source ≤ 2 ^ 36
+  pub rules : IsInRange r.rules

@@ -5,7 +5,7 @@ use Rattle.rds_sync.specs.declared.state.State.{State}
 use Rattle.rds_sync.specs.declared.state.State.TheVariants.{Searching}
 use Rattle.rds_sync.specs.Rules.{RuleNumbers}
 use Rattle.rds_sync.specs.Step.{run}
-use Rattle.rds_pieces.specs.declared.mark.Mark.{Mark}
+use Rattle.rds_sync.specs.declared.mark.Mark.{Mark}
 use Rattle.rds_pieces.specs.declared.meeting.Passed.{Passed}
 use Rattle.rds_pieces.specs.Guess.{guess, marks}
 use Rattle.rds_pieces.specs.Meeting.{MeetAt, MeetFirstAt}

@@ -1,12 +1,14 @@
 -- A lock that is followed from block to block, with the blocks of the group in progress.
-use Rattle.std.specs.Prelude.{◌≡◌, ◌≢◌, ◌+◌, ◌-◌, ◌<◌, List, []}
+use Rattle.std.specs.Prelude.{◌≡◌, ◌≢◌, ◌+◌, ◌-◌, ◌*◌, ◌<◌, List, [], ◌∷◌}
 use Rattle.rds_stream.specs.Recording.{Signal, length_of}
 use Rattle.rds_sync.specs.declared.item.Block.{Block}
+use Rattle.rds_sync.specs.declared.item.Item.{Item}
+use Rattle.rds_sync.specs.declared.item.Item.TheVariants.{Group, LostLock}
 use Rattle.rds_sync.specs.declared.due.Due.{Due}
 use Rattle.rds_sync.specs.declared.due.Due.TheVariants.{Inside, Closed, Lost}
 use Rattle.rds_sync.specs.declared.due.Lock.{Lock}
 use Rattle.rds_sync.specs.Inside.Due.{state_in}
-use Rattle.rds_sync.specs.Groups.{blocks_at}
+use Rattle.rds_sync.specs.Groups.{blocks_at, group_of}
 use Rattle.rds_sync.specs.Lawful.{AreInOrder, HaveRoom}
 use Rattle.rds_sync.specs.Loss.{IsLawfulBad}
 use Rattle.rds_sync.specs.Rules.{RuleNumbers}
@@ -22,6 +24,16 @@ pub record IsReadable (b : Signal) (rules : RuleNumbers) (lock : Lock) : Type 0 
   pub start : HaveRoom lock.first lock.number lock.due
   pub reached : lock.due < length_of b + 26
   pub in_order : AreInOrder lock.first lock.number
+
+-- the group of a lock's blocks that ends with the one that was due
+abbrev pub closing : Lock → List Block → Item
+closing lock blocks = Group (group_of (lock.due - 26 * (lock.number - lock.first) - 25) blocks)
+
+-- what the block that was due gives, where these are the blocks of its group and this is what it did
+abbrev pub items_of_due : Lock → List Block → Due → List Item
+items_of_due lock blocks (Inside next) = []
+items_of_due lock blocks (Closed next) = closing lock blocks ∷ []
+items_of_due lock blocks Lost = closing lock blocks ∷ LostLock lock.due ∷ []
 
 -- where the group goes on, nothing was given, the next block is due after 26 places, and the blocks are those read so far
 pub record GoesOn (b : Signal) (rules : RuleNumbers) (lock next : Lock) (blocks : List Block) : Type 0 where

@@ -9,5 +9,5 @@ invariant-loop-seat g l = record {
   count : vec_len l.drawn + into_iter_len l.seat-iterator ≡ 1;
   room : 1 ≤ vec_capacity l.drawn;
   new : All (IsFresh l.dealer) (into_iter_items l.seat-iterator);
-  drawn : All (IsDrawn (g.P.Parts.run_of l.parts) l.dealer) (vec_items l.drawn);
+  drawn : All (IsDrawn (g.P.Parts.made_of l.parts) l.dealer) (vec_items l.drawn);
 }

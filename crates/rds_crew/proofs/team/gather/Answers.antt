@@ -12,12 +12,12 @@ loop-thread-preserved-in-Ok g c =
     let dealer = c.args.dealer.now in
     let front = c.in-Some.ensures.steps.0 in
     let own = All-head (IsWorkerOf parts dealer) c.in-Some.thread (into_iter_items c.next.new.self) (subst (All (IsWorkerOf parts dealer)) front was.workers) in
-    let made : IsDrawn (g.P.Parts.run_of parts) dealer c.in-Ok.made = of_promise g.P.Parts.run_of c.in-Some.thread.promise.parts.value parts c.in-Some.thread.promise.dealer.value dealer c.in-Ok.made own c.in-Ok.ensures in
+    let made : IsDrawn (g.P.Parts.made_of parts) dealer c.in-Ok.made = of_promise g.P.Parts.made_of c.in-Some.thread.promise.parts.value parts c.in-Some.thread.promise.dealer.value dealer c.in-Ok.made own c.in-Ok.ensures in
     record {
       workers = All-rest (IsWorkerOf parts dealer) _ _ _ front was.workers;
       room = search rules;
       count = search rules;
-      drawn = All-same (IsDrawn (g.P.Parts.run_of parts) dealer) _ _ c.push_reserved.ensures.items (All-push (IsDrawn (g.P.Parts.run_of parts) dealer) _ _ was.drawn made);
+      drawn = All-same (IsDrawn (g.P.Parts.made_of parts) dealer) _ _ c.push_reserved.ensures.items (All-push (IsDrawn (g.P.Parts.made_of parts) dealer) _ _ was.drawn made);
     }
 
 pub loop-thread-preserved : goal.loop-thread-preserved

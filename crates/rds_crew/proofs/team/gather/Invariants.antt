@@ -8,5 +8,5 @@ invariant-loop-thread g l = record {
   workers : All (IsWorkerOf l.parts l.dealer) (into_iter_items l.thread-iterator);
   room : vec_len l.drawn + into_iter_len l.thread-iterator ≤ vec_capacity l.drawn;
   count : l.short ≡ false → vec_len l.drawn + into_iter_len l.thread-iterator ≡ length l.fn.threads.items;
-  drawn : All (IsDrawn (g.P.Parts.run_of l.parts) l.dealer) (vec_items l.drawn);
+  drawn : All (IsDrawn (g.P.Parts.made_of l.parts) l.dealer) (vec_items l.drawn);
 }

@@ -1,14 +1,16 @@
 use denote.Param.Send.{sendable}
-use Rattle.std.proofs.Common.{◌∙◌}
-use Rattle.rds_crew.proofs.Crossing.{run_sync}
-use Rattle.rds_crew.proofs.Levels.{above_in_parts}
+use Rattle.rds_crew.proofs.Crossing.{run_sync, joint_send}
+use Rattle.rds_crew.proofs.Levels.{joints_by_number}
 use Rattle.rds_crew.proofs.tree.join_level.Goals as goal
 
 pub make_all-requires-sync-P : goal.make_all-requires-sync-P
 make_all-requires-sync-P g c κs within = search (sendable, run_sync) depth 20
 
-pub returns-clause-runs : goal.returns-clause-runs
-returns-clause-runs g c =
+pub make_all-requires-send-P-Made : goal.make_all-requires-send-P-Made
+make_all-requires-send-P-Made g c κs within = search (sendable, joint_send) depth 20
+
+pub put_together-requires-clause-joints : goal.put_together-requires-clause-joints
+put_together-requires-clause-joints g c =
     let b = g.W.Work.recording c.args.work.now in
     let r = g.W.Work.rule_set c.args.work.now in
-    c.in_ok-with_last.ensures ∙ above_in_parts b r c.args.below.items c.in_ok-joined.joined.items (rw c.as_slice.ensures.value at c.in_ok-joined.ensures.runs)
+    joints_by_number b r c.args.below.items c.in_ok-joints.joints.items (rw c.as_slice.ensures.value at c.in_ok-joints.ensures.made)

@@ -12,4 +12,7 @@ returns c = record {
   few_items = c.runs_give_few_items.ensures;
   totals = c.totals_join.ensures;
   readings = c.readings_follow_the_rule.ensures;
+  codes = c.codes_tell_totals.ensures;
+  marks = c.codes_tell_marks.ensures;
+  keepable = c.runs_are_keepable.ensures;
 }

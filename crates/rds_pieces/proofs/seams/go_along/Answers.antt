@@ -3,23 +3,23 @@ use Rattle.rds_stream.specs.Recording.{Signal, length_of}
 use Rattle.rds_sync.specs.Rules.{RuleNumbers}
 use Rattle.rds_sync.specs.Lawful.{IsLawful, IsBetweenGroups}
 use Rattle.rds_sync.specs.Advance.{reads_most}
+use Rattle.rds_sync.specs.Codes.{kept_of, behind}
 use Rattle.rds_sync.specs.Step.{run}
-use Rattle.rds_pieces.specs.declared.mark.Mark.{Mark}
+use Rattle.rds_sync.specs.declared.mark.Mark.{Mark}
 use Rattle.rds_pieces.specs.Inside.Advance.{IsStepTo}
-use Rattle.rds_pieces.specs.Inside.MarksOn.{marks_on}
 use Rattle.rds_pieces.specs.Inside.Walk.{next_place}
 use Rattle.rds_pieces.proofs.BesideLemmas.{beside_start, beside_near, beside_next, place_after}
-use Rattle.rds_pieces.proofs.MarkLaws.{marks_on-more, last_index}
+use Rattle.rds_pieces.proofs.MarkLaws.{last_index}
 use Rattle.rds_pieces.proofs.ReadsLemmas.{paid_room, paid_most, paid_start, paid_on, paid_step, paid_all}
 use Rattle.rds_pieces.proofs.WayLemmas.{way_paid, way_step}
-use Rattle.rds_pieces.proofs.SeamLemmas.{renamed, found, unread, said, IsCarried, items_on, limit_ahead, limit_inside, met_first, never_met}
+use Rattle.rds_pieces.proofs.SeamLemmas.{renamed, found, unread, said, IsCarried, codes_on, limit_ahead, limit_inside, met_first, never_met}
 use Rattle.rds_pieces.proofs.seams.go_along.Goals as goal
 
-pub advance_marked-requires-clause-lawful : goal.advance_marked-requires-clause-lawful
-advance_marked-requires-clause-lawful g c = subst (λ (y : RuleNumbers). IsLawful y c.along.place c.along.state) c.requires.rules c.along.invariant.beside.carried.lawful
+pub advance_onto-requires-clause-lawful : goal.advance_onto-requires-clause-lawful
+advance_onto-requires-clause-lawful g c = subst (λ (y : RuleNumbers). IsLawful y c.along.place c.along.state) c.requires.rules c.along.invariant.beside.carried.lawful
 
-pub advance_marked-requires-clause-few : goal.advance_marked-requires-clause-few
-advance_marked-requires-clause-few g c =
+pub advance_onto-requires-clause-few : goal.advance_onto-requires-clause-few
+advance_onto-requires-clause-few g c =
     let r = c.args.run.now in
     let inside = c.along.invariant.beside.carried.inside.1 in
     let end = c.range-from.ensures.inside.1 in
@@ -27,16 +27,16 @@ advance_marked-requires-clause-few g c =
     paid_room r.source r.rules (g.T.Tape.reads_made c.args.tape.now) r.from (g.T.Tape.reads_made c.along.tape) c.along.place c.along.state
     c.range-from.ensures.rules (omega (arith, inside, end, few)) c.requires.room c.along.invariant.paid
 
-pub advance_marked-requires-clause-ahead : goal.advance_marked-requires-clause-ahead
-advance_marked-requires-clause-ahead g c =
+pub advance_onto-requires-clause-ahead : goal.advance_onto-requires-clause-ahead
+advance_onto-requires-clause-ahead g c =
     let r = c.args.run.now in
     let beside = c.along.invariant.beside in
     let other : c.along.place ≢ r.to = λ e. c.if-place-to.false (e ∙ sym c.range-from.ensures.end) in
     limit_ahead r.source r.rules r.from r.to c.run_laws.ensures c.range-from.ensures.rules.some_loss c.args.state c.along.place beside.index c.along.limit c.along.state beside.carried other
     (place_after r.source r.rules r.from r.to c.args.state c.along.place c.along.state c.along.mark c.along.ahead c.along.limit beside)
 
-pub advance_marked-requires-clause-inside : goal.advance_marked-requires-clause-inside
-advance_marked-requires-clause-inside g c =
+pub advance_onto-requires-clause-inside : goal.advance_onto-requires-clause-inside
+advance_onto-requires-clause-inside g c =
     let r = c.args.run.now in
     let beside = c.along.invariant.beside in
     let high = limit_inside r.source r.rules r.from r.to c.run_laws.ensures c.range-from.ensures.rules.some_loss c.args.state c.along.place beside.index c.along.limit c.along.state beside.carried
@@ -53,10 +53,9 @@ along-init g c =
     let z : 0 ≡ r.from - r.from = omega arith in
     rw range.first (record {
       beside = beside_start r.source r.rules r.from r.to c.run_laws.ensures range.rules.some_loss c.args.state c.in-Some.mark c.next.new.self c.place_of_next-limit.result range.inside.0 lawful
-          (sym c.marks.ensures ∙ sym c.iter-ahead.ensures ∙ c.in-Some.ensures.steps)
+          (sym c.marks-ahead.ensures ∙ c.in-Some.ensures.steps)
           (c.place_of_next-limit.ensures ∙ ap (λ (p : ℕ). next_place c.next.new.self p) range.end);
-      items_are = c.new-items.ensures ∙ ap (λ (n : ℕ). (run r.source r.rules c.args.state r.from n).1) z;
-      marks_are = c.new-marks.ensures ∙ ap (λ (n : ℕ). marks_on r.source r.rules c.args.state r.from 0 n) z;
+      codes_are = c.new-codes.ensures ∙ ap (λ (n : ℕ). kept_of (run r.source r.rules c.args.state r.from n).1) z;
       paid = paid_start r.source r.rules (g.T.Tape.reads_made c.args.tape.now) r.from c.args.state (let x = range.rules.some_reach in x) lawful;
       same = sym c.requires.source;
     })
@@ -71,8 +70,8 @@ returns-in_err-reached-clause-reads_most g c =
     let some = c.range-from.ensures.rules.some_loss in
     let ahead = limit_ahead r.source r.rules r.from r.to c.run_laws.ensures some c.args.state c.along.place inv.beside.index c.along.limit c.along.state carried other after_mark in
     let high = limit_inside r.source r.rules r.from r.to c.run_laws.ensures some c.args.state c.along.place inv.beside.index c.along.limit c.along.state carried after_mark in
-    let few = subst (λ (y : RuleNumbers). g.T.Tape.reads_made c.advance_marked.new.tape ≤ g.T.Tape.reads_made c.along.tape + reads_most y c.along.state c.along.limit) (sym c.requires.rules) c.advance_marked.ensures.reads in
-    paid_step r.source r.rules (g.T.Tape.reads_made c.args.tape.now) r.from (g.T.Tape.reads_made c.along.tape) (g.T.Tape.reads_made c.advance_marked.new.tape) c.along.place c.along.limit r.to c.along.state
+    let few = subst (λ (y : RuleNumbers). g.T.Tape.reads_made c.advance_onto.new.tape ≤ g.T.Tape.reads_made c.along.tape + reads_most y c.along.state c.along.limit) (sym c.requires.rules) c.advance_onto.ensures.reads in
+    paid_step r.source r.rules (g.T.Tape.reads_made c.args.tape.now) r.from (g.T.Tape.reads_made c.along.tape) (g.T.Tape.reads_made c.advance_onto.new.tape) c.along.place c.along.limit r.to c.along.state
     carried.inside.0 (omega (arith, ahead, high)) high carried.lawful inv.paid few
 
 pub along-preserved-in-Some-next : goal.along-preserved-in-Some-next
@@ -87,25 +86,19 @@ along-preserved-in-Some-next g c =
     let goes : IsStepTo r.source r.rules c.along.state c.along.place c.along.limit c.in_ok-reached.reached c.in_ok-reached.after =
     renamed (λ b rules. IsStepTo b rules c.along.state c.along.place c.along.limit c.in_ok-reached.reached c.in_ok-reached.after) (g.T.Tape.signal c.along.tape) r.source c.args.rules.now r.rules
     inv.same (sym c.requires.rules) c.in_ok-reached.ensures.step in
-    let given : c.advance_marked.new.items ≡ c.along.items ++ (run r.source r.rules c.along.state c.along.place (c.in_ok-reached.reached - c.along.place)).1 =
-    renamed (λ b rules. c.advance_marked.new.items ≡ c.along.items ++ (run b rules c.along.state c.along.place (c.in_ok-reached.reached - c.along.place)).1)
-    (g.T.Tape.signal c.along.tape) r.source c.args.rules.now r.rules inv.same (sym c.requires.rules) c.in_ok-reached.ensures.items in
-    let marked : c.advance_marked.new.marks ≡ c.along.marks ++ marks_on r.source r.rules c.along.state c.along.place (length c.along.items) (c.in_ok-reached.reached - c.along.place) =
-    renamed (λ b rules. c.advance_marked.new.marks ≡ c.along.marks ++ marks_on b rules c.along.state c.along.place (length c.along.items) (c.in_ok-reached.reached - c.along.place))
-    (g.T.Tape.signal c.along.tape) r.source c.args.rules.now r.rules inv.same (sym c.requires.rules) c.in_ok-reached.ensures.marks in
-    let few = subst (λ (y : RuleNumbers). g.T.Tape.reads_made c.advance_marked.new.tape ≤ g.T.Tape.reads_made c.along.tape + reads_most y c.along.state c.along.limit) (sym c.requires.rules) c.advance_marked.ensures.reads in
+    let given : c.advance_onto.new.codes ≡ behind c.along.codes (kept_of (run r.source r.rules c.along.state c.along.place (c.in_ok-reached.reached - c.along.place)).1) =
+    renamed (λ b rules. c.advance_onto.new.codes ≡ behind c.along.codes (kept_of (run b rules c.along.state c.along.place (c.in_ok-reached.reached - c.along.place)).1))
+    (g.T.Tape.signal c.along.tape) r.source c.args.rules.now r.rules inv.same (sym c.requires.rules) c.in_ok-reached.ensures.codes in
+    let few = subst (λ (y : RuleNumbers). g.T.Tape.reads_made c.advance_onto.new.tape ≤ g.T.Tape.reads_made c.along.tape + reads_most y c.along.state c.along.limit) (sym c.requires.rules) c.advance_onto.ensures.reads in
     record {
       beside = beside_next r.source r.rules r.from r.to c.run_laws.ensures some c.args.state c.along.place c.in_ok-reached.reached c.along.state c.in_ok-reached.after c.along.mark c.in-Some-next.passed
           c.along.ahead c.next-in-along.new.self c.along.limit c.place_of_next-limit-in-Some-next.result beside apart goes c.if-place-limit.false c.in-Some-next.ensures.steps
           (c.place_of_next-limit-in-Some-next.ensures ∙ ap (λ (p : ℕ). next_place c.next-in-along.new.self p) c.range-from.ensures.end);
-      items_are = items_on r.source r.rules r.from r.to c.run_laws.ensures some c.args.state c.along.place beside.index c.along.limit c.in_ok-reached.reached c.along.state c.in_ok-reached.after
-          carried (λ p. apart (p.0 ∙ sym (ap (λ (m : Mark). m.state) beside.passed_is), p.1)) goes after_mark [] c.along.items c.advance_marked.new.items inv.items_are given;
-      marks_are = let m = goes.moved.0 in
-          marks_on-more r.source r.rules c.run_laws.ensures c.args.state c.along.state r.from c.along.place c.in_ok-reached.reached 0 [] c.along.items [] c.along.marks c.advance_marked.new.marks
-          carried.inside.0 (omega (arith, m)) carried.state_is inv.items_are refl inv.marks_are marked;
-      paid = paid_on r.source r.rules (g.T.Tape.reads_made c.args.tape.now) r.from c.run_laws.ensures (g.T.Tape.reads_made c.along.tape) (g.T.Tape.reads_made c.advance_marked.new.tape)
+      codes_are = codes_on r.source r.rules r.from r.to c.run_laws.ensures some c.args.state c.along.place beside.index c.along.limit c.in_ok-reached.reached c.along.state c.in_ok-reached.after
+          carried (λ p. apart (p.0 ∙ sym (ap (λ (m : Mark). m.state) beside.passed_is), p.1)) goes after_mark c.along.codes c.advance_onto.new.codes inv.codes_are given;
+      paid = paid_on r.source r.rules (g.T.Tape.reads_made c.args.tape.now) r.from c.run_laws.ensures (g.T.Tape.reads_made c.along.tape) (g.T.Tape.reads_made c.advance_onto.new.tape)
           c.along.place c.along.limit c.in_ok-reached.reached c.along.state c.in_ok-reached.after carried.inside.0 carried.lawful inv.paid goes few;
-      same = c.advance_marked.ensures.same ∙ inv.same;
+      same = c.advance_onto.ensures.same ∙ inv.same;
     }
 
 pub along-preserved-then-place-limit : goal.along-preserved-then-place-limit
@@ -120,25 +113,19 @@ along-preserved-then-place-limit g c =
     let goes : IsStepTo r.source r.rules c.along.state c.along.place c.along.limit c.in_ok-reached.reached c.in_ok-reached.after =
     renamed (λ b rules. IsStepTo b rules c.along.state c.along.place c.along.limit c.in_ok-reached.reached c.in_ok-reached.after) (g.T.Tape.signal c.along.tape) r.source c.args.rules.now r.rules
     inv.same (sym c.requires.rules) c.in_ok-reached.ensures.step in
-    let given : c.advance_marked.new.items ≡ c.along.items ++ (run r.source r.rules c.along.state c.along.place (c.in_ok-reached.reached - c.along.place)).1 =
-    renamed (λ b rules. c.advance_marked.new.items ≡ c.along.items ++ (run b rules c.along.state c.along.place (c.in_ok-reached.reached - c.along.place)).1)
-    (g.T.Tape.signal c.along.tape) r.source c.args.rules.now r.rules inv.same (sym c.requires.rules) c.in_ok-reached.ensures.items in
-    let marked : c.advance_marked.new.marks ≡ c.along.marks ++ marks_on r.source r.rules c.along.state c.along.place (length c.along.items) (c.in_ok-reached.reached - c.along.place) =
-    renamed (λ b rules. c.advance_marked.new.marks ≡ c.along.marks ++ marks_on b rules c.along.state c.along.place (length c.along.items) (c.in_ok-reached.reached - c.along.place))
-    (g.T.Tape.signal c.along.tape) r.source c.args.rules.now r.rules inv.same (sym c.requires.rules) c.in_ok-reached.ensures.marks in
-    let few = subst (λ (y : RuleNumbers). g.T.Tape.reads_made c.advance_marked.new.tape ≤ g.T.Tape.reads_made c.along.tape + reads_most y c.along.state c.along.limit) (sym c.requires.rules) c.advance_marked.ensures.reads in
+    let given : c.advance_onto.new.codes ≡ behind c.along.codes (kept_of (run r.source r.rules c.along.state c.along.place (c.in_ok-reached.reached - c.along.place)).1) =
+    renamed (λ b rules. c.advance_onto.new.codes ≡ behind c.along.codes (kept_of (run b rules c.along.state c.along.place (c.in_ok-reached.reached - c.along.place)).1))
+    (g.T.Tape.signal c.along.tape) r.source c.args.rules.now r.rules inv.same (sym c.requires.rules) c.in_ok-reached.ensures.codes in
+    let few = subst (λ (y : RuleNumbers). g.T.Tape.reads_made c.advance_onto.new.tape ≤ g.T.Tape.reads_made c.along.tape + reads_most y c.along.state c.along.limit) (sym c.requires.rules) c.advance_onto.ensures.reads in
     record {
       beside = beside_near r.source r.rules r.from r.to c.run_laws.ensures some c.args.state c.along.place c.in_ok-reached.reached c.along.state c.in_ok-reached.after c.along.mark
           c.along.ahead c.along.ahead c.along.limit beside apart goes
           (λ p. c.if-place-limit.true p.0) refl;
-      items_are = items_on r.source r.rules r.from r.to c.run_laws.ensures some c.args.state c.along.place beside.index c.along.limit c.in_ok-reached.reached c.along.state c.in_ok-reached.after
-          carried (λ p. apart (p.0 ∙ sym (ap (λ (m : Mark). m.state) beside.passed_is), p.1)) goes after_mark [] c.along.items c.advance_marked.new.items inv.items_are given;
-      marks_are = let m = goes.moved.0 in
-          marks_on-more r.source r.rules c.run_laws.ensures c.args.state c.along.state r.from c.along.place c.in_ok-reached.reached 0 [] c.along.items [] c.along.marks c.advance_marked.new.marks
-          carried.inside.0 (omega (arith, m)) carried.state_is inv.items_are refl inv.marks_are marked;
-      paid = paid_on r.source r.rules (g.T.Tape.reads_made c.args.tape.now) r.from c.run_laws.ensures (g.T.Tape.reads_made c.along.tape) (g.T.Tape.reads_made c.advance_marked.new.tape)
+      codes_are = codes_on r.source r.rules r.from r.to c.run_laws.ensures some c.args.state c.along.place beside.index c.along.limit c.in_ok-reached.reached c.along.state c.in_ok-reached.after
+          carried (λ p. apart (p.0 ∙ sym (ap (λ (m : Mark). m.state) beside.passed_is), p.1)) goes after_mark c.along.codes c.advance_onto.new.codes inv.codes_are given;
+      paid = paid_on r.source r.rules (g.T.Tape.reads_made c.args.tape.now) r.from c.run_laws.ensures (g.T.Tape.reads_made c.along.tape) (g.T.Tape.reads_made c.advance_onto.new.tape)
           c.along.place c.along.limit c.in_ok-reached.reached c.along.state c.in_ok-reached.after carried.inside.0 carried.lawful inv.paid goes few;
-      same = c.advance_marked.ensures.same ∙ inv.same;
+      same = c.advance_onto.ensures.same ∙ inv.same;
     }
 
 pub along-preserved : goal.along-preserved
@@ -153,26 +140,20 @@ along-preserved g c =
     let goes : IsStepTo r.source r.rules c.along.state c.along.place c.along.limit c.in_ok-reached.reached c.in_ok-reached.after =
     renamed (λ b rules. IsStepTo b rules c.along.state c.along.place c.along.limit c.in_ok-reached.reached c.in_ok-reached.after) (g.T.Tape.signal c.along.tape) r.source c.args.rules.now r.rules
     inv.same (sym c.requires.rules) c.in_ok-reached.ensures.step in
-    let given : c.advance_marked.new.items ≡ c.along.items ++ (run r.source r.rules c.along.state c.along.place (c.in_ok-reached.reached - c.along.place)).1 =
-    renamed (λ b rules. c.advance_marked.new.items ≡ c.along.items ++ (run b rules c.along.state c.along.place (c.in_ok-reached.reached - c.along.place)).1)
-    (g.T.Tape.signal c.along.tape) r.source c.args.rules.now r.rules inv.same (sym c.requires.rules) c.in_ok-reached.ensures.items in
-    let marked : c.advance_marked.new.marks ≡ c.along.marks ++ marks_on r.source r.rules c.along.state c.along.place (length c.along.items) (c.in_ok-reached.reached - c.along.place) =
-    renamed (λ b rules. c.advance_marked.new.marks ≡ c.along.marks ++ marks_on b rules c.along.state c.along.place (length c.along.items) (c.in_ok-reached.reached - c.along.place))
-    (g.T.Tape.signal c.along.tape) r.source c.args.rules.now r.rules inv.same (sym c.requires.rules) c.in_ok-reached.ensures.marks in
-    let few = subst (λ (y : RuleNumbers). g.T.Tape.reads_made c.advance_marked.new.tape ≤ g.T.Tape.reads_made c.along.tape + reads_most y c.along.state c.along.limit) (sym c.requires.rules) c.advance_marked.ensures.reads in
+    let given : c.advance_onto.new.codes ≡ behind c.along.codes (kept_of (run r.source r.rules c.along.state c.along.place (c.in_ok-reached.reached - c.along.place)).1) =
+    renamed (λ b rules. c.advance_onto.new.codes ≡ behind c.along.codes (kept_of (run b rules c.along.state c.along.place (c.in_ok-reached.reached - c.along.place)).1))
+    (g.T.Tape.signal c.along.tape) r.source c.args.rules.now r.rules inv.same (sym c.requires.rules) c.in_ok-reached.ensures.codes in
+    let few = subst (λ (y : RuleNumbers). g.T.Tape.reads_made c.advance_onto.new.tape ≤ g.T.Tape.reads_made c.along.tape + reads_most y c.along.state c.along.limit) (sym c.requires.rules) c.advance_onto.ensures.reads in
     record {
       beside = beside_near r.source r.rules r.from r.to c.run_laws.ensures some c.args.state c.along.place c.in_ok-reached.reached c.along.state c.in_ok-reached.after c.along.mark
           c.along.ahead c.next-in-along.new.self c.along.limit beside apart goes
           (λ p. let none = ap (λ (ms : List Mark). length ms) c.in_default-next.ensures.steps.0 in let some = p.1 in absurd (omega (arith, none, some)))
           (c.in_default-next.ensures.steps.1 ∙ sym c.in_default-next.ensures.steps.0);
-      items_are = items_on r.source r.rules r.from r.to c.run_laws.ensures some c.args.state c.along.place beside.index c.along.limit c.in_ok-reached.reached c.along.state c.in_ok-reached.after
-          carried (λ p. apart (p.0 ∙ sym (ap (λ (m : Mark). m.state) beside.passed_is), p.1)) goes after_mark [] c.along.items c.advance_marked.new.items inv.items_are given;
-      marks_are = let m = goes.moved.0 in
-          marks_on-more r.source r.rules c.run_laws.ensures c.args.state c.along.state r.from c.along.place c.in_ok-reached.reached 0 [] c.along.items [] c.along.marks c.advance_marked.new.marks
-          carried.inside.0 (omega (arith, m)) carried.state_is inv.items_are refl inv.marks_are marked;
-      paid = paid_on r.source r.rules (g.T.Tape.reads_made c.args.tape.now) r.from c.run_laws.ensures (g.T.Tape.reads_made c.along.tape) (g.T.Tape.reads_made c.advance_marked.new.tape)
+      codes_are = codes_on r.source r.rules r.from r.to c.run_laws.ensures some c.args.state c.along.place beside.index c.along.limit c.in_ok-reached.reached c.along.state c.in_ok-reached.after
+          carried (λ p. apart (p.0 ∙ sym (ap (λ (m : Mark). m.state) beside.passed_is), p.1)) goes after_mark c.along.codes c.advance_onto.new.codes inv.codes_are given;
+      paid = paid_on r.source r.rules (g.T.Tape.reads_made c.args.tape.now) r.from c.run_laws.ensures (g.T.Tape.reads_made c.along.tape) (g.T.Tape.reads_made c.advance_onto.new.tape)
           c.along.place c.along.limit c.in_ok-reached.reached c.along.state c.in_ok-reached.after carried.inside.0 carried.lawful inv.paid goes few;
-      same = c.advance_marked.ensures.same ∙ inv.same;
+      same = c.advance_onto.ensures.same ∙ inv.same;
     }
 
 pub returns-then-meets-clause-met : goal.returns-then-meets-clause-met
@@ -238,9 +219,9 @@ returns-in_err-reached-clause-reads_way g c = λ met first. (
     λ p. (let t = c.meets.ensures.1 (p.0 ∙ sym (ap (λ (m : Mark). m.state) beside.passed_is), p.1) in let f = c.if-meets.false in cc) in
     let after_mark = place_after r.source r.rules r.from r.to c.args.state c.along.place c.along.state c.along.mark c.along.ahead c.along.limit beside in
     let other : c.along.place ≢ r.to = λ e. c.if-place-to.false (e ∙ sym c.range-from.ensures.end) in
-    let few = subst (λ (y : RuleNumbers). g.T.Tape.reads_made c.advance_marked.new.tape ≤ g.T.Tape.reads_made c.along.tape + reads_most y c.along.state c.along.limit) (sym c.requires.rules) c.advance_marked.ensures.reads in
+    let few = subst (λ (y : RuleNumbers). g.T.Tape.reads_made c.advance_onto.new.tape ≤ g.T.Tape.reads_made c.along.tape + reads_most y c.along.state c.along.limit) (sym c.requires.rules) c.advance_onto.ensures.reads in
     way_step r.source r.rules (g.T.Tape.reads_made c.args.tape.now) r.from r.to c.args.state met c.run_laws.ensures c.range-from.ensures.rules.some_loss first
-    (g.T.Tape.reads_made c.along.tape) (g.T.Tape.reads_made c.advance_marked.new.tape) c.along.place beside.index c.along.limit c.along.state beside.carried apart other after_mark inv.paid few)
+    (g.T.Tape.reads_made c.along.tape) (g.T.Tape.reads_made c.advance_onto.new.tape) c.along.place beside.index c.along.limit c.along.state beside.carried apart other after_mark inv.paid few)
 
 pub returns-then-meets-clause-reads_way : goal.returns-then-meets-clause-reads_way
 returns-then-meets-clause-reads_way g c = λ met first. (

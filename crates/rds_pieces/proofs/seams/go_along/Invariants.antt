@@ -1,5 +1,5 @@
 use Rattle.std.proofs.Common.{◌≡◌, ◌-◌}
-use Rattle.rds_pieces.specs.Inside.MarksOn.{marks_on}
+use Rattle.rds_sync.specs.Codes.{kept_of}
 use Rattle.rds_pieces.proofs.BesideLemmas.{IsBeside}
 use Rattle.rds_pieces.proofs.ReadsLemmas.{IsPaid}
 use Rattle.rds_pieces.proofs.SeamLemmas.{own}
@@ -8,8 +8,7 @@ use Rattle.rds_pieces.proofs.seams.go_along.Given as goal
 abbrev pub invariant-along : goal.invariant-along
 invariant-along g l = record {
   beside : IsBeside l.run.source l.run.rules l.run.from l.run.to l.fn.state l.place l.state l.mark l.ahead l.limit;
-  items_are : l.items ≡ (own l.run.source l.run.rules l.run.from l.run.to l.fn.state l.place).1;
-  marks_are : l.marks ≡ marks_on l.run.source l.run.rules l.fn.state l.run.from 0 (l.place - l.run.from);
+  codes_are : l.codes ≡ kept_of (own l.run.source l.run.rules l.run.from l.run.to l.fn.state l.place).1;
   paid : IsPaid l.run.source l.run.rules (g.T.Tape.reads_made l.fn.tape) l.run.from (g.T.Tape.reads_made l.tape) l.place l.state;
   same : g.T.Tape.signal l.tape ≡ l.run.source;
 }

@@ -1,11 +1,13 @@
 use Rattle.std.proofs.Common.{◌≡◌}
+use Rattle.rds_sync.specs.Decoding.{listed}
 use Rattle.rds_sync.specs.Totals.{totals_of}
 use Rattle.rds_pieces.proofs.StitchLemmas.{IsStitched}
 use Rattle.rds_pieces.proofs.stitching.carry_over_all.Given as goal
 
 abbrev pub invariant-loop-run : goal.invariant-loop-run
 invariant-loop-run g l = record {
-  stitched : IsStitched (g.T.Tape.signal l.fn.tape) l.rules l.runs (g.T.Tape.reads_made l.fn.tape) l.run-index l.state l.items (g.T.Tape.reads_made l.tape);
-  counted : l.totals ≡ totals_of l.items;
+  stitched : IsStitched (g.T.Tape.signal l.fn.tape) l.rules l.runs (g.T.Tape.reads_made l.fn.tape) l.run-index l.state l.items.list (g.T.Tape.reads_made l.tape);
+  counted : l.totals ≡ totals_of l.items.list;
+  named : l.items ≡ listed (g.T.Tape.signal l.fn.tape) l.rules l.items.list;
   same : g.T.Tape.signal l.tape ≡ g.T.Tape.signal l.fn.tape;
 }

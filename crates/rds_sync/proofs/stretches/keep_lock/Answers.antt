@@ -1,7 +1,9 @@
-use Rattle.std.proofs.Common.{◌≡◌, ◌≤◌, ◌+◌, ◌-◌, ◌++◌, ℕ, List, [], refl, ap, ap₂, sym, subst, ◌∙◌, arith, append-nil, inl, inr}
+use Rattle.std.proofs.Common.{◌≡◌, ◌≤◌, ◌+◌, ◌-◌, ℕ, List, [], ◌∷◌, refl, ap, ap₂, sym, subst, ◌∙◌, arith, inl, inr}
 use Rattle.rds_stream.specs.Recording.{Signal}
 use Rattle.rds_sync.specs.declared.item.Block.{Block}
+use Rattle.rds_sync.specs.declared.item.Group.{Group as GroupRecord}
 use Rattle.rds_sync.specs.declared.item.Item.{Item}
+use Rattle.rds_sync.specs.declared.item.Item.TheVariants.{Group, LostLock}
 use Rattle.rds_sync.specs.declared.due.Due.{Due}
 use Rattle.rds_sync.specs.declared.due.Due.TheVariants.{Inside, Closed, Lost}
 use Rattle.rds_sync.specs.declared.due.Lock.{Lock}
@@ -9,7 +11,7 @@ use Rattle.rds_sync.specs.declared.state.State.{State}
 use Rattle.rds_sync.specs.declared.state.State.TheVariants.{Locked}
 use Rattle.rds_sync.specs.Lawful.{IsLawful}
 use Rattle.rds_sync.specs.Inside.Due.{state_in, state_of}
-use Rattle.rds_sync.specs.Inside.Locks.{IsFollowed}
+use Rattle.rds_sync.specs.Inside.Locks.{IsFollowed, items_of_due}
 use Rattle.rds_sync.specs.Loss.{IsLoss}
 use Rattle.rds_sync.specs.Rules.{RuleNumbers}
 use Rattle.rds_sync.specs.Step.{step, items_at, run}
@@ -18,8 +20,8 @@ use Rattle.rds_sync.proofs.RunLemmas.{run-further, run-due, run-early, run-quiet
 use Rattle.rds_sync.proofs.stretches.keep_lock.Invariants.{HasFollowed}
 use Rattle.rds_sync.proofs.stretches.keep_lock.Goals as goal
 
-module _ (b read : Signal) (rules : RuleNumbers) (s : State) (place to : ℕ) (now : Lock) (before items : List Item) (blocks : List Block)
-    (loss : IsLoss rules.loss) (followed : HasFollowed b read rules s place to before now blocks items) where
+module _ (b read : Signal) (rules : RuleNumbers) (s : State) (place to : ℕ) (now : Lock) (blocks : List Block)
+    (loss : IsLoss rules.loss) (followed : HasFollowed b read rules s place to now blocks) where
   abbrev lock : State
   lock = Locked now.due now.number now.bad now.first
 
@@ -46,8 +48,8 @@ module _ (b read : Signal) (rules : RuleNumbers) (lock : Lock) (same : read ≡ 
   state_over : (t : State) → t ≡ step read rules lock.due (state_in lock) → t ≡ step b rules lock.due (state_in lock)
   state_over t is = is ∙ ap (λ (signal : Signal). step signal rules lock.due (state_in lock)) same
 
-  items_over : (before after : List Item) → after ≡ before ++ items_at read rules lock.due (state_in lock) → after ≡ before ++ items_at b rules lock.due (state_in lock)
-  items_over before after is = is ∙ ap (λ (signal : Signal). before ++ items_at signal rules lock.due (state_in lock)) same
+  items_over : (given : List Item) → given ≡ items_at read rules lock.due (state_in lock) → given ≡ items_at b rules lock.due (state_in lock)
+  items_over given is = is ∙ ap (λ (signal : Signal). items_at signal rules lock.due (state_in lock)) same
 
 pub loop-now-preserved : goal.loop-now-preserved
 loop-now-preserved c =
@@ -60,20 +62,19 @@ loop-now-preserved c =
     let now = l.now in
     let followed = l.invariant in
     let soon = followed.lawful.soon in
-    let more = one_more b c.loop-now.reader rules s c.args.place c.args.to now c.args.items.now l.items l.blocks loss followed in
-    let state_is = ap (λ (o : Due). state_of o) (sym c.in-Inside.is) ∙ state_over b c.loop-now.reader rules now followed.same _ c.in_ok-next.ensures.state in
+    let more = one_more b c.loop-now.reader rules s c.args.place c.args.to now l.blocks loss followed in
+    let state_is = ap (λ (o : Due). state_of o) (sym c.in-Inside.is) ∙ state_over b c.loop-now.reader rules now followed.same _ c.follow.ensures.state in
     let goes = subst (λ (signal : Signal). IsFollowed signal rules now c.follow.new.blocks (Inside c.in-Inside.next)) followed.same
-    (subst (λ (o : Due). IsFollowed c.loop-now.reader rules now c.follow.new.blocks o) c.in-Inside.is c.in_ok-next.ensures.followed) in
+    (subst (λ (o : Due). IsFollowed c.loop-now.reader rules now c.follow.new.blocks o) c.in-Inside.is c.follow.ensures.followed) in
     record {
-      same = c.in_ok-next.ensures.same ∙ followed.same;
+      same = c.follow.ensures.same ∙ followed.same;
       next = now.due + 1;
       from_on = omega (arith, followed.from_on, soon.0);
       limit = omega (arith, c.loop-now-test.true);
       lawful = subst (λ (t : State). IsLawful rules (now.due + 1) t) (sym state_is)
-          (lawful_after b c.loop-now.reader rules s c.args.place c.args.to now c.args.items.now l.items l.blocks loss followed);
+          (lawful_after b c.loop-now.reader rules s c.args.place c.args.to now l.blocks loss followed);
       in_progress = goes.in_progress;
       so_far = more ∙ ap₂ (λ (t : State) (is : List Item). (t, is)) (sym state_is) goes.nothing;
-      items_are = items_over b c.loop-now.reader rules now followed.same _ _ c.in_ok-next.ensures.items ∙ ap₂ (λ (is js : List Item). is ++ js) followed.items_are goes.nothing ∙ append-nil c.args.items.now;
     }
 
 pub loop-now-smaller : goal.loop-now-smaller
@@ -83,7 +84,7 @@ loop-now-smaller c =
     let now = c.loop-now.now in
     let followed = c.loop-now.invariant in
     let goes = subst (λ (signal : Signal). IsFollowed signal rules now c.follow.new.blocks (Inside c.in-Inside.next)) followed.same
-    (subst (λ (o : Due). IsFollowed c.loop-now.reader rules now c.follow.new.blocks o) c.in-Inside.is c.in_ok-next.ensures.followed) in
+    (subst (λ (o : Due). IsFollowed c.loop-now.reader rules now c.follow.new.blocks o) c.in-Inside.is c.follow.ensures.followed) in
     omega (arith, goes.due, c.loop-now-test.true)
 
 pub returns-in-Closed-clause-reached : goal.returns-in-Closed-clause-reached
@@ -97,22 +98,23 @@ returns-in-Closed-clause-reached c =
     let now = l.now in
     let followed = l.invariant in
     let soon = followed.lawful.soon in
-    let more = one_more b c.loop-now.reader rules s c.args.place c.args.to now c.args.items.now l.items l.blocks loss followed in
-    let state_is = c.state.ensures ∙ ap (λ (o : Due). state_of o) (sym c.in-Closed.is) ∙ state_over b c.loop-now.reader rules now followed.same _ c.in_ok-next.ensures.state in
+    let more = one_more b c.loop-now.reader rules s c.args.place c.args.to now l.blocks loss followed in
+    let state_is = c.state.ensures ∙ ap (λ (o : Due). state_of o) (sym c.in-Closed.is) ∙ state_over b c.loop-now.reader rules now followed.same _ c.follow.ensures.state in
     let given = subst (λ (signal : Signal). IsFollowed signal rules now c.follow.new.blocks (Closed c.in-Closed.next)) followed.same
-    (subst (λ (o : Due). IsFollowed c.loop-now.reader rules now c.follow.new.blocks o) c.in-Closed.is c.in_ok-next.ensures.followed) in
-    let last : now.due + 1 - 1 ≡ now.due = omega arith in (
-      record {
-        forward = omega (arith, followed.from_on, soon.0);
-        limit = omega (arith, c.loop-now-test.true);
-        state = state_is ∙ sym (ap (λ (r : State × List Item). r.0) more);
-        quiet = rw last (ap (λ (r : State × List Item). r.1) (waited b c.loop-now.reader rules s c.args.place c.args.to now c.args.items.now l.items l.blocks loss followed now.due soon.0 (omega arith)));
-        ended = inr (λ none. given (sym (ap (λ (r : State × List Item). r.1) more) ∙ none));
-        lawful = subst (λ (t : State). IsLawful rules (now.due + 1) t) (sym state_is)
-            (lawful_after b c.loop-now.reader rules s c.args.place c.args.to now c.args.items.now l.items l.blocks loss followed);
-      },
-      items_over b c.loop-now.reader rules now followed.same _ _ c.in_ok-next.ensures.items ∙ ap₂ (λ (is js : List Item). is ++ js) followed.items_are (sym (ap (λ (r : State × List Item). r.1) more)),
-    )
+    (subst (λ (o : Due). IsFollowed c.loop-now.reader rules now c.follow.new.blocks o) c.in-Closed.is c.follow.ensures.followed) in
+    let last : now.due + 1 - 1 ≡ now.due = omega arith in
+    let items_are = ap (λ (g : GroupRecord). Group g ∷ []) c.closed_group.ensures
+    ∙ ap (λ (o : Due). items_of_due now c.follow.new.blocks o) (sym c.in-Closed.is) ∙ items_over b c.loop-now.reader rules now followed.same _ c.follow.ensures.items in
+    record {
+      forward = omega (arith, followed.from_on, soon.0);
+      limit = omega (arith, c.loop-now-test.true);
+      state = state_is ∙ sym (ap (λ (r : State × List Item). r.0) more);
+      items = items_are ∙ sym (ap (λ (r : State × List Item). r.1) more);
+      quiet = rw last (ap (λ (r : State × List Item). r.1) (waited b c.loop-now.reader rules s c.args.place c.args.to now l.blocks loss followed now.due soon.0 (omega arith)));
+      ended = inr (λ none. given (sym items_are ∙ none));
+      lawful = subst (λ (t : State). IsLawful rules (now.due + 1) t) (sym state_is)
+          (lawful_after b c.loop-now.reader rules s c.args.place c.args.to now l.blocks loss followed);
+    }
 
 pub returns-in-Lost-clause-reached : goal.returns-in-Lost-clause-reached
 returns-in-Lost-clause-reached c =
@@ -125,22 +127,23 @@ returns-in-Lost-clause-reached c =
     let now = l.now in
     let followed = l.invariant in
     let soon = followed.lawful.soon in
-    let more = one_more b c.loop-now.reader rules s c.args.place c.args.to now c.args.items.now l.items l.blocks loss followed in
-    let state_is = ap (λ (o : Due). state_of o) (sym c.in-Lost.is) ∙ state_over b c.loop-now.reader rules now followed.same _ c.in_ok-next.ensures.state in
+    let more = one_more b c.loop-now.reader rules s c.args.place c.args.to now l.blocks loss followed in
+    let state_is = ap (λ (o : Due). state_of o) (sym c.in-Lost.is) ∙ state_over b c.loop-now.reader rules now followed.same _ c.follow.ensures.state in
     let given = subst (λ (signal : Signal). IsFollowed signal rules now c.follow.new.blocks Lost) followed.same
-    (subst (λ (o : Due). IsFollowed c.loop-now.reader rules now c.follow.new.blocks o) c.in-Lost.is c.in_ok-next.ensures.followed) in
-    let last : now.due + 1 - 1 ≡ now.due = omega arith in (
-      record {
-        forward = omega (arith, followed.from_on, soon.0);
-        limit = omega (arith, c.loop-now-test.true);
-        state = state_is ∙ sym (ap (λ (r : State × List Item). r.0) more);
-        quiet = rw last (ap (λ (r : State × List Item). r.1) (waited b c.loop-now.reader rules s c.args.place c.args.to now c.args.items.now l.items l.blocks loss followed now.due soon.0 (omega arith)));
-        ended = inr (λ none. given (sym (ap (λ (r : State × List Item). r.1) more) ∙ none));
-        lawful = subst (λ (t : State). IsLawful rules (now.due + 1) t) (sym state_is)
-            (lawful_after b c.loop-now.reader rules s c.args.place c.args.to now c.args.items.now l.items l.blocks loss followed);
-      },
-      items_over b c.loop-now.reader rules now followed.same _ _ c.in_ok-next.ensures.items ∙ ap₂ (λ (is js : List Item). is ++ js) followed.items_are (sym (ap (λ (r : State × List Item). r.1) more)),
-    )
+    (subst (λ (o : Due). IsFollowed c.loop-now.reader rules now c.follow.new.blocks o) c.in-Lost.is c.follow.ensures.followed) in
+    let last : now.due + 1 - 1 ≡ now.due = omega arith in
+    let items_are = ap (λ (g : GroupRecord). Group g ∷ LostLock now.due ∷ []) c.closed_group-in-Lost.ensures
+    ∙ ap (λ (o : Due). items_of_due now c.follow.new.blocks o) (sym c.in-Lost.is) ∙ items_over b c.loop-now.reader rules now followed.same _ c.follow.ensures.items in
+    record {
+      forward = omega (arith, followed.from_on, soon.0);
+      limit = omega (arith, c.loop-now-test.true);
+      state = state_is ∙ sym (ap (λ (r : State × List Item). r.0) more);
+      items = items_are ∙ sym (ap (λ (r : State × List Item). r.1) more);
+      quiet = rw last (ap (λ (r : State × List Item). r.1) (waited b c.loop-now.reader rules s c.args.place c.args.to now l.blocks loss followed now.due soon.0 (omega arith)));
+      ended = inr (λ none. given (sym items_are ∙ none));
+      lawful = subst (λ (t : State). IsLawful rules (now.due + 1) t) (sym state_is)
+          (lawful_after b c.loop-now.reader rules s c.args.place c.args.to now l.blocks loss followed);
+    }
 
 pub returns-clause-reached : goal.returns-clause-reached
 returns-clause-reached c =
@@ -152,16 +155,15 @@ returns-clause-reached c =
     let l = c.loop-now in
     let now = l.now in
     let followed = l.invariant in
-    let wait = waited b c.loop-now.reader rules s c.args.place c.args.to now c.args.items.now l.items l.blocks loss followed c.args.to followed.limit c.loop-now-test.false in
-    let nothing = ap (λ (r : State × List Item). r.1) wait in (
-      record {
-        forward = c.requires.order;
-        limit = omega arith;
-        state = c.state-2.ensures ∙ sym (ap (λ (r : State × List Item). r.0) wait);
-        quiet = run-quiet b rules s c.args.place c.args.to c.requires.order nothing;
-        ended = inl refl;
-        lawful = subst (λ (t : State). IsLawful rules c.args.to t) (sym c.state-2.ensures)
-            (lawful-waiting rules followed.next c.args.to now.due now.number now.bad now.first followed.lawful followed.limit c.loop-now-test.false);
-      },
-      followed.items_are ∙ sym (append-nil c.args.items.now) ∙ ap (λ (is : List Item). c.args.items.now ++ is) (sym nothing),
-    )
+    let wait = waited b c.loop-now.reader rules s c.args.place c.args.to now l.blocks loss followed c.args.to followed.limit c.loop-now-test.false in
+    let nothing = ap (λ (r : State × List Item). r.1) wait in
+    record {
+      forward = c.requires.order;
+      limit = omega arith;
+      state = c.state-2.ensures ∙ sym (ap (λ (r : State × List Item). r.0) wait);
+      items = sym nothing;
+      quiet = run-quiet b rules s c.args.place c.args.to c.requires.order nothing;
+      ended = inl refl;
+      lawful = subst (λ (t : State). IsLawful rules c.args.to t) (sym c.state-2.ensures)
+          (lawful-waiting rules followed.next c.args.to now.due now.number now.bad now.first followed.lawful followed.limit c.loop-now-test.false);
+    }

@@ -1,7 +1,6 @@
 use Rattle.std.proofs.Common.{◌≡◌, ◌≤◌, ◌-◌, ℕ, List, []}
 use Rattle.rds_stream.specs.Recording.{Signal}
 use Rattle.rds_sync.specs.declared.item.Block.{Block}
-use Rattle.rds_sync.specs.declared.item.Item.{Item}
 use Rattle.rds_sync.specs.declared.due.Lock.{Lock}
 use Rattle.rds_sync.specs.declared.state.State.{State}
 use Rattle.rds_sync.specs.declared.state.State.TheVariants.{Locked}
@@ -13,7 +12,7 @@ use Rattle.rds_sync.proofs.stretches.keep_lock.Given as goal
 
 -- the run from state s is in this lock before the bit at some place, with the blocks of its group, and gave nothing; what was read
 -- is the recording
-pub record HasFollowed (b read : Signal) (rules : RuleNumbers) (s : State) (place to : ℕ) (before : List Item) (now : Lock) (blocks : List Block) (items : List Item) : Type 0 where
+pub record HasFollowed (b read : Signal) (rules : RuleNumbers) (s : State) (place to : ℕ) (now : Lock) (blocks : List Block) : Type 0 where
   pub same : read ≡ b
   pub next : ℕ
   pub from_on : place ≤ next
@@ -21,10 +20,9 @@ pub record HasFollowed (b read : Signal) (rules : RuleNumbers) (s : State) (plac
   pub lawful : IsLawfulLock rules next now.due now.number now.bad now.first
   pub in_progress : IsInProgress b rules now blocks
   pub so_far : run b rules s place (next - place) ≡ (Locked now.due now.number now.bad now.first, [])
-  pub items_are : items ≡ before
 
 abbrev pub invariant-loop-now : goal.invariant-loop-now
-invariant-loop-now l = HasFollowed l.fn.reader l.reader l.rules (Locked l.fn.lock.due l.fn.lock.number l.fn.lock.bad l.fn.lock.first) l.place l.to l.initial.items l.now l.blocks l.items
+invariant-loop-now l = HasFollowed l.fn.reader l.reader l.rules (Locked l.fn.lock.due l.fn.lock.number l.fn.lock.bad l.fn.lock.first) l.place l.to l.now l.blocks
 
 abbrev pub decreases-loop-now : goal.decreases-loop-now
 decreases-loop-now l = l.to - l.now.due

@@ -1,4 +1,4 @@
-use Rattle.std.proofs.Common.{◌≡◌, ◌≤◌, ◌<◌, ◌+◌, ◌-◌, ◌++◌, ℕ, true, false, List, Some, None, refl, ap, sym, subst, ◌∙◌, arith, append-nil, inl, inr}
+use Rattle.std.proofs.Common.{◌≡◌, ◌≤◌, ◌<◌, ◌+◌, ◌-◌, ℕ, true, false, List, Some, None, refl, ap, sym, subst, ◌∙◌, arith, inl, inr}
 use Rattle.std.specs.List.{list_any, range_with_len}
 use Rattle.std.proofs.lemmas.Bool.{cases_lt}
 use Rattle.rds_code.specs.declared.offset.Offset.{Offset}
@@ -8,7 +8,6 @@ use Rattle.rds_sync.specs.declared.item.Item.{Item}
 use Rattle.rds_sync.specs.declared.state.State.{State}
 use Rattle.rds_sync.specs.declared.state.State.TheVariants.{Searching}
 use Rattle.rds_sync.specs.Acquiring.{acquired, has_partner}
-use Rattle.rds_sync.specs.Advance.{items_in}
 use Rattle.rds_sync.specs.Lawful.{IsLawful}
 use Rattle.rds_sync.specs.Rules.{RuleNumbers}
 use Rattle.rds_sync.specs.Loss.{none_bad}
@@ -21,8 +20,8 @@ use Rattle.rds_sync.proofs.HeardLemmas.{acquired-offset}
 use Rattle.rds_sync.proofs.stretches.search.Invariants.{HasSearched}
 use Rattle.rds_sync.proofs.stretches.search.Goals as goal
 
-module _ (b read : Signal) (rules : RuleNumbers) (place to : ℕ) (old : WindowsLeft) (before items : List Item)
-    (searched : HasSearched b read rules place to old before items) where
+module _ (b read : Signal) (rules : RuleNumbers) (place to : ℕ) (old : WindowsLeft)
+    (searched : HasSearched b read rules place to old) where
   -- no place acquires up to one before which no window is valid
   none_before : (p : ℕ) → NoneValid old.signal old.next p → (j : ℕ) → place ≤ j → j < p → acquired b rules j ≡ None
   none_before p none j low high = elim (cases_lt j old.next) [
@@ -31,9 +30,9 @@ module _ (b read : Signal) (rules : RuleNumbers) (place to : ℕ) (old : Windows
   ]
 
   -- the window that is given next does not acquire
-  one_more : (found : ℕ × Offset) (new : WindowsLeft) → GivesFirst old (Some found) new → acquired b rules found.0 ≡ None → HasSearched b read rules place to new before items
+  one_more : (found : ℕ × Offset) (new : WindowsLeft) → GivesFirst old (Some found) new → acquired b rules found.0 ≡ None → HasSearched b read rules place to new
   one_more found new gives this =
-      subst (λ (left : WindowsLeft). HasSearched b read rules place to left before items) (sym gives.4) (record {
+      subst (λ (left : WindowsLeft). HasSearched b read rules place to left) (sym gives.4) (record {
         same = searched.same;
         signal = searched.signal;
         end = searched.end;
@@ -44,7 +43,6 @@ module _ (b read : Signal) (rules : RuleNumbers) (place to : ℕ) (old : Windows
               let same : found.0 ≡ j = omega (arith, high) in
               subst (λ (i : ℕ). acquired b rules i ≡ None) same this
         ];
-        nothing = searched.nothing;
       })
 
   offset_is : (found : ℕ × Offset) (new : WindowsLeft) → GivesFirst old (Some found) new → off b found.0 ≡ Some found.1
@@ -65,23 +63,23 @@ loop-here-preserved c =
     let searched = c.loop-here.invariant.2 in
     let old = c.loop-here.here-iterator in
     let given = c.in-Some.ensures.steps in
-    let is = offset_is b c.loop-here.reader rules c.args.place c.args.to old c.args.items.now c.loop-here.items searched (here, offset) c.next.new.self given in
+    let is = offset_is b c.loop-here.reader rules c.args.place c.args.to old searched (here, offset) c.next.new.self given in
     let partner_is = c.has_partner_in.ensures
     ∙ ap (λ (signal : Signal). list_any (has_partner signal here c.number-number.result) (range_with_len 1 rules.reach)) c.recording-rec.ensures in
     let none = acquired-offset b rules here c.number-number.result offset c.has_partner_in.result false
     is c.number-number.ensures partner_is c.if-has_partner_in.false in
-    (tt, tt, one_more b c.loop-here.reader rules c.args.place c.args.to old c.args.items.now c.loop-here.items searched (here, offset) c.next.new.self given none)
+    (tt, tt, one_more b c.loop-here.reader rules c.args.place c.args.to old searched (here, offset) c.next.new.self given none)
 
 pub window-requires-clause-first : goal.window-requires-clause-first
 window-requires-clause-first c =
     off-place c.args.reader.now c.in-Some.here c.in-Some.offset
-    (offset_is c.args.reader.now c.loop-here.reader c.args.rules.now c.args.place c.args.to c.loop-here.here-iterator c.args.items.now c.loop-here.items
+    (offset_is c.args.reader.now c.loop-here.reader c.args.rules.now c.args.place c.args.to c.loop-here.here-iterator
     c.loop-here.invariant.2 (c.in-Some.here, c.in-Some.offset) c.next.new.self c.in-Some.ensures.steps)
 
 pub items-requires : goal.items-requires
 items-requires c =
     let late = off-place c.args.reader.now c.in-Some.here c.in-Some.offset
-    (offset_is c.args.reader.now c.loop-here.reader c.args.rules.now c.args.place c.args.to c.loop-here.here-iterator c.args.items.now c.loop-here.items
+    (offset_is c.args.reader.now c.loop-here.reader c.args.rules.now c.args.place c.args.to c.loop-here.here-iterator
     c.loop-here.invariant.2 (c.in-Some.here, c.in-Some.offset) c.next.new.self c.in-Some.ensures.steps) in
     record { block = (late, c.window.ensures.block) }
 
@@ -98,9 +96,9 @@ returns-then-has_partner_in-clause-reached c =
     let old = c.loop-here.here-iterator in
     let given = c.in-Some.ensures.steps in
     let number = c.number-number.result in
-    let is = offset_is b c.loop-here.reader rules c.args.place c.args.to old c.args.items.now c.loop-here.items searched (here, offset) c.next.new.self given in
-    let range = from_here b c.loop-here.reader rules c.args.place c.args.to old c.args.items.now c.loop-here.items searched (here, offset) c.next.new.self given in
-    let none = none_before b c.loop-here.reader rules c.args.place c.args.to old c.args.items.now c.loop-here.items searched here given.2 in
+    let is = offset_is b c.loop-here.reader rules c.args.place c.args.to old searched (here, offset) c.next.new.self given in
+    let range = from_here b c.loop-here.reader rules c.args.place c.args.to old searched (here, offset) c.next.new.self given in
+    let none = none_before b c.loop-here.reader rules c.args.place c.args.to old searched here given.2 in
     let partner_is = c.has_partner_in.ensures
     ∙ ap (λ (signal : Signal). list_any (has_partner signal here number) (range_with_len 1 rules.reach)) c.recording-rec.ensures in
     let e : acquired b rules here ≡ Some number =
@@ -112,36 +110,32 @@ returns-then-has_partner_in-clause-reached c =
     ∙ ap (λ (loss : Loss). locked_after here number (none_bad loss) number) c.loss.ensures.value
     ∙ sym (step-acquiring b rules here number e) in
     let given = c.items.ensures b (c.window.ensures.value ∙ ap (λ (signal : Signal). heard signal here) searched.same) ∙ sym (items-acquiring b rules here number e) in
-    let last : here + 1 - 1 ≡ here = omega arith in (
-      record {
-        forward = omega (arith, range.0);
-        limit = omega (arith, range.1);
-        state = state_is ∙ sym (ap (λ (r : State × List Item). r.0) run_is);
-        quiet = rw last (ap (λ (r : State × List Item). r.1) (run-unfound b rules c.args.place here range.0 none));
-        ended = inr (some_given _ _ _ (ap (λ (r : State × List Item). r.1) run_is ∙ items-acquiring b rules here number e));
-        lawful = subst (λ (t : State). IsLawful rules (here + 1) t) (sym state_is)
-            (lawful-step b rules c.loss.ensures.range.some_loss here Searching tt);
-      },
-      c.in_ok-push_found.ensures.ok
-          ∙ ap (λ (is : List Item). is ++ items_in c.items.result) searched.nothing
-          ∙ ap (λ (is : List Item). c.args.items.now ++ is) (given ∙ sym (ap (λ (r : State × List Item). r.1) run_is)),
-    )
+    let last : here + 1 - 1 ≡ here = omega arith in
+    record {
+      forward = omega (arith, range.0);
+      limit = omega (arith, range.1);
+      state = state_is ∙ sym (ap (λ (r : State × List Item). r.0) run_is);
+      items = given ∙ sym (ap (λ (r : State × List Item). r.1) run_is);
+      quiet = rw last (ap (λ (r : State × List Item). r.1) (run-unfound b rules c.args.place here range.0 none));
+      ended = inr (some_given _ _ _ (given ∙ items-acquiring b rules here number e));
+      lawful = subst (λ (t : State). IsLawful rules (here + 1) t) (sym state_is)
+          (lawful-step b rules c.loss.ensures.range.some_loss here Searching tt);
+    }
 
 pub returns-clause-reached : goal.returns-clause-reached
 returns-clause-reached c =
     let b = c.args.reader.now in
     let rules = c.args.rules.now in
     let searched = c.loop-here.invariant.2 in
-    let none = all b c.loop-here.reader rules c.args.place c.args.to c.loop-here.here-iterator c.args.items.now c.loop-here.items searched c.next.new.self c.in-None.ensures.steps in
+    let none = all b c.loop-here.reader rules c.args.place c.args.to c.loop-here.here-iterator searched c.next.new.self c.in-None.ensures.steps in
     let run_is = run-unfound b rules c.args.place c.args.to (omega arith) none in
-    let nothing = ap (λ (r : State × List Item). r.1) run_is in (
-      record {
-        forward = c.requires.order;
-        limit = omega arith;
-        state = sym (ap (λ (r : State × List Item). r.0) run_is);
-        quiet = run-quiet b rules Searching c.args.place c.args.to c.requires.order nothing;
-        ended = inl refl;
-        lawful = tt;
-      },
-      searched.nothing ∙ sym (ap (λ (is : List Item). c.args.items.now ++ is) nothing ∙ append-nil c.args.items.now),
-    )
+    let nothing = ap (λ (r : State × List Item). r.1) run_is in
+    record {
+      forward = c.requires.order;
+      limit = omega arith;
+      state = sym (ap (λ (r : State × List Item). r.0) run_is);
+      items = sym nothing;
+      quiet = run-quiet b rules Searching c.args.place c.args.to c.requires.order nothing;
+      ended = inl refl;
+      lawful = tt;
+    }

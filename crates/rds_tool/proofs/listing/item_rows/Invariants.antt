@@ -7,5 +7,5 @@ use Rattle.rds_tool.proofs.listing.item_rows.Given as goal
 abbrev pub invariant-loop-item : goal.invariant-loop-item
 invariant-loop-item l = record {
   between : IsBetween l.rows;
-  text : text_of l.rows ++ flat_map item_row l.item-iterator ≡ flat_map item_row (take (l.to - l.from) (drop l.from l.items));
+  text : text_of l.rows ++ flat_map item_row l.item-iterator ≡ flat_map item_row (take (l.to - l.from) (drop l.from l.items.list));
 }

@@ -8,5 +8,5 @@ use Rattle.rds_tool.proofs.threaded.gather.Given as goal
 abbrev pub invariant-loop-text : goal.invariant-loop-text
 invariant-loop-text l = record {
   rest : into_iter_items l.text-iterator ≡ drop (length l.texts.items) l.fn.made.items;
-  joined : joined l.texts.items ≡ flat_map item_row (take (length l.texts.items * l.size) l.items);
+  joined : joined l.texts.items ≡ flat_map item_row (take (length l.texts.items * l.size) l.items.list);
 }

@@ -7,7 +7,7 @@ use Rattle.rds_uses.proofs.pieces.cost_of_join_behind_search.Goals as goal
 
 pub returns : goal.returns
 returns g c =
-    let r = c.args.right.now in
+    let r = c.args.right in
     let first = first_meeting (g.T.Tape.signal c.args.tape.now) c.args.rules.now r.from r.to c.from.ensures.inside.0 in
     let way = c.join_runs.ensures.reads_way (Some r.from)
     (subst (λ (s : State). IsMeeting (g.T.Tape.signal c.args.tape.now) c.args.rules.now s Searching r.from r.to (Some r.from)) (sym c.requires.search) first) in

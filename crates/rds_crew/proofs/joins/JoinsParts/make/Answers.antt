@@ -15,4 +15,4 @@ returns-clause-ok g c =
     let b = g.W.Work.recording c.args.self.now.work.now in
     let m = c.args.number in
     let pair = joined_at b (g.W.Work.rule_set c.args.self.now.work.now) 0 (length_of b) c.args.self.now.below.now m (m * 2) (m * 2 + 1) c.index-self-left.result c.index-self-left-2.result c.requires.ready refl refl c.requires.below in
-    c.in_ok-run.ensures.ok ∙ sym pair.1
+    c.in_ok-joint.ensures.ok ∙ sym pair.1

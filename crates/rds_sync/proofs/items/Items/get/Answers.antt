@@ -1,15 +1,18 @@
-use Rattle.std.proofs.Common.{◌<◌, List, length, slice_get, ap, sym, ◌∙◌, arith}
+use Rattle.std.proofs.Common.{List, length, ap, subst, arith}
+use Rattle.std.specs.Iterator.{YieldsFirst}
 use Rattle.rds_sync.specs.declared.item.Item.{Item}
-use Rattle.rds_sync.specs.Inside.Parts.{items_in}
-use Rattle.rds_sync.proofs.PartsLemmas.{found_there}
+use Rattle.rds_sync.specs.Decoding.{ItemsOf}
+use Rattle.rds_sync.proofs.RangeLemmas.{range_first, range_past}
 use Rattle.rds_sync.proofs.items.Items.get.Goals as goal
 
-pub returns : goal.returns
-returns c =
-    let rest = c.parts_from-left.result.0.now in
-    let left = c.parts_from-left.result.1 in
-    let at = c.parts_from-left.ensures in
-    let whole = ap (λ (parts : List (List Item)). items_in parts) c.deref.ensures.value ∙ c.self.view_is in
-    let within : c.args.i < length (items_in c.deref.result.now) = omega (arith, c.requires, ap (λ (is : List Item). length is) whole) in
-    ap (λ (is : List Item). slice_get is c.args.i) (sym whole)
-    ∙ found_there c.deref.result.now rest c.index-parts-0.result c.args.i left c.get.result within at.inside c.index-parts-0.is c.get.ensures at.same
+pub returns-then-i-self : goal.returns-then-i-self
+returns-then-i-self c =
+    let list = c.args.self.now.list in
+    let len = ap (λ (items : ItemsOf). length items.list) c.self.view_is in
+    range_first list c.args.i c.next.result c.next.new.self (omega (arith, c.if-i-self.true, c.self.invariant.count, len))
+    (subst (λ (is : List Item). YieldsFirst (λ (left : List Item). left) is c.next.result c.next.new.self) c.range.ensures c.next.ensures.steps)
+
+pub returns-else-i-self : goal.returns-else-i-self
+returns-else-i-self c =
+    let len = ap (λ (items : ItemsOf). length items.list) c.self.view_is in
+    range_past c.args.self.now.list c.args.i (omega (arith, c.if-i-self.false, c.self.invariant.count, len))

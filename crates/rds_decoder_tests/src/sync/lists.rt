@@ -1,0 +1,190 @@
+//! Lists of items as spans of runs, against plain lists of them.
+ghost use Rattle.std.specs.Prelude.{◌≡◌, ◌≤◌, IfOk};
+ghost use Rattle.rds_stream.specs.Recording.{length_of};
+
+use crate::samples::{Sample, Signal};
+use crate::sync::codes::kept_run;
+use crate::sync::steps::by_steps;
+use rds_sync::{Items, State, SyncError, decode_plain};
+use std::alloc::Global;
+use std::snapshot::Snapshot;
+use std::test::Fail;
+use std::thread;
+use std::thread::Threads;
+
+/// The list of a sample's report.
+fn listed(alloc: Global, sample: &Sample) -> Result<Items, SyncError>
+    ensures source { IfOk result (λ list. list.source ≡ sample.now.recording) }
+    ensures rules { IfOk result (λ list. list.rules ≡ sample.now.rules) }
+{
+    Ok(decode_plain(alloc, &sample.recording, &sample.rules)?.items)
+}
+
+/// Whether the items in that range are those of the sample.
+fn is_range(sample: &Sample, list: &Items, from: usize, to: usize) -> bool
+    requires source { list.now.source ≡ sample.now.recording }
+    requires rules { list.now.rules ≡ sample.now.rules }
+{
+    if to < from || list.len().min(sample.items.len()) < to {
+        return false;
+    }
+    let range = list.range(&sample.recording, &sample.rules, from, to);
+    range.len() == to - from && range.eq(sample.items[from..to].iter().copied())
+}
+
+/// Whether item by item they are those of the sample.
+fn is_each(sample: &Sample, list: &Items) -> bool
+    requires source { list.now.source ≡ sample.now.recording }
+    requires rules { list.now.rules ≡ sample.now.rules }
+{
+    let (rec, rules) = (&sample.recording, &sample.rules);
+    for (number, item) in sample.items.iter().enumerate() {
+        if list.get(rec, rules, number) != Some(*item) {
+            return false;
+        }
+    }
+    list.get(rec, rules, sample.items.len()).is_none() && list.get(rec, rules, usize::MAX).is_none()
+}
+
+/// Whether the list is that of the sample: as many, all in a row, and from each item on and up to it.
+fn is_list(sample: &Sample, list: &Items) -> bool
+    requires source { list.now.source ≡ sample.now.recording }
+    requires rules { list.now.rules ≡ sample.now.rules }
+{
+    let len = sample.items.len();
+    for number in 0..=len {
+        if !is_range(sample, list, number, len) || !is_range(sample, list, number / 2, number) {
+            return false;
+        }
+    }
+    let items = list.iter(&sample.recording, &sample.rules);
+    list.len() == len && list.is_empty() == (len == 0) && items.eq(sample.items.iter().copied())
+}
+
+/// Whether the items of a report come one by one, in each range and all in a row, as the steps over it give them.
+fn is_listed(alloc: Global, sample: &Sample) -> Result<bool, SyncError> {
+    let list = listed(alloc, sample)?;
+    let stepped = by_steps(alloc, &sample.recording, &sample.rules)?;
+    Ok(sample.items.starts_with(&stepped.items) && is_each(sample, &list) && is_list(sample, &list))
+}
+
+fn is_signal_listed(alloc: Global, signal: Signal) -> Result<bool, Fail> {
+    let answer = {
+        let sample = Sample::of(alloc, signal)?;
+        is_listed(alloc, &sample)
+    };
+    Ok(answer?)
+}
+
+#[test]
+fn a_list_gives_any_of_its_items(rt: HostRuntime) -> Result<(), Fail> {
+    for seed in 1..4u64 {
+        let signal = Signal::OfAllKinds(seed * 0x9E37_79B9, 60);
+        assert!(rt; is_signal_listed(rt.alloc(), signal)?, "{seed}");
+    }
+    assert!(rt; is_signal_listed(rt.alloc(), Signal::TwoBad)?);
+    assert!(rt; is_signal_listed(rt.alloc(), Signal::Silence(0))?);
+    Ok(())
+}
+
+/// Items of which a span begins with one, or one near it.
+const NEAR_SPANS: [usize; 9] = [0, 1, 1_023, 1_024, 1_025, 1_026, 2_047, 2_048, 2_050];
+
+/// Whether a report of more than two thousand items gives those from there on.
+fn is_long_list(alloc: Global, sample: &Sample) -> Result<bool, SyncError> {
+    let list = listed(alloc, sample)?;
+    for from in NEAR_SPANS {
+        for more in [0, 1, 2, 1_030] {
+            if !is_range(
+                sample,
+                &list,
+                from,
+                from.saturating_add(more).min(list.len()),
+            ) {
+                return Ok(false);
+            }
+        }
+    }
+    Ok(list.len() > 2_500 && is_range(sample, &list, 0, list.len()))
+}
+
+fn is_long_list_of_all_kinds(alloc: Global) -> Result<bool, Fail> {
+    let answer = {
+        let sample = Sample::of(alloc, Signal::OfAllKinds(23, 3_000))?;
+        is_long_list(alloc, &sample)
+    };
+    Ok(answer?)
+}
+
+#[test]
+fn a_list_of_several_spans_gives_the_items_at_their_ends(rt: HostRuntime) -> Result<(), Fail> {
+    assert!(rt; is_long_list_of_all_kinds(rt.alloc())?);
+    Ok(())
+}
+
+/// The list of a sample's report, in two spans: one up to the cut, and one behind it.
+fn in_two_spans(alloc: Global, sample: &Sample, cut: u64) -> Result<Items, SyncError>
+    requires { cut ≤ length_of sample.now.recording }
+    ensures source { IfOk result (λ list. list.source ≡ sample.now.recording) }
+    ensures rules { IfOk result (λ list. list.rules ≡ sample.now.rules) }
+{
+    let (rec, rules) = (&sample.recording, &sample.rules);
+    let (middle, before) = kept_run(alloc, rec, rules, State::Searching, 0, cut)?;
+    let (end, behind) = kept_run(alloc, rec, rules, middle, cut, rec.len())?;
+    let mut list = Items::none(alloc, Snapshot::of(rec), rules);
+    list.push_span(State::Searching, 0, cut, before.len())?;
+    let mut rest = Items::none(alloc, Snapshot::of(rec), rules);
+    rest.push_span(middle, cut, rec.len(), behind.len())?;
+    rest.close(end)?;
+    list.append(rest)?;
+    Ok(list)
+}
+
+/// Whether that list is the sample's wherever it is cut.
+fn is_list_anywhere(alloc: Global, sample: &Sample) -> Result<bool, SyncError> {
+    for cut in 0..=sample.recording.len() {
+        let list = in_two_spans(alloc, sample, cut)?;
+        if !is_list(sample, &list) {
+            return Ok(false);
+        }
+    }
+    Ok(true)
+}
+
+fn is_signal_list_anywhere(alloc: Global, signal: Signal) -> Result<bool, Fail> {
+    let answer = {
+        let sample = Sample::of(alloc, signal)?;
+        is_list_anywhere(alloc, &sample)
+    };
+    Ok(answer?)
+}
+
+#[test]
+fn lists_are_put_together_of_the_spans_before_and_behind_a_cut(
+    rt: HostRuntime,
+) -> Result<(), Fail> {
+    assert!(rt; is_signal_list_anywhere(rt.alloc(), Signal::TwoBad)?);
+    assert!(rt; is_signal_list_anywhere(rt.alloc(), Signal::OfAllKinds(5, 5))?);
+    Ok(())
+}
+
+/// How many items two threads find in one list.
+fn counted_by_two<R: Threads>(rt: &R, sample: &Sample, list: &Items) -> (usize, usize)
+    requires source { list.now.source ≡ sample.now.recording }
+    requires rules { list.now.rules ≡ sample.now.rules }
+{
+    let (one, other) = (
+        list.iter(&sample.recording, &sample.rules),
+        list.iter(&sample.recording, &sample.rules),
+    );
+    thread::join(rt, move || one.count(), move || other.count())
+}
+
+#[test]
+fn two_threads_read_one_list(rt: HostRuntime) -> Result<(), Fail> {
+    let sample = Sample::of(rt.alloc(), Signal::OfAllKinds(19, 60))?;
+    let list = listed(rt.alloc(), &sample)?;
+    let (one, other) = counted_by_two(&rt, &sample, &list);
+    assert!(rt; one == sample.items.len() && other == sample.items.len());
+    Ok(())
+}

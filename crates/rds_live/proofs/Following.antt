@@ -1,0 +1,191 @@
+-- What a decoder of a stream knows after further bytes.
+use Rattle.std.proofs.Common.{◌≡◌, ℕ, ◌+◌, ◌-◌, ◌*◌, ◌≤◌, ◌⊎◌, List, [], ◌∷◌, ◌++◌, length, drop, refl, sym, ap, ap₂, subst, ◌∙◌, arith, inl, inr}
+use Rattle.std.proofs.lemmas.Bool.{cases_lt}
+use Rattle.std.proofs.lemmas.List.{length-drop, length-append, drop-append-le, drop-drop}
+use Rattle.rds_stream.specs.Recording.{Signal, length_of}
+use Rattle.rds_sync.specs.declared.state.State.{State}
+use Rattle.rds_sync.specs.declared.state.State.TheVariants.{Searching, Locked}
+use Rattle.rds_sync.specs.declared.item.Item.{Item}
+use Rattle.rds_sync.specs.declared.item.Item.TheVariants.{Acquired, Group, LostLock}
+use Rattle.rds_sync.specs.Rules.{RuleNumbers}
+use Rattle.rds_sync.specs.Ranges.{IsInRange}
+use Rattle.rds_sync.specs.Lawful.{IsLawful}
+use Rattle.rds_sync.specs.Laws.{RunsJoin}
+use Rattle.rds_sync.specs.declared.totals.Totals.{Totals}
+use Rattle.rds_sync.specs.CodeLaws.{CodesTellTotals}
+use Rattle.rds_sync.specs.Codes.{Code, code_of, codes_of, totals_of_codes}
+use Rattle.rds_sync.specs.Counting.{TotalsJoin, plus}
+use Rattle.rds_sync.specs.Totals.{totals_of}
+use Rattle.rds_sync.specs.Step.{run}
+use Rattle.rds_live.specs.Moving.{RunsMove, IsPartHeard, moved_state, moved_item, moved_items, most_behind}
+use Rattle.rds_live.specs.Live.{LiveOf, signal_of, run_of, complete, last_bytes, live_of, most_kept}
+use Rattle.rds_live.proofs.Parts.{length-signal, part-heard, first-part, last-part}
+
+-- moved by nothing
+pub still-state : (s : State) → moved_state 0 s ≡ s
+still-state Searching = refl
+still-state (Locked due x bad f) = let e : due + 0 ≡ due = omega arith in ap (λ (p : ℕ). Locked p x bad f) e
+
+still-item : (item : Item) → moved_item 0 item ≡ item
+still-item (Acquired a x) = let e : a + 0 ≡ a = omega arith in ap (λ (p : ℕ). Acquired p x) e
+still-item (Group g) = let e : g.place + 0 ≡ g.place = omega arith in ap (λ (p : ℕ). Group (record g { place = p })) e
+still-item (LostLock a) = let e : a + 0 ≡ a = omega arith in ap (λ (p : ℕ). LostLock p) e
+
+pub still-items : (items : List Item) → moved_items 0 items ≡ items
+still-items [] = refl
+still-items (item ∷ items) = ap₂ (λ (x : Item) (xs : List Item). x ∷ xs) (still-item item) (still-items items)
+
+-- codes and totals do not depend on places
+code-moved : (d : ℕ) (item : Item) → code_of (moved_item d item) ≡ code_of item
+code-moved d (Acquired a x) = refl
+code-moved d (Group g) = refl
+code-moved d (LostLock a) = refl
+
+codes-moved : (d : ℕ) (items : List Item) → codes_of (moved_items d items) ≡ codes_of items
+codes-moved d [] = refl
+codes-moved d (item ∷ items) = ap₂ (λ (x : Code) (xs : List Code). x ∷ xs) (code-moved d item) (codes-moved d items)
+
+pub totals-moved : CodesTellTotals → (d : ℕ) (items : List Item) → totals_of (moved_items d items) ≡ totals_of items
+totals-moved tell d items = tell (moved_items d items) ∙ ap totals_of_codes (codes-moved d items) ∙ sym (tell items)
+
+pub lawful-moved : (rules : RuleNumbers) (d place : ℕ) (s : State) → IsLawful rules place s → IsLawful rules (place + d) (moved_state d s)
+lawful-moved rules d place Searching h = tt
+lawful-moved rules d place (Locked due x bad f) h = record {
+  soon = (omega (arith, h.soon), omega (arith, h.soon));
+  few_bad = h.few_bad;
+  enough_bits = omega (arith, h.enough_bits);
+  in_order = h.in_order;
+}
+
+-- and back, where that is to before the group in progress
+pub lawful-back : (rules : RuleNumbers) (d from place : ℕ) (s t : State) → moved_state d s ≡ t → IsLawful rules place t → from + d ≡ place → (d ≡ 0) ⊎ (most_behind ≤ from)
+    → IsLawful rules from s
+lawful-back rules d from place Searching t is h there early = tt
+lawful-back rules d from place (Locked due x bad f) t is h there early =
+    let l : IsLawful rules place (Locked (due + d) x bad f) = subst (λ (u : State). IsLawful rules place u) (sym is) h in
+    let short : 26 * (x - f) ≤ 78 = (elim l.in_order [ inl between ↦ omega arith | inr inside ↦ omega arith ]) in
+    record {
+      soon = (omega (arith, l.soon, there), omega (arith, l.soon, there));
+      few_bad = l.few_bad;
+      enough_bits = (elim early [ inl first ↦ omega (arith, l.enough_bits) | inr late ↦ omega (arith, l.soon, there, short) ]);
+      in_order = l.in_order;
+    }
+
+-- the last bytes of all are the last of the last ones and those that follow
+pub last-bytes : (bytes more : List ℕ) → last_bytes (last_bytes bytes ++ more) ≡ last_bytes (bytes ++ more)
+last-bytes bytes more =
+    let k : ℕ = length bytes - most_kept in
+    let is : drop k (bytes ++ more) ≡ drop k bytes ++ more = drop-append-le k bytes more (omega arith) in
+    let kept : length (drop k bytes ++ more) ≡ length bytes - k + length more =
+    omega (arith, length-append (drop k bytes) more, length-drop k bytes) in
+    let left : k + (length (drop k bytes ++ more) - most_kept) ≡ length (bytes ++ more) - most_kept =
+    omega (arith, length-append bytes more, kept) in
+    ap (drop (length (drop k bytes ++ more) - most_kept)) (sym is) ∙ drop-drop (length (drop k bytes ++ more) - most_kept) k (bytes ++ more)
+    ∙ ap (λ (n : ℕ). drop n (bytes ++ more)) left
+
+module _ (rules : RuleNumbers) (range : IsInRange rules) (joins : RunsJoin) (moves : RunsMove) (bytes more : List ℕ) where
+  whole : Signal
+  whole = signal_of (bytes ++ more)
+
+  -- the run over all that was heard before
+  run-before : run (signal_of (bytes ++ more)) rules Searching 0 (8 * length bytes) ≡ run_of rules bytes
+  run-before =
+      let heard : IsPartHeard (signal_of (bytes ++ more)) (signal_of bytes) (8 * 0) 0 = part-heard (bytes ++ more) bytes 0 (first-part bytes more) 0 (inl refl) in
+      moves (signal_of (bytes ++ more)) (signal_of bytes) rules 0 Searching 0 (8 * length bytes) range.some_loss range.reach tt heard (omega (arith, length-signal bytes))
+      ∙ ap₂ (λ (s : State) (items : List Item). (s, items)) (still-state (run_of rules bytes).0) (still-items (run_of rules bytes).1)
+
+  module _ (tail : List ℕ) (place from before : ℕ) (local : State) (part : Signal) where
+    pub record IsPrepared : Type 0 where
+      pub tail_is : tail ≡ last_bytes bytes
+      pub place_is : place ≡ 8 * length bytes
+      pub part_is : part ≡ signal_of (tail ++ more)
+      pub from_is : from ≡ 8 * length tail
+      pub before_is : before ≡ place - from
+      pub local_is : moved_state before local ≡ (run_of rules bytes).0
+      pub lawful : IsLawful rules from local
+
+    pub run-after : IsPrepared → run_of rules (bytes ++ more)
+        ≡ (moved_state before (run part rules local from (length_of part - from)).0, complete rules bytes ++ moved_items before (run part rules local from (length_of part - from)).1)
+    run-after p =
+        let kept : length tail ≡ length bytes - (length bytes - most_kept) =
+        ap (λ (xs : List ℕ). length xs) p.tail_is ∙ length-drop (length bytes - most_kept) bytes in
+        let k : ℕ = length bytes - most_kept in
+        let cut : before ≡ 8 * k = omega (arith, p.before_is, p.place_is, p.from_is, kept) in
+        let early : (8 * k ≡ 0) ⊎ (most_behind ≤ from) = (elim (cases_lt (length bytes) 31) [
+          | inl few ↦ inl (omega arith)
+          | inr many ↦ inr (omega (arith, p.from_is, kept))
+        ]) in
+        let heard : IsPartHeard (signal_of (bytes ++ more)) (signal_of (last_bytes bytes ++ more)) (8 * k) from = part-heard (bytes ++ more) (last_bytes bytes ++ more) k (last-part bytes more) from early in
+        let is_part : part ≡ signal_of (last_bytes bytes ++ more) = p.part_is ∙ ap (λ (xs : List ℕ). signal_of (xs ++ more)) p.tail_is in
+        let heard_part : IsPartHeard (signal_of (bytes ++ more)) part before from =
+        subst (λ (b : Signal). IsPartHeard (signal_of (bytes ++ more)) b before from) (sym is_part)
+        (subst (λ (d : ℕ). IsPartHeard (signal_of (bytes ++ more)) (signal_of (last_bytes bytes ++ more)) d from) (sym cut) heard) in
+        let long : length_of part ≡ 8 * (length tail + length more) =
+        ap (λ (b : Signal). length_of b) p.part_is ∙ length-signal (tail ++ more) ∙ ap (λ (n : ℕ). 8 * n) (length-append tail more) in
+        let bits : length_of part - from ≡ 8 * length (bytes ++ more) - 8 * length bytes =
+        omega (arith, long, p.from_is, length-append bytes more) in
+        let start : from + before ≡ 8 * length bytes = omega (arith, p.before_is, p.place_is, p.from_is, kept) in
+        let moved = moves (signal_of (bytes ++ more)) part rules before local from (length_of part - from) range.some_loss range.reach p.lawful heard_part
+        (omega (arith, long, p.from_is)) in
+        let rest : run (signal_of (bytes ++ more)) rules (run_of rules bytes).0 (8 * length bytes) (8 * length (bytes ++ more) - 8 * length bytes)
+        ≡ (moved_state before (run part rules local from (length_of part - from)).0, moved_items before (run part rules local from (length_of part - from)).1) =
+        ap (λ (n : ℕ). run (signal_of (bytes ++ more)) rules (run_of rules bytes).0 (8 * length bytes) n) (sym bits)
+        ∙ ap (λ (n : ℕ). run (signal_of (bytes ++ more)) rules (run_of rules bytes).0 n (length_of part - from)) (sym start)
+        ∙ ap (λ (s : State). run (signal_of (bytes ++ more)) rules s (from + before) (length_of part - from)) (sym p.local_is)
+        ∙ moved in
+        let all : 8 * length (bytes ++ more) - 0 ≡ 8 * length (bytes ++ more) = omega arith in
+        let middle : 8 * length bytes - 0 ≡ 8 * length bytes = omega arith in
+        ap (λ (n : ℕ). run (signal_of (bytes ++ more)) rules Searching 0 n) (sym all)
+        ∙ joins (signal_of (bytes ++ more)) rules Searching 0 (8 * length bytes) (8 * length (bytes ++ more)) (omega arith) (omega (arith, length-append bytes more))
+        ∙ ap (λ (first : State × List Item). (
+          (run (signal_of (bytes ++ more)) rules first.0 (8 * length bytes) (8 * length (bytes ++ more) - 8 * length bytes)).0,
+          first.1 ++ (run (signal_of (bytes ++ more)) rules first.0 (8 * length bytes) (8 * length (bytes ++ more) - 8 * length bytes)).1,
+        )) (ap (λ (n : ℕ). run (signal_of (bytes ++ more)) rules Searching 0 n) middle ∙ run-before)
+        ∙ ap (λ (next : State × List Item). (next.0, complete rules bytes ++ next.1)) rest
+
+    module _ (state : State) (totals : Totals) (heard : record { rules = rules; tail = tail; place = place; state = state; totals = totals } ≡ live_of rules bytes) where
+      -- the part of a stream that is gone over, where these bytes were heard
+      pub prepared : part ≡ signal_of (tail ++ more) → from ≡ 8 * length tail → before ≡ place - from → moved_state before local ≡ state → IsLawful rules from local → IsPrepared
+      prepared part_is from_is before_is local_is lawful = record {
+        tail_is = ap (λ (l : LiveOf). l.tail) heard;
+        place_is = ap (λ (l : LiveOf). l.place) heard;
+        part_is = part_is;
+        from_is = from_is;
+        before_is = before_is;
+        local_is = local_is ∙ ap (λ (l : LiveOf). l.state) heard;
+        lawful = lawful;
+      }
+
+    -- the items that it completes
+    pub complete-after : (p : IsPrepared) (items : List Item) → items ≡ moved_items before (run part rules local from (length_of part - from)).1
+        → complete rules (bytes ++ more) ≡ complete rules bytes ++ items
+    complete-after p items is = ap (λ (r : State × List Item). r.1) (run-after p) ∙ ap (λ (more_items : List Item). complete rules bytes ++ more_items) (sym is)
+
+    module _ (p : IsPrepared) (kept : List ℕ) (after : ℕ) (end next : State) (join : TotalsJoin) (tell : CodesTellTotals) (totals found sum : Totals) where
+      totals-after : totals ≡ totals_of (complete rules bytes) → found ≡ totals_of (run part rules local from (length_of part - from)).1 → sum ≡ plus totals found
+          → sum ≡ totals_of (complete rules (bytes ++ more))
+      totals-after so_far found_is sum_is =
+          let items : List Item = moved_items before (run part rules local from (length_of part - from)).1 in
+          sum_is ∙ ap₂ plus so_far (found_is ∙ sym (totals-moved tell before (run part rules local from (length_of part - from)).1))
+          ∙ sym (join (complete rules bytes) items).joined
+          ∙ ap (λ (all : List Item). totals_of all) (sym (complete-after p items refl))
+
+      -- what is known after it
+      pub heard-after : kept ≡ last_bytes (tail ++ more) → after ≡ before + length_of part → end ≡ (run part rules local from (length_of part - from)).0
+          → next ≡ moved_state before end → totals ≡ totals_of (complete rules bytes) → found ≡ totals_of (run part rules local from (length_of part - from)).1 → sum ≡ plus totals found
+          → record { rules = rules; tail = kept; place = after; state = next; totals = sum } ≡ live_of rules (bytes ++ more)
+      heard-after kept_is after_is end_is next_is so_far found_is sum_is =
+          let few : length tail ≡ length bytes - (length bytes - most_kept) =
+          ap (λ (xs : List ℕ). length xs) p.tail_is ∙ length-drop (length bytes - most_kept) bytes in
+          let long : length_of part ≡ 8 * (length tail + length more) =
+          ap (λ (b : Signal). length_of b) p.part_is ∙ length-signal (tail ++ more) ∙ ap (λ (n : ℕ). 8 * n) (length-append tail more) in
+          let tail_is : kept ≡ last_bytes (bytes ++ more) = kept_is ∙ ap (λ (xs : List ℕ). last_bytes (xs ++ more)) p.tail_is ∙ last-bytes bytes more in
+          let place_is : after ≡ 8 * length (bytes ++ more) =
+          omega (arith, after_is, long, few, p.before_is, p.place_is, p.from_is, length-append bytes more) in
+          let state_is : next ≡ (run_of rules (bytes ++ more)).0 =
+          next_is ∙ ap (moved_state before) end_is ∙ sym (ap (λ (r : State × List Item). r.0) (run-after p)) in
+          ap (λ (xs : List ℕ). record { rules = rules; tail = xs; place = after; state = next; totals = sum }) tail_is
+          ∙ ap (λ (n : ℕ). record { rules = rules; tail = last_bytes (bytes ++ more); place = n; state = next; totals = sum }) place_is
+          ∙ ap (λ (s : State). record { rules = rules; tail = last_bytes (bytes ++ more); place = 8 * length (bytes ++ more); state = s; totals = sum }) state_is
+          ∙ ap (λ (t : Totals). record { rules = rules; tail = last_bytes (bytes ++ more); place = 8 * length (bytes ++ more); state = (run_of rules (bytes ++ more)).0; totals = t })
+          (totals-after so_far found_is sum_is)

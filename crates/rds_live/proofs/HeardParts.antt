@@ -1,0 +1,256 @@
+-- What is heard in a part of a recording says what is found there: of acquiring, of groups, of a bit, of a run.
+use Rattle.std.proofs.Common.{◌≡◌, ◌≢◌, ℕ, zero, suc, ◌+◌, ◌-◌, ◌*◌, ◌<◌, ◌≤◌, List, [], ◌∷◌, ◌++◌, Bool, true, false, eqb, Option, Some, None, refl, sym, ap, ap₂, subst, ◌∙◌, arith, inl, inr}
+use Rattle.std.proofs.lemmas.Bool.{ne_eqb, eq-eqb, cases_eq, cases_lt, cases_Bool, lt-ltb, le-ltb}
+use Rattle.std.proofs.lemmas.Bool.Decides.{nat_tests}
+use Rattle.std.proofs.lemmas.List.{map-append}
+use Rattle.std.specs.List.{list_any, range_with_len}
+use Rattle.std.specs.Prelude.{nat_le, ◌&&◌}
+use Rattle.rds_code.specs.declared.offset.Offset.{Offset}
+use Rattle.rds_code.specs.declared.reading.Wanted.{Wanted}
+use Rattle.rds_code.specs.declared.reading.Wanted.TheVariants.{Either}
+use Rattle.rds_code.specs.Offsets.{number}
+use Rattle.rds_stream.specs.Recording.{Signal, heard, offset_heard, off, length_of}
+use Rattle.rds_sync.specs.declared.state.State.{State}
+use Rattle.rds_sync.specs.declared.state.State.TheVariants.{Searching, Locked}
+use Rattle.rds_sync.specs.declared.item.Item.{Item}
+use Rattle.rds_sync.specs.declared.item.Item.TheVariants.{Acquired, Group, LostLock}
+use Rattle.rds_sync.specs.declared.loss.Bad.{Bad}
+use Rattle.rds_sync.specs.Rules.{RuleNumbers}
+use Rattle.rds_sync.specs.Loss.{IsLoss, none_bad, bad_after, are_too_many}
+use Rattle.rds_sync.specs.Lawful.{IsLawful}
+use Rattle.rds_sync.specs.Acquiring.{acquired, has_number, has_partner, with_partner, is_in_step, is_numbered}
+use Rattle.rds_sync.specs.declared.item.Block.{Block}
+use Rattle.rds_sync.specs.Groups.{group, group_of, block_at, blocks_at, wanted_beside}
+use Rattle.rds_sync.specs.Ranges.{farthest_reach}
+use Rattle.rds_sync.specs.Step.{items_of_end, run, step, items_at, locked_after, bad_with, group_after}
+use Rattle.rds_sync.specs.Laws.{AcquisitionsAreLate, StepsAreLawful}
+use Rattle.rds_live.proofs.Bits.{step-waiting, items-waiting, step-keeping, items-keeping, step-losing, items-losing}
+use Rattle.rds_live.specs.Moving.{IsPartHeard, moved_state, moved_item, moved_items}
+
+-- a test of each number of a range, by another that says the same there
+any-alike : (p q : ℕ → Bool) (k n : ℕ) → ((j : ℕ) → k ≤ j → j < k + n → p j ≡ q j) → list_any p (range_with_len k n) ≡ list_any q (range_with_len k n)
+any-alike p q k zero same = refl
+any-alike p q k (suc n) same =
+    let here = same k (omega arith) (omega arith) in
+    let later = any-alike p q (k + 1) n (λ j low high. same j (omega arith) (omega arith)) in
+    rw (here, later) refl
+
+-- from place 25 on the offset is that of what was heard, and before there is none
+off-heard : (b : Signal) (i : ℕ) → 25 ≤ i → off b i ≡ offset_heard (heard b i)
+unfolding off
+off-heard b i late = rw (le-ltb i 25 late, off) refl
+
+pub off-early : (b : Signal) (i : ℕ) → i < 25 → off b i ≡ None
+unfolding off
+off-early b i early = rw (lt-ltb i 25 early, off) refl
+
+-- acquiring, by the offsets of a place and of those before it
+acquired-alike : (b c : Signal) (rules : RuleNumbers) (i j : ℕ) → off b i ≡ off c j
+    → ((k : ℕ) → 1 ≤ k → k < 1 + rules.reach → off b (i - 26 * k) ≡ off c (j - 26 * k)) → acquired b rules i ≡ acquired c rules j
+unfolding acquired
+acquired-alike b c rules i j here behind =
+    let partners : (x : ℕ) → list_any (has_partner b i x) (range_with_len 1 rules.reach) ≡ list_any (has_partner c j x) (range_with_len 1 rules.reach) =
+    λ x. any-alike (has_partner b i x) (has_partner c j x) 1 rules.reach (λ k low high. ap (λ (o : Option Offset). is_in_step o x k) (behind k low high)) in
+    let by_number : (o : Option Offset) → elim o as (λ _. Option ℕ) [ None ↦ None | Some p ↦ with_partner b rules i (number p) ]
+    ≡ elim o as (λ _. Option ℕ) [ None ↦ None | Some p ↦ with_partner c rules j (number p) ] =
+    λ o. elim o as (λ w. elim w as (λ _. Option ℕ) [ None ↦ None | Some p ↦ with_partner b rules i (number p) ]
+    ≡ elim w as (λ _. Option ℕ) [ None ↦ None | Some p ↦ with_partner c rules j (number p) ]) [
+      | None ↦ refl
+      | Some p ↦ ap (λ (t : Bool). elim t as (λ _. Option ℕ) [ true ↦ Some (number p) | false ↦ None ]) (partners (number p))
+    ] in
+    by_number (off b i) ∙ ap (λ (o : Option Offset). elim o as (λ _. Option ℕ) [ None ↦ None | Some p ↦ with_partner c rules j (number p) ]) here
+
+module _ (whole part : Signal) (d from : ℕ) (h : IsPartHeard whole part d from) where
+  -- the offset of a place
+  off-late : (i : ℕ) → 25 ≤ i → i < length_of part → off part i ≡ off whole (i + d)
+  off-late i late within =
+      off-heard part i late ∙ ap offset_heard (h.heard_same i late within) ∙ sym (off-heard whole (i + d) (omega arith))
+
+  -- the offset of a place so many blocks before one that a run goes over
+  off-behind : (i k : ℕ) → from ≤ i → i < length_of part → k ≤ 8 → off part (i - 26 * k) ≡ off whole (i + d - 26 * k)
+  off-behind i k order within few = elim h.early [
+    | inl first ↦ elim (cases_lt (i - 26 * k) 25) [
+      | inl early ↦
+          let at_start : i + d - 26 * k < 25 = omega arith in
+          off-early part (i - 26 * k) early ∙ sym (off-early whole (i + d - 26 * k) at_start)
+      | inr late ↦
+          let place : i - 26 * k + d ≡ i + d - 26 * k = omega arith in
+          off-late (i - 26 * k) late (omega arith) ∙ ap (λ (p : ℕ). off whole p) place
+    ]
+    | inr long ↦
+        let place : i - 26 * k + d ≡ i + d - 26 * k = omega arith in
+        off-late (i - 26 * k) (omega arith) (omega arith) ∙ ap (λ (p : ℕ). off whole p) place
+  ]
+
+  off-here : (i : ℕ) → from ≤ i → i < length_of part → off part i ≡ off whole (i + d)
+  off-here i order within =
+      let here : i - 26 * 0 ≡ i = omega arith in
+      let there : i + d - 26 * 0 ≡ i + d = omega arith in
+      ap (λ (p : ℕ). off part p) (sym here) ∙ off-behind i 0 order within (omega arith) ∙ ap (λ (p : ℕ). off whole p) there
+
+  module _ (rules : RuleNumbers) where
+    acquired-moved : rules.reach ≤ farthest_reach → (i : ℕ) → from ≤ i → i < length_of part → acquired whole rules (i + d) ≡ acquired part rules i
+    acquired-moved reach i order within =
+        sym (acquired-alike part whole rules i (i + d) (off-here i order within) (λ k low high. off-behind i k order within (omega arith)))
+
+    number-moved : (i x : ℕ) → from ≤ i → i < length_of part → has_number whole (i + d) x ≡ has_number part i x
+    unfolding has_number
+    number-moved i x order within = ap (λ (o : Option Offset). is_numbered o x) (sym (off-here i order within))
+
+    -- block y of a group
+    block-moved : (f x p : ℕ) (wanted : Wanted) (y : ℕ) → 26 * (x - f) + 25 ≤ p → p < length_of part
+        → block_at whole rules f x (p + d) wanted y ≡ block_at part rules f x p wanted y
+    block-moved f x p wanted y room within = elim (cases_Bool (nat_le f y && nat_le y x)) [
+      | inl read ↦
+          let order : (f ≤ y) × (y ≤ x) = in_order f y x read in
+          let place : p - 26 * (x - y) + d ≡ p + d - 26 * (x - y) = omega (arith, order) in
+          let heard_is : heard whole (p + d - 26 * (x - y)) ≡ heard part (p - 26 * (x - y)) =
+          ap (λ (i : ℕ). heard whole i) (sym place) ∙ sym (h.heard_same (p - 26 * (x - y)) (omega (arith, order)) (omega arith)) in
+          rw (read, heard_is) refl
+      | inr not_read ↦ rw (not_read) refl
+    ] where
+      in_order : (a b c : ℕ) → (nat_le a b && nat_le b c) ≡ true → (a ≤ b) × (b ≤ c)
+      in_order a b c e = grind (arith, nat_tests)
+
+    blocks-moved : (f x p : ℕ) → 26 * (x - f) + 25 ≤ p → p < length_of part → blocks_at whole rules f x (p + d) ≡ blocks_at part rules f x p
+    blocks-moved f x p room within =
+        let one = block-moved f x p Either 1 room within in
+        let two = block-moved f x p Either 2 room within in
+        let three = block-moved f x p (wanted_beside (block_at part rules f x p Either 2)) 3 room within in
+        let four = block-moved f x p Either 4 room within in
+        let by_second : block_at whole rules f x (p + d) (wanted_beside (block_at whole rules f x (p + d) Either 2)) 3
+        ≡ block_at part rules f x p (wanted_beside (block_at part rules f x p Either 2)) 3 =
+        ap (λ (second : Block). block_at whole rules f x (p + d) (wanted_beside second) 3) two ∙ three in
+        ap₂ (λ (a : Block) (rest : List Block). a ∷ rest) one
+        (ap₂ (λ (a : Block) (rest : List Block). a ∷ rest) two
+        (ap₂ (λ (a e : Block). a ∷ e ∷ []) by_second four))
+
+    group-moved : (f x p : ℕ) → 26 * (x - f) + 25 ≤ p → p < length_of part
+        → Group (group whole rules f x (p + d)) ≡ moved_item d (Group (group part rules f x p))
+    unfolding group
+    group-moved f x p room within =
+        let place : p + d - 26 * (x - f) - 25 ≡ p - 26 * (x - f) - 25 + d = omega arith in
+        ap₂ (λ (q : ℕ) (blocks : List Block). Group (group_of q blocks)) place (blocks-moved f x p room within)
+
+    locked-moved : (i x : ℕ) (bad : Bad) (f : ℕ) → locked_after (i + d) x bad f ≡ moved_state d (locked_after i x bad f)
+    locked-moved i x bad f =
+        let due : i + d + 26 ≡ i + 26 + d = omega arith in
+        rw due refl
+
+    group_after-moved : (f x i : ℕ) → 26 * (x - f) + 25 ≤ i → i < length_of part → group_after whole rules f x (i + d) ≡ moved_items d (group_after part rules f x i)
+    group_after-moved f x i room within = at_case (eqb x 4) where
+      at_case : (t : Bool) → elim t as (λ _. List Item) [ true ↦ Group (group whole rules f x (i + d)) ∷ [] | false ↦ [] ]
+          ≡ moved_items d (elim t as (λ _. List Item) [ true ↦ Group (group part rules f x i) ∷ [] | false ↦ [] ])
+      at_case true = ap (λ (item : Item). item ∷ []) (group-moved f x i room within)
+      at_case false = refl
+
+    bad_with-moved : (i x : ℕ) (bad : Bad) → from ≤ i → i < length_of part → bad_with whole rules (i + d) x bad ≡ bad_with part rules i x bad
+    bad_with-moved i x bad order within = ap (λ (good : Bool). bad_after rules.loss good bad) (number-moved i x order within)
+
+    module _ (reach : rules.reach ≤ farthest_reach) (late : AcquisitionsAreLate) (i : ℕ) (order : from ≤ i) (within : i < length_of part) where
+      step_search-moved : step whole rules (i + d) Searching ≡ moved_state d (step part rules i Searching)
+      step_search-moved =
+          ap (λ (w : Option ℕ). elim w as (λ _. State) [ None ↦ Searching | Some x ↦ locked_after (i + d) x (none_bad rules.loss) x ]) (acquired-moved reach i order within)
+          ∙ at_case (acquired part rules i) where
+            at_case : (w : Option ℕ) → elim w as (λ _. State) [ None ↦ Searching | Some x ↦ locked_after (i + d) x (none_bad rules.loss) x ]
+                ≡ moved_state d (elim w as (λ _. State) [ None ↦ Searching | Some x ↦ locked_after i x (none_bad rules.loss) x ])
+            at_case None = refl
+            at_case (Some x) = locked-moved i x (none_bad rules.loss) x
+
+      items_search-moved : items_at whole rules (i + d) Searching ≡ moved_items d (items_at part rules i Searching)
+      items_search-moved =
+          ap (λ (w : Option ℕ). elim w as (λ _. List Item) [ None ↦ [] | Some x ↦ Acquired (i + d) x ∷ group_after whole rules x x (i + d) ]) (acquired-moved reach i order within)
+          ∙ at_case (acquired part rules i) refl where
+            at_case : (w : Option ℕ) → acquired part rules i ≡ w → elim w as (λ _. List Item) [ None ↦ [] | Some x ↦ Acquired (i + d) x ∷ group_after whole rules x x (i + d) ]
+                ≡ moved_items d (elim w as (λ _. List Item) [ None ↦ [] | Some x ↦ Acquired i x ∷ group_after part rules x x i ])
+            at_case None e = refl
+            at_case (Some x) e =
+                let place : 51 ≤ i = (late part rules i x e).0 in
+                ap (λ (items : List Item). Acquired (i + d) x ∷ items) (group_after-moved x x i (omega arith) within)
+
+      module _ (x : ℕ) (bad : Bad) (f : ℕ) (room : 26 * (x - f) + 25 ≤ i) where
+        step_due-moved : step whole rules (i + d) (Locked (i + d) x bad f) ≡ moved_state d (step part rules i (Locked i x bad f))
+        step_due-moved =
+            at_case (are_too_many rules.loss (bad_with part rules i x bad)) refl where
+              at_case : (t : Bool) → are_too_many rules.loss (bad_with part rules i x bad) ≡ t → step whole rules (i + d) (Locked (i + d) x bad f) ≡ moved_state d (step part rules i (Locked i x bad f))
+              at_case true e =
+                  let there : are_too_many rules.loss (bad_with whole rules (i + d) x bad) ≡ true = ap (λ (b : Bad). are_too_many rules.loss b) (bad_with-moved i x bad order within) ∙ e in
+                  step-losing whole rules (i + d) x bad f there ∙ ap (moved_state d) (sym (step-losing part rules i x bad f e))
+              at_case false e =
+                  let there : are_too_many rules.loss (bad_with whole rules (i + d) x bad) ≡ false = ap (λ (b : Bad). are_too_many rules.loss b) (bad_with-moved i x bad order within) ∙ e in
+                  step-keeping whole rules (i + d) x bad f there
+                  ∙ ap (λ (b : Bad). locked_after (i + d) x b f) (bad_with-moved i x bad order within)
+                  ∙ locked-moved i x (bad_with part rules i x bad) f
+                  ∙ ap (moved_state d) (sym (step-keeping part rules i x bad f e))
+
+        items_due-moved : items_at whole rules (i + d) (Locked (i + d) x bad f) ≡ moved_items d (items_at part rules i (Locked i x bad f))
+        items_due-moved =
+            at_case (are_too_many rules.loss (bad_with part rules i x bad)) refl where
+              at_case : (t : Bool) → are_too_many rules.loss (bad_with part rules i x bad) ≡ t → items_at whole rules (i + d) (Locked (i + d) x bad f) ≡ moved_items d (items_at part rules i (Locked i x bad f))
+              at_case true e =
+                  let there : are_too_many rules.loss (bad_with whole rules (i + d) x bad) ≡ true = ap (λ (b : Bad). are_too_many rules.loss b) (bad_with-moved i x bad order within) ∙ e in
+                  items-losing whole rules (i + d) x bad f there
+                  ∙ ap (λ (item : Item). item ∷ LostLock (i + d) ∷ []) (group-moved f x i room within)
+                  ∙ ap (moved_items d) (sym (items-losing part rules i x bad f e))
+              at_case false e =
+                  let there : are_too_many rules.loss (bad_with whole rules (i + d) x bad) ≡ false = ap (λ (b : Bad). are_too_many rules.loss b) (bad_with-moved i x bad order within) ∙ e in
+                  items-keeping whole rules (i + d) x bad f there
+                  ∙ group_after-moved f x i room within
+                  ∙ ap (moved_items d) (sym (items-keeping part rules i x bad f e))
+
+      step-moved : (s : State) → IsLawful rules i s → step whole rules (i + d) (moved_state d s) ≡ moved_state d (step part rules i s)
+      step-moved Searching lawful = step_search-moved
+      step-moved (Locked due x bad f) lawful = elim (cases_eq due i) [
+        | inl now ↦
+            let room : 26 * (x - f) + 25 ≤ i = omega (arith, lawful.enough_bits) in
+            subst (λ (p : ℕ). step whole rules (i + d) (Locked (p + d) x bad f) ≡ moved_state d (step part rules i (Locked p x bad f))) (sym now)
+            (step_due-moved x bad f room)
+        | inr later ↦
+            let there : due + d ≢ i + d = λ e. later (omega arith) in
+            step-waiting whole rules (due + d) x bad f (i + d) there ∙ ap (moved_state d) (sym (step-waiting part rules due x bad f i later))
+      ]
+
+      items-moved : (s : State) → IsLawful rules i s → items_at whole rules (i + d) (moved_state d s) ≡ moved_items d (items_at part rules i s)
+      items-moved Searching lawful = items_search-moved
+      items-moved (Locked due x bad f) lawful = elim (cases_eq due i) [
+        | inl now ↦
+            let room : 26 * (x - f) + 25 ≤ i = omega (arith, lawful.enough_bits) in
+            subst (λ (p : ℕ). items_at whole rules (i + d) (Locked (p + d) x bad f) ≡ moved_items d (items_at part rules i (Locked p x bad f))) (sym now)
+            (items_due-moved x bad f room)
+        | inr later ↦
+            let there : due + d ≢ i + d = λ e. later (omega arith) in
+            items-waiting whole rules (due + d) x bad f (i + d) there ∙ ap (moved_items d) (sym (items-waiting part rules due x bad f i later))
+      ]
+
+    module _ (reach : rules.reach ≤ farthest_reach) (late : AcquisitionsAreLate) (lawful_steps : StepsAreLawful) (loss : IsLoss rules.loss) where
+      pub run-moved : (s : State) (a bits : ℕ) → from ≤ a → a + bits ≤ length_of part → IsLawful rules a s
+          → run whole rules (moved_state d s) (a + d) bits ≡ (moved_state d (run part rules s a bits).0, moved_items d (run part rules s a bits).1)
+      run-moved s a zero order within lawful = refl
+      run-moved s a (suc bits) order within lawful =
+          let here : step whole rules (a + d) (moved_state d s) ≡ moved_state d (step part rules a s) = step-moved reach late a order (omega arith) s lawful in
+          let found : items_at whole rules (a + d) (moved_state d s) ≡ moved_items d (items_at part rules a s) = items-moved reach late a order (omega arith) s lawful in
+          let next : a + d + 1 ≡ a + 1 + d = omega arith in
+          let rest = run-moved (step part rules a s) (a + 1) bits (omega arith) (omega arith) (lawful_steps part rules loss a s lawful) in
+          let more : run whole rules (step whole rules (a + d) (moved_state d s)) (a + d + 1) bits
+          ≡ (moved_state d (run part rules (step part rules a s) (a + 1) bits).0, moved_items d (run part rules (step part rules a s) (a + 1) bits).1) =
+          ap₂ (λ (t : State) (p : ℕ). run whole rules t p bits) here next ∙ rest in
+          ap₂ (λ (is : List Item) (r : State × List Item). (r.0, is ++ r.1)) found more
+          ∙ ap (λ (is : List Item). (moved_state d (run part rules (step part rules a s) (a + 1) bits).0, is))
+          (sym (map-append (moved_item d) (items_at part rules a s) (run part rules (step part rules a s) (a + 1) bits).1))
+
+-- the group in progress at the end
+pub end-moved : (whole part : Signal) (rules : RuleNumbers) (d : ℕ) (s : State) → IsLawful rules (length_of part) s → IsPartHeard whole part d (length_of part)
+    → items_of_end whole rules (moved_state d s) ≡ moved_items d (items_of_end part rules s)
+end-moved whole part rules d Searching lawful h = refl
+end-moved whole part rules d (Locked due x bad f) lawful h = elim (cases_eq x 1) [
+  | inl between ↦ let e : eqb x 1 ≡ true = eq-eqb x 1 between in rw (e, items_of_end) refl
+  | inr inside ↦
+      let e : eqb x 1 ≡ false = ne_eqb x 1 inside in
+      let room : 26 * (x - 1 - f) + 25 ≤ due - 26 = (elim lawful.in_order [
+        | inl first ↦ absurd (inside first.0)
+        | inr later ↦ omega (arith, lawful.enough_bits, later)
+      ]) in
+      let place : due + d - 26 ≡ due - 26 + d = omega (arith, lawful.enough_bits) in
+      let group_is = group-moved whole part d (length_of part) h rules f (x - 1) (due - 26) room (omega (arith, lawful.soon, lawful.enough_bits)) in
+      rw (e, items_of_end) (ap (λ (p : ℕ). Group (group whole rules f (x - 1) p) ∷ []) place ∙ ap (λ (item : Item). item ∷ []) group_is)
+]

@@ -1,0 +1,95 @@
+use Rattle.std.proofs.Common.{◌≡◌, ◌+◌, ◌-◌, ◌*◌, ◌/◌, ◌^◌, ◌≤◌, ◌++◌, List, ℕ, length, inl, inr, ◌⊎◌, refl, sym, ap, subst, ◌∙◌, arith}
+use Rattle.std.proofs.lemmas.List.{length-append, length-drop}
+use Rattle.rds_stream.specs.Recording.{Signal, length_of}
+use Rattle.rds_sync.specs.declared.state.State.{State}
+use Rattle.rds_sync.specs.Lawful.{IsLawful}
+use Rattle.std.proofs.lemmas.Bool.{cases_lt}
+use Rattle.rds_sync.specs.Rules.{RuleNumbers}
+use Rattle.rds_sync.specs.Counting.{IsAtMost}
+use Rattle.rds_live.specs.Moving.{moved_state}
+use Rattle.rds_live.specs.Live.{LiveOf, HasHeard, complete, signal_of}
+use Rattle.rds_live.proofs.Parts.{length-signal}
+use Rattle.rds_live.proofs.Following.{prepared, heard-after, complete-after, lawful-moved, lawful-back}
+use Rattle.rds_live.proofs.live.Live.after.Goals as goal
+
+-- how long the part is
+abbrev Long : Signal → List ℕ → List ℕ → Type 0
+Long part tail bytes = length_of part ≡ 8 * (length tail + length bytes)
+
+long-part : (part : Signal) (tail bytes : List ℕ) → part ≡ signal_of (tail ++ bytes) → Long part tail bytes
+long-part part tail bytes e =
+    ap (λ (b : Signal). length_of b) e ∙ length-signal (tail ++ bytes) ∙ ap (λ (n : ℕ). 8 * n) (length-append tail bytes)
+
+pub followed-requires-clause-within : goal.followed-requires-clause-within
+followed-requires-clause-within c =
+    let long = long-part c.in_ok-part.part c.self.inside.tail.items c.args.bytes.now c.in_ok-part.ensures.part in
+    omega (arith, long, c.len.ensures)
+
+pub new-requires-clause-within : goal.new-requires-clause-within
+new-requires-clause-within c =
+    let long = long-part c.in_ok-part.part c.self.inside.tail.items c.args.bytes.now c.in_ok-part.ensures.part in
+    omega (arith, long, c.len.ensures)
+
+pub invariant_of-next : goal.invariant_of-next
+invariant_of-next c =
+    let long = long-part c.in_ok-part.part c.self.inside.tail.items c.args.bytes.now c.in_ok-part.ensures.part in
+    let live = c.self.invariant in
+    let place : c.self.inside.place - 8 * c.len.result + c.len-2.result ≡ c.self.inside.place + 8 * length c.args.bytes.now =
+    omega (arith, long, c.len.ensures, c.len-2.ensures.value, live.whole, live.kept) in
+    let ends : length_of c.in_ok-part.part + (c.self.inside.place - 8 * c.len.result) ≡ c.self.inside.place - 8 * c.len.result + c.len-2.result =
+    omega (arith, c.len-2.ensures.value) in
+    let counted : 2 ^ 11 * c.self.inside.place + 2 ^ 11 * (length_of c.in_ok-part.part - 8 * c.len.result) ≡ 2 ^ 11 * (c.self.inside.place - 8 * c.len.result + c.len-2.result) =
+    omega (arith, place, long, c.len.ensures) in
+    let joined = c.self.inside.tail.items ++ c.args.bytes.now in
+    record {
+      whole = omega (arith, place, live.whole);
+      limit = omega (arith, place, live.whole, c.if-bytes-self.false);
+      kept = ap (λ (xs : List ℕ). length xs) c.in_ok-part.ensures.tail ∙ length-drop (length joined - 30) joined
+          ∙ omega (arith, place, live.whole, live.kept, length-append c.self.inside.tail.items c.args.bytes.now);
+      small = subst (λ (n : ℕ). IsAtMost n c.plus.result) counted
+          (c.plus.ensures.small (2 ^ 11 * c.self.inside.place) (2 ^ 11 * (length_of c.in_ok-part.part - 8 * c.len.result)) live.small c.in_ok-end.ensures.small);
+      lawful = subst (λ (s : State). IsLawful c.self.inside.rules.now (c.self.inside.place - 8 * c.len.result + c.len-2.result) s) (sym c.moved_on.ensures)
+          (subst (λ (n : ℕ). IsLawful c.self.inside.rules.now n (moved_state (c.self.inside.place - 8 * c.len.result) c.in_ok-end.end)) ends
+          (lawful-moved c.self.inside.rules.now (c.self.inside.place - 8 * c.len.result) (length_of c.in_ok-part.part) c.in_ok-end.end c.in_ok-end.ensures.lawful));
+    }
+
+pub returns-clause-heard : goal.returns-clause-heard
+returns-clause-heard c before h =
+    let s = c.self.inside in
+    let from : ℕ = 8 * c.len.result in
+    let live = c.self.invariant in
+    let early : (s.place - from ≡ 0) ⊎ (233 ≤ from) = (elim (cases_lt (s.place / 8) 31) [
+      | inl few ↦ inl (omega (arith, live.whole, live.kept, c.len.ensures))
+      | inr many ↦ inr (omega (arith, live.kept, c.len.ensures))
+    ]) in
+    let lawful = lawful-back s.rules.now (s.place - from) from s.place c.moved_back-state.result s.state c.moved_back-state.ensures live.lawful
+    (omega (arith, live.whole, live.kept, c.len.ensures)) early in
+    let heard = subst (λ (live : LiveOf). HasHeard live before) (sym c.self.view_is) h in
+    let ready = prepared s.rules.now c.reach.ensures.range c.runs_join.ensures c.runs_move.ensures before c.args.bytes.now
+    s.tail.items s.place from (s.place - from) c.moved_back-state.result c.in_ok-part.part s.state s.totals heard
+    c.in_ok-part.ensures.part (omega (arith, c.len.ensures)) refl c.moved_back-state.ensures lawful in
+    heard-after s.rules.now c.reach.ensures.range c.runs_join.ensures c.runs_move.ensures before c.args.bytes.now
+    s.tail.items s.place from (s.place - from) c.moved_back-state.result c.in_ok-part.part ready
+    c.in_ok-part.tail.items (s.place - from + c.len-2.result) c.in_ok-end.end c.moved_on.result
+    c.totals_join.ensures c.codes_tell_totals.ensures s.totals c.in_ok-end.totals c.plus.result
+    c.in_ok-part.ensures.tail (omega (arith, c.len-2.ensures.value)) c.in_ok-end.ensures.state c.moved_on.ensures
+    (ap (λ (l : LiveOf). l.totals) heard) c.in_ok-end.ensures.totals c.plus.ensures.value
+
+pub returns-clause-items : goal.returns-clause-items
+returns-clause-items c before h =
+    let s = c.self.inside in
+    let from : ℕ = 8 * c.len.result in
+    let live = c.self.invariant in
+    let early : (s.place - from ≡ 0) ⊎ (233 ≤ from) = (elim (cases_lt (s.place / 8) 31) [
+      | inl few ↦ inl (omega (arith, live.whole, live.kept, c.len.ensures))
+      | inr many ↦ inr (omega (arith, live.kept, c.len.ensures))
+    ]) in
+    let lawful = lawful-back s.rules.now (s.place - from) from s.place c.moved_back-state.result s.state c.moved_back-state.ensures live.lawful
+    (omega (arith, live.whole, live.kept, c.len.ensures)) early in
+    let heard = subst (λ (live : LiveOf). HasHeard live before) (sym c.self.view_is) h in
+    let ready = prepared s.rules.now c.reach.ensures.range c.runs_join.ensures c.runs_move.ensures before c.args.bytes.now
+    s.tail.items s.place from (s.place - from) c.moved_back-state.result c.in_ok-part.part s.state s.totals heard
+    c.in_ok-part.ensures.part (omega (arith, c.len.ensures)) refl c.moved_back-state.ensures lawful in
+    subst (λ (rules : RuleNumbers). complete rules (before ++ c.args.bytes.now) ≡ complete rules before ++ c.new.result) (ap (λ (l : LiveOf). l.rules) c.self.view_is)
+    (complete-after s.rules.now c.reach.ensures.range c.runs_join.ensures c.runs_move.ensures before c.args.bytes.now
+    s.tail.items s.place from (s.place - from) c.moved_back-state.result c.in_ok-part.part ready c.new.result c.new.ensures)

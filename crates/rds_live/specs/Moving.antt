@@ -1,0 +1,50 @@
+-- A run depends on what is heard alone: where the same is heard at other places, there the same is found. This project's rules.
+use Rattle.std.specs.Prelude.{◌≡◌, ℕ, ◌+◌, ◌<◌, ◌≤◌, ◌⊎◌, List, map}
+use Rattle.rds_stream.specs.Recording.{Signal, heard, length_of}
+use Rattle.rds_sync.specs.declared.state.State.{State}
+use Rattle.rds_sync.specs.declared.state.State.TheVariants.{Searching, Locked}
+use Rattle.rds_sync.specs.declared.item.Item.{Item}
+use Rattle.rds_sync.specs.declared.item.Item.TheVariants.{Acquired, Group, LostLock}
+use Rattle.rds_sync.specs.Rules.{RuleNumbers}
+use Rattle.rds_sync.specs.Loss.{IsLoss}
+use Rattle.rds_sync.specs.Lawful.{IsLawful}
+use Rattle.rds_sync.specs.Ranges.{farthest_reach}
+use Rattle.rds_sync.specs.Step.{run, items_of_end}
+
+-- the state, where all places are so many further
+abbrev pub moved_state : ℕ → State → State
+moved_state d Searching = Searching
+moved_state d (Locked due number bad first) = Locked (due + d) number bad first
+
+-- the item, where all places are so many further
+abbrev pub moved_item : ℕ → Item → Item
+moved_item d (Acquired a x) = Acquired (a + d) x
+moved_item d (Group g) = Group (record g { place = g.place + d })
+moved_item d (LostLock a) = LostLock (a + d)
+
+abbrev pub moved_items : ℕ → List Item → List Item
+moved_items d items = map (moved_item d) items
+
+-- how many places before a bit a run may hear: the farthest partner's window
+abbrev pub most_behind : ℕ
+most_behind = 233
+
+-- all of the part is heard in the whole so many places further, and the part begins where the whole does, or so early before
+-- place `from` that a run from there on hears nothing from before it
+pub record IsPartHeard (whole part : Signal) (d from : ℕ) : Type 0 where
+  pub heard_same : (i : ℕ) → 25 ≤ i → i < length_of part → heard part i ≡ heard whole (i + d)
+  pub early : (d ≡ 0) ⊎ (most_behind ≤ from)
+
+-- a run over a part is the run over the whole there, but for the places
+abbrev pub RunsMove : Type 0
+RunsMove = (whole part : Signal) (rules : RuleNumbers) (d : ℕ) (s : State) (from bits : ℕ)
+    → IsLoss rules.loss → rules.reach ≤ farthest_reach → IsLawful rules from s
+    → IsPartHeard whole part d from → from + bits ≤ length_of part
+    → let there = run part rules s from bits in
+    run whole rules (moved_state d s) (from + d) bits ≡ (moved_state d there.0, moved_items d there.1)
+
+-- and so is the group in progress at its end
+abbrev pub EndsMove : Type 0
+EndsMove = (whole part : Signal) (rules : RuleNumbers) (d : ℕ) (s : State)
+    → IsLawful rules (length_of part) s → IsPartHeard whole part d (length_of part)
+    → items_of_end whole rules (moved_state d s) ≡ moved_items d (items_of_end part rules s)

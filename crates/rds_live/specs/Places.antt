@@ -1,0 +1,22 @@
+-- Where an item is.
+use Rattle.std.specs.Prelude.{ℕ, ◌≤◌, ◌<◌, ⊤}
+use Rattle.rds_sync.specs.declared.state.State.{State}
+use Rattle.rds_sync.specs.declared.state.State.TheVariants.{Searching, Locked}
+use Rattle.rds_sync.specs.declared.item.Item.{Item}
+use Rattle.rds_sync.specs.declared.item.Item.TheVariants.{Acquired, Group, LostLock}
+
+-- the place of an acquisition or a loss, or of a group's first bit
+abbrev pub place_of : Item → ℕ
+place_of (Acquired a x) = a
+place_of (Group g) = g.place
+place_of (LostLock a) = a
+
+-- the block that is waited for, if there is one, ends at this place or later
+abbrev pub is_due_from : ℕ → State → Type 0
+is_due_from place Searching = ⊤
+is_due_from place (Locked due number bad first) = place ≤ due
+
+-- and before this place
+abbrev pub is_due_below : ℕ → State → Type 0
+is_due_below place Searching = ⊤
+is_due_below place (Locked due number bad first) = due < place

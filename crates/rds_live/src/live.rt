@@ -1,0 +1,317 @@
+//! The decoder of a stream.
+
+ghost use Rattle.std.specs.Prelude.{◌≡◌, ◌≤◌, ◌<◌, ◌↔◌, ◌-◌, ◌+◌, ◌*◌, ◌/◌, ◌^◌, ◌++◌, ◌⊎◌, min, List, ℕ, [], length, vec_len, IfOk, IfErr, IsErrOf, IsOkUnless};
+ghost use Rattle.rds_stream.specs.Recording.{length_of};
+ghost use Rattle.rds_sync.specs.Advance.{group_item};
+ghost use Rattle.rds_sync.specs.Counting.{IsAtMost, plus};
+ghost use Rattle.rds_sync.specs.Lawful.{IsLawful};
+ghost use Rattle.rds_sync.specs.Report.{report_items};
+ghost use Rattle.rds_sync.specs.Step.{run, items_of_end};
+ghost use Rattle.rds_sync.specs.Totals.{totals_of};
+ghost use Rattle.rds_live.specs.Moving.{moved_items};
+ghost use Rattle.rds_live.specs.Live.{HasHeard, complete, last_bytes, live_of, most_counted, most_kept, run_of, signal_at, signal_of};
+
+use crate::chunk::Chunk;
+use crate::laws::{ends_move, runs_move};
+use crate::moved::{moved_back, moved_group, moved_on};
+use rds_stream::{Counted, Recording, StreamError};
+use rds_sync::{Group, Rules, State, Totals, finish, laws, run_codes};
+use std::alloc::Global;
+use std::marker::Model;
+
+/// How many of the last bytes of a stream are kept. A run may hear 233 bits behind one: those of a partner's window,
+/// eight blocks back.
+const MOST_KEPT: usize = 30;
+
+/// The most bits that a stream may have.
+const MOST_BITS: u64 = 1 << 36;
+
+/// A decoder of a stream of bits, which takes them as they come: this project's rule.
+///
+/// Contracts see what it knows of the stream: its rules, the last bytes, how many bits there were, and the state after
+/// them.
+#[derive(Drop)]
+pub struct Live<'r> {
+    rules: &'r Rules,
+    tail: Vec<u8>,
+    place: u64,
+    state: State,
+    totals: Totals,
+}
+
+impl<'r> Model for Live<'r> {
+    ghost use Rattle.rds_live.specs.Live.{LiveOf, IsLive};
+
+    ghost Value = { LiveOf };
+
+    ghost view = { λ l. record { rules = l.rules.now; tail = l.tail.items; place = l.place; state = l.state; totals = l.totals } };
+
+    ghost invariant = { λ l. IsLive (record { rules = l.rules.now; tail = l.tail.items; place = l.place; state = l.state; totals = l.totals }) };
+}
+
+/// What the end of a stream gives.
+#[derive(Clone, Copy, Debug, PartialEq, Eq)]
+pub struct StreamEnd {
+    /// The group in progress, as far as it was read.
+    pub group: Option<Group>,
+    /// The totals of the report: of all items, and of this group.
+    pub totals: Totals,
+}
+
+impl<'r> Live<'r> {
+    /// A decoder that has heard nothing yet. Takes no memory.
+    pub fn new(alloc: Global, rules: &'r Rules) -> Live<'r>
+        ensures { result ≡ live_of rules.now [] }
+    {
+        Live {
+            rules,
+            tail: Vec::new(alloc),
+            place: 0,
+            state: State::Searching,
+            totals: Totals::NONE,
+        }
+    }
+
+    /// How many bits were heard, which is the place of the next.
+    pub fn place(&self) -> u64
+        ensures value { result ≡ self.now.place }
+        ensures limit { result ≤ 2 ^ 36 }
+    {
+        self.place
+    }
+
+    /// The state after all that was heard.
+    pub fn state(&self) -> State
+        ensures value { result ≡ self.now.state }
+        ensures lawful { IsLawful self.now.rules self.now.place result }
+    {
+        self.state
+    }
+
+    /// The totals of the items that are complete.
+    pub fn totals(&self) -> Totals
+        ensures { result ≡ self.now.totals }
+    {
+        self.totals
+    }
+
+    /// Takes the next bytes of the stream, the highest bit of a byte first, and gives the items that they complete. Any
+    /// number of bytes will do, none too.
+    ///
+    /// Refuses more than 2^36 bits in all, and then only want of memory; refused, it has heard nothing.
+    ///
+    /// Its cost: the bytes are gone over once, as by [`run_codes`](rds_sync::run_codes), and once more as their items are
+    /// asked for. It takes memory for a copy of the bytes, and for 16 bits an item.
+    pub fn take(&mut self, bytes: &[u8]) -> Result<Chunk<'r>, StreamError>
+        ensures heard { IfOk result (λ _. (before : List ℕ) → HasHeard self.old before → HasHeard self.new (before ++ bytes.now)) }
+        ensures rules { IfOk result (λ _. self.new.rules ≡ self.old.rules) }
+        ensures items { IfOk result (λ items. (before : List ℕ) → HasHeard self.old before
+            → complete self.old.rules (before ++ bytes.now) ≡ complete self.old.rules before ++ items) }
+        ensures refused { IfErr result (λ _. self.new ≡ self.old) }
+        ensures too_long { IsErrOf result StreamError.TooLong ↔ (2 ^ 36 < self.old.place + 8 * length bytes.now) }
+        ensures only { IfErr result (λ e. (e ≡ StreamError.TooLong) ⊎ (e ≡ StreamError.OutOfMemory)) }
+    {
+        let (next, items) = self.after(bytes)?;
+        *self = next;
+        Ok(items)
+    }
+
+    /// Ends the stream here: closes the group in progress, as far as it was read. Takes no memory.
+    pub fn finish(self) -> StreamEnd
+        ensures group { (bytes : List ℕ) → HasHeard self.entry bytes
+            → complete self.entry.rules bytes ++ group_item result.group ≡ report_items (signal_of bytes) self.entry.rules }
+        ensures totals { (bytes : List ℕ) → HasHeard self.entry bytes
+            → result.totals ≡ totals_of (report_items (signal_of bytes) self.entry.rules) }
+    {
+        prove!(1 <= self.rules.reach());
+        laws::runs_are_reports();
+        laws::totals_join();
+        let Live {
+            rules,
+            tail,
+            place,
+            state,
+            totals,
+        } = self;
+        let group = group_at_end(rules, tail, place, state);
+        ended(totals, group)
+    }
+
+    /// Ends the stream with the first `bits` bits of these bytes: gives the items that they complete, and then closes the
+    /// group in progress. So a stream may end inside a byte.
+    ///
+    /// Refuses more than 2^36 bits in all, and then only want of memory. Its cost is that of [`take`](Live::take).
+    pub fn finish_with(
+        &self,
+        bytes: &[u8],
+        bits: u64,
+    ) -> Result<(Chunk<'r>, StreamEnd), StreamError>
+        requires { bits ≤ 8 * length bytes.now }
+        ensures items { IfOk result (λ r. (before : List ℕ) → HasHeard self.now before
+            → complete self.now.rules before ++ r.0 ++ group_item r.1.group
+            ≡ report_items (signal_at (before ++ bytes.now) (8 * length before + bits)) self.now.rules) }
+        ensures totals { IfOk result (λ r. (before : List ℕ) → HasHeard self.now before
+            → r.1.totals ≡ totals_of (report_items (signal_at (before ++ bytes.now) (8 * length before + bits)) self.now.rules)) }
+        ensures too_long { IsErrOf result StreamError.TooLong ↔ (2 ^ 36 < self.now.place + bits) }
+        ensures only { IfErr result (λ e. (e ≡ StreamError.TooLong) ⊎ (e ≡ StreamError.OutOfMemory)) }
+    {
+        if bits > MOST_BITS - self.place {
+            return Err(StreamError::TooLong);
+        }
+        prove!(1 <= self.rules.reach());
+        laws::runs_join();
+        laws::runs_are_reports();
+        laws::totals_join();
+        laws::codes_tell_totals();
+        runs_move();
+        ends_move();
+        let part = part_with(&self.tail, bytes, bits)?;
+        let from = 8 * self.tail.len() as u64;
+        let before = self.place - from;
+        let state = moved_back(self.state, before);
+        let (end, totals) = followed(&part, self.rules, state, from, *self.tail.allocator())?;
+        let group = moved_end(&part, self.rules, end, before);
+        let items = Chunk::new(self.rules, part, state, from, before);
+        Ok((items, ended(self.totals.plus(totals), group)))
+    }
+
+    /// What this decoder is after the next bytes, and the items that they complete.
+    fn after(&self, bytes: &[u8]) -> Result<(Live<'r>, Chunk<'r>), StreamError>
+        ensures heard { IfOk result (λ r. (before : List ℕ) → HasHeard self.now before → HasHeard r.0 (before ++ bytes.now)) }
+        ensures rules { IfOk result (λ r. r.0.rules ≡ self.now.rules) }
+        ensures items { IfOk result (λ r. (before : List ℕ) → HasHeard self.now before
+            → complete self.now.rules (before ++ bytes.now) ≡ complete self.now.rules before ++ r.1) }
+        ensures too_long { IsErrOf result StreamError.TooLong ↔ (2 ^ 36 < self.now.place + 8 * length bytes.now) }
+        ensures only { IfErr result (λ e. (e ≡ StreamError.TooLong) ⊎ (e ≡ StreamError.OutOfMemory)) }
+    {
+        if bytes.len() as u64 > (MOST_BITS - self.place) / 8 {
+            return Err(StreamError::TooLong);
+        }
+        prove!(1 <= self.rules.reach());
+        laws::runs_join();
+        laws::totals_join();
+        laws::codes_tell_totals();
+        runs_move();
+        let (part, tail) = part_of(&self.tail, bytes)?;
+        let from = 8 * self.tail.len() as u64;
+        let before = self.place - from;
+        let state = moved_back(self.state, before);
+        let (end, totals) = followed(&part, self.rules, state, from, *self.tail.allocator())?;
+        let next = Live {
+            rules: self.rules,
+            tail,
+            place: before + part.len(),
+            state: moved_on(end, before),
+            totals: self.totals.plus(totals),
+        };
+        Ok((next, Chunk::new(self.rules, part, state, from, before)))
+    }
+}
+
+/// The last bytes of a stream with those that follow them, as a recording, and the last of them all.
+fn part_of(tail: &Vec<u8>, bytes: &[u8]) -> Result<(Recording, Vec<u8>), StreamError>
+    requires { 8 * (vec_len tail.now + length bytes.now) ≤ 2 ^ 36 }
+    ensures part { IfOk result (λ r. r.0 ≡ signal_of (tail.now.items ++ bytes.now)) }
+    ensures tail { IfOk result (λ r. r.1.items ≡ last_bytes (tail.now.items ++ bytes.now)) }
+    ensures only_memory { IsOkUnless result StreamError.OutOfMemory }
+{
+    let alloc = *tail.allocator();
+    let mut joined = Vec::from_slice(alloc, tail)?;
+    joined.extend_from_slice(bytes)?;
+    let first = joined.len().saturating_sub(MOST_KEPT);
+    let last = Vec::from_slice(alloc, &joined[first..])?;
+    let bits = 8 * joined.len() as u64;
+    match Recording::from_bytes(joined, bits) {
+        Ok(part) => Ok((part, last)),
+        Err((error, _bytes)) => Err(error),
+    }
+}
+
+/// The last bytes of a stream with the first `bits` bits of those that follow them, as a recording.
+fn part_with(tail: &Vec<u8>, bytes: &[u8], bits: u64) -> Result<Recording, StreamError>
+    requires held { bits ≤ 8 * length bytes.now }
+    requires limit { 8 * vec_len tail.now + bits ≤ 2 ^ 36 }
+    ensures part { IfOk result (λ part. part ≡ signal_at (tail.now.items ++ bytes.now) (8 * vec_len tail.now + bits)) }
+    ensures only_memory { IsOkUnless result StreamError.OutOfMemory }
+{
+    let mut joined = Vec::from_slice(*tail.allocator(), tail)?;
+    joined.extend_from_slice(bytes)?;
+    match Recording::from_bytes(joined, 8 * tail.len() as u64 + bits) {
+        Ok(part) => Ok(part),
+        Err((error, _bytes)) => Err(error),
+    }
+}
+
+/// The state at the end of a recording, after the run from `state` over its bits from `from` on, and the totals of the
+/// items that they give.
+fn followed(
+    part: &Recording,
+    rules: &Rules,
+    state: State,
+    from: u64,
+    alloc: Global,
+) -> Result<(State, Totals), StreamError>
+    requires lawful { IsLawful rules.now from state }
+    requires within { from ≤ length_of part.now }
+    ensures state { IfOk result (λ r. r.0 ≡ (run part.now rules.now state from (length_of part.now - from)).0) }
+    ensures totals { IfOk result (λ r. r.1 ≡ totals_of (run part.now rules.now state from (length_of part.now - from)).1) }
+    ensures lawful { IfOk result (λ r. IsLawful rules.now (length_of part.now) r.0) }
+    ensures small { IfOk result (λ r. IsAtMost (most_counted (length_of part.now - from)) r.1) }
+    ensures only_memory { IsOkUnless result StreamError.OutOfMemory }
+{
+    laws::codes_tell_totals();
+    laws::runs_give_few_items();
+    match run_codes(alloc, part, rules, state, from, part.len()) {
+        Ok((end, codes)) => Ok((end, codes.totals())),
+        Err(_) => Err(StreamError::OutOfMemory),
+    }
+}
+
+/// What the end of a stream gives, whose complete items have these totals.
+fn ended(totals: Totals, group: Option<Group>) -> StreamEnd
+    requires { IsAtMost (2 ^ 47) totals }
+    ensures group { result.group ≡ group }
+    ensures totals { result.totals ≡ plus totals (totals_of (group_item group)) }
+{
+    let totals = totals.plus(totals_of_end(&group));
+    StreamEnd { group, totals }
+}
+
+/// The totals of the group in progress.
+fn totals_of_end(group: &Option<Group>) -> Totals
+    ensures value { result ≡ totals_of (group_item group.now) }
+    ensures small { IsAtMost (2 ^ 10) result }
+{
+    Totals::of_end(*group)
+}
+
+/// The group in progress after the last bytes of a stream, in this state.
+fn group_at_end(rules: &Rules, tail: Vec<u8>, place: u64, state: State) -> Option<Group>
+    requires kept { length tail.items ≡ min most_kept (place / 8) }
+    requires whole { place ≡ 8 * (place / 8) }
+    requires limit { place ≤ 2 ^ 36 }
+    requires lawful { IsLawful rules.now place state }
+    ensures { (bytes : List ℕ) → tail.items ≡ last_bytes bytes → place ≡ 8 * length bytes
+        → group_item result ≡ items_of_end (signal_of bytes) rules.now state }
+{
+    ends_move();
+    let bits = 8 * tail.len() as u64;
+    let before = place - bits;
+    match Recording::from_bytes(tail, bits) {
+        Ok(part) => moved_end(&part, rules, moved_back(state, before), before),
+        Err(_) => None,
+    }
+}
+
+/// The group in progress at the end of a recording, in this state, so many places further.
+fn moved_end(part: &Recording, rules: &Rules, state: State, by: u64) -> Option<Group>
+    requires lawful { IsLawful rules.now (length_of part.now) state }
+    requires limit { by ≤ 2 ^ 36 }
+    ensures { group_item result ≡ moved_items by (items_of_end part.now rules.now state) }
+{
+    prove!(part.len() <= MOST_BITS);
+    match finish(&mut Counted::new(part), rules, state) {
+        Some(group) => Some(moved_group(group, by)),
+        None => None,
+    }
+}

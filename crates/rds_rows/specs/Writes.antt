@@ -1,0 +1,17 @@
+-- What writes do to a writer.
+use Rattle.std.specs.Prelude.{◌==◌, ◌&&◌, ◌++◌, ◌≡◌, ℕ, Err, List, Ok, Option, Result, if◌then◌else◌, length, not}
+use Rattle.std.specs.Io.KnownBytes.{Appends}
+
+-- a write fails where it answers an error, or takes no byte of some
+abbrev pub failures_of_write : {E : Type 0} → Result ℕ E → List ℕ → ℕ
+failures_of_write (Ok count) bytes = if count == 0 && not (length bytes == 0) then 1 else 0
+failures_of_write (Err e) bytes = 1
+
+-- a flush fails where it answers an error
+abbrev pub failures_of_flush : {T E : Type 0} → Result T E → ℕ
+failures_of_flush (Ok done) = 0
+failures_of_flush (Err e) = 1
+
+-- a beginning of the text was added to what the writer held
+abbrev pub AppendsPrefix : Option (List ℕ) → Option (List ℕ) → List ℕ → Type 0
+AppendsPrefix old new text = (prefix : List ℕ) × (rest : List ℕ) × (text ≡ prefix ++ rest) × Appends old new prefix

@@ -1,0 +1,63 @@
+//! Rows of text, made by threads and written in order from a bounded room.
+//!
+//! Rows that are to be written are cut into parts. Threads make the parts, each in a sheet of its
+//! own, and the caller writes one part behind the other and gives the sheets back. All sheets are
+//! taken and all threads started before the first byte is written, and both live through all parts:
+//! the room is bounded however many rows there are, and no part waits for more than its own sheet.
+//!
+//! # Example
+//!
+//! ```text
+//! impl Rows for Squares {
+//!     ghost rows = { λ squares. squares_text squares.count };
+//!     ..
+//!     fn fill(&self, from: usize, to: usize, sheet: &mut Sheet) {
+//!         for i in from..to {
+//!             sheet.push(row_of(i).as_slice());
+//!         }
+//!     }
+//! }
+//!
+//! write_rows(&rt, alloc, &Squares { count: 1000 }, 4, &mut writer)?;
+//! ```
+//!
+//! # What there is
+//!
+//! - [`write_rows`]: writes all rows of a list, by up to [`MOST_WORKERS`] threads.
+//!   [`write_rows_in_parts`] is the same in parts of so many rows.
+//! - [`Rows`]: a list of rows, which can spell those from one number up to another.
+//! - [`Sheet`]: room for so many rows, into which they are spelled. It takes no memory after it is made.
+//! - [`Sink`]: where the bytes go. [`write_all`] writes whole bytes to it.
+//! - [`RowsError`]: `OutOfMemory`, before the first byte, or `Write`.
+//!
+//! # What callers may rely on
+//!
+//! - Where [`write_rows`] answers `Ok`, what was written is the rows in order: for every list, any
+//!   number of workers, and whatever the threads do.
+//! - After the first byte nothing but the writer can be refused. Where memory is refused, the writer
+//!   is as it was. Where the writer fails, it has a beginning of the rows' text: the rows of some
+//!   parts and a part of the next.
+//! - No thread outlives the call. A thread that the system refuses is done without; with none, as
+//!   with one worker, the caller makes each part before it writes it.
+//!
+//! # What it leaves to others
+//!
+//! That the threads run at the same time and that no call waits for ever, no contract can say: the
+//! tests in `rds_rows_tests` show it, by many runs with writers that fail.
+#![tactic(auto)]
+
+mod error;
+mod hand;
+mod pool;
+mod rows;
+mod seat;
+mod sheet;
+mod sink;
+mod slot;
+mod write;
+
+pub use error::RowsError;
+pub use rows::Rows;
+pub use sheet::Sheet;
+pub use sink::{Failed, Sink, write_all};
+pub use write::{MOST_WORKERS, write_rows, write_rows_in_parts};

@@ -1,0 +1,179 @@
+//! Threads that live through all parts, and the writer of what they make.
+ghost use Rattle.std.specs.Prelude.{◌<◌, ◌^◌, ◌≡◌, All, IfOk, OnErr, OnOk, length};
+ghost use Rattle.std.specs.Io.KnownBytes.{Appends};
+ghost use Rattle.rds_rows.specs.Parts.{IsNamed, first_parts};
+ghost use Rattle.rds_rows.specs.Sheets.{size_of};
+ghost use Rattle.rds_rows.specs.Writes.{AppendsPrefix};
+
+use crate::hand::Hand;
+use crate::rows::{Rows, fill_part};
+use crate::seat::Seat;
+use crate::sheet::Sheet;
+use crate::sink::Failed;
+use crate::slot::Named;
+use std::alloc::{AllocError, Global};
+use std::sync::Wait;
+use std::sync::atomic::{AtomicUsize, Ordering};
+use std::thread;
+use std::thread::Threads;
+
+/// A seat for each sheet: the first for part 0, and so on.
+pub(crate) fn seats_of<J: Named>(
+    alloc: Global,
+    sheets: Vec<Sheet>,
+) -> Result<Vec<Seat<J>>, AllocError>
+    requires { All (λ s. size_of s ≡ J.size) sheets.items }
+    ensures { IfOk result (λ seats. length seats.items ≡ length sheets.items) }
+{
+    let mut seats = Vec::with_capacity(alloc, sheets.len())?;
+    for sheet in sheets {
+        let seat = Seat::new(seats.len(), sheet);
+        seats.push_reserved(seat);
+    }
+    Ok(seats)
+}
+
+/// Makes part `k` at its seat. Answers whether it was made: not where the seat is closed.
+fn make_part<R: Wait, J: Named, T: Rows>(rt: &R, rows: &T, seat: &Seat<J>, k: usize) -> bool
+    requires { IsNamed (T.rows rows.now) (T.longest rows.now) J.size J.part }
+{
+    let Some(sheet) = seat.wait_for_blank(rt, k) else {
+        return false;
+    };
+    let mut sheet = sheet;
+    fill_part(rows, k, &mut sheet);
+    seat.hand_over(rt, k, sheet);
+    true
+}
+
+/// Draws numbers of parts until none is left, and makes the part of each.
+fn make_parts<R: Wait, J: Named, T: Rows>(
+    rt: &R,
+    rows: &T,
+    seats: &[Seat<J>],
+    next: &AtomicUsize,
+    parts: usize,
+)
+    requires named { IsNamed (T.rows rows.now) (T.longest rows.now) J.size J.part }
+    requires some { 0 < length seats.now }
+{
+    for _ in rt.forever() {
+        let k = next.fetch_add(1, Ordering::SeqCst);
+        if k >= parts || !make_part(rt, rows, &seats[k % seats.len()], k) {
+            return;
+        }
+    }
+}
+
+/// Writes part `k`, and gives its sheet back for the next part of the seat. Where no thread makes it, it is made here.
+fn write_part<R: Wait, J: Named, T: Rows, W: Hand + Drop>(
+    rt: &R,
+    rows: &T,
+    seats: &[Seat<J>],
+    k: usize,
+    is_alone: bool,
+    out: &mut W,
+) -> Result<(), Failed>
+    requires named { IsNamed (T.rows rows.now) (T.longest rows.now) J.size J.part }
+    requires some { 0 < length seats.now }
+    requires count { W.failed out.old < 2 ^ 63 }
+    ensures name { W.name out.new ≡ W.name out.old }
+    ensures ok { OnOk result (Appends (W.contents out.old) (W.contents out.new) (J.part k)) }
+    ensures count { OnOk result (W.failed out.new ≡ W.failed out.old) }
+    ensures failed { OnErr result (W.failed out.old < W.failed out.new) }
+    ensures prefix { OnErr result (AppendsPrefix (W.contents out.old) (W.contents out.new) (J.part k)) }
+{
+    let seat = &seats[k % seats.len()];
+    if is_alone {
+        make_part(rt, rows, seat, k);
+    }
+    let sheet = seat.wait_for_part(rt, k);
+    out.write(sheet.as_slice())?;
+    seat.give_back(rt, k.saturating_add(seats.len()), sheet);
+    Ok(())
+}
+
+/// Writes all parts in order.
+fn write_parts<R: Wait, J: Named, T: Rows, W: Hand + Drop>(
+    rt: &R,
+    rows: &T,
+    seats: &[Seat<J>],
+    parts: usize,
+    is_alone: bool,
+    out: &mut W,
+) -> Result<(), Failed>
+    requires named { IsNamed (T.rows rows.now) (T.longest rows.now) J.size J.part }
+    requires some { 0 < length seats.now }
+    requires count { W.failed out.old < 2 ^ 63 }
+    ensures name { W.name out.new ≡ W.name out.old }
+    ensures ok { OnOk result (Appends (W.contents out.old) (W.contents out.new) (first_parts J.part parts)) }
+    ensures count { OnOk result (W.failed out.new ≡ W.failed out.old) }
+    ensures failed { OnErr result (W.failed out.old < W.failed out.new) }
+    ensures prefix { OnErr result (AppendsPrefix (W.contents out.old) (W.contents out.new) (first_parts J.part parts)) }
+{
+    for k in 0..parts {
+        write_part(rt, rows, seats, k, is_alone, out)?;
+    }
+    Ok(())
+}
+
+/// Lets the threads end: no number is left to draw, and who waits for a sheet goes away without.
+fn stop<R: Wait, J: Named>(rt: &R, seats: &[Seat<J>], next: &AtomicUsize, parts: usize) {
+    next.store(parts, Ordering::SeqCst);
+    for seat in seats {
+        seat.close(rt);
+    }
+}
+
+/// All parts, made by at most so many threads and written in order to a writer that is handed in and back. The threads
+/// are started before the first byte is written, and have ended at the return.
+pub(crate) fn by_pool<
+    R: Threads + Wait + Sync,
+    J: Named + Send + Sync,
+    T: Rows + Sync,
+    W: Hand + Drop,
+>(
+    rt: &R,
+    rows: &T,
+    seats: &[Seat<J>],
+    threads: usize,
+    parts: usize,
+    out: W,
+) -> (W, Result<(), Failed>)
+    requires named { IsNamed (T.rows rows.now) (T.longest rows.now) J.size J.part }
+    requires some { 0 < length seats.now }
+    requires count { W.failed out < 2 ^ 63 }
+    ensures name { W.name result.0 ≡ W.name out }
+    ensures ok { OnOk result.1 (Appends (W.contents out) (W.contents result.0) (first_parts J.part parts)) }
+    ensures count { OnOk result.1 (W.failed result.0 ≡ W.failed out) }
+    ensures failed { OnErr result.1 (W.failed out < W.failed result.0) }
+    ensures prefix { OnErr result.1 (AppendsPrefix (W.contents out) (W.contents result.0) (first_parts J.part parts)) }
+{
+    let next = AtomicUsize::new(0);
+    let dealer = &next;
+    thread::scope(
+        thread::scope_env(),
+        rt,
+        move |scope| -> (W, Result<(), Failed>)
+            requires { IsNamed (T.rows rows.now) (T.longest rows.now) J.size J.part
+                × (0 < length seats.now) × (W.failed out < 2 ^ 63) }
+            ensures name { W.name result.0 ≡ W.name out }
+            ensures ok { OnOk result.1 (Appends (W.contents out) (W.contents result.0) (first_parts J.part parts)) }
+            ensures count { OnOk result.1 (W.failed result.0 ≡ W.failed out) }
+            ensures failed { OnErr result.1 (W.failed out < W.failed result.0) }
+            ensures prefix { OnErr result.1 (AppendsPrefix (W.contents out) (W.contents result.0) (first_parts J.part parts)) }
+        {
+            let mut is_alone = true;
+            for _ in 0..threads {
+                let draws = move || make_parts(rt, rows, seats, dealer, parts);
+                if scope.spawn(draws).is_ok() {
+                    is_alone = false;
+                }
+            }
+            let mut out = out;
+            let wrote = write_parts(rt, rows, seats, parts, is_alone, &mut out);
+            stop(rt, seats, dealer, parts);
+            (out, wrote)
+        },
+    )
+}

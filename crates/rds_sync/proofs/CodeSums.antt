@@ -1,0 +1,39 @@
+-- The totals of codes, code by code.
+use Rattle.std.proofs.Common.{◌≡◌, ℕ, ◌+◌, Bool, length, List, [], ◌∷◌, ◌++◌, refl, ap, ◌∙◌, arith, take, get_or, ◌<◌, map, count_by}
+use Rattle.std.specs.Prelude.{if◌then◌else◌}
+use Rattle.std.specs.List.{list_all}
+use Rattle.std.proofs.lemmas.List.{take_more, map-append}
+use Rattle.std.proofs.lemmas.List.Sums.{sum_by-append}
+use Rattle.rds_sync.specs.declared.totals.Totals.{Totals}
+use Rattle.rds_sync.specs.Codes.{Outcome, Code, blocks, sum_outcomes, count_outcomes, is_good, is_unclear, is_mended_by, bits_mended, is_known, is_whole, totals_of_codes}
+use Rattle.rds_sync.specs.Counting.{plus}
+use Rattle.rds_sync.specs.Inside.CodeTotals.{outcome_totals}
+use Rattle.rds_sync.specs.Words.{code_in}
+use Rattle.rds_sync.proofs.TotalsLemmas.{same_counts}
+
+-- the totals of two rows, one after the other
+pub code-totals-append : (xs ys : List Code) → totals_of_codes (xs ++ ys) ≡ plus (totals_of_codes xs) (totals_of_codes ys)
+code-totals-append xs ys = simp sum_by-append
+
+-- of one word more
+pub code-totals-more : (words : List ℕ) (n d : ℕ) → n < length words
+    → totals_of_codes (map code_in (take (n + 1) words)) ≡ plus (totals_of_codes (map code_in (take n words))) (totals_of_codes (code_in (get_or words n d) ∷ []))
+code-totals-more words n d h =
+    ap (λ (ws : List ℕ). totals_of_codes (map code_in ws)) (take_more words n d h)
+    ∙ ap (λ (cs : List Code). totals_of_codes cs) (map-append code_in (take n words) (get_or words n d ∷ []))
+    ∙ code-totals-append (map code_in (take n words)) (code_in (get_or words n d) ∷ [])
+
+-- the totals of a group from those of its blocks, one after the other
+pub outcome-group : (a b c d : Outcome) (n : ℕ) → n ≡ (if list_all is_known (a ∷ b ∷ c ∷ d ∷ []) then 1 else 0)
+    → (t : Totals) → t ≡ plus (plus (plus (outcome_totals a) (outcome_totals b)) (outcome_totals c)) (outcome_totals d)
+    → record { valid = t.valid; bursts = t.bursts; lost = t.lost; bits = t.bits; groups = 1; complete = n; acquired = t.acquired; losses = t.losses }
+    ≡ totals_of_codes (blocks (a ∷ b ∷ c ∷ d ∷ []) ∷ [])
+outcome-group a b c d n complete t is =
+    let whole : n ≡ count_by is_whole (blocks (a ∷ b ∷ c ∷ d ∷ []) ∷ []) = omega (arith, complete) in
+    rw is (same_counts (count is_good) (count (is_mended_by 1)) (count (is_mended_by 2)) (count (is_mended_by 3)) (count (is_mended_by 4))
+    (count (is_mended_by 5)) (count is_unclear) (four bits_mended) refl whole refl refl) where
+      four : (f : Outcome → ℕ) → f a + f b + f c + f d ≡ sum_outcomes f (blocks (a ∷ b ∷ c ∷ d ∷ []) ∷ [])
+      four f = omega arith
+
+      count : (p : Outcome → Bool) → (if p a then 1 else 0) + (if p b then 1 else 0) + (if p c then 1 else 0) + (if p d then 1 else 0) ≡ count_outcomes p (blocks (a ∷ b ∷ c ∷ d ∷ []) ∷ [])
+      count p = four (λ (o : Outcome). if p o then 1 else 0)

@@ -1,0 +1,89 @@
+-- A decoder: the items of the next stretch stand before those of the rest.
+use Rattle.std.proofs.Common.{◌≡◌, ◌≢◌, ℕ, ◌-◌, List, [], ◌∷◌, ◌++◌, length, get_or, Option, Some, None, refl, sym, ap, ap₂, ◌∙◌, arith, inl, inr}
+use Rattle.std.specs.Prelude.{⊤}
+use Rattle.std.specs.Iterator.{MakesProgress, YieldsFirst, item_count}
+use Rattle.rds_stream.specs.Recording.{Signal}
+use Rattle.rds_sync.specs.declared.item.Item.{Item}
+use Rattle.rds_sync.specs.declared.state.State.{State}
+use Rattle.rds_sync.specs.declared.step.Step.{Step}
+use Rattle.rds_sync.specs.Advance.{items_in}
+use Rattle.rds_sync.specs.Decoding.{DecoderOf, GivesNext}
+use Rattle.rds_sync.specs.Rules.{RuleNumbers}
+use Rattle.rds_sync.specs.Step.{run}
+use Rattle.rds_sync.specs.Stretch.{IsStretch}
+use Rattle.rds_sync.proofs.RunLemmas.{run-places}
+
+-- what is left before `place` in state s, behind what is ready
+abbrev pub left_of : Signal → RuleNumbers → Option Item → State → ℕ → ℕ → DecoderOf
+left_of b rules ready s place to =
+    record { items = items_in (ready ∷ []) ++ (run b rules s place (to - place)).1; end = (run b rules s place (to - place)).0 }
+
+module _ (b : Signal) (rules : RuleNumbers) (s : State) (place to : ℕ) (step : Step) (went : IsStretch b rules s place to step) where
+  abbrev rest : State × List Item
+  rest = run b rules step.state step.place (to - step.place)
+
+  onwards : run b rules s place (to - place) ≡ (rest.0, items_in step.items ++ rest.1)
+  onwards =
+      run-places b rules s place step.place to (omega (arith, went.forward)) went.limit
+      ∙ ap₂ (λ (t : State) (is : List Item). ((run b rules t step.place (to - step.place)).0, is ++ (run b rules t step.place (to - step.place)).1))
+      (sym went.state) (sym went.items)
+
+  nothing_left : items_in step.items ≡ [] → rest.1 ≡ []
+  nothing_left none = elim went.ended [
+    | inl ended ↦
+        let bits : to - step.place ≡ 0 = omega (arith, ended) in
+        ap (λ (n : ℕ). (run b rules step.state step.place n).1) bits
+    | inr given ↦ absurd (given none)
+  ]
+
+  module _ (old : DecoderOf) (old_is : old ≡ left_of b rules None s place to) (read : Signal) (same : read ≡ b) (second : Option Item) where
+    old_items : (first : Option Item) → step.items ≡ first ∷ second ∷ [] → old.items ≡ items_in (first ∷ second ∷ []) ++ rest.1
+    old_items first are =
+        ap (λ (d : DecoderOf). d.items) old_is ∙ ap (λ (r : State × List Item). r.1) onwards
+        ∙ ap (λ (slots : List (Option Item)). items_in slots ++ rest.1) are
+
+    end_is : (ready : Option Item) → (left_of read rules ready step.state step.place to).end ≡ old.end
+    end_is ready =
+        ap (λ (signal : Signal). (run signal rules step.state step.place (to - step.place)).0) same
+        ∙ sym (ap (λ (d : DecoderOf). d.end) old_is ∙ ap (λ (r : State × List Item). r.0) onwards)
+
+    left_is : (ready : Option Item) → items_in (ready ∷ []) ++ rest.1 ≡ (left_of read rules ready step.state step.place to).items
+    left_is ready = ap (λ (signal : Signal). items_in (ready ∷ []) ++ (run signal rules step.state step.place (to - step.place)).1) (sym same)
+
+    -- the first item is given, and the second is ready
+    pub gives-first : (item : Item) → step.items ≡ Some item ∷ second ∷ [] → GivesNext old (Some item) (left_of read rules second step.state step.place to)
+    gives-first item are = (step_is second (old_items (Some item) are) (left_is second), end_is second) where
+      step_is : (second : Option Item) → old.items ≡ items_in (Some item ∷ second ∷ []) ++ rest.1
+          → items_in (second ∷ []) ++ rest.1 ≡ (left_of read rules second step.state step.place to).items
+          → old.items ≡ item ∷ (left_of read rules second step.state step.place to).items
+      step_is None from_old to_new = from_old ∙ ap (λ (is : List Item). item ∷ is) to_new
+      step_is (Some next) from_old to_new = from_old ∙ ap (λ (is : List Item). item ∷ is) to_new
+
+    -- there is no first item
+    pub gives-second : step.items ≡ None ∷ second ∷ [] → GivesNext old second (left_of read rules None step.state step.place to)
+    gives-second are = (step_is second are (old_items None are) (left_is None), end_is None) where
+      step_is : (second : Option Item) → step.items ≡ None ∷ second ∷ [] → old.items ≡ items_in (None ∷ second ∷ []) ++ rest.1
+          → items_in (None ∷ []) ++ rest.1 ≡ (left_of read rules None step.state step.place to).items
+          → YieldsFirst (λ (d : DecoderOf). d.items) old second (left_of read rules None step.state step.place to)
+      step_is None slots from_old to_new =
+          let none = nothing_left (ap (λ (slots : List (Option Item)). items_in slots) slots) in
+          (from_old ∙ none, sym to_new ∙ none)
+      step_is (Some next) slots from_old to_new = from_old ∙ ap (λ (is : List Item). next ∷ is) to_new
+
+-- a decoder goes on
+pub goes-on : (old : DecoderOf) (given : Option Item) (new : DecoderOf) → GivesNext old given new
+    → MakesProgress (λ _. ⊤) (item_count (λ (d : DecoderOf). d.items)) old given new
+goes-on old None new gives = record { on = λ _. tt; keeps = tt; rests = λ _. tt }
+goes-on old (Some item) new gives =
+    record { on = λ _. (tt, tt, omega (arith, ap (λ (is : List Item). length is) gives.0)); keeps = tt; rests = λ _. tt }
+
+-- the two places for items of a step
+pub two_slots : (slots : List (Option Item)) (a b : Option Item) → length slots ≡ 2 → slots ≡ get_or slots 0 a ∷ get_or slots 1 b ∷ []
+two_slots [] a b two = absurd (omega (arith, two))
+two_slots (x ∷ []) a b two = absurd (omega (arith, two))
+two_slots (x ∷ y ∷ []) a b two = refl
+two_slots (x ∷ y ∷ z ∷ slots) a b two = absurd (omega (arith, two))
+
+pub none_ready : (ready : Option Item) → ((item : Item) → ready ≢ Some item) → ready ≡ None
+none_ready None other = refl
+none_ready (Some item) other = absurd (other item refl)

@@ -1,0 +1,22 @@
+use Rattle.std.proofs.Common.{List, ◌++◌, All, ap, subst, ◌∙◌}
+use Rattle.std.proofs.lemmas.List.Elements.{All-tail}
+use Rattle.rds_sync.specs.declared.item.Item.{Item}
+use Rattle.rds_sync.specs.declared.span.Span.{Span}
+use Rattle.rds_sync.specs.Inside.Spans.{items_in, IsSpan}
+use Rattle.rds_sync.proofs.SpanLemmas.{gives_none}
+use Rattle.rds_sync.proofs.item_iter.next_in.Goals as goal
+
+pub loop-span-preserved : goal.loop-span-preserved
+loop-span-preserved c =
+    let b = c.args.recording.now in
+    let rules = c.args.rules.now in
+    let before = c.loop-span.invariant in
+    let span = c.in-Some-split_first.span.now in
+    let after = c.in-Some-split_first.others.now in
+    let is = c.in-Some-split_first.ensures.cases.0 in
+    let none = gives_none _ _ _ c.in_default-first_of.not-Some c.first_of.ensures in
+    record {
+      all = All-tail (IsSpan b rules) span after (subst (λ (spans : List Span). All (IsSpan b rules) spans) is before.all);
+      done = none.1;
+      same = before.same ∙ ap (λ (spans : List Span). items_in b rules spans) is ∙ ap (λ (given : List Item). given ++ items_in b rules after) none.0;
+    }

@@ -1,0 +1,36 @@
+use Rattle.std.proofs.Common.{◌≡◌, List, ◌++◌, ap, ap₂, sym, ◌∙◌, arith}
+use Rattle.rds_stream.specs.Recording.{Signal}
+use Rattle.rds_sync.specs.declared.item.Item.{Item}
+use Rattle.rds_sync.specs.declared.span.Span.{Span}
+use Rattle.rds_sync.specs.Decoding.{ItemsOf, listed}
+use Rattle.rds_sync.specs.Inside.Spans.{items_in}
+use Rattle.rds_sync.specs.Rules.{RuleNumbers}
+use Rattle.rds_sync.proofs.SpanLemmas.{items_in-append, spans-behind, over}
+use Rattle.rds_sync.proofs.items.Items.append.Goals as goal
+
+pub invariant_of-self-2 : goal.invariant_of-self-2
+invariant_of-self-2 c =
+    let s = c.self.inside in
+    let o = c.other.inside in
+    let b = s.source.value in
+    let source = ap (λ (items : ItemsOf). items.source) c.other.view_is ∙ c.requires.source ∙ sym (ap (λ (items : ItemsOf). items.source) c.self.view_is) in
+    let rules = ap (λ (items : ItemsOf). items.rules) c.other.view_is ∙ c.requires.rules ∙ sym (ap (λ (items : ItemsOf). items.rules) c.self.view_is) in
+    let theirs = over _ _ _ _ o.spans.items o.len source rules c.other.invariant in
+    spans-behind b s.rules s.spans.items o.spans.items c.extend_from_slice.new.self.items s.len o.len c.in-Some.len c.self.invariant theirs.all
+    (c.in_ok-extend_from_slice.ensures.items ∙ ap (λ (spans : List Span). s.spans.items ++ spans) c.deref.ensures.value)
+    (omega (arith, c.in-Some.ensures)) theirs.count
+
+pub returns-clause-ok : goal.returns-clause-ok
+returns-clause-ok c =
+    let s = c.self.inside in
+    let o = c.other.inside in
+    let b = s.source.value in
+    let source = ap (λ (items : ItemsOf). items.source) c.other.view_is ∙ c.requires.source ∙ sym (ap (λ (items : ItemsOf). items.source) c.self.view_is) in
+    let rules = ap (λ (items : ItemsOf). items.rules) c.other.view_is ∙ c.requires.rules ∙ sym (ap (λ (items : ItemsOf). items.rules) c.self.view_is) in
+    let theirs : items_in b s.rules o.spans.items ≡ c.args.other.list =
+    ap₂ (λ (signal : Signal) (numbers : RuleNumbers). items_in signal numbers o.spans.items) (sym source) (sym rules) ∙ ap (λ (items : ItemsOf). items.list) c.other.view_is in
+    ap (λ (spans : List Span). listed b s.rules (items_in b s.rules spans))
+    (c.in_ok-extend_from_slice.ensures.items ∙ ap (λ (spans : List Span). s.spans.items ++ spans) c.deref.ensures.value)
+    ∙ ap (λ (is : List Item). listed b s.rules is) (items_in-append b s.rules s.spans.items o.spans.items
+    ∙ ap (λ (is : List Item). items_in b s.rules s.spans.items ++ is) theirs)
+    ∙ ap (λ (items : ItemsOf). listed items.source items.rules (items.list ++ c.args.other.list)) c.self.view_is

@@ -1,0 +1,94 @@
+use Rattle.std.proofs.Common.{◌≡◌, ℕ, ◌+◌, ◌-◌, ◌<◌, ◌≤◌, List, [], ◌∷◌, ◌++◌, false, sym, ap, ap₂, subst, ◌∙◌, arith}
+use Rattle.rds_stream.specs.Recording.{Signal}
+use Rattle.rds_sync.specs.declared.due.Lock.{Lock}
+use Rattle.rds_sync.specs.declared.item.Item.{Item}
+use Rattle.rds_sync.specs.declared.item.Item.TheVariants.{Group}
+use Rattle.rds_sync.specs.declared.loss.Bad.{Bad}
+use Rattle.rds_sync.specs.declared.loss.Loss.{Loss}
+use Rattle.rds_sync.specs.declared.state.State.{State}
+use Rattle.rds_sync.specs.declared.state.State.TheVariants.{Locked}
+use Rattle.rds_sync.specs.Codes.{Code, Outcome, blocks, KeptOf, behind, kept_of}
+use Rattle.rds_sync.specs.Groups.{group}
+use Rattle.rds_sync.specs.Inside.CodeParts.{kept_as}
+use Rattle.rds_sync.specs.Inside.CodeRuns.{HasPassed}
+use Rattle.rds_sync.specs.Inside.Due.{state_in}
+use Rattle.rds_sync.specs.Loss.{IsLawfulBad, are_too_many}
+use Rattle.rds_sync.specs.Marks.{bad_over}
+use Rattle.rds_sync.specs.Rules.{RuleNumbers}
+use Rattle.rds_sync.specs.Step.{run}
+use Rattle.rds_sync.specs.Words.{blocks_in}
+use Rattle.rds_sync.proofs.CodeRunLemmas.{kept-further}
+use Rattle.rds_sync.proofs.GroupOutcomes.{outcomes}
+use Rattle.rds_sync.proofs.RunLemmas.{run-append}
+use Rattle.rds_sync.proofs.WholeGroupLemmas.{whole_group}
+use Rattle.rds_sync.proofs.WordLemmas.{not_group}
+use Rattle.rds_sync.proofs.whole_groups.pass_whole_groups.Goals as goal
+
+-- one whole group more
+module _ (b : Signal) (rules : RuleNumbers) (lock now : Lock) (to : ℕ) (before codes after : KeptOf) (passed : HasPassed b rules lock to before now codes)
+    (start : 25 ≤ lock.due) (room : now.due + 78 < to) (word : ℕ) (bad : Bad)
+    (word_is : blocks_in word ≡ outcomes (group b rules 1 4 (now.due + 78))) (small : word < 65520)
+    (bad_is : bad ≡ bad_over rules.loss (blocks_in word) now.bad 1 4) (lawful : IsLawfulBad rules.loss bad)
+    (few : (k : ℕ) → k < 4 → are_too_many rules.loss (bad_over rules.loss (blocks_in word) now.bad 1 (k + 1)) ≡ false)
+    (pushed : after ≡ behind codes (kept_as (word ∷ []) [])) where
+  abbrev so_far : State × List Item
+  so_far = run b rules (state_in lock) (lock.due - 25) (now.due - lock.due)
+
+  abbrev the_group : Item
+  the_group = Group (group b rules 1 4 (now.due + 78))
+
+  late : 25 ≤ now.due
+  late = omega (arith, start, passed.from_on)
+
+  here : run b rules (Locked now.due 1 now.bad 1) (now.due - 25) 104 ≡ (Locked (now.due + 104) 1 bad 1, the_group ∷ [])
+  here =
+      whole_group b rules now.due now.bad late
+      (subst (λ (os : List Outcome). (k : ℕ) → k < 4 → are_too_many rules.loss (bad_over rules.loss os now.bad 1 (k + 1)) ≡ false) word_is few)
+      ∙ ap (λ (c : Bad). (Locked (now.due + 104) 1 c 1, the_group ∷ []))
+      (ap (λ (os : List Outcome). bad_over rules.loss os now.bad 1 4) (sym word_is) ∙ sym bad_is)
+
+  total : run b rules (state_in lock) (lock.due - 25) (now.due + 104 - lock.due) ≡ (Locked (now.due + 104) 1 bad 1, so_far.1 ++ the_group ∷ [])
+  total =
+      let count : now.due + 104 - lock.due ≡ now.due - lock.due + 104 = omega (arith, passed.from_on) in
+      let place : lock.due - 25 + (now.due - lock.due) ≡ now.due - 25 = omega (arith, start, passed.from_on) in
+      let state : so_far.0 ≡ Locked now.due 1 now.bad 1 = passed.state ∙ ap₂ (λ (x f : ℕ). Locked now.due x now.bad f) passed.between.0 passed.between.1 in
+      ap (λ (n : ℕ). run b rules (state_in lock) (lock.due - 25) n) count
+      ∙ run-append b rules (state_in lock) (lock.due - 25) (now.due - lock.due) 104
+      ∙ ap₂ (λ (t : State) (p : ℕ). ((run b rules t p 104).0, so_far.1 ++ (run b rules t p 104).1)) state place
+      ∙ ap (λ (r : State × List Item). (r.0, so_far.1 ++ r.1)) here
+
+  pub further : HasPassed b rules lock to before (record { due = now.due + 104; number = now.number; bad = bad; first = now.first }) after
+  further = record {
+    between = passed.between;
+    few_bad = lawful;
+    from_on = omega (arith, passed.from_on);
+    limit = λ more. omega (arith, room);
+    far = λ more. omega (arith, passed.from_on);
+    state = ap (λ (r : State × List Item). r.0) total ∙ sym (ap₂ (λ (x f : ℕ). Locked (now.due + 104) x bad f) passed.between.0 passed.between.1);
+    codes = kept-further before codes after so_far.1 (the_group ∷ []) passed.codes
+        (pushed ∙ ap (λ (code : Code). behind codes (record { codes = code ∷ []; locks = [] })) (not_group word small)
+        ∙ ap (λ (os : List Outcome). behind codes (record { codes = blocks os ∷ []; locks = [] })) word_is)
+        ∙ ap (λ (r : State × List Item). behind before (kept_of r.1)) (sym total);
+  }
+
+pub loop-now-preserved : goal.loop-now-preserved
+loop-now-preserved c =
+    let b = c.args.reader.now in
+    let rules = c.args.rules.now in
+    let l = c.loop-now in
+    let now = l.now in
+    let same = l.invariant.same in
+    let w = c.whole_word-word.result in
+    let word_is : blocks_in w ≡ outcomes (group b rules 1 4 (now.due + 78)) = c.whole_word-word.ensures.blocks ∙ ap (λ (s : Signal). outcomes (group s rules 1 4 (now.due + 78))) same in
+    let loss_is = c.loss-loss.ensures.value in
+    let bad = c.in-Some.bad in
+    let bad_is : bad ≡ bad_over rules.loss (blocks_in w) now.bad 1 4 = c.in-Some.ensures.bad ∙ ap (λ (loss : Loss). bad_over loss (blocks_in w) now.bad 1 4) loss_is in
+    let more = further b rules c.args.lock now c.args.to c.args.codes.now l.codes c.push_word.new.self l.invariant.passed c.requires.start c.loop-now-test.true w bad word_is
+    c.whole_word-word.ensures.few bad_is (subst (λ (loss : Loss). IsLawfulBad loss bad) loss_is c.in-Some.ensures.lawful)
+    (subst (λ (loss : Loss). (k : ℕ) → k < 4 → are_too_many loss (bad_over loss (blocks_in w) now.bad 1 (k + 1)) ≡ false) loss_is c.in-Some.ensures.kept)
+    c.in_ok-push_word.ensures.ok in
+    record {
+      same = c.whole_word-word.ensures.same ∙ same;
+      near = omega (arith, c.loop-now-test.true, c.if-prove.false, c.len.ensures.limit);
+      passed = more;
+    }

@@ -1,0 +1,46 @@
+-- Items as they are kept, by the spans of their runs: the implementation's own, which no caller sees.
+use Rattle.std.specs.Prelude.{◌≡◌, ℕ, ◌+◌, ◌-◌, ◌≤◌, List, [], ◌∷◌, ◌++◌, All, drop, length}
+use Rattle.rds_stream.specs.Recording.{Signal, length_of}
+use Rattle.rds_sync.specs.declared.item.Item.{Item}
+use Rattle.rds_sync.specs.declared.span.Span.{Span}
+use Rattle.rds_sync.specs.declared.span.Span.TheVariants.{Run, End}
+use Rattle.rds_sync.specs.Lawful.{IsLawful}
+use Rattle.rds_sync.specs.Ranges.{IsInRange}
+use Rattle.rds_sync.specs.Rules.{RuleNumbers}
+use Rattle.rds_sync.specs.Step.{run, items_of_end}
+
+module _ (b : Signal) (rules : RuleNumbers) where
+  -- the items of a span
+  abbrev pub items_of : Span → List Item
+  items_of (Run place state to items) = (run b rules state place (to - place)).1
+  items_of (End state) = items_of_end b rules state
+
+  -- the items of the spans, one after the other
+  abbrev pub items_in : List Span → List Item
+  items_in [] = []
+  items_in (span ∷ spans) = items_of span ++ items_in spans
+
+  -- it is of a run that can be made, and says how many items that gives
+  abbrev pub IsSpan : Span → Type 0
+  IsSpan (Run place state to items) =
+      IsLawful rules place state × (place ≤ to) × (to ≤ length_of b) × (items ≡ length (run b rules state place (to - place)).1)
+  IsSpan (End state) = IsLawful rules (length_of b) state
+
+  -- the spans and the number of their items
+  pub record AreSpans (spans : List Span) (len : ℕ) : Type 0 where
+    pub all : All IsSpan spans
+    pub count : len ≡ length (items_in spans)
+    pub range : IsInRange rules
+
+  -- the spans from that on which holds item number `from`, and its number there
+  pub record IsAt (spans : List Span) (from : ℕ) (rest : List Span) (left : ℕ) : Type 0 where
+    pub same : drop left (items_in rest) ≡ drop from (items_in spans)
+    pub passed : length (items_in rest) + from ≡ length (items_in spans) + left
+    pub all : All IsSpan rest
+
+  -- the spans after those that stood before, and what they give
+  pub record AreBehind (before after : List Span) (items : List Item) : Type 0 where
+    pub more : List Span
+    pub same : after ≡ before ++ more
+    pub all : All IsSpan more
+    pub given : items_in more ≡ items

@@ -1,0 +1,77 @@
+-- A code as a word of 16 bits: four bits a block. This project's rule.
+use Rattle.std.specs.Prelude.{◌≡◌, ℕ, ◌+◌, ◌-◌, ◌*◌, ◌/◌, ◌%◌, ◌^◌, ◌<◌, ◌≤◌, min, List, [], ◌∷◌, length, ⊤, ◌==◌, nat_le, if◌then◌else◌, slice_index_or}
+use Rattle.std.specs.List.{All}
+use Rattle.rds_stream.specs.Recording.{Signal}
+use Rattle.rds_sync.specs.declared.item.Item.{Item}
+use Rattle.rds_sync.specs.declared.state.State.{State}
+use Rattle.rds_sync.specs.Rules.{RuleNumbers}
+use Rattle.rds_sync.specs.Lawful.{IsLawful}
+use Rattle.rds_sync.specs.Loss.{IsLoss}
+use Rattle.rds_sync.specs.Step.{run}
+use Rattle.rds_sync.specs.Codes.{Outcome, unread, good, unclear, mended, Code, locked, blocks, ended, code_of, codes_of, locks_of}
+
+-- four bits: 3 to 13 for the eleven pairs of a span up to 5 and a number of bits
+abbrev pub nibble : Outcome → ℕ
+nibble unread = 0
+nibble good = 1
+nibble unclear = 2
+nibble (mended s n) = (s - 1) * (s - 2) / 2 + n + 2
+
+-- the pairs in that order
+abbrev pub outcomes_in_order : List Outcome
+outcomes_in_order =
+    unread ∷ good ∷ unclear ∷ mended 1 1 ∷ mended 2 2 ∷ mended 3 2 ∷ mended 3 3 ∷ mended 4 2 ∷ mended 4 3 ∷ mended 4 4
+    ∷ mended 5 2 ∷ mended 5 3 ∷ mended 5 4 ∷ mended 5 5 ∷ []
+
+abbrev pub outcome_at : ℕ → Outcome
+outcome_at k = slice_index_or outcomes_in_order k unread
+
+-- a burst of span 1 has one bit, and one of span s from 2 to s
+abbrev pub IsShort : Outcome → Type 0
+IsShort (mended s n) = (1 ≤ s) × (s ≤ 5) × (min 2 s ≤ n) × (n ≤ s)
+IsShort o = ⊤
+
+-- the first block in the lowest four bits
+abbrev pub word_of_blocks : List Outcome → ℕ
+word_of_blocks [] = 0
+word_of_blocks (o ∷ os) = nibble o + 16 * word_of_blocks os
+
+-- no group has a word of 65520 or more
+abbrev pub word_of : Code → ℕ
+word_of (locked x) = 65520 + x
+word_of (blocks os) = word_of_blocks os
+word_of ended = 65535
+
+abbrev pub blocks_in : ℕ → List Outcome
+blocks_in w = outcome_at (w % 16) ∷ outcome_at (w / 16 % 16) ∷ outcome_at (w / 256 % 16) ∷ outcome_at (w / 4096) ∷ []
+
+abbrev pub code_in : ℕ → Code
+code_in w = if w == 65535 then ended else (if nat_le 65520 w then locked (w - 65520) else blocks (blocks_in w))
+
+abbrev pub IsSmall : Code → Type 0
+IsSmall (locked x) = x ≤ 4
+IsSmall (blocks os) = (length os ≡ 4) × All IsShort os
+IsSmall ended = ⊤
+
+-- an item of which a code can be kept
+pub record IsKeepable (item : Item) : Type 0 where
+  pub small : IsSmall (code_of item)
+  pub places : All (λ a. a < 2 ^ 36) (locks_of (item ∷ []))
+
+-- a word tells its code
+pub record IsWord (code : Code) : Type 0 where
+  pub fits : word_of code < 2 ^ 16
+  pub back : code_in (word_of code) ≡ code
+
+abbrev pub WordsTellCodes : Type 0
+WordsTellCodes = (code : Code) → IsSmall code → IsWord code
+
+-- the codes of a run have words
+abbrev pub RunsHaveWords : Type 0
+RunsHaveWords = (b : Signal) (rules : RuleNumbers) → IsLoss rules.loss → rules.burst ≤ 5 → (s : State) (a bits : ℕ) → IsLawful rules a s
+    → All IsSmall (codes_of (run b rules s a bits).1)
+
+-- and so can the items of a run over a recording be kept
+abbrev pub RunsAreKeepable : Type 0
+RunsAreKeepable = (b : Signal) (rules : RuleNumbers) → IsLoss rules.loss → rules.burst ≤ 5 → (s : State) (a bits : ℕ) → IsLawful rules a s
+    → a + bits ≤ 2 ^ 36 → All IsKeepable (run b rules s a bits).1

@@ -1,0 +1,152 @@
+//! A part of what a run keeps.
+
+ghost use Rattle.std.specs.Prelude.{◌≡◌, ◌≤◌, ◌<◌, ◌+◌, ◌*◌, ◌^◌, [], ◌∷◌, false, length, map, IfOk, OnOk, OnErr};
+ghost use Rattle.rds_sync.specs.Codes.{AreLocks, kept_of, no_codes, behind, kept_from, locks_among, totals_of_codes, is_locked, outcome_of, blocks};
+ghost use Rattle.rds_sync.specs.Inside.CodeParts.{kept_as};
+ghost use Rattle.rds_sync.specs.Words.{IsKeepable, IsSmall, code_in};
+
+use crate::item::{Block, Item};
+use crate::words::{ENDED, LOCKED, locks_in, word_of_blocks};
+use std::alloc::{AllocError, Global};
+use std::marker::Model;
+
+/// Words of codes, and the places of the acquisitions among them; the first so many of each are passed over, and are no
+/// part of it.
+#[derive(Drop)]
+pub(crate) struct CodePart {
+    words: Vec<u16>,
+    places: Vec<u64>,
+    words_passed: usize,
+    places_passed: usize,
+}
+
+impl Model for CodePart {
+    ghost use Rattle.std.specs.Prelude.{◌≤◌, length, drop};
+    ghost use Rattle.rds_sync.specs.Codes.{KeptOf, AreLocks};
+    ghost use Rattle.rds_sync.specs.Inside.CodeParts.{kept_as};
+
+    ghost Value = { KeptOf };
+
+    ghost view = { λ p. kept_as (drop p.words_passed p.words.items) (drop p.places_passed p.places.items) };
+
+    ghost invariant = { λ p. (p.words_passed ≤ length p.words.items) × (p.places_passed ≤ length p.places.items)
+        × AreLocks (kept_as (drop p.words_passed p.words.items) (drop p.places_passed p.places.items)) };
+}
+
+impl CodePart {
+    /// No codes. Takes no memory.
+    pub fn new(alloc: Global) -> CodePart
+        ensures { result ≡ no_codes }
+    {
+        CodePart {
+            words: Vec::new(alloc),
+            places: Vec::new(alloc),
+            words_passed: 0,
+            places_passed: 0,
+        }
+    }
+
+    /// No codes, with room for so many.
+    pub fn with_room(alloc: Global, codes: usize) -> Result<CodePart, AllocError>
+        ensures { IfOk result (λ part. part ≡ no_codes) }
+    {
+        Ok(CodePart {
+            words: Vec::with_capacity(alloc, codes)?,
+            places: Vec::new(alloc),
+            words_passed: 0,
+            places_passed: 0,
+        })
+    }
+
+    /// How many codes there are.
+    pub fn len(&self) -> usize
+        ensures value { result ≡ length self.now.codes }
+        ensures locks { AreLocks self.now }
+    {
+        let CodePart {
+            words,
+            words_passed,
+            ..
+        } = self;
+        words.len() - words_passed
+    }
+
+    /// Appends the code of an item, and the place of an acquisition.
+    pub fn push(&mut self, item: &Item) -> Result<(), AllocError>
+        requires { IsKeepable item.now }
+        ensures ok { OnOk result (self.new ≡ behind self.old (kept_of (item.now ∷ []))) }
+        ensures refused { OnErr result (self.new ≡ self.old) }
+    {
+        match item {
+            Item::Acquired { place, number } => self.push_lock(*place, *number),
+            Item::Group(group) => self.push_group(&group.blocks),
+            Item::LostLock { .. } => self.push_word(ENDED),
+        }
+    }
+
+    /// Appends the code of a group of these blocks.
+    pub fn push_group(&mut self, group: &[Block; 4]) -> Result<(), AllocError>
+        requires { IsSmall (blocks (map outcome_of group.now)) }
+        ensures ok { OnOk result (self.new
+            ≡ behind self.old (record { codes = blocks (map outcome_of group.now) ∷ []; locks = [] })) }
+        ensures refused { OnErr result (self.new ≡ self.old) }
+    {
+        self.push_word(word_of_blocks(group))
+    }
+
+    /// Appends a code that is no acquisition's.
+    #[inline(always)]
+    pub fn push_word(&mut self, word: u16) -> Result<(), AllocError>
+        requires { is_locked (code_in word) ≡ false }
+        ensures ok { OnOk result (self.new ≡ behind self.old (kept_as (word ∷ []) [])) }
+        ensures refused { OnErr result (self.new ≡ self.old) }
+    {
+        self.words.push(word)?;
+        Ok(())
+    }
+
+    /// Appends the code and the place of an acquisition.
+    pub fn push_lock(&mut self, place: u64, number: u8) -> Result<(), AllocError>
+        requires place { place < 2 ^ 36 }
+        requires number { number ≤ 4 }
+        ensures ok { OnOk result (self.new ≡ behind self.old (kept_as ((65520 + number) ∷ []) (place ∷ []))) }
+        ensures refused { OnErr result (self.new ≡ self.old) }
+    {
+        self.places.reserve(1)?;
+        self.words.push(LOCKED + u16::from(number))?;
+        self.places.push(place)?;
+        Ok(())
+    }
+
+    /// The part without its first codes.
+    pub fn after(self, first: usize) -> CodePart
+        requires { first ≤ length self.codes }
+        ensures { result ≡ kept_from first self }
+    {
+        let CodePart {
+            words,
+            places,
+            words_passed,
+            places_passed,
+        } = self;
+        let passed = words_passed + first;
+        let places_passed = places_passed + locks_in(&words[words_passed..passed]);
+        CodePart {
+            words,
+            places,
+            words_passed: passed,
+            places_passed,
+        }
+    }
+
+    /// The words, and the places of the acquisitions among them.
+    pub fn lent(&self) -> (&[u16], &[u64])
+        ensures value { kept_as result.0.now result.1.now ≡ self.now }
+        ensures locks { AreLocks self.now }
+    {
+        (
+            &self.words[self.words_passed..],
+            &self.places[self.places_passed..],
+        )
+    }
+}

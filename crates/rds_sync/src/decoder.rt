@@ -1,0 +1,148 @@
+//! The items of a run over a recording, one after the other.
+
+ghost use Rattle.std.specs.Prelude.{◌≡◌, ◌≤◌, ◌-◌};
+ghost use Rattle.std.specs.Iterator.{item_count};
+ghost use Rattle.rds_stream.specs.Recording.{length_of};
+ghost use Rattle.rds_sync.specs.Decoding.{decoder_of, GivesNext};
+ghost use Rattle.rds_sync.specs.Lawful.{IsLawful};
+ghost use Rattle.rds_sync.specs.Step.{run};
+
+use crate::item::Item;
+use crate::rules::Rules;
+use crate::state::State;
+use crate::stretches::stretch;
+use rds_stream::{Reader, Recording};
+use std::iter::FusedIterator;
+use std::marker::Model;
+
+/// The items of a run over a range of a recording, in order of place, and the state at its end. Runs are this project's
+/// rule, after EN 50067:1998, annex C.
+///
+/// It goes no further than it is asked for, and takes no memory. Contracts see the items that are still to come, and
+/// the state that the run ends in.
+///
+/// Its cost: a search goes over 64 places at once, and looks up to `reach` windows back from each valid one; a lock
+/// reads a window every 26 bits, and those of a group again where the run goes on inside it.
+#[derive(Drop)]
+pub struct Decoder<'a> {
+    reader: Reader<'a>,
+    rules: &'a Rules,
+    place: u64,
+    state: State,
+    to: u64,
+    ready: Option<Item>,
+}
+
+impl<'a> Model for Decoder<'a> {
+    ghost use Rattle.std.specs.Prelude.{◌≤◌, ◌-◌, ◌∷◌, ◌++◌, []};
+    ghost use Rattle.rds_stream.specs.Recording.{length_of};
+    ghost use Rattle.rds_sync.specs.Advance.{items_in};
+    ghost use Rattle.rds_sync.specs.Decoding.{DecoderOf};
+    ghost use Rattle.rds_sync.specs.Lawful.{IsLawful};
+    ghost use Rattle.rds_sync.specs.Step.{run};
+
+    ghost Value = { DecoderOf };
+
+    ghost view = { λ d. record {
+      items = items_in (d.ready ∷ []) ++ (run d.reader d.rules.now d.state d.place (d.to - d.place)).1;
+      end = (run d.reader d.rules.now d.state d.place (d.to - d.place)).0;
+    } };
+
+    ghost invariant = { λ d. IsLawful d.rules.now d.place d.state × (d.place ≤ d.to) × (d.to ≤ length_of d.reader) };
+}
+
+impl<'a> Decoder<'a> {
+    /// The items of the run from `state` over the bits at `from` to `to` - 1. Windows may begin before `from`. The item
+    /// of the recording's end is not among them: see [`finish`](crate::finish).
+    pub fn new(
+        rec: &'a Recording,
+        rules: &'a Rules,
+        state: State,
+        from: u64,
+        to: u64,
+    ) -> Decoder<'a>
+        requires lawful { IsLawful rules.now from state }
+        requires order { from ≤ to }
+        requires within { to ≤ length_of rec.now }
+        ensures { result ≡ decoder_of rec.now rules.now state from to }
+    {
+        Decoder {
+            reader: Reader::new(rec),
+            rules,
+            place: from,
+            state,
+            to,
+            ready: None,
+        }
+    }
+
+    /// The state after the last bit of the range. Items that were not asked for are passed over.
+    pub fn end_state(self) -> State
+        ensures { result ≡ self.entry.end }
+    {
+        let Decoder {
+            reader,
+            rules,
+            place,
+            state,
+            to,
+            ready: _,
+        } = self;
+        let mut reader = reader;
+        end_of(&mut reader, rules, state, place, to)
+    }
+}
+
+impl<'a> Iterator for Decoder<'a> {
+    type Item = Item;
+
+    ghost next_gives = { GivesNext };
+
+    ghost remaining = { item_count (λ d. d.items) };
+
+    fn next(&mut self) -> Option<Item> {
+        if let Some(item) = self.ready {
+            self.ready = None;
+            return Some(item);
+        }
+        if self.place == self.to {
+            return None;
+        }
+        let step = stretch(
+            &mut self.reader,
+            self.rules,
+            self.state,
+            self.place,
+            self.to,
+        );
+        self.place = step.place;
+        self.state = step.state;
+        let [first, second] = step.items;
+        match first {
+            Some(item) => {
+                self.ready = second;
+                Some(item)
+            }
+            None => second,
+        }
+    }
+}
+
+impl<'a> FusedIterator for Decoder<'a> {}
+
+/// The state after the run from `state` over the bits at `from` to `to` - 1.
+fn end_of(reader: &mut Reader<'_>, rules: &Rules, state: State, from: u64, to: u64) -> State
+    requires lawful { IsLawful rules.now from state }
+    requires order { from ≤ to }
+    requires within { to ≤ length_of reader.old }
+    ensures { result ≡ (run reader.old rules.now state from (to - from)).0 }
+{
+    let mut now = state;
+    let mut place = from;
+    while place < to {
+        let step = stretch(reader, rules, now, place, to);
+        now = step.state;
+        place = step.place;
+    }
+    now
+}

@@ -1,0 +1,156 @@
+//! Whole groups of a lock, as codes: four blocks at once, of which none loses it.
+
+ghost use Rattle.std.specs.Prelude.{◌≡◌, ◌≤◌, ◌<◌, ◌+◌, ◌^◌, map, true, false, ℕ, All, IfOk, IfSome, IsOkUnless};
+ghost use Rattle.rds_stream.specs.InARow.{four_heard};
+ghost use Rattle.rds_stream.specs.Recording.{Signal, length_of};
+ghost use Rattle.rds_sync.specs.Codes.{outcome_of};
+ghost use Rattle.rds_sync.specs.Groups.{blocks_at, group};
+ghost use Rattle.rds_sync.specs.Inside.CodeRuns.{AreValid, HasPassed};
+ghost use Rattle.rds_sync.specs.Loss.{IsLawfulBad, bad_after, are_too_many};
+ghost use Rattle.rds_sync.specs.Marks.{bad_over};
+ghost use Rattle.rds_sync.specs.Ranges.{IsLossInRange};
+ghost use Rattle.rds_sync.specs.Words.{blocks_in};
+
+use crate::code_part::CodePart;
+use crate::due::{BLOCK_PLACES, Lock};
+use crate::error::SyncError;
+use crate::group::is_numbered;
+use crate::item::Block;
+use crate::loss::{Bad, Loss};
+use crate::rules::Rules;
+use crate::words::{CLEAN, is_good, word_of_blocks};
+use rds_code::Wanted;
+use rds_code::laws::{bursts_are_listed, readings_follow_the_rule};
+use rds_stream::Reader;
+
+/// The lock behind the whole groups that come next, none of whose blocks loses it, of which the last ends before `to`.
+pub(crate) fn pass_whole_groups(
+    reader: &mut Reader<'_>,
+    rules: &Rules,
+    lock: Lock,
+    to: u64,
+    codes: &mut CodePart,
+) -> Result<Lock, SyncError>
+    requires between { (lock.number ≡ 1) × (lock.first ≡ 1) }
+    requires few_bad { IsLawfulBad rules.now.loss lock.bad }
+    requires start { 25 ≤ lock.due }
+    requires near { lock.due < 2 ^ 37 }
+    requires within { to ≤ length_of reader.old }
+    ensures passed { IfOk result (λ next. HasPassed reader.old rules.now lock to codes.old next codes.new) }
+    ensures same { reader.new ≡ reader.old }
+    ensures only_memory { IsOkUnless result SyncError.OutOfMemory }
+{
+    prove!(to <= reader.recording().len());
+    let loss = rules.loss();
+    let mut now = lock;
+    while now.due + 3 * BLOCK_PLACES < to {
+        let word = whole_word(reader, rules, now.due);
+        let Some(bad) = bad_after_four(loss, word, now.bad) else {
+            break;
+        };
+        codes.push_word(word)?;
+        now.bad = bad;
+        now.due += 4 * BLOCK_PLACES;
+    }
+    Ok(now)
+}
+
+/// The word of the group whose block 1 ends at `due`.
+#[inline(always)]
+fn whole_word(reader: &mut Reader<'_>, rules: &Rules, due: u64) -> u16
+    requires first { 25 ≤ due }
+    requires last { due + 78 < length_of reader.old }
+    requires place { due < 2 ^ 37 }
+    ensures blocks { blocks_in result ≡ map outcome_of (group reader.old rules.now 1 4 (due + 78)).blocks }
+    ensures few { result < 65520 }
+    ensures same { reader.new ≡ reader.old }
+{
+    let heard = reader.four_windows(due);
+    if are_valid(heard) {
+        CLEAN
+    } else {
+        damaged_word(rules, heard)
+    }
+}
+
+/// Whether what was heard of four blocks in a row is valid, with the numbers 1 to 4.
+#[inline(always)]
+fn are_valid(heard: [Option<u32>; 4]) -> bool
+    requires { All (λ heard. IfSome heard (λ window. window < 2 ^ 26)) heard }
+    ensures { (b : Signal) (due : ℕ) → 25 ≤ due → heard ≡ four_heard b due → result ≡ true → AreValid b due }
+{
+    let [one, two, three, four] = heard;
+    if !is_numbered(one, 1) {
+        return false;
+    }
+    if !is_numbered(two, 2) {
+        return false;
+    }
+    if !is_numbered(three, 3) {
+        return false;
+    }
+    is_numbered(four, 4)
+}
+
+/// The word of a group of which this was heard.
+fn damaged_word(rules: &Rules, heard: [Option<u32>; 4]) -> u16
+    requires { All (λ heard. IfSome heard (λ window. window < 2 ^ 26)) heard }
+    ensures blocks { (b : Signal) (due : ℕ) → heard ≡ four_heard b due
+        → blocks_in result ≡ map outcome_of (group b rules.now 1 4 (due + 78)).blocks }
+    ensures few { result < 65520 }
+{
+    // The outcome of each reading has a word.
+    bursts_are_listed();
+    readings_follow_the_rule();
+    prove!(rules.burst() <= 5);
+    word_of_blocks(&blocks_of(rules, heard))
+}
+
+/// The four blocks of that group.
+#[inline(always)]
+fn blocks_of(rules: &Rules, heard: [Option<u32>; 4]) -> [Block; 4]
+    requires { All (λ heard. IfSome heard (λ window. window < 2 ^ 26)) heard }
+    ensures { (b : Signal) (due : ℕ) → heard ≡ four_heard b due → result ≡ blocks_at b rules.now 1 4 (due + 78) }
+{
+    let [one, two, three, four] = heard;
+    let first = Block::Read(rules.read(one, 1, Wanted::Either));
+    let second = Block::Read(rules.read(two, 2, Wanted::Either));
+    let third = Block::Read(rules.read(three, 3, second.wanted_beside()));
+    let fourth = Block::Read(rules.read(four, 4, Wanted::Either));
+    [first, second, third, fourth]
+}
+
+/// What is kept of the bad blocks after those of the group of a word, or none where one of them loses the lock.
+#[inline(always)]
+fn bad_after_four(loss: Loss, word: u16, bad: Bad) -> Option<Bad>
+    requires range { IsLossInRange loss }
+    requires lawful { IsLawfulBad loss bad }
+    ensures bad { IfSome result (λ after. after ≡ bad_over loss (blocks_in word) bad 1 4) }
+    ensures lawful { IfSome result (IsLawfulBad loss) }
+    ensures kept { IfSome result (λ _. (k : ℕ) → k < 4
+        → are_too_many loss (bad_over loss (blocks_in word) bad 1 (k + 1)) ≡ false) }
+{
+    let one = kept_after(loss, is_good(word % 16), bad)?;
+    let two = kept_after(loss, is_good(word / 16 % 16), one)?;
+    let three = kept_after(loss, is_good(word / 256 % 16), two)?;
+    let four = kept_after(loss, is_good(word / 4096), three)?;
+    Some(four)
+}
+
+/// What is kept of the bad blocks after one more, or none where it loses the lock.
+#[inline(always)]
+#[tactic(auto, using(crate::proofs::BadRows::lawful_kept))]
+fn kept_after(loss: Loss, good: bool, bad: Bad) -> Option<Bad>
+    requires range { IsLossInRange loss }
+    requires lawful { IsLawfulBad loss bad }
+    ensures bad { IfSome result (λ after. after ≡ bad_after loss good bad) }
+    ensures lawful { IfSome result (IsLawfulBad loss) }
+    ensures kept { IfSome result (λ after. are_too_many loss after ≡ false) }
+{
+    let after = loss.bad_after(good, bad);
+    if loss.are_too_many(after) {
+        None
+    } else {
+        Some(after)
+    }
+}
