@@ -2,13 +2,13 @@
 
 # What each command takes; tests/package.sh compares it with the program's help.
 _rds_options() {
-  local input='--hex --bits --gaps --help'
-  local rules='--burst --reach --loss --share --of --pieces --workers'
+  local input='--hex --bits --gaps' rules='--burst --reach --loss --share --of' crew='--workers --progress'
   case $1 in
-    scan) echo "$input" ;;
-    list | totals) echo "$input $rules" ;;
+    scan) echo "$input $crew --help" ;;
+    list | totals) echo "$input $rules --pieces $crew --help" ;;
+    follow) echo "$rules --help" ;;
     encode) echo '--hex --help' ;;
-    '') echo 'scan list totals encode help --help --version' ;;
+    '') echo 'scan list follow totals encode help --help --version' ;;
   esac
 }
 
@@ -26,7 +26,7 @@ _rds() {
   ((COMP_CWORD > 1)) && command=${COMP_WORDS[1]}
   case $before in
     --bits | --gaps | --burst | --reach | --loss | --share | --of | --pieces | --workers) offered=$(_rds_values "$before") ;;
-    help) offered='scan list totals encode' ;;
+    help) offered='scan list follow totals encode' ;;
     *) offered=$(_rds_options "$command") ;;
   esac
   mapfile -t COMPREPLY < <(compgen -W "$offered" -- "$word")

@@ -3,7 +3,8 @@
 #
 # For each seed from FIRST (1) to LAST (120, or FIRST where that is more) rds_plain makes a recording, and lines of groups. What rds writes of them,
 # by rules, cuttings and workers that are drawn from the seed, has to be what rds_plain writes, which decodes in one
-# piece by one thread, and has nothing of what cuts, stitches and lists. A run that differs is shown by its seed and its
+# piece by one thread, and has nothing of what cuts, stitches and lists. So has what rds follow writes of the whole recording,
+# which comes to it in chunks of random lengths. A run that differs is shown by its seed and its
 # words. The last line is 'N passed, M failed', and the exit status says whether all passed.
 
 usage='usage: tests/differential.sh PATH-TO-RDS PATH-TO-RDS_PLAIN [FIRST [LAST]]'
@@ -17,7 +18,7 @@ for it in "${@:3}"; do
 done
 first=${3:-1}
 last=${4:-$((first > 120 ? first : 120))}
-needs cat cmp fold mv od sed seq stat tr
+needs cat cmp fold head mv od python3 sed seq stat tr
 cd "$work" || exit 1
 
 # draw FROM TO: the next number of the seed's row, into $drawn
@@ -80,6 +81,30 @@ compare() {
     fi
 }
 
+# compare_stream MOST: rds follow by the rules on the file in, which comes in chunks of up to so many bytes, against the file wanted
+compare_stream() {
+    # shellcheck disable=SC2086
+    if PATH=$all_tools python3 "$here/chunks.py" "$seed" "$1" <in | "$rds" follow $words 2>err | cmp -s - wanted; then
+        pass
+    else
+        fail "seed $seed: rds follow $words, chunks of up to $1 bytes"
+    fi
+}
+
+# try_follow: the whole recording, and a beginning of it byte by byte
+try_follow() {
+    draw_rules
+    # shellcheck disable=SC2086
+    "$plain" list "$held" - $rules <in >wanted || exit 1
+    draw 2 10000
+    compare_stream "$drawn"
+    head -c 2000 in >begun && mv begun in
+    held=$((8 * $(stat -c %s in)))
+    # shellcheck disable=SC2086
+    "$plain" list "$held" - $rules <in >wanted || exit 1
+    compare_stream 1
+}
+
 # try_encode: the lines of the seed; a line that is no group is refused by both
 try_encode() {
     "$plain" lines "$seed" >in || exit 1
@@ -118,6 +143,7 @@ for seed in $(seq "$first" "$last"); do
             words=$crew_words
         done
     done
+    try_follow
     try_encode
 done
 

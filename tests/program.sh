@@ -9,7 +9,7 @@ usage='usage: tests/program.sh PATH-TO-RDS'
 . "$(dirname "$0")/common.sh" || exit
 check_programs "${1:-}"
 rds=$(realpath "$1")
-needs cat cmp grep head python3 sed
+needs cat cmp cp grep head mkfifo python3 sed seq sleep tee wc
 
 # check NAME STATUS STDOUT STDERR INPUT WORDS..
 #
@@ -71,9 +71,9 @@ check 'help of the program' 0 '*Usage: rds <COMMAND>' '' '' --help
 check 'help lists the refusals' 0 '*13 TooManyTurns' '' '' --help
 check 'help lists the last refusal' 0 '*16 BadGaps' '' '' --help
 check 'the command help' 0 '*Commands:' '' '' help
-for command in scan list totals encode; do
+for command in scan list follow totals encode; do
     check "help of $command" 0 "*Usage: rds $command" '' '' "$command" --help
-    check "help on $command" 0 '*--hex' '' '' help "$command"
+    check "help on $command" 0 "*Usage: rds $command" '' '' help "$command"
 done
 # Each option stands beside its own meaning, and each command is told of.
 cat >"$work/options" <<'END'
@@ -96,27 +96,34 @@ Options:
                      at most 64 [default: 64]
       --pieces <N>   Cut the recording into up to N pieces, 1 or more; the
                      output stays the same [default: 16]
-      --workers <N>  Decode the pieces by up to N threads, 1 to 256; the
-                     output stays the same [default: 4]
+      --workers <N>  Work by up to N threads, 1 to 256; the output stays
+                     the same [default: 4]
+      --progress     Tell on standard error how far the work is
   -h, --help         Print help
 END
 for words in 'list --help' 'help totals'; do
     "$rds" $words 2>"$work/err" </dev/null | sed -n '/^Options:$/,/^$/p' | sed '/^$/d' >"$work/out"
     judge "options in the help by $words" 0 "${PIPESTATUS[0]}" "$(cat "$work/options")\n" ''
 done
+check 'help of follow on --burst' 0 '*--burst <N>  Correct bursts of errors of up to N bits' '' '' follow --help
+check 'help of follow on --of' 0 '*--of <N>     Look at the last N blocks' '' '' follow --help
+check 'help of scan on --workers' 0 '*--workers <N>  Work by up to N threads' '' '' scan --help
+check 'help of scan on --progress' 0 '*--progress     Tell on standard error' '' '' scan --help
 check 'help of scan on --bits' 0 '*--bits <N>     Length of the recording in bits' '' '' help scan
 check 'help of scan on --gaps' 0 '*--gaps <TEXT>  Places whose bits mean nothing' '' '' help scan
 check 'help of encode on --hex' 0 '*--hex   Write each group as a line of 26 lower-case' '' '' encode --help
 help_begins 'Decodes and encodes Radio Data System bits, standard input to standard output'
 help_begins 'List each place at which 26 bits have an offset word as remainder' scan
 help_begins 'List acquisitions, groups and losses of synchronism, then the totals' list
+help_begins 'List a stream as it comes, each row once it is complete' follow
 help_begins 'Count valid, corrected and lost blocks, groups, losses of synchronism' totals
 help_begins 'Encode groups that are given as lines of hexadecimal words' encode
 check 'help of scan on its rows' 0 "*Writes a row 'PLACE,OFFSET' for each 26 bits in a row" '' '' scan --help
 check 'help of list on its rows' 0 '*Writes rows of eight fields, in the order of the bit that completes' '' '' list --help
+check 'help of follow on its rows' 0 "*the rows of 'rds list'" '' '' follow --help
 check 'help of totals on its rows' 0 "*Writes twelve rows 'total,NAME,VALUE'" '' '' totals --help
 check 'help of encode on its lines' 0 '*Each line has 16 hexadecimal digits of either case' '' '' encode --help
-for command in '' scan list totals encode; do
+for command in '' scan list follow totals encode; do
     "$rds" $command --help 2>"$work/err" </dev/null | grep -E '.{81}' >"$work/out"
     judge "help of ${command:-rds} fits 80 columns" 0 "${PIPESTATUS[0]}" '' ''
 done
@@ -128,7 +135,7 @@ check 'a command is asked for' 2 '' '*requires a subcommand' ''
 check 'no such command' 2 '' '*tune' '' tune
 check 'no such option' 2 '' "*unexpected argument '--speed'" '' list --speed 3
 check 'a stray word' 2 '' '*stray' '' scan stray
-for command in scan list totals encode; do
+for command in scan list follow totals encode; do
     check "a file among the words of $command" 2 '' "*Usage: rds $command [OPTIONS] < INPUT > OUTPUT" '' "$command" file.bin
 done
 check 'a file for a command' 2 '' '*Usage: rds <COMMAND> [OPTIONS] < INPUT > OUTPUT' '' file.bin
@@ -142,9 +149,13 @@ check 'a share that is no number' 2 '' '*some' '' list --share some
 check 'pieces above 32 bits' 2 '' '*4294967296' '' list --pieces 4294967296
 check 'a reach that is no number' 2 '' '*three' '' totals --reach three
 check 'rules for a scan' 2 '' '*--burst' '' scan --burst 2
-check 'workers for a scan' 2 '' '*--workers' '' scan --workers 2
+check 'pieces for a scan' 2 '' '*--pieces' '' scan --pieces 2
+for option in --hex --bits=8 --gaps=1-2 --pieces=2 --workers=2 --progress; do
+    check "$option for a stream" 2 '' "*${option%%=*}" '' follow $option
+done
 check 'bits for encode' 2 '' '*--bits' '' encode --bits 104
 check 'gaps for encode' 2 '' '*--gaps' '' encode --gaps 1-2
+check 'progress for encode' 2 '' '*--progress' '' encode --progress
 # None of these spells gaps: the words are no command line, though the parser takes them.
 for gaps in '' 5 a-b 5- 1-2, ,1-2 1-2,,3-4 1-2-3 +1-2 '1-2, 3-4' '1-2;3-4' 0-1000000000000 0000000000000-1; do
     check "gaps '$gaps'" 2 '' 'bad --gaps\n' '' scan --gaps "$gaps"
@@ -156,6 +167,8 @@ for words in '--share 2 --loss 10' '--loss 0 --share 2 --of 3' '--of 64' '--loss
     check "list of $words" 2 '' "$bad_loss" '' list --hex $words
     check "totals of $words" 2 '' "$bad_loss" '' totals $words
 done
+check 'two losses of a stream' 2 '' "$bad_loss" '' follow --share 2 --loss 10
+check 'of without a share of a stream' 2 '' "$bad_loss" '' follow --of 3
 check 'bad gaps before a bad loss' 2 '' 'bad --gaps\n' '' list --of 3 --gaps 5
 check 'a fault of the parser before a bad loss' 2 '' '*--reach' '' list --of 3 --reach three
 check 'a gap that begins with a hyphen' 2 '' '*unexpected argument' '' scan --gaps -5
@@ -171,6 +184,10 @@ check 'scan of upper case on lines' 0 "$rows" '' '00\n00\n3F\n00\n00\n19\n80\n00
 check 'scan of two groups' 0 "${rows}123,B\n129,A\n155,B\n181,C\n200,B\n207,D\n" '' "$zero$zero" scan --hex
 check 'scan of 25 bits' 0 '' '' "$zero" scan --hex --bits 25
 check 'scan of 104 bits of more' 0 "$rows" '' "$zero$zero" scan --bits 104 --hex
+for workers in 1 2 256; do
+    check "scan by $workers" 0 "$rows" '' "$zero" scan --hex --workers $workers
+    check "scan by $workers that tells how far it is" 0 "$rows" '' "$zero" scan --hex --workers $workers --progress
+done
 check 'scan of nothing' 0 '' '' '' scan
 check 'scan of two groups with a gap' 0 "${rows}155,B\n181,C\n200,B\n207,D\n" '' "$zero$zero" scan --hex --gaps 104-105
 check 'scan of a gap from end to end' 0 '' '' "$zero" scan --hex --gaps 0-104
@@ -265,6 +282,31 @@ check 'list of a gap in a damaged block' 0 \
     00003f000019800205a0 list --hex --bits 78 --gaps 77-78
 check 'totals alone' 0 "$(totals 2 0 0 0 0 1 0 2 1 0 1 0)" '' 00003f000019800005a00001a5 totals --hex --burst 5
 
+# ---- follow
+
+check 'a stream of a group' 0 "${first}$(totals 3 0 0 0 0 0 0 0 1 0 1 0)" '' "$zero_bytes" follow
+"$rds" list --burst 5 --share 3 --of 9 <"$here/../examples/station.bin" >"$work/wanted"
+{ head -c 100; sleep 0.1; cat; } <"$here/../examples/station.bin" \
+    | "$rds" follow --burst 5 --share 3 --of 9 >"$work/out" 2>"$work/err"
+judge 'a stream is listed as its recording' 0 $? "$(cat "$work/wanted")\n" ''
+
+# Rows are there before more of the stream comes: all that a pipe gave but the group in progress.
+mkfifo "$work/air"
+"$rds" follow <"$work/air" >"$work/out" 2>"$work/err" &
+exec 9>"$work/air"
+head -c 1300 "$here/../examples/station.bin" | tee "$work/begun" >&9
+"$rds" list <"$work/begun" | grep -v '^total' | sed '$d' >"$work/complete"
+for _ in $(seq 100); do
+    [ "$(wc -l <"$work/out")" -lt "$(wc -l <"$work/complete")" ] || break
+    sleep 0.05
+done
+cp "$work/out" "$work/early"
+exec 9>&-
+wait $!
+status=$?
+head -n "$(wc -l <"$work/complete")" "$work/early" | cmp -s - "$work/complete" || echo 'rows are late' >>"$work/err"
+judge 'rows of a stream before more of it comes' 0 $status "$("$rds" list <"$work/begun")\n" ''
+
 # ---- encode
 
 check 'encode to digits' 0 '12341a89501ac52449594c83fb\n' '' '1234 2540 5244 5320' encode --hex
@@ -287,6 +329,10 @@ check 'reach before share' 1 '' 'refused 2 ReachRange\n' '' list --reach 9 --sha
 check 'share before workers' 1 '' 'refused 15 ShareRange\n' '' list --share 65 --workers 0
 check 'no worker' 1 '' 'refused 7 CrewRange\n' '' list --workers 0
 check 'too many workers' 1 '' 'refused 7 CrewRange\n' '' totals --workers 257
+check 'burst of a stream' 1 '' 'refused 1 BurstRange\n' '' follow --burst 6 --reach 0
+check 'share of a stream' 1 '' 'refused 15 ShareRange\n' '' follow --share 0
+check 'no worker for a scan' 1 '' 'refused 7 CrewRange\n' '000' scan --hex --workers 0
+check 'too many workers for a scan' 1 '' 'refused 7 CrewRange\n' '000' scan --hex --workers 257
 check 'no piece' 1 '' 'refused 6 BadCutting\n' '000' list --hex --pieces 0
 check 'loss before workers' 1 '' 'refused 3 LossRange\n' '' list --loss 65 --pieces 0
 check 'workers before pieces' 1 '' 'refused 7 CrewRange\n' '' list --pieces 0 --workers 0

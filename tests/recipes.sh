@@ -70,6 +70,24 @@ is_cut='the listing does not end in its totals: it is cut off, or rds was refuse
 # the last row of a listing
 last_row=total,losses,0,-,-,-,-,-
 
+# ---- a stream
+
+stream() { "$here/chunks.py" 1 2000 "$@" < examples/station.bin; }
+stream 0.1 | "$program" follow | examples/rotate.sh --by %Y-%m-%dT%H:%M:%SZ "$work/seconds"
+same 'a file a second is the listing' "$(station)" "$(cat "$work/seconds"/*)"
+same 'more files than one' yes "$(set -- "$work/seconds"/*; [ $# -gt 1 ] && echo yes)"
+stream | "$program" follow | examples/rotate.sh --by listing "$work/one"
+stream | "$program" follow | examples/rotate.sh --by listing "$work/one"
+same 'a file that is there is added to' "$(station; station)" "$(cat "$work/one/listing.csv")"
+printf 'a row\ncut o' | examples/rotate.sh "$work/cut_rows"
+same 'a row that was cut off' "$(printf 'a row\ncut o')" "$(cat "$work/cut_rows"/*Z.csv)"
+refused 'rotation without a folder' 2 'usage: rotate.sh [--by FORMAT] FOLDER < LISTING' examples/rotate.sh < /dev/null
+refused 'rotation with a folder too many' 2 'usage: rotate.sh [--by FORMAT] FOLDER < LISTING' examples/rotate.sh a b < /dev/null
+mkdir "$work/full.d" && ln -s /dev/full "$work/full.d/full.csv"
+if station 2> /dev/null | examples/rotate.sh --by full "$work/full.d" 2> /dev/null; then fail 'rotation onto a full device'; else pass; fi
+same 'a stream that may begin anew' "$(station)" "$(cd "$work" && PATH=$(dirname "$program"):$PATH \
+  sh -c 'until rds follow 2> fault; do grep -q TooLong fault || exit 1; done' < "$here/../examples/station.bin")"
+
 # ---- the sample
 
 same 'a first decode' "acquired,51,2,-,-,-,-,-

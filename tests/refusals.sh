@@ -3,7 +3,7 @@
 #
 # Each allocation, read, write and start of a thread of some jobs is refused in turn, and then that one and all after
 # it. The answer has to be the job's own, or the refusal's with nothing written (with a prefix of the text, where a write
-# is refused), and never another. Where a thread for rows is not started, the rows are made without it, and the answer is
+# is refused, and with whole rows of a beginning, where a stream is followed), and never another. Where a thread for rows is not started, the rows are made without it, and the answer is
 # the job's own. Each allocation of rds_parts is refused too, which makes calls of the libraries by themselves, and those
 # that are refused once more. The calls are refused by a small library, which the C compiler makes of tests/refuse.c.
 # The last line is 'N passed, M failed', and the exit status says whether all passed.
@@ -14,8 +14,9 @@ usage='usage: tests/refusals.sh PATH-TO-RDS PATH-TO-RDS_PARTS'
 check_programs "${1:-}" "${2:-}"
 program=$(realpath "$1")
 parts=$(realpath "$2")
-needs cat cmp grep sed seq stat
+needs cat cmp grep od sed seq stat
 rows=0
+streams=
 declare -A tried=([alloc]=0 [read]=0 [write]=0 [thread]=0)
 
 make_refuse
@@ -43,6 +44,12 @@ is_whole() { [ "$1" = 0 ] && cmp -s "$work/out" "$work/wanted"; }
 is_prefix() { cmp -s -n "$(stat -c %s "$work/out")" "$work/out" "$work/wanted"; }
 wrote_nothing() { [ ! -s "$work/out" ]; }
 
+# wrote_rows: whether a stream's rows so far were written, each whole
+wrote_rows() { is_prefix && { wrote_nothing || [ "$(tail -c 1 "$work/out" | od -An -tx1)" = ' 0a' ]; }; }
+
+# left_as_it_may: whether the last run left what it may where the writer was not refused
+left_as_it_may() { if [ -n "$streams" ]; then wrote_rows; else wrote_nothing; fi; }
+
 # calls_of CALL WORDS..: how many such calls a job makes
 calls_of() {
     rm -f "$work/count"
@@ -54,8 +61,8 @@ calls_of() {
 # are started first are those of the crew
 judge() {
     case $1 in
-        alloc) is_whole "$2" || { is_refusal "$2" '8 OutOfMemory' '14 NoWorker' && wrote_nothing; } ;;
-        read) is_refusal "$2" '9 Read' && wrote_nothing ;;
+        alloc) is_whole "$2" || { is_refusal "$2" '8 OutOfMemory' '14 NoWorker' && left_as_it_may; } ;;
+        read) is_refusal "$2" '9 Read' && left_as_it_may ;;
         write) is_refusal "$2" '10 Write' && is_prefix ;;
         thread) if [ "$3" -gt "$crew" ]; then is_whole "$2"; else is_refusal "$2" '14 NoWorker' && wrote_nothing; fi ;;
     esac
@@ -94,6 +101,10 @@ all_of() {
     "$program" "$@" <"$work/in" >"$work/wanted" || exit 1
     # the crew of totals is that of a list, and totals have no rows to be made by threads
     crew=$(calls_of thread "${@/#list/totals}") || exit 1
+    # and a scan has no crew
+    [ "$1" != scan ] || crew=0
+    streams=
+    [ "$1" != follow ] || streams=1
     rows=$((rows + $(calls_of thread "$@") - crew))
     each alloc "$@"
     each read "$@"
@@ -130,7 +141,13 @@ job '12341a89501ac52449594c83fb\n00003f02002c10000d400001b4\n' list --hex --piec
 for _ in 1 2 3 4 5 6 7; do cat "$here/../examples/station.bin"; done >"$work/in"
 all_of list --pieces 2 --workers 3
 rows=$((rows + $(calls_of thread list --pieces 2 --workers 1)))
+all_of scan --workers 3
+# a stream of three reads and the end, and one that ends in a group
+cat "$here/../examples/station.bin" "$here/../examples/station.bin" >>"$work/in"
+all_of follow
+job '\x00\x00\x3f\x00\x00\x19\x80\x00\x05\xa0' follow --burst 0
 
+streams=
 program=$parts
 "$program" >"$work/wanted" || exit 1
 each alloc
@@ -141,8 +158,8 @@ for call in "${!tried[@]}"; do
     fi
 done
 
-if [ "$rows" != 2 ]; then
-    fail "the jobs start $rows threads for rows, and not 2"
+if [ "$rows" != 6 ]; then
+    fail "the jobs start $rows threads for rows, and not 6"
 fi
 
 finish

@@ -12,7 +12,7 @@ usage='usage: tests/scripts.sh PATH-TO-RDS'
 . "$(dirname "$0")/common.sh" || exit
 check_programs "${1:-}"
 rds=$(realpath "$1")
-needs bash cat cp grep head ln sed
+needs bash cat cp grep head ln sed sort
 scripts=(program listings differential refusals work growth)
 
 # refused NAME TEXT PATH COMMAND..: the command by that PATH ends in another status than 0, with TEXT on standard error
@@ -49,6 +49,11 @@ for script in "${scripts[@]}"; do
     row=$(sed -n 's/^needs //p' "$here/$script.sh")
     ! grep -q '^make_refuse$' "$here/$script.sh" || row+=' cc'
     read -ra tools <<<"$common $row ln"
+    # A tool that `needs` looks for in any script is not named again.
+    for tool in $row; do
+        [[ " $common ln " != *" $tool "* ]] || fail "$script.sh: $tool is named twice"
+    done
+    mapfile -t tools < <(printf '%s\n' "${tools[@]}" | sort -u)
     programs=("$rds")
     case $script in differential | refusals) programs+=("$rds") ;; esac
     for tool in "${tools[@]}"; do

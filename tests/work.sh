@@ -18,7 +18,7 @@ usage='usage: tests/work.sh PATH-TO-RDS [--measure JOB..]'
 check_programs "${1:-}"
 if [ $# -gt 1 ] && { [ "$2" != --measure ] || [ $# = 2 ]; }; then misused; fi
 rds=$(realpath "$1")
-needs basenc cat cp grep od seq stat tr
+needs basenc cat cp grep od python3 seq stat tr
 table=$here/work.bounds
 cd "$work" || exit 1
 
@@ -55,11 +55,17 @@ wrong0.01 list --pieces 16 --workers 4
 wrong0.03 totals --pieces 1 --workers 1
 wrong0.03 totals --pieces 16 --workers 4
 wrong0.03 list --pieces 1 --workers 1
+station follow
+wrong0.03 follow
 wrong0.03 list --pieces 16 --workers 4
 worst totals --loss 1 --pieces 1 --workers 1
 worst totals --loss 1 --pieces 16 --workers 4
 worst list --loss 1 --pieces 1 --workers 1
 worst list --loss 1 --pieces 16 --workers 4
+short_locks totals --loss 1 --reach 8 --pieces 1 --workers 1
+short_locks totals --loss 1 --reach 8 --pieces 16 --workers 4
+three_phases totals --loss 1 --pieces 16 --workers 4
+three_phases totals --loss 1 --pieces 1000 --workers 4
 words encode
 words encode --hex
 END
@@ -117,6 +123,10 @@ wrong() {
 }
 for share in 0.0005 0.003 0.01 0.03; do wrong $share >wrong$share; done
 words 47 150000 | "$rds" encode --hex | past_mending | as_bytes >worst
+# A sixteenth and a thousandth of it are bits that put each next guess on the next phase.
+for plan in short_locks three_phases; do
+    PATH=$all_tools python3 "$here/worst_inputs.py" $plan 2005250 >$plan || exit 1
+done
 
 # ---- what a job takes
 

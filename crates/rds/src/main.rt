@@ -1,11 +1,18 @@
 //! `rds`: recordings of Radio Data System bits from standard input, text to standard output.
 //!
-//! The words of the command line become a job, and the job an exit status: 0 where the text was written, or help or the
-//! version was asked for, 2 where the words are no command line, 1 for a refusal, which one line on standard error
-//! names.
+//! The words of the command line ask for a job or a stream, and that becomes an exit status: 0 where the text was written,
+//! or help or the version was asked for, 2 where the words are no command line, 1 for a refusal, which one line on
+//! standard error names.
 #![tactic(auto)]
 
-use rds_tool::{CliFault, FaultKind, FromRead, Job, ToWrite, ToolError, job_of, transcribe};
+mod progress;
+
+use crate::progress::{Progress, Told};
+use rds_sync::Rules;
+use rds_tool::{
+    Asked, CliFault, FaultKind, FromRead, Job, RuleNumbers, ToWrite, ToolError, asked_of, follow,
+    transcribe, transcribe_gated,
+};
 use std::env;
 use std::io::ErrorKind;
 use std::process::ExitCode;
@@ -14,13 +21,14 @@ use std::thread::Threads;
 
 fn main(rt: HostRuntime) -> ExitCode {
     match asked_for(&rt) {
-        Ok(job) => run(&rt, &rt, &job),
+        Ok(Asked::Job { job, progress }) => exit(&rt, run(&rt, &rt, &job, progress)),
+        Ok(Asked::Follow(rules)) => exit(&rt, run_stream(&rt, rules)),
         Err(fault) => show(&rt, &fault),
     }
 }
 
-/// The job that the command line asks for.
-fn asked_for(rt: &HostRuntime) -> Result<Job, CliFault> {
+/// What the command line asks for.
+fn asked_for(rt: &HostRuntime) -> Result<Asked, CliFault> {
     let given = match env::args(rt) {
         Ok(given) => given,
         Err(error) if error.kind() == ErrorKind::InvalidData => {
@@ -41,7 +49,7 @@ fn asked_for(rt: &HostRuntime) -> Result<Job, CliFault> {
             return Err(fault(rt, FaultKind::Memory, ""));
         }
     }
-    job_of(rt.alloc(), words.as_slice())
+    asked_of(rt.alloc(), words.as_slice())
 }
 
 fn fault(rt: &HostRuntime, kind: FaultKind, text: &str) -> CliFault {
@@ -54,11 +62,49 @@ fn fault(rt: &HostRuntime, kind: FaultKind, text: &str) -> CliFault {
     }
 }
 
-/// Does the job from standard input to standard output, with the threads of its crew.
-fn run<R: Threads + Wait + Sync>(rt: &HostRuntime, crew: &R, job: &Job) -> ExitCode {
+/// Does the job from standard input to standard output, with the threads of its crew. Its progress is told where that was
+/// asked for and there is a clock.
+fn run<R: Threads + Wait + Sync>(
+    rt: &HostRuntime,
+    crew: &R,
+    job: &Job,
+    progress: bool,
+) -> Result<(), ToolError> {
     let mut reader = FromRead::new(rt.stdin());
     let mut writer = ToWrite::new(rt.stdout());
-    match transcribe(crew, rt.alloc(), &mut reader, &mut writer, job) {
+    let told = if progress {
+        Progress::start(rt, job)
+    } else {
+        None
+    };
+    match told {
+        Some(progress) => {
+            let mut writer = Told::new(writer, &progress);
+            let answer = transcribe_gated(
+                crew,
+                rt.alloc(),
+                &mut reader,
+                &mut writer,
+                job,
+                &progress,
+            );
+            progress.end();
+            answer
+        }
+        None => transcribe(crew, rt.alloc(), &mut reader, &mut writer, job),
+    }
+}
+
+/// Lists the stream of standard input as it comes.
+fn run_stream(rt: &HostRuntime, numbers: RuleNumbers) -> Result<(), ToolError> {
+    let rules = Rules::of(rt.alloc(), numbers)?;
+    let mut reader = FromRead::new(rt.stdin());
+    let mut writer = ToWrite::new(rt.stdout());
+    follow(rt.alloc(), &mut reader, &mut writer, &rules)
+}
+
+fn exit(rt: &HostRuntime, answer: Result<(), ToolError>) -> ExitCode {
+    match answer {
         Ok(()) => ExitCode::SUCCESS,
         Err(error) => refuse(rt, error),
     }

@@ -7,6 +7,7 @@
 
 mod deals;
 mod gaps;
+mod growth;
 mod guesses;
 mod joins;
 mod remainders;
@@ -35,12 +36,13 @@ const USAGE: &str = "usage: rds_bench MEASUREMENT [BITS [SAMPLE]]
   joins      sixteen guesses made into one report: left to right, and by a tree of one worker and of four
   totals     from bytes to the text of the totals, by one, two and four workers
   list       from bytes to the text of the listing, by one, two and four workers
+  growth     each public call over a sixteenth of BITS, a fourth and all: an error where time grows faster than eightfold
 
 BITS is the length of the recording that is made up for it, 100000000 where it is not given. SAMPLE is what
-'run', 'guess', 'gaps', 'deal', 'joins', 'totals' and 'list' decode: 'station', a station's groups as they were sent,
-where it is not given, 'damaged', with one bit of about 500 turned, 'worst', with blocks 2 and 4 of each group past
-mending, 'noise', 'late', a sixteenth of noise and then a station, or 'zeros', groups of zero words, in which guesses may
-lock on a false phase.
+'run', 'guess', 'gaps', 'deal', 'joins', 'totals', 'list' and 'growth' decode: 'station', a station's groups as they were
+sent, where it is not given, 'damaged', with one bit of about 500 turned, 'worst', with blocks 2 and 4 of each group past
+mending, 'losing', two groups of a station and four of noise by turns, 'noise', 'late', a sixteenth of noise and then a
+station, or 'zeros', groups of zero words, in which guesses may lock on a false phase.
 ";
 
 /// The length of a recording where none is given.
@@ -95,6 +97,7 @@ fn measure<T: Threads + Wait + Sync>(rt: &HostRuntime, threads: &T, asked: &Aske
         "joins" => joins::measure(rt, threads, bits, sample),
         "totals" => transcripts::measure(rt, threads, bits, sample, false),
         "list" => transcripts::measure(rt, threads, bits, sample, true),
+        "growth" => growth::measure(rt, threads, bits, sample),
         _ => show_usage(rt),
     }
 }

@@ -14,6 +14,8 @@ pub enum Sample {
     /// A station's groups whose blocks 2 and 4 no correction mends. A lock that one bad block loses is lost as soon as it
     /// is acquired: of what a run keeps there is the most that was found.
     Worst,
+    /// Two groups of a station and as much noise as four, by turns: each time a lock is acquired, and lost.
+    Losing,
     /// Noise: a window of it is valid about once in two hundred places.
     Noise,
     /// A station that is tuned in late: a sixteenth of noise, then the station's groups.
@@ -40,6 +42,7 @@ impl Sample {
             "station" => Some(Sample::Station),
             "damaged" => Some(Sample::FAIR),
             "worst" => Some(Sample::Worst),
+            "losing" => Some(Sample::Losing),
             "noise" => Some(Sample::Noise),
             "late" => Some(Sample::Late),
             "zeros" => Some(Sample::Zeros),
@@ -53,6 +56,7 @@ impl Sample {
             Sample::Station => station(alloc, bits),
             Sample::Damaged(one_of) => Ok(damaged(station(alloc, bits)?, one_of)),
             Sample::Worst => Ok(past_mending(station(alloc, bits)?)),
+            Sample::Losing => losing(alloc, bits),
             Sample::Noise => noise(alloc, bits),
             Sample::Late => late(alloc, bits),
             Sample::Zeros => zeros(alloc, bits),
@@ -83,6 +87,17 @@ fn noise(alloc: Global, bits: u64) -> Result<Vec<u8>, AllocError> {
     for _ in 0..bits / 8 {
         number = next_random(number);
         bytes.push((number >> 20 & 255) as u8)?;
+    }
+    Ok(bytes)
+}
+
+fn losing(alloc: Global, bits: u64) -> Result<Vec<u8>, AllocError> {
+    let mut bytes = station(alloc, bits)?;
+    let hiss = noise(alloc, bits)?;
+    for (at, (byte, noisy)) in bytes.iter_mut().zip(hiss.iter()).enumerate() {
+        if at / 13 % 6 > 1 {
+            *byte = *noisy;
+        }
     }
     Ok(bytes)
 }

@@ -12,7 +12,7 @@ const BITS: u64 = 8_000_000;
 const ATTEMPTS: u32 = 8;
 
 /// The measurements that have a bound, each with its sample.
-const MEASURED: [(&str, Sample); 18] = [
+const MEASURED: [(&str, Sample); 22] = [
     ("scan", Sample::Noise),
     ("remainder", Sample::Noise),
     ("run", Sample::Station),
@@ -32,6 +32,10 @@ const MEASURED: [(&str, Sample); 18] = [
     ("totals", Sample::Noise),
     ("list", Sample::Station),
     ("list", Sample::Damaged(4)),
+    ("growth", Sample::Station),
+    ("growth", Sample::Losing),
+    ("growth", Sample::Worst),
+    ("growth", Sample::Noise),
 ];
 
 /// Measures the tasks that have a bound, over short recordings: an error where one keeps losing a ratio.

@@ -1,6 +1,5 @@
-//! Tests of the decoder of a stream, from outside, and callers of it that are proved from its contracts alone.
+//! Tests of the decoder of a stream, from outside. Its proved callers are in `rds_uses`.
 #![tactic(auto)]
 
-pub mod callers;
 #[cfg(test)]
 mod cuttings;

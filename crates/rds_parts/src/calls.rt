@@ -7,7 +7,7 @@ ghost use Rattle.rds_pieces.specs.RunOf.{FollowEachOther, IsRunOf};
 
 use rds_pieces::{Cutting, Joint, PieceError, PieceRun, joint_of, laws, speculate, stitch};
 use rds_stream::{Counted, Recording, Tape};
-use rds_sync::Rules;
+use rds_sync::{Rules, Spans};
 use std::alloc::Global;
 
 /// What a call found, and how many windows it read.
@@ -92,7 +92,7 @@ fn stitch_once(
     requires in_a_row { FollowEachOther recording.now rules.now 0 (length_of recording.now) runs.now }
 {
     let mut tape = Counted::new(recording);
-    let report = stitch(alloc, &mut tape, rules, runs)?;
+    let report = stitch(alloc, &mut tape, rules, runs, Spans::Short)?;
     Ok(Found {
         items: report.items.len() as u64,
         valid: report.totals.valid,

@@ -69,10 +69,11 @@ impl Joint {
         right.range();
         let Walk {
             state,
-            codes,
+            mut codes,
             met,
             ..
         } = walk;
+        codes.shrink_to_fit();
         let counted = codes.totals();
         let (passed, totals, end_state) = match met {
             Some(passed) => {

@@ -19,7 +19,7 @@ use crate::meeting::{Passed, Seam, Walk, meets};
 use crate::run::PieceRun;
 use rds_stream::Tape;
 use rds_sync::laws::runs_converge;
-use rds_sync::{Codes, Items, Mark, Marks, Rules, State};
+use rds_sync::{Codes, Items, Mark, Marks, Rules, Spans, State};
 use std::alloc::Global;
 
 /// Carries the run on from `state`, lawful at the piece's first place, over the piece that `run` guessed, of the tape's
@@ -34,13 +34,14 @@ use std::alloc::Global;
 /// Its cost: it reads at most (reach + 2)(d + 1) windows of the tape, which has counted at most 2^62 before; d is the
 /// number of bits up to the meeting, or to the piece's end where there is none. No more is read where memory is refused
 /// on the way. It goes over the guess's codes once, and takes memory for the codes of its own way up to the meeting and
-/// for spans of a thousand items or so.
+/// for its items' spans: two where they are whole runs, which spares it the half of that.
 pub fn seam<T: Tape>(
     alloc: Global,
     tape: &mut T,
     rules: &Rules,
     state: State,
     run: &PieceRun,
+    spans: Spans,
 ) -> Result<Seam, PieceError>
     requires lawful { IsLawful rules.now run.now.from state }
     requires source { run.now.source ≡ T.signal tape.old }
@@ -77,7 +78,7 @@ pub fn seam<T: Tape>(
         met,
     } = go_along(alloc, tape, rules, state, run)?;
     let counted = codes.totals();
-    let mut items = Items::none(alloc, tape.source(), rules);
+    let mut items = Items::none(alloc, tape.source(), rules).cut_into(spans);
     let start = Mark {
         place: from,
         state,

@@ -16,7 +16,7 @@ use crate::laws::run_laws;
 use crate::run::PieceRun;
 use crate::seams::seam;
 use rds_stream::Tape;
-use rds_sync::{Items, Report, Rules, State, Totals, finish};
+use rds_sync::{Items, Report, Rules, Spans, State, Totals, finish};
 use std::alloc::Global;
 
 /// The report of the tape's recording: carries the state over the runs in order, from Searching at its first bit, and
@@ -32,6 +32,7 @@ pub fn stitch<T: Tape>(
     tape: &mut T,
     rules: &Rules,
     runs: &[PieceRun],
+    spans: Spans,
 ) -> Result<Report, PieceError>
     requires in_a_row { FollowEachOther (T.signal tape.old) rules.now 0 (length_of (T.signal tape.old)) runs.now }
     requires room { T.reads_made tape.old ≤ 2 ^ 61 }
@@ -47,7 +48,7 @@ pub fn stitch<T: Tape>(
     ensures reads_way { (n : ℕ) → IsSumOfReads (T.signal tape.old) rules.now State.Searching runs.now n
         → T.reads_made tape.new ≤ T.reads_made tape.old + n + 3 }
 {
-    let (end_state, mut report) = carry_over_all(alloc, tape, rules, runs)?;
+    let (end_state, mut report) = carry_over_all(alloc, tape, rules, runs, spans)?;
     let last = finish(tape, rules, end_state);
     report.totals = report.totals.plus(Totals::of_end(last));
     report.items.close(end_state)?;
@@ -61,6 +62,7 @@ fn carry_over_all<T: Tape>(
     tape: &mut T,
     rules: &Rules,
     runs: &[PieceRun],
+    spans: Spans,
 ) -> Result<(State, Report), PieceError>
     requires in_a_row { FollowEachOther (T.signal tape.old) rules.now 0 (length_of (T.signal tape.old)) runs.now }
     requires room { T.reads_made tape.old ≤ 2 ^ 61 }
@@ -87,7 +89,7 @@ fn carry_over_all<T: Tape>(
     let (mut items, mut totals) = (Items::none(alloc, tape.source(), rules), Totals::NONE);
     let mut state = State::Searching;
     for run in runs {
-        let seam = seam(alloc, tape, rules, state, run)?;
+        let seam = seam(alloc, tape, rules, state, run, spans)?;
         items.append(seam.items)?;
         totals = totals.plus(seam.totals);
         state = seam.end_state;

@@ -17,7 +17,7 @@ use crate::joint::Joint;
 use crate::run::{PieceRun, speculate};
 use crate::stitching::stitch;
 use rds_stream::{Counted, Recording};
-use rds_sync::{Report, Rules};
+use rds_sync::{Report, Rules, Spans};
 use std::alloc::Global;
 use std::marker::Model;
 use std::snapshot::Snapshot;
@@ -80,6 +80,7 @@ pub struct RecordingWork<'a> {
     recording: &'a Recording,
     rules: &'a Rules,
     cutting: &'a Cutting,
+    spans: Spans,
 }
 
 impl<'a> Model for RecordingWork<'a> {
@@ -104,7 +105,15 @@ impl<'a> RecordingWork<'a> {
             recording,
             rules,
             cutting,
+            spans: Spans::Short,
         }
+    }
+
+    /// The same work, whose report cuts its items into such spans: [`Spans::Whole`] where it is asked for its totals.
+    pub fn cut_into(self, spans: Spans) -> RecordingWork<'a>
+        ensures { result ≡ self.entry }
+    {
+        RecordingWork { spans, ..self }
     }
 }
 
@@ -138,6 +147,6 @@ impl Work for RecordingWork<'_> {
 
     fn report(&self, alloc: Global, runs: &[PieceRun]) -> Result<Report, PieceError> {
         let mut tape = Counted::new(self.recording);
-        stitch(alloc, &mut tape, self.rules, runs)
+        stitch(alloc, &mut tape, self.rules, runs, self.spans)
     }
 }

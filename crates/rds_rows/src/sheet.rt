@@ -49,6 +49,20 @@ impl Sheet {
         self.left -= 1;
     }
 
+    /// Adds so many rows at once.
+    pub fn push_all(&mut self, count: usize, rows: &[u8])
+        requires room { count ≤ left_of self.old }
+        requires short { length rows.now ≤ count * (size_of self.old).1 }
+        ensures text { text_of self.new ≡ text_of self.old ++ rows.now }
+        ensures left { left_of self.new + count ≡ left_of self.old }
+        ensures size { size_of self.new ≡ size_of self.old }
+    {
+        let Ok(()) = self.text.extend_from_slice(rows) else {
+            unreachable!()
+        };
+        self.left -= count;
+    }
+
     /// The rows, one behind the other.
     pub fn as_slice(&self) -> &[u8]
         ensures { result.now ≡ text_of self.now }

@@ -5,7 +5,7 @@ use Rattle.std.specs.Int.{bit_at}
 use Rattle.std.specs.Int.Digits.{number_from_digits}
 use Rattle.std.proofs.Math.Nat.{pow-suc, mul_assoc, mod-eq_of_lt}
 use Rattle.std.proofs.lemmas.Bool.{cases_eq}
-use Rattle.std.proofs.lemmas.Nat.{shr_high, mod_low, or_shifted, and_mask}
+use Rattle.std.proofs.lemmas.Nat.{shr-shr, shr_high, mod_low, or_shifted, and_mask}
 use Rattle.std.proofs.lemmas.Nat.Bits.{bit_at-lt}
 use Rattle.std.proofs.lemmas.List.{get_or-drop}
 use Rattle.std.proofs.lemmas.List.FromFn.{get_or-map-range_with_len, length-map-range_with_len}
@@ -212,15 +212,14 @@ number_eight bytes j small =
       ap (λ k. get_or bytes k 0) seven,
     )
 
--- what the code makes of the eight bytes up to that of place i
-pub window_of_eight : (bytes : List ℕ) (n i eight : ℕ) → 25 ≤ i → i < n → 7 ≤ i / 8 → ((k : ℕ) → get_or bytes k 0 < 256) →
+-- the number of the eight bytes up to that of place i
+number_of_eight : (bytes : List ℕ) (i eight : ℕ) → 7 ≤ i / 8 → ((k : ℕ) → get_or bytes k 0 < 256) →
     eight ≡ get_or bytes (i / 8 - 7) 0 * 72057594037927936 + get_or bytes (i / 8 - 6) 0 * 281474976710656 + get_or bytes (i / 8 - 5) 0 * 1099511627776
     + get_or bytes (i / 8 - 4) 0 * 4294967296 + get_or bytes (i / 8 - 3) 0 * 16777216 + get_or bytes (i / 8 - 2) 0 * 65536
     + get_or bytes (i / 8 - 1) 0 * 256 + get_or bytes (i / 8) 0 →
-    bit_and (eight / 2 ^ (7 - i % 8)) (2 ^ 26 - 1) ≡ window (bits_of bytes n) i
-window_of_eight bytes n i eight first last late small eight_is =
+    eight ≡ number (packed_bit bytes) 64 (i + (7 - i % 8))
+number_of_eight bytes i eight late small eight_is =
     let f = packed_bit bytes in
-    let e = 7 - i % 8 in
     let byte = i / 8 - 7 in
     let one : i / 8 - 6 ≡ byte + 1 = omega arith in
     let two : i / 8 - 5 ≡ byte + 2 = omega arith in
@@ -229,8 +228,8 @@ window_of_eight bytes n i eight first last late small eight_is =
     let five : i / 8 - 2 ≡ byte + 5 = omega arith in
     let six : i / 8 - 1 ≡ byte + 6 = omega arith in
     let seven : i / 8 ≡ byte + 7 = omega arith in
-    let end : 8 * (byte + 7) + 7 ≡ i + e = omega arith in
-    let whole : eight ≡ number f 64 (i + e) = omega (
+    let end : 8 * (byte + 7) + 7 ≡ i + (7 - i % 8) = omega arith in
+    omega (
       arith,
       eight_is,
       ap (λ k. get_or bytes k 0) one,
@@ -242,6 +241,30 @@ window_of_eight bytes n i eight first last late small eight_is =
       ap (λ k. get_or bytes k 0) seven,
       ap (number f 64) end,
       number_eight bytes byte small,
-    ) in
-    and_mask (eight / 2 ^ e) 26 ∙ ap (λ x. x / 2 ^ e % 2 ^ 26) whole ∙ number_part f 64 e i (packed_bit-lt bytes) (omega arith)
-    ∙ sym (packed_window bytes n i first last)
+    )
+
+-- what the code makes of the eight bytes up to that of place i
+pub window_of_eight : (bytes : List ℕ) (n i eight : ℕ) → 25 ≤ i → i < n → 7 ≤ i / 8 → ((k : ℕ) → get_or bytes k 0 < 256) →
+    eight ≡ get_or bytes (i / 8 - 7) 0 * 72057594037927936 + get_or bytes (i / 8 - 6) 0 * 281474976710656 + get_or bytes (i / 8 - 5) 0 * 1099511627776
+    + get_or bytes (i / 8 - 4) 0 * 4294967296 + get_or bytes (i / 8 - 3) 0 * 16777216 + get_or bytes (i / 8 - 2) 0 * 65536
+    + get_or bytes (i / 8 - 1) 0 * 256 + get_or bytes (i / 8) 0 →
+    bit_and (eight / 2 ^ (7 - i % 8)) (2 ^ 26 - 1) ≡ window (bits_of bytes n) i
+window_of_eight bytes n i eight first last late small eight_is =
+    let f = packed_bit bytes in
+    let e = 7 - i % 8 in
+    and_mask (eight / 2 ^ e) 26 ∙ ap (λ x. x / 2 ^ e % 2 ^ 26) (number_of_eight bytes i eight late small eight_is)
+    ∙ number_part f 64 e i (packed_bit-lt bytes) (omega arith) ∙ sym (packed_window bytes n i first last)
+
+-- and of the block before it, which they hold too
+pub window_before_of_eight : (bytes : List ℕ) (n i eight : ℕ) → 51 ≤ i → i < n → 7 ≤ i / 8 → ((k : ℕ) → get_or bytes k 0 < 256) →
+    eight ≡ get_or bytes (i / 8 - 7) 0 * 72057594037927936 + get_or bytes (i / 8 - 6) 0 * 281474976710656 + get_or bytes (i / 8 - 5) 0 * 1099511627776
+    + get_or bytes (i / 8 - 4) 0 * 4294967296 + get_or bytes (i / 8 - 3) 0 * 16777216 + get_or bytes (i / 8 - 2) 0 * 65536
+    + get_or bytes (i / 8 - 1) 0 * 256 + get_or bytes (i / 8) 0 →
+    bit_and (eight / 2 ^ (7 - i % 8) / 2 ^ 26) (2 ^ 26 - 1) ≡ window (bits_of bytes n) (i - 26)
+window_before_of_eight bytes n i eight first last late small eight_is =
+    let f = packed_bit bytes in
+    let e = 7 - i % 8 in
+    let top : i + e ≡ i - 26 + (e + 26) = omega arith in
+    and_mask (eight / 2 ^ e / 2 ^ 26) 26 ∙ ap (λ x. x % 2 ^ 26) (shr-shr eight e 26)
+    ∙ ap (λ x. x / 2 ^ (e + 26) % 2 ^ 26) (number_of_eight bytes i eight late small eight_is ∙ ap (number f 64) top)
+    ∙ number_part f 64 (e + 26) (i - 26) (packed_bit-lt bytes) (omega arith) ∙ sym (packed_window bytes n (i - 26) (omega arith) (omega arith))

@@ -1,5 +1,5 @@
 //! Packed bits with places.
-ghost use Rattle.std.specs.Prelude.{◌≡◌, List, ℕ, ◌+◌, ◌*◌, ◌^◌, ◌<◌, ◌≤◌, ◌↔◌, vec_len, length, slice_index, if◌then◌else◌};
+ghost use Rattle.std.specs.Prelude.{◌≡◌, List, ℕ, ◌+◌, ◌*◌, ◌^◌, ◌<◌, ◌≤◌, ◌-◌, ◌↔◌, [], ◌∷◌, All, vec_len, length, slice_index, if◌then◌else◌};
 ghost use Rattle.rds_stream.specs.declared.error.StreamError.TheVariants.{TooLong, BitsPastBytes};
 ghost use Rattle.std.specs.Int.{bit_at};
 ghost use Rattle.rds_stream.specs.Recording.{packed_bit, bits_of, window};
@@ -107,6 +107,38 @@ impl Packed {
             bytes[last],
         ];
         (u64::from_be_bytes(eight) >> (7 - place % 8) & BLOCK as u64) as u32
+    }
+
+    /// The windows of two blocks in a row, of which the second ends at `place`, which is at least 51, and below the
+    /// length.
+    #[inline(always)]
+    pub fn two_windows(&self, place: u64) -> [u32; 2]
+        requires first { 51 ≤ place }
+        requires last { place < length self.now }
+        ensures value { result ≡ window self.now (place - 26) ∷ window self.now place ∷ [] }
+        ensures blocks { All (λ window. window < 2 ^ 26) result }
+    {
+        // The eight bytes up to that of the last bit hold both.
+        let last = (place / 8) as usize;
+        if last < 7 {
+            return [self.window(place - BLOCK_BITS as u64), self.window(place)];
+        }
+        let bytes = self.bytes.as_slice();
+        let eight = u64::from_be_bytes([
+            bytes[last - 7],
+            bytes[last - 6],
+            bytes[last - 5],
+            bytes[last - 4],
+            bytes[last - 3],
+            bytes[last - 2],
+            bytes[last - 1],
+            bytes[last],
+        ]);
+        let up_to = eight >> (7 - place % 8);
+        [
+            (up_to >> BLOCK_BITS & BLOCK as u64) as u32,
+            (up_to & BLOCK as u64) as u32,
+        ]
     }
 
     /// `window` at a place that may have fewer than seven bytes before its own.

@@ -84,13 +84,9 @@ impl<'a> Reader<'a> {
         if touched || place < from || to <= place + 3 * PLACES {
             return self.look_at_four(place);
         }
-        let recording = self.recording;
-        [
-            Some(recording.window(place)),
-            Some(recording.window(place + PLACES)),
-            Some(recording.window(place + 2 * PLACES)),
-            Some(recording.window(place + 3 * PLACES)),
-        ]
+        let [one, two] = self.recording.two_windows(place + PLACES);
+        let [three, four] = self.recording.two_windows(place + 3 * PLACES);
+        [Some(one), Some(two), Some(three), Some(four)]
     }
 
     /// `four_windows`, one by one.

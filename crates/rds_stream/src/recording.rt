@@ -1,5 +1,5 @@
 //! A recording: demodulated bits with places, and the gaps in them.
-ghost use Rattle.std.specs.Prelude.{◌≡◌, ℕ, ◌+◌, ◌*◌, ◌^◌, ◌<◌, ◌≤◌, ◌↔◌, vec_len, length, slice_index, if◌then◌else◌, Err, IfOk, IsOk};
+ghost use Rattle.std.specs.Prelude.{◌≡◌, ℕ, ◌+◌, ◌*◌, ◌^◌, ◌<◌, ◌≤◌, ◌-◌, ◌↔◌, [], ◌∷◌, All, vec_len, length, slice_index, if◌then◌else◌, Err, IfOk, IsOk};
 ghost use Rattle.std.specs.Int.{bit_at};
 ghost use Rattle.rds_code.specs.Remainder.{rem};
 ghost use Rattle.rds_code.specs.Offsets.{offset_of as the_offset_of};
@@ -120,6 +120,18 @@ impl Recording {
         ensures block { result < 2 ^ 26 }
     {
         self.packed.window(place)
+    }
+
+    /// The windows of two blocks in a row as they are stored, of which the second ends at `place`, which is at least 51,
+    /// and below the length.
+    #[inline(always)]
+    pub(crate) fn two_windows(&self, place: u64) -> [u32; 2]
+        requires first { 51 ≤ place }
+        requires last { place < length_of self.now }
+        ensures value { result ≡ window self.now.bits (place - 26) ∷ window self.now.bits place ∷ [] }
+        ensures blocks { All (λ window. window < 2 ^ 26) result }
+    {
+        self.packed.two_windows(place)
     }
 
     /// Whether one of the 26 places up to `place` lies in a gap: this project's rule. `place` is at least 25, and below

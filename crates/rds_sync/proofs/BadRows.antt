@@ -11,6 +11,8 @@ use Rattle.rds_sync.specs.declared.loss.Bad.{Bad}
 use Rattle.rds_sync.specs.declared.loss.Bad.TheVariants.{Run as InARow, Mask}
 use Rattle.rds_sync.specs.Loss.{IsLoss, IsLawfulBad, none_bad, bad_after, are_too_many}
 use Rattle.rds_sync.specs.Convergence.{sound_blocks}
+use Rattle.rds_sync.specs.Marks.{bad_over}
+use Rattle.rds_sync.specs.Words.{blocks_in}
 use Rattle.rds_sync.proofs.LossLemmas.{double, ones_below}
 
 -- the lowest j digits of m are all f
@@ -172,3 +174,11 @@ clean_is (Run n) (InARow row) r h some c = ap InARow (c some)
 clean_is (Run n) (Mask m) r h some c = absurd h
 clean_is (Share n v) (InARow row) r h some c = absurd h
 clean_is (Share n v) (Mask m) r h some c = ap Mask (lows_none v m h.0 (c v some (omega arith)))
+
+-- four good blocks leave no row, and none of them loses a lock
+pub clean_kept : (n row k : ℕ) → 1 ≤ n → k < 4 → are_too_many (Run n) (bad_over (Run n) (blocks_in 4369) (InARow row) 1 (k + 1)) ≡ false
+clean_kept n row zero some h = lt-leb n 0 some
+clean_kept n row (suc zero) some h = lt-leb n 0 some
+clean_kept n row (suc (suc zero)) some h = lt-leb n 0 some
+clean_kept n row (suc (suc (suc zero))) some h = lt-leb n 0 some
+clean_kept n row (suc (suc (suc (suc k)))) some h = absurd (omega (arith, h))

@@ -1,5 +1,5 @@
 -- The totals of codes, code by code.
-use Rattle.std.proofs.Common.{◌≡◌, ℕ, ◌+◌, Bool, length, List, [], ◌∷◌, ◌++◌, refl, ap, ◌∙◌, arith, take, get_or, ◌<◌, map, count_by}
+use Rattle.std.proofs.Common.{◌≡◌, ℕ, ◌+◌, ◌*◌, ◌^◌, ◌≤◌, Bool, true, false, length, List, [], ◌∷◌, ◌++◌, refl, ap, ◌∙◌, arith, take, get_or, ◌<◌, map, count_by}
 use Rattle.std.specs.Prelude.{if◌then◌else◌}
 use Rattle.std.specs.List.{list_all}
 use Rattle.std.proofs.lemmas.List.{take_more, map-append}
@@ -7,7 +7,7 @@ use Rattle.std.proofs.lemmas.List.Sums.{sum_by-append}
 use Rattle.rds_sync.specs.declared.totals.Totals.{Totals}
 use Rattle.rds_sync.specs.Codes.{Outcome, Code, blocks, sum_outcomes, count_outcomes, is_good, is_unclear, is_mended_by, bits_mended, is_known, is_whole, totals_of_codes}
 use Rattle.rds_sync.specs.Counting.{plus}
-use Rattle.rds_sync.specs.Inside.CodeTotals.{outcome_totals}
+use Rattle.rds_sync.specs.Inside.CodeTotals.{outcome_totals, packed, unpacked}
 use Rattle.rds_sync.specs.Words.{code_in}
 use Rattle.rds_sync.proofs.TotalsLemmas.{same_counts}
 
@@ -37,3 +37,25 @@ outcome-group a b c d n complete t is =
 
       count : (p : Outcome → Bool) → (if p a then 1 else 0) + (if p b then 1 else 0) + (if p c then 1 else 0) + (if p d then 1 else 0) ≡ count_outcomes p (blocks (a ∷ b ∷ c ∷ d ∷ []) ∷ [])
       count p = four (λ (o : Outcome). if p o then 1 else 0)
+
+-- ---- counts packed in bytes
+
+-- the bytes of a number
+unpacked-bytes : (n a b c d e f g h : ℕ) → n ≡ a + 2 ^ 8 * b + 2 ^ 16 * c + 2 ^ 24 * d + 2 ^ 32 * e + 2 ^ 40 * f + 2 ^ 48 * g + 2 ^ 56 * h
+    → a < 256 → b < 256 → c < 256 → d < 256 → e < 256 → f < 256 → g < 256
+    → unpacked n ≡ record { valid = a; bursts = b ∷ c ∷ d ∷ e ∷ f ∷ []; lost = g; bits = h; groups = 0; complete = 0; acquired = 0; losses = 0 }
+unpacked-bytes n a b c d e f g h is la lb lc ld le lf lg =
+    same_counts (omega arith) (omega arith) (omega arith) (omega arith) (omega arith) (omega arith) (omega arith) (omega arith) refl refl refl refl
+
+one-most : (t : Bool) → (if t then 1 else 0) ≤ 1
+one-most true = omega arith
+one-most false = omega arith
+
+-- four blocks are counted at once
+pub packed-four : (a b c d : Outcome)
+    → unpacked (packed a + packed b + packed c + packed d) ≡ plus (plus (plus (outcome_totals a) (outcome_totals b)) (outcome_totals c)) (outcome_totals d)
+packed-four a b c d =
+    unpacked-bytes _ _ _ _ _ _ _ _ (bits_mended a + bits_mended b + bits_mended c + bits_mended d) (omega arith)
+    (few is_good) (few (is_mended_by 1)) (few (is_mended_by 2)) (few (is_mended_by 3)) (few (is_mended_by 4)) (few (is_mended_by 5)) (few is_unclear) where
+      few : (p : Outcome → Bool) → (if p a then 1 else 0) + (if p b then 1 else 0) + (if p c then 1 else 0) + (if p d then 1 else 0) < 256
+      few p = omega (arith, one-most (p a), one-most (p b), one-most (p c), one-most (p d))

@@ -15,7 +15,7 @@ use Rattle.rds_sync.specs.Codes.{Outcome}
 use Rattle.rds_sync.specs.Marks.{good_at, bad_over}
 use Rattle.rds_sync.specs.MarkLaws.{WholeGroups}
 use Rattle.rds_sync.proofs.GroupOutcomes.{outcomes, good-at}
-use Rattle.rds_sync.proofs.RunLemmas.{run-reading, run-append, step-keeping, items-keeping}
+use Rattle.rds_sync.proofs.RunLemmas.{run-reading, run-append, run-waiting, step-keeping, items-keeping}
 
 module _ (b : Signal) (rules : RuleNumbers) where
   -- the next block of a lock, which it does not lose, and then more bits
@@ -32,31 +32,49 @@ module _ (b : Signal) (rules : RuleNumbers) where
       run-append b rules (Locked due x bad f) (due - 25) 26 n
       ∙ ap₂ (λ (r : State × List Item) (p : ℕ). ((run b rules r.0 p n).0, r.1 ++ (run b rules r.0 p n).1)) here place
 
-  pub whole_group : (due : ℕ) (bad : Bad) → 25 ≤ due
-      → ((k : ℕ) → k < 4 → are_too_many rules.loss (bad_over rules.loss (outcomes (group b rules 1 4 (due + 78))) bad 1 (k + 1)) ≡ false)
-      → run b rules (Locked due 1 bad 1) (due - 25) 104
-      ≡ (Locked (due + 104) 1 (bad_over rules.loss (outcomes (group b rules 1 4 (due + 78))) bad 1 4) 1, Group (group b rules 1 4 (due + 78)) ∷ [])
-  whole_group due bad late few =
-      let os : List Outcome = outcomes (group b rules 1 4 (due + 78)) in
-      let bad1 : Bad = bad_after rules.loss (good_at os 1) bad in
-      let bad2 : Bad = bad_after rules.loss (good_at os 2) bad1 in
-      let bad3 : Bad = bad_after rules.loss (good_at os 3) bad2 in
-      let first : has_number b due 1 ≡ good_at os 1 = good-is 1 due (omega arith) (omega arith) (omega arith) in
-      let second : has_number b (due + 26) 2 ≡ good_at os 2 = good-is 2 (due + 26) (omega arith) (omega arith) (omega arith) in
-      let third : has_number b (due + 26 + 26) 3 ≡ good_at os 3 = good-is 3 (due + 26 + 26) (omega arith) (omega arith) (omega arith) in
-      let fourth : has_number b (due + 26 + 26 + 26) 4 ≡ good_at os 4 = good-is 4 (due + 26 + 26 + 26) (omega arith) (omega arith) (omega arith) in
-      let four = block-then (due + 26 + 26 + 26) 4 bad3 1 (good_at os 4) 0 (omega arith) fourth (few 3 (omega arith)) in
-      let three = block-then (due + 26 + 26) 3 bad2 1 (good_at os 3) 26 (omega arith) third (few 2 (omega arith)) in
-      let two = block-then (due + 26) 2 bad1 1 (good_at os 2) 52 (omega arith) second (few 1 (omega arith)) in
-      let one = block-then due 1 bad 1 (good_at os 1) 78 late first (few 0 (omega arith)) in
-      let end : due + 26 + 26 + 26 ≡ due + 78 = omega arith in
-      let next : due + 26 + 26 + 26 + 26 ≡ due + 104 = omega arith in
-      one ∙ two ∙ three ∙ four
-      ∙ ap₂ (λ (p q : ℕ). (Locked p 1 (bad_after rules.loss (good_at os 4) bad3) 1, Group (group b rules 1 4 q) ∷ [])) next end
-    where
-      good-is : (y place : ℕ) → 1 ≤ y → y ≤ 4 → place ≡ due + 78 - 26 * (4 - y) → has_number b place y ≡ good_at (outcomes (group b rules 1 4 (due + 78))) y
-      good-is y place low high e =
-          ap (λ (p : ℕ). has_number b p y) e ∙ sym (good-at b rules 1 4 (due + 78) y (omega arith) low high (omega arith) (omega arith))
+  -- a whole group that does not lose the lock
+  module _ (due : ℕ) (bad : Bad) (late : 25 ≤ due)
+      (few : (k : ℕ) → k < 4 → are_too_many rules.loss (bad_over rules.loss (outcomes (group b rules 1 4 (due + 78))) bad 1 (k + 1)) ≡ false) where
+    abbrev os : List Outcome
+    os = outcomes (group b rules 1 4 (due + 78))
+
+    abbrev bad1 : Bad
+    bad1 = bad_after rules.loss (good_at os 1) bad
+
+    abbrev bad2 : Bad
+    bad2 = bad_after rules.loss (good_at os 2) bad1
+
+    abbrev bad3 : Bad
+    bad3 = bad_after rules.loss (good_at os 3) bad2
+
+    good-is : (y place : ℕ) → 1 ≤ y → y ≤ 4 → place ≡ due + 78 - 26 * (4 - y) → has_number b place y ≡ good_at os y
+    good-is y place low high e =
+        ap (λ (p : ℕ). has_number b p y) e ∙ sym (good-at b rules 1 4 (due + 78) y (omega arith) low high (omega arith) (omega arith))
+
+    -- its first three blocks, and then more bits
+    three-then : (n : ℕ) → run b rules (Locked due 1 bad 1) (due - 25) (26 + (26 + (26 + n))) ≡ run b rules (Locked (due + 26 + 26 + 26) 4 bad3 1) (due + 26 + 26 + 26 - 25) n
+    three-then n =
+        let first : has_number b due 1 ≡ good_at os 1 = good-is 1 due (omega arith) (omega arith) (omega arith) in
+        let second : has_number b (due + 26) 2 ≡ good_at os 2 = good-is 2 (due + 26) (omega arith) (omega arith) (omega arith) in
+        let third : has_number b (due + 26 + 26) 3 ≡ good_at os 3 = good-is 3 (due + 26 + 26) (omega arith) (omega arith) (omega arith) in
+        let three = block-then (due + 26 + 26) 3 bad2 1 (good_at os 3) n (omega arith) third (few 2 (omega arith)) in
+        let two = block-then (due + 26) 2 bad1 1 (good_at os 2) (26 + n) (omega arith) second (few 1 (omega arith)) in
+        let one = block-then due 1 bad 1 (good_at os 1) (26 + (26 + n)) late first (few 0 (omega arith)) in
+        one ∙ two ∙ three
+
+    pub whole_group : run b rules (Locked due 1 bad 1) (due - 25) 104 ≡ (Locked (due + 104) 1 (bad_over rules.loss os bad 1 4) 1, Group (group b rules 1 4 (due + 78)) ∷ [])
+    whole_group =
+        let fourth : has_number b (due + 26 + 26 + 26) 4 ≡ good_at os 4 = good-is 4 (due + 26 + 26 + 26) (omega arith) (omega arith) (omega arith) in
+        let four = block-then (due + 26 + 26 + 26) 4 bad3 1 (good_at os 4) 0 (omega arith) fourth (few 3 (omega arith)) in
+        let end : due + 26 + 26 + 26 ≡ due + 78 = omega arith in
+        let next : due + 26 + 26 + 26 + 26 ≡ due + 104 = omega arith in
+        three-then 26 ∙ four
+        ∙ ap₂ (λ (p q : ℕ). (Locked p 1 (bad_after rules.loss (good_at os 4) bad3) 1, Group (group b rules 1 4 q) ∷ [])) next end
+
+    -- nothing is given before its last bit
+    pub whole_quiet : (run b rules (Locked due 1 bad 1) (due - 25) 103).1 ≡ []
+    whole_quiet =
+        ap (λ (r : State × List Item). r.1) (three-then 25 ∙ run-waiting b rules (due + 26 + 26 + 26) 4 bad3 1 (due + 26 + 26 + 26 - 25) 25 (omega arith))
 
 pub whole_groups : WholeGroups
 whole_groups b rules due bad late few = whole_group b rules due bad late few

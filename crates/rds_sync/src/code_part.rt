@@ -10,6 +10,11 @@ use crate::words::{ENDED, LOCKED, locks_in, word_of_blocks};
 use std::alloc::{AllocError, Global};
 use std::marker::Model;
 
+/// How many codes are pushed to a part of a list before the next is begun: they take 6 KiB, and their places up to 8, since
+/// a lock has two codes more than its place at least. So parts fit where others were that were dropped; a list that grew on
+/// in one part would move to ever new memory.
+const FULL: usize = 3072;
+
 /// Words of codes, and the places of the acquisitions among them; the first so many of each are passed over, and are no
 /// part of it.
 #[derive(Drop)]
@@ -56,6 +61,31 @@ impl CodePart {
             words_passed: 0,
             places_passed: 0,
         })
+    }
+
+    /// No codes, with room for as many as a part of a list takes.
+    pub fn with_room_to_fill(alloc: Global) -> Result<CodePart, AllocError>
+        ensures { IfOk result (λ part. part ≡ no_codes) }
+    {
+        Ok(CodePart {
+            words: Vec::with_capacity(alloc, FULL)?,
+            places: Vec::with_capacity(alloc, FULL / 3)?,
+            words_passed: 0,
+            places_passed: 0,
+        })
+    }
+
+    /// Whether it is as long as a part of a list gets.
+    pub fn is_full(&self) -> bool {
+        self.words.len() >= FULL
+    }
+
+    /// Gives back the room that was taken for more codes.
+    pub fn shrink_to_fit(&mut self)
+        ensures { self.new ≡ self.old }
+    {
+        self.words.shrink_to_fit();
+        self.places.shrink_to_fit();
     }
 
     /// How many codes there are.

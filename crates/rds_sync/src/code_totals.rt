@@ -1,9 +1,9 @@
 //! The totals of items, from their codes.
 
 ghost use Rattle.std.specs.Prelude.{◌≡◌, ◌≤◌, ◌<◌, ◌*◌, ◌^◌, [], ◌∷◌, length, map};
-ghost use Rattle.rds_sync.specs.Codes.{totals_of_codes, blocks, is_known};
+ghost use Rattle.rds_sync.specs.Codes.{totals_of_codes, blocks, bits_mended, is_known};
 ghost use Rattle.rds_sync.specs.Counting.{IsAtMost};
-ghost use Rattle.rds_sync.specs.Inside.CodeTotals.{outcome_totals};
+ghost use Rattle.rds_sync.specs.Inside.CodeTotals.{packed, unpacked};
 ghost use Rattle.rds_sync.specs.Words.{code_in, outcome_at};
 
 use crate::totals::Totals;
@@ -54,10 +54,8 @@ fn totals_of_group(one: u16, two: u16, three: u16, four: u16) -> Totals
         (blocks (outcome_at one ∷ outcome_at two ∷ outcome_at three ∷ outcome_at four ∷ []) ∷ []) }
     ensures small { IsAtMost (2 ^ 10) result }
 {
-    let blocks = totals_of_nibble(one)
-        .plus(totals_of_nibble(two))
-        .plus(totals_of_nibble(three))
-        .plus(totals_of_nibble(four));
+    // Eight counts at once: of four blocks none comes to 256.
+    let blocks = unpacked(packed(one) + packed(two) + packed(three) + packed(four));
     Totals {
         groups: 1,
         complete: u64::from(is_known(one) && is_known(two) && is_known(three) && is_known(four)),
@@ -73,82 +71,55 @@ fn is_known(nibble: u16) -> bool
     nibble == 1 || 3 <= nibble && nibble <= 13
 }
 
-/// The totals of the block that came out as these four bits say.
+/// The counts of the block that came out as these four bits say, packed: from a table, since no branch foresees damage.
 #[inline(always)]
-fn totals_of_nibble(nibble: u16) -> Totals
+fn packed(nibble: u16) -> u64
     requires { nibble < 16 }
-    ensures value { result ≡ outcome_totals (outcome_at nibble) }
-    ensures small { IsAtMost 255 result }
+    ensures value { result ≡ packed (outcome_at nibble) }
+    ensures bits { bits_mended (outcome_at nibble) ≤ 5 }
+    ensures small { result < 2 ^ 59 }
 {
     BY_NIBBLE[nibble as usize]
 }
 
-/// The totals of a block, by its four bits: from a table, since no branch foresees damage.
-static BY_NIBBLE: [Totals; 16] = [
-    Totals::NONE,
-    Totals {
-        valid: 1,
-        ..Totals::NONE
-    },
-    Totals {
-        lost: 1,
-        ..Totals::NONE
-    },
-    Totals {
-        bursts: [1, 0, 0, 0, 0],
-        bits: 1,
-        ..Totals::NONE
-    },
-    Totals {
-        bursts: [0, 1, 0, 0, 0],
-        bits: 2,
-        ..Totals::NONE
-    },
-    Totals {
-        bursts: [0, 0, 1, 0, 0],
-        bits: 2,
-        ..Totals::NONE
-    },
-    Totals {
-        bursts: [0, 0, 1, 0, 0],
-        bits: 3,
-        ..Totals::NONE
-    },
-    Totals {
-        bursts: [0, 0, 0, 1, 0],
-        bits: 2,
-        ..Totals::NONE
-    },
-    Totals {
-        bursts: [0, 0, 0, 1, 0],
-        bits: 3,
-        ..Totals::NONE
-    },
-    Totals {
-        bursts: [0, 0, 0, 1, 0],
-        bits: 4,
-        ..Totals::NONE
-    },
-    Totals {
-        bursts: [0, 0, 0, 0, 1],
-        bits: 2,
-        ..Totals::NONE
-    },
-    Totals {
-        bursts: [0, 0, 0, 0, 1],
-        bits: 3,
-        ..Totals::NONE
-    },
-    Totals {
-        bursts: [0, 0, 0, 0, 1],
-        bits: 4,
-        ..Totals::NONE
-    },
-    Totals {
-        bursts: [0, 0, 0, 0, 1],
-        bits: 5,
-        ..Totals::NONE
-    },
-    Totals::NONE,
-    Totals::NONE,
+/// Counts of blocks, a byte each from the lowest on: valid, corrected by the span of their burst from 1 to 5, lost, and the
+/// bits corrected.
+static BY_NIBBLE: [u64; 16] = [
+    0,
+    0x0000_0000_0000_0001,
+    0x0001_0000_0000_0000,
+    0x0100_0000_0000_0100,
+    0x0200_0000_0001_0000,
+    0x0200_0000_0100_0000,
+    0x0300_0000_0100_0000,
+    0x0200_0001_0000_0000,
+    0x0300_0001_0000_0000,
+    0x0400_0001_0000_0000,
+    0x0200_0100_0000_0000,
+    0x0300_0100_0000_0000,
+    0x0400_0100_0000_0000,
+    0x0500_0100_0000_0000,
+    0,
+    0,
 ];
+
+/// The totals of so packed counts.
+#[inline(always)]
+fn unpacked(counts: u64) -> Totals
+    ensures value { result ≡ unpacked counts }
+    ensures small { IsAtMost 255 result }
+{
+    Totals {
+        valid: counts % 256,
+        bursts: [
+            counts / (1 << 8) % 256,
+            counts / (1 << 16) % 256,
+            counts / (1 << 24) % 256,
+            counts / (1 << 32) % 256,
+            counts / (1 << 40) % 256,
+        ],
+        lost: counts / (1 << 48) % 256,
+        bits: counts / (1 << 56),
+        ..Totals::NONE
+    }
+}

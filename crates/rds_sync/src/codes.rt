@@ -62,13 +62,15 @@ impl Codes {
         })
     }
 
-    /// The codes of a part.
+    /// The codes of a part, which takes no more room than they do from then on.
     pub(crate) fn of_part(alloc: Global, part: CodePart) -> Codes
         ensures { result ≡ part }
     {
+        let mut last = part;
+        last.shrink_to_fit();
         Codes {
             before: Vec::new(alloc),
-            last: part,
+            last,
         }
     }
 
@@ -92,6 +94,9 @@ impl Codes {
         ensures ok { OnOk result (self.new ≡ behind self.old (kept_of (item.now ∷ []))) }
         ensures refused { OnErr result (self.new ≡ self.old) }
     {
+        if self.last.is_full() {
+            self.begin_part()?;
+        }
         self.last.push(item)
     }
 
@@ -112,7 +117,10 @@ impl Codes {
                 left -= len;
             }
         }
-        self.push_part(last.after(left))
+        if left < last.len() {
+            self.push_part(last.after(left))?;
+        }
+        Ok(())
     }
 
     /// The totals of the items that these codes stand for, at most 2^40. Takes no memory.
@@ -153,6 +161,24 @@ impl Codes {
         ensures { result ≡ marks_from rules.now.loss self.now place state }
     {
         Marks::over(&self.before, &self.last, rules, place, state)
+    }
+
+    /// Gives back the room that was taken for more codes.
+    pub fn shrink_to_fit(&mut self)
+        ensures { self.new ≡ self.old }
+    {
+        self.last.shrink_to_fit();
+    }
+
+    /// Begins a part behind those that there are. Refused memory, it leaves the codes as they were.
+    fn begin_part(&mut self) -> Result<(), AllocError>
+        ensures { self.new ≡ self.old }
+    {
+        self.before.reserve(1)?;
+        let next = CodePart::with_room_to_fill(*self.before.allocator())?;
+        let full = mem::replace(&mut self.last, next);
+        self.before.push_reserved(full);
+        Ok(())
     }
 
     /// Appends a part.

@@ -22,7 +22,7 @@ use std::marker::Model;
 /// the state that the run ends in.
 ///
 /// Its cost: a search goes over 64 places at once, and looks up to `reach` windows back from each valid one; a lock
-/// reads a window every 26 bits, and those of a group again where the run goes on inside it.
+/// reads a window every 26 bits, and those of a group again where the run goes on inside it or it loses the lock.
 #[derive(Drop)]
 pub struct Decoder<'a> {
     reader: Reader<'a>,

@@ -1,6 +1,6 @@
 //! The items of a report.
 
-ghost use Rattle.std.specs.Prelude.{◌≡◌, ◌==◌, ◌+◌, ◌-◌, ◌<◌, ◌≤◌, ◌++◌, [], All, length, take, slice_get, slice_range, OnOk, OnErr};
+ghost use Rattle.std.specs.Prelude.{◌≡◌, ◌==◌, ◌+◌, ◌-◌, ◌<◌, ◌≤◌, ◌++◌, [], All, length, take, slice_get, slice_range, IfOk, OnOk, OnErr};
 ghost use Rattle.rds_stream.specs.Recording.{length_of};
 ghost use Rattle.rds_sync.specs.Decoding.{listed};
 ghost use Rattle.rds_sync.specs.Inside.Spans.{AreBehind, IsAt, IsSpan};
@@ -11,6 +11,7 @@ ghost use Rattle.rds_sync.specs.Rules.{RuleNumbers};
 ghost use Rattle.rds_sync.specs.Step.{run, items_of_end};
 ghost use Rattle.rds_stream.specs.Recording.{Signal};
 
+use crate::indexed_items::{IndexedItems, starts_of};
 use crate::item::Item;
 use crate::item_iter::ItemIter;
 use crate::mark::Mark;
@@ -23,20 +24,40 @@ use std::alloc::{AllocError, Global};
 use std::marker::Model;
 use std::snapshot::Snapshot;
 
-/// How many items a span of a run has, or a few more: so many are decoded at most to come to one among them.
+/// How many items a short span of a run has, or a few more: so many are decoded at most to come to one among them.
 const SPAN_ITEMS: u64 = 1024;
+
+/// Into how many spans a list cuts the run that it is given.
+#[derive(Clone, Copy, Debug, PartialEq, Eq)]
+pub enum Spans {
+    /// Some thousand items each: any item is near.
+    Short,
+    /// One for the whole run, which costs nothing: for a list that is gone over from its first item on, or not at all.
+    Whole,
+}
+
+impl Spans {
+    /// With how many items a run has one span.
+    fn most_in_one(self) -> u64 {
+        match self {
+            Spans::Short => SPAN_ITEMS,
+            Spans::Whole => u64::MAX,
+        }
+    }
+}
 
 /// A list of items of a recording by rules, which it names. Contracts see these, and the list.
 ///
-/// It holds none of its items, but the spans of the runs that give them, some thousand items each; they are decoded
-/// again where the recording and the rules are lent. It borrows nothing, may go from thread to thread, and be read by
-/// several.
+/// It holds none of its items, but the spans of the runs that give them, of some thousand items each where it was not
+/// told otherwise; they are decoded again where the recording and the rules are lent. It borrows nothing, may go from
+/// thread to thread, and be read by several.
 #[derive(Drop)]
 pub struct Items {
     source: Snapshot<Recording>,
     rules: RuleNumbers,
     spans: Vec<Span>,
     len: usize,
+    cut: Spans,
 }
 
 impl Model for Items {
@@ -61,7 +82,15 @@ impl Items {
             rules: rules.numbers(),
             spans: Vec::new(alloc),
             len: 0,
+            cut: Spans::Short,
         }
+    }
+
+    /// The same items; the runs that are appended from here on are cut into such spans.
+    pub fn cut_into(self, cut: Spans) -> Items
+        ensures { result ≡ self }
+    {
+        Items { cut, ..self }
     }
 
     /// How many items there are.
@@ -102,7 +131,8 @@ impl Items {
     }
 
     /// The items number `from` to `to` - 1 in order, of the recording and by the rules that they are of. The spans
-    /// before them are passed over, and of the first one of theirs what stands before them is decoded.
+    /// before them are passed over, and of the first one of theirs what stands before them is decoded: of a long list
+    /// with many parts to be gone over, take those of [`indexed`](Items::indexed).
     pub fn range<'a>(
         &'a self,
         rec: &'a Recording,
@@ -120,12 +150,27 @@ impl Items {
         ItemIter::over(rec, rules, spans, left, to - from)
     }
 
+    /// The same items with an index of their spans, for who goes over many parts of a long list.
+    pub fn indexed(&self, alloc: Global) -> Result<IndexedItems<'_>, AllocError>
+        ensures { IfOk result (λ indexed. indexed ≡ self.now) }
+    {
+        let len = self.len();
+        let starts = starts_of(alloc, &self.spans)?;
+        Ok(IndexedItems {
+            source: &self.source,
+            rules: self.rules,
+            spans: &self.spans,
+            len,
+            starts,
+        })
+    }
+
     /// Appends the items of the run from `first.state` over the places from `first.place` to before `to`, in spans that
     /// are cut at marks. `marks` are those of that run, and say of it what [`marks_from`](crate::Codes::marks_from) does: how many
     /// items stand before each, `first.items` of them before `first`, and `items` before `to`.
     ///
-    /// Its cost is that of the marks, a few steps each; a span takes memory once in some thousand items. Refused memory,
-    /// it leaves the list as it was.
+    /// Its cost is that of the marks, a few steps each, and nothing where the run has one span; a span takes memory once
+    /// in some thousand items. Refused memory, it leaves the list as it was.
     pub fn push_run(
         &mut self,
         first: Mark,
@@ -143,8 +188,12 @@ impl Items {
             (self.old.list ++ (run self.old.source self.old.rules first.state first.place (to - first.place)).1)) }
         ensures refused { OnErr result (self.new ≡ self.old) }
     {
+        let count = items - first.items;
+        if count <= self.cut.most_in_one() {
+            return self.push_span(first.state, first.place, to, count as usize);
+        }
         let before = self.spans.len();
-        let Some(len) = self.len.checked_add((items - first.items) as usize) else {
+        let Some(len) = self.len.checked_add(count as usize) else {
             return Err(AllocError);
         };
         match push_spans(
@@ -233,7 +282,7 @@ impl Items {
 
 /// The spans from that on which holds item number `from`, and its number in that span; no spans,
 /// where there is no such item.
-fn spans_from(spans: &[Span], from: usize) -> (&[Span], usize)
+pub(crate) fn spans_from(spans: &[Span], from: usize) -> (&[Span], usize)
     ensures { (b : Signal) (rules : RuleNumbers) → All (IsSpan b rules) spans.now → IsAt b rules spans.now from result.0.now result.1 }
 {
     let mut rest = spans;

@@ -15,6 +15,7 @@ use crate::lock::{blocks_before, closed_group, follow};
 use crate::rules::Rules;
 use crate::state::State;
 use crate::step::Step;
+use crate::whole_groups::whole_group;
 use rds_stream::{Reader, ValidWindows};
 
 /// Goes on with a run from `state` before the bit at `place`, up to and including the next bit
@@ -25,8 +26,8 @@ use rds_stream::{Reader, ValidWindows};
 /// stretches are this project's rule, after EN 50067:1998, annex C.
 ///
 /// Its cost: a search goes over 64 places at once, and looks up to `reach` windows back from each
-/// valid one; a lock reads a window every 26 bits, and first, once more, the up to three of the
-/// group in progress that were read before. It takes no memory.
+/// valid one; a lock reads a window every 26 bits, those of a group that loses it twice, and first,
+/// once more, the up to three of the group in progress that were read before. It takes no memory.
 pub fn stretch(reader: &mut Reader<'_>, rules: &Rules, state: State, place: u64, to: u64) -> Step
     requires lawful { IsLawful rules.now place state }
     requires order { place < to }
@@ -86,8 +87,8 @@ fn search(reader: &mut Reader<'_>, rules: &Rules, place: u64, to: u64) -> Step
     }
 }
 
-/// Follows a lock from block to block, up to and including the next block that closes a group, or
-/// up to `to` where none is due before it.
+/// Follows a lock up to and including the next block that closes a group, or up to `to` where none is due before it: over
+/// a whole group at once where it can, and else from block to block.
 fn keep_lock(reader: &mut Reader<'_>, rules: &Rules, lock: Lock, place: u64, to: u64) -> Step
     requires lawful { IsLawfulLock rules.now place lock.due lock.number lock.bad lock.first }
     requires order { place < to }
@@ -96,6 +97,9 @@ fn keep_lock(reader: &mut Reader<'_>, rules: &Rules, lock: Lock, place: u64, to:
     ensures same { reader.new ≡ reader.old }
 {
     prove!(1 <= rules.reach());
+    if let Some(step) = whole_group(reader, rules, lock, place, to) {
+        return step;
+    }
     let mut blocks = blocks_before(reader, rules, lock);
     let mut now = lock;
     while now.due < to {

@@ -1,27 +1,32 @@
-//! Whole groups of a lock, as codes: four blocks at once, of which none loses it.
+//! Whole groups of a lock, as codes or as an item: four blocks at once, of which none loses it.
 
 ghost use Rattle.std.specs.Prelude.{◌≡◌, ◌≤◌, ◌<◌, ◌+◌, ◌^◌, map, true, false, ℕ, All, IfOk, IfSome, IsOkUnless};
+ghost use Rattle.rds_code.specs.Offsets.{number};
 ghost use Rattle.rds_stream.specs.InARow.{four_heard};
-ghost use Rattle.rds_stream.specs.Recording.{Signal, length_of};
+ghost use Rattle.rds_stream.specs.Recording.{Signal, length_of, offset_heard};
+ghost use Rattle.rds_sync.specs.Acquiring.{is_numbered};
 ghost use Rattle.rds_sync.specs.Codes.{outcome_of};
 ghost use Rattle.rds_sync.specs.Groups.{blocks_at, group};
 ghost use Rattle.rds_sync.specs.Inside.CodeRuns.{AreValid, HasPassed};
+ghost use Rattle.rds_sync.specs.Inside.Due.{state_in};
+ghost use Rattle.rds_sync.specs.Lawful.{IsLawfulLock};
 ghost use Rattle.rds_sync.specs.Loss.{IsLawfulBad, bad_after, are_too_many};
 ghost use Rattle.rds_sync.specs.Marks.{bad_over};
 ghost use Rattle.rds_sync.specs.Ranges.{IsLossInRange};
+ghost use Rattle.rds_sync.specs.Stretch.{IsStretch};
 ghost use Rattle.rds_sync.specs.Words.{blocks_in};
 
 use crate::code_part::CodePart;
 use crate::due::{BLOCK_PLACES, Lock};
 use crate::error::SyncError;
-use crate::group::is_numbered;
-use crate::item::Block;
+use crate::item::{Block, Group, Item};
 use crate::loss::{Bad, Loss};
 use crate::rules::Rules;
+use crate::step::Step;
 use crate::words::{CLEAN, is_good, word_of_blocks};
-use rds_code::Wanted;
 use rds_code::laws::{bursts_are_listed, readings_follow_the_rule};
-use rds_stream::Reader;
+use rds_code::{Offset, Wanted, rem26};
+use rds_stream::{FIRST_WINDOW, Reader};
 
 /// The lock behind the whole groups that come next, none of whose blocks loses it, of which the last ends before `to`.
 pub(crate) fn pass_whole_groups(
@@ -55,6 +60,38 @@ pub(crate) fn pass_whole_groups(
     Ok(now)
 }
 
+/// The whole group that comes next, whose block 1 begins at `place`: none where a block of it loses the lock or ends at
+/// `to` or later, or where the lock is inside a group.
+#[inline(always)]
+pub(crate) fn whole_group(
+    reader: &mut Reader<'_>,
+    rules: &Rules,
+    lock: Lock,
+    place: u64,
+    to: u64,
+) -> Option<Step>
+    requires lawful { IsLawfulLock rules.now place lock.due lock.number lock.bad lock.first }
+    requires order { place < to }
+    requires within { to ≤ length_of reader.old }
+    ensures reached { IfSome result (IsStretch reader.old rules.now (state_in lock) place to) }
+    ensures same { reader.new ≡ reader.old }
+{
+    prove!(to <= reader.recording().len());
+    let last = lock.due + 3 * BLOCK_PLACES;
+    if lock.number != 1 || lock.first != 1 || place + FIRST_WINDOW != lock.due || to <= last {
+        return None;
+    }
+    let heard = reader.four_windows(lock.due);
+    let blocks = blocks_of(rules, heard);
+    let bad = bad_after_four(rules.loss(), word_of_group(rules, &blocks), lock.bad)?;
+    let group = Group::of_blocks(place, blocks);
+    Some(Step {
+        place: last + 1,
+        state: Lock::after_block(last, 4, bad, 1).state(),
+        items: [Some(Item::Group(group)), None],
+    })
+}
+
 /// The word of the group whose block 1 ends at `due`.
 #[inline(always)]
 fn whole_word(reader: &mut Reader<'_>, rules: &Rules, due: u64) -> u16
@@ -80,16 +117,37 @@ fn are_valid(heard: [Option<u32>; 4]) -> bool
     ensures { (b : Signal) (due : ℕ) → 25 ≤ due → heard ≡ four_heard b due → result ≡ true → AreValid b due }
 {
     let [one, two, three, four] = heard;
-    if !is_numbered(one, 1) {
+    if !has_offset(one, Offset::A) {
         return false;
     }
-    if !is_numbered(two, 2) {
+    if !has_offset(two, Offset::B) {
         return false;
     }
-    if !is_numbered(three, 3) {
+    if !is_third(three) {
         return false;
     }
-    is_numbered(four, 4)
+    has_offset(four, Offset::D)
+}
+
+/// Whether what was heard is a valid block 3, of either version.
+#[inline(always)]
+fn is_third(heard: Option<u32>) -> bool
+    requires { IfSome heard (λ window. window < 2 ^ 26) }
+    ensures { result ≡ true → is_numbered (offset_heard heard) 3 ≡ true }
+{
+    has_offset(heard, Offset::C) || has_offset(heard, Offset::Cx)
+}
+
+/// Whether what was heard has this offset: one comparison of its remainder, and no search for its offset.
+#[inline(always)]
+fn has_offset(heard: Option<u32>, offset: Offset) -> bool
+    requires { IfSome heard (λ window. window < 2 ^ 26) }
+    ensures { result ≡ true → is_numbered (offset_heard heard) (number offset) ≡ true }
+{
+    match heard {
+        Some(window) => rem26(window) == offset.word(),
+        None => false,
+    }
 }
 
 /// The word of a group of which this was heard.
@@ -99,11 +157,21 @@ fn damaged_word(rules: &Rules, heard: [Option<u32>; 4]) -> u16
         → blocks_in result ≡ map outcome_of (group b rules.now 1 4 (due + 78)).blocks }
     ensures few { result < 65520 }
 {
+    word_of_group(rules, &blocks_of(rules, heard))
+}
+
+/// The word of the group that has these blocks.
+#[inline(always)]
+fn word_of_group(rules: &Rules, blocks: &[Block; 4]) -> u16
+    ensures blocks { (b : Signal) (due : ℕ) → blocks.now ≡ blocks_at b rules.now 1 4 (due + 78)
+        → blocks_in result ≡ map outcome_of (group b rules.now 1 4 (due + 78)).blocks }
+    ensures few { result < 65520 }
+{
     // The outcome of each reading has a word.
     bursts_are_listed();
     readings_follow_the_rule();
     prove!(rules.burst() <= 5);
-    word_of_blocks(&blocks_of(rules, heard))
+    word_of_blocks(blocks)
 }
 
 /// The four blocks of that group.
@@ -120,9 +188,26 @@ fn blocks_of(rules: &Rules, heard: [Option<u32>; 4]) -> [Block; 4]
     [first, second, third, fourth]
 }
 
-/// What is kept of the bad blocks after those of the group of a word, or none where one of them loses the lock.
+/// What is kept of the bad blocks after those of the group of a word, or none where one of them loses the lock. Behind
+/// four good blocks no row of bad ones is left, and none is counted.
 #[inline(always)]
 fn bad_after_four(loss: Loss, word: u16, bad: Bad) -> Option<Bad>
+    requires range { IsLossInRange loss }
+    requires lawful { IsLawfulBad loss bad }
+    ensures bad { IfSome result (λ after. after ≡ bad_over loss (blocks_in word) bad 1 4) }
+    ensures lawful { IfSome result (IsLawfulBad loss) }
+    ensures kept { IfSome result (λ _. (k : ℕ) → k < 4
+        → are_too_many loss (bad_over loss (blocks_in word) bad 1 (k + 1)) ≡ false) }
+{
+    match (loss, bad) {
+        (Loss::Run(_), Bad::Run(_)) if word == CLEAN => Some(Bad::Run(0)),
+        _ => bad_after_each(loss, word, bad),
+    }
+}
+
+/// The same, by one block after the other.
+#[inline(always)]
+fn bad_after_each(loss: Loss, word: u16, bad: Bad) -> Option<Bad>
     requires range { IsLossInRange loss }
     requires lawful { IsLawfulBad loss bad }
     ensures bad { IfSome result (λ after. after ≡ bad_over loss (blocks_in word) bad 1 4) }

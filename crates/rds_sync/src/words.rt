@@ -19,6 +19,7 @@ pub(crate) const ENDED: u16 = 65535;
 pub(crate) const CLEAN: u16 = 0x1111;
 
 /// The four bits of a block.
+#[inline(always)]
 fn nibble(block: &Block) -> u16
     ensures value { result ≡ nibble (outcome_of block.now) }
     ensures few { result ≤ 13 }
@@ -35,6 +36,7 @@ fn nibble(block: &Block) -> u16
 }
 
 /// The word of the group of these blocks.
+#[inline(always)]
 pub(crate) fn word_of_blocks(blocks: &[Block; 4]) -> u16
     ensures value { result ≡ word_of_blocks (map outcome_of blocks.now) }
     ensures few { result < 65520 }

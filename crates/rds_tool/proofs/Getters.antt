@@ -17,14 +17,13 @@ use Rattle.clap.proofs.WalkLemmas.{find_row, first_value-rows, one_text-rows}
 use Rattle.clap.specs.declared.parser.matches.ValueSource.{ValueSource}
 use Rattle.rds_sync.specs.declared.loss.Loss.{Loss}
 use Rattle.rds_sync.specs.declared.loss.Loss.TheVariants.{Run, Share}
-use Rattle.rds_tool.specs.CommandLine.{AreSettings, GivesNoJob, GivesNoRuled, IsFlag, IsInput, IsJob, MaySpell, gaps_asked_for, gaps_spelled, is_given, is_of_words, Spells, SpellsLoss}
+use Rattle.rds_tool.specs.CommandLine.{FitNoInput, FitNoRules, FitNoSettings, GivesNoRuled, GivesNoRules, GivesNothing, IsAsked, IsFlag, MaySpell, ReadsRecording, Reports, gaps_asked_for, gaps_spelled, is_given, is_of_words, Spells, SpellsLoss}
 use Rattle.rds_tool.specs.GapText.{gaps_of}
 use Rattle.rds_tool.specs.declared.entries.NoJob.{NoJob}
 use Rattle.rds_tool.specs.declared.entries.NoJob.TheVariants.{Entries, Gaps, Loss as BadLoss, Memory}
-use Rattle.rds_tool.specs.declared.job.Input.{Input}
-use Rattle.rds_tool.specs.declared.job.Job.{Job}
+use Rattle.rds_tool.specs.declared.job.Asked.{Asked}
+use Rattle.rds_tool.specs.declared.job.Asked.TheVariants.{Job as AskedJob, Follow}
 use Rattle.rds_tool.specs.declared.job.Job.TheVariants.{Encode, List as ListJob, Scan, Totals}
-use Rattle.rds_tool.specs.declared.job.Settings.{Settings}
 
 -- the way in which the unsigned types of std read a number of so many binary digits
 abbrev pub reads_unsigned : ℕ → Text → Result ℕ ParseIntError → Type 0
@@ -137,56 +136,64 @@ module _ (f : Found) (given : Option (Bor Text)) (is : option_map (λ s. s.now) 
         by (Some v) = tt
         by None = inr (refl, refl)
 
--- ---- entries that give no job
+-- ---- entries that ask for nothing
 
 -- a share that is no number
 pub no_share : (rows : List Row) → ((share : Option ℕ) → MaySpell 32 (one_of (codes "share") rows) share → ⊥) → (loss : Loss) → SpellsLoss rows loss → ⊥
 no_share rows h (Run row) s = h None s.0
 no_share rows h (Share bad of) s = h (Some bad) s.0
 
--- no input, no job but one to encode
-pub no_input : (name : Text) (rows : List Row) → name ≢ codes "encode" → ((input : Input) → IsInput rows input → ⊥) → (job : Job) → IsJob name rows job → ⊥
-no_input name rows other none (Scan input) h = none input h.1
-no_input name rows other none (ListJob input settings) h = none input h.1
-no_input name rows other none (Totals input settings) h = none input h.1
-no_input name rows other none (Encode hex) h = other h.0
+-- no rules, no settings
+pub without_rules : (rows : List Row) (why : NoJob) → GivesNoRules rows (FitNoRules rows) why → GivesNoRules rows (FitNoSettings rows) why
+without_rules rows BadLoss none = none
+without_rules rows Entries none = (none.0, λ settings are. none.1 _ are.rules)
+without_rules rows Gaps none = none
+without_rules rows Memory none = none
 
 first_is : (name word : Text) (b : ℕ) → name ≡ word → slice_index word 0 ≡ b → slice_index name 0 ≡ b
 first_is name word b p q = ap (λ (t : Text). slice_index t 0) p ∙ q
 
--- the other commands have other names: their first letters differ
-pub not_encode : (name : Text) → (name ≡ codes "scan") ⊎ ((name ≡ codes "list") ⊎ (name ≡ codes "totals")) → name ≢ codes "encode"
-not_encode name (inl p) e =
-    let a : slice_index name 0 ≡ 115 = first_is name (codes "scan") 115 p refl in
-    let b : slice_index name 0 ≡ 101 = first_is name (codes "encode") 101 e refl in omega arith
-not_encode name (inr (inl p)) e =
-    let a : slice_index name 0 ≡ 108 = first_is name (codes "list") 108 p refl in
-    let b : slice_index name 0 ≡ 101 = first_is name (codes "encode") 101 e refl in omega arith
-not_encode name (inr (inr p)) e =
-    let a : slice_index name 0 ≡ 116 = first_is name (codes "totals") 116 p refl in
-    let b : slice_index name 0 ≡ 101 = first_is name (codes "encode") 101 e refl in omega arith
+-- one name is not another whose first letter differs
+not_both : (name one other : Text) (a b : ℕ) → name ≡ one → name ≡ other → slice_index one 0 ≡ a → slice_index other 0 ≡ b → a ≢ b → ⊥
+not_both name one other a b p q is is_other differ = differ (sym (first_is name one a p is) ∙ first_is name other b q is_other)
 
--- no input and settings, no job but a scan or one to encode
-no_ruled : (name : Text) (rows : List Row) → name ≢ codes "scan" → name ≢ codes "encode"
-    → ((input : Input) (settings : Settings) → IsInput rows input → AreSettings rows settings → ⊥) → (job : Job) → IsJob name rows job → ⊥
-no_ruled name rows scan encode none (Scan input) h = scan h.0
-no_ruled name rows scan encode none (ListJob input settings) h = none input settings h.1 h.2
-no_ruled name rows scan encode none (Totals input settings) h = none input settings h.1 h.2
-no_ruled name rows scan encode none (Encode hex) h = encode h.0
+-- no input and settings: a command that makes a report asks for nothing
+no_report : (name : Text) (rows : List Row) → Reports name → FitNoInput rows → (asked : Asked) → IsAsked name rows asked → ⊥
+no_report name rows reports none (AskedJob (ListJob input settings) progress) h = none input settings h.0.1 h.0.2
+no_report name rows reports none (AskedJob (Totals input settings) progress) h = none input settings h.0.1 h.0.2
+no_report name rows (inl p) none (AskedJob (Scan input workers) progress) h = not_both name (codes "list") (codes "scan") 108 115 p h.0.0 refl refl (omega arith)
+no_report name rows (inl p) none (AskedJob (Encode hex) progress) h = not_both name (codes "list") (codes "encode") 108 101 p h.0.0 refl refl (omega arith)
+no_report name rows (inl p) none (Follow following) h = not_both name (codes "list") (codes "follow") 108 102 p h.0 refl refl (omega arith)
+no_report name rows (inr p) none (AskedJob (Scan input workers) progress) h = not_both name (codes "totals") (codes "scan") 116 115 p h.0.0 refl refl (omega arith)
+no_report name rows (inr p) none (AskedJob (Encode hex) progress) h = not_both name (codes "totals") (codes "encode") 116 101 p h.0.0 refl refl (omega arith)
+no_report name rows (inr p) none (Follow following) h = not_both name (codes "totals") (codes "follow") 116 102 p h.0 refl refl (omega arith)
 
-not_scan : (name : Text) → (name ≡ codes "list") ⊎ (name ≡ codes "totals") → name ≢ codes "scan"
-not_scan name (inl p) e =
-    let a : slice_index name 0 ≡ 108 = first_is name (codes "list") 108 p refl in
-    let b : slice_index name 0 ≡ 115 = first_is name (codes "scan") 115 e refl in omega arith
-not_scan name (inr p) e =
-    let a : slice_index name 0 ≡ 116 = first_is name (codes "totals") 116 p refl in
-    let b : slice_index name 0 ≡ 115 = first_is name (codes "scan") 115 e refl in omega arith
+-- why there is no input with settings is why it asks for nothing
+pub without_ruled : (name : Text) (rows : List Row) (why : NoJob) → Reports name → GivesNoRuled rows why → GivesNothing (Some (name, rows)) why
+without_ruled name rows Memory reports none = tt
+without_ruled name rows Gaps reports none = (inr reports, none)
+without_ruled name rows BadLoss reports none = ((λ bad. none.0 bad.1), (inr reports, none.1))
+without_ruled name rows Entries reports none =
+    ((λ bad. none.0 bad.1), (λ bad. false≢true (sym none.1 ∙ bad.1)), no_report name rows reports none.2)
 
--- why there is no input with settings is why there is no job
-pub without_ruled : (name : Text) (rows : List Row) (why : NoJob) → (name ≡ codes "list") ⊎ (name ≡ codes "totals") → GivesNoRuled rows why
-    → GivesNoJob (Some (name, rows)) why
-without_ruled name rows Memory rules none = tt
-without_ruled name rows Gaps rules none = (inr rules, none)
-without_ruled name rows BadLoss rules none = ((λ bad. none.0 bad.1), (rules, none.1))
-without_ruled name rows Entries rules none =
-    ((λ bad. none.0 bad.1), (λ bad. false≢true (sym none.1 ∙ bad.1)), no_ruled name rows (not_scan name rules) (not_encode name (inr rules)) none.2)
+module _ (name : Text) (rows : List Row) (follows : name ≡ codes "follow") where
+  -- no rules: one that follows a stream asks for nothing
+  no_stream : FitNoRules rows → (asked : Asked) → IsAsked name rows asked → ⊥
+  no_stream none (Follow rules) h = none rules h.1
+  no_stream none (AskedJob (Scan input workers) progress) h = not_both name (codes "follow") (codes "scan") 102 115 follows h.0.0 refl refl (omega arith)
+  no_stream none (AskedJob (ListJob input settings) progress) h = not_both name (codes "follow") (codes "list") 102 108 follows h.0.0 refl refl (omega arith)
+  no_stream none (AskedJob (Totals input settings) progress) h = not_both name (codes "follow") (codes "totals") 102 116 follows h.0.0 refl refl (omega arith)
+  no_stream none (AskedJob (Encode hex) progress) h = not_both name (codes "follow") (codes "encode") 102 101 follows h.0.0 refl refl (omega arith)
+
+  -- it reads no recording
+  no_recording : ReadsRecording name → ⊥
+  no_recording (inl p) = not_both name (codes "follow") (codes "scan") 102 115 follows p refl refl (omega arith)
+  no_recording (inr (inl p)) = not_both name (codes "follow") (codes "list") 102 108 follows p refl refl (omega arith)
+  no_recording (inr (inr p)) = not_both name (codes "follow") (codes "totals") 102 116 follows p refl refl (omega arith)
+
+  -- why there are no rules is why it does so
+  pub without_stream : (why : NoJob) → GivesNoRules rows (FitNoRules rows) why → GivesNothing (Some (name, rows)) why
+  without_stream Memory none = tt
+  without_stream Gaps none = absurd none
+  without_stream BadLoss none = ((λ bad. no_recording bad.0), (inl follows, none))
+  without_stream Entries none = ((λ bad. no_recording bad.0), (λ bad. false≢true (sym none.0 ∙ bad.1)), no_stream none.1)

@@ -11,4 +11,6 @@ pub mod Reading
 pub mod GapTexts
 pub mod GapLists
 pub mod Recorded
-pub mod Gathering
+pub mod Spelled
+pub mod ScanRows
+pub mod Followed

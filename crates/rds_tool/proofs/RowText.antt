@@ -1,10 +1,11 @@
 -- What `csv` writes of fields that need no quotes.
-use Rattle.std.proofs.Common.{◌/◌, ◌%◌, ◌||◌, Bool, Option, Some, None, get_or, slice_index, suc, true, zero, ◌++◌, ◌<◌, ◌^◌, ◌∙◌, ◌∷◌, ◌≡◌, ◌≤◌, List, [], ap, append-nil, arith, false, length, map, refl, ℕ, Bor}
+use Rattle.std.proofs.Common.{◌/◌, ◌%◌, ◌||◌, Bool, Option, Some, None, get_or, slice_index, suc, true, zero, ◌++◌, ◌+◌, ◌*◌, ◌<◌, ◌^◌, ◌∙◌, ◌∷◌, ◌≡◌, ◌≤◌, List, [], ap, append-nil, arith, false, length, map, refl, ℕ, Bor}
 use Rattle.std.specs.Prelude.{IfSome, decimal}
 use Rattle.std.specs.Char.{digit_value}
 use Rattle.std.specs.List.{AllByRecursion, join_with_byte}
 use Rattle.std.specs.Str.Parse.{AllDigits}
 use Rattle.std.proofs.lemmas.Bool.Decides.{nat_tests}
+use Rattle.std.proofs.lemmas.Grind.{common_steps}
 use Rattle.std.proofs.lemmas.Fmt.{decimal_is_IsNumeral}
 use Rattle.std.proofs.lemmas.List.{length-map}
 use Rattle.std.proofs.lemmas.List.Folds.{list_any-append}
@@ -20,7 +21,7 @@ use Rattle.rds_sync.specs.declared.item.Block.TheVariants.{Missing, Read}
 use Rattle.rds_sync.specs.declared.item.Version.{Version}
 use Rattle.rds_sync.specs.declared.item.Version.TheVariants.{A as VA, B as VB, Unknown}
 use Rattle.rds_tool.specs.Listing.{block_text, hex_digits, kind_text, row, version_text, word_text}
-use Rattle.rds_tool.specs.Inside.RowWriter.{IsPlain}
+use Rattle.rds_tool.specs.Inside.RowWriter.{IsPlain, IsShort}
 
 -- ---- fields without quotes
 
@@ -71,6 +72,13 @@ name_plain C = refl
 name_plain Cx = refl
 name_plain D = refl
 
+pub name_short : (o : Offset) → IsShort (name o)
+name_short A = omega arith
+name_short B = omega arith
+name_short C = omega arith
+name_short Cx = omega arith
+name_short D = omega arith
+
 or_first : (a b : Bool) → (a || b) ≡ false → a ≡ false
 or_first true b h = cc h
 or_first false b h = refl
@@ -111,6 +119,13 @@ version_plain VB false = refl
 version_plain VB true = refl
 version_plain Unknown conflict = refl
 
+pub version_short : (v : Version) (conflict : Bool) → IsShort (version_text v conflict)
+version_short VA false = omega arith
+version_short VA true = omega arith
+version_short VB false = omega arith
+version_short VB true = omega arith
+version_short Unknown conflict = omega arith
+
 -- the four blocks of a group, one by one
 pub four_blocks : (bs : List Block) (a b c d : Block) → length bs ≡ 4
     → map block_text bs ≡ block_text (get_or bs 0 a) ∷ block_text (get_or bs 1 b) ∷ block_text (get_or bs 2 c) ∷ block_text (get_or bs 3 d) ∷ []
@@ -120,3 +135,24 @@ four_blocks (x ∷ []) a b c d n = absurd (omega arith)
 four_blocks (x ∷ y ∷ []) a b c d n = absurd (omega arith)
 four_blocks (x ∷ y ∷ z ∷ []) a b c d n = absurd (omega arith)
 four_blocks (x ∷ y ∷ z ∷ w ∷ v ∷ rest) a b c d n = absurd (omega arith)
+
+-- ---- how long a row is
+
+joined_short : (f : List ℕ) (fs : List (List ℕ)) → AllByRecursion IsShort (f ∷ fs) → length (join_with_byte 44 (f ∷ fs)) + 1 ≤ length (f ∷ fs) * 21
+joined_short f [] short = omega (arith, short.0)
+joined_short f (h ∷ fs) short =
+    let rest = joined_short h fs short.1 in
+    grind (arith, common_steps, short.0, rest)
+
+-- up to eight short fields
+pub row_short : (fs : List (List ℕ)) → 2 ≤ length fs → length fs ≤ 8 → AllByRecursion IsShort fs → length (row fs) ≤ 168
+row_short [] several few short = absurd (omega arith)
+row_short (f ∷ fs) several few short = grind (arith, common_steps, joined_short f fs short)
+
+-- a short row behind others
+pub text_short : (old new added : List ℕ) → new ≡ old ++ added → length added ≤ 168 → length new ≤ length old + 168
+text_short old new added e h = grind (arith, common_steps, e)
+
+pub row_short_now : (fs : List (Bor (List ℕ))) → 2 ≤ length fs → length fs ≤ 8 → AllByRecursion IsShort (map (λ f. f.now) fs)
+    → length (row (map (λ f. f.now) fs)) ≤ 168
+row_short_now fs several few short = row_short _ (rw length-map several) (rw length-map few) short

@@ -1,6 +1,6 @@
 -- The texts of the tasks, and what they can't be refused for.
 use Rattle.std.proofs.Common.{◌↔◌, ◌||◌, arith, ◌++◌, ◌∙◌, ◌*◌, ◌^◌, length, not, nat_lt, ◌≡◌, ◌<◌, ◌≢◌, ◌⊎◌, Bool, Err, List, None, Ok, Option, Result, Some, [], ◌∷◌, ap, ap₂, false, if◌then◌else◌, inl, inr, refl, subst, sym, true, ℕ}
-use Rattle.std.specs.Prelude.{IfErr, IfOk, IfSome, OnErr}
+use Rattle.std.specs.Prelude.{IfErr, IfOk, IfSome}
 use Rattle.std.specs.List.{filter}
 use Rattle.hex.specs.Hex.{decode_of, decode_sized}
 use Rattle.rds_stream.specs.Recording.{Signal, bits_of, length_of}
@@ -16,7 +16,7 @@ use Rattle.rds_tool.specs.GroupText.{line_text, lines_of, lines_text, words_of, 
 use Rattle.rds_tool.specs.Input.{and_then, bytes_of, claimed, decoded, first_bits, is_blank, may_be_gaps, or_hex_text, recording_of}
 use Rattle.rds_tool.specs.Listing.{report_text, totals_text}
 use Rattle.rds_tool.specs.Outcome.{WritesPrefix, cut_recording, list_text, outcome, text_of_task, totals_list}
-use Rattle.rds_tool.specs.Plans.{PlanOf, crew_of, cut_by, plan_of}
+use Rattle.rds_tool.specs.Plans.{PlanOf, crew_of, cut_by, plan_of, workers_of}
 use Rattle.rds_sync.specs.declared.loss.Loss.{Loss}
 use Rattle.rds_sync.specs.declared.loss.Loss.TheVariants.{Run, Share}
 use Rattle.rds_tool.specs.Rules.{loss_of, rules_of}
@@ -38,18 +38,12 @@ module _ (input : Input) (plan : PlanOf) (held : List ℕ) (bits : Signal) where
   cut : recording_of input held ≡ Ok bits → cut_by plan.cuts bits ≡ Ok bits → cut_recording input plan.cuts held ≡ Ok bits
   cut recorded fits = ap (λ r. and_then r (cut_by plan.cuts)) recorded ∙ fits
 
-  list_made : (report : Report) → recording_of input held ≡ Ok bits → cut_by plan.cuts bits ≡ Ok bits → report.items ≡ listed bits plan.rules (report_items bits plan.rules)
+  -- the listing of the report that was made
+  pub list_made : (report : Report) → recording_of input held ≡ Ok bits → cut_by plan.cuts bits ≡ Ok bits → report.items ≡ listed bits plan.rules (report_items bits plan.rules)
       → report.totals ≡ totals_of (report_items bits plan.rules) → text_of_task (task.List input plan) held ≡ Ok (report_text report.items.list report.totals)
   list_made report recorded fits i o =
       ap (λ r. and_then r (λ b. Ok (list_text plan.rules b))) (cut recorded fits)
       ∙ ap (λ x. Ok x) (ap₂ report_text (sym (ap (λ (items : ItemsOf). items.list) i)) (sym o))
-
-  -- the listing of the report that was made, if it was written
-  pub list_if_written : (r : Result (List ℕ) ToolError) (report : Report) → recording_of input held ≡ Ok bits → cut_by plan.cuts bits ≡ Ok bits
-      → report.items ≡ listed bits plan.rules (report_items bits plan.rules) → report.totals ≡ totals_of (report_items bits plan.rules)
-      → IfOk r (λ text. text ≡ report_text report.items.list report.totals) → IfOk r (λ text. text_of_task (task.List input plan) held ≡ Ok text)
-  list_if_written (Ok text) report recorded fits i o written = list_made report recorded fits i o ∙ ap (λ x. Ok x) (sym written)
-  list_if_written (Err e) report recorded fits i o written = tt
 
   -- the text of its totals alone
   pub totals_made : (totals : TotalsOf) → recording_of input held ≡ Ok bits → cut_by plan.cuts bits ≡ Ok bits → totals ≡ totals_of (report_items bits plan.rules)
@@ -145,7 +139,7 @@ lines_errs hex (line ∷ lines) =
     (λ first. then_errs IsOfOutcome (lines_text hex lines) (λ others. Ok (first ++ others)) (lines_errs hex lines) (λ others. tt))
 
 task_errs : (t : Task) (held : List ℕ) → IfErr (text_of_task t held) IsOfOutcome
-task_errs (task.Scan input) held = then_errs IsOfOutcome (recording_of input held) _ (recording_errs input held) (λ bits. tt)
+task_errs (task.Scan input workers) held = then_errs IsOfOutcome (recording_of input held) _ (recording_errs input held) (λ bits. tt)
 task_errs (task.List input plan) held = then_errs IsOfOutcome (cut_recording input plan.cuts held) _ (cut_errs input plan.cuts held) (λ bits. tt)
 task_errs (task.Totals input plan) held = then_errs IsOfOutcome (cut_recording input plan.cuts held) _ (cut_errs input plan.cuts held) (λ bits. tt)
 task_errs (task.Encode hex) held = lines_errs hex (lines_of held)
@@ -186,20 +180,28 @@ rules_at true reach r h = tt
 rules_at false true r h = tt
 rules_at false false r h = h
 
-crew_at : (workers pieces : Bool) → let r : Result (Unit {0}) ToolError = if workers then Err CrewRange else if pieces then Err BadCutting else Ok tt in IfErr r IsOfOutcome
-crew_at true pieces = tt
-crew_at false true = tt
-crew_at false false = tt
+workers_errs : (workers : ℕ) → IfErr (workers_of workers) IsOfOutcome
+workers_errs workers = by_test (nat_lt workers 1 || nat_lt 256 workers) where
+  by_test : (t : Bool) → let r : Result ℕ ToolError = if t then Err CrewRange else Ok workers in IfErr r IsOfOutcome
+  by_test true = tt
+  by_test false = tt
+
+pieces_at : (pieces : Bool) → let r : Result (Unit {0}) ToolError = if pieces then Ok tt else Err BadCutting in IfErr r IsOfOutcome
+pieces_at true = tt
+pieces_at false = tt
+
+crew_errs : (settings : Settings) → IfErr (crew_of settings) IsOfOutcome
+crew_errs settings = then_errs IsOfOutcome (workers_of settings.workers) _ (workers_errs settings.workers) (λ _. pieces_at (has_pieces settings.cuts))
 
 plan_errs : (settings : Settings) → IfErr (plan_of settings) IsOfOutcome
 plan_errs settings =
     then_errs IsOfOutcome (rules_of settings) _
     (rules_at (nat_lt 5 settings.burst) (nat_lt settings.reach 1 || nat_lt 8 settings.reach) _
     (then_errs IsOfOutcome (loss_of settings.loss) _ (loss_errs settings.loss) (λ loss. tt)))
-    (λ rules. then_errs IsOfOutcome (crew_of settings) _ (crew_at (nat_lt settings.workers 1 || nat_lt 256 settings.workers) (not (has_pieces settings.cuts))) (λ _. tt))
+    (λ rules. then_errs IsOfOutcome (crew_of settings) _ (crew_errs settings) (λ _. tt))
 
 settings_errs : (job : Job) → IfErr (task_of job) IsOfOutcome
-settings_errs (Scan input) = tt
+settings_errs (Scan input workers) = then_errs IsOfOutcome (workers_of workers) _ (workers_errs workers) (λ workers. tt)
 settings_errs (ListJob input settings) = then_errs IsOfOutcome (plan_of settings) _ (plan_errs settings) (λ plan. tt)
 settings_errs (Totals input settings) = then_errs IsOfOutcome (plan_of settings) _ (plan_errs settings) (λ plan. tt)
 settings_errs (Encode hex) = tt
@@ -242,7 +244,7 @@ planned settings =
     (λ rules _. then_oks _ _ _ (crew_of settings) (any_ok (crew_of settings)) (λ _ _. refl))
 
 asks : (job : Job) → IfOk (task_of job) (λ t. MayStartThreads t → AsksForThreads job)
-asks (Scan input) = λ h. h
+asks (Scan input workers) = then_oks _ _ _ (workers_of workers) (any_ok (workers_of workers)) (λ workers _ h. h)
 asks (ListJob input settings) = then_oks _ _ _ (plan_of settings) (planned settings) (λ plan same h. subst (λ n. 1 < n) same h)
 asks (Totals input settings) = then_oks _ _ _ (plan_of settings) (planned settings) (λ plan same h. subst (λ n. 1 < n) same h)
 asks (Encode hex) = λ h. h
@@ -256,14 +258,11 @@ asked job t p = let P : Result Task ToolError → Type 0 = λ r. IfOk r (λ t. M
 pub outcome_is : (job : Job) (t : Task) (held bytes text : List ℕ) → task_of job ≡ Ok t → text_of_task t bytes ≡ Ok text → bytes ≡ held → outcome job held ≡ Ok text
 outcome_is job t held bytes text p q h = ap (λ r. and_then r (λ k. text_of_task k held)) p ∙ ap (text_of_task t) (sym h) ∙ q
 
-on_err : (X : Type 0) (r : Result (Unit {0}) ToolError) (e : ToolError) → r ≡ Err e → OnErr r X → X
-on_err X r e p h = let P : Result (Unit {0}) ToolError → Type 0 = λ x. OnErr x X in subst P p h
-
 -- what a failed writing leaves is a prefix of the outcome's text
 pub prefix_is : (o : Option (List ℕ)) (job : Job) (t : Task) (bytes text : List ℕ) (r : Result (Unit {0}) ToolError) (old new : Option (List ℕ))
-    → IfSome o (λ held. bytes ≡ held) → task_of job ≡ Ok t → text_of_task t bytes ≡ Ok text → OnErr r (WritesPrefix old new (Ok text)) → r ≡ Err Write
+    → IfSome o (λ held. bytes ≡ held) → task_of job ≡ Ok t → text_of_task t bytes ≡ Ok text → (r ≡ Err Write → WritesPrefix old new (Ok text)) → r ≡ Err Write
     → IfSome o (λ held. WritesPrefix old new (outcome job held))
 prefix_is None job t bytes text r old new h p q w e = tt
 prefix_is (Some held) job t bytes text r old new h p q w e =
     let P : Result (List ℕ) ToolError → Type 0 = λ x. WritesPrefix old new x in
-    subst P (sym (outcome_is job t held bytes text p q h)) (on_err (WritesPrefix old new (Ok text)) r Write e w)
+    subst P (sym (outcome_is job t held bytes text p q h)) (w e)

@@ -1,4 +1,4 @@
--- The command line, as `clap` reads it, and the job that its words ask for. This project's rule.
+-- The command line, as `clap` reads it, and what its words ask for. This project's rule.
 use Rattle.std.specs.Prelude.{◌≡◌, ◌≢◌, ◌⊎◌, ◌<◌, ◌^◌, ◌++◌, ⊤, Bool, IfOk, List, None, Option, Result, Some, [], codes, false, find, if◌then◌else◌, option_and_then, pos, string_bytes, true, ℕ, ◌∷◌}
 use Rattle.std.specs.Str.{bytes_eq}
 use Rattle.std.specs.Str.Parse.{IsNumeral, digits_value, without_leading_plus}
@@ -11,6 +11,7 @@ use Rattle.clap.specs.declared.error.kind.ErrorKind.{ErrorKind}
 use Rattle.clap.specs.declared.error.kind.ErrorKind.TheVariants as kind
 use Rattle.clap.specs.declared.parser.matches.ValueSource.{ValueSource}
 use Rattle.clap.specs.declared.parser.matches.ValueSource.TheVariants.{CommandLine}
+use Rattle.rds_sync.specs.Rules.{RuleNumbers}
 use Rattle.rds_sync.specs.declared.loss.Loss.{Loss}
 use Rattle.rds_sync.specs.declared.loss.Loss.TheVariants.{Run, Share}
 use Rattle.rds_tool.specs.GapText.{gaps_of}
@@ -19,6 +20,8 @@ use Rattle.rds_tool.specs.declared.cli.FaultKind.{FaultKind}
 use Rattle.rds_tool.specs.declared.cli.FaultKind.TheVariants.{Help, Memory, Version, Words}
 use Rattle.rds_tool.specs.declared.entries.NoJob.{NoJob}
 use Rattle.rds_tool.specs.declared.entries.NoJob.TheVariants as no
+use Rattle.rds_tool.specs.declared.job.Asked.{Asked}
+use Rattle.rds_tool.specs.declared.job.Asked.TheVariants.{Job as AskedJob, Follow}
 use Rattle.rds_tool.specs.declared.job.Cuts.{Cuts}
 use Rattle.rds_tool.specs.declared.job.Cuts.TheVariants.{At, Even}
 use Rattle.rds_tool.specs.declared.job.Input.{Input}
@@ -39,9 +42,9 @@ Makes made app = IfOk made (λ command. ReadsAs command app)
 
 -- ---- the commands and their options
 
--- `--hex`, a flag
-abbrev pub hex_rule : Rule
-hex_rule = record (new_rule (codes "hex")) { long = Some (codes "hex"); action = Some SetTrue }
+-- `--hex` or `--progress`, a flag
+abbrev pub flag_rule : Text → Rule
+flag_rule name = record (new_rule name) { long = Some name; action = Some SetTrue }
 
 -- an option with one value, as yet of any text
 abbrev pub value_rule : Text → Rule
@@ -65,31 +68,42 @@ gaps_rule = value_rule (codes "gaps")
 
 -- the options of a command that reads a recording
 abbrev pub with_input : App → App
-with_input command = with_rule (with_rule (with_rule command hex_rule) bits_rule) gaps_rule
+with_input command = with_rule (with_rule (with_rule command (flag_rule (codes "hex"))) bits_rule) gaps_rule
 
--- the options of one that reads it by the rules of a synchroniser, piece by piece
+-- the rules of a synchroniser
 abbrev pub with_rules : App → App
-with_rules command = with_rule (with_rule (with_rule (with_rule (with_rule (with_rule (with_rule command
+with_rules command = with_rule (with_rule (with_rule (with_rule (with_rule command
     (number_rule (codes "burst") (codes "2"))) (number_rule (codes "reach") (codes "3"))) (number_rule (codes "loss") (codes "10")))
-    share_rule) (number_rule (codes "of") (codes "64")))
-    (number_rule (codes "pieces") (codes "16"))) (number_rule (codes "workers") (codes "4"))
+    share_rule) (number_rule (codes "of") (codes "64"))
 
-abbrev pub recording_app : Text → App
-recording_app name = with_input (new_app name)
+-- how many work, by default 4, and whether they tell how far they are
+abbrev pub with_crew : App → App
+with_crew command = with_rule (with_rule command (number_rule (codes "workers") (codes "4"))) (flag_rule (codes "progress"))
+
+-- the options of one that reads it by these rules, piece by piece
+abbrev pub with_settings : App → App
+with_settings command = with_crew (with_rule (with_rules command) (number_rule (codes "pieces") (codes "16")))
+
+abbrev pub scan_app : App
+scan_app = with_crew (with_input (new_app (codes "scan")))
 
 abbrev pub ruled_app : Text → App
-ruled_app name = with_rules (with_input (new_app name))
+ruled_app name = with_settings (with_input (new_app name))
+
+-- a stream is all the bits of its bytes, and one thread decodes it as it comes
+abbrev pub follow_app : App
+follow_app = with_rules (new_app (codes "follow"))
 
 abbrev pub encode_app : App
-encode_app = with_rule (new_app (codes "encode")) hex_rule
+encode_app = with_rule (new_app (codes "encode")) (flag_rule (codes "hex"))
 
 -- the program, which has a version and wants a command
 abbrev pub bare_app : App
 bare_app = let app = new_app (codes "rds") in record app { top = record app.top { has_version = true; subcommand_required = true } }
 
 abbrev pub rds_app : App
-rds_app = with_subcommand (with_subcommand (with_subcommand (with_subcommand bare_app
-    (recording_app (codes "scan")).top) (ruled_app (codes "list")).top) (ruled_app (codes "totals")).top) encode_app.top
+rds_app = with_subcommand (with_subcommand (with_subcommand (with_subcommand (with_subcommand bare_app
+    scan_app.top) (ruled_app (codes "list")).top) follow_app.top) (ruled_app (codes "totals")).top) encode_app.top
 
 -- ---- what the words give
 
@@ -153,31 +167,48 @@ is_given name rows = is_of_words (option_and_then (λ row. row.source) (find (λ
 abbrev pub mixes_losses : List Row → Bool
 mixes_losses rows = if is_given (codes "share") rows then is_given (codes "loss") rows else is_given (codes "of") rows
 
--- the settings that the entries give
-pub record AreSettings (rows : List Row) (settings : Settings) : Type 0 where
+-- the numbers of a synchroniser's rules that the entries give
+pub record AreRules (rows : List Row) (rules : RuleNumbers) : Type 0 where
   pub one_rule : mixes_losses rows ≡ false
-  pub burst : Spells 32 (one_of (codes "burst") rows) settings.burst
-  pub reach : Spells 32 (one_of (codes "reach") rows) settings.reach
-  pub loss : SpellsLoss rows settings.loss
+  pub burst : Spells 32 (one_of (codes "burst") rows) rules.burst
+  pub reach : Spells 32 (one_of (codes "reach") rows) rules.reach
+  pub loss : SpellsLoss rows rules.loss
+
+-- the settings that they give
+pub record AreSettings (rows : List Row) (settings : Settings) : Type 0 where
+  pub rules : AreRules rows (record { burst = settings.burst; reach = settings.reach; loss = settings.loss })
   pub workers : Spells 32 (one_of (codes "workers") rows) settings.workers
   pub cuts : SpellsPieces (one_of (codes "pieces") rows) settings.cuts
 
 -- the job that a command and its entries give
 abbrev pub IsJob : Text → List Row → Job → Type 0
-IsJob name rows (Scan input) = (name ≡ codes "scan") × IsInput rows input
+IsJob name rows (Scan input workers) = (name ≡ codes "scan") × IsInput rows input × Spells 32 (one_of (codes "workers") rows) workers
 IsJob name rows (ListJob input settings) = (name ≡ codes "list") × IsInput rows input × AreSettings rows settings
 IsJob name rows (Totals input settings) = (name ≡ codes "totals") × IsInput rows input × AreSettings rows settings
 IsJob name rows (Encode hex) = (name ≡ codes "encode") × IsFlag (one_of (codes "hex") rows) hex
 
-abbrev pub IsJobOf : Option (Text × List Row) → Job → Type 0
-IsJobOf None job = ⊥
-IsJobOf (Some entries) job = IsJob entries.0 entries.1 job
+-- what a command and its entries ask for
+abbrev pub IsAsked : Text → List Row → Asked → Type 0
+IsAsked name rows (AskedJob job progress) = IsJob name rows job × IsFlag (one_of (codes "progress") rows) progress
+IsAsked name rows (Follow rules) = (name ≡ codes "follow") × AreRules rows rules
 
--- ---- when there is no job
+abbrev pub IsAskedOf : Option (Text × List Row) → Asked → Type 0
+IsAskedOf None asked = ⊥
+IsAskedOf (Some entries) asked = IsAsked entries.0 entries.1 asked
 
--- the command reads a recording
+-- ---- when nothing is asked for
+
+-- the command makes a report of a recording
+abbrev pub Reports : Text → Type 0
+Reports name = (name ≡ codes "list") ⊎ (name ≡ codes "totals")
+
+-- it reads a recording
 abbrev pub ReadsRecording : Text → Type 0
-ReadsRecording name = (name ≡ codes "scan") ⊎ ((name ≡ codes "list") ⊎ (name ≡ codes "totals"))
+ReadsRecording name = (name ≡ codes "scan") ⊎ Reports name
+
+-- it decodes by a synchroniser
+abbrev pub Synchronises : Text → Type 0
+Synchronises name = (name ≡ codes "follow") ⊎ Reports name
 
 -- it does, and its entry for gaps spells none
 abbrev pub HasBadGaps : Option (Text × List Row) → Type 0
@@ -187,40 +218,50 @@ HasBadGaps (Some entries) = ReadsRecording entries.0 × (gaps_asked_for entries.
 -- the command goes by a rule of loss, of which the words give options that do not go together
 abbrev pub HasBadLoss : Option (Text × List Row) → Type 0
 HasBadLoss None = ⊥
-HasBadLoss (Some entries) = ((entries.0 ≡ codes "list") ⊎ (entries.0 ≡ codes "totals")) × (mixes_losses entries.1 ≡ true)
+HasBadLoss (Some entries) = Synchronises entries.0 × (mixes_losses entries.1 ≡ true)
 
--- the entries give no settings, for that reason
-abbrev pub GivesNoSettings : List Row → NoJob → Type 0
-GivesNoSettings rows no.Loss = mixes_losses rows ≡ true
-GivesNoSettings rows no.Entries = (mixes_losses rows ≡ false) × ((settings : Settings) → AreSettings rows settings → ⊥)
-GivesNoSettings rows other = ⊥
+-- the entries give no rules, for that reason, or else none of what goes by rules
+abbrev pub GivesNoRules : List Row → Type 0 → NoJob → Type 0
+GivesNoRules rows none_fit no.Loss = mixes_losses rows ≡ true
+GivesNoRules rows none_fit no.Entries = (mixes_losses rows ≡ false) × none_fit
+GivesNoRules rows none_fit other = ⊥
 
--- no input and settings; gaps that aren't any come first, and then the rule of loss
+-- no rules, no settings, and no input with settings have these entries
+abbrev pub FitNoRules : List Row → Type 0
+FitNoRules rows = (rules : RuleNumbers) → AreRules rows rules → ⊥
+
+abbrev pub FitNoSettings : List Row → Type 0
+FitNoSettings rows = (settings : Settings) → AreSettings rows settings → ⊥
+
+abbrev pub FitNoInput : List Row → Type 0
+FitNoInput rows = (input : Input) (settings : Settings) → IsInput rows input → AreSettings rows settings → ⊥
+
+-- nor is there an input with settings; gaps that aren't any come first, and then the rule of loss
 abbrev pub GivesNoRuled : List Row → NoJob → Type 0
 GivesNoRuled rows no.Memory = ⊤
 GivesNoRuled rows no.Gaps = gaps_asked_for rows ≡ None
 GivesNoRuled rows no.Loss = (gaps_asked_for rows ≢ None) × (mixes_losses rows ≡ true)
-GivesNoRuled rows no.Entries = (gaps_asked_for rows ≢ None) × (mixes_losses rows ≡ false)
-    × ((input : Input) (settings : Settings) → IsInput rows input → AreSettings rows settings → ⊥)
+GivesNoRuled rows no.Entries = (gaps_asked_for rows ≢ None) × (mixes_losses rows ≡ false) × FitNoInput rows
 
--- nor a job
-abbrev pub GivesNoJob : Option (Text × List Row) → NoJob → Type 0
-GivesNoJob entries no.Memory = ⊤
-GivesNoJob entries no.Gaps = HasBadGaps entries
-GivesNoJob entries no.Loss = (HasBadGaps entries → ⊥) × HasBadLoss entries
-GivesNoJob entries no.Entries = (HasBadGaps entries → ⊥) × (HasBadLoss entries → ⊥) × ((job : Job) → IsJobOf entries job → ⊥)
+-- nothing that can be asked for has them
+abbrev pub GivesNothing : Option (Text × List Row) → NoJob → Type 0
+GivesNothing entries no.Memory = ⊤
+GivesNothing entries no.Gaps = HasBadGaps entries
+GivesNothing entries no.Loss = (HasBadGaps entries → ⊥) × HasBadLoss entries
+GivesNothing entries no.Entries = (HasBadGaps entries → ⊥) × (HasBadLoss entries → ⊥) × ((asked : Asked) → IsAskedOf entries asked → ⊥)
 
 -- the kind is a fault of the words: nothing to be shown was asked for, and memory is not at fault
 abbrev pub IsFault : ErrorKind → Type 0
 IsFault k = (k ≢ kind.DisplayHelp) × (k ≢ kind.DisplayVersion) × (k ≢ kind.OutOfMemory)
 
 -- the kind of answer that these faults and entries allow: help or the version where it was asked for; a refusal of the
--- words where they have a fault, or where none of them is at fault and yet no job has their entries; want of memory ever
+-- words where they have a fault, or where none of them is at fault and yet nothing to be asked for has their entries; want of
+-- memory ever
 abbrev pub MayAnswer : Kinds → Option (Text × List Row) → FaultKind → Type 0
 MayAnswer faults entries Help = IsAmong kind.DisplayHelp faults
 MayAnswer faults entries Version = IsAmong kind.DisplayVersion faults
 MayAnswer faults entries Words = ((k : ErrorKind) × IsFault k × IsAmong k faults)
-    ⊎ ((faults ≡ []) × ((job : Job) → IsJobOf entries job → ⊥))
+    ⊎ ((faults ≡ []) × ((asked : Asked) → IsAskedOf entries asked → ⊥))
 MayAnswer faults entries Memory = ⊤
 
 -- what is shown where the gaps are none

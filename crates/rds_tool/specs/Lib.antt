@@ -12,5 +12,6 @@ pub mod GroupText
 pub mod Outcome
 pub mod Tasks
 pub mod Ends
+pub mod Following
 pub mod Inside
 pub mod Examples

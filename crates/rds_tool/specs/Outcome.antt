@@ -33,7 +33,7 @@ cut_recording input cuts held = and_then (recording_of input held) (cut_by cuts)
 
 -- the text of a task over the bytes held, or the refusal of these bytes; no text depends on the cuts or the workers
 abbrev pub text_of_task : Task → List ℕ → Result (List ℕ) ToolError
-text_of_task (task.Scan input) held = and_then (recording_of input held) (λ recording. Ok (scan_text recording))
+text_of_task (task.Scan input workers) held = and_then (recording_of input held) (λ recording. Ok (scan_text recording))
 text_of_task (task.List input plan) held = and_then (cut_recording input plan.cuts held) (λ recording. Ok (list_text plan.rules recording))
 text_of_task (task.Totals input plan) held = and_then (cut_recording input plan.cuts held) (λ recording. Ok (totals_list plan.rules recording))
 text_of_task (task.Encode hex) held = encoded_text hex held

@@ -1,5 +1,5 @@
 -- What settings say of a synchroniser and its crew, once they are in their ranges. This project's rule.
-use Rattle.std.specs.Prelude.{◌≡◌, ◌≤◌, ◌||◌, ℕ, Err, Ok, Result, if◌then◌else◌, nat_lt, not, true}
+use Rattle.std.specs.Prelude.{◌≡◌, ◌≤◌, ◌||◌, ℕ, Err, Ok, Result, if◌then◌else◌, nat_lt, true}
 use Rattle.rds_stream.specs.Recording.{Signal, length_of}
 use Rattle.rds_sync.specs.Rules.{RuleNumbers}
 use Rattle.rds_tool.specs.Cuts.{cuts_bits, has_pieces}
@@ -22,12 +22,19 @@ pub record IsPlan (plan : PlanOf) : Type 0 where
   pub few : plan.workers ≤ 256
   pub pieces : has_pieces plan.cuts ≡ true
 
+-- there are 1 to 256 of them
+abbrev pub AreWorkers : ℕ → Type 0
+AreWorkers workers = (1 ≤ workers) × (workers ≤ 256)
+
+-- so many workers, if they are
+abbrev pub workers_of : ℕ → Result ℕ ToolError
+workers_of workers = if nat_lt workers 1 || nat_lt 256 workers then Err CrewRange else Ok workers
+
 -- what is wrong with the crew that is asked for, if anything: its workers, and then its pieces
 abbrev pub crew_of : Settings → Result (Unit {0}) ToolError
 crew_of settings =
-    if nat_lt settings.workers 1 || nat_lt 256 settings.workers then Err CrewRange
-    else if not (has_pieces settings.cuts) then Err BadCutting
-    else Ok tt
+    and_then (workers_of settings.workers) (λ _.
+    if has_pieces settings.cuts then Ok tt else Err BadCutting)
 
 -- the plan of these settings, or the first that is out of its range: of the rules, and then of the crew
 abbrev pub plan_of : Settings → Result PlanOf ToolError

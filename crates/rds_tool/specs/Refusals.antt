@@ -4,6 +4,8 @@ use Rattle.rds_crew.specs.declared.error.CrewError.{CrewError}
 use Rattle.rds_crew.specs.declared.error.CrewError.TheVariants as crew
 use Rattle.rds_pieces.specs.declared.error.PieceError.{PieceError}
 use Rattle.rds_pieces.specs.declared.error.PieceError.TheVariants as piece
+use Rattle.rds_rows.specs.declared.error.RowsError.{RowsError}
+use Rattle.rds_rows.specs.declared.error.RowsError.TheVariants as rows
 use Rattle.rds_stream.specs.declared.error.StreamError.{StreamError}
 use Rattle.rds_stream.specs.declared.error.StreamError.TheVariants as stream
 use Rattle.rds_sync.specs.declared.error.SyncError.{SyncError}
@@ -71,3 +73,7 @@ abbrev pub of_crew : CrewError → ToolError
 of_crew crew.CrewRange = CrewRange
 of_crew crew.OutOfMemory = OutOfMemory
 of_crew crew.NoWorker = NoWorker
+
+abbrev pub of_rows : RowsError → ToolError
+of_rows rows.OutOfMemory = OutOfMemory
+of_rows rows.Write = Write

@@ -1,7 +1,7 @@
 -- A job whose settings are in their ranges. This project's rule.
 use Rattle.std.specs.Prelude.{◌<◌, Ok, Result}
 use Rattle.rds_tool.specs.Input.{and_then}
-use Rattle.rds_tool.specs.Plans.{plan_of}
+use Rattle.rds_tool.specs.Plans.{plan_of, workers_of}
 use Rattle.rds_tool.specs.declared.error.ToolError.{ToolError}
 use Rattle.rds_tool.specs.declared.job.Job.{Job}
 use Rattle.rds_tool.specs.declared.job.Job.TheVariants as job
@@ -10,18 +10,18 @@ use Rattle.rds_tool.specs.declared.task.Task.TheVariants as task
 
 -- the job with its plan
 abbrev pub task_of : Job → Result Task ToolError
-task_of (job.Scan input) = Ok (task.Scan input)
+task_of (job.Scan input workers) = and_then (workers_of workers) (λ workers. Ok (task.Scan input workers))
 task_of (job.List input settings) = and_then (plan_of settings) (λ plan. Ok (task.List input plan))
 task_of (job.Totals input settings) = and_then (plan_of settings) (λ plan. Ok (task.Totals input plan))
 task_of (job.Encode hex) = Ok (task.Encode hex)
 
--- more than one worker is asked for
+-- more workers are asked for than one, and a thread that isn't started is a refusal: a scan goes on without it
 abbrev pub AsksForThreads : Job → Type 0
 AsksForThreads (job.List input settings) = 1 < settings.workers
 AsksForThreads (job.Totals input settings) = 1 < settings.workers
 AsksForThreads other = ⊥
 
--- more than one worker may be started
+-- more than one worker may be started, each of which is needed
 abbrev pub MayStartThreads : Task → Type 0
 MayStartThreads (task.List input plan) = 1 < plan.workers
 MayStartThreads (task.Totals input plan) = 1 < plan.workers

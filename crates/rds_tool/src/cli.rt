@@ -1,20 +1,20 @@
-//! A command line as a job.
+//! A command line, as what it asks for.
 ghost use Rattle.std.specs.Prelude.{◌≡◌, ◌≢◌, ◌⊎◌, [], IfErr, IfOk, IsErrAnd, OnOk, map, string_bytes};
 ghost use Rattle.clap.specs.Kinds.{FailsBy};
 ghost use Rattle.clap.specs.Values.{kind_of};
 ghost use Rattle.clap.specs.Words.{subcommand_rows_of};
-ghost use Rattle.rds_tool.specs.CommandLine.{HasBadGaps, HasBadLoss, IsFault, IsJobOf, MayAnswer, SaysBadGaps, SaysBadLoss, entries_of, faults_of};
+ghost use Rattle.rds_tool.specs.CommandLine.{HasBadGaps, HasBadLoss, IsAskedOf, IsFault, MayAnswer, SaysBadGaps, SaysBadLoss, entries_of, faults_of};
 
-use crate::Job;
+use crate::Asked;
 use crate::commands::rds_command;
-use crate::entries::{NoJob, job_in};
+use crate::entries::{NoJob, asked_in};
 use clap::ArgMatches;
 use clap::error::ErrorKind;
 use std::alloc::Global;
 
 const BAD_LOSS: &str = "bad --loss or --of: --of needs --share, and --loss excludes it\n";
 
-/// Why words are no job.
+/// Why words ask for nothing.
 #[derive(Clone, Copy, Debug, PartialEq, Eq)]
 pub enum FaultKind {
     /// Help was asked for.
@@ -27,7 +27,7 @@ pub enum FaultKind {
     Memory,
 }
 
-/// What to show in place of doing a job.
+/// What to show in place of doing what was asked for.
 #[derive(Debug, Drop)]
 pub struct CliFault {
     /// Whether that is what was asked for, or why the words were refused.
@@ -36,14 +36,14 @@ pub struct CliFault {
     pub text: String,
 }
 
-/// The job that a command line asks for. The words begin with the program's name.
+/// What a command line asks for: a job, or to follow a stream. The words begin with the program's name.
 ///
-/// Without a job, the answer is help or the version where that was asked for, or a fault where `clap` finds one in the
-/// words or no job has their entries. Once `clap` finds no fault, gaps that spell none are answered by the text `bad --gaps`
+/// Else the answer is help or the version where that was asked for, or a fault where `clap` finds one in the
+/// words or neither a job nor a stream has their entries. Once `clap` finds no fault, gaps that spell none are answered by the text `bad --gaps`
 /// and a line feed, and else `--loss` beside `--share`, or `--of` without it, by a text that begins with
 /// `bad --loss or --of`. Each can be want of memory instead.
-pub fn job_of(alloc: Global, words: &[&str]) -> Result<Job, CliFault>
-    ensures entries { IfOk result (IsJobOf (entries_of (map (λ word. word.now) words.now))) }
+pub fn asked_of(alloc: Global, words: &[&str]) -> Result<Asked, CliFault>
+    ensures entries { IfOk result (IsAskedOf (entries_of (map (λ word. word.now) words.now))) }
     ensures faultless { OnOk result (faults_of (map (λ word. word.now) words.now) ≡ []) }
     ensures refused { IfErr result (λ fault. MayAnswer (faults_of (map (λ word. word.now) words.now))
         (entries_of (map (λ word. word.now) words.now)) fault.kind) }
@@ -58,8 +58,8 @@ pub fn job_of(alloc: Global, words: &[&str]) -> Result<Job, CliFault>
         Ok(matches) => matches,
         Err(error) => return Err(fault_of(alloc, &error)),
     };
-    match job_in(alloc, &matches) {
-        Ok(job) => Ok(job),
+    match asked_in(alloc, &matches) {
+        Ok(asked) => Ok(asked),
         Err(why) => Err(no_job(alloc, why)),
     }
 }
@@ -92,7 +92,7 @@ fn fault_of(alloc: Global, error: &clap::Error) -> CliFault
     }
 }
 
-/// What is shown where the words are parsed and yet no job has their entries.
+/// What is shown where the words are parsed and yet ask for nothing.
 fn no_job(alloc: Global, why: NoJob) -> CliFault
     ensures kind { (result.kind ≡ FaultKind.Memory) ⊎ ((result.kind ≡ FaultKind.Words) × (why ≢ NoJob.Memory)) }
     ensures gaps { why ≡ NoJob.Gaps → SaysBadGaps result }
@@ -102,7 +102,7 @@ fn no_job(alloc: Global, why: NoJob) -> CliFault
     let text = match why {
         NoJob::Gaps => "bad --gaps\n",
         NoJob::Loss => BAD_LOSS,
-        NoJob::Entries => "error: these words ask for no job\n",
+        NoJob::Entries => "error: these words ask for nothing\n",
         NoJob::Memory => return out_of_memory(alloc),
     };
     match text.to_string(alloc) {

@@ -1,7 +1,7 @@
 //! The commands of the program, their options and their help.
 ghost use Rattle.std.specs.Prelude.{◌≡◌, codes, false};
 ghost use Rattle.clap.specs.Words.{App, new_app, rule_of, with_rule, with_subcommand};
-ghost use Rattle.rds_tool.specs.CommandLine.{Makes, ReadsAs, bare_app, bits_rule, encode_app, gaps_rule, hex_rule, number_rule, rds_app, recording_app, ruled_app, share_rule, value_rule, with_input, with_rules};
+ghost use Rattle.rds_tool.specs.CommandLine.{Makes, ReadsAs, bare_app, bits_rule, encode_app, flag_rule, follow_app, gaps_rule, number_rule, rds_app, ruled_app, scan_app, share_rule, value_rule, with_crew, with_input, with_rules, with_settings};
 
 use crate::help;
 use clap::{Arg, ArgAction, Command};
@@ -18,6 +18,7 @@ pub fn rds_command<'a>(alloc: Global) -> Made<'a>
     let top = Ok(bare_command(alloc));
     let top = with_command(top, scan_command(alloc));
     let top = with_command(top, list_command(alloc));
+    let top = with_command(top, follow_command(alloc));
     let top = with_command(top, totals_command(alloc));
     with_command(top, encode_command(alloc))
 }
@@ -31,9 +32,9 @@ fn bare_command<'a>(alloc: Global) -> Command<'a>
 }
 
 fn scan_command<'a>(alloc: Global) -> Made<'a>
-    ensures { Makes result (recording_app (codes "scan")) }
+    ensures { Makes result scan_app }
 {
-    recording_command(
+    let command = recording_command(
         alloc,
         named(
             alloc,
@@ -42,7 +43,8 @@ fn scan_command<'a>(alloc: Global) -> Made<'a>
             help::SCAN_USAGE,
             help::SCAN_AFTER,
         ),
-    )
+    );
+    with_workers(alloc, command)
 }
 
 fn list_command<'a>(alloc: Global) -> Made<'a>
@@ -58,6 +60,19 @@ fn list_command<'a>(alloc: Global) -> Made<'a>
             help::LIST_AFTER,
         ),
     )
+}
+
+fn follow_command<'a>(alloc: Global) -> Made<'a>
+    ensures { Makes result follow_app }
+{
+    let command = named(
+        alloc,
+        "follow",
+        help::FOLLOW,
+        help::FOLLOW_USAGE,
+        help::FOLLOW_AFTER,
+    );
+    with_sync_rules(alloc, Ok(command))
 }
 
 fn totals_command<'a>(alloc: Global) -> Made<'a>
@@ -85,7 +100,7 @@ fn encode_command<'a>(alloc: Global) -> Made<'a>
         help::ENCODE_USAGE,
         help::ENCODE_AFTER,
     );
-    command.arg(hex_option(alloc, help::HEX_OUTPUT))
+    command.arg(flag_option(alloc, "hex", help::HEX_OUTPUT))
 }
 
 fn named<'a>(
@@ -107,31 +122,44 @@ fn named<'a>(
 fn recording_command<'a>(alloc: Global, command: Command<'a>) -> Made<'a>
     ensures { (app : App) → ReadsAs command.entry app → Makes result (with_input app) }
 {
-    let command = command.arg(hex_option(alloc, help::HEX_INPUT))?;
+    let command = command.arg(flag_option(alloc, "hex", help::HEX_INPUT))?;
     let command = command.arg(bits_option(alloc))?;
     command.arg(gaps_option(alloc))
 }
 
-/// Such a command with the rules of the synchroniser and the size of its crew too.
+/// One that reads a recording, with the rules of the synchroniser, its pieces and its crew too.
 fn ruled_command<'a>(alloc: Global, command: Command<'a>) -> Made<'a>
-    ensures { (app : App) → ReadsAs command.entry app → Makes result (with_rules (with_input app)) }
+    ensures { (app : App) → ReadsAs command.entry app → Makes result (with_settings (with_input app)) }
 {
-    let command = recording_command(alloc, command);
+    let command = with_sync_rules(alloc, recording_command(alloc, command));
+    let command = with_number(alloc, command, "pieces", "16", help::PIECES);
+    with_workers(alloc, command)
+}
+
+fn with_sync_rules<'a>(alloc: Global, command: Made<'a>) -> Made<'a>
+    ensures { (app : App) → Makes command.entry app → Makes result (with_rules app) }
+{
     let command = with_number(alloc, command, "burst", "2", help::BURST);
     let command = with_number(alloc, command, "reach", "3", help::REACH);
     let command = with_number(alloc, command, "loss", "10", help::LOSS);
     let command = with_share(alloc, command);
-    let command = with_number(alloc, command, "of", "64", help::OF);
-    let command = with_number(alloc, command, "pieces", "16", help::PIECES);
-    with_number(alloc, command, "workers", "4", help::WORKERS)
+    with_number(alloc, command, "of", "64", help::OF)
 }
 
-fn hex_option<'a>(alloc: Global, help: &'a str) -> Arg<'a>
-    ensures rule { rule_of result ≡ hex_rule }
+/// How many work, and whether they tell how far they are.
+fn with_workers<'a>(alloc: Global, command: Made<'a>) -> Made<'a>
+    ensures { (app : App) → Makes command.entry app → Makes result (with_crew app) }
+{
+    let command = with_number(alloc, command, "workers", "4", help::WORKERS)?;
+    command.arg(flag_option(alloc, "progress", help::PROGRESS))
+}
+
+fn flag_option<'a>(alloc: Global, name: &'a str, help: &'a str) -> Arg<'a>
+    ensures rule { rule_of result ≡ flag_rule name.entry.now }
     ensures local { result.global ≡ false }
 {
-    Arg::new(alloc, "hex")
-        .long("hex")
+    Arg::new(alloc, name)
+        .long(name)
         .action(ArgAction::SetTrue)
         .help(help)
 }

@@ -1,13 +1,10 @@
 //! The two ends of a transcription: where bytes come from, and where they go.
 ghost use Rattle.std.specs.Prelude.{◌≡◌, ℕ, ◌+◌, ◌^◌, ◌<◌, ◌≤◌, List, Option, length, IfOk};
-ghost use Rattle.std.specs.Io.KnownBytes.{Keeps, ReadConsumes, WriteAppends};
-ghost use Rattle.rds_tool.specs.Devices.{failures_of_flush, failures_of_read, failures_of_write};
+ghost use Rattle.std.specs.Io.KnownBytes.{ReadConsumes};
+ghost use Rattle.rds_tool.specs.Devices.{failures_of_read};
 
+use rds_rows::{Failed, Sink};
 use std::io::{Read, Write};
-
-/// A call of a device that went wrong. Why it did is the device's to say.
-#[derive(Clone, Copy, Debug, PartialEq, Eq)]
-pub struct Failed;
 
 /// A reader that counts its failures.
 ///
@@ -30,36 +27,6 @@ pub trait Source {
         ensures counts { failed self.new ≡ failed self.old + failures_of_read result };
 
     /// How many reads have failed.
-    fn failures(&self) -> u64
-        ensures { result ≡ failed self.now };
-}
-
-/// A writer that counts its failures.
-///
-/// An implementor says by `contents` which bytes it holds, or `None` where no contract can name them.
-pub trait Sink {
-    /// The bytes that were written, where they are known.
-    ghost contents: { Self → Option (List ℕ) };
-
-    /// How many calls have failed.
-    ghost failed: { Self → ℕ };
-
-    /// One write: takes some bytes from the front of `bytes` and answers how many.
-    ///
-    /// Taking no byte of some counts as a failure, even where the call answers `Ok(0)`.
-    fn write(&mut self, bytes: &[u8]) -> Result<usize, Failed>
-        requires { failed self.old < 2 ^ 63 }
-        ensures within { IfOk result (λ count. count ≤ length bytes.now) }
-        ensures bytes { WriteAppends (contents self.old) (contents self.new) result bytes.now }
-        ensures counts { failed self.new ≡ failed self.old + failures_of_write result bytes.now };
-
-    /// Hands on what a buffer may still hold.
-    fn flush(&mut self) -> Result<(), Failed>
-        requires { failed self.old < 2 ^ 63 }
-        ensures bytes { Keeps (contents self.old) (contents self.new) }
-        ensures counts { failed self.new ≡ failed self.old + failures_of_flush result };
-
-    /// How many writes and flushes have failed.
     fn failures(&self) -> u64
         ensures { result ≡ failed self.now };
 }

@@ -29,9 +29,9 @@ const CHUNK: usize = 65_536;
 /// `TooManyTurns`), those of the job and the bytes (`HexText`, `TooLong`, `BitsPastBytes`, `BadGaps`, `BadCutting`, or
 /// `GroupText`), `NoWorker`, where more than one worker is asked for and the system refused to start a thread, and those
 /// of the writer (`Write`). `OutOfMemory` may come wherever memory is taken. The rows of a list are made by as many
-/// threads as well, and without one that is not started: the items are decoded again where their rows are made, so that
-/// the recording is held until then. The text is complete before its first byte is written, and no thread outlives the
-/// call. Reader and writer have counted fewer than 2^63 failures before.
+/// threads as well, part by part while they are written, and without a thread that the system refuses: the items are
+/// decoded again where their rows are made, so that the recording is held until then. All room and all threads are taken
+/// before the first byte is written, and no thread outlives the call. Reader and writer have counted fewer than 2^63 failures before.
 pub fn transcribe<R: Threads + Wait + Sync, S: Source, K: Sink>(
     rt: &R,
     alloc: Global,
@@ -99,7 +99,7 @@ pub fn transcribe_gated<R: Threads + Wait + Sync, S: Source, K: Sink, G: Gate + 
     let task = Task::of(alloc, job)?;
     let held = read_all(alloc, reader)?;
     let text = task.text(rt, alloc, held, gate)?;
-    text.write_to(writer)
+    text.write_to(rt, alloc, writer)
 }
 
 /// All bytes of the reader, to its end.

@@ -1,29 +1,27 @@
-//! The entries of a parsed command line, as a job.
+//! The entries of a parsed command line, as what they ask for.
 ghost use Rattle.std.specs.Prelude.{◌≡◌, ◌⊎◌, IfErr, IfNone, IfOk, IfSome, List, None, Option, Some, codes, false, ℕ};
 ghost use Rattle.clap.specs.Words.{found_of, one_of, rows_of, subcommand_rows_of};
 ghost use Rattle.rds_sync.specs.declared.loss.Loss.{Loss};
 ghost use Rattle.rds_tool.specs.declared.entries.NoJob.TheVariants.{Memory};
 ghost use Rattle.rds_tool.specs.declared.job.Cuts.{Cuts};
 ghost use Rattle.rds_tool.specs.declared.job.Input.{Input};
-ghost use Rattle.rds_tool.specs.declared.job.Job.{Job};
-ghost use Rattle.rds_tool.specs.declared.job.Settings.{Settings};
-ghost use Rattle.rds_tool.specs.CommandLine.{AreSettings, GivesNoJob, GivesNoRuled, GivesNoSettings, IsFlag, IsInput, IsJob, IsJobOf, MaySpell, Spells, SpellsLoss, SpellsPieces, gaps_asked_for, is_given as the_words_give, mixes_losses as the_mixing_of_losses};
+ghost use Rattle.rds_tool.specs.CommandLine.{AreRules, AreSettings, FitNoRules, FitNoSettings, GivesNoRuled, GivesNoRules, GivesNothing, IsAsked, IsAskedOf, IsFlag, IsInput, MaySpell, Spells, SpellsLoss, SpellsPieces, gaps_asked_for, is_given as the_words_give, mixes_losses as the_mixing_of_losses};
 
 use crate::gap_text::gaps_of;
-use crate::{Cuts, Input, Job, Settings};
+use crate::{Asked, Cuts, Input, Job, Settings};
 use clap::ArgMatches;
 use clap::parser::ValueSource;
-use rds_sync::Loss;
+use rds_sync::{Loss, RuleNumbers};
 use std::alloc::{AllocError, Global};
 
-/// Why entries are no job.
+/// Why entries ask for nothing.
 #[derive(Clone, Copy, Debug, PartialEq, Eq)]
 pub enum NoJob {
     /// `--gaps` spells no gaps.
     Gaps,
     /// `--loss` was given beside `--share`, or `--of` without it.
     Loss,
-    /// Another entry is none that a job has.
+    /// Another entry is none that a job or a stream has.
     Entries,
     /// A growth of memory was refused.
     Memory,
@@ -37,37 +35,44 @@ impl From<AllocError> for NoJob {
     }
 }
 
-/// The job of a parsed command line, or why there is none.
-pub fn job_in(alloc: Global, matches: &ArgMatches<'_>) -> Result<Job, NoJob>
-    ensures job { IfOk result (IsJobOf (subcommand_rows_of matches.now)) }
-    ensures none { IfErr result (GivesNoJob (subcommand_rows_of matches.now)) }
+/// What a parsed command line asks for, or why that is nothing.
+pub fn asked_in(alloc: Global, matches: &ArgMatches<'_>) -> Result<Asked, NoJob>
+    ensures asked { IfOk result (IsAskedOf (subcommand_rows_of matches.now)) }
+    ensures none { IfErr result (GivesNothing (subcommand_rows_of matches.now)) }
 {
     let (name, entries) = matches.subcommand().ok_or(NoJob::Entries)?;
-    job_named(alloc, name, entries)
+    asked_by(alloc, name, entries)
 }
 
-fn job_named(alloc: Global, name: &str, entries: &ArgMatches<'_>) -> Result<Job, NoJob>
-    ensures job { IfOk result (IsJob name.now (rows_of (found_of entries.now))) }
-    ensures none { IfErr result (GivesNoJob (Some (name.now, rows_of (found_of entries.now)))) }
+fn asked_by(alloc: Global, name: &str, entries: &ArgMatches<'_>) -> Result<Asked, NoJob>
+    ensures asked { IfOk result (IsAsked name.now (rows_of (found_of entries.now))) }
+    ensures none { IfErr result (GivesNothing (Some (name.now, rows_of (found_of entries.now)))) }
 {
-    match name {
+    let job = match name {
         "scan" => {
             let gaps = gaps_in(alloc, entries)?;
-            Ok(Job::Scan(input_in(entries, gaps).ok_or(NoJob::Entries)?))
+            let input = input_in(entries, gaps).ok_or(NoJob::Entries)?;
+            let workers = number_in(entries, "workers").ok_or(NoJob::Entries)?;
+            Job::Scan(input, workers)
         }
         "list" => {
             let (input, settings) = ruled_in(alloc, entries)?;
-            Ok(Job::List(input, settings))
+            Job::List(input, settings)
         }
         "totals" => {
             let (input, settings) = ruled_in(alloc, entries)?;
-            Ok(Job::Totals(input, settings))
+            Job::Totals(input, settings)
         }
-        "encode" => Ok(Job::Encode {
-            hex: hex_in(entries),
-        }),
-        _ => Err(NoJob::Entries),
-    }
+        "encode" => Job::Encode {
+            hex: flag_in(entries, "hex"),
+        },
+        "follow" => return Ok(Asked::Follow(rules_in(entries)?)),
+        _ => return Err(NoJob::Entries),
+    };
+    Ok(Asked::Job {
+        job,
+        progress: flag_in(entries, "progress"),
+    })
 }
 
 /// The gaps are looked at first, and then the rule of loss: what is wrong with either is said.
@@ -88,7 +93,7 @@ fn input_in(entries: &ArgMatches<'_>, gaps: Vec<(u64, u64)>) -> Option<Input>
     ensures none { IfNone result ((input : Input) → IsInput (rows_of (found_of entries.now)) input → ⊥) }
 {
     Some(Input {
-        hex: hex_in(entries),
+        hex: flag_in(entries, "hex"),
         bits: bits_in(entries)?,
         gaps,
     })
@@ -107,7 +112,23 @@ fn gaps_in(alloc: Global, entries: &ArgMatches<'_>) -> Result<Vec<(u64, u64)>, N
 
 fn settings_in(entries: &ArgMatches<'_>) -> Result<Settings, NoJob>
     ensures settings { IfOk result (AreSettings (rows_of (found_of entries.now))) }
-    ensures none { IfErr result (GivesNoSettings (rows_of (found_of entries.now))) }
+    ensures none { IfErr result (GivesNoRules (rows_of (found_of entries.now)) (FitNoSettings (rows_of (found_of entries.now)))) }
+{
+    let rules = rules_in(entries)?;
+    let workers = number_in(entries, "workers").ok_or(NoJob::Entries)?;
+    let cuts = cuts_in(entries).ok_or(NoJob::Entries)?;
+    Ok(Settings {
+        burst: rules.burst,
+        reach: rules.reach,
+        loss: rules.loss,
+        workers,
+        cuts,
+    })
+}
+
+fn rules_in(entries: &ArgMatches<'_>) -> Result<RuleNumbers, NoJob>
+    ensures rules { IfOk result (AreRules (rows_of (found_of entries.now))) }
+    ensures none { IfErr result (GivesNoRules (rows_of (found_of entries.now)) (FitNoRules (rows_of (found_of entries.now)))) }
 {
     if mixes_losses(entries) {
         return Err(NoJob::Loss);
@@ -115,17 +136,15 @@ fn settings_in(entries: &ArgMatches<'_>) -> Result<Settings, NoJob>
     numbers_in(entries).ok_or(NoJob::Entries)
 }
 
-fn numbers_in(entries: &ArgMatches<'_>) -> Option<Settings>
-    ensures settings { the_mixing_of_losses (rows_of (found_of entries.now)) ≡ false
-        → IfSome result (AreSettings (rows_of (found_of entries.now))) }
-    ensures none { IfNone result ((settings : Settings) → AreSettings (rows_of (found_of entries.now)) settings → ⊥) }
+fn numbers_in(entries: &ArgMatches<'_>) -> Option<RuleNumbers>
+    ensures rules { the_mixing_of_losses (rows_of (found_of entries.now)) ≡ false
+        → IfSome result (AreRules (rows_of (found_of entries.now))) }
+    ensures none { IfNone result (FitNoRules (rows_of (found_of entries.now))) }
 {
-    Some(Settings {
+    Some(RuleNumbers {
         burst: number_in(entries, "burst")?,
         reach: number_in(entries, "reach")?,
         loss: loss_in(entries)?,
-        workers: number_in(entries, "workers")?,
-        cuts: cuts_in(entries)?,
     })
 }
 
@@ -187,10 +206,10 @@ fn number_in(entries: &ArgMatches<'_>, name: &str) -> Option<u32>
     entries.get_one::<u32>(name)
 }
 
-fn hex_in(entries: &ArgMatches<'_>) -> bool
-    ensures { IsFlag (one_of (codes "hex") (rows_of (found_of entries.now))) result }
+fn flag_in(entries: &ArgMatches<'_>, name: &str) -> bool
+    ensures { IsFlag (one_of name.now (rows_of (found_of entries.now))) result }
 {
-    entries.get_flag("hex")
+    entries.get_flag(name)
 }
 
 fn bits_in(entries: &ArgMatches<'_>) -> Option<Option<u64>>

@@ -1,10 +1,11 @@
 //! Why a transcription is refused.
 ghost use Rattle.std.specs.Prelude.{◌≡◌};
-ghost use Rattle.rds_tool.specs.Refusals.{name_of, number_of, of_crew, of_piece, of_stream, of_sync};
+ghost use Rattle.rds_tool.specs.Refusals.{name_of, number_of, of_crew, of_piece, of_rows, of_stream, of_sync};
 ghost use Rattle.rds_tool.specs.declared.error.ToolError.TheVariants.{OutOfMemory};
 
 use rds_crew::CrewError;
 use rds_pieces::PieceError;
+use rds_rows::RowsError;
 use rds_stream::StreamError;
 use rds_sync::SyncError;
 use std::alloc::{AllocError, AllocFailed};
@@ -163,6 +164,17 @@ impl From<PieceError> for ToolError {
         match error {
             PieceError::BadCutting => ToolError::BadCutting,
             PieceError::OutOfMemory => ToolError::OutOfMemory,
+        }
+    }
+}
+
+impl From<RowsError> for ToolError {
+    ghost from_gives = { λ below error. error ≡ of_rows below };
+
+    fn from(error: RowsError) -> ToolError {
+        match error {
+            RowsError::OutOfMemory => ToolError::OutOfMemory,
+            RowsError::Write => ToolError::Write,
         }
     }
 }

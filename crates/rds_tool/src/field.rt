@@ -51,7 +51,8 @@ impl Field {
 
     /// The bytes of the field.
     pub fn as_bytes(&self) -> &[u8]
-        ensures { result.now ≡ self.now }
+        ensures value { result.now ≡ self.now }
+        ensures short { length result.now ≤ 16 }
     {
         &self.bytes[..self.len]
     }

@@ -78,6 +78,18 @@ with hexadecimal digits after ':' and '~'.
 
 'rds --help' lists the refusals.";
 
+pub const FOLLOW: &str = "List a stream as it comes, each row once it is complete";
+
+pub const FOLLOW_USAGE: &str = "rds follow [OPTIONS] < INPUT > OUTPUT";
+
+pub const FOLLOW_AFTER: &str =
+    "Reads bytes as they come, and after each read writes the rows that are complete,
+the rows of 'rds list'. The end of the input closes the last group, and the
+totals follow: in all, what 'rds list' writes of the same bytes. Memory doesn't
+grow with the stream.
+
+'rds --help' lists the refusals.";
+
 pub const TOTALS: &str = "Count valid, corrected and lost blocks, groups, losses of synchronism";
 
 pub const TOTALS_USAGE: &str = "rds totals [OPTIONS] < INPUT > OUTPUT";
@@ -138,5 +150,7 @@ at most 64";
 pub const PIECES: &str = "Cut the recording into up to N pieces, 1 or more; the
 output stays the same";
 
-pub const WORKERS: &str = "Decode the pieces by up to N threads, 1 to 256; the
-output stays the same";
+pub const WORKERS: &str = "Work by up to N threads, 1 to 256; the output stays
+the same";
+
+pub const PROGRESS: &str = "Tell on standard error how far the work is";

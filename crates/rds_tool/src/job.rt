@@ -2,7 +2,7 @@
 ghost use Rattle.std.specs.Cmp.{partial_equiv_from_equiv};
 ghost use Rattle.rds_tool.specs.InputOf.{says_same, says_same_equiv};
 
-use rds_sync::Loss;
+use rds_sync::{Loss, RuleNumbers};
 use std::marker::Model;
 
 /// The recording that a job reads.
@@ -73,8 +73,9 @@ pub struct Settings {
 /// What is to be made of the bytes that a reader holds.
 #[derive(Debug, PartialEq, Eq, Drop)]
 pub enum Job {
-    /// A row for each valid window of a recording: its place and its offset.
-    Scan(Input),
+    /// A row for each valid window of a recording: its place and its offset. The rows are made by so many threads at most,
+    /// 1 to 256 as [`Settings::workers`], and don't depend on it.
+    Scan(Input, u32),
     /// A row for each item of the recording's report, in the order of the bits that complete them, and then its twelve totals.
     List(Input, Settings),
     /// The twelve totals alone.
@@ -83,4 +84,13 @@ pub enum Job {
     /// spaces, tabs and carriage returns don't count, and empty lines are skipped. A group is 13 bytes,
     /// or with `hex` a line of 26 lower-case digits.
     Encode { hex: bool },
+}
+
+/// What a command line asks for.
+#[derive(Debug, PartialEq, Eq, Drop)]
+pub enum Asked {
+    /// A job, and whether the program is to tell how far it is. What the job makes doesn't depend on it.
+    Job { job: Job, progress: bool },
+    /// To follow a stream by these rules, each in the range that [`Settings`] has for it.
+    Follow(RuleNumbers),
 }

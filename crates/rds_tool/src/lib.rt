@@ -1,4 +1,4 @@
-//! The tool behind the program `rds`: words become a job, and a job makes text of what a reader holds.
+//! The tool behind the program `rds`: words ask for a job, and a job makes text of what a reader holds.
 //!
 //! A job lists the valid windows of a recording, the items of its report, or the totals alone, or encodes groups. It is
 //! told which bits the recording has and which gaps are in them, by which rules it is decoded, in which pieces, and by
@@ -7,7 +7,7 @@
 //! # Example
 //!
 //! ```text
-//! let job = Job::Scan(Input { hex: true, bits: None, gaps: Vec::new(alloc) });
+//! let job = Job::Scan(Input { hex: true, bits: None, gaps: Vec::new(alloc) }, 4);
 //! let mut reader = FromRead::new(b"00003f000019800005a00001b4".as_slice());
 //! let mut writer = ToWrite::new(Vec::new(alloc));
 //! transcribe(&rt, alloc, &mut reader, &mut writer, &job)?;
@@ -16,11 +16,12 @@
 //!
 //! # What there is
 //!
-//! - [`job_of`]: the [`Job`] that a command line asks for, or a [`CliFault`].
+//! - [`asked_of`]: what a command line asks for, a [`Job`] or to follow a stream, or a [`CliFault`].
 //! - [`Job`], of [`Input`], [`Settings`], [`Cuts`] and [`Loss`]: what is asked for.
 //! - [`transcribe`]: reads all bytes of a [`Source`], works, by threads where there are pieces and workers for them,
 //!   and writes the whole text to a [`Sink`]. [`transcribe_gated`] is the same with a gate, by which a caller hears of
 //!   the workers.
+//! - [`follow`]: the same listing of a stream, row by row as its bytes come.
 //! - [`FromRead`] and [`ToWrite`]: a source and a sink of a reader and a writer of std.
 //! - [`ToolError`]: the refusals 1 to 16.
 //!
@@ -37,9 +38,11 @@
 //!   past the bits, after `TooLong` and `BitsPastBytes`, and before `BadCutting`.
 //! - After any refusal but `Write` the writer is as it was; after `Write`, if reader and writer tell their bytes, what
 //!   was written is a prefix of the text.
-//! - Where `job_of` answers `Ok`, the job holds the entries that `clap` read, defaults too, and its gaps are the pairs
-//!   that `--gaps` spells. Where it answers a fault, it is help or the version that was asked for, or `clap` finds a
-//!   fault in the words, or no job has their entries, or memory was refused.
+//! - Where `follow` answers `Ok`, what was written is the listing of all that the reader held; whenever it is refused,
+//!   the rows of all that was read but the last read stand, each once.
+//! - Where `asked_of` answers `Ok`, what is asked for holds the entries that `clap` read, defaults too, and its gaps are
+//!   the pairs that `--gaps` spells. Where it answers a fault, it is help or the version that was asked for, or `clap`
+//!   finds a fault in the words, or neither a job nor a stream has their entries, or memory was refused.
 //!
 //! # What it leaves to others
 //!
@@ -57,20 +60,27 @@ mod engine;
 mod entries;
 mod error;
 mod field;
+mod fields;
+mod following;
 mod gap_text;
 mod help;
 mod input;
 mod job;
+mod line;
 mod listing;
+mod listing_rows;
+mod pen;
 mod plan;
 mod rows;
 mod task;
 mod text;
-mod threaded;
+mod window_rows;
 
-pub use cli::{CliFault, FaultKind, job_of};
-pub use devices::{Failed, FromRead, Sink, Source, ToWrite};
+pub use cli::{CliFault, FaultKind, asked_of};
+pub use devices::{FromRead, Source, ToWrite};
 pub use engine::{transcribe, transcribe_gated};
 pub use error::ToolError;
-pub use job::{Cuts, Input, Job, Settings};
-pub use rds_sync::Loss;
+pub use following::follow;
+pub use job::{Asked, Cuts, Input, Job, Settings};
+pub use rds_rows::{Failed, Sink, write_all};
+pub use rds_sync::{Loss, RuleNumbers};

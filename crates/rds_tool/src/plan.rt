@@ -1,5 +1,5 @@
 //! By which rules, by how many workers and in which pieces a recording is decoded.
-ghost use Rattle.std.specs.Prelude.{◌<◌, ◌≡◌, ◌≢◌, ◌⊎◌, Err, IfErr, IfOk, IsErrOf, List, Ok, OnOk, false, length, true};
+ghost use Rattle.std.specs.Prelude.{◌<◌, ◌≡◌, ◌≢◌, ◌≤◌, ◌⊎◌, Err, IfErr, IfOk, IsErrOf, List, Ok, OnOk, false, length, true};
 ghost use Rattle.rds_pieces.specs.Cutting.{IsCutting};
 ghost use Rattle.rds_sync.specs.Decoding.{listed};
 ghost use Rattle.rds_sync.specs.Report.{report_items};
@@ -12,11 +12,49 @@ use crate::{Cuts, Settings, ToolError};
 use rds_crew::{Gate, MOST_WORKERS, decode_crew};
 use rds_pieces::{Cutting, RecordingWork};
 use rds_stream::Recording;
-use rds_sync::{Report, RuleNumbers, Rules};
+use rds_sync::{Report, RuleNumbers, Rules, Spans};
 use std::alloc::{AllocError, Global};
 use std::marker::Model;
 use std::sync::Wait;
 use std::thread::Threads;
+
+/// A number of workers in its range.
+#[derive(Drop)]
+pub struct Workers(u32);
+
+impl Model for Workers {
+    ghost use Rattle.std.specs.Prelude.{ℕ};
+    ghost use Rattle.rds_tool.specs.Plans.{AreWorkers};
+
+    ghost Value = { ℕ };
+
+    ghost view = { λ w. w.0 };
+
+    ghost invariant = { λ w. AreWorkers w.0 };
+}
+
+impl Workers {
+    ghost use Rattle.rds_tool.specs.Plans.{workers_of};
+
+    /// So many workers, or `CrewRange` where they are not 1 to 256.
+    pub fn of(workers: u32) -> Result<Workers, ToolError>
+        ensures { result ≡ workers_of workers }
+    {
+        if workers < 1 || workers > MOST_WORKERS {
+            return Err(ToolError::CrewRange);
+        }
+        Ok(Workers(workers))
+    }
+
+    /// How many there are.
+    pub fn count(&self) -> u32
+        ensures value { result ≡ self.now }
+        ensures some { 0 < result }
+        ensures few { result ≤ 256 }
+    {
+        self.0
+    }
+}
 
 /// Settings in their ranges, with the rules that they give.
 #[derive(Drop)]
@@ -73,6 +111,7 @@ impl<'a> Plan<'a> {
     pub fn workers(&self) -> u32
         ensures value { result ≡ self.now.workers }
         ensures some { 0 < result }
+        ensures few { result ≤ 256 }
     {
         self.workers
     }
@@ -83,6 +122,7 @@ impl<'a> Plan<'a> {
         rt: &R,
         alloc: Global,
         recording: &Recording,
+        spans: Spans,
         gate: &G,
     ) -> Result<Report, ToolError>
         ensures items { IfOk result (λ report. report.items
@@ -94,7 +134,7 @@ impl<'a> Plan<'a> {
         ensures no_worker { IsErrOf result ToolError.NoWorker → 1 < self.now.workers }
     {
         let cutting = cutting_of(alloc, self.cuts, recording.len())?;
-        let work = RecordingWork::new(recording, &self.rules, &cutting);
+        let work = RecordingWork::new(recording, &self.rules, &cutting).cut_into(spans);
         Ok(decode_crew(rt, alloc, &work, self.workers, gate)?)
     }
 }
@@ -117,9 +157,7 @@ fn rules_of(alloc: Global, settings: &Settings) -> Result<Rules, ToolError>
 fn check_crew(settings: &Settings) -> Result<(), ToolError>
     ensures { result ≡ crew_of settings.now }
 {
-    if settings.workers < 1 || settings.workers > MOST_WORKERS {
-        return Err(ToolError::CrewRange);
-    }
+    Workers::of(settings.workers)?;
     match settings.cuts {
         Cuts::Even(0) => Err(ToolError::BadCutting),
         _ => Ok(()),

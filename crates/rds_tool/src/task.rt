@@ -1,18 +1,18 @@
 //! A job whose settings were looked at.
 ghost use Rattle.std.specs.Prelude.{◌<◌, ◌≡◌, ◌⊎◌, Err, IfErr, IfOk, Ok};
-ghost use Rattle.rds_tool.specs.Listing.{totals_text};
+ghost use Rattle.rds_tool.specs.Listing.{report_text, totals_text};
 ghost use Rattle.rds_tool.specs.Outcome.{cut_recording, text_of_task};
+ghost use Rattle.rds_tool.specs.Inside.Texts.{bytes_of};
 ghost use Rattle.rds_tool.specs.declared.task.Task.TheVariants as task;
 
 use crate::encode::encode_lines;
 use crate::input::recording_of;
-use crate::listing::{Heard, report_rows, totals_rows, window_rows};
-use crate::plan::Plan;
-use crate::text::Text;
+use crate::listing::totals_rows;
+use crate::plan::{Plan, Workers};
+use crate::text::{Listing, Text};
 use crate::{Input, Job, ToolError};
 use rds_crew::Gate;
-use rds_stream::scan;
-use rds_sync::Totals;
+use rds_sync::{Spans, Totals};
 use std::alloc::Global;
 use std::sync::Wait;
 use std::thread::Threads;
@@ -20,7 +20,7 @@ use std::thread::Threads;
 /// A job with the plan that its settings give.
 #[derive(Drop)]
 pub enum Task<'a> {
-    Scan(Input),
+    Scan(Input, Workers),
     List(Input, Plan<'a>),
     Totals(Input, Plan<'a>),
     Encode { hex: bool },
@@ -36,7 +36,10 @@ impl<'a> Task<'a> {
         ensures settings { IfErr (task_of job.now) (λ error. result ≡ Err error) }
     {
         match job {
-            Job::Scan(input) => Ok(Task::Scan(input.copied(alloc)?)),
+            Job::Scan(input, workers) => {
+                let workers = Workers::of(*workers)?;
+                Ok(Task::Scan(input.copied(alloc)?, workers))
+            }
             Job::List(input, settings) => {
                 let plan = Plan::of(alloc, settings)?;
                 Ok(Task::List(input.copied(alloc)?, plan))
@@ -49,62 +52,64 @@ impl<'a> Task<'a> {
         }
     }
 
-    /// The text that the task makes of the bytes that a reader held. A crew calls the gate.
+    /// What the task writes of the bytes that a reader held. A crew calls the gate.
     pub fn text<R: Threads + Wait + Sync, G: Gate + Sync>(
         self,
         rt: &R,
         alloc: Global,
         held: Vec<u8>,
         gate: &G,
-    ) -> Result<Text, ToolError>
-        ensures ok { IfOk result (λ text. text_of_task self.entry held.items ≡ Ok text) }
+    ) -> Result<Text<'a>, ToolError>
+        ensures ok { IfOk result (λ text. text_of_task self.entry held.items ≡ Ok (bytes_of text)) }
         ensures refused { IfErr result (λ error. (error ≡ ToolError.OutOfMemory)
             ⊎ (((error ≡ ToolError.NoWorker) × MayStartThreads self.entry)
             ⊎ (text_of_task self.entry held.items ≡ Err error))) }
     {
         match self {
-            Task::Scan(input) => {
+            Task::Scan(input, workers) => {
                 let recording = recording_of(alloc, input, held)?;
-                let windows = scan(alloc, &recording, 0, recording.len())?;
-                let rows = window_rows(alloc, windows.as_slice())?;
-                Ok(Text::whole(alloc, rows))
+                Ok(Text::Windows(recording, workers))
             }
-            Task::List(input, plan) => listing_of(rt, alloc, input, &plan, held, gate),
+            Task::List(input, plan) => {
+                let listing = listing_of(rt, alloc, input, plan, held, gate)?;
+                Ok(Text::Listing(listing))
+            }
             Task::Totals(input, plan) => {
                 let totals = totals_of(rt, alloc, input, &plan, held, gate)?;
                 let rows = totals_rows(alloc, &totals)?;
-                Ok(Text::whole(alloc, rows))
+                Ok(Text::Whole(rows))
             }
             Task::Encode { hex } => {
                 let blocks = encode_lines(alloc, hex, held.as_slice())?;
-                Ok(Text::whole(alloc, blocks))
+                Ok(Text::Whole(blocks))
             }
         }
     }
 }
 
-/// The listing of the recording that the bytes give. Its items are decoded again where their rows are made, so the
-/// recording is held until then.
-fn listing_of<R: Threads + Wait + Sync, G: Gate + Sync>(
+/// The report of the recording that the bytes give. Its items are decoded again where their rows are made, so the
+/// recording goes with it.
+fn listing_of<'a, R: Threads + Wait, G: Gate + Sync>(
     rt: &R,
     alloc: Global,
     input: Input,
-    plan: &Plan<'_>,
+    plan: Plan<'a>,
     held: Vec<u8>,
     gate: &G,
-) -> Result<Text, ToolError>
-    ensures list { IfOk result (λ text. text_of_task (task.List input plan.now) held.items ≡ Ok text) }
+) -> Result<Listing<'a>, ToolError>
+    ensures list { IfOk result (λ listing. text_of_task (task.List input plan.entry) held.items
+        ≡ Ok (report_text listing.report.items.list listing.report.totals)) }
     ensures refused { IfErr result (λ error. (error ≡ ToolError.OutOfMemory)
-        ⊎ (((error ≡ ToolError.NoWorker) × (1 < plan.now.workers))
-        ⊎ (cut_recording input plan.now.cuts held.items ≡ Err error))) }
+        ⊎ (((error ≡ ToolError.NoWorker) × (1 < plan.entry.workers))
+        ⊎ (cut_recording input plan.entry.cuts held.items ≡ Err error))) }
 {
     let recording = recording_of(alloc, input, held)?;
-    let report = plan.report(rt, alloc, &recording, gate)?;
-    let heard = Heard {
-        recording: &recording,
-        rules: plan.rules(),
-    };
-    report_rows(rt, alloc, heard, &report, plan.workers())
+    let report = plan.report(rt, alloc, &recording, Spans::Short, gate)?;
+    Ok(Listing {
+        recording,
+        plan,
+        report,
+    })
 }
 
 /// The totals of the recording that the bytes give, which is dropped before their text is made.
@@ -123,6 +128,6 @@ fn totals_of<R: Threads + Wait, G: Gate + Sync>(
         ⊎ (cut_recording input plan.now.cuts held.items ≡ Err error))) }
 {
     let recording = recording_of(alloc, input, held)?;
-    let report = plan.report(rt, alloc, &recording, gate)?;
+    let report = plan.report(rt, alloc, &recording, Spans::Whole, gate)?;
     Ok(report.totals)
 }

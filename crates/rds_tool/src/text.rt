@@ -1,96 +1,173 @@
-//! A text in parts.
-ghost use Rattle.std.specs.Prelude.{◌++◌, ◌<◌, ◌^◌, ◌≡◌, ◌↔◌, IfErr, IsErrOf, Ok, OnErr, OnOk};
-ghost use Rattle.std.specs.Io.KnownBytes.{Appends};
+//! What a task writes.
+ghost use Rattle.std.specs.Prelude.{◌<◌, ◌≤◌, ◌^◌, ◌≡◌, ◌≢◌, ◌↔◌, ◌⊎◌, IfErr, IsErrOf, Ok, OnErr, OnOk};
+ghost use Rattle.std.specs.Io.KnownBytes.{Appends, Keeps};
+ghost use Rattle.rds_rows.specs.Writes.{AppendsPrefix};
+ghost use Rattle.rds_tool.specs.Listing.{report_text, scan_text};
 ghost use Rattle.rds_tool.specs.Outcome.{WritesPrefix};
-ghost use Rattle.rds_tool.specs.Inside.Texts.{joined};
 
-use crate::{Failed, Sink, ToolError};
+use crate::ToolError;
+use crate::listing::Heard;
+use crate::listing_rows::ListingRows;
+use crate::plan::{Plan, Workers};
+use crate::window_rows::WindowRows;
+use rds_rows::{Failed, RowsError, Sink, write_all, write_rows_in_parts};
+use rds_stream::Recording;
+use rds_sync::Report;
 use std::alloc::Global;
-use std::marker::Model;
+use std::sync::Wait;
+use std::thread::Threads;
 
-/// A text in parts, since several threads may make it. They are written one after the other and never copied together.
-/// Clauses see the whole text.
+/// How many rows of a listing are made at once.
+const PART: usize = 2048;
+
+/// How many places are scanned at once, and how many at most by all workers together: each has room for a row.
+const PLACES: usize = 32_768;
+
+const ALL_PLACES: usize = 524_288;
+
+/// A text that is made, or what one is spelled from while it is written.
 #[derive(Drop)]
-pub struct Text {
-    front: Vec<Vec<u8>>,
-    last: Vec<u8>,
+pub enum Text<'a> {
+    Whole(Vec<u8>),
+    Listing(Listing<'a>),
+    /// A recording that is scanned, and by how many workers.
+    Windows(Recording, Workers),
 }
 
-impl Model for Text {
-    ghost use Rattle.std.specs.Prelude.{◌++◌, List, ℕ};
-    ghost use Rattle.rds_tool.specs.Inside.Texts.{joined};
-
-    ghost Value = { List ℕ };
-
-    ghost view = { λ text. joined text.front.items ++ text.last.items };
+/// A report and what its items are made from.
+#[derive(Drop)]
+pub struct Listing<'a> {
+    pub recording: Recording,
+    pub plan: Plan<'a>,
+    pub report: Report,
+    ghost source: { report.items.source ≡ recording },
+    ghost rules: { report.items.rules ≡ plan.rules },
 }
 
-impl Text {
-    /// A text in one part. Takes no memory.
-    pub fn whole(alloc: Global, text: Vec<u8>) -> Text
-        ensures { result ≡ text.items }
-    {
-        Text {
-            front: Vec::new(alloc),
-            last: text,
-        }
-    }
+impl Text<'_> {
+    ghost use Rattle.rds_tool.specs.Inside.Texts.{bytes_of};
 
-    /// A text in several parts, of which the last is given by itself. Takes no memory.
-    pub fn new(front: Vec<Vec<u8>>, last: Vec<u8>) -> Text
-        ensures { result ≡ joined front.items ++ last.items }
-    {
-        Text { front, last }
-    }
-
-    /// Writes the whole text, part by part, and flushes.
-    pub fn write_to<K: Sink>(&self, writer: &mut K) -> Result<(), ToolError>
+    /// Writes the whole text and flushes. Where memory is refused, nothing was written.
+    pub fn write_to<R: Threads + Wait + Sync, K: Sink>(
+        &self,
+        rt: &R,
+        alloc: Global,
+        writer: &mut K,
+    ) -> Result<(), ToolError>
         requires { K.failed writer.old < 2 ^ 63 }
-        ensures ok { OnOk result (Appends (K.contents writer.old) (K.contents writer.new) self.now) }
+        ensures ok { OnOk result (Appends (K.contents writer.old) (K.contents writer.new) (bytes_of self.now)) }
         ensures write { IsErrOf result ToolError.Write ↔ (K.failed writer.old < K.failed writer.new) }
-        ensures kinds { IfErr result (λ error. error ≡ ToolError.Write) }
-        ensures prefix { OnErr result (WritesPrefix (K.contents writer.old) (K.contents writer.new) (Ok self.now)) }
+        ensures kinds { IfErr result (λ error. (error ≡ ToolError.OutOfMemory) ⊎ (error ≡ ToolError.Write)) }
+        ensures untouched { IfErr result (λ error. error ≢ ToolError.Write → writer.new ≡ writer.old) }
+        ensures prefix { IsErrOf result ToolError.Write
+            → WritesPrefix (K.contents writer.old) (K.contents writer.new) (Ok (bytes_of self.now)) }
     {
-        write_parts(writer, self.front.as_slice())?;
-        write_all(writer, self.last.as_slice())?;
-        match writer.flush() {
-            Ok(()) => Ok(()),
-            Err(Failed) => Err(ToolError::Write),
+        match self.write_bytes(rt, alloc, writer) {
+            Ok(()) => flush(writer),
+            Err(error) => Err(ToolError::from(error)),
+        }
+    }
+
+    fn write_bytes<R: Threads + Wait + Sync, K: Sink>(
+        &self,
+        rt: &R,
+        alloc: Global,
+        writer: &mut K,
+    ) -> Result<(), RowsError>
+        requires { K.failed writer.old < 2 ^ 63 }
+        ensures ok { OnOk result (Appends (K.contents writer.old) (K.contents writer.new) (bytes_of self.now)) }
+        ensures count { OnOk result (K.failed writer.new ≡ K.failed writer.old) }
+        ensures write { IsErrOf result RowsError.Write ↔ (K.failed writer.old < K.failed writer.new) }
+        ensures untouched { IsErrOf result RowsError.OutOfMemory → writer.new ≡ writer.old }
+        ensures prefix { IsErrOf result RowsError.Write
+            → AppendsPrefix (K.contents writer.old) (K.contents writer.new) (bytes_of self.now) }
+    {
+        match self {
+            Text::Whole(text) => match write_all(writer, text.as_slice()) {
+                Ok(()) => Ok(()),
+                Err(Failed) => Err(RowsError::Write),
+            },
+            Text::Listing(listing) => listing.write_to(rt, alloc, writer),
+            Text::Windows(recording, workers) => {
+                write_windows(rt, alloc, recording, workers.count(), writer)
+            }
         }
     }
 }
 
-/// Writes these parts, one after the other.
-fn write_parts<K: Sink>(writer: &mut K, parts: &[Vec<u8>]) -> Result<(), ToolError>
-    requires { K.failed writer.old < 2 ^ 63 }
-    ensures ok { OnOk result (Appends (K.contents writer.old) (K.contents writer.new) (joined parts.now)) }
-    ensures count { OnOk result (K.failed writer.new ≡ K.failed writer.old) }
-    ensures failed { OnErr result (K.failed writer.old < K.failed writer.new) }
-    ensures kinds { IfErr result (λ error. error ≡ ToolError.Write) }
-    ensures prefix { OnErr result (WritesPrefix (K.contents writer.old) (K.contents writer.new) (Ok (joined parts.now))) }
-{
-    for part in parts {
-        write_all(writer, part.as_slice())?;
+impl Listing<'_> {
+    /// Writes the rows, spelled by as many threads as there are workers.
+    fn write_to<R: Threads + Wait + Sync, K: Sink>(
+        &self,
+        rt: &R,
+        alloc: Global,
+        writer: &mut K,
+    ) -> Result<(), RowsError>
+        requires { K.failed writer.old < 2 ^ 63 }
+        ensures ok { OnOk result (Appends (K.contents writer.old) (K.contents writer.new)
+            (report_text self.now.report.items.list self.now.report.totals)) }
+        ensures count { OnOk result (K.failed writer.new ≡ K.failed writer.old) }
+        ensures write { IsErrOf result RowsError.Write ↔ (K.failed writer.old < K.failed writer.new) }
+        ensures untouched { IsErrOf result RowsError.OutOfMemory → writer.new ≡ writer.old }
+        ensures prefix { IsErrOf result RowsError.Write → AppendsPrefix (K.contents writer.old) (K.contents writer.new)
+            (report_text self.now.report.items.list self.now.report.totals) }
+    {
+        let heard = Heard {
+            recording: &self.recording,
+            rules: self.plan.rules(),
+        };
+        let rows = ListingRows::new(alloc, heard, &self.report)?;
+        write_rows_in_parts(rt, alloc, &rows, self.plan.workers(), PART, writer)
     }
-    Ok(())
 }
 
-/// Writes one part.
-fn write_all<K: Sink>(writer: &mut K, text: &[u8]) -> Result<(), ToolError>
+/// Writes the rows of the valid windows, spelled by as many threads as there are workers.
+fn write_windows<R: Threads + Wait + Sync, K: Sink>(
+    rt: &R,
+    alloc: Global,
+    recording: &Recording,
+    workers: u32,
+    writer: &mut K,
+) -> Result<(), RowsError>
+    requires some { 0 < workers }
+    requires few { workers ≤ 256 }
+    requires count { K.failed writer.old < 2 ^ 63 }
+    ensures ok { OnOk result (Appends (K.contents writer.old) (K.contents writer.new) (scan_text recording.now)) }
+    ensures count { OnOk result (K.failed writer.new ≡ K.failed writer.old) }
+    ensures write { IsErrOf result RowsError.Write ↔ (K.failed writer.old < K.failed writer.new) }
+    ensures untouched { IsErrOf result RowsError.OutOfMemory → writer.new ≡ writer.old }
+    ensures prefix { IsErrOf result RowsError.Write
+        → AppendsPrefix (K.contents writer.old) (K.contents writer.new) (scan_text recording.now) }
+{
+    let rows = WindowRows { alloc, recording };
+    let most = (ALL_PLACES / workers as usize).min(PLACES);
+    write_rows_in_parts(rt, alloc, &rows, workers, most, writer)
+}
+
+/// Writes this text and flushes.
+pub fn write_flushed<K: Sink>(writer: &mut K, text: &[u8]) -> Result<(), ToolError>
     requires { K.failed writer.old < 2 ^ 63 }
     ensures ok { OnOk result (Appends (K.contents writer.old) (K.contents writer.new) text.now) }
     ensures count { OnOk result (K.failed writer.new ≡ K.failed writer.old) }
-    ensures failed { OnErr result (K.failed writer.old < K.failed writer.new) }
+    ensures write { IsErrOf result ToolError.Write ↔ (K.failed writer.old < K.failed writer.new) }
     ensures kinds { IfErr result (λ error. error ≡ ToolError.Write) }
     ensures prefix { OnErr result (WritesPrefix (K.contents writer.old) (K.contents writer.new) (Ok text.now)) }
 {
-    let mut at = 0;
-    while at < text.len() {
-        match writer.write(&text[at..]) {
-            Ok(0) => return Err(ToolError::Write),
-            Ok(count) => at += count,
-            Err(Failed) => return Err(ToolError::Write),
-        }
+    match write_all(writer, text) {
+        Ok(()) => flush(writer),
+        Err(Failed) => Err(ToolError::Write),
     }
-    Ok(())
+}
+
+fn flush<K: Sink>(writer: &mut K) -> Result<(), ToolError>
+    requires { K.failed writer.old < 2 ^ 63 }
+    ensures bytes { Keeps (K.contents writer.old) (K.contents writer.new) }
+    ensures count { OnOk result (K.failed writer.new ≡ K.failed writer.old) }
+    ensures write { IsErrOf result ToolError.Write ↔ (K.failed writer.old < K.failed writer.new) }
+    ensures kinds { IfErr result (λ error. error ≡ ToolError.Write) }
+{
+    match writer.flush() {
+        Ok(()) => Ok(()),
+        Err(Failed) => Err(ToolError::Write),
+    }
 }

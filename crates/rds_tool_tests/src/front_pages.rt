@@ -5,11 +5,12 @@ use std::test::Fail;
 #[test]
 fn of_the_tool(rt: HostRuntime) -> Result<(), Fail> {
     let alloc = rt.alloc();
-    let job = Job::Scan(Input {
+    let input = Input {
         hex: true,
         bits: None,
         gaps: Vec::new(alloc),
-    });
+    };
+    let job = Job::Scan(input, 4);
     let mut reader = FromRead::new(b"00003f000019800005a00001b4".as_slice());
     let mut writer = ToWrite::new(Vec::new(alloc));
     transcribe(&rt, alloc, &mut reader, &mut writer, &job)?;

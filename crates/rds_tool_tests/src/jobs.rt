@@ -13,15 +13,15 @@ pub fn ungapped(alloc: Global, hex: bool, bits: Option<u64>) -> Input {
 
 /// A scan of all bits of hexadecimal text.
 pub fn scan_of_digits(alloc: Global) -> Job {
-    Job::Scan(ungapped(alloc, true, None))
+    Job::Scan(ungapped(alloc, true, None), 4)
 }
 
 /// A scan of all bits of bytes.
 pub fn scan_of_bytes(alloc: Global) -> Job {
-    Job::Scan(ungapped(alloc, false, None))
+    Job::Scan(ungapped(alloc, false, None), 4)
 }
 
 /// A scan of no bits, which reads its whole input and writes nothing.
 pub fn scan_of_no_bits(alloc: Global) -> Job {
-    Job::Scan(ungapped(alloc, false, Some(0)))
+    Job::Scan(ungapped(alloc, false, Some(0)), 4)
 }

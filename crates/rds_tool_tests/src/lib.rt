@@ -17,6 +17,8 @@ mod ends;
 #[cfg(test)]
 mod failing;
 #[cfg(test)]
+mod following;
+#[cfg(test)]
 mod front_pages;
 #[cfg(test)]
 mod jobs;

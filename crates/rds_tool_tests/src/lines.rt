@@ -1,35 +1,54 @@
-//! Command lines, as jobs. Those that are none are tried on the built program.
+//! Command lines, and what they ask for. Those that ask for nothing are tried on the built program.
 use crate::jobs::ungapped;
-use rds_tool::{Cuts, Input, Job, Loss, Settings, job_of};
+use rds_tool::{Asked, Cuts, Input, Job, Loss, RuleNumbers, Settings, asked_of};
 use std::alloc::Global;
 use std::test::Fail;
 
-/// Whether the words are taken as the job.
+/// Whether the words are taken as the job, without its progress.
 fn gives(alloc: Global, words: &[&str], job: Job) -> bool {
-    match job_of(alloc, words) {
-        Ok(given) => given == job,
+    asks(
+        alloc,
+        words,
+        Asked::Job {
+            job,
+            progress: false,
+        },
+    )
+}
+
+/// Whether the words ask for that.
+fn asks(alloc: Global, words: &[&str], wanted: Asked) -> bool {
+    match asked_of(alloc, words) {
+        Ok(asked) => asked == wanted,
         Err(_fault) => false,
     }
 }
 
 #[test]
 fn words_of_a_scan_are_its_input(rt: HostRuntime) {
-    for (words, hex, bits) in &INPUTS {
-        let job = Job::Scan(ungapped(rt.alloc(), *hex, *bits));
+    for (words, hex, bits, workers) in &INPUTS {
+        let job = Job::Scan(ungapped(rt.alloc(), *hex, *bits), *workers);
         assert!(rt; gives(rt.alloc(), words, job), "{words:?}");
     }
 }
 
-/// Words of a scan, whether its input is hexadecimal, and its bits.
-const INPUTS: [(&[&str], bool, Option<u64>); 4] = [
-    (&["rds", "scan"], false, None),
-    (&["rds", "scan", "--hex"], true, None),
-    (&["rds", "scan", "--bits", "104", "--hex"], true, Some(104)),
+/// Words of a scan, whether its input is hexadecimal, its bits, and its workers.
+const INPUTS: [(&[&str], bool, Option<u64>, u32); 5] = [
+    (&["rds", "scan"], false, None, 4),
+    (&["rds", "scan", "--hex"], true, None, 4),
+    (
+        &["rds", "scan", "--bits", "104", "--hex"],
+        true,
+        Some(104),
+        4,
+    ),
     (
         &["rds", "scan", "--bits=1099511627776"],
         false,
         Some(1_099_511_627_776),
+        4,
     ),
+    (&["rds", "scan", "--workers", "257"], false, None, 257),
 ];
 
 #[test]
@@ -40,7 +59,7 @@ fn words_of_a_scan_are_its_gaps(rt: HostRuntime) -> Result<(), Fail> {
             bits: None,
             gaps: gaps.to_vec(rt.alloc())?,
         };
-        assert!(rt; gives(rt.alloc(), words, Job::Scan(input)), "{words:?}");
+        assert!(rt; gives(rt.alloc(), words, Job::Scan(input, 4)), "{words:?}");
     }
     Ok(())
 }
@@ -138,3 +157,52 @@ fn words_of_an_encoding_are_its_output(rt: HostRuntime) {
         )
     );
 }
+
+#[test]
+fn words_may_ask_for_progress(rt: HostRuntime) {
+    let job = Job::Scan(ungapped(rt.alloc(), false, None), 4);
+    let wanted = Asked::Job {
+        job,
+        progress: true,
+    };
+    assert!(rt; asks(rt.alloc(), &["rds", "scan", "--progress"], wanted));
+}
+
+#[test]
+fn words_of_a_stream_are_its_rules(rt: HostRuntime) {
+    for (words, rules) in STREAMS {
+        let wanted = Asked::Follow(rules);
+        assert!(rt; asks(rt.alloc(), words, wanted), "{words:?}");
+    }
+}
+
+const USUAL: RuleNumbers = RuleNumbers {
+    burst: 2,
+    reach: 3,
+    loss: Loss::Run(10),
+};
+
+const BY_SHARE: RuleNumbers = RuleNumbers {
+    burst: 0,
+    reach: 9,
+    loss: Loss::Share { bad: 5, of: 7 },
+};
+
+/// Words of a stream, and its rules.
+const STREAMS: [(&[&str], RuleNumbers); 2] = [
+    (&["rds", "follow"], USUAL),
+    (
+        &[
+            "rds",
+            "follow",
+            "--burst",
+            "0",
+            "--reach=9",
+            "--share",
+            "5",
+            "--of",
+            "7",
+        ],
+        BY_SHARE,
+    ),
+];

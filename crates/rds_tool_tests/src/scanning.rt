@@ -51,11 +51,13 @@ static SCANS: [Scan; 13] = [
 #[test]
 fn lists_the_valid_windows(rt: HostRuntime) {
     for (hex, bits, input, wanted) in SCANS.iter() {
-        let job = Job::Scan(ungapped(rt.alloc(), *hex, *bits));
-        assert!(rt;
-            gives_for(&rt, rt.alloc(), &job, input, *wanted),
-            "{input:?}"
-        );
+        for workers in [1, 4, 256] {
+            let job = Job::Scan(ungapped(rt.alloc(), *hex, *bits), workers);
+            assert!(rt;
+                gives_for(&rt, rt.alloc(), &job, input, *wanted),
+                "{input:?} by {workers}"
+            );
+        }
     }
 }
 

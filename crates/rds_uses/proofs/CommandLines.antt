@@ -1,16 +1,21 @@
 -- Command lines as `clap` reads them.
-use Rattle.std.proofs.Common.{◌≡◌, ◌⊎◌, ℕ, List, [], ◌∷◌, OnOk, IfErr, IsErrAnd, Option, Result, Ok, Err, Some, None, codes, true, false, refl, ap, inl, inr, slice_index, arith}
+use Rattle.std.proofs.Common.{◌≡◌, ◌≢◌, ◌⊎◌, ap₂, sym, ℕ, List, [], ◌∷◌, OnOk, IfErr, IsErrAnd, Option, Result, Ok, Err, Some, None, codes, true, false, refl, ap, inl, inr, slice_index, arith}
+use Rattle.std.proofs.lemmas.Bool.{leb-true}
 use Rattle.clap.specs.Faults.{defaults_fault, flags_fault, walk_fault}
 use Rattle.clap.specs.Takes.{flags_pass, walk_passes}
 use Rattle.clap.specs.Walk.{bundle_met, walked}
-use Rattle.clap.specs.Words.{Text}
+use Rattle.clap.specs.Words.{Row, Text}
 use Rattle.clap.specs.declared.error.kind.ErrorKind.{ErrorKind}
 use Rattle.clap.specs.declared.error.kind.ErrorKind.TheVariants as kind
-use Rattle.rds_tool.specs.CommandLine.{HasBadGaps, HasBadLoss, IsJobOf, MayAnswer, entries_of, faults_of}
+use Rattle.rds_sync.specs.Rules.{RuleNumbers}
+use Rattle.rds_sync.specs.declared.loss.Loss.{Loss}
+use Rattle.rds_sync.specs.declared.loss.Loss.TheVariants.{Run, Share}
+use Rattle.rds_tool.specs.CommandLine.{AreRules, HasBadGaps, HasBadLoss, IsAskedOf, MayAnswer, Spells, entries_of, faults_of}
 use Rattle.rds_tool.specs.declared.cli.FaultKind.{FaultKind}
 use Rattle.rds_tool.specs.declared.cli.FaultKind.TheVariants.{Help, Memory, Version, Words}
 use Rattle.rds_tool.specs.declared.job.Input.{Input}
-use Rattle.rds_tool.specs.declared.job.Job.{Job}
+use Rattle.rds_tool.specs.declared.job.Asked.{Asked}
+use Rattle.rds_tool.specs.declared.job.Asked.TheVariants as asked
 use Rattle.rds_tool.specs.declared.job.Job.TheVariants as job
 
 -- ---- a scan of digits
@@ -22,12 +27,18 @@ no_faults : faults_of scan_of_digits ≡ []
 unfolding walked bundle_met flags_pass walk_passes flags_fault walk_fault defaults_fault
 no_faults = refl
 
-pub is_scan : (asked : Job) → IsJobOf (entries_of scan_of_digits) asked → (input : Input) × (asked ≡ job.Scan input) × (input.hex ≡ true)
+-- it is no text that begins with another letter
+other_name : (one other : Text) → one ≡ other → slice_index one 0 ≢ slice_index other 0 → ⊥
+other_name one other is differ = differ (ap (λ (t : Text). slice_index t 0) is)
+
+pub is_scan : (given : Asked) → IsAskedOf (entries_of scan_of_digits) given → (input : Input) × (given ≡ asked.Job (job.Scan input 4) false) × (input.hex ≡ true)
 unfolding walked
-is_scan (job.Scan input) is = (input, refl, is.1.hex.1 refl)
-is_scan (job.List input settings) is = absurd (omega (arith, ap (λ (t : Text). slice_index t 0) is.0))
-is_scan (job.Totals input settings) is = absurd (omega (arith, ap (λ (t : Text). slice_index t 0) is.0))
-is_scan (job.Encode hex) is = absurd (omega (arith, ap (λ (t : Text). slice_index t 0) is.0))
+is_scan (asked.Job (job.Scan input workers) progress) is =
+    (input, ap₂ (λ n. asked.Job (job.Scan input n)) is.0.2.2 (is.1.2 refl), let input_is = is.0.1 in input_is.hex.1 refl)
+is_scan (asked.Job (job.List input settings) progress) is = absurd (other_name (codes "scan") (codes "list") is.0.0 (omega arith))
+is_scan (asked.Job (job.Totals input settings) progress) is = absurd (other_name (codes "scan") (codes "totals") is.0.0 (omega arith))
+is_scan (asked.Job (job.Encode hex) progress) is = absurd (other_name (codes "scan") (codes "encode") is.0.0 (omega arith))
+is_scan (asked.Follow rules) is = absurd (other_name (codes "scan") (codes "follow") is.0 (omega arith))
 
 abbrev first_digit : Option Text → ℕ
 first_digit None = 0
@@ -36,11 +47,17 @@ first_digit (Some text) = slice_index text 0
 true_is_not_false : Some (codes "true") ≡ Some (codes "false") → ⊥
 true_is_not_false same = omega (arith, ap first_digit same)
 
-a_job : IsJobOf (entries_of scan_of_digits) (job.Scan (record { hex = true; bits = None; gaps = [] }))
+four : Spells 32 (Some (codes "4")) 4
+four = ((leb-true 1 1 refl, (leb-true 5 10 refl, tt)), leb-true 5 4294967296 refl, refl)
+
+a_job : IsAskedOf (entries_of scan_of_digits) (asked.Job (job.Scan (record { hex = true; bits = None; gaps = [] }) 4) false)
 unfolding walked
 a_job =
     let is_given : Some (codes "true") ≡ None → true ≡ false = λ none. cc in
-    (refl, record { hex = (is_given, λ given. refl, λ other. absurd (true_is_not_false other)); bits = refl; gaps = refl })
+    let not_told : Some (codes "false") ≡ Some (codes "true") → false ≡ true = λ same. absurd (true_is_not_false (sym same)) in (
+      (refl, record { hex = (is_given, λ given. refl, λ other. absurd (true_is_not_false other)); bits = refl; gaps = refl }, four),
+      ((λ none. refl), not_told, λ no. refl),
+    )
 
 pub only_memory : (answer : FaultKind) → MayAnswer (faults_of scan_of_digits) (entries_of scan_of_digits) answer → answer ≡ Memory
 only_memory Memory may = refl
@@ -54,12 +71,18 @@ only_memory Words (inr none) = absurd (none.1 _ a_job)
 abbrev pub scan_with_a_gap : List Text
 scan_with_a_gap = codes "rds" ∷ codes "scan" ∷ codes "--gaps" ∷ codes "104-105" ∷ []
 
-pub has_the_gap : (asked : Job) → IsJobOf (entries_of scan_with_a_gap) asked → (input : Input) × (asked ≡ job.Scan input) × (input.gaps ≡ (104, 105) ∷ [])
+pub has_the_gap : (given : Asked) → IsAskedOf (entries_of scan_with_a_gap) given
+    → (input : Input) × (given ≡ asked.Job (job.Scan input 4) false) × (input.gaps ≡ (104, 105) ∷ [])
 unfolding walked
-has_the_gap (job.Scan input) is = (input, refl, let some : Some ((104, 105) ∷ []) ≡ Some input.gaps = is.1.gaps in cc)
-has_the_gap (job.List input settings) is = absurd (omega (arith, ap (λ (t : Text). slice_index t 0) is.0))
-has_the_gap (job.Totals input settings) is = absurd (omega (arith, ap (λ (t : Text). slice_index t 0) is.0))
-has_the_gap (job.Encode hex) is = absurd (omega (arith, ap (λ (t : Text). slice_index t 0) is.0))
+has_the_gap (asked.Job (job.Scan input workers) progress) is = (
+  input,
+  ap₂ (λ n. asked.Job (job.Scan input n)) is.0.2.2 (is.1.2 refl),
+  let input_is = is.0.1 in let some : Some ((104, 105) ∷ []) ≡ Some input.gaps = input_is.gaps in cc,
+)
+has_the_gap (asked.Job (job.List input settings) progress) is = absurd (other_name (codes "scan") (codes "list") is.0.0 (omega arith))
+has_the_gap (asked.Job (job.Totals input settings) progress) is = absurd (other_name (codes "scan") (codes "totals") is.0.0 (omega arith))
+has_the_gap (asked.Job (job.Encode hex) progress) is = absurd (other_name (codes "scan") (codes "encode") is.0.0 (omega arith))
+has_the_gap (asked.Follow rules) is = absurd (other_name (codes "scan") (codes "follow") is.0 (omega arith))
 
 abbrev pub scan_with_bad_gaps : List Text
 scan_with_bad_gaps = codes "rds" ∷ codes "scan" ∷ codes "--gaps" ∷ codes "5" ∷ []
@@ -83,11 +106,42 @@ no_fault_of_losses = refl
 
 pub has_bad_loss : HasBadLoss (entries_of list_by_two_losses)
 unfolding walked
-has_bad_loss = (inl refl, refl)
+has_bad_loss = (inr (inl refl), refl)
 
 pub has_good_gaps : HasBadGaps (entries_of list_by_two_losses) → ⊥
 unfolding walked
 has_good_gaps bad = let no : (let none : List (ℕ × ℕ) = [] in Some none) ≡ None = bad.1 in cc
+
+-- ---- a stream
+
+abbrev pub follow_by_a_share : List Text
+follow_by_a_share = codes "rds" ∷ codes "follow" ∷ codes "--of" ∷ codes "3" ∷ codes "--share" ∷ codes "2" ∷ []
+
+abbrev rows_of_share : List Row
+rows_of_share = elim (entries_of follow_by_a_share) [ None ↦ [] | Some entries ↦ entries.1 ]
+
+abbrev by_share : RuleNumbers
+by_share = record { burst = 2; reach = 3; loss = Share 2 3 }
+
+the_rules : (burst reach : ℕ) (loss : Loss) → AreRules rows_of_share (record { burst = burst; reach = reach; loss = loss })
+    → let rules : RuleNumbers = record { burst = burst; reach = reach; loss = loss } in rules ≡ by_share
+unfolding walked
+the_rules burst reach (Run n) are = let loss = are.loss in let none = loss.0 in cc none
+the_rules burst reach (Share bad of) are =
+    let burst_is = are.burst in
+    let reach_is = are.reach in
+    let loss_is = are.loss in
+    let bad_is = loss_is.0.2 in
+    let of_is = loss_is.1.2 in
+    rw (burst_is.2, reach_is.2, bad_is, of_is) refl
+
+pub has_the_share : (given : Asked) → IsAskedOf (entries_of follow_by_a_share) given → given ≡ asked.Follow by_share
+unfolding walked
+has_the_share (asked.Follow rules) is = ap asked.Follow (the_rules rules.burst rules.reach rules.loss is.1)
+has_the_share (asked.Job (job.Scan input workers) progress) is = absurd (other_name (codes "follow") (codes "scan") is.0.0 (omega arith))
+has_the_share (asked.Job (job.List input settings) progress) is = absurd (other_name (codes "follow") (codes "list") is.0.0 (omega arith))
+has_the_share (asked.Job (job.Totals input settings) progress) is = absurd (other_name (codes "follow") (codes "totals") is.0.0 (omega arith))
+has_the_share (asked.Job (job.Encode hex) progress) is = absurd (other_name (codes "follow") (codes "encode") is.0.0 (omega arith))
 
 -- a refusal that says so is one
 pub refused_so : {T E : Type 0} (answer : Result T E) (P : E → Type 0) → IsErrAnd answer P → OnOk answer ⊥ × IfErr answer P

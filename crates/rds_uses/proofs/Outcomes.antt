@@ -7,7 +7,7 @@ use Rattle.rds_tool.specs.Cuts.{cuts_bits}
 use Rattle.rds_tool.specs.Input.{and_then, may_be_gaps, recording_of}
 use Rattle.rds_tool.specs.Listing.{scan_text}
 use Rattle.rds_tool.specs.Outcome.{outcome, list_text, totals_list, text_of_task, Writes}
-use Rattle.rds_tool.specs.Plans.{crew_of}
+use Rattle.rds_tool.specs.Plans.{crew_of, workers_of}
 use Rattle.rds_tool.specs.Rules.{rules_of}
 use Rattle.rds_tool.specs.declared.error.ToolError.{ToolError}
 use Rattle.rds_tool.specs.declared.error.ToolError.TheVariants.{BadCutting}
@@ -16,7 +16,7 @@ use Rattle.rds_tool.specs.declared.job.Job.{Job}
 use Rattle.rds_tool.specs.declared.job.Job.TheVariants as job
 use Rattle.rds_tool.specs.declared.job.Settings.{Settings}
 use Rattle.rds_tool.specs.declared.task.Task.TheVariants as task
-use Rattle.rds_uses.specs.Jobs.{all_bits, plain, IsListBy, IsTotalsBy}
+use Rattle.rds_uses.specs.Jobs.{all_bits, plain, IsListBy, IsScan, IsTotalsBy}
 
 pub all_bits-few : (bytes : List ℕ) → 8 * length bytes ≤ 2 ^ 36 → recording_of plain bytes ≡ Ok (all_bits bytes)
 all_bits-few bytes few = grind (arith, nat_tests)
@@ -59,7 +59,7 @@ module _ (bytes new : List ℕ) (few : 8 * length bytes ≤ 2 ^ 36) (rules : Rul
       let text = written (outcome (job.List input settings) bytes) new is in
       let same = by.0 in
       list-text bytes new few rules settings by.1 (rw same at text)
-  listed (job.Scan input) by is = absurd by
+  listed (job.Scan input workers) by is = absurd by
   listed (job.Totals input settings) by is = absurd by
   listed (job.Encode hex) by is = absurd by
 
@@ -69,17 +69,26 @@ module _ (bytes new : List ℕ) (few : 8 * length bytes ≤ 2 ^ 36) (rules : Rul
       let text = written (outcome (job.Totals input settings) bytes) new is in
       let same = by.0 in
       totals-text bytes new few rules settings by.1 (rw same at text)
-  totalled (job.Scan input) by is = absurd by
+  totalled (job.Scan input workers) by is = absurd by
   totalled (job.List input settings) by is = absurd by
   totalled (job.Encode hex) by is = absurd by
 
+module _ (input : Input) (recorded : Signal) (bytes text : List ℕ) (is_recording : recording_of input bytes ≡ Ok recorded) where
+  -- the text of a scan, if there are workers
+  scan-text : (crew : Result ℕ ToolError)
+      → and_then (and_then crew (λ workers. Ok (task.Scan input workers))) (λ task. text_of_task task bytes) ≡ Ok text → text ≡ scan_text recorded
+  scan-text (Ok workers) is = let made = rw is_recording at is in cc
+  scan-text (Err e) is = let none : Err e ≡ Ok text = is in cc
+
 module _ (bytes new : List ℕ) (few : 8 * length bytes ≤ 2 ^ 36) where
-  -- what a scan writes into one
-  pub scanned : (asked : Job) → asked ≡ job.Scan plain → Writes (Some []) (Some new) (outcome asked bytes) → new ≡ scan_text (all_bits bytes)
-  scanned asked by is =
-      let text = written (outcome asked bytes) new is in
-      let made = rw (by, all_bits-few bytes few) at text in
-      cc
+  -- what a scan writes into an empty writer
+  pub scanned : (asked : Job) → IsScan asked → Writes (Some []) (Some new) (outcome asked bytes) → new ≡ scan_text (all_bits bytes)
+  scanned (job.Scan input workers) by is =
+      let text = written (outcome (job.Scan input workers) bytes) new is in
+      scan-text plain (all_bits bytes) bytes new (all_bits-few bytes few) (workers_of workers) (rw by at text)
+  scanned (job.List input settings) by is = absurd by
+  scanned (job.Totals input settings) by is = absurd by
+  scanned (job.Encode hex) by is = absurd by
 
 module _ (bytes : List ℕ) (few : 8 * length bytes ≤ 2 ^ 36) (gaps : List (ℕ × ℕ)) where
   -- the bytes themselves with gaps, and what they stand for
@@ -94,8 +103,6 @@ module _ (bytes : List ℕ) (few : 8 * length bytes ≤ 2 ^ 36) (gaps : List (�
 
   -- what a scan of them writes
   pub scanned_with_gaps : (new : List ℕ) → may_be_gaps 0 gaps (8 * length bytes) ≡ true
-      → Writes (Some []) (Some new) (outcome (job.Scan gapped) bytes) → new ≡ scan_text recorded
+      → Writes (Some []) (Some new) (outcome (job.Scan gapped 4) bytes) → new ≡ scan_text recorded
   scanned_with_gaps new lawful is =
-      let text = written (outcome (job.Scan gapped) bytes) new is in
-      let made = rw (few_with_gaps lawful) at text in
-      cc
+      scan-text gapped recorded bytes new (few_with_gaps lawful) (workers_of 4) (written (outcome (job.Scan gapped 4) bytes) new is)

@@ -20,6 +20,11 @@ abbrev pub IsListBy : Job → RuleNumbers → Type 0
 IsListBy (job.List input settings) rules = (input ≡ plain) × (rules_of settings ≡ Ok rules)
 IsListBy other rules = ⊥
 
+-- it asks for the valid windows, whoever works
+abbrev pub IsScan : Job → Type 0
+IsScan (job.Scan input workers) = input ≡ plain
+IsScan other = ⊥
+
 -- it asks for the totals by these rules, whoever works, and however the recording is cut
 abbrev pub IsTotalsBy : Job → RuleNumbers → Type 0
 IsTotalsBy (job.Totals input settings) rules = (input ≡ plain) × (rules_of settings ≡ Ok rules)

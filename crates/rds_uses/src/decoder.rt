@@ -10,7 +10,7 @@ ghost use Rattle.rds_uses.specs.Jobs.{all_bits};
 use crate::sync::usual_rules;
 use rds_pieces::{Cutting, PieceError, PieceRun, laws, speculate, stitch};
 use rds_stream::{Counted, Recording};
-use rds_sync::{Report, Rules};
+use rds_sync::{Report, Rules, Spans};
 use std::alloc::Global;
 
 /// The report of the bytes of a recording in an even cutting: that of one decoder, into however many pieces it is cut.
@@ -31,6 +31,7 @@ pub fn decoded(alloc: Global, bytes: Vec<u8>, pieces: u64) -> Option<Report>
         &mut Counted::new(&recording),
         &rules,
         runs.as_slice(),
+        Spans::Short,
     )
     .ok()
 }

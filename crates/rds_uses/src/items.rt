@@ -16,7 +16,8 @@ ghost use Rattle.rds_sync.specs.declared.totals.Totals.{Totals as TheTotals};
 
 use rds_stream::{Counted, Recording};
 use rds_sync::{
-    Codes, Item, Items, Mark, Marks, Rules, State, SyncError, Totals, finish, laws, run_codes,
+    Codes, Item, ItemIter, Items, Mark, Marks, Rules, State, SyncError, Totals, finish, laws,
+    run_codes,
 };
 use std::alloc::{AllocError, Global};
 use std::snapshot::Snapshot;
@@ -114,6 +115,25 @@ pub fn listed_by_marks(
     let mut items = Items::none(alloc, Snapshot::of(recording), rules);
     items.push_run(first, marks, len, codes.len() as u64)?;
     Ok(items)
+}
+
+/// Items in a row by the index of a list, which are those of the list.
+pub fn range_by_index<'a>(
+    alloc: Global,
+    recording: &'a Recording,
+    rules: &'a Rules,
+    items: &'a Items,
+    from: usize,
+    to: usize,
+) -> Result<ItemIter<'a>, SyncError>
+    requires source { items.now.source ≡ recording.now }
+    requires rules { items.now.rules ≡ rules.now }
+    requires order { from ≤ to }
+    requires within { to ≤ length items.now.list }
+    ensures { IfOk result (λ range. range ≡ slice_range items.now.list from to) }
+{
+    let indexed = items.indexed(alloc)?;
+    Ok(indexed.range(recording, rules, from, to))
 }
 
 /// The items of a report in one span and that of the recording's end.

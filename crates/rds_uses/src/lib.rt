@@ -13,6 +13,7 @@
 //! - [`items`]: lists of items of a recording, and their totals.
 //! - [`pieces`]: cuttings, guesses, seams, joins, their joints, and what is stitched of them.
 //! - [`decoder`]: all of these together, from bytes to a report.
+//! - [`live`]: streams, chunk by chunk, and what following one writes.
 //! - [`crew`]: the reports of crews.
 //! - [`dealer`]: numbers that are dealt to seats.
 //! - [`tool`]: what is written of the bytes that a reader holds, and each refusal by its cause.
@@ -30,6 +31,7 @@ pub mod decoder;
 pub mod devices;
 pub mod gaps;
 pub mod items;
+pub mod live;
 pub mod loss;
 pub mod pieces;
 pub mod refusals;

@@ -22,7 +22,7 @@ use rds_pieces::{
 };
 use rds_stream::{Counted, Recording, Tape};
 use rds_sync::{
-    Codes, Decoder, Loss, Mark, Marks, Report, Rules, State, SyncError, Totals,
+    Codes, Decoder, Loss, Mark, Marks, Report, Rules, Spans, State, SyncError, Totals,
     laws as laws_of_runs, run_codes,
 };
 use std::alloc::{AllocError, Global};
@@ -184,7 +184,14 @@ pub fn carried_on<'a>(
     let from = run.from();
     let before = Decoder::new(recording, rules, State::Searching, 0, from);
     let state = Decoder::new(recording, rules, State::Searching, 0, from).end_state();
-    let seam = seam(alloc, &mut Counted::new(recording), rules, state, run)?;
+    let seam = seam(
+        alloc,
+        &mut Counted::new(recording),
+        rules,
+        state,
+        run,
+        Spans::Short,
+    )?;
     Ok((before, seam))
 }
 
@@ -202,7 +209,7 @@ pub fn met_at_once<T: Tape>(
     ensures reads { IfOk result (λ _. T.reads_made tape.new ≤ T.reads_made tape.old + (rules.now.reach + 2)) }
 {
     run.from();
-    seam(alloc, tape, rules, State::Searching, run)
+    seam(alloc, tape, rules, State::Searching, run, Spans::Whole)
 }
 
 /// A seam that comes from a search costs no more where it is refused memory.
@@ -218,7 +225,7 @@ pub fn cost_from_search<T: Tape>(
     ensures { T.reads_made tape.new ≤ T.reads_made tape.old + (rules.now.reach + 2) }
 {
     run.from();
-    seam(alloc, tape, rules, State::Searching, run)
+    seam(alloc, tape, rules, State::Searching, run, Spans::Whole)
 }
 
 /// What a seam costs where memory is refused: the refusal, and no more windows than else; the tape is of the same bits.
@@ -236,7 +243,7 @@ pub fn cost_of_seam<T: Tape>(
         ≤ T.reads_made tape.old + (rules.now.reach + 2) * (run.now.to - run.now.from + 1) }
     ensures same { T.signal tape.new ≡ T.signal tape.old }
 {
-    seam(alloc, tape, rules, State::Searching, run)
+    seam(alloc, tape, rules, State::Searching, run, Spans::Whole)
 }
 
 /// On sound signal from the piece's first place on, a seam meets the guess within 416 bits by a loss of ten blocks.
@@ -255,7 +262,14 @@ pub fn met_on_sound_signal(
     requires inside { run.now.from + 416 ≤ run.now.to }
     ensures { IfOk result (λ met. (place : ℕ) × (met ≡ Some place) × (place ≤ run.now.from + 416)) }
 {
-    let seam = seam(alloc, &mut Counted::new(recording), rules, state, run)?;
+    let seam = seam(
+        alloc,
+        &mut Counted::new(recording),
+        rules,
+        state,
+        run,
+        Spans::Short,
+    )?;
     Ok(seam.met_at)
 }
 
@@ -488,7 +502,13 @@ pub fn decoded_in_two_pieces(
     let mut runs = Vec::new(alloc);
     runs.push(speculate(alloc, recording, rules, cutting, 0)?)?;
     runs.push(speculate(alloc, recording, rules, cutting, 1)?)?;
-    stitch(alloc, &mut Counted::new(recording), rules, runs.as_slice())
+    stitch(
+        alloc,
+        &mut Counted::new(recording),
+        rules,
+        runs.as_slice(),
+        Spans::Whole,
+    )
 }
 
 /// A recording in one piece is stitched at the cost of one seam that meets at once, and of its end.
@@ -504,7 +524,7 @@ pub fn cost_of_one_piece<T: Tape>(
     ensures reads { IfOk result (λ _. T.reads_made tape.new ≤ T.reads_made tape.old + (rules.now.reach + 2) + 3) }
     ensures same { T.signal tape.new ≡ T.signal tape.old }
 {
-    stitch(alloc, tape, rules, runs)
+    stitch(alloc, tape, rules, runs, Spans::Short)
 }
 
 /// It costs no more where it is refused memory.
@@ -519,7 +539,7 @@ pub fn cost_where_refused<T: Tape>(
     requires room { T.reads_made tape.old ≤ 2 ^ 61 }
     ensures { T.reads_made tape.new ≤ T.reads_made tape.old + (rules.now.reach + 2) + 3 }
 {
-    stitch(alloc, tape, rules, runs)
+    stitch(alloc, tape, rules, runs, Spans::Short)
 }
 
 /// Runs stay in a row where one run stands for two neighbours.

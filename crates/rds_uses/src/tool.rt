@@ -10,7 +10,7 @@ ghost use Rattle.rds_tool.specs.Listing.{report_text, scan_text, totals_text};
 ghost use Rattle.rds_tool.specs.Outcome.{IsOutside, WritesPrefix, outcome};
 ghost use Rattle.rds_tool.specs.Tasks.{AsksForThreads, task_of};
 ghost use Rattle.rds_tool.specs.declared.error.ToolError.TheVariants.{BadGaps, BurstRange, NoWorker, OutOfMemory, Read, TooManyTurns, Write};
-ghost use Rattle.rds_uses.specs.Jobs.{IsListBy, IsTotalsBy, all_bits, plain};
+ghost use Rattle.rds_uses.specs.Jobs.{IsListBy, IsScan, IsTotalsBy, all_bits, plain};
 
 use rds_crew::Gate;
 use rds_sync::Rules;
@@ -72,7 +72,7 @@ pub fn windows<R: Threads + Wait + Sync>(
     job: &Job,
 ) -> Option<Vec<u8>>
     requires few { 8 * length bytes.now ≤ 2 ^ 36 }
-    requires job { job.now ≡ Job.Scan plain }
+    requires job { IsScan job.now }
     ensures { IfSome result (λ text. text.items ≡ scan_text (all_bits bytes.now)) }
 {
     let mut writer = ToWrite::new(Vec::new(alloc));
@@ -94,11 +94,12 @@ pub fn windows_with_gaps<R: Threads + Wait + Sync>(
     ensures { IfSome result (λ text. text.items
         ≡ scan_text (record { bits = bits_of bytes.now (8 * length bytes.now); gaps = gaps.items })) }
 {
-    let job = Job::Scan(Input {
+    let input = Input {
         hex: false,
         bits: None,
         gaps,
-    });
+    };
+    let job = Job::Scan(input, 4);
     let mut writer = ToWrite::new(Vec::new(alloc));
     match transcribe(rt, alloc, &mut FromRead::new(bytes), &mut writer, &job) {
         Ok(()) => Some(writer.into_inner()),
@@ -264,7 +265,7 @@ pub fn writer_blamed<R: Threads + Wait + Sync, S: Source, K: Sink>(
 }
 
 /// Fewer than 16,777,216 bytes that are scanned are refused for want of memory or by a device alone: they have an end,
-/// they are a recording, and no thread is asked for.
+/// they are a recording, and a scan by four goes on without a thread that is not started.
 pub fn few_causes<R: Threads + Wait + Sync>(
     rt: &R,
     alloc: Global,
@@ -272,7 +273,7 @@ pub fn few_causes<R: Threads + Wait + Sync>(
     job: &Job,
 ) -> Option<ToolError>
     requires few { length bytes.now < 16777216 }
-    requires job { job.now ≡ Job.Scan plain }
+    requires job { job.now ≡ Job.Scan plain 4 }
     ensures { IfSome result (λ error. (error ≡ OutOfMemory) ⊎ ((error ≡ Read) ⊎ (error ≡ Write))) }
 {
     let mut writer = ToWrite::new(Vec::new(alloc));
@@ -291,11 +292,12 @@ pub fn bad_gaps<R: Threads + Wait + Sync>(
     ensures refused { result ≢ None }
     ensures cause { IfSome result (λ error. (error ≡ BadGaps) ⊎ ((error ≡ OutOfMemory) ⊎ ((error ≡ Read) ⊎ (error ≡ Write)))) }
 {
-    let job = Job::Scan(Input {
+    let input = Input {
         hex: false,
         bits: None,
         gaps,
-    });
+    };
+    let job = Job::Scan(input, 4);
     let mut writer = ToWrite::new(Vec::new(alloc));
     transcribe(rt, alloc, &mut FromRead::new(bytes), &mut writer, &job).err()
 }

@@ -7,7 +7,7 @@ use crate::samples::{Cuts, Sample, Signal};
 use crate::sync::counts::counted;
 use rds_pieces::{PieceError, PieceRun, seam};
 use rds_stream::{Counted, Tape};
-use rds_sync::{Decoder, Item, State};
+use rds_sync::{Decoder, Item, Spans, State};
 use std::alloc::Global;
 use std::test::Fail;
 
@@ -38,7 +38,7 @@ pub fn seam_from(
     }
     let (recording, rules) = (&sample.recording, &sample.rules);
     let mut tape = Counted::new(recording);
-    let seam = seam(alloc, &mut tape, rules, state, guess)?;
+    let seam = seam(alloc, &mut tape, rules, state, guess, Spans::Whole)?;
     let items: Vec<Item> = seam.items.iter(recording, rules).collect(alloc)?;
     Ok(Shown {
         met_at: seam.met_at,

@@ -7,7 +7,7 @@ use crate::pieces::guesses::guesses;
 use crate::samples::{Cuts, Sample, Signal};
 use rds_pieces::{Cutting, PieceError, RecordingWork, Work, stitch};
 use rds_stream::{Counted, Tape};
-use rds_sync::Report;
+use rds_sync::{Report, Spans};
 use std::alloc::Global;
 use std::test::Fail;
 
@@ -20,7 +20,13 @@ fn by_pieces(alloc: Global, sample: &Sample, cutting: &Cutting) -> Result<(Repor
     let work = RecordingWork::new(&sample.recording, &sample.rules, cutting);
     let runs = guesses(alloc, &work)?;
     let mut tape = Counted::new(&sample.recording);
-    let report = stitch(alloc, &mut tape, &sample.rules, runs.as_slice())?;
+    let report = stitch(
+        alloc,
+        &mut tape,
+        &sample.rules,
+        runs.as_slice(),
+        Spans::Short,
+    )?;
     Ok((report, tape.reads()))
 }
 

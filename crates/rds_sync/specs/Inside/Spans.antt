@@ -1,9 +1,11 @@
 -- Items as they are kept, by the spans of their runs: the implementation's own, which no caller sees.
-use Rattle.std.specs.Prelude.{◌≡◌, ℕ, ◌+◌, ◌-◌, ◌≤◌, List, [], ◌∷◌, ◌++◌, All, drop, length}
+use Rattle.std.specs.Prelude.{◌≡◌, ℕ, ◌+◌, ◌-◌, ◌≤◌, List, [], ◌∷◌, ◌++◌, All, drop, length, take}
 use Rattle.rds_stream.specs.Recording.{Signal, length_of}
+use Rattle.rds_sync.specs.declared.indexed_items.Start.{Start}
 use Rattle.rds_sync.specs.declared.item.Item.{Item}
 use Rattle.rds_sync.specs.declared.span.Span.{Span}
 use Rattle.rds_sync.specs.declared.span.Span.TheVariants.{Run, End}
+use Rattle.rds_sync.specs.Decoding.{ItemsOf}
 use Rattle.rds_sync.specs.Lawful.{IsLawful}
 use Rattle.rds_sync.specs.Ranges.{IsInRange}
 use Rattle.rds_sync.specs.Rules.{RuleNumbers}
@@ -38,9 +40,20 @@ module _ (b : Signal) (rules : RuleNumbers) where
     pub passed : length (items_in rest) + from ≡ length (items_in spans) + left
     pub all : All IsSpan rest
 
+  -- a span that stands among these, or would be the next, and how many items stand before it
+  pub record IsStart (spans : List Span) (start : Start) : Type 0 where
+    pub within : start.span ≤ length spans
+    pub before : start.before ≡ length (items_in (take start.span spans))
+
   -- the spans after those that stood before, and what they give
   pub record AreBehind (before after : List Span) (items : List Item) : Type 0 where
     pub more : List Span
     pub same : after ≡ before ++ more
     pub all : All IsSpan more
     pub given : items_in more ≡ items
+
+-- the spans from that on which holds item number `from` of a list, and its number there
+pub record IsFound (items : ItemsOf) (from : ℕ) (rest : List Span) (left : ℕ) : Type 0 where
+  pub same : drop left (items_in items.source items.rules rest) ≡ drop from items.list
+  pub passed : length (items_in items.source items.rules rest) + from ≡ length items.list + left
+  pub all : All (IsSpan items.source items.rules) rest

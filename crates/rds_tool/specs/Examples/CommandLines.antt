@@ -12,7 +12,7 @@ use Rattle.rds_tool.specs.CommandLine.{entries_of, faults_of}
 abbrev pub texts : List Row → List (Option Text)
 texts rows = map (λ name. one_of name rows)
     (codes "hex" ∷ codes "bits" ∷ codes "burst" ∷ codes "reach" ∷ codes "loss" ∷ codes "share" ∷ codes "of"
-    ∷ codes "pieces" ∷ codes "workers" ∷ [])
+    ∷ codes "pieces" ∷ codes "workers" ∷ codes "progress" ∷ [])
 
 -- the command and these
 abbrev pub asked_by : List Text → Option (Text × List (Option Text))
@@ -21,12 +21,12 @@ asked_by words = elim (entries_of words) [ None ↦ None | Some entries ↦ Some
 -- ---- options and their defaults
 
 pub scan : asked_by (codes "rds" ∷ codes "scan" ∷ [])
-    ≡ Some (codes "scan", Some (codes "false") ∷ None ∷ None ∷ None ∷ None ∷ None ∷ None ∷ None ∷ None ∷ [])
+    ≡ Some (codes "scan", Some (codes "false") ∷ None ∷ None ∷ None ∷ None ∷ None ∷ None ∷ None ∷ Some (codes "4") ∷ Some (codes "false") ∷ [])
 unfolding walked
 scan = refl
 
 pub scan_of_bits : asked_by (codes "rds" ∷ codes "scan" ∷ codes "--bits" ∷ codes "104" ∷ codes "--hex" ∷ [])
-    ≡ Some (codes "scan", Some (codes "true") ∷ Some (codes "104") ∷ None ∷ None ∷ None ∷ None ∷ None ∷ None ∷ None ∷ [])
+    ≡ Some (codes "scan", Some (codes "true") ∷ Some (codes "104") ∷ None ∷ None ∷ None ∷ None ∷ None ∷ None ∷ Some (codes "4") ∷ Some (codes "false") ∷ [])
 unfolding walked
 scan_of_bits = refl
 
@@ -34,23 +34,33 @@ pub list : asked_by (codes "rds" ∷ codes "list" ∷ [])
     ≡ Some (
       codes "list",
       Some (codes "false") ∷ None ∷ Some (codes "2") ∷ Some (codes "3") ∷ Some (codes "10")
-          ∷ None ∷ Some (codes "64") ∷ Some (codes "16") ∷ Some (codes "4") ∷ [],
+          ∷ None ∷ Some (codes "64") ∷ Some (codes "16") ∷ Some (codes "4") ∷ Some (codes "false") ∷ [],
     )
 unfolding walked
 list = refl
+
+-- a stream has no digits, no number of bits, no pieces and no workers
+pub follow : asked_by (codes "rds" ∷ codes "follow" ∷ codes "--of" ∷ codes "10" ∷ codes "--share=9" ∷ [])
+    ≡ Some (
+      codes "follow",
+      None ∷ None ∷ Some (codes "2") ∷ Some (codes "3") ∷ Some (codes "10")
+          ∷ Some (codes "9") ∷ Some (codes "10") ∷ None ∷ None ∷ None ∷ [],
+    )
+unfolding walked
+follow = refl
 
 -- an option of each kind
 abbrev pub each_option : List Text
 each_option =
     codes "rds" ∷ codes "totals" ∷ codes "--workers" ∷ codes "7" ∷ codes "--pieces=6" ∷ codes "--loss" ∷ codes "5"
     ∷ codes "--reach=4"
-    ∷ codes "--burst" ∷ codes "1" ∷ codes "--bits=0" ∷ codes "--hex" ∷ []
+    ∷ codes "--burst" ∷ codes "1" ∷ codes "--bits=0" ∷ codes "--progress" ∷ codes "--hex" ∷ []
 
 pub totals : asked_by each_option
     ≡ Some (
       codes "totals",
       Some (codes "true") ∷ Some (codes "0") ∷ Some (codes "1") ∷ Some (codes "4")
-          ∷ Some (codes "5") ∷ None ∷ Some (codes "64") ∷ Some (codes "6") ∷ Some (codes "7") ∷ [],
+          ∷ Some (codes "5") ∷ None ∷ Some (codes "64") ∷ Some (codes "6") ∷ Some (codes "7") ∷ Some (codes "true") ∷ [],
     )
 unfolding walked
 totals = refl
@@ -63,7 +73,7 @@ unfolding walked
 gaps = refl
 
 pub encode : asked_by (codes "rds" ∷ codes "encode" ∷ codes "--hex" ∷ [])
-    ≡ Some (codes "encode", Some (codes "true") ∷ None ∷ None ∷ None ∷ None ∷ None ∷ None ∷ None ∷ None ∷ [])
+    ≡ Some (codes "encode", Some (codes "true") ∷ None ∷ None ∷ None ∷ None ∷ None ∷ None ∷ None ∷ None ∷ None ∷ [])
 unfolding walked
 encode = refl
 
@@ -94,6 +104,10 @@ pub no_such_option : faults_of (codes "rds" ∷ codes "scan" ∷ codes "--burst"
     ≡ kind.UnknownArgument ∷ []
 unfolding walked bundle_met flags_pass walk_passes flags_fault walk_fault defaults_fault
 no_such_option = refl
+
+pub no_workers_to_follow : faults_of (codes "rds" ∷ codes "follow" ∷ codes "--workers=2" ∷ []) ≡ kind.UnknownArgument ∷ []
+unfolding walked bundle_met flags_pass walk_passes flags_fault walk_fault defaults_fault
+no_workers_to_follow = refl
 
 pub any_gaps : faults_of (codes "rds" ∷ codes "scan" ∷ codes "--gaps=" ∷ []) ≡ []
 unfolding walked bundle_met flags_pass walk_passes flags_fault walk_fault defaults_fault

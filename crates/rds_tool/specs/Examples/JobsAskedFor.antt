@@ -1,4 +1,4 @@
--- The job that words ask for, and what may be answered where they ask for help, have a fault, or ask for a job.
+-- What words ask for, and what may be answered where they ask for help, have a fault, or ask for a job.
 use Rattle.std.specs.Prelude.{◌≡◌, Bool, List, None, Option, Some, [], ◌∷◌, codes, false, is_some, length, nat_eq, refl, slice_index, true}
 use Rattle.std.proofs.Common.{ap, inl, inr, sym}
 use Rattle.std.proofs.lemmas.Bool.{false≢true, leb-true}
@@ -9,10 +9,13 @@ use Rattle.clap.specs.Walk.{bundle_met, walked}
 use Rattle.clap.specs.Words.{Text}
 use Rattle.clap.specs.declared.error.kind.ErrorKind.{ErrorKind}
 use Rattle.clap.specs.declared.error.kind.ErrorKind.TheVariants as kind
+use Rattle.rds_sync.specs.Rules.{RuleNumbers}
 use Rattle.rds_sync.specs.declared.loss.Loss.{Loss}
 use Rattle.rds_sync.specs.declared.loss.Loss.TheVariants.{Run, Share}
-use Rattle.rds_tool.specs.CommandLine.{HasBadGaps, HasBadLoss, IsFlag, IsJobOf, MayAnswer, Spells, SpellsLoss, entries_of, faults_of, mixes_losses}
+use Rattle.rds_tool.specs.CommandLine.{HasBadGaps, HasBadLoss, IsAskedOf, IsFlag, MayAnswer, Spells, SpellsLoss, entries_of, faults_of, mixes_losses}
 use Rattle.rds_tool.specs.declared.cli.FaultKind.TheVariants.{Help, Memory, Version, Words}
+use Rattle.rds_tool.specs.declared.job.Asked.{Asked}
+use Rattle.rds_tool.specs.declared.job.Asked.TheVariants.{Job as AskedJob, Follow}
 use Rattle.rds_tool.specs.declared.job.Job.{Job}
 use Rattle.rds_tool.specs.declared.job.Job.TheVariants.{Encode, List as ListJob, Scan, Totals}
 use Rattle.rds_tool.specs.Examples.CommandLines.{each_option}
@@ -94,61 +97,101 @@ a_loss_alone = refl
 
 pub a_loss_beside_a_share : HasBadLoss (entries_of for_loss_beside_share)
 unfolding walked
-a_loss_beside_a_share = (inl refl, refl)
+a_loss_beside_a_share = (inr (inl refl), refl)
 
 pub an_of_without_a_share : HasBadLoss (entries_of for_of_without_share)
 unfolding walked
-an_of_without_a_share = (inr refl, refl)
+an_of_without_a_share = (inr (inr refl), refl)
 
--- such words ask for no job, though they have no other fault
+-- such words ask for nothing, though they have no other fault
 pub no_fault_of_loss : faults_of for_loss_beside_share ≡ []
 unfolding walked bundle_met flags_pass walk_passes flags_fault walk_fault defaults_fault
 no_fault_of_loss = refl
 
-pub no_job_of_both : (job : Job) → IsJobOf (entries_of for_loss_beside_share) job → ⊥
+pub nothing_by_both : (asked : Asked) → IsAskedOf (entries_of for_loss_beside_share) asked → ⊥
 unfolding walked
-no_job_of_both (Scan input) (name, is) = false≢true (sym (ap begins_with_l name))
-no_job_of_both (ListJob input settings) (name, is, by) = false≢true (sym by.one_rule)
-no_job_of_both (Totals input settings) (name, is, by) = false≢true (sym (ap begins_with_l name))
-no_job_of_both (Encode hex) (name, is) = false≢true (sym (ap begins_with_l name))
+nothing_by_both (AskedJob (Scan input workers) progress) is = false≢true (sym (ap begins_with_l is.0.0))
+nothing_by_both (AskedJob (ListJob input settings) progress) is = let by = is.0.2 in false≢true (sym by.rules.one_rule)
+nothing_by_both (AskedJob (Totals input settings) progress) is = false≢true (sym (ap begins_with_l is.0.0))
+nothing_by_both (AskedJob (Encode hex) progress) is = false≢true (sym (ap begins_with_l is.0.0))
+nothing_by_both (Follow rules) is = false≢true (sym (ap begins_with_l is.0))
 
 -- ---- jobs
 
 abbrev pub totals_job : Job
 totals_job = Totals (hex_bits 0) (settings_of 1 4 5 7 6)
 
-pub totals : IsJobOf (entries_of each_option) totals_job
+-- with its progress, which is told where the words ask for that alone
+pub totals : IsAskedOf (entries_of each_option) (AskedJob totals_job true)
 unfolding walked
 totals = (
-  refl,
-  (record { hex = flag; bits = zero_bits; gaps = refl }),
-  (record {
-    one_rule = refl;
-    burst = ((leb-true 1 1 refl, (leb-true 2 10 refl, tt)), leb-true 2 4294967296 refl, refl);
-    reach = ((leb-true 1 1 refl, (leb-true 5 10 refl, tt)), leb-true 5 4294967296 refl, refl);
-    loss = (refl, ((leb-true 1 1 refl, (leb-true 6 10 refl, tt)), leb-true 6 4294967296 refl, refl));
-    workers = ((leb-true 1 1 refl, (leb-true 8 10 refl, tt)), leb-true 8 4294967296 refl, refl);
-    cuts = ((leb-true 1 1 refl, (leb-true 7 10 refl, tt)), leb-true 7 4294967296 refl, refl);
-  }),
+  (
+    refl,
+    (record { hex = flag; bits = zero_bits; gaps = refl }),
+    (record {
+      rules = record {
+        one_rule = refl;
+        burst = ((leb-true 1 1 refl, (leb-true 2 10 refl, tt)), leb-true 2 4294967296 refl, refl);
+        reach = ((leb-true 1 1 refl, (leb-true 5 10 refl, tt)), leb-true 5 4294967296 refl, refl);
+        loss = (refl, ((leb-true 1 1 refl, (leb-true 6 10 refl, tt)), leb-true 6 4294967296 refl, refl));
+      };
+      workers = ((leb-true 1 1 refl, (leb-true 8 10 refl, tt)), leb-true 8 4294967296 refl, refl);
+      cuts = ((leb-true 1 1 refl, (leb-true 7 10 refl, tt)), leb-true 7 4294967296 refl, refl);
+    }),
+  ),
+  flag,
 )
 
-pub scan : IsJobOf (entries_of (codes "rds" ∷ codes "scan" ∷ [])) (Scan raw_input)
-unfolding walked
-scan = (refl, record { hex = no_flag; bits = refl; gaps = refl })
+-- no entry is no flag
+pub not_told : IsFlag None false
+not_told = ((λ is. refl), (λ is. let no : None ≡ Some (codes "true") = is in cc), λ is. refl)
 
-pub scan_with_gaps : IsJobOf (entries_of (codes "rds" ∷ codes "scan" ∷ codes "--gaps" ∷ codes "104-105,120-130" ∷ []))
-    (Scan (record raw_input { gaps = (104, 105) ∷ (120, 130) ∷ [] }))
-unfolding walked
-scan_with_gaps = (refl, record { hex = no_flag; bits = refl; gaps = refl })
+pub two : Spells 32 (Some (codes "2")) 2
+two = ((leb-true 1 1 refl, (leb-true 3 10 refl, tt)), leb-true 3 4294967296 refl, refl)
 
-pub encode : IsJobOf (entries_of (codes "rds" ∷ codes "encode" ∷ codes "--hex" ∷ [])) (Encode true)
+pub three : Spells 32 (Some (codes "3")) 3
+three = ((leb-true 1 1 refl, (leb-true 4 10 refl, tt)), leb-true 4 4294967296 refl, refl)
+
+pub ten : Spells 32 (Some (codes "10")) 10
+ten = ((leb-true 1 2 refl, (leb-true 2 10 refl, (leb-true 1 10 refl, tt))), leb-true 11 4294967296 refl, refl)
+
+pub four : Spells 32 (Some (codes "4")) 4
+four = ((leb-true 1 1 refl, (leb-true 5 10 refl, tt)), leb-true 5 4294967296 refl, refl)
+
+-- by four workers, where the words say no number
+pub scan : IsAskedOf (entries_of (codes "rds" ∷ codes "scan" ∷ [])) (AskedJob (Scan raw_input 4) false)
 unfolding walked
-encode = (refl, flag)
+scan = ((refl, record { hex = no_flag; bits = refl; gaps = refl }, four), no_flag)
+
+pub scan_by_seven : IsAskedOf (entries_of (codes "rds" ∷ codes "scan" ∷ codes "--workers" ∷ codes "+7" ∷ [])) (AskedJob (Scan raw_input 7) false)
+unfolding walked
+scan_by_seven = ((refl, record { hex = no_flag; bits = refl; gaps = refl }, plus_seven), no_flag)
+
+pub scan_with_gaps : IsAskedOf (entries_of (codes "rds" ∷ codes "scan" ∷ codes "--gaps" ∷ codes "104-105,120-130" ∷ []))
+    (AskedJob (Scan (record raw_input { gaps = (104, 105) ∷ (120, 130) ∷ [] }) 4) false)
+unfolding walked
+scan_with_gaps = ((refl, record { hex = no_flag; bits = refl; gaps = refl }, four), no_flag)
+
+-- to encode is never told of: the command has no such option
+pub encode : IsAskedOf (entries_of (codes "rds" ∷ codes "encode" ∷ codes "--hex" ∷ [])) (AskedJob (Encode true) false)
+unfolding walked
+encode = ((refl, flag), not_told)
+
+-- a stream, by the default rules
+abbrev pub default_rules : RuleNumbers
+default_rules = record { burst = 2; reach = 3; loss = Run 10 }
+
+pub follow : IsAskedOf (entries_of (codes "rds" ∷ codes "follow" ∷ [])) (Follow default_rules)
+unfolding walked
+follow = (refl, record { one_rule = refl; burst = two; reach = three; loss = (refl, ten) })
 
 -- ---- gaps that are none
 
 abbrev pub begins_with_e : Text → Bool
 begins_with_e text = nat_eq (slice_index text 0) 101
+
+abbrev pub begins_with_f : Text → Bool
+begins_with_f text = nat_eq (slice_index text 0) 102
 
 abbrev pub for_bad_gaps : List Text
 for_bad_gaps = codes "rds" ∷ codes "scan" ∷ codes "--gaps" ∷ codes "5" ∷ []
@@ -161,17 +204,18 @@ pub empty_gaps : HasBadGaps (entries_of (codes "rds" ∷ codes "scan" ∷ codes 
 unfolding walked
 empty_gaps = (inl refl, refl)
 
--- such words ask for no job, though they have no other fault
+-- such words ask for nothing, though they have no other fault
 pub no_fault_of_gaps : faults_of for_bad_gaps ≡ []
 unfolding walked bundle_met flags_pass walk_passes flags_fault walk_fault defaults_fault
 no_fault_of_gaps = refl
 
-pub no_job_of_bad_gaps : (job : Job) → IsJobOf (entries_of for_bad_gaps) job → ⊥
+pub nothing_by_bad_gaps : (asked : Asked) → IsAskedOf (entries_of for_bad_gaps) asked → ⊥
 unfolding walked
-no_job_of_bad_gaps (Scan input) (name, is) = false≢true (ap is_some is.gaps)
-no_job_of_bad_gaps (ListJob input settings) (name, is, by) = false≢true (ap is_some is.gaps)
-no_job_of_bad_gaps (Totals input settings) (name, is, by) = false≢true (ap is_some is.gaps)
-no_job_of_bad_gaps (Encode hex) (name, is) = false≢true (ap begins_with_e name)
+nothing_by_bad_gaps (AskedJob (Scan input workers) progress) is = let input_is = is.0.1 in false≢true (ap is_some input_is.gaps)
+nothing_by_bad_gaps (AskedJob (ListJob input settings) progress) is = let input_is = is.0.1 in false≢true (ap is_some input_is.gaps)
+nothing_by_bad_gaps (AskedJob (Totals input settings) progress) is = let input_is = is.0.1 in false≢true (ap is_some input_is.gaps)
+nothing_by_bad_gaps (AskedJob (Encode hex) progress) is = false≢true (ap begins_with_e is.0.0)
+nothing_by_bad_gaps (Follow rules) is = false≢true (ap begins_with_f is.0)
 
 -- ---- answers that are no job
 
@@ -249,9 +293,9 @@ unfolding walked bundle_met flags_pass walk_passes flags_fault walk_fault defaul
 no_help (inl is) = false≢true (sym (ap is_help is))
 no_help (inr other) = other
 
--- words without a fault, of which no job has the entries
+-- words without a fault, of which nothing to be asked for has the entries
 pub no_job : MayAnswer [] None Words
-no_job = inr (refl, λ job asked. asked)
+no_job = inr (refl, λ asked is. is)
 
 -- where there is a job, neither help nor a refusal of the words may be answered
 pub not_help : MayAnswer (faults_of each_option) (entries_of each_option) Help → ⊥
@@ -260,7 +304,7 @@ not_help among = among
 
 pub not_words : MayAnswer [] (entries_of each_option) Words → ⊥
 not_words (inl (k, is_fault, among)) = among
-not_words (inr (none, without)) = without totals_job totals
+not_words (inr (none, without)) = without (AskedJob totals_job true) totals
 
 pub memory : MayAnswer [] None Memory
 memory = tt

@@ -30,22 +30,29 @@ too_long = refl
 pub past_the_bytes : outcome (ListJob (raw_bits 57) default_settings) (codes "1234567") ≡ Err BitsPastBytes
 past_the_bytes = refl
 
--- a scan has neither rules nor cuts
-pub text_of_a_scan : outcome (Scan hex_input) (codes "000") ≡ Err HexText
+-- of a scan too
+pub crew_of_a_scan : outcome (Scan hex_input 0) (codes "000") ≡ Err CrewRange
+crew_of_a_scan = refl
+
+pub too_many_for_a_scan : outcome (Scan hex_input 257) (codes "000") ≡ Err CrewRange
+too_many_for_a_scan = refl
+
+-- which has neither rules nor cuts
+pub text_of_a_scan : outcome (Scan hex_input 4) (codes "000") ≡ Err HexText
 unfolding decode_pairs
 text_of_a_scan = refl
 
-pub bits_of_a_scan : outcome (Scan (raw_bits 9)) (codes "1") ≡ Err BitsPastBytes
+pub bits_of_a_scan : outcome (Scan (raw_bits 9) 4) (codes "1") ≡ Err BitsPastBytes
 bits_of_a_scan = refl
 
 pub line_of_an_encoding : outcome (Encode false) (codes "123425405244532") ≡ Err GroupText
 line_of_an_encoding = refl
 
 -- gaps are looked at after the bits and before the cuts
-pub gaps_of_a_scan : outcome (Scan (record (raw_bits 8) { gaps = (5, 5) ∷ [] })) (codes "1") ≡ Err BadGaps
+pub gaps_of_a_scan : outcome (Scan (record (raw_bits 8) { gaps = (5, 5) ∷ [] }) 4) (codes "1") ≡ Err BadGaps
 gaps_of_a_scan = refl
 
-pub bits_before_gaps : outcome (Scan (record (raw_bits 9) { gaps = (5, 5) ∷ [] })) (codes "1") ≡ Err BitsPastBytes
+pub bits_before_gaps : outcome (Scan (record (raw_bits 9) { gaps = (5, 5) ∷ [] }) 4) (codes "1") ≡ Err BitsPastBytes
 bits_before_gaps = refl
 
 -- places are looked at once the bits are known

@@ -13,7 +13,7 @@ use Rattle.rds_tool.specs.Examples.Words.{default_settings, hex_bits, hex_input,
 abbrev pub zero_group : List ℕ
 zero_group = codes "00003f00001980 0005a00001b4"
 
-pub scan : outcome (Scan hex_input) zero_group
+pub scan : outcome (Scan hex_input 4) zero_group
     ≡ Ok (line (codes "25,A") ++ line (codes "51,B") ++ line (codes "77,C") ++ line (codes "96,B")
     ++ line (codes "103,D"))
 unfolding decode_pairs digits heard off rem touched window

@@ -18,5 +18,6 @@ pub one_worker : AsksForNone (ListJob hex_input (settings_of 2 3 10 1 16))
     × AsksForNone (Totals hex_input (settings_of 2 3 10 1 16))
 one_worker = ((λ more. false≢true (le-leb 2 1 more)), (λ more. false≢true (le-leb 2 1 more)))
 
-pub no_workers : AsksForNone (Scan hex_input) × AsksForNone (Encode true)
-no_workers = ((λ asks. asks), (λ asks. asks))
+-- a scan goes on with the threads that it has
+pub no_refusal : AsksForNone (Scan hex_input 4) × AsksForNone (Encode true)
+no_refusal = ((λ asks. asks), (λ asks. asks))

@@ -1,5 +1,5 @@
 -- A writer of rows of `csv` over a vector, between two rows.
-use Rattle.std.specs.Prelude.{◌++◌, ◌≡◌, ℕ, List, Vec, false}
+use Rattle.std.specs.Prelude.{◌++◌, ◌≡◌, ◌≤◌, ℕ, List, Vec, false, length}
 use Rattle.csv.specs.Writing.{default_writer, fields_written, has_written, needs_quotes, writer_pending, writer_setup, writer_under}
 use Rattle.csv.specs.declared.writer.Writer.{Writer}
 
@@ -16,3 +16,7 @@ pub record IsBetween {W : Type 0} (rows : Writer W) : Type 0 where
 -- a field that is written as it is, without quotes
 abbrev pub IsPlain : List ℕ → Type 0
 IsPlain field = needs_quotes default_writer field ≡ false
+
+-- a field that is no longer than the longest number
+abbrev pub IsShort : List ℕ → Type 0
+IsShort field = length field ≤ 20

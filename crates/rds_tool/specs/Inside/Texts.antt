@@ -1,7 +1,10 @@
--- Texts that stand one after the other. This project's rule.
-use Rattle.std.specs.Prelude.{ℕ, List, Vec}
-use Rattle.std.specs.List.{flat_map}
+-- The text that is written, whether it is made or still to be spelled.
+use Rattle.std.specs.Prelude.{ℕ, List}
+use Rattle.rds_tool.specs.Listing.{report_text, scan_text}
+use Rattle.rds_tool.specs.declared.text.Text.{Text}
+use Rattle.rds_tool.specs.declared.text.Text.TheVariants.{Listing, Whole, Windows}
 
--- their bytes, text by text
-abbrev pub joined : {Z : Type 0} → List (Vec ℕ Z) → List ℕ
-joined texts = flat_map (λ text. text.items) texts
+abbrev pub bytes_of : Text → List ℕ
+bytes_of (Whole text) = text.items
+bytes_of (Listing listing) = report_text listing.report.items.list listing.report.totals
+bytes_of (Windows recording workers) = scan_text recording

@@ -55,7 +55,7 @@ push_run-requires-in-Some-clause-marks g c =
     let w = c.in_ok-place.field-0 in
     let met = met_from r.source r.rules c.args.state r.from r.to w.place w.met c.in-Some.passed c.in-Some.is c.in_ok-place.ensures.met in
     let named = c.in_ok-push_run.ensures.ok in
-    let none = c.none-items.ensures in
+    let none = c.cut_into-items.ensures ∙ c.none.ensures in
     let b_is = sym (ap (λ (x : ItemsOf). x.source) named ∙ ap (λ (x : ItemsOf). x.source) none ∙ c.source.ensures ∙ c.go_along.ensures.same ∙ sym c.requires.source) in
     let rules_are = sym (ap (λ (x : ItemsOf). x.rules) named ∙ ap (λ (x : ItemsOf). x.rules) none ∙ sym c.requires.rules) in
     renamed (λ b rules. c.in-Some.passed.ahead ≡ marks_on b rules w.state w.place c.in-Some.passed.items (c.range-from.result.1 - w.place))
@@ -69,7 +69,7 @@ push_run-requires-in-Some-clause-count g c =
     let w = c.in_ok-place.field-0 in
     let met = met_from r.source r.rules c.args.state r.from r.to w.place w.met c.in-Some.passed c.in-Some.is c.in_ok-place.ensures.met in
     let named = c.in_ok-push_run.ensures.ok in
-    let none = c.none-items.ensures in
+    let none = c.cut_into-items.ensures ∙ c.none.ensures in
     let b_is = sym (ap (λ (x : ItemsOf). x.source) named ∙ ap (λ (x : ItemsOf). x.source) none ∙ c.source.ensures ∙ c.go_along.ensures.same ∙ sym c.requires.source) in
     let rules_are = sym (ap (λ (x : ItemsOf). x.rules) named ∙ ap (λ (x : ItemsOf). x.rules) none ∙ sym c.requires.rules) in
     renamed (λ b rules. c.len-in-Some.result ≡ c.in-Some.passed.items + length (run b rules w.state w.place (c.range-from.result.1 - w.place)).1)

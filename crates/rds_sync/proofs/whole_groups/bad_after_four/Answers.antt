@@ -1,31 +1,11 @@
-use Rattle.std.proofs.Common.{◌≡◌, ◌+◌, ◌<◌, ℕ, zero, suc, List, Bool, false, sym, ap, ◌∙◌, arith}
-use Rattle.rds_sync.specs.declared.loss.Bad.{Bad}
-use Rattle.rds_sync.specs.Codes.{Outcome}
-use Rattle.rds_sync.specs.Loss.{are_too_many, bad_after}
-use Rattle.rds_sync.specs.Marks.{bad_over, good_at}
-use Rattle.rds_sync.specs.Words.{blocks_in}
+use Rattle.std.proofs.Common.{subst}
+use Rattle.rds_sync.specs.declared.loss.Loss.{Loss}
+use Rattle.rds_sync.specs.Loss.{IsLoss}
+use Rattle.rds_sync.proofs.BadRows.{clean_kept}
 use Rattle.rds_sync.proofs.whole_groups.bad_after_four.Goals as goal
 
--- what holds of the first four holds of each of them
-each-of-four : (P : ℕ → Type 0) → P 0 → P 1 → P 2 → P 3 → (k : ℕ) → k < 4 → P k
-each-of-four P one two three four zero h = one
-each-of-four P one two three four (suc zero) h = two
-each-of-four P one two three four (suc (suc zero)) h = three
-each-of-four P one two three four (suc (suc (suc zero))) h = four
-each-of-four P one two three four (suc (suc (suc (suc k)))) h = absurd (omega (arith, h))
-
-pub returns-clause-kept : goal.returns-clause-kept
-returns-clause-kept c =
-    let loss = c.args.loss in
-    let os : List Outcome = blocks_in c.args.word in
-    let bad = c.args.bad in
-    let one : c.in_ok-one.one ≡ bad_over loss os bad 1 1 = c.in_ok-one.ensures.bad ∙ ap (λ (g : Bool). bad_after loss g bad) c.is_good.ensures in
-    let two : c.in_ok-two.two ≡ bad_over loss os bad 1 2 =
-    c.in_ok-two.ensures.bad ∙ ap (λ (g : Bool). bad_after loss g c.in_ok-one.one) c.is_good-2.ensures ∙ ap (λ (b : Bad). bad_after loss (good_at os 2) b) one in
-    let three : c.in_ok-three.three ≡ bad_over loss os bad 1 3 =
-    c.in_ok-three.ensures.bad ∙ ap (λ (g : Bool). bad_after loss g c.in_ok-two.two) c.is_good-3.ensures ∙ ap (λ (b : Bad). bad_after loss (good_at os 3) b) two in
-    let four : c.in_ok-four.four ≡ bad_over loss os bad 1 4 =
-    c.in_ok-four.ensures.bad ∙ ap (λ (g : Bool). bad_after loss g c.in_ok-three.three) c.is_good-4.ensures ∙ ap (λ (b : Bad). bad_after loss (good_at os 4) b) three in
-    let kept : (b now : Bad) → now ≡ b → are_too_many loss now ≡ false → are_too_many loss b ≡ false = λ b now is few. ap (λ (bad : Bad). are_too_many loss bad) (sym is) ∙ few in
-    each-of-four (λ (k : ℕ). are_too_many loss (bad_over loss os bad 1 (k + 1)) ≡ false)
-    (kept _ _ one c.in_ok-one.ensures.kept) (kept _ _ two c.in_ok-two.ensures.kept) (kept _ _ three c.in_ok-three.ensures.kept) (kept _ _ four c.in_ok-four.ensures.kept)
+pub returns-in-Run-Run-clause-kept : goal.returns-in-Run-Run-clause-kept
+returns-in-Run-Run-clause-kept c k h =
+    let rule = c.in-Run-Run.is-0 in
+    rw (rule, c.in-Run-Run.is-1, c.if-word-eq-CLEAN.true)
+    (clean_kept c.in-Run-Run.field-0-0 c.in-Run-Run.field-0-1 k (subst (λ (loss : Loss). IsLoss loss) rule c.requires.range.0) h)

@@ -1,4 +1,5 @@
 use Rattle.std.proofs.Common.{Err, ◌≢◌}
+use Rattle.rds_tool.specs.Inside.Texts.{bytes_of}
 use Rattle.rds_tool.specs.Tasks.{MayStartThreads}
 use Rattle.rds_tool.specs.declared.error.ToolError.TheVariants.{NoWorker, Read, TooManyTurns, Write}
 use Rattle.rds_tool.proofs.Passing.{passed, passed_kind}
@@ -58,6 +59,6 @@ returns-in_err-text-clause-prefix g c = λ p. absurd ((text_inside g c).1 p)
 
 pub returns-clause-prefix : goal.returns-clause-prefix
 returns-clause-prefix g c =
-    prefix_is (g.S.Source.remaining c.args.reader.now) c.args.job.now c.in_ok-task.task c.in_ok-held.held.items c.in_ok-text.text c.write_to.result
+    prefix_is (g.S.Source.remaining c.args.reader.now) c.args.job.now c.in_ok-task.task c.in_ok-held.held.items (bytes_of c.in_ok-text.text) c.write_to.result
     (g.K.Sink.contents c.args.writer.now) (g.K.Sink.contents c.write_to.new.writer)
     c.in_ok-held.ensures.ok c.in_ok-task.ensures.ok c.in_ok-text.ensures.ok c.write_to.ensures.prefix

@@ -1,4 +1,4 @@
-use Rattle.std.proofs.Common.{◌≡◌, take}
+use Rattle.std.proofs.Common.{◌*◌, ◌≡◌, ◌≤◌, length, take}
 use Rattle.std.specs.List.{flat_map}
 use Rattle.rds_tool.specs.Listing.{window_row}
 use Rattle.rds_tool.specs.Inside.RowWriter.{IsBetween, text_of}
@@ -8,4 +8,5 @@ abbrev pub invariant-loop-place : goal.invariant-loop-place
 invariant-loop-place l = record {
   between : IsBetween l.rows;
   text : text_of l.rows ≡ flat_map window_row (take l.place-index l.windows);
+  short : length (text_of l.rows) ≤ l.place-index * 168;
 }

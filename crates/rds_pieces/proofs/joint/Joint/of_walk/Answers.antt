@@ -35,7 +35,7 @@ plus-requires c =
     let laws = c.run_laws.ensures in
     let met = met_from l.source l.rules (end_of l) r.from r.to w.place w.met c.in-Some.passed c.in-Some.is c.requires.met in
     let here : List Item = (run l.source l.rules (end_of l) r.from (w.place - r.from)).1 in
-    let own = c.totals-counted.ensures.value ∙ ap (λ (k : KeptOf). totals_of_codes k.codes) c.requires.codes ∙ sym (laws.codes here) in
+    let own = c.totals-counted.ensures.value ∙ ap (λ (k : KeptOf). totals_of_codes k.codes) (c.shrink_to_fit.ensures ∙ c.requires.codes) ∙ sym (laws.codes here) in
     let rest = renamed (λ b rules. c.totals_from-rest.result ≡ totals_of (drop c.in-Some.passed.items (guess b rules r.from (r.to - r.from)).1)) r.source l.source r.rules l.rules
     c.requires.beside.0 c.requires.beside.1 c.totals_from-rest.ensures in
     let inside = c.range-2.ensures.inside in
@@ -48,6 +48,8 @@ invariant_of-result c =
     let r = c.args.right.now in
     let w = c.args.walk in
     let laws = c.run_laws.ensures in
+    let kept = c.shrink_to_fit.new.self in
+    let own_is = c.shrink_to_fit.ensures ∙ c.requires.codes in
     let next = c.requires.next in
     let left = c.range.ensures.inside in
     let right = c.range-2.ensures.inside in
@@ -63,18 +65,18 @@ invariant_of-result c =
           c.requires.beside.0 c.requires.beside.1 x.totals_from-rest.ensures in
           let ends = renamed (λ b rules. x.end_state.result ≡ (guess b rules r.from (r.to - r.from)).0) r.source l.source r.rules l.rules c.requires.beside.0 c.requires.beside.1 x.end_state.ensures in
           let whole = joint_met laws l.source l.rules l.from r.from r.to c.range.ensures.rules c.range.ensures.few (omega (arith, left, next)) right.0 (omega (arith, right, bits))
-          (end_of l) s_is w.codes c.totals-counted.result c.totals-counted.ensures.value w.place x.in-Some.passed met c.requires.codes
+          (end_of l) s_is kept c.totals-counted.result c.totals-counted.ensures.value w.place x.in-Some.passed met own_is
           x.totals_from-rest.result rest x.end_state.result ends in
           let passed_is : c.match-met.passed ≡ (x.in-Some.passed.items, plus c.totals-counted.result x.totals_from-rest.result, x.end_state.result) =
           x.passed-is ∙ ap (λ (t : Totals). (x.in-Some.passed.items, t, x.end_state.result)) x.plus.ensures.value in
-          subst (λ (q : ℕ × Totals × State). IsJoint it w.codes q.0 q.1 q.2) (sym passed_is) (subst (λ (j : JointOf). IsJoint j w.codes x.in-Some.passed.items (plus c.totals-counted.result x.totals_from-rest.result) x.end_state.result) name whole)
+          subst (λ (q : ℕ × Totals × State). IsJoint it kept q.0 q.1 q.2) (sym passed_is) (subst (λ (j : JointOf). IsJoint j kept x.in-Some.passed.items (plus c.totals-counted.result x.totals_from-rest.result) x.end_state.result) name whole)
       | in-None x ↦
           let unmet = unmet_from l.source l.rules (end_of l) r.from r.to w.place w.met x.in-None.is c.requires.met in
-          let own = c.requires.codes ∙ ap (λ (p : ℕ). kept_of (run l.source l.rules (end_of l) r.from (p - r.from)).1) unmet.ends in
+          let own = own_is ∙ ap (λ (p : ℕ). kept_of (run l.source l.rules (end_of l) r.from (p - r.from)).1) unmet.ends in
           let end = c.requires.walk.state_is ∙ ap (λ (p : ℕ). (run l.source l.rules (end_of l) r.from (p - r.from)).0) unmet.ends in
           let all = renamed (λ b rules. x.codes.result.now ≡ kept_of (guess b rules r.from (r.to - r.from)).1) r.source l.source r.rules l.rules c.requires.beside.0 c.requires.beside.1 x.codes.ensures in
           let count = x.len.ensures ∙ ap (λ (k : KeptOf). length k.codes) all ∙ length-map (guess l.source l.rules r.from (r.to - r.from)).1 code_of in
           let whole = joint_unmet laws l.source l.rules l.from r.from r.to c.range.ensures.rules c.range.ensures.few (omega (arith, left, next)) right.0 (omega (arith, right, bits))
-          (end_of l) s_is w.codes c.totals-counted.result c.totals-counted.ensures.value own x.len.result count w.state end in
-          subst (λ (q : ℕ × Totals × State). IsJoint it w.codes q.0 q.1 q.2) (sym x.passed-is) (subst (λ (j : JointOf). IsJoint j w.codes x.len.result c.totals-counted.result w.state) name whole)
+          (end_of l) s_is kept c.totals-counted.result c.totals-counted.ensures.value own x.len.result count w.state end in
+          subst (λ (q : ℕ × Totals × State). IsJoint it kept q.0 q.1 q.2) (sym x.passed-is) (subst (λ (j : JointOf). IsJoint j kept x.len.result c.totals-counted.result w.state) name whole)
     ]

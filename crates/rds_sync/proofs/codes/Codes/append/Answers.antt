@@ -1,7 +1,6 @@
-use Rattle.std.proofs.Common.{◌≡◌, ◌≤◌, ◌+◌, ◌-◌, [], ◌∷◌, ◌++◌, ℕ, List, length, ap, sym, subst, ◌∙◌, arith, refl, append-nil, append_assoc, length-append}
+use Rattle.std.proofs.Common.{◌≡◌, ◌≤◌, ◌-◌, [], ◌∷◌, ◌++◌, ℕ, List, length, ap, sym, subst, ◌∙◌, arith, refl, append_assoc}
 use Rattle.std.specs.Vec.Iter.{into_iter_items}
 use Rattle.rds_sync.specs.Codes.{KeptOf, AreLocks, behind, kept_from}
-use Rattle.rds_sync.specs.Inside.CodeParts.{kept_in}
 use Rattle.rds_sync.proofs.CodePartLemmas.{HasMoved, moved-past, moved-into}
 use Rattle.rds_sync.proofs.codes.Codes.append.Goals as goal
 
@@ -29,15 +28,3 @@ loop-part-preserved c =
           (moved-past c.args.self.now l.self c.args.first l.left l.yielded part are l.invariant.0 (omega (arith, c.if-left-len.false, len))),
       append_assoc l.yielded (part ∷ []) (into_iter_items c.next.new.self) ∙ ap (λ (parts : List KeptOf). l.yielded ++ parts) (sym c.in-Some.ensures.steps.0) ∙ l.invariant.1,
     )
-
-pub after-requires-2 : goal.after-requires-2
-after-requires-2 c =
-    let none : length (into_iter_items c.loop-part.part-iterator) ≡ 0 = sym c.loop-part.part-iterator.rest.ok.0 ∙ c.in-None.ensures.steps.0 in
-    let all : c.loop-part.yielded ≡ c.other.inside.before.items =
-    sym (append-nil c.loop-part.yielded)
-    ∙ ap (λ (parts : List KeptOf). c.loop-part.yielded ++ parts) (sym (empty none))
-    ∙ c.loop-part.invariant.1 ∙ c.into_iter-part-iterator.ensures.into_iter_gives.0 in
-    let len : length c.args.other.codes ≡ length (kept_in c.other.inside.before.items).codes + length c.other.inside.last.codes =
-    ap (λ (kept : KeptOf). length kept.codes) (sym c.other.view_is) ∙ length-append (kept_in c.other.inside.before.items).codes c.other.inside.last.codes in
-    c.loop-part.invariant.0.within (length c.other.inside.last.codes)
-    (omega (arith, c.requires, len, ap (λ (parts : List KeptOf). length (kept_in parts).codes) all))

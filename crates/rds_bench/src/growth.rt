@@ -1,0 +1,169 @@
+//! Time that grows as the recording does: each call of the crates below over recordings of three sizes.
+//!
+//! Each size is four times the one before it. A call that goes over its recording some times takes four times as long;
+//! one that goes over it once more for each acquisition, or for each piece, takes sixteen times. No time is compared with
+//! a number of seconds, nor with that of another form, which the same fault may slow as well.
+use crate::sample::Sample;
+use anyhow::{Result, bail};
+use rds_crew::{OpenGate, decode_crew};
+use rds_pieces::{Cutting, RecordingWork, speculate};
+use rds_stream::{Recording, ValidWindows, scan};
+use rds_sync::{Decoder, Rules, State, decode_plain, run_codes};
+use std::alloc::Global;
+use std::sync::Wait;
+use std::thread::Threads;
+use std::time::Instant;
+
+/// How many times the time of a size the next one may take.
+const MOST: u64 = 8;
+
+/// How often a call is timed over a recording: the least time counts.
+const TURNS: u32 = 3;
+
+/// A public call, with the crate that it is of.
+#[derive(Clone, Copy)]
+enum Call {
+    Windows,
+    Scan,
+    OneDecoder,
+    Items,
+    Codes,
+    Guess,
+    Crew,
+}
+
+const CALLS: [Call; 7] = [
+    Call::Windows,
+    Call::Scan,
+    Call::OneDecoder,
+    Call::Items,
+    Call::Codes,
+    Call::Guess,
+    Call::Crew,
+];
+
+impl Call {
+    fn name(self) -> &'static str {
+        match self {
+            Call::Windows => "rds_stream: ValidWindows",
+            Call::Scan => "rds_stream: scan",
+            Call::OneDecoder => "rds_sync: decode_plain",
+            Call::Items => "rds_sync: Decoder",
+            Call::Codes => "rds_sync: run_codes",
+            Call::Guess => "rds_pieces: speculate",
+            Call::Crew => "rds_crew: decode_crew",
+        }
+    }
+
+    /// Makes the call over the whole recording. Answers a number that hangs on what it gives.
+    fn make<T: Threads + Wait>(
+        self,
+        threads: &T,
+        alloc: Global,
+        recording: &Recording,
+        rules: &Rules,
+    ) -> Result<u64> {
+        let len = recording.len();
+        Ok(match self {
+            Call::Windows => ValidWindows::new(recording, 0, len).count() as u64,
+            Call::Scan => scan(alloc, recording, 0, len)?.len() as u64,
+            Call::OneDecoder => decode_plain(alloc, recording, rules)?.totals.groups,
+            Call::Items => items(recording, rules),
+            Call::Codes => {
+                let (end, _codes) = run_codes(alloc, recording, rules, State::Searching, 0, len)?;
+                u64::from(end.is_lawful(rules, len))
+            }
+            Call::Guess => guess(alloc, recording, rules)?,
+            Call::Crew => by_crew(threads, alloc, recording, rules)?,
+        })
+    }
+}
+
+/// How many items the recording has.
+fn items(recording: &Recording, rules: &Rules) -> u64 {
+    let mut count = 0u64;
+    for _item in Decoder::new(recording, rules, State::Searching, 0, recording.len()) {
+        count = count.saturating_add(1);
+    }
+    count
+}
+
+/// How many groups the guess of the recording in one piece counts.
+fn guess(alloc: Global, recording: &Recording, rules: &Rules) -> Result<u64> {
+    let cutting = Cutting::even(alloc, recording.len(), 1)?;
+    if cutting.pieces() == 0 {
+        return Ok(0);
+    }
+    let run = speculate(alloc, recording, rules, &cutting, 0)?;
+    Ok(run.totals().groups)
+}
+
+/// How many groups the report of four workers counts, of pieces that grow in number as the recording does.
+fn by_crew<T: Threads + Wait>(
+    threads: &T,
+    alloc: Global,
+    recording: &Recording,
+    rules: &Rules,
+) -> Result<u64> {
+    let cutting = Cutting::even(alloc, recording.len(), recording.len() / 50_000 + 1)?;
+    let work = RecordingWork::new(recording, rules, &cutting);
+    let report = decode_crew(threads, alloc, &work, 4, &OpenGate)?;
+    Ok(report.totals.groups)
+}
+
+/// Times each call over a sixteenth of so many bits of the sample, over a fourth, and over all.
+pub fn measure<T: Threads + Wait>(
+    rt: &HostRuntime,
+    threads: &T,
+    bits: u64,
+    sample: Sample,
+) -> Result<()> {
+    let rules = Rules::new(rt.alloc(), 2, 3, sample.loss())?;
+    let sizes = [
+        sample.recording(rt.alloc(), bits / 16)?,
+        sample.recording(rt.alloc(), bits / 4)?,
+        sample.recording(rt.alloc(), bits)?,
+    ];
+    for call in &CALLS {
+        grows(rt, threads, *call, &sizes, &rules)?;
+    }
+    Ok(())
+}
+
+/// Shows the call's times over the recordings: an error where one is too long for that before it.
+fn grows<T: Threads + Wait>(
+    rt: &HostRuntime,
+    threads: &T,
+    call: Call,
+    sizes: &[Recording; 3],
+    rules: &Rules,
+) -> Result<()> {
+    let [small, middle, large] = sizes;
+    let small = least_time(rt, threads, call, small, rules)?;
+    let middle = least_time(rt, threads, call, middle, rules)?;
+    let large = least_time(rt, threads, call, large, rules)?;
+    let name = call.name();
+    println!(rt; "{name:<24} {small}, {middle} and {large} ns")?;
+    if middle > small.saturating_mul(MOST) || large > middle.saturating_mul(MOST) {
+        bail!("the time of '{name}' grows faster than its recording");
+    }
+    Ok(())
+}
+
+/// The least time that the call takes over the recording, in nanoseconds.
+fn least_time<T: Threads + Wait>(
+    rt: &HostRuntime,
+    threads: &T,
+    call: Call,
+    recording: &Recording,
+    rules: &Rules,
+) -> Result<u64> {
+    let mut least = u64::MAX;
+    for _ in 0..TURNS {
+        let start = Instant::now(rt)?;
+        call.make(threads, rt.alloc(), recording, rules)?;
+        let nanos = u64::try_from(start.elapsed(rt)?.as_nanos()).unwrap_or(u64::MAX);
+        least = least.min(nanos);
+    }
+    Ok(least)
+}

@@ -1,0 +1,65 @@
+-- How many items stand before a span, and what stands from it on.
+use Rattle.std.proofs.Common.{◌≡◌, ℕ, All, ◌+◌, ◌-◌, ◌<◌, ◌≤◌, ◌^◌, min, List, ◌++◌, length, take, drop, get_or, sym, ap, subst, ◌∙◌, arith, length-append}
+use Rattle.std.proofs.Math.Nat.{min-eq_left}
+use Rattle.std.proofs.Math.Seq.{drop-append-add, take-length}
+use Rattle.std.proofs.lemmas.List.{length-drop, take-append-drop, take_more}
+use Rattle.std.proofs.lemmas.List.Elements.{All-drop}
+use Rattle.rds_stream.specs.Recording.{Signal}
+use Rattle.rds_sync.specs.declared.item.Item.{Item}
+use Rattle.rds_sync.specs.declared.span.Span.{Span}
+use Rattle.rds_sync.specs.Decoding.{ItemsOf, listed}
+use Rattle.rds_sync.specs.Inside.Spans.{IsAt, IsFound, IsSpan, items_in, items_of}
+use Rattle.rds_sync.specs.Rules.{RuleNumbers}
+use Rattle.rds_sync.proofs.SpanLemmas.{items_in-append, items_in-push}
+
+module _ (b : Signal) (rules : RuleNumbers) where
+  -- the items before span number k, and those from it on
+  pub in_two : (spans : List Span) (k : ℕ) → items_in b rules (take k spans) ++ items_in b rules (drop k spans) ≡ items_in b rules spans
+  in_two spans k = sym (items_in-append b rules (take k spans) (drop k spans)) ∙ ap (λ (ss : List Span). items_in b rules ss) (take-append-drop k spans)
+
+  pub counted_in_two : (spans : List Span) (k : ℕ) → length (items_in b rules (take k spans)) + length (items_in b rules (drop k spans)) ≡ length (items_in b rules spans)
+  counted_in_two spans k =
+      sym (length-append (items_in b rules (take k spans)) (items_in b rules (drop k spans))) ∙ ap (λ (is : List Item). length is) (in_two spans k)
+
+  -- before the next span
+  pub before_next : (spans : List Span) (k : ℕ) (d : Span) → k < length spans
+      → length (items_in b rules (take (k + 1) spans)) ≡ length (items_in b rules (take k spans)) + length (items_of b rules (get_or spans k d))
+  before_next spans k d inside =
+      ap (λ (ss : List Span). length (items_in b rules ss)) (take_more spans k d inside)
+      ∙ ap (λ (is : List Item). length is) (items_in-push b rules (take k spans) (get_or spans k d))
+      ∙ length-append (items_in b rules (take k spans)) (items_of b rules (get_or spans k d))
+
+  -- and counted in a word, which holds the number of all
+  pub counted_next : (spans : List Span) (k : ℕ) (d : Span) (before n sum : ℕ) → k < length spans → before ≡ length (items_in b rules (take k spans))
+      → n ≡ length (items_of b rules (get_or spans k d)) → length (items_in b rules spans) < 2 ^ 64 → sum ≡ min (before + n) (2 ^ 64 - 1)
+      → sum ≡ length (items_in b rules (take (k + 1) spans))
+  counted_next spans k d before n sum inside before_is n_is few sum_is =
+      let total : before + n ≡ length (items_in b rules (take (k + 1) spans)) = omega (arith, before_is, n_is, before_next spans k d inside) in
+      let low : before + n ≤ 2 ^ 64 - 1 = omega (arith, total, counted_in_two spans (k + 1), few) in
+      sum_is ∙ min-eq_left low ∙ total
+
+  -- a place that is looked for from a span on
+  pub from_start : (spans rest : List Span) (k before from left : ℕ) → before ≡ length (items_in b rules (take k spans)) → before ≤ from
+      → IsAt b rules (drop k spans) (from - before) rest left → IsAt b rules spans from rest left
+  from_start spans rest k before from left is early at =
+      let own = items_in b rules (take k spans) in
+      let further : from ≡ length own + (from - before) = omega (arith, is, early) in
+      record {
+        same = at.same
+            ∙ sym (drop-append-add own (items_in b rules (drop k spans)) (from - before))
+            ∙ ap (λ (n : ℕ). drop n (own ++ items_in b rules (drop k spans))) (sym further)
+            ∙ ap (λ (is : List Item). drop from is) (in_two spans k);
+        passed = omega (arith, at.passed, counted_in_two spans k, is, early);
+        all = at.all;
+      }
+
+-- the same of a list
+pub found_at : (items : ItemsOf) (b : Signal) (rules : RuleNumbers) (spans rest : List Span) (k before from left : ℕ) → listed b rules (items_in b rules spans) ≡ items
+    → All (IsSpan b rules) spans → before ≡ length (items_in b rules (take k spans)) → before ≤ from
+    → (All (IsSpan b rules) (take (length spans - k) (drop k spans)) → IsAt b rules (take (length spans - k) (drop k spans)) (from - before) rest left)
+    → IsFound items from rest left
+found_at items b rules spans rest k before from left same all is early at =
+    let behind : take (length spans - k) (drop k spans) ≡ drop k spans = ap (λ (n : ℕ). take n (drop k spans)) (sym (length-drop k spans)) ∙ take-length (drop k spans) in
+    let at_behind = subst (λ (part : List Span). All (IsSpan b rules) part → IsAt b rules part (from - before) rest left) behind at in
+    let there = from_start b rules spans rest k before from left is early (at_behind (All-drop (IsSpan b rules) k spans all)) in
+    subst (λ (list : ItemsOf). IsFound list from rest left) same (record { same = there.same; passed = there.passed; all = there.all })

@@ -1,0 +1,15 @@
+use Rattle.std.proofs.Common.{◌≡◌, ◌<◌, ◌^◌, All, List, length, take, ℕ}
+use Rattle.rds_stream.specs.Recording.{Signal}
+use Rattle.rds_sync.specs.declared.indexed_items.Start.{Start}
+use Rattle.rds_sync.specs.declared.span.Span.{Span}
+use Rattle.rds_sync.specs.Inside.Spans.{IsSpan, IsStart, items_in}
+use Rattle.rds_sync.specs.Rules.{RuleNumbers}
+use Rattle.rds_sync.proofs.indexed_items.starts_of.Given as goal
+
+-- so many items stand before the next span, and all that was kept so far is a start
+pub record HasCounted (b : Signal) (rules : RuleNumbers) (spans : List Span) (span before : ℕ) (starts : List Start) : Type 0 where
+  pub count : before ≡ length (items_in b rules (take span spans))
+  pub all : All (IsStart b rules spans) starts
+
+abbrev pub invariant-loop-span : goal.invariant-loop-span
+invariant-loop-span l = (b : Signal) (rules : RuleNumbers) → All (IsSpan b rules) l.spans → length (items_in b rules l.spans) < 2 ^ 64 → HasCounted b rules l.spans l.span l.before l.starts.items

@@ -1,0 +1,86 @@
+use Rattle.std.proofs.Common.{◌≡◌, ◌≤◌, ◌<◌, ◌+◌, ◌-◌, ◌*◌, ℕ, Some, None, List, [], ◌∷◌, false, sym, ap, ap₂, subst, ◌∙◌, arith, inr}
+use Rattle.rds_stream.specs.Recording.{Signal}
+use Rattle.rds_sync.specs.declared.item.Block.{Block}
+use Rattle.rds_sync.specs.declared.item.Item.{Item}
+use Rattle.rds_sync.specs.declared.item.Item.TheVariants.{Group}
+use Rattle.rds_sync.specs.declared.loss.Bad.{Bad}
+use Rattle.rds_sync.specs.declared.loss.Loss.{Loss}
+use Rattle.rds_sync.specs.declared.state.State.{State}
+use Rattle.rds_sync.specs.declared.state.State.TheVariants.{Locked}
+use Rattle.rds_sync.specs.declared.step.Step.{Step}
+use Rattle.rds_sync.specs.Codes.{Outcome}
+use Rattle.rds_sync.specs.Groups.{blocks_at, group, group_of}
+use Rattle.rds_sync.specs.Inside.Due.{state_in}
+use Rattle.rds_sync.specs.Lawful.{IsLawful}
+use Rattle.rds_sync.specs.Loss.{IsLawfulBad, are_too_many}
+use Rattle.rds_sync.specs.Marks.{bad_over}
+use Rattle.rds_sync.specs.Rules.{RuleNumbers}
+use Rattle.rds_sync.specs.Step.{run}
+use Rattle.rds_sync.specs.Stretch.{IsStretch}
+use Rattle.rds_sync.specs.Words.{blocks_in}
+use Rattle.rds_sync.proofs.GroupOutcomes.{outcomes}
+use Rattle.rds_sync.proofs.LawfulLemmas.{lawful-locked_after}
+use Rattle.rds_sync.proofs.WholeGroupLemmas.{whole_group, whole_quiet}
+use Rattle.rds_sync.proofs.whole_groups.whole_group.Goals as goal
+
+-- the step over a whole group is a stretch
+module _ (b : Signal) (rules : RuleNumbers) (s : State) (due to : ℕ) (bad after : Bad) (late : 25 ≤ due) (room : due + 78 < to)
+    (state : s ≡ Locked due 1 bad 1)
+    (few : (k : ℕ) → k < 4 → are_too_many rules.loss (bad_over rules.loss (outcomes (group b rules 1 4 (due + 78))) bad 1 (k + 1)) ≡ false)
+    (after_is : after ≡ bad_over rules.loss (outcomes (group b rules 1 4 (due + 78))) bad 1 4) (lawful : IsLawfulBad rules.loss after) where
+  abbrev next : State
+  next = Locked (due + 104) 1 after 1
+
+  abbrev reached : Step
+  reached = record { place = due + 78 + 1; state = next; items = Some (Group (group b rules 1 4 (due + 78))) ∷ None ∷ [] }
+
+  over : run b rules s (due - 25) (due + 78 + 1 - (due - 25)) ≡ (next, Group (group b rules 1 4 (due + 78)) ∷ [])
+  over =
+      let bits : due + 78 + 1 - (due - 25) ≡ 104 = omega (arith, late) in
+      rw (state, bits) (whole_group b rules due bad late few
+      ∙ ap (λ (c : Bad). (Locked (due + 104) 1 c 1, Group (group b rules 1 4 (due + 78)) ∷ [])) (sym after_is))
+
+  pub is_stretch : IsStretch b rules s (due - 25) to reached
+  is_stretch =
+      let bits : due + 78 + 1 - 1 - (due - 25) ≡ 103 = omega (arith, late) in
+      let place : due + 78 + 26 ≡ due + 104 = omega arith in
+      record {
+        forward = omega (arith, late);
+        limit = omega (arith, room);
+        state = sym (ap (λ (r : State × List Item). r.0) over);
+        items = sym (ap (λ (r : State × List Item). r.1) over);
+        quiet = rw (state, bits) (whole_quiet b rules due bad late few);
+        ended = inr (λ none. cc);
+        lawful = subst (λ (p : ℕ). IsLawful rules (due + 78 + 1) (Locked p 1 after 1)) place
+            (lawful-locked_after rules (due + 78) 4 after 1 lawful (omega arith) (omega arith) (omega arith) (omega arith));
+      }
+
+pub returns-clause-reached : goal.returns-clause-reached
+unfolding group
+returns-clause-reached c =
+    let b = c.args.reader.now in
+    let rules = c.args.rules.now in
+    let lock = c.args.lock in
+    let due = lock.due in
+    let place = c.args.place in
+    let bad = c.in_ok-bad.bad in
+    let late : 25 ≤ due = omega (arith, c.if-place-lock.false) in
+    let blocks_are : c.blocks_of-blocks.result ≡ blocks_at b rules 1 4 (due + 78) = c.blocks_of-blocks.ensures b due c.four_windows-heard.ensures.value in
+    let word_is : blocks_in c.word_of_group.result ≡ outcomes (group b rules 1 4 (due + 78)) = c.word_of_group.ensures.blocks b due blocks_are in
+    let loss_is = c.loss.ensures.value in
+    let state : state_in lock ≡ Locked due 1 lock.bad 1 = ap₂ (λ (x f : ℕ). Locked due x lock.bad f) (let e : lock.number ≡ 1 = omega (arith, c.if-lock-ne1.false) in e) (let e : lock.first ≡ 1 = omega (arith, c.if-lock-ne1-2.false) in e) in
+    let few : (k : ℕ) → k < 4 → are_too_many rules.loss (bad_over rules.loss (outcomes (group b rules 1 4 (due + 78))) lock.bad 1 (k + 1)) ≡ false =
+    subst (λ (os : List Outcome). (k : ℕ) → k < 4 → are_too_many rules.loss (bad_over rules.loss os lock.bad 1 (k + 1)) ≡ false) word_is
+    (subst (λ (loss : Loss). (k : ℕ) → k < 4 → are_too_many loss (bad_over loss (blocks_in c.word_of_group.result) lock.bad 1 (k + 1)) ≡ false) loss_is c.in_ok-bad.ensures.kept) in
+    let bad_is : bad ≡ bad_over rules.loss (outcomes (group b rules 1 4 (due + 78))) lock.bad 1 4 =
+    c.in_ok-bad.ensures.bad ∙ ap₂ (λ (loss : Loss) (os : List Outcome). bad_over loss os lock.bad 1 4) loss_is word_is in
+    let stretch = is_stretch b rules (state_in lock) due c.args.to lock.bad bad late (omega (arith, c.if-to-last.false)) state few bad_is
+    (subst (λ (loss : Loss). IsLawfulBad loss bad) loss_is c.in_ok-bad.ensures.lawful) in
+    let there : due - 25 ≡ place = omega (arith, c.if-place-lock.false) in
+    let group_is : c.of_blocks-group.result ≡ group b rules 1 4 (due + 78) =
+    c.of_blocks-group.ensures ∙ ap₂ (λ (p : ℕ) (bs : List Block). group_of p bs) (let e : place ≡ due + 78 - 26 * (4 - 1) - 25 = omega (arith, c.if-place-lock.false) in e) blocks_are in
+    let next_is : c.state.result ≡ Locked (due + 104) 1 bad 1 =
+    c.state.ensures ∙ c.after_block.ensures ∙ ap (λ (p : ℕ). Locked p 1 bad 1) (let e : due + 78 + 26 ≡ due + 104 = omega arith in e) in
+    subst (λ (p : ℕ). IsStretch b rules (state_in lock) p c.args.to
+    (record { place = due + 78 + 1; state = c.state.result; items = Some (Group c.of_blocks-group.result) ∷ None ∷ [] })) there
+    (rw (next_is, group_is) stretch)

@@ -1,0 +1,80 @@
+-- The rows of places are those of the valid windows among them.
+use Rattle.std.proofs.Common.{◌+◌, ◌++◌, ◌-◌, ◌∙◌, ◌∷◌, ◌≡◌, ◌<◌, ◌≤◌, List, None, Option, Some, [], ap, ap₂, arith, drop, false, length, map, refl, suc, sym, take, true, zero, ℕ}
+use Rattle.std.specs.List.{concat, cons_option, filter_map, flat_map, range_with_len}
+use Rattle.std.proofs.lemmas.Bool.{lt-ltb}
+use Rattle.std.proofs.lemmas.List.{append-nil}
+use Rattle.std.proofs.lemmas.List.Folds.{concat-append}
+use Rattle.std.proofs.lemmas.List.FromFn.{length-range_with_len, map-range_with_len_more, take-map-range_with_len}
+use Rattle.rds_code.specs.declared.offset.Offset.{Offset}
+use Rattle.rds_stream.specs.Recording.{Signal, heard, length_of, off, offset_heard, valid_at, valid_windows}
+use Rattle.rds_tool.specs.Listing.{scan_text, window_row}
+use Rattle.rds_tool.specs.Inside.Rows.{row_where, rows_of_places}
+
+-- no window ends before place 25
+pub none_early : (b : Signal) (p : ℕ) → p < 25 → off b p ≡ None
+unfolding off
+none_early b p early = ap (λ t. elim t [ true ↦ None | false ↦ offset_heard (heard b p) ]) (lt-ltb p 25 early)
+
+module _ {X : Type 0} (f : ℕ → X) where
+  drop-map-range : (a n k : ℕ) → k ≤ n → drop k (map f (range_with_len a n)) ≡ map f (range_with_len (a + k) (n - k))
+  drop-map-range a n zero le =
+      let start : a ≡ a + 0 = omega arith in
+      let rest : n ≡ n - 0 = omega arith in
+      ap₂ (λ i m. map f (range_with_len i m)) start rest
+  drop-map-range a zero (suc k) le = absurd (omega arith)
+  drop-map-range a (suc n) (suc k) le =
+      let start : a + 1 + k ≡ a + suc k = omega arith in
+      let rest : n - k ≡ suc n - suc k = omega arith in
+      drop-map-range (a + 1) n k (omega arith) ∙ ap₂ (λ i m. map f (range_with_len i m)) start rest
+
+  -- some in the middle
+  part : (n from to : ℕ) → from ≤ to → to ≤ n → take (to - from) (drop from (map f (range_with_len 0 n))) ≡ map f (range_with_len from (to - from))
+  part n from to order inside =
+      let start : 0 + from ≡ from = omega arith in
+      ap (take (to - from)) (drop-map-range 0 n from (omega (arith, order, inside)))
+      ∙ take-map-range_with_len f (0 + from) (n - from) (to - from) (omega (arith, order, inside))
+      ∙ ap (λ i. map f (range_with_len i (to - from))) start
+
+one_spelled : (o : Option (ℕ × Offset)) (windows : List (ℕ × Offset)) → row_where o ++ flat_map window_row windows ≡ flat_map window_row (cons_option o windows)
+one_spelled None windows = refl
+one_spelled (Some w) windows = refl
+
+one_few : (o : Option (ℕ × Offset)) (windows : List (ℕ × Offset)) → length (cons_option o windows) ≤ suc (length windows)
+one_few None windows = omega arith
+one_few (Some w) windows = omega arith
+
+module _ (b : Signal) where
+  places_spelled : (places : List ℕ) → concat (map (λ i. row_where (valid_at b i)) places) ≡ flat_map window_row (filter_map (valid_at b) places)
+  places_spelled [] = refl
+  places_spelled (p ∷ places) =
+      ap (λ t. row_where (valid_at b p) ++ t) (places_spelled places) ∙ one_spelled (valid_at b p) (filter_map (valid_at b) places)
+
+  places_few : (places : List ℕ) → length (filter_map (valid_at b) places) ≤ length places
+  places_few [] = omega arith
+  places_few (p ∷ places) = omega (arith, one_few (valid_at b p) (filter_map (valid_at b) places), places_few places)
+
+  -- the rows of the places from one up to another
+  pub windows_spelled : (from to : ℕ) → from ≤ to → to ≤ length_of b → concat (take (to - from) (drop from (rows_of_places b))) ≡ flat_map window_row (valid_windows b from to)
+  windows_spelled from to order inside =
+      ap concat (part (λ i. row_where (valid_at b i)) (length_of b) from to order inside) ∙ places_spelled (range_with_len from (to - from))
+
+  pub windows_few : (from to : ℕ) → length (valid_windows b from to) ≤ to - from
+  windows_few from to = omega (arith, places_few (range_with_len from (to - from)), length-range_with_len from (to - from))
+
+  -- all of them
+  pub scan_spelled : concat (rows_of_places b) ≡ scan_text b
+  scan_spelled =
+      let all : length_of b ≡ length_of b - 0 = omega arith in
+      places_spelled (range_with_len 0 (length_of b)) ∙ ap (λ n. flat_map window_row (filter_map (valid_at b) (range_with_len 0 n))) all
+
+  -- one place more
+  pub place_more : (from p : ℕ) → from ≤ p → p < length_of b
+      → concat (take (p + 1 - from) (drop from (rows_of_places b))) ≡ concat (take (p - from) (drop from (rows_of_places b))) ++ row_where (valid_at b p)
+  place_more from p order inside =
+      let f : ℕ → List ℕ = λ i. row_where (valid_at b i) in
+      let count : p + 1 - from ≡ p - from + 1 = omega (arith, order) in
+      let last : from + (p - from) ≡ p = omega (arith, order) in
+      ap concat (part f (length_of b) from (p + 1) (omega (arith, order)) (omega (arith, inside))
+      ∙ ap (λ n. map f (range_with_len from n)) count ∙ map-range_with_len_more f from (p - from) p last)
+      ∙ concat-append (map f (range_with_len from (p - from))) (f p ∷ [])
+      ∙ ap₂ (λ s t. s ++ t) (ap concat (sym (part f (length_of b) from p order (omega (arith, inside))))) (append-nil (f p))

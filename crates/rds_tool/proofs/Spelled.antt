@@ -1,0 +1,90 @@
+-- Rows that are spelled from one number up to another.
+use Rattle.std.proofs.Common.{◌+◌, ◌++◌, ◌-◌, ◌∙◌, ◌∷◌, ◌≡◌, ◌<◌, ◌≤◌, Bor, List, [], ap, ap₂, append_assoc, arith, drop, get_or, length, map, min, refl, suc, sym, take, zero, ℕ}
+use Rattle.std.specs.List.{AllByRecursion, concat, flat_map, join_with_byte}
+use Rattle.std.proofs.lemmas.Grind.{common_steps, flat_map-append}
+use Rattle.std.proofs.lemmas.List.{append-nil, drop-map, take_more}
+use Rattle.std.proofs.lemmas.List.Folds.{concat-append}
+use Rattle.rds_tool.specs.Inside.RowWriter.{IsShort}
+
+module _ {A : Type 0} where
+  drop_past : (xs ys : List A) (n : ℕ) → length xs ≤ n → drop n (xs ++ ys) ≡ drop (n - length xs) ys
+  drop_past [] ys n h = ap (λ k. drop k ys) (let same : n ≡ n - 0 = omega arith in same)
+  drop_past (x ∷ xs) ys zero h = absurd (omega arith)
+  drop_past (x ∷ xs) ys (suc n) h =
+      let same : n - length xs ≡ suc n - length (x ∷ xs) = omega arith in
+      drop_past xs ys n (omega arith) ∙ ap (λ k. drop k ys) same
+
+  take_past : (xs ys : List A) (n : ℕ) → length xs ≤ n → take n (xs ++ ys) ≡ xs ++ take (n - length xs) ys
+  take_past [] ys n h = ap (λ k. take k ys) (let same : n ≡ n - 0 = omega arith in same)
+  take_past (x ∷ xs) ys zero h = absurd (omega arith)
+  take_past (x ∷ xs) ys (suc n) h =
+      let same : n - length xs ≡ suc n - length (x ∷ xs) = omega arith in
+      ap (λ t. x ∷ t) (take_past xs ys n (omega arith) ∙ ap (λ k. xs ++ take k ys) same)
+
+module _ {X Y : Type 0} (f : X → Y) where
+  take-map : (n : ℕ) (xs : List X) → take n (map f xs) ≡ map f (take n xs)
+  take-map zero xs = refl
+  take-map (suc n) [] = refl
+  take-map (suc n) (x ∷ xs) = ap (λ t. f x ∷ t) (take-map n xs)
+
+concat-map : {X : Type 0} (f : X → List ℕ) (xs : List X) → concat (map f xs) ≡ flat_map f xs
+concat-map f [] = refl
+concat-map f (x ∷ xs) = ap (λ t. f x ++ t) (concat-map f xs)
+
+mapped : {X : Type 0} (f : X → List ℕ) (xs : List X) (from n : ℕ) → concat (take n (drop from (map f xs))) ≡ flat_map f (take n (drop from xs))
+mapped f xs from n = ap (λ t. concat (take n t)) (drop-map f from xs) ∙ ap concat (take-map f n (drop from xs)) ∙ concat-map f (take n (drop from xs))
+
+-- a whole listing
+pub all_spelled : {X Y : Type 0} (f : X → List ℕ) (g : Y → List ℕ) (xs : List X) (ys : List Y) → concat (map f xs ++ map g ys) ≡ flat_map f xs ++ flat_map g ys
+all_spelled f g xs ys = concat-append (map f xs) (map g ys) ∙ ap₂ (λ s t. s ++ t) (concat-map f xs) (concat-map g ys)
+
+-- the rows of two lists from one number up to another
+two_lists : {A : Type 0} (xs ys : List A) (from to a b : ℕ) → from ≤ to → a ≡ min from (length xs) → b ≡ min to (length xs)
+    → take (to - from) (drop from (xs ++ ys)) ≡ take (b - a) (drop a xs) ++ take ((to - b) - (from - a)) (drop (from - a) ys)
+two_lists xs ys from to a b order p q =
+    let behind = λ (h : length xs ≤ from). drop_past xs ys from h in
+    let across = λ (h : length (drop from xs) ≤ to - from). take_past (drop from xs) ys (to - from) h in
+    grind (arith, common_steps, p, q, behind, across)
+
+pub spelled : {X Y : Type 0} (f : X → List ℕ) (g : Y → List ℕ) (xs : List X) (ys : List Y) (from to a b : ℕ) → from ≤ to → a ≡ min from (length xs) → b ≡ min to (length xs)
+    → concat (take (to - from) (drop from (map f xs ++ map g ys))) ≡ flat_map f (take (b - a) (drop a xs)) ++ flat_map g (take ((to - b) - (from - a)) (drop (from - a) ys))
+spelled f g xs ys from to a b order p q =
+    let n : length (map f xs) ≡ length xs = grind (arith, common_steps) in
+    ap concat (two_lists (map f xs) (map g ys) from to a b order (p ∙ ap (min from) (sym n)) (q ∙ ap (min to) (sym n)))
+    ∙ concat-append (take (b - a) (drop a (map f xs))) (take ((to - b) - (from - a)) (drop (from - a) (map g ys)))
+    ∙ ap₂ (λ s t. s ++ t) (mapped f xs a (b - a)) (mapped g ys (from - a) ((to - b) - (from - a)))
+
+-- ---- a row that is joined
+
+-- some of a list that is changed element by element
+pub some_changed : {X Y : Type 0} (f : X → Y) (all : List X) (changed : List Y) (from n : ℕ) → map f all ≡ changed → map f (take n (drop from all)) ≡ take n (drop from changed)
+some_changed f all changed from n e =
+    sym (take-map f n (drop from all)) ∙ ap (take n) (sym (drop-map f from all)) ∙ ap (λ t. take n (drop from t)) e
+
+-- the last field behind the others, each of which has a comma behind it
+pub joined_last : (fs : List (Bor (List ℕ))) (n : ℕ) (d : Bor (List ℕ)) → length fs ≡ suc n
+    → join_with_byte 44 (map (λ f. f.now) fs) ≡ flat_map (λ f. f.now ++ 44 ∷ []) (take n fs) ++ (get_or fs n d).now
+joined_last [] n d h = absurd (omega arith)
+joined_last (f ∷ []) zero d h = refl
+joined_last (f ∷ []) (suc n) d h = absurd (omega arith)
+joined_last (f ∷ g ∷ fs) zero d h = absurd (omega arith)
+joined_last (f ∷ g ∷ fs) (suc n) d h =
+    ap (λ t. f.now ++ 44 ∷ t) (joined_last (g ∷ fs) n d (omega arith))
+    ∙ sym (ap (λ t. t ++ (get_or (g ∷ fs) n d).now) (append_assoc f.now (44 ∷ []) (flat_map (λ f. f.now ++ 44 ∷ []) (take n (g ∷ fs))))
+    ∙ append_assoc f.now (44 ∷ flat_map (λ f. f.now ++ 44 ∷ []) (take n (g ∷ fs))) ((get_or (g ∷ fs) n d).now))
+
+pub short_at : (fs : List (Bor (List ℕ))) (i : ℕ) (d : Bor (List ℕ)) → AllByRecursion IsShort (map (λ f. f.now) fs) → i < length fs → length ((get_or fs i d).now) ≤ 20
+short_at [] i d h lt = absurd (omega arith)
+short_at (f ∷ fs) zero d h lt = h.0
+short_at (f ∷ fs) (suc i) d h lt = short_at fs i d h.1 (omega arith)
+
+-- one field more, and a comma behind it
+pub fields_more : (fs : List (Bor (List ℕ))) (i : ℕ) (d : Bor (List ℕ)) (text : List ℕ) → i < length fs → text ≡ flat_map (λ f. f.now ++ 44 ∷ []) (take i fs)
+    → (text ++ (get_or fs i d).now) ++ 44 ∷ [] ≡ flat_map (λ f. f.now ++ 44 ∷ []) (take (i + 1) fs)
+fields_more fs i d text lt e =
+    let with_comma : Bor (List ℕ) → List ℕ = λ f. f.now ++ 44 ∷ [] in
+    let field = get_or fs i d in
+    append_assoc text field.now (44 ∷ [])
+    ∙ ap (λ t. t ++ with_comma field) e
+    ∙ sym (ap (flat_map with_comma) (take_more fs i d lt) ∙ flat_map-append with_comma (take i fs) (field ∷ [])
+    ∙ ap (λ t. flat_map with_comma (take i fs) ++ t) (append-nil (with_comma field)))

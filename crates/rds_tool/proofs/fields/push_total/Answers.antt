@@ -1,0 +1,16 @@
+use Rattle.std.proofs.Common.{arith, refl, rules}
+use Rattle.rds_tool.specs.Inside.RowWriter.{IsPlain, IsShort}
+use Rattle.rds_tool.proofs.RowText.{decimal_plain}
+use Rattle.rds_tool.proofs.fields.push_total.Goals as goal
+
+pub push_row-requires-clause-plain : goal.push_row-requires-clause-plain
+push_row-requires-clause-plain g c =
+    let name : IsPlain c.as_bytes.result.now = rw c.as_bytes.ensures.value c.requires.plain in
+    let value : IsPlain c.as_bytes-value.result.now = rw (c.as_bytes-value.ensures.value, c.format.ensures.text) (decimal_plain c.args.value (search rules)) in
+    rw c.as_slice.ensures (refl, (name, (value, (refl, (refl, (refl, (refl, (refl, tt))))))))
+
+pub push_row-requires-clause-short : goal.push_row-requires-clause-short
+push_row-requires-clause-short g c =
+    let name : IsShort c.as_bytes.result.now = rw c.as_bytes.ensures.value c.requires.short in
+    let value : IsShort c.as_bytes-value.result.now = rw c.as_bytes-value.ensures.value c.format.ensures.fits in
+    rw c.as_slice.ensures (omega arith, (name, (value, (omega arith, (omega arith, (omega arith, (omega arith, (omega arith, tt))))))))

@@ -1,9 +1,0 @@
-use Rattle.std.proofs.Common.{refl, rules}
-use Rattle.rds_tool.specs.Inside.RowWriter.{IsPlain}
-use Rattle.rds_tool.proofs.RowText.{decimal_plain}
-use Rattle.rds_tool.proofs.listing.push_loss.Goals as goal
-
-pub push_row-requires-clause-plain : goal.push_row-requires-clause-plain
-push_row-requires-clause-plain c =
-    let place : IsPlain c.as_bytes-place.result.now = rw (c.as_bytes-place.ensures.value, c.format.ensures.text) (decimal_plain c.args.place (search rules)) in
-    rw c.as_slice.ensures (refl, (place, (refl, (refl, (refl, (refl, (refl, (refl, tt))))))))

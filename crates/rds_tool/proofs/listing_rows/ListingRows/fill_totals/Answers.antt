@@ -1,0 +1,16 @@
+use Rattle.std.proofs.Common.{Bor, List, ap, ◌++◌, ◌-◌, ◌∙◌, ℕ}
+use Rattle.std.specs.List.{flat_map}
+use Rattle.rds_rows.specs.Sheets.{text_of}
+use Rattle.rds_tool.specs.Listing.{named_totals, total_row}
+use Rattle.rds_tool.proofs.Spelled.{some_changed}
+use Rattle.rds_tool.proofs.listing_rows.ListingRows.fill_totals.Goals as goal
+
+pub returns-in-Ok-clause-rows : goal.returns-in-Ok-clause-rows
+returns-in-Ok-clause-rows c =
+    let some = some_changed (λ (total : Bor (List ℕ) × ℕ). (total.0.now, total.1)) c.named-all.result (named_totals c.args.self.now.totals.now) c.args.from (c.args.to - c.args.from) c.named-all.ensures.named in
+    c.push_all.ensures.text ∙ ap (λ t. text_of c.args.sheet.now ++ t) (c.as_slice.ensures.value ∙ c.in-Ok.ensures.rows ∙ ap (flat_map total_row) some)
+
+pub returns-in-Err-clause-rows : goal.returns-in-Err-clause-rows
+returns-in-Err-clause-rows c =
+    let some = some_changed (λ (total : Bor (List ℕ) × ℕ). (total.0.now, total.1)) c.named-all.result (named_totals c.args.self.now.totals.now) c.args.from (c.args.to - c.args.from) c.named-all.ensures.named in
+    c.fill_named.ensures.rows ∙ ap (λ t. text_of c.args.sheet.now ++ flat_map total_row t) some

@@ -1,0 +1,64 @@
+//! What a user gets of the decoder of a stream, and of following one from a reader to a writer.
+ghost use Rattle.std.specs.Prelude.{◌≡◌, ◌++◌, [], List, ℕ, IfOk};
+ghost use Rattle.rds_sync.specs.Advance.{group_item};
+ghost use Rattle.rds_sync.specs.Report.{report_items};
+ghost use Rattle.rds_sync.specs.Totals.{totals_of};
+ghost use Rattle.rds_live.specs.Live.{HasHeard, live_of, signal_of};
+ghost use Rattle.rds_tool.specs.Listing.{report_text};
+
+use rds_live::{Chunk, Live, StreamEnd};
+use rds_stream::StreamError;
+use rds_sync::{Rules, State};
+use rds_tool::{FromRead, ToWrite, ToolError, follow};
+use std::alloc::Global;
+
+/// Two halves of a stream are the whole: what each gives, and what the end gives, are its report.
+pub fn in_halves<'r>(
+    alloc: Global,
+    rules: &'r Rules,
+    first: &[u8],
+    second: &[u8],
+) -> Result<(Chunk<'r>, Chunk<'r>, StreamEnd), StreamError>
+    ensures items { IfOk result (λ r. r.0 ++ r.1 ++ group_item r.2.group
+        ≡ report_items (signal_of (first.now ++ second.now)) rules.now) }
+    ensures totals { IfOk result (λ r. r.2.totals
+        ≡ totals_of (report_items (signal_of (first.now ++ second.now)) rules.now)) }
+{
+    let mut live = Live::new(alloc, rules);
+    let one = live.take(first)?;
+    let other = live.take(second)?;
+    Ok((one, other, live.finish()))
+}
+
+/// Bytes one by one are the whole: the decoder is what it is after all of them at once.
+pub fn one_by_one<'r>(
+    alloc: Global,
+    rules: &'r Rules,
+    bytes: &[u8],
+) -> Result<Live<'r>, StreamError>
+    ensures { IfOk result (λ live. live ≡ live_of rules.now bytes.now) }
+{
+    let mut live = Live::new(alloc, rules);
+    for byte in bytes {
+        live.take(&[*byte])?;
+    }
+    Ok(live)
+}
+
+/// Two decoders that were fed the same, however it was cut, are in one state.
+pub fn states<'r>(one: &Live<'r>, other: &Live<'r>) -> (State, State)
+    requires { (bytes : List ℕ) × (one.now ≡ live_of one.now.rules bytes) × (other.now ≡ live_of one.now.rules bytes) }
+    ensures { result.0 ≡ result.1 }
+{
+    (one.state(), other.state())
+}
+
+/// A stream that was followed from memory to memory: what was written is the listing of its bytes.
+pub fn followed(alloc: Global, rules: &Rules, bytes: &[u8]) -> Result<Vec<u8>, ToolError>
+    ensures { IfOk result (λ text. let items = report_items (signal_of bytes.now) rules.now in
+        text.items ≡ report_text items (totals_of items)) }
+{
+    let mut writer = ToWrite::new(Vec::new(alloc));
+    follow(alloc, &mut FromRead::new(bytes), &mut writer, rules)?;
+    Ok(writer.into_inner())
+}

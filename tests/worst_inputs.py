@@ -1,0 +1,125 @@
+#!/usr/bin/env python3
+"""Recordings of which a run keeps the most: bits whose windows are valid where that is wanted.
+
+    tests/worst_inputs.py PLAN BYTES > RECORDING
+
+That the window which ends at some place is valid with some offset word is ten linear equations, modulo 2, of its 26 bits: their
+remainder by the generator is that word (EN 50067:1998, Annex B). The windows of a plan come again after some number of bytes, so
+the equations are solved once, for a ring of so many bits, and the ring is written again and again. Bits that they leave free are
+pseudo-random: those of the first seed for which no other window is valid, since another might acquire, or be the next block of a
+lock. The same words give the same bytes.
+"""
+import argparse
+import itertools
+import random
+import sys
+
+GENERATOR = 0x5B9
+BLOCK = 26
+NUMBERS = {0x0FC: 1, 0x198: 2, 0x168: 3, 0x350: 3, 0x1B4: 4}  # the offset words, with the numbers of their blocks
+WORDS = {1: 0x0FC, 2: 0x198, 3: 0x168, 4: 0x1B4}
+
+
+# ---- plans: the length of a ring in bits, and its windows, each by its last place and the number of its block
+
+def short_locks():
+    """For `--loss 1 --reach 8`: a lock each 27 bits, by block 4, which the next block loses.
+
+    Windows of block 4 stand each 27 bits, and of block 2 six bits behind them: so each block 4 has a block 2 six blocks
+    before it, behind the block 4 that is six windows before.
+    """
+    starts = range(0, 8 * 27, 27)
+    return 8 * 27, [(start, 4) for start in starts] + [(start + 6, 2) for start in starts]
+
+
+def three_phases():
+    """For `--loss 1`: three phases of locks, 13 bits apart, of which none ever meets another.
+
+    A window stands each 13 bits, and the sixth before it is its partner, three blocks before. The second behind it is
+    another block than the next: it loses the lock, and the third, 39 bits behind, is acquired. While a run in one phase
+    searches, those in the other two are locked.
+    """
+    numbers = [1] * 6
+    while len(numbers) < 24:
+        numbers.append((numbers[-6] + 2) % 4 + 1)
+    return 13 * 24, [(13 * k, number) for k, number in enumerate(numbers)]
+
+
+PLANS = {plan.__name__: plan for plan in (short_locks, three_phases)}
+
+
+# ---- bits that have the windows of a plan
+
+def remainder(block):
+    """The remainder of 26 bits by the generator."""
+    for shift in reversed(range(16)):
+        if block >> (shift + 10) & 1:
+            block ^= GENERATOR << shift
+    return block
+
+
+def equations(length, windows):
+    """What the windows ask: sets of places, each as a number whose bits they are, and the parity of the bits there."""
+    shares = [remainder(1 << k) for k in range(BLOCK)]
+    for last, number in windows:
+        for row in range(10):
+            places = sum(1 << (last - k) % length for k in range(BLOCK) if shares[k] >> row & 1)
+            yield places, WORDS[number] >> row & 1
+
+
+def solved(rows):
+    """The same equations by their highest places, which differ: each tells its highest bit by those below."""
+    by_place = {}
+    for places, parity in rows:
+        while places and places.bit_length() - 1 in by_place:
+            other, odd = by_place[places.bit_length() - 1]
+            places, parity = places ^ other, parity ^ odd
+        if places:
+            by_place[places.bit_length() - 1] = places, parity
+        elif parity:
+            raise ValueError("no bits have these windows")
+    return by_place
+
+
+def filled(length, by_place, seed):
+    """The bits of a ring for which the equations hold, the first one first."""
+    free, bits = random.Random(seed), 0
+    for place in range(length):
+        if place in by_place:
+            places, parity = by_place[place]
+            bit = parity ^ bin(places & bits).count("1") & 1
+        else:
+            bit = free.getrandbits(1)
+        bits |= bit << place
+    return [bits >> place & 1 for place in range(length)]
+
+
+def windows_of(bits):
+    """The valid windows of a ring, in order."""
+    for last in range(len(bits)):
+        block = sum(bits[(last - k) % len(bits)] << k for k in range(BLOCK))
+        if remainder(block) in NUMBERS:
+            yield last, NUMBERS[remainder(block)]
+
+
+def ring_of(plan):
+    """The bytes of the plan's ring."""
+    length, windows = plan()
+    by_place = solved(equations(length, windows))
+    for seed in itertools.count():
+        bits = filled(length, by_place, seed)
+        if list(windows_of(bits)) == sorted(windows):
+            return int("".join(map(str, bits)), 2).to_bytes(length // 8, "big")
+
+
+def main():
+    parser = argparse.ArgumentParser(description=__doc__.split("\n")[0])
+    parser.add_argument("plan", choices=PLANS)
+    parser.add_argument("bytes", type=int, help="how long the recording is")
+    args = parser.parse_args()
+    ring = ring_of(PLANS[args.plan])
+    sys.stdout.buffer.write((ring * (args.bytes // len(ring) + 1))[:args.bytes])
+
+
+if __name__ == "__main__":
+    main()
