@@ -10,7 +10,7 @@ export RT
 
 SOURCES := crates.txt $(shell find crates -name out -prune -o \( -name '*.rt' -o -name '*.antt' \) -print)
 
-.PHONY: all run quick test proofs wrong-bodies wrong-bodies-of-code program install deb clean toolchain
+.PHONY: all run quick lib test proofs wrong-bodies wrong-bodies-of-code program library install install-lib deb clean toolchain
 all: build/rds
 
 toolchain:
@@ -24,6 +24,14 @@ build/rds: $(SOURCES)
 	cd crates/rds && $(RT) run -- --help >/dev/null
 	@mkdir -p build
 	cp crates/rds/out/rds $@
+
+# The library for C: build/lib/librds.a, librds.so.0 and rds.h, of what the toolchain proves and builds of crates/rds_c.
+lib: build/lib/librds.so.0
+
+build/lib/librds.so.0: $(SOURCES) $(wildcard lib/*)
+	@$(MAKE) --no-print-directory toolchain
+	cd crates/rds_c && $(RT) lib
+	lib/make_library.sh crates/rds_c/out/librds_c.a build/lib
 
 # The sample alone may go by an unproved build, which is slow, but there in a minute.
 run: toolchain
@@ -42,6 +50,7 @@ quick: toolchain
 test: toolchain
 	+$(MAKE) --no-print-directory -j 2 proofs wrong-bodies-of-code
 	+$(MAKE) --no-print-directory -j 2 -O wrong-bodies program
+	+$(MAKE) --no-print-directory library
 	crates/rds_bench/out/rds_bench --check
 	@mkdir -p build
 	@[ -n "$$(git status --porcelain)" ] || git rev-parse HEAD > build/passed
@@ -53,7 +62,7 @@ wrong-bodies-of-code:
 	tests/wrong_bodies.py rds_code
 
 wrong-bodies:
-	tests/wrong_bodies.py rds_stream rds_sync rds_live rds_pieces rds_crew rds_rows rds_tool
+	tests/wrong_bodies.py rds_stream rds_sync rds_live rds_abi rds_pieces rds_crew rds_rows rds_tool
 
 # A script that hangs is ended, and named: all of them take a few minutes together. `timeout` puts it out of the terminal's
 # reach, so an interrupt is handed on.
@@ -74,6 +83,10 @@ program:
 	$(call within_limit,tests/recipes.sh crates/rds/out/rds)
 	$(call within_limit,tests/package.sh crates/rds/out/rds)
 
+# rt ci leaves no archive, so it is built here.
+library: lib
+	$(call within_limit,tests/library.sh build/lib crates/rds/out/rds)
+
 # The program, its manual page, the scripts of the recipes, and completion for bash and zsh.
 SHARE = $(DESTDIR)$(PREFIX)/share
 install: $(PROGRAM)
@@ -85,6 +98,16 @@ install: $(PROGRAM)
 	install -m 644 $(filter-out %.sh %.py,$(wildcard examples/*.*)) $(SHARE)/rds/examples
 	install -m 644 completions/rds.bash $(SHARE)/bash-completion/completions/rds
 	install -m 644 completions/_rds $(DESTDIR)$(ZSH_COMPLETIONS)/_rds
+
+# The library for C, its header, and what pkg-config says of it.
+LIBDIR ?= $(PREFIX)/lib
+install-lib: build/lib/librds.so.0
+	install -d $(DESTDIR)$(LIBDIR)/pkgconfig $(DESTDIR)$(PREFIX)/include
+	install -m 644 build/lib/librds.a $(DESTDIR)$(LIBDIR)/librds.a
+	install -m 755 build/lib/librds.so.0 $(DESTDIR)$(LIBDIR)/librds.so.0
+	ln -sf librds.so.0 $(DESTDIR)$(LIBDIR)/librds.so
+	install -m 644 lib/rds.h $(DESTDIR)$(PREFIX)/include/rds.h
+	sed 's|@prefix@|$(PREFIX)|; s|@libdir@|$(LIBDIR)|' lib/rds.pc.in > $(DESTDIR)$(LIBDIR)/pkgconfig/rds.pc
 
 # All of that as a Debian package below build.
 deb: $(PROGRAM)

@@ -2,11 +2,11 @@
 
 # What each command takes; tests/package.sh compares it with the program's help.
 _rds_options() {
-  local input='--hex --bits --gaps' rules='--burst --reach --loss --share --of' crew='--workers --progress'
+  local part='--bits --gaps' input='--hex --bits --gaps' rules='--burst --reach --loss --share --of' crew='--workers --progress'
   case $1 in
     scan) echo "$input $crew --help" ;;
     list | totals) echo "$input $rules --pieces $crew --help" ;;
-    follow) echo "$rules --help" ;;
+    follow) echo "$part $rules --help" ;;
     encode) echo '--hex --help' ;;
     '') echo 'scan list follow totals encode help --help --version' ;;
   esac

@@ -3,8 +3,8 @@
 #
 # For each seed from FIRST (1) to LAST (120, or FIRST where that is more) rds_plain makes a recording, and lines of groups. What rds writes of them,
 # by rules, cuttings and workers that are drawn from the seed, has to be what rds_plain writes, which decodes in one
-# piece by one thread, and has nothing of what cuts, stitches and lists. So has what rds follow writes of the whole recording,
-# which comes to it in chunks of random lengths. A run that differs is shown by its seed and its
+# piece by one thread, and has nothing of what cuts, stitches and lists. So has what rds follow writes of the recording, which
+# comes to it in chunks of random lengths. A run that differs is shown by its seed and its
 # words. The last line is 'N passed, M failed', and the exit status says whether all passed.
 
 usage='usage: tests/differential.sh PATH-TO-RDS PATH-TO-RDS_PLAIN [FIRST [LAST]]'
@@ -81,27 +81,31 @@ compare() {
     fi
 }
 
-# compare_stream MOST: rds follow by the rules on the file in, which comes in chunks of up to so many bytes, against the file wanted
+# compare_stream MOST: rds follow by $input and the rules on the file in, which comes in chunks of up to so many bytes, against
+# the file wanted
 compare_stream() {
     # shellcheck disable=SC2086
-    if PATH=$all_tools python3 "$here/chunks.py" "$seed" "$1" <in | "$rds" follow $words 2>err | cmp -s - wanted; then
+    if PATH=$all_tools python3 "$here/chunks.py" "$seed" "$1" <in | "$rds" follow $input $words 2>err | cmp -s - wanted; then
         pass
     else
-        fail "seed $seed: rds follow $words, chunks of up to $1 bytes"
+        fail "seed $seed: rds follow $input $words, chunks of up to $1 bytes"
     fi
 }
 
-# try_follow: the whole recording, and a beginning of it byte by byte
+# try_follow: the recording with its gaps up to the bit where it ends, and all of a beginning of it byte by byte, with gaps of
+# its own
 try_follow() {
     draw_rules
     # shellcheck disable=SC2086
-    "$plain" list "$held" - $rules <in >wanted || exit 1
+    "$plain" list "$bits" "${gaps:--}" $rules <in >wanted || exit 1
     draw 2 10000
     compare_stream "$drawn"
     head -c 2000 in >begun && mv begun in
     held=$((8 * $(stat -c %s in)))
+    draw_gaps "$held"
+    input=${gaps:+--gaps $gaps}
     # shellcheck disable=SC2086
-    "$plain" list "$held" - $rules <in >wanted || exit 1
+    "$plain" list "$held" "${gaps:--}" $rules <in >wanted || exit 1
     compare_stream 1
 }
 

@@ -5,7 +5,7 @@
 # may grow eightfold from one size to the next. A job that goes over its input some times takes four times as long; one
 # that goes over it once more for each acquisition, gap, piece or row takes sixteen times. No time is compared with a number
 # of seconds. Other programs disturb a measurement: the least time of a size counts, and a job has failed where it grows
-# so in five attempts.
+# so in fifteen attempts.
 # The last line is 'N passed, M failed', and the exit status says whether all passed.
 
 usage='usage: tests/growth.sh PATH-TO-RDS'
@@ -18,7 +18,7 @@ cd "$work" || exit 1
 
 # How many times the time of a size the next may take, and how often a job is measured.
 most=8
-attempts=5
+attempts=15
 
 # ---- inputs of one size, and of four and sixteen times that
 
@@ -47,15 +47,15 @@ gaps() { awk -v n="$1" 'BEGIN { for (; k < n; k++) printf "%s%d-%d", k ? "," : "
 
 # ---- times
 
-# spend MOST INPUT WORDS..: the milliseconds of a processor that the job takes, into $spent; it is ended where it takes
-# more than so many, to the second
+# spend MOST INPUT WORDS..: the milliseconds of a processor that the job takes, into $spent; it is ended where it has not
+# done in ten seconds and four times as much, since others may have the processor meanwhile, and counts as longer than MOST
 spend() {
-    local limit=$(($1 / 1000 + 2)) input=$2 TIMEFORMAT='%U %S' times
+    local most=$1 limit=$(($1 * 4 / 1000 + 10)) input=$2 TIMEFORMAT='%U %S' times
     shift 2
     if times=$({ time timeout "$limit" "$rds" "$@" <"$input" >out 2>err; } 2>&1) && [ -s out ]; then
         spent=$(awk '{ printf "%d", ($1 + $2) * 1000 + 1 }' <<<"$times")
     else
-        spent=$((limit * 1000))
+        spent=$((most + 1000))
     fi
 }
 

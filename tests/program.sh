@@ -9,7 +9,7 @@ usage='usage: tests/program.sh PATH-TO-RDS'
 . "$(dirname "$0")/common.sh" || exit
 check_programs "${1:-}"
 rds=$(realpath "$1")
-needs cat cmp cp grep head mkfifo python3 sed seq sleep tee wc
+needs cat cmp cp env grep head mkfifo python3 sed seq sleep tee timeout tr wc
 
 # check NAME STATUS STDOUT STDERR INPUT WORDS..
 #
@@ -105,8 +105,9 @@ for words in 'list --help' 'help totals'; do
     "$rds" $words 2>"$work/err" </dev/null | sed -n '/^Options:$/,/^$/p' | sed '/^$/d' >"$work/out"
     judge "options in the help by $words" 0 "${PIPESTATUS[0]}" "$(cat "$work/options")\n" ''
 done
-check 'help of follow on --burst' 0 '*--burst <N>  Correct bursts of errors of up to N bits' '' '' follow --help
-check 'help of follow on --of' 0 '*--of <N>     Look at the last N blocks' '' '' follow --help
+check 'help of follow on --bits' 0 '*--bits <N>     Length of the recording in bits' '' '' follow --help
+check 'help of follow on --burst' 0 '*--burst <N>    Correct bursts of errors of up to N bits' '' '' follow --help
+check 'help of follow on --of' 0 '*--of <N>       Look at the last N blocks' '' '' follow --help
 check 'help of scan on --workers' 0 '*--workers <N>  Work by up to N threads' '' '' scan --help
 check 'help of scan on --progress' 0 '*--progress     Tell on standard error' '' '' scan --help
 check 'help of scan on --bits' 0 '*--bits <N>     Length of the recording in bits' '' '' help scan
@@ -150,7 +151,7 @@ check 'pieces above 32 bits' 2 '' '*4294967296' '' list --pieces 4294967296
 check 'a reach that is no number' 2 '' '*three' '' totals --reach three
 check 'rules for a scan' 2 '' '*--burst' '' scan --burst 2
 check 'pieces for a scan' 2 '' '*--pieces' '' scan --pieces 2
-for option in --hex --bits=8 --gaps=1-2 --pieces=2 --workers=2 --progress; do
+for option in --hex --pieces=2 --workers=2 --progress; do
     check "$option for a stream" 2 '' "*${option%%=*}" '' follow $option
 done
 check 'bits for encode' 2 '' '*--bits' '' encode --bits 104
@@ -160,6 +161,7 @@ check 'progress for encode' 2 '' '*--progress' '' encode --progress
 for gaps in '' 5 a-b 5- 1-2, ,1-2 1-2,,3-4 1-2-3 +1-2 '1-2, 3-4' '1-2;3-4' 0-1000000000000 0000000000000-1; do
     check "gaps '$gaps'" 2 '' 'bad --gaps\n' '' scan --gaps "$gaps"
     check "gaps '$gaps' of a list" 2 '' 'bad --gaps\n' '' list --hex --gaps="$gaps" --burst 6
+    check "gaps '$gaps' of a stream" 2 '' 'bad --gaps\n' '' follow --gaps="$gaps" --of 3
 done
 # Options of both rules of loss, a default's own number too: the words are no command line, though the parser takes them.
 bad_loss='bad --loss or --of: --of needs --share, and --loss excludes it\n'
@@ -285,6 +287,37 @@ check 'totals alone' 0 "$(totals 2 0 0 0 0 1 0 2 1 0 1 0)" '' 00003f000019800005
 # ---- follow
 
 check 'a stream of a group' 0 "${first}$(totals 3 0 0 0 0 0 0 0 1 0 1 0)" '' "$zero_bytes" follow
+check 'a stream of nothing' 0 "$(totals 0 0 0 0 0 0 0 0 0 0 0 0)" '' '' follow
+check 'a stream of a byte' 0 "$(totals 0 0 0 0 0 0 0 0 0 0 0 0)" '' '\x00' follow
+check 'a stream that ends in a group' 0 "${acquired}group,26,0,A,none,B:0000,C:0000,none\n$(totals 2 0 0 0 0 0 0 0 1 0 1 0)" '' \
+    '\x00\x00\x3f\x00\x00\x19\x80\x00\x05\xa0\x00\x01' follow
+check 'a stream of 25 bits' 0 "$(totals 0 0 0 0 0 0 0 0 0 0 0 0)" '' "$zero_bytes" follow --bits 25
+check 'a stream of no bits' 0 "$(totals 0 0 0 0 0 0 0 0 0 0 0 0)" '' "$zero_bytes" follow --bits 0
+check 'a stream of a group but its last bit' 0 \
+    "${acquired}group,26,0,A,none,B:0000,C:0000,none\n$(totals 2 0 0 0 0 0 0 0 1 0 1 0)" '' "$zero_bytes" follow --bits 103
+check 'a stream of a gap in a block' 0 "${first}group,104,0,A,lost,B:0000,C:0000,D:0000\n$(totals 6 0 0 0 0 0 1 0 2 0 1 0)" '' \
+    "$zero_bytes$zero_bytes" follow --gaps 104-105
+check 'a stream of a gap from end to end' 0 "$(totals 0 0 0 0 0 0 0 0 0 0 0 0)" '' "$zero_bytes" follow --gaps 0-104
+# Of a recording each number of bits of its last bytes, and gaps at and about the borders of chunks.
+head -c 400 "$here/../examples/station.bin" >"$work/in"
+for bits in 0 1 7 8 9 3100 3101 3102 3103 3104 3105 3106 3107 3108 3109 3110 3111 3112 3199 3200; do
+    for gaps in '' --gaps=1591-1593,1600-1608,1999-2000,2300-2600; do
+        # Gaps behind the bits are another test's.
+        [ "$bits" -ge 3100 ] || [ -z "$gaps" ] || continue
+        # shellcheck disable=SC2086
+        "$rds" list --bits "$bits" $gaps <"$work/in" >"$work/wanted"
+        # shellcheck disable=SC2086
+        { head -c 200; sleep 0.02; head -c 50; sleep 0.02; cat; } <"$work/in" 2>"$work/late" \
+            | "$rds" follow --bits "$bits" $gaps >"$work/out" 2>"$work/err"
+        # Who writes the stream may find that it has ended.
+        judge "a stream of $bits bits ${gaps:-without gaps} is listed as its recording" 0 "${PIPESTATUS[1]}" \
+            "$(cat "$work/wanted")\n" ''
+    done
+done
+# What lies behind the bits that count is not read.
+{ "$rds" follow --bits 803 >"$work/out" 2>"$work/err"; echo $? >"$work/status"; cat >"$work/rest"; } <"$work/in"
+judge 'a stream of 803 bits of more' 0 "$(cat "$work/status")" "$("$rds" list --bits 803 <"$work/in")\n" ''
+if tail -c +102 "$work/in" | cmp -s - "$work/rest"; then pass; else fail 'the byte behind the last bit is left to the next reader'; fi
 "$rds" list --burst 5 --share 3 --of 9 <"$here/../examples/station.bin" >"$work/wanted"
 { head -c 100; sleep 0.1; cat; } <"$here/../examples/station.bin" \
     | "$rds" follow --burst 5 --share 3 --of 9 >"$work/out" 2>"$work/err"
@@ -294,7 +327,7 @@ judge 'a stream is listed as its recording' 0 $? "$(cat "$work/wanted")\n" ''
 mkfifo "$work/air"
 "$rds" follow <"$work/air" >"$work/out" 2>"$work/err" &
 exec 9>"$work/air"
-head -c 1300 "$here/../examples/station.bin" | tee "$work/begun" >&9
+head -c 1305 "$here/../examples/station.bin" | tee "$work/begun" >&9
 "$rds" list <"$work/begun" | grep -v '^total' | sed '$d' >"$work/complete"
 for _ in $(seq 100); do
     [ "$(wc -l <"$work/out")" -lt "$(wc -l <"$work/complete")" ] || break
@@ -306,6 +339,53 @@ wait $!
 status=$?
 head -n "$(wc -l <"$work/complete")" "$work/early" | cmp -s - "$work/complete" || echo 'rows are late' >>"$work/err"
 judge 'rows of a stream before more of it comes' 0 $status "$("$rds" list <"$work/begun")\n" ''
+
+# What was flushed stands where the program is ended in the middle of a stream.
+for signal in INT TERM; do
+    env --default-signal=INT "$rds" follow <"$work/air" >"$work/out" 2>"$work/err" &
+    exec 9>"$work/air"
+    cat "$work/begun" >&9
+    for _ in $(seq 100); do
+        [ "$(wc -l <"$work/out")" -lt "$(wc -l <"$work/complete")" ] || break
+        sleep 0.05
+    done
+    kill -$signal $!
+    wait $! 2>/dev/null
+    exec 9>&-
+    if cmp -s "$work/out" "$work/complete"; then pass; else fail "rows of a stream that is ended by $signal"; fi
+done
+# A reader that goes away ends it while the stream goes on.
+{ while cat "$here/../examples/station.bin" 2>/dev/null; do :; done | timeout 20 "$rds" follow 2>"$work/err"; echo "${PIPESTATUS[1]}" >"$work/status"; } \
+    | head -n 1 >"$work/out"
+judge 'a stream without an end, to a reader that leaves early' 1 "$(cat "$work/status")" "$acquired" 'refused 10 Write\n'
+
+# ---- progress
+
+# line_of NAME TEXT WORDS..: whether a job whose input and whose reader are late tells this text, takes it away at the end,
+# and writes what it writes without
+line_of() {
+    local name=$1 text=$2 status
+    shift 2
+    "$rds" "$@" <"$work/stations" >"$work/wanted"
+    { sleep 0.8; cat "$work/stations"; } | { "$rds" "$@" --progress 2>"$work/told"; echo $? >"$work/status"; } \
+        | { sleep 2; cat; } >"$work/out"
+    status=$(cat "$work/status")
+    if [ "$status" = 0 ] && cmp -s "$work/out" "$work/wanted" && tr '\r' '\n' <"$work/told" | grep -qxE -e "$text" \
+        && [ "$(tr '\r' '\n' <"$work/told" | tail -n 1 | tr -d ' ')" = '' ]; then
+        pass
+    else
+        fail "$name (status $status)"
+        tr '\r' '\n' <"$work/told" | sed 's/^/    told: /' | head -20
+    fi
+}
+
+for _ in 1 2 3 4 5 6 7 8; do cat "$here/../examples/station.bin"; done >"$work/stations"
+share='written [0-9]+ MB, rows of [1-9][0-9]? % of the bits, [0-9]+ s left'
+line_of 'the pieces of a list are told' 'decoded 1 of 2 pieces, [0-9]+ s left' list --pieces 2 --workers 1
+line_of 'the share of the rows of a list is told' "$share" list --workers 1
+line_of 'the share of the rows of a scan is told' "$share" scan --workers 2
+line_of 'the share of so many bits is told' "$share" scan --bits 1500000
+check 'no progress is told of short work' 0 "$first$(totals 3 0 0 0 0 0 0 0 1 0 1 0)" '' "$zero" list --hex --progress
 
 # ---- encode
 
@@ -331,6 +411,16 @@ check 'no worker' 1 '' 'refused 7 CrewRange\n' '' list --workers 0
 check 'too many workers' 1 '' 'refused 7 CrewRange\n' '' totals --workers 257
 check 'burst of a stream' 1 '' 'refused 1 BurstRange\n' '' follow --burst 6 --reach 0
 check 'share of a stream' 1 '' 'refused 15 ShareRange\n' '' follow --share 0
+check 'more bits than a stream has' 1 "$acquired" 'refused 4 BitsPastBytes\n' '\x00\x00\x3f\x00\x00\x19\x80' follow --bits 57
+check 'a bit more than a stream has' 1 '' 'refused 4 BitsPastBytes\n' '1234567' follow --bits 57
+check 'bits of no stream' 1 '' 'refused 4 BitsPastBytes\n' '' follow --bits 1
+check 'too many bits of a stream' 1 '' 'refused 5 TooLong\n' '' follow --bits 68719476737
+for gaps in 5-5 10-20,15-30 6-5 20-30,10-20 0-999999999999; do
+    check "a stream without the gaps $gaps" 1 '' 'refused 16 BadGaps\n' "$zero_bytes" follow --gaps "$gaps"
+done
+check 'a gap past the end of a stream' 1 "$first" 'refused 16 BadGaps\n' "$zero_bytes" follow --gaps 104-105
+check 'a gap past the bits of a stream' 1 "$acquired" 'refused 16 BadGaps\n' "$zero_bytes" follow --bits 103 --gaps 100-104
+check 'bits of a stream before gaps' 1 '' 'refused 4 BitsPastBytes\n' '1234567' follow --bits 57 --gaps 50-58
 check 'no worker for a scan' 1 '' 'refused 7 CrewRange\n' '000' scan --hex --workers 0
 check 'too many workers for a scan' 1 '' 'refused 7 CrewRange\n' '000' scan --hex --workers 257
 check 'no piece' 1 '' 'refused 6 BadCutting\n' '000' list --hex --pieces 0
@@ -363,6 +453,8 @@ check 'a strange byte in a line' 1 '' 'refused 12 GroupText\n' '1234 2540 5244 5
 judge 'closed input' 1 $? '' 'refused 9 Read\n'
 "$rds" list --loss 0 <&- >"$work/out" 2>"$work/err"
 judge 'settings before closed input' 1 $? '' 'refused 3 LossRange\n'
+"$rds" follow <&- >"$work/out" 2>"$work/err"
+judge 'closed input of a stream' 1 $? '' 'refused 9 Read\n'
 printf '%s' "$zero" >"$work/in"
 : >"$work/out"
 "$rds" scan --hex <"$work/in" >&- 2>"$work/err"
@@ -370,6 +462,8 @@ judge 'closed output' 1 $? '' 'refused 10 Write\n'
 if [ -c /dev/full ]; then
     "$rds" scan --hex <"$work/in" >/dev/full 2>"$work/err"
     judge 'full output' 1 $? '' 'refused 10 Write\n'
+    "$rds" follow <"$work/in" >/dev/full 2>"$work/err"
+    judge 'full output of a stream' 1 $? '' 'refused 10 Write\n'
     for words in --help --version 'help list' 'list --help'; do
         "$rds" $words >/dev/full 2>"$work/err"
         judge "$words into full output" 1 $? '' 'refused 10 Write\n'

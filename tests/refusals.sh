@@ -146,6 +146,8 @@ all_of scan --workers 3
 cat "$here/../examples/station.bin" "$here/../examples/station.bin" >>"$work/in"
 all_of follow
 job '\x00\x00\x3f\x00\x00\x19\x80\x00\x05\xa0' follow --burst 0
+# one that ends in a byte, with a gap in its last block
+job '\x00\x00\x3f\x00\x00\x19\x80\x00\x05\xa0\x00\x01\xb4' follow --bits 101 --gaps 1-2,99-101
 
 streams=
 program=$parts

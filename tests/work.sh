@@ -4,8 +4,8 @@
 # Counts the allocations, the bytes that they ask for, the most bytes held at a time and the threads of some jobs, and
 # compares them with the bounds of tests/work.bounds: a second pass over a recording, a run that is made again, a list that
 # is copied or one that is kept for too long shows there, and nowhere else. Threads are as many as the line says. Each job
-# has one line there, and is found by its name: its input, and its words. Reads and writes are counted too: one for each ten
-# thousand bytes, and a few, are allowed.
+# has one line there, and is found by its name: its input, and its words. Reads and writes are counted too: one for each
+# 64 KiB, and a few, are allowed.
 # Recordings are a few megabytes long, but for those of the smallest jobs, where a table that is made twice shows.
 # With --measure the bounds of the jobs that are named, such as 'empty list --workers 1', are written anew, and shown: the
 # most of three runs, and a tenth to spare, of the smallest jobs a hundredth. The threads of a new job are those that it started.
@@ -34,6 +34,8 @@ digits scan --hex --bits 0
 station list --pieces 1 --workers 1
 station list --pieces 16 --workers 1
 station list --pieces 16 --workers 4
+station scan --workers 1
+noise scan --hex --workers 4
 station totals --pieces 16 --workers 1
 station totals --pieces 16 --workers 4
 station totals --pieces 3 --workers 256
@@ -177,7 +179,7 @@ within() {
 }
 
 # some BYTES: how many reads or writes so many bytes may take
-some() { echo $(($1 / 10000 + 4)); }
+some() { echo $(($1 / 65536 + 4)); }
 
 # try BOUNDS INPUT WORDS..: whether the job keeps within its bounds
 try() {

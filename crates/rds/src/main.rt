@@ -10,8 +10,8 @@ mod progress;
 use crate::progress::{Progress, Told};
 use rds_sync::Rules;
 use rds_tool::{
-    Asked, CliFault, FaultKind, FromRead, Job, RuleNumbers, ToWrite, ToolError, asked_of, follow,
-    transcribe, transcribe_gated,
+    Asked, CliFault, FaultKind, FromRead, Input, Job, RuleNumbers, ToWrite, ToolError, asked_of,
+    follow, transcribe, transcribe_gated,
 };
 use std::env;
 use std::io::ErrorKind;
@@ -22,7 +22,7 @@ use std::thread::Threads;
 fn main(rt: HostRuntime) -> ExitCode {
     match asked_for(&rt) {
         Ok(Asked::Job { job, progress }) => exit(&rt, run(&rt, &rt, &job, progress)),
-        Ok(Asked::Follow(rules)) => exit(&rt, run_stream(&rt, rules)),
+        Ok(Asked::Follow(input, rules)) => exit(&rt, run_stream(&rt, &input, rules)),
         Err(fault) => show(&rt, &fault),
     }
 }
@@ -79,6 +79,7 @@ fn run<R: Threads + Wait + Sync>(
     };
     match told {
         Some(progress) => {
+            let mut reader = Told::new(reader, &progress);
             let mut writer = Told::new(writer, &progress);
             let answer = transcribe_gated(
                 crew,
@@ -96,11 +97,18 @@ fn run<R: Threads + Wait + Sync>(
 }
 
 /// Lists the stream of standard input as it comes.
-fn run_stream(rt: &HostRuntime, numbers: RuleNumbers) -> Result<(), ToolError> {
+fn run_stream(rt: &HostRuntime, input: &Input, numbers: RuleNumbers) -> Result<(), ToolError> {
     let rules = Rules::of(rt.alloc(), numbers)?;
     let mut reader = FromRead::new(rt.stdin());
     let mut writer = ToWrite::new(rt.stdout());
-    follow(rt.alloc(), &mut reader, &mut writer, &rules)
+    follow(
+        rt.alloc(),
+        &mut reader,
+        &mut writer,
+        &rules,
+        input.bits,
+        input.gaps.as_slice(),
+    )
 }
 
 fn exit(rt: &HostRuntime, answer: Result<(), ToolError>) -> ExitCode {

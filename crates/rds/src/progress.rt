@@ -3,7 +3,7 @@ ghost use Rattle.std.specs.Prelude.{◌≡◌};
 
 use rds_crew::Gate;
 use rds_pieces::PieceRun;
-use rds_tool::{Cuts, Failed, Job, Sink};
+use rds_tool::{Cuts, Failed, Job, Sink, Source};
 use std::sync::atomic::{AtomicU64, Ordering};
 use std::time::Instant;
 
@@ -15,16 +15,24 @@ const MEGABYTE: u64 = 1_000_000;
 /// What takes a line away.
 const CLEAR: &str = "\r                                                            \r";
 
-/// What a line tells: how many pieces are decoded, and how much is written. The workers and the writer count at once.
+/// What a line tells: how many pieces are decoded, and then of how many bits the rows are written. The workers, the reader
+/// and the writer count at once.
 #[derive(Drop)]
 pub struct Progress<'a> {
     rt: &'a HostRuntime,
     started: Instant,
+    recording: Length,
     pieces: u64,
     /// When the first piece was begun, in milliseconds from the start.
     begun: AtomicU64,
     decoded: AtomicU64,
+    /// How many bytes were read.
+    read: AtomicU64,
+    /// When the first write was begun.
+    rows_begun: AtomicU64,
     written: AtomicU64,
+    /// The place in the last row that was looked at; 0 where there was none.
+    place: AtomicU64,
     /// When the last line was told, in milliseconds from the start; 0 before the first.
     told: AtomicU64,
 }
@@ -35,10 +43,14 @@ impl<'a> Progress<'a> {
         Some(Progress {
             rt,
             started: Instant::now(rt).ok()?,
+            recording: length_of(job),
             pieces: most_pieces(job),
             begun: AtomicU64::new(0),
             decoded: AtomicU64::new(0),
+            read: AtomicU64::new(0),
+            rows_begun: AtomicU64::new(0),
             written: AtomicU64::new(0),
+            place: AtomicU64::new(0),
             told: AtomicU64::new(0),
         })
     }
@@ -50,22 +62,17 @@ impl<'a> Progress<'a> {
         }
     }
 
-    /// Tells a line where the last one is old enough. Of several threads that find it so, one does.
-    fn tell(&self) {
-        let Some(now) = self.milliseconds() else {
-            return;
-        };
+    /// The time where a line is due, in milliseconds from the start. Of several threads that find it so, one is told.
+    fn due(&self) -> Option<u64> {
+        let now = self.milliseconds()?;
         let told = self.told.load(Ordering::SeqCst);
         if now < told.saturating_add(PAUSE) {
-            return;
+            return None;
         }
-        let is_ours = self
-            .told
+        self.told
             .compare_exchange(told, now, Ordering::SeqCst, Ordering::SeqCst)
-            .is_ok();
-        if is_ours {
-            self.show(now);
-        }
+            .ok()?;
+        Some(now)
     }
 
     fn milliseconds(&self) -> Option<u64> {
@@ -73,73 +80,159 @@ impl<'a> Progress<'a> {
         u64::try_from(spent.as_millis()).ok()
     }
 
-    /// The pieces are told until something is written, with the seconds that those left take at the pace so far.
-    fn show(&self, now: u64) {
+    /// Notes the time where none was noted yet.
+    fn note_time(&self, at: &AtomicU64) {
+        if at.load(Ordering::SeqCst) == 0
+            && let Some(now) = self.milliseconds()
+        {
+            at.store(now, Ordering::SeqCst);
+        }
+    }
+
+    /// Tells the pieces, with the seconds that those left take at the pace so far.
+    fn show_pieces(&self, now: u64) {
         let pieces = self.pieces;
         let decoded = self.decoded.load(Ordering::SeqCst).min(pieces);
-        let written = self.written.load(Ordering::SeqCst);
-        let _ = if written > 0 || decoded == 0 {
-            let megabytes = written / MEGABYTE;
+        let spent = now.saturating_sub(self.begun.load(Ordering::SeqCst));
+        let seconds = seconds_left(spent, decoded, pieces);
+        let _ = eprint!(self.rt; "{CLEAR}decoded {decoded} of {pieces} pieces, {seconds} s left");
+    }
+
+    /// Tells the rows, which come by rising places: those up to a place are their share of all. A text that has none is told
+    /// by its bytes.
+    fn show_rows(&self, now: u64) {
+        let megabytes = self.written.load(Ordering::SeqCst) / MEGABYTE;
+        let bits = self.recording.bits(self.read.load(Ordering::SeqCst));
+        let place = self.place.load(Ordering::SeqCst).min(bits);
+        let _ = if place == 0 {
             eprint!(self.rt; "{CLEAR}written {megabytes} MB")
         } else {
-            let spent = now.saturating_sub(self.begun.load(Ordering::SeqCst));
-            let seconds = spent.saturating_mul(pieces - decoded) / decoded / 1000;
-            eprint!(self.rt; "{CLEAR}decoded {decoded} of {pieces} pieces, {seconds} s left")
+            let share = place.saturating_mul(100) / bits.max(1);
+            let spent = now.saturating_sub(self.rows_begun.load(Ordering::SeqCst));
+            let seconds = seconds_left(spent, place, bits);
+            eprint!(self.rt;
+                "{CLEAR}written {megabytes} MB, rows of {share} % of the bits, {seconds} s left"
+            )
         };
+    }
+}
+
+/// The seconds that the rest of the work takes at the pace of what is done in so many milliseconds.
+fn seconds_left(spent: u64, done: u64, all: u64) -> u64 {
+    spent.saturating_mul(all.saturating_sub(done)) / done.max(1) / 1000
+}
+
+/// What tells how many bits a recording has.
+#[derive(Clone, Copy)]
+enum Length {
+    /// So many, as was asked for.
+    Asked(u64),
+    /// So many for each byte that was read. Blanks in hexadecimal text count as digits here.
+    Read(u64),
+}
+
+impl Length {
+    fn bits(self, read: u64) -> u64 {
+        match self {
+            Length::Asked(bits) => bits,
+            Length::Read(of_a_byte) => read.saturating_mul(of_a_byte),
+        }
     }
 }
 
 impl Gate for Progress<'_> {
     /// The time is taken from the first piece, as all of the input is read before.
     fn begin(&self, _j: u64) {
-        if self.begun.load(Ordering::SeqCst) == 0
-            && let Some(now) = self.milliseconds()
-        {
-            self.begun.store(now, Ordering::SeqCst);
-        }
+        self.note_time(&self.begun);
     }
 
     fn done(&self, _j: u64, _run: &PieceRun) {
         self.decoded.fetch_add(1, Ordering::SeqCst);
-        self.tell();
+        if let Some(now) = self.due() {
+            self.show_pieces(now);
+        }
     }
 }
 
-/// A writer whose bytes are told of.
+/// A reader or a writer whose bytes are told of.
 #[derive(Drop)]
-pub struct Told<'a, K> {
-    writer: K,
+pub struct Told<'a, D> {
+    device: D,
     progress: &'a Progress<'a>,
 }
 
-impl<'a, K: Sink> Told<'a, K> {
-    pub fn new(writer: K, progress: &'a Progress<'a>) -> Told<'a, K>
-        ensures { result.writer ≡ writer }
+impl<'a, D> Told<'a, D> {
+    pub fn new(device: D, progress: &'a Progress<'a>) -> Told<'a, D>
+        ensures { result.device ≡ device }
     {
-        Told { writer, progress }
+        Told { device, progress }
+    }
+}
+
+impl<S: Source> Source for Told<'_, S> {
+    ghost remaining = { λ told. S.remaining told.device };
+
+    ghost failed = { λ told. S.failed told.device };
+
+    fn read(&mut self, buf: &mut [u8]) -> Result<usize, Failed> {
+        let count = self.device.read(buf)?;
+        self.progress.read.fetch_add(count as u64, Ordering::SeqCst);
+        Ok(count)
+    }
+
+    fn failures(&self) -> u64 {
+        self.device.failures()
     }
 }
 
 impl<K: Sink> Sink for Told<'_, K> {
-    ghost contents = { λ told. K.contents told.writer };
+    ghost contents = { λ told. K.contents told.device };
 
-    ghost failed = { λ told. K.failed told.writer };
+    ghost failed = { λ told. K.failed told.device };
 
     fn write(&mut self, bytes: &[u8]) -> Result<usize, Failed> {
-        let count = self.writer.write(bytes)?;
-        self.progress
-            .written
-            .fetch_add(count as u64, Ordering::SeqCst);
-        self.progress.tell();
+        let progress = self.progress;
+        progress.note_time(&progress.rows_begun);
+        let count = self.device.write(bytes)?;
+        progress.written.fetch_add(count as u64, Ordering::SeqCst);
+        if let Some(now) = progress.due() {
+            if let Some(place) = last_place(&bytes[..count]) {
+                progress.place.store(place, Ordering::SeqCst);
+            }
+            progress.show_rows(now);
+        }
         Ok(count)
     }
 
     fn flush(&mut self) -> Result<(), Failed> {
-        self.writer.flush()
+        self.device.flush()
     }
 
     fn failures(&self) -> u64 {
-        self.writer.failures()
+        self.device.failures()
+    }
+}
+
+/// The place in the last whole row of these bytes: the first field of a window, and the second of an item.
+fn last_place(bytes: &[u8]) -> Option<u64> {
+    let text = str::from_utf8(bytes).ok()?;
+    let (whole, _begun) = text.rsplit_once('\n')?;
+    let (_before, row) = whole.rsplit_once('\n')?;
+    let (first, rest) = row.split_once(',')?;
+    if let Ok(place) = first.parse::<u64>() {
+        return Some(place);
+    }
+    let (second, _) = rest.split_once(',')?;
+    second.parse::<u64>().ok()
+}
+
+fn length_of(job: &Job) -> Length {
+    match job {
+        Job::Scan(input, _) | Job::List(input, _) | Job::Totals(input, _) => match input.bits {
+            Some(bits) => Length::Asked(bits),
+            None => Length::Read(if input.hex { 4 } else { 8 }),
+        },
+        Job::Encode { .. } => Length::Read(0),
     }
 }
 

@@ -4,3 +4,4 @@ pub mod ZeroGroup
 pub mod BurstCounts
 pub mod EncodedGroups
 pub mod DamagedBlocks
+pub mod BlockKinds

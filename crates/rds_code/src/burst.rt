@@ -37,6 +37,7 @@ impl Model for Burst {
 impl Burst {
     ghost use Rattle.std.specs.Prelude.{◌≤◌};
     ghost use Rattle.rds_code.specs.Bursts.{span, IsBurst};
+    ghost use Rattle.rds_code.specs.Kinds.{kind_of_burst};
     ghost use Rattle.std.specs.Int.Count.{ones};
 
     /// The burst whose ones are those of `pattern`.
@@ -75,6 +76,17 @@ impl Burst {
         ensures most { result ≤ 5 }
     {
         self.shape.count_ones() as u8
+    }
+
+    /// Which of the eleven pairs of a span and a number of ones it has: 3 to 13, by the span and then by the ones. This
+    /// project's rule.
+    pub fn kind(self) -> u8
+        ensures value { result ≡ kind_of_burst (span self) (ones self) }
+        ensures least { 3 ≤ result }
+        ensures most { result ≤ 13 }
+    {
+        let span = self.span();
+        (span - 1) * span.saturating_sub(2) / 2 + self.ones() + 2
     }
 }
 

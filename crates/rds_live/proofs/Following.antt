@@ -1,8 +1,8 @@
 -- What a decoder of a stream knows after further bytes.
-use Rattle.std.proofs.Common.{◌≡◌, ℕ, ◌+◌, ◌-◌, ◌*◌, ◌≤◌, ◌⊎◌, List, [], ◌∷◌, ◌++◌, length, drop, refl, sym, ap, ap₂, subst, ◌∙◌, arith, inl, inr}
+use Rattle.std.proofs.Common.{◌≡◌, ℕ, ◌+◌, ◌-◌, ◌*◌, ◌^◌, ◌≤◌, ◌⊎◌, List, [], ◌∷◌, ◌++◌, length, drop, refl, sym, ap, ap₂, subst, ◌∙◌, arith, inl, inr}
 use Rattle.std.proofs.lemmas.Bool.{cases_lt}
 use Rattle.std.proofs.lemmas.List.{length-drop, length-append, drop-append-le, drop-drop}
-use Rattle.rds_stream.specs.Recording.{Signal, length_of}
+use Rattle.rds_stream.specs.Recording.{AreGaps, Signal, length_of}
 use Rattle.rds_sync.specs.declared.state.State.{State}
 use Rattle.rds_sync.specs.declared.state.State.TheVariants.{Searching, Locked}
 use Rattle.rds_sync.specs.declared.item.Item.{Item}
@@ -18,8 +18,10 @@ use Rattle.rds_sync.specs.Counting.{TotalsJoin, plus}
 use Rattle.rds_sync.specs.Totals.{totals_of}
 use Rattle.rds_sync.specs.Step.{run}
 use Rattle.rds_live.specs.Moving.{RunsMove, IsPartHeard, moved_state, moved_item, moved_items, most_behind}
-use Rattle.rds_live.specs.Live.{LiveOf, signal_of, run_of, complete, last_bytes, live_of, most_kept}
-use Rattle.rds_live.proofs.Parts.{length-signal, part-heard, first-part, last-part}
+use Rattle.rds_live.specs.Gaps.{gaps_within}
+use Rattle.rds_live.specs.Live.{LiveOf, Terms, signal_of, run_of, complete, last_bytes, live_of, most_kept}
+use Rattle.rds_live.proofs.GapParts.{part-touched, start-touched}
+use Rattle.rds_live.proofs.Parts.{length-signal, bits-heard, first-part, last-part}
 
 -- moved by nothing
 pub still-state : (s : State) → moved_state 0 s ≡ s
@@ -83,29 +85,35 @@ last-bytes bytes more =
     ap (drop (length (drop k bytes ++ more) - most_kept)) (sym is) ∙ drop-drop (length (drop k bytes ++ more) - most_kept) k (bytes ++ more)
     ∙ ap (λ (n : ℕ). drop n (bytes ++ more)) left
 
-module _ (rules : RuleNumbers) (range : IsInRange rules) (joins : RunsJoin) (moves : RunsMove) (bytes more : List ℕ) where
-  whole : Signal
-  whole = signal_of (bytes ++ more)
+module _ (terms : Terms) (range : IsInRange terms.rules) (are : AreGaps (2 ^ 36) terms.gaps) (joins : RunsJoin) (moves : RunsMove) (bytes more : List ℕ) where
+  abbrev whole : Signal
+  whole = signal_of terms.gaps (bytes ++ more)
 
   -- the run over all that was heard before
-  run-before : run (signal_of (bytes ++ more)) rules Searching 0 (8 * length bytes) ≡ run_of rules bytes
+  run-before : run (signal_of terms.gaps (bytes ++ more)) terms.rules Searching 0 (8 * length bytes) ≡ run_of terms bytes
   run-before =
-      let heard : IsPartHeard (signal_of (bytes ++ more)) (signal_of bytes) (8 * 0) 0 = part-heard (bytes ++ more) bytes 0 (first-part bytes more) 0 (inl refl) in
-      moves (signal_of (bytes ++ more)) (signal_of bytes) rules 0 Searching 0 (8 * length bytes) range.some_loss range.reach tt heard (omega (arith, length-signal bytes))
-      ∙ ap₂ (λ (s : State) (items : List Item). (s, items)) (still-state (run_of rules bytes).0) (still-items (run_of rules bytes).1)
+      let heard : IsPartHeard (signal_of terms.gaps (bytes ++ more)) (signal_of terms.gaps bytes) (8 * 0) 0 =
+      bits-heard (bytes ++ more) bytes 0 (first-part bytes more) (8 * length bytes) (8 * length (bytes ++ more)) (omega arith) (omega (arith, length-append bytes more))
+      terms.gaps terms.gaps (start-touched (8 * length bytes) terms.gaps) 0 (inl refl) in
+      moves (signal_of terms.gaps (bytes ++ more)) (signal_of terms.gaps bytes) terms.rules 0 Searching 0 (8 * length bytes) range.some_loss range.reach tt heard (omega (arith, length-signal terms.gaps bytes))
+      ∙ ap₂ (λ (s : State) (items : List Item). (s, items)) (still-state (run_of terms bytes).0) (still-items (run_of terms bytes).1)
+
+  -- the part that begins at a place with these last bytes
+  abbrev pub part_from : ℕ → List ℕ → Signal
+  part_from before tail = signal_of (gaps_within terms.gaps before (8 * length (tail ++ more))) (tail ++ more)
 
   module _ (tail : List ℕ) (place from before : ℕ) (local : State) (part : Signal) where
     pub record IsPrepared : Type 0 where
       pub tail_is : tail ≡ last_bytes bytes
       pub place_is : place ≡ 8 * length bytes
-      pub part_is : part ≡ signal_of (tail ++ more)
+      pub part_is : part ≡ part_from before tail
       pub from_is : from ≡ 8 * length tail
       pub before_is : before ≡ place - from
-      pub local_is : moved_state before local ≡ (run_of rules bytes).0
-      pub lawful : IsLawful rules from local
+      pub local_is : moved_state before local ≡ (run_of terms bytes).0
+      pub lawful : IsLawful terms.rules from local
 
-    pub run-after : IsPrepared → run_of rules (bytes ++ more)
-        ≡ (moved_state before (run part rules local from (length_of part - from)).0, complete rules bytes ++ moved_items before (run part rules local from (length_of part - from)).1)
+    pub run-after : IsPrepared → run_of terms (bytes ++ more)
+        ≡ (moved_state before (run part terms.rules local from (length_of part - from)).0, complete terms bytes ++ moved_items before (run part terms.rules local from (length_of part - from)).1)
     run-after p =
         let kept : length tail ≡ length bytes - (length bytes - most_kept) =
         ap (λ (xs : List ℕ). length xs) p.tail_is ∙ length-drop (length bytes - most_kept) bytes in
@@ -115,37 +123,42 @@ module _ (rules : RuleNumbers) (range : IsInRange rules) (joins : RunsJoin) (mov
           | inl few ↦ inl (omega arith)
           | inr many ↦ inr (omega (arith, p.from_is, kept))
         ]) in
-        let heard : IsPartHeard (signal_of (bytes ++ more)) (signal_of (last_bytes bytes ++ more)) (8 * k) from = part-heard (bytes ++ more) (last_bytes bytes ++ more) k (last-part bytes more) from early in
-        let is_part : part ≡ signal_of (last_bytes bytes ++ more) = p.part_is ∙ ap (λ (xs : List ℕ). signal_of (xs ++ more)) p.tail_is in
-        let heard_part : IsPartHeard (signal_of (bytes ++ more)) part before from =
-        subst (λ (b : Signal). IsPartHeard (signal_of (bytes ++ more)) b before from) (sym is_part)
-        (subst (λ (d : ℕ). IsPartHeard (signal_of (bytes ++ more)) (signal_of (last_bytes bytes ++ more)) d from) (sym cut) heard) in
+        let last : List ℕ = last_bytes bytes ++ more in
+        let here : Signal = signal_of (gaps_within terms.gaps (8 * k) (8 * length last)) last in
+        let heard : IsPartHeard whole here (8 * k) from =
+        bits-heard (bytes ++ more) last k (last-part bytes more) (8 * length last) (8 * length (bytes ++ more)) (omega arith)
+        (omega (arith, length-append bytes more, length-append (last_bytes bytes) more, length-drop k bytes))
+        terms.gaps (gaps_within terms.gaps (8 * k) (8 * length last)) (part-touched (2 ^ 36) (8 * k) (8 * length last) terms.gaps are) from early in
+        let is_part : part ≡ here = p.part_is ∙ ap₂ part_from cut p.tail_is in
+        let heard_part : IsPartHeard whole part before from =
+        subst (λ (b : Signal). IsPartHeard whole b before from) (sym is_part)
+        (subst (λ (d : ℕ). IsPartHeard whole here d from) (sym cut) heard) in
         let long : length_of part ≡ 8 * (length tail + length more) =
-        ap (λ (b : Signal). length_of b) p.part_is ∙ length-signal (tail ++ more) ∙ ap (λ (n : ℕ). 8 * n) (length-append tail more) in
+        ap (λ (b : Signal). length_of b) p.part_is ∙ length-signal (gaps_within terms.gaps before (8 * length (tail ++ more))) (tail ++ more) ∙ ap (λ (n : ℕ). 8 * n) (length-append tail more) in
         let bits : length_of part - from ≡ 8 * length (bytes ++ more) - 8 * length bytes =
         omega (arith, long, p.from_is, length-append bytes more) in
         let start : from + before ≡ 8 * length bytes = omega (arith, p.before_is, p.place_is, p.from_is, kept) in
-        let moved = moves (signal_of (bytes ++ more)) part rules before local from (length_of part - from) range.some_loss range.reach p.lawful heard_part
+        let moved = moves whole part terms.rules before local from (length_of part - from) range.some_loss range.reach p.lawful heard_part
         (omega (arith, long, p.from_is)) in
-        let rest : run (signal_of (bytes ++ more)) rules (run_of rules bytes).0 (8 * length bytes) (8 * length (bytes ++ more) - 8 * length bytes)
-        ≡ (moved_state before (run part rules local from (length_of part - from)).0, moved_items before (run part rules local from (length_of part - from)).1) =
-        ap (λ (n : ℕ). run (signal_of (bytes ++ more)) rules (run_of rules bytes).0 (8 * length bytes) n) (sym bits)
-        ∙ ap (λ (n : ℕ). run (signal_of (bytes ++ more)) rules (run_of rules bytes).0 n (length_of part - from)) (sym start)
-        ∙ ap (λ (s : State). run (signal_of (bytes ++ more)) rules s (from + before) (length_of part - from)) (sym p.local_is)
+        let rest : run whole terms.rules (run_of terms bytes).0 (8 * length bytes) (8 * length (bytes ++ more) - 8 * length bytes)
+        ≡ (moved_state before (run part terms.rules local from (length_of part - from)).0, moved_items before (run part terms.rules local from (length_of part - from)).1) =
+        ap (λ (n : ℕ). run whole terms.rules (run_of terms bytes).0 (8 * length bytes) n) (sym bits)
+        ∙ ap (λ (n : ℕ). run whole terms.rules (run_of terms bytes).0 n (length_of part - from)) (sym start)
+        ∙ ap (λ (s : State). run whole terms.rules s (from + before) (length_of part - from)) (sym p.local_is)
         ∙ moved in
         let all : 8 * length (bytes ++ more) - 0 ≡ 8 * length (bytes ++ more) = omega arith in
         let middle : 8 * length bytes - 0 ≡ 8 * length bytes = omega arith in
-        ap (λ (n : ℕ). run (signal_of (bytes ++ more)) rules Searching 0 n) (sym all)
-        ∙ joins (signal_of (bytes ++ more)) rules Searching 0 (8 * length bytes) (8 * length (bytes ++ more)) (omega arith) (omega (arith, length-append bytes more))
+        ap (λ (n : ℕ). run whole terms.rules Searching 0 n) (sym all)
+        ∙ joins whole terms.rules Searching 0 (8 * length bytes) (8 * length (bytes ++ more)) (omega arith) (omega (arith, length-append bytes more))
         ∙ ap (λ (first : State × List Item). (
-          (run (signal_of (bytes ++ more)) rules first.0 (8 * length bytes) (8 * length (bytes ++ more) - 8 * length bytes)).0,
-          first.1 ++ (run (signal_of (bytes ++ more)) rules first.0 (8 * length bytes) (8 * length (bytes ++ more) - 8 * length bytes)).1,
-        )) (ap (λ (n : ℕ). run (signal_of (bytes ++ more)) rules Searching 0 n) middle ∙ run-before)
-        ∙ ap (λ (next : State × List Item). (next.0, complete rules bytes ++ next.1)) rest
+          (run whole terms.rules first.0 (8 * length bytes) (8 * length (bytes ++ more) - 8 * length bytes)).0,
+          first.1 ++ (run whole terms.rules first.0 (8 * length bytes) (8 * length (bytes ++ more) - 8 * length bytes)).1,
+        )) (ap (λ (n : ℕ). run whole terms.rules Searching 0 n) middle ∙ run-before)
+        ∙ ap (λ (next : State × List Item). (next.0, complete terms bytes ++ next.1)) rest
 
-    module _ (state : State) (totals : Totals) (heard : record { rules = rules; tail = tail; place = place; state = state; totals = totals } ≡ live_of rules bytes) where
+    module _ (state : State) (totals : Totals) (heard : record { terms = terms; tail = tail; place = place; state = state; totals = totals } ≡ live_of terms bytes) where
       -- the part of a stream that is gone over, where these bytes were heard
-      pub prepared : part ≡ signal_of (tail ++ more) → from ≡ 8 * length tail → before ≡ place - from → moved_state before local ≡ state → IsLawful rules from local → IsPrepared
+      pub prepared : part ≡ part_from before tail → from ≡ 8 * length tail → before ≡ place - from → moved_state before local ≡ state → IsLawful terms.rules from local → IsPrepared
       prepared part_is from_is before_is local_is lawful = record {
         tail_is = ap (λ (l : LiveOf). l.tail) heard;
         place_is = ap (λ (l : LiveOf). l.place) heard;
@@ -157,35 +170,35 @@ module _ (rules : RuleNumbers) (range : IsInRange rules) (joins : RunsJoin) (mov
       }
 
     -- the items that it completes
-    pub complete-after : (p : IsPrepared) (items : List Item) → items ≡ moved_items before (run part rules local from (length_of part - from)).1
-        → complete rules (bytes ++ more) ≡ complete rules bytes ++ items
-    complete-after p items is = ap (λ (r : State × List Item). r.1) (run-after p) ∙ ap (λ (more_items : List Item). complete rules bytes ++ more_items) (sym is)
+    pub complete-after : (p : IsPrepared) (items : List Item) → items ≡ moved_items before (run part terms.rules local from (length_of part - from)).1
+        → complete terms (bytes ++ more) ≡ complete terms bytes ++ items
+    complete-after p items is = ap (λ (r : State × List Item). r.1) (run-after p) ∙ ap (λ (more_items : List Item). complete terms bytes ++ more_items) (sym is)
 
     module _ (p : IsPrepared) (kept : List ℕ) (after : ℕ) (end next : State) (join : TotalsJoin) (tell : CodesTellTotals) (totals found sum : Totals) where
-      totals-after : totals ≡ totals_of (complete rules bytes) → found ≡ totals_of (run part rules local from (length_of part - from)).1 → sum ≡ plus totals found
-          → sum ≡ totals_of (complete rules (bytes ++ more))
+      totals-after : totals ≡ totals_of (complete terms bytes) → found ≡ totals_of (run part terms.rules local from (length_of part - from)).1 → sum ≡ plus totals found
+          → sum ≡ totals_of (complete terms (bytes ++ more))
       totals-after so_far found_is sum_is =
-          let items : List Item = moved_items before (run part rules local from (length_of part - from)).1 in
-          sum_is ∙ ap₂ plus so_far (found_is ∙ sym (totals-moved tell before (run part rules local from (length_of part - from)).1))
-          ∙ sym (join (complete rules bytes) items).joined
+          let items : List Item = moved_items before (run part terms.rules local from (length_of part - from)).1 in
+          sum_is ∙ ap₂ plus so_far (found_is ∙ sym (totals-moved tell before (run part terms.rules local from (length_of part - from)).1))
+          ∙ sym (join (complete terms bytes) items).joined
           ∙ ap (λ (all : List Item). totals_of all) (sym (complete-after p items refl))
 
       -- what is known after it
-      pub heard-after : kept ≡ last_bytes (tail ++ more) → after ≡ before + length_of part → end ≡ (run part rules local from (length_of part - from)).0
-          → next ≡ moved_state before end → totals ≡ totals_of (complete rules bytes) → found ≡ totals_of (run part rules local from (length_of part - from)).1 → sum ≡ plus totals found
-          → record { rules = rules; tail = kept; place = after; state = next; totals = sum } ≡ live_of rules (bytes ++ more)
+      pub heard-after : kept ≡ last_bytes (tail ++ more) → after ≡ before + length_of part → end ≡ (run part terms.rules local from (length_of part - from)).0
+          → next ≡ moved_state before end → totals ≡ totals_of (complete terms bytes) → found ≡ totals_of (run part terms.rules local from (length_of part - from)).1 → sum ≡ plus totals found
+          → record { terms = terms; tail = kept; place = after; state = next; totals = sum } ≡ live_of terms (bytes ++ more)
       heard-after kept_is after_is end_is next_is so_far found_is sum_is =
           let few : length tail ≡ length bytes - (length bytes - most_kept) =
           ap (λ (xs : List ℕ). length xs) p.tail_is ∙ length-drop (length bytes - most_kept) bytes in
           let long : length_of part ≡ 8 * (length tail + length more) =
-          ap (λ (b : Signal). length_of b) p.part_is ∙ length-signal (tail ++ more) ∙ ap (λ (n : ℕ). 8 * n) (length-append tail more) in
+          ap (λ (b : Signal). length_of b) p.part_is ∙ length-signal (gaps_within terms.gaps before (8 * length (tail ++ more))) (tail ++ more) ∙ ap (λ (n : ℕ). 8 * n) (length-append tail more) in
           let tail_is : kept ≡ last_bytes (bytes ++ more) = kept_is ∙ ap (λ (xs : List ℕ). last_bytes (xs ++ more)) p.tail_is ∙ last-bytes bytes more in
           let place_is : after ≡ 8 * length (bytes ++ more) =
           omega (arith, after_is, long, few, p.before_is, p.place_is, p.from_is, length-append bytes more) in
-          let state_is : next ≡ (run_of rules (bytes ++ more)).0 =
+          let state_is : next ≡ (run_of terms (bytes ++ more)).0 =
           next_is ∙ ap (moved_state before) end_is ∙ sym (ap (λ (r : State × List Item). r.0) (run-after p)) in
-          ap (λ (xs : List ℕ). record { rules = rules; tail = xs; place = after; state = next; totals = sum }) tail_is
-          ∙ ap (λ (n : ℕ). record { rules = rules; tail = last_bytes (bytes ++ more); place = n; state = next; totals = sum }) place_is
-          ∙ ap (λ (s : State). record { rules = rules; tail = last_bytes (bytes ++ more); place = 8 * length (bytes ++ more); state = s; totals = sum }) state_is
-          ∙ ap (λ (t : Totals). record { rules = rules; tail = last_bytes (bytes ++ more); place = 8 * length (bytes ++ more); state = (run_of rules (bytes ++ more)).0; totals = t })
+          ap (λ (xs : List ℕ). record { terms = terms; tail = xs; place = after; state = next; totals = sum }) tail_is
+          ∙ ap (λ (n : ℕ). record { terms = terms; tail = last_bytes (bytes ++ more); place = n; state = next; totals = sum }) place_is
+          ∙ ap (λ (s : State). record { terms = terms; tail = last_bytes (bytes ++ more); place = 8 * length (bytes ++ more); state = s; totals = sum }) state_is
+          ∙ ap (λ (t : Totals). record { terms = terms; tail = last_bytes (bytes ++ more); place = 8 * length (bytes ++ more); state = (run_of terms (bytes ++ more)).0; totals = t })
           (totals-after so_far found_is sum_is)

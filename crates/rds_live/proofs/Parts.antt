@@ -1,20 +1,21 @@
 -- A part of a stream, cut at a byte.
-use Rattle.std.proofs.Common.{◌≡◌, ℕ, zero, suc, ◌+◌, ◌-◌, ◌*◌, ◌⊎◌, ◌/◌, ◌%◌, ◌<◌, ◌≤◌, List, ◌∷◌, ◌++◌, length, get_or, map, take, drop, Some, refl, sym, ap, ap₂, subst, ◌∙◌, arith}
+use Rattle.std.proofs.Common.{◌≡◌, ℕ, zero, suc, ◌+◌, ◌-◌, ◌*◌, ◌⊎◌, ◌/◌, ◌%◌, ◌<◌, ◌≤◌, List, ◌∷◌, ◌++◌, length, get_or, map, take, drop, Bool, Option, Some, None, true, false, refl, sym, ap, ap₂, subst, ◌∙◌, arith}
 use Rattle.std.proofs.lemmas.List.{length-drop, length-append, get_or-drop, drop-append-le}
 use Rattle.std.proofs.Math.ListN.{get_or-append}
 use Rattle.std.proofs.lemmas.List.FromFn.{length-map-range_with_len, take-map-range_with_len}
 use Rattle.std.specs.List.{range_with_len, slice_range}
 use Rattle.std.specs.Int.{bit_at}
 use Rattle.std.specs.Int.Digits.{number_from_digits}
-use Rattle.rds_stream.specs.Recording.{packed_bit, window, touched, heard, length_of}
+use Rattle.rds_stream.specs.Recording.{bits_of, packed_bit, window, touched, heard, length_of}
 use Rattle.rds_live.specs.Moving.{IsPartHeard, most_behind}
 use Rattle.rds_live.specs.Live.{signal_at, signal_of, last_bytes, most_kept}
+use Rattle.rds_live.proofs.GapParts.{TouchAlike}
 
-pub length-signal : (bytes : List ℕ) → length_of (signal_of bytes) ≡ 8 * length bytes
-length-signal bytes = length-map-range_with_len (packed_bit bytes) 0 (8 * length bytes)
+pub length-signal : (gaps : List (ℕ × ℕ)) (bytes : List ℕ) → length_of (signal_of gaps bytes) ≡ 8 * length bytes
+length-signal gaps bytes = length-map-range_with_len (packed_bit bytes) 0 (8 * length bytes)
 
-pub length-at : (bytes : List ℕ) (bits : ℕ) → length_of (signal_at bytes bits) ≡ bits
-length-at bytes bits = length-map-range_with_len (packed_bit bytes) 0 bits
+pub length-at : (gaps : List (ℕ × ℕ)) (bytes : List ℕ) (bits : ℕ) → length_of (signal_at gaps bytes bits) ≡ bits
+length-at gaps bytes bits = length-map-range_with_len (packed_bit bytes) 0 bits
 
 -- a part of a table
 drop-table : (f : ℕ → ℕ) (s n a : ℕ) → drop a (map f (range_with_len s n)) ≡ map f (range_with_len (s + a) (n - a))
@@ -65,7 +66,7 @@ module _ (whole part : List ℕ) (k : ℕ) (h : IsPartOf whole part k) where
 
   -- the first m bits of the part stand in the first n of the whole
   module _ (m n : ℕ) (held : m ≤ 8 * length part) (inside : m + 8 * k ≤ n) where
-    window-part : (i : ℕ) → 25 ≤ i → i < m → window (signal_at part m).bits i ≡ window (signal_at whole n).bits (i + 8 * k)
+    window-part : (i : ℕ) → 25 ≤ i → i < m → window (bits_of part m) i ≡ window (bits_of whole n) (i + 8 * k)
     unfolding window
     window-part i late early =
         let bits : i + 8 * k + 1 - (i + 8 * k - 25) ≡ i + 1 - (i - 25) = omega arith in
@@ -80,18 +81,17 @@ module _ (whole part : List ℕ) (k : ℕ) (h : IsPartOf whole part k) where
               let place : i - 25 + j + 8 * k ≡ i + 8 * k - 25 + j = omega arith in
               packed-part (i - 25 + j) (omega arith) ∙ ap (λ (p : ℕ). packed_bit whole p) place
 
-    heard-part : (i : ℕ) → 25 ≤ i → i < m → heard (signal_at part m) i ≡ heard (signal_at whole n) (i + 8 * k)
-    unfolding heard touched
-    heard-part i late early = ap (λ (w : ℕ). Some w) (window-part i late early)
+    module _ (of_whole of_part : List (ℕ × ℕ)) (alike : TouchAlike (8 * k) m of_whole of_part) where
+      heard-part : (i : ℕ) → 25 ≤ i → i < m → heard (signal_at of_part part m) i ≡ heard (signal_at of_whole whole n) (i + 8 * k)
+      unfolding heard touched
+      heard-part i late early =
+          ap₂ (λ (t : Bool) (w : ℕ). elim t as (λ _. Option ℕ) [ true ↦ None | false ↦ Some w ]) (alike i late early) (window-part i late early)
 
-    pub bits-heard : (from : ℕ) → (8 * k ≡ 0) ⊎ (most_behind ≤ from) → IsPartHeard (signal_at whole n) (signal_at part m) (8 * k) from
-    bits-heard from early = record {
-      heard_same = λ i late within. heard-part i late (omega (arith, length-map-range_with_len (packed_bit part) 0 m));
-      early = early;
-    }
-
-  pub part-heard : (from : ℕ) → (8 * k ≡ 0) ⊎ (most_behind ≤ from) → IsPartHeard (signal_of whole) (signal_of part) (8 * k) from
-  part-heard from early = bits-heard (8 * length part) (8 * length whole) (omega arith) (omega (arith, h.within)) from early
+      pub bits-heard : (from : ℕ) → (8 * k ≡ 0) ⊎ (most_behind ≤ from) → IsPartHeard (signal_at of_whole whole n) (signal_at of_part part m) (8 * k) from
+      bits-heard from early = record {
+        heard_same = λ i late within. heard-part i late (omega (arith, length-map-range_with_len (packed_bit part) 0 m));
+        early = early;
+      }
 
 -- the bytes so far stand at the beginning of all
 pub first-part : (bytes more : List ℕ) → IsPartOf (bytes ++ more) bytes 0

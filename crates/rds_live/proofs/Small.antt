@@ -24,3 +24,19 @@ at-most-more m n t h a = record {
 pub length-codes : (items : List Item) → length (codes_of items) ≡ length items
 length-codes [] = refl
 length-codes (item ∷ items) = ap suc (length-codes items)
+
+pub none-counted : IsAtMost 0 (record { valid = 0; bursts = 0 ∷ 0 ∷ 0 ∷ 0 ∷ 0 ∷ []; lost = 0; bits = 0; groups = 0; complete = 0; acquired = 0; losses = 0 })
+none-counted = record {
+  valid = omega arith;
+  burst1 = omega arith;
+  burst2 = omega arith;
+  burst3 = omega arith;
+  burst4 = omega arith;
+  burst5 = omega arith;
+  lost = omega arith;
+  bits = omega arith;
+  groups = omega arith;
+  complete = omega arith;
+  acquired = omega arith;
+  losses = omega arith;
+}

@@ -1,3 +1,4 @@
 pub mod Moving
 pub mod Live
+pub mod Gaps
 pub mod Places

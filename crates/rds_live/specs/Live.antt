@@ -1,6 +1,6 @@
 -- What a decoder of a stream knows, by what it has heard. This project's rules.
-use Rattle.std.specs.Prelude.{◌≡◌, ℕ, ◌-◌, ◌*◌, ◌/◌, ◌^◌, ◌≤◌, List, length, drop, min}
-use Rattle.rds_stream.specs.Recording.{Signal, bits_of, ungapped}
+use Rattle.std.specs.Prelude.{◌≡◌, ℕ, ◌-◌, ◌*◌, ◌/◌, ◌^◌, ◌≤◌, List, [], length, drop, min}
+use Rattle.rds_stream.specs.Recording.{AreGaps, Signal, bits_of}
 use Rattle.rds_sync.specs.declared.state.State.{State}
 use Rattle.rds_sync.specs.declared.state.State.TheVariants.{Searching}
 use Rattle.rds_sync.specs.declared.item.Item.{Item}
@@ -8,6 +8,7 @@ use Rattle.rds_sync.specs.Rules.{RuleNumbers}
 use Rattle.rds_sync.specs.Lawful.{IsLawful}
 use Rattle.rds_sync.specs.declared.totals.Totals.{Totals}
 use Rattle.rds_sync.specs.Counting.{IsAtMost}
+use Rattle.rds_sync.specs.Report.{report_items}
 use Rattle.rds_sync.specs.Totals.{totals_of}
 use Rattle.rds_sync.specs.Step.{run}
 
@@ -15,58 +16,75 @@ use Rattle.rds_sync.specs.Step.{run}
 abbrev pub most_kept : ℕ
 most_kept = 30
 
--- the rules that a stream is decoded by, the last bytes that were heard, how many bits were heard, the state after
--- them, and the totals of the items that are complete
-pub record LiveOf : Type 0 where
+-- what a stream is decoded by: its rules, and the gaps that were told of it, by their places in the stream
+pub record Terms : Type 0 where
   pub rules : RuleNumbers
+  pub gaps : List (ℕ × ℕ)
+
+-- these rules, and no gaps
+abbrev pub by_rules : RuleNumbers → Terms
+by_rules rules = record { rules = rules; gaps = [] }
+
+-- the terms of a stream, the last bytes that were heard, how many bits were heard, the state after them, and the totals
+-- of the items that are complete
+pub record LiveOf : Type 0 where
+  pub terms : Terms
   pub tail : List ℕ
   pub place : ℕ
   pub state : State
   pub totals : Totals
 
--- the first bits of these bytes, and all of them
-abbrev pub signal_at : List ℕ → ℕ → Signal
-signal_at bytes bits = ungapped (bits_of bytes bits)
+-- the first bits of these bytes, and all of them, with these gaps; one that lies behind them is not heard of
+abbrev pub signal_at : List (ℕ × ℕ) → List ℕ → ℕ → Signal
+signal_at gaps bytes bits = record { bits = bits_of bytes bits; gaps = gaps }
 
-abbrev pub signal_of : List ℕ → Signal
-signal_of bytes = signal_at bytes (8 * length bytes)
+abbrev pub signal_of : List (ℕ × ℕ) → List ℕ → Signal
+signal_of gaps bytes = signal_at gaps bytes (8 * length bytes)
 
 -- the run over all of a stream of these bytes
-abbrev pub run_of : RuleNumbers → List ℕ → State × List Item
-run_of rules bytes = run (signal_of bytes) rules Searching 0 (8 * length bytes)
+abbrev pub run_of : Terms → List ℕ → State × List Item
+run_of terms bytes = run (signal_of terms.gaps bytes) terms.rules Searching 0 (8 * length bytes)
 
 -- the items that are complete once these bytes were heard
-abbrev pub complete : RuleNumbers → List ℕ → List Item
-complete rules bytes = (run_of rules bytes).1
+abbrev pub complete : Terms → List ℕ → List Item
+complete terms bytes = (run_of terms bytes).1
+
+-- the report of a stream of the first bits of these bytes, and of all of them
+abbrev pub report_at : Terms → List ℕ → ℕ → List Item
+report_at terms bytes bits = report_items (signal_at terms.gaps bytes bits) terms.rules
+
+abbrev pub report_of : Terms → List ℕ → List Item
+report_of terms bytes = report_at terms bytes (8 * length bytes)
 
 -- the last bytes
 abbrev pub last_bytes : List ℕ → List ℕ
 last_bytes bytes = drop (length bytes - most_kept) bytes
 
 -- what is known once these bytes were heard
-abbrev pub live_of : RuleNumbers → List ℕ → LiveOf
-live_of rules bytes =
+abbrev pub live_of : Terms → List ℕ → LiveOf
+live_of terms bytes =
     record {
-      rules = rules;
+      terms = terms;
       tail = last_bytes bytes;
       place = 8 * length bytes;
-      state = (run_of rules bytes).0;
-      totals = totals_of (complete rules bytes);
+      state = (run_of terms bytes).0;
+      totals = totals_of (complete terms bytes);
     }
 
 -- these bytes were heard
 abbrev pub HasHeard : LiveOf → List ℕ → Type 0
-HasHeard live bytes = live ≡ live_of live.rules bytes
+HasHeard live bytes = live ≡ live_of live.terms bytes
 
 -- no count of the totals of so many bits is above this
 abbrev pub most_counted : ℕ → ℕ
 most_counted bits = 2 ^ 11 * bits
 
 -- what holds of every decoder of a stream: whole bytes were heard, no more than a recording may hold, the last of them are kept,
--- the state is lawful, and the totals are small
+-- the state is lawful, the totals are small, and the gaps are some that a recording may have
 pub record IsLive (live : LiveOf) : Type 0 where
   pub whole : live.place ≡ 8 * (live.place / 8)
   pub limit : live.place ≤ 2 ^ 36
   pub kept : length live.tail ≡ min most_kept (live.place / 8)
-  pub lawful : IsLawful live.rules live.place live.state
+  pub lawful : IsLawful live.terms.rules live.place live.state
   pub small : IsAtMost (most_counted live.place) live.totals
+  pub gaps : AreGaps (2 ^ 36) live.terms.gaps

@@ -20,8 +20,8 @@
 //!
 //! # What there is
 //!
-//! - [`Live`]: a decoder of a stream: its rules, the last 30 bytes, how many bits were heard, the state after them, and
-//!   the totals of the items that are complete.
+//! - [`Live`]: a decoder of a stream: its rules and gaps, the last 30 bytes, how many bits were heard, the state after
+//!   them, and the totals of the items that are complete.
 //! - [`Chunk`] and [`ChunkItems`]: the items that a chunk completed, and a walk over them.
 //! - [`StreamEnd`]: what the end of a stream gives, by [`Live::finish`] behind a whole byte, or by [`Live::finish_with`]
 //!   at any bit.
@@ -35,17 +35,19 @@
 //!   the end they are the report's, and so are the totals.
 //! - A refused call has heard nothing: the same bytes can be offered again. Refused are `TooLong` (5), past 2^36 bits in
 //!   all, and `OutOfMemory` (8).
-//! - Both rules of loss are followed.
+//! - Both rules of loss are followed, and gaps that are told beforehand ([`Live::with_gaps`]).
 //! - It keeps no more of a stream than its last 30 bytes: 233 bits are enough to go on, those of a partner's window eight
 //!   blocks back, since a group in progress begins later.
 //!
 //! # What it leaves to others
 //!
 //! Each chunk is made a recording, with the last bytes before it, since windows are read from one: so a call takes memory
-//! for a copy of its chunk and for 16 bits an item, which is given back with the [`Chunk`]. Streams have no gaps yet.
+//! for a copy of its chunk and for 16 bits an item, which is given back with the [`Chunk`]. Where there are gaps it
+//! looks at each of them.
 #![tactic(auto)]
 
 mod chunk;
+mod gaps;
 pub mod laws;
 mod live;
 mod moved;

@@ -1,17 +1,18 @@
 //! The decoder of a stream.
 
-ghost use Rattle.std.specs.Prelude.{◌≡◌, ◌≤◌, ◌<◌, ◌↔◌, ◌-◌, ◌+◌, ◌*◌, ◌/◌, ◌^◌, ◌++◌, ◌⊎◌, min, List, ℕ, [], length, vec_len, IfOk, IfErr, IsErrOf, IsOkUnless};
-ghost use Rattle.rds_stream.specs.Recording.{length_of};
+ghost use Rattle.std.specs.Prelude.{◌≡◌, ◌≤◌, ◌<◌, ◌↔◌, ◌-◌, ◌+◌, ◌*◌, ◌/◌, ◌^◌, ◌++◌, ◌⊎◌, min, List, ℕ, [], length, vec_len, IfOk, IfErr, IsErrOf, IsOk, IsOkUnless, true};
+ghost use Rattle.rds_stream.specs.Recording.{AreGaps, length_of};
 ghost use Rattle.rds_sync.specs.Advance.{group_item};
 ghost use Rattle.rds_sync.specs.Counting.{IsAtMost, plus};
 ghost use Rattle.rds_sync.specs.Lawful.{IsLawful};
-ghost use Rattle.rds_sync.specs.Report.{report_items};
 ghost use Rattle.rds_sync.specs.Step.{run, items_of_end};
 ghost use Rattle.rds_sync.specs.Totals.{totals_of};
 ghost use Rattle.rds_live.specs.Moving.{moved_items};
-ghost use Rattle.rds_live.specs.Live.{HasHeard, complete, last_bytes, live_of, most_counted, most_kept, run_of, signal_at, signal_of};
+ghost use Rattle.rds_live.specs.Gaps.{gaps_within};
+ghost use Rattle.rds_live.specs.Live.{HasHeard, Terms, by_rules, complete, last_bytes, live_of, most_counted, most_kept, report_at, report_of, signal_at, signal_of};
 
 use crate::chunk::Chunk;
+use crate::gaps::{are_gaps, gaps_of_part};
 use crate::laws::{ends_move, runs_move};
 use crate::moved::{moved_back, moved_group, moved_on};
 use rds_stream::{Counted, Recording, StreamError};
@@ -26,27 +27,35 @@ const MOST_KEPT: usize = 30;
 /// The most bits that a stream may have.
 const MOST_BITS: u64 = 1 << 36;
 
+const NO_GAPS: &[(u64, u64)] = &[];
+
 /// A decoder of a stream of bits, which takes them as they come: this project's rule.
 ///
-/// Contracts see what it knows of the stream: its rules, the last bytes, how many bits there were, and the state after
-/// them.
+/// Contracts see what it knows of the stream: its rules and gaps, the last bytes, how many bits there were, and the state
+/// after them.
 #[derive(Drop)]
 pub struct Live<'r> {
     rules: &'r Rules,
+    gaps: &'r [(u64, u64)],
     tail: Vec<u8>,
+    /// As much of the gaps as lies in the tail, by its places there.
+    near: Vec<(u64, u64)>,
     place: u64,
     state: State,
     totals: Totals,
 }
 
 impl<'r> Model for Live<'r> {
+    ghost use Rattle.std.specs.Prelude.{◌≡◌, ◌-◌, ◌*◌, length};
+    ghost use Rattle.rds_live.specs.Gaps.{gaps_within};
     ghost use Rattle.rds_live.specs.Live.{LiveOf, IsLive};
 
     ghost Value = { LiveOf };
 
-    ghost view = { λ l. record { rules = l.rules.now; tail = l.tail.items; place = l.place; state = l.state; totals = l.totals } };
+    ghost view = { λ l. record { terms = record { rules = l.rules.now; gaps = l.gaps.now }; tail = l.tail.items; place = l.place; state = l.state; totals = l.totals } };
 
-    ghost invariant = { λ l. IsLive (record { rules = l.rules.now; tail = l.tail.items; place = l.place; state = l.state; totals = l.totals }) };
+    ghost invariant = { λ l. IsLive (record { terms = record { rules = l.rules.now; gaps = l.gaps.now }; tail = l.tail.items; place = l.place; state = l.state; totals = l.totals })
+        × (l.near.items ≡ gaps_within l.gaps.now (l.place - 8 * length l.tail.items) (8 * length l.tail.items)) };
 }
 
 /// What the end of a stream gives.
@@ -59,13 +68,44 @@ pub struct StreamEnd {
 }
 
 impl<'r> Live<'r> {
-    /// A decoder that has heard nothing yet. Takes no memory.
+    /// A decoder that has heard nothing yet, of a stream without gaps. Takes no memory.
     pub fn new(alloc: Global, rules: &'r Rules) -> Live<'r>
-        ensures { result ≡ live_of rules.now [] }
+        ensures { result ≡ live_of (by_rules rules.now) [] }
+    {
+        Live::start(alloc, rules, NO_GAPS)
+    }
+
+    /// A decoder that has heard nothing yet, of a stream with these gaps: each is the places from its first number to before
+    /// its second, by which the bits that will come there mean nothing. Takes no memory.
+    ///
+    /// Refuses gaps that no recording may have: one that has no place or goes past 2^36 bits, or begins before the end of the
+    /// one before it. A gap past the end of the stream, once that is known, means nothing.
+    pub fn with_gaps(
+        alloc: Global,
+        rules: &'r Rules,
+        gaps: &'r [(u64, u64)],
+    ) -> Result<Live<'r>, StreamError>
+        ensures live { IfOk result (λ live. live ≡ live_of (record { rules = rules.now; gaps = gaps.now }) []) }
+        ensures taken { IsOk result ↔ AreGaps (2 ^ 36) gaps.now }
+        ensures bad_gaps { IsOkUnless result StreamError.BadGaps }
+    {
+        if are_gaps(gaps, MOST_BITS) {
+            Ok(Live::start(alloc, rules, gaps))
+        } else {
+            Err(StreamError::BadGaps)
+        }
+    }
+
+    /// A decoder that has heard nothing yet.
+    fn start(alloc: Global, rules: &'r Rules, gaps: &'r [(u64, u64)]) -> Live<'r>
+        requires { AreGaps (2 ^ 36) gaps.now }
+        ensures { result ≡ live_of (record { rules = rules.now; gaps = gaps.now }) [] }
     {
         Live {
             rules,
+            gaps,
             tail: Vec::new(alloc),
+            near: Vec::new(alloc),
             place: 0,
             state: State::Searching,
             totals: Totals::NONE,
@@ -83,7 +123,7 @@ impl<'r> Live<'r> {
     /// The state after all that was heard.
     pub fn state(&self) -> State
         ensures value { result ≡ self.now.state }
-        ensures lawful { IsLawful self.now.rules self.now.place result }
+        ensures lawful { IsLawful self.now.terms.rules self.now.place result }
     {
         self.state
     }
@@ -95,6 +135,14 @@ impl<'r> Live<'r> {
         self.totals
     }
 
+    /// Whether the stream may end so many bits further on, that is, whether no gap goes past them.
+    pub fn may_end_after(&self, bits: u64) -> bool
+        requires { self.now.place + bits ≤ 2 ^ 36 }
+        ensures { (result ≡ true) ↔ AreGaps (self.now.place + bits) self.now.terms.gaps }
+    {
+        are_gaps(self.gaps, self.place + bits)
+    }
+
     /// Takes the next bytes of the stream, the highest bit of a byte first, and gives the items that they complete. Any
     /// number of bytes will do, none too.
     ///
@@ -104,9 +152,9 @@ impl<'r> Live<'r> {
     /// asked for. It takes memory for a copy of the bytes, and for 16 bits an item.
     pub fn take(&mut self, bytes: &[u8]) -> Result<Chunk<'r>, StreamError>
         ensures heard { IfOk result (λ _. (before : List ℕ) → HasHeard self.old before → HasHeard self.new (before ++ bytes.now)) }
-        ensures rules { IfOk result (λ _. self.new.rules ≡ self.old.rules) }
+        ensures terms { IfOk result (λ _. self.new.terms ≡ self.old.terms) }
         ensures items { IfOk result (λ items. (before : List ℕ) → HasHeard self.old before
-            → complete self.old.rules (before ++ bytes.now) ≡ complete self.old.rules before ++ items) }
+            → complete self.old.terms (before ++ bytes.now) ≡ complete self.old.terms before ++ items) }
         ensures refused { IfErr result (λ _. self.new ≡ self.old) }
         ensures too_long { IsErrOf result StreamError.TooLong ↔ (2 ^ 36 < self.old.place + 8 * length bytes.now) }
         ensures only { IfErr result (λ e. (e ≡ StreamError.TooLong) ⊎ (e ≡ StreamError.OutOfMemory)) }
@@ -119,21 +167,23 @@ impl<'r> Live<'r> {
     /// Ends the stream here: closes the group in progress, as far as it was read. Takes no memory.
     pub fn finish(self) -> StreamEnd
         ensures group { (bytes : List ℕ) → HasHeard self.entry bytes
-            → complete self.entry.rules bytes ++ group_item result.group ≡ report_items (signal_of bytes) self.entry.rules }
+            → complete self.entry.terms bytes ++ group_item result.group ≡ report_of self.entry.terms bytes }
         ensures totals { (bytes : List ℕ) → HasHeard self.entry bytes
-            → result.totals ≡ totals_of (report_items (signal_of bytes) self.entry.rules) }
+            → result.totals ≡ totals_of (report_of self.entry.terms bytes) }
     {
         prove!(1 <= self.rules.reach());
         laws::runs_are_reports();
         laws::totals_join();
         let Live {
             rules,
+            gaps: _,
             tail,
+            near,
             place,
             state,
             totals,
         } = self;
-        let group = group_at_end(rules, tail, place, state);
+        let group = group_at_end(rules, tail, near, place, state);
         ended(totals, group)
     }
 
@@ -148,10 +198,10 @@ impl<'r> Live<'r> {
     ) -> Result<(Chunk<'r>, StreamEnd), StreamError>
         requires { bits ≤ 8 * length bytes.now }
         ensures items { IfOk result (λ r. (before : List ℕ) → HasHeard self.now before
-            → complete self.now.rules before ++ r.0 ++ group_item r.1.group
-            ≡ report_items (signal_at (before ++ bytes.now) (8 * length before + bits)) self.now.rules) }
+            → complete self.now.terms before ++ r.0 ++ group_item r.1.group
+            ≡ report_at self.now.terms (before ++ bytes.now) (8 * length before + bits)) }
         ensures totals { IfOk result (λ r. (before : List ℕ) → HasHeard self.now before
-            → r.1.totals ≡ totals_of (report_items (signal_at (before ++ bytes.now) (8 * length before + bits)) self.now.rules)) }
+            → r.1.totals ≡ totals_of (report_at self.now.terms (before ++ bytes.now) (8 * length before + bits))) }
         ensures too_long { IsErrOf result StreamError.TooLong ↔ (2 ^ 36 < self.now.place + bits) }
         ensures only { IfErr result (λ e. (e ≡ StreamError.TooLong) ⊎ (e ≡ StreamError.OutOfMemory)) }
     {
@@ -165,11 +215,13 @@ impl<'r> Live<'r> {
         laws::codes_tell_totals();
         runs_move();
         ends_move();
-        let part = part_with(&self.tail, bytes, bits)?;
         let from = 8 * self.tail.len() as u64;
         let before = self.place - from;
+        let alloc = *self.tail.allocator();
+        let gaps = gaps_of_part(alloc, self.gaps, before, from + bits)?;
+        let part = part_with(&self.tail, bytes, bits, gaps)?;
         let state = moved_back(self.state, before);
-        let (end, totals) = followed(&part, self.rules, state, from, *self.tail.allocator())?;
+        let (end, totals) = followed(&part, self.rules, state, from, alloc)?;
         let group = moved_end(&part, self.rules, end, before);
         let items = Chunk::new(self.rules, part, state, from, before);
         Ok((items, ended(self.totals.plus(totals), group)))
@@ -178,9 +230,9 @@ impl<'r> Live<'r> {
     /// What this decoder is after the next bytes, and the items that they complete.
     fn after(&self, bytes: &[u8]) -> Result<(Live<'r>, Chunk<'r>), StreamError>
         ensures heard { IfOk result (λ r. (before : List ℕ) → HasHeard self.now before → HasHeard r.0 (before ++ bytes.now)) }
-        ensures rules { IfOk result (λ r. r.0.rules ≡ self.now.rules) }
+        ensures terms { IfOk result (λ r. r.0.terms ≡ self.now.terms) }
         ensures items { IfOk result (λ r. (before : List ℕ) → HasHeard self.now before
-            → complete self.now.rules (before ++ bytes.now) ≡ complete self.now.rules before ++ r.1) }
+            → complete self.now.terms (before ++ bytes.now) ≡ complete self.now.terms before ++ r.1) }
         ensures too_long { IsErrOf result StreamError.TooLong ↔ (2 ^ 36 < self.now.place + 8 * length bytes.now) }
         ensures only { IfErr result (λ e. (e ≡ StreamError.TooLong) ⊎ (e ≡ StreamError.OutOfMemory)) }
     {
@@ -192,15 +244,22 @@ impl<'r> Live<'r> {
         laws::totals_join();
         laws::codes_tell_totals();
         runs_move();
-        let (part, tail) = part_of(&self.tail, bytes)?;
         let from = 8 * self.tail.len() as u64;
         let before = self.place - from;
+        let alloc = *self.tail.allocator();
+        let gaps = gaps_of_part(alloc, self.gaps, before, from + 8 * bytes.len() as u64)?;
+        let (part, tail) = part_of(&self.tail, bytes, gaps)?;
         let state = moved_back(self.state, before);
-        let (end, totals) = followed(&part, self.rules, state, from, *self.tail.allocator())?;
+        let (end, totals) = followed(&part, self.rules, state, from, alloc)?;
+        let place = before + part.len();
+        let kept = 8 * tail.len() as u64;
+        let near = gaps_of_part(alloc, self.gaps, place - kept, kept)?;
         let next = Live {
             rules: self.rules,
+            gaps: self.gaps,
             tail,
-            place: before + part.len(),
+            near,
+            place,
             state: moved_on(end, before),
             totals: self.totals.plus(totals),
         };
@@ -208,10 +267,15 @@ impl<'r> Live<'r> {
     }
 }
 
-/// The last bytes of a stream with those that follow them, as a recording, and the last of them all.
-fn part_of(tail: &Vec<u8>, bytes: &[u8]) -> Result<(Recording, Vec<u8>), StreamError>
-    requires { 8 * (vec_len tail.now + length bytes.now) ≤ 2 ^ 36 }
-    ensures part { IfOk result (λ r. r.0 ≡ signal_of (tail.now.items ++ bytes.now)) }
+/// The last bytes of a stream with those that follow them, as a recording with these gaps, and the last of them all.
+fn part_of(
+    tail: &Vec<u8>,
+    bytes: &[u8],
+    gaps: Vec<(u64, u64)>,
+) -> Result<(Recording, Vec<u8>), StreamError>
+    requires limit { 8 * (vec_len tail.now + length bytes.now) ≤ 2 ^ 36 }
+    requires gaps { AreGaps (8 * (vec_len tail.now + length bytes.now)) gaps.items }
+    ensures part { IfOk result (λ r. r.0 ≡ signal_of gaps.items (tail.now.items ++ bytes.now)) }
     ensures tail { IfOk result (λ r. r.1.items ≡ last_bytes (tail.now.items ++ bytes.now)) }
     ensures only_memory { IsOkUnless result StreamError.OutOfMemory }
 {
@@ -221,24 +285,30 @@ fn part_of(tail: &Vec<u8>, bytes: &[u8]) -> Result<(Recording, Vec<u8>), StreamE
     let first = joined.len().saturating_sub(MOST_KEPT);
     let last = Vec::from_slice(alloc, &joined[first..])?;
     let bits = 8 * joined.len() as u64;
-    match Recording::from_bytes(joined, bits) {
+    match Recording::with_gaps(joined, bits, gaps) {
         Ok(part) => Ok((part, last)),
-        Err((error, _bytes)) => Err(error),
+        Err((error, _bytes, _gaps)) => Err(error),
     }
 }
 
-/// The last bytes of a stream with the first `bits` bits of those that follow them, as a recording.
-fn part_with(tail: &Vec<u8>, bytes: &[u8], bits: u64) -> Result<Recording, StreamError>
+/// The last bytes of a stream with the first `bits` bits of those that follow them, as a recording with these gaps.
+fn part_with(
+    tail: &Vec<u8>,
+    bytes: &[u8],
+    bits: u64,
+    gaps: Vec<(u64, u64)>,
+) -> Result<Recording, StreamError>
     requires held { bits ≤ 8 * length bytes.now }
     requires limit { 8 * vec_len tail.now + bits ≤ 2 ^ 36 }
-    ensures part { IfOk result (λ part. part ≡ signal_at (tail.now.items ++ bytes.now) (8 * vec_len tail.now + bits)) }
+    requires gaps { AreGaps (8 * vec_len tail.now + bits) gaps.items }
+    ensures part { IfOk result (λ part. part ≡ signal_at gaps.items (tail.now.items ++ bytes.now) (8 * vec_len tail.now + bits)) }
     ensures only_memory { IsOkUnless result StreamError.OutOfMemory }
 {
     let mut joined = Vec::from_slice(*tail.allocator(), tail)?;
     joined.extend_from_slice(bytes)?;
-    match Recording::from_bytes(joined, 8 * tail.len() as u64 + bits) {
+    match Recording::with_gaps(joined, 8 * tail.len() as u64 + bits, gaps) {
         Ok(part) => Ok(part),
-        Err((error, _bytes)) => Err(error),
+        Err((error, _bytes, _gaps)) => Err(error),
     }
 }
 
@@ -285,19 +355,28 @@ fn totals_of_end(group: &Option<Group>) -> Totals
     Totals::of_end(*group)
 }
 
-/// The group in progress after the last bytes of a stream, in this state.
-fn group_at_end(rules: &Rules, tail: Vec<u8>, place: u64, state: State) -> Option<Group>
+/// The group in progress after the last bytes of a stream, with the gaps in them, in this state.
+fn group_at_end(
+    rules: &Rules,
+    tail: Vec<u8>,
+    near: Vec<(u64, u64)>,
+    place: u64,
+    state: State,
+) -> Option<Group>
     requires kept { length tail.items ≡ min most_kept (place / 8) }
     requires whole { place ≡ 8 * (place / 8) }
     requires limit { place ≤ 2 ^ 36 }
     requires lawful { IsLawful rules.now place state }
-    ensures { (bytes : List ℕ) → tail.items ≡ last_bytes bytes → place ≡ 8 * length bytes
-        → group_item result ≡ items_of_end (signal_of bytes) rules.now state }
+    requires near { AreGaps (8 * length tail.items) near.items }
+    ensures { (gaps : List (ℕ × ℕ)) (bytes : List ℕ) → AreGaps (2 ^ 36) gaps
+        → near.items ≡ gaps_within gaps (place - 8 * length tail.items) (8 * length tail.items)
+        → tail.items ≡ last_bytes bytes → place ≡ 8 * length bytes
+        → group_item result ≡ items_of_end (signal_of gaps bytes) rules.now state }
 {
     ends_move();
     let bits = 8 * tail.len() as u64;
     let before = place - bits;
-    match Recording::from_bytes(tail, bits) {
+    match Recording::with_gaps(tail, bits, near) {
         Ok(part) => moved_end(&part, rules, moved_back(state, before), before),
         Err(_) => None,
     }

@@ -1,9 +1,9 @@
 //! A stream gives the report of its recording, however it is cut.
-ghost use Rattle.std.specs.Prelude.{◌<◌};
+ghost use Rattle.std.specs.Prelude.{◌<◌, ◌^◌};
 
 use rds_live::{Chunk, Live, StreamEnd};
 use rds_stream::{Recording, StreamError};
-use rds_sync::{Item, ItemIter, Loss, RuleNumbers, Rules, Totals, decode_plain};
+use rds_sync::{Item, ItemIter, Loss, RuleNumbers, Rules, State, Totals, decode_plain};
 use std::alloc::{AllocError, Global};
 use std::test::Fail;
 
@@ -22,29 +22,71 @@ fn next_random(number: u64) -> u64 {
     number ^ (number << 17)
 }
 
-/// Bytes of a station, of which about one in so many has a wrong bit, behind some that say nothing.
+/// Adds so many bytes that say nothing. Answers the number that comes next.
+fn push_noise(bytes: &mut Vec<u8>, count: u64, seed: u64) -> Result<u64, AllocError> {
+    let mut number = seed;
+    for _ in 0..count {
+        number = next_random(number);
+        bytes.push((number >> 40 & 0xFF) as u8)?;
+    }
+    Ok(number)
+}
+
+/// Adds a group of a station, of whose bytes about one in so many has a wrong bit. Answers the number that comes next.
+fn push_group(bytes: &mut Vec<u8>, group: u128, one_of: u64, seed: u64) -> Result<u64, AllocError>
+    requires { 0 < one_of }
+{
+    let mut number = seed;
+    let words = group.to_be_bytes();
+    for &byte in &words[3..] {
+        number = next_random(number);
+        let wrong = if number % one_of == 0 {
+            1 << ((number >> 32) % 8)
+        } else {
+            0
+        };
+        bytes.push(byte ^ wrong)?;
+    }
+    Ok(number)
+}
+
+/// Bytes of a station, of which about one in so many has a wrong bit. Before the first group, and before about one in
+/// sixteen, there are up to 40 bytes that say nothing, so that locks are lost and begin at other places.
 fn station(alloc: Global, groups: usize, one_of: u64, seed: u64) -> Result<Vec<u8>, AllocError>
     requires { 0 < one_of }
 {
     let mut bytes = Vec::new(alloc);
-    let mut number = seed;
-    for _silent in 0..seed % 9 {
-        number = next_random(number);
-        bytes.push((number >> 40 & 0xFF) as u8)?;
-    }
+    let mut number = push_noise(&mut bytes, seed % 9, seed)?;
     for index in 0..groups {
-        let group = STATION[index % 4].to_be_bytes();
-        for &byte in &group[3..] {
-            number = next_random(number);
-            let wrong = if number % one_of == 0 {
-                1 << ((number >> 32) % 8)
-            } else {
-                0
-            };
-            bytes.push(byte ^ wrong)?;
+        number = next_random(number);
+        if number >> 24 & 15 == 0 {
+            let count = number % 41;
+            number = push_noise(&mut bytes, count, number)?;
         }
+        number = push_group(&mut bytes, STATION[index % 4], one_of, number)?;
     }
     Ok(bytes)
+}
+
+/// The same, so many bits earlier: the first ones are left out, and as many zeros come last.
+fn shifted(alloc: Global, bytes: &[u8], by: u32) -> Result<Vec<u8>, AllocError>
+    requires { by < 8 }
+{
+    let mut moved = Vec::new(alloc);
+    let mut rest = bytes;
+    for &byte in bytes {
+        rest = match rest.split_first() {
+            Some((_, rest)) => rest,
+            None => rest,
+        };
+        let next = match rest.first() {
+            Some(&next) => next,
+            None => 0,
+        };
+        let pair = u16::from(byte) << 8 | u16::from(next);
+        moved.push((pair << by >> 8 & 0xFF) as u8)?;
+    }
+    Ok(moved)
 }
 
 /// Whether the items of a chunk are the next of a report.
@@ -122,29 +164,71 @@ fn is_report(
     )?)
 }
 
+/// The next rules, each option anywhere in its range.
+fn random_rules(seed: u64) -> RuleNumbers {
+    let of = 1 + seed / 64 % 64;
+    let loss = match seed % 3 {
+        0 => Loss::Run(1 + (seed / 64 % 64) as u32),
+        1 => Loss::Run(1 + (seed / 64 % 5) as u32),
+        _ => Loss::Share {
+            bad: 1 + (seed / 4096 % of) as u32,
+            of: of as u32,
+        },
+    };
+    RuleNumbers {
+        burst: (seed >> 32 & 0xFF) as u32 % 6,
+        reach: 1 + (seed >> 40 & 7) as u32,
+        loss,
+    }
+}
+
+/// Whether so many random recordings, of so many groups at most, are listed so in chunks of any lengths up to `longest` and
+/// byte by byte.
+fn all_are_reports(
+    alloc: Global,
+    count: u64,
+    groups: u64,
+    longest: u64,
+    seed: u64,
+) -> Result<bool, Fail>
+    requires { (0 < groups) × (0 < longest) × (longest < 2 ^ 32) }
+{
+    let mut seed = seed;
+    let mut same = true;
+    for _ in 0..count {
+        seed = next_random(seed);
+        let sent = station(alloc, (seed % groups) as usize, 2 + seed % 200, seed)?;
+        let bytes = shifted(alloc, sent.as_slice(), (seed >> 20 & 7) as u32)?;
+        let numbers = random_rules(next_random(seed));
+        let most = (1 + (seed >> 8) % longest) as usize;
+        same = is_report(alloc, bytes.as_slice(), numbers, most, seed)? && same;
+        same = is_report(alloc, bytes.as_slice(), numbers, 1, seed)? && same;
+    }
+    Ok(same)
+}
+
 #[test]
 fn any_cutting_gives_the_report(rt: HostRuntime) -> Result<(), Fail> {
-    let mut seed = 0x9E37_79B9;
-    for turn in 0..60u64 {
-        seed = next_random(seed);
-        let bytes = station(rt.alloc(), 12, 4 + seed % 40, seed)?;
-        let loss = if turn % 2 == 0 {
-            Loss::Run(1 + (seed % 7) as u32)
-        } else {
-            Loss::Share { bad: 3, of: 9 }
-        };
-        let numbers = RuleNumbers {
-            burst: (seed % 6) as u32,
-            reach: 1 + (seed % 8) as u32,
-            loss,
-        };
-        for longest in [1, 5, 31, 100, 400usize] {
-            assert!(rt;
-                is_report(rt.alloc(), bytes.as_slice(), numbers, longest, seed)?,
-                "turn {turn}, chunks of up to {longest}"
-            );
-        }
+    // short recordings in short chunks, and long ones in chunks of up to 10,000 bytes
+    assert!(rt; all_are_reports(rt.alloc(), 1_000, 24, 40, 0x9E37_79B9)?);
+    assert!(rt; all_are_reports(rt.alloc(), 960, 48, 400, 0x7F4A_7C15)?);
+    assert!(rt; all_are_reports(rt.alloc(), 40, 1_600, 10_000, 0xF39C_C060)?);
+    Ok(())
+}
+
+#[test]
+fn a_stream_may_end_at_once(rt: HostRuntime) -> Result<(), Fail> {
+    let rules = Rules::new(rt.alloc(), 2, 3, 10)?;
+    let none = Live::new(rt.alloc(), &rules).finish();
+    assert!(rt; none.group == None && none.totals == Totals::NONE);
+    let mut live = Live::new(rt.alloc(), &rules);
+    let nothing: [u8; 0] = [];
+    let mut any = false;
+    for _ in &live.take(&nothing)? {
+        any = true;
     }
+    assert!(rt; !any && live.place() == 0 && live.state() == State::Searching);
+    assert!(rt; live.finish() == none);
     Ok(())
 }
 

@@ -28,6 +28,12 @@ all_rows rows most n h =
     let whole : take (n * most) rows ≡ rows = grind (arith, common_steps) in
     first_rows rows most n ∙ ap concat whole
 
+-- the first parts and the next
+pub next_part : (part : ℕ → List ℕ) (k : ℕ) → first_parts part k ++ part k ≡ first_parts part (k + 1)
+next_part part k =
+    let next : suc k ≡ k + 1 = omega arith in
+    ap (first_parts part) next
+
 -- more parts are the first of them, part k and others
 pub more_parts : (part : ℕ → List ℕ) (k n more : ℕ) → n ≡ k + 1 + more → (rest : List ℕ) × (first_parts part n ≡ (first_parts part k ++ part k) ++ rest)
 more_parts part k n zero e =

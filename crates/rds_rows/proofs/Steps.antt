@@ -1,11 +1,11 @@
 -- Calls of a writer in turn.
-use Rattle.std.proofs.Common.{◌&&◌, ◌==◌, ◌<◌, ◌≡◌, ◌≤◌, if◌then◌else◌, not, ℕ, ◌+◌, ◌-◌, List, [], ◌++◌, length, take, drop, Err, Ok, Option, Result, Some, None, sym, ◌∙◌, ap, append_assoc, arith, subst}
-use Rattle.std.specs.Prelude.{OnErr}
+use Rattle.std.proofs.Common.{◌&&◌, ◌==◌, ◌<◌, ◌≡◌, ◌≤◌, if◌then◌else◌, not, ℕ, ◌+◌, ◌-◌, List, [], ◌++◌, length, take, drop, Err, Ok, Option, Result, Some, None, sym, ◌∙◌, ap, append_assoc, arith, refl, subst}
+use Rattle.std.specs.Prelude.{OnErr, OnOk}
 use Rattle.std.proofs.lemmas.List.{append-nil}
 use Rattle.std.proofs.Math.Seq.{take-add}
 use Rattle.std.proofs.lemmas.Grind.{common_steps}
 use Rattle.std.specs.Io.KnownBytes.{Appends, Keeps}
-use Rattle.rds_rows.specs.Writes.{AppendsPrefix}
+use Rattle.rds_rows.specs.Writes.{AppendsBut, AppendsPrefix}
 
 -- two writes in turn
 pub appends_more : (a b c : Option (List ℕ)) (xs ys : List ℕ) → Appends a b xs → Appends b c ys → Appends a c (xs ++ ys)
@@ -74,3 +74,44 @@ took_none a b n bytes none h e = grind (arith, common_steps)
 pub on_any_err : {T E P : Type 0} (r : Result T E) → P → OnErr r P
 on_any_err (Ok x) p = tt
 on_any_err (Err e) p = p
+
+-- ---- texts of which an end is kept
+
+-- a text of which nothing is written yet
+pub but_all : (a : Option (List ℕ)) (xs : List ℕ) → AppendsBut a a xs xs
+but_all a xs = ([], refl, appends_none a)
+
+-- a whole text
+pub but_none : (a b : Option (List ℕ)) (xs : List ℕ) → Appends a b xs → AppendsBut a b xs []
+but_none a b xs p = (xs, sym (append-nil xs), p)
+
+-- more text behind what is kept
+pub but_more : (a b c : Option (List ℕ)) (xs ys kept last : List ℕ) → AppendsBut a b xs kept → AppendsBut b c (kept ++ ys) last → AppendsBut a c (xs ++ ys) last
+but_more a b c xs ys kept last (front, split, p) (next, splits, q) = (
+  front ++ next,
+  ap (λ w. w ++ ys) split ∙ append_assoc front kept ys ∙ ap (λ w. front ++ w) splits ∙ sym (append_assoc front next last),
+  appends_more a b c front next p q,
+)
+
+-- and then what is kept
+pub but_rest : (a b c : Option (List ℕ)) (xs kept : List ℕ) → AppendsBut a b xs kept → Appends b c kept → Appends a c xs
+but_rest a b c xs kept (front, split, p) q = subst (Appends a c) (sym split) (appends_more a b c front kept p q)
+
+-- or a prefix of that
+pub but_prefix : (a b c : Option (List ℕ)) (xs kept : List ℕ) → AppendsBut a b xs kept → AppendsPrefix b c kept → AppendsPrefix a c xs
+but_prefix a b c xs kept (front, split, p) q = subst (AppendsPrefix a c) (sym split) (prefix_more a b c front kept p q)
+
+-- or a prefix of more
+pub but_prefix_more : (a b c : Option (List ℕ)) (xs ys kept : List ℕ) → AppendsBut a b xs kept → AppendsPrefix b c (kept ++ ys) → AppendsPrefix a c (xs ++ ys)
+but_prefix_more a b c xs ys kept (front, split, p) q =
+    let whole : front ++ (kept ++ ys) ≡ xs ++ ys = sym (append_assoc front kept ys) ∙ ap (λ w. w ++ ys) (sym split) in
+    subst (AppendsPrefix a c) whole (prefix_more a b c front (kept ++ ys) p q)
+
+-- what follows from what holds where there is no error, or where there is one
+pub on_ok : {T E P Q : Type 0} (r : Result T E) → (P → Q) → OnOk r P → OnOk r Q
+on_ok (Ok x) f p = f p
+on_ok (Err e) f p = tt
+
+pub on_err : {T E P Q : Type 0} (r : Result T E) → (P → Q) → OnErr r P → OnErr r Q
+on_err (Ok x) f p = tt
+on_err (Err e) f p = f p

@@ -1,3 +1,4 @@
 pub mod Sheets
 pub mod Parts
 pub mod Writes
+pub mod Blocks

@@ -15,3 +15,7 @@ failures_of_flush (Err e) = 1
 -- a beginning of the text was added to what the writer held
 abbrev pub AppendsPrefix : Option (List ℕ) → Option (List ℕ) → List ℕ → Type 0
 AppendsPrefix old new text = (prefix : List ℕ) × (rest : List ℕ) × (text ≡ prefix ++ rest) × Appends old new prefix
+
+-- all of the text but these last bytes was added to what the writer held
+abbrev pub AppendsBut : Option (List ℕ) → Option (List ℕ) → List ℕ → List ℕ → Type 0
+AppendsBut old new text kept = (written : List ℕ) × (text ≡ written ++ kept) × Appends old new written

@@ -4,6 +4,8 @@
 //! own, and the caller writes one part behind the other and gives the sheets back. All sheets are
 //! taken and all threads started before the first byte is written, and both live through all parts:
 //! the room is bounded however many rows there are, and no part waits for more than its own sheet.
+//! Small parts are gathered: a write has 64 KiB or more, but for the last, or as many bytes as a part
+//! of the longest rows, where these are fewer.
 //!
 //! # Example
 //!
@@ -46,6 +48,7 @@
 //! tests in `rds_rows_tests` show it, by many runs with writers that fail.
 #![tactic(auto)]
 
+mod block;
 mod error;
 mod hand;
 mod pool;

@@ -1,10 +1,12 @@
 //! Threads that live through all parts, and the writer of what they make.
-ghost use Rattle.std.specs.Prelude.{◌<◌, ◌^◌, ◌≡◌, All, IfOk, OnErr, OnOk, length};
+ghost use Rattle.std.specs.Prelude.{◌++◌, ◌<◌, ◌^◌, ◌≡◌, [], All, IfOk, OnErr, OnOk, length};
 ghost use Rattle.std.specs.Io.KnownBytes.{Appends};
 ghost use Rattle.rds_rows.specs.Parts.{IsNamed, first_parts};
 ghost use Rattle.rds_rows.specs.Sheets.{size_of};
-ghost use Rattle.rds_rows.specs.Writes.{AppendsPrefix};
+ghost use Rattle.rds_rows.specs.Blocks.{kept_in};
+ghost use Rattle.rds_rows.specs.Writes.{AppendsBut, AppendsPrefix};
 
+use crate::block::Block;
 use crate::hand::Hand;
 use crate::rows::{Rows, fill_part};
 use crate::seat::Seat;
@@ -65,45 +67,51 @@ fn make_parts<R: Wait, J: Named, T: Rows>(
     }
 }
 
-/// Writes part `k`, and gives its sheet back for the next part of the seat. Where no thread makes it, it is made here.
+/// Puts part `k` behind what the block keeps, and gives its sheet back for the next part of the seat. Where no thread makes
+/// the part, it is made here.
 fn write_part<R: Wait, J: Named, T: Rows, W: Hand + Drop>(
     rt: &R,
     rows: &T,
     seats: &[Seat<J>],
     k: usize,
     is_alone: bool,
+    block: &mut Block,
     out: &mut W,
 ) -> Result<(), Failed>
     requires named { IsNamed (T.rows rows.now) (T.longest rows.now) J.size J.part }
     requires some { 0 < length seats.now }
     requires count { W.failed out.old < 2 ^ 63 }
     ensures name { W.name out.new ≡ W.name out.old }
-    ensures ok { OnOk result (Appends (W.contents out.old) (W.contents out.new) (J.part k)) }
+    ensures ok { OnOk result (AppendsBut (W.contents out.old) (W.contents out.new)
+        (kept_in block.old ++ J.part k) (kept_in block.new)) }
     ensures count { OnOk result (W.failed out.new ≡ W.failed out.old) }
     ensures failed { OnErr result (W.failed out.old < W.failed out.new) }
-    ensures prefix { OnErr result (AppendsPrefix (W.contents out.old) (W.contents out.new) (J.part k)) }
+    ensures prefix { OnErr result (AppendsPrefix (W.contents out.old) (W.contents out.new)
+        (kept_in block.old ++ J.part k)) }
 {
     let seat = &seats[k % seats.len()];
     if is_alone {
         make_part(rt, rows, seat, k);
     }
     let sheet = seat.wait_for_part(rt, k);
-    out.write(sheet.as_slice())?;
+    block.put(sheet.as_slice(), out)?;
     seat.give_back(rt, k.saturating_add(seats.len()), sheet);
     Ok(())
 }
 
-/// Writes all parts in order.
+/// Writes all parts in order, gathered by a block that keeps nothing yet.
 fn write_parts<R: Wait, J: Named, T: Rows, W: Hand + Drop>(
     rt: &R,
     rows: &T,
     seats: &[Seat<J>],
     parts: usize,
     is_alone: bool,
+    block: Block,
     out: &mut W,
 ) -> Result<(), Failed>
     requires named { IsNamed (T.rows rows.now) (T.longest rows.now) J.size J.part }
     requires some { 0 < length seats.now }
+    requires none { kept_in block ≡ [] }
     requires count { W.failed out.old < 2 ^ 63 }
     ensures name { W.name out.new ≡ W.name out.old }
     ensures ok { OnOk result (Appends (W.contents out.old) (W.contents out.new) (first_parts J.part parts)) }
@@ -111,10 +119,11 @@ fn write_parts<R: Wait, J: Named, T: Rows, W: Hand + Drop>(
     ensures failed { OnErr result (W.failed out.old < W.failed out.new) }
     ensures prefix { OnErr result (AppendsPrefix (W.contents out.old) (W.contents out.new) (first_parts J.part parts)) }
 {
+    let mut block = block;
     for k in 0..parts {
-        write_part(rt, rows, seats, k, is_alone, out)?;
+        write_part(rt, rows, seats, k, is_alone, &mut block, out)?;
     }
-    Ok(())
+    block.write_out(out)
 }
 
 /// Lets the threads end: no number is left to draw, and who waits for a sheet goes away without.
@@ -138,10 +147,12 @@ pub(crate) fn by_pool<
     seats: &[Seat<J>],
     threads: usize,
     parts: usize,
+    block: Block,
     out: W,
 ) -> (W, Result<(), Failed>)
     requires named { IsNamed (T.rows rows.now) (T.longest rows.now) J.size J.part }
     requires some { 0 < length seats.now }
+    requires none { kept_in block ≡ [] }
     requires count { W.failed out < 2 ^ 63 }
     ensures name { W.name result.0 ≡ W.name out }
     ensures ok { OnOk result.1 (Appends (W.contents out) (W.contents result.0) (first_parts J.part parts)) }
@@ -156,7 +167,7 @@ pub(crate) fn by_pool<
         rt,
         move |scope| -> (W, Result<(), Failed>)
             requires { IsNamed (T.rows rows.now) (T.longest rows.now) J.size J.part
-                × (0 < length seats.now) × (W.failed out < 2 ^ 63) }
+                × (0 < length seats.now) × (kept_in block ≡ []) × (W.failed out < 2 ^ 63) }
             ensures name { W.name result.0 ≡ W.name out }
             ensures ok { OnOk result.1 (Appends (W.contents out) (W.contents result.0) (first_parts J.part parts)) }
             ensures count { OnOk result.1 (W.failed result.0 ≡ W.failed out) }
@@ -171,7 +182,7 @@ pub(crate) fn by_pool<
                 }
             }
             let mut out = out;
-            let wrote = write_parts(rt, rows, seats, parts, is_alone, &mut out);
+            let wrote = write_parts(rt, rows, seats, parts, is_alone, block, &mut out);
             stop(rt, seats, dealer, parts);
             (out, wrote)
         },

@@ -1,11 +1,13 @@
 //! All rows of a list, written.
-ghost use Rattle.std.specs.Prelude.{◌*◌, ◌<◌, ◌^◌, ◌≡◌, ◌≤◌, ◌↔◌, ◌⊎◌, All, IfOk, IfErr, IsErrOf, OnErr, OnOk, length};
+ghost use Rattle.std.specs.Prelude.{◌*◌, ◌<◌, ◌^◌, ◌≡◌, ◌≤◌, ◌↔◌, ◌⊎◌, [], All, IfOk, IfErr, IsErrOf, OnErr, OnOk, length};
 ghost use Rattle.std.specs.List.{concat};
 ghost use Rattle.std.specs.Io.KnownBytes.{Appends};
+ghost use Rattle.rds_rows.specs.Blocks.{kept_in};
 ghost use Rattle.rds_rows.specs.Parts.{IsNamed, first_parts};
 ghost use Rattle.rds_rows.specs.Sheets.{size_of};
 ghost use Rattle.rds_rows.specs.Writes.{AppendsPrefix};
 
+use crate::block::Block;
 use crate::error::RowsError;
 use crate::hand::{Hand, Lent};
 use crate::pool::{by_pool, seats_of};
@@ -54,7 +56,7 @@ pub fn write_rows<R: Threads + Wait + Sync, T: Rows + Sync, K: Sink>(
     write_rows_in_parts(rt, alloc, rows, workers, most, writer)
 }
 
-/// [`write_rows`] in parts of so many rows. Each thread has room for two parts.
+/// [`write_rows`] in parts of so many rows. Each thread has room for two parts, and the writer for what it gathers to a write.
 pub fn write_rows_in_parts<R: Threads + Wait + Sync, T: Rows + Sync, K: Sink>(
     rt: &R,
     alloc: Global,
@@ -80,7 +82,8 @@ pub fn write_rows_in_parts<R: Threads + Wait + Sync, T: Rows + Sync, K: Sink>(
     let most = most.min(rows.len()).max(1);
     let plan = Plan::new(rows.len(), workers as usize, most);
     let sheets = sheets_of(alloc, plan.sheets(), most, rows.longest_row())?;
-    let (lent, result) = by_value(rt, alloc, rows, sheets, plan, Lent { writer });
+    let block = Block::new(alloc, most, rows.longest_row())?;
+    let (lent, result) = by_value(rt, alloc, rows, sheets, block, plan, Lent { writer });
     let Lent { writer: back } = lent;
     take_back(back);
     result
@@ -153,11 +156,13 @@ fn by_value<R: Threads + Wait + Sync, T: Rows + Sync, W: Hand + Drop>(
     alloc: Global,
     rows: &T,
     sheets: Vec<Sheet>,
+    block: Block,
     plan: Plan,
     out: W,
 ) -> (W, Result<(), RowsError>)
     requires sheets { 0 < length sheets.items }
     requires size { All (λ s. size_of s ≡ (plan.most, T.longest rows.now)) sheets.items }
+    requires none { kept_in block ≡ [] }
     requires parts { length (T.rows rows.now) ≤ plan.parts * plan.most }
     requires count { W.failed out < 2 ^ 63 }
     ensures name { W.name result.0 ≡ W.name out }
@@ -168,7 +173,7 @@ fn by_value<R: Threads + Wait + Sync, T: Rows + Sync, W: Hand + Drop>(
     ensures prefix { IsErrOf result.1 RowsError.Write
         → AppendsPrefix (W.contents out) (W.contents result.0) (concat (T.rows rows.now)) }
 {
-    seated::<R, Brand, T, W>(rt, alloc, rows, sheets, plan, out)
+    seated::<R, Brand, T, W>(rt, alloc, rows, sheets, block, plan, out)
 }
 
 /// The rows, made and written with a seat for each sheet.
@@ -177,12 +182,14 @@ fn seated<R: Threads + Wait + Sync, J: Named + Send + Sync, T: Rows + Sync, W: H
     alloc: Global,
     rows: &T,
     sheets: Vec<Sheet>,
+    block: Block,
     plan: Plan,
     out: W,
 ) -> (W, Result<(), RowsError>)
     requires named { IsNamed (T.rows rows.now) (T.longest rows.now) J.size J.part }
     requires sheets { 0 < length sheets.items }
     requires size { All (λ s. size_of s ≡ J.size) sheets.items }
+    requires none { kept_in block ≡ [] }
     requires parts { length (T.rows rows.now) ≤ plan.parts * J.size.0 }
     requires count { W.failed out < 2 ^ 63 }
     ensures name { W.name result.0 ≡ W.name out }
@@ -196,7 +203,15 @@ fn seated<R: Threads + Wait + Sync, J: Named + Send + Sync, T: Rows + Sync, W: H
     let Ok(seats) = seats_of::<J>(alloc, sheets) else {
         return (out, Err(RowsError::OutOfMemory));
     };
-    match by_pool(rt, rows, seats.as_slice(), plan.threads, plan.parts, out) {
+    match by_pool(
+        rt,
+        rows,
+        seats.as_slice(),
+        plan.threads,
+        plan.parts,
+        block,
+        out,
+    ) {
         (out, Ok(())) => (out, Ok(())),
         (out, Err(Failed)) => (out, Err(RowsError::Write)),
     }

@@ -1,50 +1,162 @@
-//! Many runs of small parts, with writers that fail where a number drawn says.
+//! Many runs of small parts, with writers that fail where a number drawn says: 100,000 of them, in eight tests, since one that
+//! shares its processors with many other programs waits long for each thread's turn.
+ghost use Rattle.std.specs.Prelude.{◌<◌, ◌≤◌};
+
 use crate::stored::Stored;
 use crate::writer::{Failure, SlowWriter};
 use rds_rows::{RowsError, write_rows_in_parts};
+use std::alloc::Global;
+use std::sync::Wait;
 use std::test::Fail;
+use std::thread::Threads;
 
-const RUNS: u64 = 2_000;
+/// How many runs a test makes.
+const RUNS: u64 = 12_500;
 
-/// The next number drawn.
-fn next(drawn: u64) -> u64 {
-    let drawn = drawn ^ drawn.wrapping_shl(13);
-    let drawn = drawn ^ (drawn >> 7);
-    drawn ^ drawn.wrapping_shl(17)
-}
+/// Few rows for nearly all runs: each part is a thread's turn, and other programs may have the processors.
+const FEW_ROWS: usize = 12;
 
-#[test]
-fn no_run_waits_for_ever(rt: HostRuntime) -> Result<(), Fail> {
-    let alloc = rt.alloc();
-    let rows = Stored::new(alloc, 120)?;
-    let text = rows.text(alloc)?;
-    let mut drawn = 0x2545_f491_4f6c_dd1d;
-    for run in 0..RUNS {
-        drawn = next(drawn);
-        // Mostly few workers, since each is a thread to start.
-        let workers = if drawn % 64 == 0 {
-            drawn / 64 % 256
-        } else {
-            drawn / 64 % 8
-        } as u32
-            + 1;
-        let at = drawn / 65_536 % 50;
-        let failure = match drawn / 16_777_216 % 3 {
+/// Rows enough for 256 threads with a part each.
+const MANY_ROWS: usize = 256;
+
+/// One run of so many has up to 256 workers, since each is a thread to start.
+const FEW_OF: u64 = 500;
+
+/// Numbers drawn, one after the other.
+#[derive(Drop)]
+struct Drawn(u64);
+
+impl Drawn {
+    /// The next number below this one.
+    fn below(&mut self, end: u64) -> u64
+        requires { 0 < end }
+        ensures { result < end }
+    {
+        let last = self.0;
+        let last = last ^ last.wrapping_shl(13);
+        let last = last ^ (last >> 7);
+        self.0 = last ^ last.wrapping_shl(17);
+        (self.0 >> 16) % end
+    }
+
+    fn failure(&mut self, writes: u64) -> Failure
+        requires { 0 < writes }
+    {
+        let at = self.below(writes);
+        match self.below(3) {
             0 => Failure::Never,
             1 => Failure::Refuses(at),
             _ => Failure::TakesNone(at),
-        };
-        let step = (drawn / 268_435_456 % 9) as usize + 1;
-        let mut writer = SlowWriter::new(alloc, step, failure);
-        let most = (drawn / 4_294_967_296 % 4) as usize + 1;
-        let result = write_rows_in_parts(&rt, alloc, &rows, workers, most, &mut writer);
-        let is_right = match result {
-            Ok(()) => writer.failures == 0 && writer.held == text,
-            Err(RowsError::Write) => writer.failures == 1
-                && text.as_slice().starts_with(writer.held.as_slice()),
-            Err(RowsError::OutOfMemory) => false,
-        };
-        assert!(rt; is_right, "run {run}: {workers} workers, parts of {most}");
+        }
     }
+}
+
+/// Rows and their text.
+#[derive(Drop)]
+struct Known {
+    rows: Stored,
+    text: Vec<u8>,
+}
+
+impl Known {
+    fn new(alloc: Global, count: usize) -> Result<Known, Fail> {
+        let rows = Stored::new(alloc, count)?;
+        let text = rows.text(alloc)?;
+        Ok(Known { rows, text })
+    }
+
+    /// Whether so many workers write the rows as they are, or a beginning of them where the writer failed.
+    fn are_written<R: Sync + Threads + Wait>(
+        &self,
+        rt: &R,
+        alloc: Global,
+        workers: u32,
+        drawn: &mut Drawn,
+    ) -> bool
+        requires some { 0 < workers }
+        requires few { workers ≤ 256 }
+    {
+        let failure = drawn.failure(2 * self.text.len() as u64 / 3 + 1);
+        let step = drawn.below(9) as usize + 1;
+        let most = drawn.below(4) as usize + 1;
+        let mut writer = SlowWriter::new(alloc, step, failure);
+        let result = write_rows_in_parts(rt, alloc, &self.rows, workers, most, &mut writer);
+        match result {
+            Ok(()) => writer.failures == 0 && writer.held == self.text,
+            Err(RowsError::Write) => {
+                writer.failures == 1 && self.text.as_slice().starts_with(writer.held.as_slice())
+            }
+            Err(RowsError::OutOfMemory) => false,
+        }
+    }
+}
+
+/// The first of the runs from this number drawn on that goes wrong.
+fn first_wrong<R: Sync + Threads + Wait>(
+    rt: &R,
+    alloc: Global,
+    seed: u64,
+) -> Result<Option<u64>, Fail> {
+    let few = Known::new(alloc, FEW_ROWS)?;
+    let many = Known::new(alloc, MANY_ROWS)?;
+    let mut drawn = Drawn(seed);
+    for run in 0..RUNS {
+        let (rows, most_workers) = match drawn.below(FEW_OF) {
+            0 => (&many, 256),
+            _ => (&few, 4),
+        };
+        let workers = drawn.below(most_workers) as u32 + 1;
+        if !rows.are_written(rt, alloc, workers, &mut drawn) {
+            return Ok(Some(run));
+        }
+    }
+    Ok(None)
+}
+
+#[test]
+fn no_run_of_the_first_waits_for_ever(rt: HostRuntime) -> Result<(), Fail> {
+    assert!(rt; first_wrong(&rt, rt.alloc(), 0x2545_f491_4f6c_dd1d)? == None);
+    Ok(())
+}
+
+#[test]
+fn no_run_of_the_second_waits_for_ever(rt: HostRuntime) -> Result<(), Fail> {
+    assert!(rt; first_wrong(&rt, rt.alloc(), 0x9e37_79b9_7f4a_7c15)? == None);
+    Ok(())
+}
+
+#[test]
+fn no_run_of_the_third_waits_for_ever(rt: HostRuntime) -> Result<(), Fail> {
+    assert!(rt; first_wrong(&rt, rt.alloc(), 0xbf58_476d_1ce4_e5b9)? == None);
+    Ok(())
+}
+
+#[test]
+fn no_run_of_the_fourth_waits_for_ever(rt: HostRuntime) -> Result<(), Fail> {
+    assert!(rt; first_wrong(&rt, rt.alloc(), 0x94d0_49bb_1331_11eb)? == None);
+    Ok(())
+}
+
+#[test]
+fn no_run_of_the_fifth_waits_for_ever(rt: HostRuntime) -> Result<(), Fail> {
+    assert!(rt; first_wrong(&rt, rt.alloc(), 0x6a09_e667_f3bc_c908)? == None);
+    Ok(())
+}
+
+#[test]
+fn no_run_of_the_sixth_waits_for_ever(rt: HostRuntime) -> Result<(), Fail> {
+    assert!(rt; first_wrong(&rt, rt.alloc(), 0xbb67_ae85_84ca_a73b)? == None);
+    Ok(())
+}
+
+#[test]
+fn no_run_of_the_seventh_waits_for_ever(rt: HostRuntime) -> Result<(), Fail> {
+    assert!(rt; first_wrong(&rt, rt.alloc(), 0x3c6e_f372_fe94_f82b)? == None);
+    Ok(())
+}
+
+#[test]
+fn no_run_of_the_eighth_waits_for_ever(rt: HostRuntime) -> Result<(), Fail> {
+    assert!(rt; first_wrong(&rt, rt.alloc(), 0xa54f_f53a_5f1d_36f1)? == None);
     Ok(())
 }

@@ -1,6 +1,7 @@
 -- A code as a word of 16 bits: four bits a block. This project's rule.
 use Rattle.std.specs.Prelude.{◌≡◌, ℕ, ◌+◌, ◌-◌, ◌*◌, ◌/◌, ◌%◌, ◌^◌, ◌<◌, ◌≤◌, min, List, [], ◌∷◌, length, ⊤, ◌==◌, nat_le, if◌then◌else◌, slice_index_or}
 use Rattle.std.specs.List.{All}
+use Rattle.rds_code.specs.Kinds.{kind_of_burst}
 use Rattle.rds_stream.specs.Recording.{Signal}
 use Rattle.rds_sync.specs.declared.item.Item.{Item}
 use Rattle.rds_sync.specs.declared.state.State.{State}
@@ -10,12 +11,12 @@ use Rattle.rds_sync.specs.Loss.{IsLoss}
 use Rattle.rds_sync.specs.Step.{run}
 use Rattle.rds_sync.specs.Codes.{Outcome, unread, good, unclear, mended, Code, locked, blocks, ended, code_of, codes_of, locks_of}
 
--- four bits: 3 to 13 for the eleven pairs of a span up to 5 and a number of bits
+-- four bits: none for a block that was not read, else the kind that it came out as
 abbrev pub nibble : Outcome → ℕ
 nibble unread = 0
 nibble good = 1
 nibble unclear = 2
-nibble (mended s n) = (s - 1) * (s - 2) / 2 + n + 2
+nibble (mended s n) = kind_of_burst s n
 
 -- the pairs in that order
 abbrev pub outcomes_in_order : List Outcome

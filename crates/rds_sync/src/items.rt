@@ -25,12 +25,12 @@ use std::marker::Model;
 use std::snapshot::Snapshot;
 
 /// How many items a short span of a run has, or a few more: so many are decoded at most to come to one among them.
-const SPAN_ITEMS: u64 = 1024;
+const SPAN_ITEMS: u64 = 256;
 
 /// Into how many spans a list cuts the run that it is given.
 #[derive(Clone, Copy, Debug, PartialEq, Eq)]
 pub enum Spans {
-    /// Some thousand items each: any item is near.
+    /// Some hundred items each: any item is near.
     Short,
     /// One for the whole run, which costs nothing: for a list that is gone over from its first item on, or not at all.
     Whole,
@@ -48,7 +48,7 @@ impl Spans {
 
 /// A list of items of a recording by rules, which it names. Contracts see these, and the list.
 ///
-/// It holds none of its items, but the spans of the runs that give them, of some thousand items each where it was not
+/// It holds none of its items, but the spans of the runs that give them, of some hundred items each where it was not
 /// told otherwise; they are decoded again where the recording and the rules are lent. It borrows nothing, may go from
 /// thread to thread, and be read by several.
 #[derive(Drop)]
@@ -170,7 +170,7 @@ impl Items {
     /// items stand before each, `first.items` of them before `first`, and `items` before `to`.
     ///
     /// Its cost is that of the marks, a few steps each, and nothing where the run has one span; a span takes memory once
-    /// in some thousand items. Refused memory, it leaves the list as it was.
+    /// in some hundred items. Refused memory, it leaves the list as it was.
     pub fn push_run(
         &mut self,
         first: Mark,

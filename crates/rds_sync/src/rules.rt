@@ -1,13 +1,14 @@
 //! The rules by which synchronism is acquired, kept and lost.
 
 ghost use Rattle.std.specs.Prelude.{◌≡◌, ◌≢◌, ◌<◌, ◌≤◌, ◌⊎◌, ◌↔◌, ◌^◌, IfErr, IfOk, IfSome, IsErrOf};
+ghost use Rattle.rds_code.specs.Kinds.{kind_of};
 ghost use Rattle.rds_stream.specs.Recording.{reading_heard};
 ghost use Rattle.rds_sync.specs.Ranges.{IsInRange, IsRunOutside, IsShareOutside, farthest_reach, longest_burst, most_blocks};
 ghost use Rattle.rds_sync.specs.declared.loss.Loss.TheVariants.{Run, Share};
 
 use crate::error::SyncError;
 use crate::loss::Loss;
-use rds_code::{BurstTable, Reading, Wanted};
+use rds_code::{BurstTable, Kinds, Reading, Wanted};
 use rds_stream::read_heard;
 use std::alloc::Global;
 use std::marker::Model;
@@ -28,22 +29,24 @@ pub struct RuleNumbers {
 }
 
 /// The rules of a synchroniser: their numbers, with the table of bursts that its corrections are
-/// looked up in. Building them takes memory; using them takes none.
+/// looked up in, and that of the kinds of blocks. Building them takes memory; using them takes none.
 #[derive(Drop)]
 pub struct Rules {
     numbers: RuleNumbers,
     table: BurstTable,
+    kinds: Kinds,
 }
 
 impl Model for Rules {
     ghost use Rattle.rds_sync.specs.Rules.{RuleNumbers};
+    ghost use Rattle.std.specs.Prelude.{◌≡◌};
     ghost use Rattle.rds_sync.specs.Ranges.{IsInRange};
 
     ghost Value = { RuleNumbers };
 
     ghost view = { λ r. r.numbers };
 
-    ghost invariant = { λ r. IsInRange r.numbers };
+    ghost invariant = { λ r. IsInRange r.numbers × (r.kinds ≡ r.numbers.burst) };
 }
 
 impl Rules {
@@ -69,9 +72,12 @@ impl Rules {
             return Err(SyncError::ReachRange);
         }
         numbers.loss.check()?;
+        let table = BurstTable::new(alloc)?;
+        let kinds = Kinds::new(alloc, &table, numbers.burst as u8)?;
         Ok(Rules {
             numbers,
-            table: BurstTable::new(alloc)?,
+            table,
+            kinds,
         })
     }
 
@@ -173,5 +179,19 @@ impl Rules {
         ensures { result ≡ reading_heard heard number wanted self.now.burst }
     {
         read_heard(&self.table, heard, number, wanted, self.burst() as u8)
+    }
+
+    /// How it comes out: the kind of that reading, which takes less time.
+    #[inline(always)]
+    pub(crate) fn kind(&self, heard: Option<u32>, number: u8, wanted: Wanted) -> u16
+        requires block { IfSome heard (λ window. window < 2 ^ 26) }
+        requires number { (1 ≤ number) × (number ≤ 4) }
+        ensures value { result ≡ kind_of (reading_heard heard number wanted self.now.burst) }
+        ensures most { result ≤ 13 }
+    {
+        match heard {
+            Some(window) => u16::from(self.kinds.of_block(window, number, wanted)),
+            None => u16::from(Kinds::LOST),
+        }
     }
 }

@@ -23,7 +23,7 @@ use crate::item::{Block, Group, Item};
 use crate::loss::{Bad, Loss};
 use crate::rules::Rules;
 use crate::step::Step;
-use crate::words::{CLEAN, is_good, word_of_blocks};
+use crate::words::{CLEAN, is_good, nibble, word_of_blocks};
 use rds_code::laws::{bursts_are_listed, readings_follow_the_rule};
 use rds_code::{Offset, Wanted, rem26};
 use rds_stream::{FIRST_WINDOW, Reader};
@@ -157,7 +157,16 @@ fn damaged_word(rules: &Rules, heard: [Option<u32>; 4]) -> u16
         → blocks_in result ≡ map outcome_of (group b rules.now 1 4 (due + 78)).blocks }
     ensures few { result < 65520 }
 {
-    word_of_group(rules, &blocks_of(rules, heard))
+    // The outcome of each reading has a word.
+    bursts_are_listed();
+    readings_follow_the_rule();
+    prove!(rules.burst() <= 5);
+    let [one, two, three, four] = heard;
+    let second = Block::Read(rules.read(two, 2, Wanted::Either));
+    let first = rules.kind(one, 1, Wanted::Either);
+    let third = rules.kind(three, 3, second.wanted_beside());
+    let fourth = rules.kind(four, 4, Wanted::Either);
+    first + 16 * (nibble(&second) + 16 * (third + 16 * fourth))
 }
 
 /// The word of the group that has these blocks.

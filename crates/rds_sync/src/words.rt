@@ -20,7 +20,7 @@ pub(crate) const CLEAN: u16 = 0x1111;
 
 /// The four bits of a block.
 #[inline(always)]
-fn nibble(block: &Block) -> u16
+pub(crate) fn nibble(block: &Block) -> u16
     ensures value { result ≡ nibble (outcome_of block.now) }
     ensures few { result ≤ 13 }
 {
@@ -28,10 +28,7 @@ fn nibble(block: &Block) -> u16
         Block::Missing => 0,
         Block::Read(Reading::Valid { .. }) => 1,
         Block::Read(Reading::Lost) => 2,
-        Block::Read(Reading::Corrected { burst, .. }) => {
-            let span = u16::from(burst.span());
-            (span - 1) * span.saturating_sub(2) / 2 + u16::from(burst.ones()) + 2
-        }
+        Block::Read(Reading::Corrected { burst, .. }) => u16::from(burst.kind()),
     }
 }
 

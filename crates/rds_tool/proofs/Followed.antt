@@ -1,36 +1,33 @@
 -- What was done of a stream so far, and where it breaks off.
-use Rattle.std.proofs.Common.{◌≡◌, ◌≢◌, ◌+◌, ◌-◌, ◌*◌, ◌^◌, ◌<◌, ◌≤◌, ◌++◌, ◌⊎◌, ◌↔◌, ℕ, List, [], ◌∷◌, Err, None, Ok, Option, Result, Some, inl, inr, length, take, refl, sym, ap, ◌∙◌, subst, arith, append_assoc}
+use Rattle.std.proofs.Common.{◌≡◌, ◌≢◌, ◌+◌, ◌-◌, ◌*◌, ◌/◌, ◌%◌, ◌^◌, ◌<◌, ◌≤◌, ◌++◌, ◌⊎◌, ◌↔◌, ℕ, List, [], ◌∷◌, Err, None, Ok, Option, Result, Some, inl, inr, length, map, min, take, refl, sym, zero, suc, ap, ap₂, ◌∙◌, subst, arith, append_assoc}
 use Rattle.std.specs.Prelude.{IfErr, IfSome, OnErr, OnOk}
-use Rattle.std.specs.List.{flat_map}
+use Rattle.std.specs.Int.{bit_at}
+use Rattle.std.specs.List.{flat_map, range_with_len}
 use Rattle.std.specs.Io.KnownBytes.{Appends, Consumes, IsAtEnd, Keeps}
+use Rattle.std.proofs.Math.ListN.{get_or-append}
+use Rattle.std.proofs.lemmas.Bool.{le-ltb}
 use Rattle.std.proofs.lemmas.Grind.{flat_map-append}
 use Rattle.std.proofs.lemmas.List.{append-nil, length-append, length-take}
 use Rattle.std.proofs.lemmas.List.FromFn.{length-map-range_with_len}
-use Rattle.rds_live.specs.Live.{LiveOf, HasHeard, complete, live_of, run_of, signal_of}
-use Rattle.rds_stream.specs.Recording.{length_of, packed_bit}
+use Rattle.rds_live.specs.Live.{LiveOf, HasHeard, Terms, complete, live_of, report_at, run_of, signal_at, signal_of}
+use Rattle.rds_stream.specs.Recording.{AreGaps, bits_of, length_of, packed_bit}
 use Rattle.rds_sync.specs.declared.item.Item.{Item}
 use Rattle.rds_sync.specs.declared.state.State.TheVariants.{Searching}
-use Rattle.rds_sync.specs.declared.totals.Totals.{Totals}
 use Rattle.rds_sync.specs.Laws.{RunsAreReports}
 use Rattle.rds_sync.specs.Loss.{IsLoss}
-use Rattle.rds_sync.specs.Report.{report_items}
-use Rattle.rds_sync.specs.Rules.{RuleNumbers}
 use Rattle.rds_sync.specs.Step.{items_of_end, run}
+use Rattle.rds_sync.specs.declared.totals.Totals.{Totals}
 use Rattle.rds_sync.specs.Totals.{totals_of}
-use Rattle.rds_tool.specs.Following.{MayBreakOff, StopsBetweenRows, StopsInRows, rows_so_far, stream_text}
-use Rattle.rds_tool.specs.Listing.{item_row, totals_text}
-use Rattle.rds_tool.specs.Outcome.{WritesPrefix}
+use Rattle.rds_tool.specs.Following.{AllCount, EndsShort, IsReadAsFar, IsTooLong, MayBreakEarly, MayBreakOff, StopsBetweenRows, StopsInRows, counted, listed, rows_so_far, stream_text}
+use Rattle.rds_tool.specs.Input.{and_then, claimed, first_bits}
+use Rattle.rds_tool.specs.Inside.Streams.{IsFollowed, IsNearEnd, IsPlaceOf, IsShortEnough, bits_left}
+use Rattle.rds_tool.specs.Listing.{item_row, report_text, totals_text}
+use Rattle.rds_tool.specs.Outcome.{Writes, WritesPrefix, list_text}
 use Rattle.rds_tool.specs.declared.error.ToolError.{ToolError}
-use Rattle.rds_tool.specs.declared.error.ToolError.TheVariants.{OutOfMemory, Read, TooLong, Write}
+use Rattle.rds_tool.specs.declared.error.ToolError.TheVariants.{BadGaps, BitsPastBytes, OutOfMemory, Read, TooLong, Write}
+use Rattle.rds_tool.proofs.GapLists.{pass_as_gaps}
 use Rattle.rds_tool.proofs.Passing.{passed_kind}
 use Rattle.rds_tool.proofs.Steps.{appends_more, appends_none, consumes_more}
-
--- these bytes were heard, and the rows that they complete were written
-pub record IsFollowed (rules : RuleNumbers) (live : LiveOf) (from to old new : Option (List ℕ)) (heard : List ℕ) : Type 0 where
-  pub live_is : live ≡ live_of rules heard
-  pub taken : Consumes from to heard
-  pub written : Appends old new (rows_so_far rules heard)
-  pub short : 8 * length heard ≤ 2 ^ 36
 
 consumes_none : (a : Option (List ℕ)) → Consumes a a []
 consumes_none None = tt
@@ -41,12 +38,6 @@ consumes_kept None b c xs p q = tt
 consumes_kept (Some a) None c xs p q = absurd p
 consumes_kept (Some a) (Some b) None xs p q = absurd q
 consumes_kept (Some a) (Some b) (Some c) xs p q = p ∙ ap (λ w. xs ++ w) (sym q)
-
--- at the end all was read
-when_all : (a b : Option (List ℕ)) (xs : List ℕ) (P : List ℕ → Type 0) → Consumes a b xs → IsAtEnd b → P xs → IfSome a P
-when_all None b xs P p q h = tt
-when_all (Some a) None xs P p q h = absurd p
-when_all (Some a) (Some b) xs P p q h = subst P (sym (p ∙ ap (λ w. xs ++ w) q ∙ append-nil xs)) h
 
 pub keeps_same : (a : Option (List ℕ)) → Keeps a a
 keeps_same None = tt
@@ -72,57 +63,103 @@ few_taken n bytes buf is long = let count : length bytes ≡ length (take n buf)
 pub some_taken : (n : ℕ) (bytes buf : List ℕ) → bytes ≡ take n buf → (n ≡ 0 → ⊥) → n ≤ length buf → 0 < length bytes
 some_taken n bytes buf is some within = let count : length bytes ≡ length (take n buf) = ap (λ (xs : List ℕ). length xs) is in omega (arith, count, length-take n buf, some, within)
 
+-- no more than was asked for
+pub fits_room : (n room : ℕ) (bytes buf : List ℕ) → bytes ≡ take n buf → n ≤ room → length bytes ≤ room
+fits_room n room bytes buf is within = let count : length bytes ≡ length (take n buf) = ap (λ (xs : List ℕ). length xs) is in omega (arith, count, length-take n buf, within)
+
+-- the last read gives a byte at most
+pub few_last : (n : ℕ) (bytes buf : List ℕ) → bytes ≡ take n buf → n ≤ 1 → length bytes ≤ 65536
+few_last n bytes buf is few = let count : length bytes ≡ length (take n buf) = ap (λ (xs : List ℕ). length xs) is in omega (arith, count, length-take n buf, few)
+
+pub took_all : (n : ℕ) (bytes buf : List ℕ) → bytes ≡ take n buf → n ≤ length buf → length bytes ≡ n
+took_all n bytes buf is within = let count : length bytes ≡ length (take n buf) = ap (λ (xs : List ℕ). length xs) is in omega (arith, count, length-take n buf, within)
+
+-- ---- the bits that count
+
+counted_all : (bits : Option ℕ) (bytes : List ℕ) → AllCount bits bytes → counted bits bytes ≡ 8 * length bytes
+counted_all None bytes all = refl
+counted_all (Some n) bytes all = let e : min n (8 * length bytes) ≡ 8 * length bytes = omega (arith, all) in e
+
+all_none : (bits : Option ℕ) → AllCount bits []
+all_none None = tt
+all_none (Some n) = let e : 8 * 0 ≤ n = omega arith in e
+
+all_more : (bits : Option ℕ) (place room : ℕ) (heard bytes : List ℕ) → IfSome bits (λ n. place + 8 * room ≤ n) → place ≡ 8 * length heard → length bytes ≤ room → AllCount bits (heard ++ bytes)
+all_more None place room heard bytes within is few = tt
+all_more (Some n) place room heard bytes within is few = omega (arith, within, is, few, length-append heard bytes)
+
+pub place_of_all : (bits : Option ℕ) (place : ℕ) (heard : List ℕ) → place ≡ 8 * length heard → AllCount bits heard → IsPlaceOf bits place
+place_of_all None place heard is all = tt
+place_of_all (Some n) place heard is all = omega (arith, is, all)
+
+-- no byte was given, since none was asked for or none is to come
+pub near_end_by : (bits : Option ℕ) (place room : ℕ) (to : Option (List ℕ)) → (room ≡ 0 → IfSome bits (λ n. n < place + 8) × (bits ≢ None)) → (room ≡ 0) ⊎ IsAtEnd to → IsNearEnd bits place to
+near_end_by None place room to none (inl no_room) = let both = none no_room in absurd (both.1 refl)
+near_end_by None place room to none (inr ended) = ended
+near_end_by (Some n) place room to none (inl no_room) = let both = none no_room in inl both.0
+near_end_by (Some n) place room to none (inr ended) = inr ended
+
 -- ---- rows
 
 -- rows of a chunk, behind those of what was heard before
-abbrev pub HasRows : RuleNumbers → List ℕ → List ℕ → List ℕ → Type 0
-HasRows rules before bytes rows = rows_so_far rules (before ++ bytes) ≡ rows_so_far rules before ++ rows
+abbrev pub HasRows : Terms → List ℕ → List ℕ → List ℕ → Type 0
+HasRows terms before bytes rows = rows_so_far terms (before ++ bytes) ≡ rows_so_far terms before ++ rows
 
 -- the rows of its items are
-pub has_rows : (rules : RuleNumbers) (before bytes rows : List ℕ) (items : List Item) → complete rules (before ++ bytes) ≡ complete rules before ++ items
-    → rows ≡ flat_map item_row items → HasRows rules before bytes rows
-has_rows rules before bytes rows items more is =
-    ap (λ all. flat_map item_row all) more ∙ flat_map-append item_row (complete rules before) items ∙ ap (λ ys. rows_so_far rules before ++ ys) (sym is)
+pub has_rows : (terms : Terms) (before bytes rows : List ℕ) (items : List Item) → complete terms (before ++ bytes) ≡ complete terms before ++ items
+    → rows ≡ flat_map item_row items → HasRows terms before bytes rows
+has_rows terms before bytes rows items more is =
+    ap (λ all. flat_map item_row all) more ∙ flat_map-append item_row (complete terms before) items ∙ ap (λ ys. rows_so_far terms before ++ ys) (sym is)
 
-module _ (rules : RuleNumbers) where
-  has_heard : (live : LiveOf) (heard : List ℕ) → live ≡ live_of rules heard → HasHeard live heard
-  has_heard live heard is = is ∙ ap (λ (r : RuleNumbers). live_of r heard) (sym (ap (λ (l : LiveOf). l.rules) is))
+module _ (terms : Terms) (bits : Option ℕ) where
+  has_heard : (live : LiveOf) (heard : List ℕ) → live ≡ live_of terms heard → HasHeard live heard
+  has_heard live heard is = is ∙ ap (λ (t : Terms). live_of t heard) (sym (ap (λ (l : LiveOf). l.terms) is))
 
-  pub followed_none : (live : LiveOf) (from old : Option (List ℕ)) → live ≡ live_of rules [] → IsFollowed rules live from from old old []
-  followed_none live from old is = record { live_is = is; taken = consumes_none from; written = appends_none old; short = omega arith }
+  pub followed_none : (live : LiveOf) (from old : Option (List ℕ)) → live ≡ live_of terms [] → IsFollowed terms bits live from from old old []
+  followed_none live from old is = record { live_is = is; taken = consumes_none from; written = appends_none old; short = omega arith; all_count = all_none bits }
+
+  -- nothing was read, and nothing written
+  pub nothing_done : (from old : Option (List ℕ)) → StopsBetweenRows terms bits from from old old
+  nothing_done from old = ([], [], omega arith, all_none bits, consumes_none from, appends_none old)
 
   -- the listing of a stream begins with the rows so far
-  pub listing_begins : RunsAreReports → IsLoss rules.loss → (bytes : List ℕ)
-      → stream_text rules bytes ≡ rows_so_far rules bytes ++ (flat_map item_row (items_of_end (signal_of bytes) rules (run_of rules bytes).0) ++ totals_text (totals_of (report_items (signal_of bytes) rules)))
-  listing_begins reports loss bytes =
-      let last : List Item = items_of_end (signal_of bytes) rules (run_of rules bytes).0 in
-      let long : length_of (signal_of bytes) ≡ 8 * length bytes = length-map-range_with_len (packed_bit bytes) 0 (8 * length bytes) in
-      let whole : report_items (signal_of bytes) rules ≡ complete rules bytes ++ last =
-      sym (ap (λ (n : ℕ). (run (signal_of bytes) rules Searching 0 n).1 ++ items_of_end (signal_of bytes) rules (run (signal_of bytes) rules Searching 0 n).0) (sym long)
-      ∙ reports (signal_of bytes) rules loss) in
-      let ending : List ℕ = totals_text (totals_of (report_items (signal_of bytes) rules)) in
-      ap (λ (items : List Item). flat_map item_row items ++ ending) whole
-      ∙ ap (λ (rows : List ℕ). rows ++ ending) (flat_map-append item_row (complete rules bytes) last)
-      ∙ append_assoc (rows_so_far rules bytes) (flat_map item_row last) ending
+  listing_begins : RunsAreReports → IsLoss terms.rules.loss → (bytes : List ℕ) → AllCount bits bytes
+      → stream_text terms bits bytes ≡ rows_so_far terms bytes
+      ++ (flat_map item_row (items_of_end (signal_of terms.gaps bytes) terms.rules (run_of terms bytes).0) ++ totals_text (totals_of (report_at terms bytes (8 * length bytes))))
+  listing_begins reports loss bytes all =
+      let whole = signal_of terms.gaps bytes in
+      let last : List Item = items_of_end whole terms.rules (run_of terms bytes).0 in
+      let long : length_of whole ≡ 8 * length bytes = length-map-range_with_len (packed_bit bytes) 0 (8 * length bytes) in
+      let items_are : report_at terms bytes (8 * length bytes) ≡ complete terms bytes ++ last =
+      sym (ap (λ (n : ℕ). (run whole terms.rules Searching 0 n).1 ++ items_of_end whole terms.rules (run whole terms.rules Searching 0 n).0) (sym long)
+      ∙ reports whole terms.rules loss) in
+      let ending : List ℕ = totals_text (totals_of (report_at terms bytes (8 * length bytes))) in
+      ap (λ (n : ℕ). list_text terms.rules (signal_at terms.gaps bytes n)) (counted_all bits bytes all)
+      ∙ ap (λ (items : List Item). flat_map item_row items ++ ending) items_are
+      ∙ ap (λ (rows : List ℕ). rows ++ ending) (flat_map-append item_row (complete terms bytes) last)
+      ∙ append_assoc (rows_so_far terms bytes) (flat_map item_row last) ending
 
-  module _ (live : LiveOf) (from to old new : Option (List ℕ)) (heard : List ℕ) (f : IsFollowed rules live from to old new heard) where
-    rules_are : live.rules ≡ rules
-    rules_are = ap (λ (l : LiveOf). l.rules) f.live_is
+  module _ (live : LiveOf) (from to old new : Option (List ℕ)) (heard : List ℕ) (f : IsFollowed terms bits live from to old new heard) where
+    terms_are : live.terms ≡ terms
+    terms_are = ap (λ (l : LiveOf). l.terms) f.live_is
 
-    place_is : live.place ≡ 8 * length heard
+    pub place_is : live.place ≡ 8 * length heard
     place_is = ap (λ (l : LiveOf). l.place) f.live_is
 
     known : HasHeard live heard
     known = has_heard live heard f.live_is
 
+    pub is_place : IsPlaceOf bits live.place
+    is_place = place_of_all bits live.place heard place_is f.all_count
+
     -- nothing came behind it
-    pub stops_here : (after : Option (List ℕ)) → Keeps to after → StopsBetweenRows rules from after old new
+    pub stops_here : (after : Option (List ℕ)) → Keeps to after → StopsBetweenRows terms bits from after old new
     stops_here after kept =
-        (heard, [], omega arith, subst (λ xs. Consumes from after xs) (sym (append-nil heard)) (consumes_kept from to after heard f.taken kept), f.written)
+        (heard, [], omega arith, f.all_count, subst (λ xs. Consumes from after xs) (sym (append-nil heard)) (consumes_kept from to after heard f.taken kept), f.written)
 
     module _ (after : Option (List ℕ)) (n : ℕ) (buf : List ℕ) (took : Consumes to after (take n buf)) where
-      -- nothing more is to come
-      pub followed_end : n ≡ 0 → IsFollowed rules live from after old new heard
+      -- nothing more came
+      pub followed_end : n ≡ 0 → IsFollowed terms bits live from after old new heard
       followed_end none =
           let nothing : Consumes to after [] = subst (λ m. Consumes to after (take m buf)) none took in
           record {
@@ -130,121 +167,244 @@ module _ (rules : RuleNumbers) where
             taken = subst (λ xs. Consumes from after xs) (append-nil heard) (consumes_more from to after heard [] f.taken nothing);
             written = f.written;
             short = f.short;
+            all_count = f.all_count;
           }
 
       module _ (bytes : List ℕ) (bytes_are : bytes ≡ take n buf) where
         took_bytes : Consumes to after bytes
         took_bytes = subst (λ xs. Consumes to after xs) (sym bytes_are) took
 
-        taken_more : Consumes from after (heard ++ bytes)
+        pub taken_more : Consumes from after (heard ++ bytes)
         taken_more = consumes_more from to after heard bytes f.taken took_bytes
 
         -- these came behind it, and no row of them was written
-        pub stops_behind : length bytes ≤ 65536 → StopsBetweenRows rules from after old new
-        stops_behind few = (heard, bytes, few, taken_more, f.written)
+        pub stops_behind : length bytes ≤ 65536 → StopsBetweenRows terms bits from after old new
+        stops_behind few = (heard, bytes, few, f.all_count, taken_more, f.written)
 
         -- they are too many
-        pub too_many : 2 ^ 36 < live.place + 8 * length bytes → (more : List ℕ) × Consumes from after more × (2 ^ 36 < 8 * length more)
-        too_many much = (heard ++ bytes, taken_more, omega (arith, much, place_is, length-append heard bytes))
+        pub too_many : 2 ^ 36 < live.place + 8 * length bytes → IsTooLong bits from after
+        too_many much = inr (heard ++ bytes, taken_more, omega (arith, much, place_is, length-append heard bytes))
 
         module _ (later : Option (List ℕ)) where
-          rows_by : {P : List ℕ → Type 0} → ((before : List ℕ) → HasHeard live before → (rows : List ℕ) × HasRows live.rules before bytes rows × P rows)
-              → (rows : List ℕ) × HasRows rules heard bytes rows × P rows
+          rows_by : {P : List ℕ → Type 0} → ((before : List ℕ) → HasHeard live before → (rows : List ℕ) × HasRows live.terms before bytes rows × P rows)
+              → (rows : List ℕ) × HasRows terms heard bytes rows × P rows
           rows_by wrote =
               let (rows, more, did) = wrote heard known in
-              (rows, subst (λ (r : RuleNumbers). HasRows r heard bytes rows) rules_are more, did)
+              (rows, subst (λ (t : Terms). HasRows t heard bytes rows) terms_are more, did)
 
-          -- they were followed too
-          pub followed_more : (next : LiveOf) → ((before : List ℕ) → HasHeard live before → HasHeard next (before ++ bytes)) → next.rules ≡ live.rules
-              → ((before : List ℕ) → HasHeard live before → (rows : List ℕ) × HasRows live.rules before bytes rows × Appends new later rows)
-              → live.place + 8 * length bytes ≤ 2 ^ 36 → IsFollowed rules next from after old later (heard ++ bytes)
-          followed_more next hears same wrote within =
-              let (rows, more, did) = rows_by wrote in
-              record {
-                live_is = hears heard known ∙ ap (λ (r : RuleNumbers). live_of r (heard ++ bytes)) (same ∙ rules_are);
-                taken = taken_more;
-                written = subst (λ ys. Appends old later ys) (sym more) (appends_more old new later (rows_so_far rules heard) rows f.written did);
-                short = omega (arith, within, place_is, length-append heard bytes);
-              }
+          module _ (room : ℕ) (within : IfSome bits (λ n. live.place + 8 * room ≤ n)) (fit : length bytes ≤ room) where
+            all_of_them : AllCount bits (heard ++ bytes)
+            all_of_them = all_more bits live.place room heard bytes within place_is fit
 
-          -- a beginning of their rows was written
-          pub stops_in_rows : RunsAreReports → IsLoss rules.loss → length bytes ≤ 65536
-              → ((before : List ℕ) → HasHeard live before → (rows : List ℕ) × HasRows live.rules before bytes rows × WritesPrefix new later (Ok rows))
-              → StopsInRows rules from after old later
-          stops_in_rows reports loss few wrote =
-              let (rows, more, prefix) = rows_by wrote in
-              let (written, rest, split, did) = prefix in
-              let ending : List ℕ =
-              flat_map item_row (items_of_end (signal_of (heard ++ bytes)) rules (run_of rules (heard ++ bytes)).0) ++ totals_text (totals_of (report_items (signal_of (heard ++ bytes)) rules)) in
-              let front : List ℕ = rows_so_far rules heard in (
-                heard,
-                bytes,
-                few,
-                taken_more,
-                written,
-                rest ++ ending,
-                listing_begins reports loss (heard ++ bytes) ∙ ap (λ ys. ys ++ ending) (more ∙ ap (λ ys. front ++ ys) split)
-                    ∙ append_assoc front (written ++ rest) ending ∙ ap (λ ys. front ++ ys) (append_assoc written rest ending),
-                appends_more old new later front written f.written did,
-              )
+            -- they were followed too
+            pub followed_more : (next : LiveOf) → ((before : List ℕ) → HasHeard live before → HasHeard next (before ++ bytes)) → next.terms ≡ live.terms
+                → ((before : List ℕ) → HasHeard live before → (rows : List ℕ) × HasRows live.terms before bytes rows × Appends new later rows)
+                → live.place + 8 * length bytes ≤ 2 ^ 36 → IsFollowed terms bits next from after old later (heard ++ bytes)
+            followed_more next hears same wrote limit =
+                let (rows, more, did) = rows_by wrote in
+                record {
+                  live_is = hears heard known ∙ ap (λ (t : Terms). live_of t (heard ++ bytes)) (same ∙ terms_are);
+                  taken = taken_more;
+                  written = subst (λ ys. Appends old later ys) (sym more) (appends_more old new later (rows_so_far terms heard) rows f.written did);
+                  short = omega (arith, limit, place_is, length-append heard bytes);
+                  all_count = all_of_them;
+                }
 
-    -- the end: what is left of the listing
-    module _ (last : List Item) (totals : Totals) (text : List ℕ)
-        (group : (bytes : List ℕ) → HasHeard live bytes → complete live.rules bytes ++ last ≡ report_items (signal_of bytes) live.rules)
-        (counted : (bytes : List ℕ) → HasHeard live bytes → totals ≡ totals_of (report_items (signal_of bytes) live.rules))
-        (text_is : text ≡ flat_map item_row last ++ totals_text totals) where
-      listing_ends : stream_text rules heard ≡ rows_so_far rules heard ++ text
-      listing_ends =
-          let whole : complete rules heard ++ last ≡ report_items (signal_of heard) rules =
-          subst (λ (r : RuleNumbers). complete r heard ++ last ≡ report_items (signal_of heard) r) rules_are (group heard known) in
-          let sum : totals ≡ totals_of (report_items (signal_of heard) rules) =
-          subst (λ (r : RuleNumbers). totals ≡ totals_of (report_items (signal_of heard) r)) rules_are (counted heard known) in
-          ap (λ (items : List Item). flat_map item_row items ++ totals_text (totals_of (report_items (signal_of heard) rules))) (sym whole)
-          ∙ ap (λ (t : Totals). flat_map item_row (complete rules heard ++ last) ++ totals_text t) (sym sum)
-          ∙ ap (λ (rows : List ℕ). rows ++ totals_text totals) (flat_map-append item_row (complete rules heard) last)
-          ∙ append_assoc (rows_so_far rules heard) (flat_map item_row last) (totals_text totals)
-          ∙ ap (λ ys. rows_so_far rules heard ++ ys) (sym text_is)
-
-      module _ (later : Option (List ℕ)) where
-        -- it was written
-        pub wrote_all : {T : Type 0} (r : Result T ToolError) → IsAtEnd to → OnOk r (Appends new later text) → OnOk r (IfSome from (λ held. Appends old later (stream_text rules held)))
-        wrote_all (Err e) at_end did = tt
-        wrote_all (Ok x) at_end did =
-            when_all from to heard (λ held. Appends old later (stream_text rules held)) f.taken at_end
-            (subst (λ ys. Appends old later ys) (sym listing_ends) (appends_more old new later (rows_so_far rules heard) text f.written did))
-
-        -- a beginning of it was written
-        pub stops_at_end : WritesPrefix new later (Ok text) → StopsInRows rules from to old later
-        stops_at_end (written, rest, split, did) =
-            let front : List ℕ = rows_so_far rules heard in (
-              heard,
-              [],
-              omega arith,
-              subst (λ xs. Consumes from to xs) (sym (append-nil heard)) f.taken,
-              written,
-              rest,
-              ap (λ xs. stream_text rules xs) (append-nil heard) ∙ listing_ends ∙ ap (λ ys. front ++ ys) split,
-              appends_more old new later front written f.written did,
-            )
+            -- a beginning of their rows was written
+            pub stops_in_rows : RunsAreReports → IsLoss terms.rules.loss → length bytes ≤ 65536
+                → ((before : List ℕ) → HasHeard live before → (rows : List ℕ) × HasRows live.terms before bytes rows × WritesPrefix new later (Ok rows))
+                → StopsInRows terms bits from after old later
+            stops_in_rows reports loss few wrote =
+                let (rows, more, prefix) = rows_by wrote in
+                let (written, rest, split, did) = prefix in
+                let all : List ℕ = heard ++ bytes in
+                let ending : List ℕ =
+                flat_map item_row (items_of_end (signal_of terms.gaps all) terms.rules (run_of terms all).0) ++ totals_text (totals_of (report_at terms all (8 * length all))) in
+                let front : List ℕ = rows_so_far terms heard in (
+                  heard,
+                  bytes,
+                  few,
+                  f.all_count,
+                  taken_more,
+                  written,
+                  rest ++ ending,
+                  listing_begins reports loss all all_of_them ∙ ap (λ ys. ys ++ ending) (more ∙ ap (λ ys. front ++ ys) split)
+                      ∙ append_assoc front (written ++ rest) ending ∙ ap (λ ys. front ++ ys) (append_assoc written rest ending),
+                  appends_more old new later front written f.written did,
+                )
 
     -- how far the next state is from the most bits
-    pub smaller : (next : LiveOf) (after later : Option (List ℕ)) (bytes : List ℕ) → IsFollowed rules next from after old later (heard ++ bytes) → 0 < length bytes
+    pub smaller : (next : LiveOf) (after later : Option (List ℕ)) (bytes : List ℕ) → IsFollowed terms bits next from after old later (heard ++ bytes) → 0 < length bytes
         → 2 ^ 36 - next.place < 2 ^ 36 - live.place
     smaller next after later bytes f' some =
         let there : next.place ≡ 8 * length (heard ++ bytes) = ap (λ (l : LiveOf). l.place) f'.live_is in
         omega (arith, there, place_is, f'.short, length-append heard bytes)
 
-    pub fits : IsAtEnd to → IfSome from (λ held. 8 * length held ≤ 2 ^ 36)
-    fits at_end = when_all from to heard (λ held. 8 * length held ≤ 2 ^ 36) f.taken at_end f.short
+-- ---- the last bits
+
+-- the rows that are left of a report
+pub rest_is : (front items last report : List Item) (totals : Totals) (text : List ℕ) → front ++ items ++ last ≡ report → totals ≡ totals_of report
+    → text ≡ flat_map item_row items ++ (flat_map item_row last ++ totals_text totals) → report_text report (totals_of report) ≡ flat_map item_row front ++ text
+rest_is front items last report totals text whole sum is =
+    let rows : List Item → List ℕ = flat_map item_row in
+    let ending : List ℕ = totals_text totals in
+    ap₂ (λ (r : List Item) (t : Totals). rows r ++ totals_text t) (sym whole) (sym sum)
+    ∙ ap (λ (ys : List ℕ). ys ++ ending) (flat_map-append item_row (front ++ items) last ∙ ap (λ (ys : List ℕ). ys ++ rows last) (flat_map-append item_row front items))
+    ∙ append_assoc (rows front ++ rows items) (rows last) ending
+    ∙ append_assoc (rows front) (rows items) (rows last ++ ending)
+    ∙ ap (λ (ys : List ℕ). rows front ++ ys) (sym is)
+
+-- what is left is short enough
+pub short_left : (bits : Option ℕ) (place : ℕ) → place ≤ 2 ^ 36 → IsShortEnough bits → IsPlaceOf bits place → place + bits_left bits place ≤ 2 ^ 36
+short_left None place limit short order = omega (arith, limit)
+short_left (Some n) place limit short order = omega (arith, limit, short, order)
+
+module _ (bits : Option ℕ) (place left : ℕ) (heard bytes : List ℕ) (place_is : place ≡ 8 * length heard) (all : AllCount bits heard) (left_is : left ≡ bits_left bits place)
+    (few : left ≤ 8 * length bytes) (less : 8 * length bytes < left + 8) where
+  counted_left : counted bits (heard ++ bytes) ≡ 8 * length heard + left
+  counted_left = by bits all left_is
+    where
+      by : (b : Option ℕ) → AllCount b heard → left ≡ bits_left b place → counted b (heard ++ bytes) ≡ 8 * length heard + left
+      by None all is = omega (arith, is, less, length-append heard bytes)
+      by (Some n) all is = omega (arith, is, all, few, place_is, length-append heard bytes)
+
+  held_left : IfSome bits (λ n. n ≤ 8 * length (heard ++ bytes))
+  held_left = by bits left_is
+    where
+      by : (b : Option ℕ) → left ≡ bits_left b place → IfSome b (λ n. n ≤ 8 * length (heard ++ bytes))
+      by None is = tt
+      by (Some n) is = omega (arith, is, few, place_is, length-append heard bytes)
+
+  as_far : (from to after : Option (List ℕ)) → IsNearEnd bits place to → (left ≡ 0 → after ≡ to) → Consumes from after (heard ++ bytes) → IsReadAsFar bits from after
+  as_far from to after = by bits all left_is
+    where
+      by : (b : Option ℕ) → AllCount b heard → left ≡ bits_left b place → IsNearEnd b place to → (left ≡ 0 → after ≡ to) → Consumes from after (heard ++ bytes) → IsReadAsFar b from after
+      by None all is near still read = subst IsAtEnd (sym (still is)) near
+      by (Some n) all is near still read = (
+        heard ++ bytes,
+        read,
+        omega (arith, is, few, place_is, length-append heard bytes),
+        omega (arith, is, less, all, place_is, length-append heard bytes),
+      )
+
+-- what a list takes of all that is to come is what was read
+claimed_is : (bits : Option ℕ) (a : List ℕ) (after : Option (List ℕ)) (xs : List ℕ) → Consumes (Some a) after xs → IsReadAsFar bits (Some a) after
+    → IfSome bits (λ n. n ≤ 8 * length xs) → claimed bits a ≡ counted bits xs
+claimed_is bits a None xs read far held = absurd read
+claimed_is None a (Some b) xs read far held = ap (λ (ys : List ℕ). 8 * length ys) (read ∙ ap (λ w. xs ++ w) far ∙ append-nil xs)
+claimed_is (Some n) a (Some b) xs read far held = let e : n ≡ min n (8 * length xs) = omega (arith, held) in e
+
+front_bit : (xs ys : List ℕ) (i : ℕ) → i < 8 * length xs → packed_bit (xs ++ ys) i ≡ packed_bit xs i
+front_bit xs ys i early = ap (λ (b : ℕ). bit_at b (7 - i % 8)) (get_or-append xs ys 0 (i / 8) (omega arith))
+
+front_bits : (xs ys : List ℕ) (a n : ℕ) → a + n ≤ 8 * length xs → map (packed_bit (xs ++ ys)) (range_with_len a n) ≡ map (packed_bit xs) (range_with_len a n)
+front_bits xs ys a zero held = refl
+front_bits xs ys a (suc n) held = ap₂ (λ (b : ℕ) (bs : List ℕ). b ∷ bs) (front_bit xs ys a (omega arith)) (front_bits xs ys (a + 1) n (omega arith))
+
+listed_as : (terms : Terms) (a : List ℕ) (after : Option (List ℕ)) (xs : List ℕ) (n : ℕ) → Consumes (Some a) after xs → n ≤ 2 ^ 36 → n ≤ 8 * length xs → AreGaps n terms.gaps
+    → and_then (first_bits n terms.gaps a) (λ recording. Ok (list_text terms.rules recording)) ≡ Ok (list_text terms.rules (signal_at terms.gaps xs n))
+listed_as terms a None xs n read short held are = absurd read
+listed_as terms a (Some b) xs n read short held are =
+    let count : length a ≡ length xs + length b = ap (λ (ys : List ℕ). length ys) read ∙ length-append xs b in
+    let same : bits_of a n ≡ bits_of xs n = ap (λ (ys : List ℕ). bits_of ys n) read ∙ front_bits xs b 0 n (omega (arith, held)) in
+    rw (le-ltb (2 ^ 36) n short, le-ltb (8 * length a) n (omega (arith, held, count)), pass_as_gaps terms.gaps n are)
+    (ap (λ (bs : List ℕ). Ok (list_text terms.rules (record { bits = bs; gaps = terms.gaps }))) same)
+
+module _ (terms : Terms) (bits : Option ℕ) (live : LiveOf) (from to old new : Option (List ℕ)) (heard : List ℕ) (f : IsFollowed terms bits live from to old new heard)
+    (near : IsNearEnd bits live.place to) where
+  -- fewer bits came than are claimed
+  pub ends_short : (left : ℕ) (after : Option (List ℕ)) → left ≡ bits_left bits live.place → Keeps to after → (0 < left) × (((8 ≤ left) × (after ≡ to)) ⊎ IsAtEnd after) → EndsShort bits from after
+  ends_short left after is kept past = by bits is near past.1 where
+    by : (b : Option ℕ) → left ≡ bits_left b live.place → IsNearEnd b live.place to → ((8 ≤ left) × (after ≡ to)) ⊎ IsAtEnd after → EndsShort b from after
+    by None is near end = absurd (omega (arith, is, past.0))
+    by (Some n) is near end =
+        let place = place_is terms bits live from to old new heard f in
+        let ended : IsAtEnd after = (elim end [
+          | inl many ↦ elim near [ inl close ↦ absurd (omega (arith, is, many.0, close)) | inr at_end ↦ subst IsAtEnd (sym many.1) at_end ]
+          | inr at_end ↦ at_end
+        ]) in
+        (heard, consumes_kept from to after heard f.taken kept, ended, omega (arith, is, past.0, place))
+
+  module _ (after : Option (List ℕ)) (n : ℕ) (buf : List ℕ) (took : Consumes to after (take n buf)) (bytes : List ℕ) (bytes_are : bytes ≡ take n buf)
+      (left : ℕ) (left_is : left ≡ bits_left bits live.place) (few : left ≤ 8 * length bytes) (less : 8 * length bytes < left + 8) (still : left ≡ 0 → after ≡ to) where
+    read_all : Consumes from after (heard ++ bytes)
+    read_all = taken_more terms bits live from to old new heard f after n buf took bytes bytes_are
+
+    at_place : live.place ≡ 8 * length heard
+    at_place = place_is terms bits live from to old new heard f
+
+    pub read_as_far : IsReadAsFar bits from after
+    read_as_far = as_far bits live.place left heard bytes at_place f.all_count left_is few less from to after near still read_all
+
+    all_counted : counted bits (heard ++ bytes) ≡ 8 * length heard + left
+    all_counted = counted_left bits live.place left heard bytes at_place f.all_count left_is few less
+
+    count_is : (a : List ℕ) → Consumes (Some a) after (heard ++ bytes) → IsReadAsFar bits (Some a) after → claimed bits a ≡ live.place + left
+    count_is a read far =
+        let found = claimed_is bits a after (heard ++ bytes) read far (held_left bits live.place left heard bytes at_place f.all_count left_is few less) in
+        omega (arith, found, all_counted, at_place)
+
+    -- the recording may not have these gaps
+    pub no_such_gaps : (gaps : List (ℕ × ℕ)) → (AreGaps (live.place + left) gaps → ⊥) → IfSome from (λ held. AreGaps (claimed bits held) gaps → ⊥)
+    no_such_gaps gaps none = by from read_all read_as_far where
+      by : (o : Option (List ℕ)) → Consumes o after (heard ++ bytes) → IsReadAsFar bits o after → IfSome o (λ held. AreGaps (claimed bits held) gaps → ⊥)
+      by None read far = tt
+      by (Some a) read far = λ are. none (subst (λ (m : ℕ). AreGaps m gaps) (count_is a read far) are)
+
+    -- the rest of the listing
+    module _ (text : List ℕ)
+        (rows : (before : List ℕ) → HasHeard live before → let items = report_at live.terms (before ++ bytes) (8 * length before + left) in
+          report_text items (totals_of items) ≡ rows_so_far live.terms before ++ text) where
+      listing_ends : stream_text terms bits (heard ++ bytes) ≡ rows_so_far terms heard ++ text
+      listing_ends =
+          let terms_are : live.terms ≡ terms = ap (λ (l : LiveOf). l.terms) f.live_is in
+          let known : HasHeard live heard = f.live_is ∙ ap (λ (t : Terms). live_of t heard) (sym terms_are) in
+          ap (λ (m : ℕ). list_text terms.rules (signal_at terms.gaps (heard ++ bytes) m)) all_counted
+          ∙ subst (λ (t : Terms). list_text t.rules (signal_at t.gaps (heard ++ bytes) (8 * length heard + left)) ≡ rows_so_far t heard ++ text) terms_are (rows heard known)
+
+      module _ (later : Option (List ℕ)) where
+        -- it was written
+        pub wrote_all : {T : Type 0} (r : Result T ToolError) → live.place + left ≤ 2 ^ 36 → AreGaps (live.place + left) terms.gaps → OnOk r (Appends new later text)
+            → OnOk r (IfSome from (λ held. Writes old later (listed terms bits held)))
+        wrote_all (Err e) short are did = tt
+        wrote_all (Ok x) short are did = by from f.written read_all read_as_far where
+          all : Appends old later (stream_text terms bits (heard ++ bytes))
+          all = subst (λ ys. Appends old later ys) (sym listing_ends) (appends_more old new later (rows_so_far terms heard) text f.written did)
+
+          by : (o : Option (List ℕ)) → Appends old new (rows_so_far terms heard) → Consumes o after (heard ++ bytes) → IsReadAsFar bits o after → IfSome o (λ held. Writes old later (listed terms bits held))
+          by None w read far = tt
+          by (Some a) w read far =
+              let claim = count_is a read far in
+              let within : claimed bits a ≤ 8 * length (heard ++ bytes) = omega (arith, claim, at_place, few, length-append heard bytes) in
+              let counts : claimed bits a ≡ counted bits (heard ++ bytes) = omega (arith, claim, at_place, all_counted) in
+              let is : listed terms bits a ≡ Ok (stream_text terms bits (heard ++ bytes)) =
+              listed_as terms a after (heard ++ bytes) (claimed bits a) read (omega (arith, claim, short)) within (subst (λ (m : ℕ). AreGaps m terms.gaps) (sym claim) are)
+              ∙ ap (λ (m : ℕ). Ok (list_text terms.rules (signal_at terms.gaps (heard ++ bytes) m))) counts in
+              subst (λ (w : Result (List ℕ) ToolError). Writes old later w) (sym is) all
+
+        -- a beginning of it was written
+        pub stops_at_end : length bytes ≤ 65536 → WritesPrefix new later (Ok text) → StopsInRows terms bits from after old later
+        stops_at_end short (written, rest, split, did) =
+            let front : List ℕ = rows_so_far terms heard in (
+              heard,
+              bytes,
+              short,
+              f.all_count,
+              read_all,
+              written,
+              rest,
+              listing_ends ∙ ap (λ ys. front ++ ys) split,
+              appends_more old new later front written f.written did,
+            )
 
 -- ---- refusals
 
 -- the rows of a chunk, where they were written
 pub chunk_rows : {T : Type 0} (r : Result T ToolError) (live : LiveOf) (bytes text : List ℕ) (items : List Item) (old new : Option (List ℕ))
-    → ((before : List ℕ) → HasHeard live before → complete live.rules (before ++ bytes) ≡ complete live.rules before ++ items)
+    → ((before : List ℕ) → HasHeard live before → complete live.terms (before ++ bytes) ≡ complete live.terms before ++ items)
     → text ≡ flat_map item_row items → OnOk r (Appends old new text)
-    → OnOk r ((before : List ℕ) → HasHeard live before → (rows : List ℕ) × HasRows live.rules before bytes rows × Appends old new rows)
-chunk_rows (Ok x) live bytes text items old new more is did = λ before h. (text, has_rows live.rules before bytes text items (more before h) is, did)
+    → OnOk r ((before : List ℕ) → HasHeard live before → (rows : List ℕ) × HasRows live.terms before bytes rows × Appends old new rows)
+chunk_rows (Ok x) live bytes text items old new more is did = λ before h. (text, has_rows live.terms before bytes text items (more before h) is, did)
 chunk_rows (Err e) live bytes text items old new more is did = tt
 
 -- what holds after any refusal, and what holds after one that is not the writer's
@@ -256,9 +416,9 @@ pub after_no_write : {T X : Type 0} (r : Result T ToolError) (e : ToolError) →
 after_no_write {X = X} r e is h = subst (λ x. IfErr x (λ error. error ≢ Write → X)) (sym is) h
 
 -- the writer is as it was
-pub stops_untouched : {W : Type 0} (contents : W → Option (List ℕ)) (rules : RuleNumbers) (from after old : Option (List ℕ)) (v w : W) → w ≡ v
-    → StopsBetweenRows rules from after old (contents v) → StopsBetweenRows rules from after old (contents w)
-stops_untouched contents rules from after old v w same h = subst (λ x. StopsBetweenRows rules from after old (contents x)) (sym same) h
+pub stops_untouched : {W : Type 0} (contents : W → Option (List ℕ)) (terms : Terms) (bits : Option ℕ) (from after old : Option (List ℕ)) (v w : W) → w ≡ v
+    → StopsBetweenRows terms bits from after old (contents v) → StopsBetweenRows terms bits from after old (contents w)
+stops_untouched contents terms bits from after old v w same h = subst (λ x. StopsBetweenRows terms bits from after old (contents x)) (sym same) h
 
 -- what holds in any case holds where there is a success
 pub on_any_ok : {T E P : Type 0} (r : Result T E) → P → OnOk r P
@@ -282,15 +442,20 @@ of_err {P = P} r e is p = subst (λ x. OnErr x P) is p
 abbrev pub RefusesChunk : ToolError → Type 0
 RefusesChunk e = (e ≡ OutOfMemory) ⊎ ((e ≡ Write) ⊎ (e ≡ TooLong))
 
-pub chunk_breaks : (e : ToolError) → RefusesChunk e → MayBreakOff e
+pub chunk_breaks : (e : ToolError) → RefusesChunk e → MayBreakEarly e
 chunk_breaks e (inl m) = inl m
 chunk_breaks e (inr (inl w)) = inr (inr (inl w))
-chunk_breaks e (inr (inr t)) = inr (inr (inr t))
+chunk_breaks e (inr (inr t)) = inr (inr (inr (inl t)))
 
 no_read : (e : ToolError) → RefusesChunk e → e ≢ Read
 no_read e (inl m) p = let bad : OutOfMemory ≡ Read = sym m ∙ p in cc bad
 no_read e (inr (inl w)) p = let bad : Write ≡ Read = sym w ∙ p in cc bad
 no_read e (inr (inr t)) p = let bad : TooLong ≡ Read = sym t ∙ p in cc bad
+
+pub no_gaps_told : (e : ToolError) → RefusesChunk e → e ≢ BadGaps
+no_gaps_told e (inl m) p = let bad : OutOfMemory ≡ BadGaps = sym m ∙ p in cc bad
+no_gaps_told e (inr (inl w)) p = let bad : Write ≡ BadGaps = sym w ∙ p in cc bad
+no_gaps_told e (inr (inr t)) p = let bad : TooLong ≡ BadGaps = sym t ∙ p in cc bad
 
 module _ {T : Type 0} (r : Result T ToolError) (e : ToolError) (same : r ≡ Err e) where
   -- a chunk is not refused for the reader's sake

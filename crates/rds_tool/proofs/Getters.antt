@@ -17,7 +17,7 @@ use Rattle.clap.proofs.WalkLemmas.{find_row, first_value-rows, one_text-rows}
 use Rattle.clap.specs.declared.parser.matches.ValueSource.{ValueSource}
 use Rattle.rds_sync.specs.declared.loss.Loss.{Loss}
 use Rattle.rds_sync.specs.declared.loss.Loss.TheVariants.{Run, Share}
-use Rattle.rds_tool.specs.CommandLine.{FitNoInput, FitNoRules, FitNoSettings, GivesNoRuled, GivesNoRules, GivesNothing, IsAsked, IsFlag, MaySpell, ReadsRecording, Reports, gaps_asked_for, gaps_spelled, is_given, is_of_words, Spells, SpellsLoss}
+use Rattle.rds_tool.specs.CommandLine.{FitNoInput, FitNoRules, FitNoSettings, FitNoStream, GivesNoRuled, GivesNoRules, GivesNothing, IsAsked, IsFlag, MaySpell, Reports, gaps_asked_for, gaps_spelled, is_given, is_of_words, Spells, SpellsLoss}
 use Rattle.rds_tool.specs.GapText.{gaps_of}
 use Rattle.rds_tool.specs.declared.entries.NoJob.{NoJob}
 use Rattle.rds_tool.specs.declared.entries.NoJob.TheVariants.{Entries, Gaps, Loss as BadLoss, Memory}
@@ -163,37 +163,31 @@ no_report name rows reports none (AskedJob (ListJob input settings) progress) h 
 no_report name rows reports none (AskedJob (Totals input settings) progress) h = none input settings h.0.1 h.0.2
 no_report name rows (inl p) none (AskedJob (Scan input workers) progress) h = not_both name (codes "list") (codes "scan") 108 115 p h.0.0 refl refl (omega arith)
 no_report name rows (inl p) none (AskedJob (Encode hex) progress) h = not_both name (codes "list") (codes "encode") 108 101 p h.0.0 refl refl (omega arith)
-no_report name rows (inl p) none (Follow following) h = not_both name (codes "list") (codes "follow") 108 102 p h.0 refl refl (omega arith)
+no_report name rows (inl p) none (Follow stream following) h = not_both name (codes "list") (codes "follow") 108 102 p h.0 refl refl (omega arith)
 no_report name rows (inr p) none (AskedJob (Scan input workers) progress) h = not_both name (codes "totals") (codes "scan") 116 115 p h.0.0 refl refl (omega arith)
 no_report name rows (inr p) none (AskedJob (Encode hex) progress) h = not_both name (codes "totals") (codes "encode") 116 101 p h.0.0 refl refl (omega arith)
-no_report name rows (inr p) none (Follow following) h = not_both name (codes "totals") (codes "follow") 116 102 p h.0 refl refl (omega arith)
+no_report name rows (inr p) none (Follow stream following) h = not_both name (codes "totals") (codes "follow") 116 102 p h.0 refl refl (omega arith)
 
 -- why there is no input with settings is why it asks for nothing
-pub without_ruled : (name : Text) (rows : List Row) (why : NoJob) → Reports name → GivesNoRuled rows why → GivesNothing (Some (name, rows)) why
+pub without_ruled : (name : Text) (rows : List Row) (why : NoJob) → Reports name → GivesNoRuled rows (FitNoInput rows) why → GivesNothing (Some (name, rows)) why
 without_ruled name rows Memory reports none = tt
-without_ruled name rows Gaps reports none = (inr reports, none)
+without_ruled name rows Gaps reports none = (inr (inr reports), none)
 without_ruled name rows BadLoss reports none = ((λ bad. none.0 bad.1), (inr reports, none.1))
 without_ruled name rows Entries reports none =
     ((λ bad. none.0 bad.1), (λ bad. false≢true (sym none.1 ∙ bad.1)), no_report name rows reports none.2)
 
 module _ (name : Text) (rows : List Row) (follows : name ≡ codes "follow") where
-  -- no rules: one that follows a stream asks for nothing
-  no_stream : FitNoRules rows → (asked : Asked) → IsAsked name rows asked → ⊥
-  no_stream none (Follow rules) h = none rules h.1
+  -- no input and rules: one that follows a stream asks for nothing
+  no_stream : FitNoStream rows → (asked : Asked) → IsAsked name rows asked → ⊥
+  no_stream none (Follow input rules) h = none input rules h.1 h.2
   no_stream none (AskedJob (Scan input workers) progress) h = not_both name (codes "follow") (codes "scan") 102 115 follows h.0.0 refl refl (omega arith)
   no_stream none (AskedJob (ListJob input settings) progress) h = not_both name (codes "follow") (codes "list") 102 108 follows h.0.0 refl refl (omega arith)
   no_stream none (AskedJob (Totals input settings) progress) h = not_both name (codes "follow") (codes "totals") 102 116 follows h.0.0 refl refl (omega arith)
   no_stream none (AskedJob (Encode hex) progress) h = not_both name (codes "follow") (codes "encode") 102 101 follows h.0.0 refl refl (omega arith)
 
-  -- it reads no recording
-  no_recording : ReadsRecording name → ⊥
-  no_recording (inl p) = not_both name (codes "follow") (codes "scan") 102 115 follows p refl refl (omega arith)
-  no_recording (inr (inl p)) = not_both name (codes "follow") (codes "list") 102 108 follows p refl refl (omega arith)
-  no_recording (inr (inr p)) = not_both name (codes "follow") (codes "totals") 102 116 follows p refl refl (omega arith)
-
-  -- why there are no rules is why it does so
-  pub without_stream : (why : NoJob) → GivesNoRules rows (FitNoRules rows) why → GivesNothing (Some (name, rows)) why
+  -- why there is no input with rules is why it does so
+  pub without_stream : (why : NoJob) → GivesNoRuled rows (FitNoStream rows) why → GivesNothing (Some (name, rows)) why
   without_stream Memory none = tt
-  without_stream Gaps none = absurd none
-  without_stream BadLoss none = ((λ bad. no_recording bad.0), (inl follows, none))
-  without_stream Entries none = ((λ bad. no_recording bad.0), (λ bad. false≢true (sym none.0 ∙ bad.1)), no_stream none.1)
+  without_stream Gaps none = (inr (inl follows), none)
+  without_stream BadLoss none = ((λ bad. none.0 bad.1), (inl follows, none.1))
+  without_stream Entries none = ((λ bad. none.0 bad.1), (λ bad. false≢true (sym none.1 ∙ bad.1)), no_stream none.2)

@@ -66,9 +66,13 @@ share_rule = record (value_rule (codes "share")) { parser = Some (parser.Signed 
 abbrev pub gaps_rule : Rule
 gaps_rule = value_rule (codes "gaps")
 
+-- the options that say which bits of a recording or a stream mean something
+abbrev pub with_part : App → App
+with_part command = with_rule (with_rule command bits_rule) gaps_rule
+
 -- the options of a command that reads a recording
 abbrev pub with_input : App → App
-with_input command = with_rule (with_rule (with_rule command (flag_rule (codes "hex"))) bits_rule) gaps_rule
+with_input command = with_part (with_rule command (flag_rule (codes "hex")))
 
 -- the rules of a synchroniser
 abbrev pub with_rules : App → App
@@ -90,9 +94,9 @@ scan_app = with_crew (with_input (new_app (codes "scan")))
 abbrev pub ruled_app : Text → App
 ruled_app name = with_settings (with_input (new_app name))
 
--- a stream is all the bits of its bytes, and one thread decodes it as it comes
+-- a stream comes as the bytes themselves, and one thread decodes it as it comes
 abbrev pub follow_app : App
-follow_app = with_rules (new_app (codes "follow"))
+follow_app = with_rules (with_part (new_app (codes "follow")))
 
 abbrev pub encode_app : App
 encode_app = with_rule (new_app (codes "encode")) (flag_rule (codes "hex"))
@@ -190,7 +194,7 @@ IsJob name rows (Encode hex) = (name ≡ codes "encode") × IsFlag (one_of (code
 -- what a command and its entries ask for
 abbrev pub IsAsked : Text → List Row → Asked → Type 0
 IsAsked name rows (AskedJob job progress) = IsJob name rows job × IsFlag (one_of (codes "progress") rows) progress
-IsAsked name rows (Follow rules) = (name ≡ codes "follow") × AreRules rows rules
+IsAsked name rows (Follow input rules) = (name ≡ codes "follow") × IsInput rows input × AreRules rows rules
 
 abbrev pub IsAskedOf : Option (Text × List Row) → Asked → Type 0
 IsAskedOf None asked = ⊥
@@ -202,18 +206,18 @@ IsAskedOf (Some entries) asked = IsAsked entries.0 entries.1 asked
 abbrev pub Reports : Text → Type 0
 Reports name = (name ≡ codes "list") ⊎ (name ≡ codes "totals")
 
--- it reads a recording
-abbrev pub ReadsRecording : Text → Type 0
-ReadsRecording name = (name ≡ codes "scan") ⊎ Reports name
-
 -- it decodes by a synchroniser
 abbrev pub Synchronises : Text → Type 0
 Synchronises name = (name ≡ codes "follow") ⊎ Reports name
 
+-- it reads bits
+abbrev pub ReadsBits : Text → Type 0
+ReadsBits name = (name ≡ codes "scan") ⊎ Synchronises name
+
 -- it does, and its entry for gaps spells none
 abbrev pub HasBadGaps : Option (Text × List Row) → Type 0
 HasBadGaps None = ⊥
-HasBadGaps (Some entries) = ReadsRecording entries.0 × (gaps_asked_for entries.1 ≡ None)
+HasBadGaps (Some entries) = ReadsBits entries.0 × (gaps_asked_for entries.1 ≡ None)
 
 -- the command goes by a rule of loss, of which the words give options that do not go together
 abbrev pub HasBadLoss : Option (Text × List Row) → Type 0
@@ -226,7 +230,7 @@ GivesNoRules rows none_fit no.Loss = mixes_losses rows ≡ true
 GivesNoRules rows none_fit no.Entries = (mixes_losses rows ≡ false) × none_fit
 GivesNoRules rows none_fit other = ⊥
 
--- no rules, no settings, and no input with settings have these entries
+-- no rules, no settings, and no input with settings or with rules have these entries
 abbrev pub FitNoRules : List Row → Type 0
 FitNoRules rows = (rules : RuleNumbers) → AreRules rows rules → ⊥
 
@@ -236,12 +240,15 @@ FitNoSettings rows = (settings : Settings) → AreSettings rows settings → ⊥
 abbrev pub FitNoInput : List Row → Type 0
 FitNoInput rows = (input : Input) (settings : Settings) → IsInput rows input → AreSettings rows settings → ⊥
 
--- nor is there an input with settings; gaps that aren't any come first, and then the rule of loss
-abbrev pub GivesNoRuled : List Row → NoJob → Type 0
-GivesNoRuled rows no.Memory = ⊤
-GivesNoRuled rows no.Gaps = gaps_asked_for rows ≡ None
-GivesNoRuled rows no.Loss = (gaps_asked_for rows ≢ None) × (mixes_losses rows ≡ true)
-GivesNoRuled rows no.Entries = (gaps_asked_for rows ≢ None) × (mixes_losses rows ≡ false) × FitNoInput rows
+abbrev pub FitNoStream : List Row → Type 0
+FitNoStream rows = (input : Input) (rules : RuleNumbers) → IsInput rows input → AreRules rows rules → ⊥
+
+-- nor is there an input that goes with them; gaps that aren't any come first, and then the rule of loss
+abbrev pub GivesNoRuled : List Row → Type 0 → NoJob → Type 0
+GivesNoRuled rows none_fit no.Memory = ⊤
+GivesNoRuled rows none_fit no.Gaps = gaps_asked_for rows ≡ None
+GivesNoRuled rows none_fit no.Loss = (gaps_asked_for rows ≢ None) × (mixes_losses rows ≡ true)
+GivesNoRuled rows none_fit no.Entries = (gaps_asked_for rows ≢ None) × (mixes_losses rows ≡ false) × none_fit
 
 -- nothing that can be asked for has them
 abbrev pub GivesNothing : Option (Text × List Row) → NoJob → Type 0

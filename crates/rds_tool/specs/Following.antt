@@ -1,43 +1,87 @@
 -- Following a stream: the rows that are written as its bytes come, and what stands where it breaks off. This project's rule.
-use Rattle.std.specs.Prelude.{◌++◌, ◌≡◌, ◌≤◌, ◌⊎◌, ℕ, List, Option, length}
+use Rattle.std.specs.Prelude.{◌++◌, ◌≡◌, ◌≤◌, ◌<◌, ◌+◌, ◌*◌, ◌/◌, ◌^◌, ◌⊎◌, ⊤, ℕ, List, None, Ok, Option, Result, Some, length, min}
 use Rattle.std.specs.List.{flat_map}
-use Rattle.std.specs.Io.KnownBytes.{Appends, Consumes}
-use Rattle.rds_live.specs.Live.{complete, signal_of}
-use Rattle.rds_sync.specs.Rules.{RuleNumbers}
+use Rattle.std.specs.Io.KnownBytes.{Appends, Consumes, IsAtEnd}
+use Rattle.rds_live.specs.Live.{Terms, complete, signal_at}
+use Rattle.rds_tool.specs.Input.{and_then, claimed, first_bits}
 use Rattle.rds_tool.specs.Listing.{item_row}
 use Rattle.rds_tool.specs.Outcome.{list_text}
 use Rattle.rds_tool.specs.declared.error.ToolError.{ToolError}
-use Rattle.rds_tool.specs.declared.error.ToolError.TheVariants.{OutOfMemory, Read, TooLong, Write}
+use Rattle.rds_tool.specs.declared.error.ToolError.TheVariants.{BadGaps, BitsPastBytes, OutOfMemory, Read, TooLong, Write}
 
 -- the most bytes that one read gives
 abbrev pub most_read : ℕ
 most_read = 65536
 
--- the rows of the items that are complete once these bytes were heard
-abbrev pub rows_so_far : RuleNumbers → List ℕ → List ℕ
-rows_so_far rules bytes = flat_map item_row (complete rules bytes)
+-- how many bits of a stream of these bytes count: the first ones where so many are claimed, or else all
+abbrev pub counted : Option ℕ → List ℕ → ℕ
+counted None bytes = 8 * length bytes
+counted (Some bits) bytes = min bits (8 * length bytes)
 
--- the listing of a stream of these bytes
-abbrev pub stream_text : RuleNumbers → List ℕ → List ℕ
-stream_text rules bytes = list_text rules (signal_of bytes)
+-- all bits of these bytes count
+abbrev pub AllCount : Option ℕ → List ℕ → Type 0
+AllCount None bytes = ⊤
+AllCount (Some bits) bytes = 8 * length bytes ≤ bits
+
+-- the rows of the items that are complete once these bytes were heard
+abbrev pub rows_so_far : Terms → List ℕ → List ℕ
+rows_so_far terms bytes = flat_map item_row (complete terms bytes)
+
+-- the listing of a stream of these bytes, of which so many bits count
+abbrev pub stream_text : Terms → Option ℕ → List ℕ → List ℕ
+stream_text terms bits bytes = list_text terms.rules (signal_at terms.gaps bytes (counted bits bytes))
+
+-- what a list makes of a recording of these bytes: its text, or the refusal of them
+abbrev pub listed : Terms → Option ℕ → List ℕ → Result (List ℕ) ToolError
+listed terms bits held = and_then (first_bits (claimed bits held) terms.gaps held) (λ recording. Ok (list_text terms.rules recording))
+
+-- ---- where it ends
+
+-- more bits are claimed than a recording may have
+abbrev pub IsLong : Option ℕ → Type 0
+IsLong None = ⊥
+IsLong (Some bits) = 2 ^ 36 < bits
+
+module _ (bits : Option ℕ) (from to : Option (List ℕ)) where
+  -- all was read, or just the bytes of the bits that count
+  abbrev pub IsReadAsFar : Type 0
+  IsReadAsFar = elim bits [
+    | None ↦ IsAtEnd to
+    | Some n ↦ (read : List ℕ) × Consumes from to read × (n ≤ 8 * length read) × (8 * length read < n + 8)
+  ]
+
+  -- all was read, and it has fewer bits than are claimed
+  abbrev pub EndsShort : Type 0
+  EndsShort = elim bits [
+    | None ↦ ⊥
+    | Some n ↦ (read : List ℕ) × Consumes from to read × IsAtEnd to × (8 * length read < n)
+  ]
+
+  -- more bits are claimed than a recording may have, or were read
+  abbrev pub IsTooLong : Type 0
+  IsTooLong = IsLong bits ⊎ ((more : List ℕ) × Consumes from to more × (2 ^ 36 < 8 * length more))
 
 -- why following may break off
 abbrev pub MayBreakOff : ToolError → Type 0
-MayBreakOff e = (e ≡ OutOfMemory) ⊎ ((e ≡ Read) ⊎ ((e ≡ Write) ⊎ (e ≡ TooLong)))
+MayBreakOff e = (e ≡ OutOfMemory) ⊎ ((e ≡ Read) ⊎ ((e ≡ Write) ⊎ ((e ≡ TooLong) ⊎ ((e ≡ BitsPastBytes) ⊎ (e ≡ BadGaps)))))
 
-module _ (rules : RuleNumbers) (from to old new : Option (List ℕ)) where
+-- and why before its last bits
+abbrev pub MayBreakEarly : ToolError → Type 0
+MayBreakEarly e = (e ≡ OutOfMemory) ⊎ ((e ≡ Read) ⊎ ((e ≡ Write) ⊎ ((e ≡ TooLong) ⊎ (e ≡ BadGaps))))
+
+module _ (terms : Terms) (bits : Option ℕ) (from to old new : Option (List ℕ)) where
   -- the rows of all that was read, but for the last read at most, were written: whole rows, each once
   abbrev pub StopsBetweenRows : Type 0
   StopsBetweenRows =
-      (heard : List ℕ) × (last : List ℕ) × (length last ≤ most_read)
+      (heard : List ℕ) × (last : List ℕ) × (length last ≤ most_read) × AllCount bits heard
       × Consumes from to (heard ++ last)
-      × Appends old new (rows_so_far rules heard)
+      × Appends old new (rows_so_far terms heard)
 
-  -- these rows were written, and then a beginning of the listing of all that was read
+  -- these rows were written, and then a beginning of the rest of the listing of all that was read
   abbrev pub StopsInRows : Type 0
   StopsInRows =
-      (heard : List ℕ) × (last : List ℕ) × (length last ≤ most_read)
+      (heard : List ℕ) × (last : List ℕ) × (length last ≤ most_read) × AllCount bits heard
       × Consumes from to (heard ++ last)
       × (written : List ℕ) × (rest : List ℕ)
-      × (stream_text rules (heard ++ last) ≡ rows_so_far rules heard ++ (written ++ rest))
-      × Appends old new (rows_so_far rules heard ++ written)
+      × (stream_text terms bits (heard ++ last) ≡ rows_so_far terms heard ++ (written ++ rest))
+      × Appends old new (rows_so_far terms heard ++ written)

@@ -1,7 +1,7 @@
 //! The commands of the program, their options and their help.
 ghost use Rattle.std.specs.Prelude.{◌≡◌, codes, false};
 ghost use Rattle.clap.specs.Words.{App, new_app, rule_of, with_rule, with_subcommand};
-ghost use Rattle.rds_tool.specs.CommandLine.{Makes, ReadsAs, bare_app, bits_rule, encode_app, flag_rule, follow_app, gaps_rule, number_rule, rds_app, ruled_app, scan_app, share_rule, value_rule, with_crew, with_input, with_rules, with_settings};
+ghost use Rattle.rds_tool.specs.CommandLine.{Makes, ReadsAs, bare_app, bits_rule, encode_app, flag_rule, follow_app, gaps_rule, number_rule, rds_app, ruled_app, scan_app, share_rule, value_rule, with_crew, with_input, with_part, with_rules, with_settings};
 
 use crate::help;
 use clap::{Arg, ArgAction, Command};
@@ -72,7 +72,7 @@ fn follow_command<'a>(alloc: Global) -> Made<'a>
         help::FOLLOW_USAGE,
         help::FOLLOW_AFTER,
     );
-    with_sync_rules(alloc, Ok(command))
+    with_sync_rules(alloc, part_command(alloc, command))
 }
 
 fn totals_command<'a>(alloc: Global) -> Made<'a>
@@ -123,6 +123,13 @@ fn recording_command<'a>(alloc: Global, command: Command<'a>) -> Made<'a>
     ensures { (app : App) → ReadsAs command.entry app → Makes result (with_input app) }
 {
     let command = command.arg(flag_option(alloc, "hex", help::HEX_INPUT))?;
+    part_command(alloc, command)
+}
+
+/// One that reads bits, with the options that say which of them mean something.
+fn part_command<'a>(alloc: Global, command: Command<'a>) -> Made<'a>
+    ensures { (app : App) → ReadsAs command.entry app → Makes result (with_part app) }
+{
     let command = command.arg(bits_option(alloc))?;
     command.arg(gaps_option(alloc))
 }

@@ -5,7 +5,7 @@ ghost use Rattle.rds_sync.specs.declared.loss.Loss.{Loss};
 ghost use Rattle.rds_tool.specs.declared.entries.NoJob.TheVariants.{Memory};
 ghost use Rattle.rds_tool.specs.declared.job.Cuts.{Cuts};
 ghost use Rattle.rds_tool.specs.declared.job.Input.{Input};
-ghost use Rattle.rds_tool.specs.CommandLine.{AreRules, AreSettings, FitNoRules, FitNoSettings, GivesNoRuled, GivesNoRules, GivesNothing, IsAsked, IsAskedOf, IsFlag, IsInput, MaySpell, Spells, SpellsLoss, SpellsPieces, gaps_asked_for, is_given as the_words_give, mixes_losses as the_mixing_of_losses};
+ghost use Rattle.rds_tool.specs.CommandLine.{AreRules, AreSettings, FitNoInput, FitNoRules, FitNoSettings, FitNoStream, GivesNoRuled, GivesNoRules, GivesNothing, IsAsked, IsAskedOf, IsFlag, IsInput, MaySpell, Spells, SpellsLoss, SpellsPieces, gaps_asked_for, is_given as the_words_give, mixes_losses as the_mixing_of_losses};
 
 use crate::gap_text::gaps_of;
 use crate::{Asked, Cuts, Input, Job, Settings};
@@ -66,7 +66,10 @@ fn asked_by(alloc: Global, name: &str, entries: &ArgMatches<'_>) -> Result<Asked
         "encode" => Job::Encode {
             hex: flag_in(entries, "hex"),
         },
-        "follow" => return Ok(Asked::Follow(rules_in(entries)?)),
+        "follow" => {
+            let (input, rules) = stream_in(alloc, entries)?;
+            return Ok(Asked::Follow(input, rules));
+        }
         _ => return Err(NoJob::Entries),
     };
     Ok(Asked::Job {
@@ -79,12 +82,24 @@ fn asked_by(alloc: Global, name: &str, entries: &ArgMatches<'_>) -> Result<Asked
 fn ruled_in(alloc: Global, entries: &ArgMatches<'_>) -> Result<(Input, Settings), NoJob>
     ensures ruled { IfOk result (λ ruled. IsInput (rows_of (found_of entries.now)) ruled.0
         × AreSettings (rows_of (found_of entries.now)) ruled.1) }
-    ensures none { IfErr result (GivesNoRuled (rows_of (found_of entries.now))) }
+    ensures none { IfErr result (GivesNoRuled (rows_of (found_of entries.now)) (FitNoInput (rows_of (found_of entries.now)))) }
 {
     let gaps = gaps_in(alloc, entries)?;
     let settings = settings_in(entries)?;
     let input = input_in(entries, gaps).ok_or(NoJob::Entries)?;
     Ok((input, settings))
+}
+
+/// A stream, in the same order.
+fn stream_in(alloc: Global, entries: &ArgMatches<'_>) -> Result<(Input, RuleNumbers), NoJob>
+    ensures stream { IfOk result (λ stream. IsInput (rows_of (found_of entries.now)) stream.0
+        × AreRules (rows_of (found_of entries.now)) stream.1) }
+    ensures none { IfErr result (GivesNoRuled (rows_of (found_of entries.now)) (FitNoStream (rows_of (found_of entries.now)))) }
+{
+    let gaps = gaps_in(alloc, entries)?;
+    let rules = rules_in(entries)?;
+    let input = input_in(entries, gaps).ok_or(NoJob::Entries)?;
+    Ok((input, rules))
 }
 
 fn input_in(entries: &ArgMatches<'_>, gaps: Vec<(u64, u64)>) -> Option<Input>

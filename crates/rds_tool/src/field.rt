@@ -1,5 +1,5 @@
 //! Fields of a row that are put together on the stack.
-ghost use Rattle.std.specs.Prelude.{◌+◌, ◌++◌, ◌%◌, ◌≡◌, ◌≤◌, ◌<◌, ◌^◌, ◌∷◌, [], length, slice_index};
+ghost use Rattle.std.specs.Prelude.{◌+◌, ◌++◌, ◌%◌, ◌≡◌, ◌≤◌, ◌<◌, ◌^◌, ◌∷◌, [], length, replicate, slice_index};
 ghost use Rattle.hex.specs.Hex.{upper_digits};
 ghost use Rattle.rds_code.specs.Offsets.{name};
 ghost use Rattle.rds_tool.specs.Listing.{block_text, hex_digits, word_text};
@@ -7,6 +7,7 @@ ghost use Rattle.rds_tool.specs.Listing.{block_text, hex_digits, word_text};
 use rds_code::{Offset, Reading};
 use rds_sync::Block;
 use std::marker::Model;
+use std::simd::u64x2;
 
 /// A field of at most sixteen bytes. Clauses see its bytes.
 #[derive(Drop)]
@@ -79,9 +80,7 @@ impl Field {
     {
         let [one, two, three, four] = four_digits(info);
         Field {
-            bytes: [
-                letter, b':', one, two, three, four, 0, 0, 0, 0, 0, 0, 0, 0, 0, 0,
-            ],
+            bytes: at_one_stroke([letter, b':', one, two, three, four, 0, 0]),
             len: 6,
         }
     }
@@ -114,6 +113,16 @@ impl Field {
         self.bytes[self.len] = byte;
         self.len += 1;
     }
+}
+
+/// These bytes and as many zeros behind them, made in a register: bytes that are stored one by one could not be loaded
+/// together until all of them have come to memory.
+fn at_one_stroke(bytes: [u8; 8]) -> [u8; 16]
+    ensures { result ≡ bytes ++ replicate 8 0 }
+{
+    u64x2::from_array([u64::from_le_bytes(bytes), 0])
+        .to_le_bytes()
+        .to_array()
 }
 
 /// The four digits of an information word.

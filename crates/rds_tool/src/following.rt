@@ -1,12 +1,16 @@
 //! From a reader to a writer, as the bytes come.
-ghost use Rattle.std.specs.Prelude.{◌+◌, ◌*◌, ◌++◌, ◌<◌, ◌^◌, ◌≡◌, ◌≢◌, ◌≤◌, ◌⊎◌, ◌↔◌, IfErr, IfOk, IfSome, IsErrOf, List, Ok, OnOk, length, take, ℕ};
-ghost use Rattle.std.specs.Io.KnownBytes.{Appends, Consumes, IsAtEnd, Keeps};
+ghost use Rattle.std.specs.Prelude.{◌+◌, ◌-◌, ◌*◌, ◌/◌, ◌++◌, ◌<◌, ◌^◌, ◌≡◌, ◌≢◌, ◌≤◌, ◌⊎◌, ◌↔◌, IfErr, IfOk, IfSome, IsErrOf, List, None, Ok, OnOk, Option, Some, length, take, ℕ};
+ghost use Rattle.std.specs.Io.KnownBytes.{Consumes, IsAtEnd, Keeps, Appends};
 ghost use Rattle.std.specs.List.{flat_map};
-ghost use Rattle.rds_live.specs.Live.{HasHeard};
+ghost use Rattle.rds_live.specs.Live.{HasHeard, report_at};
+ghost use Rattle.rds_stream.specs.Recording.{AreGaps};
 ghost use Rattle.rds_sync.specs.Advance.{group_item};
-ghost use Rattle.rds_tool.specs.Following.{MayBreakOff, StopsBetweenRows, StopsInRows, rows_so_far, stream_text};
-ghost use Rattle.rds_tool.specs.Listing.{item_row, totals_text};
-ghost use Rattle.rds_tool.specs.Outcome.{WritesPrefix};
+ghost use Rattle.rds_sync.specs.Totals.{totals_of};
+ghost use Rattle.rds_tool.specs.Following.{AllCount, EndsShort, IsLong, IsReadAsFar, IsTooLong, MayBreakEarly, MayBreakOff, StopsBetweenRows, StopsInRows, listed, rows_so_far};
+ghost use Rattle.rds_tool.specs.Input.{claimed};
+ghost use Rattle.rds_tool.specs.Inside.Streams.{IsFollowed, IsNearEnd, IsPlaceOf, IsShortEnough, bits_left as the_bits_left};
+ghost use Rattle.rds_tool.specs.Listing.{item_row, report_text, totals_text};
+ghost use Rattle.rds_tool.specs.Outcome.{Writes, WritesPrefix};
 
 use crate::fields::push_item;
 use crate::listing::totals_rows;
@@ -17,78 +21,190 @@ use rds_live::{Chunk, Live, StreamEnd};
 use rds_sync::{Item, Rules, laws};
 use std::alloc::Global;
 
-/// How many bytes a read asks for.
+/// How many bytes a read asks for at most.
 const CHUNK: usize = 65_536;
+
+/// The most bits that a stream may have.
+const MOST_BITS: u64 = 1 << 36;
 
 /// Follows a stream by these rules, from the reader's next byte to its end, the highest bit of a byte first: after each
 /// read it writes and flushes the rows that are complete, and at the end of input the rest of the listing. What was
 /// written then is, byte by byte, what a list makes of all that was read. That rows are written so is this project's
 /// rule.
 ///
-/// A read that gives less than was asked for is decoded as it is, so no row waits for bits behind it. Of a stream no more
-/// is kept than the last read.
+/// With `bits` the stream ends behind so many, in the middle of a byte too: no byte behind theirs is read. The gaps are
+/// those of [`Input`](crate::Input). A read that gives less than was asked for is decoded as it is, so no row waits for bits
+/// behind it. Of a stream no more is kept than the last read.
 ///
-/// Refusals: `Read` and `Write` where a device failed, `TooLong` past 2^36 bits, and `OutOfMemory`. None takes back what
-/// was written: whole rows of all that was read but the last read, and, where the writer failed, a beginning of what
-/// comes next. Reader and writer have counted fewer than 2^63 failures before.
+/// Refusals: `TooLong` past 2^36 bits, before anything is read where `bits` says so, `BitsPastBytes` where the input ends
+/// before `bits`, `BadGaps`, before anything is read where no recording may have such gaps, and else at the end, `Read` and
+/// `Write` where a device failed, and `OutOfMemory`. None takes back what was written: whole rows of all that was read but the
+/// last read, and, where the writer failed, a beginning of what comes next. Reader and writer have counted fewer than 2^63
+/// failures before.
 pub fn follow<S: Source, K: Sink>(
     alloc: Global,
     reader: &mut S,
     writer: &mut K,
     rules: &Rules,
+    bits: Option<u64>,
+    gaps: &[(u64, u64)],
 ) -> Result<(), ToolError>
     requires reads { S.failed reader.old < 2 ^ 63 }
     requires writes { K.failed writer.old < 2 ^ 63 }
 
-    // The whole input was read, it is not too long, and its listing was written.
-    ensures end { OnOk result (IsAtEnd (S.remaining reader.new)) }
-    ensures ok { OnOk result (IfSome (S.remaining reader.old)
-        (λ held. Appends (K.contents writer.old) (K.contents writer.new) (stream_text rules.now held))) }
-    ensures fits { OnOk result (IfSome (S.remaining reader.old) (λ held. 8 * length held ≤ 2 ^ 36)) }
+    // As much was read as counts, and what a list makes of it was written.
+    ensures end { OnOk result (IsReadAsFar bits (S.remaining reader.old) (S.remaining reader.new)) }
+    ensures ok { OnOk result (IfSome (S.remaining reader.old) (λ held. Writes (K.contents writer.old) (K.contents writer.new)
+        (listed (record { rules = rules.now; gaps = gaps.now }) bits held))) }
 
-    // A refusal for a device's sake comes exactly where it failed, and one for the length only where so much was read.
+    // A refusal for a device's sake comes exactly where it failed, one for the length only where so much was claimed or read,
+    // or so little, and one for the gaps only where the recording has none such.
     ensures read { IsErrOf result ToolError.Read ↔ (S.failed reader.old < S.failed reader.new) }
     ensures write { IsErrOf result ToolError.Write ↔ (K.failed writer.old < K.failed writer.new) }
-    ensures too_long { IsErrOf result ToolError.TooLong → (more : List ℕ)
-        × Consumes (S.remaining reader.old) (S.remaining reader.new) more × (2 ^ 36 < 8 * length more) }
+    ensures too_long { IsErrOf result ToolError.TooLong → IsTooLong bits (S.remaining reader.old) (S.remaining reader.new) }
+    ensures past { IsErrOf result ToolError.BitsPastBytes → EndsShort bits (S.remaining reader.old) (S.remaining reader.new) }
+    ensures bad_gaps { IsErrOf result ToolError.BadGaps → (AreGaps (2 ^ 36) gaps.now → ⊥)
+        ⊎ IfSome (S.remaining reader.old) (λ held. AreGaps (claimed bits held) gaps.now → ⊥) }
     ensures refused { IfErr result MayBreakOff }
 
     // What the writer has after a refusal.
-    ensures between { IfErr result (λ error. error ≢ ToolError.Write → StopsBetweenRows rules.now
+    ensures between { IfErr result (λ error. error ≢ ToolError.Write → StopsBetweenRows (record { rules = rules.now; gaps = gaps.now }) bits
         (S.remaining reader.old) (S.remaining reader.new) (K.contents writer.old) (K.contents writer.new)) }
-    ensures within { IsErrOf result ToolError.Write → StopsInRows rules.now
+    ensures within { IsErrOf result ToolError.Write → StopsInRows (record { rules = rules.now; gaps = gaps.now }) bits
+        (S.remaining reader.old) (S.remaining reader.new) (K.contents writer.old) (K.contents writer.new) }
+{
+    let live = follow_bytes(alloc, reader, writer, rules, gaps, bits)?;
+    let left = bits_left(bits, live.place());
+    let mut last = [0u8; 1];
+    let count = read_last(reader, &mut last, left)?;
+    let rows = rows_of_rest(alloc, &live, &last[..count], left)?;
+    write_flushed(writer, rows.as_slice())
+}
+
+/// Follows the whole bytes of a stream that count, to its end at most.
+fn follow_bytes<'r, S: Source, K: Sink>(
+    alloc: Global,
+    reader: &mut S,
+    writer: &mut K,
+    rules: &'r Rules,
+    gaps: &'r [(u64, u64)],
+    bits: Option<u64>,
+) -> Result<Live<'r>, ToolError>
+    requires reads { S.failed reader.old < 2 ^ 63 }
+    requires writes { K.failed writer.old < 2 ^ 63 }
+    ensures followed { IfOk result (λ live. (heard : List ℕ) × IsFollowed (record { rules = rules.now; gaps = gaps.now }) bits live
+        (S.remaining reader.old) (S.remaining reader.new) (K.contents writer.old) (K.contents writer.new) heard) }
+    ensures near_end { IfOk result (λ live. IsNearEnd bits live.place (S.remaining reader.new)) }
+    ensures claims { OnOk result (IsShortEnough bits) }
+    ensures reads { OnOk result (S.failed reader.new ≡ S.failed reader.old) }
+    ensures writes { OnOk result (K.failed writer.new ≡ K.failed writer.old) }
+    ensures read { IsErrOf result ToolError.Read ↔ (S.failed reader.old < S.failed reader.new) }
+    ensures write { IsErrOf result ToolError.Write ↔ (K.failed writer.old < K.failed writer.new) }
+    ensures too_long { IsErrOf result ToolError.TooLong → IsTooLong bits (S.remaining reader.old) (S.remaining reader.new) }
+    ensures bad_gaps { IsErrOf result ToolError.BadGaps → AreGaps (2 ^ 36) gaps.now → ⊥ }
+    ensures refused { IfErr result MayBreakEarly }
+    ensures between { IfErr result (λ error. error ≢ ToolError.Write → StopsBetweenRows (record { rules = rules.now; gaps = gaps.now }) bits
+        (S.remaining reader.old) (S.remaining reader.new) (K.contents writer.old) (K.contents writer.new)) }
+    ensures within { IsErrOf result ToolError.Write → StopsInRows (record { rules = rules.now; gaps = gaps.now }) bits
         (S.remaining reader.old) (S.remaining reader.new) (K.contents writer.old) (K.contents writer.new) }
 {
     prove!(1 <= rules.reach());
     laws::runs_are_reports();
+    check_claim(bits)?;
+    let mut live = Live::with_gaps(alloc, rules, gaps)?;
     let mut buf = vec![in alloc; 0u8; CHUNK]?;
-    let mut live = Live::new(alloc, rules);
     loop {
-        let count = read_once(reader, buf.as_mut_slice())?;
+        let room = room_before_end(bits, live.place());
+        let count = read_once(reader, buf.as_mut_slice(), room)?;
         if count == 0 {
             break;
         }
         follow_chunk(alloc, writer, &mut live, &buf[..count])?;
     }
-    let rows = rows_of_end(alloc, &live.finish())?;
-    write_flushed(writer, rows.as_slice())
+    Ok(live)
 }
 
-/// One read. Answers how many bytes it gave, none at the end of input alone.
-fn read_once<S: Source>(reader: &mut S, buf: &mut [u8]) -> Result<usize, ToolError>
+/// Refuses more bits than a stream may have.
+fn check_claim(bits: Option<u64>) -> Result<(), ToolError>
+    ensures fits { OnOk result (IsShortEnough bits) }
+    ensures too_long { IfErr result (λ error. (error ≡ ToolError.TooLong) × IsLong bits) }
+{
+    match bits {
+        Some(bits) if bits > MOST_BITS => Err(ToolError::TooLong),
+        _ => Ok(()),
+    }
+}
+
+/// How many bytes the next read may ask for: none where no whole byte is left of the bits that count.
+fn room_before_end(bits: Option<u64>, place: u64) -> usize
+    requires { IsPlaceOf bits place }
+    ensures few { result ≤ 65536 }
+    ensures within { IfSome bits (λ bits. place + 8 * result ≤ bits) }
+    ensures none { result ≡ 0 → IfSome bits (λ bits. bits < place + 8) × (bits ≢ None) }
+{
+    match bits {
+        Some(bits) => ((bits - place) / 8).min(CHUNK as u64) as usize,
+        None => CHUNK,
+    }
+}
+
+/// How many bits are left behind the place, where so many are claimed.
+fn bits_left(bits: Option<u64>, place: u64) -> u64
+    requires { IsPlaceOf bits place }
+    ensures { result ≡ the_bits_left bits place }
+{
+    match bits {
+        Some(bits) => bits - place,
+        None => 0,
+    }
+}
+
+/// One read of so many bytes at most, and none where that is 0. Answers how many bytes it gave.
+fn read_once<S: Source>(reader: &mut S, buf: &mut [u8], room: usize) -> Result<usize, ToolError>
     requires count { S.failed reader.old < 2 ^ 63 }
     requires room { 0 < length buf.old }
-    ensures within { IfOk result (λ count. count ≤ length buf.new) }
+    ensures within { IfOk result (λ count. (count ≤ length buf.new) × (count ≤ room)) }
     ensures taken { IfOk result (λ count. Consumes (S.remaining reader.old) (S.remaining reader.new) (take count buf.new)) }
-    ensures end { IfOk result (λ count. count ≡ 0 → IsAtEnd (S.remaining reader.new)) }
+    ensures end { IfOk result (λ count. count ≡ 0 → (room ≡ 0) ⊎ IsAtEnd (S.remaining reader.new)) }
     ensures kept { IfErr result (λ error. Keeps (S.remaining reader.old) (S.remaining reader.new)) }
     ensures count { OnOk result (S.failed reader.new ≡ S.failed reader.old) }
     ensures failed { IfErr result (λ error. S.failed reader.old < S.failed reader.new) }
     ensures kinds { IfErr result (λ error. error ≡ ToolError.Read) }
 {
-    match reader.read(buf) {
+    let room = room.min(buf.len());
+    if room == 0 {
+        return Ok(0);
+    }
+    match reader.read(&mut buf[..room]) {
         Ok(count) => Ok(count),
         Err(Failed) => Err(ToolError::Read),
+    }
+}
+
+/// Reads the byte of the bits that are left, where there are some. Answers how many bytes it gave, which hold them.
+fn read_last<S: Source>(reader: &mut S, last: &mut [u8], left: u64) -> Result<usize, ToolError>
+    requires count { S.failed reader.old < 2 ^ 63 }
+    requires room { length last.old ≡ 1 }
+    ensures within { IfOk result (λ count. (count ≤ length last.new) × (left ≤ 8 * count) × (8 * count < left + 8)) }
+    ensures few { IfOk result (λ count. count ≤ 1) }
+    ensures taken { IfOk result (λ count. Consumes (S.remaining reader.old) (S.remaining reader.new) (take count last.new)) }
+    ensures still { IfOk result (λ count. left ≡ 0 → S.remaining reader.new ≡ S.remaining reader.old) }
+    ensures kept { IfErr result (λ error. Keeps (S.remaining reader.old) (S.remaining reader.new)) }
+    ensures count { OnOk result (S.failed reader.new ≡ S.failed reader.old) }
+    ensures read { IsErrOf result ToolError.Read ↔ (S.failed reader.old < S.failed reader.new) }
+    ensures past { IsErrOf result ToolError.BitsPastBytes → (0 < left)
+        × (((8 ≤ left) × (S.remaining reader.new ≡ S.remaining reader.old)) ⊎ IsAtEnd (S.remaining reader.new)) }
+    ensures kinds { IfErr result (λ error. (error ≡ ToolError.Read) ⊎ (error ≡ ToolError.BitsPastBytes)) }
+{
+    if left == 0 {
+        return Ok(0);
+    }
+    if left >= 8 {
+        return Err(ToolError::BitsPastBytes);
+    }
+    match read_once(reader, last, 1)? {
+        0 => Err(ToolError::BitsPastBytes),
+        count => Ok(count),
     }
 }
 
@@ -101,9 +217,9 @@ fn follow_chunk<K: Sink>(
 ) -> Result<(), ToolError>
     requires { K.failed writer.old < 2 ^ 63 }
     ensures heard { OnOk result ((before : List ℕ) → HasHeard live.old before → HasHeard live.new (before ++ bytes.now)) }
-    ensures rules { OnOk result (live.new.rules ≡ live.old.rules) }
+    ensures terms { OnOk result (live.new.terms ≡ live.old.terms) }
     ensures rows { OnOk result ((before : List ℕ) → HasHeard live.old before → (rows : List ℕ)
-        × (rows_so_far live.old.rules (before ++ bytes.now) ≡ rows_so_far live.old.rules before ++ rows)
+        × (rows_so_far live.old.terms (before ++ bytes.now) ≡ rows_so_far live.old.terms before ++ rows)
         × Appends (K.contents writer.old) (K.contents writer.new) rows) }
     ensures count { OnOk result (K.failed writer.new ≡ K.failed writer.old) }
     ensures fits { OnOk result (live.old.place + 8 * length bytes.now ≤ 2 ^ 36) }
@@ -112,7 +228,7 @@ fn follow_chunk<K: Sink>(
     ensures kinds { IfErr result (λ error. (error ≡ ToolError.OutOfMemory) ⊎ ((error ≡ ToolError.Write) ⊎ (error ≡ ToolError.TooLong))) }
     ensures untouched { IfErr result (λ error. error ≢ ToolError.Write → writer.new ≡ writer.old) }
     ensures prefix { IsErrOf result ToolError.Write → (before : List ℕ) → HasHeard live.old before → (rows : List ℕ)
-        × (rows_so_far live.old.rules (before ++ bytes.now) ≡ rows_so_far live.old.rules before ++ rows)
+        × (rows_so_far live.old.terms (before ++ bytes.now) ≡ rows_so_far live.old.terms before ++ rows)
         × WritesPrefix (K.contents writer.old) (K.contents writer.new) (Ok rows) }
 {
     let items = live.take(bytes)?;
@@ -130,6 +246,32 @@ fn rows_of_chunk(alloc: Global, items: &Chunk<'_>) -> Result<Vec<u8>, ToolError>
         push_item(&mut rows, &item)?;
     }
     text_of_rows(rows)
+}
+
+/// The rest of a listing: the rows that so many bits of these bytes complete, of the group in progress behind them, if there
+/// is one, and of the totals.
+fn rows_of_rest(
+    alloc: Global,
+    live: &Live<'_>,
+    bytes: &[u8],
+    bits: u64,
+) -> Result<Vec<u8>, ToolError>
+    requires held { bits ≤ 8 * length bytes.now }
+    requires limit { live.now.place + bits ≤ 2 ^ 36 }
+    ensures rows { IfOk result (λ text. (before : List ℕ) → HasHeard live.now before
+        → let items = report_at live.now.terms (before ++ bytes.now) (8 * length before + bits) in
+        report_text items (totals_of items) ≡ rows_so_far live.now.terms before ++ text.items) }
+    ensures gaps { OnOk result (AreGaps (live.now.place + bits) live.now.terms.gaps) }
+    ensures bad_gaps { IsErrOf result ToolError.BadGaps → AreGaps (live.now.place + bits) live.now.terms.gaps → ⊥ }
+    ensures kinds { IfErr result (λ error. (error ≡ ToolError.OutOfMemory) ⊎ (error ≡ ToolError.BadGaps)) }
+{
+    if !live.may_end_after(bits) {
+        return Err(ToolError::BadGaps);
+    }
+    let (items, end) = live.finish_with(bytes, bits)?;
+    let mut text = rows_of_chunk(alloc, &items)?;
+    text.extend_from_slice(rows_of_end(alloc, &end)?.as_slice())?;
+    Ok(text)
 }
 
 /// The last rows of a listing: of the group in progress, if there is one, and of the totals.

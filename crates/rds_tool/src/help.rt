@@ -84,9 +84,9 @@ pub const FOLLOW_USAGE: &str = "rds follow [OPTIONS] < INPUT > OUTPUT";
 
 pub const FOLLOW_AFTER: &str =
     "Reads bytes as they come, and after each read writes the rows that are complete,
-the rows of 'rds list'. The end of the input closes the last group, and the
-totals follow: in all, what 'rds list' writes of the same bytes. Memory doesn't
-grow with the stream.
+the rows of 'rds list'. The end of the input, or of the bits that are asked for,
+closes the last group, and the totals follow: in all, what 'rds list' writes of
+the same bytes. Memory doesn't grow with the stream.
 
 'rds --help' lists the refusals.";
 

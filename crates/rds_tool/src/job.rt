@@ -91,6 +91,7 @@ pub enum Job {
 pub enum Asked {
     /// A job, and whether the program is to tell how far it is. What the job makes doesn't depend on it.
     Job { job: Job, progress: bool },
-    /// To follow a stream by these rules, each in the range that [`Settings`] has for it.
-    Follow(RuleNumbers),
+    /// To follow a stream by these rules, each in the range that [`Settings`] has for it. What comes is the bytes themselves,
+    /// so `hex` is off.
+    Follow(Input, RuleNumbers),
 }

@@ -9,7 +9,7 @@ use crate::fields::{named, push_item, push_total, push_window};
 use crate::rows::{rows_in_room, text_of_rows};
 use rds_code::Offset;
 use rds_stream::Recording;
-use rds_sync::{Items, Rules, Totals};
+use rds_sync::{IndexedItems, Rules, Totals};
 use std::alloc::Global;
 
 /// How many bytes the row of a whole group has, of a recording of a day or so.
@@ -36,10 +36,10 @@ pub struct Heard<'a> {
 }
 
 /// The rows of the items from one number up to another.
-pub fn item_rows(
+pub fn item_rows<'a>(
     alloc: Global,
-    heard: Heard<'_>,
-    items: &Items,
+    heard: Heard<'a>,
+    items: &IndexedItems<'a>,
     from: usize,
     to: usize,
 ) -> Result<Vec<u8>, ToolError>

@@ -9,7 +9,7 @@ use crate::fields::{named, push_item, push_total};
 use crate::line::{LONGEST_ROW, Line};
 use crate::listing::{Heard, item_rows, named_rows};
 use rds_rows::{Rows, RowsError, Sheet};
-use rds_sync::{Items, Report, Totals};
+use rds_sync::{IndexedItems, Report, Totals};
 use std::alloc::Global;
 
 /// How many totals there are.
@@ -20,18 +20,19 @@ const TOTALS: usize = 12;
 pub struct ListingRows<'a> {
     alloc: Global,
     heard: Heard<'a>,
-    items: &'a Items,
+    items: IndexedItems<'a>,
     totals: &'a Totals,
     len: usize,
-    ghost source: { items.now.source ≡ heard.recording.now },
-    ghost rules: { items.now.rules ≡ heard.rules.now },
-    ghost counted: { len ≡ length items.now.list + 12 },
+    ghost source: { items.source ≡ heard.recording.now },
+    ghost rules: { items.rules ≡ heard.rules.now },
+    ghost counted: { len ≡ length items.list + 12 },
 }
 
 impl<'a> ListingRows<'a> {
     ghost use Rattle.rds_tool.specs.Inside.Rows.{listing_of, rows_of_report};
 
-    /// The rows of this report of what was heard. Refuses more rows than can be numbered, as want of memory.
+    /// The rows of this report of what was heard. Takes memory for an index of its items. Refuses more rows than can be
+    /// numbered, as want of memory.
     pub fn new(
         alloc: Global,
         heard: Heard<'a>,
@@ -45,10 +46,11 @@ impl<'a> ListingRows<'a> {
         let Some(len) = report.items.len().checked_add(TOTALS) else {
             return Err(RowsError::OutOfMemory);
         };
+        let items = report.items.indexed(alloc)?;
         Ok(ListingRows {
             alloc,
             heard,
-            items: &report.items,
+            items,
             totals: &report.totals,
             len,
         })
@@ -57,15 +59,15 @@ impl<'a> ListingRows<'a> {
     /// The rows of the items from one number up to another.
     fn fill_items(&self, from: usize, to: usize, sheet: &mut Sheet)
         requires order { from ≤ to }
-        requires inside { to ≤ length self.now.items.now.list }
+        requires inside { to ≤ length self.now.items.list }
         requires room { to - from ≤ left_of sheet.old }
         requires longest { (size_of sheet.old).1 ≡ 168 }
         ensures rows { text_of sheet.new ≡ text_of sheet.old
-            ++ flat_map item_row (take (to - from) (drop from self.now.items.now.list)) }
+            ++ flat_map item_row (take (to - from) (drop from self.now.items.list)) }
         ensures left { left_of sheet.new + (to - from) ≡ left_of sheet.old }
         ensures size { size_of sheet.new ≡ size_of sheet.old }
     {
-        match item_rows(self.alloc, self.heard, self.items, from, to) {
+        match item_rows(self.alloc, self.heard, &self.items, from, to) {
             Ok(text) => sheet.push_all(to - from, text.as_slice()),
             Err(_) => self.fill_joined(from, to, sheet),
         }
@@ -75,11 +77,11 @@ impl<'a> ListingRows<'a> {
     /// asked for here can't be refused.
     fn fill_joined(&self, from: usize, to: usize, sheet: &mut Sheet)
         requires order { from ≤ to }
-        requires inside { to ≤ length self.now.items.now.list }
+        requires inside { to ≤ length self.now.items.list }
         requires room { to - from ≤ left_of sheet.old }
         requires longest { (size_of sheet.old).1 ≡ 168 }
         ensures rows { text_of sheet.new ≡ text_of sheet.old
-            ++ flat_map item_row (take (to - from) (drop from self.now.items.now.list)) }
+            ++ flat_map item_row (take (to - from) (drop from self.now.items.list)) }
         ensures left { left_of sheet.new + (to - from) ≡ left_of sheet.old }
         ensures size { size_of sheet.new ≡ size_of sheet.old }
     {

@@ -4,11 +4,15 @@ ghost use Rattle.std.specs.Prelude.{◌<◌};
 use crate::devices::{Failure, SlowReader, SlowWriter};
 use crate::jobs::ungapped;
 use rds_sync::{RuleNumbers, Rules};
-use rds_tool::{Cuts, FromRead, Job, Loss, Settings, ToWrite, ToolError, follow, transcribe};
+use rds_tool::{
+    Cuts, FromRead, Input, Job, Loss, Settings, ToWrite, ToolError, follow, transcribe,
+};
 use std::alloc::{AllocError, Global};
 use std::sync::Wait;
 use std::test::Fail;
 use std::thread::Threads;
+
+const NO_GAPS: &[(u64, u64)] = &[];
 
 /// The group of four zero words.
 const GROUP: [u8; 13] = [
@@ -95,13 +99,72 @@ fn any_reads_give_the_listing(rt: HostRuntime) -> Result<(), Fail> {
         for step in [1, 5, 31, 70_000usize] {
             let mut reader = SlowReader::new(bytes.as_slice(), step, 0);
             let mut writer = SlowWriter::new(alloc, step, Failure::Never);
-            let answer = follow(alloc, &mut reader, &mut writer, &rules);
+            let answer = follow(alloc, &mut reader, &mut writer, &rules, None, NO_GAPS);
             assert!(rt;
                 answer.is_ok()
                     && writer.held.as_slice() == list.as_slice()
                     && reader.left.is_empty(),
                 "turn {turn}, {step} bytes a read"
             );
+        }
+    }
+    Ok(())
+}
+
+/// The listing of the first so many bits, with these gaps.
+fn listed_part<R: Threads + Wait + Sync>(
+    rt: &R,
+    alloc: Global,
+    bytes: &[u8],
+    bits: u64,
+    gaps: &[(u64, u64)],
+) -> Result<Vec<u8>, Fail> {
+    let input = Input {
+        hex: false,
+        bits: Some(bits),
+        gaps: Vec::from_slice(alloc, gaps)?,
+    };
+    let settings = Settings {
+        burst: 2,
+        reach: 3,
+        loss: Loss::Run(10),
+        workers: 1,
+        cuts: Cuts::Even(1),
+    };
+    let mut writer = ToWrite::new(Vec::new(alloc));
+    transcribe(
+        rt,
+        alloc,
+        &mut FromRead::new(bytes),
+        &mut writer,
+        &Job::List(input, settings),
+    )?;
+    Ok(writer.into_inner())
+}
+
+#[test]
+fn a_part_of_a_stream_is_listed_as_one_of_a_recording(rt: HostRuntime) -> Result<(), Fail> {
+    let alloc = rt.alloc();
+    let rules = Rules::new(alloc, 2, 3, 10)?;
+    let bytes = groups(alloc, 9, 30, 77)?;
+    let whole = (bytes.len() as u64).saturating_mul(8);
+    for left in 0..40u64 {
+        let bits = whole.saturating_sub(left);
+        let from = 8 * (left + 30);
+        let gaps = [(from - 1, from), (from + 8, from + 9), (bits.saturating_sub(3), bits)];
+        for known in [&gaps[..0], &gaps[..1], &gaps[..2], &gaps[..3]] {
+            let list = listed_part(&rt, alloc, bytes.as_slice(), bits, known)?;
+            for step in [1, 7, 70_000usize] {
+                let mut reader = SlowReader::new(bytes.as_slice(), step, 0);
+                let mut writer = SlowWriter::new(alloc, 1_000, Failure::Never);
+                let answer = follow(alloc, &mut reader, &mut writer, &rules, Some(bits), known);
+                assert!(rt;
+                    answer.is_ok()
+                        && writer.held.as_slice() == list.as_slice()
+                        && reader.left.len() as u64 == left / 8,
+                    "{bits} bits, {step} bytes a read"
+                );
+            }
         }
     }
     Ok(())
@@ -126,7 +189,7 @@ fn rows_come_with_the_read_that_completes_them(rt: HostRuntime) -> Result<(), Fa
     for read in 1..28u64 {
         let mut reader = SlowReader::new(bytes.as_slice(), 1, read);
         let mut writer = SlowWriter::new(alloc, 1_000, Failure::Never);
-        let answer = follow(alloc, &mut reader, &mut writer, &rules);
+        let answer = follow(alloc, &mut reader, &mut writer, &rules, None, NO_GAPS);
         let rows = rows_of(alloc, read as usize - 1)?;
         assert!(rt;
             answer == Err(ToolError::Read) && writer.held.as_slice() == rows.as_slice(),
@@ -150,7 +213,7 @@ fn a_failing_write_leaves_a_beginning(rt: HostRuntime) -> Result<(), Fail> {
     for (index, _byte) in list.iter().enumerate() {
         let mut reader = SlowReader::new(bytes.as_slice(), 3, 0);
         let mut writer = SlowWriter::new(alloc, 1, Failure::Refuses(index as u64 + 1));
-        let answer = follow(alloc, &mut reader, &mut writer, &rules);
+        let answer = follow(alloc, &mut reader, &mut writer, &rules, None, NO_GAPS);
         assert!(rt;
             answer == Err(ToolError::Write)
                 && writer.held.len() == index

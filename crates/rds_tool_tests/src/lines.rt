@@ -171,9 +171,21 @@ fn words_may_ask_for_progress(rt: HostRuntime) {
 #[test]
 fn words_of_a_stream_are_its_rules(rt: HostRuntime) {
     for (words, rules) in STREAMS {
-        let wanted = Asked::Follow(rules);
+        let wanted = Asked::Follow(ungapped(rt.alloc(), false, None), rules);
         assert!(rt; asks(rt.alloc(), words, wanted), "{words:?}");
     }
+}
+
+#[test]
+fn words_of_a_stream_are_its_bits_and_gaps(rt: HostRuntime) -> Result<(), Fail> {
+    let input = Input {
+        hex: false,
+        bits: Some(803),
+        gaps: Vec::from_slice(rt.alloc(), &[(1, 2), (5, 9)])?,
+    };
+    let words = ["rds", "follow", "--bits=803", "--gaps", "1-2,5-9"];
+    assert!(rt; asks(rt.alloc(), &words, Asked::Follow(input, USUAL)));
+    Ok(())
 }
 
 const USUAL: RuleNumbers = RuleNumbers {

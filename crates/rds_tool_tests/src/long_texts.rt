@@ -1,4 +1,4 @@
-//! A text longer than a reader or a writer takes at once.
+//! Texts longer than a reader or a writer takes at once, whose rows workers make part by part.
 use crate::devices::{Failure, SlowWriter};
 use crate::jobs::ungapped;
 use rds_tool::{Cuts, FromRead, Job, Loss, Settings, ToolError, transcribe};
@@ -10,8 +10,15 @@ use std::thread::Threads;
 /// The group of four zero words.
 const ZERO_GROUP: [u8; 13] = [0, 0, 0x3F, 0, 0, 0x19, 0x80, 0, 5, 0xA0, 0, 1, 0xB4];
 
-/// How many of them there are.
-const GROUPS: u64 = 2_000;
+/// How many of them there are: the rows of their list are four parts, and those of their scan 26.
+const GROUPS: u64 = 8_000;
+
+/// Their totals.
+const TOTALS: &str =
+    "total,valid,31999,-,-,-,-,-\ntotal,burst1,0,-,-,-,-,-\ntotal,burst2,0,-,-,-,-,-\n\
+    total,burst3,0,-,-,-,-,-\ntotal,burst4,0,-,-,-,-,-\ntotal,burst5,0,-,-,-,-,-\n\
+    total,lost,0,-,-,-,-,-\ntotal,bits,0,-,-,-,-,-\ntotal,groups,8000,-,-,-,-,-\n\
+    total,complete,7999,-,-,-,-,-\ntotal,acquired,1,-,-,-,-,-\ntotal,losses,0,-,-,-,-,-\n";
 
 fn zero_groups(alloc: Global) -> Result<Vec<u8>, AllocError> {
     let mut bytes = Vec::new(alloc);
@@ -21,15 +28,8 @@ fn zero_groups(alloc: Global) -> Result<Vec<u8>, AllocError> {
     Ok(bytes)
 }
 
-/// Their totals.
-const TOTALS: &str =
-    "total,valid,7999,-,-,-,-,-\ntotal,burst1,0,-,-,-,-,-\ntotal,burst2,0,-,-,-,-,-\n\
-    total,burst3,0,-,-,-,-,-\ntotal,burst4,0,-,-,-,-,-\ntotal,burst5,0,-,-,-,-,-\n\
-    total,lost,0,-,-,-,-,-\ntotal,bits,0,-,-,-,-,-\ntotal,groups,2000,-,-,-,-,-\n\
-    total,complete,1999,-,-,-,-,-\ntotal,acquired,1,-,-,-,-,-\ntotal,losses,0,-,-,-,-,-\n";
-
 /// Their list: block 2 of the first acquires, and each group is whole from then on.
-fn rows(alloc: Global) -> Result<String, AllocError> {
+fn list_rows(alloc: Global) -> Result<String, AllocError> {
     let mut rows = String::from_str(
         alloc,
         "acquired,51,2,-,-,-,-,-\ngroup,26,0,A,none,B:0000,C:0000,D:0000\n",
@@ -42,53 +42,145 @@ fn rows(alloc: Global) -> Result<String, AllocError> {
     Ok(rows)
 }
 
-/// A list by one worker, or by several, which make its rows in parts.
-fn list_by(alloc: Global, workers: u32) -> Job {
-    let settings = Settings {
-        burst: 2,
-        reach: 3,
-        loss: Loss::Run(10),
-        workers,
-        cuts: Cuts::Even(16),
-    };
-    Job::List(ungapped(alloc, false, None), settings)
+/// Their scan: the four blocks, a window within the last two, and between two groups one more.
+fn scan_rows(alloc: Global) -> Result<String, AllocError> {
+    let mut rows = String::from_str(alloc, "25,A\n51,B\n77,C\n96,B\n103,D\n")?;
+    for group in 1..GROUPS {
+        for (behind, offset) in [
+            (19u8, "B"),
+            (25, "A"),
+            (51, "B"),
+            (77, "C"),
+            (96, "B"),
+            (103, "D"),
+        ] {
+            let place = 104 * group + u64::from(behind);
+            writeln!(rows, "{place},{offset}")?;
+        }
+    }
+    Ok(rows)
 }
 
-/// How many writes the list of these bytes takes by a writer that takes so many bytes a call, where it is that text.
-fn writes_of<R: Threads + Wait + Sync>(
-    rt: &R,
-    alloc: Global,
-    bytes: &[u8],
-    text: &str,
-    workers: u32,
-    step: usize,
-) -> Result<Option<u64>, ToolError> {
-    let mut reader = FromRead::new(bytes);
-    let mut writer = SlowWriter::new(alloc, step, Failure::Never);
-    let job = list_by(alloc, workers);
-    transcribe(rt, alloc, &mut reader, &mut writer, &job)?;
-    let is_whole = writer.held.as_slice() == text.as_bytes();
-    Ok(is_whole.then_some(writer.writes))
+/// A job by one worker, or by several, which make its rows in parts.
+#[derive(Clone, Copy, Debug)]
+enum Long {
+    List(u32),
+    Scan(u32),
 }
 
-// One that hands on 512 bytes a call, or a row, has all clauses too.
+/// The jobs, each by one worker and by several.
+static JOBS: [Long; 4] = [Long::List(1), Long::List(3), Long::Scan(1), Long::Scan(3)];
+
+impl Long {
+    fn job(self, alloc: Global) -> Job {
+        let input = ungapped(alloc, false, None);
+        match self {
+            Long::Scan(workers) => Job::Scan(input, workers),
+            Long::List(workers) => {
+                let settings = Settings {
+                    burst: 2,
+                    reach: 3,
+                    loss: Loss::Run(10),
+                    workers,
+                    cuts: Cuts::Even(16),
+                };
+                Job::List(input, settings)
+            }
+        }
+    }
+
+    fn text(self, alloc: Global) -> Result<String, AllocError> {
+        match self {
+            Long::List(_) => list_rows(alloc),
+            Long::Scan(_) => scan_rows(alloc),
+        }
+    }
+
+    /// What the job answers to a writer that takes so many bytes a call and fails so, and that writer.
+    fn written<R: Threads + Wait + Sync>(
+        self,
+        rt: &R,
+        alloc: Global,
+        bytes: &[u8],
+        step: usize,
+        failure: Failure,
+    ) -> (Result<(), ToolError>, SlowWriter) {
+        let mut reader = FromRead::new(bytes);
+        let mut writer = SlowWriter::new(alloc, step, failure);
+        let answer = transcribe(rt, alloc, &mut reader, &mut writer, &self.job(alloc));
+        (answer, writer)
+    }
+}
+
+// A write has 64 KiB or more, but for the last. One that hands on 512 bytes a call, or a row, has all clauses too.
 #[test]
-fn a_text_of_80_kilobytes_goes_in_few_writes(rt: HostRuntime) -> Result<(), Fail> {
+fn a_long_text_goes_in_large_writes(rt: HostRuntime) -> Result<(), Fail> {
     let bytes = zero_groups(rt.alloc())?;
-    let text = rows(rt.alloc())?;
-    let (bytes, text) = (bytes.as_slice(), text.as_str());
-    assert!(rt; text.len() > 80_000);
-    for &(workers, step) in &[
-        (1u32, usize::MAX),
-        (4, usize::MAX),
-        (1, 65_536),
-        (4, 65_536),
-    ] {
-        let writes = writes_of(&rt, rt.alloc(), bytes, text, workers, step)?;
-        assert!(rt;
-            matches!(writes, Some(1..=12)),
-            "{writes:?} by {workers}, {step} a call"
+    for long in JOBS.iter() {
+        let text = long.text(rt.alloc())?;
+        let (answer, writer) = long.written(
+            &rt,
+            rt.alloc(),
+            bytes.as_slice(),
+            usize::MAX,
+            Failure::Never,
         );
+        let most = text.len() as u64 / 65_536 + 1;
+        assert!(rt;
+            answer.is_ok() && writer.held.as_slice() == text.as_bytes() && writer.writes <= most,
+            "{long:?}: {} writes",
+            writer.writes
+        );
+    }
+    Ok(())
+}
+
+#[test]
+fn a_writer_may_take_few_bytes_of_a_long_text(rt: HostRuntime) -> Result<(), Fail> {
+    let bytes = zero_groups(rt.alloc())?;
+    for long in JOBS.iter() {
+        let text = long.text(rt.alloc())?;
+        for step in [7usize, 1_000, 65_537] {
+            let (answer, writer) = long.written(
+                &rt,
+                rt.alloc(),
+                bytes.as_slice(),
+                step,
+                Failure::Never,
+            );
+            assert!(rt;
+                answer.is_ok() && writer.held.as_slice() == text.as_bytes(),
+                "{long:?}: {step} bytes a call"
+            );
+        }
+    }
+    Ok(())
+}
+
+// Each write of some 40 in turn, most in the middle of what is written at once, while workers make the parts behind it.
+#[test]
+fn each_failing_write_of_a_long_text_leaves_a_beginning(rt: HostRuntime) -> Result<(), Fail> {
+    let bytes = zero_groups(rt.alloc())?;
+    for long in JOBS.iter() {
+        let text = long.text(rt.alloc())?;
+        for at in 1..30u64 {
+            for failure in [Failure::Refuses(at), Failure::TakesNone(at)] {
+                let (answer, writer) = long.written(
+                    &rt,
+                    rt.alloc(),
+                    bytes.as_slice(),
+                    10_000,
+                    failure,
+                );
+                assert!(rt;
+                    answer == Err(ToolError::Write)
+                        && writer.failures == 1
+                        && writer.writes == at
+                        && text.as_bytes().starts_with(writer.held.as_slice()),
+                    "{long:?}: write {at}"
+                );
+            }
+        }
     }
     Ok(())
 }

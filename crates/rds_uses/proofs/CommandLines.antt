@@ -1,5 +1,5 @@
 -- Command lines as `clap` reads them.
-use Rattle.std.proofs.Common.{◌≡◌, ◌≢◌, ◌⊎◌, ap₂, sym, ℕ, List, [], ◌∷◌, OnOk, IfErr, IsErrAnd, Option, Result, Ok, Err, Some, None, codes, true, false, refl, ap, inl, inr, slice_index, arith}
+use Rattle.std.proofs.Common.{◌≡◌, ◌≢◌, ◌⊎◌, ap₂, sym, ℕ, Bool, List, [], ◌∷◌, OnOk, IfErr, IsErrAnd, Option, Result, Ok, Err, Some, None, codes, true, false, refl, ap, inl, inr, slice_index, arith}
 use Rattle.std.proofs.lemmas.Bool.{leb-true}
 use Rattle.clap.specs.Faults.{defaults_fault, flags_fault, walk_fault}
 use Rattle.clap.specs.Takes.{flags_pass, walk_passes}
@@ -10,7 +10,7 @@ use Rattle.clap.specs.declared.error.kind.ErrorKind.TheVariants as kind
 use Rattle.rds_sync.specs.Rules.{RuleNumbers}
 use Rattle.rds_sync.specs.declared.loss.Loss.{Loss}
 use Rattle.rds_sync.specs.declared.loss.Loss.TheVariants.{Run, Share}
-use Rattle.rds_tool.specs.CommandLine.{AreRules, HasBadGaps, HasBadLoss, IsAskedOf, MayAnswer, Spells, entries_of, faults_of}
+use Rattle.rds_tool.specs.CommandLine.{AreRules, HasBadGaps, HasBadLoss, IsAskedOf, IsInput, MayAnswer, Spells, entries_of, faults_of}
 use Rattle.rds_tool.specs.declared.cli.FaultKind.{FaultKind}
 use Rattle.rds_tool.specs.declared.cli.FaultKind.TheVariants.{Help, Memory, Version, Words}
 use Rattle.rds_tool.specs.declared.job.Input.{Input}
@@ -38,7 +38,7 @@ is_scan (asked.Job (job.Scan input workers) progress) is =
 is_scan (asked.Job (job.List input settings) progress) is = absurd (other_name (codes "scan") (codes "list") is.0.0 (omega arith))
 is_scan (asked.Job (job.Totals input settings) progress) is = absurd (other_name (codes "scan") (codes "totals") is.0.0 (omega arith))
 is_scan (asked.Job (job.Encode hex) progress) is = absurd (other_name (codes "scan") (codes "encode") is.0.0 (omega arith))
-is_scan (asked.Follow rules) is = absurd (other_name (codes "scan") (codes "follow") is.0 (omega arith))
+is_scan (asked.Follow input rules) is = absurd (other_name (codes "scan") (codes "follow") is.0 (omega arith))
 
 abbrev first_digit : Option Text → ℕ
 first_digit None = 0
@@ -82,7 +82,7 @@ has_the_gap (asked.Job (job.Scan input workers) progress) is = (
 has_the_gap (asked.Job (job.List input settings) progress) is = absurd (other_name (codes "scan") (codes "list") is.0.0 (omega arith))
 has_the_gap (asked.Job (job.Totals input settings) progress) is = absurd (other_name (codes "scan") (codes "totals") is.0.0 (omega arith))
 has_the_gap (asked.Job (job.Encode hex) progress) is = absurd (other_name (codes "scan") (codes "encode") is.0.0 (omega arith))
-has_the_gap (asked.Follow rules) is = absurd (other_name (codes "scan") (codes "follow") is.0 (omega arith))
+has_the_gap (asked.Follow input rules) is = absurd (other_name (codes "scan") (codes "follow") is.0 (omega arith))
 
 abbrev pub scan_with_bad_gaps : List Text
 scan_with_bad_gaps = codes "rds" ∷ codes "scan" ∷ codes "--gaps" ∷ codes "5" ∷ []
@@ -135,9 +135,22 @@ the_rules burst reach (Share bad of) are =
     let of_is = loss_is.1.2 in
     rw (burst_is.2, reach_is.2, bad_is, of_is) refl
 
-pub has_the_share : (given : Asked) → IsAskedOf (entries_of follow_by_a_share) given → given ≡ asked.Follow by_share
+abbrev all_of_it : Input
+all_of_it = record { hex = false; bits = None; gaps = [] }
+
+the_input : (hex : Bool) (bits : Option ℕ) (gaps : List (ℕ × ℕ)) → IsInput rows_of_share (record { hex = hex; bits = bits; gaps = gaps })
+    → let input : Input = record { hex = hex; bits = bits; gaps = gaps } in input ≡ all_of_it
 unfolding walked
-has_the_share (asked.Follow rules) is = ap asked.Follow (the_rules rules.burst rules.reach rules.loss is.1)
+the_input hex (Some n) gaps are = absurd are.bits
+the_input hex None gaps are =
+    let flag = are.hex in
+    let told : (let none : List (ℕ × ℕ) = [] in Some none) ≡ Some gaps = are.gaps in
+    let same : [] ≡ gaps = cc in
+    rw (flag.0 refl, sym same) refl
+
+pub has_the_share : (given : Asked) → IsAskedOf (entries_of follow_by_a_share) given → given ≡ asked.Follow all_of_it by_share
+unfolding walked
+has_the_share (asked.Follow input rules) is = ap₂ asked.Follow (the_input input.hex input.bits input.gaps is.1) (the_rules rules.burst rules.reach rules.loss is.2)
 has_the_share (asked.Job (job.Scan input workers) progress) is = absurd (other_name (codes "follow") (codes "scan") is.0.0 (omega arith))
 has_the_share (asked.Job (job.List input settings) progress) is = absurd (other_name (codes "follow") (codes "list") is.0.0 (omega arith))
 has_the_share (asked.Job (job.Totals input settings) progress) is = absurd (other_name (codes "follow") (codes "totals") is.0.0 (omega arith))

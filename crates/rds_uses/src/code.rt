@@ -1,5 +1,5 @@
 //! What a user of `rds_code` relies on: remainders, offsets, bursts, and blocks as they are sent and read.
-ghost use Rattle.std.specs.Prelude.{◌≡◌, ◌≢◌, ℕ, ◌+◌, ◌<◌, ◌≤◌, ◌^◌, ◌↔◌, ◌∷◌, [], IsTrue, IfSome, None, Some, Contains, bit_xor, codes, slice_index, true};
+ghost use Rattle.std.specs.Prelude.{◌≡◌, ◌≢◌, ℕ, ◌+◌, ◌<◌, ◌≤◌, ◌^◌, ◌↔◌, ◌∷◌, [], IsTrue, IfOk, IfSome, None, Some, Contains, bit_xor, codes, slice_index, true};
 ghost use Rattle.std.specs.Int.Count.{ones};
 ghost use Rattle.rds_code.specs.declared.offset.Offset.{Offset as AnOffset};
 ghost use Rattle.rds_code.specs.declared.offset.Offset.TheVariants.{A, B, C, Cx, D};
@@ -13,9 +13,10 @@ ghost use Rattle.rds_code.specs.Encoding.{IsBlockOf, third_offset};
 ghost use Rattle.rds_code.specs.Correction.{ReadsAsSent, version_burst};
 
 use rds_code::{
-    Burst, BurstTable, Offset, Reading, Wanted, encode_block, encode_group, is_block, laws,
-    offset_of, plain, read_block, rem26,
+    Burst, BurstTable, CodeError, Kinds, Offset, Reading, Wanted, encode_block, encode_group,
+    is_block, laws, offset_of, plain, read_block, rem26,
 };
+use std::alloc::Global;
 
 // ---- remainders
 
@@ -185,6 +186,29 @@ pub fn is_the_block(w: u32, info: u16, offset: Offset) -> bool
 {
     laws::blocks_are_read_as_sent();
     encode_block(info, offset) == w
+}
+
+/// A block that is sent comes out valid, whatever else may be corrected.
+pub fn sent_and_told(kinds: &Kinds, info: u16, offset: Offset, wanted: Wanted) -> u8
+    ensures { result ≡ 1 }
+{
+    laws::blocks_are_read_as_sent();
+    let sent = encode_block(info, offset);
+    kinds.of_block(sent, offset.number(), wanted)
+}
+
+/// Kinds are by the limit that they were made for.
+pub fn kinds_of_two(alloc: Global, table: &BurstTable) -> Result<Kinds, CodeError>
+    ensures { IfOk result (λ kinds. kinds ≡ 2) }
+{
+    Kinds::new(alloc, table, 2)
+}
+
+/// Each burst has one of eleven kinds.
+pub fn kind_from_0(burst: Burst) -> u8
+    ensures { result < 11 }
+{
+    burst.kind() - 3
 }
 
 /// A block that is sent and read, whatever else may be corrected.

@@ -1,5 +1,5 @@
 //! What the program relies on when it reads its command line.
-ghost use Rattle.std.specs.Prelude.{◌≡◌, ◌⊎◌, ◌++◌, ◌∷◌, [], IfErr, IfOk, OnOk, codes, false, string_bytes, true};
+ghost use Rattle.std.specs.Prelude.{◌≡◌, ◌⊎◌, ◌++◌, ◌∷◌, [], IfErr, IfOk, None, OnOk, codes, false, string_bytes, true};
 ghost use Rattle.rds_sync.specs.declared.loss.Loss.TheVariants.{Share};
 ghost use Rattle.rds_tool.specs.declared.job.Input.{Input as AnInput};
 ghost use Rattle.rds_tool.specs.declared.job.Job.TheVariants as AJob;
@@ -56,9 +56,10 @@ pub fn list_by_two_losses(alloc: Global) -> Result<Asked, CliFault>
     asked_of(alloc, LIST_BY_TWO_LOSSES.as_slice())
 }
 
-/// `rds follow --of 3 --share 2` asks for a stream to be followed that loses a lock by this share.
+/// `rds follow --of 3 --share 2` asks for a stream to be followed, to its end and without gaps, that loses a lock by this share.
 pub fn follow_by_a_share(alloc: Global) -> Result<Asked, CliFault>
-    ensures { IfOk result (λ asked. asked ≡ Asked.Follow (record { burst = 2; reach = 3; loss = Share 2 3 })) }
+    ensures { IfOk result (λ asked. asked ≡ Asked.Follow (record { hex = false; bits = None; gaps = [] })
+        (record { burst = 2; reach = 3; loss = Share 2 3 })) }
 {
     asked_of(alloc, FOLLOW_BY_A_SHARE.as_slice())
 }

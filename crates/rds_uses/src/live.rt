@@ -1,10 +1,9 @@
 //! What a user gets of the decoder of a stream, and of following one from a reader to a writer.
 ghost use Rattle.std.specs.Prelude.{◌≡◌, ◌++◌, [], List, ℕ, IfOk};
 ghost use Rattle.rds_sync.specs.Advance.{group_item};
-ghost use Rattle.rds_sync.specs.Report.{report_items};
 ghost use Rattle.rds_sync.specs.Totals.{totals_of};
-ghost use Rattle.rds_live.specs.Live.{HasHeard, live_of, signal_of};
-ghost use Rattle.rds_tool.specs.Listing.{report_text};
+ghost use Rattle.rds_live.specs.Live.{HasHeard, by_rules, live_of, report_of, signal_of};
+ghost use Rattle.rds_tool.specs.Outcome.{list_text};
 
 use rds_live::{Chunk, Live, StreamEnd};
 use rds_stream::StreamError;
@@ -20,9 +19,9 @@ pub fn in_halves<'r>(
     second: &[u8],
 ) -> Result<(Chunk<'r>, Chunk<'r>, StreamEnd), StreamError>
     ensures items { IfOk result (λ r. r.0 ++ r.1 ++ group_item r.2.group
-        ≡ report_items (signal_of (first.now ++ second.now)) rules.now) }
+        ≡ report_of (by_rules rules.now) (first.now ++ second.now)) }
     ensures totals { IfOk result (λ r. r.2.totals
-        ≡ totals_of (report_items (signal_of (first.now ++ second.now)) rules.now)) }
+        ≡ totals_of (report_of (by_rules rules.now) (first.now ++ second.now))) }
 {
     let mut live = Live::new(alloc, rules);
     let one = live.take(first)?;
@@ -36,7 +35,7 @@ pub fn one_by_one<'r>(
     rules: &'r Rules,
     bytes: &[u8],
 ) -> Result<Live<'r>, StreamError>
-    ensures { IfOk result (λ live. live ≡ live_of rules.now bytes.now) }
+    ensures { IfOk result (λ live. live ≡ live_of (by_rules rules.now) bytes.now) }
 {
     let mut live = Live::new(alloc, rules);
     for byte in bytes {
@@ -47,7 +46,7 @@ pub fn one_by_one<'r>(
 
 /// Two decoders that were fed the same, however it was cut, are in one state.
 pub fn states<'r>(one: &Live<'r>, other: &Live<'r>) -> (State, State)
-    requires { (bytes : List ℕ) × (one.now ≡ live_of one.now.rules bytes) × (other.now ≡ live_of one.now.rules bytes) }
+    requires { (bytes : List ℕ) × (one.now ≡ live_of one.now.terms bytes) × (other.now ≡ live_of one.now.terms bytes) }
     ensures { result.0 ≡ result.1 }
 {
     (one.state(), other.state())
@@ -55,10 +54,16 @@ pub fn states<'r>(one: &Live<'r>, other: &Live<'r>) -> (State, State)
 
 /// A stream that was followed from memory to memory: what was written is the listing of its bytes.
 pub fn followed(alloc: Global, rules: &Rules, bytes: &[u8]) -> Result<Vec<u8>, ToolError>
-    ensures { IfOk result (λ text. let items = report_items (signal_of bytes.now) rules.now in
-        text.items ≡ report_text items (totals_of items)) }
+    ensures { IfOk result (λ text. text.items ≡ list_text rules.now (signal_of [] bytes.now)) }
 {
     let mut writer = ToWrite::new(Vec::new(alloc));
-    follow(alloc, &mut FromRead::new(bytes), &mut writer, rules)?;
+    follow(
+        alloc,
+        &mut FromRead::new(bytes),
+        &mut writer,
+        rules,
+        None,
+        &[],
+    )?;
     Ok(writer.into_inner())
 }

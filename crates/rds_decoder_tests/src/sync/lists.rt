@@ -20,6 +20,25 @@ fn listed(alloc: Global, sample: &Sample) -> Result<Items, SyncError>
     Ok(decode_plain(alloc, &sample.recording, &sample.rules)?.items)
 }
 
+/// Whether the index of a list gives the items in that range.
+fn is_indexed_range(
+    alloc: Global,
+    sample: &Sample,
+    list: &Items,
+    from: usize,
+    to: usize,
+) -> Result<bool, SyncError>
+    requires source { list.now.source ≡ sample.now.recording }
+    requires rules { list.now.rules ≡ sample.now.rules }
+{
+    let indexed = list.indexed(alloc)?;
+    if to < from || indexed.len().min(sample.items.len()) < to {
+        return Ok(false);
+    }
+    let range = indexed.range(&sample.recording, &sample.rules, from, to);
+    Ok(range.eq(sample.items[from..to].iter().copied()))
+}
+
 /// Whether the items in that range are those of the sample.
 fn is_range(sample: &Sample, list: &Items, from: usize, to: usize) -> bool
     requires source { list.now.source ≡ sample.now.recording }
@@ -88,36 +107,36 @@ fn a_list_gives_any_of_its_items(rt: HostRuntime) -> Result<(), Fail> {
 }
 
 /// Items of which a span begins with one, or one near it.
-const NEAR_SPANS: [usize; 9] = [0, 1, 1_023, 1_024, 1_025, 1_026, 2_047, 2_048, 2_050];
+const NEAR_SPANS: [usize; 12] = [
+    0, 1, 255, 256, 257, 512, 514, 3_841, 4_095, 4_096, 4_112, 4_113,
+];
 
-/// Whether a report of more than two thousand items gives those from there on.
+/// Whether a report of more items than sixteen spans hold gives those from there on, by its index too.
 fn is_long_list(alloc: Global, sample: &Sample) -> Result<bool, SyncError> {
     let list = listed(alloc, sample)?;
     for from in NEAR_SPANS {
-        for more in [0, 1, 2, 1_030] {
-            if !is_range(
-                sample,
-                &list,
-                from,
-                from.saturating_add(more).min(list.len()),
-            ) {
+        for more in [0, 1, 2, 260] {
+            let to = from.saturating_add(more).min(list.len());
+            if !is_range(sample, &list, from, to)
+                || !is_indexed_range(alloc, sample, &list, from, to)?
+            {
                 return Ok(false);
             }
         }
     }
-    Ok(list.len() > 2_500 && is_range(sample, &list, 0, list.len()))
+    Ok(list.len() > 4_500 && is_range(sample, &list, 0, list.len()))
 }
 
 fn is_long_list_of_all_kinds(alloc: Global) -> Result<bool, Fail> {
     let answer = {
-        let sample = Sample::of(alloc, Signal::OfAllKinds(23, 3_000))?;
+        let sample = Sample::of(alloc, Signal::OfAllKinds(23, 5_000))?;
         is_long_list(alloc, &sample)
     };
     Ok(answer?)
 }
 
 #[test]
-fn a_list_of_several_spans_gives_the_items_at_their_ends(rt: HostRuntime) -> Result<(), Fail> {
+fn a_list_of_many_spans_gives_the_items_at_their_ends(rt: HostRuntime) -> Result<(), Fail> {
     assert!(rt; is_long_list_of_all_kinds(rt.alloc())?);
     Ok(())
 }

@@ -1,19 +1,18 @@
 -- The marks of runs: from their bits, and the same from what is kept of their items.
-use Rattle.std.specs.Prelude.{◌≡◌, ◌-◌, ℕ, List, [], ◌∷◌, suc, refl, true, false}
+use Rattle.std.specs.Prelude.{◌≡◌, ℕ, List, [], ◌∷◌, refl, true, false}
 use Rattle.std.specs.Int.Count.{count_leading_zeros, ones, count_trailing_zeros}
 use Rattle.rds_code.specs.Remainder.{rem}
-use Rattle.rds_stream.specs.Recording.{Signal, bits_of, ungapped, window, touched, heard, off}
+use Rattle.rds_stream.specs.Recording.{bits_of, ungapped, window, touched, heard, off}
 use Rattle.rds_sync.specs.declared.state.State.{State}
 use Rattle.rds_sync.specs.declared.state.State.TheVariants.{Searching, Locked}
-use Rattle.rds_sync.specs.declared.loss.Loss.{Loss}
 use Rattle.rds_sync.specs.declared.loss.Loss.TheVariants.{Run, Share}
 use Rattle.rds_sync.specs.declared.loss.Bad.TheVariants.{Run as InARow, Mask}
 use Rattle.rds_sync.specs.declared.mark.Mark.{Mark}
 use Rattle.rds_sync.specs.Acquiring.{acquired, has_number}
 use Rattle.rds_sync.specs.Groups.{group}
-use Rattle.rds_sync.specs.Codes.{unread, good, unclear, mended, Code, blocks, ended, kept_of}
+use Rattle.rds_sync.specs.Codes.{unread, good, unclear, mended, blocks, ended, kept_of}
 use Rattle.rds_sync.specs.Codes.{locked as lock_by}
-use Rattle.rds_sync.specs.Marks.{marks_on, marks_from, Spot, after_code, goes_on, counted_over}
+use Rattle.rds_sync.specs.Marks.{marks_on, marks_from, after_code, goes_on, counted_over}
 use Rattle.rds_sync.specs.Examples.Words.{zero_group, default_rules, rules_of, rules_with_share, locked}
 use Rattle.rds_sync.specs.Examples.DamagedBlocks.{block_4_lost, corrected_is_bad_items, one_bit_whole, span_6}
 use Rattle.rds_sync.specs.Examples.LostAndFound.{bytes as one_bad, items as items_of_loss}

@@ -1,5 +1,5 @@
 -- What is still to come of a run over the zero group, and its items with what they are items of.
-use Rattle.std.specs.Prelude.{◌≡◌, ◌==◌, ℕ, List, [], ◌∷◌, Bool, true, false, Some, None, refl}
+use Rattle.std.specs.Prelude.{◌≡◌, ◌==◌, List, [], ◌∷◌, Bool, true, false, Some, None, refl}
 use Rattle.std.proofs.Common.{ap, sym}
 use Rattle.std.proofs.lemmas.Bool.{false≢true}
 use Rattle.rds_code.specs.Remainder.{rem}

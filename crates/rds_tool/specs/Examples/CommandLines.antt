@@ -39,11 +39,11 @@ pub list : asked_by (codes "rds" ∷ codes "list" ∷ [])
 unfolding walked
 list = refl
 
--- a stream has no digits, no number of bits, no pieces and no workers
-pub follow : asked_by (codes "rds" ∷ codes "follow" ∷ codes "--of" ∷ codes "10" ∷ codes "--share=9" ∷ [])
+-- a stream has no digits, no pieces and no workers
+pub follow : asked_by (codes "rds" ∷ codes "follow" ∷ codes "--of" ∷ codes "10" ∷ codes "--share=9" ∷ codes "--bits=803" ∷ [])
     ≡ Some (
       codes "follow",
-      None ∷ None ∷ Some (codes "2") ∷ Some (codes "3") ∷ Some (codes "10")
+      None ∷ Some (codes "803") ∷ Some (codes "2") ∷ Some (codes "3") ∷ Some (codes "10")
           ∷ Some (codes "9") ∷ Some (codes "10") ∷ None ∷ None ∷ None ∷ [],
     )
 unfolding walked

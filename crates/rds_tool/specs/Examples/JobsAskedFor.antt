@@ -114,7 +114,7 @@ nothing_by_both (AskedJob (Scan input workers) progress) is = false≢true (sym 
 nothing_by_both (AskedJob (ListJob input settings) progress) is = let by = is.0.2 in false≢true (sym by.rules.one_rule)
 nothing_by_both (AskedJob (Totals input settings) progress) is = false≢true (sym (ap begins_with_l is.0.0))
 nothing_by_both (AskedJob (Encode hex) progress) is = false≢true (sym (ap begins_with_l is.0.0))
-nothing_by_both (Follow rules) is = false≢true (sym (ap begins_with_l is.0))
+nothing_by_both (Follow input rules) is = false≢true (sym (ap begins_with_l is.0))
 
 -- ---- jobs
 
@@ -181,9 +181,9 @@ encode = ((refl, flag), not_told)
 abbrev pub default_rules : RuleNumbers
 default_rules = record { burst = 2; reach = 3; loss = Run 10 }
 
-pub follow : IsAskedOf (entries_of (codes "rds" ∷ codes "follow" ∷ [])) (Follow default_rules)
+pub follow : IsAskedOf (entries_of (codes "rds" ∷ codes "follow" ∷ [])) (Follow raw_input default_rules)
 unfolding walked
-follow = (refl, record { one_rule = refl; burst = two; reach = three; loss = (refl, ten) })
+follow = (refl, record { hex = not_told; bits = refl; gaps = refl }, record { one_rule = refl; burst = two; reach = three; loss = (refl, ten) })
 
 -- ---- gaps that are none
 
@@ -215,7 +215,7 @@ nothing_by_bad_gaps (AskedJob (Scan input workers) progress) is = let input_is =
 nothing_by_bad_gaps (AskedJob (ListJob input settings) progress) is = let input_is = is.0.1 in false≢true (ap is_some input_is.gaps)
 nothing_by_bad_gaps (AskedJob (Totals input settings) progress) is = let input_is = is.0.1 in false≢true (ap is_some input_is.gaps)
 nothing_by_bad_gaps (AskedJob (Encode hex) progress) is = false≢true (ap begins_with_e is.0.0)
-nothing_by_bad_gaps (Follow rules) is = false≢true (ap begins_with_f is.0)
+nothing_by_bad_gaps (Follow input rules) is = false≢true (ap begins_with_f is.0)
 
 -- ---- answers that are no job
 

@@ -14,7 +14,7 @@ rows_of_report items totals = map item_row items ++ map total_row (named_totals 
 
 -- what a list of them spells
 abbrev pub listing_of : ListingRows → List (List ℕ)
-listing_of rows = rows_of_report rows.items.now.list rows.totals.now
+listing_of rows = rows_of_report rows.items.list rows.totals.now
 
 -- the row of a window, where there is one
 abbrev pub row_where : Option (ℕ × Offset) → List ℕ

@@ -1,14 +1,16 @@
-use Rattle.std.proofs.Common.{◌≡◌, ◌-◌, ◌*◌, ◌/◌, ◌≤◌, ◌⊎◌, ℕ, List, length, min, inl, inr, ap, sym, subst, ◌∙◌, arith}
+use Rattle.std.proofs.Common.{◌≡◌, ◌-◌, ◌*◌, ◌/◌, ◌^◌, ◌≤◌, ◌⊎◌, ℕ, List, length, min, inl, inr, ap, ap₂, sym, subst, ◌∙◌, arith}
 use Rattle.std.proofs.lemmas.Bool.{cases_lt}
 use Rattle.std.proofs.lemmas.List.{length-drop}
-use Rattle.rds_stream.specs.Recording.{Signal, bits_of, length_of, ungapped}
+use Rattle.rds_stream.specs.Recording.{AreGaps, Signal, bits_of, length_of}
 use Rattle.rds_sync.specs.declared.state.State.{State}
 use Rattle.rds_sync.specs.Lawful.{IsLawful}
 use Rattle.rds_sync.specs.Rules.{RuleNumbers}
 use Rattle.rds_sync.specs.Step.{items_of_end}
 use Rattle.rds_live.specs.Moving.{IsPartHeard, moved_state}
+use Rattle.rds_live.specs.Gaps.{gaps_within}
 use Rattle.rds_live.specs.Live.{last_bytes, signal_of, most_kept}
-use Rattle.rds_live.proofs.Parts.{length-signal, part-heard, end-part}
+use Rattle.rds_live.proofs.GapParts.{part-touched}
+use Rattle.rds_live.proofs.Parts.{length-signal, bits-heard, end-part}
 use Rattle.rds_live.proofs.Following.{lawful-back}
 use Rattle.rds_live.proofs.live.group_at_end.Goals as goal
 
@@ -23,36 +25,46 @@ module _ (tail : List ℕ) (place from : ℕ) (kept : length tail ≡ min 30 (pl
   state-in-part : (rules : RuleNumbers) (local state : State) → moved_state (place - from) local ≡ state → IsLawful rules place state → IsLawful rules from local
   state-in-part rules local state is lawful = lawful-back rules (place - from) from place local state is lawful (omega (arith, whole, kept, from_is)) early-or-long
 
-  heard-in-part : (bytes : List ℕ) (part : Signal) → part ≡ signal_of tail → tail ≡ last_bytes bytes → place ≡ 8 * length bytes → IsPartHeard (signal_of bytes) part (place - from) (length_of part)
-  heard-in-part bytes part part_is tail_is place_is =
+  heard-in-part : (gaps near : List (ℕ × ℕ)) (bytes : List ℕ) (part : Signal) → AreGaps (2 ^ 36) gaps → near ≡ gaps_within gaps (place - 8 * length tail) (8 * length tail)
+      → part ≡ signal_of near tail → tail ≡ last_bytes bytes → place ≡ 8 * length bytes → IsPartHeard (signal_of gaps bytes) part (place - from) (length_of part)
+  heard-in-part gaps near bytes part are near_is part_is tail_is place_is =
       let k : ℕ = length bytes - most_kept in
-      let long : length_of part ≡ from = ap (λ (b : Signal). length_of b) part_is ∙ length-signal tail ∙ sym from_is in
+      let n : ℕ = 8 * length (last_bytes bytes) in
+      let long : length_of part ≡ from = ap (λ (b : Signal). length_of b) part_is ∙ length-signal near tail ∙ sym from_is in
       let count : length tail ≡ length bytes - k = ap (λ (xs : List ℕ). length xs) tail_is ∙ length-drop k bytes in
       let cut : 8 * k ≡ place - from = omega (arith, count, place_is, from_is) in
-      let early : (8 * k ≡ 0) ⊎ (233 ≤ from) = subst (λ (n : ℕ). (n ≡ 0) ⊎ (233 ≤ from)) (sym cut) early-or-long in
-      let heard : IsPartHeard (signal_of bytes) (signal_of (last_bytes bytes)) (8 * k) from = part-heard bytes (last_bytes bytes) k (end-part bytes) from early in
-      subst (λ (n : ℕ). IsPartHeard (signal_of bytes) part (place - from) n) (sym long)
-      (subst (λ (b : Signal). IsPartHeard (signal_of bytes) b (place - from) from) (sym (part_is ∙ ap signal_of tail_is))
-      (subst (λ (d : ℕ). IsPartHeard (signal_of bytes) (signal_of (last_bytes bytes)) d from) cut heard))
+      let early : (8 * k ≡ 0) ⊎ (233 ≤ from) = subst (λ (d : ℕ). (d ≡ 0) ⊎ (233 ≤ from)) (sym cut) early-or-long in
+      let heard : IsPartHeard (signal_of gaps bytes) (signal_of (gaps_within gaps (8 * k) n) (last_bytes bytes)) (8 * k) from =
+      bits-heard bytes (last_bytes bytes) k (end-part bytes) n (8 * length bytes) (omega arith) (omega (arith, length-drop k bytes))
+      gaps (gaps_within gaps (8 * k) n) (part-touched (2 ^ 36) (8 * k) n gaps are) from early in
+      let there : place - 8 * length tail ≡ 8 * k = omega (arith, cut, from_is) in
+      let is : part ≡ signal_of (gaps_within gaps (8 * k) n) (last_bytes bytes) =
+      part_is ∙ ap₂ (λ (gs : List (ℕ × ℕ)) (xs : List ℕ). signal_of gs xs)
+      (near_is ∙ ap₂ (λ (d : ℕ) (xs : List ℕ). gaps_within gaps d (8 * length xs)) there tail_is) tail_is in
+      subst (λ (m : ℕ). IsPartHeard (signal_of gaps bytes) part (place - from) m) (sym long)
+      (subst (λ (b : Signal). IsPartHeard (signal_of gaps bytes) b (place - from) from) (sym is)
+      (subst (λ (d : ℕ). IsPartHeard (signal_of gaps bytes) (signal_of (gaps_within gaps (8 * k) n) (last_bytes bytes)) d from) cut heard))
 
 pub moved_end-requires-clause-lawful : goal.moved_end-requires-clause-lawful
 moved_end-requires-clause-lawful c =
     let tail = c.args.tail.items in
+    let near = c.args.near.items in
     let from_is : 8 * c.len.result ≡ 8 * length tail = omega (arith, c.len.ensures) in
-    let part_is : c.in-Ok.part ≡ signal_of tail = c.in-Ok.ensures.held ∙ ap (λ (n : ℕ). ungapped (bits_of tail n)) from_is in
-    let long : length_of c.in-Ok.part ≡ 8 * c.len.result = ap (λ (b : Signal). length_of b) part_is ∙ length-signal tail ∙ sym from_is in
+    let part_is : c.in-Ok.part ≡ signal_of near tail = c.in-Ok.ensures.held ∙ ap (λ (n : ℕ). record { bits = bits_of tail n; gaps = near }) from_is in
+    let long : length_of c.in-Ok.part ≡ 8 * c.len.result = ap (λ (b : Signal). length_of b) part_is ∙ length-signal near tail ∙ sym from_is in
     subst (λ (n : ℕ). IsLawful c.args.rules.now n c.moved_back.result) (sym long)
     (state-in-part tail c.args.place (8 * c.len.result) c.requires.kept c.requires.whole from_is c.args.rules.now c.moved_back.result c.args.state c.moved_back.ensures c.requires.lawful)
 
 pub returns-in-Ok : goal.returns-in-Ok
-returns-in-Ok c bytes tail_is place_is =
+returns-in-Ok c gaps bytes are near_is tail_is place_is =
     let tail = c.args.tail.items in
+    let near = c.args.near.items in
     let from_is : 8 * c.len.result ≡ 8 * length tail = omega (arith, c.len.ensures) in
-    let part_is : c.in-Ok.part ≡ signal_of tail = c.in-Ok.ensures.held ∙ ap (λ (n : ℕ). ungapped (bits_of tail n)) from_is in
-    let long : length_of c.in-Ok.part ≡ 8 * c.len.result = ap (λ (b : Signal). length_of b) part_is ∙ length-signal tail ∙ sym from_is in
+    let part_is : c.in-Ok.part ≡ signal_of near tail = c.in-Ok.ensures.held ∙ ap (λ (n : ℕ). record { bits = bits_of tail n; gaps = near }) from_is in
+    let long : length_of c.in-Ok.part ≡ 8 * c.len.result = ap (λ (b : Signal). length_of b) part_is ∙ length-signal near tail ∙ sym from_is in
     let lawful = subst (λ (n : ℕ). IsLawful c.args.rules.now n c.moved_back.result) (sym long)
     (state-in-part tail c.args.place (8 * c.len.result) c.requires.kept c.requires.whole from_is c.args.rules.now c.moved_back.result c.args.state c.moved_back.ensures c.requires.lawful) in
     c.moved_end.ensures
-    ∙ sym (c.ends_move.ensures (signal_of bytes) c.in-Ok.part c.args.rules.now (c.args.place - 8 * c.len.result) c.moved_back.result lawful
-    (heard-in-part tail c.args.place (8 * c.len.result) c.requires.kept c.requires.whole from_is bytes c.in-Ok.part part_is tail_is place_is))
-    ∙ ap (λ (s : State). items_of_end (signal_of bytes) c.args.rules.now s) c.moved_back.ensures
+    ∙ sym (c.ends_move.ensures (signal_of gaps bytes) c.in-Ok.part c.args.rules.now (c.args.place - 8 * c.len.result) c.moved_back.result lawful
+    (heard-in-part tail c.args.place (8 * c.len.result) c.requires.kept c.requires.whole from_is gaps near bytes c.in-Ok.part are near_is part_is tail_is place_is))
+    ∙ ap (λ (s : State). items_of_end (signal_of gaps bytes) c.args.rules.now s) c.moved_back.ensures

@@ -19,9 +19,9 @@ returns-in_err-input-in-totals-clause-none c =
     passes _ _ (GivesNothing (Some (c.args.name.now, rows))) c.from_residual-in_err-input-in-totals.ensures
     (without_ruled c.args.name.now rows refused.field-0.0 (inr c.in-totals.is) refused.ensures.none)
 
-pub returns-in_err-rules_in-in-follow-clause-none : goal.returns-in_err-rules_in-in-follow-clause-none
-returns-in_err-rules_in-in-follow-clause-none c =
-    let refused = c.in_err-rules_in-in-follow in
+pub returns-in_err-input-in-follow-clause-none : goal.returns-in_err-input-in-follow-clause-none
+returns-in_err-input-in-follow-clause-none c =
+    let refused = c.in_err-input-in-follow in
     let rows = rows_of (found_of c.args.entries.now) in
-    passes _ _ (GivesNothing (Some (c.args.name.now, rows))) c.from_residual-in_err-rules_in-in-follow.ensures
+    passes _ _ (GivesNothing (Some (c.args.name.now, rows))) c.from_residual-in_err-input-in-follow.ensures
     (without_stream c.args.name.now rows c.in-follow.is refused.field-0.0 refused.ensures.none)

@@ -1,5 +1,27 @@
-use Rattle.std.proofs.Common.{◌≡◌, [], ◌∙◌}
+use Rattle.std.proofs.Common.{◌≡◌, ◌*◌, ◌^◌, [], ℕ, List, Bool, true, false, Result, Ok, Err, None, Some, length, ◌∙◌}
+use Rattle.std.specs.Prelude.{if◌then◌else◌, nat_lt}
+use Rattle.rds_stream.specs.Recording.{Signal}
+use Rattle.rds_sync.specs.Rules.{RuleNumbers}
+use Rattle.rds_live.specs.Live.{by_rules, signal_of}
+use Rattle.rds_tool.specs.declared.error.ToolError.{ToolError}
+use Rattle.rds_tool.specs.declared.error.ToolError.TheVariants.{BitsPastBytes, TooLong}
+use Rattle.rds_tool.specs.Following.{listed}
+use Rattle.rds_tool.specs.Input.{and_then}
+use Rattle.rds_tool.specs.Outcome.{Writes, list_text}
 use Rattle.rds_uses.proofs.live.followed.Goals as goal
+
+-- where something was written, this was not refused
+not_refused : (p : Bool) (e : ToolError) (rest : Result Signal ToolError) (rules : RuleNumbers) (text : List ℕ)
+    → Writes (Some []) (Some text) (and_then (if p then Err e else rest) (λ recording. Ok (list_text rules recording)))
+    → Writes (Some []) (Some text) (and_then rest (λ recording. Ok (list_text rules recording)))
+not_refused true e rest rules text h = absurd h
+not_refused false e rest rules text h = h
+
+-- of all bits, and without gaps, the listing was written
+written : (text : List ℕ) (rules : RuleNumbers) (bytes : List ℕ) → Writes (Some []) (Some text) (listed (by_rules rules) None bytes) → text ≡ list_text rules (signal_of [] bytes)
+written text rules bytes h =
+    not_refused (nat_lt (8 * length bytes) (8 * length bytes)) BitsPastBytes (Ok (signal_of [] bytes)) rules text
+    (not_refused (nat_lt (2 ^ 36) (8 * length bytes)) TooLong (if nat_lt (8 * length bytes) (8 * length bytes) then Err BitsPastBytes else Ok (signal_of [] bytes)) rules text h)
 
 pub returns : goal.returns
 returns c =
@@ -7,4 +29,4 @@ returns c =
     let held : c.new-2.result.reader.now ≡ c.args.bytes.now = cc in
     let empty : c.new-writer.result.writer.items ≡ [] = cc in
     let text : c.into_inner.result.items ≡ c.follow.new.writer.writer.items = cc in
-    text ∙ (rw (held, empty) at ok)
+    text ∙ written c.follow.new.writer.writer.items c.args.rules.now c.args.bytes.now (rw (held, empty) at ok)

@@ -7,7 +7,7 @@ use Rattle.rds_tool.proofs.listing_rows.ListingRowsRows.fill.Goals as goal
 
 pub returns-clause-rows : goal.returns-clause-rows
 returns-clause-rows c =
-    let items = c.args.self.now.items.now.list in
+    let items = c.args.self.now.items.list in
     let totals = named_totals c.args.self.now.totals.now in
     let first = c.min-first.result in
     let last = c.min-last.result in

@@ -1,0 +1,190 @@
+"""The proved decoder of Radio Data System bits, through librds.
+
+    for item in rds.decode(open("station.bin", "rb").read()):
+        print(item)
+"""
+
+from __future__ import annotations
+
+import ctypes
+from dataclasses import dataclass
+from enum import IntEnum
+from typing import Iterable, Iterator, Optional, Sequence, Union
+
+from ._ffi import RdsBlock, RdsGap, RdsItem, RdsPacked, RdsRules, RdsTotals, RdsWords, load
+
+__all__ = ["Refused", "Rules", "Totals", "Kind", "Block", "Acquired", "Group", "Loss", "totals", "decode", "items_array",
+           "remainder", "correct", "encode", "version"]
+
+_library = load()
+_OFFSETS = (None, "A", "B", "C", "C'", "D")
+_NUMBERS = {"A": 1, "B": 2, "C": 3, "C'": 4, "D": 5, "C or C'": 6}
+_SMALL_ROOM = 64
+
+
+class Refused(ValueError):
+    """A refusal, with its number and name."""
+
+    def __init__(self, number: int):
+        room = (ctypes.c_uint8 * 16)()
+        _library.rds_refusal_name(number, room, len(room))
+        self.number, self.name = number, bytes(room).split(b"\0")[0].decode()
+        super().__init__(f"refused {number} {self.name}")
+
+
+@dataclass(frozen=True)
+class Rules:
+    """The numbers of a decoder's rules. With `of`, a lock is lost at `loss` bad blocks of the last `of`, else in a row."""
+
+    burst: int = 2
+    reach: int = 3
+    loss: int = 10
+    of: int = 0
+
+
+@dataclass(frozen=True)
+class Totals:
+    valid: int
+    bursts: tuple
+    lost: int
+    bits: int
+    groups: int
+    complete: int
+    acquired: int
+    losses: int
+
+
+class Kind(IntEnum):
+    MISSING = 0
+    LOST = 1
+    VALID = 2
+    CORRECTED = 3
+
+
+@dataclass(frozen=True)
+class Block:
+    """A block: its offset ("A", "B", "C", "C'" or "D") and its word where it is valid or corrected, and the burst taken off."""
+
+    kind: Kind
+    offset: Optional[str] = None
+    info: Optional[int] = None
+    burst: int = 0
+
+
+@dataclass(frozen=True)
+class Acquired:
+    place: int
+    number: int
+
+
+@dataclass(frozen=True)
+class Group:
+    place: int
+    blocks: tuple
+    type: Optional[int]
+    version: Optional[str]
+    conflict: bool
+
+
+@dataclass(frozen=True)
+class Loss:
+    place: int
+
+
+Item = Union[Acquired, Group, Loss]
+
+
+def _asked(data, bits, gaps, rules):
+    """The arguments of a call, whose memory they keep."""
+    data = bytes(data)
+    gaps = list(gaps)
+    for number in (len(data) * 8 if bits is None else bits, *(place for gap in gaps for place in gap)):
+        if not 0 <= number < 2**64:
+            raise OverflowError(f"{number} is no place")
+    lent = ctypes.cast(ctypes.c_char_p(data), ctypes.POINTER(ctypes.c_uint8))
+    lent.kept = data
+    places = (RdsGap * max(1, len(gaps)))(*gaps)
+    numbers = [min(max(it, -1), 2**32 - 1) % 2**32 for it in (rules.burst, rules.reach, rules.loss, rules.of)]
+    return lent, len(data), len(data) * 8 if bits is None else bits, places, len(gaps), RdsRules(*numbers)
+
+
+def _check(number: int) -> None:
+    if number:
+        raise Refused(number)
+
+
+def totals(data: bytes, bits: Optional[int] = None, gaps: Iterable[Sequence[int]] = (), rules: Rules = Rules()) -> Totals:
+    """The totals of a recording: its first `bits` bits, or all."""
+    found = RdsTotals()
+    _check(_library.rds_totals(*_asked(data, bits, gaps, rules), found))
+    return Totals(found.valid, tuple(found.bursts), *(getattr(found, it) for it in list(Totals.__annotations__)[2:]))
+
+
+def _room(data, bits, gaps, rules):
+    """The items of a recording as they lie in memory."""
+    asked = _asked(data, bits, gaps, rules)
+    count = ctypes.c_uint64(max(64, asked[2] // 80))
+    while True:
+        room = (RdsItem * count.value)()
+        number = _library.rds_items(*asked, room, len(room), count)
+        if number != _SMALL_ROOM:
+            _check(number)
+            return room, count.value
+
+
+def _item(it: RdsItem) -> Item:
+    if it.what == 1:
+        return Acquired(it.place, it.number)
+    if it.what == 3:
+        return Loss(it.place)
+    blocks = tuple(_block(block) for block in it.blocks)
+    return Group(it.place, blocks, None if it.number == 255 else it.number, (None, "A", "B", None)[it.version], bool(it.conflict))
+
+
+def _block(it: RdsBlock) -> Block:
+    known = it.kind >= Kind.VALID
+    return Block(Kind(it.kind), _OFFSETS[it.offset], it.info if known else None, it.burst)
+
+
+def decode(data: bytes, bits: Optional[int] = None, gaps: Iterable[Sequence[int]] = (), rules: Rules = Rules()) -> Iterator[Item]:
+    """The items of a recording, in order of place."""
+    room, count = _room(data, bits, gaps, rules)
+    return (_item(room[k]) for k in range(count))
+
+
+def items_array(data: bytes, bits: Optional[int] = None, gaps: Iterable[Sequence[int]] = (), rules: Rules = Rules()):
+    """The same as a numpy structured array, without a copy of a row."""
+    import numpy
+
+    room, count = _room(data, bits, gaps, rules)
+    block = numpy.dtype([("burst", "u4"), ("info", "u2"), ("kind", "u1"), ("offset", "u1")])
+    item = numpy.dtype([("place", "u8"), ("blocks", block, 4), ("what", "u1"), ("number", "u1"), ("version", "u1"),
+                        ("conflict", "u1"), ("unused", "u4")])
+    return numpy.frombuffer(room, item, count)
+
+
+def remainder(word: int) -> int:
+    """The remainder of a word of 26 bits."""
+    found = ctypes.c_uint16()
+    _check(_library.rds_remainder(min(word % 2**64, 2**32 - 1), found))
+    return found.value
+
+
+def correct(word: int, offset: str, limit: int = 2) -> Block:
+    """A word of 26 bits read as the block with this offset, "A" to "D" or "C or C'", corrected by up to `limit` bits."""
+    found = RdsBlock()
+    _check(_library.rds_correct(min(word % 2**64, 2**32 - 1), _NUMBERS.get(offset, 0), min(limit % 2**64, 255), found))
+    return _block(found)
+
+
+def encode(groups: Iterable[Sequence[int]]) -> bytes:
+    """The bits of groups as they are sent, of four words each: 13 bytes a group."""
+    words = [RdsWords((ctypes.c_uint16 * 4)(*group)) for group in groups]
+    room = (RdsPacked * max(1, len(words)))()
+    _check(_library.rds_encode((RdsWords * max(1, len(words)))(*words), len(words), room, len(words)))
+    return bytes(room)[: 13 * len(words)]
+
+
+def version() -> tuple:
+    number = _library.rds_version()
+    return number >> 16, number >> 8 & 255, number & 255

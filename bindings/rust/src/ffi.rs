@@ -1,0 +1,84 @@
+//! What `rds.h` declares. `tests/library/layout.py` compares each line with it.
+
+#[repr(C)]
+#[derive(Clone, Copy, Debug, Default, PartialEq, Eq)]
+pub struct RdsTotals {
+    pub valid: u64,
+    pub bursts: [u64; 5],
+    pub lost: u64,
+    pub bits: u64,
+    pub groups: u64,
+    pub complete: u64,
+    pub acquired: u64,
+    pub losses: u64,
+}
+
+#[repr(C)]
+#[derive(Clone, Copy, Debug, Default, PartialEq, Eq)]
+pub struct RdsBlock {
+    pub burst: u32,
+    pub info: u16,
+    pub kind: u8,
+    pub offset: u8,
+}
+
+#[repr(C)]
+#[derive(Clone, Copy, Debug, Default, PartialEq, Eq)]
+pub struct RdsItem {
+    pub place: u64,
+    pub blocks: [RdsBlock; 4],
+    pub what: u8,
+    pub number: u8,
+    pub version: u8,
+    pub conflict: u8,
+    pub unused: u32,
+}
+
+#[repr(C)]
+#[derive(Clone, Copy, Debug, PartialEq, Eq)]
+pub struct RdsGap {
+    pub begin: u64,
+    pub end: u64,
+}
+
+#[repr(C)]
+#[derive(Clone, Copy, Debug, PartialEq, Eq)]
+pub struct RdsRules {
+    pub burst: u32,
+    pub reach: u32,
+    pub loss: u32,
+    pub of: u32,
+}
+
+#[repr(C)]
+#[derive(Clone, Copy, Debug, Default, PartialEq, Eq)]
+pub struct RdsState {
+    pub due: u64,
+    pub bad: u64,
+    pub number: u32,
+    pub first: u32,
+}
+
+#[repr(C)]
+#[derive(Clone, Copy, Debug, PartialEq, Eq)]
+pub struct RdsWords {
+    pub words: [u16; 4],
+}
+
+#[repr(C)]
+#[derive(Clone, Copy, Debug, PartialEq, Eq)]
+pub struct RdsPacked {
+    pub bytes: [u8; 13],
+}
+
+extern "C" {
+    pub fn rds_totals(bytes: *const u8, bytes_len: usize, bits: u64, gaps: *const RdsGap, gaps_len: usize, rules: *const RdsRules, found: *mut RdsTotals) -> u8;
+    pub fn rds_items(bytes: *const u8, bytes_len: usize, bits: u64, gaps: *const RdsGap, gaps_len: usize, rules: *const RdsRules, room: *mut RdsItem, room_len: usize, count: *mut u64) -> u8;
+    pub fn rds_run(bytes: *const u8, bytes_len: usize, bits: u64, gaps: *const RdsGap, gaps_len: usize, rules: *const RdsRules, from: u64, to: u64, state: *mut RdsState, room: *mut RdsItem, room_len: usize, count: *mut u64) -> u8;
+    pub fn rds_finish_run(bytes: *const u8, bytes_len: usize, bits: u64, gaps: *const RdsGap, gaps_len: usize, rules: *const RdsRules, state: *const RdsState, room: *mut RdsItem, room_len: usize, count: *mut u64) -> u8;
+    pub fn rds_remainder(word: u32, found: *mut u16) -> u8;
+    pub fn rds_correct(word: u32, offset: u8, limit: u8, found: *mut RdsBlock) -> u8;
+    pub fn rds_encode(groups: *const RdsWords, groups_len: usize, room: *mut RdsPacked, room_len: usize) -> u8;
+    pub fn rds_refusal_name(number: u8, room: *mut u8, room_len: usize) -> u8;
+    pub fn rds_version() -> u32;
+}

@@ -1,0 +1,259 @@
+//! The proved decoder of Radio Data System bits, through librds.
+//!
+//! ```
+//! let bytes = [0u8; 100];
+//! let totals = rds::totals(&rds::Recording::of(&bytes), &rds::Rules::default())?;
+//! assert_eq!(totals.groups, 0);
+//! # Ok::<(), rds::Refused>(())
+//! ```
+
+pub mod ffi;
+
+use ffi::{RdsBlock, RdsGap, RdsItem, RdsPacked, RdsRules, RdsTotals, RdsWords};
+use std::fmt;
+use std::ops::Range;
+
+/// The twelve totals of a report.
+pub use ffi::RdsTotals as Totals;
+
+const SMALL_ROOM: u8 = 64;
+
+/// A refusal, with its number and name.
+#[derive(Clone, Debug, PartialEq, Eq)]
+pub struct Refused {
+    pub number: u8,
+    pub name: String,
+}
+
+impl fmt::Display for Refused {
+    fn fmt(&self, f: &mut fmt::Formatter<'_>) -> fmt::Result {
+        write!(f, "refused {} {}", self.number, self.name)
+    }
+}
+
+impl std::error::Error for Refused {}
+
+/// The name of the refusal of this number.
+fn refused(number: u8) -> Refused {
+    let mut room = [0u8; 16];
+    // SAFETY: the room is ours, and as long as is said.
+    unsafe { ffi::rds_refusal_name(number, room.as_mut_ptr(), room.len()) };
+    let len = room.iter().position(|&byte| byte == 0).unwrap_or(0);
+    Refused { number, name: String::from_utf8_lossy(&room[..len]).into_owned() }
+}
+
+fn check(number: u8) -> Result<(), Refused> {
+    match number {
+        0 => Ok(()),
+        number => Err(refused(number)),
+    }
+}
+
+/// Bits with the gaps in them.
+#[derive(Clone, Debug)]
+pub struct Recording<'a> {
+    pub bytes: &'a [u8],
+    /// How many of the bits belong to it.
+    pub bits: u64,
+    /// Places whose bits mean nothing.
+    pub gaps: Vec<Range<u64>>,
+}
+
+impl<'a> Recording<'a> {
+    /// All bits of these bytes, the highest bit of a byte first.
+    pub fn of(bytes: &'a [u8]) -> Recording<'a> {
+        Recording { bytes, bits: 8 * bytes.len() as u64, gaps: Vec::new() }
+    }
+
+    fn gaps(&self) -> Vec<RdsGap> {
+        self.gaps.iter().map(|gap| RdsGap { begin: gap.start, end: gap.end }).collect()
+    }
+}
+
+/// When a lock is lost.
+#[derive(Clone, Copy, Debug, PartialEq, Eq)]
+pub enum LossRule {
+    /// After so many bad blocks in a row.
+    Run(u32),
+    /// Where `bad` of the last `of` blocks are bad.
+    Share { bad: u32, of: u32 },
+}
+
+/// The numbers of a decoder's rules.
+#[derive(Clone, Copy, Debug, PartialEq, Eq)]
+pub struct Rules {
+    /// The longest burst that is corrected, in bits: 0 to 5.
+    pub burst: u32,
+    /// How many blocks back a partner is looked for while acquiring: 1 to 8.
+    pub reach: u32,
+    pub loss: LossRule,
+}
+
+impl Default for Rules {
+    fn default() -> Rules {
+        Rules { burst: 2, reach: 3, loss: LossRule::Run(10) }
+    }
+}
+
+impl Rules {
+    fn numbers(&self) -> RdsRules {
+        let (loss, of) = match self.loss {
+            LossRule::Run(loss) => (loss, 0),
+            // A share of none is refused as such, and not taken for a run.
+            LossRule::Share { of: 0, .. } => (0, 1),
+            LossRule::Share { bad, of } => (bad, of),
+        };
+        RdsRules { burst: self.burst, reach: self.reach, loss, of }
+    }
+}
+
+/// A block of a group.
+#[derive(Clone, Copy, Debug, PartialEq, Eq)]
+pub enum Block {
+    Missing,
+    Lost,
+    Valid { offset: Offset, info: u16 },
+    Corrected { offset: Offset, info: u16, burst: u32 },
+}
+
+/// An offset word.
+#[derive(Clone, Copy, Debug, PartialEq, Eq)]
+pub enum Offset {
+    A,
+    B,
+    C,
+    /// C'.
+    Cx,
+    D,
+}
+
+/// An entry of a report, in order of place.
+#[derive(Clone, Copy, Debug, PartialEq, Eq)]
+pub enum Item {
+    Acquired { place: u64, number: u8 },
+    Group(Group),
+    Loss { place: u64 },
+}
+
+#[derive(Clone, Copy, Debug, PartialEq, Eq)]
+pub struct Group {
+    pub place: u64,
+    pub blocks: [Block; 4],
+    /// The group type, 0 to 15, where it is known.
+    pub kind: Option<u8>,
+    pub version: Option<Version>,
+    /// Whether blocks 2 and 3 name different versions.
+    pub conflict: bool,
+}
+
+#[derive(Clone, Copy, Debug, PartialEq, Eq)]
+pub enum Version {
+    A,
+    B,
+}
+
+fn block_of(block: RdsBlock) -> Block {
+    let offset = match block.offset {
+        1 => Offset::A,
+        2 => Offset::B,
+        3 => Offset::C,
+        4 => Offset::Cx,
+        _ => Offset::D,
+    };
+    let RdsBlock { info, burst, .. } = block;
+    match block.kind {
+        0 => Block::Missing,
+        1 => Block::Lost,
+        2 => Block::Valid { offset, info },
+        _ => Block::Corrected { offset, info, burst },
+    }
+}
+
+fn item_of(item: &RdsItem) -> Item {
+    match item.what {
+        1 => Item::Acquired { place: item.place, number: item.number },
+        3 => Item::Loss { place: item.place },
+        _ => Item::Group(Group {
+            place: item.place,
+            blocks: item.blocks.map(block_of),
+            kind: (item.number != 255).then_some(item.number),
+            version: match item.version {
+                1 => Some(Version::A),
+                2 => Some(Version::B),
+                _ => None,
+            },
+            conflict: item.conflict == 1,
+        }),
+    }
+}
+
+/// The totals of a recording.
+pub fn totals(recording: &Recording<'_>, rules: &Rules) -> Result<Totals, Refused> {
+    let (bytes, gaps, rules) = (recording.bytes, recording.gaps(), rules.numbers());
+    let mut found = RdsTotals::default();
+    // SAFETY: each pointer is that of a slice with its length, or of one value, and what is written is ours alone.
+    check(unsafe {
+        ffi::rds_totals(bytes.as_ptr(), bytes.len(), recording.bits, gaps.as_ptr(), gaps.len(), &rules, &mut found)
+    })?;
+    Ok(found)
+}
+
+/// The items of a recording, in order of place.
+pub fn items(recording: &Recording<'_>, rules: &Rules) -> Result<impl ExactSizeIterator<Item = Item>, Refused> {
+    let (bytes, gaps, rules) = (recording.bytes, recording.gaps(), rules.numbers());
+    let mut count = 64.max(8 * bytes.len() as u64 / 80);
+    loop {
+        let mut room = vec![RdsItem::default(); count as usize];
+        // SAFETY: as in `totals`.
+        let number = unsafe {
+            ffi::rds_items(
+                bytes.as_ptr(),
+                bytes.len(),
+                recording.bits,
+                gaps.as_ptr(),
+                gaps.len(),
+                &rules,
+                room.as_mut_ptr(),
+                room.len(),
+                &mut count,
+            )
+        };
+        if number != SMALL_ROOM {
+            check(number)?;
+            room.truncate(count as usize);
+            return Ok(room.into_iter().map(|item| item_of(&item)));
+        }
+    }
+}
+
+/// The remainder of a word of 26 bits.
+pub fn remainder(word: u32) -> Result<u16, Refused> {
+    let mut found = 0;
+    // SAFETY: what is written is ours.
+    check(unsafe { ffi::rds_remainder(word, &mut found) })?;
+    Ok(found)
+}
+
+/// A word of 26 bits read as the block with this offset, corrected by up to `limit` bits.
+pub fn correct(word: u32, offset: Offset, limit: u8) -> Result<Block, Refused> {
+    let mut found = RdsBlock::default();
+    // SAFETY: what is written is ours.
+    check(unsafe { ffi::rds_correct(word, offset as u8 + 1, limit, &mut found) })?;
+    Ok(block_of(found))
+}
+
+/// The bits of groups as they are sent: 13 bytes a group.
+pub fn encode(groups: &[[u16; 4]]) -> Result<Vec<u8>, Refused> {
+    let words: Vec<RdsWords> = groups.iter().map(|&words| RdsWords { words }).collect();
+    let mut room = vec![RdsPacked { bytes: [0; 13] }; words.len()];
+    // SAFETY: each pointer is that of a vector with its length.
+    check(unsafe { ffi::rds_encode(words.as_ptr(), words.len(), room.as_mut_ptr(), room.len()) })?;
+    Ok(room.iter().flat_map(|packed| packed.bytes).collect())
+}
+
+/// The version of the library.
+pub fn version() -> (u32, u32, u32) {
+    // SAFETY: nothing is lent.
+    let number = unsafe { ffi::rds_version() };
+    (number >> 16, number >> 8 & 255, number & 255)
+}

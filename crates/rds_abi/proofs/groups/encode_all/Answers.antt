@@ -1,0 +1,15 @@
+use Rattle.std.proofs.Common.{arith, ◌∙◌}
+use Rattle.std.proofs.lemmas.List.{length-set}
+use Rattle.rds_abi.specs.Blocks.{packed}
+use Rattle.rds_abi.proofs.Rooms.{one_written, still_kept}
+use Rattle.rds_abi.proofs.groups.encode_all.Goals as goal
+
+pub loop-i-preserved : goal.loop-i-preserved
+loop-i-preserved c =
+    let loop = c.loop-i in
+    record {
+      written = rw c.packed.ensures
+          (one_written packed c.args.groups.now loop.room loop.i _ c.loop-i-test.true (omega (arith, loop.invariant.same, c.requires, c.loop-i-test.true)) loop.invariant.written);
+      kept = still_kept loop.room c.args.room.now loop.i c.packed.result loop.invariant.kept;
+      same = length-set loop.room loop.i c.packed.result ∙ loop.invariant.same;
+    }

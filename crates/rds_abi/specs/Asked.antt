@@ -1,0 +1,102 @@
+-- What a caller asks for: bytes, how many bits of them, the gaps in these, and the numbers of rules; what is refused of it, and
+-- what is found in it. This project's rules.
+use Rattle.std.specs.Prelude.{◌≡◌, ℕ, ◌*◌, ◌^◌, ◌<◌, ◌≤◌, ◌⊎◌, ◌==◌, ◌++◌, List, drop, length, map, if◌then◌else◌, ⊤}
+use Rattle.rds_stream.specs.Recording.{AreGaps, Signal, bits_of}
+use Rattle.rds_sync.specs.Ranges.{IsInRange, IsRunOutside, IsShareOutside, farthest_reach, longest_burst}
+use Rattle.rds_sync.specs.Report.{report_items}
+use Rattle.rds_sync.specs.Rules.{RuleNumbers}
+use Rattle.rds_sync.specs.Totals.{totals_of}
+use Rattle.rds_sync.specs.declared.loss.Loss.{Loss}
+use Rattle.rds_sync.specs.declared.loss.Loss.TheVariants.{Run, Share}
+use Rattle.rds_abi.specs.Layout.{item_in_c, totals_in_c}
+use Rattle.rds_abi.specs.Refusals.{number_of}
+use Rattle.rds_abi.specs.declared.asked.RdsGap.{RdsGap}
+use Rattle.rds_abi.specs.declared.asked.RdsRules.{RdsRules}
+use Rattle.rds_abi.specs.declared.layout.RdsItem.{RdsItem}
+use Rattle.rds_abi.specs.declared.layout.RdsTotals.{RdsTotals}
+use Rattle.rds_abi.specs.declared.refusal.Refusal.{Refusal}
+use Rattle.rds_abi.specs.declared.refusal.Refusal.TheVariants.{BadGaps, BitsPastBytes, BurstRange, LossRange, OutOfMemory, ReachRange, ShareRange, SmallRoom, TooLong}
+
+pub record Asked : Type 0 where
+  pub bytes : List ℕ
+  pub bits : ℕ
+  pub gaps : List RdsGap
+  pub rules : RdsRules
+
+abbrev pub asked : List ℕ → ℕ → List RdsGap → RdsRules → Asked
+asked bytes bits gaps rules = record { bytes = bytes; bits = bits; gaps = gaps; rules = rules }
+
+-- ---- what the numbers say
+
+-- a gap: the places from its first number to before its second
+abbrev pub gap_of : RdsGap → ℕ × ℕ
+gap_of gap = (gap.begin, gap.end)
+
+abbrev pub gaps_of : List RdsGap → List (ℕ × ℕ)
+gaps_of gaps = map gap_of gaps
+
+-- a rule of loss: so many bad blocks in a row, or so many of the last `of`
+abbrev pub loss_of : RdsRules → Loss
+loss_of rules = if rules.of == 0 then Run rules.loss else Share rules.loss rules.of
+
+abbrev pub rules_of : RdsRules → RuleNumbers
+rules_of rules = record { burst = rules.burst; reach = rules.reach; loss = loss_of rules }
+
+-- the first bits of the bytes, with the gaps
+abbrev pub recording_of : List ℕ → ℕ → List RdsGap → Signal
+recording_of bytes bits gaps = record { bits = bits_of bytes bits; gaps = gaps_of gaps }
+
+-- ---- what is refused
+
+-- by these numbers of rules
+abbrev pub RefusesRules : RuleNumbers → Refusal → Type 0
+RefusesRules rules BurstRange = longest_burst < rules.burst
+RefusesRules rules ReachRange = (rules.burst ≤ longest_burst) × ((rules.reach < 1) ⊎ (farthest_reach < rules.reach))
+RefusesRules rules LossRange =
+    (rules.burst ≤ longest_burst) × (1 ≤ rules.reach) × (rules.reach ≤ farthest_reach) × IsRunOutside rules.loss
+RefusesRules rules ShareRange =
+    (rules.burst ≤ longest_burst) × (1 ≤ rules.reach) × (rules.reach ≤ farthest_reach) × IsShareOutside rules.loss
+RefusesRules rules OutOfMemory = ⊤
+RefusesRules rules other = ⊥
+
+-- of the recording: its length, then what the bytes hold, then the gaps
+module _ (bytes : List ℕ) (bits : ℕ) (gaps : List RdsGap) where
+  abbrev pub RefusesRecording : Refusal → Type 0
+  RefusesRecording TooLong = 2 ^ 36 < bits
+  RefusesRecording BitsPastBytes = (bits ≤ 2 ^ 36) × (8 * length bytes < bits)
+  RefusesRecording BadGaps = (bits ≤ 2 ^ 36) × (bits ≤ 8 * length bytes) × (AreGaps bits (gaps_of gaps) → ⊥)
+  RefusesRecording OutOfMemory = ⊤
+  RefusesRecording other = ⊥
+
+  -- nothing of the recording
+  abbrev pub IsRecording : Type 0
+  IsRecording = (bits ≤ 2 ^ 36) × (bits ≤ 8 * length bytes) × AreGaps bits (gaps_of gaps)
+
+-- nothing at all
+pub record IsLawful (a : Asked) : Type 0 where
+  pub rules : IsInRange (rules_of a.rules)
+  pub recording : IsRecording a.bytes a.bits a.gaps
+
+-- the rules first, and then the recording; want of memory at any time
+abbrev pub Refuses : Asked → Refusal → Type 0
+Refuses a refusal = RefusesRules (rules_of a.rules) refusal ⊎ (IsInRange (rules_of a.rules) × RefusesRecording a.bytes a.bits a.gaps refusal)
+
+-- a call that answers this number, not 0, had to refuse something
+abbrev pub RefusedBy : (Refusal → Type 0) → ℕ → Type 0
+RefusedBy refuses number = (refusal : Refusal) × (number ≡ number_of refusal) × refuses refusal
+
+-- ---- what is found
+
+abbrev pub items_asked : Asked → List RdsItem
+items_asked a = map item_in_c (report_items (recording_of a.bytes a.bits a.gaps) (rules_of a.rules))
+
+abbrev pub totals_asked : Asked → RdsTotals
+totals_asked a = totals_in_c (totals_of (report_items (recording_of a.bytes a.bits a.gaps) (rules_of a.rules)))
+
+-- these items stand at the beginning of the room, and behind them is what was there
+abbrev pub IsFilled : List RdsItem → List RdsItem → List RdsItem → Type 0
+IsFilled items old new = new ≡ items ++ drop (length items) old
+
+-- what is found is refused for want of room, and its number told
+abbrev pub IsTooMuch : List RdsItem → ℕ → Refusal → ℕ → Type 0
+IsTooMuch items room refusal count = (refusal ≡ SmallRoom) × (room < length items) × (count ≡ length items)

@@ -1,0 +1,82 @@
+-- How totals, blocks and items lie in C: plain numbers alone. This project's rules.
+use Rattle.std.specs.Prelude.{ℕ, [], ◌∷◌, map, Option, None, Some, if◌then◌else◌}
+use Rattle.rds_code.specs.declared.offset.Offset.{Offset}
+use Rattle.rds_code.specs.declared.offset.Offset.TheVariants as offset
+use Rattle.rds_code.specs.declared.reading.Reading.{Reading}
+use Rattle.rds_code.specs.declared.reading.Reading.TheVariants.{Valid, Corrected, Lost}
+use Rattle.rds_sync.specs.declared.item.Block.{Block}
+use Rattle.rds_sync.specs.declared.item.Block.TheVariants.{Missing, Read}
+use Rattle.rds_sync.specs.declared.item.Item.{Item}
+use Rattle.rds_sync.specs.declared.item.Item.TheVariants.{Acquired, Group, LostLock}
+use Rattle.rds_sync.specs.declared.item.Version.{Version}
+use Rattle.rds_sync.specs.declared.item.Version.TheVariants.{A, B, Unknown}
+use Rattle.rds_sync.specs.declared.totals.Totals.{Totals}
+use Rattle.rds_abi.specs.declared.layout.RdsBlock.{RdsBlock}
+use Rattle.rds_abi.specs.declared.layout.RdsItem.{RdsItem}
+use Rattle.rds_abi.specs.declared.layout.RdsTotals.{RdsTotals}
+
+-- totals, field by field
+abbrev pub totals_in_c : Totals → RdsTotals
+totals_in_c t = record {
+  valid = t.valid;
+  bursts = t.bursts;
+  lost = t.lost;
+  bits = t.bits;
+  groups = t.groups;
+  complete = t.complete;
+  acquired = t.acquired;
+  losses = t.losses;
+}
+
+-- ---- a block
+
+-- an offset: 0 is none
+abbrev pub offset_in_c : Offset → ℕ
+offset_in_c offset.A = 1
+offset_in_c offset.B = 2
+offset_in_c offset.C = 3
+offset_in_c offset.Cx = 4
+offset_in_c offset.D = 5
+
+-- a reading: 1 is lost, 2 valid, 3 corrected
+abbrev pub reading_in_c : Reading → RdsBlock
+reading_in_c Lost = record { burst = 0; info = 0; kind = 1; offset = 0 }
+reading_in_c (Valid o info) = record { burst = 0; info = info; kind = 2; offset = offset_in_c o }
+reading_in_c (Corrected o info e) = record { burst = e; info = info; kind = 3; offset = offset_in_c o }
+
+-- a block: all 0 where it is missing
+abbrev pub no_block : RdsBlock
+no_block = record { burst = 0; info = 0; kind = 0; offset = 0 }
+
+abbrev pub block_in_c : Block → RdsBlock
+block_in_c Missing = no_block
+block_in_c (Read reading) = reading_in_c reading
+
+-- ---- an item
+
+-- a version
+abbrev pub version_in_c : Version → ℕ
+version_in_c A = 1
+version_in_c B = 2
+version_in_c Unknown = 3
+
+-- a group's type: 255 is unknown
+abbrev pub kind_in_c : Option ℕ → ℕ
+kind_in_c None = 255
+kind_in_c (Some kind) = kind
+
+-- an item: 1 is an acquisition, with the number of its block; 2 a group, with its type; 3 a loss
+abbrev pub item_in_c : Item → RdsItem
+item_in_c (Acquired a x) =
+    record { place = a; blocks = no_block ∷ no_block ∷ no_block ∷ no_block ∷ []; what = 1; number = x; version = 0; conflict = 0; unused = 0 }
+item_in_c (Group g) = record {
+  place = g.place;
+  blocks = map block_in_c g.blocks;
+  what = 2;
+  number = kind_in_c g.kind;
+  version = version_in_c g.version;
+  conflict = if g.conflict then 1 else 0;
+  unused = 0;
+}
+item_in_c (LostLock a) =
+    record { place = a; blocks = no_block ∷ no_block ∷ no_block ∷ no_block ∷ []; what = 3; number = 0; version = 0; conflict = 0; unused = 0 }

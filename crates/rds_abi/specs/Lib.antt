@@ -1,0 +1,7 @@
+pub mod Refusals
+pub mod Layout
+pub mod Asked
+pub mod Blocks
+pub mod Names
+pub mod Going
+pub mod Examples

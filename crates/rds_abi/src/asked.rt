@@ -1,0 +1,103 @@
+//! What a caller asks for, and what is made of it.
+
+ghost use Rattle.std.specs.Prelude.{◌≡◌, IfErr, IfOk};
+ghost use Rattle.rds_stream.specs.Recording.{length_of};
+ghost use Rattle.rds_sync.specs.Ranges.{IsInRange};
+ghost use Rattle.rds_abi.specs.Asked.{IsRecording, RefusesRecording, RefusesRules, gaps_of, loss_of as the_loss_of, recording_of as the_recording_of, rules_of as the_rules_of};
+
+use crate::refusal::Refusal;
+use rds_stream::{Recording, StreamError};
+use rds_sync::{Loss, RuleNumbers, Rules, SyncError};
+use std::alloc::{AllocError, Global};
+
+/// A gap in a recording, whose bits mean nothing: the places from `begin` to before `end`. 16 bytes.
+#[repr(C)]
+#[derive(Clone, Copy, Debug, PartialEq, Eq)]
+pub struct RdsGap {
+    /// The first place.
+    pub begin: u64,
+    /// The place behind the last.
+    pub end: u64,
+}
+
+/// The numbers of a decoder's rules: 16 bytes.
+#[repr(C)]
+#[derive(Clone, Copy, Debug, PartialEq, Eq)]
+pub struct RdsRules {
+    /// The longest burst that is corrected, in bits: 0 to 5.
+    pub burst: u32,
+    /// How many blocks back a partner is looked for while acquiring: 1 to 8.
+    pub reach: u32,
+    /// After how many bad blocks a lock is lost: 1 to 64.
+    pub loss: u32,
+    /// 0 where these are bad blocks in a row; else among how many of the last blocks they are: `loss` to 64.
+    pub of: u32,
+}
+
+/// The rule of loss that these numbers say.
+fn loss_of(asked: RdsRules) -> Loss
+    ensures { result ≡ the_loss_of asked }
+{
+    if asked.of == 0 {
+        Loss::Run(asked.loss)
+    } else {
+        Loss::Share {
+            bad: asked.loss,
+            of: asked.of,
+        }
+    }
+}
+
+/// The rules of these numbers.
+pub(crate) fn rules_of(alloc: Global, asked: RdsRules) -> Result<Rules, Refusal>
+    ensures rules { IfOk result (λ rules. rules ≡ the_rules_of asked) }
+    ensures range { IfOk result (λ _. IsInRange (the_rules_of asked)) }
+    ensures refused { IfErr result (RefusesRules (the_rules_of asked)) }
+{
+    let numbers = RuleNumbers {
+        burst: asked.burst,
+        reach: asked.reach,
+        loss: loss_of(asked),
+    };
+    match Rules::of(alloc, numbers) {
+        Ok(rules) => {
+            let _numbers = rules.numbers();
+            Ok(rules)
+        }
+        Err(SyncError::BurstRange) => Err(Refusal::BurstRange),
+        Err(SyncError::ReachRange) => Err(Refusal::ReachRange),
+        Err(SyncError::LossRange) => Err(Refusal::LossRange),
+        Err(SyncError::ShareRange) => Err(Refusal::ShareRange),
+        Err(SyncError::OutOfMemory) => Err(Refusal::OutOfMemory),
+    }
+}
+
+/// The gaps as a recording takes them.
+fn gaps_in(alloc: Global, gaps: &[RdsGap]) -> Result<Vec<(u64, u64)>, AllocError>
+    ensures { IfOk result (λ copy. copy.items ≡ gaps_of gaps.now) }
+{
+    gaps.iter().map(|gap| (gap.begin, gap.end)).collect(alloc)
+}
+
+/// The recording of these bytes, which are copied.
+pub(crate) fn recording_of(
+    alloc: Global,
+    bytes: &[u8],
+    bits: u64,
+    gaps: &[RdsGap],
+) -> Result<Recording, Refusal>
+    ensures held { IfOk result (λ recording. recording ≡ the_recording_of bytes.now bits gaps.now) }
+    ensures len { IfOk result (λ recording. length_of recording ≡ bits) }
+    ensures lawful { IfOk result (λ _. IsRecording bytes.now bits gaps.now) }
+    ensures refused { IfErr result (RefusesRecording bytes.now bits gaps.now) }
+{
+    let copy = Vec::from_slice(alloc, bytes)?;
+    let places = gaps_in(alloc, gaps)?;
+    match Recording::with_gaps(copy, bits, places) {
+        Ok(recording) => Ok(recording),
+        Err((StreamError::TooLong, _, _)) => Err(Refusal::TooLong),
+        Err((StreamError::BitsPastBytes, _, _)) => Err(Refusal::BitsPastBytes),
+        Err((StreamError::BadGaps, _, _)) => Err(Refusal::BadGaps),
+        Err((StreamError::OutOfMemory, _, _)) => Err(Refusal::OutOfMemory),
+    }
+}

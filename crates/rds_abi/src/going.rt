@@ -1,0 +1,275 @@
+//! A run that goes on from a state which the caller keeps.
+
+ghost use Rattle.std.specs.Prelude.{◌≡◌, ◌≢◌, ◌-◌, ◌≤◌, ◌⊎◌, ℕ, IfErr, IfOk, IfSome, None, OnErr, OnOk, length, map};
+ghost use Rattle.rds_stream.specs.Recording.{length_of};
+ghost use Rattle.rds_sync.specs.Lawful.{IsLawful as IsLawfulState};
+ghost use Rattle.rds_sync.specs.Loss.{IsLawfulBad};
+ghost use Rattle.rds_sync.specs.Ranges.{IsLossInRange};
+ghost use Rattle.rds_sync.specs.Rules.{RuleNumbers};
+ghost use Rattle.rds_sync.specs.Step.{run as the_run};
+ghost use Rattle.rds_abi.specs.Asked.{IsFilled, IsTooMuch, asked, recording_of as the_recording_of, rules_of as the_rules_of};
+ghost use Rattle.rds_abi.specs.declared.refusal.Refusal.TheVariants.{OutOfMemory};
+ghost use Rattle.rds_abi.specs.Going.{IsRun, RefusesRun, bad_of as the_bad_of, items_at_end, items_of_run, run_asked, state_of as the_state_of};
+ghost use Rattle.rds_abi.specs.Layout.{item_in_c};
+
+use crate::asked::{RdsGap, RdsRules, recording_of, rules_of};
+use crate::layout::{RdsItem, item_in_c};
+use crate::refusal::Refusal;
+use rds_stream::{Counted, Recording};
+use rds_sync::{Bad, Decoder, Item, Loss, Rules, State, finish, laws, run_codes};
+use std::alloc::Global;
+
+/// What a run knows between two bits: 24 bytes, all 0 where no block is known.
+#[repr(C)]
+#[derive(Clone, Copy, Debug, PartialEq, Eq)]
+pub struct RdsState {
+    /// Where the next block ends.
+    pub due: u64,
+    /// How many of the last blocks in a row were bad; or, by a share, which of the last: the newest lowest, 1 is bad.
+    pub bad: u64,
+    /// The number of the next block, 1 to 4, or 0 where no block is known.
+    pub number: u32,
+    /// The number of the first block that was read in the group in progress.
+    pub first: u32,
+}
+
+impl RdsState {
+    /// The state of a run that knows no block yet.
+    pub const SEARCHING: RdsState = RdsState {
+        due: 0,
+        bad: 0,
+        number: 0,
+        first: 0,
+    };
+}
+
+/// What this number says of bad blocks, or none where no lock has so many.
+fn bad_of(loss: Loss, bad: u64) -> Option<Bad>
+    ensures some { IfSome result (λ kept. kept ≡ the_bad_of loss bad) }
+    ensures none { result ≡ None → IsLossInRange loss → IsLawfulBad loss (the_bad_of loss bad) → ⊥ }
+{
+    match loss {
+        Loss::Run(_) if bad > 255 => None,
+        Loss::Run(_) => Some(Bad::Run(bad as u8)),
+        Loss::Share { .. } => Some(Bad::Mask(bad)),
+    }
+}
+
+/// The lock that these numbers say, of a block that is known, or none where it is not lawful before `place`.
+fn lock_of(rules: &Rules, s: RdsState, place: u64) -> Option<State>
+    requires { s.number ≢ 0 }
+    ensures some { IfSome result (λ state. state ≡ the_state_of rules.now s) }
+    ensures lawful { IfSome result (λ state. IsLawfulState rules.now place state) }
+    ensures none { result ≡ None → IsLawfulState rules.now place (the_state_of rules.now s) → ⊥ }
+{
+    if s.number > 4 || s.first > 4 {
+        return None;
+    }
+    let bad = bad_of(rules.loss(), s.bad)?;
+    let state = State::Locked {
+        due: s.due,
+        number: s.number as u8,
+        bad,
+        first: s.first as u8,
+    };
+    if state.is_lawful(rules, place) {
+        Some(state)
+    } else {
+        None
+    }
+}
+
+/// The state that these numbers say, or none where it is not lawful before `place`.
+fn state_of(rules: &Rules, s: RdsState, place: u64) -> Option<State>
+    ensures some { IfSome result (λ state. state ≡ the_state_of rules.now s) }
+    ensures lawful { IfSome result (λ state. IsLawfulState rules.now place state) }
+    ensures none { result ≡ None → IsLawfulState rules.now place (the_state_of rules.now s) → ⊥ }
+{
+    if s.number == 0 {
+        Some(State::Searching)
+    } else {
+        lock_of(rules, s, place)
+    }
+}
+
+/// What is kept of bad blocks, for C.
+fn bad_in_c(bad: Bad) -> u64
+    ensures { (loss : Loss) → IsLawfulBad loss bad → the_bad_of loss result ≡ bad }
+{
+    match bad {
+        Bad::Run(row) => u64::from(row),
+        Bad::Mask(mask) => mask,
+    }
+}
+
+/// A state, for C.
+fn state_in_c(state: State) -> RdsState
+    ensures { (rules : RuleNumbers) (place : ℕ) → IsLawfulState rules place state → the_state_of rules result ≡ state }
+{
+    match state {
+        State::Searching => RdsState::SEARCHING,
+        State::Locked {
+            due,
+            number,
+            bad,
+            first,
+        } => RdsState {
+            due,
+            bad: bad_in_c(bad),
+            number: u32::from(number),
+            first: u32::from(first),
+        },
+    }
+}
+
+/// A recording with its rules, and a state that is lawful at a place of it.
+#[derive(Drop)]
+struct Start {
+    recording: Recording,
+    rules: Rules,
+    state: State,
+}
+
+/// The recording, the rules and the state that a run over the places from `from` to before `to` begins with.
+fn start_of(
+    alloc: Global,
+    bytes: &[u8],
+    bits: u64,
+    gaps: &[RdsGap],
+    rules: RdsRules,
+    range: (u64, u64),
+    state: RdsState,
+) -> Result<Start, Refusal>
+    ensures recording { IfOk result (λ start. start.recording ≡ the_recording_of bytes.now bits gaps.now) }
+    ensures len { IfOk result (λ start. length_of start.recording ≡ bits) }
+    ensures rules { IfOk result (λ start. start.rules ≡ the_rules_of rules) }
+    ensures state { IfOk result (λ start. start.state ≡ the_state_of (the_rules_of rules) state) }
+    ensures lawful { IfOk result (λ _. IsRun (asked bytes.now bits gaps.now rules) range.0 range.1 state) }
+    ensures refused { IfErr result (RefusesRun (asked bytes.now bits gaps.now rules) range.0 range.1 state) }
+{
+    let (from, to) = range;
+    let rules = rules_of(alloc, rules)?;
+    let recording = recording_of(alloc, bytes, bits, gaps)?;
+    if to < from || bits < to {
+        return Err(Refusal::PlaceRange);
+    }
+    match state_of(&rules, state, from) {
+        Some(state) => Ok(Start {
+            recording,
+            rules,
+            state,
+        }),
+        None => Err(Refusal::UnlawfulState),
+    }
+}
+
+/// Runs over the places from `from` to before `to` of a recording, from a state that is lawful before `from`, and writes
+/// the items that this gives to the beginning of `room`, how many they are to `count`, and the state after them to `state`.
+/// Runs in a row, each from the state of the one before, are one run: so a list of any length needs room for few items.
+///
+/// Refuses as [`totals`](crate::totals) does, then `PlaceRange` and `UnlawfulState`, and then `SmallRoom`, where `count`
+/// tells how many items there are, and nothing else was written. It takes memory for a copy of the bytes, and for 16 bits
+/// an item.
+pub fn run(
+    alloc: Global,
+    bytes: &[u8],
+    bits: u64,
+    gaps: &[RdsGap],
+    rules: RdsRules,
+    range: (u64, u64),
+    state: &mut RdsState,
+    room: &mut [RdsItem],
+    count: &mut u64,
+) -> Result<(), Refusal>
+    ensures filled { OnOk result (IsFilled (items_of_run (asked bytes.now bits gaps.now rules) range.0 range.1 state.old) room.old room.new) }
+    ensures count { OnOk result (count.new ≡ length (items_of_run (asked bytes.now bits gaps.now rules) range.0 range.1 state.old)) }
+    ensures state { OnOk result (the_state_of (the_rules_of rules) state.new
+        ≡ (run_asked (asked bytes.now bits gaps.now rules) range.0 range.1 state.old).0) }
+    ensures next { OnOk result (IsLawfulState (the_rules_of rules) range.1 (the_state_of (the_rules_of rules) state.new)) }
+    ensures lawful { OnOk result (IsRun (asked bytes.now bits gaps.now rules) range.0 range.1 state.old) }
+    ensures untouched { OnErr result ((room.new ≡ room.old) × (state.new ≡ state.old)) }
+    ensures refused { IfErr result (λ refusal.
+        (IsRun (asked bytes.now bits gaps.now rules) range.0 range.1 state.old
+        × IsTooMuch (items_of_run (asked bytes.now bits gaps.now rules) range.0 range.1 state.old) (length room.old) refusal count.new)
+        ⊎ (RefusesRun (asked bytes.now bits gaps.now rules) range.0 range.1 state.old refusal × (count.new ≡ count.old))) }
+{
+    let start = start_of(alloc, bytes, bits, gaps, rules, range, *state)?;
+    let (from, to) = range;
+    let (end, number) = counted(alloc, &start, from, to)?;
+    *count = number as u64;
+    if room.len() < number {
+        return Err(Refusal::SmallRoom);
+    }
+    let items = Decoder::new(&start.recording, &start.rules, start.state, from, to);
+    fill_run(room, items);
+    *state = state_in_c(end);
+    Ok(())
+}
+
+/// The state at the end of a run, and how many items it gives.
+fn counted(alloc: Global, start: &Start, from: u64, to: u64) -> Result<(State, usize), Refusal>
+    requires lawful { IsLawfulState start.now.rules from start.now.state }
+    requires order { from ≤ to }
+    requires within { to ≤ length_of start.now.recording }
+    ensures state { IfOk result (λ end. end.0 ≡ (the_run start.now.recording start.now.rules start.now.state from (to - from)).0) }
+    ensures count { IfOk result (λ end. end.1 ≡ length (the_run start.now.recording start.now.rules start.now.state from (to - from)).1) }
+    ensures lawful { IfOk result (λ end. IsLawfulState start.now.rules to end.0) }
+    ensures refused { IfErr result (λ refusal. refusal ≡ OutOfMemory) }
+{
+    laws::runs_give_few_items();
+    prove!(to <= start.recording.len());
+    match run_codes(alloc, &start.recording, &start.rules, start.state, from, to) {
+        Ok((end, codes)) => Ok((end, codes.len())),
+        Err(_) => Err(Refusal::OutOfMemory),
+    }
+}
+
+/// Writes the items of a run to the beginning of the room.
+fn fill_run(room: &mut [RdsItem], items: Decoder<'_>)
+    requires { length items.items ≤ length room.old }
+    ensures { IsFilled (map item_in_c items.entry.items) room.old room.new }
+{
+    let mut at = 0;
+    for item in items {
+        room[at] = item_in_c(item);
+        at += 1;
+    }
+}
+
+/// Writes the group in progress at a recording's end, where a run over it ended in this state, to the beginning of
+/// `room`, and to `count` how many groups these are: one or none.
+///
+/// Refuses as [`run`] does, with no place from the recording's end on.
+pub fn finish_run(
+    alloc: Global,
+    bytes: &[u8],
+    bits: u64,
+    gaps: &[RdsGap],
+    rules: RdsRules,
+    state: RdsState,
+    room: &mut [RdsItem],
+    count: &mut u64,
+) -> Result<(), Refusal>
+    ensures filled { OnOk result (IsFilled (items_at_end (asked bytes.now bits gaps.now rules) state) room.old room.new) }
+    ensures count { OnOk result (count.new ≡ length (items_at_end (asked bytes.now bits gaps.now rules) state)) }
+    ensures lawful { OnOk result (IsRun (asked bytes.now bits gaps.now rules) bits bits state) }
+    ensures untouched { OnErr result (room.new ≡ room.old) }
+    ensures refused { IfErr result (λ refusal.
+        (IsRun (asked bytes.now bits gaps.now rules) bits bits state
+        × IsTooMuch (items_at_end (asked bytes.now bits gaps.now rules) state) (length room.old) refusal count.new)
+        ⊎ (RefusesRun (asked bytes.now bits gaps.now rules) bits bits state refusal × (count.new ≡ count.old))) }
+{
+    let start = start_of(alloc, bytes, bits, gaps, rules, (bits, bits), state)?;
+    let tape = &mut Counted::new(&start.recording);
+    match finish(tape, &start.rules, start.state) {
+        Some(group) => {
+            *count = 1;
+            let Some(slot) = room.first_mut() else {
+                return Err(Refusal::SmallRoom);
+            };
+            *slot = item_in_c(Item::Group(group));
+        }
+        None => *count = 0,
+    }
+    Ok(())
+}

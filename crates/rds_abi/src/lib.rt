@@ -1,0 +1,37 @@
+//! The decoder for C, and for what calls C: the same calls over numbers alone.
+//!
+//! What is handed over and given back are slices and structs of numbers with C's layout: nothing here owns memory behind
+//! the caller's back, keeps a state of its own, starts a thread or takes a lock. `rds_c` exports these calls.
+//!
+//! # What there is
+//!
+//! - [`totals`] and [`items`] of a recording that is handed over whole.
+//! - [`run`] and [`finish_run`]: the same from range to range, by an [`RdsState`] that the caller keeps.
+//! - [`remainder`], [`correct`] and [`encode`]: blocks and groups alone.
+//! - [`Refusal`]: why a call is refused, with its number and name.
+//! - [`RdsTotals`], [`RdsItem`], [`RdsBlock`], [`RdsGap`], [`RdsRules`], [`RdsWords`], [`RdsPacked`]: what crosses.
+//!
+//! # What callers may rely on
+//!
+//! - What a call gives is what `rds_sync` defines, laid out as `specs/Layout.antt` says.
+//! - A refused call has left everything that it was lent as it was, and says which of the reasons in `specs/Asked.antt`
+//!   holds.
+#![tactic(auto)]
+
+mod asked;
+mod blocks;
+mod going;
+mod groups;
+mod layout;
+mod names;
+mod refusal;
+mod whole;
+
+pub use asked::{RdsGap, RdsRules};
+pub use blocks::{correct, remainder};
+pub use going::{RdsState, finish_run, run};
+pub use groups::{RdsPacked, RdsWords, encode};
+pub use layout::{RdsBlock, RdsItem, RdsTotals};
+pub use names::{VERSION, refusal_name};
+pub use refusal::Refusal;
+pub use whole::{items, totals};

@@ -1,0 +1,143 @@
+//! What the calls refuse.
+
+ghost use Rattle.std.specs.Prelude.{◌≡◌, IfSome, None};
+ghost use Rattle.rds_abi.specs.declared.refusal.Refusal.TheVariants.{OutOfMemory};
+
+use std::alloc::{AllocError, AllocFailed};
+use thiserror::Error;
+
+/// A refusal. Those of the decoder have the numbers and names that the program gives them; those of the library alone
+/// have numbers from 64 on. None ever changes.
+#[derive(Clone, Copy, Debug, PartialEq, Eq, Error)]
+pub enum Refusal {
+    /// The longest burst to be corrected is above 5 bits.
+    #[error("the burst limit is above 5")]
+    BurstRange,
+    /// The reach is not 1 to 8 blocks.
+    #[error("the reach is not 1 to 8")]
+    ReachRange,
+    /// The loss is not 1 to 64 blocks.
+    #[error("the loss is not 1 to 64")]
+    LossRange,
+    /// More bits were claimed than the bytes hold.
+    #[error("more bits than the bytes hold")]
+    BitsPastBytes,
+    /// A recording holds at most 2^36 bits.
+    #[error("more than 2^36 bits")]
+    TooLong,
+    /// Memory was refused.
+    #[error("out of memory")]
+    OutOfMemory,
+    /// The share is not `loss` of the last `of` blocks, 1 ≤ loss ≤ of ≤ 64.
+    #[error("the share is not 1 to 64 bad blocks of as many or more, up to 64")]
+    ShareRange,
+    /// The gaps of a recording each have a place, lie within its bits, and begin at or after the end of the one before.
+    #[error("gaps that are empty, out of order or past the bits")]
+    BadGaps,
+    /// There is too little room for the items. How many there are was told.
+    #[error("too little room for the items")]
+    SmallRoom,
+    /// The state is none that a call can have left.
+    #[error("a state that no call left")]
+    UnlawfulState,
+    /// The places are no range of the recording.
+    #[error("places that are no range of the recording")]
+    PlaceRange,
+    /// A word has more than 26 bits.
+    #[error("a word of more than 26 bits")]
+    BlockRange,
+    /// A number that is none of an offset.
+    #[error("a number that is none of an offset")]
+    OffsetRange,
+    /// A number that is none of a refusal.
+    #[error("a number that is none of a refusal")]
+    NoRefusal,
+}
+
+impl Refusal {
+    ghost use Rattle.rds_abi.specs.Refusals.{number_of, name_of};
+
+    /// The number of the refusal, never 0.
+    pub fn number(self) -> u8
+        ensures { result ≡ number_of self }
+    {
+        match self {
+            Refusal::BurstRange => 1,
+            Refusal::ReachRange => 2,
+            Refusal::LossRange => 3,
+            Refusal::BitsPastBytes => 4,
+            Refusal::TooLong => 5,
+            Refusal::OutOfMemory => 8,
+            Refusal::ShareRange => 15,
+            Refusal::BadGaps => 16,
+            Refusal::SmallRoom => 64,
+            Refusal::UnlawfulState => 65,
+            Refusal::PlaceRange => 66,
+            Refusal::BlockRange => 67,
+            Refusal::OffsetRange => 68,
+            Refusal::NoRefusal => 69,
+        }
+    }
+
+    /// The refusal of this number, or none.
+    pub fn of_number(number: u8) -> Option<Refusal>
+        ensures some { IfSome result (λ refusal. number_of refusal ≡ number) }
+        ensures none { result ≡ None → (refusal : Refusal) → number_of refusal ≡ number → ⊥ }
+    {
+        match number {
+            1 => Some(Refusal::BurstRange),
+            2 => Some(Refusal::ReachRange),
+            3 => Some(Refusal::LossRange),
+            4 => Some(Refusal::BitsPastBytes),
+            5 => Some(Refusal::TooLong),
+            8 => Some(Refusal::OutOfMemory),
+            15 => Some(Refusal::ShareRange),
+            16 => Some(Refusal::BadGaps),
+            64 => Some(Refusal::SmallRoom),
+            65 => Some(Refusal::UnlawfulState),
+            66 => Some(Refusal::PlaceRange),
+            67 => Some(Refusal::BlockRange),
+            68 => Some(Refusal::OffsetRange),
+            69 => Some(Refusal::NoRefusal),
+            _ => None,
+        }
+    }
+
+    /// The name of the refusal.
+    pub fn name(self) -> &'static str
+        ensures { result.now ≡ name_of self }
+    {
+        match self {
+            Refusal::BurstRange => "BurstRange",
+            Refusal::ReachRange => "ReachRange",
+            Refusal::LossRange => "LossRange",
+            Refusal::BitsPastBytes => "BitsPastBytes",
+            Refusal::TooLong => "TooLong",
+            Refusal::OutOfMemory => "OutOfMemory",
+            Refusal::ShareRange => "ShareRange",
+            Refusal::BadGaps => "BadGaps",
+            Refusal::SmallRoom => "SmallRoom",
+            Refusal::UnlawfulState => "UnlawfulState",
+            Refusal::PlaceRange => "PlaceRange",
+            Refusal::BlockRange => "BlockRange",
+            Refusal::OffsetRange => "OffsetRange",
+            Refusal::NoRefusal => "NoRefusal",
+        }
+    }
+}
+
+impl From<AllocError> for Refusal {
+    ghost from_gives = { λ _ refusal. refusal ≡ OutOfMemory };
+
+    fn from(_error: AllocError) -> Refusal {
+        Refusal::OutOfMemory
+    }
+}
+
+impl<T: Drop> From<AllocFailed<T>> for Refusal {
+    ghost from_gives = { λ _ refusal. refusal ≡ OutOfMemory };
+
+    fn from(_error: AllocFailed<T>) -> Refusal {
+        Refusal::OutOfMemory
+    }
+}

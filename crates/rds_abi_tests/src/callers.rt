@@ -1,0 +1,125 @@
+//! What a user gets of the library for C.
+ghost use Rattle.std.specs.Prelude.{◌≡◌, ◌≢◌, ◌++◌, ◌^◌, ◌<◌, ◌⊎◌, [], ◌∷◌, IfOk, IfSome, None, take, true};
+ghost use Rattle.rds_code.specs.Remainder.{rem};
+ghost use Rattle.rds_sync.specs.Report.{report_items};
+ghost use Rattle.rds_sync.specs.Totals.{totals_of};
+ghost use Rattle.rds_abi.specs.Asked.{asked, items_asked, recording_of, rules_of};
+ghost use Rattle.rds_abi.specs.Blocks.{packed};
+
+use rds_abi::{
+    RdsGap, RdsItem, RdsPacked, RdsRules, RdsState, RdsWords, Refusal, encode, finish_run, items,
+    remainder, run, totals,
+};
+use rds_sync::laws;
+use std::alloc::Global;
+
+/// How many groups a recording without gaps has: those of its report.
+pub fn groups_of(alloc: Global, bytes: &[u8], bits: u64, rules: RdsRules) -> Result<u64, Refusal>
+    ensures { IfOk result (λ groups. groups ≡ (totals_of (report_items (recording_of bytes.now bits []) (rules_of rules))).groups) }
+{
+    Ok(totals(alloc, bytes, bits, &[], rules)?.groups)
+}
+
+/// Rules that correct six bits are refused as such, whatever else is asked, or for want of memory.
+pub fn six_bits_refused(alloc: Global, bytes: &[u8], reach: u32) -> Option<Refusal>
+    ensures refused { result ≢ None }
+    ensures why { IfSome result (λ refusal. (refusal ≡ Refusal.BurstRange) ⊎ (refusal ≡ Refusal.OutOfMemory)) }
+{
+    let rules = RdsRules {
+        burst: 6,
+        reach,
+        loss: 1,
+        of: 0,
+    };
+    totals(alloc, bytes, 0, &[], rules).err()
+}
+
+/// How many items the parts of a list have.
+#[derive(Clone, Copy, Debug, PartialEq, Eq)]
+pub struct Counts {
+    pub first: u64,
+    pub second: u64,
+    pub end: u64,
+}
+
+/// A recording in two ranges, and what its end closes: together the items of the whole.
+pub fn in_two_ranges(
+    alloc: Global,
+    bytes: &[u8],
+    bits: u64,
+    gaps: &[RdsGap],
+    rules: RdsRules,
+    middle: u64,
+    first: &mut [RdsItem],
+    second: &mut [RdsItem],
+    end: &mut [RdsItem],
+) -> Result<Counts, Refusal>
+    ensures { IfOk result (λ counts. take counts.first first.new ++ (take counts.second second.new ++ take counts.end end.new)
+        ≡ items_asked (asked bytes.now bits gaps.now rules)) }
+{
+    laws::runs_join();
+    laws::runs_are_reports();
+    let mut counts = Counts {
+        first: 0,
+        second: 0,
+        end: 0,
+    };
+    let mut state = RdsState::SEARCHING;
+    run(
+        alloc,
+        bytes,
+        bits,
+        gaps,
+        rules,
+        (0, middle),
+        &mut state,
+        first,
+        &mut counts.first,
+    )?;
+    run(
+        alloc,
+        bytes,
+        bits,
+        gaps,
+        rules,
+        (middle, bits),
+        &mut state,
+        second,
+        &mut counts.second,
+    )?;
+    finish_run(alloc, bytes, bits, gaps, rules, state, end, &mut counts.end)?;
+    Ok(counts)
+}
+
+/// A list that fits is written, and what stands behind it is as it was.
+pub fn last_is_kept(
+    alloc: Global,
+    bytes: &[u8],
+    bits: u64,
+    rules: RdsRules,
+    room: &mut [RdsItem],
+) -> Result<u64, Refusal>
+    ensures { IfOk result (λ count. take count room.new ≡ items_asked (asked bytes.now bits [] rules)) }
+{
+    let mut count = 0;
+    items(alloc, bytes, bits, &[], rules, room, &mut count)?;
+    Ok(count)
+}
+
+/// One group in bytes.
+pub fn group_in_bytes(words: RdsWords, room: &mut [RdsPacked]) -> bool
+    ensures { result ≡ true → take 1 room.new ≡ packed words ∷ [] }
+{
+    encode(&[words], room).is_ok()
+}
+
+/// The remainder of a word that fits is told.
+pub fn told_remainder(word: u32) -> u16
+    requires { word < 2 ^ 26 }
+    ensures { result ≡ rem word }
+{
+    match remainder(word) {
+        Ok(remainder) => remainder,
+        Err(_) => unreachable!(),
+    }
+}

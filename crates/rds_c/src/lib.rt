@@ -1,0 +1,14 @@
+//! The decoder for C, and for what calls C.
+//!
+//! Each function here is one of `rds_abi`'s, under the name that C calls it by: the number 0 stands for its `Ok`, and else
+//! the number of the refusal. `rds.h` says what of each pointer is required, who owns it, and which calls may run at once.
+//!
+//! # What callers may rely on
+//!
+//! - After 0 what was asked for is written, and nothing else.
+//! - After any other number nothing that was lent has changed, but for the count that a `SmallRoom` tells.
+#![tactic(auto)]
+
+mod alone;
+mod going;
+mod whole;

@@ -1,0 +1,47 @@
+use Rattle.std.proofs.Common.{◌≡◌, ℕ, ◌≤◌, ◌∙◌, bit_xor, [], ◌∷◌, refl, sym, ap, subst, arith}
+use Rattle.rds_code.specs.declared.offset.Offset.{Offset}
+use Rattle.rds_code.specs.declared.offset.Offset.TheVariants.{A, B, C, Cx, D}
+use Rattle.rds_code.specs.declared.reading.Wanted.{Wanted}
+use Rattle.rds_code.specs.Inside.Kinds.{IsKind}
+use Rattle.rds_code.specs.Kinds.{kind_of}
+use Rattle.rds_code.specs.Offsets.{number, word}
+use Rattle.rds_code.specs.Reading.{reading, wanted_offsets}
+use Rattle.rds_code.specs.Remainder.{rem}
+use Rattle.rds_code.proofs.KindLemmas.{by_single}
+use Rattle.rds_code.proofs.ReadingLemmas.{only_A, only_B, only_D, wanted_1, wanted_2, wanted_4}
+use Rattle.rds_code.proofs.kinds.Kinds.of_block.Goals as goal
+
+-- the kind with the offset of a window whose remainder is r
+with_offset : (limit w r k : ℕ) (o : Offset) → r ≡ rem w → IsKind limit (bit_xor r (word o)) k → IsKind limit (bit_xor (rem w) (word o)) k
+with_offset limit w r k o is kind = subst (λ (n : ℕ). IsKind limit (bit_xor n (word o)) k) is kind
+
+-- where the number is x, of which there is one offset
+one_offset : (limit w r k x y : ℕ) (wanted : Wanted) (o : Offset) → limit ≤ 5 → y ≡ x → wanted_offsets x wanted ≡ o ∷ [] → number o ≡ x → ((p : Offset) → number p ≡ x → p ≡ o)
+    → r ≡ rem w → IsKind limit (bit_xor r (word o)) k → k ≡ kind_of (reading w y wanted limit)
+one_offset limit w r k x y wanted o few here list own alone is kind =
+    by_single w limit few x wanted o k list own alone (with_offset limit w r k o is kind) ∙ ap (λ (n : ℕ). kind_of (reading w n wanted limit)) (sym here)
+
+pub returns-in-1-clause-value : goal.returns-in-1-clause-value
+returns-in-1-clause-value c =
+    one_offset c.args.self.now c.args.w c.rem26-remainder.result c.with.result 1 c.args.number c.args.wanted A
+    c.with.ensures.few c.in-1.is (wanted_1 c.args.wanted).0 refl only_A c.rem26-remainder.ensures.value c.with.ensures.kind
+
+pub returns-in-2-clause-value : goal.returns-in-2-clause-value
+returns-in-2-clause-value c =
+    one_offset c.args.self.now c.args.w c.rem26-remainder.result c.with-in-2.result 2 c.args.number c.args.wanted B
+    c.with-in-2.ensures.few c.in-2.is (wanted_2 c.args.wanted).0 refl only_B c.rem26-remainder.ensures.value c.with-in-2.ensures.kind
+
+pub returns-in-3-clause-value : goal.returns-in-3-clause-value
+returns-in-3-clause-value c =
+    let r : ℕ = c.rem26-remainder.result in
+    let limit : ℕ = c.args.self.now in
+    c.of_third.ensures.value c.args.w limit c.with-version_a.ensures.few
+    (with_offset limit c.args.w r c.with-version_a.result C c.rem26-remainder.ensures.value c.with-version_a.ensures.kind)
+    (with_offset limit c.args.w r c.with-version_b.result Cx c.rem26-remainder.ensures.value c.with-version_b.ensures.kind)
+    ∙ ap (λ (n : ℕ). kind_of (reading c.args.w n c.args.wanted limit)) (sym c.in-3.is)
+
+pub returns-in_default-clause-value : goal.returns-in_default-clause-value
+returns-in_default-clause-value c =
+    let four : c.args.number ≡ 4 = omega (arith, c.requires.first, c.requires.last, c.in_default) in
+    one_offset c.args.self.now c.args.w c.rem26-remainder.result c.with-in_default.result 4 c.args.number c.args.wanted D
+    c.with-in_default.ensures.few four (wanted_4 c.args.wanted).0 refl only_D c.rem26-remainder.ensures.value c.with-in_default.ensures.kind

@@ -1,0 +1,27 @@
+-- A table of the kinds of blocks by their remainders: an implementation's own, which no caller sees.
+use Rattle.std.specs.Prelude.{◌≡◌, ℕ, ◌<◌, ◌≤◌, ◌⊎◌, List, length, slice_index}
+use Rattle.std.specs.Int.Count.{ones}
+use Rattle.rds_code.specs.Remainder.{rem}
+use Rattle.rds_code.specs.Bursts.{IsBurst, span}
+use Rattle.rds_code.specs.Kinds.{kind_of_burst}
+
+-- no burst within the limit has the remainder d
+abbrev pub HasNoBurst : ℕ → ℕ → Type 0
+HasNoBurst limit d = (e : ℕ) → IsBurst limit e → rem e ≡ d → ⊥
+
+-- one has
+abbrev pub HasBurst : ℕ → ℕ → ℕ → Type 0
+HasBurst limit d e = IsBurst limit e × (rem e ≡ d)
+
+-- k is the kind of a window whose remainder, added to an offset word, is d: valid, lost, or corrected by a burst
+abbrev pub IsKind : ℕ → ℕ → ℕ → Type 0
+IsKind limit d k = ((d ≡ 0) × (k ≡ 1)) ⊎ ((0 < d) × HasNoBurst limit d × (k ≡ 2)) ⊎ ((e : ℕ) × HasBurst limit d e × (k ≡ kind_of_burst (span e) (ones e)))
+
+-- the first kinds of all stand in the table
+abbrev pub StandIn : ℕ → List ℕ → Type 0
+StandIn limit kinds = (d : ℕ) → d < length kinds → IsKind limit d (slice_index kinds d)
+
+pub record AreKinds (limit : ℕ) (kinds : List ℕ) : Type 0 where
+  pub few : limit ≤ 5
+  pub long : length kinds ≡ 1024
+  pub each : StandIn limit kinds

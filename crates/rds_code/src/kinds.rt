@@ -1,0 +1,136 @@
+ghost use Rattle.std.specs.Prelude.{◌≡◌, ◌^◌, ◌<◌, ◌≤◌, ◌*◌, bit_xor, IfOk, length, ℕ};
+ghost use Rattle.rds_code.specs.Inside.Kinds.{IsKind, StandIn};
+ghost use Rattle.rds_code.specs.Kinds.{kind_of};
+ghost use Rattle.rds_code.specs.Offsets.{word};
+ghost use Rattle.rds_code.specs.declared.offset.Offset.TheVariants.{C, Cx};
+ghost use Rattle.rds_code.specs.Reading.{reading};
+ghost use Rattle.rds_code.specs.Remainder.{rem};
+
+use crate::error::CodeError;
+use crate::offset::Offset;
+use crate::reading::Wanted;
+use crate::remainder::rem26;
+use crate::table::BurstTable;
+use std::alloc::{AllocError, Global};
+use std::marker::Model;
+
+/// How many remainders there are.
+const REMAINDERS: u16 = 1024;
+
+/// How blocks come out, with bursts of up to a limit corrected: valid, lost, or corrected by a burst of a span with a
+/// number of ones. [`read_block`](crate::read_block) says more, and takes longer where a block is damaged: this asks a
+/// table, with no branch that damage decides. Contracts see the limit.
+#[derive(Drop)]
+pub struct Kinds {
+    /// By the sum of a remainder and an offset word.
+    kinds: Vec<u8>,
+    limit: u8,
+}
+
+impl Model for Kinds {
+    ghost use Rattle.std.specs.Prelude.{ℕ};
+    ghost use Rattle.rds_code.specs.Inside.Kinds.{AreKinds};
+
+    ghost Value = { ℕ };
+
+    ghost view = { λ k. k.limit };
+
+    ghost invariant = { λ k. AreKinds k.limit k.kinds.items };
+}
+
+impl Kinds {
+    /// The kind of a valid block.
+    pub const VALID: u8 = 1;
+
+    /// The kind of a lost block.
+    pub const LOST: u8 = 2;
+
+    /// The kinds where bursts of up to `limit` bits, 0 to 5, are corrected. Takes 1,024 bytes, and fails with
+    /// `OutOfMemory` alone.
+    pub fn new(alloc: Global, table: &BurstTable, limit: u8) -> Result<Kinds, CodeError>
+        requires { limit ≤ 5 }
+        ensures { IfOk result (λ kinds. kinds ≡ limit) }
+    {
+        let kinds = all_kinds(alloc, table, limit)?;
+        Ok(Kinds { kinds, limit })
+    }
+
+    /// The kind of the window `w`, a word of 26 bits, read as block `number`, 1 to 4: 1 where it is valid, 2 where it is
+    /// lost, and 3 to 13 by the burst that is taken off.
+    #[inline(always)]
+    pub fn of_block(&self, w: u32, number: u8, wanted: Wanted) -> u8
+        requires block { w < 2 ^ 26 }
+        requires first { 1 ≤ number }
+        requires last { number ≤ 4 }
+        ensures value { result ≡ kind_of (reading w number wanted self.now) }
+        ensures most { result ≤ 13 }
+    {
+        let remainder = rem26(w);
+        match number {
+            1 => self.with(remainder, Offset::A),
+            2 => self.with(remainder, Offset::B),
+            3 => {
+                let version_a = self.with(remainder, Offset::C);
+                let version_b = self.with(remainder, Offset::Cx);
+                of_third(version_a, version_b, wanted)
+            }
+            _ => self.with(remainder, Offset::D),
+        }
+    }
+
+    /// The kind of a window of this remainder, read with this offset.
+    #[inline(always)]
+    fn with(&self, remainder: u16, offset: Offset) -> u8
+        requires { remainder < 1024 }
+        ensures kind { IsKind self.now (bit_xor remainder (word offset)) result }
+        ensures most { result ≤ 13 }
+        ensures few { self.now ≤ 5 }
+    {
+        self.kinds[(remainder ^ offset.word()) as usize]
+    }
+}
+
+/// The kind of block 3, by those that it has read with C and with C'.
+#[inline(always)]
+fn of_third(version_a: u8, version_b: u8, wanted: Wanted) -> u8
+    requires { (version_a ≤ 13) × (version_b ≤ 13) }
+    ensures value { (w limit : ℕ) → limit ≤ 5 → IsKind limit (bit_xor (rem w) (word C)) version_a
+        → IsKind limit (bit_xor (rem w) (word Cx)) version_b → result ≡ kind_of (reading w 3 wanted limit) }
+    ensures most { result ≤ 13 }
+{
+    if version_a == Kinds::VALID || version_b == Kinds::VALID {
+        return Kinds::VALID;
+    }
+    match wanted {
+        Wanted::OnlyC => version_a,
+        Wanted::OnlyCx => version_b,
+        Wanted::Either if version_a == Kinds::LOST => version_b,
+        Wanted::Either if version_b == Kinds::LOST => version_a,
+        Wanted::Either => Kinds::LOST,
+    }
+}
+
+/// The kinds by all remainders.
+fn all_kinds(alloc: Global, table: &BurstTable, limit: u8) -> Result<Vec<u8>, AllocError>
+    requires { limit ≤ 5 }
+    ensures { IfOk result (λ kinds. (length kinds.items ≡ 1024) × StandIn limit kinds.items) }
+{
+    let mut kinds = Vec::with_capacity(alloc, REMAINDERS as usize)?;
+    for remainder in 0..REMAINDERS {
+        kinds.push_reserved(kind(table, remainder, limit));
+    }
+    Ok(kinds)
+}
+
+/// The kind by one remainder.
+fn kind(table: &BurstTable, remainder: u16, limit: u8) -> u8
+    requires remainder { remainder < 1024 }
+    requires limit { limit ≤ 5 }
+    ensures { IsKind limit remainder result }
+{
+    match table.find(remainder, limit) {
+        Some(burst) => burst.kind(),
+        None if remainder == 0 => Kinds::VALID,
+        None => Kinds::LOST,
+    }
+}

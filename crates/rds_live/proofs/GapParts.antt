@@ -1,0 +1,133 @@
+-- The gaps of a part of a stream may be gaps there, and touch the same windows.
+use Rattle.std.proofs.Common.{◌≡◌, ℕ, zero, suc, ◌+◌, ◌-◌, ◌*◌, ◌<◌, ◌≤◌, List, [], ◌∷◌, Bool, true, false, length, min, refl, sym, ap, ap₂, subst, ◌∙◌, arith, inl, inr}
+use Rattle.std.specs.Prelude.{⊤, nat_le, nat_lt, ◌&&◌, ◌||◌, slice_index_or}
+use Rattle.std.specs.List.{All, AllAdjacentBelow, list_any}
+use Rattle.std.proofs.lemmas.Bool.{cases_lt, false≢true, le-leb, leb-true, le-ltb, lt-ltb, ltb-true}
+use Rattle.std.proofs.lemmas.List.Elements.{All-cons, All-head, All-nil, All-tail}
+use Rattle.rds_stream.specs.Recording.{AreGaps, is_touched_by}
+use Rattle.rds_live.specs.Gaps.{gaps_within}
+
+-- ---- gaps, one after another
+
+-- gaps from a place on, which end by another
+abbrev AreFrom : ℕ → List (ℕ × ℕ) → ℕ → Type 0
+AreFrom low [] n = ⊤
+AreFrom low (gap ∷ gaps) n = (low ≤ gap.0) × (gap.0 < gap.1) × (gap.1 ≤ n) × AreFrom gap.1 gaps n
+
+abbrev Lies : ℕ → ℕ × ℕ → Type 0
+Lies n gap = (gap.0 < gap.1) × (gap.1 ≤ n)
+
+abbrev Apart : List (ℕ × ℕ) → Type 0
+Apart gaps = AllAdjacentBelow (λ gap next. gap.1 ≤ next.0) gaps (length gaps)
+
+each : (low : ℕ) (gaps : List (ℕ × ℕ)) (n : ℕ) → AreFrom low gaps n → All (Lies n) gaps
+each low [] n h = All-nil (Lies n)
+each low (gap ∷ gaps) n h = All-cons (Lies n) gap gaps (h.1, h.2) (each gap.1 gaps n h.3)
+
+apart : (low : ℕ) (gaps : List (ℕ × ℕ)) (n : ℕ) → AreFrom low gaps n → Apart gaps
+apart low [] n h k d l = absurd (omega arith)
+apart low (gap ∷ []) n h k d l = absurd (omega arith)
+apart low (gap ∷ next ∷ gaps) n h zero d l = h.3.0
+apart low (gap ∷ next ∷ gaps) n h (suc k) d l =
+    let e : suc (k + 1) ≡ suc k + 1 = omega arith in
+    subst (λ (m : ℕ). (slice_index_or (next ∷ gaps) k d).1 ≤ (slice_index_or (gap ∷ next ∷ gaps) m d).0) e (apart gap.1 (next ∷ gaps) n h.3 k d (omega arith))
+
+after_first : (gap : ℕ × ℕ) (gaps : List (ℕ × ℕ)) → Apart (gap ∷ gaps) → Apart gaps
+after_first gap gaps h k d l =
+    let e : suc k + 1 ≡ suc (k + 1) = omega arith in
+    subst (λ (m : ℕ). (slice_index_or gaps k d).1 ≤ (slice_index_or (gap ∷ gaps) m d).0) e (h (suc k) d (omega arith))
+
+pass : (low : ℕ) (gaps : List (ℕ × ℕ)) (n : ℕ) → All (Lies n) gaps → Apart gaps
+    → ((d : ℕ × ℕ) → 0 < length gaps → low ≤ (slice_index_or gaps 0 d).0) → AreFrom low gaps n
+pass low [] n all between first = tt
+pass low (gap ∷ gaps) n all between first =
+    let lies = All-head (Lies n) gap gaps all in
+    let rest = pass gap.1 gaps n (All-tail (Lies n) gap gaps all) (after_first gap gaps between) (λ d l. between 0 d (omega arith)) in
+    (first gap (omega arith), lies.0, lies.1, rest)
+
+in-a-row : (gaps : List (ℕ × ℕ)) (n : ℕ) → AreGaps n gaps → AreFrom 0 gaps n
+in-a-row gaps n are = pass 0 gaps n are.each are.apart (λ d l. omega arith)
+
+-- ---- those of a part
+
+within : (d n top low from : ℕ) (gaps : List (ℕ × ℕ)) → from ≤ low - d → AreFrom low gaps top → AreFrom from (gaps_within gaps d n) n
+within d n top low from [] order h = tt
+within d n top low from (gap ∷ gaps) order h = elim (cases_lt (gap.0 - d) (min (gap.1 - d) n)) [
+  | inl some ↦ rw (lt-ltb (gap.0 - d) (min (gap.1 - d) n) some) (omega (arith, h.0), some, omega arith, within d n top gap.1 (min (gap.1 - d) n) gaps (omega arith) h.3)
+  | inr none ↦ rw (le-ltb (gap.0 - d) (min (gap.1 - d) n) none) (within d n top gap.1 from gaps (omega (arith, h.0, h.1)) h.3)
+]
+
+-- they may be gaps of it
+pub gaps-of-part : (top d n : ℕ) (gaps : List (ℕ × ℕ)) → AreGaps top gaps → AreGaps n (gaps_within gaps d n)
+gaps-of-part top d n gaps are =
+    let row = within d n top 0 0 gaps (omega arith) (in-a-row gaps top are) in
+    record { each = each 0 (gaps_within gaps d n) n row; apart = apart 0 (gaps_within gaps d n) n row }
+
+-- they are those that were found, of as many places
+pub found-of-part : (top d m n : ℕ) (gaps found : List (ℕ × ℕ)) → AreGaps top gaps → found ≡ gaps_within gaps d m → m ≡ n → AreGaps n found
+found-of-part top d m n gaps found are is long =
+    subst (λ (gs : List (ℕ × ℕ)). AreGaps n gs) (sym (is ∙ ap (gaps_within gaps d) long)) (gaps-of-part top d n gaps are)
+
+-- no place has none
+pub none-of-part : (d : ℕ) (gaps : List (ℕ × ℕ)) → [] ≡ gaps_within gaps d 0
+none-of-part d [] = refl
+none-of-part d (gap ∷ gaps) =
+    let none : min (gap.1 - d) 0 ≤ gap.0 - d = omega arith in
+    rw (le-ltb (gap.0 - d) (min (gap.1 - d) 0) none) (none-of-part d gaps)
+
+-- ---- the windows that they touch
+
+same-truth : (p q : Bool) → (p ≡ true → q ≡ true) → (q ≡ true → p ≡ true) → p ≡ q
+same-truth true true f g = refl
+same-truth true false f g = sym (f refl)
+same-truth false true f g = g refl
+same-truth false false f g = refl
+
+both-true : (p q : Bool) → (p && q) ≡ true → (p ≡ true) × (q ≡ true)
+both-true true true e = (refl, refl)
+both-true true false e = absurd (false≢true e)
+both-true false q e = absurd (false≢true e)
+
+not-true : (p : Bool) → (p ≡ true → ⊥) → p ≡ false
+not-true true h = absurd (h refl)
+not-true false h = refl
+
+-- a gap of which some lies in the part touches a window there, where the whole of it does
+same-touch : (d n i : ℕ) (gap : ℕ × ℕ) → 25 ≤ i → i < n → is_touched_by i (gap.0 - d, min (gap.1 - d) n) ≡ is_touched_by (i + d) gap
+same-touch d n i gap late early =
+    ap₂ ◌&&◌
+    (same-truth (nat_le (gap.0 - d) i) (nat_le gap.0 (i + d))
+    (λ e. le-leb gap.0 (i + d) (omega (arith, leb-true (gap.0 - d) i e)))
+    (λ e. le-leb (gap.0 - d) i (omega (arith, leb-true gap.0 (i + d) e))))
+    (same-truth (nat_lt (i - 25) (min (gap.1 - d) n)) (nat_lt (i + d - 25) gap.1)
+    (λ e. lt-ltb (i + d - 25) gap.1 (omega (arith, ltb-true (i - 25) (min (gap.1 - d) n) e)))
+    (λ e. lt-ltb (i - 25) (min (gap.1 - d) n) (omega (arith, ltb-true (i + d - 25) gap.1 e))))
+
+-- and a gap of which nothing lies there touches none
+no-touch : (d n i : ℕ) (gap : ℕ × ℕ) → 25 ≤ i → i < n → gap.0 < gap.1 → min (gap.1 - d) n ≤ gap.0 - d → is_touched_by (i + d) gap ≡ false
+no-touch d n i gap late early some none =
+    not-true (is_touched_by (i + d) gap) (λ e.
+    let both = both-true (nat_le gap.0 (i + d)) (nat_lt (i + d - 25) gap.1) e in
+    absurd (omega (arith, leb-true gap.0 (i + d) both.0, ltb-true (i + d - 25) gap.1 both.1)))
+
+touches-alike : (d n i top low : ℕ) (gaps : List (ℕ × ℕ)) → 25 ≤ i → i < n → AreFrom low gaps top
+    → list_any (is_touched_by i) (gaps_within gaps d n) ≡ list_any (is_touched_by (i + d)) gaps
+touches-alike d n i top low [] late early h = refl
+touches-alike d n i top low (gap ∷ gaps) late early h = elim (cases_lt (gap.0 - d) (min (gap.1 - d) n)) [
+  | inl some ↦ rw (lt-ltb (gap.0 - d) (min (gap.1 - d) n) some)
+      (ap₂ ◌||◌ (same-touch d n i gap late early) (touches-alike d n i top gap.1 gaps late early h.3))
+  | inr none ↦ rw (le-ltb (gap.0 - d) (min (gap.1 - d) n) none)
+      (touches-alike d n i top gap.1 gaps late early h.3
+      ∙ ap (λ (t : Bool). t || list_any (is_touched_by (i + d)) gaps) (sym (no-touch d n i gap late early h.1 none)))
+]
+
+-- what is said of the windows of a part and of those of the whole, so many places further
+abbrev pub TouchAlike : ℕ → ℕ → List (ℕ × ℕ) → List (ℕ × ℕ) → Type 0
+TouchAlike d n whole part = (i : ℕ) → 25 ≤ i → i < n → list_any (is_touched_by i) part ≡ list_any (is_touched_by (i + d)) whole
+
+pub part-touched : (top d n : ℕ) (gaps : List (ℕ × ℕ)) → AreGaps top gaps → TouchAlike d n gaps (gaps_within gaps d n)
+part-touched top d n gaps are i late early = touches-alike d n i top 0 gaps late early (in-a-row gaps top are)
+
+-- in a beginning they are the same
+pub start-touched : (n : ℕ) (gaps : List (ℕ × ℕ)) → TouchAlike (8 * 0) n gaps gaps
+start-touched n gaps i late early = let e : i ≡ i + 8 * 0 = omega arith in ap (λ (p : ℕ). list_any (is_touched_by p) gaps) e

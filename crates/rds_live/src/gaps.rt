@@ -1,0 +1,53 @@
+//! Gaps of a stream, and those of a part of it.
+ghost use Rattle.std.specs.Prelude.{◌≡◌, ◌<◌, ◌≤◌, ◌↔◌, IfOk, length, true};
+ghost use Rattle.std.specs.List.{All, AllAdjacentBelow};
+ghost use Rattle.rds_stream.specs.Recording.{AreGaps};
+ghost use Rattle.rds_live.specs.Gaps.{gaps_within, part_of_gap as the_part_of_gap};
+
+use std::alloc::{AllocError, Global};
+
+/// Whether these are gaps that so many bits may have: each has a place and lies within the bits, and each begins at or
+/// after the end of the one before it.
+pub(crate) fn are_gaps(gaps: &[(u64, u64)], bits: u64) -> bool
+    ensures { (result ≡ true) ↔ AreGaps bits gaps.now }
+{
+    are_within(gaps, bits) && are_apart(gaps)
+}
+
+/// Whether each has a place and lies within so many bits.
+fn are_within(gaps: &[(u64, u64)], bits: u64) -> bool
+    ensures { (result ≡ true) ↔ All (λ gap. (gap.0 < gap.1) × (gap.1 ≤ bits)) gaps.now }
+{
+    gaps.iter().all(|&(from, to)| from < to && to <= bits)
+}
+
+/// Whether each begins at or after the end of the one before it.
+fn are_apart(gaps: &[(u64, u64)]) -> bool
+    ensures { (result ≡ true) ↔ AllAdjacentBelow (λ gap next. gap.1 ≤ next.0) gaps.now (length gaps.now) }
+{
+    gaps.is_sorted_by(|gap, next| gap.1 <= next.0)
+}
+
+/// The gaps in the part of a stream that begins at `before` and has `len` places, by their places in the part.
+pub(crate) fn gaps_of_part(
+    alloc: Global,
+    gaps: &[(u64, u64)],
+    before: u64,
+    len: u64,
+) -> Result<Vec<(u64, u64)>, AllocError>
+    ensures { IfOk result (λ part. part.items ≡ gaps_within gaps.now before len) }
+{
+    gaps.iter()
+        .copied()
+        .filter_map(|gap| part_of_gap(before, len, gap))
+        .collect(alloc)
+}
+
+/// As much of a gap as lies in the part, by its places there.
+fn part_of_gap(before: u64, len: u64, gap: (u64, u64)) -> Option<(u64, u64)>
+    ensures { result ≡ the_part_of_gap before len gap }
+{
+    let from = gap.0.saturating_sub(before);
+    let to = gap.1.saturating_sub(before).min(len);
+    if from < to { Some((from, to)) } else { None }
+}

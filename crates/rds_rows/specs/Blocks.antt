@@ -1,0 +1,7 @@
+-- A block of what is made and not yet written, as its callers see it.
+use Rattle.std.specs.Prelude.{ℕ, List}
+use Rattle.rds_rows.specs.declared.block.Block.{Block}
+
+-- what it keeps
+abbrev pub kept_in : Block → List ℕ
+kept_in block = block.kept.items

@@ -1,0 +1,53 @@
+-- The blocks of a group of which all four were heard, and its word.
+use Rattle.std.proofs.Common.{◌≡◌, ◌+◌, ◌-◌, ◌*◌, ◌≤◌, ℕ, List, [], ◌∷◌, Option, None, get_or, map, refl, sym, ap, ◌∙◌, arith}
+use Rattle.rds_code.specs.Kinds.{kind_of}
+use Rattle.rds_code.specs.declared.reading.Wanted.{Wanted}
+use Rattle.rds_code.specs.declared.reading.Wanted.TheVariants.{Either}
+use Rattle.rds_code.specs.declared.reading.Reading.{Reading}
+use Rattle.rds_code.specs.declared.reading.Reading.TheVariants.{Valid, Corrected, Lost}
+use Rattle.rds_stream.specs.InARow.{four_heard}
+use Rattle.rds_stream.specs.Recording.{Signal, reading_heard, reading_at}
+use Rattle.rds_sync.specs.declared.item.Block.TheVariants.{Read}
+use Rattle.rds_sync.specs.Codes.{outcome_of}
+use Rattle.rds_sync.specs.Groups.{block_at, blocks_at, wanted_beside}
+use Rattle.rds_sync.specs.Rules.{RuleNumbers}
+use Rattle.rds_sync.specs.Words.{nibble, word_of_blocks}
+use Rattle.rds_sync.proofs.GroupBlocks.{block_at-read, blocks_at-read}
+
+-- a block that was read from what was heard at its place
+read-there : (b : Signal) (rules : RuleNumbers) (due p y : ℕ) (wanted : Wanted) (read : Reading) → 1 ≤ y → y ≤ 4 → p ≡ due + 78 - 26 * (4 - y)
+    → read ≡ reading_at b p y wanted rules.burst → Read read ≡ block_at b rules 1 4 (due + 78) wanted y
+read-there b rules due p y wanted read low high place is =
+    ap (λ (r : Reading). Read r) is
+    ∙ ap (λ (q : ℕ). Read (reading_at b q y wanted rules.burst)) place
+    ∙ sym (block_at-read b rules 1 4 (due + 78) wanted y low high)
+
+-- the four blocks of a group that ends 78 places behind block 1
+pub heard-blocks : (b : Signal) (rules : RuleNumbers) (due : ℕ) (hs : List (Option ℕ)) → hs ≡ four_heard b due → (wanted : Wanted) (one two three four : Reading)
+    → one ≡ reading_heard (get_or hs 0 None) 1 Either rules.burst → two ≡ reading_heard (get_or hs 1 None) 2 Either rules.burst → wanted ≡ wanted_beside (Read two)
+    → three ≡ reading_heard (get_or hs 2 None) 3 wanted rules.burst → four ≡ reading_heard (get_or hs 3 None) 4 Either rules.burst
+    → Read one ∷ Read two ∷ Read three ∷ Read four ∷ [] ≡ blocks_at b rules 1 4 (due + 78)
+heard-blocks b rules due hs is wanted one two three four is_one is_two beside is_three is_four =
+    let limit = rules.burst in
+    let first : one ≡ reading_at b due 1 Either limit = is_one ∙ ap (λ (xs : List (Option ℕ)). reading_heard (get_or xs 0 None) 1 Either limit) is in
+    let second : two ≡ reading_at b (due + 26) 2 Either limit = is_two ∙ ap (λ (xs : List (Option ℕ)). reading_heard (get_or xs 1 None) 2 Either limit) is in
+    let third : three ≡ reading_at b (due + 52) 3 wanted limit = is_three ∙ ap (λ (xs : List (Option ℕ)). reading_heard (get_or xs 2 None) 3 wanted limit) is in
+    let fourth : four ≡ reading_at b (due + 78) 4 Either limit = is_four ∙ ap (λ (xs : List (Option ℕ)). reading_heard (get_or xs 3 None) 4 Either limit) is in
+    blocks_at-read b rules 1 4 (due + 78) (Read one) (Read two) (Read three) (Read four)
+    (read-there b rules due due 1 Either one (omega arith) (omega arith) (omega arith) first)
+    (read-there b rules due (due + 26) 2 Either two (omega arith) (omega arith) (omega arith) second)
+    (read-there b rules due (due + 52) 3 wanted three (omega arith) (omega arith) (omega arith) third
+    ∙ ap (λ (w : Wanted). block_at b rules 1 4 (due + 78) w 3) beside)
+    (read-there b rules due (due + 78) 4 Either four (omega arith) (omega arith) (omega arith) fourth)
+
+-- the kind of a reading is the four bits of its block
+pub kind-nibble : (r : Reading) → kind_of r ≡ nibble (outcome_of (Read r))
+kind-nibble (Valid o info) = refl
+kind-nibble (Corrected o info e) = refl
+kind-nibble Lost = refl
+
+-- four kinds are a word
+pub word-of-kinds : (one two three four : Reading) (k l m n w : ℕ) → k ≡ kind_of one → l ≡ nibble (outcome_of (Read two)) → m ≡ kind_of three → n ≡ kind_of four
+    → w ≡ k + 16 * (l + 16 * (m + 16 * n)) → w ≡ word_of_blocks (map outcome_of (Read one ∷ Read two ∷ Read three ∷ Read four ∷ []))
+word-of-kinds one two three four k l m n w first second third fourth is =
+    omega (arith, is, first ∙ kind-nibble one, second, third ∙ kind-nibble three, fourth ∙ kind-nibble four)

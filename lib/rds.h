@@ -1,0 +1,173 @@
+/* librds: the decoder of Radio Data System bits, for C and C++.
+ *
+ * Every function returns 0, or the number of a refusal (rds_refusal_name spells it). After a refusal nothing that was lent
+ * has changed, but for the count that RDS_SMALL_ROOM tells.
+ *
+ * What is required of a pointer, by its declaration:
+ *   const T *p        points to one T, aligned, that no other thread writes meanwhile; it is read only during the call
+ *   T *p              points to one T, aligned, of the caller's, that nobody else reads or writes meanwhile
+ *   p, p_len          the same of p_len values in a row; they may be none, and p is then any pointer but NULL
+ * No pointer may be NULL, and what two of them point to must not overlap, but for what is only read. Nothing is kept after
+ * the call: there is no handle, nothing to free, no thread, no lock and no global state. So any calls may run at the same
+ * time, in any threads, as long as no two write to the same memory. Only rds_totals, rds_items, rds_run,
+ * rds_finish_run and rds_correct ask for memory, by malloc, and have given it back when they return.
+ *
+ * What is said here of results is proved of the library's code: docs/PROOFS.md says what is, and what is only trusted.
+ */
+#ifndef RDS_H
+#define RDS_H
+
+#include <stddef.h>
+#include <stdint.h>
+
+#ifdef __cplusplus
+extern "C" {
+#endif
+
+#if defined(__GNUC__)
+#define RDS_NO_NULL __attribute__((nonnull))
+#else
+#define RDS_NO_NULL
+#endif
+
+/* Refusals: those of the program, by its numbers, and the library's own from 64 on. */
+enum {
+    RDS_BURST_RANGE = 1,
+    RDS_REACH_RANGE = 2,
+    RDS_LOSS_RANGE = 3,
+    RDS_BITS_PAST_BYTES = 4,
+    RDS_TOO_LONG = 5,
+    RDS_OUT_OF_MEMORY = 8,
+    RDS_SHARE_RANGE = 15,
+    RDS_BAD_GAPS = 16,
+    RDS_SMALL_ROOM = 64,
+    RDS_UNLAWFUL_STATE = 65,
+    RDS_PLACE_RANGE = 66,
+    RDS_BLOCK_RANGE = 67,
+    RDS_OFFSET_RANGE = 68,
+    RDS_NO_REFUSAL = 69
+};
+
+/* The twelve totals of a report: 96 bytes. */
+typedef struct rds_totals_t {
+    uint64_t valid;     /* valid blocks */
+    uint64_t bursts[5]; /* corrected blocks, by the span of their burst: 1 to 5 bits */
+    uint64_t lost;      /* blocks that were read and are neither valid nor corrected */
+    uint64_t bits;      /* bits corrected */
+    uint64_t groups;    /* groups */
+    uint64_t complete;  /* groups of which all four blocks are valid or corrected */
+    uint64_t acquired;  /* acquisitions */
+    uint64_t losses;    /* losses */
+} rds_totals_t;
+
+/* A block: 8 bytes, all 0 where it is missing. */
+typedef struct rds_block_t {
+    uint32_t burst; /* the burst that was taken off, as the ones of a word of 26 bits, or 0 */
+    uint16_t info;  /* the information word, or 0 */
+    uint8_t kind;   /* RDS_MISSING, RDS_LOST, RDS_VALID or RDS_CORRECTED */
+    uint8_t offset; /* 0 none, or RDS_A, RDS_B, RDS_C, RDS_CX or RDS_D */
+} rds_block_t;
+
+enum { RDS_MISSING = 0, RDS_LOST = 1, RDS_VALID = 2, RDS_CORRECTED = 3 };
+enum { RDS_A = 1, RDS_B = 2, RDS_C = 3, RDS_CX = 4, RDS_D = 5, RDS_C_OR_CX = 6 };
+
+/* An item of a report: 48 bytes. */
+typedef struct rds_item_t {
+    uint64_t place;        /* of the block that acquired or lost, or of a group's first bit that was read */
+    rds_block_t blocks[4]; /* of a group, or all missing */
+    uint8_t what;          /* RDS_ACQUIRED, RDS_GROUP or RDS_LOSS */
+    uint8_t number;        /* of an acquisition its block, 1 to 4; of a group its type, 0 to 15, or 255 where unknown */
+    uint8_t version;       /* of a group RDS_VERSION_A, RDS_VERSION_B or RDS_VERSION_UNKNOWN; else 0 */
+    uint8_t conflict;      /* 1 for a group whose blocks 2 and 3 name different versions */
+    uint32_t unused;       /* always 0 */
+} rds_item_t;
+
+enum { RDS_ACQUIRED = 1, RDS_GROUP = 2, RDS_LOSS = 3 };
+enum { RDS_VERSION_A = 1, RDS_VERSION_B = 2, RDS_VERSION_UNKNOWN = 3 };
+
+/* A gap in a recording, whose bits mean nothing: the places from begin to before end. 16 bytes. */
+typedef struct rds_gap_t {
+    uint64_t begin;
+    uint64_t end;
+} rds_gap_t;
+
+/* The numbers of a decoder's rules: 16 bytes. */
+typedef struct rds_rules_t {
+    uint32_t burst; /* the longest burst that is corrected, in bits: 0 to 5 */
+    uint32_t reach; /* how many blocks back a partner is looked for while acquiring: 1 to 8 */
+    uint32_t loss;  /* after how many bad blocks a lock is lost: 1 to 64 */
+    uint32_t of;    /* 0 where these are bad blocks in a row; else among how many of the last blocks: loss to 64 */
+} rds_rules_t;
+
+/* The rules of the program where no option says otherwise. */
+#define RDS_RULES {2, 3, 10, 0}
+
+/* What a run knows between two bits: 24 bytes, all 0 where no block is known, as before the first. They are numbers alone, which
+ * may be copied, stored, and gone on with elsewhere by the same rules. */
+typedef struct rds_state_t {
+    uint64_t due;    /* where the next block ends */
+    uint64_t bad;    /* how many of the last blocks in a row were bad; or, by a share, which of the last */
+    uint32_t number; /* the number of the next block, 1 to 4, or 0 where no block is known */
+    uint32_t first;  /* the number of the first block that was read in the group in progress */
+} rds_state_t;
+
+/* The information words of a group's four blocks: 8 bytes. */
+typedef struct rds_words_t {
+    uint16_t words[4];
+} rds_words_t;
+
+/* The 104 bits of a group as it is sent, the first bit highest: 13 bytes, so that groups in a row are a recording. */
+typedef struct rds_packed_t {
+    uint8_t bytes[13];
+} rds_packed_t;
+
+/* Enough bytes for the name of any refusal, with the 0 behind it. */
+#define RDS_NAME_ROOM 16
+
+/* The totals of the first bits bits of the bytes, the highest bit of a byte first, with these gaps, by these rules.
+ * Refusals: 1, 2, 3, 15, then 5, 4, 16, and 8. */
+RDS_NO_NULL uint8_t rds_totals(const uint8_t *bytes, size_t bytes_len, uint64_t bits, const rds_gap_t *gaps, size_t gaps_len,
+                               const rds_rules_t *rules, rds_totals_t *found);
+
+/* The items of the same, in order of place, to the beginning of room, and how many they are to count. Where there is too
+ * little room (64), count tells how many there are, and nothing else is written: so a first call with room for none asks,
+ * and takes as long as a second. Refusals: those of rds_totals, and 64. */
+RDS_NO_NULL uint8_t rds_items(const uint8_t *bytes, size_t bytes_len, uint64_t bits, const rds_gap_t *gaps, size_t gaps_len,
+                              const rds_rules_t *rules, rds_item_t *room, size_t room_len, uint64_t *count);
+
+/* Runs over the places from from to before to, from a state that is lawful before from: writes the items that this gives to
+ * the beginning of room, how many they are to count, and the state after them to state. Runs in a row, each from the state of
+ * the one before, are one run; from a state of zeros at place 0 to the last, with rds_finish_run behind it, they give the items of
+ * rds_items: so a list of any length needs room for few. A run hears up to 233 bits before from. Where there is too little room
+ * (64), count tells how many items there are, and nothing else is written. Each call copies the bytes. Refusals: those of
+ * rds_totals, then 66, 65, and 64. */
+RDS_NO_NULL uint8_t rds_run(const uint8_t *bytes, size_t bytes_len, uint64_t bits, const rds_gap_t *gaps, size_t gaps_len,
+                            const rds_rules_t *rules, uint64_t from, uint64_t to, rds_state_t *state, rds_item_t *room,
+                            size_t room_len, uint64_t *count);
+
+/* The group in progress at the end of the recording, as far as it was read, where a run over it ended in this state: to the
+ * beginning of room, and to count whether there is one, 1 or 0. Refusals: those of rds_run. */
+RDS_NO_NULL uint8_t rds_finish_run(const uint8_t *bytes, size_t bytes_len, uint64_t bits, const rds_gap_t *gaps, size_t gaps_len,
+                                   const rds_rules_t *rules, const rds_state_t *state, rds_item_t *room, size_t room_len,
+                                   uint64_t *count);
+
+/* The remainder of a word of 26 bits, below 1024. Refusals: 67. */
+RDS_NO_NULL uint8_t rds_remainder(uint32_t word, uint16_t *found);
+
+/* A word of 26 bits read as the block with this offset, RDS_A to RDS_C_OR_CX; a burst of up to limit bits, 0 to 5, is taken
+ * off where one alone fits. Refusals: 67, 68, 1, and 8. */
+RDS_NO_NULL uint8_t rds_correct(uint32_t word, uint8_t offset, uint8_t limit, rds_block_t *found);
+
+/* Groups as they are sent, to the beginning of room. Refusals: 64. */
+RDS_NO_NULL uint8_t rds_encode(const rds_words_t *groups, size_t groups_len, rds_packed_t *room, size_t room_len);
+
+/* The name of the refusal of this number, with a 0 behind it, to the beginning of room. Refusals: 69, 64. */
+RDS_NO_NULL uint8_t rds_refusal_name(uint8_t number, uint8_t *room, size_t room_len);
+
+/* The version of the library: 65536 times the first number, 256 times the second, and the third. */
+uint32_t rds_version(void);
+
+#ifdef __cplusplus
+}
+#endif
+#endif

@@ -1,0 +1,139 @@
+#!/usr/bin/env bash
+# The library for C, Rust and Python: tests/library.sh FOLDER PATH-TO-RDS
+#
+# FOLDER holds what lib/make_library.sh laid out. What rds.h declares is compared with the sources and with the bindings, and
+# with what both libraries show; programs in C, Rust and Python decode random recordings as the program does; each
+# allocation is refused; eight threads call at once; random states are handed over. What a tool is missing for is skipped, by
+# name. The last line is 'N passed, M failed', and the exit status says whether all passed.
+
+usage='usage: tests/library.sh FOLDER PATH-TO-RDS'
+# shellcheck source-path=SCRIPTDIR source=common.sh
+. "$(dirname "$0")/common.sh" || exit
+check_programs "${2:-}"
+[ -f "$1/librds.so.0" ] || misused
+library=$(realpath "$1")
+program=$(realpath "$2")
+cd "$here/.." || exit 1
+sample=examples/station.bin
+strict=(-Wall -Wextra -Wpedantic -Werror -O2 "-I$library")
+count=${RDS_LIBRARY_RECORDINGS:-2000}
+
+# has TOOL..: whether they are here; says what is left out where one isn't
+has() {
+  local tool
+  for tool in "$@"; do
+    command -v "$tool" >/dev/null || { echo "skipped: the tests that need $tool"; return 1; }
+  done
+}
+
+# tried NAME COMMAND..: passes where the command ends in status 0, and shows what it said where not
+tried() {
+  local name=$1
+  shift
+  if "$@" >"$work/said" 2>&1; then pass; else
+    fail "$name"
+    sed 's/^/  /' "$work/said" | tail -20
+  fi
+}
+
+same() {
+  if [ "$2" = "$3" ]; then pass; else
+    fail "$1"
+    printf '  wanted: %s\n  got:    %s\n' "$2" "$3"
+  fi
+}
+
+# ---- what is declared and shown
+
+tried 'the declarations' tests/library/layout.py lib/rds.h "$work"
+tried 'the layout in C' "${CC:-cc}" -std=c11 "${strict[@]}" -o "$work/layout" "$work/layout.c" "$library/librds.a"
+tried 'a call from C' "$work/layout"
+if has c++; then
+  tried 'the layout in C++' c++ -std=c++17 "${strict[@]}" -x c++ -c -o "$work/layout.o" "$work/layout.c"
+  tried 'C++ with the shared library' c++ -o "$work/layout" "$work/layout.o" "-L$library" -lrds "-Wl,-rpath,$library"
+  tried 'a call from C++' "$work/layout"
+fi
+declared=$(sed -n 's/^\(RDS_NO_NULL \)\{0,1\}[a-z0-9_]* \(rds_[a-z_]*\)(.*/\2/p' lib/rds.h | sort)
+same 'what librds.so.0 shows' "$declared" "$(nm -D --defined-only "$library/librds.so.0" | awk '$2 == "T" {sub("@.*", "", $3); print $3}' | sort)"
+same 'what librds.a shows' "$declared" "$(nm --defined-only -g "$library/librds.a" | awk 'NF == 3 {print $3}' | sort)"
+same 'what librds.a needs' 'free malloc memcpy memmove memset realloc' "$(nm -u "$library/librds.a" | awk 'NF == 2 {print $2}' | sort | tr '\n' ' ' | sed 's/ $//')"
+
+# A wrong declaration is found: a result of another type, fields that changed places, a constant pointer.
+for wrong in 's/^RDS_NO_NULL uint8_t rds_items/RDS_NO_NULL uint32_t rds_items/' 's/uint64_t lost; /uint64_t lots; /' \
+  's/const rds_state_t \*state/rds_state_t *state/'; do
+  sed "$wrong" lib/rds.h >"$work/rds.h"
+  if cmp -s lib/rds.h "$work/rds.h" || tests/library/layout.py "$work/rds.h" "$work" >/dev/null; then fail "not found: $wrong"; else pass; fi
+done
+
+# ---- what is decoded
+
+make_program() {
+  tried "making $1" "${CC:-cc}" -std=c11 -D_DEFAULT_SOURCE "${strict[@]}" -o "$work/$1" "tests/library/$1.c" "$library/librds.a" -lpthread
+}
+for it in rows refused threads states; do make_program "$it"; done
+rows=("$work/rows")
+if has cargo; then
+  export RDS_LIB_DIR=$library CARGO_TARGET_DIR=$work/cargo
+  tried 'the crate for Rust, and its tests' cargo test --quiet --offline --manifest-path bindings/rust/Cargo.toml
+  tried 'rows in Rust' cargo build --quiet --offline --release --example rows --manifest-path bindings/rust/Cargo.toml
+  rows+=("$work/cargo/release/examples/rows")
+fi
+if has python3; then
+  export RDS_LIBRARY=$library/librds.so.0
+  TMPDIR=$work tried "$count random recordings" python3 -B tests/library/compare.py "$count" "$program" "${rows[@]}"
+fi
+# ---- what is shown to users
+
+# in_readme LANGUAGE: the program of that language in the section of README.md
+in_readme() { awk -v of="\`\`\`$1" '/^### /{here = $0 ~ /From C, Rust and Python/} here && $0 == "```" {on = 0} on; here && $0 == of {on = 1}' README.md; }
+# said COMMAND..: what it says of the sample
+said() { "$@" <"$sample"; }
+wanted='7691 valid, 1923 groups'
+install=(make -s -o build/lib/librds.so.0 install-lib "DESTDIR=$work/root" PREFIX=/usr)
+if has pkg-config make; then
+  if [ "$library" = "$(realpath build/lib)" ]; then
+    tried 'installing' "${install[@]}"
+    export PKG_CONFIG_SYSROOT_DIR=$work/root PKG_CONFIG_PATH=$work/root/usr/lib/pkgconfig
+    in_readme c >"$work/readme.c"
+    read -ra found < <(PKG_CONFIG_ALLOW_SYSTEM_CFLAGS=1 PKG_CONFIG_ALLOW_SYSTEM_LIBS=1 pkg-config --cflags --libs rds)
+    tried 'the program in C' "${CC:-cc}" -Wall -Wextra -Werror -o "$work/readme" "$work/readme.c" "${found[@]}"
+    same 'what it says' "$wanted" "$(LD_LIBRARY_PATH=$work/root/usr/lib said "$work/readme")"
+    for it in totals programmes; do
+      tried "$it.c" "${CC:-cc}" -std=c11 -Wall -Wextra -Wpedantic -Werror -o "$work/$it" "bindings/c/$it.c" "${found[@]}"
+    done
+    same 'totals of a file' '1923 groups, 1922 of them complete; 0 bits corrected' \
+      "$(LD_LIBRARY_PATH=$work/root/usr/lib "$work/totals" "$sample")"
+    cat "$sample" <(head -c 9999 /dev/zero) "$sample" >"$work/twice"
+    same 'programmes of a stream' \
+      "$("$program" list <"$work/twice" | awk -F'[,:~]' '$1 == "group" && $5 == "A" && $6 != last {print last = $6}')" \
+      "$(LD_LIBRARY_PATH=$work/root/usr/lib "$work/programmes" <"$work/twice")"
+  else
+    echo 'skipped: what is installed, which is of build/lib'
+  fi
+fi
+if has python3; then
+  in_readme python >"$work/readme.py"
+  same 'the program in Python' "$wanted" "$(PYTHONPATH=bindings/python said python3 -B "$work/readme.py")"
+fi
+if has cargo; then
+  mkdir -p "$work/readme_rs/src"
+  in_readme rust >"$work/readme_rs/src/main.rs"
+  printf '[package]\nname = "readme"\nversion = "0.1.0"\nedition = "2021"\n[dependencies]\nrds = { path = "%s/bindings/rust" }\n' "$PWD" \
+    >"$work/readme_rs/Cargo.toml"
+  same 'the program in Rust' "$wanted" "$(said cargo run --quiet --offline --manifest-path "$work/readme_rs/Cargo.toml")"
+fi
+
+# ---- what may go wrong
+
+tried 'allocations refused' "$work/refused" "$sample"
+tried 'eight threads' "$work/threads" "$sample"
+tried 'random states' "$work/states" "$sample"
+if has valgrind; then
+  bits=$((8 * $(wc -c <"$sample")))
+  checked=(valgrind -q --error-exitcode=99 --leak-check=full)
+  tried 'rows under valgrind' "${checked[@]}" "$work/rows" "$sample" "$bits" 5 8 1 0 1000 2000
+  tried 'a share under valgrind' "${checked[@]}" "$work/rows" "$sample" "$bits" 2 3 5 20
+  tried 'random states under valgrind' "${checked[@]}" "$work/states" "$sample"
+fi
+
+finish

@@ -1,0 +1,108 @@
+#!/usr/bin/env python3
+"""Random recordings by the library and by the program: tests/library/compare.py COUNT RDS ROWS..
+
+COUNT recordings are made of a sample, damaged, shortened, or of noise, with every option that a recording and rules have.
+The rows of each that the program lists are compared with those that each ROWS prints, and with those of rds of Python, whose
+totals are compared too.
+"""
+
+import os
+import random
+import subprocess
+import sys
+from concurrent.futures import ThreadPoolExecutor
+
+TOP = os.path.dirname(os.path.dirname(os.path.dirname(os.path.abspath(__file__))))
+sys.path.insert(0, f"{TOP}/bindings/python")
+
+import rds  # noqa: E402
+
+
+def recording(r, sample):
+    """Bytes, bits, gaps and rules."""
+    start = r.randrange(len(sample))
+    data = bytearray(sample[start : start + r.choice([0, 1, 30, 500, 3000])])
+    if r.random() < 0.1:
+        data = bytearray(r.randbytes(len(data)))
+    for _ in range(int(len(data) * r.choice([0, 0.01, 0.1, 0.3]))):
+        data[r.randrange(len(data))] ^= 1 << r.randrange(8)
+    bits = max(0, 8 * len(data) - r.choice([0, 0, 3, 8, 100]))
+    places = sorted(r.sample(range(bits), 2 * r.randrange(0, 4))) if bits > 10 and r.random() < 0.4 else []
+    gaps = list(zip(places[::2], places[1::2]))
+    of = r.choice([0, 0, r.randrange(1, 65)])
+    rules = rds.Rules(r.randrange(6), r.randrange(1, 9), r.randrange(1, (of or 64) + 1), of)
+    return bytes(data), bits, gaps, rules
+
+
+def listed(program, data, bits, gaps, rules):
+    words = [program, "list", "--bits", bits, "--burst", rules.burst, "--reach", rules.reach]
+    words += ["--share", rules.loss, "--of", rules.of] if rules.of else ["--loss", rules.loss]
+    words += ["--gaps", ",".join(f"{begin}-{end}" for begin, end in gaps)] if gaps else []
+    return subprocess.run([str(it) for it in words], input=data, capture_output=True, check=True).stdout.decode()
+
+
+def block_text(block):
+    if block.kind < rds.Kind.VALID:
+        return ("none", "lost")[block.kind]
+    text = f"{block.offset.replace(chr(39), 'x')}:{block.info:04X}"
+    return text + f"~{block.burst:07X}" * (block.kind == rds.Kind.CORRECTED)
+
+
+def row(item):
+    if isinstance(item, rds.Acquired):
+        return f"acquired,{item.place},{item.number},-,-,-,-,-\n"
+    if isinstance(item, rds.Loss):
+        return f"lost,{item.place},-,-,-,-,-,-\n"
+    kind = "-" if item.type is None else item.type
+    blocks = ",".join(map(block_text, item.blocks))
+    return f"group,{item.place},{kind},{item.version or '?'}{'!' * item.conflict},{blocks}\n"
+
+
+def by_python(asked):
+    t = rds.totals(*asked)
+    numbers = [t.valid, *t.bursts, t.lost, t.bits, t.groups, t.complete, t.acquired, t.losses]
+    names = "valid burst1 burst2 burst3 burst4 burst5 lost bits groups complete acquired losses".split()
+    totals = "".join(f"total,{name},{number},-,-,-,-,-\n" for name, number in zip(names, numbers))
+    return "".join(map(row, rds.decode(*asked))) + totals
+
+
+def main():
+    count, program, *others = sys.argv[1:]
+    with open(f"{TOP}/examples/station.bin", "rb") as it:
+        sample = it.read()
+    folder = os.environ.get("TMPDIR", "/tmp")
+
+    def judge(seed):
+        asked = recording(random.Random(seed), sample)
+        data, bits, gaps, rules = asked
+        wanted = listed(program, *asked)
+        path = f"{folder}/compare-{os.getpid()}-{seed}"
+        with open(path, "wb") as it:
+            it.write(data)
+        numbers = [bits, rules.burst, rules.reach, rules.loss, rules.of, *(place for gap in gaps for place in gap)]
+        wrong = [] if by_python(asked) == wanted else ["rds of Python"]
+        for other in others:
+            got = subprocess.run([other, path, *map(str, numbers)], capture_output=True)
+            if got.returncode or got.stdout.decode() not in (wanted, wanted[: -len(totals_in(wanted))]):
+                wrong.append(f"{other} ({got.returncode})")
+        os.remove(path)
+        return seed, wrong, {it.split(",")[0] for it in wanted.splitlines()}, wanted.count("\n") - 12
+
+    seen, rows, failed = set(), 0, 0
+    with ThreadPoolExecutor() as pool:
+        for seed, wrong, kinds, number in pool.map(judge, range(int(count))):
+            seen |= kinds
+            rows += number
+            failed += bool(wrong)
+            for it in wrong:
+                print(f"recording {seed}: {it} gives other rows than the program")
+    print(f"{count} recordings, {rows} rows")
+    return failed or not {"acquired", "group", "lost", "total"} <= seen
+
+
+def totals_in(text):
+    return text[text.index("total,") :]
+
+
+if __name__ == "__main__":
+    sys.exit(bool(main()))

@@ -1,0 +1,141 @@
+/* The rows of a listing, by the library for C: rows FILE BITS BURST REACH LOSS OF [BEGIN END]..
+ *
+ * The items are found twice: whole, in room that was asked for first and with one item more that has to be left as it was;
+ * and from range to range of ever other lengths, by a state. The exit status is a refusal's number, or 100 and more.
+ */
+#include "rds.h"
+
+#include <stdio.h>
+#include <stdlib.h>
+#include <string.h>
+
+static const char offsets[] = "-ABC*D";
+
+static void print_block(const rds_block_t *block)
+{
+    const char *name = block->offset == RDS_CX ? "Cx" : (char[]){offsets[block->offset], 0};
+    if (block->kind == RDS_MISSING)
+        printf(",none");
+    else if (block->kind == RDS_LOST)
+        printf(",lost");
+    else if (block->kind == RDS_VALID)
+        printf(",%s:%04X", name, (unsigned)block->info);
+    else
+        printf(",%s:%04X~%07X", name, (unsigned)block->info, (unsigned)block->burst);
+}
+
+static void print_item(const rds_item_t *item)
+{
+    unsigned long long place = item->place;
+    if (item->what == RDS_ACQUIRED) {
+        printf("acquired,%llu,%d,-,-,-,-,-\n", place, item->number);
+    } else if (item->what == RDS_LOSS) {
+        printf("lost,%llu,-,-,-,-,-,-\n", place);
+    } else {
+        printf("group,%llu,", place);
+        if (item->number == 255)
+            printf("-,");
+        else
+            printf("%d,", item->number);
+        printf("%c%s", "*AB?"[item->version], item->conflict ? "!" : "");
+        for (int k = 0; k < 4; k++)
+            print_block(&item->blocks[k]);
+        printf("\n");
+    }
+}
+
+static uint8_t *read_all(const char *path, size_t *len)
+{
+    FILE *file = fopen(path, "rb");
+    uint8_t *bytes = NULL;
+    size_t room = 0, got;
+    *len = 0;
+    if (!file)
+        exit(100);
+    do {
+        room = room ? 2 * room : 4096;
+        bytes = realloc(bytes, room);
+        if (!bytes)
+            exit(101);
+        got = fread(bytes + *len, 1, room - *len, file);
+        *len += got;
+    } while (*len == room);
+    fclose(file);
+    return bytes;
+}
+
+/* Whether runs in a row, from a state of zeros, give the same items. */
+static int is_same_in_ranges(const uint8_t *bytes, size_t len, uint64_t bits, const rds_gap_t *gaps, size_t gaps_len,
+                             const rds_rules_t *rules, const rds_item_t *items, uint64_t number)
+{
+    static rds_item_t room[4096];
+    rds_state_t state = {0, 0, 0, 0};
+    uint64_t from = 0, done = 0, count;
+    uint32_t x = (uint32_t)bits | 1;
+    while (from < bits) {
+        x = x * 1664525 + 1013904223;
+        uint64_t most = bits / 8 + 100, to = from + (x >> 8) % most + 1;
+        to = to < bits ? to : bits;
+        rds_state_t before = state;
+        if (done < number && rds_run(bytes, len, bits, gaps, gaps_len, rules, from, bits, &state, room, 0, &count) == RDS_SMALL_ROOM &&
+            (count > number - done || memcmp(&before, &state, sizeof state)))
+            return 0;
+        state = before;
+        if (rds_run(bytes, len, bits, gaps, gaps_len, rules, from, to, &state, room, 4096, &count) ||
+            done + count > number || memcmp(room, items + done, count * sizeof *room))
+            return 0;
+        done += count;
+        from = to;
+    }
+    if (rds_finish_run(bytes, len, bits, gaps, gaps_len, rules, &state, room, 1, &count) || count > 1 || done + count != number)
+        return 0;
+    return count == 0 || memcmp(room, items + done, sizeof *room) == 0;
+}
+
+int main(int count, char **words)
+{
+    if (count < 7)
+        return 102;
+    size_t len, gaps_len = (size_t)(count - 7) / 2;
+    uint8_t *bytes = read_all(words[1], &len);
+    rds_gap_t *gaps = malloc((gaps_len + 1) * sizeof *gaps);
+    rds_rules_t rules = {(uint32_t)atol(words[3]), (uint32_t)atol(words[4]), (uint32_t)atol(words[5]), (uint32_t)atol(words[6])};
+    uint64_t bits = strtoull(words[2], NULL, 10), number = 0, again = 0;
+    rds_item_t none, *room;
+    if (!gaps)
+        return 101;
+    for (size_t k = 0; k < gaps_len; k++) {
+        gaps[k].begin = strtoull(words[7 + 2 * k], NULL, 10);
+        gaps[k].end = strtoull(words[8 + 2 * k], NULL, 10);
+    }
+    uint8_t refused = rds_items(bytes, len, bits, gaps, gaps_len, &rules, &none, 0, &number);
+    if (refused && refused != RDS_SMALL_ROOM)
+        return refused;
+    room = malloc((number + 1) * sizeof *room);
+    if (!room)
+        return 101;
+    memset(room, 0x5A, (number + 1) * sizeof *room);
+    refused = rds_items(bytes, len, bits, gaps, gaps_len, &rules, room, number, &again);
+    if (refused || number != again)
+        return 103;
+    for (size_t k = 0; k < sizeof *room; k++)
+        if (((uint8_t *)(room + number))[k] != 0x5A)
+            return 104;
+    if (!is_same_in_ranges(bytes, len, bits, gaps, gaps_len, &rules, room, number))
+        return 106;
+    for (uint64_t k = 0; k < number; k++)
+        print_item(&room[k]);
+    rds_totals_t t;
+    if (rds_totals(bytes, len, bits, gaps, gaps_len, &rules, &t))
+        return 105;
+    const uint64_t totals[] = {t.valid, t.bursts[0], t.bursts[1], t.bursts[2], t.bursts[3], t.bursts[4],
+                               t.lost,  t.bits,      t.groups,    t.complete,  t.acquired,  t.losses};
+    static const char *const names[] = {"valid", "burst1", "burst2", "burst3",   "burst4",   "burst5",
+                                        "lost",  "bits",   "groups", "complete", "acquired", "losses"};
+    for (int k = 0; k < 12; k++)
+        printf("total,%s,%llu,-,-,-,-,-\n", names[k], (unsigned long long)totals[k]);
+    free(room);
+    free(gaps);
+    free(bytes);
+    return 0;
+}

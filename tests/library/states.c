@@ -1,0 +1,54 @@
+/* Random bytes as a state, and places that are no range: refused, or a lawful state that is gone on from, and never a crash:
+ * states FILE */
+#include "rds.h"
+
+#include <stdio.h>
+#include <string.h>
+
+static uint8_t bytes[1 << 12];
+static rds_item_t room[1 << 10];
+
+int main(int count, char **words)
+{
+    FILE *file = count == 2 ? fopen(words[1], "rb") : NULL;
+    uint64_t x = 88172645463325252u, refused = 0, lawful = 0, number;
+    static const rds_gap_t none = {0, 0};
+    if (!file)
+        return 2;
+    size_t len = fread(bytes, 1, sizeof bytes, file);
+    for (int k = 0; k < 200000; k++) {
+        uint64_t random[6];
+        for (int j = 0; j < 6; j++) {
+            x ^= x << 13;
+            x ^= x >> 7;
+            x ^= x << 17;
+            random[j] = x;
+        }
+        /* small numbers too, since great ones alone are always refused */
+        rds_state_t state = {random[0] >> (k % 64), random[1] >> (k * 7 % 64), (uint32_t)(random[2] >> 32) >> (k % 32),
+                             (uint32_t)(random[3] >> 32) >> (k * 3 % 32)};
+        rds_rules_t rules = {(uint32_t)(random[4] % 6), 1 + (uint32_t)(random[4] >> 8) % 8, 1 + (uint32_t)(random[4] >> 16) % 64, 0};
+        rules.of = k % 2 ? 0 : 64;
+        uint64_t from = (random[5] >> 32) % (8 * len), to = from + (random[5] & 255);
+        if (k % 3 == 0) {
+            state.due = from + state.due % 27;
+            state.bad %= 8;
+            state.number = 1 + state.number % 5;
+            state.first = state.number > 1 ? 1 + state.first % state.number : 1;
+        }
+        rds_state_t before = state;
+        uint8_t answer = rds_run(bytes, len, 8 * len, &none, 0, &rules, from, to, &state, room, 1 << 10, &number);
+        if (answer && memcmp(&before, &state, sizeof state))
+            return 3;
+        if (answer && answer != RDS_UNLAWFUL_STATE && answer != RDS_PLACE_RANGE)
+            return 4;
+        if ((to > 8 * len) != (answer == RDS_PLACE_RANGE))
+            return 5;
+        refused += answer != 0;
+        lawful += answer == 0 && before.number != 0;
+        if (answer == 0 && rds_run(bytes, len, 8 * len, &none, 0, &rules, to, 8 * len, &state, room, 1 << 10, &number))
+            return 6;
+    }
+    printf("%llu refused, %llu locks lawful\n", (unsigned long long)refused, (unsigned long long)lawful);
+    return !(refused > 100 && lawful > 100);
+}
