@@ -354,7 +354,7 @@ module _ (terms : Terms) (bits : Option ℕ) (live : LiveOf) (from to old new : 
     -- the rest of the listing
     module _ (text : List ℕ)
         (rows : (before : List ℕ) → HasHeard live before → let items = report_at live.terms (before ++ bytes) (8 * length before + left) in
-          report_text items (totals_of items) ≡ rows_so_far live.terms before ++ text) where
+        report_text items (totals_of items) ≡ rows_so_far live.terms before ++ text) where
       listing_ends : stream_text terms bits (heard ++ bytes) ≡ rows_so_far terms heard ++ text
       listing_ends =
           let terms_are : live.terms ≡ terms = ap (λ (l : LiveOf). l.terms) f.live_is in

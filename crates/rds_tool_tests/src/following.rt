@@ -151,7 +151,11 @@ fn a_part_of_a_stream_is_listed_as_one_of_a_recording(rt: HostRuntime) -> Result
     for left in 0..40u64 {
         let bits = whole.saturating_sub(left);
         let from = 8 * (left + 30);
-        let gaps = [(from - 1, from), (from + 8, from + 9), (bits.saturating_sub(3), bits)];
+        let gaps = [
+            (from - 1, from),
+            (from + 8, from + 9),
+            (bits.saturating_sub(3), bits),
+        ];
         for known in [&gaps[..0], &gaps[..1], &gaps[..2], &gaps[..3]] {
             let list = listed_part(&rt, alloc, bytes.as_slice(), bits, known)?;
             for step in [1, 7, 70_000usize] {

@@ -60,20 +60,21 @@ invariant_of-next c =
     let counted : 2 ^ 11 * c.self.inside.place + 2 ^ 11 * (length_of c.in_ok-part.part - 8 * c.len.result) ≡ 2 ^ 11 * (c.self.inside.place - 8 * c.len.result + c.len-2.result) =
     omega (arith, place, long, c.len.ensures) in
     let joined = c.self.inside.tail.items ++ c.args.bytes.now in
-    let kept : 8 * c.len-3.result ≡ 8 * length c.in_ok-part.tail.items = omega (arith, c.len-3.ensures, c.in_ok-part.tail.ok.0) in
-    (record {
-      whole = omega (arith, place, live.whole);
-      limit = omega (arith, place, live.whole, c.if-bytes-self.false);
-      kept = ap (λ (xs : List ℕ). length xs) c.in_ok-part.ensures.tail ∙ length-drop (length joined - 30) joined
-          ∙ omega (arith, place, live.whole, live.kept, length-append c.self.inside.tail.items c.args.bytes.now);
-      small = subst (λ (n : ℕ). IsAtMost n c.plus.result) counted
-          (c.plus.ensures.small (2 ^ 11 * c.self.inside.place) (2 ^ 11 * (length_of c.in_ok-part.part - 8 * c.len.result)) live.small c.in_ok-end.ensures.small);
-      lawful = subst (λ (s : State). IsLawful c.self.inside.rules.now (c.self.inside.place - 8 * c.len.result + c.len-2.result) s) (sym c.moved_on.ensures)
-          (subst (λ (n : ℕ). IsLawful c.self.inside.rules.now n (moved_state (c.self.inside.place - 8 * c.len.result) c.in_ok-end.end)) ends
-          (lawful-moved c.self.inside.rules.now (c.self.inside.place - 8 * c.len.result) (length_of c.in_ok-part.part) c.in_ok-end.end c.in_ok-end.ensures.lawful));
-      gaps = live.gaps;
-    },
-    c.in_ok-near.ensures ∙ ap (λ (n : ℕ). gaps_within c.self.inside.gaps.now (c.self.inside.place - 8 * c.len.result + c.len-2.result - n) n) kept)
+    let kept : 8 * c.len-3.result ≡ 8 * length c.in_ok-part.tail.items = omega (arith, c.len-3.ensures, c.in_ok-part.tail.ok.0) in (
+      record {
+        whole = omega (arith, place, live.whole);
+        limit = omega (arith, place, live.whole, c.if-bytes-self.false);
+        kept = ap (λ (xs : List ℕ). length xs) c.in_ok-part.ensures.tail ∙ length-drop (length joined - 30) joined
+            ∙ omega (arith, place, live.whole, live.kept, length-append c.self.inside.tail.items c.args.bytes.now);
+        small = subst (λ (n : ℕ). IsAtMost n c.plus.result) counted
+            (c.plus.ensures.small (2 ^ 11 * c.self.inside.place) (2 ^ 11 * (length_of c.in_ok-part.part - 8 * c.len.result)) live.small c.in_ok-end.ensures.small);
+        lawful = subst (λ (s : State). IsLawful c.self.inside.rules.now (c.self.inside.place - 8 * c.len.result + c.len-2.result) s) (sym c.moved_on.ensures)
+            (subst (λ (n : ℕ). IsLawful c.self.inside.rules.now n (moved_state (c.self.inside.place - 8 * c.len.result) c.in_ok-end.end)) ends
+            (lawful-moved c.self.inside.rules.now (c.self.inside.place - 8 * c.len.result) (length_of c.in_ok-part.part) c.in_ok-end.end c.in_ok-end.ensures.lawful));
+        gaps = live.gaps;
+      },
+      c.in_ok-near.ensures ∙ ap (λ (n : ℕ). gaps_within c.self.inside.gaps.now (c.self.inside.place - 8 * c.len.result + c.len-2.result - n) n) kept,
+    )
 
 pub returns-clause-heard : goal.returns-clause-heard
 returns-clause-heard c before h =
