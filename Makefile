@@ -10,7 +10,7 @@ export RT
 
 SOURCES := crates.txt $(shell find crates -name out -prune -o \( -name '*.rt' -o -name '*.antt' \) -print)
 
-.PHONY: all run quick lib test proofs wrong-bodies wrong-bodies-of-code program library install install-lib deb clean toolchain
+.PHONY: all run quick lib test proofs wrong-bodies wrong-bodies-of-code program library package install install-lib deb clean toolchain
 all: build/rds
 
 toolchain:
@@ -51,6 +51,7 @@ test: toolchain
 	+$(MAKE) --no-print-directory -j 2 proofs wrong-bodies-of-code
 	+$(MAKE) --no-print-directory -j 2 -O wrong-bodies program
 	+$(MAKE) --no-print-directory library
+	+$(MAKE) --no-print-directory package
 	crates/rds_bench/out/rds_bench --check
 	@mkdir -p build
 	@[ -n "$$(git status --porcelain)" ] || git rev-parse HEAD > build/passed
@@ -81,11 +82,13 @@ program:
 	$(call within_limit,tests/work.sh crates/rds/out/rds)
 	$(call within_limit,tests/growth.sh crates/rds/out/rds)
 	$(call within_limit,tests/recipes.sh crates/rds/out/rds)
-	$(call within_limit,tests/package.sh crates/rds/out/rds)
 
 # rt ci leaves no archive, so it is built here.
 library: lib
 	$(call within_limit,tests/library.sh build/lib crates/rds/out/rds)
+
+package: lib
+	$(call within_limit,tests/package.sh crates/rds/out/rds build/lib)
 
 # The program, its manual page, the scripts of the recipes, and completion for bash and zsh.
 SHARE = $(DESTDIR)$(PREFIX)/share
@@ -101,18 +104,20 @@ install: $(PROGRAM)
 
 # The library for C, its header, and what pkg-config says of it.
 LIBDIR ?= $(PREFIX)/lib
-install-lib: build/lib/librds.so.0
+# the folder of the library that is installed
+LIBRARY ?= build/lib
+install-lib: $(LIBRARY)/librds.so.0
 	install -d $(DESTDIR)$(LIBDIR)/pkgconfig $(DESTDIR)$(PREFIX)/include
-	install -m 644 build/lib/librds.a $(DESTDIR)$(LIBDIR)/librds.a
-	install -m 755 build/lib/librds.so.0 $(DESTDIR)$(LIBDIR)/librds.so.0
+	install -m 644 $(LIBRARY)/librds.a $(DESTDIR)$(LIBDIR)/librds.a
+	install -m 755 $(LIBRARY)/librds.so.0 $(DESTDIR)$(LIBDIR)/librds.so.0
 	ln -sf librds.so.0 $(DESTDIR)$(LIBDIR)/librds.so
 	install -m 644 lib/rds.h $(DESTDIR)$(PREFIX)/include/rds.h
 	sed 's|@prefix@|$(PREFIX)|; s|@libdir@|$(LIBDIR)|' lib/rds.pc.in > $(DESTDIR)$(LIBDIR)/pkgconfig/rds.pc
 
 # All of that as a Debian package below build.
-deb: $(PROGRAM)
+deb: $(PROGRAM) $(LIBRARY)/librds.so.0
 	@mkdir -p build
-	@packaging/make_deb.sh $(PROGRAM) build
+	@packaging/make_deb.sh $(PROGRAM) $(LIBRARY) build
 
 clean:
 	rm -rf build tests/__pycache__

@@ -76,6 +76,12 @@ check_table() {
     [ -z "$(tail -c 1 "$1")" ] || broken "$1" 'the last line is cut off'
 }
 
+# readme_program LANGUAGE: README.md's program of that language, of its section on the library
+readme_program() {
+  awk -v of="\`\`\`$1" '/^### / {here = /From C, Rust and Python/} here && $0 == "```" {on = 0} on; here && $0 == of {on = 1}' \
+    "$here/../README.md"
+}
+
 # as_bytes: the bytes of digits; who calls it needs basenc and tr
 as_bytes() { tr a-f A-F | basenc -d --base16 -i; }
 

@@ -84,8 +84,6 @@ if has python3; then
 fi
 # ---- what is shown to users
 
-# in_readme LANGUAGE: the program of that language in the section of README.md
-in_readme() { awk -v of="\`\`\`$1" '/^### /{here = $0 ~ /From C, Rust and Python/} here && $0 == "```" {on = 0} on; here && $0 == of {on = 1}' README.md; }
 # said COMMAND..: what it says of the sample
 said() { "$@" <"$sample"; }
 wanted='7691 valid, 1923 groups'
@@ -94,7 +92,7 @@ if has pkg-config make; then
   if [ "$library" = "$(realpath build/lib)" ]; then
     tried 'installing' "${install[@]}"
     export PKG_CONFIG_SYSROOT_DIR=$work/root PKG_CONFIG_PATH=$work/root/usr/lib/pkgconfig
-    in_readme c >"$work/readme.c"
+    readme_program c >"$work/readme.c"
     read -ra found < <(PKG_CONFIG_ALLOW_SYSTEM_CFLAGS=1 PKG_CONFIG_ALLOW_SYSTEM_LIBS=1 pkg-config --cflags --libs rds)
     tried 'the program in C' "${CC:-cc}" -Wall -Wextra -Werror -o "$work/readme" "$work/readme.c" "${found[@]}"
     same 'what it says' "$wanted" "$(LD_LIBRARY_PATH=$work/root/usr/lib said "$work/readme")"
@@ -112,12 +110,12 @@ if has pkg-config make; then
   fi
 fi
 if has python3; then
-  in_readme python >"$work/readme.py"
+  readme_program python >"$work/readme.py"
   same 'the program in Python' "$wanted" "$(PYTHONPATH=bindings/python said python3 -B "$work/readme.py")"
 fi
 if has cargo; then
   mkdir -p "$work/readme_rs/src"
-  in_readme rust >"$work/readme_rs/src/main.rs"
+  readme_program rust >"$work/readme_rs/src/main.rs"
   printf '[package]\nname = "readme"\nversion = "0.1.0"\nedition = "2021"\n[dependencies]\nrds = { path = "%s/bindings/rust" }\n' "$PWD" \
     >"$work/readme_rs/Cargo.toml"
   same 'the program in Rust' "$wanted" "$(said cargo run --quiet --offline --manifest-path "$work/readme_rs/Cargo.toml")"

@@ -1,14 +1,17 @@
 #!/usr/bin/env bash
-# Completion and the Debian package: tests/package.sh PATH-TO-RDS
+# Completion and the Debian package: tests/package.sh PATH-TO-RDS LIBRARY-FOLDER
 #
 # What completion offers is compared with the program's help and with README's tables. The package is built, checked by
-# lintian, installed in a root folder of its own, tried and removed. What a tool is missing for is skipped, by name.
+# lintian, installed in a root folder of its own, tried and removed: a program of README.md is linked with the installed
+# library, by both of its forms, and run. What a tool is missing for is skipped, by name.
 
-usage='usage: tests/package.sh PATH-TO-RDS'
+usage='usage: tests/package.sh PATH-TO-RDS LIBRARY-FOLDER'
 # shellcheck source-path=SCRIPTDIR source=common.sh
 . "$(dirname "$0")/common.sh"
 check_programs "${1:-}"
 program=$(realpath "$1")
+[[ -f ${2:-}/librds.so.0 ]] || misused
+library=$(realpath "$2")
 # dpkg looks for its helpers there
 PATH=$PATH:/usr/local/sbin:/usr/sbin:/sbin
 cd "$here/.." || exit 1
@@ -104,15 +107,15 @@ files_there() { (cd "$root" && find . -path ./var/lib/dpkg -prune -o ! -type d -
 
 station() { "$program" list < examples/station.bin; }
 
-if has dpkg dpkg-deb dpkg-shlibdeps strip lintian "${as_root[@]}"; then
+if has dpkg dpkg-architecture dpkg-deb dpkg-shlibdeps readelf strip lintian "${as_root[@]}"; then
   export SOURCE_DATE_EPOCH=1700000000
   mkdir "$work/a folder"
-  package=$(packaging/make_deb.sh "$program" "$work/a folder")
+  package=$(packaging/make_deb.sh "$program" "$library" "$work/a folder")
   same 'its name' "$work/a folder/rds_$("$program" --version | sed 's/^rds //')-1_$(dpkg --print-architecture).deb" "$package"
   same 'errors of lintian' '' "$(lintian --allow-root --fail-on error --tag-display-limit 0 "$package" 2>&1 | grep '^E:')"
   same 'its status' 0 "$(lintian --allow-root --fail-on error "$package" >/dev/null 2>&1; echo $?)"
   cp "$package" "$work/first.deb"
-  packaging/make_deb.sh "$program" "$work/a folder" >/dev/null
+  packaging/make_deb.sh "$program" "$library" "$work/a folder" >/dev/null
   same 'the same again' "$(cksum < "$work/first.deb")" "$(cksum < "$package")"
 
   # an empty system on which what the package depends on is installed
@@ -120,7 +123,7 @@ if has dpkg dpkg-deb dpkg-shlibdeps strip lintian "${as_root[@]}"; then
   mkdir -p "$root"/var/lib/dpkg/{info,updates,triggers}
   dpkg-query --status libc6 > "$root/var/lib/dpkg/status"
   dpkg_there --install "$package" || fail 'it is not installed'
-  same 'what is installed' "$(dpkg-deb --contents "$package" | awk '!/^d/ { sub(/.* \.\//, "/"); print }' | sort)" "$(files_there)"
+  same 'what is installed' "$(dpkg-deb --contents "$package" | awk '!/^d/ { sub(/.* \.\//, "/"); sub(/ -> .*/, ""); print }' | sort)" "$(files_there)"
   same 'nothing is missing or other than it was' '' "$(dpkg --root="$root" --verify rds)"
   same 'the installed program' "$(station | cksum)" \
     "$("$root/usr/bin/rds" list < "$root/usr/share/rds/examples/station.bin" | cksum)"
@@ -135,11 +138,33 @@ if has dpkg dpkg-deb dpkg-shlibdeps strip lintian "${as_root[@]}"; then
 /usr/share/doc/rds/changelog.gz
 /usr/share/doc/rds/copyright
 /usr/share/zsh/vendor-completions/_rds" "$(files_there | grep -E 'completions|/doc/')"
+  libdir=/usr/lib/$(dpkg-architecture -qDEB_HOST_MULTIARCH)
+  same 'the library' "/usr/include/rds.h
+$libdir/librds.a
+$libdir/librds.so
+$libdir/librds.so.0
+$libdir/pkgconfig/rds.pc" "$(files_there | grep -E '/(lib|include)/')"
+  same 'what the shared library has for debugging' '' "$(readelf -S "$root$libdir/librds.so.0" | grep -o '\.debug_[a-z]*')"
+  readme_program c > "$work/readme.c"
+  ${CC:-cc} -o "$work/by_archive" "$work/readme.c" "-I$root/usr/include" "$root$libdir/librds.a" || fail 'it does not link with librds.a'
+  same 'a program with librds.a' '7691 valid, 1923 groups' "$("$work/by_archive" < examples/station.bin)"
+  if has pkg-config; then
+    export PKG_CONFIG_SYSROOT_DIR=$root PKG_CONFIG_LIBDIR=$root$libdir/pkgconfig PKG_CONFIG_ALLOW_SYSTEM_{CFLAGS,LIBS}=1
+    read -ra found < <(pkg-config --cflags --libs rds)
+    ${CC:-cc} -o "$work/by_name" "$work/readme.c" "${found[@]}" || fail 'it does not link with what pkg-config says'
+    same 'what it loads' "librds.so.0 => $root$libdir/librds.so.0" \
+      "$(LD_LIBRARY_PATH=$root$libdir ldd "$work/by_name" | sed -n 's/^\t\(librds.*\) (.*/\1/p')"
+    same 'a program with librds.so' '7691 valid, 1923 groups' \
+      "$(LD_LIBRARY_PATH=$root$libdir "$work/by_name" < examples/station.bin)"
+  fi
   dpkg_there --purge rds || fail 'it is not removed'
   same 'what is left of it' '' "$(files_there)$(find "$root/usr" 2>/dev/null)"
 
-  same 'a package of no program' 'make_deb: examples is no program' "$(packaging/make_deb.sh examples "$work" 2>&1)"
-  same 'a package into no folder' "make_deb: there is no folder $work/none" "$(packaging/make_deb.sh "$program" "$work/none" 2>&1)"
+  same 'a package of no program' 'make_deb: examples is no program' "$(packaging/make_deb.sh examples "$library" "$work" 2>&1)"
+  same 'a package of no library' 'make_deb: there is no library in examples' \
+    "$(packaging/make_deb.sh "$program" examples "$work" 2>&1)"
+  same 'a package into no folder' "make_deb: there is no folder $work/none" \
+    "$(packaging/make_deb.sh "$program" "$library" "$work/none" 2>&1)"
   same 'the status without words' 2 "$(packaging/make_deb.sh 2>/dev/null; echo $?)"
 fi
 

@@ -79,6 +79,28 @@ same 'more files than one' yes "$(set -- "$work/seconds"/*; [ $# -gt 1 ] && echo
 stream | "$program" follow | examples/rotate.sh --by listing "$work/one"
 stream | "$program" follow | examples/rotate.sh --by listing "$work/one"
 same 'a file that is there is added to' "$(station; station)" "$(cat "$work/one/listing.csv")"
+
+# Killed in the middle of a group: the rows that were complete stand, whole, and the same file is gone on with.
+mkfifo "$work/bits" "$work/rows"
+examples/rotate.sh --by listing "$work/killed" < "$work/rows" &
+rotating=$!
+"$program" follow < "$work/bits" > "$work/rows" &
+following=$!
+exec {receiver}> "$work/bits"
+head -c 10005 examples/station.bin >&"$receiver"
+complete=$(head -c 10005 examples/station.bin | "$program" list | grep -v '^total,' | sed '$d')
+for ((tries = 0; tries < 300; tries++)); do
+  [[ $(wc -l < "$work/killed/listing.csv") -lt $(wc -l <<< "$complete") ]] || break
+  sleep 0.1
+done 2> "$work/said"
+kill -KILL "$following"
+wait "$following" 2> "$work/said"
+exec {receiver}>&-
+wait "$rotating" || fail 'rotation of what was killed'
+same 'the rows before a kill' "$complete" "$(cat "$work/killed/listing.csv")"
+tail -c +10006 examples/station.bin | "$program" follow | examples/rotate.sh --by listing "$work/killed"
+same 'what comes after a kill' "$complete"$'\n'"$(tail -c +10006 examples/station.bin | "$program" list)" \
+  "$(cat "$work/killed/listing.csv")"
 printf 'a row\ncut o' | examples/rotate.sh "$work/cut_rows"
 same 'a row that was cut off' "$(printf 'a row\ncut o')" "$(cat "$work/cut_rows"/*Z.csv)"
 refused 'rotation without a folder' 2 'usage: rotate.sh [--by FORMAT] FOLDER < LISTING' examples/rotate.sh < /dev/null
