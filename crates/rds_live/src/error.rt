@@ -1,0 +1,28 @@
+//! Why a decoder that was kept as numbers is refused.
+ghost use Rattle.std.specs.Prelude.{◌≡◌};
+ghost use Rattle.rds_live.specs.declared.error.ResumeError.TheVariants.{OutOfMemory};
+
+use std::alloc::AllocError;
+use thiserror::Error;
+
+/// Why [`Live::resume`](crate::Live::resume) refuses.
+#[derive(Clone, Copy, Debug, PartialEq, Eq, Error)]
+pub enum ResumeError {
+    /// The gaps of a stream each have a place, lie before place 2^36, and begin at or after the end of the one before.
+    #[error("gaps that are empty, out of order or past 2^36 bits")]
+    BadGaps,
+    /// No decoder by these rules knows this of a stream.
+    #[error("a state that no decoder of a stream has")]
+    UnlawfulState,
+    /// The system refused memory.
+    #[error("out of memory")]
+    OutOfMemory,
+}
+
+impl From<AllocError> for ResumeError {
+    ghost from_gives = { λ _ e. e ≡ OutOfMemory };
+
+    fn from(_e: AllocError) -> ResumeError {
+        ResumeError::OutOfMemory
+    }
+}
