@@ -1,8 +1,5 @@
 //! Why a decoder that was kept as numbers is refused.
-ghost use Rattle.std.specs.Prelude.{◌≡◌};
-ghost use Rattle.rds_live.specs.declared.error.ResumeError.TheVariants.{OutOfMemory};
 
-use std::alloc::AllocError;
 use thiserror::Error;
 
 /// Why [`Live::resume`](crate::Live::resume) refuses.
@@ -17,12 +14,4 @@ pub enum ResumeError {
     /// The system refused memory.
     #[error("out of memory")]
     OutOfMemory,
-}
-
-impl From<AllocError> for ResumeError {
-    ghost from_gives = { λ _ e. e ≡ OutOfMemory };
-
-    fn from(_e: AllocError) -> ResumeError {
-        ResumeError::OutOfMemory
-    }
 }

@@ -19,7 +19,7 @@ use crate::laws::{ends_move, runs_move};
 use crate::moved::{moved_back, moved_group, moved_on};
 use rds_stream::{Counted, Recording, StreamError};
 use rds_sync::{Group, Rules, State, Totals, finish, laws, run_codes};
-use std::alloc::Global;
+use std::alloc::{AllocError, Global};
 use std::marker::Model;
 
 /// How many of the last bytes of a stream are kept. A run may hear 233 bits behind one: those of a partner's window,
@@ -147,6 +147,25 @@ impl<'r> Live<'r> {
         if !can_be_live(rules, tail, place, state, &totals) {
             return Err(ResumeError::UnlawfulState);
         }
+        match Live::of(alloc, rules, gaps, tail, place, state, totals) {
+            Ok(live) => Ok(live),
+            Err(_) => Err(ResumeError::OutOfMemory),
+        }
+    }
+
+    /// The decoder that has these numbers.
+    fn of(
+        alloc: Global,
+        rules: &'r Rules,
+        gaps: &'r [(u64, u64)],
+        tail: &[u8],
+        place: u64,
+        state: State,
+        totals: Totals,
+    ) -> Result<Live<'r>, AllocError>
+        requires { IsLive (live_with rules.now gaps.now tail.now place state totals) }
+        ensures { IfOk result (λ live. live ≡ live_with rules.now gaps.now tail.now place state totals) }
+    {
         let kept = 8 * tail.len() as u64;
         let near = gaps_of_part(alloc, gaps, place - kept, kept)?;
         let tail = Vec::from_slice(alloc, tail)?;
