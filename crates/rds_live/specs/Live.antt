@@ -34,6 +34,17 @@ pub record LiveOf : Type 0 where
   pub state : State
   pub totals : Totals
 
+-- what a decoder knows by these numbers
+abbrev pub live_with : RuleNumbers → List (ℕ × ℕ) → List ℕ → ℕ → State → Totals → LiveOf
+live_with rules gaps tail place state totals =
+    record {
+      terms = record { rules = rules; gaps = gaps };
+      tail = tail;
+      place = place;
+      state = state;
+      totals = totals;
+    }
+
 -- the first bits of these bytes, and all of them, with these gaps; one that lies behind them is not heard of
 abbrev pub signal_at : List (ℕ × ℕ) → List ℕ → ℕ → Signal
 signal_at gaps bytes bits = record { bits = bits_of bytes bits; gaps = gaps }

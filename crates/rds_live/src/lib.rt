@@ -47,10 +47,13 @@
 #![tactic(auto)]
 
 mod chunk;
+mod error;
 mod gaps;
+mod kept;
 pub mod laws;
 mod live;
 mod moved;
 
 pub use chunk::{Chunk, ChunkItems};
+pub use error::ResumeError;
 pub use live::{Live, StreamEnd};

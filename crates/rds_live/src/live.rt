@@ -9,23 +9,25 @@ ghost use Rattle.rds_sync.specs.Step.{run, items_of_end};
 ghost use Rattle.rds_sync.specs.Totals.{totals_of};
 ghost use Rattle.rds_live.specs.Moving.{moved_items};
 ghost use Rattle.rds_live.specs.Gaps.{gaps_within};
-ghost use Rattle.rds_live.specs.Live.{HasHeard, Terms, by_rules, complete, last_bytes, live_of, most_counted, most_kept, report_at, report_of, signal_at, signal_of};
+ghost use Rattle.rds_live.specs.Live.{HasHeard, IsLive, Terms, by_rules, complete, last_bytes, live_of, live_with, most_counted, most_kept, report_at, report_of, signal_at, signal_of};
 
 use crate::chunk::Chunk;
+use crate::error::ResumeError;
 use crate::gaps::{are_gaps, gaps_of_part};
+use crate::kept::can_be_live;
 use crate::laws::{ends_move, runs_move};
 use crate::moved::{moved_back, moved_group, moved_on};
 use rds_stream::{Counted, Recording, StreamError};
 use rds_sync::{Group, Rules, State, Totals, finish, laws, run_codes};
-use std::alloc::Global;
+use std::alloc::{AllocError, Global};
 use std::marker::Model;
 
 /// How many of the last bytes of a stream are kept. A run may hear 233 bits behind one: those of a partner's window,
 /// eight blocks back.
-const MOST_KEPT: usize = 30;
+pub(crate) const MOST_KEPT: usize = 30;
 
 /// The most bits that a stream may have.
-const MOST_BITS: u64 = 1 << 36;
+pub(crate) const MOST_BITS: u64 = 1 << 36;
 
 const NO_GAPS: &[(u64, u64)] = &[];
 
@@ -110,6 +112,82 @@ impl<'r> Live<'r> {
             state: State::Searching,
             totals: Totals::NONE,
         }
+    }
+
+    /// The decoder that has these gaps, and of the bits before `place` this [`tail`](Live::tail), [`state`](Live::state)
+    /// and these [`totals`](Live::totals), as they were asked of one that stopped there: it goes on as that one would. So a
+    /// decoder can be kept as numbers between two chunks.
+    ///
+    /// `tail` is the last 30 bytes of the stream, or all of them where there are fewer; `place` is how many bits there
+    /// were.
+    ///
+    /// Refuses gaps as [`with_gaps`](Live::with_gaps) does, then numbers that no decoder by these rules has (a place
+    /// inside a byte or past 2^36, a tail of another length, a state that is not lawful at the place, or a count of the
+    /// totals above 2^11 a bit), and then only want of memory. Numbers that pass may still be of no stream: what
+    /// such a decoder gives later means nothing. It takes memory for a copy of the tail and of the gaps in it.
+    pub fn resume(
+        alloc: Global,
+        rules: &'r Rules,
+        gaps: &'r [(u64, u64)],
+        tail: &[u8],
+        place: u64,
+        state: State,
+        totals: Totals,
+    ) -> Result<Live<'r>, ResumeError>
+        ensures live { IfOk result (λ live. live ≡ live_with rules.now gaps.now tail.now place state totals) }
+        ensures taken { IfOk result (λ live. IsLive live) }
+        ensures bad_gaps { IsErrOf result ResumeError.BadGaps ↔ (AreGaps (2 ^ 36) gaps.now → ⊥) }
+        ensures unlawful { IsErrOf result ResumeError.UnlawfulState
+            ↔ (AreGaps (2 ^ 36) gaps.now × (IsLive (live_with rules.now gaps.now tail.now place state totals) → ⊥)) }
+        ensures memory_last { IsErrOf result ResumeError.OutOfMemory → IsLive (live_with rules.now gaps.now tail.now place state totals) }
+    {
+        if !are_gaps(gaps, MOST_BITS) {
+            return Err(ResumeError::BadGaps);
+        }
+        if !can_be_live(rules, tail, place, state, &totals) {
+            return Err(ResumeError::UnlawfulState);
+        }
+        match Live::of(alloc, rules, gaps, tail, place, state, totals) {
+            Ok(live) => Ok(live),
+            Err(_) => Err(ResumeError::OutOfMemory),
+        }
+    }
+
+    /// The decoder that has these numbers.
+    fn of(
+        alloc: Global,
+        rules: &'r Rules,
+        gaps: &'r [(u64, u64)],
+        tail: &[u8],
+        place: u64,
+        state: State,
+        totals: Totals,
+    ) -> Result<Live<'r>, AllocError>
+        requires { IsLive (live_with rules.now gaps.now tail.now place state totals) }
+        ensures { IfOk result (λ live. live ≡ live_with rules.now gaps.now tail.now place state totals) }
+    {
+        let kept = 8 * tail.len() as u64;
+        let near = gaps_of_part(alloc, gaps, place - kept, kept)?;
+        let tail = Vec::from_slice(alloc, tail)?;
+        Ok(Live {
+            rules,
+            gaps,
+            tail,
+            near,
+            place,
+            state,
+            totals,
+        })
+    }
+
+    /// The last bytes that were heard: 30, or all of them where there are fewer. With the place, the state and the totals
+    /// this is all that a decoder knows of a stream, from which [`resume`](Live::resume) goes on.
+    pub fn tail(&self) -> &[u8]
+        ensures value { result.now ≡ self.now.tail }
+        ensures count { length result.now ≡ min most_kept (self.now.place / 8) }
+        ensures live { IsLive self.now }
+    {
+        &self.tail
     }
 
     /// How many bits were heard, which is the place of the next.

@@ -1,11 +1,13 @@
 //! A stream gives the report of its recording, however it is cut.
 ghost use Rattle.std.specs.Prelude.{◌<◌, ◌^◌};
 
-use rds_live::{Chunk, Live, StreamEnd};
+use rds_live::{Chunk, Live, ResumeError, StreamEnd};
 use rds_stream::{Recording, StreamError};
 use rds_sync::{Item, ItemIter, Loss, RuleNumbers, Rules, State, Totals, decode_plain};
 use std::alloc::{AllocError, Global};
 use std::test::Fail;
+
+const NO_GAPS: &[(u64, u64)] = &[];
 
 /// Four groups of a station, 104 bits each.
 const STATION: [u128; 4] = [
@@ -108,6 +110,34 @@ fn ends_so(end: &StreamEnd, expected: &mut ItemIter<'_>, totals: &Totals) -> boo
     last && expected.next().is_none() && end.totals == *totals
 }
 
+/// Whether a decoder is one all along, or is made anew of its numbers after each chunk.
+#[derive(Clone, Copy, Debug, PartialEq, Eq)]
+enum Kept {
+    Whole,
+    AsNumbers,
+}
+
+/// The decoder of a stream without gaps, or one that is made of its numbers.
+fn kept_so<'r>(
+    alloc: Global,
+    rules: &'r Rules,
+    live: Live<'r>,
+    kept: Kept,
+) -> Result<Live<'r>, ResumeError> {
+    match kept {
+        Kept::Whole => Ok(live),
+        Kept::AsNumbers => Live::resume(
+            alloc,
+            rules,
+            NO_GAPS,
+            live.tail(),
+            live.place(),
+            live.state(),
+            live.totals(),
+        ),
+    }
+}
+
 /// Whether the decoder of the stream, which is cut into chunks of up to so many bytes, gives these items and totals.
 fn follows(
     alloc: Global,
@@ -115,9 +145,10 @@ fn follows(
     bytes: &[u8],
     longest: usize,
     seed: u64,
+    kept: Kept,
     expected: ItemIter<'_>,
     totals: &Totals,
-) -> Result<bool, StreamError> {
+) -> Result<bool, Fail> {
     let mut live = Live::new(alloc, rules);
     let mut expected = expected;
     let mut number = seed;
@@ -132,6 +163,7 @@ fn follows(
         let (chunk, later) = rest.split_at(length.min(rest.len()));
         let items = live.take(chunk)?;
         same = are_next(&items, &mut expected) && same;
+        live = kept_so(alloc, rules, live, kept)?;
         rest = later;
     }
     let place = live.place();
@@ -145,6 +177,7 @@ fn is_report(
     numbers: RuleNumbers,
     longest: usize,
     seed: u64,
+    kept: Kept,
 ) -> Result<bool, Fail> {
     let rules = Rules::of(alloc, numbers)?;
     let bits = (bytes.len() as u64).saturating_mul(8);
@@ -153,15 +186,16 @@ fn is_report(
     )?;
     let report = decode_plain(alloc, &recording, &rules)?;
     let expected = report.items.iter(&recording, &rules);
-    Ok(follows(
+    follows(
         alloc,
         &rules,
         bytes,
         longest,
         seed,
+        kept,
         expected,
         &report.totals,
-    )?)
+    )
 }
 
 /// The next rules, each option anywhere in its range.
@@ -190,6 +224,7 @@ fn all_are_reports(
     groups: u64,
     longest: u64,
     seed: u64,
+    kept: Kept,
 ) -> Result<bool, Fail>
     requires { (0 < groups) × (0 < longest) × (longest < 2 ^ 32) }
 {
@@ -201,8 +236,8 @@ fn all_are_reports(
         let bytes = shifted(alloc, sent.as_slice(), (seed >> 20 & 7) as u32)?;
         let numbers = random_rules(next_random(seed));
         let most = (1 + (seed >> 8) % longest) as usize;
-        same = is_report(alloc, bytes.as_slice(), numbers, most, seed)? && same;
-        same = is_report(alloc, bytes.as_slice(), numbers, 1, seed)? && same;
+        same = is_report(alloc, bytes.as_slice(), numbers, most, seed, kept)? && same;
+        same = is_report(alloc, bytes.as_slice(), numbers, 1, seed, kept)? && same;
     }
     Ok(same)
 }
@@ -210,9 +245,16 @@ fn all_are_reports(
 #[test]
 fn any_cutting_gives_the_report(rt: HostRuntime) -> Result<(), Fail> {
     // short recordings in short chunks, and long ones in chunks of up to 10,000 bytes
-    assert!(rt; all_are_reports(rt.alloc(), 1_000, 24, 40, 0x9E37_79B9)?);
-    assert!(rt; all_are_reports(rt.alloc(), 960, 48, 400, 0x7F4A_7C15)?);
-    assert!(rt; all_are_reports(rt.alloc(), 40, 1_600, 10_000, 0xF39C_C060)?);
+    assert!(rt; all_are_reports(rt.alloc(), 1_000, 24, 40, 0x9E37_79B9, Kept::Whole)?);
+    assert!(rt; all_are_reports(rt.alloc(), 960, 48, 400, 0x7F4A_7C15, Kept::Whole)?);
+    assert!(rt; all_are_reports(rt.alloc(), 40, 1_600, 10_000, 0xF39C_C060, Kept::Whole)?);
+    Ok(())
+}
+
+#[test]
+fn a_decoder_may_be_kept_as_numbers(rt: HostRuntime) -> Result<(), Fail> {
+    assert!(rt; all_are_reports(rt.alloc(), 300, 24, 40, 0xB529_7A4D, Kept::AsNumbers)?);
+    assert!(rt; all_are_reports(rt.alloc(), 20, 400, 2_000, 0x68E3_1DA4, Kept::AsNumbers)?);
     Ok(())
 }
 

@@ -1,0 +1,49 @@
+//! Whether numbers are such as a decoder of a stream has.
+
+ghost use Rattle.std.specs.Prelude.{◌≡◌, ◌↔◌, ◌≤◌, ◌^◌, ℕ, List, true};
+ghost use Rattle.rds_stream.specs.Recording.{AreGaps};
+ghost use Rattle.rds_sync.specs.Counting.{IsAtMost};
+ghost use Rattle.rds_live.specs.Live.{IsLive, live_with};
+
+use crate::live::{MOST_BITS, MOST_KEPT};
+use rds_sync::{Rules, State, Totals};
+
+/// No count of the totals rises by more than this with a bit.
+const MOST_COUNTED: u64 = 1 << 11;
+
+/// Whether a decoder of a stream can have these numbers, by these rules and whichever gaps: whole bytes were heard, no more
+/// than a recording may hold, the tail has as many of them as are kept, the state is lawful, and the totals are small.
+pub(crate) fn can_be_live(
+    rules: &Rules,
+    tail: &[u8],
+    place: u64,
+    state: State,
+    totals: &Totals,
+) -> bool
+    ensures { (gaps : List (ℕ × ℕ)) → AreGaps (2 ^ 36) gaps → ((result ≡ true) ↔ IsLive (live_with rules.now gaps tail.now place state totals.now)) }
+{
+    place % 8 == 0
+        && place <= MOST_BITS
+        && tail.len() as u64 == (place / 8).min(MOST_KEPT as u64)
+        && state.is_lawful(rules, place)
+        && are_at_most(totals, MOST_COUNTED * place)
+}
+
+/// Whether no count is above `most`.
+fn are_at_most(totals: &Totals, most: u64) -> bool
+    ensures { (result ≡ true) ↔ IsAtMost most totals.now }
+{
+    let [one, two, three, four, five] = totals.bursts;
+    totals.valid <= most
+        && one <= most
+        && two <= most
+        && three <= most
+        && four <= most
+        && five <= most
+        && totals.lost <= most
+        && totals.bits <= most
+        && totals.groups <= most
+        && totals.complete <= most
+        && totals.acquired <= most
+        && totals.losses <= most
+}
