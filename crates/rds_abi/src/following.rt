@@ -1,11 +1,10 @@
 //! A stream that is followed chunk by chunk, from what the caller keeps of it.
 
-ghost use Rattle.std.specs.Prelude.{◌≡◌, ◌++◌, ◌≤◌, ◌⊎◌, ◌^◌, ℕ, List, IfErr, IfOk, OnErr, OnOk, length, map, take};
+ghost use Rattle.std.specs.Prelude.{◌≡◌, ◌++◌, ◌<◌, ◌≤◌, ◌⊎◌, ◌^◌, ℕ, List, IfErr, IfOk, OnErr, OnOk, false, length, map, take, true};
 ghost use Rattle.rds_sync.specs.Advance.{group_item};
 ghost use Rattle.rds_sync.specs.Totals.{totals_of};
 ghost use Rattle.rds_live.specs.Live.{HasHeard, IsLive, report_of};
 ghost use Rattle.rds_abi.specs.Asked.{IsFilled};
-ghost use Rattle.rds_abi.specs.declared.refusal.Refusal.TheVariants.{SmallRoom};
 ghost use Rattle.rds_abi.specs.Following.{AreClosed, AreCompleted, AreTooMany, AreWritten, IsFollowed, RefusesFollowed, RefusesPush, RefusesStream, place_after, stream_of as the_stream_of, terms_of, totals_from_c};
 ghost use Rattle.rds_abi.specs.Layout.{item_in_c, totals_in_c};
 
@@ -169,24 +168,22 @@ pub fn push(
     Ok(())
 }
 
-/// Writes the group in progress, if there is one, to the beginning of the room, and whether there is one to the count.
-fn fill_end(room: &mut [RdsItem], group: Option<Group>, count: &mut u64) -> Result<(), Refusal>
-    ensures filled { OnOk result (IsFilled (map item_in_c (group_item group)) room.old room.new) }
+/// Writes the group in progress, if there is one, to the beginning of the room, and to the count whether there is one.
+/// Whether there was room for it.
+fn fill_end(room: &mut [RdsItem], group: Option<Group>, count: &mut u64) -> bool
+    ensures filled { result ≡ true → IsFilled (map item_in_c (group_item group)) room.old room.new }
     ensures count { count.new ≡ length (group_item group) }
-    ensures untouched { OnErr result (room.new ≡ room.old) }
-    ensures refused { IfErr result (λ refusal. (refusal ≡ SmallRoom) × (length room.old ≡ 0) × (length (group_item group) ≡ 1)) }
+    ensures untouched { result ≡ false → room.new ≡ room.old }
+    ensures small { result ≡ false → length room.old < length (group_item group) }
 {
-    match group {
-        Some(group) => {
-            *count = 1;
-            let Some(slot) = room.first_mut() else {
-                return Err(Refusal::SmallRoom);
-            };
-            *slot = item_in_c(Item::Group(group));
-        }
-        None => *count = 0,
+    *count = u64::from(group.is_some());
+    if let Some(group) = group {
+        let Some(slot) = room.first_mut() else {
+            return false;
+        };
+        *slot = item_in_c(Item::Group(group));
     }
-    Ok(())
+    true
 }
 
 /// Ends a stream: writes the group in progress, as far as it was read, to the beginning of `room`, to `count` how many
@@ -215,8 +212,11 @@ pub fn finish(
 {
     let rules = rules_of(alloc, rules)?;
     let gaps = gaps_in(alloc, gaps)?;
-    let end = live_of(alloc, &rules, gaps.as_slice(), stream)?.finish();
-    fill_end(room, end.group, count)?;
+    let live = live_of(alloc, &rules, gaps.as_slice(), stream)?;
+    let end = live.finish();
+    if !fill_end(room, end.group, count) {
+        return Err(Refusal::SmallRoom);
+    }
     *totals = totals_in_c(end.totals);
     Ok(())
 }
