@@ -18,6 +18,14 @@
 //! // end.group, if a group was in progress, and end.totals, which are the report's
 //! ```
 //!
+//! Between two chunks a decoder can be kept as numbers, and another made of them:
+//!
+//! ```text
+//! keep(live.tail(), live.place(), live.state(), live.totals());
+//! // later, maybe in another process
+//! let mut live = Live::resume(alloc, &rules, &gaps, tail, place, state, totals)?;
+//! ```
+//!
 //! # What there is
 //!
 //! - [`Live`]: a decoder of a stream: its rules and gaps, the last 30 bytes, how many bits were heard, the state after
@@ -25,6 +33,8 @@
 //! - [`Chunk`] and [`ChunkItems`]: the items that a chunk completed, and a walk over them.
 //! - [`StreamEnd`]: what the end of a stream gives, by [`Live::finish`] behind a whole byte, or by [`Live::finish_with`]
 //!   at any bit.
+//! - [`Live::tail`] and [`Live::resume`]: what a decoder has to keep beside its place, state and totals, and one that is made
+//!   of these. [`ResumeError`] says why it refuses.
 //! - [`laws`]: a run depends on what is heard alone.
 //!
 //! # What callers may rely on
@@ -36,6 +46,8 @@
 //! - A refused call has heard nothing: the same bytes can be offered again. Refused are `TooLong` (5), past 2^36 bits in
 //!   all, and `OutOfMemory` (8).
 //! - Both rules of loss are followed, and gaps that are told beforehand ([`Live::with_gaps`]).
+//! - A decoder that is made of what another tells is equal to that one, and so has heard the same bytes. Refused are gaps that no
+//!   stream may have, numbers that no decoder has, and want of memory; what a decoder tells is never refused for itself.
 //! - It keeps no more of a stream than its last 30 bytes: 233 bits are enough to go on, those of a partner's window eight
 //!   blocks back, since a group in progress begins later.
 //!

@@ -55,11 +55,8 @@ fn two_sittings_are_a_recording(rt: HostRuntime) -> Result<(), Fail> {
     for cut in [0, 1, 29, 30, 31, 90, 255, 519, 520usize] {
         let (first, second) = bytes.as_slice().split_at(cut.min(bytes.len()));
         let expected = report.items.iter(&recording, &rules);
-        let same = match in_two_sittings(alloc, &rules, &gaps, first, second) {
-            Some(parts) => are_of(&parts, expected, &report.totals),
-            None => false,
-        };
-        assert!(rt; same, "cut at {cut}");
+        let parts = in_two_sittings(alloc, &rules, &gaps, first, second)?;
+        assert!(rt; are_of(&parts, expected, &report.totals), "cut at {cut}");
     }
     Ok(())
 }

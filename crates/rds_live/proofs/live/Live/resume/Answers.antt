@@ -1,4 +1,4 @@
-use Rattle.std.proofs.Common.{rules, ◌≡◌, ◌^◌, ◌∙◌, sym}
+use Rattle.std.proofs.Common.{rules, ◌^◌, ◌∙◌, sym}
 use Rattle.std.proofs.lemmas.Bool.{false≢true}
 use Rattle.rds_stream.specs.Recording.{AreGaps}
 use Rattle.rds_live.proofs.live.Live.resume.Goals as goal

@@ -1,4 +1,4 @@
-use Rattle.std.proofs.Common.{◌≡◌, ◌-◌, ◌*◌, ℕ, List, [], length, ap, sym, subst, ◌∙◌, arith}
+use Rattle.std.proofs.Common.{◌≡◌, ◌-◌, ◌*◌, ℕ, List, [], length, ap, subst, ◌∙◌, arith}
 use Rattle.rds_live.specs.Gaps.{gaps_within}
 use Rattle.rds_live.proofs.GapParts.{none-of-part}
 use Rattle.rds_live.proofs.Small.{none-counted}

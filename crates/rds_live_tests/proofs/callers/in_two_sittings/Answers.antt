@@ -1,0 +1,40 @@
+use Rattle.std.proofs.Common.{◌≡◌, [], ◌++◌, List, ℕ, ap, sym, subst, ◌∙◌}
+use Rattle.rds_sync.specs.declared.item.Item.{Item}
+use Rattle.rds_sync.specs.Advance.{group_item}
+use Rattle.rds_sync.specs.Totals.{totals_of}
+use Rattle.rds_live.specs.Live.{LiveOf, HasHeard, Terms, complete, live_of, report_of}
+use Rattle.rds_live_tests.proofs.callers.in_two_sittings.Goals as goal
+
+-- what decoders by these terms give for two halves, and at their end
+joined : (first second : List ℕ) (r a b d : Terms) (one other last : List Item) → a ≡ r → b ≡ a → d ≡ b → complete a first ≡ complete a [] ++ one
+    → complete b (first ++ second) ≡ complete b first ++ other → complete d (first ++ second) ++ last ≡ report_of d (first ++ second)
+    → one ++ other ++ last ≡ report_of r (first ++ second)
+joined first second r a b d one other last a_is b_is d_is one_is other_is last_is =
+    let at_first = subst (λ (q : Terms). complete q first ≡ complete q [] ++ one) a_is one_is in
+    let at_second = subst (λ (q : Terms). complete q (first ++ second) ≡ complete q first ++ other) (b_is ∙ a_is) other_is in
+    let at_end = subst (λ (q : Terms). complete q (first ++ second) ++ last ≡ report_of q (first ++ second)) (d_is ∙ b_is ∙ a_is) last_is in
+    ap (λ (items : List Item). items ++ other ++ last) (sym at_first) ∙ ap (λ (items : List Item). items ++ last) (sym at_second) ∙ at_end
+
+nothing-heard : (live : LiveOf) (r : Terms) → live ≡ live_of r [] → HasHeard live []
+nothing-heard live r is = is ∙ ap (λ (q : Terms). live_of q []) (sym (ap (λ (l : LiveOf). l.terms) is))
+
+pub returns-clause-items : goal.returns-clause-items
+returns-clause-items c =
+    let first = c.args.first.now in
+    let terms : Terms = record { rules = c.args.rules.now; gaps = c.args.gaps.now } in
+    let start = nothing-heard c.in_ok-live.live terms c.in_ok-live.ensures.live in
+    let half = subst (λ (live : LiveOf). HasHeard live first) (sym c.in-Ok.ensures.same) (c.in_ok-one.ensures.heard [] start) in
+    joined first c.args.second.now terms c.in_ok-live.live.terms c.in-Ok.again.terms c.take-2.new.self.terms c.in_ok-one.one c.in_ok-other.other (group_item c.finish.result.group)
+    (ap (λ (l : LiveOf). l.terms) c.in_ok-live.ensures.live) (ap (λ (l : LiveOf). l.terms) c.in-Ok.ensures.same ∙ c.in_ok-one.ensures.terms) c.in_ok-other.ensures.terms
+    (c.in_ok-one.ensures.items [] start) (c.in_ok-other.ensures.items first half)
+    (c.finish.ensures.group (first ++ c.args.second.now) (c.in_ok-other.ensures.heard first half))
+
+pub returns-clause-totals : goal.returns-clause-totals
+returns-clause-totals c =
+    let first = c.args.first.now in
+    let terms : Terms = record { rules = c.args.rules.now; gaps = c.args.gaps.now } in
+    let start = nothing-heard c.in_ok-live.live terms c.in_ok-live.ensures.live in
+    let half = subst (λ (live : LiveOf). HasHeard live first) (sym c.in-Ok.ensures.same) (c.in_ok-one.ensures.heard [] start) in
+    subst (λ (q : Terms). c.finish.result.totals ≡ totals_of (report_of q (first ++ c.args.second.now)))
+    (c.in_ok-other.ensures.terms ∙ ap (λ (l : LiveOf). l.terms) c.in-Ok.ensures.same ∙ c.in_ok-one.ensures.terms ∙ ap (λ (l : LiveOf). l.terms) c.in_ok-live.ensures.live)
+    (c.finish.ensures.totals (first ++ c.args.second.now) (c.in_ok-other.ensures.heard first half))
