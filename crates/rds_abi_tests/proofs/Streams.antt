@@ -13,7 +13,7 @@ use Rattle.rds_abi_tests.proofs.Wholes.{written}
 -- the items at the beginning of a room
 found : (wanted : List Item → Type 0) (old new : List RdsItem) (n : ℕ) (w : AreWritten wanted old new n) → take n new ≡ map item_in_c w.0
 found wanted old new n w =
-    written (map item_in_c w.0) new (drop (length (map item_in_c w.0)) old) n w.2.1 (w.2.2 ∙ sym (length-map w.0 item_in_c))
+    written (map item_in_c w.0) new (drop (length (map item_in_c w.0)) old) n w.2 (w.3 ∙ sym (length-map w.0 item_in_c))
 
 pub in_chunks : (terms : Terms) (middle end : RdsStream) (first second : List ℕ) (a a1 b b1 e e1 : List RdsItem) (i j k : ℕ)
     → AreWritten (AreCompleted terms unheard first) a a1 i

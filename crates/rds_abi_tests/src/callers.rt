@@ -98,7 +98,8 @@ pub fn in_two_ranges(
 /// report of all its bytes, and that report's totals.
 pub fn in_two_chunks(
     alloc: Global,
-    chunks: (&[u8], &[u8]),
+    early: &[u8],
+    late: &[u8],
     gaps: &[RdsGap],
     rules: RdsRules,
     first: &mut [RdsItem],
@@ -106,8 +107,8 @@ pub fn in_two_chunks(
     end: &mut [RdsItem],
 ) -> Result<(Counts, RdsTotals), Refusal>
     ensures items { IfOk result (λ r. take r.0.first first.new ++ (take r.0.second second.new ++ take r.0.end end.new)
-        ≡ map item_in_c (report_of (terms_of rules gaps.now) (chunks.0.now ++ chunks.1.now))) }
-    ensures totals { IfOk result (λ r. r.1 ≡ totals_in_c (totals_of (report_of (terms_of rules gaps.now) (chunks.0.now ++ chunks.1.now)))) }
+        ≡ map item_in_c (report_of (terms_of rules gaps.now) (early.now ++ late.now))) }
+    ensures totals { IfOk result (λ r. r.1 ≡ totals_in_c (totals_of (report_of (terms_of rules gaps.now) (early.now ++ late.now)))) }
 {
     let mut counts = Counts {
         first: 0,
@@ -116,7 +117,6 @@ pub fn in_two_chunks(
     };
     let mut totals = RdsTotals::NONE;
     let mut stream = RdsStream::UNHEARD;
-    let (early, late) = chunks;
     push(
         alloc,
         early,
