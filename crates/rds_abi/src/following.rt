@@ -30,7 +30,7 @@ pub struct RdsStream {
     pub state: RdsState,
     /// The totals of the items that are complete.
     pub totals: RdsTotals,
-    /// The last 30 bytes that were heard, or all, and 0 behind them.
+    /// The last 30 bytes that were heard, or all. What stands behind them means nothing.
     pub tail: [u8; 32],
 }
 
@@ -88,7 +88,7 @@ fn live_of<'r>(
     }
 }
 
-/// The last bytes of a stream, and 0 behind them.
+/// The last bytes of a stream, for C.
 fn tail_in_c(tail: &[u8]) -> [u8; 32]
     requires { length tail.now ≤ 30 }
     ensures { take (length tail.now) result ≡ tail.now }

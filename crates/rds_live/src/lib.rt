@@ -47,7 +47,7 @@
 //!   all, and `OutOfMemory` (8).
 //! - Both rules of loss are followed, and gaps that are told beforehand ([`Live::with_gaps`]).
 //! - A decoder that is made of what another tells is equal to that one, and so has heard the same bytes. Refused are gaps that no
-//!   stream may have, numbers that no decoder has, and want of memory; what a decoder tells is never refused for itself.
+//!   stream may have, numbers that no decoder has, and want of memory: what a decoder tells is refused for want of memory alone.
 //! - It keeps no more of a stream than its last 30 bytes: 233 bits are enough to go on, those of a partner's window eight
 //!   blocks back, since a group in progress begins later.
 //!
