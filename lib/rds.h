@@ -10,7 +10,7 @@
  * No pointer may be NULL, and what two of them point to must not overlap, but for what is only read. Nothing is kept after
  * the call: there is no handle, nothing to free, no thread, no lock and no global state. So any calls may run at the same
  * time, in any threads, as long as no two write to the same memory. Only rds_totals, rds_items, rds_run,
- * rds_finish_run and rds_correct ask for memory, by malloc, and have given it back when they return.
+ * rds_finish_run, rds_push, rds_finish and rds_correct ask for memory, by malloc, and have given it back when they return.
  *
  * What is said here of results is proved of the library's code: docs/PROOFS.md says what is, and what is only trusted.
  */
@@ -111,6 +111,15 @@ typedef struct rds_state_t {
     uint32_t first;  /* the number of the first block that was read in the group in progress */
 } rds_state_t;
 
+/* What is known of a stream between two chunks: 160 bytes, all 0 where nothing was heard yet. They are numbers alone, which may
+ * be copied, stored, and gone on with elsewhere by the same rules and gaps. */
+typedef struct rds_stream_t {
+    uint64_t place;      /* how many bits were heard, which is the place of the next */
+    rds_state_t state;   /* the state after them */
+    rds_totals_t totals; /* of the items that are complete */
+    uint8_t tail[32];    /* the last 30 bytes that were heard, or all; what stands behind them means nothing */
+} rds_stream_t;
+
 /* The information words of a group's four blocks: 8 bytes. */
 typedef struct rds_words_t {
     uint16_t words[4];
@@ -150,6 +159,22 @@ RDS_NO_NULL uint8_t rds_run(const uint8_t *bytes, size_t bytes_len, uint64_t bit
 RDS_NO_NULL uint8_t rds_finish_run(const uint8_t *bytes, size_t bytes_len, uint64_t bits, const rds_gap_t *gaps, size_t gaps_len,
                                    const rds_rules_t *rules, const rds_state_t *state, rds_item_t *room, size_t room_len,
                                    uint64_t *count);
+
+/* Takes the next bytes of a stream, any number of them, the highest bit of a byte first: writes the items that they complete to
+ * the beginning of room, how many they are to count, and what is known of the stream then to stream. The gaps are told by their
+ * places in the stream, and may lie ahead. However a stream was cut, from one of zeros on the items are those of rds_items of all
+ * bytes so far, but for the group in progress, which rds_finish gives; no later byte changes them. Where there is too little room
+ * (64), count tells how many items there are, and nothing else is written: the same bytes can be offered again. Numbers that no
+ * call can have left are refused (65); others are gone on with, whoever wrote them. Refusals: 1, 2, 3, 15, then 16, 65, 5 (past
+ * 2^36 bits in all), 64, and 8. */
+RDS_NO_NULL uint8_t rds_push(const uint8_t *bytes, size_t bytes_len, const rds_gap_t *gaps, size_t gaps_len, const rds_rules_t *rules,
+                             rds_stream_t *stream, rds_item_t *room, size_t room_len, uint64_t *count);
+
+/* Ends a stream: writes the group in progress, as far as it was read, to the beginning of room, to count whether there is one, 1
+ * or 0, and to totals those of all that was heard, with that group. The stream is only read, and can be gone on with. Refusals:
+ * those of rds_push, but for 5. */
+RDS_NO_NULL uint8_t rds_finish(const rds_gap_t *gaps, size_t gaps_len, const rds_rules_t *rules, const rds_stream_t *stream,
+                               rds_item_t *room, size_t room_len, uint64_t *count, rds_totals_t *totals);
 
 /* The remainder of a word of 26 bits, below 1024. Refusals: 67. */
 RDS_NO_NULL uint8_t rds_remainder(uint32_t word, uint16_t *found);

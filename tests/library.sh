@@ -3,7 +3,7 @@
 #
 # FOLDER holds what lib/make_library.sh laid out. What rds.h declares is compared with the sources and with the bindings, and
 # with what both libraries show; programs in C, Rust and Python decode random recordings as the program does; each
-# allocation is refused; eight threads call at once; random states are handed over. What a tool is missing for is skipped, by
+# allocation is refused; eight threads call at once; random states and streams are handed over. What a tool is missing for is skipped, by
 # name. The last line is 'N passed, M failed', and the exit status says whether all passed.
 
 usage='usage: tests/library.sh FOLDER PATH-TO-RDS'
@@ -70,7 +70,7 @@ done
 make_program() {
   tried "making $1" "${CC:-cc}" -std=c11 -D_DEFAULT_SOURCE "${strict[@]}" -o "$work/$1" "tests/library/$1.c" "$library/librds.a" -lpthread
 }
-for it in rows refused threads states; do make_program "$it"; done
+for it in rows refused threads states streams; do make_program "$it"; done
 rows=("$work/rows")
 if has cargo; then
   export RDS_LIB_DIR=$library CARGO_TARGET_DIR=$work/cargo
@@ -126,12 +126,14 @@ fi
 tried 'allocations refused' "$work/refused" "$sample"
 tried 'eight threads' "$work/threads" "$sample"
 tried 'random states' "$work/states" "$sample"
+tried 'random streams' "$work/streams" "$sample"
 if has valgrind; then
   bits=$((8 * $(wc -c <"$sample")))
   checked=(valgrind -q --error-exitcode=99 --leak-check=full)
   tried 'rows under valgrind' "${checked[@]}" "$work/rows" "$sample" "$bits" 5 8 1 0 1000 2000
   tried 'a share under valgrind' "${checked[@]}" "$work/rows" "$sample" "$bits" 2 3 5 20
   tried 'random states under valgrind' "${checked[@]}" "$work/states" "$sample"
+  tried 'random streams under valgrind' "${checked[@]}" "$work/streams" "$sample"
 fi
 
 finish

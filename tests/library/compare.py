@@ -3,7 +3,8 @@
 
 COUNT recordings are made of a sample, damaged, shortened, or of noise, with every option that a recording and rules have.
 The rows of each that the program lists are compared with those that each ROWS prints, and with those of rds of Python, whose
-totals are compared too.
+totals are compared too; and with both, where the recording has whole bytes, what rds of Python gives of a stream of them, in
+chunks of up to 1000 bytes.
 """
 
 import os
@@ -66,6 +67,18 @@ def by_python(asked):
     return "".join(map(row, rds.decode(*asked))) + totals
 
 
+def by_stream(r, data, bits, gaps, rules):
+    """The same, in chunks, each from what was told of the stream as bytes."""
+    items, stream, rest = [], bytes(160), data[: bits // 8]
+    while rest:
+        size = r.randrange(1001)
+        follower = rds.Follower(rules, gaps, stream)
+        items += follower.push(rest[:size])
+        stream, rest = follower.stream, rest[size:]
+    group, totals = rds.Follower(rules, gaps, stream).finish()
+    return items + [group] * (group is not None), totals
+
+
 def main():
     count, program, *others = sys.argv[1:]
     with open(f"{TOP}/examples/station.bin", "rb") as it:
@@ -81,6 +94,8 @@ def main():
             it.write(data)
         numbers = [bits, rules.burst, rules.reach, rules.loss, rules.of, *(place for gap in gaps for place in gap)]
         wrong = [] if by_python(asked) == wanted else ["rds of Python"]
+        if bits % 8 == 0 and by_stream(random.Random(seed), *asked) != (list(rds.decode(*asked)), rds.totals(*asked)):
+            wrong.append("a stream by rds of Python")
         for other in others:
             got = subprocess.run([other, path, *map(str, numbers)], capture_output=True)
             if got.returncode or got.stdout.decode() not in (wanted, wanted[: -len(totals_in(wanted))]):

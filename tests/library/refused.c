@@ -55,6 +55,9 @@ static const rds_rules_t rules = RDS_RULES;
 static const rds_gap_t gaps[] = {{1000, 1500}, {20000, 20001}};
 static rds_item_t room[1 << 14];
 
+static const rds_stream_t unheard;
+static rds_stream_t stream;
+
 /* What a call may write, filled with a pattern. */
 static union {
     rds_totals_t totals;
@@ -65,7 +68,11 @@ static union {
 
 static uint8_t totals(void) { return rds_totals(bytes, len, 8 * len, gaps, 2, &rules, &found.totals); }
 static uint8_t items(void) { return rds_items(bytes, len, 8 * len, gaps, 2, &rules, room, sizeof room / sizeof *room, &found.count); }
+static uint8_t push(void) { return rds_push(bytes, len, gaps, 2, &rules, &stream, room, sizeof room / sizeof *room, &found.count); }
 static uint8_t correct(void) { return rds_correct(0x1234567, RDS_C_OR_CX, 5, &found.block); }
+
+static uint64_t number;
+static uint8_t finish(void) { return rds_finish(gaps, 2, &rules, &stream, room, 1, &number, &found.totals); }
 
 static int is_untouched(const void *at, size_t count)
 {
@@ -83,13 +90,16 @@ static long refused_in(uint8_t call(void))
         for (long k = 0;; k++) {
             memset(&found, 0x5A, sizeof found);
             memset(room, 0x5A, sizeof room);
+            if (call == push)
+                stream = unheard;
             long before = held, already = refusals;
             refused_on = all;
             allowed = k;
             uint8_t answer = call();
             allowed = -1;
             int is_whole = answer == 0 && !is_untouched(&found, sizeof found);
-            int is_none = answer == RDS_OUT_OF_MEMORY && is_untouched(&found, sizeof found) && is_untouched(room, sizeof room);
+            int is_none = answer == RDS_OUT_OF_MEMORY && is_untouched(&found, sizeof found) && is_untouched(room, sizeof room) &&
+                          (call != push || !memcmp(&stream, &unheard, sizeof stream));
             if (held != before || !(is_whole || (is_none && refusals > already)))
                 return -1;
             if (refusals == already)
@@ -107,6 +117,8 @@ int main(int count, char **words)
         return 2;
     len = fread(bytes, 1, sizeof bytes, file);
     long by_totals = refused_in(totals), by_items = refused_in(items), by_correct = refused_in(correct);
-    printf("%ld %ld %ld refused\n", by_totals, by_items, by_correct);
-    return !(by_totals > 3 && by_items > 3 && by_correct > 0);
+    /* the last push is refused nothing, so that what it left is ended */
+    long by_push = refused_in(push), by_finish = refused_in(finish);
+    printf("%ld %ld %ld %ld %ld refused\n", by_totals, by_items, by_correct, by_push, by_finish);
+    return !(by_totals > 3 && by_items > 3 && by_correct > 0 && by_push > 3 && by_finish > 3);
 }

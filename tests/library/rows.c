@@ -1,7 +1,8 @@
 /* The rows of a listing, by the library for C: rows FILE BITS BURST REACH LOSS OF [BEGIN END]..
  *
- * The items are found twice: whole, in room that was asked for first and with one item more that has to be left as it was;
- * and from range to range of ever other lengths, by a state. The exit status is a refusal's number, or 100 and more.
+ * The items are found three times: whole, in room that was asked for first and with one item more that has to be left as it
+ * was; from range to range of ever other lengths, by a state; and from a stream of ever other chunks of up to 1000 bytes, as far
+ * as it has whole bytes. The exit status is a refusal's number, or 100 and more.
  */
 #include "rds.h"
 
@@ -92,6 +93,57 @@ static int is_same_in_ranges(const uint8_t *bytes, size_t len, uint64_t bits, co
     return count == 0 || memcmp(room, items + done, sizeof *room) == 0;
 }
 
+/* Whether one more chunk gives the next items. Room for one item less is refused first, and nothing is written there. */
+static int is_next(const uint8_t *bytes, size_t len, const rds_gap_t *gaps, size_t gaps_len, const rds_rules_t *rules,
+                   rds_stream_t *stream, const rds_item_t *items, uint64_t left, uint64_t *count)
+{
+    static rds_item_t room[4096];
+    rds_stream_t before = *stream, again = *stream;
+    if (rds_push(bytes, len, gaps, gaps_len, rules, stream, room, 4096, count) || *count > left ||
+        memcmp(room, items, *count * sizeof *room))
+        return 0;
+    if (*count == 0)
+        return 1;
+    uint64_t told = 0;
+    rds_item_t first = room[0];
+    memset(room, 0x5A, sizeof *room);
+    if (rds_push(bytes, len, gaps, gaps_len, rules, &again, room, *count - 1, &told) != RDS_SMALL_ROOM || told != *count ||
+        memcmp(&before, &again, sizeof again) || !memcmp(room, &first, sizeof first))
+        return 0;
+    return 1;
+}
+
+/* Whether a stream of the first bytes, from one of zeros, gives the same items and totals as they do whole. */
+static int is_same_in_chunks(const uint8_t *bytes, size_t len, const rds_gap_t *gaps, size_t gaps_len, const rds_rules_t *rules)
+{
+    rds_item_t none, last, *items;
+    rds_totals_t wanted, totals;
+    rds_stream_t stream;
+    uint64_t number = 0, done = 0, count, x = len + 1;
+    rds_items(bytes, len, 8 * len, gaps, gaps_len, rules, &none, 0, &number);
+    items = malloc((number + 1) * sizeof *items);
+    if (!items || rds_items(bytes, len, 8 * len, gaps, gaps_len, rules, items, number, &number) ||
+        rds_totals(bytes, len, 8 * len, gaps, gaps_len, rules, &wanted))
+        return 0;
+    memset(&stream, 0, sizeof stream);
+    for (size_t from = 0, next; from < len; from = next) {
+        x = x * 6364136223846793005u + 1442695040888963407u;
+        next = from + (x >> 33) % 1001;
+        next = next < len ? next : len;
+        if (!is_next(bytes + from, next - from, gaps, gaps_len, rules, &stream, items + done, number - done, &count) ||
+            stream.place != 8 * next)
+            return 0;
+        done += count;
+    }
+    memset(&last, 0x5A, sizeof last);
+    if (rds_finish(gaps, gaps_len, rules, &stream, &last, 1, &count, &totals) || count > 1 || done + count != number ||
+        (count && (memcmp(&last, items + done, sizeof last) ||
+                   rds_finish(gaps, gaps_len, rules, &stream, &last, 0, &count, &totals) != RDS_SMALL_ROOM || count != 1)))
+        return 0;
+    free(items);
+    return memcmp(&totals, &wanted, sizeof totals) == 0;
+}
+
 int main(int count, char **words)
 {
     if (count < 7)
@@ -123,6 +175,8 @@ int main(int count, char **words)
             return 104;
     if (!is_same_in_ranges(bytes, len, bits, gaps, gaps_len, &rules, room, number))
         return 106;
+    if ((gaps_len == 0 || gaps[gaps_len - 1].end <= bits / 8 * 8) && !is_same_in_chunks(bytes, bits / 8, gaps, gaps_len, &rules))
+        return 107;
     for (uint64_t k = 0; k < number; k++)
         print_item(&room[k]);
     rds_totals_t t;

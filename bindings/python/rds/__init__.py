@@ -11,10 +11,10 @@ from dataclasses import dataclass
 from enum import IntEnum
 from typing import Iterable, Iterator, Optional, Sequence, Union
 
-from ._ffi import RdsBlock, RdsGap, RdsItem, RdsPacked, RdsRules, RdsTotals, RdsWords, load
+from ._ffi import RdsBlock, RdsGap, RdsItem, RdsPacked, RdsRules, RdsStream, RdsTotals, RdsWords, load
 
-__all__ = ["Refused", "Rules", "Totals", "Kind", "Block", "Acquired", "Group", "Loss", "totals", "decode", "items_array",
-           "remainder", "correct", "encode", "version"]
+__all__ = ["Refused", "Rules", "Totals", "Kind", "Block", "Acquired", "Group", "Loss", "Follower", "totals", "decode",
+           "items_array", "remainder", "correct", "encode", "version"]
 
 _library = load()
 _OFFSETS = (None, "A", "B", "C", "C'", "D")
@@ -117,6 +117,10 @@ def totals(data: bytes, bits: Optional[int] = None, gaps: Iterable[Sequence[int]
     """The totals of a recording: its first `bits` bits, or all."""
     found = RdsTotals()
     _check(_library.rds_totals(*_asked(data, bits, gaps, rules), found))
+    return _totals(found)
+
+
+def _totals(found: RdsTotals) -> Totals:
     return Totals(found.valid, tuple(found.bursts), *(getattr(found, it) for it in list(Totals.__annotations__)[2:]))
 
 
@@ -161,6 +165,56 @@ def items_array(data: bytes, bits: Optional[int] = None, gaps: Iterable[Sequence
     item = numpy.dtype([("place", "u8"), ("blocks", block, 4), ("what", "u1"), ("number", "u1"), ("version", "u1"),
                         ("conflict", "u1"), ("unused", "u4")])
     return numpy.frombuffer(room, item, count)
+
+
+class Follower:
+    """A stream that is followed chunk by chunk. However it is cut, the items of all chunks and the group at the end are those
+    that `decode` gives of the whole.
+
+        follower = rds.Follower()
+        for chunk in chunks:
+            for item in follower.push(chunk):
+                print(item)
+        group, totals = follower.finish()
+
+    The gaps are told by their places in the stream, and may lie ahead. `stream` is what another of the same rules and gaps
+    told of a stream, from which this one goes on.
+    """
+
+    def __init__(self, rules: Rules = Rules(), gaps: Iterable[Sequence[int]] = (), stream: bytes = bytes(160)):
+        if len(stream) != ctypes.sizeof(RdsStream):
+            raise ValueError("a stream is 160 bytes")
+        self._rules, self._gaps, self._stream = rules, list(gaps), RdsStream.from_buffer_copy(stream)
+        self.finish()
+
+    def push(self, data: bytes) -> list[Item]:
+        """The items that the next bytes complete. Refused, it has heard nothing."""
+        lent, length, _, *asked = _asked(data, None, self._gaps, self._rules)
+        count = ctypes.c_uint64(8 + length // 4)
+        while True:
+            room = (RdsItem * count.value)()
+            number = _library.rds_push(lent, length, *asked, self._stream, room, len(room), count)
+            if number != _SMALL_ROOM:
+                _check(number)
+                return [_item(room[k]) for k in range(count.value)]
+
+    def finish(self) -> tuple[Optional[Group], Totals]:
+        """The group in progress, as far as it was read, and the totals of all that was heard, if the stream ended here. It can
+        be gone on with."""
+        room, count, found = (RdsItem * 1)(), ctypes.c_uint64(), RdsTotals()
+        asked = _asked(b"", None, self._gaps, self._rules)[3:]
+        _check(_library.rds_finish(*asked, self._stream, room, 1, count, found))
+        return (_item(room[0]) if count.value else None), _totals(found)
+
+    @property
+    def place(self) -> int:
+        """How many bits were heard."""
+        return self._stream.place
+
+    @property
+    def stream(self) -> bytes:
+        """What is known of the stream: numbers alone, which may be stored."""
+        return bytes(self._stream)
 
 
 def remainder(word: int) -> int:

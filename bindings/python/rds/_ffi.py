@@ -47,6 +47,10 @@ class RdsState(ctypes.Structure):
     _fields_ = [("due", c_uint64), ("bad", c_uint64), ("number", c_uint32), ("first", c_uint32)]
 
 
+class RdsStream(ctypes.Structure):
+    _fields_ = [("place", c_uint64), ("state", RdsState), ("totals", RdsTotals), ("tail", c_uint8 * 32)]
+
+
 class RdsWords(ctypes.Structure):
     _fields_ = [("words", c_uint16 * 4)]
 
@@ -55,7 +59,7 @@ class RdsPacked(ctypes.Structure):
     _fields_ = [("bytes", c_uint8 * 13)]
 
 
-STRUCTS = [RdsTotals, RdsBlock, RdsItem, RdsGap, RdsRules, RdsState, RdsWords, RdsPacked]
+STRUCTS = [RdsTotals, RdsBlock, RdsItem, RdsGap, RdsRules, RdsState, RdsStream, RdsWords, RdsPacked]
 
 # name: (result, arguments)
 FUNCTIONS = {
@@ -77,6 +81,16 @@ FUNCTIONS = {
         c_uint8,
         [POINTER(c_uint8), c_size_t, c_uint64, POINTER(RdsGap), c_size_t, POINTER(RdsRules), POINTER(RdsState),
          POINTER(RdsItem), c_size_t, POINTER(c_uint64)],
+    ),
+    "rds_push": (
+        c_uint8,
+        [POINTER(c_uint8), c_size_t, POINTER(RdsGap), c_size_t, POINTER(RdsRules), POINTER(RdsStream), POINTER(RdsItem), c_size_t,
+         POINTER(c_uint64)],
+    ),
+    "rds_finish": (
+        c_uint8,
+        [POINTER(RdsGap), c_size_t, POINTER(RdsRules), POINTER(RdsStream), POINTER(RdsItem), c_size_t, POINTER(c_uint64),
+         POINTER(RdsTotals)],
     ),
     "rds_remainder": (c_uint8, [c_uint32, POINTER(c_uint16)]),
     "rds_correct": (c_uint8, [c_uint32, c_uint8, c_uint8, POINTER(RdsBlock)]),

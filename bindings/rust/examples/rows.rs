@@ -1,6 +1,7 @@
 //! The rows of a listing's items: rows FILE BITS BURST REACH LOSS OF [BEGIN END]..
 
-use rds::{Block, Group, Item, LossRule, Offset, Recording, Rules, Version};
+use rds::{Block, Follower, Group, Item, LossRule, Offset, Recording, Refused, Rules, Version};
+use std::ops::Range;
 
 fn spelled(block: Block) -> String {
     let name = |offset| match offset {
@@ -35,17 +36,37 @@ fn row(item: Item) -> String {
     }
 }
 
+/// The items of a stream of these bytes, in ever other chunks of up to 1000 bytes, each from what is known of the stream.
+fn followed(bytes: &[u8], gaps: &[Range<u64>], rules: &Rules) -> Result<Vec<Item>, Refused> {
+    let (mut follower, mut items, mut rest, mut random) = (Follower::new(rules, gaps)?, Vec::new(), bytes, bytes.len() as u32);
+    while !rest.is_empty() {
+        random = random.wrapping_mul(1664525).wrapping_add(1013904223);
+        let (chunk, later) = rest.split_at(rest.len().min((random >> 8) as usize % 1001));
+        follower = Follower::resume(rules, gaps, *follower.stream())?;
+        items.extend(follower.push(chunk)?);
+        rest = later;
+    }
+    let (group, _) = follower.finish()?;
+    items.extend(group.map(Item::Group));
+    Ok(items)
+}
+
 fn main() -> Result<(), Box<dyn std::error::Error>> {
     let words: Vec<String> = std::env::args().skip(1).collect();
     let bytes = std::fs::read(&words[0])?;
     let numbers = words[1..].iter().map(|it| it.parse()).collect::<Result<Vec<u64>, _>>()?;
     let [bits, burst, reach, loss, of] = numbers[..5] else { return Err("five numbers".into()) };
-    let gaps = numbers[5..].chunks(2).map(|gap| gap[0]..gap[1]).collect();
+    let gaps: Vec<_> = numbers[5..].chunks(2).map(|gap| gap[0]..gap[1]).collect();
     let loss = match of {
         0 => LossRule::Run(loss as u32),
         of => LossRule::Share { bad: loss as u32, of: of as u32 },
     };
     let rules = Rules { burst: burst as u32, reach: reach as u32, loss };
+    let whole = &bytes[..bits as usize / 8];
+    let near = gaps.iter().all(|gap| gap.end <= 8 * whole.len() as u64);
+    if near && !followed(whole, &gaps, &rules)?.into_iter().eq(rds::items(&Recording { gaps: gaps.clone(), ..Recording::of(whole) }, &rules)?) {
+        return Err("a stream of the same bytes has other items".into());
+    }
     for item in rds::items(&Recording { bytes: &bytes, bits, gaps }, &rules)? {
         println!("{}", row(item));
     }

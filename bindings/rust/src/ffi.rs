@@ -60,6 +60,15 @@ pub struct RdsState {
 }
 
 #[repr(C)]
+#[derive(Clone, Copy, Debug, Default, PartialEq, Eq)]
+pub struct RdsStream {
+    pub place: u64,
+    pub state: RdsState,
+    pub totals: RdsTotals,
+    pub tail: [u8; 32],
+}
+
+#[repr(C)]
 #[derive(Clone, Copy, Debug, PartialEq, Eq)]
 pub struct RdsWords {
     pub words: [u16; 4],
@@ -76,6 +85,8 @@ extern "C" {
     pub fn rds_items(bytes: *const u8, bytes_len: usize, bits: u64, gaps: *const RdsGap, gaps_len: usize, rules: *const RdsRules, room: *mut RdsItem, room_len: usize, count: *mut u64) -> u8;
     pub fn rds_run(bytes: *const u8, bytes_len: usize, bits: u64, gaps: *const RdsGap, gaps_len: usize, rules: *const RdsRules, from: u64, to: u64, state: *mut RdsState, room: *mut RdsItem, room_len: usize, count: *mut u64) -> u8;
     pub fn rds_finish_run(bytes: *const u8, bytes_len: usize, bits: u64, gaps: *const RdsGap, gaps_len: usize, rules: *const RdsRules, state: *const RdsState, room: *mut RdsItem, room_len: usize, count: *mut u64) -> u8;
+    pub fn rds_push(bytes: *const u8, bytes_len: usize, gaps: *const RdsGap, gaps_len: usize, rules: *const RdsRules, stream: *mut RdsStream, room: *mut RdsItem, room_len: usize, count: *mut u64) -> u8;
+    pub fn rds_finish(gaps: *const RdsGap, gaps_len: usize, rules: *const RdsRules, stream: *const RdsStream, room: *mut RdsItem, room_len: usize, count: *mut u64, totals: *mut RdsTotals) -> u8;
     pub fn rds_remainder(word: u32, found: *mut u16) -> u8;
     pub fn rds_correct(word: u32, offset: u8, limit: u8, found: *mut RdsBlock) -> u8;
     pub fn rds_encode(groups: *const RdsWords, groups_len: usize, room: *mut RdsPacked, room_len: usize) -> u8;

@@ -9,7 +9,7 @@
 
 pub mod ffi;
 
-use ffi::{RdsBlock, RdsGap, RdsItem, RdsPacked, RdsRules, RdsTotals, RdsWords};
+use ffi::{RdsBlock, RdsGap, RdsItem, RdsPacked, RdsRules, RdsStream, RdsTotals, RdsWords};
 use std::fmt;
 use std::ops::Range;
 
@@ -66,8 +66,12 @@ impl<'a> Recording<'a> {
     }
 
     fn gaps(&self) -> Vec<RdsGap> {
-        self.gaps.iter().map(|gap| RdsGap { begin: gap.start, end: gap.end }).collect()
+        gaps_of(&self.gaps)
     }
+}
+
+fn gaps_of(gaps: &[Range<u64>]) -> Vec<RdsGap> {
+    gaps.iter().map(|gap| RdsGap { begin: gap.start, end: gap.end }).collect()
 }
 
 /// When a lock is lost.
@@ -223,6 +227,103 @@ pub fn items(recording: &Recording<'_>, rules: &Rules) -> Result<impl ExactSizeI
             room.truncate(count as usize);
             return Ok(room.into_iter().map(|item| item_of(&item)));
         }
+    }
+}
+
+/// A stream that is followed chunk by chunk.
+///
+/// However it is cut, the items of all chunks and the group at the end are those that [`items`] gives of the whole.
+///
+/// ```
+/// let mut follower = rds::Follower::new(&rds::Rules::default(), &[])?;
+/// for chunk in [[0u8; 50]; 2] {
+///     for item in follower.push(&chunk)? {
+///         println!("{item:?}");
+///     }
+/// }
+/// let (group, totals) = follower.finish()?;
+/// assert!(follower.place() == 800 && group.is_none() && totals.groups == 0);
+/// # Ok::<(), rds::Refused>(())
+/// ```
+#[derive(Clone, Debug)]
+pub struct Follower {
+    rules: RdsRules,
+    gaps: Vec<RdsGap>,
+    stream: RdsStream,
+}
+
+impl Follower {
+    /// Nothing was heard yet. The gaps are told by their places in the stream, and may lie ahead.
+    pub fn new(rules: &Rules, gaps: &[Range<u64>]) -> Result<Follower, Refused> {
+        Follower::resume(rules, gaps, RdsStream::default())
+    }
+
+    /// Goes on from what [`stream`](Follower::stream) told of a stream that was followed by the same rules and gaps.
+    pub fn resume(rules: &Rules, gaps: &[Range<u64>], stream: RdsStream) -> Result<Follower, Refused> {
+        let follower = Follower { rules: rules.numbers(), gaps: gaps_of(gaps), stream };
+        follower.finish()?;
+        Ok(follower)
+    }
+
+    /// Takes the next bytes, any number of them, and gives the items that they complete. Refused, it has heard nothing.
+    pub fn push(&mut self, bytes: &[u8]) -> Result<impl ExactSizeIterator<Item = Item>, Refused> {
+        let mut count = 8 + bytes.len() as u64 / 4;
+        loop {
+            let mut room = vec![RdsItem::default(); count as usize];
+            // SAFETY: as in `totals`.
+            let number = unsafe {
+                ffi::rds_push(
+                    bytes.as_ptr(),
+                    bytes.len(),
+                    self.gaps.as_ptr(),
+                    self.gaps.len(),
+                    &self.rules,
+                    &mut self.stream,
+                    room.as_mut_ptr(),
+                    room.len(),
+                    &mut count,
+                )
+            };
+            if number != SMALL_ROOM {
+                check(number)?;
+                room.truncate(count as usize);
+                return Ok(room.into_iter().map(|item| item_of(&item)));
+            }
+        }
+    }
+
+    /// The group in progress, as far as it was read, and the totals of all that was heard, if the stream ended here. It
+    /// can be gone on with.
+    pub fn finish(&self) -> Result<(Option<Group>, Totals), Refused> {
+        let (mut group, mut count, mut totals) = (RdsItem::default(), 0, RdsTotals::default());
+        // SAFETY: as in `totals`; the room is that of one item.
+        check(unsafe {
+            ffi::rds_finish(
+                self.gaps.as_ptr(),
+                self.gaps.len(),
+                &self.rules,
+                &self.stream,
+                &mut group,
+                1,
+                &mut count,
+                &mut totals,
+            )
+        })?;
+        let group = match item_of(&group) {
+            Item::Group(group) if count == 1 => Some(group),
+            _ => None,
+        };
+        Ok((group, totals))
+    }
+
+    /// How many bits were heard.
+    pub fn place(&self) -> u64 {
+        self.stream.place
+    }
+
+    /// What is known of the stream: numbers alone, which may be stored.
+    pub fn stream(&self) -> &RdsStream {
+        &self.stream
     }
 }
 

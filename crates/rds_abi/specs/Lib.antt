@@ -4,4 +4,5 @@ pub mod Asked
 pub mod Blocks
 pub mod Names
 pub mod Going
+pub mod Following
 pub mod Examples

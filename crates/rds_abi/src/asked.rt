@@ -73,7 +73,7 @@ pub(crate) fn rules_of(alloc: Global, asked: RdsRules) -> Result<Rules, Refusal>
 }
 
 /// The gaps as a recording takes them.
-fn gaps_in(alloc: Global, gaps: &[RdsGap]) -> Result<Vec<(u64, u64)>, AllocError>
+pub(crate) fn gaps_in(alloc: Global, gaps: &[RdsGap]) -> Result<Vec<(u64, u64)>, AllocError>
     ensures { IfOk result (λ copy. copy.items ≡ gaps_of gaps.now) }
 {
     gaps.iter().map(|gap| (gap.begin, gap.end)).collect(alloc)

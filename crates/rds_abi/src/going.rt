@@ -80,7 +80,7 @@ fn lock_of(rules: &Rules, s: RdsState, place: u64) -> Option<State>
 }
 
 /// The state that these numbers say, or none where it is not lawful before `place`.
-fn state_of(rules: &Rules, s: RdsState, place: u64) -> Option<State>
+pub(crate) fn state_of(rules: &Rules, s: RdsState, place: u64) -> Option<State>
     ensures some { IfSome result (λ state. state ≡ the_state_of rules.now s) }
     ensures lawful { IfSome result (λ state. IsLawfulState rules.now place state) }
     ensures none { result ≡ None → IsLawfulState rules.now place (the_state_of rules.now s) → ⊥ }
@@ -103,7 +103,7 @@ fn bad_in_c(bad: Bad) -> u64
 }
 
 /// A state, for C.
-fn state_in_c(state: State) -> RdsState
+pub(crate) fn state_in_c(state: State) -> RdsState
     ensures { (rules : RuleNumbers) (place : ℕ) → IsLawfulState rules place state → the_state_of rules result ≡ state }
 {
     match state {

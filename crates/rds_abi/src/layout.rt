@@ -28,6 +28,20 @@ pub struct RdsTotals {
     pub losses: u64,
 }
 
+impl RdsTotals {
+    /// The totals of no items.
+    pub const NONE: RdsTotals = RdsTotals {
+        valid: 0,
+        bursts: [0; 5],
+        lost: 0,
+        bits: 0,
+        groups: 0,
+        complete: 0,
+        acquired: 0,
+        losses: 0,
+    };
+}
+
 /// A block: 8 bytes, all 0 where it is missing.
 #[repr(C)]
 #[derive(Clone, Copy, Debug, PartialEq, Eq)]

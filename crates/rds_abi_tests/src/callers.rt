@@ -1,14 +1,17 @@
 //! What a user gets of the library for C.
-ghost use Rattle.std.specs.Prelude.{◌≡◌, ◌≢◌, ◌++◌, ◌^◌, ◌<◌, ◌⊎◌, [], ◌∷◌, IfOk, IfSome, None, take, true};
+ghost use Rattle.std.specs.Prelude.{◌≡◌, ◌≢◌, ◌++◌, ◌^◌, ◌<◌, ◌⊎◌, [], ◌∷◌, IfOk, IfSome, None, map, take, true};
 ghost use Rattle.rds_code.specs.Remainder.{rem};
 ghost use Rattle.rds_sync.specs.Report.{report_items};
 ghost use Rattle.rds_sync.specs.Totals.{totals_of};
+ghost use Rattle.rds_live.specs.Live.{report_of};
 ghost use Rattle.rds_abi.specs.Asked.{asked, items_asked, recording_of, rules_of};
 ghost use Rattle.rds_abi.specs.Blocks.{packed};
+ghost use Rattle.rds_abi.specs.Following.{terms_of};
+ghost use Rattle.rds_abi.specs.Layout.{item_in_c, totals_in_c};
 
 use rds_abi::{
-    RdsGap, RdsItem, RdsPacked, RdsRules, RdsState, RdsWords, Refusal, encode, finish_run, items,
-    remainder, run, totals,
+    RdsGap, RdsItem, RdsPacked, RdsRules, RdsState, RdsStream, RdsTotals, RdsWords, Refusal,
+    encode, finish, finish_run, items, push, remainder, run, totals,
 };
 use rds_sync::laws;
 use std::alloc::Global;
@@ -89,6 +92,59 @@ pub fn in_two_ranges(
     )?;
     finish_run(alloc, bytes, bits, gaps, rules, state, end, &mut counts.end)?;
     Ok(counts)
+}
+
+/// A stream in two chunks, between which it is kept as numbers alone, and what its end closes: together the items of the
+/// report of all its bytes, and that report's totals.
+pub fn in_two_chunks(
+    alloc: Global,
+    early: &[u8],
+    late: &[u8],
+    gaps: &[RdsGap],
+    rules: RdsRules,
+    first: &mut [RdsItem],
+    second: &mut [RdsItem],
+    end: &mut [RdsItem],
+) -> Result<(Counts, RdsTotals), Refusal>
+    ensures items { IfOk result (λ r. take r.0.first first.new ++ (take r.0.second second.new ++ take r.0.end end.new)
+        ≡ map item_in_c (report_of (terms_of rules gaps.now) (early.now ++ late.now))) }
+    ensures totals { IfOk result (λ r. r.1 ≡ totals_in_c (totals_of (report_of (terms_of rules gaps.now) (early.now ++ late.now)))) }
+{
+    let mut counts = Counts {
+        first: 0,
+        second: 0,
+        end: 0,
+    };
+    let mut totals = RdsTotals::NONE;
+    let mut stream = RdsStream::UNHEARD;
+    push(
+        alloc,
+        early,
+        gaps,
+        rules,
+        &mut stream,
+        first,
+        &mut counts.first,
+    )?;
+    push(
+        alloc,
+        late,
+        gaps,
+        rules,
+        &mut stream,
+        second,
+        &mut counts.second,
+    )?;
+    finish(
+        alloc,
+        gaps,
+        rules,
+        &stream,
+        end,
+        &mut counts.end,
+        &mut totals,
+    )?;
+    Ok((counts, totals))
 }
 
 /// A list that fits is written, and what stands behind it is as it was.

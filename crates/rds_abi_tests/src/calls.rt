@@ -1,7 +1,7 @@
 //! Each call once where it succeeds with ample memory, which no clause says, and one that goes on from a state.
 use rds_abi::{
-    RdsBlock, RdsItem, RdsPacked, RdsRules, RdsState, RdsWords, correct, encode, finish_run, items,
-    refusal_name, remainder, run, totals,
+    RdsBlock, RdsItem, RdsPacked, RdsRules, RdsState, RdsStream, RdsTotals, RdsWords, correct,
+    encode, finish, finish_run, items, push, refusal_name, remainder, run, totals,
 };
 use std::alloc::Global;
 use std::test::Fail;
@@ -101,6 +101,44 @@ fn items_in_ranges(rt: HostRuntime) -> Result<(), Fail> {
         &mut count,
     )?;
     assert!(rt; whole == parts);
+    Ok(())
+}
+
+#[test]
+fn stream_in_chunks(rt: HostRuntime) -> Result<(), Fail> {
+    let bytes = station(rt.alloc())?;
+    let mut whole = [NO_ITEM; 2 * GROUPS];
+    let mut parts = [NO_ITEM; 2 * GROUPS];
+    let mut count = 0;
+    items(
+        rt.alloc(),
+        bytes.as_slice(),
+        BITS,
+        &[],
+        RULES,
+        &mut whole,
+        &mut count,
+    )?;
+    let mut stream = RdsStream::UNHEARD;
+    let mut done = 0;
+    for chunk in bytes.as_slice().chunks(7) {
+        let room = &mut parts[done.min(GROUPS)..];
+        push(rt.alloc(), chunk, &[], RULES, &mut stream, room, &mut count)?;
+        done = done.saturating_add(count as usize);
+    }
+    let mut found = RdsTotals::NONE;
+    let room = &mut parts[done.min(GROUPS)..];
+    finish(
+        rt.alloc(),
+        &[],
+        RULES,
+        &stream,
+        room,
+        &mut count,
+        &mut found,
+    )?;
+    assert!(rt; stream.place == BITS && whole == parts);
+    assert!(rt; found == totals(rt.alloc(), bytes.as_slice(), BITS, &[], RULES)?);
     Ok(())
 }
 

@@ -10,5 +10,6 @@
 #![tactic(auto)]
 
 mod alone;
+mod following;
 mod going;
 mod whole;

@@ -1,5 +1,5 @@
 -- Items, blocks, states and rules as they lie in C.
-use Rattle.std.specs.Prelude.{◌≡◌, [], ◌∷◌, None, Some, refl, true}
+use Rattle.std.specs.Prelude.{◌≡◌, [], ◌∷◌, None, Some, refl, replicate, true}
 use Rattle.rds_code.specs.declared.offset.Offset.TheVariants as offset
 use Rattle.rds_code.specs.declared.reading.Reading.TheVariants.{Valid, Corrected, Lost}
 use Rattle.rds_code.specs.declared.reading.Wanted.TheVariants.{OnlyC, Either}
@@ -10,10 +10,13 @@ use Rattle.rds_sync.specs.declared.loss.Bad.TheVariants.{Mask, Run as InARow}
 use Rattle.rds_sync.specs.declared.loss.Loss.TheVariants.{Run, Share}
 use Rattle.rds_sync.specs.declared.state.State.TheVariants.{Locked, Searching}
 use Rattle.rds_abi.specs.Asked.{loss_of, rules_of}
+use Rattle.rds_live.specs.Live.{Terms, live_of}
 use Rattle.rds_abi.specs.Blocks.{block_wanted}
+use Rattle.rds_abi.specs.Following.{stream_of}
 use Rattle.rds_abi.specs.Going.{state_of}
 use Rattle.rds_abi.specs.Layout.{item_in_c, no_block}
 use Rattle.rds_abi.specs.declared.asked.RdsRules.{RdsRules}
+use Rattle.rds_abi.specs.declared.following.RdsStream.{RdsStream}
 
 -- a group with a block of each kind
 pub each_kind : item_in_c (Group (record {
@@ -68,6 +71,18 @@ last_two = refl
 
 pub zeros : state_of (rules_of of_twenty) (record { due = 0; bad = 0; number = 0; first = 0 }) ≡ Searching
 zeros = refl
+
+-- of a stream of zeros nothing was heard
+abbrev pub unheard : RdsStream
+unheard = record {
+  place = 0;
+  state = record { due = 0; bad = 0; number = 0; first = 0 };
+  totals = record { valid = 0; bursts = 0 ∷ 0 ∷ 0 ∷ 0 ∷ 0 ∷ []; lost = 0; bits = 0; groups = 0; complete = 0; acquired = 0; losses = 0 };
+  tail = replicate 32 0;
+}
+
+pub nothing_heard : (terms : Terms) → stream_of terms unheard ≡ live_of terms []
+nothing_heard terms = refl
 
 -- offsets by number
 pub c_alone : block_wanted 3 ≡ Some (3, OnlyC)

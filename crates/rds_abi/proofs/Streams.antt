@@ -1,0 +1,65 @@
+-- A stream as a decoder has it, and as its numbers say it.
+use Rattle.std.proofs.Common.{◌≡◌, ◌∙◌, ◌+◌, ◌*◌, ◌/◌, ◌^◌, ◌<◌, ◌≤◌, ◌++◌, ℕ, List, Option, Some, None, ap, arith, drop, inl, inr, length, min, refl, subst, sym, take}
+use Rattle.std.proofs.lemmas.Bool.{cases_lt}
+use Rattle.rds_sync.specs.Advance.{group_item}
+use Rattle.rds_sync.specs.declared.item.Group.{Group as GroupRecord}
+use Rattle.rds_sync.specs.declared.item.Item.{Item}
+use Rattle.rds_live.specs.Live.{HasHeard, LiveOf, Terms, complete, most_kept, report_of}
+use Rattle.rds_abi.specs.Following.{AreClosed, AreCompleted, place_after, stream_of}
+use Rattle.rds_abi.specs.Going.{state_of}
+use Rattle.rds_abi.specs.Layout.{totals_in_c}
+use Rattle.rds_abi.specs.declared.following.RdsStream.{RdsStream}
+use Rattle.rds_abi.specs.declared.going.RdsState.{RdsState}
+use Rattle.rds_abi.specs.declared.layout.RdsTotals.{RdsTotals}
+
+-- what was laid out says what it was laid out of
+pub laid_out : (live : LiveOf) (place : ℕ) (state : RdsState) (totals : RdsTotals) (tail : List ℕ)
+    → place ≡ live.place → state_of live.terms.rules state ≡ live.state → totals ≡ totals_in_c live.totals
+    → take (length live.tail) tail ≡ live.tail → length live.tail ≡ min most_kept (live.place / 8)
+    → stream_of live.terms (record { place = place; state = state; totals = totals; tail = tail }) ≡ live
+laid_out live place state totals tail place_is state_is totals_are tail_is kept =
+    rw (place_is, state_is, totals_are, sym kept, tail_is) refl
+
+module _ (terms : Terms) (s : RdsStream) (live : LiveOf) (is : live ≡ stream_of terms s) where
+  -- numbers that were laid out of a decoder by the same terms
+  pub by_same_terms : (next : LiveOf) (laid : RdsStream) → next.terms ≡ live.terms → stream_of next.terms laid ≡ next → stream_of terms laid ≡ next
+  by_same_terms next laid same laid_is =
+      subst (λ (t : Terms). stream_of t laid ≡ next) (same ∙ ap (λ (l : LiveOf). l.terms) is) laid_is
+
+  -- what a decoder has heard, and its numbers with it
+  pub heard : (next : LiveOf) (laid : RdsStream) (bytes : List ℕ) → stream_of terms laid ≡ next
+      → ((before : List ℕ) → HasHeard live before → HasHeard next (before ++ bytes))
+      → (before : List ℕ) → HasHeard (stream_of terms s) before → HasHeard (stream_of terms laid) (before ++ bytes)
+  heard next laid bytes laid_is hears before had =
+      subst (λ (l : LiveOf). HasHeard l (before ++ bytes)) (sym laid_is)
+      (hears before (subst (λ (l : LiveOf). HasHeard l before) (sym is) had))
+
+  -- the items that it completed
+  pub completed : (bytes : List ℕ) (items : List Item)
+      → ((before : List ℕ) → HasHeard live before → complete live.terms (before ++ bytes) ≡ complete live.terms before ++ items)
+      → AreCompleted terms s bytes items
+  completed bytes items gives =
+      subst (λ (l : LiveOf). (before : List ℕ) → HasHeard l before → complete l.terms (before ++ bytes) ≡ complete l.terms before ++ items) is gives
+
+  -- and the group that its end closes
+  pub closed : (group : Option GroupRecord)
+      → ((bytes : List ℕ) → HasHeard live bytes → complete live.terms bytes ++ group_item group ≡ report_of live.terms bytes)
+      → AreClosed terms s (group_item group)
+  closed group gives =
+      (few group, subst (λ (l : LiveOf). (bytes : List ℕ) → HasHeard l bytes → complete l.terms bytes ++ group_item group ≡ report_of l.terms bytes) is gives)
+    where
+      few : (group : Option GroupRecord) → length (group_item group) ≤ 1
+      few None = omega arith
+      few (Some g) = omega arith
+
+  -- a stream that was not refused for its length
+  pub not_too_long : (bytes : List ℕ) → (2 ^ 36 < live.place + 8 * length bytes → ⊥) → place_after s bytes ≤ 2 ^ 36
+  not_too_long bytes short = elim (cases_lt (2 ^ 36) (place_after s bytes)) [
+    | inl long ↦ absurd (short (subst (λ (n : ℕ). 2 ^ 36 < n + 8 * length bytes) (sym (ap (λ (l : LiveOf). l.place) is)) long))
+    | inr few ↦ few
+  ]
+
+-- what was copied to the beginning of a room
+pub copied_over : {A : Type 0} (copied items room : List A) (n : ℕ) → copied ≡ items → n ≡ length items
+    → copied ++ drop n room ≡ items ++ drop (length items) room
+copied_over copied items room n copied_is count = rw (copied_is, count) refl

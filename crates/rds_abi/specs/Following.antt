@@ -1,0 +1,97 @@
+-- A stream that is followed chunk by chunk, from what the caller keeps of it as plain numbers. This project's rules.
+use Rattle.std.specs.Prelude.{◌≡◌, ℕ, ◌+◌, ◌*◌, ◌/◌, ◌^◌, ◌<◌, ◌≤◌, ◌⊎◌, ◌++◌, List, length, map, min, take, ⊤}
+use Rattle.rds_stream.specs.Recording.{AreGaps}
+use Rattle.rds_sync.specs.Ranges.{IsInRange}
+use Rattle.rds_sync.specs.declared.item.Item.{Item}
+use Rattle.rds_sync.specs.declared.totals.Totals.{Totals}
+use Rattle.rds_live.specs.Live.{HasHeard, IsLive, LiveOf, Terms, complete, most_kept, report_of}
+use Rattle.rds_abi.specs.Asked.{IsFilled, IsTooMuch, RefusesRules, gaps_of, rules_of}
+use Rattle.rds_abi.specs.Going.{state_of}
+use Rattle.rds_abi.specs.Layout.{item_in_c}
+use Rattle.rds_abi.specs.declared.asked.RdsGap.{RdsGap}
+use Rattle.rds_abi.specs.declared.asked.RdsRules.{RdsRules}
+use Rattle.rds_abi.specs.declared.following.RdsStream.{RdsStream}
+use Rattle.rds_abi.specs.declared.layout.RdsItem.{RdsItem}
+use Rattle.rds_abi.specs.declared.layout.RdsTotals.{RdsTotals}
+use Rattle.rds_abi.specs.declared.refusal.Refusal.{Refusal}
+use Rattle.rds_abi.specs.declared.refusal.Refusal.TheVariants.{BadGaps, OutOfMemory, TooLong, UnlawfulState}
+
+-- ---- what the numbers say
+
+-- totals, field by field
+abbrev pub totals_from_c : RdsTotals → Totals
+totals_from_c t = record {
+  valid = t.valid;
+  bursts = t.bursts;
+  lost = t.lost;
+  bits = t.bits;
+  groups = t.groups;
+  complete = t.complete;
+  acquired = t.acquired;
+  losses = t.losses;
+}
+
+-- what a stream is decoded by
+abbrev pub terms_of : RdsRules → List RdsGap → Terms
+terms_of rules gaps = record { rules = rules_of rules; gaps = gaps_of gaps }
+
+-- what is known of the stream: the tail is all the bytes that were heard, or the last 30, and what stands behind them means nothing
+abbrev pub stream_of : Terms → RdsStream → LiveOf
+stream_of terms s = record {
+  terms = terms;
+  tail = take (min most_kept (s.place / 8)) s.tail;
+  place = s.place;
+  state = state_of terms.rules s.state;
+  totals = totals_from_c s.totals;
+}
+
+-- ---- what is refused
+
+-- gaps that no stream may have, and then numbers that no decoder of a stream can have left
+abbrev pub RefusesStream : Terms → RdsStream → Refusal → Type 0
+RefusesStream terms s BadGaps = AreGaps (2 ^ 36) terms.gaps → ⊥
+RefusesStream terms s UnlawfulState = AreGaps (2 ^ 36) terms.gaps × (IsLive (stream_of terms s) → ⊥)
+RefusesStream terms s OutOfMemory = ⊤
+RefusesStream terms s other = ⊥
+
+-- the rules first, and then the stream
+abbrev pub RefusesFollowed : RdsRules → List RdsGap → RdsStream → Refusal → Type 0
+RefusesFollowed rules gaps s refusal =
+    RefusesRules (rules_of rules) refusal ⊎ (IsInRange (rules_of rules) × RefusesStream (terms_of rules gaps) s refusal)
+
+-- nothing of it
+pub record IsFollowed (rules : RdsRules) (gaps : List RdsGap) (s : RdsStream) : Type 0 where
+  pub range : IsInRange (rules_of rules)
+  pub live : IsLive (stream_of (terms_of rules gaps) s)
+
+-- how many bits were heard once so many bytes more are
+abbrev pub place_after : RdsStream → List ℕ → ℕ
+place_after s bytes = s.place + 8 * length bytes
+
+-- what was told is looked at first, and then how long the stream grows
+abbrev pub RefusesPush : RdsRules → List RdsGap → RdsStream → List ℕ → Refusal → Type 0
+RefusesPush rules gaps s bytes refusal =
+    RefusesFollowed rules gaps s refusal
+    ⊎ (IsFollowed rules gaps s × (2 ^ 36 < place_after s bytes) × (refusal ≡ TooLong))
+
+-- ---- what is found
+
+-- the items that these bytes complete, whatever was heard before them
+abbrev pub AreCompleted : Terms → RdsStream → List ℕ → List Item → Type 0
+AreCompleted terms s bytes items =
+    (before : List ℕ) → HasHeard (stream_of terms s) before → complete terms (before ++ bytes) ≡ complete terms before ++ items
+
+-- the group in progress where the stream ends, if there is one: the items that were complete and this are the report's
+abbrev pub AreClosed : Terms → RdsStream → List Item → Type 0
+AreClosed terms s items =
+    (length items ≤ 1)
+    × ((bytes : List ℕ) → HasHeard (stream_of terms s) bytes → complete terms bytes ++ items ≡ report_of terms bytes)
+
+-- such items stand at the beginning of the room, behind them is what was there, and the count is theirs
+abbrev pub AreWritten : (List Item → Type 0) → List RdsItem → List RdsItem → ℕ → Type 0
+AreWritten wanted old new count =
+    (items : List Item) × wanted items × IsFilled (map item_in_c items) old new × (count ≡ length items)
+
+-- there are more of them than there is room for, and their number is told
+abbrev pub AreTooMany : (List Item → Type 0) → ℕ → Refusal → ℕ → Type 0
+AreTooMany wanted room refusal count = (items : List Item) × wanted items × IsTooMuch (map item_in_c items) room refusal count

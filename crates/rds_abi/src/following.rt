@@ -1,0 +1,222 @@
+//! A stream that is followed chunk by chunk, from what the caller keeps of it.
+
+ghost use Rattle.std.specs.Prelude.{◌≡◌, ◌++◌, ◌<◌, ◌≤◌, ◌⊎◌, ◌^◌, ℕ, List, IfErr, IfOk, OnErr, OnOk, false, length, map, take, true};
+ghost use Rattle.rds_sync.specs.Advance.{group_item};
+ghost use Rattle.rds_sync.specs.Totals.{totals_of};
+ghost use Rattle.rds_live.specs.Live.{HasHeard, IsLive, report_of};
+ghost use Rattle.rds_abi.specs.Asked.{IsFilled};
+ghost use Rattle.rds_abi.specs.Following.{AreClosed, AreCompleted, AreTooMany, AreWritten, IsFollowed, RefusesFollowed, RefusesPush, RefusesStream, place_after, stream_of as the_stream_of, terms_of, totals_from_c};
+ghost use Rattle.rds_abi.specs.Layout.{item_in_c, totals_in_c};
+
+use crate::asked::{RdsGap, RdsRules, gaps_in, rules_of};
+use crate::going::{RdsState, state_in_c, state_of};
+use crate::layout::{RdsItem, RdsTotals, item_in_c, totals_in_c};
+use crate::refusal::Refusal;
+use rds_live::{Chunk, Live, ResumeError};
+use rds_stream::StreamError;
+use rds_sync::{Group, Item, Rules, Totals};
+use std::alloc::{AllocError, Global};
+
+/// How many of the last bytes of a stream are known.
+const MOST_KEPT: u64 = 30;
+
+/// What is known of a stream between two chunks: 160 bytes, all 0 where nothing was heard yet.
+#[repr(C)]
+#[derive(Clone, Copy, Debug, PartialEq, Eq)]
+pub struct RdsStream {
+    /// How many bits were heard, which is the place of the next.
+    pub place: u64,
+    /// The state after them.
+    pub state: RdsState,
+    /// The totals of the items that are complete.
+    pub totals: RdsTotals,
+    /// The last 30 bytes that were heard, or all. What stands behind them means nothing.
+    pub tail: [u8; 32],
+}
+
+impl RdsStream {
+    /// A stream of which nothing was heard yet.
+    pub const UNHEARD: RdsStream = RdsStream {
+        place: 0,
+        state: RdsState::SEARCHING,
+        totals: RdsTotals::NONE,
+        tail: [0; 32],
+    };
+}
+
+/// Totals, from C.
+fn totals_from_c(totals: RdsTotals) -> Totals
+    ensures { result ≡ totals_from_c totals }
+{
+    let bursts = totals.bursts;
+    Totals {
+        valid: totals.valid,
+        bursts,
+        lost: totals.lost,
+        bits: totals.bits,
+        groups: totals.groups,
+        complete: totals.complete,
+        acquired: totals.acquired,
+        losses: totals.losses,
+    }
+}
+
+/// The decoder of the stream that these numbers say.
+fn live_of<'r>(
+    alloc: Global,
+    rules: &'r Rules,
+    gaps: &'r [(u64, u64)],
+    stream: &RdsStream,
+) -> Result<Live<'r>, Refusal>
+    ensures live { IfOk result (λ live. live ≡ the_stream_of (record { rules = rules.now; gaps = gaps.now }) stream.now) }
+    ensures lawful { IfOk result (λ live. IsLive live) }
+    ensures refused { IfErr result (RefusesStream (record { rules = rules.now; gaps = gaps.now }) stream.now) }
+{
+    if Live::with_gaps(alloc, rules, gaps).is_err() {
+        return Err(Refusal::BadGaps);
+    }
+    let Some(state) = state_of(rules, stream.state, stream.place) else {
+        return Err(Refusal::UnlawfulState);
+    };
+    let kept = MOST_KEPT.min(stream.place / 8) as usize;
+    let tail = &stream.tail[..kept];
+    let totals = totals_from_c(stream.totals);
+    match Live::resume(alloc, rules, gaps, tail, stream.place, state, totals) {
+        Ok(live) => Ok(live),
+        Err(ResumeError::OutOfMemory) => Err(Refusal::OutOfMemory),
+        Err(_) => Err(Refusal::UnlawfulState),
+    }
+}
+
+/// The last bytes of a stream, for C.
+fn tail_in_c(tail: &[u8]) -> [u8; 32]
+    requires { length tail.now ≤ 30 }
+    ensures { take (length tail.now) result ≡ tail.now }
+{
+    let mut bytes = [0; 32];
+    bytes[..tail.len()].copy_from_slice(tail);
+    bytes
+}
+
+/// What is known of a stream, for C.
+fn stream_in_c(live: &Live<'_>) -> RdsStream
+    ensures stream { the_stream_of live.now.terms result ≡ live.now }
+    ensures lawful { IsLive live.now }
+{
+    RdsStream {
+        place: live.place(),
+        state: state_in_c(live.state()),
+        totals: totals_in_c(live.totals()),
+        tail: tail_in_c(live.tail()),
+    }
+}
+
+/// The items of a chunk, for C.
+fn items_in_c(alloc: Global, chunk: &Chunk<'_>) -> Result<Vec<RdsItem>, AllocError>
+    ensures { IfOk result (λ items. items.items ≡ map item_in_c chunk.now) }
+{
+    let mut items = Vec::new(alloc);
+    for item in chunk {
+        items.push(item_in_c(item))?;
+    }
+    Ok(items)
+}
+
+/// Takes the next bytes of a stream, the highest bit of a byte first, and writes the items that they complete to the
+/// beginning of `room`, how many they are to `count`, and what is known of the stream then to `stream`. The bytes may be
+/// any number, none too, and the gaps are told by their places in the stream.
+///
+/// However a stream was cut, the items are those of the run over all bytes, and with [`finish`] they are the report's.
+///
+/// Refuses rules out of their range, then gaps that no stream may have, then `UnlawfulState`, then `TooLong`, past 2^36
+/// bits in all, and then `SmallRoom`, where `count` tells how many items there are, and nothing else was written; and want
+/// of memory at any time. It takes memory for a copy of the bytes, for the tables of the rules, and for 64 bytes an item.
+pub fn push(
+    alloc: Global,
+    bytes: &[u8],
+    gaps: &[RdsGap],
+    rules: RdsRules,
+    stream: &mut RdsStream,
+    room: &mut [RdsItem],
+    count: &mut u64,
+) -> Result<(), Refusal>
+    ensures heard { OnOk result ((before : List ℕ) → HasHeard (the_stream_of (terms_of rules gaps.now) stream.old) before
+        → HasHeard (the_stream_of (terms_of rules gaps.now) stream.new) (before ++ bytes.now)) }
+    ensures items { OnOk result (AreWritten (AreCompleted (terms_of rules gaps.now) stream.old bytes.now) room.old room.new count.new) }
+    ensures next { OnOk result (IsFollowed rules gaps.now stream.new) }
+    ensures lawful { OnOk result (IsFollowed rules gaps.now stream.old × (place_after stream.old bytes.now ≤ 2 ^ 36)) }
+    ensures untouched { OnErr result ((room.new ≡ room.old) × (stream.new ≡ stream.old)) }
+    ensures refused { IfErr result (λ refusal.
+        (IsFollowed rules gaps.now stream.old
+        × AreTooMany (AreCompleted (terms_of rules gaps.now) stream.old bytes.now) (length room.old) refusal count.new)
+        ⊎ (RefusesPush rules gaps.now stream.old bytes.now refusal × (count.new ≡ count.old))) }
+{
+    let rules = rules_of(alloc, rules)?;
+    let gaps = gaps_in(alloc, gaps)?;
+    let mut live = live_of(alloc, &rules, gaps.as_slice(), stream)?;
+    let items = match live.take(bytes) {
+        Ok(chunk) => items_in_c(alloc, &chunk)?,
+        Err(StreamError::TooLong) => return Err(Refusal::TooLong),
+        Err(_) => return Err(Refusal::OutOfMemory),
+    };
+    *count = items.len() as u64;
+    if room.len() < items.len() {
+        return Err(Refusal::SmallRoom);
+    }
+    room[..items.len()].copy_from_slice(items.as_slice());
+    *stream = stream_in_c(&live);
+    Ok(())
+}
+
+/// Writes the group in progress, if there is one, to the beginning of the room, and to the count whether there is one.
+/// Whether there was room for it.
+fn fill_end(room: &mut [RdsItem], group: Option<Group>, count: &mut u64) -> bool
+    ensures filled { result ≡ true → IsFilled (map item_in_c (group_item group)) room.old room.new }
+    ensures count { count.new ≡ length (group_item group) }
+    ensures untouched { result ≡ false → room.new ≡ room.old }
+    ensures small { result ≡ false → length room.old < length (group_item group) }
+{
+    *count = u64::from(group.is_some());
+    if let Some(group) = group {
+        let Some(slot) = room.first_mut() else {
+            return false;
+        };
+        *slot = item_in_c(Item::Group(group));
+    }
+    true
+}
+
+/// Ends a stream: writes the group in progress, as far as it was read, to the beginning of `room`, to `count` how many
+/// groups these are, one or none, and to `totals` those of the report of all that was heard. The stream is left as it is,
+/// and can be gone on with.
+///
+/// Refuses as [`push`] does, but for `TooLong`.
+pub fn finish(
+    alloc: Global,
+    gaps: &[RdsGap],
+    rules: RdsRules,
+    stream: &RdsStream,
+    room: &mut [RdsItem],
+    count: &mut u64,
+    totals: &mut RdsTotals,
+) -> Result<(), Refusal>
+    ensures items { OnOk result (AreWritten (AreClosed (terms_of rules gaps.now) stream.now) room.old room.new count.new) }
+    ensures totals { OnOk result ((bytes : List ℕ) → HasHeard (the_stream_of (terms_of rules gaps.now) stream.now) bytes
+        → totals.new ≡ totals_in_c (totals_of (report_of (terms_of rules gaps.now) bytes))) }
+    ensures lawful { OnOk result (IsFollowed rules gaps.now stream.now) }
+    ensures untouched { OnErr result ((room.new ≡ room.old) × (totals.new ≡ totals.old)) }
+    ensures refused { IfErr result (λ refusal.
+        (IsFollowed rules gaps.now stream.now
+        × AreTooMany (AreClosed (terms_of rules gaps.now) stream.now) (length room.old) refusal count.new)
+        ⊎ (RefusesFollowed rules gaps.now stream.now refusal × (count.new ≡ count.old))) }
+{
+    let rules = rules_of(alloc, rules)?;
+    let gaps = gaps_in(alloc, gaps)?;
+    let live = live_of(alloc, &rules, gaps.as_slice(), stream)?;
+    let end = live.finish();
+    if !fill_end(room, end.group, count) {
+        return Err(Refusal::SmallRoom);
+    }
+    *totals = totals_in_c(end.totals);
+    Ok(())
+}
