@@ -6,10 +6,13 @@
  * What is required of a pointer, by its declaration:
  *   const T *p        points to one T, aligned, that no other thread writes meanwhile; it is read only during the call
  *   T *p              points to one T, aligned, of the caller's, that nobody else reads or writes meanwhile
- *   p, p_len          the same of p_len values in a row; they may be none, and p is then any pointer but NULL
- * No pointer may be NULL, and what two of them point to must not overlap, but for what is only read. Nothing is kept after
- * the call: there is no handle, nothing to free, no thread, no lock and no global state. So any calls may run at the same
- * time, in any threads, as long as no two write to the same memory. Only rds_totals, rds_items, rds_run,
+ *   p, p_len          the same of p_len values in a row; they may be none, and p is then any pointer, NULL too
+ * Before anything else, RDS_BAD_POINTER refuses a pointer that must not be NULL and is, one that is not aligned, more values than
+ * memory may hold, and values that are written and lie over others that are lent. What C cannot see is the caller's business: that
+ * the memory is there, and that no other thread writes it meanwhile.
+ *
+ * Nothing is kept after the call: there is no handle, nothing to free, no thread, no lock and no global state. So any calls may run
+ * at the same time, in any threads, as long as no two write to the same memory. Only rds_totals, rds_items, rds_run,
  * rds_finish_run, rds_push, rds_finish and rds_correct ask for memory, by malloc, and have given it back when they return.
  *
  * What is said here of results is proved of the library's code: docs/PROOFS.md says what is, and what is only trusted.
@@ -22,12 +25,6 @@
 
 #ifdef __cplusplus
 extern "C" {
-#endif
-
-#if defined(__GNUC__)
-#define RDS_NO_NULL __attribute__((nonnull))
-#else
-#define RDS_NO_NULL
 #endif
 
 /* Refusals: those of the program, by its numbers, and the library's own from 64 on. */
@@ -45,7 +42,8 @@ enum {
     RDS_PLACE_RANGE = 66,
     RDS_BLOCK_RANGE = 67,
     RDS_OFFSET_RANGE = 68,
-    RDS_NO_REFUSAL = 69
+    RDS_NO_REFUSAL = 69,
+    RDS_BAD_POINTER = 70
 };
 
 /* The twelve totals of a report: 96 bytes. */
@@ -135,13 +133,13 @@ typedef struct rds_packed_t {
 
 /* The totals of the first bits bits of the bytes, the highest bit of a byte first, with these gaps, by these rules.
  * Refusals: 1, 2, 3, 15, then 5, 4, 16, and 8. */
-RDS_NO_NULL uint8_t rds_totals(const uint8_t *bytes, size_t bytes_len, uint64_t bits, const rds_gap_t *gaps, size_t gaps_len,
+uint8_t rds_totals(const uint8_t *bytes, size_t bytes_len, uint64_t bits, const rds_gap_t *gaps, size_t gaps_len,
                                const rds_rules_t *rules, rds_totals_t *found);
 
 /* The items of the same, in order of place, to the beginning of room, and how many they are to count. Where there is too
  * little room (64), count tells how many there are, and nothing else is written: so a first call with room for none asks,
  * and takes as long as a second. Refusals: those of rds_totals, and 64. */
-RDS_NO_NULL uint8_t rds_items(const uint8_t *bytes, size_t bytes_len, uint64_t bits, const rds_gap_t *gaps, size_t gaps_len,
+uint8_t rds_items(const uint8_t *bytes, size_t bytes_len, uint64_t bits, const rds_gap_t *gaps, size_t gaps_len,
                               const rds_rules_t *rules, rds_item_t *room, size_t room_len, uint64_t *count);
 
 /* Runs over the places from from to before to, from a state that is lawful before from: writes the items that this gives to
@@ -150,13 +148,13 @@ RDS_NO_NULL uint8_t rds_items(const uint8_t *bytes, size_t bytes_len, uint64_t b
  * rds_items: so a list of any length needs room for few. A run hears up to 233 bits before from. Where there is too little room
  * (64), count tells how many items there are, and nothing else is written. Each call copies the bytes. Refusals: those of
  * rds_totals, then 66, 65, and 64. */
-RDS_NO_NULL uint8_t rds_run(const uint8_t *bytes, size_t bytes_len, uint64_t bits, const rds_gap_t *gaps, size_t gaps_len,
+uint8_t rds_run(const uint8_t *bytes, size_t bytes_len, uint64_t bits, const rds_gap_t *gaps, size_t gaps_len,
                             const rds_rules_t *rules, uint64_t from, uint64_t to, rds_state_t *state, rds_item_t *room,
                             size_t room_len, uint64_t *count);
 
 /* The group in progress at the end of the recording, as far as it was read, where a run over it ended in this state: to the
  * beginning of room, and to count whether there is one, 1 or 0. Refusals: those of rds_run. */
-RDS_NO_NULL uint8_t rds_finish_run(const uint8_t *bytes, size_t bytes_len, uint64_t bits, const rds_gap_t *gaps, size_t gaps_len,
+uint8_t rds_finish_run(const uint8_t *bytes, size_t bytes_len, uint64_t bits, const rds_gap_t *gaps, size_t gaps_len,
                                    const rds_rules_t *rules, const rds_state_t *state, rds_item_t *room, size_t room_len,
                                    uint64_t *count);
 
@@ -167,27 +165,27 @@ RDS_NO_NULL uint8_t rds_finish_run(const uint8_t *bytes, size_t bytes_len, uint6
  * (64), count tells how many items there are, and nothing else is written: the same bytes can be offered again. Numbers that no
  * call can have left are refused (65); others are gone on with, whoever wrote them. Refusals: 1, 2, 3, 15, then 16, 65, 5 (past
  * 2^36 bits in all), 64, and 8. */
-RDS_NO_NULL uint8_t rds_push(const uint8_t *bytes, size_t bytes_len, const rds_gap_t *gaps, size_t gaps_len, const rds_rules_t *rules,
+uint8_t rds_push(const uint8_t *bytes, size_t bytes_len, const rds_gap_t *gaps, size_t gaps_len, const rds_rules_t *rules,
                              rds_stream_t *stream, rds_item_t *room, size_t room_len, uint64_t *count);
 
 /* Ends a stream: writes the group in progress, as far as it was read, to the beginning of room, to count whether there is one, 1
  * or 0, and to totals those of all that was heard, with that group. The stream is only read, and can be gone on with. Refusals:
  * those of rds_push, but for 5. */
-RDS_NO_NULL uint8_t rds_finish(const rds_gap_t *gaps, size_t gaps_len, const rds_rules_t *rules, const rds_stream_t *stream,
+uint8_t rds_finish(const rds_gap_t *gaps, size_t gaps_len, const rds_rules_t *rules, const rds_stream_t *stream,
                                rds_item_t *room, size_t room_len, uint64_t *count, rds_totals_t *totals);
 
 /* The remainder of a word of 26 bits, below 1024. Refusals: 67. */
-RDS_NO_NULL uint8_t rds_remainder(uint32_t word, uint16_t *found);
+uint8_t rds_remainder(uint32_t word, uint16_t *found);
 
 /* A word of 26 bits read as the block with this offset, RDS_A to RDS_C_OR_CX; a burst of up to limit bits, 0 to 5, is taken
  * off where one alone fits. Refusals: 67, 68, 1, and 8. */
-RDS_NO_NULL uint8_t rds_correct(uint32_t word, uint8_t offset, uint8_t limit, rds_block_t *found);
+uint8_t rds_correct(uint32_t word, uint8_t offset, uint8_t limit, rds_block_t *found);
 
 /* Groups as they are sent, to the beginning of room. Refusals: 64. */
-RDS_NO_NULL uint8_t rds_encode(const rds_words_t *groups, size_t groups_len, rds_packed_t *room, size_t room_len);
+uint8_t rds_encode(const rds_words_t *groups, size_t groups_len, rds_packed_t *room, size_t room_len);
 
 /* The name of the refusal of this number, with a 0 behind it, to the beginning of room. Refusals: 69, 64. */
-RDS_NO_NULL uint8_t rds_refusal_name(uint8_t number, uint8_t *room, size_t room_len);
+uint8_t rds_refusal_name(uint8_t number, uint8_t *room, size_t room_len);
 
 /* The version of the library: 65536 times the first number, 256 times the second, and the third. */
 uint32_t rds_version(void);

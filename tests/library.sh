@@ -3,8 +3,8 @@
 #
 # FOLDER holds what lib/make_library.sh laid out. What rds.h declares is compared with the sources and with the bindings, and
 # with what both libraries show; programs in C, Rust and Python decode random recordings as the program does; each
-# allocation is refused; eight threads call at once; random states and streams are handed over. What a tool is missing for is skipped, by
-# name. The last line is 'N passed, M failed', and the exit status says whether all passed.
+# allocation is refused; eight threads call at once; random states and streams, and pointers to nothing, are handed over. What a
+# tool is missing for is skipped, by name. The last line is 'N passed, M failed', and the exit status says whether all passed.
 
 usage='usage: tests/library.sh FOLDER PATH-TO-RDS'
 # shellcheck source-path=SCRIPTDIR source=common.sh
@@ -53,13 +53,13 @@ if has c++; then
   tried 'C++ with the shared library' c++ -o "$work/layout" "$work/layout.o" "-L$library" -lrds "-Wl,-rpath,$library"
   tried 'a call from C++' "$work/layout"
 fi
-declared=$(sed -n 's/^\(RDS_NO_NULL \)\{0,1\}[a-z0-9_]* \(rds_[a-z_]*\)(.*/\2/p' lib/rds.h | sort)
+declared=$(sed -n 's/^[a-z0-9_]* \(rds_[a-z_]*\)(.*/\1/p' lib/rds.h | sort)
 same 'what librds.so.0 shows' "$declared" "$(nm -D --defined-only "$library/librds.so.0" | awk '$2 == "T" {sub("@.*", "", $3); print $3}' | sort)"
 same 'what librds.a shows' "$declared" "$(nm --defined-only -g "$library/librds.a" | awk 'NF == 3 {print $3}' | sort)"
 same 'what librds.a needs' 'free malloc memcpy memmove memset realloc' "$(nm -u "$library/librds.a" | awk 'NF == 2 {print $2}' | sort | tr '\n' ' ' | sed 's/ $//')"
 
 # A wrong declaration is found: a result of another type, fields that changed places, a constant pointer.
-for wrong in 's/^RDS_NO_NULL uint8_t rds_items/RDS_NO_NULL uint32_t rds_items/' 's/uint64_t lost; /uint64_t lots; /' \
+for wrong in 's/^uint8_t rds_items/uint32_t rds_items/' 's/uint64_t lost; /uint64_t lots; /' \
   's/const rds_state_t \*state/rds_state_t *state/'; do
   sed "$wrong" lib/rds.h >"$work/rds.h"
   if cmp -s lib/rds.h "$work/rds.h" || tests/library/layout.py "$work/rds.h" "$work" >/dev/null; then fail "not found: $wrong"; else pass; fi
@@ -70,7 +70,7 @@ done
 make_program() {
   tried "making $1" "${CC:-cc}" -std=c11 -D_DEFAULT_SOURCE "${strict[@]}" -o "$work/$1" "tests/library/$1.c" "$library/librds.a" -lpthread
 }
-for it in rows refused threads states streams; do make_program "$it"; done
+for it in rows refused threads states streams pointers; do make_program "$it"; done
 rows=("$work/rows")
 if has cargo; then
   export RDS_LIB_DIR=$library CARGO_TARGET_DIR=$work/cargo
@@ -124,6 +124,7 @@ fi
 # ---- what may go wrong
 
 tried 'allocations refused' "$work/refused" "$sample"
+tried 'pointers' "$work/pointers" "$sample"
 tried 'eight threads' "$work/threads" "$sample"
 tried 'random states' "$work/states" "$sample"
 tried 'random streams' "$work/streams" "$sample"
@@ -133,6 +134,7 @@ if has valgrind; then
   tried 'rows under valgrind' "${checked[@]}" "$work/rows" "$sample" "$bits" 5 8 1 0 1000 2000
   tried 'a share under valgrind' "${checked[@]}" "$work/rows" "$sample" "$bits" 2 3 5 20
   tried 'random states under valgrind' "${checked[@]}" "$work/states" "$sample"
+  tried 'pointers under valgrind' "${checked[@]}" "$work/pointers" "$sample"
   tried 'random streams under valgrind' "${checked[@]}" "$work/streams" "$sample"
 fi
 

@@ -64,7 +64,7 @@ def of_header(path):
     }
     functions = {
         name: (of_c(result), [argument_of_c(it) for it in listed(given) if it != "void"])
-        for result, name, given in re.findall(r"^(?:RDS_NO_NULL )?(\w+) (rds_\w+)\((.*?)\);", text, re.S | re.M)
+        for result, name, given in re.findall(r"^(\w+) (rds_\w+)\((.*?)\);", text, re.S | re.M)
     }
     return structs, functions
 

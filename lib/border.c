@@ -1,0 +1,151 @@
+/* What librds looks at before the proved code is called: the pointers that it is lent, as far as C can see them.
+ *
+ * Each function has the name and the arguments that rds.h declares, and refuses what the proved function of that name requires of
+ * its caller and cannot see: lib/make_library.sh renames that one to proved_*. So this page is no part of the proof;
+ * tests/library/pointers.c tries each pointer of each function. */
+#include "rds.h"
+
+#include <stdbool.h>
+#include <stddef.h>
+#include <stdint.h>
+
+/* Values in a row that a call is lent. */
+struct lent {
+    uintptr_t at;
+    size_t count, size, alignment;
+    bool is_written;
+};
+
+#define LENT(p, count, is_written) {(uintptr_t)(p), count, sizeof *(p), _Alignof(__typeof__(*(p))), is_written}
+#define ONE(p) LENT(p, 1, false)
+#define MANY(p) LENT(p, p##_len, false)
+#define ONE_WRITTEN(p) LENT(p, 1, true)
+#define MANY_WRITTEN(p) LENT(p, p##_len, true)
+
+/* Whether no such values can lie there. */
+static bool is_nowhere(const struct lent *it)
+{
+    return it->count && (!it->at || it->at % it->alignment || it->count > PTRDIFF_MAX / it->size ||
+                         it->count * it->size > UINTPTR_MAX - it->at);
+}
+
+static bool do_overlap(const struct lent *a, const struct lent *b)
+{
+    return a->count && b->count && a->at < b->at + b->count * b->size && b->at < a->at + a->count * a->size;
+}
+
+/* Whether some of it can't be what the caller says, or lies over what is written. What is only read stands first. */
+static bool are_bad(const struct lent *lent, size_t count)
+{
+    for (size_t k = 0; k < count; k++)
+        if (is_nowhere(&lent[k]))
+            return true;
+    for (size_t k = 1; k < count; k++)
+        for (size_t j = 0; j < k; j++)
+            if (lent[k].is_written && do_overlap(&lent[j], &lent[k]))
+                return true;
+    return false;
+}
+
+#define LOOK_AT(...)                                                                                                                  \
+    do {                                                                                                                              \
+        const struct lent lent[] = {__VA_ARGS__};                                                                                     \
+        if (are_bad(lent, sizeof lent / sizeof *lent))                                                                                \
+            return RDS_BAD_POINTER;                                                                                                   \
+    } while (0)
+
+/* What values in a row are handed on by: where there are none, a pointer that is not NULL. */
+static max_align_t none;
+#define ROW(p) (p##_len ? (p) : (__typeof__(p))&none), p##_len
+
+#define PROVED(name) extern __typeof__(name) proved_##name
+
+PROVED(rds_totals);
+uint8_t rds_totals(const uint8_t *bytes, size_t bytes_len, uint64_t bits, const rds_gap_t *gaps, size_t gaps_len,
+                   const rds_rules_t *rules, rds_totals_t *found)
+{
+    LOOK_AT(MANY(bytes), MANY(gaps), ONE(rules), ONE_WRITTEN(found));
+    return proved_rds_totals(ROW(bytes), bits, ROW(gaps), rules, found);
+}
+
+PROVED(rds_items);
+uint8_t rds_items(const uint8_t *bytes, size_t bytes_len, uint64_t bits, const rds_gap_t *gaps, size_t gaps_len,
+                  const rds_rules_t *rules, rds_item_t *room, size_t room_len, uint64_t *count)
+{
+    LOOK_AT(MANY(bytes), MANY(gaps), ONE(rules), MANY_WRITTEN(room), ONE_WRITTEN(count));
+    return proved_rds_items(ROW(bytes), bits, ROW(gaps), rules, ROW(room), count);
+}
+
+PROVED(rds_run);
+uint8_t rds_run(const uint8_t *bytes, size_t bytes_len, uint64_t bits, const rds_gap_t *gaps, size_t gaps_len,
+                const rds_rules_t *rules, uint64_t from, uint64_t to, rds_state_t *state, rds_item_t *room, size_t room_len,
+                uint64_t *count)
+{
+    LOOK_AT(MANY(bytes), MANY(gaps), ONE(rules), ONE_WRITTEN(state), MANY_WRITTEN(room), ONE_WRITTEN(count));
+    return proved_rds_run(ROW(bytes), bits, ROW(gaps), rules, from, to, state, ROW(room), count);
+}
+
+PROVED(rds_finish_run);
+uint8_t rds_finish_run(const uint8_t *bytes, size_t bytes_len, uint64_t bits, const rds_gap_t *gaps, size_t gaps_len,
+                       const rds_rules_t *rules, const rds_state_t *state, rds_item_t *room, size_t room_len, uint64_t *count)
+{
+    LOOK_AT(MANY(bytes), MANY(gaps), ONE(rules), ONE(state), MANY_WRITTEN(room), ONE_WRITTEN(count));
+    return proved_rds_finish_run(ROW(bytes), bits, ROW(gaps), rules, state, ROW(room), count);
+}
+
+PROVED(rds_push);
+uint8_t rds_push(const uint8_t *bytes, size_t bytes_len, const rds_gap_t *gaps, size_t gaps_len, const rds_rules_t *rules,
+                 rds_stream_t *stream, rds_item_t *room, size_t room_len, uint64_t *count)
+{
+    LOOK_AT(MANY(bytes), MANY(gaps), ONE(rules), ONE_WRITTEN(stream), MANY_WRITTEN(room), ONE_WRITTEN(count));
+    return proved_rds_push(ROW(bytes), ROW(gaps), rules, stream, ROW(room), count);
+}
+
+PROVED(rds_finish);
+uint8_t rds_finish(const rds_gap_t *gaps, size_t gaps_len, const rds_rules_t *rules, const rds_stream_t *stream, rds_item_t *room,
+                   size_t room_len, uint64_t *count, rds_totals_t *totals)
+{
+    LOOK_AT(MANY(gaps), ONE(rules), ONE(stream), MANY_WRITTEN(room), ONE_WRITTEN(count), ONE_WRITTEN(totals));
+    return proved_rds_finish(ROW(gaps), rules, stream, ROW(room), count, totals);
+}
+
+PROVED(rds_remainder);
+uint8_t rds_remainder(uint32_t word, uint16_t *found)
+{
+    LOOK_AT(ONE_WRITTEN(found));
+    return proved_rds_remainder(word, found);
+}
+
+PROVED(rds_correct);
+uint8_t rds_correct(uint32_t word, uint8_t offset, uint8_t limit, rds_block_t *found)
+{
+    LOOK_AT(ONE_WRITTEN(found));
+    return proved_rds_correct(word, offset, limit, found);
+}
+
+PROVED(rds_encode);
+uint8_t rds_encode(const rds_words_t *groups, size_t groups_len, rds_packed_t *room, size_t room_len)
+{
+    LOOK_AT(MANY(groups), MANY_WRITTEN(room));
+    return proved_rds_encode(ROW(groups), ROW(room));
+}
+
+PROVED(rds_refusal_name);
+uint8_t rds_refusal_name(uint8_t number, uint8_t *room, size_t room_len)
+{
+    static const char name[] = "BadPointer";
+    LOOK_AT(MANY_WRITTEN(room));
+    if (number != RDS_BAD_POINTER)
+        return proved_rds_refusal_name(number, ROW(room));
+    if (room_len < sizeof name)
+        return RDS_SMALL_ROOM;
+    for (size_t k = 0; k < sizeof name; k++)
+        room[k] = (uint8_t)name[k];
+    return 0;
+}
+
+PROVED(rds_version);
+uint32_t rds_version(void)
+{
+    return proved_rds_version();
+}
