@@ -20,7 +20,8 @@ pub(crate) fn can_be_live(
     state: State,
     totals: &Totals,
 ) -> bool
-    ensures { (gaps : List (ℕ × ℕ)) → AreGaps (2 ^ 36) gaps → ((result ≡ true) ↔ IsLive (live_with rules.now gaps tail.now place state totals.now)) }
+    ensures { (gaps : List (ℕ × ℕ)) → AreGaps (2 ^ 36) gaps
+        → ((result ≡ true) ↔ IsLive (live_with rules.now gaps tail.now place state totals.now)) }
 {
     place % 8 == 0
         && place <= MOST_BITS
