@@ -3,3 +3,5 @@ pub mod RowWriter
 pub mod Rows
 pub mod Streams
 pub mod Texts
+pub mod Tallies
+pub mod Walks

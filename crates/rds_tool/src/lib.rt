@@ -69,11 +69,14 @@ mod job;
 mod line;
 mod listing;
 mod listing_rows;
+mod one_pass;
 mod pen;
 mod plan;
 mod rows;
+mod tally;
 mod task;
 mod text;
+mod walk;
 mod window_rows;
 
 pub use cli::{CliFault, FaultKind, asked_of};
