@@ -4,6 +4,8 @@ use Rattle.std.specs.Prelude.{slice_index}
 use Rattle.std.specs.List.{flat_map}
 use Rattle.std.specs.Io.KnownBytes.{Appends}
 use Rattle.std.proofs.lemmas.Grind.{flat_map-append}
+use Rattle.std.proofs.lemmas.List.{take_more}
+use Rattle.rds_code.specs.declared.reading.Reading.TheVariants.{Corrected, Lost, Valid}
 use Rattle.rds_stream.specs.Recording.{Signal}
 use Rattle.rds_rows.specs.Writes.{AppendsPrefix}
 use Rattle.rds_sync.specs.Advance.{items_in}
@@ -14,6 +16,7 @@ use Rattle.rds_sync.specs.declared.item.Block.TheVariants.{Missing, Read}
 use Rattle.rds_sync.specs.declared.item.Group.{Group}
 use Rattle.rds_sync.specs.declared.item.Item.{Item}
 use Rattle.rds_sync.specs.declared.item.Item.TheVariants.{Acquired, Group as GroupItem, LostLock}
+use Rattle.rds_sync.specs.declared.item.Version.TheVariants.{A}
 use Rattle.rds_sync.specs.declared.totals.Totals.{Totals}
 use Rattle.rds_sync.specs.declared.state.State.{State}
 use Rattle.rds_sync.specs.declared.step.Step.{Step}
@@ -71,6 +74,40 @@ acquired_told place number = refl
 pub loss_told : (place : ℕ) → totals_of (LostLock place ∷ []) ≡ told 0 0 1
 loss_told place = refl
 
+-- the totals of a group with these blocks
+of_blocks : List Block → Totals
+of_blocks blocks = totals_of (GroupItem (record { place = 0; blocks = blocks; kind = None; version = A; conflict = false }) ∷ [])
+
+valid_four : (a b c d : Block) → is_valid a ≡ true → is_valid b ≡ true → is_valid c ≡ true → is_valid d ≡ true → of_blocks (a ∷ b ∷ c ∷ d ∷ []) ≡ whole_totals 1
+valid_four (Read (Valid o i)) (Read (Valid p j)) (Read (Valid q k)) (Read (Valid r l)) ha hb hc hd = refl
+valid_four Missing b c d ha hb hc hd = cc ha
+valid_four (Read Lost) b c d ha hb hc hd = cc ha
+valid_four (Read (Corrected o i e)) b c d ha hb hc hd = cc ha
+valid_four (Read (Valid o i)) Missing c d ha hb hc hd = cc hb
+valid_four (Read (Valid o i)) (Read Lost) c d ha hb hc hd = cc hb
+valid_four (Read (Valid o i)) (Read (Corrected p j e)) c d ha hb hc hd = cc hb
+valid_four (Read (Valid o i)) (Read (Valid p j)) Missing d ha hb hc hd = cc hc
+valid_four (Read (Valid o i)) (Read (Valid p j)) (Read Lost) d ha hb hc hd = cc hc
+valid_four (Read (Valid o i)) (Read (Valid p j)) (Read (Corrected q k e)) d ha hb hc hd = cc hc
+valid_four (Read (Valid o i)) (Read (Valid p j)) (Read (Valid q k)) Missing ha hb hc hd = cc hd
+valid_four (Read (Valid o i)) (Read (Valid p j)) (Read (Valid q k)) (Read Lost) ha hb hc hd = cc hd
+valid_four (Read (Valid o i)) (Read (Valid p j)) (Read (Valid q k)) (Read (Corrected r l e)) ha hb hc hd = cc hd
+
+-- a group of four valid blocks
+pub whole_group : (g : Group) (a b c d : Block) → g.blocks ≡ a ∷ b ∷ c ∷ d ∷ [] → is_valid a ≡ true → is_valid b ≡ true → is_valid c ≡ true → is_valid d ≡ true
+    → totals_of (GroupItem g ∷ []) ≡ whole_totals 1
+whole_group g a b c d is ha hb hc hd = ap of_blocks is ∙ valid_four a b c d ha hb hc hd
+
+-- four blocks, one by one
+pub four_blocks : (bs : List Block) (a b c d : Block) → length bs ≡ 4
+    → bs ≡ get_or bs 0 a ∷ get_or bs 1 b ∷ get_or bs 2 c ∷ get_or bs 3 d ∷ []
+four_blocks [] a b c d h = absurd (omega (arith, h))
+four_blocks (w ∷ []) a b c d h = absurd (omega (arith, h))
+four_blocks (w ∷ x ∷ []) a b c d h = absurd (omega (arith, h))
+four_blocks (w ∷ x ∷ y ∷ []) a b c d h = absurd (omega (arith, h))
+four_blocks (w ∷ x ∷ y ∷ z ∷ []) a b c d h = refl
+four_blocks (w ∷ x ∷ y ∷ z ∷ v ∷ bs) a b c d h = absurd (omega (arith, h))
+
 -- a greater bound holds too
 pub at_most_more : (m n : ℕ) (t : Totals) → m ≤ n → IsAtMost m t → IsAtMost n t
 at_most_more m n t h a = record {
@@ -87,7 +124,6 @@ at_most_more m n t h a = record {
   acquired = omega (arith, a.acquired);
   losses = omega (arith, a.losses);
 }
-
 
 -- ---- a run that goes on
 
@@ -117,8 +153,10 @@ two_slots (x ∷ y ∷ z ∷ slots) a b two = absurd (omega (arith, two))
 
 -- the totals of one item more
 module _ (join : TotalsJoin) where
-  pub one_more : (items : List Item) (n : ℕ) (item : Item) → n < length items → get_or items n item ≡ item → totals_of (take (n + 1) items) ≡ plus (totals_of (take n items)) (totals_of (item ∷ []))
-  one_more items n item within is = ?
+  pub one_more : (items : List Item) (n : ℕ) (d : Item) → n < length items → totals_of (take (n + 1) items) ≡ plus (totals_of (take n items)) (totals_of (get_or items n d ∷ []))
+  one_more items n d within =
+      ap (λ (some : List Item). totals_of some) (take_more items n d within)
+      ∙ (join (take n items) (get_or items n d ∷ [])).joined
 
   -- the totals of two parts
   pub two_parts : (done part : List Item) (t u : Totals) → t ≡ totals_of done → u ≡ totals_of part → plus t u ≡ totals_of (done ++ part)

@@ -92,7 +92,10 @@ impl Text<'_> {
             },
             Text::Listing(listing) => listing.write_to(rt, alloc, writer),
             Text::OnePass(recording, plan) => {
-                let heard = Heard { recording, rules: plan.rules() };
+                let heard = Heard {
+                    recording,
+                    rules: plan.rules(),
+                };
                 write_in_one_pass(alloc, heard, writer)
             }
             Text::Windows(recording, workers) => {
