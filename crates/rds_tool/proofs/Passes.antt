@@ -37,6 +37,10 @@ items_in-append [] ys = refl
 items_in-append (None ∷ xs) ys = items_in-append xs ys
 items_in-append (Some item ∷ xs) ys = ap (λ (rest : List Item). item ∷ rest) (items_in-append xs ys)
 
+-- those of one slot more
+pub found_more : (xs : List (Option Item)) (i : ℕ) (d : Option Item) → i < length xs → items_in (take (i + 1) xs) ≡ items_in (take i xs) ++ items_in (get_or xs i d ∷ [])
+found_more xs i d h = ap (λ (some : List (Option Item)). items_in some) (take_more xs i d h) ∙ items_in-append (take i xs) (get_or xs i d ∷ [])
+
 -- ---- totals
 
 -- totals with the same counts
@@ -75,7 +79,7 @@ pub loss_told : (place : ℕ) → totals_of (LostLock place ∷ []) ≡ told 0 0
 loss_told place = refl
 
 -- the totals of a group with these blocks
-of_blocks : List Block → Totals
+abbrev of_blocks : List Block → Totals
 of_blocks blocks = totals_of (GroupItem (record { place = 0; blocks = blocks; kind = None; version = A; conflict = false }) ∷ [])
 
 valid_four : (a b c d : Block) → is_valid a ≡ true → is_valid b ≡ true → is_valid c ≡ true → is_valid d ≡ true → of_blocks (a ∷ b ∷ c ∷ d ∷ []) ≡ whole_totals 1
@@ -124,6 +128,7 @@ at_most_more m n t h a = record {
   acquired = omega (arith, a.acquired);
   losses = omega (arith, a.losses);
 }
+
 
 -- ---- a run that goes on
 

@@ -1,5 +1,6 @@
 //! A run over a whole recording, part by part.
 ghost use Rattle.std.specs.Prelude.{◌+◌, ◌++◌, ◌<◌, ◌^◌, ◌≡◌, ◌≤◌, ◌∷◌, [], false, length, true, vec_capacity};
+ghost use Rattle.rds_code.specs.declared.reading.Reading.{Reading};
 ghost use Rattle.rds_stream.specs.Recording.{length_of};
 ghost use Rattle.rds_sync.specs.Advance.{items_in};
 ghost use Rattle.rds_sync.specs.Decoding.{decoder_of};
@@ -105,23 +106,21 @@ impl<'a> Walk<'a> {
         );
         self.place = step.place;
         self.state = step.state;
-        let [first, second] = step.items;
-        push_found(items, first, second);
+        let [first, second] = &step.items;
+        push_found(items, first);
+        push_found(items, second);
     }
 }
 
-/// Appends the items that are there.
+/// Appends the item, where there is one.
 #[inline(always)]
-fn push_found(items: &mut Vec<Item>, first: Option<Item>, second: Option<Item>)
-    requires { length items.old.items + 2 ≤ vec_capacity items.old }
-    ensures items { items.new.items ≡ items.old.items ++ items_in (first ∷ second ∷ []) }
-    ensures few { length items.new.items ≤ length items.old.items + 2 }
+fn push_found(items: &mut Vec<Item>, found: &Option<Item>)
+    requires { length items.old.items < vec_capacity items.old }
+    ensures items { items.new.items ≡ items.old.items ++ items_in (found.now ∷ []) }
+    ensures few { length items.new.items ≤ length items.old.items + 1 }
     ensures room { vec_capacity items.new ≡ vec_capacity items.old }
 {
-    if let Some(item) = first {
-        items.push_reserved(item);
-    }
-    if let Some(item) = second {
-        items.push_reserved(item);
+    if let Some(item) = found {
+        items.push_reserved(*item);
     }
 }

@@ -2,8 +2,8 @@ use Rattle.std.proofs.Common.{◌++◌, ◌<◌, ◌⊎◌, ◌≡◌, ◌≤◌
 use Rattle.std.specs.Prelude.{vec_capacity}
 use Rattle.rds_tool.proofs.walk.Walk.take_part.Given as goal
 
-abbrev pub invariant-loop-self : goal.invariant-loop-self
-invariant-loop-self l = record {
+abbrev pub invariant-loop-items : goal.invariant-loop-items
+invariant-loop-items l = record {
   items : l.fn.self.rest.items ≡ l.items.items ++ l.self.rest.items;
   end : l.self.rest.end ≡ l.fn.self.rest.end;
   few : length l.items.items ≤ 1024;
@@ -11,5 +11,5 @@ invariant-loop-self l = record {
   room : vec_capacity l.items ≡ vec_capacity l.fn.items;
 }
 
-abbrev pub decreases-loop-self : goal.decreases-loop-self
-decreases-loop-self l = l.self.left
+abbrev pub decreases-loop-items : goal.decreases-loop-items
+decreases-loop-items l = l.self.left
