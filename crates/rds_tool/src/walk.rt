@@ -1,6 +1,5 @@
 //! A run over a whole recording, part by part.
 ghost use Rattle.std.specs.Prelude.{◌+◌, ◌++◌, ◌<◌, ◌^◌, ◌≡◌, ◌≤◌, ◌∷◌, [], false, length, true, vec_capacity};
-ghost use Rattle.rds_code.specs.declared.reading.Reading.{Reading};
 ghost use Rattle.rds_stream.specs.Recording.{length_of};
 ghost use Rattle.rds_sync.specs.Advance.{items_in};
 ghost use Rattle.rds_sync.specs.Decoding.{decoder_of};
