@@ -147,7 +147,7 @@ pub fn push(
     ensures lawful { OnOk result (IsFollowed rules gaps.now stream.old × (place_after stream.old bytes.now ≤ 2 ^ 36)) }
     ensures untouched { OnErr result ((room.new ≡ room.old) × (stream.new ≡ stream.old)) }
     ensures refused { IfErr result (λ refusal.
-        (IsFollowed rules gaps.now stream.old
+        (IsFollowed rules gaps.now stream.old × (place_after stream.old bytes.now ≤ 2 ^ 36)
         × AreTooMany (AreCompleted (terms_of rules gaps.now) stream.old bytes.now) (length room.old) refusal count.new)
         ⊎ (RefusesPush rules gaps.now stream.old bytes.now refusal × (count.new ≡ count.old))) }
 {

@@ -29,7 +29,7 @@ pub extern "C" fn rds_push(
     ensures next { result ≡ 0 → IsFollowed rules.now gaps.now stream.new }
     ensures lawful { result ≡ 0 → IsFollowed rules.now gaps.now stream.old × (place_after stream.old bytes.now ≤ 2 ^ 36) }
     ensures refused { result ≢ 0 → RefusedBy (λ refusal.
-        (IsFollowed rules.now gaps.now stream.old
+        (IsFollowed rules.now gaps.now stream.old × (place_after stream.old bytes.now ≤ 2 ^ 36)
         × AreTooMany (AreCompleted (terms_of rules.now gaps.now) stream.old bytes.now) (length room.old) refusal count.new)
         ⊎ (RefusesPush rules.now gaps.now stream.old bytes.now refusal × (count.new ≡ count.old))) result }
     ensures untouched { result ≢ 0 → (room.new ≡ room.old) × (stream.new ≡ stream.old) }

@@ -14,6 +14,7 @@ returns-then-room-len-clause-refused c =
     let many = ap (λ items. length items) c.in_ok-items-in-Ok.ensures in
     inl (
       record { range = c.in_ok-rules.ensures.range; live = subst (λ (l : LiveOf). IsLive l) is c.in_ok-live.ensures.lawful },
+      not_too_long terms c.args.stream.now live is c.args.bytes.now (λ long. let wrong = c.in-Ok.ensures.too_long.1 long in search rules),
       (
         c.in-Ok.chunk,
         completed terms c.args.stream.now live is c.args.bytes.now c.in-Ok.chunk c.in-Ok.ensures.items,
