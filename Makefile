@@ -15,7 +15,7 @@ all: build/rds
 
 toolchain:
 	@command -v $(RT) >/dev/null || { \
-	  echo "rds: the Rattle toolchain is missing: there is no '$(RT)' on the PATH (README.md, 'What you need')" >&2; exit 1; }
+	  echo "rds: the Rattle toolchain is missing: there is no '$(RT)' on the PATH (README.md, 'Try it')" >&2; exit 1; }
 
 # `rt run` proves and builds what is missing, keeps the program, and runs it: here for its help alone. The toolchain is asked
 # for only where there is something to build, so that a program that stands can be installed without it.
@@ -75,6 +75,7 @@ endef
 
 program:
 	$(call within_limit,tests/scripts.sh crates/rds/out/rds)
+	$(call within_limit,tests/docs.sh crates/rds/out/rds)
 	$(call within_limit,tests/program.sh crates/rds/out/rds)
 	$(call within_limit,tests/listings.sh crates/rds/out/rds)
 	$(call within_limit,tests/differential.sh crates/rds/out/rds crates/rds_plain/out/rds_plain)

@@ -60,6 +60,7 @@ install_files() {
 
 install_documents() {
   install -D -m 644 -t "$share/doc/rds" README.md packaging/copyright
+  install -D -m 644 -t "$share/doc/rds/docs" docs/USING.md docs/RECIPES.md
   gzip -9n < CHANGELOG.md > "$share/doc/rds/changelog.gz"
   gzip -9n > "$share/doc/rds/changelog.Debian.gz" <<ENTRY
 rds ($version) unstable; urgency=medium

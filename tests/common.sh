@@ -78,7 +78,7 @@ check_table() {
 
 # readme_program LANGUAGE: README.md's program of that language, of its section on the library
 readme_program() {
-  awk -v of="\`\`\`$1" '/^### / {here = /From C, Rust and Python/} here && $0 == "```" {on = 0} on; here && $0 == of {on = 1}' \
+  awk -v of="\`\`\`$1" '/^## / {here = /From C, Rust and Python/} here && $0 == "```" {on = 0} on; here && $0 == of {on = 1}' \
     "$here/../README.md"
 }
 

@@ -1,7 +1,7 @@
 #!/usr/bin/env bash
 # Completion and the Debian package: tests/package.sh PATH-TO-RDS LIBRARY-FOLDER
 #
-# What completion offers is compared with the program's help and with README's tables. The package is built, checked by
+# What completion offers is compared with the program's help (tests/docs.sh compares that with the pages). The package is built, checked by
 # lintian, installed in a root folder of its own, tried and removed: a program of README.md is linked with the installed
 # library, by both of its forms, and run. What a tool is missing for is skipped, by name.
 
@@ -45,13 +45,6 @@ commands_of() { "$program" --help | sed -n '/^Commands:/,/^$/s/^  \([a-z]*\)  .*
 # options_of [COMMAND]: the long options that help names
 options_of() { "$program" "$@" --help | sed -n '/^Options:/,/^$/s/^ *\(-[a-zA-Z], \)\{0,1\}\(--[a-z-]*\) .*/\2/p' | one_line; }
 
-# in_readme COMMAND: the options that README's table names for it
-in_readme() {
-  sed -n '/^| Option | Of |/,/^$/p' README.md |
-    awk -F'|' -v of="$1" 'NR > 2 && ($3 ~ "^ *all *$" || index($3, "`" of "`")) { split($2, words, /[` ]+/); print words[2] }' |
-    one_line
-}
-
 # by_bash WORD..: what bash offers for the last word of the line
 by_bash() {
   # shellcheck disable=SC1091
@@ -79,7 +72,6 @@ same 'the start of a word' '--share' "$(by_bash rds list --s)"
 same 'the numbers of an option' '0 1 2 3 4 5' "$(by_bash rds list --burst '')"
 same 'help on a command' "$(one_line <<< "$commands")" "$(by_bash rds help '')"
 for command in $commands; do
-  same "README's options of $command" "$(options_of "$command")" "$(one_line <<< "$(in_readme "$command") --help")"
   same "what bash offers after $command" "$(options_of "$command")" "$(by_bash rds "$command" '')"
 done
 if has zsh; then
@@ -134,6 +126,8 @@ if has dpkg dpkg-architecture dpkg-deb dpkg-shlibdeps readelf strip lintian "${a
     "$(station | "$root/usr/share/rds/examples/hex_groups.sh" | cksum)"
   same 'completion and documents' "/usr/share/bash-completion/completions/rds
 /usr/share/doc/rds/README.md
+/usr/share/doc/rds/docs/RECIPES.md
+/usr/share/doc/rds/docs/USING.md
 /usr/share/doc/rds/changelog.Debian.gz
 /usr/share/doc/rds/changelog.gz
 /usr/share/doc/rds/copyright

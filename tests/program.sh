@@ -480,7 +480,7 @@ station=$here/../examples/station.bin
 { cat "$station" "$station" "$station" | "$rds" list 2>"$work/err"; echo $? >"$work/status"; } | head -n 1 >"$work/out"
 judge 'output to a reader that leaves early' 1 "$(cat "$work/status")" "$acquired" 'refused 10 Write\n'
 
-# What README says of the system's limits: a small stack, pipes that do not block, and a length that is too long, which is
+# What docs/USING.md says of the system's limits: a small stack, pipes that do not block, and a length that is too long, which is
 # found once all of the input, more than a pipe holds, was read.
 (ulimit -s 128 && exec "$rds" list --hex <"$work/in" >"$work/out" 2>"$work/err")
 judge 'a stack of 128 KiB' 0 $? '*acquired,51,2,' ''

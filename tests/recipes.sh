@@ -1,5 +1,5 @@
 #!/usr/bin/env bash
-# Runs the recipes of README.md and examples/: tests/recipes.sh PATH-TO-RDS
+# Runs the recipes of docs/RECIPES.md and examples/: tests/recipes.sh PATH-TO-RDS
 #
 # Compares what they write with what it must be. A recipe whose tool is not on this machine is skipped, by name. The last
 # line is 'N passed, M failed', and the exit status says whether all passed.

@@ -13,7 +13,7 @@ usage='usage: tests/scripts.sh PATH-TO-RDS'
 check_programs "${1:-}"
 rds=$(realpath "$1")
 needs bash cat cp grep head ln sed sort
-scripts=(program listings differential refusals work growth)
+scripts=(docs program listings differential refusals work growth)
 
 # refused NAME TEXT PATH COMMAND..: the command by that PATH ends in another status than 0, with TEXT on standard error
 refused() {

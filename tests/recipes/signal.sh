@@ -122,7 +122,7 @@ if has awk && python=$(numpy_python); then
     echo 'skipped: the recipe that needs GNU Radio'
   fi
 
-  # README's lines from a stick to a listing, with a signal in place of the stick
+  # The lines from a stick to a listing, with a signal in place of the stick
   mkdir "$work/tools" "$work/stick"
   cat > "$work/tools/rtl_fm" <<STICK
 #!/bin/sh
@@ -132,7 +132,7 @@ STICK
   ln -s "$program" "$work/tools/rds"
   ln -s "$(command -v "$python")" "$work/tools/python3"
   ln -s "$PWD/examples" "$work/stick/examples"
-  lines=$(sed -n '/^### From an RTL-SDR stick to a listing/,/^##/s/^    //p' README.md)
+  lines=$(sed -n '/^## From an RTL-SDR stick to a listing/,/^## From a receiver/s/^    //p' docs/RECIPES.md)
   same 'four lines from a stick to a listing' 4 "$(wc -l <<< "$lines" | tr -d ' ')"
   (cd "$work/stick" && PATH=$work/tools:$PATH bash <<< "$lines") > "$work/stick/totals"
   same 'their listing' "$(groups_received --raw s16 --rate 171000 "$work/silence.s16")" \
@@ -140,7 +140,7 @@ STICK
   same 'their totals' "$(grep '^total,' "$work/stick/listing.csv")" "$(cat "$work/stick/totals")"
   # and its line for a WAV file
   cp "$work/multiplex.wav" "$work/stick/multiplex.wav"
-  line=$(grep -oE 'python3 [^`]* multiplex\.wav > bits\.bin' README.md)
+  line=$(grep -oE 'python3 [^`]* multiplex\.wav > bits\.bin' docs/RECIPES.md)
   (cd "$work/stick" && PATH=$work/tools:$PATH bash <<< "$line")
   same 'the bits of a WAV file' "$(from_mpx --packed "$work/multiplex.wav" | cksum)" "$(cksum < "$work/stick/bits.bin")"
 fi

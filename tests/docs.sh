@@ -1,0 +1,82 @@
+#!/usr/bin/env bash
+# What is written twice: tests/docs.sh PATH-TO-RDS
+#
+# Options, refusals and rows stand in the help, the manual page, docs/USING.md and completion; numbers of the tree, links and
+# commands in the pages. `pages.py` compares them, and has to find nothing. Then a difference is planted in a copy of each
+# table in turn, which it has to find and name.
+# The last line is 'N passed, M failed', and the exit status says whether all passed.
+
+usage='usage: tests/docs.sh PATH-TO-RDS'
+# shellcheck source-path=SCRIPTDIR source=common.sh
+. "$(dirname "$0")/common.sh" || exit
+check_programs "${1:-}"
+rds=$(realpath "$1")
+needs cat cmp cp grep python3 sed
+cd "$here/.." || exit 1
+
+# pages [FOLDER]: compares the pages, of the folder or of this one; python may need more tools
+pages() { PATH=$all_tools python3 "$here/pages.py" "$rds" "$@" > "$work/said"; }
+
+# ---- the pages as they are
+
+if pages; then
+    pass
+else
+    fail 'the pages differ'
+    cat "$work/said"
+fi
+
+# ---- planted differences
+
+copy=$work/copy
+mkdir "$copy" || exit 1
+cp -r README.md CHANGELOG.md Makefile crates.txt rds.1 completions docs examples lib packaging tests "$copy" || exit 1
+for folder in crates/*/wrong crates/*/must-fail; do
+    mkdir -p "$copy/$folder" && cp -r "$folder/." "$copy/$folder" || exit 1
+done
+
+# planted FILE EDIT TEXT: once sed made the edit in the file of the copy, TEXT is found there
+planted() {
+    sed -e "$2" "$1" > "$copy/$1" || exit 1
+    if cmp -s "$1" "$copy/$1"; then
+        fail "$1: the edit $2 changes nothing"
+    elif pages "$copy"; then
+        fail "$1: the edit $2 is not found"
+    elif grep -qF -e "$3" "$work/said"; then
+        pass
+    else
+        fail "$1: the edit $2 is not told as '$3'"
+        cat "$work/said"
+    fi
+    cp "$1" "$copy/$1" || exit 1
+}
+
+using=docs/USING.md
+planted $using '/^| `encode` | from/d' "$using, commands"
+planted $using '/^| `--reach N`/d' "$using, options of list"
+planted $using '/^| `--workers N`/s/`scan`, //' "$using, options of scan"
+planted $using '/^| `--burst N`/s/default 2/default 3/' "$using, default of --burst"
+planted $using '/^| `--reach N`/s/1 to 8/1 to 9/' "$using, range of --reach"
+planted $using 's/^| 7 | CrewRange/| 7 | CrewSize/' "$using, refusals"
+planted $using 's/refused 10 Write/refused 10 Writing/' "$using, refusals in the text"
+planted $using 's/^| `acquired` |/| `locked` |/' "$using, rows"
+planted $using 's/^| `bits` |/| `bit` |/' "$using, totals"
+planted rds.1 '/^\.Cm encode$/,/^\.Nm$/s/^\.Op Fl -hex$/.Op Fl -bits/' 'rds.1, options of encode'
+planted rds.1 's/^bits, 0 to 5; 2 where/bits, 0 to 5; 1 where/' 'rds.1, default of --burst'
+planted rds.1 's/threads, 1 to 256;/threads, 1 to 255;/' 'rds.1, range of --workers'
+planted rds.1 's/^\.It 12 GroupText/.It 12 LineText/' 'rds.1, refusals'
+planted rds.1 's/^\.It Li lost$/.It Li loss/' 'rds.1, rows'
+planted rds.1 's/^\.Li losses \.$/.Li loss ./' 'rds.1, totals'
+planted completions/rds.bash 's/--share/--shares/g; s/--shares/--sha/g' 'completions/rds.bash, options'
+planted completions/_rds 's/--progress/--pro/g' 'completions/_rds, options'
+planted docs/ARCHITECTURE.md 's/^| `rds_pieces` |/| pieces |/; s/`rds_pieces`/pieces/g' 'docs/ARCHITECTURE.md, crates'
+planted docs/TESTING.md '/^| `\{0,1\}rds_code`\{0,1\} |.*edits/s/\([0-9]*\) edits/1\1 edits/' 'docs/TESTING.md, edits of rds_code'
+planted README.md 's|(docs/USING.md)|(docs/USAGE.md)|' 'README.md: the link docs/USAGE.md leads nowhere'
+planted README.md 's|USING.md#a-stream|USING.md#a-river|' 'README.md: the link docs/USING.md#a-river names no heading'
+planted README.md 's|\[docs/MODEL.md\](docs/MODEL.md)|docs/MODEL.md|' 'docs/MODEL.md: no link from README.md or docs/ARCHITECTURE.md'
+planted docs/RECIPES.md 's|examples/off_air.sh|examples/on_air.sh|' 'docs/RECIPES.md: there is no examples/on_air.sh'
+planted README.md 's/make install  /make instal   /' 'README.md: there is no target instal'
+planted docs/RECIPES.md 's/rds list --bits/rds list --bit/' 'docs/RECIPES.md: rds list has no option --bit'
+planted docs/RECIPES.md 's/rds totals </rds total </' 'docs/RECIPES.md: rds has no command total'
+
+finish

@@ -1,0 +1,222 @@
+#!/usr/bin/env python3
+"""Compares what is written twice, and prints a line for each difference: tests/pages.py PATH-TO-RDS [FOLDER]
+
+FOLDER is the project's, or a copy of it. The options, refusals and rows of the program's help are held against the manual
+page, docs/USING.md and completion; numbers of a page against the tree; links, and the commands that a page shows, against
+what is there. `tests/docs.sh` calls it, and sees that it finds differences.
+"""
+import os
+import re
+import subprocess
+import sys
+
+faults = []
+
+
+def read(path):
+    with open(path, encoding="utf-8") as file:
+        return file.read()
+
+
+def shown(value):
+    return ", ".join(map(str, sorted(value))) if isinstance(value, set) else str(value)
+
+
+def same(what, wanted, got):
+    if wanted != got:
+        faults.append(f"{what}: {shown(got)}, and not {shown(wanted)}")
+
+
+def one_line(text):
+    return re.sub(r"\s+", " ", text)
+
+
+def between(text, start, end):
+    return text.split(start, 1)[1].split(end, 1)[0]
+
+
+def span_in(text):
+    """The lowest and the highest value that a text names first, as '0 to 5'; 2^36 counts as the number."""
+    text = re.sub(r"2\^(\d+)", lambda power: str(2 ** int(power[1])), text)
+    found = re.search(r"(\d+) to (\d+)", text)
+    return found and (int(found[1]), int(found[2]))
+
+
+def number_in(pattern, text):
+    found = re.search(pattern, text)
+    return found and int(found[1])
+
+
+class Program:
+    """What the help says."""
+
+    def __init__(self, rds):
+        self.rds = rds
+        self.help = self.says("--help")
+        self.commands = set(re.findall(r"^  ([a-z]+)  ", between(self.help, "Commands:", "Options:"), re.M)) - {"help"}
+        self.helps = {command: self.says(command, "--help") for command in self.commands}
+        self.options = {command: self.options_in(text) for command, text in self.helps.items()}
+        self.every_option = {name: text for named in self.options.values() for name, text in named.items()}
+        self.refusals = set(re.findall(r"^ +(\d+) ([A-Z]\w+) ", self.help, re.M))
+        self.rows = set(re.findall(r"^  ([a-z]+),[A-Z]+,?", self.helps["list"], re.M))
+        self.totals = set(re.findall(r"^total,(\w+),", self.says("totals"), re.M))
+
+    def says(self, *words):
+        return subprocess.run([self.rds, *words], capture_output=True, text=True, check=True, stdin=subprocess.DEVNULL).stdout
+
+    @staticmethod
+    def options_in(text):
+        """Each option of a help text with what is said of it."""
+        entries = re.split(r"\n(?=  +-)", "\n" + between(text, "Options:\n", "\n\n"))[1:]
+        parted = (re.match(r" *(?:-\w, )?--([a-z]+)(?: <\w+>)?([\s\S]*)", entry) for entry in entries)
+        return {entry[1]: one_line(entry[2]) for entry in parted if entry[1] != "help"}
+
+
+class Manual:
+    """What rds.1 says."""
+
+    def __init__(self):
+        text = read("rds.1")
+        self.options = {}
+        for form in between(text, ".Sh SYNOPSIS", ".Sh DESCRIPTION").split("\n.Nm\n")[1:]:
+            for commands in re.findall(r"^\.Cm ([a-z| ]+)$", form, re.M):
+                for command in commands.split(" | "):
+                    self.options[command] = set(re.findall(r"Fl -([a-z]+)", form))
+        entries = re.findall(r"^\.It Fl -([a-z]+)[^\n]*\n((?:(?!\.It |\.El).*\n)*)", text, re.M)
+        self.said = {name: one_line(entry) for name, entry in entries}
+        self.refusals = set(re.findall(r"^\.It (\d+) (\w+)$", text, re.M))
+        rows = between(text, ".Sh ROWS", ".Sh ")
+        self.rows = set(re.findall(r"^\.It Li (\w+)$", rows, re.M))
+        self.totals = every_burst(set(re.findall(r"^\.Li (\w+)", between(rows, ".It Li total", ".El"), re.M)))
+
+
+class Using:
+    """What docs/USING.md says."""
+
+    def __init__(self):
+        text = read("docs/USING.md")
+        part = between(text, "\n## Options\n", "\n## ")
+        self.table = re.findall(r"^\| `--([a-z]+)[^|]*\| ([^|]*) \| [^|]* \| ([^|]*) ?\|$", part, re.M)
+        self.commands = set(re.findall(r"^\| `([a-z]+)` \|", text.split("\n## Options")[0], re.M))
+        part = between(text, "## Exit status", "\n## " if "\n## " in text.split("## Exit status")[1] else "\0")
+        self.refusals = set(re.findall(r"^\| (\d+) \| (\w+) \|", part, re.M))
+        self.named = set(re.findall(r"`refused (\d+) (\w+)`", text))
+        rows = between(text, "| Row | Fields |", "\n\n")
+        self.rows = set(re.findall(r"^\| `([a-z]+)` \|", rows, re.M))
+        totals = between(text, "| Total | Counts |", "\n\n").splitlines()[2:]
+        self.totals = every_burst({name for row in totals for name in re.findall(r"`(\w+)`", row.split("|")[1])})
+
+
+def every_burst(names):
+    """Names of totals, of which 'burst1 to burst5' are five."""
+    return names | {f"burst{span}" for span in range(1, 6)} if {"burst1", "burst5"} <= names else names
+
+
+def compare_options(program, manual, using):
+    same("docs/USING.md, commands", program.commands, using.commands)
+    same("rds.1, commands", program.commands, set(manual.options))
+    for command in sorted(program.commands):
+        names = set(program.options[command])
+        same(f"docs/USING.md, options of {command}", names, {name for name, of, _ in using.table if f"`{command}`" in of})
+        same(f"rds.1, options of {command}", names, manual.options.get(command, set()))
+    for name, _, values in using.table:
+        text, entry = program.every_option.get(name, ""), manual.said.get(name, "")
+        default = number_in(r"\[default: (\d+)\]", text)
+        same(f"docs/USING.md, default of --{name}", default, number_in(r"default (\d+)", values))
+        same(f"rds.1, default of --{name}", default, number_in(r"(\d+) where it is not given", entry))
+        # what a share may be depends on another option, and is told in words
+        if name != "share" and span_in(text):
+            same(f"docs/USING.md, range of --{name}", span_in(text), span_in(values))
+            same(f"rds.1, range of --{name}", span_in(text), span_in(entry))
+    for path in ("completions/rds.bash", "completions/_rds"):
+        same(f"{path}, options", set(program.every_option), set(program.every_option) & set(re.findall(r"--([a-z]+)", read(path))))
+
+
+def compare_rows(program, manual, using):
+    for name, page in (("docs/USING.md", using), ("rds.1", manual)):
+        same(f"{name}, refusals", program.refusals, page.refusals)
+        same(f"{name}, rows", program.rows, page.rows)
+        same(f"{name}, totals", program.totals, page.totals)
+    same("docs/USING.md, refusals in the text", set(), using.named - program.refusals)
+
+
+def compare_numbers():
+    """The crates of the map, and how many edits docs/TESTING.md says that a crate has."""
+    crates = {line.split(":")[0].split()[0] for line in read("crates.txt").splitlines() if not line.startswith("#")}
+    named = set(re.findall(r"`(rds(?:_\w+)?)`", between(read("docs/ARCHITECTURE.md"), "## The crates", "\n## ")))
+    same("docs/ARCHITECTURE.md, crates", crates, named & crates)
+    for crate, count in re.findall(r"^\| `?(rds_\w+)`? \|.*\| (\d+) edits", read("docs/TESTING.md"), re.M):
+        folders = (f"crates/{crate}/{kind}" for kind in ("wrong", "must-fail"))
+        same(f"docs/TESTING.md, edits of {crate}", sum(len(os.listdir(it)) for it in folders if os.path.isdir(it)), int(count))
+
+
+def headings(path):
+    """What the headings of a page are called in a link."""
+    return {re.sub(r"[^\w\- ]", "", head.lower()).replace(" ", "-") for head in re.findall(r"^#+ (.*)$", read(path), re.M)}
+
+
+def compare_links(pages):
+    linked = {"README.md"}
+    for page in pages:
+        for link in re.findall(r"\]\(([^)\s]+)\)", re.sub(r"^```[\s\S]*?^```", "", read(page), flags=re.M)):
+            path, _, heading = link.partition("#")
+            target = os.path.normpath(os.path.join(os.path.dirname(page), path)) if path else page
+            if "://" in link:
+                continue
+            if not os.path.exists(target):
+                faults.append(f"{page}: the link {link} leads nowhere")
+            elif heading and heading not in headings(target):
+                faults.append(f"{page}: the link {link} names no heading")
+            if page in ("README.md", "docs/ARCHITECTURE.md"):
+                linked.add(target)
+    for page in sorted(set(pages) - linked):
+        faults.append(f"{page}: no link from README.md or docs/ARCHITECTURE.md")
+
+
+def commands_of(page):
+    """The lines of code of a page, and what stands in backquotes."""
+    text = read(page)
+    if page == "rds.1":
+        return text.replace("$EXAMPLES/", "examples/").splitlines()
+    return re.findall(r"^    (?:\$ )?(\S.*)$", text, re.M) + re.findall(r"`([^`\n]+)`", text)
+
+
+def compare_commands(program, pages):
+    targets = set(re.findall(r"^([a-z-]+)(?: [a-z-]+)*:", read("Makefile"), re.M))
+    for page in pages + ["rds.1"]:
+        for line in commands_of(page):
+            for script in re.findall(r"(?<![\w/.])((?:examples|tests|lib|packaging)/[\w/]+\.\w+)", line):
+                if not os.path.exists(script):
+                    faults.append(f"{page}: there is no {script}")
+            for target in re.findall(r"^make ([a-z-]+)", line):
+                if target not in targets:
+                    faults.append(f"{page}: there is no target {target}")
+            for command, words in re.findall(r"(?:^|[|;(] *|until )rds ([a-z]+)\b([^|<>;()]*)", line):
+                check_words(program, page, command, words)
+
+
+def check_words(program, page, command, words):
+    if command not in program.commands | {"help"}:
+        faults.append(f"{page}: rds has no command {command}")
+    for name in re.findall(r"(?<!\S)--([a-z]+)", words):
+        if name not in {*program.options.get(command, {}), "help"}:
+            faults.append(f"{page}: rds {command} has no option --{name}")
+
+
+def main():
+    if len(sys.argv) not in (2, 3):
+        sys.exit("usage: tests/pages.py PATH-TO-RDS [FOLDER]")
+    program = Program(os.path.realpath(sys.argv[1]))
+    os.chdir(sys.argv[2] if len(sys.argv) == 3 else os.path.dirname(os.path.dirname(os.path.realpath(__file__))))
+    manual, using = Manual(), Using()
+    pages = ["README.md", "CHANGELOG.md", "examples/README.md"] + sorted(f"docs/{name}" for name in os.listdir("docs"))
+    compare_options(program, manual, using)
+    compare_rows(program, manual, using)
+    compare_numbers()
+    compare_links(pages)
+    compare_commands(program, pages)
+    print("".join(f"{it}\n" for it in faults), end="")
+    sys.exit(1 if faults else 0)
+
+
+main()
