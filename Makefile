@@ -10,7 +10,7 @@ export RT
 
 SOURCES := crates.txt $(shell find crates -name out -prune -o \( -name '*.rt' -o -name '*.antt' \) -print)
 
-.PHONY: all run quick lib test proofs wrong-bodies wrong-bodies-of-code program library package install install-lib deb clean toolchain
+.PHONY: all run quick lib test proofs archive wrong-bodies wrong-bodies-of-code program library package install install-lib deb clean toolchain
 all: build/rds
 
 toolchain:
@@ -49,6 +49,7 @@ quick: toolchain
 # What it built is tried while the others are; measured when nothing else runs.
 test: toolchain
 	+$(MAKE) --no-print-directory -j 2 proofs wrong-bodies-of-code
+	+$(MAKE) --no-print-directory archive
 	+$(MAKE) --no-print-directory -j 2 -O wrong-bodies program
 	+$(MAKE) --no-print-directory library
 	+$(MAKE) --no-print-directory package
@@ -58,6 +59,11 @@ test: toolchain
 
 proofs:
 	$(RT) ci
+
+# The library for C over what `proofs` has just built, so that `lib` has nothing left to do: it would prove all of that once more.
+archive:
+	tests/archive.py
+	lib/make_library.sh crates/rds_c/out/librds_c.a build/lib
 
 wrong-bodies-of-code:
 	tests/wrong_bodies.py rds_code
@@ -84,7 +90,6 @@ program:
 	$(call within_limit,tests/growth.sh crates/rds/out/rds)
 	$(call within_limit,tests/recipes.sh crates/rds/out/rds)
 
-# rt ci leaves no archive, so it is built here.
 library: lib
 	$(call within_limit,tests/library.sh build/lib crates/rds/out/rds)
 

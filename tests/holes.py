@@ -137,19 +137,30 @@ def is_built(crate):
     return os.path.isdir(rlib) and os.path.getmtime(rlib) > max(os.path.getmtime(it) for it in files)
 
 
+def over(crate):
+    """The words that name the libraries below a crate, as `rt` built them."""
+    said = []
+    for it in below(crate):
+        rlib = f"{TOP}/crates/{it}/out/rlib/{it}.rlib"
+        said += ["--extern", f"{it}={rlib}"] if it in used_by(crate)[0] else []
+        said += ["-L", f"dependency={os.path.dirname(rlib)}"]
+    return said
+
+
+def of_kit(crate, kit):
+    """The words of each command over a crate and these libraries of the toolchain."""
+    said = ["--crate-name", crate, "src/lib.rt", "--logic-built", f"{KIT}/logic_built"]
+    said += ["--antt-project", f"{KIT}/rattle/logic/antt-project.json", "-L", f"dependency={KIT}/rlibs"]
+    return said + [word for it in sorted(kit) for word in ("--extern", f"{it}={KIT}/rlibs/{it}.rlib")]
+
+
 def words(folder, crate, only, are_copied):
     """The words that check these functions of a copy. The libraries below are copies beside it, or as `rt` built them."""
     kit = {"core", "std", *(name for it in [*below(crate), crate] for name in used_by(it)[1])}
-    said = f"{KIT}/bin/rattle check --crate-name {crate} src/lib.rt --allow-holes".split()
-    said += ["--incremental", f"{folder}/kept_{crate}", "--logic-built", f"{KIT}/logic_built"]
-    said += ["--antt-project", f"{KIT}/rattle/logic/antt-project.json", "-L", f"dependency={KIT}/rlibs"]
-    said += [word for it in sorted(kit) for word in ("--extern", f"{it}={KIT}/rlibs/{it}.rlib")]
-    for it in below(crate):
-        rlib = f"{TOP}/crates/{it}/out/rlib/{it}.rlib"
-        if are_copied:
+    said = [f"{KIT}/bin/rattle", "check", *of_kit(crate, kit), "--allow-holes", "--incremental", f"{folder}/kept_{crate}"]
+    if are_copied:
+        for it in below(crate):
             said += ["--lib", f"{it}:{','.join(['core', 'std', *sum(used_by(it), [])])}={folder}/{it}/src/lib.rt"]
-        elif it in used_by(crate)[0]:
-            said += ["--extern", f"{it}={rlib}", "-L", f"dependency={os.path.dirname(rlib)}"]
-        else:
-            said += ["-L", f"dependency={os.path.dirname(rlib)}"]
+    else:
+        said += over(crate)
     return said + [word for it in sorted(only) for word in ("--only", it)]

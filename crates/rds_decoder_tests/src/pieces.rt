@@ -1,10 +1,7 @@
 //! Tests of `rds_pieces`.
-mod convergence;
 mod cuttings;
 pub mod guesses;
-pub mod joins;
-mod marks;
+mod joins;
 mod phases;
-pub mod reports;
 mod seams;
 mod stitching;

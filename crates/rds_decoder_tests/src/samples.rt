@@ -19,30 +19,6 @@ const ZERO_GROUP: [u8; 13] = [
     0x00, 0x00, 0x3F, 0x00, 0x00, 0x19, 0x80, 0x00, 0x05, 0xA0, 0x00, 0x01, 0xB4,
 ];
 
-/// The first groups of a station's recording, 104 bits each.
-const STATION: [u128; 20] = [
-    0xD3_93464152_100E1002_2D4105D6,
-    0xD3_93464152_4B9E1002_2D613DA3,
-    0xD3_93464152_A72E1002_2D3125F7,
-    0xD3_93464153_C96E1002_2D11554F,
-    0xD3_93464550_10880E0E_040001B4,
-    0xD3_93464950_1AC56659_61C9A605,
-    0xD3_93464950_4156669A_899592FD,
-    0xD3_93464950_ADE20528_F5114D60,
-    0xD3_93464950_F672064D_A9958F6B,
-    0xD3_93464951_2F16F643_01A5BAA5,
-    0xD3_93464951_748672C2_B4819D7D,
-    0xD3_93464951_983726FB_D9D5C114,
-    0xD3_93464951_C3A2062D_15E482B5,
-    0xD3_93464952_2AF67720_25BDD61A,
-    0xD3_93464952_716702C6_C881A651,
-    0xD3_93464952_9DD6E20D_D985CFA4,
-    0xD3_93464952_C64206D7_4185B9FC,
-    0xD3_93464953_1F279209_A5D1A174,
-    0xD3_93464953_44B7265A_1D85918D,
-    0xD3_93464953_A8073202_2185CFA4,
-];
-
 /// The bytes of zero groups sent one after the other, at least so many bits.
 pub fn zero_bytes(alloc: Global, bits: u64) -> Result<Vec<u8>, AllocError> {
     let mut bytes = Vec::new(alloc);
@@ -85,13 +61,6 @@ pub enum Signal {
     Silence(u32),
     /// Two groups of which the second has two bad blocks among three, which lose the lock.
     TwoBad,
-    /// Eight zero groups, whose lock is lost so.
-    EightGroups(Loss),
-    /// A station's groups, with every bit of one group turned.
-    Station,
-    /// A station's groups with damaged bits and with gaps: one bit in so many bytes is inverted, and there is a gap in
-    /// so many places, where the third number says which.
-    Gapped(u64, u64, u64),
     /// Zero groups of which about one byte in so many is damaged, where the first number says which, whose lock is lost
     /// so.
     Noisy(u64, u64, Loss),
@@ -222,55 +191,10 @@ pub fn next_random(number: u64) -> u64 {
     number ^ (number << 17)
 }
 
-/// Inverts a bit in about one of so many bytes.
-fn invert_some(bytes: &mut [u8], one_of: u64, seed: u64)
-    requires { 0 < one_of }
-{
-    let mut number = seed;
-    for byte in bytes {
-        number = next_random(number);
-        if number % one_of == 0 {
-            *byte ^= 1 << ((number >> 32) % 8);
-        }
-    }
-}
-
-/// A gap of at most half as many places in each so many of the first `len`.
-pub fn random_gaps(
-    alloc: Global,
-    len: u64,
-    places: u64,
-    seed: u64,
-) -> Result<Vec<(u64, u64)>, AllocError>
-    requires { 1 < places }
-{
-    let half = places / 2;
-    let mut gaps = Vec::new(alloc);
-    let mut number = seed;
-    for k in 0..len / places {
-        number = next_random(number);
-        let from = k.saturating_mul(places).saturating_add(number % half);
-        let to = from.saturating_add(1 + (number >> 32) % half);
-        gaps.push((from, to))?;
-    }
-    Ok(gaps)
-}
-
-fn station_bytes(alloc: Global) -> Result<Vec<u8>, AllocError> {
-    let mut bytes = Vec::new(alloc);
-    for (number, group) in STATION.iter().enumerate() {
-        let sent = if number == 9 { !*group } else { *group };
-        bytes.extend_from_slice(&sent.to_be_bytes()[3..])?;
-    }
-    Ok(bytes)
-}
-
 /// The recording of a signal whose report is not known.
 fn recorded(alloc: Global, signal: Signal) -> Result<Recording, Fail> {
     match signal {
         Signal::TwoBad => Ok(two_bad(alloc)?),
-        Signal::Station => Ok(recording_of(station_bytes(alloc)?, 20 * 104)?),
-        Signal::Gapped(bytes, places, seed) => Ok(gapped_station(alloc, bytes, places, seed)?),
         Signal::Noisy(seed, rarity, _) => noisy_groups(alloc, seed, rarity),
         Signal::Torn(number) => torn_groups(alloc, u64::from(number) * 0x9E37_79B9),
         Signal::OfAllKinds(seed, groups) => groups_of_all_kinds(alloc, seed, groups),
@@ -282,24 +206,11 @@ fn recorded(alloc: Global, signal: Signal) -> Result<Recording, Fail> {
 fn rules_for(signal: Signal) -> RuleNumbers {
     let (burst, reach, loss) = match signal {
         Signal::TwoBad => (2, 3, Loss::Share { bad: 2, of: 3 }),
-        Signal::EightGroups(loss) | Signal::Noisy(_, _, loss) => (2, 3, loss),
+        Signal::Noisy(_, _, loss) => (2, 3, loss),
         Signal::Torn(number) => (number % 6, 1 + number % 8, Loss::Run(1 + number % 11)),
         _ => (2, 3, Loss::Run(3)),
     };
     RuleNumbers { burst, reach, loss }
-}
-
-/// A station's groups, damaged in about one of so many bytes, with a gap in so many places.
-fn gapped_station(
-    alloc: Global,
-    bytes: u64,
-    places: u64,
-    seed: u64,
-) -> Result<Recording, StreamError> {
-    let gaps = random_gaps(alloc, 20 * 104, places.max(2), seed)?;
-    let mut sent = station_bytes(alloc)?;
-    invert_some(&mut sent, bytes.max(1), seed);
-    gapped_recording(sent, 20 * 104, gaps)
 }
 
 /// Zero groups of which about one byte in `rarity` is damaged, as the seed has it.

@@ -1,5 +1,4 @@
 //! Tests of `rds_stream`.
-pub mod gaps;
 mod recordings;
 mod scans;
 mod windows;

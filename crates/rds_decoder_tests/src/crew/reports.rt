@@ -1,13 +1,11 @@
 //! What crews answer: one report whatever the pieces and the workers, and refusals.
-ghost use Rattle.std.specs.Prelude.{◌≡◌, ◌<◌, length};
+ghost use Rattle.std.specs.Prelude.{◌≡◌, length};
 ghost use Rattle.rds_stream.specs.Recording.{length_of};
 ghost use Rattle.rds_pieces.specs.Cutting.{IsCutting};
 
-use crate::pieces::reports::random_cuts;
 use crate::samples::{Cuts, Sample, Signal};
 use rds_crew::{CrewError, Gate, OpenGate, decode_crew};
 use rds_pieces::{RecordingWork, Work};
-use rds_sync::Loss;
 use std::alloc::Global;
 use std::sync::Wait;
 use std::test::Fail;
@@ -93,60 +91,6 @@ fn every_cutting_and_number_of_workers_gives_one_report(rt: HostRuntime) -> Resu
             let is_given = is_signal_decoded(&rt, rt.alloc(), signal, cuts, workers, &OpenGate)?;
             assert!(rt; is_given, "{groups} groups, {workers} workers");
         }
-    }
-    Ok(())
-}
-
-/// Whether one to nine workers answer the sample's report, each crew over a cutting of its own, with a cut at one place
-/// of so many.
-fn is_decoded_at_random<R: Threads + Wait>(
-    rt: &R,
-    alloc: Global,
-    sample: &Sample,
-    one_of: u64,
-) -> Result<bool, CrewError>
-    requires { 0 < one_of }
-{
-    for workers in 1..10u32 {
-        let seed = u64::from(workers) * 0x9E37_79B9;
-        let cuts = random_cuts(alloc, sample.recording.len(), one_of, seed)?;
-        let cuts = Cuts::At(cuts.as_slice());
-        if !is_cut_decoded(rt, alloc, sample, cuts, workers, &OpenGate)? {
-            return Ok(false);
-        }
-    }
-    Ok(true)
-}
-
-/// Whether they do over few cuts and over many.
-fn is_decoded_by_all<R: Threads + Wait>(
-    rt: &R,
-    alloc: Global,
-    sample: &Sample,
-) -> Result<bool, CrewError> {
-    Ok(
-        is_decoded_at_random(rt, alloc, sample, 60)?
-            && is_decoded_at_random(rt, alloc, sample, 300)?
-            && is_decoded_at_random(rt, alloc, sample, 1_500)?,
-    )
-}
-
-/// Whether they do of groups of which about one byte in so many is damaged.
-fn is_noise_decoded<R: Threads + Wait>(rt: &R, alloc: Global, rarity: u64) -> Result<bool, Fail> {
-    let answer = {
-        let sample = Sample::of(alloc, Signal::Noisy(rarity, rarity, Loss::Run(4)))?;
-        is_decoded_by_all(rt, alloc, &sample)
-    };
-    Ok(answer?)
-}
-
-// From bytes of which each is damaged, which is noise, to one damaged byte in four groups.
-#[test]
-fn random_cuttings_of_random_recordings_give_the_report_of_one_decoder(
-    rt: HostRuntime,
-) -> Result<(), Fail> {
-    for &rarity in &[1, 4, 13, 52] {
-        assert!(rt; is_noise_decoded(&rt, rt.alloc(), rarity)?, "{rarity}");
     }
     Ok(())
 }

@@ -4,23 +4,21 @@ ghost use Rattle.std.specs.Prelude.{◌≡◌};
 use crate::pieces::guesses::guess_from;
 use crate::pieces::stitching::reads_stitched;
 use crate::samples::{Cuts, Sample, Signal};
-use crate::sync::counts::counted;
 use rds_pieces::{PieceError, PieceRun, seam};
 use rds_stream::{Counted, Tape};
-use rds_sync::{Decoder, Item, Spans, State};
+use rds_sync::{Decoder, Spans, State};
 use std::alloc::Global;
 use std::test::Fail;
 
-/// What a seam shows: where it meets, how many windows it reads, and whether its totals are those of its items.
+/// What a seam shows: where it meets, and how many windows it reads.
 #[derive(Clone, Copy)]
 pub struct Shown {
     pub met_at: Option<u64>,
     pub reads: u64,
-    pub is_counted: bool,
 }
 
 /// The seam from that state over a guess, or one that shows nothing where no run is in that state there.
-pub fn seam_from(
+fn seam_from(
     alloc: Global,
     sample: &Sample,
     guess: &PieceRun,
@@ -33,17 +31,14 @@ pub fn seam_from(
         return Ok(Shown {
             met_at: None,
             reads: 0,
-            is_counted: false,
         });
     }
     let (recording, rules) = (&sample.recording, &sample.rules);
     let mut tape = Counted::new(recording);
     let seam = seam(alloc, &mut tape, rules, state, guess, Spans::Whole)?;
-    let items: Vec<Item> = seam.items.iter(recording, rules).collect(alloc)?;
     Ok(Shown {
         met_at: seam.met_at,
         reads: tape.reads(),
-        is_counted: seam.totals == counted(&items),
     })
 }
 

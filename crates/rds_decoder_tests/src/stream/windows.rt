@@ -1,8 +1,7 @@
 //! Windows of a recording: their offsets, their remainders, one after the other, and as a tape counts them.
 use crate::samples::zero_groups;
 use rds_code::Offset::{A, B, D};
-use rds_stream::{Counted, FIRST_WINDOW, Recording, StreamError, Tape, ValidWindows, planes, scan};
-use std::alloc::Global;
+use rds_stream::{Counted, FIRST_WINDOW, Recording, Tape, ValidWindows, planes};
 use std::test::Fail;
 
 /// Whether the windows of two zero groups are those of offsets where the first and the last block of a group end, and
@@ -52,40 +51,5 @@ fn has_windows(twice: &Recording) -> bool {
 fn two_zero_groups_have_their_windows(rt: HostRuntime) -> Result<(), Fail> {
     let twice = zero_groups(rt.alloc(), 208)?;
     assert!(rt; has_windows(&twice));
-    Ok(())
-}
-
-/// Whether a range gives what the scan of it finds.
-fn gives_the_scan(
-    alloc: Global,
-    recording: &Recording,
-    from: u64,
-    to: u64,
-) -> Result<bool, StreamError> {
-    if from > to || to > recording.len() {
-        return Ok(false);
-    }
-    let windows = ValidWindows::new(recording, from, to).collect::<Vec<_, _>>(alloc)?;
-    Ok(windows.as_slice() == scan(alloc, recording, from, to)?.as_slice())
-}
-
-/// Whether the ranges of five zero groups from each place of the first on, up to each place of the last, and from the
-/// middle of the places before it, give what their scans find.
-fn give_their_scans(alloc: Global) -> Result<bool, StreamError> {
-    let five = zero_groups(alloc, 520)?;
-    for from in 0..131 {
-        if !gives_the_scan(alloc, &five, from, 520)?
-            || !gives_the_scan(alloc, &five, 0, 520 - from)?
-            || !gives_the_scan(alloc, &five, from / 2, from)?
-        {
-            return Ok(false);
-        }
-    }
-    Ok(true)
-}
-
-#[test]
-fn windows_are_those_of_the_scan(rt: HostRuntime) -> Result<(), Fail> {
-    assert!(rt; give_their_scans(rt.alloc())?);
     Ok(())
 }

@@ -70,7 +70,7 @@ const ELSEWHERE: State = State::Locked {
 
 /// Where that lock is lost and the next one acquired, before place 190 on.
 fn turns_from_elsewhere(alloc: Global) -> Result<Vec<Item>, Fail> {
-    let sample = Sample::of(alloc, Signal::EightGroups(Loss::Run(10)))?;
+    let sample = Sample::of(alloc, Signal::ZeroGroups(8, 3))?;
     Ok(turns(alloc, &sample)?)
 }
 

@@ -7,7 +7,7 @@ ghost use Rattle.rds_sync.specs.Step.{run};
 
 use crate::samples::{Sample, Signal};
 use crate::sync::counts::counted;
-use crate::sync::steps::{Stepped, by_steps, steps_from};
+use crate::sync::steps::{Stepped, by_steps};
 use rds_code::{Offset, Reading};
 use rds_stream::Recording;
 use rds_sync::{
@@ -17,7 +17,7 @@ use std::alloc::{AllocError, Global};
 use std::test::Fail;
 
 /// The last state of a run, and what is kept of it.
-pub fn kept_run(
+fn kept_run(
     alloc: Global,
     rec: &Recording,
     rules: &Rules,
@@ -127,92 +127,6 @@ fn marks_have_the_states_of_both_rules_of_loss(rt: HostRuntime) -> Result<(), Fa
             assert!(rt; is_signal_kept(rt.alloc(), noisy)?, "{seed}");
         }
     }
-    Ok(())
-}
-
-/// Whether the run over a sample, cut there, keeps what tells of both sides of the cut, and, put together, of the
-/// whole.
-fn is_kept_in_two(
-    alloc: Global,
-    sample: &Sample,
-    whole: &Stepped,
-    cut: u64,
-) -> Result<bool, SyncError>
-    requires { cut ≤ length_of sample.now.recording }
-{
-    let (rec, rules) = (&sample.recording, &sample.rules);
-    let (middle, mut codes) = kept_run(alloc, rec, rules, State::Searching, 0, cut)?;
-    let (end, behind) = kept_run(alloc, rec, rules, middle, cut, rec.len())?;
-    let stepped = steps_from(alloc, rec, rules, middle, cut)?;
-    let is_behind = end == stepped.state && tell(&behind, rules, &stepped);
-    codes.append(behind, 0)?;
-    Ok(is_behind && tell(&codes, rules, whole))
-}
-
-/// Whether it does wherever it is cut.
-fn is_kept_anywhere(alloc: Global, sample: &Sample) -> Result<bool, SyncError> {
-    let whole = by_steps(alloc, &sample.recording, &sample.rules)?;
-    for cut in 0..=sample.recording.len() {
-        if !is_kept_in_two(alloc, sample, &whole, cut)? {
-            return Ok(false);
-        }
-    }
-    Ok(true)
-}
-
-fn is_signal_kept_anywhere(alloc: Global, signal: Signal) -> Result<bool, Fail> {
-    let answer = {
-        let sample = Sample::of(alloc, signal)?;
-        is_kept_anywhere(alloc, &sample)
-    };
-    Ok(answer?)
-}
-
-#[test]
-fn what_is_kept_of_both_sides_of_a_cut_is_put_together(rt: HostRuntime) -> Result<(), Fail> {
-    assert!(rt; is_signal_kept_anywhere(rt.alloc(), Signal::TwoBad)?);
-    assert!(rt; is_signal_kept_anywhere(rt.alloc(), Signal::OfAllKinds(7, 6))?);
-    Ok(())
-}
-
-/// Whether what is kept of a sample's items from a mark on tells of the steps from there.
-fn is_rest_kept(alloc: Global, sample: &Sample, mark: &Mark) -> Result<bool, SyncError> {
-    let (rec, rules) = (&sample.recording, &sample.rules);
-    let (_, codes) = kept_run(alloc, rec, rules, State::Searching, 0, rec.len())?;
-    let first = mark.items as usize;
-    if codes.len() < first {
-        return Ok(false);
-    }
-    let mut rest = Codes::new(alloc);
-    rest.append(codes, first)?;
-    let stepped = steps_from(alloc, rec, rules, mark.state, mark.place)?;
-    Ok(tell(&rest, rules, &stepped))
-}
-
-/// Whether it does from each mark on.
-fn is_each_rest_kept(alloc: Global, sample: &Sample) -> Result<bool, SyncError> {
-    let whole = by_steps(alloc, &sample.recording, &sample.rules)?;
-    for mark in &whole.marks {
-        if !is_rest_kept(alloc, sample, mark)? {
-            return Ok(false);
-        }
-    }
-    Ok(true)
-}
-
-fn is_each_rest_of_all_kinds_kept(alloc: Global) -> Result<bool, Fail> {
-    let answer = {
-        let sample = Sample::of(alloc, Signal::OfAllKinds(17, 60))?;
-        is_each_rest_kept(alloc, &sample)
-    };
-    Ok(answer?)
-}
-
-#[test]
-fn what_is_kept_from_any_mark_on_is_that_of_the_run_from_there(
-    rt: HostRuntime,
-) -> Result<(), Fail> {
-    assert!(rt; is_each_rest_of_all_kinds_kept(rt.alloc())?);
     Ok(())
 }
 

@@ -3,11 +3,9 @@ ghost use Rattle.std.specs.Prelude.{◌≡◌, ◌≤◌, IfOk};
 ghost use Rattle.rds_stream.specs.Recording.{length_of};
 
 use crate::samples::{Sample, Signal};
-use crate::sync::codes::kept_run;
 use crate::sync::steps::by_steps;
-use rds_sync::{Items, State, SyncError, decode_plain};
+use rds_sync::{Items, SyncError, decode_plain};
 use std::alloc::Global;
-use std::snapshot::Snapshot;
 use std::test::Fail;
 use std::thread;
 use std::thread::Threads;
@@ -138,52 +136,6 @@ fn is_long_list_of_all_kinds(alloc: Global) -> Result<bool, Fail> {
 #[test]
 fn a_list_of_many_spans_gives_the_items_at_their_ends(rt: HostRuntime) -> Result<(), Fail> {
     assert!(rt; is_long_list_of_all_kinds(rt.alloc())?);
-    Ok(())
-}
-
-/// The list of a sample's report, in two spans: one up to the cut, and one behind it.
-fn in_two_spans(alloc: Global, sample: &Sample, cut: u64) -> Result<Items, SyncError>
-    requires { cut ≤ length_of sample.now.recording }
-    ensures source { IfOk result (λ list. list.source ≡ sample.now.recording) }
-    ensures rules { IfOk result (λ list. list.rules ≡ sample.now.rules) }
-{
-    let (rec, rules) = (&sample.recording, &sample.rules);
-    let (middle, before) = kept_run(alloc, rec, rules, State::Searching, 0, cut)?;
-    let (end, behind) = kept_run(alloc, rec, rules, middle, cut, rec.len())?;
-    let mut list = Items::none(alloc, Snapshot::of(rec), rules);
-    list.push_span(State::Searching, 0, cut, before.len())?;
-    let mut rest = Items::none(alloc, Snapshot::of(rec), rules);
-    rest.push_span(middle, cut, rec.len(), behind.len())?;
-    rest.close(end)?;
-    list.append(rest)?;
-    Ok(list)
-}
-
-/// Whether that list is the sample's wherever it is cut.
-fn is_list_anywhere(alloc: Global, sample: &Sample) -> Result<bool, SyncError> {
-    for cut in 0..=sample.recording.len() {
-        let list = in_two_spans(alloc, sample, cut)?;
-        if !is_list(sample, &list) {
-            return Ok(false);
-        }
-    }
-    Ok(true)
-}
-
-fn is_signal_list_anywhere(alloc: Global, signal: Signal) -> Result<bool, Fail> {
-    let answer = {
-        let sample = Sample::of(alloc, signal)?;
-        is_list_anywhere(alloc, &sample)
-    };
-    Ok(answer?)
-}
-
-#[test]
-fn lists_are_put_together_of_the_spans_before_and_behind_a_cut(
-    rt: HostRuntime,
-) -> Result<(), Fail> {
-    assert!(rt; is_signal_list_anywhere(rt.alloc(), Signal::TwoBad)?);
-    assert!(rt; is_signal_list_anywhere(rt.alloc(), Signal::OfAllKinds(5, 5))?);
     Ok(())
 }
 

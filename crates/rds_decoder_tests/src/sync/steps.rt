@@ -23,7 +23,7 @@ fn step_from(tape: &mut Counted<'_>, rules: &Rules, state: State, place: u64) ->
 }
 
 /// Appends the items that are there.
-pub fn push_found(items: &mut Vec<Item>, found: &[Option<Item>; 2]) -> Result<(), AllocError> {
+fn push_found(items: &mut Vec<Item>, found: &[Option<Item>; 2]) -> Result<(), AllocError> {
     for place in found {
         if let Some(item) = place {
             items.push(*item)?;
@@ -66,7 +66,7 @@ impl Stepped {
 }
 
 /// The steps from that state and place on.
-pub fn steps_from(
+fn steps_from(
     alloc: Global,
     rec: &Recording,
     rules: &Rules,
