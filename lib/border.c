@@ -109,6 +109,15 @@ uint8_t rds_finish(const rds_gap_t *gaps, size_t gaps_len, const rds_rules_t *ru
     return proved_rds_finish(ROW(gaps), rules, stream, ROW(room), count, totals);
 }
 
+PROVED(rds_finish_with);
+uint8_t rds_finish_with(const uint8_t *bytes, size_t bytes_len, uint64_t bits, const rds_gap_t *gaps, size_t gaps_len,
+                        const rds_rules_t *rules, const rds_stream_t *stream, rds_item_t *room, size_t room_len, uint64_t *count,
+                        rds_totals_t *totals)
+{
+    LOOK_AT(MANY(bytes), MANY(gaps), ONE(rules), ONE(stream), MANY_WRITTEN(room), ONE_WRITTEN(count), ONE_WRITTEN(totals));
+    return proved_rds_finish_with(ROW(bytes), bits, ROW(gaps), rules, stream, ROW(room), count, totals);
+}
+
 PROVED(rds_remainder);
 uint8_t rds_remainder(uint32_t word, uint16_t *found)
 {

@@ -1,7 +1,22 @@
 /* librds: the decoder of Radio Data System bits, for C and C++.
  *
- * Every function returns 0, or the number of a refusal (rds_refusal_name spells it). After a refusal nothing that was lent
- * has changed, but for the count that RDS_SMALL_ROOM tells.
+ * Bits are handed over as bytes, the first bit of a byte highest; a place is the number of a bit, from 0. What is found in them is a
+ * list of items, in order of place: acquisitions of block synchronism, groups of four blocks, and losses. A list has at most two
+ * items a bit.
+ *
+ *     static const rds_rules_t rules = RDS_RULES;
+ *     rds_stream_t stream = {0};                     // nothing was heard yet
+ *     rds_item_t items[16 * CHUNK];                  // room for what a chunk may complete
+ *     uint64_t count;
+ *     while ((len = fread(bytes, 1, CHUNK, stdin)) > 0) {
+ *         if (rds_push(bytes, len, NULL, 0, &rules, &stream, items, 16 * CHUNK, &count)) return 1;
+ *         for (uint64_t k = 0; k < count; k++) {}    // items[k] is complete: no later bit changes it
+ *     }
+ *     rds_finish(NULL, 0, &rules, &stream, items, 1, &count, &totals);
+ *
+ * Every function but rds_version returns 0, or the number of a refusal (rds_refusal_name spells it). After a refusal nothing that
+ * was lent has changed, but for the count that RDS_SMALL_ROOM tells. Where several reasons hold, the one that comes first in the
+ * order that is told at the function is answered; want of memory, at any time.
  *
  * What is required of a pointer, by its declaration:
  *   const T *p        points to one T, aligned, that no other thread writes meanwhile; it is read only during the call
@@ -13,7 +28,8 @@
  *
  * Nothing is kept after the call: there is no handle, nothing to free, no thread, no lock and no global state. So any calls may run
  * at the same time, in any threads, as long as no two write to the same memory. Only rds_totals, rds_items, rds_run,
- * rds_finish_run, rds_push, rds_finish and rds_correct ask for memory, by malloc, and have given it back when they return.
+ * rds_finish_run, rds_push, rds_finish, rds_finish_with and rds_correct ask for memory, by malloc, and have given it back when they
+ * return.
  *
  * What is said here of results is proved of the library's code: docs/PROOFS.md says what is, and what is only trusted.
  */
@@ -27,23 +43,23 @@
 extern "C" {
 #endif
 
-/* Refusals: those of the program, by its numbers, and the library's own from 64 on. */
+/* Refusals: those of the program, by its numbers, and the library's own from 64 on. No number ever changes its meaning. */
 enum {
-    RDS_BURST_RANGE = 1,
-    RDS_REACH_RANGE = 2,
-    RDS_LOSS_RANGE = 3,
-    RDS_BITS_PAST_BYTES = 4,
-    RDS_TOO_LONG = 5,
-    RDS_OUT_OF_MEMORY = 8,
-    RDS_SHARE_RANGE = 15,
-    RDS_BAD_GAPS = 16,
-    RDS_SMALL_ROOM = 64,
-    RDS_UNLAWFUL_STATE = 65,
-    RDS_PLACE_RANGE = 66,
-    RDS_BLOCK_RANGE = 67,
-    RDS_OFFSET_RANGE = 68,
-    RDS_NO_REFUSAL = 69,
-    RDS_BAD_POINTER = 70
+    RDS_BURST_RANGE = 1,      /* burst is above 5 */
+    RDS_REACH_RANGE = 2,      /* reach is not 1 to 8 */
+    RDS_LOSS_RANGE = 3,       /* loss is not 1 to 64 */
+    RDS_BITS_PAST_BYTES = 4,  /* more bits than the bytes hold */
+    RDS_TOO_LONG = 5,         /* more than 2^36 bits */
+    RDS_OUT_OF_MEMORY = 8,    /* memory was refused */
+    RDS_SHARE_RANGE = 15,     /* loss is 0 or above of, or of above 64 */
+    RDS_BAD_GAPS = 16,        /* a gap without a place, past the bits, or that begins before the end of the one before it */
+    RDS_SMALL_ROOM = 64,      /* more than there is room for */
+    RDS_UNLAWFUL_STATE = 65,  /* a state or a stream that no call can have left */
+    RDS_PLACE_RANGE = 66,     /* from and to are no range of the recording */
+    RDS_BLOCK_RANGE = 67,     /* a word of more than 26 bits */
+    RDS_OFFSET_RANGE = 68,    /* an offset that is none of RDS_A to RDS_C_OR_CX */
+    RDS_NO_REFUSAL = 69,      /* no refusal has this number */
+    RDS_BAD_POINTER = 70      /* a pointer that cannot be what is required of it */
 };
 
 /* The twelve totals of a report: 96 bytes. */
@@ -101,7 +117,7 @@ typedef struct rds_rules_t {
 #define RDS_RULES {2, 3, 10, 0}
 
 /* What a run knows between two bits: 24 bytes, all 0 where no block is known, as before the first. They are numbers alone, which
- * may be copied, stored, and gone on with elsewhere by the same rules. */
+ * may be copied, stored, and gone on with elsewhere by the same rules; runs that know the same have left the same bytes. */
 typedef struct rds_state_t {
     uint64_t due;    /* where the next block ends */
     uint64_t bad;    /* how many of the last blocks in a row were bad; or, by a share, which of the last */
@@ -110,12 +126,13 @@ typedef struct rds_state_t {
 } rds_state_t;
 
 /* What is known of a stream between two chunks: 160 bytes, all 0 where nothing was heard yet. They are numbers alone, which may
- * be copied, stored, and gone on with elsewhere by the same rules and gaps. */
+ * be copied, stored, and gone on with elsewhere by the same rules and gaps. However the same bytes were cut, by the same rules and
+ * gaps the same 160 bytes are left: they may be compared and hashed. */
 typedef struct rds_stream_t {
     uint64_t place;      /* how many bits were heard, which is the place of the next */
     rds_state_t state;   /* the state after them */
     rds_totals_t totals; /* of the items that are complete */
-    uint8_t tail[32];    /* the last 30 bytes that were heard, or all; what stands behind them means nothing */
+    uint8_t tail[32];    /* the last 30 bytes that were heard, or all, and zeros behind them */
 } rds_stream_t;
 
 /* The information words of a group's four blocks: 8 bytes. */
@@ -161,7 +178,8 @@ uint8_t rds_finish_run(const uint8_t *bytes, size_t bytes_len, uint64_t bits, co
 /* Takes the next bytes of a stream, any number of them, the highest bit of a byte first: writes the items that they complete to
  * the beginning of room, how many they are to count, and what is known of the stream then to stream. The gaps are told by their
  * places in the stream, and may lie ahead. However a stream was cut, from one of zeros on the items are those of rds_items of all
- * bytes so far, but for the group in progress, which rds_finish gives; no later byte changes them. Where there is too little room
+ * bytes so far, but for the group in progress, which rds_finish gives; no later byte changes them. Room for 16 items a byte is
+ * never too little. Where there is too little room
  * (64), count tells how many items there are, and nothing else is written: the same bytes can be offered again. Numbers that no
  * call can have left are refused (65); others are gone on with, whoever wrote them. Refusals: 1, 2, 3, 15, then 16, 65, 5 (past
  * 2^36 bits in all), 64, and 8. */
@@ -174,20 +192,32 @@ uint8_t rds_push(const uint8_t *bytes, size_t bytes_len, const rds_gap_t *gaps, 
 uint8_t rds_finish(const rds_gap_t *gaps, size_t gaps_len, const rds_rules_t *rules, const rds_stream_t *stream,
                                rds_item_t *room, size_t room_len, uint64_t *count, rds_totals_t *totals);
 
-/* The remainder of a word of 26 bits, below 1024. Refusals: 67. */
+/* Ends a stream with the first bits bits of these bytes, so inside a byte too: writes the items that they complete to the beginning
+ * of room, and behind them the group in progress, to count how many these are, and to totals those of all that was heard and of
+ * these bits. So the items of all chunks and these are those of rds_items of the whole. The stream is only read. Refusals: those of
+ * rds_push, with 4 behind 5. */
+uint8_t rds_finish_with(const uint8_t *bytes, size_t bytes_len, uint64_t bits, const rds_gap_t *gaps, size_t gaps_len,
+                                    const rds_rules_t *rules, const rds_stream_t *stream, rds_item_t *room, size_t room_len,
+                                    uint64_t *count, rds_totals_t *totals);
+
+/* The remainder of a word of 26 bits by the generator of the block code, below 1024. Refusals: 67. */
 uint8_t rds_remainder(uint32_t word, uint16_t *found);
 
 /* A word of 26 bits read as the block with this offset, RDS_A to RDS_C_OR_CX; a burst of up to limit bits, 0 to 5, is taken
  * off where one alone fits. Refusals: 67, 68, 1, and 8. */
 uint8_t rds_correct(uint32_t word, uint8_t offset, uint8_t limit, rds_block_t *found);
 
-/* Groups as they are sent, to the beginning of room. Refusals: 64. */
+/* Groups as they are sent, to the beginning of room, which has to have as many values. Refusals: 64. */
 uint8_t rds_encode(const rds_words_t *groups, size_t groups_len, rds_packed_t *room, size_t room_len);
 
-/* The name of the refusal of this number, with a 0 behind it, to the beginning of room. Refusals: 69, 64. */
+/* The name of the refusal of this number, as "TooLong", with a 0 behind it, to the beginning of room: RDS_NAME_ROOM bytes are
+ * enough for any. Print it as (const char *)room. Refusals: 69, 64. */
 uint8_t rds_refusal_name(uint8_t number, uint8_t *room, size_t room_len);
 
-/* The version of the library: 65536 times the first number, 256 times the second, and the third. */
+/* The version of this header: 65536 times the first number, 256 times the second, and the third. */
+#define RDS_VERSION 0x000200
+
+/* That of the library, in the same way. */
 uint32_t rds_version(void);
 
 #ifdef __cplusplus

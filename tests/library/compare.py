@@ -3,8 +3,7 @@
 
 COUNT recordings are made of a sample, damaged, shortened, or of noise, with every option that a recording and rules have.
 The rows of each that the program lists are compared with those that each ROWS prints, and with those of rds of Python, whose
-totals are compared too; and with both, where the recording has whole bytes, what rds of Python gives of a stream of them, in
-chunks of up to 1000 bytes.
+totals are compared too; and with both what rds of Python gives of a stream of them, in chunks of up to 1000 bytes.
 """
 
 import os
@@ -68,15 +67,19 @@ def by_python(asked):
 
 
 def by_stream(r, data, bits, gaps, rules):
-    """The same, in chunks, each from what was told of the stream as bytes."""
+    """The same, in chunks, each from what was told of the stream as bytes; and whether the bytes are those of one that came at once."""
     items, stream, rest = [], bytes(160), data[: bits // 8]
     while rest:
         size = r.randrange(1001)
         follower = rds.Follower(rules, gaps, stream)
         items += follower.push(rest[:size])
         stream, rest = follower.stream, rest[size:]
-    group, totals = rds.Follower(rules, gaps, stream).finish()
-    return items + [group] * (group is not None), totals
+    follower, at_once = rds.Follower(rules, gaps, stream), rds.Follower(rules, gaps)
+    at_once.push(data[: bits // 8])
+    last, totals = follower.finish_with(data[bits // 8 :], bits % 8)
+    group, ended = follower.finish()
+    assert bits % 8 or ([group] * (group is not None), ended) == (last, totals)
+    return items + last, totals, at_once.stream == stream
 
 
 def main():
@@ -94,7 +97,7 @@ def main():
             it.write(data)
         numbers = [bits, rules.burst, rules.reach, rules.loss, rules.of, *(place for gap in gaps for place in gap)]
         wrong = [] if by_python(asked) == wanted else ["rds of Python"]
-        if bits % 8 == 0 and by_stream(random.Random(seed), *asked) != (list(rds.decode(*asked)), rds.totals(*asked)):
+        if by_stream(random.Random(seed), *asked) != (list(rds.decode(*asked)), rds.totals(*asked), True):
             wrong.append("a stream by rds of Python")
         for other in others:
             got = subprocess.run([other, path, *map(str, numbers)], capture_output=True)

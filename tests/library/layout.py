@@ -2,8 +2,9 @@
 """Compares what crosses the border to C: tests/library/layout.py RDS.H FOLDER
 
 One row each for a struct's field, a function's argument and a result is read of rds.h, of the crates rds_abi and rds_c, and of
-the declarations for Rust and Python. They must be the same. To FOLDER goes layout.c, which a compiler of C and of C++ accepts
-only where the header's offsets and sizes are those that the rows give.
+the declarations for Rust and Python. They must be the same, and so must the numbers of refusals and what is said of them. To
+FOLDER goes layout.c, which a compiler of C and of C++ accepts only where the header's offsets and sizes are those that the rows
+give.
 """
 
 import ctypes
@@ -144,6 +145,28 @@ def as_python_has_them(functions):
     return {name: (result, [plain(it) for it in given]) for name, (result, given) in functions.items()}
 
 
+# ---- refusals
+
+def refusals_of_crate():
+    """The number of each, its name and what is said of it."""
+    text = text_of(f"{TOP}/crates/rds_abi/src/refusal.rt")
+    said = {name: said for said, name in re.findall(r'#\[error\("(.*?)"\)\]\s*(\w+),', text)}
+    return {int(number): (name, said[name]) for name, number in re.findall(r"Refusal::(\w+) => (\d+),", text)}
+
+
+def wrong_refusals(header):
+    mine = refusals_of_crate()
+    upper = lambda name: re.sub(r"(?<!^)(?=[A-Z])", "_", name).upper()
+    named = {f"RDS_{upper(name)}": number for number, (name, _) in mine.items()} | {"RDS_BAD_POINTER": 70}
+    enum = re.search(r"enum \{([^{}]*RDS_BAD_POINTER.*?)\};", without_comments(text_of(header)), re.S)[1]
+    if {name: int(number) for name, number in re.findall(r"(\w+) = (\d+)", enum)} != named:
+        yield f"{header}: the numbers of refusals"
+    reasons = {number: said for number, (_, said) in mine.items()}
+    for path, row in (("rust/src/lib.rs", r'^    \((\d+), "(.*?)"\),$'), ("python/rds/__init__.py", r'^    (\d+): "(.*?)",$')):
+        if {int(number): said for number, said in re.findall(row, text_of(f"{TOP}/bindings/{path}"), re.M)} != reasons:
+            yield f"bindings/{path}: what is said of refusals"
+
+
 # ---- offsets
 
 def layout_of(kind, structs):
@@ -186,11 +209,12 @@ def main():
     mine = as_python_has_them(functions)
     wrong += [f"bindings/python: struct {it}" for it in {*structs, *their_structs} if structs.get(it) != their_structs.get(it)]
     wrong += [f"bindings/python: {it}" for it in {*mine, *their_functions} if mine.get(it) != their_functions.get(it)]
+    wrong += wrong_refusals(header)
     with open(f"{folder}/layout.c", "w", encoding="utf-8") as it:
         print('#include "rds.h"\n#ifdef __cplusplus\n#define HOLDS static_assert\n#else\n#define HOLDS _Static_assert\n#endif', file=it)
         for test, what in assertions(structs):
             print(f'HOLDS({test}, "{what}");', file=it)
-        print("int main(void) { return rds_version() == 0; }", file=it)
+        print("int main(void) { return rds_version() != RDS_VERSION; }", file=it)
     for it in sorted(wrong):
         print(f"not as rds.h has it: {it}")
     print(f"{len(structs)} structs, {len(functions)} functions")

@@ -136,6 +136,21 @@ static void following(size_t len)
     REFUSED(FINISH(gaps, &rules, &it.stream, it.room, &it.totals.losses, &it.totals));
     TAKEN(FINISH(gaps, &rules, &it.stream, it.room, &it.count, &it.totals));
     before = it;
+#define LAST(b, g, r, s, m, c, t) rds_finish_with(b, len, 3, g, 1, r, s, m, ROOM, c, t)
+    REFUSED(LAST(NULL, gaps, &rules, &it.stream, it.room, &it.count, &it.totals));
+    REFUSED(LAST(bytes, NULL, &rules, &it.stream, it.room, &it.count, &it.totals));
+    REFUSED(LAST(bytes, gaps, NULL, &it.stream, it.room, &it.count, &it.totals));
+    REFUSED(LAST(bytes, gaps, &rules, NULL, it.room, &it.count, &it.totals));
+    REFUSED(LAST(bytes, gaps, &rules, ASKEW(const rds_stream_t, &it.stream), it.room, &it.count, &it.totals));
+    REFUSED(LAST(bytes, gaps, &rules, &it.stream, NULL, &it.count, &it.totals));
+    REFUSED(LAST(bytes, gaps, &rules, &it.stream, it.room, NULL, &it.totals));
+    REFUSED(LAST(bytes, gaps, &rules, &it.stream, it.room, &it.count, NULL));
+    REFUSED(LAST(bytes, gaps, &rules, &it.stream, it.room, &it.count, &it.stream.totals));
+    REFUSED(LAST(bytes, gaps, &rules, &it.stream, it.room, &it.totals.losses, &it.totals));
+    REFUSED(LAST(OVER(const uint8_t, &it.room[1]), gaps, &rules, &it.stream, it.room, &it.count, &it.totals));
+    TAKEN(rds_finish_with(NULL, 0, 0, NULL, 0, &rules, &it.stream, it.room, ROOM, &it.count, &it.totals));
+    TAKEN(LAST(bytes, gaps, &rules, &it.stream, it.room, &it.count, &it.totals));
+    before = it;
 }
 
 static void alone(void)

@@ -74,6 +74,11 @@ static uint8_t correct(void) { return rds_correct(0x1234567, RDS_C_OR_CX, 5, &fo
 static uint64_t number;
 static uint8_t finish(void) { return rds_finish(gaps, 2, &rules, &stream, room, 1, &number, &found.totals); }
 
+static uint8_t finish_with(void)
+{
+    return rds_finish_with(bytes, len, 8 * len - 3, gaps, 2, &rules, &stream, room, sizeof room / sizeof *room, &number, &found.totals);
+}
+
 static int is_untouched(const void *at, size_t count)
 {
     for (size_t k = 0; k < count; k++)
@@ -118,7 +123,7 @@ int main(int count, char **words)
     len = fread(bytes, 1, sizeof bytes, file);
     long by_totals = refused_in(totals), by_items = refused_in(items), by_correct = refused_in(correct);
     /* the last push is refused nothing, so that what it left is ended */
-    long by_push = refused_in(push), by_finish = refused_in(finish);
-    printf("%ld %ld %ld %ld %ld refused\n", by_totals, by_items, by_correct, by_push, by_finish);
-    return !(by_totals > 3 && by_items > 3 && by_correct > 0 && by_push > 3 && by_finish > 3);
+    long by_push = refused_in(push), by_finish = refused_in(finish), by_finish_with = refused_in(finish_with);
+    printf("%ld %ld %ld %ld %ld %ld refused\n", by_totals, by_items, by_correct, by_push, by_finish, by_finish_with);
+    return !(by_totals > 3 && by_items > 3 && by_correct > 0 && by_push > 3 && by_finish > 3 && by_finish_with > 3);
 }

@@ -1,8 +1,8 @@
 /* The rows of a listing, by the library for C: rows FILE BITS BURST REACH LOSS OF [BEGIN END]..
  *
  * The items are found three times: whole, in room that was asked for first and with one item more that has to be left as it
- * was; from range to range of ever other lengths, by a state; and from a stream of ever other chunks of up to 1000 bytes, as far
- * as it has whole bytes. The exit status is a refusal's number, or 100 and more.
+ * was; from range to range of ever other lengths, by a state; and from a stream of ever other chunks of up to 1000 bytes. The exit
+ * status is a refusal's number, or 100 and more.
  */
 #include "rds.h"
 
@@ -113,35 +113,49 @@ static int is_next(const uint8_t *bytes, size_t len, const rds_gap_t *gaps, size
     return 1;
 }
 
-/* Whether a stream of the first bytes, from one of zeros, gives the same items and totals as they do whole. */
-static int is_same_in_chunks(const uint8_t *bytes, size_t len, const rds_gap_t *gaps, size_t gaps_len, const rds_rules_t *rules)
+/* Whether a stream of the first bits, from one of zeros, gives the same items and totals as they do whole: ended with its last bytes,
+ * inside a byte or not, and behind its last whole byte. What is known of it are the same bytes as of one that came at once. */
+static int is_same_in_chunks(const uint8_t *bytes, uint64_t bits, const rds_gap_t *gaps, size_t gaps_len, const rds_rules_t *rules,
+                             const rds_item_t *items, uint64_t number, const rds_totals_t *wanted)
 {
-    rds_item_t none, last, *items;
-    rds_totals_t wanted, totals;
-    rds_stream_t stream;
-    uint64_t number = 0, done = 0, count, x = len + 1;
-    rds_items(bytes, len, 8 * len, gaps, gaps_len, rules, &none, 0, &number);
-    items = malloc((number + 1) * sizeof *items);
-    if (!items || rds_items(bytes, len, 8 * len, gaps, gaps_len, rules, items, number, &number) ||
-        rds_totals(bytes, len, 8 * len, gaps, gaps_len, rules, &wanted))
-        return 0;
+    rds_item_t *room = malloc((number + 1) * sizeof *room);
+    rds_totals_t totals;
+    rds_stream_t stream, at_once;
+    size_t whole = (size_t)(bits / 8), all = (size_t)((bits + 7) / 8), stop = whole - (whole < 50 ? whole : bits % 50);
+    uint64_t done = 0, count, told, x = whole + 1;
     memset(&stream, 0, sizeof stream);
-    for (size_t from = 0, next; from < len; from = next) {
+    memset(&at_once, 0, sizeof at_once);
+    if (!room)
+        return 0;
+    for (size_t from = 0, next; from < stop; from = next) {
         x = x * 6364136223846793005u + 1442695040888963407u;
         next = from + (x >> 33) % 1001;
-        next = next < len ? next : len;
+        next = next < stop ? next : stop;
         if (!is_next(bytes + from, next - from, gaps, gaps_len, rules, &stream, items + done, number - done, &count) ||
             stream.place != 8 * next)
             return 0;
         done += count;
     }
-    memset(&last, 0x5A, sizeof last);
-    if (rds_finish(gaps, gaps_len, rules, &stream, &last, 1, &count, &totals) || count > 1 || done + count != number ||
-        (count && (memcmp(&last, items + done, sizeof last) ||
-                   rds_finish(gaps, gaps_len, rules, &stream, &last, 0, &count, &totals) != RDS_SMALL_ROOM || count != 1)))
+#define LAST bytes + stop, all - stop
+#define END(room_len, count) gaps, gaps_len, rules, &stream, room, room_len, count, &totals
+    if (rds_finish_with(LAST, bits - 8 * stop, END(number, &count)) || done + count != number ||
+        memcmp(room, items + done, count * sizeof *room) || memcmp(&totals, wanted, sizeof totals) ||
+        (count && (rds_finish_with(LAST, bits - 8 * stop, END(count - 1, &told)) != RDS_SMALL_ROOM || told != count)) ||
+        rds_finish_with(LAST, 8 * (all - stop) + 1, END(number, &told)) != RDS_BITS_PAST_BYTES ||
+        rds_finish_with(LAST, ((uint64_t)1 << 36) + 1, END(number, &told)) != RDS_TOO_LONG)
         return 0;
-    free(items);
-    return memcmp(&totals, &wanted, sizeof totals) == 0;
+    if (rds_push(bytes + stop, whole - stop, gaps, gaps_len, rules, &stream, room, number, &count) ||
+        rds_push(bytes, whole, gaps, gaps_len, rules, &at_once, room, number, &told) || told != done + count ||
+        memcmp(room, items, told * sizeof *room) || memcmp(&stream, &at_once, sizeof stream))
+        return 0;
+    memset(room, 0x5A, sizeof *room);
+    if (bits % 8 == 0 &&
+        (rds_finish(END(1, &count)) || count > 1 || told + count != number || memcmp(&totals, wanted, sizeof totals) ||
+         (count &&
+          (memcmp(room, items + told, sizeof *room) || rds_finish(END(0, &count)) != RDS_SMALL_ROOM || count != 1))))
+        return 0;
+    free(room);
+    return 1;
 }
 
 int main(int count, char **words)
@@ -175,13 +189,13 @@ int main(int count, char **words)
             return 104;
     if (!is_same_in_ranges(bytes, len, bits, gaps, gaps_len, &rules, room, number))
         return 106;
-    if ((gaps_len == 0 || gaps[gaps_len - 1].end <= bits / 8 * 8) && !is_same_in_chunks(bytes, bits / 8, gaps, gaps_len, &rules))
-        return 107;
-    for (uint64_t k = 0; k < number; k++)
-        print_item(&room[k]);
     rds_totals_t t;
     if (rds_totals(bytes, len, bits, gaps, gaps_len, &rules, &t))
         return 105;
+    if (!is_same_in_chunks(bytes, bits, gaps, gaps_len, &rules, room, number, &t))
+        return 107;
+    for (uint64_t k = 0; k < number; k++)
+        print_item(&room[k]);
     const uint64_t totals[] = {t.valid, t.bursts[0], t.bursts[1], t.bursts[2], t.bursts[3], t.bursts[4],
                                t.lost,  t.bits,      t.groups,    t.complete,  t.acquired,  t.losses};
     static const char *const names[] = {"valid", "burst1", "burst2", "burst3",   "burst4",   "burst5",

@@ -28,8 +28,17 @@ static int decode(int it, rds_totals_t *totals, uint64_t *count)
 {
     static const rds_rules_t rules = RDS_RULES;
     static const rds_gap_t none = {0, 0};
+    rds_stream_t stream;
+    rds_totals_t followed;
+    uint64_t first, last;
+    memset(&stream, 0, sizeof stream);
+    if (rds_push(bytes[it], len / 2, &none, 0, &rules, &stream, rooms[it], ROOM, &first) ||
+        rds_finish_with(bytes[it] + len / 2, len - len / 2, 8 * (len - len / 2), &none, 0, &rules, &stream, rooms[it], ROOM, &last,
+                        &followed))
+        return 1;
     return rds_totals(bytes[it], len, 8 * len, &none, 0, &rules, totals) |
-           rds_items(bytes[it], len, 8 * len, &none, 0, &rules, rooms[it], ROOM, count);
+           rds_items(bytes[it], len, 8 * len, &none, 0, &rules, rooms[it], ROOM, count) | (first + last != *count) |
+           (memcmp(&followed, totals, sizeof followed) != 0);
 }
 
 static void *run(void *at)

@@ -92,6 +92,11 @@ FUNCTIONS = {
         [POINTER(RdsGap), c_size_t, POINTER(RdsRules), POINTER(RdsStream), POINTER(RdsItem), c_size_t, POINTER(c_uint64),
          POINTER(RdsTotals)],
     ),
+    "rds_finish_with": (
+        c_uint8,
+        [POINTER(c_uint8), c_size_t, c_uint64, POINTER(RdsGap), c_size_t, POINTER(RdsRules), POINTER(RdsStream), POINTER(RdsItem),
+         c_size_t, POINTER(c_uint64), POINTER(RdsTotals)],
+    ),
     "rds_remainder": (c_uint8, [c_uint32, POINTER(c_uint16)]),
     "rds_correct": (c_uint8, [c_uint32, c_uint8, c_uint8, POINTER(RdsBlock)]),
     "rds_encode": (c_uint8, [POINTER(RdsWords), c_size_t, POINTER(RdsPacked), c_size_t]),
@@ -102,7 +107,11 @@ FUNCTIONS = {
 
 def load():
     """The library: that of RDS_LIBRARY, or else the system's."""
-    library = ctypes.CDLL(os.environ.get("RDS_LIBRARY") or find_library("rds") or "librds.so.0")
+    path = os.environ.get("RDS_LIBRARY") or find_library("rds") or "librds.so.0"
+    try:
+        library = ctypes.CDLL(path)
+    except OSError as error:
+        raise OSError(f"{error}: install librds (make install-lib), or name its librds.so.0 in RDS_LIBRARY") from None
     for name, (result, arguments) in FUNCTIONS.items():
         function = getattr(library, name)
         function.restype, function.argtypes = result, arguments

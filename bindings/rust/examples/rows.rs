@@ -36,9 +36,10 @@ fn row(item: Item) -> String {
     }
 }
 
-/// The items of a stream of these bytes, in ever other chunks of up to 1000 bytes, each from what is known of the stream.
-fn followed(bytes: &[u8], gaps: &[Range<u64>], rules: &Rules) -> Result<Vec<Item>, Refused> {
-    let (mut follower, mut items, mut rest, mut random) = (Follower::new(rules, gaps)?, Vec::new(), bytes, bytes.len() as u32);
+/// The items of a stream of these bits, in ever other chunks of up to 1000 bytes, each from what is known of the stream.
+fn followed(bytes: &[u8], bits: u64, gaps: &[Range<u64>], rules: &Rules) -> Result<Vec<Item>, Refused> {
+    let (whole, last) = bytes[..bits.div_ceil(8) as usize].split_at(bits as usize / 8);
+    let (mut follower, mut items, mut rest, mut random) = (Follower::new(rules, gaps)?, Vec::new(), whole, whole.len() as u32);
     while !rest.is_empty() {
         random = random.wrapping_mul(1664525).wrapping_add(1013904223);
         let (chunk, later) = rest.split_at(rest.len().min((random >> 8) as usize % 1001));
@@ -46,8 +47,12 @@ fn followed(bytes: &[u8], gaps: &[Range<u64>], rules: &Rules) -> Result<Vec<Item
         items.extend(follower.push(chunk)?);
         rest = later;
     }
-    let (group, _) = follower.finish()?;
-    items.extend(group.map(Item::Group));
+    items.extend(follower.finish_with(last, bits % 8)?.0);
+    if bits % 8 == 0 {
+        let (group, totals) = follower.finish()?;
+        assert!(group.is_none() || items.last() == group.map(Item::Group).as_ref());
+        assert!(totals == follower.finish_with(&[], 0)?.1);
+    }
     Ok(items)
 }
 
@@ -62,12 +67,12 @@ fn main() -> Result<(), Box<dyn std::error::Error>> {
         of => LossRule::Share { bad: loss as u32, of: of as u32 },
     };
     let rules = Rules { burst: burst as u32, reach: reach as u32, loss };
-    let whole = &bytes[..bits as usize / 8];
-    let near = gaps.iter().all(|gap| gap.end <= 8 * whole.len() as u64);
-    if near && !followed(whole, &gaps, &rules)?.into_iter().eq(rds::items(&Recording { gaps: gaps.clone(), ..Recording::of(whole) }, &rules)?) {
-        return Err("a stream of the same bytes has other items".into());
+    let stream = followed(&bytes, bits, &gaps, &rules)?;
+    let items: Vec<_> = rds::items(&Recording { bytes: &bytes, bits, gaps }, &rules)?.collect();
+    if stream != items {
+        return Err("a stream of the same bits has other items".into());
     }
-    for item in rds::items(&Recording { bytes: &bytes, bits, gaps }, &rules)? {
+    for item in items {
         println!("{}", row(item));
     }
     Ok(())

@@ -1,15 +1,24 @@
 //! What `rds.h` declares. `tests/library/layout.py` compares each line with it.
 
+/// The twelve totals of a report.
 #[repr(C)]
-#[derive(Clone, Copy, Debug, Default, PartialEq, Eq)]
+#[derive(Clone, Copy, Debug, Default, PartialEq, Eq, Hash)]
 pub struct RdsTotals {
+    /// Valid blocks.
     pub valid: u64,
+    /// Corrected blocks, by the span of their burst: 1 to 5 bits.
     pub bursts: [u64; 5],
+    /// Blocks that were read and are neither valid nor corrected.
     pub lost: u64,
+    /// Bits corrected.
     pub bits: u64,
+    /// Groups.
     pub groups: u64,
+    /// Groups of which all four blocks are valid or corrected.
     pub complete: u64,
+    /// Acquisitions of block synchronism.
     pub acquired: u64,
+    /// Losses of it.
     pub losses: u64,
 }
 
@@ -50,8 +59,9 @@ pub struct RdsRules {
     pub of: u32,
 }
 
+/// What a run knows between two bits.
 #[repr(C)]
-#[derive(Clone, Copy, Debug, Default, PartialEq, Eq)]
+#[derive(Clone, Copy, Debug, Default, PartialEq, Eq, Hash)]
 pub struct RdsState {
     pub due: u64,
     pub bad: u64,
@@ -59,8 +69,10 @@ pub struct RdsState {
     pub first: u32,
 }
 
+/// What is known of a stream between two chunks: numbers alone. However the same bytes were cut, by the same rules and gaps these
+/// are the same.
 #[repr(C)]
-#[derive(Clone, Copy, Debug, Default, PartialEq, Eq)]
+#[derive(Clone, Copy, Debug, Default, PartialEq, Eq, Hash)]
 pub struct RdsStream {
     pub place: u64,
     pub state: RdsState,
@@ -87,6 +99,7 @@ extern "C" {
     pub fn rds_finish_run(bytes: *const u8, bytes_len: usize, bits: u64, gaps: *const RdsGap, gaps_len: usize, rules: *const RdsRules, state: *const RdsState, room: *mut RdsItem, room_len: usize, count: *mut u64) -> u8;
     pub fn rds_push(bytes: *const u8, bytes_len: usize, gaps: *const RdsGap, gaps_len: usize, rules: *const RdsRules, stream: *mut RdsStream, room: *mut RdsItem, room_len: usize, count: *mut u64) -> u8;
     pub fn rds_finish(gaps: *const RdsGap, gaps_len: usize, rules: *const RdsRules, stream: *const RdsStream, room: *mut RdsItem, room_len: usize, count: *mut u64, totals: *mut RdsTotals) -> u8;
+    pub fn rds_finish_with(bytes: *const u8, bytes_len: usize, bits: u64, gaps: *const RdsGap, gaps_len: usize, rules: *const RdsRules, stream: *const RdsStream, room: *mut RdsItem, room_len: usize, count: *mut u64, totals: *mut RdsTotals) -> u8;
     pub fn rds_remainder(word: u32, found: *mut u16) -> u8;
     pub fn rds_correct(word: u32, offset: u8, limit: u8, found: *mut RdsBlock) -> u8;
     pub fn rds_encode(groups: *const RdsWords, groups_len: usize, room: *mut RdsPacked, room_len: usize) -> u8;

@@ -1,11 +1,21 @@
 //! The proved decoder of Radio Data System bits, through librds.
 //!
+//! Bits are handed over as bytes, the first bit of a byte highest; a place is the number of a bit, from 0.
+//!
 //! ```
-//! let bytes = [0u8; 100];
-//! let totals = rds::totals(&rds::Recording::of(&bytes), &rds::Rules::default())?;
-//! assert_eq!(totals.groups, 0);
+//! let groups = rds::encode(&[[0xD393, 0x0548, 0xE100, 0x5041]; 3])?;
+//! let recording = rds::Recording::of(&groups);
+//! for item in rds::items(&recording, &rds::Rules::default())? {
+//!     if let rds::Item::Group(group) = item {
+//!         println!("at {}: type {:?} {:?}, {:?}", group.place, group.kind, group.version, group.blocks);
+//!     }
+//! }
+//! let totals = rds::totals(&recording, &rds::Rules::default())?;
+//! assert_eq!((totals.groups, totals.acquired), (3, 1));
 //! # Ok::<(), rds::Refused>(())
 //! ```
+//!
+//! A stream is followed by a [`Follower`]. What is refused is a [`Refused`], by the number and name that the program gives it too.
 
 pub mod ffi;
 
@@ -18,16 +28,43 @@ pub use ffi::RdsTotals as Totals;
 
 const SMALL_ROOM: u8 = 64;
 
-/// A refusal, with its number and name.
+/// A refusal.
 #[derive(Clone, Debug, PartialEq, Eq)]
 pub struct Refused {
+    /// Its number, which never changes its meaning.
     pub number: u8,
+    /// Its name, as `TooLong`.
     pub name: String,
 }
 
+impl Refused {
+    /// What is the matter, in words.
+    pub fn reason(&self) -> &'static str {
+        REASONS.iter().find(|it| it.0 == self.number).map_or("", |it| it.1)
+    }
+}
+
+/// `tests/library/layout.py` compares these with what the proved code says.
+const REASONS: [(u8, &str); 14] = [
+    (1, "the burst limit is above 5"),
+    (2, "the reach is not 1 to 8"),
+    (3, "the loss is not 1 to 64"),
+    (4, "more bits than the bytes hold"),
+    (5, "more than 2^36 bits"),
+    (8, "out of memory"),
+    (15, "the share is not 1 to 64 bad blocks of as many or more, up to 64"),
+    (16, "gaps that are empty, out of order or past the bits"),
+    (64, "too little room for the items"),
+    (65, "a state that no call left"),
+    (66, "places that are no range of the recording"),
+    (67, "a word of more than 26 bits"),
+    (68, "a number that is none of an offset"),
+    (69, "a number that is none of a refusal"),
+];
+
 impl fmt::Display for Refused {
     fn fmt(&self, f: &mut fmt::Formatter<'_>) -> fmt::Result {
-        write!(f, "refused {} {}", self.number, self.name)
+        write!(f, "refused {} {}: {}", self.number, self.name, self.reason())
     }
 }
 
@@ -50,12 +87,18 @@ fn check(number: u8) -> Result<(), Refused> {
 }
 
 /// Bits with the gaps in them.
+///
+/// ```
+/// # let bytes = [0u8; 100];
+/// let part = rds::Recording { bits: 797, gaps: vec![104..130], ..rds::Recording::of(&bytes) };
+/// ```
 #[derive(Clone, Debug)]
 pub struct Recording<'a> {
+    /// The bytes, the first bit of each highest.
     pub bytes: &'a [u8],
-    /// How many of the bits belong to it.
+    /// How many of their bits belong to it, from the first on: at most 2^36.
     pub bits: u64,
-    /// Places whose bits mean nothing.
+    /// Places whose bits mean nothing, in order.
     pub gaps: Vec<Range<u64>>,
 }
 
@@ -77,19 +120,20 @@ fn gaps_of(gaps: &[Range<u64>]) -> Vec<RdsGap> {
 /// When a lock is lost.
 #[derive(Clone, Copy, Debug, PartialEq, Eq)]
 pub enum LossRule {
-    /// After so many bad blocks in a row.
+    /// After so many bad blocks in a row: 1 to 64.
     Run(u32),
-    /// Where `bad` of the last `of` blocks are bad.
+    /// Where `bad` of the last `of` blocks are bad: 1 ≤ bad ≤ of ≤ 64.
     Share { bad: u32, of: u32 },
 }
 
-/// The numbers of a decoder's rules.
+/// The numbers of a decoder's rules. The default is the program's, where no option says otherwise.
 #[derive(Clone, Copy, Debug, PartialEq, Eq)]
 pub struct Rules {
     /// The longest burst that is corrected, in bits: 0 to 5.
     pub burst: u32,
     /// How many blocks back a partner is looked for while acquiring: 1 to 8.
     pub reach: u32,
+    /// When a lock is lost.
     pub loss: LossRule,
 }
 
@@ -114,10 +158,24 @@ impl Rules {
 /// A block of a group.
 #[derive(Clone, Copy, Debug, PartialEq, Eq)]
 pub enum Block {
+    /// It was not read: the group was cut off by an acquisition, a loss or the end.
     Missing,
+    /// It was read, and is neither valid nor corrected.
     Lost,
+    /// It has the remainder of its offset; `info` is its information word.
     Valid { offset: Offset, info: u16 },
+    /// A burst was taken off, the ones of a word of 26 bits; `info` is its information word behind that.
     Corrected { offset: Offset, info: u16, burst: u32 },
+}
+
+impl Block {
+    /// The information word, where the block is valid or corrected.
+    pub fn info(&self) -> Option<u16> {
+        match *self {
+            Block::Valid { info, .. } | Block::Corrected { info, .. } => Some(info),
+            Block::Missing | Block::Lost => None,
+        }
+    }
 }
 
 /// An offset word.
@@ -134,22 +192,28 @@ pub enum Offset {
 /// An entry of a report, in order of place.
 #[derive(Clone, Copy, Debug, PartialEq, Eq)]
 pub enum Item {
+    /// Block synchronism was acquired by the block of this number, 1 to 4, whose last bit is at `place`.
     Acquired { place: u64, number: u8 },
     Group(Group),
+    /// It was lost by the block whose last bit is at `place`.
     Loss { place: u64 },
 }
 
+/// A group.
 #[derive(Clone, Copy, Debug, PartialEq, Eq)]
 pub struct Group {
+    /// Of its first bit that was read.
     pub place: u64,
     pub blocks: [Block; 4],
     /// The group type, 0 to 15, where it is known.
     pub kind: Option<u8>,
+    /// Its version, where it is known.
     pub version: Option<Version>,
     /// Whether blocks 2 and 3 name different versions.
     pub conflict: bool,
 }
 
+/// The version of a group.
 #[derive(Clone, Copy, Debug, PartialEq, Eq)]
 pub enum Version {
     A,
@@ -316,18 +380,48 @@ impl Follower {
         Ok((group, totals))
     }
 
+    /// The items that the first `bits` bits of these bytes complete, with the group in progress behind them, and the totals of all
+    /// that was heard and of these bits, if the stream ended with them: inside a byte, say. It can be gone on with.
+    pub fn finish_with(&self, bytes: &[u8], bits: u64) -> Result<(impl ExactSizeIterator<Item = Item>, Totals), Refused> {
+        let (mut count, mut totals) = (8 + bytes.len() as u64 / 4, RdsTotals::default());
+        loop {
+            let mut room = vec![RdsItem::default(); count as usize];
+            // SAFETY: as in `totals`.
+            let number = unsafe {
+                ffi::rds_finish_with(
+                    bytes.as_ptr(),
+                    bytes.len(),
+                    bits,
+                    self.gaps.as_ptr(),
+                    self.gaps.len(),
+                    &self.rules,
+                    &self.stream,
+                    room.as_mut_ptr(),
+                    room.len(),
+                    &mut count,
+                    &mut totals,
+                )
+            };
+            if number != SMALL_ROOM {
+                check(number)?;
+                room.truncate(count as usize);
+                return Ok((room.into_iter().map(|item| item_of(&item)), totals));
+            }
+        }
+    }
+
     /// How many bits were heard.
     pub fn place(&self) -> u64 {
         self.stream.place
     }
 
-    /// What is known of the stream: numbers alone, which may be stored.
+    /// What is known of the stream: numbers alone, which may be stored, compared and hashed.
     pub fn stream(&self) -> &RdsStream {
         &self.stream
     }
 }
 
-/// The remainder of a word of 26 bits.
+/// The remainder of a word of 26 bits by the generator of the block code, below 1024.
 pub fn remainder(word: u32) -> Result<u16, Refused> {
     let mut found = 0;
     // SAFETY: what is written is ours.
@@ -335,15 +429,24 @@ pub fn remainder(word: u32) -> Result<u16, Refused> {
     Ok(found)
 }
 
-/// A word of 26 bits read as the block with this offset, corrected by up to `limit` bits.
+/// A word of 26 bits read as the block with this offset; a burst of up to `limit` bits, 0 to 5, is taken off where one alone fits.
 pub fn correct(word: u32, offset: Offset, limit: u8) -> Result<Block, Refused> {
+    read_as(word, offset as u8 + 1, limit)
+}
+
+/// The same as block 3 of a group whose version is not known: its offset is C or C'.
+pub fn correct_third(word: u32, limit: u8) -> Result<Block, Refused> {
+    read_as(word, 6, limit)
+}
+
+fn read_as(word: u32, offset: u8, limit: u8) -> Result<Block, Refused> {
     let mut found = RdsBlock::default();
     // SAFETY: what is written is ours.
-    check(unsafe { ffi::rds_correct(word, offset as u8 + 1, limit, &mut found) })?;
+    check(unsafe { ffi::rds_correct(word, offset, limit, &mut found) })?;
     Ok(block_of(found))
 }
 
-/// The bits of groups as they are sent: 13 bytes a group.
+/// The bits of groups as they are sent, of the information words of their four blocks: 13 bytes a group.
 pub fn encode(groups: &[[u16; 4]]) -> Result<Vec<u8>, Refused> {
     let words: Vec<RdsWords> = groups.iter().map(|&words| RdsWords { words }).collect();
     let mut room = vec![RdsPacked { bytes: [0; 13] }; words.len()];

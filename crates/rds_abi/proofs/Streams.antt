@@ -1,11 +1,10 @@
 -- A stream as a decoder has it, and as its numbers say it.
-use Rattle.std.proofs.Common.{◌≡◌, ◌∙◌, ◌+◌, ◌*◌, ◌/◌, ◌^◌, ◌<◌, ◌≤◌, ◌++◌, ℕ, List, Option, Some, None, ap, arith, drop, inl, inr, length, min, refl, subst, sym, take}
-use Rattle.std.proofs.lemmas.Bool.{cases_lt}
+use Rattle.std.proofs.Common.{◌≡◌, ◌∙◌, ◌+◌, ◌*◌, ◌/◌, ◌^◌, ◌≤◌, ◌++◌, ℕ, List, Option, Some, None, ap, arith, length, min, refl, subst, sym, take}
 use Rattle.rds_sync.specs.Advance.{group_item}
 use Rattle.rds_sync.specs.declared.item.Group.{Group as GroupRecord}
 use Rattle.rds_sync.specs.declared.item.Item.{Item}
-use Rattle.rds_live.specs.Live.{HasHeard, LiveOf, Terms, complete, most_kept, report_of}
-use Rattle.rds_abi.specs.Following.{AreClosed, AreCompleted, place_after, stream_of}
+use Rattle.rds_live.specs.Live.{HasHeard, LiveOf, Terms, complete, most_kept, report_at, report_of}
+use Rattle.rds_abi.specs.Following.{AreClosed, AreCompleted, AreLeft, stream_of}
 use Rattle.rds_abi.specs.Going.{state_of}
 use Rattle.rds_abi.specs.Layout.{totals_in_c}
 use Rattle.rds_abi.specs.declared.following.RdsStream.{RdsStream}
@@ -52,14 +51,13 @@ module _ (terms : Terms) (s : RdsStream) (live : LiveOf) (is : live ≡ stream_o
       few None = omega arith
       few (Some g) = omega arith
 
-  -- a stream that was not refused for its length
-  pub not_too_long : (bytes : List ℕ) → (2 ^ 36 < live.place + 8 * length bytes → ⊥) → place_after s bytes ≤ 2 ^ 36
-  not_too_long bytes short = elim (cases_lt (2 ^ 36) (place_after s bytes)) [
-    | inl long ↦ absurd (short (subst (λ (n : ℕ). 2 ^ 36 < n + 8 * length bytes) (sym (ap (λ (l : LiveOf). l.place) is)) long))
-    | inr few ↦ few
-  ]
+  -- the items up to its end, and the group that this closes
+  pub left : (bytes : List ℕ) (bits : ℕ) (items : List Item)
+      → ((before : List ℕ) → HasHeard live before → complete live.terms before ++ items ≡ report_at live.terms (before ++ bytes) (8 * length before + bits))
+      → AreLeft terms s bytes bits items
+  left bytes bits items gives =
+      subst (λ (l : LiveOf). (before : List ℕ) → HasHeard l before → complete l.terms before ++ items ≡ report_at l.terms (before ++ bytes) (8 * length before + bits)) is gives
 
--- what was copied to the beginning of a room
-pub copied_over : {A : Type 0} (copied items room : List A) (n : ℕ) → copied ≡ items → n ≡ length items
-    → copied ++ drop n room ≡ items ++ drop (length items) room
-copied_over copied items room n copied_is count = rw (copied_is, count) refl
+  -- so many more bits fit
+  pub fits : (n : ℕ) → live.place + n ≤ 2 ^ 36 → s.place + n ≤ 2 ^ 36
+  fits n = subst (λ (l : LiveOf). l.place + n ≤ 2 ^ 36) is

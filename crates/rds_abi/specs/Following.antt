@@ -1,20 +1,20 @@
 -- A stream that is followed chunk by chunk, from what the caller keeps of it as plain numbers. This project's rules.
-use Rattle.std.specs.Prelude.{◌≡◌, ℕ, ◌+◌, ◌*◌, ◌/◌, ◌^◌, ◌<◌, ◌≤◌, ◌⊎◌, ◌++◌, List, length, map, min, take, ⊤}
+use Rattle.std.specs.Prelude.{◌≡◌, ℕ, ◌+◌, ◌-◌, ◌*◌, ◌/◌, ◌^◌, ◌<◌, ◌≤◌, ◌⊎◌, ◌++◌, List, length, map, min, replicate, take, ⊤}
 use Rattle.rds_stream.specs.Recording.{AreGaps}
 use Rattle.rds_sync.specs.Ranges.{IsInRange}
 use Rattle.rds_sync.specs.declared.item.Item.{Item}
 use Rattle.rds_sync.specs.declared.totals.Totals.{Totals}
-use Rattle.rds_live.specs.Live.{HasHeard, IsLive, LiveOf, Terms, complete, most_kept, report_of}
+use Rattle.rds_live.specs.Live.{HasHeard, IsLive, LiveOf, Terms, complete, most_kept, report_at, report_of}
 use Rattle.rds_abi.specs.Asked.{IsFilled, IsTooMuch, RefusesRules, gaps_of, rules_of}
-use Rattle.rds_abi.specs.Going.{state_of}
-use Rattle.rds_abi.specs.Layout.{item_in_c}
+use Rattle.rds_abi.specs.Going.{state_in_c, state_of}
+use Rattle.rds_abi.specs.Layout.{item_in_c, totals_in_c}
 use Rattle.rds_abi.specs.declared.asked.RdsGap.{RdsGap}
 use Rattle.rds_abi.specs.declared.asked.RdsRules.{RdsRules}
 use Rattle.rds_abi.specs.declared.following.RdsStream.{RdsStream}
 use Rattle.rds_abi.specs.declared.layout.RdsItem.{RdsItem}
 use Rattle.rds_abi.specs.declared.layout.RdsTotals.{RdsTotals}
 use Rattle.rds_abi.specs.declared.refusal.Refusal.{Refusal}
-use Rattle.rds_abi.specs.declared.refusal.Refusal.TheVariants.{BadGaps, OutOfMemory, TooLong, UnlawfulState}
+use Rattle.rds_abi.specs.declared.refusal.Refusal.TheVariants.{BadGaps, BitsPastBytes, OutOfMemory, TooLong, UnlawfulState}
 
 -- ---- what the numbers say
 
@@ -43,6 +43,15 @@ stream_of terms s = record {
   place = s.place;
   state = state_of terms.rules s.state;
   totals = totals_from_c s.totals;
+}
+
+-- and as such numbers: behind the tail stand zeros, so that equal streams are equal numbers
+abbrev pub stream_in_c : LiveOf → RdsStream
+stream_in_c live = record {
+  place = live.place;
+  state = state_in_c live.state;
+  totals = totals_in_c live.totals;
+  tail = live.tail ++ replicate (32 - length live.tail) 0;
 }
 
 -- ---- what is refused
@@ -74,6 +83,22 @@ RefusesPush rules gaps s bytes refusal =
     RefusesFollowed rules gaps s refusal
     ⊎ (IsFollowed rules gaps s × (2 ^ 36 < place_after s bytes) × (refusal ≡ TooLong))
 
+-- the last bits of a stream: how long it grows, and then what the bytes hold
+module _ (s : RdsStream) (bytes : List ℕ) (bits : ℕ) where
+  abbrev pub RefusesLast : Refusal → Type 0
+  RefusesLast TooLong = 2 ^ 36 < s.place + bits
+  RefusesLast BitsPastBytes = (s.place + bits ≤ 2 ^ 36) × (8 * length bytes < bits)
+  RefusesLast other = ⊥
+
+  -- nothing of them
+  abbrev pub AreLast : Type 0
+  AreLast = (s.place + bits ≤ 2 ^ 36) × (bits ≤ 8 * length bytes)
+
+-- what was told is looked at first
+abbrev pub RefusesEnd : RdsRules → List RdsGap → RdsStream → List ℕ → ℕ → Refusal → Type 0
+RefusesEnd rules gaps s bytes bits refusal =
+    RefusesFollowed rules gaps s refusal ⊎ (IsFollowed rules gaps s × RefusesLast s bytes bits refusal)
+
 -- ---- what is found
 
 -- the items that these bytes complete, whatever was heard before them
@@ -86,6 +111,12 @@ abbrev pub AreClosed : Terms → RdsStream → List Item → Type 0
 AreClosed terms s items =
     (length items ≤ 1)
     × ((bytes : List ℕ) → HasHeard (stream_of terms s) bytes → complete terms bytes ++ items ≡ report_of terms bytes)
+
+-- the items that the first bits of these bytes complete, and behind them the group in progress where the stream ends with them
+abbrev pub AreLeft : Terms → RdsStream → List ℕ → ℕ → List Item → Type 0
+AreLeft terms s bytes bits items =
+    (before : List ℕ) → HasHeard (stream_of terms s) before
+    → complete terms before ++ items ≡ report_at terms (before ++ bytes) (8 * length before + bits)
 
 -- such items stand at the beginning of the room, behind them is what was there, and the count is theirs
 abbrev pub AreWritten : (List Item → Type 0) → List RdsItem → List RdsItem → ℕ → Type 0

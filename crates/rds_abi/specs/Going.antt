@@ -26,6 +26,15 @@ bad_of (Share most of) bad = Mask bad
 abbrev pub state_of : RuleNumbers → RdsState → State
 state_of rules s = if s.number == 0 then Searching else Locked s.due s.number (bad_of rules.loss s.bad) s.first
 
+-- and as such numbers: all 0 where no block is known
+abbrev pub bad_in_c : Bad → ℕ
+bad_in_c (InARow bad) = bad
+bad_in_c (Mask bad) = bad
+
+abbrev pub state_in_c : State → RdsState
+state_in_c Searching = record { due = 0; bad = 0; number = 0; first = 0 }
+state_in_c (Locked due number bad first) = record { due = due; bad = bad_in_c bad; number = number; first = first }
+
 -- what else is refused of a run: places that are no range of the recording, and then a state that is not lawful before them
 abbrev pub RefusesPlaces : Asked → ℕ → ℕ → RdsState → Refusal → Type 0
 RefusesPlaces a from to s PlaceRange = (to < from) ⊎ (a.bits < to)

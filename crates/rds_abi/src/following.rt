@@ -1,24 +1,28 @@
 //! A stream that is followed chunk by chunk, from what the caller keeps of it.
 
-ghost use Rattle.std.specs.Prelude.{◌≡◌, ◌++◌, ◌<◌, ◌≤◌, ◌⊎◌, ◌^◌, ℕ, List, IfErr, IfOk, OnErr, OnOk, false, length, map, take, true};
+ghost use Rattle.std.specs.Prelude.{◌≡◌, ◌++◌, ◌<◌, ◌≤◌, ◌⊎◌, ◌+◌, ◌-◌, ◌*◌, ◌^◌, ℕ, List, IfErr, IfOk, OnErr, OnOk, false, length, map, replicate, take, true};
 ghost use Rattle.rds_sync.specs.Advance.{group_item};
 ghost use Rattle.rds_sync.specs.Totals.{totals_of};
-ghost use Rattle.rds_live.specs.Live.{HasHeard, IsLive, report_of};
+ghost use Rattle.rds_live.specs.Live.{HasHeard, IsLive, complete, report_at, report_of};
 ghost use Rattle.rds_abi.specs.Asked.{IsFilled};
-ghost use Rattle.rds_abi.specs.Following.{AreClosed, AreCompleted, AreTooMany, AreWritten, IsFollowed, RefusesFollowed, RefusesPush, RefusesStream, place_after, stream_of as the_stream_of, terms_of, totals_from_c};
+ghost use Rattle.rds_abi.specs.Following.{AreClosed, AreCompleted, AreLast, AreLeft, AreTooMany, AreWritten, IsFollowed, RefusesEnd, RefusesFollowed, RefusesPush, RefusesStream, place_after, stream_in_c as the_stream_in_c, stream_of as the_stream_of, terms_of, totals_from_c};
 ghost use Rattle.rds_abi.specs.Layout.{item_in_c, totals_in_c};
+ghost use Rattle.rds_abi.specs.declared.refusal.Refusal.TheVariants.{BitsPastBytes, OutOfMemory, TooLong};
 
 use crate::asked::{RdsGap, RdsRules, gaps_in, rules_of};
 use crate::going::{RdsState, state_in_c, state_of};
 use crate::layout::{RdsItem, RdsTotals, item_in_c, totals_in_c};
 use crate::refusal::Refusal;
-use rds_live::{Chunk, Live, ResumeError};
+use rds_live::{Chunk, Live, ResumeError, StreamEnd};
 use rds_stream::StreamError;
 use rds_sync::{Group, Item, Rules, Totals};
-use std::alloc::{AllocError, Global};
+use std::alloc::Global;
 
 /// How many of the last bytes of a stream are known.
 const MOST_KEPT: u64 = 30;
+
+/// The most bits that a stream may have.
+const MOST_BITS: u64 = 1 << 36;
 
 /// What is known of a stream between two chunks: 160 bytes, all 0 where nothing was heard yet.
 #[repr(C)]
@@ -30,7 +34,7 @@ pub struct RdsStream {
     pub state: RdsState,
     /// The totals of the items that are complete.
     pub totals: RdsTotals,
-    /// The last 30 bytes that were heard, or all. What stands behind them means nothing.
+    /// The last 30 bytes that were heard, or all, and zeros behind them. What is handed over there means nothing.
     pub tail: [u8; 32],
 }
 
@@ -91,7 +95,8 @@ fn live_of<'r>(
 /// The last bytes of a stream, for C.
 fn tail_in_c(tail: &[u8]) -> [u8; 32]
     requires { length tail.now ≤ 30 }
-    ensures { take (length tail.now) result ≡ tail.now }
+    ensures laid { result ≡ tail.now ++ replicate (32 - length tail.now) 0 }
+    ensures says { take (length tail.now) result ≡ tail.now }
 {
     let mut bytes = [0; 32];
     bytes[..tail.len()].copy_from_slice(tail);
@@ -100,7 +105,8 @@ fn tail_in_c(tail: &[u8]) -> [u8; 32]
 
 /// What is known of a stream, for C.
 fn stream_in_c(live: &Live<'_>) -> RdsStream
-    ensures stream { the_stream_of live.now.terms result ≡ live.now }
+    ensures laid { result ≡ the_stream_in_c live.now }
+    ensures says { the_stream_of live.now.terms result ≡ live.now }
     ensures lawful { IsLive live.now }
 {
     RdsStream {
@@ -111,26 +117,45 @@ fn stream_in_c(live: &Live<'_>) -> RdsStream
     }
 }
 
-/// The items of a chunk, for C.
-fn items_in_c(alloc: Global, chunk: &Chunk<'_>) -> Result<Vec<RdsItem>, AllocError>
-    ensures { IfOk result (λ items. items.items ≡ map item_in_c chunk.now) }
+/// Writes the items of a chunk to the beginning of the room.
+fn fill_chunk(room: &mut [RdsItem], chunk: &Chunk<'_>)
+    requires { length chunk.now ≤ length room.old }
+    ensures { IsFilled (map item_in_c chunk.now) room.old room.new }
 {
-    let mut items = Vec::new(alloc);
+    let mut at = 0;
     for item in chunk {
-        items.push(item_in_c(item))?;
+        room[at] = item_in_c(item);
+        at += 1;
     }
-    Ok(items)
+}
+
+/// Has the decoder take the next bytes, and gives the items that they complete.
+fn taken<'r>(live: &mut Live<'r>, bytes: &[u8]) -> Result<Chunk<'r>, Refusal>
+    ensures heard { IfOk result (λ _. (before : List ℕ) → HasHeard live.old before → HasHeard live.new (before ++ bytes.now)) }
+    ensures terms { IfOk result (λ _. live.new.terms ≡ live.old.terms) }
+    ensures items { IfOk result (λ items. (before : List ℕ) → HasHeard live.old before
+        → complete live.old.terms (before ++ bytes.now) ≡ complete live.old.terms before ++ items) }
+    ensures fits { IfOk result (λ _. live.old.place + 8 * length bytes.now ≤ 2 ^ 36) }
+    ensures refused { IfErr result (λ refusal.
+        ((refusal ≡ TooLong) × (2 ^ 36 < live.old.place + 8 * length bytes.now)) ⊎ (refusal ≡ OutOfMemory)) }
+{
+    match live.take(bytes) {
+        Ok(chunk) => Ok(chunk),
+        Err(StreamError::TooLong) => Err(Refusal::TooLong),
+        Err(_) => Err(Refusal::OutOfMemory),
+    }
 }
 
 /// Takes the next bytes of a stream, the highest bit of a byte first, and writes the items that they complete to the
 /// beginning of `room`, how many they are to `count`, and what is known of the stream then to `stream`. The bytes may be
 /// any number, none too, and the gaps are told by their places in the stream.
 ///
-/// However a stream was cut, the items are those of the run over all bytes, and with [`finish`] they are the report's.
+/// However a stream was cut, the items are those of the run over all bytes, and with [`finish`] they are the report's. What
+/// is known of it are the same numbers, too, so that these may be compared.
 ///
 /// Refuses rules out of their range, then gaps that no stream may have, then `UnlawfulState`, then `TooLong`, past 2^36
 /// bits in all, and then `SmallRoom`, where `count` tells how many items there are, and nothing else was written; and want
-/// of memory at any time. It takes memory for a copy of the bytes, for the tables of the rules, and for 64 bytes an item.
+/// of memory at any time. It takes memory for a copy of the bytes, for the tables of the rules, and for 16 bits an item.
 pub fn push(
     alloc: Global,
     bytes: &[u8],
@@ -142,28 +167,25 @@ pub fn push(
 ) -> Result<(), Refusal>
     ensures heard { OnOk result ((before : List ℕ) → HasHeard (the_stream_of (terms_of rules gaps.now) stream.old) before
         → HasHeard (the_stream_of (terms_of rules gaps.now) stream.new) (before ++ bytes.now)) }
+    ensures laid { OnOk result (stream.new ≡ the_stream_in_c (the_stream_of (terms_of rules gaps.now) stream.new)) }
     ensures items { OnOk result (AreWritten (AreCompleted (terms_of rules gaps.now) stream.old bytes.now) room.old room.new count.new) }
     ensures next { OnOk result (IsFollowed rules gaps.now stream.new) }
     ensures lawful { OnOk result (IsFollowed rules gaps.now stream.old × (place_after stream.old bytes.now ≤ 2 ^ 36)) }
     ensures untouched { OnErr result ((room.new ≡ room.old) × (stream.new ≡ stream.old)) }
     ensures refused { IfErr result (λ refusal.
-        (IsFollowed rules gaps.now stream.old
+        (IsFollowed rules gaps.now stream.old × (place_after stream.old bytes.now ≤ 2 ^ 36)
         × AreTooMany (AreCompleted (terms_of rules gaps.now) stream.old bytes.now) (length room.old) refusal count.new)
         ⊎ (RefusesPush rules gaps.now stream.old bytes.now refusal × (count.new ≡ count.old))) }
 {
     let rules = rules_of(alloc, rules)?;
     let gaps = gaps_in(alloc, gaps)?;
     let mut live = live_of(alloc, &rules, gaps.as_slice(), stream)?;
-    let items = match live.take(bytes) {
-        Ok(chunk) => items_in_c(alloc, &chunk)?,
-        Err(StreamError::TooLong) => return Err(Refusal::TooLong),
-        Err(_) => return Err(Refusal::OutOfMemory),
-    };
-    *count = items.len() as u64;
-    if room.len() < items.len() {
+    let chunk = taken(&mut live, bytes)?;
+    *count = chunk.len() as u64;
+    if room.len() < chunk.len() {
         return Err(Refusal::SmallRoom);
     }
-    room[..items.len()].copy_from_slice(items.as_slice());
+    fill_chunk(room, &chunk);
     *stream = stream_in_c(&live);
     Ok(())
 }
@@ -217,6 +239,94 @@ pub fn finish(
     if !fill_end(room, end.group, count) {
         return Err(Refusal::SmallRoom);
     }
+    *totals = totals_in_c(end.totals);
+    Ok(())
+}
+
+/// The items that the first `bits` bits of these bytes complete, and what the end of the stream gives with them.
+fn ended<'r>(
+    live: &Live<'r>,
+    bytes: &[u8],
+    bits: u64,
+) -> Result<(Chunk<'r>, StreamEnd), Refusal>
+    ensures items { IfOk result (λ r. (before : List ℕ) → HasHeard live.now before
+        → complete live.now.terms before ++ (r.0 ++ group_item r.1.group)
+        ≡ report_at live.now.terms (before ++ bytes.now) (8 * length before + bits)) }
+    ensures totals { IfOk result (λ r. (before : List ℕ) → HasHeard live.now before
+        → r.1.totals ≡ totals_of (report_at live.now.terms (before ++ bytes.now) (8 * length before + bits))) }
+    ensures fits { IfOk result (λ _. (live.now.place + bits ≤ 2 ^ 36) × (bits ≤ 8 * length bytes.now)) }
+    ensures refused { IfErr result (λ refusal.
+        ((refusal ≡ TooLong) × (2 ^ 36 < live.now.place + bits))
+        ⊎ ((refusal ≡ BitsPastBytes) × (live.now.place + bits ≤ 2 ^ 36) × (8 * length bytes.now < bits))
+        ⊎ (refusal ≡ OutOfMemory)) }
+{
+    if bits > MOST_BITS - live.place() {
+        return Err(Refusal::TooLong);
+    }
+    if bits.div_ceil(8) > bytes.len() as u64 {
+        return Err(Refusal::BitsPastBytes);
+    }
+    match live.finish_with(bytes, bits) {
+        Ok((chunk, end)) => Ok((chunk, end)),
+        Err(_) => Err(Refusal::OutOfMemory),
+    }
+}
+
+/// How many items a chunk and the end of its stream give.
+fn count_of(chunk: &Chunk<'_>, group: &Option<Group>) -> usize
+    ensures { result ≡ length (chunk.now ++ group_item group.now) }
+{
+    chunk.len() + usize::from(group.is_some())
+}
+
+/// Writes the items of a chunk to the beginning of the room, and the group in progress behind them, if there is one.
+fn fill_last(room: &mut [RdsItem], chunk: &Chunk<'_>, group: Option<Group>)
+    requires { length (chunk.now ++ group_item group) ≤ length room.old }
+    ensures { IsFilled (map item_in_c (chunk.now ++ group_item group)) room.old room.new }
+{
+    fill_chunk(room, chunk);
+    if let Some(group) = group {
+        room[chunk.len()] = item_in_c(Item::Group(group));
+    }
+}
+
+/// Ends a stream with the first `bits` bits of these bytes, so inside a byte too: writes the items that they complete to the
+/// beginning of `room`, and behind them the group in progress, as far as it was read; to `count` how many these are, and to
+/// `totals` those of the report of all that was heard, and of these bits. The stream is left as it is.
+///
+/// Refuses as [`push`] does, with `BitsPastBytes`, where the bytes have fewer bits, behind `TooLong`. It takes memory as
+/// that does.
+pub fn finish_with(
+    alloc: Global,
+    bytes: &[u8],
+    bits: u64,
+    gaps: &[RdsGap],
+    rules: RdsRules,
+    stream: &RdsStream,
+    room: &mut [RdsItem],
+    count: &mut u64,
+    totals: &mut RdsTotals,
+) -> Result<(), Refusal>
+    ensures items { OnOk result (AreWritten (AreLeft (terms_of rules gaps.now) stream.now bytes.now bits) room.old room.new count.new) }
+    ensures totals { OnOk result ((before : List ℕ) → HasHeard (the_stream_of (terms_of rules gaps.now) stream.now) before
+        → totals.new ≡ totals_in_c (totals_of (report_at (terms_of rules gaps.now) (before ++ bytes.now) (8 * length before + bits)))) }
+    ensures lawful { OnOk result (IsFollowed rules gaps.now stream.now × AreLast stream.now bytes.now bits) }
+    ensures untouched { OnErr result ((room.new ≡ room.old) × (totals.new ≡ totals.old)) }
+    ensures refused { IfErr result (λ refusal.
+        (IsFollowed rules gaps.now stream.now × AreLast stream.now bytes.now bits
+        × AreTooMany (AreLeft (terms_of rules gaps.now) stream.now bytes.now bits) (length room.old) refusal count.new)
+        ⊎ (RefusesEnd rules gaps.now stream.now bytes.now bits refusal × (count.new ≡ count.old))) }
+{
+    let rules = rules_of(alloc, rules)?;
+    let gaps = gaps_in(alloc, gaps)?;
+    let live = live_of(alloc, &rules, gaps.as_slice(), stream)?;
+    let (chunk, end) = ended(&live, bytes, bits)?;
+    let number = count_of(&chunk, &end.group);
+    *count = number as u64;
+    if room.len() < number {
+        return Err(Refusal::SmallRoom);
+    }
+    fill_last(room, &chunk, end.group);
     *totals = totals_in_c(end.totals);
     Ok(())
 }

@@ -9,7 +9,7 @@ ghost use Rattle.rds_sync.specs.Rules.{RuleNumbers};
 ghost use Rattle.rds_sync.specs.Step.{run as the_run};
 ghost use Rattle.rds_abi.specs.Asked.{IsFilled, IsTooMuch, asked, recording_of as the_recording_of, rules_of as the_rules_of};
 ghost use Rattle.rds_abi.specs.declared.refusal.Refusal.TheVariants.{OutOfMemory};
-ghost use Rattle.rds_abi.specs.Going.{IsRun, RefusesRun, bad_of as the_bad_of, items_at_end, items_of_run, run_asked, state_of as the_state_of};
+ghost use Rattle.rds_abi.specs.Going.{IsRun, RefusesRun, bad_in_c as the_bad_in_c, bad_of as the_bad_of, items_at_end, items_of_run, run_asked, state_in_c as the_state_in_c, state_of as the_state_of};
 ghost use Rattle.rds_abi.specs.Layout.{item_in_c};
 
 use crate::asked::{RdsGap, RdsRules, recording_of, rules_of};
@@ -94,7 +94,8 @@ pub(crate) fn state_of(rules: &Rules, s: RdsState, place: u64) -> Option<State>
 
 /// What is kept of bad blocks, for C.
 fn bad_in_c(bad: Bad) -> u64
-    ensures { (loss : Loss) → IsLawfulBad loss bad → the_bad_of loss result ≡ bad }
+    ensures value { result ≡ the_bad_in_c bad }
+    ensures says { (loss : Loss) → IsLawfulBad loss bad → the_bad_of loss result ≡ bad }
 {
     match bad {
         Bad::Run(row) => u64::from(row),
@@ -104,7 +105,8 @@ fn bad_in_c(bad: Bad) -> u64
 
 /// A state, for C.
 pub(crate) fn state_in_c(state: State) -> RdsState
-    ensures { (rules : RuleNumbers) (place : ℕ) → IsLawfulState rules place state → the_state_of rules result ≡ state }
+    ensures value { result ≡ the_state_in_c state }
+    ensures says { (rules : RuleNumbers) (place : ℕ) → IsLawfulState rules place state → the_state_of rules result ≡ state }
 {
     match state {
         State::Searching => RdsState::SEARCHING,
@@ -185,6 +187,7 @@ pub fn run(
     ensures count { OnOk result (count.new ≡ length (items_of_run (asked bytes.now bits gaps.now rules) range.0 range.1 state.old)) }
     ensures state { OnOk result (the_state_of (the_rules_of rules) state.new
         ≡ (run_asked (asked bytes.now bits gaps.now rules) range.0 range.1 state.old).0) }
+    ensures laid { OnOk result (state.new ≡ the_state_in_c (run_asked (asked bytes.now bits gaps.now rules) range.0 range.1 state.old).0) }
     ensures next { OnOk result (IsLawfulState (the_rules_of rules) range.1 (the_state_of (the_rules_of rules) state.new)) }
     ensures lawful { OnOk result (IsRun (asked bytes.now bits gaps.now rules) range.0 range.1 state.old) }
     ensures untouched { OnErr result ((room.new ≡ room.old) × (state.new ≡ state.old)) }

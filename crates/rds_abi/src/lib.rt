@@ -7,7 +7,7 @@
 //!
 //! - [`totals`] and [`items`] of a recording that is handed over whole.
 //! - [`run`] and [`finish_run`]: the same from range to range, by an [`RdsState`] that the caller keeps.
-//! - [`push`] and [`finish`]: a stream chunk by chunk, by an [`RdsStream`] that the caller keeps.
+//! - [`push`], and [`finish`] or [`finish_with`]: a stream chunk by chunk, by an [`RdsStream`] that the caller keeps.
 //! - [`remainder`], [`correct`] and [`encode`]: blocks and groups alone.
 //! - [`Refusal`]: why a call is refused, with its number and name.
 //! - [`RdsTotals`], [`RdsItem`], [`RdsBlock`], [`RdsGap`], [`RdsRules`], [`RdsWords`], [`RdsPacked`]: what crosses.
@@ -17,6 +17,7 @@
 //! - What a call gives is what `rds_sync` defines, laid out as `specs/Layout.antt` says; of a stream, what `rds_live` does.
 //! - A refused call has left everything that it was lent as it was, and says which of the reasons in `specs/Asked.antt`
 //!   holds.
+//! - Equal states, and equal streams, are equal numbers: they may be compared, stored and hashed as the bytes that they are.
 #![tactic(auto)]
 
 mod asked;
@@ -31,7 +32,7 @@ mod whole;
 
 pub use asked::{RdsGap, RdsRules};
 pub use blocks::{correct, remainder};
-pub use following::{RdsStream, finish, push};
+pub use following::{RdsStream, finish, finish_with, push};
 pub use going::{RdsState, finish_run, run};
 pub use groups::{RdsPacked, RdsWords, encode};
 pub use layout::{RdsBlock, RdsItem, RdsTotals};

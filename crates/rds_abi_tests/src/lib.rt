@@ -1,6 +1,5 @@
-//! Tests of the calls of the library for C, from outside, and their proved callers: what each claim gives a user.
+//! Tests of the calls of the library for C, from outside. Their proved callers are in `rds_uses`.
 #![tactic(auto)]
 
-pub mod callers;
 #[cfg(test)]
 mod calls;

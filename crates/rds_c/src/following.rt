@@ -1,13 +1,13 @@
 //! A stream that is followed chunk by chunk.
 
-ghost use Rattle.std.specs.Prelude.{◌≡◌, ◌≢◌, ◌++◌, ◌≤◌, ◌⊎◌, ◌^◌, ℕ, List, length};
+ghost use Rattle.std.specs.Prelude.{◌≡◌, ◌≢◌, ◌++◌, ◌≤◌, ◌⊎◌, ◌+◌, ◌*◌, ◌^◌, ℕ, List, length};
 ghost use Rattle.rds_sync.specs.Totals.{totals_of};
-ghost use Rattle.rds_live.specs.Live.{HasHeard, report_of};
+ghost use Rattle.rds_live.specs.Live.{HasHeard, report_at, report_of};
 ghost use Rattle.rds_abi.specs.Asked.{RefusedBy};
-ghost use Rattle.rds_abi.specs.Following.{AreClosed, AreCompleted, AreTooMany, AreWritten, IsFollowed, RefusesFollowed, RefusesPush, place_after, stream_of, terms_of};
+ghost use Rattle.rds_abi.specs.Following.{AreClosed, AreCompleted, AreLast, AreLeft, AreTooMany, AreWritten, IsFollowed, RefusesEnd, RefusesFollowed, RefusesPush, place_after, stream_in_c, stream_of, terms_of};
 ghost use Rattle.rds_abi.specs.Layout.{totals_in_c};
 
-use rds_abi::{RdsGap, RdsItem, RdsRules, RdsStream, RdsTotals, finish, push};
+use rds_abi::{RdsGap, RdsItem, RdsRules, RdsStream, RdsTotals, finish, finish_with, push};
 use std::alloc::Global;
 
 /// Takes the next bytes of a stream, writes the items that they complete to the beginning of `room`, how many they are to
@@ -25,11 +25,12 @@ pub extern "C" fn rds_push(
 ) -> u8
     ensures heard { result ≡ 0 → (before : List ℕ) → HasHeard (stream_of (terms_of rules.now gaps.now) stream.old) before
         → HasHeard (stream_of (terms_of rules.now gaps.now) stream.new) (before ++ bytes.now) }
+    ensures laid { result ≡ 0 → stream.new ≡ stream_in_c (stream_of (terms_of rules.now gaps.now) stream.new) }
     ensures items { result ≡ 0 → AreWritten (AreCompleted (terms_of rules.now gaps.now) stream.old bytes.now) room.old room.new count.new }
     ensures next { result ≡ 0 → IsFollowed rules.now gaps.now stream.new }
     ensures lawful { result ≡ 0 → IsFollowed rules.now gaps.now stream.old × (place_after stream.old bytes.now ≤ 2 ^ 36) }
     ensures refused { result ≢ 0 → RefusedBy (λ refusal.
-        (IsFollowed rules.now gaps.now stream.old
+        (IsFollowed rules.now gaps.now stream.old × (place_after stream.old bytes.now ≤ 2 ^ 36)
         × AreTooMany (AreCompleted (terms_of rules.now gaps.now) stream.old bytes.now) (length room.old) refusal count.new)
         ⊎ (RefusesPush rules.now gaps.now stream.old bytes.now refusal × (count.new ≡ count.old))) result }
     ensures untouched { result ≢ 0 → (room.new ≡ room.old) × (stream.new ≡ stream.old) }
@@ -64,6 +65,48 @@ pub extern "C" fn rds_finish(
     ensures untouched { result ≢ 0 → (room.new ≡ room.old) × (totals.new ≡ totals.old) }
 {
     match finish(alloc, gaps, *rules, stream, room, count, totals) {
+        Ok(()) => 0,
+        Err(refusal) => refusal.number(),
+    }
+}
+
+/// Ends a stream with the first `bits` bits of these bytes: writes the items that they complete to the beginning of `room`,
+/// and behind them the group in progress, to `count` how many these are, and to `totals` those of the report of all that
+/// was heard and of these bits, and returns 0, or the number of a refusal. After that of `SmallRoom` only `count` was
+/// written.
+#[unsafe(no_mangle)]
+pub extern "C" fn rds_finish_with(
+    alloc: Global,
+    bytes: &[u8],
+    bits: u64,
+    gaps: &[RdsGap],
+    rules: &RdsRules,
+    stream: &RdsStream,
+    room: &mut [RdsItem],
+    count: &mut u64,
+    totals: &mut RdsTotals,
+) -> u8
+    ensures items { result ≡ 0 → AreWritten (AreLeft (terms_of rules.now gaps.now) stream.now bytes.now bits) room.old room.new count.new }
+    ensures totals { result ≡ 0 → (before : List ℕ) → HasHeard (stream_of (terms_of rules.now gaps.now) stream.now) before
+        → totals.new ≡ totals_in_c (totals_of (report_at (terms_of rules.now gaps.now) (before ++ bytes.now) (8 * length before + bits))) }
+    ensures lawful { result ≡ 0 → IsFollowed rules.now gaps.now stream.now × AreLast stream.now bytes.now bits }
+    ensures refused { result ≢ 0 → RefusedBy (λ refusal.
+        (IsFollowed rules.now gaps.now stream.now × AreLast stream.now bytes.now bits
+        × AreTooMany (AreLeft (terms_of rules.now gaps.now) stream.now bytes.now bits) (length room.old) refusal count.new)
+        ⊎ (RefusesEnd rules.now gaps.now stream.now bytes.now bits refusal × (count.new ≡ count.old))) result }
+    ensures untouched { result ≢ 0 → (room.new ≡ room.old) × (totals.new ≡ totals.old) }
+{
+    match finish_with(
+        alloc,
+        bytes,
+        bits,
+        gaps,
+        *rules,
+        stream,
+        room,
+        count,
+        totals,
+    ) {
         Ok(()) => 0,
         Err(refusal) => refusal.number(),
     }

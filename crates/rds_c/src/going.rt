@@ -3,7 +3,7 @@
 ghost use Rattle.std.specs.Prelude.{◌≡◌, ◌≢◌, ◌⊎◌, length};
 ghost use Rattle.rds_sync.specs.Lawful.{IsLawful as IsLawfulState};
 ghost use Rattle.rds_abi.specs.Asked.{IsFilled, IsTooMuch, RefusedBy, asked, rules_of};
-ghost use Rattle.rds_abi.specs.Going.{IsRun, RefusesRun, items_at_end, items_of_run, run_asked, state_of};
+ghost use Rattle.rds_abi.specs.Going.{IsRun, RefusesRun, items_at_end, items_of_run, run_asked, state_in_c, state_of};
 
 use rds_abi::{RdsGap, RdsItem, RdsRules, RdsState, finish_run, run};
 use std::alloc::Global;
@@ -28,6 +28,7 @@ pub extern "C" fn rds_run(
     ensures count { result ≡ 0 → count.new ≡ length (items_of_run (asked bytes.now bits gaps.now rules.now) from to state.old) }
     ensures state { result ≡ 0 → state_of (rules_of rules.now) state.new
         ≡ (run_asked (asked bytes.now bits gaps.now rules.now) from to state.old).0 }
+    ensures laid { result ≡ 0 → state.new ≡ state_in_c (run_asked (asked bytes.now bits gaps.now rules.now) from to state.old).0 }
     ensures next { result ≡ 0 → IsLawfulState (rules_of rules.now) to (state_of (rules_of rules.now) state.new) }
     ensures lawful { result ≡ 0 → IsRun (asked bytes.now bits gaps.now rules.now) from to state.old }
     ensures refused { result ≢ 0 → RefusedBy (λ refusal.

@@ -1,6 +1,6 @@
 //! The items that a chunk completed.
 
-ghost use Rattle.std.specs.Prelude.{◌≡◌, ◌≤◌, ◌<◌, ◌-◌, ◌^◌, List};
+ghost use Rattle.std.specs.Prelude.{◌≡◌, ◌↔◌, ◌≤◌, ◌<◌, ◌-◌, ◌^◌, List, [], length, true};
 ghost use Rattle.std.specs.Iterator.{YieldsFirst, item_count};
 ghost use Rattle.rds_stream.specs.Recording.{length_of};
 ghost use Rattle.rds_sync.specs.Lawful.{IsLawful};
@@ -27,10 +27,12 @@ pub struct Chunk<'r> {
     from: u64,
     /// How many bits of the stream came before the part.
     before: u64,
+    /// How many items these are.
+    count: usize,
 }
 
 impl<'r> Model for Chunk<'r> {
-    ghost use Rattle.std.specs.Prelude.{List, ◌-◌, ◌<◌, ◌≤◌, ◌^◌};
+    ghost use Rattle.std.specs.Prelude.{List, ◌≡◌, ◌-◌, ◌<◌, ◌≤◌, ◌^◌, length};
     ghost use Rattle.rds_stream.specs.Recording.{length_of};
     ghost use Rattle.rds_sync.specs.declared.item.Item.{Item};
     ghost use Rattle.rds_sync.specs.Lawful.{IsLawful};
@@ -41,22 +43,26 @@ impl<'r> Model for Chunk<'r> {
 
     ghost view = { λ c. moved_items c.before (run c.part c.rules.now c.state c.from (length_of c.part - c.from)).1 };
 
-    ghost invariant = { λ c. IsLawful c.rules.now c.from c.state × (c.from ≤ length_of c.part) × (c.before ≤ 2 ^ 36) };
+    ghost invariant = { λ c. IsLawful c.rules.now c.from c.state × (c.from ≤ length_of c.part) × (c.before ≤ 2 ^ 36)
+        × (c.count ≡ length (run c.part c.rules.now c.state c.from (length_of c.part - c.from)).1) × (c.count ≤ 2 ^ 37) };
 }
 
 impl<'r> Chunk<'r> {
     /// The items of the run from `state` over the bits of `part` from `from` on, before which there were `before` bits
-    /// more.
+    /// more. There are `count` of them.
     pub(crate) fn new(
         rules: &'r Rules,
         part: Recording,
         state: State,
         from: u64,
         before: u64,
+        count: usize,
     ) -> Chunk<'r>
         requires lawful { IsLawful rules.now from state }
         requires within { from ≤ length_of part }
         requires limit { before ≤ 2 ^ 36 }
+        requires count { count ≡ length (run part rules.now state from (length_of part - from)).1 }
+        requires few { count ≤ 2 ^ 37 }
         ensures { result ≡ moved_items before (run part rules.now state from (length_of part - from)).1 }
     {
         Chunk {
@@ -65,7 +71,23 @@ impl<'r> Chunk<'r> {
             state,
             from,
             before,
+            count,
         }
+    }
+
+    /// How many items these are.
+    pub fn len(&self) -> usize
+        ensures value { result ≡ length self.now }
+        ensures limit { result ≤ 2 ^ 37 }
+    {
+        self.count
+    }
+
+    /// Whether there are none.
+    pub fn is_empty(&self) -> bool
+        ensures { (result ≡ true) ↔ (self.now ≡ []) }
+    {
+        self.count == 0
     }
 
     /// The items, in order of place.

@@ -299,9 +299,9 @@ impl<'r> Live<'r> {
         let gaps = gaps_of_part(alloc, self.gaps, before, from + bits)?;
         let part = part_with(&self.tail, bytes, bits, gaps)?;
         let state = moved_back(self.state, before);
-        let (end, totals) = followed(&part, self.rules, state, from, alloc)?;
+        let (end, totals, count) = followed(&part, self.rules, state, from, alloc)?;
         let group = moved_end(&part, self.rules, end, before);
-        let items = Chunk::new(self.rules, part, state, from, before);
+        let items = Chunk::new(self.rules, part, state, from, before, count);
         Ok((items, ended(self.totals.plus(totals), group)))
     }
 
@@ -328,7 +328,7 @@ impl<'r> Live<'r> {
         let gaps = gaps_of_part(alloc, self.gaps, before, from + 8 * bytes.len() as u64)?;
         let (part, tail) = part_of(&self.tail, bytes, gaps)?;
         let state = moved_back(self.state, before);
-        let (end, totals) = followed(&part, self.rules, state, from, alloc)?;
+        let (end, totals, count) = followed(&part, self.rules, state, from, alloc)?;
         let place = before + part.len();
         let kept = 8 * tail.len() as u64;
         let near = gaps_of_part(alloc, self.gaps, place - kept, kept)?;
@@ -341,7 +341,8 @@ impl<'r> Live<'r> {
             state: moved_on(end, before),
             totals: self.totals.plus(totals),
         };
-        Ok((next, Chunk::new(self.rules, part, state, from, before)))
+        let items = Chunk::new(self.rules, part, state, from, before, count);
+        Ok((next, items))
     }
 }
 
@@ -390,27 +391,29 @@ fn part_with(
     }
 }
 
-/// The state at the end of a recording, after the run from `state` over its bits from `from` on, and the totals of the
-/// items that they give.
+/// The state at the end of a recording, after the run from `state` over its bits from `from` on, the totals of the items
+/// that they give, and how many these are.
 fn followed(
     part: &Recording,
     rules: &Rules,
     state: State,
     from: u64,
     alloc: Global,
-) -> Result<(State, Totals), StreamError>
+) -> Result<(State, Totals, usize), StreamError>
     requires lawful { IsLawful rules.now from state }
     requires within { from ≤ length_of part.now }
     ensures state { IfOk result (λ r. r.0 ≡ (run part.now rules.now state from (length_of part.now - from)).0) }
     ensures totals { IfOk result (λ r. r.1 ≡ totals_of (run part.now rules.now state from (length_of part.now - from)).1) }
     ensures lawful { IfOk result (λ r. IsLawful rules.now (length_of part.now) r.0) }
     ensures small { IfOk result (λ r. IsAtMost (most_counted (length_of part.now - from)) r.1) }
+    ensures count { IfOk result (λ r. r.2 ≡ length (run part.now rules.now state from (length_of part.now - from)).1) }
+    ensures few { IfOk result (λ r. r.2 ≤ 2 ^ 37) }
     ensures only_memory { IsOkUnless result StreamError.OutOfMemory }
 {
     laws::codes_tell_totals();
     laws::runs_give_few_items();
     match run_codes(alloc, part, rules, state, from, part.len()) {
-        Ok((end, codes)) => Ok((end, codes.totals())),
+        Ok((end, codes)) => Ok((end, codes.totals(), codes.len())),
         Err(_) => Err(StreamError::OutOfMemory),
     }
 }

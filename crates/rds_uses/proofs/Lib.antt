@@ -5,3 +5,5 @@ pub mod KeptRuns
 pub mod Rests
 pub mod SoundSignal
 pub mod GapFacts
+pub mod Wholes
+pub mod NumberedStreams

@@ -14,6 +14,7 @@
 //! - [`pieces`]: cuttings, guesses, seams, joins, their joints, and what is stitched of them.
 //! - [`decoder`]: all of these together, from bytes to a report.
 //! - [`live`]: streams, chunk by chunk, and what following one writes.
+//! - [`library`]: the calls for C.
 //! - [`crew`]: the reports of crews.
 //! - [`dealer`]: numbers that are dealt to seats.
 //! - [`tool`]: what is written of the bytes that a reader holds, and each refusal by its cause.
@@ -31,6 +32,7 @@ pub mod decoder;
 pub mod devices;
 pub mod gaps;
 pub mod items;
+pub mod library;
 pub mod live;
 pub mod loss;
 pub mod pieces;

@@ -1,9 +1,9 @@
-use Rattle.std.proofs.Common.{rules, ◌≡◌, ap, arith, inl, length, map, refl, subst, sym, ◌∙◌}
+use Rattle.std.proofs.Common.{◌≡◌, ap, arith, inl, refl, subst, sym, ◌∙◌}
 use Rattle.std.proofs.lemmas.List.{length-map}
 use Rattle.rds_live.specs.Live.{IsLive, LiveOf}
-use Rattle.rds_abi.specs.Following.{stream_of, terms_of}
+use Rattle.rds_abi.specs.Following.{stream_in_c, stream_of, terms_of}
 use Rattle.rds_abi.specs.Layout.{item_in_c}
-use Rattle.rds_abi.proofs.Streams.{by_same_terms, completed, copied_over, heard, not_too_long}
+use Rattle.rds_abi.proofs.Streams.{by_same_terms, completed, fits, heard}
 use Rattle.rds_abi.proofs.following.push.Goals as goal
 
 pub returns-then-room-len-clause-refused : goal.returns-then-room-len-clause-refused
@@ -11,16 +11,17 @@ returns-then-room-len-clause-refused c =
     let terms = terms_of c.args.rules c.args.gaps.now in
     let live = c.in_ok-live.live in
     let is : live ≡ stream_of terms c.args.stream.now = rw (c.in_ok-rules.ensures.rules, c.as_slice.ensures.value, c.in_ok-gaps.ensures) at c.in_ok-live.ensures.live in
-    let many = ap (λ items. length items) c.in_ok-items-in-Ok.ensures in
+    let many = length-map c.in_ok-chunk.chunk item_in_c in
     inl (
       record { range = c.in_ok-rules.ensures.range; live = subst (λ (l : LiveOf). IsLive l) is c.in_ok-live.ensures.lawful },
+      fits terms c.args.stream.now live is _ c.in_ok-chunk.ensures.fits,
       (
-        c.in-Ok.chunk,
-        completed terms c.args.stream.now live is c.args.bytes.now c.in-Ok.chunk c.in-Ok.ensures.items,
+        c.in_ok-chunk.chunk,
+        completed terms c.args.stream.now live is c.args.bytes.now c.in_ok-chunk.chunk c.in_ok-chunk.ensures.items,
         (
           refl,
-          omega (arith, many, c.if-room-len.true, c.len.ensures, c.len-2.ensures, c.in_ok-items-in-Ok.items.ok.0),
-          omega (arith, many, c.len.ensures, c.in_ok-items-in-Ok.items.ok.0),
+          omega (arith, many, c.if-room-len.true, c.len.ensures.value, c.len-2.ensures.value),
+          omega (arith, many, c.len.ensures.value),
         ),
       ),
     )
@@ -30,23 +31,29 @@ returns-clause-heard c =
     let terms = terms_of c.args.rules c.args.gaps.now in
     let live = c.in_ok-live.live in
     let is : live ≡ stream_of terms c.args.stream.now = rw (c.in_ok-rules.ensures.rules, c.as_slice.ensures.value, c.in_ok-gaps.ensures) at c.in_ok-live.ensures.live in
-    let next = c.take.new.self in
+    let next = c.taken.new.live in
     heard terms c.args.stream.now live is next c.stream_in_c.result c.args.bytes.now
-    (by_same_terms terms c.args.stream.now live is next c.stream_in_c.result c.in-Ok.ensures.terms c.stream_in_c.ensures.stream)
-    c.in-Ok.ensures.heard
+    (by_same_terms terms c.args.stream.now live is next c.stream_in_c.result c.in_ok-chunk.ensures.terms c.stream_in_c.ensures.says)
+    c.in_ok-chunk.ensures.heard
+
+pub returns-clause-laid : goal.returns-clause-laid
+returns-clause-laid c =
+    let terms = terms_of c.args.rules c.args.gaps.now in
+    let live = c.in_ok-live.live in
+    let is : live ≡ stream_of terms c.args.stream.now = rw (c.in_ok-rules.ensures.rules, c.as_slice.ensures.value, c.in_ok-gaps.ensures) at c.in_ok-live.ensures.live in
+    let next = c.taken.new.live in
+    c.stream_in_c.ensures.laid
+    ∙ ap stream_in_c (sym (by_same_terms terms c.args.stream.now live is next c.stream_in_c.result c.in_ok-chunk.ensures.terms c.stream_in_c.ensures.says))
 
 pub returns-clause-items : goal.returns-clause-items
 returns-clause-items c =
     let terms = terms_of c.args.rules c.args.gaps.now in
     let live = c.in_ok-live.live in
-    let is : live ≡ stream_of terms c.args.stream.now = rw (c.in_ok-rules.ensures.rules, c.as_slice.ensures.value, c.in_ok-gaps.ensures) at c.in_ok-live.ensures.live in
-    let many = ap (λ items. length items) c.in_ok-items-in-Ok.ensures in (
-      c.in-Ok.chunk,
-      completed terms c.args.stream.now live is c.args.bytes.now c.in-Ok.chunk c.in-Ok.ensures.items,
-      copied_over c.copy_from_slice.new.self (map item_in_c c.in-Ok.chunk) c.args.room.now c.len-3.result
-          (c.copy_from_slice.ensures.after ∙ c.as_slice-2.ensures.value ∙ c.in_ok-items-in-Ok.ensures)
-          (omega (arith, many, c.len-3.ensures, c.in_ok-items-in-Ok.items.ok.0)),
-      omega (arith, many, c.len.ensures, c.in_ok-items-in-Ok.items.ok.0, length-map c.in-Ok.chunk item_in_c),
+    let is : live ≡ stream_of terms c.args.stream.now = rw (c.in_ok-rules.ensures.rules, c.as_slice.ensures.value, c.in_ok-gaps.ensures) at c.in_ok-live.ensures.live in (
+      c.in_ok-chunk.chunk,
+      completed terms c.args.stream.now live is c.args.bytes.now c.in_ok-chunk.chunk c.in_ok-chunk.ensures.items,
+      c.fill_chunk.ensures,
+      omega (arith, c.len.ensures.value),
     )
 
 pub returns-clause-next : goal.returns-clause-next
@@ -54,11 +61,11 @@ returns-clause-next c =
     let terms = terms_of c.args.rules c.args.gaps.now in
     let live = c.in_ok-live.live in
     let is : live ≡ stream_of terms c.args.stream.now = rw (c.in_ok-rules.ensures.rules, c.as_slice.ensures.value, c.in_ok-gaps.ensures) at c.in_ok-live.ensures.live in
-    let next = c.take.new.self in
+    let next = c.taken.new.live in
     record {
       range = c.in_ok-rules.ensures.range;
       live = subst (λ (l : LiveOf). IsLive l)
-          (sym (by_same_terms terms c.args.stream.now live is next c.stream_in_c.result c.in-Ok.ensures.terms c.stream_in_c.ensures.stream))
+          (sym (by_same_terms terms c.args.stream.now live is next c.stream_in_c.result c.in_ok-chunk.ensures.terms c.stream_in_c.ensures.says))
           c.stream_in_c.ensures.lawful;
     }
 
@@ -68,5 +75,5 @@ returns-clause-lawful c =
     let live = c.in_ok-live.live in
     let is : live ≡ stream_of terms c.args.stream.now = rw (c.in_ok-rules.ensures.rules, c.as_slice.ensures.value, c.in_ok-gaps.ensures) at c.in_ok-live.ensures.live in (
       record { range = c.in_ok-rules.ensures.range; live = subst (λ (l : LiveOf). IsLive l) is c.in_ok-live.ensures.lawful },
-      not_too_long terms c.args.stream.now live is c.args.bytes.now (λ long. let wrong = c.in-Ok.ensures.too_long.1 long in search rules),
+      fits terms c.args.stream.now live is _ c.in_ok-chunk.ensures.fits,
     )

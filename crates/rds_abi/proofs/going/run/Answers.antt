@@ -13,11 +13,11 @@ returns-clause-state c =
     let start = c.in_ok-start.ensures in
     let ended = c.in_ok-end.ensures in
     let lawful = rw start.rules at ended.lawful in
-    c.state_in_c.ensures (rules_of c.args.rules) c.args.range.1 lawful
+    c.state_in_c.ensures.says (rules_of c.args.rules) c.args.range.1 lawful
     ∙ rw (ended.state, start.recording, start.rules, start.state) refl
 
 pub returns-clause-next : goal.returns-clause-next
 returns-clause-next c =
     let start = c.in_ok-start.ensures in
     let lawful = rw start.rules at c.in_ok-end.ensures.lawful in
-    rw (c.state_in_c.ensures (rules_of c.args.rules) c.args.range.1 lawful) lawful
+    rw (c.state_in_c.ensures.says (rules_of c.args.rules) c.args.range.1 lawful) lawful

@@ -44,8 +44,8 @@ followed-requires-clause-within c =
     let long = long-part c.in_ok-part.part c.in_ok-gaps.gaps.items c.self.inside.tail.items c.args.bytes.now c.in_ok-part.ensures.part in
     omega (arith, long, c.len.ensures)
 
-pub new-requires-clause-within : goal.new-requires-clause-within
-new-requires-clause-within c =
+pub new-items-requires-clause-within : goal.new-items-requires-clause-within
+new-items-requires-clause-within c =
     let long = long-part c.in_ok-part.part c.in_ok-gaps.gaps.items c.self.inside.tail.items c.args.bytes.now c.in_ok-part.ensures.part in
     omega (arith, long, c.len.ensures)
 
@@ -117,6 +117,6 @@ returns-clause-items c before h =
     s.tail.items s.place from (s.place - from) c.moved_back-state.result c.in_ok-part.part s.state s.totals heard
     (part-is c.in_ok-part.part s.gaps.now c.in_ok-gaps.gaps.items (s.place - from) _ (s.tail.items ++ c.args.bytes.now) c.in_ok-part.ensures.part c.in_ok-gaps.ensures (omega (arith, c.len.ensures, length-append s.tail.items c.args.bytes.now)))
     (omega (arith, c.len.ensures)) refl c.moved_back-state.ensures lawful in
-    subst (λ (t : Terms). complete t (before ++ c.args.bytes.now) ≡ complete t before ++ c.new.result) (ap (λ (l : LiveOf). l.terms) c.self.view_is)
+    subst (λ (t : Terms). complete t (before ++ c.args.bytes.now) ≡ complete t before ++ c.new-items.result) (ap (λ (l : LiveOf). l.terms) c.self.view_is)
     (complete-after terms c.reach.ensures.range live.gaps c.runs_join.ensures c.runs_move.ensures before c.args.bytes.now
-    s.tail.items s.place from (s.place - from) c.moved_back-state.result c.in_ok-part.part ready c.new.result c.new.ensures)
+    s.tail.items s.place from (s.place - from) c.moved_back-state.result c.in_ok-part.part ready c.new-items.result c.new-items.ensures)

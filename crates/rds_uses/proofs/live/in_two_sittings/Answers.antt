@@ -3,7 +3,7 @@ use Rattle.rds_sync.specs.declared.item.Item.{Item}
 use Rattle.rds_sync.specs.Advance.{group_item}
 use Rattle.rds_sync.specs.Totals.{totals_of}
 use Rattle.rds_live.specs.Live.{LiveOf, HasHeard, Terms, complete, live_of, report_of}
-use Rattle.rds_live_tests.proofs.callers.in_two_sittings.Goals as goal
+use Rattle.rds_uses.proofs.live.in_two_sittings.Goals as goal
 
 -- what decoders by these terms give for two halves, and at their end
 joined : (first second : List ℕ) (r a b d : Terms) (one other last : List Item) → a ≡ r → b ≡ a → d ≡ b → complete a first ≡ complete a [] ++ one

@@ -1,9 +1,9 @@
-//! What a user gets of the library for C.
-ghost use Rattle.std.specs.Prelude.{◌≡◌, ◌≢◌, ◌++◌, ◌^◌, ◌<◌, ◌⊎◌, [], ◌∷◌, IfOk, IfSome, None, map, take, true};
+//! What a user gets of the calls for C.
+ghost use Rattle.std.specs.Prelude.{◌≡◌, ◌≢◌, ◌++◌, ◌+◌, ◌*◌, ◌^◌, ◌<◌, ◌⊎◌, [], ◌∷◌, IfOk, IfSome, None, length, map, take, true};
 ghost use Rattle.rds_code.specs.Remainder.{rem};
 ghost use Rattle.rds_sync.specs.Report.{report_items};
 ghost use Rattle.rds_sync.specs.Totals.{totals_of};
-ghost use Rattle.rds_live.specs.Live.{report_of};
+ghost use Rattle.rds_live.specs.Live.{report_at, report_of};
 ghost use Rattle.rds_abi.specs.Asked.{asked, items_asked, recording_of, rules_of};
 ghost use Rattle.rds_abi.specs.Blocks.{packed};
 ghost use Rattle.rds_abi.specs.Following.{terms_of};
@@ -11,7 +11,7 @@ ghost use Rattle.rds_abi.specs.Layout.{item_in_c, totals_in_c};
 
 use rds_abi::{
     RdsGap, RdsItem, RdsPacked, RdsRules, RdsState, RdsStream, RdsTotals, RdsWords, Refusal,
-    encode, finish, finish_run, items, push, remainder, run, totals,
+    encode, finish, finish_run, finish_with, items, push, remainder, run, totals,
 };
 use rds_sync::laws;
 use std::alloc::Global;
@@ -145,6 +145,75 @@ pub fn in_two_chunks(
         &mut totals,
     )?;
     Ok((counts, totals))
+}
+
+/// A stream that ends inside a byte: its first chunk, and the first `bits` bits of what follows. Together these give the
+/// items of the report of so many bits, and its totals.
+pub fn ended_inside_a_byte(
+    alloc: Global,
+    early: &[u8],
+    late: &[u8],
+    bits: u64,
+    gaps: &[RdsGap],
+    rules: RdsRules,
+    first: &mut [RdsItem],
+    last: &mut [RdsItem],
+) -> Result<(Counts, RdsTotals), Refusal>
+    ensures items { IfOk result (λ r. take r.0.first first.new ++ take r.0.end last.new
+        ≡ map item_in_c (report_at (terms_of rules gaps.now) (early.now ++ late.now) (8 * length early.now + bits))) }
+    ensures totals { IfOk result (λ r. r.1
+        ≡ totals_in_c (totals_of (report_at (terms_of rules gaps.now) (early.now ++ late.now) (8 * length early.now + bits)))) }
+{
+    let mut counts = Counts {
+        first: 0,
+        second: 0,
+        end: 0,
+    };
+    let mut totals = RdsTotals::NONE;
+    let mut stream = RdsStream::UNHEARD;
+    push(
+        alloc,
+        early,
+        gaps,
+        rules,
+        &mut stream,
+        first,
+        &mut counts.first,
+    )?;
+    finish_with(
+        alloc,
+        late,
+        bits,
+        gaps,
+        rules,
+        &stream,
+        last,
+        &mut counts.end,
+        &mut totals,
+    )?;
+    Ok((counts, totals))
+}
+
+/// What is kept of a stream are the same numbers, whether it came in two chunks or in one.
+pub fn kept_alike(
+    alloc: Global,
+    early: &[u8],
+    late: &[u8],
+    all: &[u8],
+    gaps: &[RdsGap],
+    rules: RdsRules,
+    room: &mut [RdsItem],
+) -> Result<(RdsStream, RdsStream), Refusal>
+    requires { all.now ≡ early.now ++ late.now }
+    ensures { IfOk result (λ kept. kept.0 ≡ kept.1) }
+{
+    let mut cut = RdsStream::UNHEARD;
+    let mut whole = RdsStream::UNHEARD;
+    let mut count = 0;
+    push(alloc, early, gaps, rules, &mut cut, room, &mut count)?;
+    push(alloc, late, gaps, rules, &mut cut, room, &mut count)?;
+    push(alloc, all, gaps, rules, &mut whole, room, &mut count)?;
+    Ok((cut, whole))
 }
 
 /// A list that fits is written, and what stands behind it is as it was.

@@ -1,7 +1,7 @@
 use Rattle.std.proofs.Common.{◌++◌, [], refl}
 use Rattle.rds_abi.specs.Following.{terms_of}
-use Rattle.rds_abi_tests.proofs.Streams.{in_chunks}
-use Rattle.rds_abi_tests.proofs.callers.in_two_chunks.Goals as goal
+use Rattle.rds_uses.proofs.NumberedStreams.{in_chunks}
+use Rattle.rds_uses.proofs.library.in_two_chunks.Goals as goal
 
 pub returns-clause-items : goal.returns-clause-items
 returns-clause-items c =
