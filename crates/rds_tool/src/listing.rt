@@ -9,7 +9,7 @@ use crate::fields::{named, push_item, push_total, push_window};
 use crate::rows::{rows_in_room, text_of_rows};
 use rds_code::Offset;
 use rds_stream::Recording;
-use rds_sync::{IndexedItems, Rules, Totals};
+use rds_sync::{IndexedItems, Item, Rules, Totals};
 use std::alloc::Global;
 
 /// How many bytes the row of a whole group has, of a recording of a day or so.
@@ -55,6 +55,20 @@ pub fn item_rows<'a>(
     let mut rows = rows_in_room(alloc, room)?;
     for item in items.range(heard.recording, heard.rules, from, to) {
         push_item(&mut rows, &item)?;
+    }
+    text_of_rows(rows)
+}
+
+/// The rows of these items.
+pub fn rows_of_items(alloc: Global, items: &[Item]) -> Result<Vec<u8>, ToolError>
+    ensures rows { IfOk result (λ text. text.items ≡ flat_map item_row items.now) }
+    ensures short { IfOk result (λ text. length text.items ≤ length items.now * 168) }
+    ensures refused { IfErr result (λ error. error ≡ ToolError.OutOfMemory) }
+{
+    let room = items.len().saturating_mul(USUAL_ROW);
+    let mut rows = rows_in_room(alloc, room)?;
+    for item in items {
+        push_item(&mut rows, item)?;
     }
     text_of_rows(rows)
 }
