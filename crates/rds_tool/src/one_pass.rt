@@ -53,10 +53,10 @@ pub fn write_in_one_pass<K: Sink>(
 }
 
 /// The same, with room for a part of the items and for their rows.
-fn write_report<K: Sink>(
+fn write_report<'a, K: Sink>(
     alloc: Global,
-    recording: &Recording,
-    rules: &Rules,
+    recording: &'a Recording,
+    rules: &'a Rules,
     items: &mut Vec<Item>,
     sheet: &mut Sheet,
     writer: &mut K,
