@@ -78,7 +78,7 @@ impl Sheet {
     }
 
     /// Takes all rows off.
-    pub(crate) fn clear(&mut self)
+    pub fn clear(&mut self)
         ensures { IsBlank (size_of self.old) self.new }
     {
         self.text.clear();

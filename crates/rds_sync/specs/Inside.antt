@@ -8,3 +8,4 @@ pub mod Due
 pub mod GroupParts
 pub mod Locks
 pub mod Spans
+pub mod Tallies

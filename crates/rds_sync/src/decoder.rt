@@ -1,6 +1,6 @@
 //! The items of a run over a recording, one after the other.
 
-ghost use Rattle.std.specs.Prelude.{◌≡◌, ◌≤◌, ◌-◌};
+ghost use Rattle.std.specs.Prelude.{◌≡◌, ◌≤◌, ◌<◌, ◌-◌, ◌++◌, ◌⊎◌, [], ◌∷◌, false, length, true, vec_capacity};
 ghost use Rattle.std.specs.Iterator.{item_count};
 ghost use Rattle.rds_stream.specs.Recording.{length_of};
 ghost use Rattle.rds_sync.specs.Decoding.{decoder_of, GivesNext};
@@ -76,6 +76,40 @@ impl<'a> Decoder<'a> {
         }
     }
 
+    /// Takes the items that come next in place of those of `part`: as many as there is room for in it, or all that are
+    /// left. It takes no memory.
+    pub fn fill(&mut self, part: &mut Vec<Item>)
+        ensures items { self.old.items ≡ part.new.items ++ self.new.items }
+        ensures full { (self.new.items ≡ []) ⊎ (length part.new.items ≡ vec_capacity part.new) }
+        ensures room { vec_capacity part.new ≡ vec_capacity part.old }
+        ensures end { self.new.end ≡ self.old.end }
+    {
+        part.clear();
+        while part.len() < part.capacity() {
+            if !self.push_next(part) {
+                return;
+            }
+        }
+    }
+
+    /// Appends the next item, and tells whether there was one.
+    fn push_next(&mut self, part: &mut Vec<Item>) -> bool
+        requires room { length part.old.items < vec_capacity part.old }
+        ensures items { part.old.items ++ self.old.items ≡ part.new.items ++ self.new.items }
+        ensures more { result ≡ true → length part.old.items < length part.new.items }
+        ensures done { result ≡ false → self.new.items ≡ [] }
+        ensures room { vec_capacity part.new ≡ vec_capacity part.old }
+        ensures end { self.new.end ≡ self.old.end }
+    {
+        match self.next() {
+            Some(item) => {
+                push_one(part, &item);
+                true
+            }
+            None => false,
+        }
+    }
+
     /// The state after the last bit of the range. Items that were not asked for are passed over.
     pub fn end_state(self) -> State
         ensures { result ≡ self.entry.end }
@@ -129,6 +163,16 @@ impl<'a> Iterator for Decoder<'a> {
 }
 
 impl<'a> FusedIterator for Decoder<'a> {}
+
+/// Appends an item, of any type: the check has no proof of a push where it sees what an item is made of.
+#[inline(always)]
+pub(crate) fn push_one<T: Copy>(part: &mut Vec<T>, item: &T)
+    requires { length part.old.items < vec_capacity part.old }
+    ensures items { part.new.items ≡ part.old.items ++ (item.now ∷ []) }
+    ensures room { vec_capacity part.new ≡ vec_capacity part.old }
+{
+    part.push_reserved(*item);
+}
 
 /// The state after the run from `state` over the bits at `from` to `to` - 1.
 fn end_of(reader: &mut Reader<'_>, rules: &Rules, state: State, from: u64, to: u64) -> State

@@ -1,10 +1,10 @@
 //! A walk over items, in order.
 
-ghost use Rattle.std.specs.Prelude.{◌≡◌, ◌≤◌, ◌+◌, ◌++◌, [], ◌∷◌, All, MatchOption, length, drop, take};
+ghost use Rattle.std.specs.Prelude.{◌≡◌, ◌≤◌, ◌<◌, ◌+◌, ◌++◌, ◌⊎◌, [], ◌∷◌, All, MatchOption, length, drop, take, false, true, vec_capacity};
 ghost use Rattle.std.specs.Iterator.{YieldsFirst, item_count};
 ghost use Rattle.rds_sync.specs.Inside.Spans.{IsSpan, items_in, items_of};
 
-use crate::decoder::Decoder;
+use crate::decoder::{Decoder, push_one};
 use crate::item::Item;
 use crate::rules::Rules;
 use crate::span::Span;
@@ -64,6 +64,38 @@ impl<'a> ItemIter<'a> {
             decoder,
             spans: rest,
             left: count,
+        }
+    }
+
+    /// Takes the items that come next in place of those of `part`: as many as there is room for in it, or all that are
+    /// left. It takes no memory.
+    pub fn fill(&mut self, part: &mut Vec<Item>)
+        ensures items { self.old ≡ part.new.items ++ self.new }
+        ensures full { (self.new ≡ []) ⊎ (length part.new.items ≡ vec_capacity part.new) }
+        ensures room { vec_capacity part.new ≡ vec_capacity part.old }
+    {
+        part.clear();
+        while part.len() < part.capacity() {
+            if !self.push_next(part) {
+                return;
+            }
+        }
+    }
+
+    /// Appends the next item, and tells whether there was one.
+    fn push_next(&mut self, part: &mut Vec<Item>) -> bool
+        requires room { length part.old.items < vec_capacity part.old }
+        ensures items { part.old.items ++ self.old ≡ part.new.items ++ self.new }
+        ensures more { result ≡ true → length part.old.items < length part.new.items }
+        ensures done { result ≡ false → self.new ≡ [] }
+        ensures room { vec_capacity part.new ≡ vec_capacity part.old }
+    {
+        match self.next() {
+            Some(item) => {
+                push_one(part, &item);
+                true
+            }
+            None => false,
         }
     }
 }

@@ -14,3 +14,4 @@ pub mod Recorded
 pub mod Spelled
 pub mod ScanRows
 pub mod Followed
+pub mod Passes

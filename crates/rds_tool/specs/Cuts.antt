@@ -28,3 +28,8 @@ has_pieces (At cuts) = true
 abbrev pub cuts_bits : Cuts → ℕ → Bool
 cuts_bits (Even pieces) n = true
 cuts_bits (At cuts) n = are_inner n cuts.items
+
+-- it can cut any number of bits
+abbrev pub cuts_any : Cuts → Bool
+cuts_any (Even pieces) = true
+cuts_any (At cuts) = false

@@ -30,8 +30,9 @@ const CHUNK: usize = 65_536;
 /// `GroupText`), `NoWorker`, where more than one worker is asked for and the system refused to start a thread, and those
 /// of the writer (`Write`). `OutOfMemory` may come wherever memory is taken. The rows of a list are made by as many
 /// threads as well, part by part while they are written, and without a thread that the system refuses: the items are
-/// decoded again where their rows are made, so that the recording is held until then. All room and all threads are taken
-/// before the first byte is written, and no thread outlives the call. Reader and writer have counted fewer than 2^63 failures before.
+/// decoded again where their rows are made, or only there by one worker, so that the recording is held until then. All
+/// room that can be refused and all threads are taken before the first byte is written, and no thread outlives the call.
+/// Reader and writer have counted fewer than 2^63 failures before.
 pub fn transcribe<R: Threads + Wait + Sync, S: Source, K: Sink>(
     rt: &R,
     alloc: Global,
@@ -68,7 +69,8 @@ pub fn transcribe<R: Threads + Wait + Sync, S: Source, K: Sink>(
     transcribe_gated(rt, alloc, reader, writer, job, &OpenGate)
 }
 
-/// [`transcribe`] with a gate, which the crew of a list or of totals calls round each piece and each join.
+/// [`transcribe`] with a gate, which the crew of a list or of totals calls round each piece and each join. A list by one
+/// worker, where no cut is asked for by its place, has no crew: its rows are written while it is decoded, in one piece.
 pub fn transcribe_gated<R: Threads + Wait + Sync, S: Source, K: Sink, G: Gate + Sync>(
     rt: &R,
     alloc: Global,

@@ -69,6 +69,7 @@ mod job;
 mod line;
 mod listing;
 mod listing_rows;
+mod one_pass;
 mod pen;
 mod plan;
 mod rows;

@@ -1,19 +1,22 @@
 //! The text of a listing, row by row.
-ghost use Rattle.std.specs.Prelude.{◌*◌, ◌-◌, ◌≡◌, ◌≤◌, All, IfErr, IfOk, drop, length, map, take};
+ghost use Rattle.std.specs.Prelude.{◌+◌, ◌++◌, ◌*◌, ◌-◌, ◌<◌, ◌≡◌, ◌≤◌, All, IfErr, IfOk, OnOk, drop, length, map, take, vec_capacity};
 ghost use Rattle.std.specs.List.{flat_map};
 ghost use Rattle.rds_tool.specs.Listing.{item_row, total_row, totals_text, window_row};
-ghost use Rattle.rds_tool.specs.Inside.RowWriter.{IsPlain, IsShort};
+ghost use Rattle.rds_tool.specs.Inside.RowWriter.{IsBetween, IsPlain, IsShort, text_of};
 
 use crate::ToolError;
 use crate::fields::{named, push_item, push_total, push_window};
-use crate::rows::{rows_in_room, text_of_rows};
+use crate::rows::{CsvRows, rows_in_room, text_of_rows};
 use rds_code::Offset;
 use rds_stream::Recording;
-use rds_sync::{IndexedItems, Rules, Totals};
+use rds_sync::{IndexedItems, Item, ItemIter, Rules, Totals};
 use std::alloc::Global;
 
 /// How many bytes the row of a whole group has, of a recording of a day or so.
 const USUAL_ROW: usize = 49;
+
+/// How many items are decoded at once where their rows are made again.
+const PART: usize = 256;
 
 /// The rows of valid windows.
 pub fn window_rows(alloc: Global, windows: &[(u64, Offset)]) -> Result<Vec<u8>, ToolError>
@@ -51,12 +54,58 @@ pub fn item_rows<'a>(
     ensures short { IfOk result (λ text. length text.items ≤ (to - from) * 168) }
     ensures refused { IfErr result (λ error. error ≡ ToolError.OutOfMemory) }
 {
-    let room = (to - from).saturating_mul(USUAL_ROW);
-    let mut rows = rows_in_room(alloc, room)?;
-    for item in items.range(heard.recording, heard.rules, from, to) {
-        push_item(&mut rows, &item)?;
-    }
+    let mut part = Vec::with_capacity(alloc, PART)?;
+    let mut rows = rows_in_room(alloc, (to - from).saturating_mul(USUAL_ROW))?;
+    let mut left = items.range(heard.recording, heard.rules, from, to);
+    push_left(&mut rows, &mut left, &mut part)?;
     text_of_rows(rows)
+}
+
+/// The rows of the items that are left, a part of them at a time.
+fn push_left(
+    rows: &mut CsvRows,
+    left: &mut ItemIter<'_>,
+    part: &mut Vec<Item>,
+) -> Result<(), ToolError>
+    requires between { IsBetween rows.old }
+    requires some { 0 < vec_capacity part.old }
+    ensures between { OnOk result (IsBetween rows.new) }
+    ensures text { OnOk result (text_of rows.new ≡ text_of rows.old ++ flat_map item_row left.old) }
+    ensures short { OnOk result (length (text_of rows.new) ≤ length (text_of rows.old) + length left.old * 168) }
+    ensures refused { IfErr result (λ error. error ≡ ToolError.OutOfMemory) }
+{
+    'parts: loop {
+        left.fill(part);
+        if part.is_empty() {
+            return Ok(());
+        }
+        push_items(rows, part.as_slice())?;
+    }
+}
+
+/// The rows of these items.
+pub fn rows_of_items(alloc: Global, items: &[Item]) -> Result<Vec<u8>, ToolError>
+    ensures rows { IfOk result (λ text. text.items ≡ flat_map item_row items.now) }
+    ensures short { IfOk result (λ text. length text.items ≤ length items.now * 168) }
+    ensures refused { IfErr result (λ error. error ≡ ToolError.OutOfMemory) }
+{
+    let mut rows = rows_in_room(alloc, items.len().saturating_mul(USUAL_ROW))?;
+    push_items(&mut rows, items)?;
+    text_of_rows(rows)
+}
+
+/// The rows of these items, behind those that stand.
+fn push_items(rows: &mut CsvRows, items: &[Item]) -> Result<(), ToolError>
+    requires between { IsBetween rows.old }
+    ensures between { OnOk result (IsBetween rows.new) }
+    ensures text { OnOk result (text_of rows.new ≡ text_of rows.old ++ flat_map item_row items.now) }
+    ensures short { OnOk result (length (text_of rows.new) ≤ length (text_of rows.old) + length items.now * 168) }
+    ensures refused { IfErr result (λ error. error ≡ ToolError.OutOfMemory) }
+{
+    for item in items {
+        push_item(rows, item)?;
+    }
+    Ok(())
 }
 
 /// The rows of all totals.

@@ -115,7 +115,7 @@ impl<'a> ListingRows<'a> {
 }
 
 /// The rows of these totals, joined without `csv`.
-fn fill_named(totals: &[(&'static str, u64)], sheet: &mut Sheet)
+pub fn fill_named(totals: &[(&'static str, u64)], sheet: &mut Sheet)
     requires plain { All (λ total. IsPlain total.0.now) totals.now }
     requires short { All (λ total. IsShort total.0.now) totals.now }
     requires room { length totals.now ≤ left_of sheet.old }

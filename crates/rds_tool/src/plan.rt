@@ -1,10 +1,10 @@
 //! By which rules, by how many workers and in which pieces a recording is decoded.
-ghost use Rattle.std.specs.Prelude.{◌<◌, ◌≡◌, ◌≢◌, ◌≤◌, ◌⊎◌, Err, IfErr, IfOk, IsErrOf, List, Ok, OnOk, false, length, true};
+ghost use Rattle.std.specs.Prelude.{◌&&◌, ◌<◌, ◌==◌, ◌≡◌, ◌≢◌, ◌≤◌, ◌⊎◌, Err, IfErr, IfOk, IsErrOf, List, Ok, OnOk, false, length, true};
 ghost use Rattle.rds_pieces.specs.Cutting.{IsCutting};
 ghost use Rattle.rds_sync.specs.Decoding.{listed};
 ghost use Rattle.rds_sync.specs.Report.{report_items};
 ghost use Rattle.rds_sync.specs.Totals.{totals_of};
-ghost use Rattle.rds_tool.specs.Cuts.{are_inner, cuts_bits, has_pieces, places_at};
+ghost use Rattle.rds_tool.specs.Cuts.{are_inner, cuts_any, cuts_bits, has_pieces, places_at};
 ghost use Rattle.rds_tool.specs.Plans.{crew_of, cut_by};
 ghost use Rattle.rds_tool.specs.Rules.{rules_of as the_rules_of};
 
@@ -114,6 +114,16 @@ impl<'a> Plan<'a> {
         ensures few { result ≤ 256 }
     {
         self.workers
+    }
+
+    /// Whether one worker goes over the whole recording by itself: it may be cut anyhow, and no cut is asked for by its place.
+    pub fn is_for_one(&self) -> bool
+        ensures { result ≡ (self.now.workers == 1 && cuts_any self.now.cuts) }
+    {
+        match self.cuts {
+            Cuts::Even(_) => self.workers == 1,
+            Cuts::At(_) => false,
+        }
     }
 
     /// The report of the recording, made by the crew piece by piece.

@@ -70,6 +70,10 @@ impl<'a> Task<'a> {
                 let recording = recording_of(alloc, input, held)?;
                 Ok(Text::Windows(recording, workers))
             }
+            Task::List(input, plan) if plan.is_for_one() => {
+                let recording = recording_of(alloc, input, held)?;
+                Ok(Text::OnePass(recording, plan))
+            }
             Task::List(input, plan) => {
                 let listing = listing_of(rt, alloc, input, plan, held, gate)?;
                 Ok(Text::Listing(listing))

@@ -8,6 +8,7 @@ ghost use Rattle.rds_tool.specs.Outcome.{WritesPrefix};
 use crate::ToolError;
 use crate::listing::Heard;
 use crate::listing_rows::ListingRows;
+use crate::one_pass::write_in_one_pass;
 use crate::plan::{Plan, Workers};
 use crate::window_rows::WindowRows;
 use rds_rows::{Failed, RowsError, Sink, write_all, write_rows_in_parts};
@@ -30,6 +31,8 @@ const ALL_PLACES: usize = 524_288;
 pub enum Text<'a> {
     Whole(Vec<u8>),
     Listing(Listing<'a>),
+    /// A recording whose report is written while it is decoded.
+    OnePass(Recording, Plan<'a>),
     /// A recording that is scanned, and by how many workers.
     Windows(Recording, Workers),
 }
@@ -88,6 +91,9 @@ impl Text<'_> {
                 Err(Failed) => Err(RowsError::Write),
             },
             Text::Listing(listing) => listing.write_to(rt, alloc, writer),
+            Text::OnePass(recording, plan) => {
+                write_in_one_pass(alloc, recording, plan.rules(), writer)
+            }
             Text::Windows(recording, workers) => {
                 write_windows(rt, alloc, recording, workers.count(), writer)
             }

@@ -1,0 +1,236 @@
+//! A report that is written while it is decoded, by one worker.
+ghost use Rattle.std.specs.Prelude.{◌+◌, ◌++◌, ◌*◌, ◌<◌, ◌^◌, ◌≡◌, ◌≤◌, ◌↔◌, ◌⊎◌, [], IfOk, IsErrOf, OnErr, OnOk, length, vec_capacity};
+ghost use Rattle.std.specs.Io.KnownBytes.{Appends};
+ghost use Rattle.std.specs.List.{flat_map};
+ghost use Rattle.rds_rows.specs.Sheets.{left_of, size_of, text_of};
+ghost use Rattle.rds_rows.specs.Writes.{AppendsPrefix};
+ghost use Rattle.rds_sync.specs.Advance.{group_item};
+ghost use Rattle.rds_sync.specs.Counting.{IsAtMost};
+ghost use Rattle.rds_sync.specs.Totals.{totals_of};
+ghost use Rattle.rds_tool.specs.Listing.{item_row, totals_text};
+ghost use Rattle.rds_tool.specs.Outcome.{list_text};
+
+use crate::fields::{named, push_item};
+use crate::line::{LONGEST_ROW, Line};
+use crate::listing::{named_rows, rows_of_items};
+use crate::listing_rows::fill_named;
+use rds_rows::{Failed, RowsError, Sheet, Sink, write_all};
+use rds_stream::{Counted, Recording};
+use rds_sync::{Decoder, Group, Item, Rules, State, Totals, finish, laws};
+use std::alloc::Global;
+
+/// How many items a part has at most, whose rows are made and written together: so that most writes have 64 KiB or more.
+const PART: usize = 2048;
+
+/// How many totals there are.
+const TOTALS: usize = 12;
+
+/// Decodes a recording and writes the rows of its report, part by part. Memory that can be refused is taken before the
+/// first byte: room for a part of the items and for the longest rows that these may have.
+pub fn write_in_one_pass<K: Sink>(
+    alloc: Global,
+    recording: &Recording,
+    rules: &Rules,
+    writer: &mut K,
+) -> Result<(), RowsError>
+    requires { K.failed writer.old < 2 ^ 63 }
+    ensures ok { OnOk result (Appends (K.contents writer.old) (K.contents writer.new)
+        (list_text rules.now recording.now)) }
+    ensures count { OnOk result (K.failed writer.new ≡ K.failed writer.old) }
+    ensures write { IsErrOf result RowsError.Write ↔ (K.failed writer.old < K.failed writer.new) }
+    ensures untouched { IsErrOf result RowsError.OutOfMemory → writer.new ≡ writer.old }
+    ensures prefix { IsErrOf result RowsError.Write → AppendsPrefix (K.contents writer.old) (K.contents writer.new)
+        (list_text rules.now recording.now) }
+{
+    // A bit has few items, and the rows of the totals need room too.
+    let room = (recording.len() as usize).min(PART).max(TOTALS);
+    let mut items = Vec::with_capacity(alloc, room)?;
+    let mut sheet = Sheet::new(alloc, room, LONGEST_ROW)?;
+    match write_report(alloc, recording, rules, &mut items, &mut sheet, writer) {
+        Ok(()) => Ok(()),
+        Err(Failed) => Err(RowsError::Write),
+    }
+}
+
+/// The same, with room for a part of the items and for their rows.
+fn write_report<'a, K: Sink>(
+    alloc: Global,
+    recording: &'a Recording,
+    rules: &'a Rules,
+    items: &mut Vec<Item>,
+    sheet: &mut Sheet,
+    writer: &mut K,
+) -> Result<(), Failed>
+    requires some { 0 < vec_capacity items.old }
+    requires room { vec_capacity items.old ≤ (size_of sheet.old).0 }
+    requires totals { 12 ≤ (size_of sheet.old).0 }
+    requires longest { (size_of sheet.old).1 ≡ 168 }
+    requires count { K.failed writer.old < 2 ^ 63 }
+    ensures ok { OnOk result (Appends (K.contents writer.old) (K.contents writer.new)
+        (list_text rules.now recording.now)) }
+    ensures count { OnOk result (K.failed writer.new ≡ K.failed writer.old) }
+    ensures failed { OnErr result (K.failed writer.old < K.failed writer.new) }
+    ensures prefix { OnErr result (AppendsPrefix (K.contents writer.old) (K.contents writer.new)
+        (list_text rules.now recording.now)) }
+{
+    prove!(1 <= rules.reach());
+    prove!(recording.len() <= 68_719_476_736);
+    laws::runs_are_reports();
+    laws::runs_are_lawful();
+    laws::runs_give_few_items();
+    laws::totals_join();
+    let mut decoder = Decoder::new(recording, rules, State::Searching, 0, recording.len());
+    let totals = write_items(alloc, &mut decoder, items, sheet, writer)?;
+    let group = finish(&mut Counted::new(recording), rules, decoder.end_state());
+    let totals = totals.plus(Totals::of_end(group));
+    write_end(alloc, group, &totals, sheet, writer)
+}
+
+/// Writes the rows of the items that are left. Answers their totals.
+fn write_items<K: Sink>(
+    alloc: Global,
+    decoder: &mut Decoder<'_>,
+    items: &mut Vec<Item>,
+    sheet: &mut Sheet,
+    writer: &mut K,
+) -> Result<Totals, Failed>
+    requires few { length decoder.old.items ≤ 2 ^ 37 }
+    requires some { 0 < vec_capacity items.old }
+    requires room { vec_capacity items.old ≤ (size_of sheet.old).0 }
+    requires longest { (size_of sheet.old).1 ≡ 168 }
+    requires count { K.failed writer.old < 2 ^ 63 }
+    ensures ok { OnOk result (Appends (K.contents writer.old) (K.contents writer.new) (flat_map item_row decoder.old.items)) }
+    ensures totals { IfOk result (λ totals. totals ≡ totals_of decoder.old.items) }
+    ensures small { IfOk result (IsAtMost (2 ^ 47)) }
+    ensures end { OnOk result (decoder.new.end ≡ decoder.old.end) }
+    ensures size { OnOk result (size_of sheet.new ≡ size_of sheet.old) }
+    ensures count { OnOk result (K.failed writer.new ≡ K.failed writer.old) }
+    ensures failed { OnErr result (K.failed writer.old < K.failed writer.new) }
+    ensures prefix { OnErr result (AppendsPrefix (K.contents writer.old) (K.contents writer.new)
+        (flat_map item_row decoder.old.items)) }
+{
+    laws::totals_join();
+    let mut totals = Totals::NONE;
+    'parts: loop {
+        decoder.fill(items);
+        if items.is_empty() {
+            return Ok(totals);
+        }
+        totals = totals.plus(Totals::of_items(items.as_slice()));
+        write_part(alloc, items.as_slice(), sheet, writer)?;
+    }
+}
+
+/// Writes the rows of these items.
+fn write_part<K: Sink>(
+    alloc: Global,
+    items: &[Item],
+    sheet: &mut Sheet,
+    writer: &mut K,
+) -> Result<(), Failed>
+    requires room { length items.now ≤ (size_of sheet.old).0 }
+    requires longest { (size_of sheet.old).1 ≡ 168 }
+    requires count { K.failed writer.old < 2 ^ 63 }
+    ensures ok { OnOk result (Appends (K.contents writer.old) (K.contents writer.new) (flat_map item_row items.now)) }
+    ensures size { size_of sheet.new ≡ size_of sheet.old }
+    ensures count { OnOk result (K.failed writer.new ≡ K.failed writer.old) }
+    ensures failed { OnErr result (K.failed writer.old < K.failed writer.new) }
+    ensures prefix { OnErr result (AppendsPrefix (K.contents writer.old) (K.contents writer.new) (flat_map item_row items.now)) }
+{
+    match rows_of_items(alloc, items) {
+        Ok(text) => write_all(writer, text.as_slice()),
+        Err(_) => {
+            sheet.clear();
+            fill_joined(items, sheet);
+            write_all(writer, sheet.as_slice())
+        }
+    }
+}
+
+/// Writes the last rows: of the group in progress, if there is one, and of the totals.
+fn write_end<K: Sink>(
+    alloc: Global,
+    group: Option<Group>,
+    totals: &Totals,
+    sheet: &mut Sheet,
+    writer: &mut K,
+) -> Result<(), Failed>
+    requires room { 12 ≤ (size_of sheet.old).0 }
+    requires longest { (size_of sheet.old).1 ≡ 168 }
+    requires count { K.failed writer.old < 2 ^ 63 }
+    ensures ok { OnOk result (Appends (K.contents writer.old) (K.contents writer.new)
+        (flat_map item_row (group_item group) ++ totals_text totals.now)) }
+    ensures count { OnOk result (K.failed writer.new ≡ K.failed writer.old) }
+    ensures failed { OnErr result (K.failed writer.old < K.failed writer.new) }
+    ensures prefix { OnErr result (AppendsPrefix (K.contents writer.old) (K.contents writer.new)
+        (flat_map item_row (group_item group) ++ totals_text totals.now)) }
+{
+    write_group(alloc, group, sheet, writer)?;
+    write_totals(alloc, totals, sheet, writer)
+}
+
+/// Writes the row of a group, if there is one.
+fn write_group<K: Sink>(
+    alloc: Global,
+    group: Option<Group>,
+    sheet: &mut Sheet,
+    writer: &mut K,
+) -> Result<(), Failed>
+    requires room { 1 ≤ (size_of sheet.old).0 }
+    requires longest { (size_of sheet.old).1 ≡ 168 }
+    requires count { K.failed writer.old < 2 ^ 63 }
+    ensures ok { OnOk result (Appends (K.contents writer.old) (K.contents writer.new) (flat_map item_row (group_item group))) }
+    ensures size { size_of sheet.new ≡ size_of sheet.old }
+    ensures count { OnOk result (K.failed writer.new ≡ K.failed writer.old) }
+    ensures failed { OnErr result (K.failed writer.old < K.failed writer.new) }
+    ensures prefix { OnErr result (AppendsPrefix (K.contents writer.old) (K.contents writer.new)
+        (flat_map item_row (group_item group))) }
+{
+    match group {
+        Some(group) => write_part(alloc, &[Item::Group(group)], sheet, writer),
+        None => Ok(()),
+    }
+}
+
+/// Writes the rows of these totals.
+fn write_totals<K: Sink>(
+    alloc: Global,
+    totals: &Totals,
+    sheet: &mut Sheet,
+    writer: &mut K,
+) -> Result<(), Failed>
+    requires room { 12 ≤ (size_of sheet.old).0 }
+    requires longest { (size_of sheet.old).1 ≡ 168 }
+    requires count { K.failed writer.old < 2 ^ 63 }
+    ensures ok { OnOk result (Appends (K.contents writer.old) (K.contents writer.new) (totals_text totals.now)) }
+    ensures count { OnOk result (K.failed writer.new ≡ K.failed writer.old) }
+    ensures failed { OnErr result (K.failed writer.old < K.failed writer.new) }
+    ensures prefix { OnErr result (AppendsPrefix (K.contents writer.old) (K.contents writer.new) (totals_text totals.now)) }
+{
+    let all = named(totals);
+    match named_rows(alloc, &all) {
+        Ok(text) => write_all(writer, text.as_slice()),
+        Err(_) => {
+            sheet.clear();
+            fill_named(&all, sheet);
+            write_all(writer, sheet.as_slice())
+        }
+    }
+}
+
+/// The rows of these items, joined without `csv`, which answers an error where memory is refused for them.
+fn fill_joined(items: &[Item], sheet: &mut Sheet)
+    requires room { length items.now ≤ left_of sheet.old }
+    requires longest { (size_of sheet.old).1 ≡ 168 }
+    ensures rows { text_of sheet.new ≡ text_of sheet.old ++ flat_map item_row items.now }
+    ensures left { left_of sheet.new + length items.now ≡ left_of sheet.old }
+    ensures size { size_of sheet.new ≡ size_of sheet.old }
+{
+    for item in items {
+        let mut line = Line::blank();
+        let Ok(()) = push_item(&mut line, item) else {
+            unreachable!()
+        };
+        sheet.push(line.as_bytes());
+    }
+}
