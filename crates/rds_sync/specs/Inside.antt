@@ -7,4 +7,5 @@ pub mod CodeTotals
 pub mod Due
 pub mod GroupParts
 pub mod Locks
+pub mod ShortLocks
 pub mod Spans
