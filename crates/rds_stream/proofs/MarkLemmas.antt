@@ -1,10 +1,11 @@
 -- Words of marks: places with an offset and without one.
-use Rattle.std.proofs.Common.{◌≡◌, ℕ, ◌+◌, ◌-◌, ◌*◌, ◌%◌, ◌^◌, ◌<◌, ◌≤◌, refl, sym, ap, ◌∙◌, subst, arith, Option, Some, None, IsSome, inl, inr, bit_or, w64, true≢false}
+use Rattle.std.proofs.Common.{◌≡◌, ℕ, ◌+◌, ◌-◌, ◌*◌, ◌/◌, ◌%◌, ◌^◌, ◌<◌, ◌≤◌, refl, sym, ap, ◌∙◌, subst, arith, Option, Some, None, IsSome, inl, inr, bit_or, w64, true≢false}
 use Rattle.std.specs.Int.{bit_at}
 use Rattle.std.proofs.lemmas.Bool.{cases_lt}
 use Rattle.std.proofs.lemmas.Nat.Bits.{bit_at-zero, bit_at_set_same, bit_at_set_other}
 use Rattle.rds_code.specs.declared.offset.Offset.{Offset}
 use Rattle.rds_stream.specs.Recording.{Signal, off}
+use Rattle.rds_stream.proofs.BitOrder.{shr_bit}
 use Rattle.rds_stream.proofs.WindowLists.{off_early}
 use Rattle.rds_stream.specs.ValidWindows.{NoneValid}
 use Rattle.rds_stream.specs.Inside.Marks.{AreMarks}
@@ -94,4 +95,18 @@ is_marked b from p word marks few some =
             (λ h. subst (λ (i : ℕ). IsSome (off b i)) (sym same) some, λ x. ap (bit_at (bit_or word (1 * 2 ^ at % 2 ^ 64))) here ∙ bit_at_set_same w64 word at within)
       ];
       past = λ k l. bit_at_set_other w64 word at within k (λ e. absurd (omega arith)) ∙ marks.past k (omega arith);
+    }
+
+-- the marks of the places from one of them on
+pub later_marks : (b : Signal) (next ahead word place : ℕ) → AreMarks b next ahead word → next ≤ place → place ≤ ahead → AreMarks b place ahead (word / 2 ^ (place - next))
+later_marks b next ahead word place marks low high =
+    let by : ℕ = place - next in
+    record {
+      order = high;
+      width = omega (arith, marks.width);
+      marked = λ k l.
+          let same : next + (by + k) ≡ place + k = omega arith in
+          let is = marks.marked (by + k) (omega arith) in
+          (λ h. subst (λ (i : ℕ). IsSome (off b i)) same (is.0 (sym (shr_bit word by k) ∙ h)), λ x. shr_bit word by k ∙ is.1 (subst (λ (i : ℕ). IsSome (off b i)) (sym same) x));
+      past = λ k l. shr_bit word by k ∙ marks.past (by + k) (omega arith);
     }

@@ -2,11 +2,11 @@
 //!
 //! A mark is a one just where all ten planes agree with one of the five offset words, so marks are exact both ways:
 //! each valid window is marked, and no other is looked at.
-ghost use Rattle.std.specs.Prelude.{◌≡◌, ◌≢◌, ℕ, ◌+◌, ◌<◌, ◌≤◌, ◌^◌, ◌↔◌, false, slice_index, IsSome};
+ghost use Rattle.std.specs.Prelude.{◌≡◌, ◌≢◌, ℕ, max, ◌+◌, ◌<◌, ◌≤◌, ◌^◌, ◌↔◌, false, slice_index, IsSome};
 ghost use Rattle.std.specs.Int.{bit_at};
 ghost use Rattle.rds_code.specs.Offsets.{offset_of as the_offset_of};
 ghost use Rattle.rds_stream.specs.Inside.Lanes.{HoldInLane};
-ghost use Rattle.rds_stream.specs.Recording.{length_of, off};
+ghost use Rattle.rds_stream.specs.Recording.{Signal, length_of, off};
 ghost use Rattle.rds_stream.specs.Inside.Sections.{IsSection};
 ghost use Rattle.rds_stream.specs.ValidWindows.{NoneValid};
 ghost use Rattle.rds_stream.specs.Inside.Marks.{AreMarks};
@@ -73,6 +73,29 @@ impl Marks {
             }
         } else {
             Marks::of(recording, self.ahead, limit)
+        }
+    }
+
+    /// The marks of the places from `place` on: of none, where it is behind all of these.
+    #[inline(always)]
+    pub(crate) fn from_on(self, place: u64) -> Marks
+        requires order { self.next ≤ place }
+        requires width { self.ahead ≤ self.next + 64 }
+        ensures marks { (b : Signal) → AreMarks b self.next self.ahead self.word → AreMarks b result.next result.ahead result.word }
+        ensures from { result.next ≡ place }
+        ensures ahead { result.ahead ≡ max self.ahead place }
+    {
+        if place < self.ahead {
+            return Marks {
+                next: place,
+                ahead: self.ahead,
+                word: self.word >> (place - self.next),
+            };
+        }
+        Marks {
+            next: place,
+            ahead: place,
+            word: 0,
         }
     }
 

@@ -58,6 +58,16 @@ impl ValidWindows<'_> {
             end: to,
         }
     }
+
+    /// Leaves out the windows that end before `place`, which is at most the end of the range.
+    #[inline(always)]
+    pub fn pass(&mut self, place: u64)
+        requires forward { self.old.next ≤ place }
+        requires end { place ≤ self.old.end }
+        ensures { self.new ≡ record { signal = self.old.signal; next = place; end = self.old.end } }
+    {
+        self.marks = self.marks.from_on(place);
+    }
 }
 
 impl<'a> Iterator for ValidWindows<'a> {

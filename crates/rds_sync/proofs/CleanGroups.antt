@@ -9,7 +9,7 @@ use Rattle.rds_sync.specs.Marks.{good_at}
 use Rattle.rds_sync.specs.Rules.{RuleNumbers}
 use Rattle.rds_sync.proofs.GroupOutcomes.{outcomes, good-at}
 
-good-only : (o : Outcome) → is_good o ≡ true → o ≡ good
+pub good-only : (o : Outcome) → is_good o ≡ true → o ≡ good
 good-only unread h = cc
 good-only good h = refl
 good-only unclear h = cc

@@ -87,7 +87,7 @@ module _ (b : Signal) (rules : RuleNumbers) (f x p : ℕ) where
       ∙ last_by f x one order four
 
   -- a block that was read is valid where its place has its number
-  good_block : (wanted : Wanted) (y : ℕ) → f ≤ y → y ≤ x → HaveRoom f x p → is_good (outcome_of (block_at b rules f x p wanted y)) ≡ has_number b (p - 26 * (x - y)) y
+  pub good_block : (wanted : Wanted) (y : ℕ) → f ≤ y → y ≤ x → HaveRoom f x p → is_good (outcome_of (block_at b rules f x p wanted y)) ≡ has_number b (p - 26 * (x - y)) y
   good_block wanted y low high room =
       let place : ℕ = p - 26 * (x - y) in
       let late : 25 ≤ place = omega (arith, room) in

@@ -7,5 +7,6 @@ pub mod CodeTotals
 pub mod Due
 pub mod GroupParts
 pub mod Locks
+pub mod ShortLocks
 pub mod Spans
 pub mod Tallies

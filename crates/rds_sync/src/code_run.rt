@@ -22,6 +22,7 @@ use crate::error::SyncError;
 use crate::item::Block;
 use crate::lock::{blocks_before, read_due};
 use crate::rules::Rules;
+use crate::short_lock::word_if_lost;
 use crate::state::State;
 use crate::whole_groups::pass_whole_groups;
 use crate::words::ENDED;
@@ -128,7 +129,10 @@ fn code_stretch(
     }
 }
 
-/// Searches up to and including the first place that acquires, or up to `to`.
+/// How many places a lock takes that its second block loses, from that of its first on.
+const PASSED: u64 = BLOCK_PLACES + 1;
+
+/// Searches up to and including the first place that acquires, or up to `to`; on over locks that their second block loses.
 fn search_codes(
     reader: &mut Reader<'_>,
     rules: &Rules,
@@ -145,12 +149,18 @@ fn search_codes(
 {
     let rec = reader.recording();
     prove!(to <= rec.len());
-    for (here, offset) in ValidWindows::new(rec, place, to) {
+    let mut windows = ValidWindows::new(rec, place, to);
+    while let Some((here, offset)) = windows.next() {
         let number = offset.number();
         if has_partner_in(rec, rules, here, number) {
             push_found(codes, here, number)?;
-            let lock = Lock::after_block(here, number, rules.loss().none_bad(), number);
-            return Ok((here + 1, lock.state()));
+            let Some(word) = word_if_lost(reader, rules, here, number, to) else {
+                let lock = Lock::after_block(here, number, rules.loss().none_bad(), number);
+                return Ok((here + 1, lock.state()));
+            };
+            codes.push_word(word)?;
+            codes.push_word(ENDED)?;
+            windows.pass(here + PASSED);
         }
     }
     Ok((to, State::Searching))

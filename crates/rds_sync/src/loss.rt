@@ -1,6 +1,6 @@
 //! The rule of loss: what a lock keeps of its bad blocks, and when they lose it.
 
-ghost use Rattle.std.specs.Prelude.{◌≡◌, ◌≤◌, ◌<◌, ◌↔◌, ◌+◌, ◌*◌, ◌%◌, ◌^◌, ◌⊎◌, IsTrue, IsErrOf, IfOk, IfErr, if◌then◌else◌};
+ghost use Rattle.std.specs.Prelude.{◌≡◌, true, false, ◌≤◌, ◌<◌, ◌↔◌, ◌+◌, ◌*◌, ◌%◌, ◌^◌, ◌⊎◌, IsTrue, IsErrOf, IfOk, IfErr, if◌then◌else◌};
 ghost use Rattle.rds_sync.specs.Loss.{none_bad, bad_after, are_too_many, IsLawfulBad};
 ghost use Rattle.rds_sync.specs.Ranges.{IsLossInRange, IsRunOutside, IsShareOutside};
 
@@ -41,6 +41,17 @@ impl Loss {
                 SyncError::ShareRange,
             ),
             _ => Ok(()),
+        }
+    }
+
+    /// Whether one bad block is known to lose a lock.
+    pub(crate) fn loses_by_one(self) -> bool
+        requires { IsLossInRange self }
+        ensures { result ≡ true → are_too_many self (bad_after self false (none_bad self)) ≡ true }
+    {
+        match self {
+            Loss::Run(loss) => loss == 1,
+            Loss::Share { bad, .. } => bad == 1,
         }
     }
 

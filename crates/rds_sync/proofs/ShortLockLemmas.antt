@@ -1,0 +1,102 @@
+-- The group of a lock that its second block loses, and the run over it.
+use Rattle.std.proofs.Common.{◌≡◌, ◌≢◌, ℕ, zero, suc, ◌+◌, ◌-◌, ◌*◌, ◌%◌, ◌<◌, ◌≤◌, ◌⊎◌, List, [], ◌∷◌, true, false, map, refl, sym, ap, ◌∙◌, arith, inl, inr}
+use Rattle.rds_code.specs.Kinds.{kind_of}
+use Rattle.rds_code.specs.declared.reading.Wanted.{Wanted}
+use Rattle.rds_code.specs.declared.reading.Wanted.TheVariants.{Either}
+use Rattle.rds_code.specs.declared.reading.Reading.{Reading}
+use Rattle.rds_code.specs.declared.reading.Reading.TheVariants.{Valid, Corrected, Lost}
+use Rattle.rds_stream.specs.Recording.{Signal, heard, reading_at}
+use Rattle.rds_sync.specs.declared.item.Block.{Block}
+use Rattle.rds_sync.specs.declared.item.Block.TheVariants.{Read}
+use Rattle.rds_sync.specs.Acquiring.{has_number}
+use Rattle.rds_sync.specs.Codes.{Outcome, outcome_of}
+use Rattle.rds_sync.specs.Groups.{block_at, blocks_at, wanted_beside}
+use Rattle.rds_sync.specs.Inside.ShortLocks.{wanted_behind, first_behind, word_of_two}
+use Rattle.rds_sync.specs.Lawful.{HaveRoom}
+use Rattle.rds_sync.specs.Rules.{RuleNumbers}
+use Rattle.rds_sync.specs.Totals.{is_valid}
+use Rattle.rds_sync.specs.Words.{nibble, word_of_blocks}
+use Rattle.rds_sync.proofs.CleanGroups.{good-only}
+use Rattle.rds_sync.proofs.GroupBlocks.{block_at-read, block_at-missing}
+use Rattle.rds_sync.proofs.GroupOutcomes.{good_block}
+use Rattle.rds_sync.proofs.HeardBlocks.{kind-nibble}
+use Rattle.rds_sync.proofs.HeardLemmas.{good-reading}
+
+-- a block of another kind than a valid one's is bad
+bad-kind : (r : Reading) → kind_of r ≢ 1 → is_valid (Read r) ≡ false
+bad-kind (Valid o info) h = absurd (h refl)
+bad-kind (Corrected o info e) h = refl
+bad-kind Lost h = refl
+
+pub bad-there : (b : Signal) (i x : ℕ) (wanted : Wanted) (limit k : ℕ) → 25 ≤ i → k ≡ kind_of (reading_at b i x wanted limit) → k ≢ 1 → has_number b i x ≡ false
+bad-there b i x wanted limit k late is other =
+    sym (good-reading b i x (heard b i) wanted limit (reading_at b i x wanted limit) late refl refl)
+    ∙ bad-kind (reading_at b i x wanted limit) (λ e. other (is ∙ e))
+
+-- the word of four blocks, by their four bits
+word-sum : (o p q r : Outcome) (k l m n : ℕ) → nibble o ≡ k → nibble p ≡ l → nibble q ≡ m → nibble r ≡ n
+    → k + 16 * l + 256 * m + 4096 * n ≡ word_of_blocks (o ∷ p ∷ q ∷ r ∷ [])
+word-sum o p q r k l m n first second third fourth = omega (arith, first, second, third, fourth)
+
+module _ (b : Signal) (rules : RuleNumbers) (f n p : ℕ) where
+  -- the four bits of the last block, of one that is missing, and of a valid one
+  last-is : (wanted : Wanted) (k : ℕ) → f ≤ n → k ≡ kind_of (reading_at b p n wanted rules.burst) → nibble (outcome_of (block_at b rules f n p wanted n)) ≡ k
+  last-is wanted k low is =
+      let place : p - 26 * (n - n) ≡ p = omega arith in
+      ap (λ (block : Block). nibble (outcome_of block)) (block_at-read b rules f n p wanted n low (omega arith))
+      ∙ ap (λ (q : ℕ). nibble (outcome_of (Read (reading_at b q n wanted rules.burst)))) place
+      ∙ sym (is ∙ kind-nibble (reading_at b p n wanted rules.burst))
+
+  missing-is : (wanted : Wanted) (y : ℕ) → (y < f) ⊎ (n < y) → nibble (outcome_of (block_at b rules f n p wanted y)) ≡ 0
+  missing-is wanted y outside = ap (λ (block : Block). nibble (outcome_of block)) (block_at-missing b rules f n p wanted y outside)
+
+  valid-is : (wanted : Wanted) (y place : ℕ) → f ≤ y → y ≤ n → HaveRoom f n p → p - 26 * (n - y) ≡ place → has_number b place y ≡ true
+      → nibble (outcome_of (block_at b rules f n p wanted y)) ≡ 1
+  valid-is wanted y place low high room there valid =
+      ap (λ (o : Outcome). nibble o) (good-only _ (good_block b rules f n p wanted y low high room ∙ ap (λ (q : ℕ). has_number b q y) there ∙ valid))
+
+-- the word of a valid block and the one behind it
+pub two-are : (b : Signal) (rules : RuleNumbers) (place x k : ℕ) → 25 ≤ place → 1 ≤ x → x ≤ 4 → has_number b place x ≡ true
+    → k ≡ kind_of (reading_at b (place + 26) (x % 4 + 1) (wanted_behind b rules place x) rules.burst)
+    → word_of_two x k ≡ word_of_blocks (map outcome_of (blocks_at b rules (first_behind x) (x % 4 + 1) (place + 26)))
+two-are b rules place zero k late low high valid is = absurd (omega arith)
+two-are b rules place (suc zero) k late low high valid is =
+    let p : ℕ = place + 26 in
+    let beside : Wanted = wanted_beside (block_at b rules 1 2 p Either 2) in
+    let sum : 1 + 16 * k ≡ 1 + 16 * k + 256 * 0 + 4096 * 0 = omega arith in
+    sum ∙ word-sum _ _ _ _ 1 k 0 0
+    (valid-is b rules 1 2 p Either 1 place (omega arith) (omega arith) (omega arith) (omega arith) valid)
+    (last-is b rules 1 2 p Either k (omega arith) is)
+    (missing-is b rules 1 2 p beside 3 (inr (omega arith)))
+    (missing-is b rules 1 2 p Either 4 (inr (omega arith)))
+two-are b rules place (suc (suc zero)) k late low high valid is =
+    let p : ℕ = place + 26 in
+    let beside : Wanted = wanted_beside (block_at b rules 2 3 p Either 2) in
+    let there : p - 26 * (3 - 2) ≡ place = omega arith in
+    let second : Read (reading_at b place 2 Either rules.burst) ≡ block_at b rules 2 3 p Either 2 =
+    sym (block_at-read b rules 2 3 p Either 2 (omega arith) (omega arith) ∙ ap (λ (q : ℕ). Read (reading_at b q 2 Either rules.burst)) there) in
+    let sum : 16 + 256 * k ≡ 0 + 16 * 1 + 256 * k + 4096 * 0 = omega arith in
+    sum ∙ word-sum _ _ _ _ 0 1 k 0
+    (missing-is b rules 2 3 p Either 1 (inl (omega arith)))
+    (valid-is b rules 2 3 p Either 2 place (omega arith) (omega arith) (omega arith) there valid)
+    (last-is b rules 2 3 p beside k (omega arith) (is ∙ ap (λ (block : Block). kind_of (reading_at b p 3 (wanted_beside block) rules.burst)) second))
+    (missing-is b rules 2 3 p Either 4 (inr (omega arith)))
+two-are b rules place (suc (suc (suc zero))) k late low high valid is =
+    let p : ℕ = place + 26 in
+    let beside : Wanted = wanted_beside (block_at b rules 3 4 p Either 2) in
+    let sum : 256 + 4096 * k ≡ 0 + 16 * 0 + 256 * 1 + 4096 * k = omega arith in
+    sum ∙ word-sum _ _ _ _ 0 0 1 k
+    (missing-is b rules 3 4 p Either 1 (inl (omega arith)))
+    (missing-is b rules 3 4 p Either 2 (inl (omega arith)))
+    (valid-is b rules 3 4 p beside 3 place (omega arith) (omega arith) (omega arith) (omega arith) valid)
+    (last-is b rules 3 4 p Either k (omega arith) is)
+two-are b rules place (suc (suc (suc (suc zero)))) k late low high valid is =
+    let p : ℕ = place + 26 in
+    let beside : Wanted = wanted_beside (block_at b rules 1 1 p Either 2) in
+    let sum : k ≡ k + 16 * 0 + 256 * 0 + 4096 * 0 = omega arith in
+    sum ∙ word-sum _ _ _ _ k 0 0 0
+    (last-is b rules 1 1 p Either k (omega arith) is)
+    (missing-is b rules 1 1 p Either 2 (inr (omega arith)))
+    (missing-is b rules 1 1 p beside 3 (inr (omega arith)))
+    (missing-is b rules 1 1 p Either 4 (inr (omega arith)))
+two-are b rules place (suc (suc (suc (suc (suc x))))) k late low high valid is = absurd (omega arith)

@@ -1,0 +1,32 @@
+-- A lock that its second block loses: the implementation's own, which no caller sees.
+use Rattle.std.specs.Prelude.{◌≡◌, ℕ, ◌+◌, ◌*◌, ◌%◌, ◌<◌, map, true, false, ◌==◌, if◌then◌else◌}
+use Rattle.rds_code.specs.declared.reading.Wanted.{Wanted}
+use Rattle.rds_code.specs.declared.reading.Wanted.TheVariants.{Either}
+use Rattle.rds_stream.specs.Recording.{Signal, reading_at}
+use Rattle.rds_sync.specs.declared.item.Block.TheVariants.{Read}
+use Rattle.rds_sync.specs.Acquiring.{has_number}
+use Rattle.rds_sync.specs.Codes.{outcome_of}
+use Rattle.rds_sync.specs.Groups.{group, wanted_beside}
+use Rattle.rds_sync.specs.Loss.{none_bad, bad_after, are_too_many}
+use Rattle.rds_sync.specs.Rules.{RuleNumbers}
+use Rattle.rds_sync.specs.Words.{blocks_in}
+
+-- the offsets that are tried for the block behind block x at a place
+abbrev pub wanted_behind : Signal → RuleNumbers → ℕ → ℕ → Wanted
+wanted_behind b rules place x = if x == 2 then wanted_beside (Read (reading_at b place 2 Either rules.burst)) else Either
+
+-- the first block of the group of the block behind block x, in a lock that begins with that
+abbrev pub first_behind : ℕ → ℕ
+first_behind x = if x == 4 then 1 else x
+
+-- the word of a group of a valid block x and the block behind it of kind k; behind block 4, of that alone
+abbrev pub word_of_two : ℕ → ℕ → ℕ
+word_of_two x k = if x == 1 then 1 + 16 * k else (if x == 2 then 16 + 256 * k else (if x == 3 then 256 + 4096 * k else k))
+
+-- the block behind block x at a place ends before `to` and loses the lock, and the word is that of its group
+pub record IsLostAtOnce (b : Signal) (rules : RuleNumbers) (place x to word : ℕ) : Type 0 where
+  pub before : place + 26 < to
+  pub bad : has_number b (place + 26) (x % 4 + 1) ≡ false
+  pub loses : are_too_many rules.loss (bad_after rules.loss false (none_bad rules.loss)) ≡ true
+  pub few : word < 65520
+  pub blocks : blocks_in word ≡ map outcome_of (group b rules (first_behind x) (x % 4 + 1) (place + 26)).blocks

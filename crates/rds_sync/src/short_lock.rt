@@ -1,0 +1,96 @@
+//! A lock that its second block loses: its group has these two blocks, or the second alone behind a block 4.
+
+ghost use Rattle.std.specs.Prelude.{◌≡◌, ◌≤◌, ◌<◌, ◌+◌, ◌%◌, ◌^◌, true, IfSome};
+ghost use Rattle.rds_code.specs.Kinds.{kind_of};
+ghost use Rattle.rds_stream.specs.Recording.{length_of, reading_at};
+ghost use Rattle.rds_sync.specs.Acquiring.{has_number};
+ghost use Rattle.rds_sync.specs.Inside.ShortLocks.{IsLostAtOnce, wanted_behind, word_of_two};
+
+use crate::due::BLOCK_PLACES;
+use crate::item::Block;
+use crate::rules::Rules;
+use rds_code::laws::{bursts_are_listed, readings_follow_the_rule};
+use rds_code::{Kinds, Wanted};
+use rds_stream::Reader;
+
+/// The word of the group of a lock that begins with block `number` at `place`, where the block behind it, before `to`,
+/// is bad and one bad block loses a lock. Where there is none, nothing is said of the lock.
+#[inline(always)]
+pub(crate) fn word_if_lost(
+    reader: &mut Reader<'_>,
+    rules: &Rules,
+    place: u64,
+    number: u8,
+    to: u64,
+) -> Option<u16>
+    requires number { (1 ≤ number) × (number ≤ 4) }
+    requires valid { (25 ≤ place) × (has_number reader.old place number ≡ true) }
+    requires order { place < to }
+    requires within { to ≤ length_of reader.old }
+    requires near { to ≤ 2 ^ 36 }
+    ensures lost { IfSome result (IsLostAtOnce reader.old rules.now place number to) }
+    ensures same { reader.new ≡ reader.old }
+{
+    // The outcome of each reading has a word.
+    bursts_are_listed();
+    readings_follow_the_rule();
+    if to <= place + BLOCK_PLACES {
+        return None;
+    }
+    let loss = rules.loss();
+    if !loss.loses_by_one() {
+        return None;
+    }
+    let kind = kind_behind(reader, rules, place, number);
+    if kind == u16::from(Kinds::VALID) {
+        return None;
+    }
+    Some(word_of_two(number, kind))
+}
+
+/// The word of a group of a valid block of this number and the one behind it of this kind; behind block 4, of that alone.
+#[inline(always)]
+fn word_of_two(number: u8, kind: u16) -> u16
+    requires number { (1 ≤ number) × (number ≤ 4) }
+    requires kind { kind ≤ 13 }
+    ensures value { result ≡ word_of_two number kind }
+    ensures few { result < 65520 }
+{
+    match number {
+        1 => 0x0001 + 0x0010 * kind,
+        2 => 0x0010 + 0x0100 * kind,
+        3 => 0x0100 + 0x1000 * kind,
+        _ => kind,
+    }
+}
+
+/// How the block behind one of this number at `place` came out.
+#[inline(always)]
+fn kind_behind(reader: &mut Reader<'_>, rules: &Rules, place: u64, number: u8) -> u16
+    requires number { (1 ≤ number) × (number ≤ 4) }
+    requires first { 25 ≤ place }
+    requires within { place + 26 < length_of reader.old }
+    requires near { place < 2 ^ 36 }
+    ensures value { result ≡ kind_of
+        (reading_at reader.old (place + 26) (number % 4 + 1) (wanted_behind reader.old rules.now place number) rules.now.burst) }
+    ensures most { result ≤ 13 }
+    ensures same { reader.new ≡ reader.old }
+{
+    let wanted = wanted_behind(reader, rules, place, number);
+    rules.kind(reader.window(place + BLOCK_PLACES), number % 4 + 1, wanted)
+}
+
+/// The offsets that are tried for that block.
+#[inline(always)]
+fn wanted_behind(reader: &mut Reader<'_>, rules: &Rules, place: u64, number: u8) -> Wanted
+    requires first { 25 ≤ place }
+    requires within { place < length_of reader.old }
+    ensures value { result ≡ wanted_behind reader.old rules.now place number }
+    ensures same { reader.new ≡ reader.old }
+{
+    if number == 2 {
+        let second = Block::Read(rules.read(reader.window(place), 2, Wanted::Either));
+        return second.wanted_beside();
+    }
+    Wanted::Either
+}
