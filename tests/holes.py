@@ -10,6 +10,8 @@ TOP = os.path.dirname(os.path.dirname(os.path.abspath(__file__)))
 RT = shutil.which(os.environ.get("RT", "rt")) or sys.exit("there is no Rattle toolchain (rt) on the PATH")
 KIT = os.path.dirname(os.path.dirname(os.path.realpath(RT)))
 LIBRARIES = ["rds_code", "rds_stream", "rds_sync", "rds_live", "rds_abi", "rds_pieces", "rds_crew", "rds_rows", "rds_tool"]
+# What C calls: a library that no crate stands on.
+EXPORTED = "rds_c"
 HOLE = """use Rattle.{crate}.proofs.{path}.Statement.{{statement}}
 
 pub {name}_spec : {{M : Type 1}} → statement M
@@ -82,7 +84,7 @@ def functions_of(folder):
     home = {kind: it for it in texts for kind in re.findall(r"^pub.* (?:struct|enum|trait) (\w+)", texts[it], re.M)}
     for module, text in texts.items():
         inside = list(holders(text))
-        for it in re.finditer(r"^(?: *#\[.*\]\n)* *(pub(?:\(crate\))? |)(?:const )?fn (\w+)", text, re.M):
+        for it in re.finditer(r"^(?: *#\[.*\]\n)* *(pub(?:\(crate\))? |)(?:const |extern +)?fn (\w+)", text, re.M):
             kind, owner = next((names for start, end, *names in inside if start < it.end() < end), (None, None))
             # The result's type, which may hold `[T; N]`, ends where clauses, a body or a `;` begin.
             at, clauses = past(text, text.index("(", it.end())), []
@@ -111,7 +113,7 @@ def copied(folder, crates):
     for crate in crates:
         here, there = f"{TOP}/crates/{crate}", f"{folder}/{crate}"
         shutil.copytree(here, there, ignore=shutil.ignore_patterns("out"), dirs_exist_ok=True)
-        functions += functions_of(f"{folder}/{crate}") if crate in LIBRARIES else []
+        functions += functions_of(f"{folder}/{crate}") if crate in [*LIBRARIES, EXPORTED] else []
     for f in functions:
         f.put_hole(folder)
     return functions

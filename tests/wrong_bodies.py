@@ -29,7 +29,7 @@ from concurrent.futures import ThreadPoolExecutor
 from dataclasses import dataclass, replace
 from glob import glob
 
-from holes import LIBRARIES, RT, TOP, below, copied, functions_of, is_built, read, words, write
+from holes import EXPORTED, LIBRARIES, RT, TOP, below, copied, functions_of, is_built, read, words, write
 
 CRATES = f"{TOP}/crates"
 # The page that says what is false of an edit that is refused by lines of answers alone, and the heading of its table.
@@ -196,7 +196,7 @@ def try_all(room, crate, told, are_right):
 
 def main(names, are_right):
     told = told_of()
-    crates = [it for it in LIBRARIES if os.path.isdir(f"{CRATES}/{it}/wrong")]
+    crates = [it for it in [*LIBRARIES, EXPORTED] if os.path.isdir(f"{CRATES}/{it}/wrong")]
     if unknown := [it for it in names if it not in crates]:
         sys.exit(f"there are no wrong bodies of {', '.join(unknown)}")
     crates = [it for it in crates if it in (names or crates)]

@@ -6,27 +6,45 @@
 
 #include <stdio.h>
 
-enum { CHUNK = 64, ROOM = 2 * 8 * CHUNK };
+enum { CHUNK = 64, ROOM = 16 * CHUNK };
+
+static const rds_rules_t rules = RDS_RULES;
+static rds_stream_t stream; /* zeros: nothing was heard yet */
+static rds_item_t items[ROOM];
+static int32_t last = -1;
+
+/* Prints what changes with these items. A programme identification is the information word of a group's first block. */
+static void print_changes(uint64_t count)
+{
+    for (uint64_t k = 0; k < count; k++) {
+        const rds_block_t *first = &items[k].blocks[0];
+        if (items[k].what == RDS_GROUP && first->kind >= RDS_VALID && first->info != last)
+            printf("%04X\n", (unsigned)(last = first->info));
+    }
+    fflush(stdout);
+}
+
+static int refused(uint8_t number)
+{
+    uint8_t name[RDS_NAME_ROOM];
+    rds_refusal_name(number, name, sizeof name);
+    fprintf(stderr, "refused %d %s\n", number, (const char *)name);
+    return 1;
+}
 
 int main(void)
 {
-    static const rds_rules_t rules = RDS_RULES;
-    static const rds_gap_t none = {0, 0};
-    static rds_stream_t stream; /* zeros: nothing was heard yet */
-    static rds_item_t items[ROOM];
-    uint8_t bytes[CHUNK];
+    uint8_t bytes[CHUNK], number;
     size_t len;
-    int32_t last = -1;
+    uint64_t count;
+    rds_totals_t totals;
     while ((len = fread(bytes, 1, CHUNK, stdin)) > 0) {
-        uint64_t count;
-        if (rds_push(bytes, len, &none, 0, &rules, &stream, items, ROOM, &count))
-            return 1;
-        for (uint64_t k = 0; k < count; k++) {
-            const rds_block_t *first = &items[k].blocks[0];
-            if (items[k].what == RDS_GROUP && first->kind >= RDS_VALID && first->info != last)
-                printf("%04X\n", (unsigned)(last = first->info));
-        }
-        fflush(stdout);
+        if ((number = rds_push(bytes, len, NULL, 0, &rules, &stream, items, ROOM, &count)))
+            return refused(number);
+        print_changes(count);
     }
+    if ((number = rds_finish(NULL, 0, &rules, &stream, items, ROOM, &count, &totals)))
+        return refused(number);
+    print_changes(count);
     return 0;
 }

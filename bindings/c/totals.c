@@ -23,7 +23,6 @@ static uint8_t *read_all(FILE *file, size_t *len)
 int main(int count, char **words)
 {
     static const rds_rules_t rules = RDS_RULES;
-    static const rds_gap_t none = {0, 0};
     size_t len;
     rds_totals_t totals;
     FILE *file = count == 2 ? fopen(words[1], "rb") : NULL;
@@ -32,7 +31,7 @@ int main(int count, char **words)
         fprintf(stderr, "usage: totals FILE\n");
         return 2;
     }
-    uint8_t refused = rds_totals(bytes, len, 8 * (uint64_t)len, &none, 0, &rules, &totals);
+    uint8_t refused = rds_totals(bytes, len, 8 * (uint64_t)len, NULL, 0, &rules, &totals);
     if (refused) {
         uint8_t name[RDS_NAME_ROOM];
         rds_refusal_name(refused, name, sizeof name);

@@ -2,12 +2,12 @@
 ghost use Rattle.std.specs.Prelude.{◌≡◌, ◌++◌, [], List, ℕ, IfOk, IsOkUnless};
 ghost use Rattle.rds_sync.specs.Advance.{group_item};
 ghost use Rattle.rds_sync.specs.Totals.{totals_of};
-ghost use Rattle.rds_live.specs.Live.{HasHeard, by_rules, live_of, report_of, signal_of};
+ghost use Rattle.rds_live.specs.Live.{HasHeard, by_rules, complete, live_of, report_of, signal_of};
 ghost use Rattle.rds_tool.specs.Outcome.{list_text};
 
 use rds_live::{Chunk, Live, ResumeError, StreamEnd};
 use rds_stream::StreamError;
-use rds_sync::{Rules, State};
+use rds_sync::{Item, Rules, State};
 use rds_tool::{FromRead, ToWrite, ToolError, follow};
 use std::alloc::Global;
 
@@ -88,6 +88,64 @@ pub fn one_by_one<'r>(
         live.take(&[*byte])?;
     }
     Ok(live)
+}
+
+/// Takes the next chunk of a stream, and puts the items that it completes behind those before.
+fn put_next(
+    live: &mut Live<'_>,
+    items: &mut Vec<Item>,
+    chunk: &[u8],
+) -> Result<(), StreamError>
+    ensures heard { IfOk result (λ _. (before : List ℕ) → HasHeard live.old before → HasHeard live.new (before ++ chunk.now)) }
+    ensures terms { IfOk result (λ _. live.new.terms ≡ live.old.terms) }
+    ensures items { IfOk result (λ _. (before : List ℕ) → HasHeard live.old before
+        → items.old.items ≡ complete live.old.terms before → items.new.items ≡ complete live.old.terms (before ++ chunk.now)) }
+{
+    let found = live.take(chunk)?;
+    for item in &found {
+        items.push(item)?;
+    }
+    Ok(())
+}
+
+/// The items of a stream that is cut at these places of its bytes, as far as they lie in order in it: whatever they are, those of
+/// its report.
+pub fn cut_at(
+    alloc: Global,
+    rules: &Rules,
+    bytes: &[u8],
+    cuts: &[usize],
+) -> Result<Vec<Item>, StreamError>
+    ensures { IfOk result (λ items. items.items ≡ report_of (by_rules rules.now) bytes.now) }
+{
+    let mut live = Live::new(alloc, rules);
+    let mut items = Vec::new(alloc);
+    let mut at = 0;
+    for &cut in cuts {
+        let next = cut.max(at).min(bytes.len());
+        put_next(&mut live, &mut items, &bytes[at..next])?;
+        at = next;
+    }
+    put_next(&mut live, &mut items, &bytes[at..])?;
+    if let Some(group) = live.finish().group {
+        items.push(Item::Group(group))?;
+    }
+    Ok(items)
+}
+
+/// Any two cuttings of a stream give the same items.
+pub fn two_cuttings(
+    alloc: Global,
+    rules: &Rules,
+    bytes: &[u8],
+    one: &[usize],
+    other: &[usize],
+) -> Result<(Vec<Item>, Vec<Item>), StreamError>
+    ensures { IfOk result (λ r. r.0.items ≡ r.1.items) }
+{
+    let first = cut_at(alloc, rules, bytes, one)?;
+    let second = cut_at(alloc, rules, bytes, other)?;
+    Ok((first, second))
 }
 
 /// Two decoders that were fed the same, however it was cut, are in one state.
