@@ -9,3 +9,4 @@ pub mod GroupParts
 pub mod Locks
 pub mod Spans
 pub mod Tallies
+pub mod WholeGroups
