@@ -10,3 +10,4 @@ pub mod Locks
 pub mod ShortLocks
 pub mod Spans
 pub mod Tallies
+pub mod WholeGroups

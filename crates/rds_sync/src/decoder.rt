@@ -1,17 +1,20 @@
 //! The items of a run over a recording, one after the other.
 
-ghost use Rattle.std.specs.Prelude.{◌≡◌, ◌≤◌, ◌<◌, ◌-◌, ◌++◌, ◌⊎◌, [], ◌∷◌, false, length, true, vec_capacity};
+ghost use Rattle.std.specs.Prelude.{◌≡◌, ◌≤◌, ◌<◌, ◌+◌, ◌-◌, ◌++◌, ◌⊎◌, [], false, length, true, vec_capacity};
 ghost use Rattle.std.specs.Iterator.{item_count};
 ghost use Rattle.rds_stream.specs.Recording.{length_of};
 ghost use Rattle.rds_sync.specs.Decoding.{decoder_of, GivesNext};
 ghost use Rattle.rds_sync.specs.Lawful.{IsLawful};
 ghost use Rattle.rds_sync.specs.Step.{run};
 
+use crate::due::Lock;
 use crate::item::Item;
+use crate::push::push_one;
 use crate::rules::Rules;
 use crate::state::State;
 use crate::stretches::stretch;
-use rds_stream::{Reader, Recording};
+use crate::whole_items::push_whole_groups;
+use rds_stream::{FIRST_WINDOW, Reader, Recording};
 use std::iter::FusedIterator;
 use std::marker::Model;
 
@@ -85,10 +88,67 @@ impl<'a> Decoder<'a> {
         ensures end { self.new.end ≡ self.old.end }
     {
         part.clear();
-        while part.len() < part.capacity() {
+        self.push_until(part, part.capacity());
+    }
+
+    /// Appends the items that come next, until there are `most` or none is left.
+    pub(crate) fn push_until(&mut self, part: &mut Vec<Item>, most: usize)
+        requires order { length part.old.items ≤ most }
+        requires room { most ≤ vec_capacity part.old }
+        ensures items { part.old.items ++ self.old.items ≡ part.new.items ++ self.new.items }
+        ensures full { (self.new.items ≡ []) ⊎ (length part.new.items ≡ most) }
+        ensures most { length part.new.items ≤ most }
+        ensures room { vec_capacity part.new ≡ vec_capacity part.old }
+        ensures end { self.new.end ≡ self.old.end }
+    {
+        while part.len() < most {
+            if self.push_groups(part, most) {
+                continue;
+            }
             if !self.push_next(part) {
                 return;
             }
+        }
+    }
+
+    /// Appends the whole groups that come next, until there are `most` items, and tells whether there were any.
+    #[inline(always)]
+    fn push_groups(&mut self, part: &mut Vec<Item>, most: usize) -> bool
+        requires order { length part.old.items ≤ most }
+        requires room { most ≤ vec_capacity part.old }
+        ensures items { part.old.items ++ self.old.items ≡ part.new.items ++ self.new.items }
+        ensures more { result ≡ true → length part.old.items < length part.new.items }
+        ensures none { result ≡ false → part.new.items ≡ part.old.items }
+        ensures most { length part.new.items ≤ most }
+        ensures room { vec_capacity part.new ≡ vec_capacity part.old }
+        ensures end { self.new.end ≡ self.old.end }
+    {
+        prove!(self.to <= self.reader.recording().len());
+        match (self.ready, self.state) {
+            (
+                None,
+                State::Locked {
+                    due,
+                    number: 1,
+                    bad,
+                    first: 1,
+                },
+            ) if self.place + FIRST_WINDOW == due => {
+                let lock = Lock {
+                    due,
+                    number: 1,
+                    bad,
+                    first: 1,
+                };
+                let next = push_whole_groups(&mut self.reader, self.rules, lock, self.to, part, most);
+                if next.due == due {
+                    return false;
+                }
+                self.place = next.due - FIRST_WINDOW;
+                self.state = next.state();
+                true
+            }
+            _ => false,
         }
     }
 
@@ -96,6 +156,7 @@ impl<'a> Decoder<'a> {
     fn push_next(&mut self, part: &mut Vec<Item>) -> bool
         requires room { length part.old.items < vec_capacity part.old }
         ensures items { part.old.items ++ self.old.items ≡ part.new.items ++ self.new.items }
+        ensures one { length part.new.items ≤ length part.old.items + 1 }
         ensures more { result ≡ true → length part.old.items < length part.new.items }
         ensures done { result ≡ false → self.new.items ≡ [] }
         ensures room { vec_capacity part.new ≡ vec_capacity part.old }
@@ -163,16 +224,6 @@ impl<'a> Iterator for Decoder<'a> {
 }
 
 impl<'a> FusedIterator for Decoder<'a> {}
-
-/// Appends an item, of any type: the check has no proof of a push where it sees what an item is made of.
-#[inline(always)]
-pub(crate) fn push_one<T: Copy>(part: &mut Vec<T>, item: &T)
-    requires { length part.old.items < vec_capacity part.old }
-    ensures items { part.new.items ≡ part.old.items ++ (item.now ∷ []) }
-    ensures room { vec_capacity part.new ≡ vec_capacity part.old }
-{
-    part.push_reserved(*item);
-}
 
 /// The state after the run from `state` over the bits at `from` to `to` - 1.
 fn end_of(reader: &mut Reader<'_>, rules: &Rules, state: State, from: u64, to: u64) -> State

@@ -5,6 +5,7 @@ ghost use Rattle.rds_sync.specs.Groups.{info_of, are_complete, version_by_bit, v
 ghost use Rattle.rds_stream.specs.Recording.{offset_heard as the_offset_heard};
 ghost use Rattle.rds_sync.specs.Acquiring.{is_numbered};
 ghost use Rattle.rds_sync.specs.Inside.GroupParts.{IsGroupPart};
+ghost use Rattle.rds_sync.specs.Totals.{is_valid};
 
 use crate::due::BLOCK_PLACES;
 use crate::item::{Block, Group, Version};
@@ -57,6 +58,14 @@ impl Block {
             Block::Read(Reading::Corrected { info, .. }) => Some(info),
             _ => None,
         }
+    }
+
+    /// Whether it was read, as it was sent.
+    #[inline(always)]
+    pub(crate) fn is_valid(&self) -> bool
+        ensures { result ≡ is_valid self.now }
+    {
+        matches!(self, Block::Read(Reading::Valid { .. }))
     }
 
     /// What the version bit says, this being a block 2.
@@ -118,6 +127,7 @@ impl Group {
     }
 
     /// The group of four blocks whose first read bit is at `place`.
+    #[inline(always)]
     pub(crate) fn of_blocks(place: u64, blocks: [Block; 4]) -> Group
         ensures { result ≡ group_of place blocks }
     {

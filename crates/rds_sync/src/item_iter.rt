@@ -4,8 +4,9 @@ ghost use Rattle.std.specs.Prelude.{◌≡◌, ◌≤◌, ◌<◌, ◌+◌, ◌+
 ghost use Rattle.std.specs.Iterator.{YieldsFirst, item_count};
 ghost use Rattle.rds_sync.specs.Inside.Spans.{IsSpan, items_in, items_of};
 
-use crate::decoder::{Decoder, push_one};
+use crate::decoder::Decoder;
 use crate::item::Item;
+use crate::push::push_one;
 use crate::rules::Rules;
 use crate::span::Span;
 use crate::state::State;
@@ -75,28 +76,16 @@ impl<'a> ItemIter<'a> {
         ensures room { vec_capacity part.new ≡ vec_capacity part.old }
     {
         part.clear();
-        while part.len() < part.capacity() {
-            if !self.push_next(part) {
-                return;
-            }
-        }
-    }
-
-    /// Appends the next item, and tells whether there was one.
-    fn push_next(&mut self, part: &mut Vec<Item>) -> bool
-        requires room { length part.old.items < vec_capacity part.old }
-        ensures items { part.old.items ++ self.old ≡ part.new.items ++ self.new }
-        ensures more { result ≡ true → length part.old.items < length part.new.items }
-        ensures done { result ≡ false → self.new ≡ [] }
-        ensures room { vec_capacity part.new ≡ vec_capacity part.old }
-    {
-        match self.next() {
-            Some(item) => {
-                push_one(part, &item);
-                true
-            }
-            None => false,
-        }
+        let most = self.left.min(part.capacity());
+        self.spans = push_from(
+            self.recording,
+            self.rules,
+            &mut self.decoder,
+            self.spans,
+            part,
+            most,
+        );
+        self.left -= part.len();
     }
 }
 
@@ -180,6 +169,74 @@ fn first_of<'a>(
         Span::End { state } => match finish(&mut Counted::new(recording), rules, state) {
             Some(group) => Some(Item::Group(group)),
             None => None,
+        },
+    }
+}
+
+/// Appends the items of a decoder and of the spans after it, until there are `most` or none is left, and the spans that
+/// are then left.
+fn push_from<'a>(
+    recording: &'a Recording,
+    rules: &'a Rules,
+    decoder: &mut Decoder<'a>,
+    spans: &'a [Span],
+    part: &mut Vec<Item>,
+    most: usize,
+) -> &'a [Span]
+    requires spans { All (IsSpan recording.now rules.now) spans.now }
+    requires order { length part.old.items ≤ most }
+    requires room { most ≤ vec_capacity part.old }
+    ensures spans { All (IsSpan recording.now rules.now) result.now }
+    ensures items { part.old.items ++ (decoder.old.items ++ items_in recording.now rules.now spans.now)
+        ≡ part.new.items ++ (decoder.new.items ++ items_in recording.now rules.now result.now) }
+    ensures full { (decoder.new.items ++ items_in recording.now rules.now result.now ≡ []) ⊎ (length part.new.items ≡ most) }
+    ensures most { length part.new.items ≤ most }
+    ensures room { vec_capacity part.new ≡ vec_capacity part.old }
+{
+    decoder.push_until(part, most);
+    let mut rest = spans;
+    while part.len() < most {
+        let Some((span, others)) = rest.split_first() else {
+            return rest;
+        };
+        rest = others;
+        push_span(recording, rules, decoder, *span, part, most);
+    }
+    rest
+}
+
+/// Appends the items of a span, until there are `most` or none is left. The decoder then gives the others.
+fn push_span<'a>(
+    recording: &'a Recording,
+    rules: &'a Rules,
+    decoder: &mut Decoder<'a>,
+    span: Span,
+    part: &mut Vec<Item>,
+    most: usize,
+)
+    requires span { IsSpan recording.now rules.now span }
+    requires done { decoder.old.items ≡ [] }
+    requires order { length part.old.items < most }
+    requires room { most ≤ vec_capacity part.old }
+    ensures items { part.old.items ++ items_of recording.now rules.now span ≡ part.new.items ++ decoder.new.items }
+    ensures full { (decoder.new.items ≡ []) ⊎ (length part.new.items ≡ most) }
+    ensures most { length part.new.items ≤ most }
+    ensures room { vec_capacity part.new ≡ vec_capacity part.old }
+{
+    match span {
+        Span::Run {
+            place,
+            state,
+            to,
+            ..
+        } => {
+            let mut run = Decoder::new(recording, rules, state, place, to);
+            run.push_until(part, most);
+            *decoder = run;
+        }
+        Span::End { state } => match finish(&mut Counted::new(recording), rules, state) {
+            Some(group) => push_one(part, &Item::Group(group)),
+            None => {}
         },
     }
 }

@@ -2,7 +2,7 @@
 
 ghost use Rattle.std.specs.Prelude.{◌≡◌, ◌≤◌, ◌<◌, ◌+◌, ◌-◌, ◌*◌, ◌^◌, ℕ, [], ◌∷◌, length, true};
 ghost use Rattle.rds_sync.specs.Counting.{whole_totals};
-ghost use Rattle.rds_sync.specs.Totals.{is_valid, totals_of};
+ghost use Rattle.rds_sync.specs.Totals.{totals_of};
 ghost use Rattle.rds_sync.specs.declared.item.Item.TheVariants.{Group as GroupItem};
 
 use crate::item::{Block, Group, Item};
@@ -230,13 +230,5 @@ fn is_whole(group: &Group) -> bool
     ensures { result ≡ true → totals_of (GroupItem group.now ∷ []) ≡ whole_totals 1 }
 {
     let [one, two, three, four] = &group.blocks;
-    is_valid(one) && is_valid(two) && is_valid(three) && is_valid(four)
-}
-
-/// Whether a block was read as it was sent.
-#[inline(always)]
-fn is_valid(block: &Block) -> bool
-    ensures { result ≡ is_valid block.now }
-{
-    matches!(block, Block::Read(Reading::Valid { .. }))
+    one.is_valid() && two.is_valid() && three.is_valid() && four.is_valid()
 }

@@ -23,6 +23,7 @@ use crate::item::{Block, Group, Item};
 use crate::loss::{Bad, Loss};
 use crate::rules::Rules;
 use crate::step::Step;
+use crate::whole_items::whole_heard;
 use crate::words::{CLEAN, is_good, nibble, word_of_blocks};
 use rds_code::laws::{bursts_are_listed, readings_follow_the_rule};
 use rds_code::{Offset, Wanted, rem26};
@@ -82,9 +83,7 @@ pub(crate) fn whole_group(
         return None;
     }
     let heard = reader.four_windows(lock.due);
-    let blocks = blocks_of(rules, heard);
-    let bad = bad_after_four(rules.loss(), word_of_group(rules, &blocks), lock.bad)?;
-    let group = Group::of_blocks(place, blocks);
+    let (group, bad) = whole_heard(rules, rules.loss(), place, heard, lock.bad)?;
     Some(Step {
         place: last + 1,
         state: Lock::after_block(last, 4, bad, 1).state(),
@@ -185,7 +184,7 @@ fn word_of_group(rules: &Rules, blocks: &[Block; 4]) -> u16
 
 /// The four blocks of that group.
 #[inline(always)]
-fn blocks_of(rules: &Rules, heard: [Option<u32>; 4]) -> [Block; 4]
+pub(crate) fn blocks_of(rules: &Rules, heard: [Option<u32>; 4]) -> [Block; 4]
     requires { All (λ heard. IfSome heard (λ window. window < 2 ^ 26)) heard }
     ensures { (b : Signal) (due : ℕ) → heard ≡ four_heard b due → result ≡ blocks_at b rules.now 1 4 (due + 78) }
 {
@@ -200,7 +199,7 @@ fn blocks_of(rules: &Rules, heard: [Option<u32>; 4]) -> [Block; 4]
 /// What is kept of the bad blocks after those of the group of a word, or none where one of them loses the lock. Behind
 /// four good blocks no row of bad ones is left, and none is counted.
 #[inline(always)]
-fn bad_after_four(loss: Loss, word: u16, bad: Bad) -> Option<Bad>
+pub(crate) fn bad_after_four(loss: Loss, word: u16, bad: Bad) -> Option<Bad>
     requires range { IsLossInRange loss }
     requires lawful { IsLawfulBad loss bad }
     ensures bad { IfSome result (λ after. after ≡ bad_over loss (blocks_in word) bad 1 4) }
@@ -234,7 +233,7 @@ fn bad_after_each(loss: Loss, word: u16, bad: Bad) -> Option<Bad>
 /// What is kept of the bad blocks after one more, or none where it loses the lock.
 #[inline(always)]
 #[tactic(auto, using(crate::proofs::BadRows::lawful_kept))]
-fn kept_after(loss: Loss, good: bool, bad: Bad) -> Option<Bad>
+pub(crate) fn kept_after(loss: Loss, good: bool, bad: Bad) -> Option<Bad>
     requires range { IsLossInRange loss }
     requires lawful { IsLawfulBad loss bad }
     ensures bad { IfSome result (λ after. after ≡ bad_after loss good bad) }

@@ -56,31 +56,20 @@ module _ (b : Signal) (rules : RuleNumbers) (s : State) (due to : ℕ) (bad afte
       }
 
 pub returns-clause-reached : goal.returns-clause-reached
-unfolding group
 returns-clause-reached c =
     let b = c.args.reader.now in
     let rules = c.args.rules.now in
     let lock = c.args.lock in
     let due = lock.due in
     let place = c.args.place in
-    let bad = c.in_ok-bad.bad in
+    let bad = c.in_ok-group.bad in
     let late : 25 ≤ due = omega (arith, c.if-place-lock.false) in
-    let blocks_are : c.blocks_of-blocks.result ≡ blocks_at b rules 1 4 (due + 78) = c.blocks_of-blocks.ensures b due c.four_windows-heard.ensures.value in
-    let word_is : blocks_in c.word_of_group.result ≡ outcomes (group b rules 1 4 (due + 78)) = c.word_of_group.ensures.blocks b due blocks_are in
-    let loss_is = c.loss.ensures.value in
-    let state : state_in lock ≡ Locked due 1 lock.bad 1 = ap₂ (λ (x f : ℕ). Locked due x lock.bad f) (let e : lock.number ≡ 1 = omega (arith, c.if-lock-ne1.false) in e) (let e : lock.first ≡ 1 = omega (arith, c.if-lock-ne1-2.false) in e) in
-    let few : (k : ℕ) → k < 4 → are_too_many rules.loss (bad_over rules.loss (outcomes (group b rules 1 4 (due + 78))) lock.bad 1 (k + 1)) ≡ false =
-    subst (λ (os : List Outcome). (k : ℕ) → k < 4 → are_too_many rules.loss (bad_over rules.loss os lock.bad 1 (k + 1)) ≡ false) word_is
-    (subst (λ (loss : Loss). (k : ℕ) → k < 4 → are_too_many loss (bad_over loss (blocks_in c.word_of_group.result) lock.bad 1 (k + 1)) ≡ false) loss_is c.in_ok-bad.ensures.kept) in
-    let bad_is : bad ≡ bad_over rules.loss (outcomes (group b rules 1 4 (due + 78))) lock.bad 1 4 =
-    c.in_ok-bad.ensures.bad ∙ ap₂ (λ (loss : Loss) (os : List Outcome). bad_over loss os lock.bad 1 4) loss_is word_is in
-    let stretch = is_stretch b rules (state_in lock) due c.args.to lock.bad bad late (omega (arith, c.if-to-last.false)) state few bad_is
-    (subst (λ (loss : Loss). IsLawfulBad loss bad) loss_is c.in_ok-bad.ensures.lawful) in
     let there : due - 25 ≡ place = omega (arith, c.if-place-lock.false) in
-    let group_is : c.of_blocks-group.result ≡ group b rules 1 4 (due + 78) =
-    c.of_blocks-group.ensures ∙ ap₂ (λ (p : ℕ) (bs : List Block). group_of p bs) (let e : place ≡ due + 78 - 26 * (4 - 1) - 25 = omega (arith, c.if-place-lock.false) in e) blocks_are in
+    let whole = c.in_ok-group.ensures b due late (sym there) c.four_windows-heard.ensures.value in
+    let state : state_in lock ≡ Locked due 1 lock.bad 1 = ap₂ (λ (x f : ℕ). Locked due x lock.bad f) (let e : lock.number ≡ 1 = omega (arith, c.if-lock-ne1.false) in e) (let e : lock.first ≡ 1 = omega (arith, c.if-lock-ne1-2.false) in e) in
+    let stretch = is_stretch b rules (state_in lock) due c.args.to lock.bad bad late (omega (arith, c.if-to-last.false)) state whole.few whole.bad_is whole.lawful in
     let next_is : c.state.result ≡ Locked (due + 104) 1 bad 1 =
     c.state.ensures ∙ c.after_block.ensures ∙ ap (λ (p : ℕ). Locked p 1 bad 1) (let e : due + 78 + 26 ≡ due + 104 = omega arith in e) in
     subst (λ (p : ℕ). IsStretch b rules (state_in lock) p c.args.to
-    (record { place = due + 78 + 1; state = c.state.result; items = Some (Group c.of_blocks-group.result) ∷ None ∷ [] })) there
-    (rw (next_is, group_is) stretch)
+    (record { place = due + 78 + 1; state = c.state.result; items = Some (Group c.in_ok-group.group) ∷ None ∷ [] })) there
+    (rw (next_is, whole.given_is) stretch)

@@ -1,0 +1,83 @@
+-- Whole groups that were heard at once.
+use Rattle.std.proofs.Common.{◌≡◌, ◌+◌, ◌-◌, ◌*◌, ◌<◌, ◌≤◌, ℕ, zero, suc, List, [], ◌∷◌, Bool, false, map, refl, sym, ap, ap₂, subst, ◌∙◌, arith}
+use Rattle.rds_code.specs.declared.reading.Reading.TheVariants.{Corrected, Lost, Valid}
+use Rattle.rds_stream.specs.Recording.{Signal}
+use Rattle.rds_sync.specs.declared.item.Block.{Block}
+use Rattle.rds_sync.specs.declared.item.Block.TheVariants.{Missing, Read}
+use Rattle.rds_sync.specs.declared.item.Group.{Group}
+use Rattle.rds_sync.specs.declared.loss.Bad.{Bad}
+use Rattle.rds_sync.specs.declared.loss.Loss.{Loss}
+use Rattle.rds_sync.specs.Codes.{Outcome, is_good, outcome_of}
+use Rattle.rds_sync.specs.Groups.{blocks_at, group, group_of}
+use Rattle.rds_sync.specs.Inside.WholeGroups.{IsWhole, outcomes_at}
+use Rattle.rds_sync.specs.Loss.{IsLawfulBad, are_too_many, bad_after}
+use Rattle.rds_sync.specs.Marks.{bad_over}
+use Rattle.rds_sync.specs.Rules.{RuleNumbers}
+use Rattle.rds_sync.specs.Totals.{is_valid}
+
+-- what holds of the first four holds of each of them
+pub each-of-four : (P : ℕ → Type 0) → P 0 → P 1 → P 2 → P 3 → (k : ℕ) → k < 4 → P k
+each-of-four P one two three four zero h = one
+each-of-four P one two three four (suc zero) h = two
+each-of-four P one two three four (suc (suc zero)) h = three
+each-of-four P one two three four (suc (suc (suc zero))) h = four
+each-of-four P one two three four (suc (suc (suc (suc k)))) h = absurd (omega (arith, h))
+
+-- a block is good where it is valid
+pub good_valid : (block : Block) → is_valid block ≡ is_good (outcome_of block)
+good_valid Missing = refl
+good_valid (Read (Valid o info)) = refl
+good_valid (Read (Corrected o info e)) = refl
+good_valid (Read Lost) = refl
+
+-- a group of these blocks, with what is kept of the bad ones by how they came out
+pub whole-is : (b : Signal) (rules : RuleNumbers) (due : ℕ) (loss : Loss) (place : ℕ) (bs : List Block) (os : List Outcome) (before after : Bad) (given : Group)
+    → 25 ≤ due → place ≡ due - 25 → bs ≡ blocks_at b rules 1 4 (due + 78) → os ≡ outcomes_at b rules due → loss ≡ rules.loss → given ≡ group_of place bs
+    → after ≡ bad_over loss os before 1 4 → IsLawfulBad loss after → ((k : ℕ) → k < 4 → are_too_many loss (bad_over loss os before 1 (k + 1)) ≡ false)
+    → IsWhole b rules due before given after
+unfolding group
+whole-is b rules due loss place bs os before after given late place_is bs_are os_are loss_is given_is after_is lawful kept =
+    let there : place ≡ due + 78 - 26 * (4 - 1) - 25 = omega (arith, late, place_is) in
+    record {
+      given_is = given_is ∙ ap₂ (λ (p : ℕ) (blocks : List Block). group_of p blocks) there bs_are;
+      bad_is = after_is ∙ ap₂ (λ (l : Loss) (outcomes : List Outcome). bad_over l outcomes before 1 4) loss_is os_are;
+      lawful = subst (λ (l : Loss). IsLawfulBad l after) loss_is lawful;
+      few = subst (λ (outcomes : List Outcome). (k : ℕ) → k < 4 → are_too_many rules.loss (bad_over rules.loss outcomes before 1 (k + 1)) ≡ false) os_are
+          (subst (λ (l : Loss). (k : ℕ) → k < 4 → are_too_many l (bad_over l os before 1 (k + 1)) ≡ false) loss_is kept);
+    }
+
+-- what is kept of the bad blocks after each of these four
+module _ (loss : Loss) (bs : List Block) (a b c d : Block) (are : bs ≡ a ∷ b ∷ c ∷ d ∷ []) (g h i j : Bool) (bad one two three four : Bad)
+    (g_is : g ≡ is_valid a) (h_is : h ≡ is_valid b) (i_is : i ≡ is_valid c) (j_is : j ≡ is_valid d)
+    (one_is : one ≡ bad_after loss g bad) (two_is : two ≡ bad_after loss h one) (three_is : three ≡ bad_after loss i two) (four_is : four ≡ bad_after loss j three) where
+  abbrev over : List Block → ℕ → Bad
+  over blocks k = bad_over loss (map outcome_of blocks) bad 1 k
+
+  step : (t : Bool) (block : Block) → t ≡ is_valid block → (now then before : Bad) → now ≡ before → then ≡ bad_after loss t now
+      → then ≡ bad_after loss (is_good (outcome_of block)) before
+  step t block t_is now then before now_is then_is =
+      then_is ∙ ap₂ (λ (valid : Bool) (kept : Bad). bad_after loss valid kept) (t_is ∙ good_valid block) now_is
+
+  over-one : one ≡ over (a ∷ b ∷ c ∷ d ∷ []) 1
+  over-one = step g a g_is bad one bad refl one_is
+
+  over-two : two ≡ over (a ∷ b ∷ c ∷ d ∷ []) 2
+  over-two = step h b h_is one two _ over-one two_is
+
+  over-three : three ≡ over (a ∷ b ∷ c ∷ d ∷ []) 3
+  over-three = step i c i_is two three _ over-two three_is
+
+  over-four : four ≡ over (a ∷ b ∷ c ∷ d ∷ []) 4
+  over-four = step j d j_is three four _ over-three four_is
+
+  pub all-four : four ≡ bad_over loss (map outcome_of bs) bad 1 4
+  all-four = over-four ∙ ap (λ (blocks : List Block). over blocks 4) (sym are)
+
+  pub kept-each : are_too_many loss one ≡ false → are_too_many loss two ≡ false → are_too_many loss three ≡ false → are_too_many loss four ≡ false
+      → (k : ℕ) → k < 4 → are_too_many loss (bad_over loss (map outcome_of bs) bad 1 (k + 1)) ≡ false
+  kept-each few1 few2 few3 few4 =
+      subst (λ (blocks : List Block). (k : ℕ) → k < 4 → are_too_many loss (over blocks (k + 1)) ≡ false) (sym are)
+      (each-of-four (λ (k : ℕ). are_too_many loss (over (a ∷ b ∷ c ∷ d ∷ []) (k + 1)) ≡ false)
+      (kept over-one few1) (kept over-two few2) (kept over-three few3) (kept over-four few4)) where
+        kept : {now then : Bad} → now ≡ then → are_too_many loss now ≡ false → are_too_many loss then ≡ false
+        kept is few = ap (λ (b : Bad). are_too_many loss b) (sym is) ∙ few

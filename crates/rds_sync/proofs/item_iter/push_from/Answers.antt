@@ -1,0 +1,35 @@
+use Rattle.std.proofs.Common.{◌≡◌, ◌<◌, [], ◌∷◌, List, All, length, ap, subst, ◌∙◌, arith, inl, inr}
+use Rattle.std.proofs.lemmas.List.Elements.{All-tail}
+use Rattle.rds_sync.specs.declared.span.Span.{Span}
+use Rattle.rds_sync.specs.Inside.Spans.{IsSpan, items_in}
+use Rattle.rds_sync.proofs.FillLemmas.{span_taken, with_more}
+use Rattle.rds_sync.proofs.item_iter.push_from.Goals as goal
+
+pub loop-rest-init : goal.loop-rest-init
+loop-rest-init c = record {
+  all = c.requires.spans;
+  items = with_more _ _ _ _ (items_in c.args.recording.now c.args.rules.now c.args.spans.now) c.push_until.ensures.items;
+  full = c.push_until.ensures.full;
+  most = c.push_until.ensures.most;
+  room = c.push_until.ensures.room;
+}
+
+pub loop-rest-preserved : goal.loop-rest-preserved
+loop-rest-preserved c =
+    let b = c.args.recording.now in
+    let rules = c.args.rules.now in
+    let before = c.loop-rest.invariant in
+    let span = c.in-Some.span.now in
+    let others = c.in-Some.others.now in
+    let is = c.in-Some.ensures.cases.0 in
+    let none : c.loop-rest.decoder.items ≡ [] = elim before.full [
+      | inl none ↦ none
+      | inr full ↦ absurd (omega (arith, full, c.loop-rest-test.true, c.len.ensures))
+    ] in
+    record {
+      all = All-tail (IsSpan b rules) span others (subst (λ (spans : List Span). All (IsSpan b rules) spans) is before.all);
+      items = span_taken b rules span others c.loop-rest.rest.now _ _ _ _ _ before.items none is c.push_span.ensures.items;
+      full = c.push_span.ensures.full;
+      most = c.push_span.ensures.most;
+      room = c.push_span.ensures.room ∙ before.room;
+    }

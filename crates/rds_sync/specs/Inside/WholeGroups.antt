@@ -1,0 +1,35 @@
+-- Whole groups of a lock, as items: the implementation's own, which no caller sees.
+use Rattle.std.specs.Prelude.{◌≡◌, ℕ, ◌+◌, ◌-◌, ◌<◌, ◌≤◌, List, ◌++◌, false, length, map}
+use Rattle.rds_stream.specs.Recording.{Signal}
+use Rattle.rds_sync.specs.declared.due.Lock.{Lock}
+use Rattle.rds_sync.specs.declared.item.Group.{Group}
+use Rattle.rds_sync.specs.declared.item.Item.{Item}
+use Rattle.rds_sync.specs.declared.loss.Bad.{Bad}
+use Rattle.rds_sync.specs.Codes.{Outcome, outcome_of}
+use Rattle.rds_sync.specs.Groups.{group}
+use Rattle.rds_sync.specs.Inside.Due.{state_in}
+use Rattle.rds_sync.specs.Loss.{IsLawfulBad, are_too_many}
+use Rattle.rds_sync.specs.Marks.{bad_over}
+use Rattle.rds_sync.specs.Rules.{RuleNumbers}
+use Rattle.rds_sync.specs.Step.{run}
+
+-- how the blocks came out of the group whose block 1 ends at place due
+abbrev pub outcomes_at : Signal → RuleNumbers → ℕ → List Outcome
+outcomes_at b rules due = map outcome_of (group b rules 1 4 (due + 78)).blocks
+
+-- that group, none of whose blocks loses the lock, and what is kept of the bad blocks behind it
+pub record IsWhole (b : Signal) (rules : RuleNumbers) (due : ℕ) (before : Bad) (given : Group) (after : Bad) : Type 0 where
+  pub given_is : given ≡ group b rules 1 4 (due + 78)
+  pub bad_is : after ≡ bad_over rules.loss (outcomes_at b rules due) before 1 4
+  pub lawful : IsLawfulBad rules.loss after
+  pub few : (k : ℕ) → k < 4 → are_too_many rules.loss (bad_over rules.loss (outcomes_at b rules due) before 1 (k + 1)) ≡ false
+
+-- the lock came from between two groups to between two others, and the items of the groups in between were appended
+pub record HasGiven (b : Signal) (rules : RuleNumbers) (lock : Lock) (to : ℕ) (before : List Item) (now : Lock) (after : List Item) : Type 0 where
+  pub between : (now.number ≡ 1) × (now.first ≡ 1)
+  pub few_bad : IsLawfulBad rules.loss now.bad
+  pub from_on : lock.due ≤ now.due
+  pub limit : lock.due < now.due → now.due - 25 ≤ to
+  pub more : lock.due < now.due → length before < length after
+  pub state : (run b rules (state_in lock) (lock.due - 25) (now.due - lock.due)).0 ≡ state_in now
+  pub items : after ≡ before ++ (run b rules (state_in lock) (lock.due - 25) (now.due - lock.due)).1
