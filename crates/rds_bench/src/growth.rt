@@ -6,8 +6,9 @@
 use crate::sample::Sample;
 use anyhow::{Result, bail};
 use rds_crew::{OpenGate, decode_crew};
+use rds_live::Live;
 use rds_pieces::{Cutting, RecordingWork, speculate};
-use rds_stream::{Recording, ValidWindows, scan};
+use rds_stream::{Recording, StreamError, ValidWindows, scan};
 use rds_sync::{Decoder, Rules, State, decode_plain, run_codes};
 use std::alloc::Global;
 use std::sync::Wait;
@@ -20,6 +21,22 @@ const MOST: u64 = 8;
 /// How often a call is timed over a recording: the least time counts.
 const TURNS: u32 = 3;
 
+/// A recording of one of the sizes, and its bytes.
+#[derive(Drop)]
+struct Size {
+    recording: Recording,
+    bytes: Vec<u8>,
+}
+
+impl Size {
+    fn of(alloc: Global, bits: u64, sample: Sample) -> Result<Size> {
+        Ok(Size {
+            recording: sample.recording(alloc, bits)?,
+            bytes: sample.bytes(alloc, bits)?,
+        })
+    }
+}
+
 /// A public call, with the crate that it is of.
 #[derive(Clone, Copy)]
 enum Call {
@@ -30,9 +47,10 @@ enum Call {
     Codes,
     Guess,
     Crew,
+    Stream,
 }
 
-const CALLS: [Call; 7] = [
+const CALLS: [Call; 8] = [
     Call::Windows,
     Call::Scan,
     Call::OneDecoder,
@@ -40,6 +58,7 @@ const CALLS: [Call; 7] = [
     Call::Codes,
     Call::Guess,
     Call::Crew,
+    Call::Stream,
 ];
 
 impl Call {
@@ -52,6 +71,7 @@ impl Call {
             Call::Codes => "rds_sync: run_codes",
             Call::Guess => "rds_pieces: speculate",
             Call::Crew => "rds_crew: decode_crew",
+            Call::Stream => "rds_live: take",
         }
     }
 
@@ -60,9 +80,10 @@ impl Call {
         self,
         threads: &T,
         alloc: Global,
-        recording: &Recording,
+        size: &Size,
         rules: &Rules,
     ) -> Result<u64> {
+        let recording = &size.recording;
         let len = recording.len();
         Ok(match self {
             Call::Windows => ValidWindows::new(recording, 0, len).count() as u64,
@@ -75,6 +96,7 @@ impl Call {
             }
             Call::Guess => guess(alloc, recording, rules)?,
             Call::Crew => by_crew(threads, alloc, recording, rules)?,
+            Call::Stream => by_chunks(alloc, size.bytes.as_slice(), rules)?,
         })
     }
 }
@@ -111,6 +133,15 @@ fn by_crew<T: Threads + Wait>(
     Ok(report.totals.groups)
 }
 
+/// How many groups a stream of these bytes counts, in chunks of 1,000.
+fn by_chunks(alloc: Global, bytes: &[u8], rules: &Rules) -> Result<u64, StreamError> {
+    let mut live = Live::new(alloc, rules);
+    for chunk in bytes.chunks(1_000) {
+        let _items = live.take(chunk)?;
+    }
+    Ok(live.finish().totals.groups)
+}
+
 /// Times each call over a sixteenth of so many bits of the sample, over a fourth, and over all.
 pub fn measure<T: Threads + Wait>(
     rt: &HostRuntime,
@@ -120,9 +151,9 @@ pub fn measure<T: Threads + Wait>(
 ) -> Result<()> {
     let rules = Rules::new(rt.alloc(), 2, 3, sample.loss())?;
     let sizes = [
-        sample.recording(rt.alloc(), bits / 16)?,
-        sample.recording(rt.alloc(), bits / 4)?,
-        sample.recording(rt.alloc(), bits)?,
+        Size::of(rt.alloc(), bits / 16, sample)?,
+        Size::of(rt.alloc(), bits / 4, sample)?,
+        Size::of(rt.alloc(), bits, sample)?,
     ];
     for call in &CALLS {
         grows(rt, threads, *call, &sizes, &rules)?;
@@ -135,7 +166,7 @@ fn grows<T: Threads + Wait>(
     rt: &HostRuntime,
     threads: &T,
     call: Call,
-    sizes: &[Recording; 3],
+    sizes: &[Size; 3],
     rules: &Rules,
 ) -> Result<()> {
     let [small, middle, large] = sizes;
@@ -150,18 +181,18 @@ fn grows<T: Threads + Wait>(
     Ok(())
 }
 
-/// The least time that the call takes over the recording, in nanoseconds.
+/// The least time that the call takes over a recording of that size, in nanoseconds.
 fn least_time<T: Threads + Wait>(
     rt: &HostRuntime,
     threads: &T,
     call: Call,
-    recording: &Recording,
+    size: &Size,
     rules: &Rules,
 ) -> Result<u64> {
     let mut least = u64::MAX;
     for _ in 0..TURNS {
         let start = Instant::now(rt)?;
-        call.make(threads, rt.alloc(), recording, rules)?;
+        call.make(threads, rt.alloc(), size, rules)?;
         let nanos = u64::try_from(start.elapsed(rt)?.as_nanos()).unwrap_or(u64::MAX);
         least = least.min(nanos);
     }
