@@ -1,7 +1,7 @@
 //! Each call once where it succeeds with ample memory, which no clause says, and one that goes on from a state.
 use rds_abi::{
     RdsBlock, RdsItem, RdsPacked, RdsRules, RdsState, RdsStream, RdsTotals, RdsWords, correct,
-    encode, finish, finish_run, items, push, refusal_name, remainder, run, totals,
+    encode, finish, finish_run, finish_with, items, push, refusal_name, remainder, run, totals,
 };
 use std::alloc::Global;
 use std::test::Fail;
@@ -139,6 +139,52 @@ fn stream_in_chunks(rt: HostRuntime) -> Result<(), Fail> {
     )?;
     assert!(rt; stream.place == BITS && whole == parts);
     assert!(rt; found == totals(rt.alloc(), bytes.as_slice(), BITS, &[], RULES)?);
+    Ok(())
+}
+
+#[test]
+fn stream_that_ends_inside_a_byte(rt: HostRuntime) -> Result<(), Fail> {
+    let bytes = station(rt.alloc())?;
+    let mut whole = [NO_ITEM; 2 * GROUPS];
+    let mut parts = [NO_ITEM; 2 * GROUPS];
+    let mut count = 0;
+    items(
+        rt.alloc(),
+        bytes.as_slice(),
+        BITS - 3,
+        &[],
+        RULES,
+        &mut whole,
+        &mut count,
+    )?;
+    let (early, late) = bytes.as_slice().split_at(50);
+    let mut stream = RdsStream::UNHEARD;
+    let mut first = 0;
+    push(
+        rt.alloc(),
+        early,
+        &[],
+        RULES,
+        &mut stream,
+        &mut parts,
+        &mut first,
+    )?;
+    let mut last = 0;
+    let mut found = RdsTotals::NONE;
+    let room = &mut parts[(first as usize).min(GROUPS)..];
+    finish_with(
+        rt.alloc(),
+        late,
+        BITS - 403,
+        &[],
+        RULES,
+        &stream,
+        room,
+        &mut last,
+        &mut found,
+    )?;
+    assert!(rt; count == GROUPS as u64 + 1 && whole == parts);
+    assert!(rt; found == totals(rt.alloc(), bytes.as_slice(), BITS - 3, &[], RULES)?);
     Ok(())
 }
 

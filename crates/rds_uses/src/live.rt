@@ -92,18 +92,29 @@ pub fn one_by_one<'r>(
 
 /// Takes the next chunk of a stream, and puts the items that it completes behind those before.
 fn put_next(
+    alloc: Global,
     live: &mut Live<'_>,
     items: &mut Vec<Item>,
-    chunk: &[u8],
+    bytes: &[u8],
 ) -> Result<(), StreamError>
-    ensures heard { IfOk result (λ _. (before : List ℕ) → HasHeard live.old before → HasHeard live.new (before ++ chunk.now)) }
+    ensures heard { IfOk result (λ _. (before : List ℕ) → HasHeard live.old before → HasHeard live.new (before ++ bytes.now)) }
     ensures terms { IfOk result (λ _. live.new.terms ≡ live.old.terms) }
     ensures items { IfOk result (λ _. (before : List ℕ) → HasHeard live.old before
-        → items.old.items ≡ complete live.old.terms before → items.new.items ≡ complete live.old.terms (before ++ chunk.now)) }
+        → items.old.items ≡ complete live.old.terms before → items.new.items ≡ complete live.old.terms (before ++ bytes.now)) }
 {
-    let found = live.take(chunk)?;
-    for item in &found {
-        items.push(item)?;
+    let chunk = live.take(bytes)?;
+    let mut found = chunk.iter().collect::<Vec<Item>>(alloc)?;
+    items.append(&mut found)?;
+    Ok(())
+}
+
+/// Ends a stream, and puts the group in progress behind its items.
+fn close(live: Live<'_>, items: &mut Vec<Item>) -> Result<(), StreamError>
+    ensures { IfOk result (λ _. (bytes : List ℕ) → HasHeard live.entry bytes
+        → items.old.items ≡ complete live.entry.terms bytes → items.new.items ≡ report_of live.entry.terms bytes) }
+{
+    if let Some(group) = live.finish().group {
+        items.push(Item::Group(group))?;
     }
     Ok(())
 }
@@ -123,13 +134,11 @@ pub fn cut_at(
     let mut at = 0;
     for &cut in cuts {
         let next = cut.max(at).min(bytes.len());
-        put_next(&mut live, &mut items, &bytes[at..next])?;
+        put_next(alloc, &mut live, &mut items, &bytes[at..next])?;
         at = next;
     }
-    put_next(&mut live, &mut items, &bytes[at..])?;
-    if let Some(group) = live.finish().group {
-        items.push(Item::Group(group))?;
-    }
+    put_next(alloc, &mut live, &mut items, &bytes[at..])?;
+    close(live, &mut items)?;
     Ok(items)
 }
 
