@@ -11,7 +11,7 @@ use Rattle.rds_sync.specs.Rules.{RuleNumbers}
 use Rattle.rds_sync.specs.Totals.{totals_of}
 use Rattle.rds_sync.specs.declared.report.Report.{Report}
 use Rattle.rds_sync.specs.declared.totals.Totals.{Totals as TotalsOf}
-use Rattle.rds_tool.specs.Cuts.{cuts_bits, has_pieces}
+use Rattle.rds_tool.specs.Cuts.{cuts_any, cuts_bits, has_pieces}
 use Rattle.rds_tool.specs.GroupText.{line_text, lines_of, lines_text, words_of, words_or_refusal, group_text}
 use Rattle.rds_tool.specs.Input.{and_then, bytes_of, claimed, decoded, first_bits, is_blank, may_be_gaps, or_hex_text, recording_of}
 use Rattle.rds_tool.specs.Listing.{report_text, totals_text}
@@ -24,6 +24,7 @@ use Rattle.rds_tool.specs.Tasks.{AsksForThreads, MayStartThreads, task_of}
 use Rattle.rds_tool.specs.declared.error.ToolError.{ToolError}
 use Rattle.rds_tool.specs.declared.error.ToolError.TheVariants.{BadCutting, BadGaps, BitsPastBytes, BurstRange, CrewRange, LossRange, NoWorker, OutOfMemory, ReachRange, Read, ShareRange, TooLong, TooManyTurns, Write}
 use Rattle.rds_tool.specs.declared.job.Cuts.{Cuts}
+use Rattle.rds_tool.specs.declared.job.Cuts.TheVariants.{At, Even}
 use Rattle.rds_tool.specs.declared.job.Input.{Input}
 use Rattle.rds_tool.specs.declared.job.Job.{Job}
 use Rattle.rds_tool.specs.declared.job.Job.TheVariants.{Encode, List as ListJob, Scan, Totals}
@@ -33,6 +34,11 @@ use Rattle.rds_tool.specs.declared.task.Task.TheVariants as task
 use Rattle.rds_tool.proofs.Passing.{passed_kind}
 
 -- ---- the texts
+
+-- a cutting of any number of bits
+any_fits : (cuts : Cuts) → cuts_any cuts ≡ true → (n : ℕ) → cuts_bits cuts n ≡ true
+any_fits (Even pieces) any n = refl
+any_fits (At cuts) any n = cc any
 
 module _ (input : Input) (plan : PlanOf) (held : List ℕ) (bits : Signal) where
   cut : recording_of input held ≡ Ok bits → cut_by plan.cuts bits ≡ Ok bits → cut_recording input plan.cuts held ≡ Ok bits
@@ -44,6 +50,12 @@ module _ (input : Input) (plan : PlanOf) (held : List ℕ) (bits : Signal) where
   list_made report recorded fits i o =
       ap (λ r. and_then r (λ b. Ok (list_text plan.rules b))) (cut recorded fits)
       ∙ ap (λ x. Ok x) (ap₂ report_text (sym (ap (λ (items : ItemsOf). items.list) i)) (sym o))
+
+  -- the listing that is written while the recording is decoded
+  pub once_made : recording_of input held ≡ Ok bits → cuts_any plan.cuts ≡ true → text_of_task (task.List input plan) held ≡ Ok (list_text plan.rules bits)
+  once_made recorded any =
+      let fits : cut_by plan.cuts bits ≡ Ok bits = ap (λ (t : Bool). if t then Ok bits else Err BadCutting) (any_fits plan.cuts any (length_of bits)) in
+      ap (λ r. and_then r (λ b. Ok (list_text plan.rules b))) (cut recorded fits)
 
   -- the text of its totals alone
   pub totals_made : (totals : TotalsOf) → recording_of input held ≡ Ok bits → cut_by plan.cuts bits ≡ Ok bits → totals ≡ totals_of (report_items bits plan.rules)

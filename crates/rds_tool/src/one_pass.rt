@@ -6,7 +6,11 @@ ghost use Rattle.rds_rows.specs.Sheets.{left_of, size_of, text_of};
 ghost use Rattle.rds_rows.specs.Writes.{AppendsPrefix};
 ghost use Rattle.rds_sync.specs.Advance.{group_item};
 ghost use Rattle.rds_sync.specs.Counting.{IsAtMost};
+ghost use Rattle.rds_sync.specs.Lawful.{IsLawful};
+ghost use Rattle.rds_sync.specs.Step.{items_of_end};
 ghost use Rattle.rds_sync.specs.Totals.{totals_of};
+ghost use Rattle.rds_stream.specs.Recording.{length_of};
+ghost use Rattle.rds_tool.specs.Inside.Texts.{end_text};
 ghost use Rattle.rds_tool.specs.Listing.{item_row, totals_text};
 ghost use Rattle.rds_tool.specs.Outcome.{list_text};
 
@@ -74,16 +78,15 @@ fn write_report<'a, K: Sink>(
         (list_text rules.now recording.now)) }
 {
     prove!(1 <= rules.reach());
-    prove!(recording.len() <= 68_719_476_736);
     laws::runs_are_reports();
     laws::runs_are_lawful();
     laws::runs_give_few_items();
     laws::totals_join();
-    let mut decoder = Decoder::new(recording, rules, State::Searching, 0, recording.len());
+    let len = recording.len();
+    let mut decoder = Decoder::new(recording, rules, State::Searching, 0, len);
     let totals = write_items(alloc, &mut decoder, items, sheet, writer)?;
-    let group = finish(&mut Counted::new(recording), rules, decoder.end_state());
-    let totals = totals.plus(Totals::of_end(group));
-    write_end(alloc, group, &totals, sheet, writer)
+    let end = decoder.end_state();
+    write_end(alloc, recording, rules, end, totals, items, sheet, writer)
 }
 
 /// Writes the rows of the items that are left. Answers their totals.
@@ -116,8 +119,9 @@ fn write_items<K: Sink>(
         if items.is_empty() {
             return Ok(totals);
         }
-        totals = totals.plus(Totals::of_items(items.as_slice()));
-        write_part(alloc, items.as_slice(), sheet, writer)?;
+        let part = items.as_slice();
+        totals = totals.plus(Totals::of_items(part));
+        write_part(alloc, part, sheet, writer)?;
     }
 }
 
@@ -147,48 +151,48 @@ fn write_part<K: Sink>(
     }
 }
 
-/// Writes the last rows: of the group in progress, if there is one, and of the totals.
+/// Writes the last rows: of the group in progress, where the run ended so and there is one, and of all totals, these being
+/// those of the items before.
 fn write_end<K: Sink>(
     alloc: Global,
-    group: Option<Group>,
-    totals: &Totals,
+    recording: &Recording,
+    rules: &Rules,
+    end: State,
+    totals: Totals,
+    items: &mut Vec<Item>,
     sheet: &mut Sheet,
     writer: &mut K,
 ) -> Result<(), Failed>
+    requires lawful { IsLawful rules.now (length_of recording.now) end }
+    requires small { IsAtMost (2 ^ 47) totals }
+    requires some { 0 < vec_capacity items.old }
     requires room { 12 ≤ (size_of sheet.old).0 }
     requires longest { (size_of sheet.old).1 ≡ 168 }
     requires count { K.failed writer.old < 2 ^ 63 }
     ensures ok { OnOk result (Appends (K.contents writer.old) (K.contents writer.new)
-        (flat_map item_row (group_item group) ++ totals_text totals.now)) }
+        (end_text totals (items_of_end recording.now rules.now end))) }
     ensures count { OnOk result (K.failed writer.new ≡ K.failed writer.old) }
     ensures failed { OnErr result (K.failed writer.old < K.failed writer.new) }
     ensures prefix { OnErr result (AppendsPrefix (K.contents writer.old) (K.contents writer.new)
-        (flat_map item_row (group_item group) ++ totals_text totals.now)) }
+        (end_text totals (items_of_end recording.now rules.now end))) }
 {
-    write_group(alloc, group, sheet, writer)?;
-    write_totals(alloc, totals, sheet, writer)
+    let group = finish(&mut Counted::new(recording), rules, end);
+    take_end(items, group);
+    let part = items.as_slice();
+    let all = totals.plus(Totals::of_items(part));
+    write_part(alloc, part, sheet, writer)?;
+    write_totals(alloc, &all, sheet, writer)
 }
 
-/// Writes the row of a group, if there is one.
-fn write_group<K: Sink>(
-    alloc: Global,
-    group: Option<Group>,
-    sheet: &mut Sheet,
-    writer: &mut K,
-) -> Result<(), Failed>
-    requires room { 1 ≤ (size_of sheet.old).0 }
-    requires longest { (size_of sheet.old).1 ≡ 168 }
-    requires count { K.failed writer.old < 2 ^ 63 }
-    ensures ok { OnOk result (Appends (K.contents writer.old) (K.contents writer.new) (flat_map item_row (group_item group))) }
-    ensures size { size_of sheet.new ≡ size_of sheet.old }
-    ensures count { OnOk result (K.failed writer.new ≡ K.failed writer.old) }
-    ensures failed { OnErr result (K.failed writer.old < K.failed writer.new) }
-    ensures prefix { OnErr result (AppendsPrefix (K.contents writer.old) (K.contents writer.new)
-        (flat_map item_row (group_item group))) }
+/// Takes the group in progress, if there is one, in place of the items.
+fn take_end(items: &mut Vec<Item>, group: Option<Group>)
+    requires { 0 < vec_capacity items.old }
+    ensures items { items.new.items ≡ group_item group }
+    ensures few { length items.new.items ≤ 1 }
 {
-    match group {
-        Some(group) => write_part(alloc, &[Item::Group(group)], sheet, writer),
-        None => Ok(()),
+    items.clear();
+    if let Some(group) = group {
+        items.push_reserved(Item::Group(group));
     }
 }
 

@@ -118,7 +118,8 @@ impl<'a> Plan<'a> {
 
     /// Whether one worker goes over the whole recording by itself: it may be cut anyhow, and no cut is asked for by its place.
     pub fn is_for_one(&self) -> bool
-        ensures { result ≡ (self.now.workers == 1 && cuts_any self.now.cuts) }
+        ensures value { result ≡ (self.now.workers == 1 && cuts_any self.now.cuts) }
+        ensures any { result ≡ true → cuts_any self.now.cuts ≡ true }
     {
         match self.cuts {
             Cuts::Even(_) => self.workers == 1,

@@ -1,5 +1,6 @@
 //! A job whose settings were looked at.
-ghost use Rattle.std.specs.Prelude.{◌<◌, ◌≡◌, ◌⊎◌, Err, IfErr, IfOk, Ok};
+ghost use Rattle.std.specs.Prelude.{◌<◌, ◌≡◌, ◌⊎◌, Err, IfErr, IfOk, Ok, true};
+ghost use Rattle.rds_tool.specs.Cuts.{cuts_any};
 ghost use Rattle.rds_tool.specs.Listing.{report_text, totals_text};
 ghost use Rattle.rds_tool.specs.Outcome.{cut_recording, text_of_task};
 ghost use Rattle.rds_tool.specs.Inside.Texts.{bytes_of};
@@ -70,10 +71,7 @@ impl<'a> Task<'a> {
                 let recording = recording_of(alloc, input, held)?;
                 Ok(Text::Windows(recording, workers))
             }
-            Task::List(input, plan) if plan.is_for_one() => {
-                let recording = recording_of(alloc, input, held)?;
-                Ok(Text::OnePass(recording, plan))
-            }
+            Task::List(input, plan) if plan.is_for_one() => one_pass_of(alloc, input, plan, held),
             Task::List(input, plan) => {
                 let listing = listing_of(rt, alloc, input, plan, held, gate)?;
                 Ok(Text::Listing(listing))
@@ -89,6 +87,22 @@ impl<'a> Task<'a> {
             }
         }
     }
+}
+
+/// The recording that the bytes give, whose report is written while it is decoded.
+fn one_pass_of<'a>(
+    alloc: Global,
+    input: Input,
+    plan: Plan<'a>,
+    held: Vec<u8>,
+) -> Result<Text<'a>, ToolError>
+    requires { cuts_any plan.entry.cuts ≡ true }
+    ensures ok { IfOk result (λ text. text_of_task (task.List input plan.entry) held.items ≡ Ok (bytes_of text)) }
+    ensures refused { IfErr result (λ error. (error ≡ ToolError.OutOfMemory)
+        ⊎ (text_of_task (task.List input plan.entry) held.items ≡ Err error)) }
+{
+    let recording = recording_of(alloc, input, held)?;
+    Ok(Text::OnePass(recording, plan))
 }
 
 /// The report of the recording that the bytes give. Its items are decoded again where their rows are made, so the

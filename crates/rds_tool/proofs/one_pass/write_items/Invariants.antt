@@ -18,8 +18,8 @@ pub record HasDone (all left : List Item) (old new : Option (List ℕ)) (totals 
   pub counted : totals ≡ totals_of done
   pub small : IsAtMost (2 ^ 10 * length done) totals
 
-abbrev pub invariant-loop-parts : goal.invariant-loop-parts
-invariant-loop-parts g l = record {
+abbrev pub invariant-parts : goal.invariant-parts
+invariant-parts g l = record {
   done : HasDone l.fn.decoder.items l.decoder.items (g.K.Sink.contents l.fn.writer) (g.K.Sink.contents l.writer) l.totals;
   end : l.decoder.end ≡ l.fn.decoder.end;
   room : vec_capacity l.items ≡ vec_capacity l.fn.items;
@@ -27,5 +27,5 @@ invariant-loop-parts g l = record {
   count : g.K.Sink.failed l.writer ≡ g.K.Sink.failed l.fn.writer;
 }
 
-abbrev pub decreases-loop-parts : goal.decreases-loop-parts
-decreases-loop-parts g l = length l.decoder.items
+abbrev pub decreases-parts : goal.decreases-parts
+decreases-parts g l = length l.decoder.items

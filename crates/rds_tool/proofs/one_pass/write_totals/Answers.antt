@@ -1,0 +1,14 @@
+use Rattle.std.proofs.Common.{◌++◌, ◌∙◌, ◌≡◌, ℕ, List, ap₂, subst}
+use Rattle.std.specs.Prelude.{OnErr}
+use Rattle.std.specs.List.{flat_map}
+use Rattle.rds_rows.specs.Writes.{AppendsPrefix}
+use Rattle.rds_tool.specs.Listing.{total_row, totals_text}
+use Rattle.rds_tool.proofs.one_pass.write_totals.Goals as goal
+
+pub returns-in-Err-clause-prefix : goal.returns-in-Err-clause-prefix
+returns-in-Err-clause-prefix g c =
+    let text : c.as_slice-in-Err.result.now ≡ totals_text c.args.totals.now =
+    c.as_slice-in-Err.ensures
+    ∙ c.fill_named.ensures.rows
+    ∙ ap₂ (λ (front : List ℕ) (totals : List (List ℕ × ℕ)). front ++ flat_map total_row totals) c.clear.ensures.1.0 c.named-all.ensures.named in
+    subst (λ (t : List ℕ). OnErr c.write_all-in-Err.result (AppendsPrefix (g.K.Sink.contents c.args.writer.now) (g.K.Sink.contents c.write_all-in-Err.new.writer) t)) text c.write_all-in-Err.ensures.prefix
