@@ -1,4 +1,4 @@
-use Rattle.std.proofs.Common.{◌≡◌, ◌≤◌, ◌<◌, ◌+◌, ◌-◌, ◌++◌, ℕ, Bool, true, false, List, [], Option, Some, None, refl, ap, sym, subst, ◌∙◌, arith, inl, inr}
+use Rattle.std.proofs.Common.{◌≡◌, ◌≤◌, ◌<◌, ◌+◌, ◌-◌, ◌++◌, ℕ, Bool, true, false, List, [], ◌∷◌, Option, Some, None, refl, ap, sym, subst, ◌∙◌, arith, inl, inr}
 use Rattle.std.specs.List.{list_any, range_with_len}
 use Rattle.std.proofs.lemmas.Bool.{cases_lt}
 use Rattle.rds_code.specs.declared.offset.Offset.{Offset}
@@ -13,6 +13,7 @@ use Rattle.rds_sync.proofs.CodeMarks.{acquired-number}
 use Rattle.rds_sync.proofs.CodePartLemmas.{behind-none}
 use Rattle.rds_sync.proofs.CodeRunLemmas.{kept-further}
 use Rattle.rds_sync.specs.Acquiring.{acquired, has_number, has_partner}
+use Rattle.rds_sync.specs.Inside.CodeParts.{kept_as}
 use Rattle.rds_sync.specs.Inside.ShortLocks.{IsLostAtOnce}
 use Rattle.rds_sync.specs.Lawful.{IsLawful}
 use Rattle.rds_sync.specs.Rules.{RuleNumbers}
@@ -159,15 +160,18 @@ loop-here-preserved-then-has_partner_in c =
     let lock : State = locked_after here x (none_bad rules.loss) x in
     let run_is = short-run b rules here x c.args.to word e lost l.windows.next given.0
     (none_before b l.reader rules c.args.place c.args.to l.windows c.args.codes.now l.codes searched here given.2) in
-    let codes_are = kept-further l.codes c.push_found.new.codes c.push_word-then-has_partner_in.new.self (items_at b rules here Searching) (items_at b rules (here + 26) lock)
+    let codes_are = kept-further l.codes c.push_found.new.codes c.push_lost.new.self (items_at b rules here Searching) (items_at b rules (here + 26) lock)
     (c.in_ok-push_found.ensures b rules e)
-    (short-codes b rules here x c.args.to word e lost c.push_found.new.codes c.push_word.new.self c.push_word-then-has_partner_in.new.self
-    c.in_ok-push_word.ensures.ok c.in_ok-push_word-2.ensures.ok) in
+    (short-codes b rules here x c.args.to word e lost c.push_found.new.codes (behind c.push_found.new.codes (kept_as (word ∷ []) [])) c.push_lost.new.self
+    refl c.in_ok-push_lost.ensures) in
     let left_is : c.pass.new.self ≡ record { signal = l.windows.signal; next = here + 27; end = l.windows.end } =
-    c.pass.ensures ∙ ap (λ (w : WindowsLeft). record { signal = w.signal; next = here + 27; end = w.end }) given.4 in
-    (tt, tt, searched_to b l.reader rules c.args.place c.args.to l.windows c.args.codes.now l.codes searched c.word_if_lost.new.reader (here + 27)
-    (items_at b rules here Searching ++ items_at b rules (here + 26) lock) c.push_word-then-has_partner_in.new.self c.pass.new.self
-    c.in-Some-word_if_lost.ensures.same (omega (arith, given.0)) (omega (arith, lost.before)) run_is codes_are left_is)
+    c.pass.ensures ∙ ap (λ (w : WindowsLeft). record { signal = w.signal; next = here + 27; end = w.end }) given.4 in (
+      tt,
+      tt,
+      searched_to b l.reader rules c.args.place c.args.to l.windows c.args.codes.now l.codes searched c.word_if_lost.new.reader (here + 27)
+          (items_at b rules here Searching ++ items_at b rules (here + 26) lock) c.push_lost.new.self c.pass.new.self
+          c.in-Some-word_if_lost.ensures.same (omega (arith, given.0)) (omega (arith, lost.before)) run_is codes_are left_is,
+    )
 
 pub loop-here-preserved : goal.loop-here-preserved
 loop-here-preserved c =
@@ -183,9 +187,12 @@ loop-here-preserved c =
     c.recording-rec.result.now c.has_partner_in.result false given c.number-number.ensures c.recording-rec.ensures c.has_partner_in.ensures c.if-has_partner_in.false in
     let low : l.windows.next ≤ here + 1 = omega (arith, given.0) in
     let run_is = run-unfound b rules l.windows.next (here + 1) low
-    (none_with b l.reader rules c.args.place c.args.to l.windows c.args.codes.now l.codes searched here given.2 none) in
-    (tt, tt, searched_to b l.reader rules c.args.place c.args.to l.windows c.args.codes.now l.codes searched l.reader (here + 1) [] l.codes c.next.new.self
-    refl low (omega (arith, last)) run_is (sym (behind-none l.codes)) given.4)
+    (none_with b l.reader rules c.args.place c.args.to l.windows c.args.codes.now l.codes searched here given.2 none) in (
+      tt,
+      tt,
+      searched_to b l.reader rules c.args.place c.args.to l.windows c.args.codes.now l.codes searched l.reader (here + 1) [] l.codes c.next.new.self
+          refl low (omega (arith, last)) run_is (sym (behind-none l.codes)) given.4,
+    )
 
 pub returns-clause-reached : goal.returns-clause-reached
 returns-clause-reached c =
