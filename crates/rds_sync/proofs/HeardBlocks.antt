@@ -41,7 +41,7 @@ heard-blocks b rules due hs is wanted one two three four is_one is_two beside is
     (read-there b rules due (due + 78) 4 Either four (omega arith) (omega arith) (omega arith) fourth)
 
 -- the kind of a reading is the four bits of its block
-pub pub kind-nibble : (r : Reading) → kind_of r ≡ nibble (outcome_of (Read r))
+pub kind-nibble : (r : Reading) → kind_of r ≡ nibble (outcome_of (Read r))
 kind-nibble (Valid o info) = refl
 kind-nibble (Corrected o info e) = refl
 kind-nibble Lost = refl

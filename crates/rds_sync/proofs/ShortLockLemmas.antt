@@ -1,5 +1,9 @@
 -- The group of a lock that its second block loses, and the run over it.
-use Rattle.std.proofs.Common.{◌≡◌, ◌≢◌, ℕ, zero, suc, ◌+◌, ◌-◌, ◌*◌, ◌%◌, ◌<◌, ◌≤◌, ◌⊎◌, List, [], ◌∷◌, true, false, map, refl, sym, ap, ◌∙◌, arith, inl, inr}
+use Rattle.std.proofs.Common.{◌≡◌, ◌≢◌, ℕ, zero, suc, ◌+◌, ◌-◌, ◌*◌, ◌%◌, ◌<◌, ◌≤◌, ◌⊎◌, List, [], ◌∷◌, ◌++◌, Bool, true, false, Some, None, map, refl, sym, ap, ◌∙◌, arith, inl, inr}
+use Rattle.std.proofs.Math.Nat.{mod-eq_of_lt, pow-suc}
+use Rattle.std.proofs.Math.Pow.{pow_pos}
+use Rattle.std.specs.Int.Count.{ones}
+use Rattle.std.specs.Prelude.{◌^◌, nat_le, count_ones}
 use Rattle.rds_code.specs.Kinds.{kind_of}
 use Rattle.rds_code.specs.declared.reading.Wanted.{Wanted}
 use Rattle.rds_code.specs.declared.reading.Wanted.TheVariants.{Either}
@@ -8,19 +12,39 @@ use Rattle.rds_code.specs.declared.reading.Reading.TheVariants.{Valid, Corrected
 use Rattle.rds_stream.specs.Recording.{Signal, heard, reading_at}
 use Rattle.rds_sync.specs.declared.item.Block.{Block}
 use Rattle.rds_sync.specs.declared.item.Block.TheVariants.{Read}
-use Rattle.rds_sync.specs.Acquiring.{has_number}
-use Rattle.rds_sync.specs.Codes.{Outcome, outcome_of}
-use Rattle.rds_sync.specs.Groups.{block_at, blocks_at, wanted_beside}
-use Rattle.rds_sync.specs.Inside.ShortLocks.{wanted_behind, first_behind, word_of_two}
+use Rattle.rds_sync.specs.declared.item.Item.{Item}
+use Rattle.rds_sync.specs.declared.item.Item.TheVariants.{Group, LostLock}
+use Rattle.rds_sync.specs.declared.state.State.{State}
+use Rattle.rds_sync.specs.declared.state.State.TheVariants.{Searching}
+use Rattle.rds_sync.specs.Acquiring.{acquired, has_number}
+use Rattle.rds_sync.specs.Codes.{Outcome, outcome_of, Code, blocks, ended, KeptOf, behind, kept_of}
+use Rattle.rds_sync.specs.Groups.{block_at, blocks_at, group, wanted_beside}
+use Rattle.rds_sync.specs.Inside.CodeParts.{kept_as}
+use Rattle.rds_sync.specs.Inside.ShortLocks.{IsLostAtOnce, wanted_behind, first_behind, word_of_two}
 use Rattle.rds_sync.specs.Lawful.{HaveRoom}
+use Rattle.rds_sync.specs.Loss.{none_bad, bad_after, are_too_many}
 use Rattle.rds_sync.specs.Rules.{RuleNumbers}
+use Rattle.rds_sync.specs.Step.{step, items_at, run, locked_after, bad_with}
 use Rattle.rds_sync.specs.Totals.{is_valid}
 use Rattle.rds_sync.specs.Words.{nibble, word_of_blocks}
 use Rattle.rds_sync.proofs.CleanGroups.{good-only}
+use Rattle.rds_sync.proofs.CodePartLemmas.{behind-assoc}
 use Rattle.rds_sync.proofs.GroupBlocks.{block_at-read, block_at-missing}
 use Rattle.rds_sync.proofs.GroupOutcomes.{good_block}
 use Rattle.rds_sync.proofs.HeardBlocks.{kind-nibble}
 use Rattle.rds_sync.proofs.HeardLemmas.{good-reading}
+use Rattle.rds_sync.proofs.RunLemmas.{step-acquiring, step-losing, items-losing, run-due, run-found, run-further}
+use Rattle.rds_sync.proofs.WordLemmas.{not_group}
+
+-- one bad block is a share of one
+pub share-of-one : (of : ℕ) → 1 ≤ of → nat_le 1 (count_ones ((2 * 0 + 1) % 2 ^ of)) ≡ true
+unfolding ones
+share-of-one zero some = absurd (omega arith)
+share-of-one (suc v) some =
+    let power : 2 ^ suc v ≡ 2 * 2 ^ v = omega (arith, pow-suc 2 v) in
+    let more : 1 ≤ 2 ^ v = omega (arith, pow_pos v) in
+    let one : 1 % 2 ^ suc v ≡ 1 = mod-eq_of_lt {n = 1} {m = 2 ^ suc v} (omega arith) in
+    ap (λ (m : ℕ). nat_le 1 (count_ones m)) one
 
 -- a block of another kind than a valid one's is bad
 bad-kind : (r : Reading) → kind_of r ≢ 1 → is_valid (Read r) ≡ false
@@ -55,6 +79,17 @@ module _ (b : Signal) (rules : RuleNumbers) (f n p : ℕ) where
   valid-is wanted y place low high room there valid =
       ap (λ (o : Outcome). nibble o) (good-only _ (good_block b rules f n p wanted y low high room ∙ ap (λ (q : ℕ). has_number b q y) there ∙ valid))
 
+-- the word of a group, by the four bits of its blocks
+word-are : (b : Signal) (rules : RuleNumbers) (f n p k l m r : ℕ) → nibble (outcome_of (block_at b rules f n p Either 1)) ≡ k
+    → nibble (outcome_of (block_at b rules f n p Either 2)) ≡ l
+    → nibble (outcome_of (block_at b rules f n p (wanted_beside (block_at b rules f n p Either 2)) 3)) ≡ m
+    → nibble (outcome_of (block_at b rules f n p Either 4)) ≡ r
+    → k + 16 * l + 256 * m + 4096 * r ≡ word_of_blocks (map outcome_of (blocks_at b rules f n p))
+word-are b rules f n p k l m r first second third fourth =
+    word-sum (outcome_of (block_at b rules f n p Either 1)) (outcome_of (block_at b rules f n p Either 2))
+    (outcome_of (block_at b rules f n p (wanted_beside (block_at b rules f n p Either 2)) 3))
+    (outcome_of (block_at b rules f n p Either 4)) k l m r first second third fourth
+
 -- the word of a valid block and the one behind it
 pub two-are : (b : Signal) (rules : RuleNumbers) (place x k : ℕ) → 25 ≤ place → 1 ≤ x → x ≤ 4 → has_number b place x ≡ true
     → k ≡ kind_of (reading_at b (place + 26) (x % 4 + 1) (wanted_behind b rules place x) rules.burst)
@@ -64,7 +99,7 @@ two-are b rules place (suc zero) k late low high valid is =
     let p : ℕ = place + 26 in
     let beside : Wanted = wanted_beside (block_at b rules 1 2 p Either 2) in
     let sum : 1 + 16 * k ≡ 1 + 16 * k + 256 * 0 + 4096 * 0 = omega arith in
-    sum ∙ word-sum _ _ _ _ 1 k 0 0
+    sum ∙ word-are b rules 1 2 p 1 k 0 0
     (valid-is b rules 1 2 p Either 1 place (omega arith) (omega arith) (omega arith) (omega arith) valid)
     (last-is b rules 1 2 p Either k (omega arith) is)
     (missing-is b rules 1 2 p beside 3 (inr (omega arith)))
@@ -76,7 +111,7 @@ two-are b rules place (suc (suc zero)) k late low high valid is =
     let second : Read (reading_at b place 2 Either rules.burst) ≡ block_at b rules 2 3 p Either 2 =
     sym (block_at-read b rules 2 3 p Either 2 (omega arith) (omega arith) ∙ ap (λ (q : ℕ). Read (reading_at b q 2 Either rules.burst)) there) in
     let sum : 16 + 256 * k ≡ 0 + 16 * 1 + 256 * k + 4096 * 0 = omega arith in
-    sum ∙ word-sum _ _ _ _ 0 1 k 0
+    sum ∙ word-are b rules 2 3 p 0 1 k 0
     (missing-is b rules 2 3 p Either 1 (inl (omega arith)))
     (valid-is b rules 2 3 p Either 2 place (omega arith) (omega arith) (omega arith) there valid)
     (last-is b rules 2 3 p beside k (omega arith) (is ∙ ap (λ (block : Block). kind_of (reading_at b p 3 (wanted_beside block) rules.burst)) second))
@@ -85,7 +120,7 @@ two-are b rules place (suc (suc (suc zero))) k late low high valid is =
     let p : ℕ = place + 26 in
     let beside : Wanted = wanted_beside (block_at b rules 3 4 p Either 2) in
     let sum : 256 + 4096 * k ≡ 0 + 16 * 0 + 256 * 1 + 4096 * k = omega arith in
-    sum ∙ word-sum _ _ _ _ 0 0 1 k
+    sum ∙ word-are b rules 3 4 p 0 0 1 k
     (missing-is b rules 3 4 p Either 1 (inl (omega arith)))
     (missing-is b rules 3 4 p Either 2 (inl (omega arith)))
     (valid-is b rules 3 4 p beside 3 place (omega arith) (omega arith) (omega arith) (omega arith) valid)
@@ -94,9 +129,39 @@ two-are b rules place (suc (suc (suc (suc zero)))) k late low high valid is =
     let p : ℕ = place + 26 in
     let beside : Wanted = wanted_beside (block_at b rules 1 1 p Either 2) in
     let sum : k ≡ k + 16 * 0 + 256 * 0 + 4096 * 0 = omega arith in
-    sum ∙ word-sum _ _ _ _ k 0 0 0
+    sum ∙ word-are b rules 1 1 p k 0 0 0
     (last-is b rules 1 1 p Either k (omega arith) is)
     (missing-is b rules 1 1 p Either 2 (inr (omega arith)))
     (missing-is b rules 1 1 p beside 3 (inr (omega arith)))
     (missing-is b rules 1 1 p Either 4 (inr (omega arith)))
 two-are b rules place (suc (suc (suc (suc (suc x))))) k late low high valid is = absurd (omega arith)
+
+-- the run from before a lock that its second block loses to behind it
+module _ (b : Signal) (rules : RuleNumbers) (here x to word : ℕ) (acquires : acquired b rules here ≡ Some x) (lost : IsLostAtOnce b rules here x to word) where
+  abbrev lock : State
+  lock = locked_after here x (none_bad rules.loss) x
+
+  many : are_too_many rules.loss (bad_with b rules (here + 26) (x % 4 + 1) (none_bad rules.loss)) ≡ true
+  many = ap (λ (good : Bool). are_too_many rules.loss (bad_after rules.loss good (none_bad rules.loss))) lost.bad ∙ lost.loses
+
+  last-items : items_at b rules (here + 26) lock ≡ Group (group b rules (first_behind x) (x % 4 + 1) (here + 26)) ∷ LostLock (here + 26) ∷ []
+  last-items = items-losing b rules (here + 26) (x % 4 + 1) (none_bad rules.loss) (first_behind x) many
+
+  pub short-run : (from : ℕ) → from ≤ here → ((j : ℕ) → from ≤ j → j < here → acquired b rules j ≡ None)
+      → run b rules Searching from (here + 27 - from) ≡ (Searching, items_at b rules here Searching ++ items_at b rules (here + 26) lock)
+  short-run from order none =
+      let last = run-due b rules lock (here + 1) (here + 27) (here + 26) (x % 4 + 1) (none_bad rules.loss) (first_behind x) refl (omega arith) (omega arith) in
+      run-further b rules Searching lock Searching (items_at b rules here Searching) (items_at b rules (here + 26) lock) from (here + 1) (here + 27) (omega arith) (omega arith)
+      (run-found b rules from here order none ∙ ap (λ (s : State). (s, items_at b rules here Searching)) (step-acquiring b rules here x acquires))
+      (sym (ap (λ (r : State × List Item). r.0) last ∙ step-losing b rules (here + 26) (x % 4 + 1) (none_bad rules.loss) (first_behind x) many))
+      (sym (ap (λ (r : State × List Item). r.1) last))
+
+  -- and what is kept of it behind its acquisition
+  pub short-codes : (before group_kept all : KeptOf) → group_kept ≡ behind before (kept_as (word ∷ []) []) → all ≡ behind group_kept (kept_as (65535 ∷ []) [])
+      → all ≡ behind before (kept_of (items_at b rules (here + 26) lock))
+  short-codes before group_kept all first second =
+      second
+      ∙ ap (λ (kept : KeptOf). behind kept (kept_as (65535 ∷ []) [])) first
+      ∙ behind-assoc before (kept_as (word ∷ []) []) (kept_as (65535 ∷ []) [])
+      ∙ ap (λ (code : Code). behind before (record { codes = code ∷ ended ∷ []; locks = [] })) (not_group word lost.few ∙ ap (λ (os : List Outcome). blocks os) lost.blocks)
+      ∙ ap (λ (is : List Item). behind before (kept_of is)) (sym last-items)

@@ -135,6 +135,16 @@ impl CodePart {
         Ok(())
     }
 
+    /// Appends the code of a group, which is no acquisition's, and that of the loss of its lock.
+    #[inline(always)]
+    pub fn push_lost(&mut self, word: u16) -> Result<(), AllocError>
+        requires { is_locked (code_in word) ≡ false }
+        ensures { OnOk result (self.new ≡ behind (behind self.old (kept_as (word ∷ []) [])) (kept_as (65535 ∷ []) [])) }
+    {
+        self.push_word(word)?;
+        self.push_word(ENDED)
+    }
+
     /// Appends the code and the place of an acquisition.
     pub fn push_lock(&mut self, place: u64, number: u8) -> Result<(), AllocError>
         requires place { place < 2 ^ 36 }

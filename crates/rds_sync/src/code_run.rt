@@ -39,8 +39,8 @@ const GROUP_PLACES: u64 = 4 * BLOCK_PLACES;
 /// The item of the recording's end is not among them: see [`finish`](crate::finish). Fails with `OutOfMemory` alone.
 ///
 /// Its cost: a search goes over 64 places at once, and looks up to `reach` windows back from each valid one; a lock
-/// reads a window every 26 bits, and those of a group in which it may be lost twice at most. It takes memory for the
-/// codes alone, and room for a code every 104 bits at once.
+/// reads a window every 26 bits, and those of a group in which it may be lost three times at most. It takes memory for
+/// the codes alone, and room for a code every 104 bits at once.
 pub fn run_codes(
     alloc: Global,
     rec: &Recording,
@@ -158,8 +158,7 @@ fn search_codes(
                 let lock = Lock::after_block(here, number, rules.loss().none_bad(), number);
                 return Ok((here + 1, lock.state()));
             };
-            codes.push_word(word)?;
-            codes.push_word(ENDED)?;
+            codes.push_lost(word)?;
             windows.pass(here + PASSED);
         }
     }

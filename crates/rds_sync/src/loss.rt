@@ -50,8 +50,9 @@ impl Loss {
         ensures { result ≡ true → are_too_many self (bad_after self false (none_bad self)) ≡ true }
     {
         match self {
-            Loss::Run(loss) => loss == 1,
-            Loss::Share { bad, .. } => bad == 1,
+            Loss::Run(1) => true,
+            Loss::Share { bad: 1, .. } => true,
+            _ => false,
         }
     }
 

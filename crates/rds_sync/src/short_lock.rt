@@ -38,14 +38,13 @@ pub(crate) fn word_if_lost(
         return None;
     }
     let loss = rules.loss();
-    if !loss.loses_by_one() {
-        return None;
+    if loss.loses_by_one() {
+        let kind = kind_behind(reader, rules, place, number);
+        if kind != u16::from(Kinds::VALID) {
+            return Some(word_of_two(number, kind));
+        }
     }
-    let kind = kind_behind(reader, rules, place, number);
-    if kind == u16::from(Kinds::VALID) {
-        return None;
-    }
-    Some(word_of_two(number, kind))
+    None
 }
 
 /// The word of a group of a valid block of this number and the one behind it of this kind; behind block 4, of that alone.

@@ -1,134 +1,215 @@
-use Rattle.std.proofs.Common.{◌≡◌, ◌≤◌, ◌<◌, ◌+◌, ℕ, true, false, List, Some, None, ap, sym, subst, ◌∙◌, arith, inl, inr}
+use Rattle.std.proofs.Common.{◌≡◌, ◌≤◌, ◌<◌, ◌+◌, ◌-◌, ◌++◌, ℕ, Bool, true, false, List, [], ◌∷◌, Option, Some, None, refl, ap, sym, subst, ◌∙◌, arith, inl, inr}
 use Rattle.std.specs.List.{list_any, range_with_len}
 use Rattle.std.proofs.lemmas.Bool.{cases_lt}
 use Rattle.rds_code.specs.declared.offset.Offset.{Offset}
+use Rattle.rds_code.specs.Offsets.{number}
 use Rattle.rds_stream.specs.Recording.{Signal, off}
 use Rattle.rds_stream.specs.ValidWindows.{WindowsLeft, GivesFirst, NoneValid}
 use Rattle.rds_sync.specs.declared.item.Item.{Item}
 use Rattle.rds_sync.specs.declared.state.State.{State}
 use Rattle.rds_sync.specs.declared.state.State.TheVariants.{Searching}
 use Rattle.rds_sync.specs.Codes.{KeptOf, behind, kept_of}
-use Rattle.rds_sync.proofs.CodeRunLemmas.{kept-nothing}
-use Rattle.rds_sync.specs.Acquiring.{acquired, has_partner}
+use Rattle.rds_sync.proofs.CodeMarks.{acquired-number}
+use Rattle.rds_sync.proofs.CodePartLemmas.{behind-none}
+use Rattle.rds_sync.proofs.CodeRunLemmas.{kept-further}
+use Rattle.rds_sync.specs.Acquiring.{acquired, has_number, has_partner}
+use Rattle.rds_sync.specs.Inside.CodeParts.{kept_as}
+use Rattle.rds_sync.specs.Inside.ShortLocks.{IsLostAtOnce}
 use Rattle.rds_sync.specs.Lawful.{IsLawful}
 use Rattle.rds_sync.specs.Rules.{RuleNumbers}
 use Rattle.rds_sync.specs.Loss.{none_bad}
 use Rattle.rds_sync.specs.declared.loss.Loss.{Loss}
 use Rattle.rds_sync.specs.declared.loss.Bad.{Bad}
-use Rattle.rds_sync.specs.Step.{step, items_at, locked_after}
-use Rattle.rds_sync.proofs.RunLemmas.{step-acquiring, run-found, run-unfound}
+use Rattle.rds_sync.specs.Step.{step, items_at, locked_after, run}
+use Rattle.rds_sync.proofs.RunLemmas.{step-acquiring, run-found, run-unfound, run-further}
 use Rattle.rds_sync.proofs.LawfulLemmas.{acquired-none, lawful-step, off-place}
 use Rattle.rds_sync.proofs.HeardLemmas.{acquired-offset}
+use Rattle.rds_sync.proofs.ShortLockLemmas.{short-run, short-codes}
 use Rattle.rds_sync.proofs.code_run.search_codes.Invariants.{HasSearched}
 use Rattle.rds_sync.proofs.code_run.search_codes.Goals as goal
 
 module _ (b read : Signal) (rules : RuleNumbers) (place to : ℕ) (old : WindowsLeft) (before codes : KeptOf)
     (searched : HasSearched b read rules place to old before codes) where
   -- no place acquires up to one before which no window is valid
-  none_before : (p : ℕ) → NoneValid old.signal old.next p → (j : ℕ) → place ≤ j → j < p → acquired b rules j ≡ None
-  none_before p none j low high = elim (cases_lt j old.next) [
-    | inl earlier ↦ searched.none j low earlier
-    | inr late ↦ acquired-none b rules j (subst (λ (bits : Signal). off bits j ≡ None) searched.signal (none j late high))
+  none_before : (p : ℕ) → NoneValid old.signal old.next p → (j : ℕ) → old.next ≤ j → j < p → acquired b rules j ≡ None
+  none_before p none j low high = acquired-none b rules j (subst (λ (bits : Signal). off bits j ≡ None) searched.signal (none j low high))
+
+  -- nor up to and including the next valid window, where that does not
+  none_with : (here : ℕ) → NoneValid old.signal old.next here → acquired b rules here ≡ None → (j : ℕ) → old.next ≤ j → j < here + 1 → acquired b rules j ≡ None
+  none_with here none this j low high = elim (cases_lt j here) [
+    | inl earlier ↦ none_before here none j low earlier
+    | inr late ↦
+        let same : here ≡ j = omega (arith, high) in
+        subst (λ (i : ℕ). acquired b rules i ≡ None) same this
   ]
 
-  -- the window that is given next does not acquire
-  one_more : (found : ℕ × Offset) (new : WindowsLeft) → GivesFirst old (Some found) new → acquired b rules found.0 ≡ None → HasSearched b read rules place to new before codes
-  one_more found new gives this =
-      subst (λ (left : WindowsLeft). HasSearched b read rules place to left before codes) (sym gives.4) (record {
-        same = searched.same;
+  -- the run goes on from the windows that are left to a later place
+  module _ (later : ℕ) (t : State) (more : List Item) (after : KeptOf) (low : old.next ≤ later)
+      (is : run b rules Searching old.next (later - old.next) ≡ (t, more)) where
+    run_to : run b rules Searching place (later - place) ≡ (t, searched.found ++ more)
+    run_to =
+        run-further b rules Searching Searching t searched.found more place old.next later searched.from_on low searched.so_far
+        (sym (ap (λ (r : State × List Item). r.0) is)) (sym (ap (λ (r : State × List Item). r.1) is))
+
+    codes_to : after ≡ behind codes (kept_of more) → after ≡ behind before (kept_of (searched.found ++ more))
+    codes_to codes_are = kept-further before codes after searched.found more searched.codes_are codes_are
+
+  -- it searches there again
+  searched_to : (read_then : Signal) (later : ℕ) (more : List Item) (after : KeptOf) (left : WindowsLeft) → read_then ≡ read → old.next ≤ later → later ≤ to
+      → run b rules Searching old.next (later - old.next) ≡ (Searching, more) → after ≡ behind codes (kept_of more)
+      → left ≡ record { signal = old.signal; next = later; end = old.end } → HasSearched b read_then rules place to left before after
+  searched_to read_then later more after left same low high is codes_are left_is =
+      subst (λ (windows : WindowsLeft). HasSearched b read_then rules place to windows before after) (sym left_is) (record {
+        same = same ∙ searched.same;
         signal = searched.signal;
         end = searched.end;
-        from_on = omega (arith, searched.from_on, gives.0);
-        none = λ j low high. elim (cases_lt j found.0) [
-          | inl earlier ↦ none_before found.0 gives.2 j low earlier
-          | inr late ↦
-              let same : found.0 ≡ j = omega (arith, high) in
-              subst (λ (i : ℕ). acquired b rules i ≡ None) same this
-        ];
-        nothing = searched.nothing;
+        from_on = omega (arith, searched.from_on, low);
+        limit = high;
+        found = searched.found ++ more;
+        so_far = run_to later Searching more after low is;
+        codes_are = codes_to later Searching more after low is codes_are;
       })
 
   offset_is : (found : ℕ × Offset) (new : WindowsLeft) → GivesFirst old (Some found) new → off b found.0 ≡ Some found.1
   offset_is found new gives = subst (λ (bits : Signal). off bits found.0 ≡ Some found.1) searched.signal gives.3
 
-  from_here : (found : ℕ × Offset) (new : WindowsLeft) → GivesFirst old (Some found) new → (place ≤ found.0) × (found.0 < to)
-  from_here found new gives = (omega (arith, searched.from_on, gives.0), omega (arith, gives.1, searched.end))
+  within : (found : ℕ × Offset) (new : WindowsLeft) → GivesFirst old (Some found) new → found.0 < to
+  within found new gives = omega (arith, gives.1, searched.end)
 
-  all : (new : WindowsLeft) → GivesFirst old None new → (j : ℕ) → place ≤ j → j < to → acquired b rules j ≡ None
-  all new gives = subst (λ (end : ℕ). (j : ℕ) → place ≤ j → j < end → acquired b rules j ≡ None) searched.end (none_before old.end gives.0)
+  -- whether the valid window acquires is a matter of its partner
+  acquires : (here x : ℕ) (offset : Offset) (new : WindowsLeft) (rec : Signal) (found answer : Bool) → GivesFirst old (Some (here, offset)) new → x ≡ number offset
+      → rec ≡ b → found ≡ list_any (has_partner rec here x) (range_with_len 1 rules.reach) → found ≡ answer
+      → acquired b rules here ≡ elim answer as (λ _. Option ℕ) [ true ↦ Some x | false ↦ None ]
+  acquires here x offset new rec found answer gives number_is rec_is partner answered =
+      acquired-offset b rules here x offset found answer (offset_is (here, offset) new gives) number_is
+      (partner ∙ ap (λ (signal : Signal). list_any (has_partner signal here x) (range_with_len 1 rules.reach)) rec_is) answered
+
+pub push_found-requires-clause-place : goal.push_found-requires-clause-place
+push_found-requires-clause-place c =
+    let b = c.args.reader.now in
+    let l = c.loop-here in
+    let here = c.in-Some.here in
+    let offset = c.in-Some.offset in
+    let given = c.in-Some.ensures.steps in
+    let searched = l.invariant.2 in
+    let is = offset_is b l.reader c.args.rules.now c.args.place c.args.to l.windows c.args.codes.now l.codes searched (here, offset) c.next.new.self given in
+    let last = within b l.reader c.args.rules.now c.args.place c.args.to l.windows c.args.codes.now l.codes searched (here, offset) c.next.new.self given in
+    (off-place b here offset is, omega (arith, last, c.if-prove.false, c.len.ensures.limit))
+
+pub word_if_lost-requires-clause-valid : goal.word_if_lost-requires-clause-valid
+word_if_lost-requires-clause-valid c =
+    let b = c.args.reader.now in
+    let rules = c.args.rules.now in
+    let l = c.loop-here in
+    let here = c.in-Some.here in
+    let offset = c.in-Some.offset in
+    let x = c.number-number.result in
+    let given = c.in-Some.ensures.steps in
+    let searched = l.invariant.2 in
+    let is = offset_is b l.reader rules c.args.place c.args.to l.windows c.args.codes.now l.codes searched (here, offset) c.next.new.self given in
+    let e : acquired b rules here ≡ Some x = acquires b l.reader rules c.args.place c.args.to l.windows c.args.codes.now l.codes searched here x offset c.next.new.self
+    c.recording-rec.result.now c.has_partner_in.result true given c.number-number.ensures c.recording-rec.ensures c.has_partner_in.ensures c.if-has_partner_in.true in
+    (off-place b here offset is, ap (λ (signal : Signal). has_number signal here x) searched.same ∙ acquired-number b rules here x e)
+
+pub returns-in_default-word_if_lost-clause-reached : goal.returns-in_default-word_if_lost-clause-reached
+returns-in_default-word_if_lost-clause-reached c =
+    let b = c.args.reader.now in
+    let rules = c.args.rules.now in
+    let l = c.loop-here in
+    let here = c.in-Some.here in
+    let offset = c.in-Some.offset in
+    let x = c.number-number.result in
+    let given = c.in-Some.ensures.steps in
+    let searched = l.invariant.2 in
+    let last = within b l.reader rules c.args.place c.args.to l.windows c.args.codes.now l.codes searched (here, offset) c.next.new.self given in
+    let e : acquired b rules here ≡ Some x = acquires b l.reader rules c.args.place c.args.to l.windows c.args.codes.now l.codes searched here x offset c.next.new.self
+    c.recording-rec.result.now c.has_partner_in.result true given c.number-number.ensures c.recording-rec.ensures c.has_partner_in.ensures c.if-has_partner_in.true in
+    let low : l.windows.next ≤ here + 1 = omega (arith, given.0) in
+    let found_is = run-found b rules l.windows.next here given.0 (none_before b l.reader rules c.args.place c.args.to l.windows c.args.codes.now l.codes searched here given.2) in
+    let all = run_to b l.reader rules c.args.place c.args.to l.windows c.args.codes.now l.codes searched (here + 1) (step b rules here Searching)
+    (items_at b rules here Searching) c.push_found.new.codes low found_is in
+    let state_is : c.state.result ≡ step b rules here Searching =
+    c.state.ensures ∙ c.after_block-lock.ensures
+    ∙ ap (λ (bad : Bad). locked_after here x bad x) (c.none_bad.ensures ∙ ap (λ (loss : Loss). none_bad loss) c.loss.ensures.value)
+    ∙ sym (step-acquiring b rules here x e) in
+    record {
+      forward = omega (arith, given.0, searched.from_on);
+      limit = omega (arith, last);
+      state = state_is ∙ sym (ap (λ (r : State × List Item). r.0) all);
+      codes = codes_to b l.reader rules c.args.place c.args.to l.windows c.args.codes.now l.codes searched (here + 1) (step b rules here Searching)
+          (items_at b rules here Searching) c.push_found.new.codes low found_is (c.in_ok-push_found.ensures b rules e)
+          ∙ ap (λ (r : State × List Item). behind c.args.codes.now (kept_of r.1)) (sym all);
+      lawful = subst (λ (t : State). IsLawful rules (here + 1) t) (sym state_is)
+          (lawful-step b rules c.loss.ensures.range.some_loss here Searching tt);
+    }
+
+pub loop-here-preserved-then-has_partner_in : goal.loop-here-preserved-then-has_partner_in
+loop-here-preserved-then-has_partner_in c =
+    let b = c.args.reader.now in
+    let rules = c.args.rules.now in
+    let l = c.loop-here in
+    let here = c.in-Some.here in
+    let offset = c.in-Some.offset in
+    let x = c.number-number.result in
+    let word = c.in-Some-word_if_lost.word in
+    let given = c.in-Some.ensures.steps in
+    let searched = l.invariant.2 in
+    let e : acquired b rules here ≡ Some x = acquires b l.reader rules c.args.place c.args.to l.windows c.args.codes.now l.codes searched here x offset c.next.new.self
+    c.recording-rec.result.now c.has_partner_in.result true given c.number-number.ensures c.recording-rec.ensures c.has_partner_in.ensures c.if-has_partner_in.true in
+    let lost = subst (λ (signal : Signal). IsLostAtOnce signal rules here x c.args.to word) searched.same c.in-Some-word_if_lost.ensures.lost in
+    let lock : State = locked_after here x (none_bad rules.loss) x in
+    let run_is = short-run b rules here x c.args.to word e lost l.windows.next given.0
+    (none_before b l.reader rules c.args.place c.args.to l.windows c.args.codes.now l.codes searched here given.2) in
+    let codes_are = kept-further l.codes c.push_found.new.codes c.push_lost.new.self (items_at b rules here Searching) (items_at b rules (here + 26) lock)
+    (c.in_ok-push_found.ensures b rules e)
+    (short-codes b rules here x c.args.to word e lost c.push_found.new.codes (behind c.push_found.new.codes (kept_as (word ∷ []) [])) c.push_lost.new.self
+    refl c.in_ok-push_lost.ensures) in
+    let left_is : c.pass.new.self ≡ record { signal = l.windows.signal; next = here + 27; end = l.windows.end } =
+    c.pass.ensures ∙ ap (λ (w : WindowsLeft). record { signal = w.signal; next = here + 27; end = w.end }) given.4 in (
+      tt,
+      tt,
+      searched_to b l.reader rules c.args.place c.args.to l.windows c.args.codes.now l.codes searched c.word_if_lost.new.reader (here + 27)
+          (items_at b rules here Searching ++ items_at b rules (here + 26) lock) c.push_lost.new.self c.pass.new.self
+          c.in-Some-word_if_lost.ensures.same (omega (arith, given.0)) (omega (arith, lost.before)) run_is codes_are left_is,
+    )
 
 pub loop-here-preserved : goal.loop-here-preserved
 loop-here-preserved c =
     let b = c.args.reader.now in
     let rules = c.args.rules.now in
-    let here = c.in-Some.here in
-    let offset = c.in-Some.offset in
-    let searched = c.loop-here.invariant.2 in
-    let old = c.loop-here.here-iterator in
-    let given = c.in-Some.ensures.steps in
-    let is = offset_is b b rules c.args.place c.args.to old c.args.codes.now c.loop-here.codes searched (here, offset) c.next.new.self given in
-    let partner_is = c.has_partner_in.ensures
-    ∙ ap (λ (signal : Signal). list_any (has_partner signal here c.number-number.result) (range_with_len 1 rules.reach)) c.recording-rec.ensures in
-    let none = acquired-offset b rules here c.number-number.result offset c.has_partner_in.result false
-    is c.number-number.ensures partner_is c.if-has_partner_in.false in
-    (tt, tt, one_more b b rules c.args.place c.args.to old c.args.codes.now c.loop-here.codes searched (here, offset) c.next.new.self given none)
-
-pub push_found-requires-clause-place : goal.push_found-requires-clause-place
-push_found-requires-clause-place c =
-    let b = c.args.reader.now in
-    let searched = c.loop-here.invariant.2 in
+    let l = c.loop-here in
     let here = c.in-Some.here in
     let offset = c.in-Some.offset in
     let given = c.in-Some.ensures.steps in
-    let is = offset_is b b c.args.rules.now c.args.place c.args.to c.loop-here.here-iterator c.args.codes.now c.loop-here.codes searched (here, offset) c.next.new.self given in
-    let range = from_here b b c.args.rules.now c.args.place c.args.to c.loop-here.here-iterator c.args.codes.now c.loop-here.codes searched (here, offset) c.next.new.self given in
-    (off-place b here offset is, omega (arith, range.1, c.if-prove.false, c.len.ensures.limit))
-
-pub returns-then-has_partner_in-clause-reached : goal.returns-then-has_partner_in-clause-reached
-returns-then-has_partner_in-clause-reached c =
-    let b = c.args.reader.now in
-    let rules = c.args.rules.now in
-    let here = c.in-Some.here in
-    let offset = c.in-Some.offset in
-    let searched = c.loop-here.invariant.2 in
-    let old = c.loop-here.here-iterator in
-    let given = c.in-Some.ensures.steps in
-    let number = c.number-number.result in
-    let is = offset_is b b rules c.args.place c.args.to old c.args.codes.now c.loop-here.codes searched (here, offset) c.next.new.self given in
-    let range = from_here b b rules c.args.place c.args.to old c.args.codes.now c.loop-here.codes searched (here, offset) c.next.new.self given in
-    let none = none_before b b rules c.args.place c.args.to old c.args.codes.now c.loop-here.codes searched here given.2 in
-    let partner_is = c.has_partner_in.ensures
-    ∙ ap (λ (signal : Signal). list_any (has_partner signal here number) (range_with_len 1 rules.reach)) c.recording-rec.ensures in
-    let e : acquired b rules here ≡ Some number =
-    acquired-offset b rules here number offset c.has_partner_in.result true
-    is c.number-number.ensures partner_is c.if-has_partner_in.true in
-    let run_is = run-found b rules c.args.place here range.0 none in
-    let state_is : c.state.result ≡ step b rules here Searching =
-    c.state.ensures ∙ c.after_block-lock.ensures
-    ∙ ap (λ (bad : Bad). locked_after here number bad number) (c.none_bad.ensures ∙ ap (λ (loss : Loss). none_bad loss) c.loss.ensures.value)
-    ∙ sym (step-acquiring b rules here number e) in
-    record {
-      forward = omega (arith, range.0);
-      limit = omega (arith, range.1);
-      state = state_is ∙ sym (ap (λ (r : State × List Item). r.0) run_is);
-      codes = c.in_ok-push_found.ensures b rules e
-          ∙ ap (λ (kept : KeptOf). behind kept (kept_of (items_at b rules here Searching))) searched.nothing
-          ∙ ap (λ (r : State × List Item). behind c.args.codes.now (kept_of r.1)) (sym run_is);
-      lawful = subst (λ (t : State). IsLawful rules (here + 1) t) (sym state_is)
-          (lawful-step b rules c.loss.ensures.range.some_loss here Searching tt);
-    }
+    let searched = l.invariant.2 in
+    let last = within b l.reader rules c.args.place c.args.to l.windows c.args.codes.now l.codes searched (here, offset) c.next.new.self given in
+    let none = acquires b l.reader rules c.args.place c.args.to l.windows c.args.codes.now l.codes searched here c.number-number.result offset c.next.new.self
+    c.recording-rec.result.now c.has_partner_in.result false given c.number-number.ensures c.recording-rec.ensures c.has_partner_in.ensures c.if-has_partner_in.false in
+    let low : l.windows.next ≤ here + 1 = omega (arith, given.0) in
+    let run_is = run-unfound b rules l.windows.next (here + 1) low
+    (none_with b l.reader rules c.args.place c.args.to l.windows c.args.codes.now l.codes searched here given.2 none) in (
+      tt,
+      tt,
+      searched_to b l.reader rules c.args.place c.args.to l.windows c.args.codes.now l.codes searched l.reader (here + 1) [] l.codes c.next.new.self
+          refl low (omega (arith, last)) run_is (sym (behind-none l.codes)) given.4,
+    )
 
 pub returns-clause-reached : goal.returns-clause-reached
 returns-clause-reached c =
     let b = c.args.reader.now in
     let rules = c.args.rules.now in
-    let searched = c.loop-here.invariant.2 in
-    let none = all b b rules c.args.place c.args.to c.loop-here.here-iterator c.args.codes.now c.loop-here.codes searched c.next.new.self c.in-None.ensures.steps in
-    let run_is = run-unfound b rules c.args.place c.args.to (omega arith) none in
+    let l = c.loop-here in
+    let searched = l.invariant.2 in
+    let none = subst (λ (end : ℕ). (j : ℕ) → l.windows.next ≤ j → j < end → acquired b rules j ≡ None) searched.end
+    (none_before b l.reader rules c.args.place c.args.to l.windows c.args.codes.now l.codes searched l.windows.end c.in_default.ensures.steps.0) in
+    let run_is = run-unfound b rules l.windows.next c.args.to searched.limit none in
+    let all = run_to b l.reader rules c.args.place c.args.to l.windows c.args.codes.now l.codes searched c.args.to Searching [] l.codes searched.limit run_is in
     record {
       forward = c.requires.order;
       limit = omega arith;
-      state = sym (ap (λ (r : State × List Item). r.0) run_is);
-      codes = searched.nothing ∙ kept-nothing c.args.codes.now _ (ap (λ (r : State × List Item). r.1) run_is);
+      state = sym (ap (λ (r : State × List Item). r.0) all);
+      codes = codes_to b l.reader rules c.args.place c.args.to l.windows c.args.codes.now l.codes searched c.args.to Searching [] l.codes searched.limit run_is
+          (sym (behind-none l.codes))
+          ∙ ap (λ (r : State × List Item). behind c.args.codes.now (kept_of r.1)) (sym all);
       lawful = tt;
     }
