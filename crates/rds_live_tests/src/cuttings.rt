@@ -274,6 +274,28 @@ fn a_stream_may_end_at_once(rt: HostRuntime) -> Result<(), Fail> {
     Ok(())
 }
 
+/// Whether the decoder gives the next of these items for the bytes.
+fn takes_next(
+    live: &mut Live<'_>,
+    bytes: &[u8],
+    expected: &mut ItemIter<'_>,
+) -> Result<bool, StreamError> {
+    let items = live.take(bytes)?;
+    Ok(are_next(&items, expected))
+}
+
+/// Whether it gives the rest of them for the last bytes, so many bits, and these totals.
+fn finishes_so(
+    live: Live<'_>,
+    bytes: &[u8],
+    bits: u64,
+    expected: &mut ItemIter<'_>,
+    totals: &Totals,
+) -> Result<bool, StreamError> {
+    let (items, end) = live.finish_with(bytes, bits)?;
+    Ok(are_next(&items, expected) && ends_so(&end, expected, totals))
+}
+
 /// Whether the decoder of the stream, of which the last byte ends so many bits early, gives these items and totals.
 fn ends_inside(
     alloc: Global,
@@ -286,11 +308,9 @@ fn ends_inside(
     let mut live = Live::new(alloc, rules);
     let mut expected = expected;
     let (first, last) = parts;
-    let before = live.take(first)?;
-    let same = are_next(&before, &mut expected);
+    let same = takes_next(&mut live, first, &mut expected)?;
     let bits = (last.len() as u64).saturating_mul(8).saturating_sub(left);
-    let (items, end) = live.finish_with(last, bits)?;
-    Ok(same && are_next(&items, &mut expected) && ends_so(&end, &mut expected, totals))
+    Ok(finishes_so(live, last, bits, &mut expected, totals)? && same)
 }
 
 #[test]
