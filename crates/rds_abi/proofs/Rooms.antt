@@ -37,5 +37,6 @@ one_behind written room new i y at fits is =
   where
     same : i - i ≡ 0
     same = omega arith
+
     behind : i + 1 ≡ length (written ++ y ∷ [])
     behind = omega (arith, at, length-append written (y ∷ []))

@@ -244,11 +244,7 @@ pub fn finish(
 }
 
 /// The items that the first `bits` bits of these bytes complete, and what the end of the stream gives with them.
-fn ended<'r>(
-    live: &Live<'r>,
-    bytes: &[u8],
-    bits: u64,
-) -> Result<(Chunk<'r>, StreamEnd), Refusal>
+fn ended<'r>(live: &Live<'r>, bytes: &[u8], bits: u64) -> Result<(Chunk<'r>, StreamEnd), Refusal>
     ensures items { IfOk result (λ r. (before : List ℕ) → HasHeard live.now before
         → complete live.now.terms before ++ (r.0 ++ group_item r.1.group)
         ≡ report_at live.now.terms (before ++ bytes.now) (8 * length before + bits)) }

@@ -97,15 +97,7 @@ pub extern "C" fn rds_finish_with(
     ensures untouched { result ≢ 0 → (room.new ≡ room.old) × (totals.new ≡ totals.old) }
 {
     match finish_with(
-        alloc,
-        bytes,
-        bits,
-        gaps,
-        *rules,
-        stream,
-        room,
-        count,
-        totals,
+        alloc, bytes, bits, gaps, *rules, stream, room, count, totals,
     ) {
         Ok(()) => 0,
         Err(refusal) => refusal.number(),
