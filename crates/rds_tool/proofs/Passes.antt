@@ -122,11 +122,9 @@ pub parted_rows : (all done left part rest slice : List Item) → all ≡ done +
     → flat_map item_row done ++ (flat_map item_row slice ++ flat_map item_row rest) ≡ flat_map item_row all
 parted_rows all done left part rest slice first next same =
     let whole : all ≡ done ++ (part ++ rest) = first ∙ ap (λ (xs : List Item). done ++ xs) next in
-    sym (
-      ap (λ (xs : List Item). flat_map item_row xs) whole
-      ∙ flat_map-append item_row done (part ++ rest)
-      ∙ ap (λ (t : List ℕ). flat_map item_row done ++ t) (flat_map-append item_row part rest ∙ ap (λ (xs : List Item). flat_map item_row xs ++ flat_map item_row rest) (sym same)),
-    )
+    sym (ap (λ (xs : List Item). flat_map item_row xs) whole
+    ∙ flat_map-append item_row done (part ++ rest)
+    ∙ ap (λ (t : List ℕ). flat_map item_row done ++ t) (flat_map-append item_row part rest ∙ ap (λ (xs : List Item). flat_map item_row xs ++ flat_map item_row rest) (sym same)))
 
 -- those of what is done and of a part
 pub more_rows : (done part slice : List Item) → slice ≡ part → flat_map item_row done ++ flat_map item_row slice ≡ flat_map item_row (done ++ part)

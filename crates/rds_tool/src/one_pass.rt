@@ -106,6 +106,7 @@ fn write_items<K: Sink>(
     ensures totals { IfOk result (λ totals. totals ≡ totals_of decoder.old.items) }
     ensures small { IfOk result (IsAtMost (2 ^ 47)) }
     ensures end { OnOk result (decoder.new.end ≡ decoder.old.end) }
+    ensures room { OnOk result (vec_capacity items.new ≡ vec_capacity items.old) }
     ensures size { OnOk result (size_of sheet.new ≡ size_of sheet.old) }
     ensures count { OnOk result (K.failed writer.new ≡ K.failed writer.old) }
     ensures failed { OnErr result (K.failed writer.old < K.failed writer.new) }

@@ -96,7 +96,7 @@ fn one_pass_of<'a>(
     plan: Plan<'a>,
     held: Vec<u8>,
 ) -> Result<Text<'a>, ToolError>
-    requires { cuts_any plan.entry.cuts ≡ true }
+    requires { cuts_any plan.cuts ≡ true }
     ensures ok { IfOk result (λ text. text_of_task (task.List input plan.entry) held.items ≡ Ok (bytes_of text)) }
     ensures refused { IfErr result (λ error. (error ≡ ToolError.OutOfMemory)
         ⊎ (text_of_task (task.List input plan.entry) held.items ≡ Err error)) }

@@ -8,8 +8,8 @@ use Rattle.rds_tool.specs.Listing.{item_row}
 use Rattle.rds_tool.proofs.Passes.{err_more, few_items, lawful_end, listing_is, ok_more, on_err, prefix_first, whole_report}
 use Rattle.rds_tool.proofs.one_pass.write_report.Goals as goal
 
-pub write_items-totals-requires-clause-few : goal.write_items-totals-requires-clause-few
-write_items-totals-requires-clause-few g c =
+pub write_items-requires-clause-few : goal.write_items-requires-clause-few
+write_items-requires-clause-few g c =
     few_items c.args.recording.now c.args.rules.now c.len-len.result c.len-len.ensures.value c.new-decoder.result c.new-decoder.ensures c.reach.ensures.range.some_loss c.runs_give_few_items.ensures c.len-len.ensures.limit
 
 pub write_end-requires-clause-lawful : goal.write_end-requires-clause-lawful

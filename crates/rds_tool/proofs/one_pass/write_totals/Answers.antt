@@ -10,5 +10,5 @@ returns-in-Err-clause-prefix g c =
     let text : c.as_slice-in-Err.result.now ≡ totals_text c.args.totals.now =
     c.as_slice-in-Err.ensures
     ∙ c.fill_named.ensures.rows
-    ∙ ap₂ (λ (front : List ℕ) (totals : List (List ℕ × ℕ)). front ++ flat_map total_row totals) c.clear.ensures.1.0 c.named-all.ensures.named in
+    ∙ ap₂ (λ (front : List ℕ) (totals : List (List ℕ × ℕ)). front ++ flat_map total_row totals) c.clear.ensures.1 c.named-all.ensures.named in
     subst (λ (t : List ℕ). OnErr c.write_all-in-Err.result (AppendsPrefix (g.K.Sink.contents c.args.writer.now) (g.K.Sink.contents c.write_all-in-Err.new.writer) t)) text c.write_all-in-Err.ensures.prefix
