@@ -63,7 +63,7 @@ impl Marks {
         ensures over { NoneValid recording.now self.ahead result.next }
         ensures section { IsSection recording.now section.new.from section.new.to section.new.touched }
     {
-        *section = recording.section_at(*section, self.ahead);
+        recording.go_on_to(section, self.ahead);
         let limit = end.min(section.to);
         if section.touched {
             Marks {

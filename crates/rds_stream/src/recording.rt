@@ -213,6 +213,22 @@ impl Recording {
         }
     }
 
+    /// Goes on from a section to one that has `place`, which is at least 25, and below the length: stays where it is, or
+    /// else looks for one.
+    // In its place, since a copy of a section costs more than the comparison.
+    #[inline(always)]
+    pub(crate) fn go_on_to(&self, section: &mut Section, place: u64)
+        requires first { 25 ≤ place }
+        requires last { place < length_of self.now }
+        requires known { IsSection self.now section.old.from section.old.to section.old.touched }
+        ensures has { (section.new.from ≤ place) × (place < section.new.to) }
+        ensures alike { IsSection self.now section.new.from section.new.to section.new.touched }
+    {
+        if place < section.from || section.to <= place {
+            *section = self.section(place);
+        }
+    }
+
     /// The bits at the 89 places from `from` on, the first one lowest, in two words of 57 places: the second begins 32
     /// places after the first, so the windows at 64 places lie in them.
     #[inline(always)]
