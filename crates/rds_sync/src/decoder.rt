@@ -140,7 +140,14 @@ impl<'a> Decoder<'a> {
                     bad,
                     first: 1,
                 };
-                let next = push_whole_groups(&mut self.reader, self.rules, lock, self.to, part, most);
+                let next = push_whole_groups(
+                    &mut self.reader,
+                    self.rules,
+                    lock,
+                    self.to,
+                    part,
+                    most,
+                );
                 if next.due == due {
                     return false;
                 }

@@ -1,4 +1,4 @@
-//! Whole groups of a lock, as codes or as an item: four blocks at once, of which none loses it.
+//! Whole groups of a lock, as codes or as one item: four blocks at once, of which none loses it.
 
 ghost use Rattle.std.specs.Prelude.{◌≡◌, ◌≤◌, ◌<◌, ◌+◌, ◌^◌, map, true, false, ℕ, All, IfOk, IfSome, IsOkUnless};
 ghost use Rattle.rds_code.specs.Offsets.{number};
@@ -19,12 +19,12 @@ ghost use Rattle.rds_sync.specs.Words.{blocks_in};
 use crate::code_part::CodePart;
 use crate::due::{BLOCK_PLACES, Lock};
 use crate::error::SyncError;
-use crate::item::{Block, Group, Item};
+use crate::item::{Block, Item};
 use crate::loss::{Bad, Loss};
 use crate::rules::Rules;
 use crate::step::Step;
 use crate::whole_items::whole_heard;
-use crate::words::{CLEAN, is_good, nibble, word_of_blocks};
+use crate::words::{CLEAN, is_good, nibble};
 use rds_code::laws::{bursts_are_listed, readings_follow_the_rule};
 use rds_code::{Offset, Wanted, rem26};
 use rds_stream::{FIRST_WINDOW, Reader};
@@ -166,20 +166,6 @@ fn damaged_word(rules: &Rules, heard: [Option<u32>; 4]) -> u16
     let third = rules.kind(three, 3, second.wanted_beside());
     let fourth = rules.kind(four, 4, Wanted::Either);
     first + 16 * (nibble(&second) + 16 * (third + 16 * fourth))
-}
-
-/// The word of the group that has these blocks.
-#[inline(always)]
-fn word_of_group(rules: &Rules, blocks: &[Block; 4]) -> u16
-    ensures blocks { (b : Signal) (due : ℕ) → blocks.now ≡ blocks_at b rules.now 1 4 (due + 78)
-        → blocks_in result ≡ map outcome_of (group b rules.now 1 4 (due + 78)).blocks }
-    ensures few { result < 65520 }
-{
-    // The outcome of each reading has a word.
-    bursts_are_listed();
-    readings_follow_the_rule();
-    prove!(rules.burst() <= 5);
-    word_of_blocks(blocks)
 }
 
 /// The four blocks of that group.

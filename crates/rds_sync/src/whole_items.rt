@@ -12,6 +12,7 @@ ghost use Rattle.rds_sync.specs.Loss.{IsLawfulBad, are_too_many};
 ghost use Rattle.rds_sync.specs.Marks.{bad_over};
 ghost use Rattle.rds_sync.specs.Ranges.{IsLossInRange};
 ghost use Rattle.rds_sync.specs.Rules.{RuleNumbers};
+ghost use Rattle.rds_sync.specs.Words.{blocks_in};
 ghost use Rattle.rds_sync.specs.declared.item.Block.TheVariants.{Read};
 
 use crate::due::{BLOCK_PLACES, Lock};
@@ -52,7 +53,8 @@ pub(crate) fn push_whole_groups(
     let mut now = lock;
     while now.due + 3 * BLOCK_PLACES < to && part.len() < most {
         let heard = reader.four_windows(now.due);
-        let Some((group, bad)) = whole_heard(rules, loss, now.due - FIRST_WINDOW, heard, now.bad) else {
+        let Some((group, bad)) = whole_heard(rules, loss, now.due - FIRST_WINDOW, heard, now.bad)
+        else {
             break;
         };
         push_one(part, &Item::Group(group));
@@ -79,13 +81,50 @@ pub(crate) fn whole_heard(
     ensures { IfSome result (λ whole. (b : Signal) (due : ℕ) → 25 ≤ due → place ≡ due - 25 → heard ≡ four_heard b due
         → IsWhole b rules.now due bad whole.0 whole.1) }
 {
-    if let Some(blocks) = valid_blocks(heard) {
-        let after = bad_after_four(loss, CLEAN, bad)?;
-        return Some((Group::of_blocks(place, blocks), after));
+    match valid_blocks(heard) {
+        Some(blocks) => {
+            let after = bad_after_clean(loss, bad)?;
+            Some((Group::of_blocks(place, blocks), after))
+        }
+        None => damaged_heard(rules, loss, place, heard, bad),
     }
+}
+
+/// The same, whether or not all four blocks are valid. It is not in line, so that a clean group takes no call.
+#[inline(never)]
+fn damaged_heard(
+    rules: &Rules,
+    loss: Loss,
+    place: u64,
+    heard: [Option<u32>; 4],
+    bad: Bad,
+) -> Option<(Group, Bad)>
+    requires blocks { All (λ heard. IfSome heard (λ window. window < 2 ^ 26)) heard }
+    requires loss { loss ≡ rules.now.loss }
+    requires range { IsLossInRange loss }
+    requires lawful { IsLawfulBad loss bad }
+    ensures { IfSome result (λ whole. (b : Signal) (due : ℕ) → 25 ≤ due → place ≡ due - 25 → heard ≡ four_heard b due
+        → IsWhole b rules.now due bad whole.0 whole.1) }
+{
     let blocks = blocks_of(rules, heard);
     let after = bad_after_blocks(loss, &blocks, bad)?;
     Some((Group::of_blocks(place, blocks), after))
+}
+
+/// What is kept of the bad blocks after four good ones, of which none loses a lock.
+#[inline(always)]
+fn bad_after_clean(loss: Loss, bad: Bad) -> Option<Bad>
+    requires range { IsLossInRange loss }
+    requires lawful { IsLawfulBad loss bad }
+    ensures bad { IfSome result (λ after. after ≡ bad_over loss (blocks_in 0x1111) bad 1 4) }
+    ensures lawful { IfSome result (IsLawfulBad loss) }
+    ensures kept { IfSome result (λ _. (k : ℕ) → k < 4
+        → are_too_many loss (bad_over loss (blocks_in 0x1111) bad 1 (k + 1)) ≡ false) }
+{
+    match (loss, bad) {
+        (Loss::Run(_), Bad::Run(_)) => Some(Bad::Run(0)),
+        _ => bad_after_four(loss, CLEAN, bad),
+    }
 }
 
 /// The four blocks that were heard, where all of them are valid with the numbers 1 to 4.
@@ -101,7 +140,12 @@ fn valid_blocks(heard: [Option<u32>; 4]) -> Option<[Block; 4]>
     let second = valid_reading(two, Offset::B)?;
     let third = valid_third(three)?;
     let fourth = valid_reading(four, Offset::D)?;
-    Some([Block::Read(first), Block::Read(second), Block::Read(third), Block::Read(fourth)])
+    Some([
+        Block::Read(first),
+        Block::Read(second),
+        Block::Read(third),
+        Block::Read(fourth),
+    ])
 }
 
 /// What was heard, where it is a valid block 3 of either version.

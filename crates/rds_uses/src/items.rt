@@ -1,5 +1,5 @@
 //! What a user of lists of items relies on, and of their totals.
-ghost use Rattle.std.specs.Prelude.{◌≡◌, ◌-◌, ◌+◌, ◌<◌, ◌≤◌, ◌^◌, ◌++◌, [], IfErr, IfOk, IfSome, List, None, Some, drop, false, length, slice_get, slice_range, take};
+ghost use Rattle.std.specs.Prelude.{◌≡◌, ◌-◌, ◌+◌, ◌<◌, ◌≤◌, ◌^◌, ◌++◌, [], IfErr, IfOk, IfSome, List, None, Some, drop, false, length, slice_get, slice_range, take, true, vec_capacity};
 ghost use Rattle.rds_stream.specs.Recording.{length_of};
 ghost use Rattle.rds_sync.specs.Codes.{kept_of, totals_of_codes};
 ghost use Rattle.rds_sync.specs.Counting.{IsAtMost, IsRest, plus};
@@ -16,7 +16,7 @@ ghost use Rattle.rds_sync.specs.declared.totals.Totals.{Totals as TheTotals};
 
 use rds_stream::{Counted, Recording};
 use rds_sync::{
-    Codes, Item, ItemIter, Items, Mark, Marks, Rules, State, SyncError, Totals, finish, laws,
+    Codes, Decoder, Item, ItemIter, Items, Mark, Marks, Rules, State, SyncError, Totals, finish, laws,
     run_codes,
 };
 use std::alloc::{AllocError, Global};
@@ -188,6 +188,46 @@ pub fn closed_or_same(items: &mut Items, state: State) -> bool
     ensures { result ≡ false → items.new ≡ items.old }
 {
     items.close(state).is_ok()
+}
+
+// ---- items by parts
+
+/// The items of a run over a recording, where there is room for one more in the part: then all of them are in it.
+pub fn run_in_a_part(recording: &Recording, rules: &Rules, part: &mut Vec<Item>) -> bool
+    ensures { result ≡ true → part.new.items
+        ≡ (run_of recording.now rules.now Searching 0 (length_of recording.now)).1 }
+{
+    let mut decoder = Decoder::new(recording, rules, State::Searching, 0, recording.len());
+    decoder.fill(part);
+    part.len() < part.capacity()
+}
+
+/// Behind a part that was filled a run ends as it would have, and the part has the room that it had.
+pub fn end_behind_a_part(decoder: Decoder<'_>, part: &mut Vec<Item>) -> State
+    ensures end { result ≡ decoder.entry.end }
+    ensures room { vec_capacity part.new ≡ vec_capacity part.old }
+{
+    let mut decoder = decoder;
+    decoder.fill(part);
+    decoder.end_state()
+}
+
+/// The items of a list, where there is room for one more in the part, which keeps its room.
+pub fn list_in_a_part(items: ItemIter<'_>, part: &mut Vec<Item>) -> bool
+    ensures all { result ≡ true → part.new.items ≡ items.entry }
+    ensures room { vec_capacity part.new ≡ vec_capacity part.old }
+{
+    let mut items = items;
+    items.fill(part);
+    part.len() < part.capacity()
+}
+
+/// The totals of two parts, which are small enough to be added up.
+pub fn totals_of_parts(one: &[Item], other: &[Item]) -> Totals
+    requires { length one.now + length other.now ≤ 2 ^ 37 }
+    ensures { result ≡ plus (totals_of one.now) (totals_of other.now) }
+{
+    Totals::of_items(one).plus(Totals::of_items(other))
 }
 
 // ---- totals

@@ -15,18 +15,10 @@ use Rattle.rds_sync.proofs.GroupWords.{outcomes-are}
 use Rattle.rds_sync.proofs.HeardGroups.{whole-is}
 use Rattle.rds_sync.proofs.whole_items.whole_heard.Goals as goal
 
-pub returns-in-Some : goal.returns-in-Some
-returns-in-Some c b due late place heard =
+pub returns-in_ok-after-in-Some : goal.returns-in_ok-after-in-Some
+returns-in_ok-after-in-Some c b due late place heard =
     let rules = c.args.rules.now in
     let are = c.in-Some.ensures.blocks b rules due heard in
     let outcomes = sym c.in-Some.ensures.good ∙ outcomes-are b rules 1 4 (due + 78) c.in-Some.blocks are in
-    whole-is b rules due c.args.loss c.args.place c.in-Some.blocks _ c.args.bad c.in_ok-after.after c.of_blocks.result late place are outcomes c.requires.loss
-    c.of_blocks.ensures c.in_ok-after.ensures.bad c.in_ok-after.ensures.lawful c.in_ok-after.ensures.kept
-
-pub returns : goal.returns
-returns c b due late place heard =
-    let rules = c.args.rules.now in
-    let blocks = c.blocks_of-blocks.result in
-    let are = c.blocks_of-blocks.ensures b due heard in
-    whole-is b rules due c.args.loss c.args.place blocks _ c.args.bad c.in_ok-after-2.after c.of_blocks-2.result late place are (outcomes-are b rules 1 4 (due + 78) blocks are) c.requires.loss
-    c.of_blocks-2.ensures c.in_ok-after-2.ensures.bad c.in_ok-after-2.ensures.lawful c.in_ok-after-2.ensures.kept
+    whole-is b rules due c.args.loss c.args.place c.in-Some.blocks _ c.args.bad c.in_ok-after-in-Some.after c.of_blocks.result late place are outcomes c.requires.loss
+    c.of_blocks.ensures c.in_ok-after-in-Some.ensures.bad c.in_ok-after-in-Some.ensures.lawful c.in_ok-after-in-Some.ensures.kept

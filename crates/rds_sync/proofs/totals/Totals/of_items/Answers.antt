@@ -18,29 +18,29 @@ loop-item-preserved c =
     let here = sym c.item-item.is in
     elim c.match-item.branch [
       | in-Acquired w ↦ rw (w.whole-is, w.acquired-is, w.losses-is, w.totals-is) (record {
-          rest = before.rest;
-          parted = omega (arith, before.parted);
-          so_far = acquired_next items l.item-index _ c.loop-item-test.true l.totals l.whole l.acquired l.losses before.so_far _ (here ∙ w.in-Acquired.is) (acquired_told w.in-Acquired.place w.in-Acquired.number);
-          small = before.small;
-        })
+        rest = before.rest;
+        parted = omega (arith, before.parted);
+        so_far = acquired_next items l.item-index _ c.loop-item-test.true l.totals l.whole l.acquired l.losses before.so_far _ (here ∙ w.in-Acquired.is) (acquired_told w.in-Acquired.place w.in-Acquired.number);
+        small = before.small;
+      })
       | in-LostLock w ↦ rw (w.whole-is, w.acquired-is, w.losses-is, w.totals-is) (record {
-          rest = before.rest;
-          parted = omega (arith, before.parted);
-          so_far = loss_next items l.item-index _ c.loop-item-test.true l.totals l.whole l.acquired l.losses before.so_far _ (here ∙ w.in-LostLock.is) (loss_told w.in-LostLock.place);
-          small = before.small;
-        })
+        rest = before.rest;
+        parted = omega (arith, before.parted);
+        so_far = loss_next items l.item-index _ c.loop-item-test.true l.totals l.whole l.acquired l.losses before.so_far _ (here ∙ w.in-LostLock.is) (loss_told w.in-LostLock.place);
+        small = before.small;
+      })
       | in-Group w ↦ rw (w.whole-is, w.acquired-is, w.losses-is, w.totals-is) (record {
-          rest = before.rest;
-          parted = omega (arith, before.parted);
-          so_far = whole_next items l.item-index _ c.loop-item-test.true l.totals l.whole l.acquired l.losses before.so_far _ (here ∙ w.in-Group.is) (w.is_whole.ensures w.if-is_whole.true);
-          small = before.small;
-        })
+        rest = before.rest;
+        parted = omega (arith, before.parted);
+        so_far = whole_next items l.item-index _ c.loop-item-test.true l.totals l.whole l.acquired l.losses before.so_far _ (here ∙ w.in-Group.is) (w.is_whole.ensures w.if-is_whole.true);
+        small = before.small;
+      })
       | in-Group-2 w ↦ rw (w.whole-is, w.acquired-is, w.losses-is, w.totals-is) (record {
-          rest = before.rest + 1;
-          parted = omega (arith, before.parted);
-          so_far = ap (λ (t : Totals). plus t (told l.whole l.acquired l.losses)) w.plus-totals.ensures.value ∙ other_next items l.item-index _ c.loop-item-test.true l.totals l.whole l.acquired l.losses before.so_far _ here w.of_item.result w.of_item.ensures.value;
-          small = IsAtMost-more (2 ^ 10 * before.rest + 2 ^ 10) (2 ^ 10 * (before.rest + 1)) w.plus-totals.result (omega arith) (w.plus-totals.ensures.small (2 ^ 10 * before.rest) (2 ^ 10) before.small w.of_item.ensures.small);
-        })
+        rest = before.rest + 1;
+        parted = omega (arith, before.parted);
+        so_far = ap (λ (t : Totals). plus t (told l.whole l.acquired l.losses)) w.plus-totals.ensures.value ∙ other_next items l.item-index _ c.loop-item-test.true l.totals l.whole l.acquired l.losses before.so_far _ here w.of_item.result w.of_item.ensures.value;
+        small = IsAtMost-more (2 ^ 10 * before.rest + 2 ^ 10) (2 ^ 10 * (before.rest + 1)) w.plus-totals.result (omega arith) (w.plus-totals.ensures.small (2 ^ 10 * before.rest) (2 ^ 10) before.small w.of_item.ensures.small);
+      })
     ]
 
 pub returns-clause-value : goal.returns-clause-value
