@@ -1,4 +1,4 @@
-use Rattle.std.proofs.Common.{◌≡◌, ◌<◌, [], ◌∷◌, List, All, length, ap, subst, ◌∙◌, arith, inl, inr}
+use Rattle.std.proofs.Common.{◌≡◌, [], List, All, subst, ◌∙◌, arith, inl, inr}
 use Rattle.std.proofs.lemmas.List.Elements.{All-tail}
 use Rattle.rds_sync.specs.declared.span.Span.{Span}
 use Rattle.rds_sync.specs.Inside.Spans.{IsSpan, items_in}

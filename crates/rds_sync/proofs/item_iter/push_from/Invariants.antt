@@ -1,4 +1,4 @@
-use Rattle.std.proofs.Common.{◌≡◌, ◌≤◌, ◌⊎◌, List, [], ◌++◌, All, length}
+use Rattle.std.proofs.Common.{◌≡◌, ◌≤◌, ◌⊎◌, [], ◌++◌, All, length}
 use Rattle.std.specs.Prelude.{vec_capacity}
 use Rattle.rds_sync.specs.Inside.Spans.{IsSpan, items_in}
 use Rattle.rds_sync.proofs.item_iter.push_from.Given as goal

@@ -1,15 +1,12 @@
-use Rattle.std.proofs.Common.{◌≡◌, ◌≤◌, ◌<◌, ◌+◌, ◌-◌, ◌*◌, ℕ, Some, None, List, [], ◌∷◌, false, sym, ap, ap₂, subst, ◌∙◌, arith, inr}
+use Rattle.std.proofs.Common.{◌≡◌, ◌≤◌, ◌<◌, ◌+◌, ◌-◌, ℕ, Some, None, List, [], ◌∷◌, false, sym, ap, ap₂, subst, ◌∙◌, arith, inr}
 use Rattle.rds_stream.specs.Recording.{Signal}
-use Rattle.rds_sync.specs.declared.item.Block.{Block}
 use Rattle.rds_sync.specs.declared.item.Item.{Item}
 use Rattle.rds_sync.specs.declared.item.Item.TheVariants.{Group}
 use Rattle.rds_sync.specs.declared.loss.Bad.{Bad}
-use Rattle.rds_sync.specs.declared.loss.Loss.{Loss}
 use Rattle.rds_sync.specs.declared.state.State.{State}
 use Rattle.rds_sync.specs.declared.state.State.TheVariants.{Locked}
 use Rattle.rds_sync.specs.declared.step.Step.{Step}
-use Rattle.rds_sync.specs.Codes.{Outcome}
-use Rattle.rds_sync.specs.Groups.{blocks_at, group, group_of}
+use Rattle.rds_sync.specs.Groups.{group}
 use Rattle.rds_sync.specs.Inside.Due.{state_in}
 use Rattle.rds_sync.specs.Lawful.{IsLawful}
 use Rattle.rds_sync.specs.Loss.{IsLawfulBad, are_too_many}
@@ -17,7 +14,6 @@ use Rattle.rds_sync.specs.Marks.{bad_over}
 use Rattle.rds_sync.specs.Rules.{RuleNumbers}
 use Rattle.rds_sync.specs.Step.{run}
 use Rattle.rds_sync.specs.Stretch.{IsStretch}
-use Rattle.rds_sync.specs.Words.{blocks_in}
 use Rattle.rds_sync.proofs.GroupOutcomes.{outcomes}
 use Rattle.rds_sync.proofs.LawfulLemmas.{lawful-locked_after}
 use Rattle.rds_sync.proofs.WholeGroupLemmas.{whole_group, whole_quiet}

@@ -7,7 +7,6 @@ use Rattle.rds_sync.specs.declared.item.Item.TheVariants.{Group}
 use Rattle.rds_sync.specs.declared.loss.Bad.{Bad}
 use Rattle.rds_sync.specs.declared.state.State.{State}
 use Rattle.rds_sync.specs.declared.state.State.TheVariants.{Locked}
-use Rattle.rds_sync.specs.Groups.{group}
 use Rattle.rds_sync.specs.Inside.Due.{state_in}
 use Rattle.rds_sync.specs.Inside.WholeGroups.{HasGiven, IsWhole}
 use Rattle.rds_sync.specs.Rules.{RuleNumbers}

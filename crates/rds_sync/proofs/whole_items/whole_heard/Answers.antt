@@ -1,16 +1,4 @@
-use Rattle.std.proofs.Common.{◌≡◌, ◌≤◌, ◌+◌, ◌-◌, ◌*◌, ◌<◌, ℕ, List, [], ◌∷◌, Option, false, map, sym, ap, ap₂, subst, ◌∙◌, arith}
-use Rattle.rds_stream.specs.InARow.{four_heard}
-use Rattle.rds_stream.specs.Recording.{Signal}
-use Rattle.rds_sync.specs.declared.item.Block.{Block}
-use Rattle.rds_sync.specs.declared.item.Group.{Group}
-use Rattle.rds_sync.specs.declared.loss.Bad.{Bad}
-use Rattle.rds_sync.specs.declared.loss.Loss.{Loss}
-use Rattle.rds_sync.specs.Codes.{Outcome, outcome_of}
-use Rattle.rds_sync.specs.Groups.{blocks_at, group, group_of}
-use Rattle.rds_sync.specs.Inside.WholeGroups.{IsWhole, outcomes_at}
-use Rattle.rds_sync.specs.Loss.{IsLawfulBad, are_too_many}
-use Rattle.rds_sync.specs.Marks.{bad_over}
-use Rattle.rds_sync.specs.Rules.{RuleNumbers}
+use Rattle.std.proofs.Common.{◌+◌, sym, ◌∙◌}
 use Rattle.rds_sync.proofs.GroupWords.{outcomes-are}
 use Rattle.rds_sync.proofs.HeardGroups.{whole-is}
 use Rattle.rds_sync.proofs.whole_items.whole_heard.Goals as goal
