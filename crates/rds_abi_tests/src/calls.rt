@@ -157,7 +157,8 @@ fn stream_that_ends_inside_a_byte(rt: HostRuntime) -> Result<(), Fail> {
         &mut whole,
         &mut count,
     )?;
-    let (early, late) = bytes.as_slice().split_at(50);
+    let middle = bytes.len().min(50);
+    let (early, late) = bytes.as_slice().split_at(middle);
     let mut stream = RdsStream::UNHEARD;
     let mut first = 0;
     push(
