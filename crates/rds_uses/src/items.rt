@@ -16,8 +16,8 @@ ghost use Rattle.rds_sync.specs.declared.totals.Totals.{Totals as TheTotals};
 
 use rds_stream::{Counted, Recording};
 use rds_sync::{
-    Codes, Decoder, Item, ItemIter, Items, Mark, Marks, Rules, State, SyncError, Totals, finish, laws,
-    run_codes,
+    Codes, Decoder, Item, ItemIter, Items, Mark, Marks, Rules, State, SyncError, Totals, finish,
+    laws, run_codes,
 };
 use std::alloc::{AllocError, Global};
 use std::snapshot::Snapshot;
