@@ -24,7 +24,7 @@ use Rattle.rds_sync.specs.Inside.ShortLocks.{IsLostAtOnce, wanted_behind, first_
 use Rattle.rds_sync.specs.Lawful.{HaveRoom}
 use Rattle.rds_sync.specs.Loss.{none_bad, bad_after, are_too_many}
 use Rattle.rds_sync.specs.Rules.{RuleNumbers}
-use Rattle.rds_sync.specs.Step.{step, items_at, run, locked_after, bad_with}
+use Rattle.rds_sync.specs.Step.{items_at, run, locked_after, bad_with}
 use Rattle.rds_sync.specs.Totals.{is_valid}
 use Rattle.rds_sync.specs.Words.{nibble, word_of_blocks}
 use Rattle.rds_sync.proofs.CleanGroups.{good-only}
