@@ -3,7 +3,7 @@ ghost use Rattle.std.specs.Prelude.{◌<◌, ◌≤◌, ◌^◌, ◌≡◌, ◌�
 ghost use Rattle.std.specs.Io.KnownBytes.{Appends, Keeps};
 ghost use Rattle.rds_rows.specs.Writes.{AppendsPrefix};
 ghost use Rattle.rds_tool.specs.Listing.{report_text, scan_text};
-ghost use Rattle.rds_tool.specs.Outcome.{WritesPrefix};
+ghost use Rattle.rds_tool.specs.Outcome.{WritesPrefix, list_text};
 
 use crate::ToolError;
 use crate::listing::Heard;
@@ -91,9 +91,7 @@ impl Text<'_> {
                 Err(Failed) => Err(RowsError::Write),
             },
             Text::Listing(listing) => listing.write_to(rt, alloc, writer),
-            Text::OnePass(recording, plan) => {
-                write_in_one_pass(alloc, recording, plan.rules(), writer)
-            }
+            Text::OnePass(recording, plan) => write_decoded(alloc, recording, plan, writer),
             Text::Windows(recording, workers) => {
                 write_windows(rt, alloc, recording, workers.count(), writer)
             }
@@ -125,6 +123,25 @@ impl Listing<'_> {
         let rows = ListingRows::new(alloc, heard, &self.report)?;
         write_rows_in_parts(rt, alloc, &rows, self.plan.workers(), PART, writer)
     }
+}
+
+/// Writes the listing of a recording while it is decoded.
+fn write_decoded<K: Sink>(
+    alloc: Global,
+    recording: &Recording,
+    plan: &Plan<'_>,
+    writer: &mut K,
+) -> Result<(), RowsError>
+    requires { K.failed writer.old < 2 ^ 63 }
+    ensures ok { OnOk result (Appends (K.contents writer.old) (K.contents writer.new)
+        (list_text plan.now.rules recording.now)) }
+    ensures count { OnOk result (K.failed writer.new ≡ K.failed writer.old) }
+    ensures write { IsErrOf result RowsError.Write ↔ (K.failed writer.old < K.failed writer.new) }
+    ensures untouched { IsErrOf result RowsError.OutOfMemory → writer.new ≡ writer.old }
+    ensures prefix { IsErrOf result RowsError.Write → AppendsPrefix (K.contents writer.old) (K.contents writer.new)
+        (list_text plan.now.rules recording.now) }
+{
+    write_in_one_pass(alloc, recording, plan.rules(), writer)
 }
 
 /// Writes the rows of the valid windows, spelled by as many threads as there are workers.
