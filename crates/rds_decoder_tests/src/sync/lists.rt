@@ -1,6 +1,5 @@
 //! Lists of items as spans of runs, against plain lists of them.
-ghost use Rattle.std.specs.Prelude.{◌≡◌, ◌≤◌, IfOk};
-ghost use Rattle.rds_stream.specs.Recording.{length_of};
+ghost use Rattle.std.specs.Prelude.{◌≡◌, IfOk};
 
 use crate::samples::{Sample, Signal};
 use crate::sync::steps::by_steps;
