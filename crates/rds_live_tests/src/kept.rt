@@ -1,8 +1,7 @@
 //! A decoder of a stream with gaps, which is kept as numbers between two chunks.
 
-use crate::callers::in_two_sittings;
-use rds_live::{Chunk, StreamEnd};
-use rds_stream::Recording;
+use rds_live::{Chunk, Live, StreamEnd};
+use rds_stream::{Recording, StreamError};
 use rds_sync::{Item, ItemIter, Rules, Totals, decode_plain};
 use std::alloc::{AllocError, Global};
 use std::test::Fail;
@@ -19,6 +18,35 @@ fn station(alloc: Global, groups: usize) -> Result<Vec<u8>, AllocError> {
         bytes.extend_from_slice(&GROUP)?;
     }
     Ok(bytes)
+}
+
+/// The decoder that goes on from the numbers of another one.
+fn gone_on_from<'r>(
+    alloc: Global,
+    live: &Live<'_>,
+    rules: &'r Rules,
+    gaps: &'r [(u64, u64)],
+) -> Result<Live<'r>, StreamError> {
+    let (place, state, totals) = (live.place(), live.state(), live.totals());
+    match Live::resume(alloc, rules, gaps, live.tail(), place, state, totals) {
+        Ok(again) => Ok(again),
+        Err(_) => Err(StreamError::OutOfMemory),
+    }
+}
+
+/// What a stream of two chunks gives, whose decoder is kept as numbers between them.
+fn in_two_sittings<'r>(
+    alloc: Global,
+    rules: &'r Rules,
+    gaps: &'r [(u64, u64)],
+    first: &[u8],
+    second: &[u8],
+) -> Result<(Chunk<'r>, Chunk<'r>, StreamEnd), StreamError> {
+    let mut live = Live::with_gaps(alloc, rules, gaps)?;
+    let one = live.take(first)?;
+    let mut again = gone_on_from(alloc, &live, rules, gaps)?;
+    let other = again.take(second)?;
+    Ok((one, other, again.finish()))
 }
 
 /// Whether the items and totals of a stream's parts are those of its recording.
