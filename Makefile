@@ -69,7 +69,7 @@ wrong-bodies-of-code:
 	tests/wrong_bodies.py rds_code
 
 wrong-bodies:
-	tests/wrong_bodies.py rds_stream rds_sync rds_live rds_abi rds_c rds_pieces rds_crew rds_rows rds_tool
+	tests/wrong_bodies.py rds_stream rds_sync rds_live rds_abi rds_pieces rds_crew rds_rows rds_tool
 
 # A script that hangs is ended, and named: all of them take a few minutes together. `timeout` puts it out of the terminal's
 # reach, so an interrupt is handed on.
