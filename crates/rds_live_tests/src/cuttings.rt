@@ -1,5 +1,5 @@
 //! A stream gives the report of its recording, however it is cut.
-ghost use Rattle.std.specs.Prelude.{◌<◌, ◌^◌};
+ghost use Rattle.std.specs.Prelude.{◌*◌, ◌<◌, ◌^◌, ◌≤◌, length};
 
 use rds_live::{Chunk, Live, ResumeError, StreamEnd};
 use rds_stream::{Recording, StreamError};
@@ -291,7 +291,9 @@ fn finishes_so(
     bits: u64,
     expected: &mut ItemIter<'_>,
     totals: &Totals,
-) -> Result<bool, StreamError> {
+) -> Result<bool, StreamError>
+    requires { bits ≤ 8 * length bytes.now }
+{
     let (items, end) = live.finish_with(bytes, bits)?;
     Ok(are_next(&items, expected) && ends_so(&end, expected, totals))
 }
