@@ -126,11 +126,11 @@ if has dpkg dpkg-architecture dpkg-deb dpkg-shlibdeps readelf strip lintian "${a
     "$(station | "$root/usr/share/rds/examples/hex_groups.sh" | cksum)"
   same 'completion and documents' "/usr/share/bash-completion/completions/rds
 /usr/share/doc/rds/README.md
-/usr/share/doc/rds/docs/RECIPES.md
-/usr/share/doc/rds/docs/USING.md
 /usr/share/doc/rds/changelog.Debian.gz
 /usr/share/doc/rds/changelog.gz
 /usr/share/doc/rds/copyright
+/usr/share/doc/rds/docs/RECIPES.md
+/usr/share/doc/rds/docs/USING.md
 /usr/share/zsh/vendor-completions/_rds" "$(files_there | grep -E 'completions|/doc/')"
   libdir=/usr/lib/$(dpkg-architecture -qDEB_HOST_MULTIARCH)
   same 'the library' "/usr/include/rds.h
