@@ -1,5 +1,5 @@
 //! Fields of a row that are put together on the stack.
-ghost use Rattle.std.specs.Prelude.{◌+◌, ◌++◌, ◌%◌, ◌≡◌, ◌≤◌, ◌<◌, ◌^◌, ◌∷◌, [], length, replicate, slice_index};
+ghost use Rattle.std.specs.Prelude.{◌+◌, ◌++◌, ◌%◌, ◌≡◌, ◌≤◌, ◌<◌, ◌^◌, ◌∷◌, length, slice_index, take};
 ghost use Rattle.hex.specs.Hex.{upper_digits};
 ghost use Rattle.rds_code.specs.Offsets.{name};
 ghost use Rattle.rds_tool.specs.Listing.{block_text, hex_digits, word_text};
@@ -32,8 +32,8 @@ impl Field {
         ensures { result ≡ block_text block.now }
     {
         match *block {
-            Block::Missing => Field::of(b"none"),
-            Block::Read(Reading::Lost) => Field::of(b"lost"),
+            Block::Missing => Field::of_eight(*b"none\0\0\0\0", 4),
+            Block::Read(Reading::Lost) => Field::of_eight(*b"lost\0\0\0\0", 4),
             Block::Read(Reading::Valid { offset, info }) => Field::of_word(offset, info),
             Block::Read(
                 Reading::Corrected {
@@ -41,12 +41,7 @@ impl Field {
                     info,
                     burst,
                 },
-            ) => {
-                let mut field = Field::of_word(offset, info);
-                field.push(b'~');
-                field.push_all(&seven_digits(burst.pattern()));
-                field
-            }
+            ) => Field::of_corrected(offset, info, burst.pattern()),
         }
     }
 
@@ -58,69 +53,65 @@ impl Field {
         &self.bytes[..self.len]
     }
 
-    // An offset and an information word.
+    /// An offset and an information word.
+    #[inline(always)]
     fn of_word(offset: Offset, info: u16) -> Field
-        ensures value { result ≡ word_text offset info }
-        ensures short { length result ≤ 7 }
-    {
-        match offset.name().as_bytes() {
-            [letter] => Field::of_letter(*letter, info),
-            name => {
-                let mut field = Field::of(name);
-                field.push(b':');
-                field.push_all(&four_digits(info));
-                field
-            }
-        }
-    }
-
-    // The same where the offset has one letter, at one stroke: most blocks are such.
-    fn of_letter(letter: u8, info: u16) -> Field
-        ensures { result ≡ letter ∷ 58 ∷ hex_digits 4 info }
+        ensures { result ≡ word_text offset info }
     {
         let [one, two, three, four] = four_digits(info);
+        match offset.name().as_bytes() {
+            [letter] => Field::of_eight([*letter, b':', one, two, three, four, 0, 0], 6),
+            [letter, mark] => Field::of_eight([*letter, *mark, b':', one, two, three, four, 0], 7),
+            _ => unreachable!(),
+        }
+    }
+
+    /// The same, and the burst that was taken off.
+    #[inline(always)]
+    fn of_corrected(offset: Offset, info: u16, burst: u32) -> Field
+        ensures { result ≡ word_text offset info ++ 126 ∷ hex_digits 7 burst }
+    {
+        let [one, two, three, four] = four_digits(info);
+        let [a, b, c, d, e, f, g] = seven_digits(burst);
+        match offset.name().as_bytes() {
+            [letter] => Field {
+                bytes: at_one_stroke(
+                    [*letter, b':', one, two, three, four, b'~', a],
+                    [b, c, d, e, f, g, 0, 0],
+                ),
+                len: 14,
+            },
+            [letter, mark] => Field {
+                bytes: at_one_stroke(
+                    [*letter, *mark, b':', one, two, three, four, b'~'],
+                    [a, b, c, d, e, f, g, 0],
+                ),
+                len: 15,
+            },
+            _ => unreachable!(),
+        }
+    }
+
+    /// The first `len` of these bytes.
+    #[inline(always)]
+    fn of_eight(bytes: [u8; 8], len: usize) -> Field
+        requires { len ≤ 8 }
+        ensures { result ≡ take len bytes }
+    {
         Field {
-            bytes: at_one_stroke([letter, b':', one, two, three, four, 0, 0]),
-            len: 6,
+            bytes: at_one_stroke(bytes, [0; 8]),
+            len,
         }
-    }
-
-    fn of(bytes: &[u8]) -> Field
-        requires { length bytes.now ≤ 16 }
-        ensures { result ≡ bytes.now }
-    {
-        let mut field = Field {
-            bytes: [0; 16],
-            len: 0,
-        };
-        field.push_all(bytes);
-        field
-    }
-
-    fn push_all(&mut self, bytes: &[u8])
-        requires { length self.old + length bytes.now ≤ 16 }
-        ensures { self.new ≡ self.old ++ bytes.now }
-    {
-        for byte in bytes {
-            self.push(*byte);
-        }
-    }
-
-    fn push(&mut self, byte: u8)
-        requires { length self.old < 16 }
-        ensures { self.new ≡ self.old ++ byte ∷ [] }
-    {
-        self.bytes[self.len] = byte;
-        self.len += 1;
     }
 }
 
-/// These bytes and as many zeros behind them, made in a register: bytes that are stored one by one could not be loaded
-/// together until all of them have come to memory.
-fn at_one_stroke(bytes: [u8; 8]) -> [u8; 16]
-    ensures { result ≡ bytes ++ replicate 8 0 }
+/// These bytes, made in a register: bytes that are stored one by one could not be loaded together until all of them have
+/// come to memory.
+#[inline(always)]
+fn at_one_stroke(low: [u8; 8], high: [u8; 8]) -> [u8; 16]
+    ensures { result ≡ low ++ high }
 {
-    u64x2::from_array([u64::from_le_bytes(bytes), 0])
+    u64x2::from_array([u64::from_le_bytes(low), u64::from_le_bytes(high)])
         .to_le_bytes()
         .to_array()
 }
