@@ -24,7 +24,7 @@ use Rattle.rds_tool.specs.Inside.Streams.{IsFollowed, IsNearEnd, IsPlaceOf, IsSh
 use Rattle.rds_tool.specs.Listing.{item_row, report_text, totals_text}
 use Rattle.rds_tool.specs.Outcome.{Writes, WritesPrefix, list_text}
 use Rattle.rds_tool.specs.declared.error.ToolError.{ToolError}
-use Rattle.rds_tool.specs.declared.error.ToolError.TheVariants.{BadGaps, BitsPastBytes, OutOfMemory, Read, TooLong, Write}
+use Rattle.rds_tool.specs.declared.error.ToolError.TheVariants.{BadGaps, OutOfMemory, Read, TooLong, Write}
 use Rattle.rds_tool.proofs.GapLists.{pass_as_gaps}
 use Rattle.rds_tool.proofs.Passing.{passed_kind}
 use Rattle.rds_tool.proofs.Steps.{appends_more, appends_none, consumes_more}

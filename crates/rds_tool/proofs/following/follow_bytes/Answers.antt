@@ -1,7 +1,7 @@
-use Rattle.std.proofs.Common.{◌≡◌, ◌+◌, ◌*◌, ◌≤◌, ◌++◌, [], arith, ap, refl, sym, subst, ◌∙◌, drop, length, take, ℕ, Option}
+use Rattle.std.proofs.Common.{◌+◌, ◌*◌, ◌≤◌, ◌++◌, [], arith, ap, refl, sym, subst, ◌∙◌, drop, length, take, ℕ}
 use Rattle.std.specs.Prelude.{IfSome}
 use Rattle.rds_tool.specs.Inside.Streams.{IsNearEnd, IsPlaceOf}
-use Rattle.rds_tool.proofs.Followed.{after_no_write, after_refusal, chunk_breaks, few_taken, fits_room, followed_end, followed_more, followed_none, front_is, is_place, keeps_same, lent_whole, near_end_by, no_gaps_told, nothing_done, of_call, read_not_told, smaller, some_taken, stops_behind, stops_here, stops_in_rows, stops_untouched, told_on, too_many}
+use Rattle.rds_tool.proofs.Followed.{after_no_write, after_refusal, chunk_breaks, few_taken, fits_room, followed_end, followed_more, followed_none, front_is, is_place, lent_whole, near_end_by, no_gaps_told, nothing_done, of_call, read_not_told, smaller, some_taken, stops_behind, stops_here, stops_in_rows, stops_untouched, told_on, too_many}
 use Rattle.rds_tool.proofs.Passing.{passed, passed_kind, passes}
 use Rattle.rds_tool.proofs.following.follow_bytes.Goals as goal
 

@@ -1,5 +1,5 @@
-use Rattle.std.proofs.Common.{◌≡◌, ◌∙◌, ◌++◌, ℕ, List, ap, ap₂}
-use Rattle.rds_live.specs.Live.{complete, report_at}
+use Rattle.std.proofs.Common.{◌∙◌, ◌++◌, ℕ, List, ap₂}
+use Rattle.rds_live.specs.Live.{complete}
 use Rattle.rds_sync.specs.Advance.{group_item}
 use Rattle.rds_tool.proofs.Followed.{rest_is}
 use Rattle.rds_tool.proofs.following.rows_of_rest.Goals as goal
