@@ -77,7 +77,7 @@ planted $map 's|rds_sync/specs/Loss.antt|rds_sync/specs/Losses.antt|' "$map: the
 planted $map 's|`Loss::bad_after`, |`Bad::bad_after`, |' "$map: crates/rds_sync/src/loss.rt has no Bad::bad_after"
 planted $map 's|`search` (`rds_sync/src/stretches.rt`)|`seek` (`rds_sync/src/stretches.rt`)|' \
     "$map: crates/rds_sync/src/stretches.rt has no seek"
-planted $map 's|(`keep_lock`, `stretches.rt`)|(`keep_lock`, `stretch.rt`)|' "$map: there is no stretch.rt"
+planted $map 's|(`blocks_before`, `lock.rt`)|(`blocks_before`, `locks.rt`)|' "$map: there is no locks.rt"
 planted tests/README.md '/^| `common.sh` |/d' 'tests/README.md, files'
 planted examples/README.md 's/^| `gaps.sh` |/| `gap.sh` |/' 'examples/README.md, files'
 planted docs/MODEL.md 's/^| lock | /| run | /' 'docs/MODEL.md, words that the glossary has twice'
