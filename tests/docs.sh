@@ -78,6 +78,8 @@ planted $map 's|`Loss::bad_after`, |`Bad::bad_after`, |' "$map: crates/rds_sync/
 planted $map 's|`search` (`rds_sync/src/stretches.rt`)|`seek` (`rds_sync/src/stretches.rt`)|' \
     "$map: crates/rds_sync/src/stretches.rt has no seek"
 planted $map 's|(`blocks_before`, `lock.rt`)|(`blocks_before`, `locks.rt`)|' "$map: there is no locks.rt"
+planted docs/PROOFS.md 's/`only_remainder`/`one_remainder`/' 'docs/PROOFS.md: crates/rds_uses/src/code.rt has no one_remainder'
+planted docs/PROOFS.md 's/`BurstLemmas`, `SpanLemmas`/`BurstLemma`, `SpanLemmas`/' 'docs/PROOFS.md: no proofs have BurstLemma.antt'
 planted tests/README.md '/^| `common.sh` |/d' 'tests/README.md, files'
 planted examples/README.md 's/^| `gaps.sh` |/| `gap.sh` |/' 'examples/README.md, files'
 planted docs/MODEL.md 's/^| lock | /| run | /' 'docs/MODEL.md, words that the glossary has twice'

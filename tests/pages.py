@@ -3,9 +3,10 @@
 
 FOLDER is the project's, or a copy of it. The options, refusals and rows of the program's help are held against the manual
 page, docs/USING.md and completion; numbers of a page against the tree; links, the commands that a page shows, the files and
-functions that docs/ARCHITECTURE.md names, and the maps of tests/ and examples/ against what is there. `tests/docs.sh` calls
-it, and sees that it finds differences.
+functions that docs/ARCHITECTURE.md names, the callers and lemmas of docs/PROOFS.md, and the maps of tests/ and examples/
+against what is there. `tests/docs.sh` calls it, and sees that it finds differences.
 """
+import functools
 import os
 import re
 import subprocess
@@ -162,14 +163,19 @@ def file_of(place, crate):
     return next((start + place for start in starts if os.path.exists(start + place)), None)
 
 
-def defines(path, name):
-    """Whether a file defines a function, a type or a constant; of `Type::function` the one in an impl of the other."""
+def named_in(text):
+    """The functions, types and constants that a text defines."""
+    pattern = r"\b(?:fn|struct|enum|trait|type|def|class|(?:const|static)(?! fn)) (\w+)|^(\w+)\(\)"
+    return {word or script for word, script in re.findall(pattern, text, re.M)}
+
+
+@functools.cache
+def defined_in(path):
+    """What a file defines; what stands in an impl also as `Type::function`."""
     text = read(path)
-    holder, _, own = name.rpartition("::")
-    if holder:
-        parts = re.findall(r"^(?:pub(?:\(crate\))? )?(?:impl|trait)\b([^{;]*)\{([\s\S]*?)^\}", text, re.M)
-        text = "".join(body for head, body in parts if re.search(rf"\b{holder}\b", head))
-    return re.search(rf"\b(?:fn|struct|enum|trait|type|const|static|def|class) {own}\b|^{own}\(\)", text, re.M)
+    parts = re.findall(r"^(?:pub(?:\(crate\))? )?(?:impl|trait)\b([^{;]*)\{([\s\S]*?)^\}", text, re.M)
+    of_types = {f"{it}::{own}" for head, body in parts for it in re.findall(r"\w+", head) for own in named_in(body)}
+    return named_in(text) | of_types
 
 
 def places_in(text):
@@ -179,7 +185,8 @@ def places_in(text):
         named = token[1].partition("/")[0]
         crate = named if os.path.isdir(f"crates/{named}") else crate
         if PLACE.fullmatch(token[0]):
-            before, after = text[: token.start()], text[token.end() :]
+            # names that stand beside a place lie no farther away
+            before, after = text[max(0, token.start() - 200) : token.start()], text[token.end() : token.end() + 200]
             beside = [
                 re.search(rf"({NAMES}) \($", before),  # `name` (`path`
                 re.search(rf"\(({NAMES}), $", before),  # (`name`, `path`
@@ -201,9 +208,27 @@ def compare_places(page):
         if not path:
             faults.append(f"{page}: there is no {place}")
         for name in names if path and os.path.isfile(path) else []:
-            if not defines(path, name):
+            if name not in defined_in(path):
                 faults.append(f"{page}: {path} has no {name}")
     same(f"{page}, lines of the drawing", sum("/src/" in it for it in "".join(drawing).splitlines()), len(lines))
+
+
+def compare_claims():
+    """The callers and the files of lemmas that docs/PROOFS.md names beside each claim."""
+    lemmas = {name for crate in os.listdir("crates") for _, _, names in os.walk(f"crates/{crate}/proofs") for name in names}
+    for line in re.findall(r"^\| .*$", between(read("docs/PROOFS.md"), "\n## What is proved\n", "\n## "), re.M):
+        cells = line.split(" |")
+        if len(cells) != 5:
+            faults.append(f"docs/PROOFS.md: no row of four cells: {line[:60]}")
+            continue
+        for name, row in re.findall(r"(\w+): ((?:`\w+`(?:, )?)+)", cells[2]):
+            path = f"crates/rds_uses/src/{name}.rt"
+            for caller in re.findall(r"\w+", row):
+                if not os.path.exists(path) or caller not in defined_in(path):
+                    faults.append(f"docs/PROOFS.md: {path} has no {caller}")
+        for name in re.findall(r"`(\w+)`", cells[3]):
+            if f"{name}.antt" not in lemmas:
+                faults.append(f"docs/PROOFS.md: no proofs have {name}.antt")
 
 
 def compare_maps():
@@ -292,6 +317,7 @@ def main():
     compare_rows(program, manual, using)
     compare_numbers()
     compare_places("docs/ARCHITECTURE.md")
+    compare_claims()
     compare_maps()
     compare_glossary()
     compare_links(pages)
