@@ -1,9 +1,9 @@
 #!/usr/bin/env bash
 # What is written twice: tests/docs.sh PATH-TO-RDS
 #
-# Options, refusals and rows stand in the help, the manual page, docs/USING.md and completion; numbers of the tree, links and
-# commands in the pages. `pages.py` compares them, and has to find nothing. Then a difference is planted in a copy of each
-# table in turn, which it has to find and name.
+# Options, refusals and rows stand in the help, the manual page, docs/USING.md and completion; numbers of the tree, its files
+# and functions, links and commands in the pages. `pages.py` compares them, and has to find nothing. Then a difference is
+# planted in a copy of each table in turn, which it has to find and name.
 # The last line is 'N passed, M failed', and the exit status says whether all passed.
 
 usage='usage: tests/docs.sh PATH-TO-RDS'
@@ -31,9 +31,8 @@ fi
 copy=$work/copy
 mkdir "$copy" || exit 1
 cp -r README.md CHANGELOG.md Makefile crates.txt rds.1 completions docs examples lib packaging tests "$copy" || exit 1
-for folder in crates/*/wrong crates/*/must-fail; do
-    mkdir -p "$copy/$folder" && cp -r "$folder/." "$copy/$folder" || exit 1
-done
+# the sources are looked at, and never changed
+PATH=$all_tools ln -s "$(realpath crates)" "$copy/crates" || exit 1
 
 # planted FILE EDIT TEXT: once sed made the edit in the file of the copy, TEXT is found there
 planted() {
@@ -70,6 +69,21 @@ planted rds.1 's/^\.Li losses \.$/.Li loss ./' 'rds.1, totals'
 planted completions/rds.bash 's/--share/--shares/g; s/--shares/--sha/g' 'completions/rds.bash, options'
 planted completions/_rds 's/--progress/--pro/g' 'completions/_rds, options'
 planted docs/ARCHITECTURE.md 's/^| `rds_pieces` |/| pieces |/; s/`rds_pieces`/pieces/g' 'docs/ARCHITECTURE.md, crates'
+map=docs/ARCHITECTURE.md
+planted $map 's@^ |  8  rds_sync/@ |  8 rds_sync/@' "$map, lines of the drawing"
+planted $map 's@^ |  6  rds_crew/src/drawing.rt@ |  6  rds_crew/src/draw.rt@' "$map: there is no rds_crew/src/draw.rt"
+planted $map 's@^ |     rds_code/src/remainder.rt  *rem26@ |     rds_code/src/remainder.rt  rem27@' "$map: crates/rds_code/src/remainder.rt has no rem27"
+planted $map 's|rds_sync/specs/Loss.antt|rds_sync/specs/Losses.antt|' "$map: there is no rds_sync/specs/Losses.antt"
+planted $map 's|`Loss::bad_after`, |`Bad::bad_after`, |' "$map: crates/rds_sync/src/loss.rt has no Bad::bad_after"
+planted $map 's|`search` (`rds_sync/src/stretches.rt`)|`seek` (`rds_sync/src/stretches.rt`)|' \
+    "$map: crates/rds_sync/src/stretches.rt has no seek"
+planted $map 's|(`blocks_before`, `lock.rt`)|(`blocks_before`, `locks.rt`)|' "$map: there is no locks.rt"
+planted docs/PROOFS.md 's/`only_remainder`/`one_remainder`/' 'docs/PROOFS.md: crates/rds_uses/src/code.rt has no one_remainder'
+planted docs/PROOFS.md 's/`BurstLemmas`, `SpanLemmas`/`BurstLemma`, `SpanLemmas`/' 'docs/PROOFS.md: no proofs have BurstLemma.antt'
+planted tests/README.md '/^| `common.sh` |/d' 'tests/README.md, files'
+planted examples/README.md 's/^| `gaps.sh` |/| `gap.sh` |/' 'examples/README.md, files'
+planted docs/MODEL.md 's/^| lock | /| run | /' 'docs/MODEL.md, words that the glossary has twice'
+planted docs/MODEL.md '/^| lock | /s/.*/& \n| a | \n| b | \n| c | \n| d | \n| e | /' 'docs/MODEL.md, words of the glossary past forty'
 planted docs/TESTING.md '/^| `\{0,1\}rds_code`\{0,1\} |.*edits/s/\([0-9]*\) edits/1\1 edits/' 'docs/TESTING.md, edits of rds_code'
 planted README.md 's|(docs/USING.md)|(docs/USAGE.md)|' 'README.md: the link docs/USAGE.md leads nowhere'
 planted README.md 's|USING.md#a-stream|USING.md#a-river|' 'README.md: the link docs/USING.md#a-river names no heading'

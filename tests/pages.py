@@ -2,9 +2,11 @@
 """Compares what is written twice, and prints a line for each difference: tests/pages.py PATH-TO-RDS [FOLDER]
 
 FOLDER is the project's, or a copy of it. The options, refusals and rows of the program's help are held against the manual
-page, docs/USING.md and completion; numbers of a page against the tree; links, and the commands that a page shows, against
-what is there. `tests/docs.sh` calls it, and sees that it finds differences.
+page, docs/USING.md and completion; numbers of a page against the tree; links, the commands that a page shows, the files and
+functions that docs/ARCHITECTURE.md names, the callers and lemmas of docs/PROOFS.md, and the maps of tests/ and examples/
+against what is there. `tests/docs.sh` calls it, and sees that it finds differences.
 """
+import functools
 import os
 import re
 import subprocess
@@ -150,6 +152,106 @@ def compare_numbers():
         same(f"docs/TESTING.md, edits of {crate}", sum(len(os.listdir(it)) for it in folders if os.path.isdir(it)), int(count))
 
 
+# A path in backquotes, or the name of a file; and names of functions, types or constants in a row.
+PLACE = re.compile(r"`([\w.*-]*/[\w./*-]*|[\w-]+\.(?:rt|antt|py|sh|c|h|md|1|answers|bounds|sums))`")
+NAMES = r"(?:`[\w:]+`(?:, | and ))*`[\w:]+`"
+
+
+def file_of(place, crate):
+    """The file or folder that a page means by a place, which may be one of the crate that it named last."""
+    starts = ("", "crates/", f"crates/{crate}/", f"crates/{crate}/src/", f"crates/{crate}/specs/")
+    return next((start + place for start in starts if os.path.exists(start + place)), None)
+
+
+def named_in(text):
+    """The functions, types and constants that a text defines."""
+    pattern = r"\b(?:fn|struct|enum|trait|type|def|class|(?:const|static)(?! fn)) (\w+)|^(\w+)\(\)"
+    return {word or script for word, script in re.findall(pattern, text, re.M)}
+
+
+@functools.cache
+def defined_in(path):
+    """What a file defines; what stands in an impl also as `Type::function`."""
+    text = read(path)
+    parts = re.findall(r"^(?:pub(?:\(crate\))? )?(?:impl|trait)\b([^{;]*)\{([\s\S]*?)^\}", text, re.M)
+    of_types = {f"{it}::{own}" for head, body in parts for it in re.findall(r"\w+", head) for own in named_in(body)}
+    return named_in(text) | of_types
+
+
+def places_in(text):
+    """Each place that a text names, with the crate named last before it and the names that stand beside it."""
+    crate = ""
+    for token in re.finditer(r"`([^`]+)`", text):
+        named = token[1].partition("/")[0]
+        crate = named if os.path.isdir(f"crates/{named}") else crate
+        if PLACE.fullmatch(token[0]):
+            # names that stand beside a place lie no farther away
+            before, after = text[max(0, token.start() - 200) : token.start()], text[token.end() : token.end() + 200]
+            beside = [
+                re.search(rf"({NAMES}) \($", before),  # `name` (`path`
+                re.search(rf"\(({NAMES}), $", before),  # (`name`, `path`
+                re.match(rf": ({NAMES})", after),  # `path`: `name`
+            ]
+            yield token[1], crate, [name for it in beside if it for name in re.findall(r"[\w:]+", it[1].replace(" and ", " "))]
+
+
+def compare_places(page):
+    """The files that a page names, and the functions that it names beside them, in its text and in its drawing."""
+    drawing, text = [], []
+    for number, part in enumerate(re.split(r"^```.*$", read(page), flags=re.M)):
+        (drawing if number % 2 else text).append(part)
+    found = list(places_in(one_line(" ".join(text))))
+    lines = re.findall(r"^ \| [ \d]{2}  (\S+) +([\w:]+(?:, [\w:]+)*)(?:  .*)?$", "".join(drawing), re.M)
+    found += [(path, "", names.split(", ")) for path, names in lines]
+    for place, crate, names in found:
+        path = file_of(place, crate)
+        if not path:
+            faults.append(f"{page}: there is no {place}")
+        for name in names if path and os.path.isfile(path) else []:
+            if name not in defined_in(path):
+                faults.append(f"{page}: {path} has no {name}")
+    same(f"{page}, lines of the drawing", sum("/src/" in it for it in "".join(drawing).splitlines()), len(lines))
+
+
+def compare_claims():
+    """The callers and the files of lemmas that docs/PROOFS.md names beside each claim."""
+    lemmas = {name for crate in os.listdir("crates") for _, _, names in os.walk(f"crates/{crate}/proofs") for name in names}
+    for line in re.findall(r"^\| .*$", between(read("docs/PROOFS.md"), "\n## What is proved\n", "\n## "), re.M):
+        cells = line.split(" |")
+        if len(cells) != 5:
+            faults.append(f"docs/PROOFS.md: no row of four cells: {line[:60]}")
+            continue
+        for name, row in re.findall(r"(\w+): ((?:`\w+`(?:, )?)+)", cells[2]):
+            path = f"crates/rds_uses/src/{name}.rt"
+            for caller in re.findall(r"\w+", row):
+                if not os.path.exists(path) or caller not in defined_in(path):
+                    faults.append(f"docs/PROOFS.md: {path} has no {caller}")
+        for name in re.findall(r"`(\w+)`", cells[3]):
+            if f"{name}.antt" not in lemmas:
+                faults.append(f"docs/PROOFS.md: no proofs have {name}.antt")
+
+
+def compare_maps():
+    """The files of two folders, and those that the tables of their pages name."""
+    for folder in ("tests", "examples"):
+        cells = re.findall(r"^\|([^|]*)\|", read(f"{folder}/README.md"), re.M)
+        named = {name for cell in cells for name in re.findall(r"`([\w./]+)`", cell) if not name.endswith("/")}
+        held = {
+            os.path.relpath(f"{at}/{name}", folder)
+            for at, _, names in os.walk(folder)
+            for name in names
+            if not at.endswith("__pycache__")
+        }
+        same(f"{folder}/README.md, files", held - {"README.md"}, named)
+
+
+def compare_glossary():
+    """Each word of the glossary is there once, and there are at most forty."""
+    words = re.findall(r"^\| ([a-z]+) \|", between(read("docs/MODEL.md"), "\n## Glossary\n", "\n## "), re.M)
+    same("docs/MODEL.md, words that the glossary has twice", set(), {it for it in words if words.count(it) > 1})
+    same("docs/MODEL.md, words of the glossary past forty", [], words[40:])
+
+
 def headings(path):
     """What the headings of a page are called in a link."""
     return {re.sub(r"[^\w\- ]", "", head.lower()).replace(" ", "-") for head in re.findall(r"^#+ (.*)$", read(path), re.M)}
@@ -209,10 +311,15 @@ def main():
     program = Program(os.path.realpath(sys.argv[1]))
     os.chdir(sys.argv[2] if len(sys.argv) == 3 else os.path.dirname(os.path.dirname(os.path.realpath(__file__))))
     manual, using = Manual(), Using()
-    pages = ["README.md", "CHANGELOG.md", "examples/README.md"] + sorted(f"docs/{name}" for name in os.listdir("docs"))
+    pages = ["README.md", "CHANGELOG.md", "examples/README.md", "tests/README.md"]
+    pages += sorted(f"docs/{name}" for name in os.listdir("docs"))
     compare_options(program, manual, using)
     compare_rows(program, manual, using)
     compare_numbers()
+    compare_places("docs/ARCHITECTURE.md")
+    compare_claims()
+    compare_maps()
+    compare_glossary()
     compare_links(pages)
     compare_commands(program, pages)
     print("".join(f"{it}\n" for it in faults), end="")

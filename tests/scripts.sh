@@ -4,7 +4,7 @@
 # A script whose tool or table is missing must not pass. Each script of this folder that says what it needs is called with
 # each of these tools away in turn, and has to end in another status than 0, with the tool's name on standard error; it finds
 # no others (`needs` of common.sh), so that its row is whole where it passes. And each is called without a program, and those
-# that read a table with an empty one, and with one whose last line is cut off, missing, or there twice.
+# that read a table with an empty one, and with one whose last line is cut off, missing, or there twice. So is wrong_bodies.py.
 # The last line is 'N passed, M failed', and the exit status says whether all passed.
 
 usage='usage: tests/scripts.sh PATH-TO-RDS'
@@ -72,6 +72,10 @@ RT=none refused 'wrong_bodies.py without rt' 'no Rattle toolchain' "$all_tools" 
 
 mkdir "$work/copy"
 cp -r "$here" "$here/../examples" "$work/copy" || exit 1
+for folder in "$here"/../crates/*/wrong; do
+    crate=${folder%/wrong}
+    mkdir -p "$work/copy/crates/${crate##*/}" && cp -r "$folder" "$work/copy/crates/${crate##*/}" || exit 1
+done
 
 # table SCRIPT TABLE: the script with its table as it must not be
 table() {
@@ -89,5 +93,20 @@ table() {
 }
 table work.sh work.bounds
 table listings.sh listings.sums
+
+# answers TEXT: the table of answers as it must not be, on standard input; nothing is proved, as no crate has the name 'none'
+answers() {
+    cat >"$work/copy/tests/wrong_bodies.answers"
+    RT=true refused "wrong_bodies.py, '$1'" "$1" "$all_tools" python3 "$work/copy/tests/wrong_bodies.py" none
+}
+told=$here/wrong_bodies.answers
+answers 'wrong bodies of none' <"$told"
+answers 'there is no line' </dev/null
+answers 'there is no line' < <(grep '^#' "$told")
+answers 'the last line is cut off' < <(head -c -1 "$told")
+answers 'two lines of' < <(cat "$told"; tail -n 1 "$told")
+answers 'says nothing of an edit' < <(sed '$s/:.*//' "$told")
+answers 'edits that are not there' < <(cat "$told"; echo 'rds_code/no_such_edit: nothing')
+answers 'edits that are not there' < <(sed '$s|^[^/]*/|rds_code/|' "$told")
 
 finish

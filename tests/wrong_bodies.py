@@ -12,7 +12,7 @@ behind it under another name, with the same contract and the same proof. A wrong
   the right proof, checked by `rt ci`, has no answer by hand;
 - else by a line of those answers, where the prover refuses what stands there; not where it names what is gone. An edit that
   leaves the meaning as it was can do as much, since answers follow the form of the body: so this counts only for an edit of
-  which docs/TESTING.md says what is false of it, in its table of answers that name the old body.
+  which tests/wrong_bodies.answers says what is false of it, in a line 'CRATE/EDIT: WHAT'.
 
 An edit with a line `equal: WHY` leaves the meaning as it was: it may be refused by lines, and by no goal.
 
@@ -27,13 +27,12 @@ import sys
 import tempfile
 from concurrent.futures import ThreadPoolExecutor
 from dataclasses import dataclass, replace
-from glob import glob
 
 from holes import EXPORTED, LIBRARIES, RT, TOP, below, copied, functions_of, is_built, read, words, write
 
 CRATES = f"{TOP}/crates"
-# The page that says what is false of an edit that is refused by lines of answers alone, and the heading of its table.
-TOLD, TABLE = "docs/TESTING.md", "### Answers that name the old body"
+# The table that says what is false of an edit that is refused by lines of answers alone.
+TOLD = "tests/wrong_bodies.answers"
 # What a check says of an answer that names what an edit took away.
 GONE = "has no field|is not in scope|has no `|was not admitted"
 
@@ -49,7 +48,7 @@ class WrongBody:
 
     def is_refused(self, told):
         """Whether that is a refusal, where these edits are told of."""
-        return bool(self.goals) or bool(self.lines) and name_of(self.name) in told
+        return bool(self.goals) or bool(self.lines) and self.name.removesuffix(".edit") in told
 
     def report(self, told):
         if self.goals or self.is_refused(told):
@@ -59,17 +58,24 @@ class WrongBody:
         return "NOT REFUSED"
 
 
-def name_of(path):
-    """The name of an edit."""
-    return os.path.basename(path).removesuffix(".edit")
-
-
 def told_of():
-    """The edits of which the page tells what is false. Each has to be there."""
-    told = set(re.findall(r"^\| (\w+) ", read(f"{TOP}/{TOLD}").partition(TABLE)[2].partition("\n###")[0], re.M)) - {"Edit"}
-    edits = {name_of(it) for it in glob(f"{CRATES}/*/wrong/*.edit") + glob(f"{CRATES}/*/must-fail/*.edit")}
-    if gone := sorted(told - edits):
-        sys.exit(f"{TOLD}, '{TABLE.strip('# ')}', tells of edits that are not there: {', '.join(gone)}")
+    """The edits of which the table tells what is false. Each stands there once, and has to be there."""
+    text = read(f"{TOP}/{TOLD}")
+    rows = [it for it in text.splitlines() if not it.startswith("#")]
+    if not rows:
+        sys.exit(f"{TOLD}: there is no line")
+    if not text.endswith("\n"):
+        sys.exit(f"{TOLD}: the last line is cut off")
+    told = {}
+    for row in rows:
+        edit, _, what = row.partition(": ")
+        if not what:
+            sys.exit(f"{TOLD}: the line says nothing of an edit: {row}")
+        if edit in told:
+            sys.exit(f"{TOLD}: two lines of {edit}")
+        told[edit] = what
+    if gone := [it for it in told if not os.path.isfile(f"{CRATES}/{it.replace('/', '/wrong/', 1)}.edit")]:
+        sys.exit(f"{TOLD} tells of edits that are not there: {', '.join(gone)}")
     return told
 
 
