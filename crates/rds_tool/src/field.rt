@@ -28,6 +28,7 @@ impl Model for Field {
 
 impl Field {
     /// The field of a block.
+    #[inline(always)]
     pub fn of_block(block: &Block) -> Field
         ensures { result ≡ block_text block.now }
     {
