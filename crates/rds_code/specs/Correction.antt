@@ -1,4 +1,5 @@
--- What correction gives its user: the laws of the block code. They are of the code itself, and hold whoever reads.
+-- What correction gives its user: the laws of the block code, which are of the code itself, and hold whoever reads. The laws
+-- `damaged_blocks_are_corrected` and `blocks_are_read_as_sent` are these.
 use Rattle.std.specs.Prelude.{◌≡◌, ◌≢◌, ℕ, ◌≤◌, bit_xor, ◌↔◌}
 use Rattle.rds_code.specs.declared.offset.Offset.{Offset}
 use Rattle.rds_code.specs.declared.offset.Offset.TheVariants.{C, Cx}

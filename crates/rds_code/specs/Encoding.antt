@@ -1,4 +1,5 @@
 -- Blocks and groups as they are sent (EN 50067:1998, sections 2.1 and 2.3; block 3 by the version bit, section 3.1.2).
+-- `encode_block` and `encode_group` answer them.
 use Rattle.std.specs.Prelude.{◌≡◌, ℕ, zero, suc, ◌+◌, ◌*◌, ◌^◌, ◌<◌, List, [], ◌∷◌, length, slice_index, bit_xor}
 use Rattle.std.specs.Int.{bit_at}
 use Rattle.rds_code.specs.declared.offset.Offset.{Offset}

@@ -1,4 +1,5 @@
--- How a block came out, as a number of four bits: this project's rule.
+-- How a block came out, as a number of four bits: this project's rule. `Kinds::of_block` answers it, and `Burst::kind` that
+-- of a burst.
 use Rattle.std.specs.Prelude.{ℕ, ◌+◌, ◌-◌, ◌*◌, ◌/◌}
 use Rattle.std.specs.Int.Count.{ones}
 use Rattle.rds_code.specs.declared.reading.Reading.{Reading}

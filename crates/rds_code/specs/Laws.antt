@@ -1,4 +1,5 @@
--- The laws that the calls of the module of laws prove, over the definitions alone.
+-- The laws of remainders, bursts, readings and blocks, over the definitions alone. Each is a clause of a function in `laws`,
+-- which does nothing else.
 use Rattle.std.specs.Prelude.{◌≡◌, ◌≢◌, ℕ, ◌<◌, ◌≤◌, ◌^◌, bit_xor, ◌↔◌, Contains}
 use Rattle.rds_code.specs.declared.offset.Offset.{Offset}
 use Rattle.rds_code.specs.declared.reading.Wanted.{Wanted}

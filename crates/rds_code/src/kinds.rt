@@ -6,11 +6,11 @@ ghost use Rattle.rds_code.specs.declared.offset.Offset.TheVariants.{C, Cx};
 ghost use Rattle.rds_code.specs.Reading.{reading};
 ghost use Rattle.rds_code.specs.Remainder.{rem};
 
+use crate::burst_table::BurstTable;
 use crate::error::CodeError;
 use crate::offset::Offset;
 use crate::reading::Wanted;
 use crate::remainder::rem26;
-use crate::table::BurstTable;
 use std::alloc::{AllocError, Global};
 use std::marker::Model;
 

@@ -5,9 +5,9 @@ ghost use Rattle.rds_code.specs.Offsets.{number as number_of, offset_of as the_o
 ghost use Rattle.rds_code.specs.Reading.{information, IsReading, corrections, by_only, corrected as the_corrected, reading};
 
 use crate::burst::Burst;
+use crate::burst_table::BurstTable;
 use crate::offset::{Offset, offset_of};
 use crate::remainder::rem26;
-use crate::table::BurstTable;
 
 /// Which offsets are tried where block 3 is corrected: this project's rule. It is looked at for block 3 alone.
 #[derive(Clone, Copy, Debug, PartialEq, Eq, Hash)]

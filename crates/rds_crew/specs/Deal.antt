@@ -1,5 +1,6 @@
--- What a seat of a dealer knows, and the rule over the dealer's two words and what all of its seats know. This
--- project's rule.
+-- The rule that a dealer's table keeps between any two steps, over its two words and what each seat knows, its view; this
+-- project's rule. The table has it by its type (`deal.rt`); of public calls `Dealer::progress` cites `held_count`, and the others
+-- what `Seats` makes of views.
 use Rattle.std.specs.Prelude.{◌≡◌, ℕ, ◌+◌, ◌^◌, ◌<◌, ◌≤◌, min, ◌==◌, if◌then◌else◌, nat_lt, List, [], ◌∷◌, ◌++◌, length, slice_index, count_by, sum_by, Option, Some, None, IfSome}
 use mathlib.Core.Option.{some}
 use lib.ListN.{get_elem?}
@@ -11,56 +12,59 @@ use Rattle.rds_crew.specs.Core.{counts, Runs}
 
 -- how often x stands in the list
 abbrev pub times : ℕ → List ℕ → ℕ
-times x xs = count_by (λ y. x == y) xs
+times x numbers = count_by (λ y. x == y) numbers
 
 -- 1 for a number below n, and else 0
 abbrev pub once_below : ℕ → ℕ → ℕ
 once_below x n = if nat_lt x n then 1 else 0
 
+-- how many numbers a seat holds
 abbrev pub held_count : Option ℕ → ℕ
 held_count None = 0
-held_count (Some j) = 1
+held_count (Some number) = 1
 
--- the list ends in j
+-- the list ends in the number
 abbrev pub EndsIn : List ℕ → ℕ → Type 0
-EndsIn xs j = (front : List ℕ) × (xs ≡ front ++ j ∷ [])
+EndsIn numbers number = (front : List ℕ) × (numbers ≡ front ++ number ∷ [])
 
 -- a view of so many shares that has done nothing
 abbrev pub fresh : ℕ → ℕ → View
 fresh pieces share = record { pieces = pieces; share = share; drawn = []; held = None; ended = 0; finished = 0; told = 0; log = [] }
 
 -- what the rule says of one view, where `done` numbers are finished in all
-pub record Fits (pieces done : ℕ) (v : View) : Type 0 where
-  pub ended_within : v.ended ≤ v.share
+pub record Fits (pieces done : ℕ) (view : View) : Type 0 where
+  pub ended_within : view.ended ≤ view.share
   -- it drew as many as it finished, and one more where it holds one: the last
-  pub counted : length v.drawn ≡ v.finished + held_count v.held
-  pub last : IfSome v.held (λ j. EndsIn v.drawn j)
-  pub told_within : v.told ≤ done
+  pub counted : length view.drawn ≡ view.finished + held_count view.held
+  pub last : IfSome view.held (λ number. EndsIn view.drawn number)
+  pub told_within : view.told ≤ done
   -- a view without a share is spent
-  pub spent : v.share ≡ 0 → (v.drawn ≡ []) × (v.held ≡ None) × (v.log ≡ [])
-  pub same_pieces : 0 < v.share → v.pieces ≡ pieces
+  pub spent : view.share ≡ 0 → (view.drawn ≡ []) × (view.held ≡ None) × (view.log ≡ [])
+  pub same_pieces : 0 < view.share → view.pieces ≡ pieces
 
+-- what is added up over all views: a sum takes a function, so that each of these has a name
 abbrev pub share_of : View → ℕ
-share_of v = v.share
+share_of view = view.share
 
 abbrev pub drawn_of : View → ℕ
-drawn_of v = length v.drawn
+drawn_of view = length view.drawn
 
 abbrev pub ended_of : View → ℕ
-ended_of v = v.ended
+ended_of view = view.ended
 
 abbrev pub finished_of : View → ℕ
-finished_of v = v.finished
+finished_of view = view.finished
 
+-- how often the view drew x
 abbrev pub times_of : ℕ → View → ℕ
-times_of x v = times x v.drawn
+times_of x view = times x view.drawn
 
 abbrev pub log_of : View → List Event
-log_of v = v.log
+log_of view = view.log
 
--- the events are those of all logs, each as often, in whatever order
+-- the events are those of all logs, each as often, in whatever order: however events are weighed, both weigh the same
 abbrev pub Merges : {A : Type 0} → (A → List Event) → List Event → List A → Type 0
-Merges log events xs = (f : Event → ℕ) → sum_by f events ≡ sum_by (λ x. sum_by f (log x)) xs
+Merges log events owners = (weight : Event → ℕ) → sum_by weight events ≡ sum_by (λ owner. sum_by weight (log owner)) owners
 
 -- what all views did is, in some order, a run of the core to these counts
 abbrev pub HasRun : ℕ → ℕ → ℕ → List View → Type 0
@@ -78,12 +82,13 @@ pub record Dealt (key : Terms) (tickets done : ℕ) (views : List View) : Type 0
   -- a ticket gave a number or ended a seat
   pub drawn_or_ended : tickets ≡ sum_by drawn_of views + sum_by ended_of views
   pub all_finished : done ≡ sum_by finished_of views
-  pub each : (j : ℕ) (v : View) → get_elem? views j ≡ some v → Fits key.pieces done v
+  pub each : (slot : ℕ) (view : View) → get_elem? views slot ≡ some view → Fits key.pieces done view
 
 -- what holds of the dealer's table between any two steps: its first word is the tickets, which can never wrap, and
 -- its second the finished
 abbrev pub Holds : Terms → State Unit View → Type 0
-Holds key s = (length s.words ≡ 2) × Dealt key (slice_index s.words 0) (slice_index s.words 1) s.views × (slice_index s.words 0 ≤ key.pieces + 256)
+Holds key table = (length table.words ≡ 2) × Dealt key (slice_index table.words 0) (slice_index table.words 1) table.views
+    × (slice_index table.words 0 ≤ key.pieces + 256)
 
 -- the view that has all shares, before any step
 abbrev pub first : Terms → View

@@ -1,4 +1,5 @@
--- A dealer and its seats, as callers see them.
+-- A dealer and its seats, as callers see them: by names and views, and what seats did together. `Dealer::new`, `draw`, `finish`,
+-- `progress` and `close` cite it.
 use Rattle.std.specs.Prelude.{◌≡◌, ℕ, ◌+◌, List, sum_by, None}
 use Rattle.atomic_table.specs.Seated.{TableId}
 use Rattle.rds_crew.specs.declared.deal.View.{View}
@@ -23,27 +24,27 @@ pub record SeatValue : Type 0 where
 
 -- a seat that has done nothing
 abbrev pub fresh_seat : DealerValue → SeatValue
-fresh_seat d = record { dealer = d.name; view = fresh d.name.pieces 1 }
+fresh_seat dealer = record { dealer = dealer.name; view = fresh dealer.name.pieces 1 }
 
 -- the seat after an event of its own
 abbrev pub seat_after : SeatValue → Event → SeatValue
-seat_after s e = record s { view = after s.view e }
+seat_after seat event = record seat { view = after seat.view event }
 
 -- the seat is of this dealer
 abbrev pub IsOf : DealerValue → SeatValue → Type 0
-IsOf d s = s.dealer ≡ d.name
+IsOf dealer seat = seat.dealer ≡ dealer.name
 
 -- the seat is of this dealer and has done nothing
 abbrev pub IsFresh : DealerValue → SeatValue → Type 0
-IsFresh d s = s ≡ fresh_seat d
+IsFresh dealer seat = seat ≡ fresh_seat dealer
 
 -- the seat has ended and holds nothing
 abbrev pub HasRested : SeatValue → Type 0
-HasRested s = (s.view.held ≡ None) × (s.view.ended ≡ 1)
+HasRested seat = (seat.view.held ≡ None) × (seat.view.ended ≡ 1)
 
 -- how often the seats together drew x
 abbrev pub times_drawn : ℕ → List SeatValue → ℕ
-times_drawn x seats = sum_by (λ s. times x s.view.drawn) seats
+times_drawn x seats = sum_by (λ seat. times x seat.view.drawn) seats
 
 -- together the seats drew each number below n once, and nothing else
 abbrev pub DrewAllOnce : ℕ → List SeatValue → Type 0
@@ -51,9 +52,10 @@ DrewAllOnce n seats = (x : ℕ) → times_drawn x seats ≡ once_below x n
 
 -- what the seat did, the newest last
 abbrev pub log_of_seat : SeatValue → List Event
-log_of_seat s = s.view.log
+log_of_seat seat = seat.view.log
 
 -- what the seats did is, in some order, a run of the dealer's core to its end: a ticket for each piece and one more
 -- for each seat
 abbrev pub DidWholeRun : DealerValue → List SeatValue → Type 0
-DidWholeRun d seats = (events : List Event) × Runs d.name.pieces events (counts (d.name.pieces + d.seats) d.name.pieces) × Merges log_of_seat events seats
+DidWholeRun dealer seats = (events : List Event) × Runs dealer.name.pieces events (counts (dealer.name.pieces + dealer.seats) dealer.name.pieces)
+    × Merges log_of_seat events seats

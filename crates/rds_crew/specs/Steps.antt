@@ -1,6 +1,7 @@
--- The six kinds of step on a dealer's table, and no others: a draw that gives a number or ends its seat, a finish and
--- a progress, each an event of the core; and a split and a join of views, which leave both words as they are. This
--- project's rule.
+-- The six kinds of step on a dealer's table, and no others: a draw that gives a number or ends its seat, a finish and a progress,
+-- each an event of the core; and a split and a join of views, which leave both words as they are. This project's rule. The steps
+-- of the table have them by their types (`deal.rt`); of public calls `Dealer::draw`, `finish` and `progress` cite `after`, by
+-- `seat_after`.
 use Rattle.std.specs.Prelude.{◌≡◌, ℕ, ◌+◌, ◌-◌, ◌<◌, ◌≤◌, max, List, [], ◌∷◌, ◌++◌, slice_index, slice_set, Option, Some, None}
 use Rattle.atomic_table.specs.Table.{Me, Step}
 use Rattle.rds_crew.specs.declared.deal.View.{View}
@@ -11,59 +12,71 @@ use Rattle.rds_crew.specs.Deal.{held_count, fresh}
 
 -- the counts as the table's words
 abbrev pub words_of : Counts → List ℕ
-words_of c = c.tickets ∷ c.done ∷ []
+words_of counts = counts.tickets ∷ counts.done ∷ []
 
--- The step, which found n, is this event: from whatever counts its word is n of, the event leads to counts that are
--- the words after the step, which sets its own word alone
+-- The step, which found so much in its word, is this event: from whatever counts that is the word of, the event leads to counts
+-- that are the words after the step, which sets its own word alone
 abbrev pub IsEvent : ℕ → Event → Step Unit → ℕ → Type 0
-IsEvent pieces e s n = (b : Counts) → slice_index (words_of b) s.word ≡ n → (c : Counts) × Leads pieces e b c × (words_of c ≡ slice_set (words_of b) s.word (n + s.first))
+IsEvent pieces event step found = (before : Counts) → slice_index (words_of before) step.word ≡ found
+    → (after : Counts) × Leads pieces event before after
+    × (words_of after ≡ slice_set (words_of before) step.word (found + step.first))
 
 -- the view after each event
 abbrev pub with_number : View → ℕ → View
-with_number v j = record v { drawn = v.drawn ++ j ∷ []; held = Some j; log = v.log ++ Draw (Some j) ∷ [] }
+with_number view number = record view { drawn = view.drawn ++ number ∷ []; held = Some number; log = view.log ++ Draw (Some number) ∷ [] }
 
 abbrev pub with_end : View → View
-with_end v = record v { ended = v.ended + 1; log = v.log ++ Draw None ∷ [] }
+with_end view = record view { ended = view.ended + 1; log = view.log ++ Draw None ∷ [] }
 
 abbrev pub without_held : View → View
-without_held v = record v { held = None; finished = v.finished + 1; log = v.log ++ Finish ∷ [] }
+without_held view = record view { held = None; finished = view.finished + 1; log = view.log ++ Finish ∷ [] }
 
 abbrev pub with_told : View → ℕ → View
-with_told v n = record v { told = n; log = v.log ++ Progress n ∷ [] }
+with_told view finished = record view { told = finished; log = view.log ++ Progress finished ∷ [] }
 
 abbrev pub after_draw : View → Option ℕ → View
-after_draw v None = with_end v
-after_draw v (Some j) = with_number v j
+after_draw view None = with_end view
+after_draw view (Some number) = with_number view number
 
 abbrev pub after : View → Event → View
-after v (Draw reply) = after_draw v reply
-after v Finish = without_held v
-after v (Progress reply) = with_told v reply
+after view (Draw reply) = after_draw view reply
+after view Finish = without_held view
+after view (Progress reply) = with_told view reply
 
--- the step is this event of the core, and its seat knows it and no more
+-- the step is this event of the core, and its seat, `me` before and `me'` after it, knows it and no more
 abbrev pub Does : Event → Step Unit → Me Unit View → ℕ → Me Unit View → Type 0
-Does e s me n me' = IsEvent me.0.pieces e s n × (me' ≡ (after me.0 e, me.1))
+Does event step me found me' = IsEvent me.0.pieces event step found × (me' ≡ (after me.0 event, me.1))
 
--- what each step tells its seat, beside the event that it is
+-- what each step tells its seat by what it found, beside the event that it is
 abbrev pub Drew : Step Unit → Me Unit View → ℕ → Me Unit View → Type 0
-Drew s me n me' = Does (Draw (number_of_ticket me.0.pieces n)) s me n me' × (me.0.finished ≤ n)
+Drew step me found me' = Does (Draw (number_of_ticket me.0.pieces found)) step me found me' × (me.0.finished ≤ found)
 
 abbrev pub Finished : Step Unit → Me Unit View → ℕ → Me Unit View → Type 0
-Finished s me n me' = Does Finish s me n me' × (me.0.finished < me.0.pieces)
+Finished step me found me' = Does Finish step me found me' × (me.0.finished < me.0.pieces)
 
 abbrev pub Told : Step Unit → Me Unit View → ℕ → Me Unit View → Type 0
-Told s me n me' = Does (Progress n) s me n me' × (me.0.finished ≤ n) × (me.0.told ≤ n) × (n + held_count me.0.held ≤ me.0.pieces)
+Told step me found me' = Does (Progress found) step me found me'
+    × (me.0.finished ≤ found) × (me.0.told ≤ found) × (found + held_count me.0.held ≤ me.0.pieces)
 
 -- a split: one share goes to a new view with nothing else in it
 abbrev pub kept_shares : View → View
-kept_shares v = record v { share = v.share - 1 }
+kept_shares view = record view { share = view.share - 1 }
 
 abbrev pub one_share : View → View
-one_share v = fresh v.pieces 1
+one_share view = fresh view.pieces 1
 
 -- a join: one view takes in another, which is spent
 abbrev pub pooled : View → View → View
-pooled v w = record { pieces = v.pieces; share = v.share + w.share; drawn = v.drawn ++ w.drawn; held = v.held; ended = v.ended + w.ended; finished = v.finished + w.finished; told = max v.told w.told; log = v.log ++ w.log }
+pooled one other = record {
+  pieces = one.pieces;
+  share = one.share + other.share;
+  drawn = one.drawn ++ other.drawn;
+  held = one.held;
+  ended = one.ended + other.ended;
+  finished = one.finished + other.finished;
+  told = max one.told other.told;
+  log = one.log ++ other.log;
+}
 
 abbrev pub spent_view : View
 spent_view = fresh 0 0

@@ -8,7 +8,7 @@ ghost use Rattle.rds_pieces.specs.Cutting.{IsCutting, pieces_of};
 
 use crate::error::CrewError;
 use crate::gate::Gate;
-use crate::parts::Guesses;
+use crate::guesses::Guesses;
 use crate::team::make_all;
 use crate::tree::join_all;
 use rds_pieces::{Work, laws};

@@ -1,5 +1,5 @@
 //! One worker: draws numbers with its seat, and makes the part of each.
-ghost use Rattle.std.specs.Prelude.{◌≡◌, IfOk, IfErr};
+ghost use Rattle.std.specs.Prelude.{◌≡◌, IfOk, IsOkUnless};
 ghost use Rattle.rds_pieces.specs.declared.error.PieceError.TheVariants.{OutOfMemory};
 ghost use Rattle.rds_crew.specs.Seats.{IsFresh};
 ghost use Rattle.rds_crew.specs.Inside.Drawn.{IsDrawn};
@@ -28,7 +28,7 @@ pub(crate) fn draw_all<P: Parts>(
     requires all { dealer.now.name.pieces ≡ P.how_many parts.now }
     requires new { IsFresh dealer.now seat }
     ensures drawn { IfOk result (IsDrawn (P.made_of parts.now) dealer.now) }
-    ensures err { IfErr result (λ e. e ≡ OutOfMemory) }
+    ensures err { IsOkUnless result OutOfMemory }
 {
     let mut seat = seat;
     let mut made = Vec::new(alloc);

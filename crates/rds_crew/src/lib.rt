@@ -60,18 +60,20 @@
 //! one worker up until the other has begun, and one that notes what is made of which runs.
 #![tactic(auto)]
 
-mod crew;
-mod deal;
-mod dealer;
-mod drawing;
-mod error;
-mod gate;
-mod joins;
-mod parts;
-mod seat;
-mod slots;
-mod team;
-mod tree;
+// In the order of reading: the report of a crew, what its workers draw, and the dealer that they draw from.
+mod crew; // The report, from the guesses to the run that is left.
+mod gate; // What a caller hears of the workers.
+mod parts; // Work in numbered parts, of which there are two kinds.
+mod guesses; // The pieces of a work, as parts.
+mod joins; // The joins of one level, as parts.
+mod tree; // The levels of joins, up to one run.
+mod team; // All parts of a work, made by threads.
+mod drawing; // What one worker draws and makes.
+mod slots; // What was made, in the order of its numbers.
+mod dealer; // Who deals the numbers.
+mod seat; // The right of a worker to draw.
+mod deal; // What the dealer's table keeps: the rule of its two words.
+mod error; // Why a call refuses.
 
 pub use crew::{MOST_WORKERS, decode_crew};
 pub use dealer::{Closed, Dealer};

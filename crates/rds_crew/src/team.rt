@@ -1,5 +1,5 @@
 //! Workers that make all parts of a work between them, each those whose numbers it draws.
-ghost use Rattle.std.specs.Prelude.{◌≡◌, ◌⊎◌, ◌<◌, ◌≤◌, [], All, length, map, IfOk, IfErr, IsErrOf, vec_capacity};
+ghost use Rattle.std.specs.Prelude.{◌≡◌, ◌⊎◌, ◌<◌, ◌≤◌, [], All, length, map, IfOk, IfErr, IsOkUnless, IsErrOf, vec_capacity};
 ghost use Rattle.std.specs.List.{range_with_len};
 ghost use Rattle.rds_crew.specs.Seats.{IsFresh};
 ghost use Rattle.rds_crew.specs.Inside.Drawn.{IsDrawn, IsWorkerOf};
@@ -62,7 +62,7 @@ fn draw_alone<P: Parts>(
     requires one { length seats.items ≡ 1 }
     ensures drawn { IfOk result (λ drawn. All (IsDrawn (P.made_of parts.now) dealer.now) drawn.items) }
     ensures len { IfOk result (λ drawn. length drawn.items ≡ length seats.items) }
-    ensures err { IfErr result (λ e. e ≡ CrewError.OutOfMemory) }
+    ensures err { IsOkUnless result CrewError.OutOfMemory }
 {
     let mut drawn = Vec::with_capacity(alloc, 1)?;
     for seat in seats {
@@ -162,7 +162,7 @@ fn gather<R: Threads, P: Parts>(
     requires room { length threads.items ≤ vec_capacity drawn }
     ensures drawn { IfOk result (λ all. All (IsDrawn (P.made_of parts.now) dealer.now) all.items) }
     ensures len { IfOk result (λ all. length all.items ≡ length threads.items) }
-    ensures err { IfErr result (λ e. e ≡ CrewError.OutOfMemory) }
+    ensures err { IsOkUnless result CrewError.OutOfMemory }
 {
     let _ = parts;
     let _ = dealer;
@@ -196,7 +196,7 @@ fn in_order<P: Parts>(
     requires slots { length slots.items ≡ dealer.name.pieces }
     ensures made { IfOk result (λ made. made.items
         ≡ map (P.made_of parts.now) (range_with_len 0 (P.how_many parts.now))) }
-    ensures err { IfErr result (λ e. e ≡ CrewError.OutOfMemory) }
+    ensures err { IsOkUnless result CrewError.OutOfMemory }
 {
     let _ = parts;
     let mut slots = slots;

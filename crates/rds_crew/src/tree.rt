@@ -1,5 +1,5 @@
 //! The tree of joins: neighbours become one run, level by level, until one run is left.
-ghost use Rattle.std.specs.Prelude.{◌≡◌, ◌⊎◌, ◌<◌, ◌≤◌, length, IfOk, IfErr, IsErrOf};
+ghost use Rattle.std.specs.Prelude.{◌≡◌, ◌⊎◌, ◌<◌, ◌≤◌, length, IfOk, IfErr, IsOkUnless, IsErrOf};
 ghost use Rattle.rds_stream.specs.Recording.{length_of};
 ghost use Rattle.rds_pieces.specs.RunOf.{FollowEachOther};
 ghost use Rattle.rds_crew.specs.Inside.Tree.{joints_of, level_above};
@@ -83,7 +83,7 @@ fn put_together<W: Work>(
     requires joints { joints.items ≡ joints_of below.items }
     ensures runs { IfOk result (λ runs. runs.items
         ≡ level_above (W.recording work.now) (W.rule_set work.now) below.items) }
-    ensures err { IfErr result (λ e. e ≡ CrewError.OutOfMemory) }
+    ensures err { IsOkUnless result CrewError.OutOfMemory }
 {
     let _ = work;
     let mut above = Vec::with_capacity(alloc, below.len().div_ceil(2))?;

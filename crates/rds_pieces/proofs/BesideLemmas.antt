@@ -9,7 +9,7 @@ use Rattle.rds_sync.specs.Loss.{IsLoss}
 use Rattle.rds_sync.specs.Rules.{RuleNumbers}
 use Rattle.rds_sync.specs.declared.mark.Mark.{Mark}
 use Rattle.rds_pieces.specs.Inside.Advance.{IsStepTo}
-use Rattle.rds_pieces.specs.RunLaws.{RunLaws}
+use Rattle.rds_pieces.specs.Inside.RunLaws.{RunLaws}
 use Rattle.rds_pieces.specs.Inside.Walk.{next_place}
 use Rattle.rds_pieces.proofs.SeamLemmas.{found, unread, IsCarried, IsPlaceAfter, carried_start, carried_near, carried_up_to}
 

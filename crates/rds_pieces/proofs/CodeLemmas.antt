@@ -13,7 +13,7 @@ use Rattle.rds_sync.specs.Codes.{KeptOf, kept_of, behind, kept_from, code_of}
 use Rattle.rds_sync.specs.Marks.{marks_from}
 use Rattle.rds_pieces.specs.Guess.{guess, marks}
 use Rattle.rds_pieces.specs.Meeting.{MeetAt}
-use Rattle.rds_pieces.specs.RunLaws.{RunLaws}
+use Rattle.rds_pieces.specs.Inside.RunLaws.{RunLaws}
 use Rattle.rds_pieces.proofs.KeptLemmas.{kept-rest}
 use Rattle.rds_pieces.proofs.MarkLaws.{marks-are, run-met}
 

@@ -12,14 +12,14 @@ use Rattle.rds_sync.specs.Ranges.{IsInRange}
 use Rattle.rds_sync.specs.Rules.{RuleNumbers}
 use Rattle.rds_sync.specs.Step.{run}
 use Rattle.rds_sync.specs.Totals.{totals_of}
-use Rattle.rds_pieces.specs.declared.meeting.Passed.{Passed}
+use Rattle.rds_pieces.specs.declared.walk.Passed.{Passed}
 use Rattle.rds_pieces.specs.Guess.{guess}
 use Rattle.rds_pieces.specs.JointOf.{JointOf}
 use Rattle.rds_pieces.specs.Inside.JointInside.{IsJoint, carried}
 use Rattle.rds_pieces.specs.Inside.RunInside.{IsKept}
 use Rattle.rds_pieces.specs.Inside.Walk.{IsMet}
 use Rattle.rds_pieces.specs.RunOf.{run_over}
-use Rattle.rds_pieces.specs.RunLaws.{RunLaws}
+use Rattle.rds_pieces.specs.Inside.RunLaws.{RunLaws}
 use Rattle.rds_pieces.proofs.KeptLemmas.{kept-append, kept-all}
 use Rattle.rds_pieces.proofs.SmallTotals.{totals_of_two}
 use Rattle.rds_pieces.proofs.WalkLemmas.{passed_items, kept_taken, totals_taken, end_taken}

@@ -12,7 +12,7 @@ use Rattle.rds_sync.specs.declared.mark.Mark.{Mark}
 use Rattle.rds_pieces.specs.Guess.{guess, mark_at, marks}
 use Rattle.rds_sync.specs.Marks.{mark_where, marks_on}
 use Rattle.rds_pieces.specs.Meeting.{MeetAt}
-use Rattle.rds_pieces.specs.RunLaws.{RunLaws}
+use Rattle.rds_pieces.specs.Inside.RunLaws.{RunLaws}
 use Rattle.rds_pieces.proofs.RunFacts.{none_first, none_rest, run-append}
 use Rattle.rds_pieces.proofs.SeamLemmas.{IsLastMark, unread, found}
 use Rattle.rds_pieces.proofs.GuessLemmas.{guess_state-more, guess_items-more, marks-none, marks-some}

@@ -10,7 +10,7 @@ use Rattle.rds_sync.specs.Acquiring.{acquired}
 use Rattle.rds_sync.specs.Lawful.{IsLawful, IsBetweenGroups}
 use Rattle.rds_sync.specs.Loss.{IsLoss}
 use Rattle.rds_sync.specs.Step.{run, step, items_at}
-use Rattle.rds_pieces.specs.RunLaws.{RunLaws}
+use Rattle.rds_pieces.specs.Inside.RunLaws.{RunLaws}
 use Rattle.rds_pieces.proofs.RunFacts.{none_first, none_rest, items-acquiring, step-searching, run-waiting, quiet-step}
 
 -- the block of this state is not due before place p

@@ -16,7 +16,7 @@ use Rattle.rds_sync.specs.Lawful.{IsLawful}
 use Rattle.rds_sync.specs.Loss.{are_too_many}
 use Rattle.rds_sync.specs.Step.{run, step, bad_with}
 use Rattle.rds_pieces.specs.Inside.Advance.{IsStepTo}
-use Rattle.rds_pieces.specs.RunLaws.{RunLaws}
+use Rattle.rds_pieces.specs.Inside.RunLaws.{RunLaws}
 use Rattle.rds_pieces.proofs.RunFacts.{step-acquiring, step-searching, step-keeping, step-losing, run-waiting, run-reading}
 
 mul_more : (r n k : ℕ) → r * (n + k) ≡ r * n + r * k

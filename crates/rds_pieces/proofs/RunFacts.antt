@@ -13,7 +13,7 @@ use Rattle.rds_sync.specs.Acquiring.{acquired}
 use Rattle.rds_sync.specs.Lawful.{IsLawful, IsBetweenGroups}
 use Rattle.rds_sync.specs.Loss.{IsLoss, are_too_many, none_bad}
 use Rattle.rds_sync.specs.Step.{run, step, items_at, locked_after, bad_with, group_after}
-use Rattle.rds_pieces.specs.RunLaws.{RunLaws}
+use Rattle.rds_pieces.specs.Inside.RunLaws.{RunLaws}
 
 pub none_first : {A : Type 0} → (xs ys : List A) → xs ++ ys ≡ [] → xs ≡ []
 none_first [] ys e = refl

@@ -15,7 +15,7 @@ use Rattle.rds_sync.specs.declared.mark.Mark.{Mark}
 use Rattle.rds_pieces.specs.Inside.Advance.{IsStepTo}
 use Rattle.rds_pieces.specs.Guess.{guess, mark_at, marks}
 use Rattle.rds_pieces.specs.Meeting.{MeetAt, MeetFirstAt}
-use Rattle.rds_pieces.specs.RunLaws.{RunLaws}
+use Rattle.rds_pieces.specs.Inside.RunLaws.{RunLaws}
 use Rattle.rds_pieces.proofs.RunFacts.{run_state-append, run_items-append, lawful-run}
 use Rattle.rds_pieces.proofs.KeptLemmas.{kept-append}
 use Rattle.rds_pieces.proofs.GuessLemmas.{Marked, marked}

@@ -11,7 +11,7 @@ use Rattle.rds_sync.specs.Lawful.{IsLawful, IsBetweenGroups}
 use Rattle.rds_sync.specs.Loss.{IsLoss, none_bad}
 use Rattle.rds_sync.specs.Step.{run}
 use Rattle.rds_pieces.specs.Meeting.{MeetAt, IsMeeting}
-use Rattle.rds_pieces.specs.RunLaws.{RunLaws}
+use Rattle.rds_pieces.specs.Inside.RunLaws.{RunLaws}
 use Rattle.rds_pieces.specs.Soon.{IsSoonMet, MeetSoon}
 
 module _ (b : Signal) (rules : RuleNumbers) (one other : State) (from to : ℕ) where

@@ -11,7 +11,7 @@ use Rattle.rds_sync.specs.Loss.{IsLoss}
 use Rattle.rds_sync.specs.Step.{run, items_at}
 use Rattle.rds_sync.specs.Advance.{next_place}
 use Rattle.rds_pieces.specs.Inside.Advance.{IsStepTo}
-use Rattle.rds_pieces.specs.RunLaws.{RunLaws}
+use Rattle.rds_pieces.specs.Inside.RunLaws.{RunLaws}
 use Rattle.rds_pieces.proofs.RunFacts.{run-append, run-waiting}
 
 -- a step goes over one bit where it searches, and at most up to and including the block that is due where it is locked

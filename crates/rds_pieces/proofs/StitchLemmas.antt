@@ -19,7 +19,7 @@ use Rattle.rds_sync.specs.Loss.{IsLoss}
 use Rattle.rds_sync.specs.Step.{run, items_of_end}
 use Rattle.rds_pieces.specs.Meeting.{IsMeeting, distance}
 use Rattle.rds_pieces.specs.RunOf.{RunOf, FollowEachOther}
-use Rattle.rds_pieces.specs.RunLaws.{RunLaws}
+use Rattle.rds_pieces.specs.Inside.RunLaws.{RunLaws}
 use Rattle.rds_pieces.specs.Seams.{seam_reads, IsSumOfReads}
 use Rattle.rds_pieces.proofs.SmallTotals.{per_bit, at_most_more, run_at_most}
 

@@ -10,13 +10,13 @@ use Rattle.rds_sync.specs.Counting.{plus, FitTogether}
 use Rattle.rds_sync.specs.Rules.{RuleNumbers}
 use Rattle.rds_sync.specs.Step.{run}
 use Rattle.rds_sync.specs.Totals.{totals_of}
-use Rattle.rds_pieces.specs.declared.meeting.Passed.{Passed}
+use Rattle.rds_pieces.specs.declared.walk.Passed.{Passed}
 use Rattle.rds_sync.specs.declared.mark.Mark.{Mark}
 use Rattle.rds_pieces.specs.Guess.{guess, marks}
 use Rattle.rds_sync.specs.Marks.{marks_on}
 use Rattle.rds_sync.specs.Codes.{KeptOf, kept_of, behind, kept_from}
 use Rattle.rds_pieces.specs.Meeting.{IsMeeting, distance}
-use Rattle.rds_pieces.specs.RunLaws.{RunLaws}
+use Rattle.rds_pieces.specs.Inside.RunLaws.{RunLaws}
 use Rattle.rds_pieces.specs.Inside.Walk.{IsMet, IsUnmet, IsMetOrNot}
 use Rattle.rds_pieces.proofs.SmallTotals.{totals_of_two}
 use Rattle.rds_pieces.proofs.CodeLemmas.{kept-met}

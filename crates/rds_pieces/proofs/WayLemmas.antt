@@ -10,7 +10,7 @@ use Rattle.rds_sync.specs.Lawful.{IsBetweenGroups}
 use Rattle.rds_sync.specs.Loss.{IsLoss}
 use Rattle.rds_sync.specs.Step.{run}
 use Rattle.rds_pieces.specs.Meeting.{IsMeeting, MeetAt}
-use Rattle.rds_pieces.specs.RunLaws.{RunLaws}
+use Rattle.rds_pieces.specs.Inside.RunLaws.{RunLaws}
 use Rattle.rds_pieces.specs.Seams.{seam_reads}
 use Rattle.rds_pieces.proofs.ReadsLemmas.{IsPaid, paid_all, paid_on}
 use Rattle.rds_pieces.proofs.SeamLemmas.{found, unread, IsCarried, IsPlaceAfter, limit_ahead, limit_inside, none_on}

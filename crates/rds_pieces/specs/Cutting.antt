@@ -1,4 +1,5 @@
--- How a recording is cut into pieces: this project's rule.
+-- How a recording is cut into pieces: this project's rule. `Cutting` is one, by `new` and `even`, and `speculate`, `Work` and
+-- `decode_crew` ask for one of their recording.
 use Rattle.std.specs.Prelude.{◌≡◌, ℕ, ◌-◌, ◌*◌, ◌<◌, List, [], ◌∷◌, ◌++◌, length, map, slice_index}
 use Rattle.std.specs.Int.{div_ceil}
 use Rattle.std.specs.List.{range_with_len}

@@ -1,4 +1,5 @@
--- The guess of a piece: the run from Searching at the piece's first place, with its marks. This project's rule.
+-- The guess of a piece, this project's rule: the run from Searching at the piece's first place, with its marks. It is what a
+-- `PieceRun` tells of itself, by `codes`, `totals`, `end_state` and `marks`.
 use Rattle.std.specs.Prelude.{ℕ, ◌+◌, List, [], ◌∷◌, Option, Some, None, filter_map, length}
 use Rattle.std.specs.List.{range_with_len}
 use Rattle.rds_stream.specs.Recording.{Signal}

@@ -2,4 +2,5 @@
 pub mod Advance
 pub mod JointInside
 pub mod RunInside
+pub mod RunLaws
 pub mod Walk

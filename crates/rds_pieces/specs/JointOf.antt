@@ -1,4 +1,5 @@
--- What joins two runs that follow each other.
+-- What contracts see of what joins two runs that follow each other. `joint_of` and `Work::join` answer it, and
+-- `PieceRun::joined` takes it.
 use Rattle.std.specs.Prelude.{ℕ}
 use Rattle.rds_stream.specs.Recording.{Signal}
 use Rattle.rds_sync.specs.Rules.{RuleNumbers}

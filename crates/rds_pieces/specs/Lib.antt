@@ -1,13 +1,12 @@
 pub mod Cutting
 pub mod Guess
 pub mod RunOf
-pub mod JointOf
 pub mod Meeting
 pub mod Seams
+pub mod Soon
+pub mod JointOf
 pub mod WorkOf
 pub mod Laws
-pub mod RunLaws
 pub mod Refusals
-pub mod Soon
 pub mod Inside
 pub mod Examples

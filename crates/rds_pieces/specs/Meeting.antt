@@ -1,4 +1,5 @@
--- Where two runs meet: this project's rule.
+-- Where two runs meet: this project's rule. `seam` answers the place, and `join_runs` and `joint_of` bound by it what they
+-- read.
 use Rattle.std.specs.Prelude.{◌≡◌, ℕ, ◌-◌, ◌<◌, ◌≤◌, Option, Some, None, MatchOption}
 use Rattle.rds_stream.specs.Recording.{Signal}
 use Rattle.rds_sync.specs.declared.state.State.{State}

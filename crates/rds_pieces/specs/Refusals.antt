@@ -1,4 +1,4 @@
--- The numbers and names of this crate's refusals.
+-- The numbers and names of this crate's refusals. `PieceError::number` and `name` answer them.
 use Rattle.std.specs.Prelude.{ℕ, List, codes}
 use Rattle.rds_pieces.specs.declared.error.PieceError.{PieceError}
 use Rattle.rds_pieces.specs.declared.error.PieceError.TheVariants.{BadCutting, OutOfMemory}

@@ -1,4 +1,5 @@
--- What the run of a piece is a run of.
+-- What contracts see of the run of a piece, and which runs follow each other. `speculate`, `join_runs`, `joint_of`,
+-- `PieceRun::joined` and `stitch` cite it, and `Work`, by which a crew calls them.
 use Rattle.std.specs.Prelude.{◌≡◌, ℕ, ◌+◌, ◌-◌, ◌≤◌, ◌<◌, List, [], ◌∷◌, map, slice_index}
 use Rattle.std.specs.List.{range_with_len}
 use Rattle.rds_stream.specs.Recording.{Signal}

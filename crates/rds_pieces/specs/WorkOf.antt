@@ -1,4 +1,4 @@
--- What the work over a recording names.
+-- What contracts see of the work over a recording. It is the value of a `RecordingWork`, which `new` and `cut_into` answer.
 use Rattle.std.specs.Prelude.{ℕ, List}
 use Rattle.rds_stream.specs.Recording.{Signal}
 use Rattle.rds_sync.specs.Rules.{RuleNumbers}

@@ -1,5 +1,5 @@
 //! One step of a run over a tape, with the codes of its items appended to those before.
-ghost use Rattle.std.specs.Prelude.{◌≡◌, ℕ, List, All, ◌+◌, ◌-◌, ◌<◌, ◌≤◌, ◌^◌, IfOk, IfErr};
+ghost use Rattle.std.specs.Prelude.{◌≡◌, ℕ, List, All, ◌+◌, ◌-◌, ◌<◌, ◌≤◌, ◌^◌, IfOk, IsOkUnless};
 ghost use Rattle.rds_stream.specs.Recording.{length_of};
 ghost use Rattle.rds_sync.specs.Codes.{behind, kept_of};
 ghost use Rattle.rds_sync.specs.Lawful.{IsLawful};
@@ -17,7 +17,7 @@ use rds_sync::{Codes, Item, Rules, State, advance};
 /// Goes one step on from a state before `place` towards `to`: one bit where it searches, up to and including the block
 /// that is due where it is locked. Answers the place and the state that it came to, with the codes of its items put
 /// behind `codes`.
-pub fn advance_onto<T: Tape>(
+pub(crate) fn advance_onto<T: Tape>(
     tape: &mut T,
     rules: &Rules,
     state: State,
@@ -32,7 +32,7 @@ pub fn advance_onto<T: Tape>(
     ensures step { IfOk result (λ r. IsStepTo (T.signal tape.old) rules.now state place to r.0 r.1) }
     ensures codes { IfOk result (λ r. codes.new
         ≡ behind codes.old (kept_of (run (T.signal tape.old) rules.now state place (r.0 - place)).1)) }
-    ensures err { IfErr result (λ e. e ≡ OutOfMemory) }
+    ensures err { IsOkUnless result OutOfMemory }
     ensures same { T.signal tape.new ≡ T.signal tape.old }
     ensures reads { T.reads_made tape.new ≤ T.reads_made tape.old + reads_most rules.now state to }
 {
@@ -49,7 +49,7 @@ pub fn advance_onto<T: Tape>(
 fn push_items(codes: &mut Codes, given: [Option<Item>; 2]) -> Result<(), PieceError>
     requires { All IsKeepable (items_in given) }
     ensures ok { IfOk result (λ _. codes.new ≡ behind codes.old (kept_of (items_in given))) }
-    ensures err { IfErr result (λ e. e ≡ OutOfMemory) }
+    ensures err { IsOkUnless result OutOfMemory }
 {
     let [first, second] = given;
     if let Some(item) = first {

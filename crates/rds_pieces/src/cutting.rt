@@ -1,5 +1,5 @@
 //! Cuttings of a recording into pieces.
-ghost use Rattle.std.specs.Prelude.{◌≡◌, ℕ, List, ◌+◌, ◌<◌, ◌≤◌, IsTrue, ◌↔◌, IfOk, IfErr, length, slice_index};
+ghost use Rattle.std.specs.Prelude.{◌≡◌, ℕ, List, ◌+◌, ◌<◌, ◌≤◌, IsTrue, ◌↔◌, IfOk, IfErr, IsOkUnless, length, slice_index};
 ghost use Rattle.rds_pieces.specs.Cutting.{IsCutting, pieces_of, even_places};
 ghost use Rattle.rds_pieces.specs.declared.error.PieceError.TheVariants.{BadCutting, OutOfMemory};
 
@@ -46,7 +46,7 @@ impl Cutting {
         requires { 1 ≤ pieces }
         ensures ok { IfOk result (λ c. c ≡ even_places len pieces) }
         ensures cutting { IfOk result (λ c. IsCutting len c) }
-        ensures err { IfErr result (λ e. e ≡ OutOfMemory) }
+        ensures err { IsOkUnless result OutOfMemory }
     {
         let bits = len.div_ceil(pieces);
         let inside = if len == 0 { 0 } else { len.div_ceil(bits) };

@@ -1,5 +1,5 @@
 //! Two neighbours joined into one run.
-ghost use Rattle.std.specs.Prelude.{◌≡◌, ℕ, ◌+◌, ◌-◌, ◌*◌, ◌≤◌, ◌^◌, Option, IfOk, IfErr};
+ghost use Rattle.std.specs.Prelude.{◌≡◌, ℕ, ◌+◌, ◌-◌, ◌*◌, ◌≤◌, ◌^◌, Option, IfOk, IsOkUnless};
 ghost use Rattle.rds_pieces.specs.JointOf.{joint_of as the_joint_of};
 ghost use Rattle.rds_pieces.specs.Meeting.{IsMeeting};
 ghost use Rattle.rds_pieces.specs.RunOf.{IsRunOf, end_of, run_over};
@@ -11,7 +11,7 @@ use crate::error::PieceError;
 use crate::joint::Joint;
 use crate::laws::run_laws;
 use crate::run::PieceRun;
-use crate::seams::go_along;
+use crate::walk::go_along;
 use rds_stream::Tape;
 use rds_sync::laws::runs_converge;
 use rds_sync::{Rules, State};
@@ -47,7 +47,7 @@ pub fn join_runs<T: Tape>(
         × IsMeeting (T.signal tape.old) rules.now (end_of left) State.Searching right.from right.to met
         × (T.reads_made tape.new ≤ T.reads_made tape.old + seam_reads rules.now right.from right.to met)) }
 
-    ensures err { IfErr result (λ e. e ≡ OutOfMemory) }
+    ensures err { IsOkUnless result OutOfMemory }
     ensures same { T.signal tape.new ≡ T.signal tape.old }
     ensures reads_way { (met : Option ℕ)
         → IsMeeting (T.signal tape.old) rules.now (end_of left) State.Searching right.from right.to met
@@ -84,7 +84,7 @@ pub fn joint_of<T: Tape>(
         × IsMeeting (T.signal tape.old) rules.now (end_of left.now) State.Searching right.now.from right.now.to met
         × (T.reads_made tape.new ≤ T.reads_made tape.old + seam_reads rules.now right.now.from right.now.to met)) }
 
-    ensures err { IfErr result (λ e. e ≡ OutOfMemory) }
+    ensures err { IsOkUnless result OutOfMemory }
     ensures same { T.signal tape.new ≡ T.signal tape.old }
     ensures reads_way { (met : Option ℕ)
         → IsMeeting (T.signal tape.old) rules.now (end_of left.now) State.Searching right.now.from right.now.to met

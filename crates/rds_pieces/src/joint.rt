@@ -8,8 +8,8 @@ ghost use Rattle.rds_pieces.specs.Inside.Walk.{IsWalk, IsMetOrNot};
 ghost use Rattle.rds_pieces.specs.RunOf.{IsRunOf, end_of};
 
 use crate::laws::run_laws;
-use crate::meeting::Walk;
 use crate::run::PieceRun;
+use crate::walk::Walk;
 use rds_stream::Recording;
 use rds_sync::{Codes, RuleNumbers, State, Totals};
 use std::marker::Model;

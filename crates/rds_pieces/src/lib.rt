@@ -70,24 +70,26 @@
 //! bits. The report's items are decoded where recording and rules are lent again: see [`Items`](rds_sync::Items).
 #![tactic(auto)]
 
-mod advance;
-mod cutting;
-mod error;
-mod joining;
-mod joint;
-pub mod laws;
-mod meeting;
-mod run;
-mod seams;
-mod stitching;
-mod work;
+// In the order of reading: a piece and its guess, the way along a guess, and what is made of it.
+mod cutting; // Where a recording is cut.
+mod run; // The guess of a range of places, and how a piece is guessed.
+mod advance; // One step of a run over a tape, with the codes of what it gives.
+mod walk; // A run along a guess, until they meet.
+mod seams; // What a piece gives from the state before it.
+mod seaming; // That state carried over the piece, along a walk.
+mod joint; // What joins two runs, made of a walk.
+mod joining; // Two neighbours joined.
+mod stitching; // The report of runs in a row.
+mod work; // All of these over one recording, for who runs them.
+pub mod laws; // What holds of pieces themselves.
+mod error; // Why a call refuses.
 
 pub use cutting::Cutting;
 pub use error::PieceError;
 pub use joining::{join_runs, joint_of};
 pub use joint::Joint;
-pub use meeting::Seam;
 pub use run::{PieceRun, speculate};
-pub use seams::seam;
+pub use seaming::seam;
+pub use seams::Seam;
 pub use stitching::stitch;
 pub use work::{RecordingWork, Work};

@@ -1,5 +1,5 @@
 //! The run of a piece.
-ghost use Rattle.std.specs.Prelude.{◌≡◌, ℕ, List, ◌+◌, ◌-◌, ◌<◌, ◌≤◌, ◌^◌, IfOk, IfErr, length, drop};
+ghost use Rattle.std.specs.Prelude.{◌≡◌, ℕ, List, ◌+◌, ◌-◌, ◌<◌, ◌≤◌, ◌^◌, IfOk, IsOkUnless, length, drop};
 ghost use Rattle.rds_stream.specs.Recording.{length_of};
 ghost use Rattle.rds_sync.specs.Codes.{behind, kept_from, kept_of};
 ghost use Rattle.rds_sync.specs.Ranges.{IsInRange};
@@ -130,7 +130,7 @@ impl PieceRun {
         requires rules { right.rules ≡ left.rules }
         requires joint { joint ≡ joint_of left right }
         ensures ok { IfOk result (λ r. r ≡ run_over left.source left.rules left.from right.to) }
-        ensures err { IfErr result (λ e. e ≡ OutOfMemory) }
+        ensures err { IsOkUnless result OutOfMemory }
     {
         // Runs in a row are one run.
         run_laws();
@@ -165,7 +165,7 @@ impl PieceRun {
 fn put_together(before: Codes, own: Codes, right: Codes, passed: usize) -> Result<Codes, PieceError>
     requires { passed ≤ length right.codes }
     ensures ok { IfOk result (λ codes. codes ≡ behind (behind before own) (kept_from passed right)) }
-    ensures err { IfErr result (λ e. e ≡ OutOfMemory) }
+    ensures err { IsOkUnless result OutOfMemory }
 {
     let mut codes = before;
     codes.append(own, 0)?;
@@ -188,7 +188,7 @@ pub fn speculate(
     requires fits { IsCutting (length_of rec.now) cutting.now }
     requires piece { j < pieces_of cutting.now }
     ensures ok { IfOk result (λ r. r ≡ run_at rec.now rules.now cutting.now j) }
-    ensures err { IfErr result (λ e. e ≡ OutOfMemory) }
+    ensures err { IsOkUnless result OutOfMemory }
 {
     run_laws();
     let (from, to) = (cutting.from(j), cutting.to(j));

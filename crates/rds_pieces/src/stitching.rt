@@ -1,5 +1,5 @@
 //! The report of a recording from the runs of its pieces.
-ghost use Rattle.std.specs.Prelude.{◌≡◌, ℕ, ◌+◌, ◌-◌, ◌*◌, ◌++◌, ◌≤◌, ◌^◌, IfOk, IfErr, length};
+ghost use Rattle.std.specs.Prelude.{◌≡◌, ℕ, ◌+◌, ◌-◌, ◌*◌, ◌++◌, ◌≤◌, ◌^◌, IfOk, IsOkUnless, length};
 ghost use Rattle.rds_stream.specs.Recording.{length_of};
 ghost use Rattle.rds_sync.specs.Counting.{IsAtMost};
 ghost use Rattle.rds_sync.specs.Decoding.{listed};
@@ -14,7 +14,7 @@ ghost use Rattle.rds_pieces.specs.declared.error.PieceError.TheVariants.{OutOfMe
 use crate::error::PieceError;
 use crate::laws::run_laws;
 use crate::run::PieceRun;
-use crate::seams::seam;
+use crate::seaming::seam;
 use rds_stream::Tape;
 use rds_sync::{Items, Report, Rules, Spans, State, Totals, finish};
 use std::alloc::Global;
@@ -43,7 +43,7 @@ pub fn stitch<T: Tape>(
     ensures reads { IfOk result (λ _. (n : ℕ) × IsSumOfReads (T.signal tape.old) rules.now State.Searching runs.now n
         × (T.reads_made tape.new ≤ T.reads_made tape.old + n + 3)) }
 
-    ensures err { IfErr result (λ e. e ≡ OutOfMemory) }
+    ensures err { IsOkUnless result OutOfMemory }
     ensures same { T.signal tape.new ≡ T.signal tape.old }
     ensures reads_way { (n : ℕ) → IsSumOfReads (T.signal tape.old) rules.now State.Searching runs.now n
         → T.reads_made tape.new ≤ T.reads_made tape.old + n + 3 }
@@ -77,7 +77,7 @@ fn carry_over_all<T: Tape>(
         × (T.reads_made tape.new ≤ T.reads_made tape.old + n)) }
     ensures room { IfOk result (λ _. T.reads_made tape.new + 16 ≤ 2 ^ 63) }
 
-    ensures err { IfErr result (λ e. e ≡ OutOfMemory) }
+    ensures err { IsOkUnless result OutOfMemory }
     ensures same { T.signal tape.new ≡ T.signal tape.old }
     ensures reads_way { (n : ℕ) → IsSumOfReads (T.signal tape.old) rules.now State.Searching runs.now n
         → T.reads_made tape.new ≤ T.reads_made tape.old + n }

@@ -1,5 +1,5 @@
 //! The only way of a crew to the bits.
-ghost use Rattle.std.specs.Prelude.{◌≡◌, ℕ, List, ◌<◌, length, IfOk, IfErr};
+ghost use Rattle.std.specs.Prelude.{◌≡◌, ℕ, List, ◌<◌, length, IfOk, IsOkUnless};
 ghost use Rattle.rds_stream.specs.Recording.{Signal, length_of};
 ghost use Rattle.rds_sync.specs.Decoding.{listed};
 ghost use Rattle.rds_sync.specs.Report.{report_items};
@@ -50,7 +50,7 @@ pub trait Work {
         requires fits { IsCutting (length_of (recording self.now)) (places self.now) }
         requires piece { j < pieces_of (places self.now) }
         ensures ok { IfOk result (λ r. r ≡ run_at (recording self.now) (rule_set self.now) (places self.now) j) }
-        ensures err { IfErr result (λ e. e ≡ OutOfMemory) };
+        ensures err { IsOkUnless result OutOfMemory };
 
     /// What joins the runs of two ranges that follow each other: [`PieceRun::joined`] puts them together. Fails with
     /// `OutOfMemory` alone.
@@ -59,7 +59,7 @@ pub trait Work {
         requires left { IsRunOf (recording self.now) (rule_set self.now) left.now }
         requires right { IsRunOf (recording self.now) (rule_set self.now) right.now }
         ensures ok { IfOk result (λ joint. joint ≡ the_joint_of left.now right.now) }
-        ensures err { IfErr result (λ e. e ≡ OutOfMemory) };
+        ensures err { IsOkUnless result OutOfMemory };
 
     /// The report, from runs that follow each other from place 0 to the recording's end. Fails with `OutOfMemory`
     /// alone.
@@ -70,7 +70,7 @@ pub trait Work {
             (report_items (recording self.now) (rule_set self.now))) }
         ensures totals { IfOk result (λ report. report.totals
             ≡ totals_of (report_items (recording self.now) (rule_set self.now))) }
-        ensures err { IfErr result (λ e. e ≡ OutOfMemory) };
+        ensures err { IsOkUnless result OutOfMemory };
 }
 
 /// The work over a recording that is lent to it: `guess` is `speculate`, and `join` and `report` are `joint_of` and

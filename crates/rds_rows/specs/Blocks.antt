@@ -1,4 +1,4 @@
--- A block of what is made and not yet written, as its callers see it.
+-- What a block keeps: what is made and not yet written. The calls of `Block` tell it, and no public one.
 use Rattle.std.specs.Prelude.{ℕ, List}
 use Rattle.rds_rows.specs.declared.block.Block.{Block}
 

@@ -1,4 +1,5 @@
--- Rows in parts of so many.
+-- Rows in parts of so many. The seats' locks name them so, from which `write_rows` has the rows in order; no public call
+-- cites it.
 use Rattle.std.specs.Prelude.{◌≡◌, ◌*◌, ◌++◌, ℕ, [], List, drop, suc, take, zero}
 use Rattle.std.specs.List.{concat}
 

@@ -1,4 +1,5 @@
--- A sheet of rows, as callers see it.
+-- A sheet of rows, as callers see it: its text, how many rows may still come, and for how many it was made. `Sheet` tells it
+-- of each call, and `Rows::fill` of what is spelled.
 use Rattle.std.specs.Prelude.{◌≡◌, ℕ, [], List, None, Option, Some}
 use Rattle.rds_rows.specs.declared.sheet.Sheet.{Sheet}
 

@@ -48,16 +48,17 @@
 //! tests in `rds_rows_tests` show it, by many runs with writers that fail.
 #![tactic(auto)]
 
-mod block;
-mod error;
-mod hand;
-mod pool;
-mod rows;
-mod seat;
-mod sheet;
-mod sink;
-mod slot;
-mod write;
+// In the order of reading: what is written and where, how it is written, and what its threads meet at.
+mod rows; // A list of rows that can be spelled.
+mod sheet; // Room for some of them.
+mod sink; // Where the bytes go.
+mod write; // All rows of a list, written.
+mod pool; // The threads that make the parts, and the writer of what they make.
+mod seat; // Where they meet.
+mod slot; // What lies under the lock of a seat.
+mod block; // Parts that are gathered to larger writes.
+mod hand; // A writer that is handed in and back.
+mod error; // Why rows are not written.
 
 pub use error::RowsError;
 pub use rows::Rows;

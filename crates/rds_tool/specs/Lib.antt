@@ -11,6 +11,7 @@ pub mod Listing
 pub mod GroupText
 pub mod Outcome
 pub mod Tasks
+pub mod Transcribed
 pub mod Ends
 pub mod Following
 pub mod Inside

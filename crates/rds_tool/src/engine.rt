@@ -1,8 +1,7 @@
 //! From a reader to a writer.
-ghost use Rattle.std.specs.Prelude.{◌+◌, ◌++◌, ◌<◌, ◌^◌, ◌≡◌, ◌≢◌, ◌≤◌, ◌⊎◌, ◌↔◌, Err, IfErr, IfOk, IfSome, IsErrOf, List, Ok, OnErr, OnOk, Option, false, length, true, ℕ};
-ghost use Rattle.std.specs.Io.KnownBytes.{Appends, Consumes, IsAtEnd};
-ghost use Rattle.rds_tool.specs.Outcome.{IsOutside, Writes, WritesPrefix, outcome};
-ghost use Rattle.rds_tool.specs.Tasks.{AsksForThreads, task_of};
+ghost use Rattle.std.specs.Prelude.{◌+◌, ◌++◌, ◌<◌, ◌^◌, ◌≡◌, ◌≤◌, ◌⊎◌, ◌↔◌, IfErr, IfOk, IfSome, IsErrOf, List, OnOk, Option, false, length, true, ℕ};
+ghost use Rattle.std.specs.Io.KnownBytes.{Consumes, IsAtEnd};
+ghost use Rattle.rds_tool.specs.Transcribed.{IsTranscribed};
 
 use crate::task::Task;
 use crate::{Failed, Job, Sink, Source, ToolError};
@@ -32,7 +31,8 @@ const CHUNK: usize = 65_536;
 /// threads as well, part by part while they are written, and without a thread that the system refuses: the items are
 /// decoded again where their rows are made, or only there by one worker, so that the recording is held until then. All
 /// room that can be refused and all threads are taken before the first byte is written, and no thread outlives the call.
-/// Reader and writer have counted fewer than 2^63 failures before.
+/// Reader and writer have counted fewer than 2^63 failures before. Each promise is a field of `IsTranscribed`
+/// (`specs/Transcribed.antt`).
 pub fn transcribe<R: Threads + Wait + Sync, S: Source, K: Sink>(
     rt: &R,
     alloc: Global,
@@ -42,29 +42,7 @@ pub fn transcribe<R: Threads + Wait + Sync, S: Source, K: Sink>(
 ) -> Result<(), ToolError>
     requires reads { S.failed reader.old < 2 ^ 63 }
     requires writes { K.failed writer.old < 2 ^ 63 }
-
-    // The whole input was read, and the text that the job makes of it was written.
-    ensures end { OnOk result (IsAtEnd (S.remaining reader.new)) }
-    ensures ok { OnOk result (IfSome (S.remaining reader.old)
-        (λ held. Writes (K.contents writer.old) (K.contents writer.new) (outcome job.now held))) }
-
-    // A refusal for the devices' sake comes exactly where one failed, one for the number of reads only where as many
-    // bytes were read, one for a thread's only where there may be some, and another is that of the job.
-    ensures read { IsErrOf result ToolError.Read ↔ (S.failed reader.old < S.failed reader.new) }
-    ensures write { IsErrOf result ToolError.Write ↔ (K.failed writer.old < K.failed writer.new) }
-    ensures turns { IsErrOf result ToolError.TooManyTurns → (more : List ℕ)
-        × Consumes (S.remaining reader.old) (S.remaining reader.new) more × (16777216 ≤ length more) }
-    ensures no_worker { IsErrOf result ToolError.NoWorker → AsksForThreads job.now }
-    ensures refused { IfErr result (λ error. IsOutside error
-        ⊎ IfSome (S.remaining reader.old) (λ held. outcome job.now held ≡ Err error)) }
-
-    // Settings out of their range are refused as such before anything is read.
-    ensures settings { IfErr (task_of job.now) (λ error. (result ≡ Err error) × (reader.new ≡ reader.old)) }
-
-    // What the writer has after a refusal.
-    ensures untouched { IfErr result (λ error. error ≢ ToolError.Write → writer.new ≡ writer.old) }
-    ensures prefix { IsErrOf result ToolError.Write → IfSome (S.remaining reader.old)
-        (λ held. WritesPrefix (K.contents writer.old) (K.contents writer.new) (outcome job.now held)) }
+    ensures { IsTranscribed S.Source K.Sink job.now reader.old reader.new writer.old writer.new result }
 {
     transcribe_gated(rt, alloc, reader, writer, job, &OpenGate)
 }
@@ -81,22 +59,7 @@ pub fn transcribe_gated<R: Threads + Wait + Sync, S: Source, K: Sink, G: Gate + 
 ) -> Result<(), ToolError>
     requires reads { S.failed reader.old < 2 ^ 63 }
     requires writes { K.failed writer.old < 2 ^ 63 }
-
-    // Clause by clause as `transcribe`.
-    ensures end { OnOk result (IsAtEnd (S.remaining reader.new)) }
-    ensures ok { OnOk result (IfSome (S.remaining reader.old)
-        (λ held. Writes (K.contents writer.old) (K.contents writer.new) (outcome job.now held))) }
-    ensures read { IsErrOf result ToolError.Read ↔ (S.failed reader.old < S.failed reader.new) }
-    ensures write { IsErrOf result ToolError.Write ↔ (K.failed writer.old < K.failed writer.new) }
-    ensures turns { IsErrOf result ToolError.TooManyTurns → (more : List ℕ)
-        × Consumes (S.remaining reader.old) (S.remaining reader.new) more × (16777216 ≤ length more) }
-    ensures no_worker { IsErrOf result ToolError.NoWorker → AsksForThreads job.now }
-    ensures refused { IfErr result (λ error. IsOutside error
-        ⊎ IfSome (S.remaining reader.old) (λ held. outcome job.now held ≡ Err error)) }
-    ensures settings { IfErr (task_of job.now) (λ error. (result ≡ Err error) × (reader.new ≡ reader.old)) }
-    ensures untouched { IfErr result (λ error. error ≢ ToolError.Write → writer.new ≡ writer.old) }
-    ensures prefix { IsErrOf result ToolError.Write → IfSome (S.remaining reader.old)
-        (λ held. WritesPrefix (K.contents writer.old) (K.contents writer.new) (outcome job.now held)) }
+    ensures { IsTranscribed S.Source K.Sink job.now reader.old reader.new writer.old writer.new result }
 {
     let task = Task::of(alloc, job)?;
     let held = read_all(alloc, reader)?;

@@ -1,4 +1,4 @@
--- A table of the bursts of up to five bits by their remainders: an implementation's own, which no caller sees.
+-- A table of the bursts of up to five bits by their remainders. `BurstTable` keeps it so, and no caller sees it.
 use Rattle.std.specs.Prelude.{◌≡◌, ℕ, ◌<◌, List, length, slice_index}
 use Rattle.rds_code.specs.Remainder.{rem}
 use Rattle.rds_code.specs.Bursts.{IsBurst}

@@ -1,4 +1,4 @@
--- A table of the kinds of blocks by their remainders: an implementation's own, which no caller sees.
+-- A table of the kinds of blocks by their remainders. `Kinds` keeps it so, and no caller sees it.
 use Rattle.std.specs.Prelude.{◌≡◌, ℕ, ◌<◌, ◌≤◌, ◌⊎◌, List, length, slice_index}
 use Rattle.std.specs.Int.Count.{ones}
 use Rattle.rds_code.specs.Remainder.{rem}

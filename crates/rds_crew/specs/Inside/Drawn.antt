@@ -1,4 +1,5 @@
--- What the workers of a dealer promise and hand back.
+-- What the workers of a dealer promise and hand back. The thread of each promises it (`DrawPromise`), and `make_all` gathers it; no
+-- public call cites it.
 use Rattle.std.specs.Prelude.{◌≡◌, ℕ, ◌<◌, All, Vec, map}
 use Rattle.std.specs.Global.{Global}
 use Rattle.std.specs.declared.thread.PromisedHandle.{PromisedHandle}

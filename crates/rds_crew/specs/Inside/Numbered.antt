@@ -1,4 +1,4 @@
--- Values that stand beside their numbers, and slots that they are put into.
+-- Values that stand beside their numbers, and slots that they are put into. `fill` cites it, and no public call.
 use Rattle.std.specs.Prelude.{◌≡◌, ℕ, List, map, Contains, slice_get, Option, Some}
 
 -- slot j has a value that stood beside number j

@@ -1,4 +1,5 @@
--- The tree of joins: level by level, neighbours are joined until one run is left. This project's rule.
+-- The tree of joins: level by level, neighbours are joined until one run is left; this project's rule. `Joins` are its joints, and
+-- `join_level` answers the level above; what is promised of it to callers is the report of `decode_crew`.
 use Rattle.std.specs.Prelude.{ℕ, List, [], ◌∷◌, slice_index_or}
 use Rattle.rds_stream.specs.Recording.{Signal}
 use Rattle.rds_sync.specs.Rules.{RuleNumbers}

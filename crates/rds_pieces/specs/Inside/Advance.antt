@@ -1,4 +1,4 @@
--- One step of a run towards a place.
+-- One step of a run towards a place. `advance_onto` promises it.
 use Rattle.std.specs.Prelude.{◌≡◌, ℕ, ◌-◌, ◌<◌, ◌≤◌}
 use Rattle.rds_stream.specs.Recording.{Signal}
 use Rattle.rds_sync.specs.declared.state.State.{State}

@@ -1,4 +1,4 @@
--- What the type of a joint keeps.
+-- What the type of a joint keeps. `Joint::taken` hands it out, for `PieceRun::joined`.
 use Rattle.std.specs.Prelude.{◌≡◌, ℕ, ◌-◌, ◌^◌, ◌≤◌, List, length}
 use Rattle.rds_stream.specs.Recording.{length_of}
 use Rattle.rds_sync.specs.declared.state.State.{State}

@@ -1,4 +1,5 @@
--- A run that went along the guess of a piece, until it met it or came to the end.
+-- A run that went along the guess of a piece, until it met it or came to the end. `go_along` promises it, and
+-- `Joint::of_walk` takes it.
 use Rattle.std.specs.Prelude.{◌≡◌, ℕ, ◌-◌, ◌≤◌, List, Option, MatchOption, [], ◌∷◌, length, drop}
 use Rattle.rds_stream.specs.Recording.{Signal}
 use Rattle.rds_sync.specs.declared.state.State.{State}
@@ -6,7 +7,7 @@ use Rattle.rds_sync.specs.declared.state.State.TheVariants.{Searching}
 use Rattle.rds_sync.specs.Rules.{RuleNumbers}
 use Rattle.rds_sync.specs.Step.{run}
 use Rattle.rds_sync.specs.declared.mark.Mark.{Mark}
-use Rattle.rds_pieces.specs.declared.meeting.Passed.{Passed}
+use Rattle.rds_pieces.specs.declared.walk.Passed.{Passed}
 use Rattle.rds_pieces.specs.Guess.{guess, marks}
 use Rattle.rds_pieces.specs.Meeting.{MeetAt, MeetFirstAt}
 

@@ -1,4 +1,4 @@
-use Rattle.std.proofs.Common.{Err, ◌≢◌}
+use Rattle.std.proofs.Common.{Err, ◌≢◌, rules}
 use Rattle.rds_tool.specs.Inside.Texts.{bytes_of}
 use Rattle.rds_tool.specs.Tasks.{MayStartThreads}
 use Rattle.rds_tool.specs.declared.error.ToolError.TheVariants.{NoWorker, Read, TooManyTurns, Write}
@@ -13,22 +13,23 @@ task_inside : (g : Over) (c : goal.After-from_residual g)
 task_inside g c =
     passed_inside _ _ (passed _ _ c.from_residual.ensures) (settings_inside c.args.job.now c.in_err-task.field-0.0 c.in_err-task.ensures.refused).0
 
-pub returns-in_err-task-clause-read : goal.returns-in_err-task-clause-read
-returns-in_err-task-clause-read g c = (λ p. absurd ((task_inside g c).0 p), not_called _)
-
-pub returns-in_err-task-clause-write : goal.returns-in_err-task-clause-write
-returns-in_err-task-clause-write g c = (λ p. absurd ((task_inside g c).1 p), not_called _)
-
-pub returns-in_err-task-clause-turns : goal.returns-in_err-task-clause-turns
-returns-in_err-task-clause-turns g c = λ p. absurd ((task_inside g c).2 p)
-
-pub returns-in_err-task-clause-no_worker : goal.returns-in_err-task-clause-no_worker
-returns-in_err-task-clause-no_worker g c = λ p.
+pub returns-in_err-task : goal.returns-in_err-task
+returns-in_err-task g c =
+    let inside = task_inside g c in
     let same = passed _ _ c.from_residual.ensures in
-    absurd ((settings_inside c.args.job.now c.in_err-task.field-0.0 c.in_err-task.ensures.refused).1 (passed_kind _ _ NoWorker same p))
-
-pub returns-in_err-task-clause-prefix : goal.returns-in_err-task-clause-prefix
-returns-in_err-task-clause-prefix g c = λ p. absurd ((task_inside g c).1 p)
+    let settings = settings_inside c.args.job.now c.in_err-task.field-0.0 c.in_err-task.ensures.refused in
+    record {
+      end = search rules;
+      ok = search rules;
+      read = (λ p. absurd (inside.0 p), not_called _);
+      write = (λ p. absurd (inside.1 p), not_called _);
+      turns = λ p. absurd (inside.2 p);
+      no_worker = λ p. absurd (settings.1 (passed_kind _ _ NoWorker same p));
+      refused = search rules;
+      settings = search rules;
+      untouched = search rules;
+      prefix = λ p. absurd (inside.1 p);
+    }
 
 -- the refusal of a text is no device's
 text_inside : (g : Over) (c : goal.After-from_residual-in_err-text g)
@@ -38,27 +39,38 @@ text_inside g c =
     passed_inside _ _ (passed _ _ c.from_residual-in_err-text.ensures)
     (refused_inside (MayStartThreads task) task c.in_ok-held.held.items c.in_err-text.field-0.0 c.in_err-text.ensures.refused)
 
-pub returns-in_err-text-clause-read : goal.returns-in_err-text-clause-read
-returns-in_err-text-clause-read g c = (λ p. absurd ((text_inside g c).0 p), no_failure c.in_ok-held.held _ _ c.in_ok-held.ensures.read)
-
-pub returns-in_err-text-clause-write : goal.returns-in_err-text-clause-write
-returns-in_err-text-clause-write g c = (λ p. absurd ((text_inside g c).1 p), not_called _)
-
-pub returns-in_err-text-clause-turns : goal.returns-in_err-text-clause-turns
-returns-in_err-text-clause-turns g c = λ p. absurd ((text_inside g c).2 p)
-
-pub returns-in_err-text-clause-no_worker : goal.returns-in_err-text-clause-no_worker
-returns-in_err-text-clause-no_worker g c = λ p.
-    let task = c.in_ok-task.task in
+pub returns-in_err-text : goal.returns-in_err-text
+returns-in_err-text g c =
+    let inside = text_inside g c in
     let same = passed _ _ c.from_residual-in_err-text.ensures in
-    asked c.args.job.now task c.in_ok-task.ensures.ok
-    (started (MayStartThreads task) task c.in_ok-held.held.items c.in_err-text.field-0.0 c.in_err-text.ensures.refused (passed_kind _ _ NoWorker same p))
+    let task = c.in_ok-task.task in
+    let kinds = started (MayStartThreads task) task c.in_ok-held.held.items c.in_err-text.field-0.0 c.in_err-text.ensures.refused in
+    record {
+      end = search rules;
+      ok = search rules;
+      read = (λ p. absurd (inside.0 p), no_failure c.in_ok-held.held _ _ c.in_ok-held.ensures.read);
+      write = (λ p. absurd (inside.1 p), not_called _);
+      turns = λ p. absurd (inside.2 p);
+      no_worker = λ p. asked c.args.job.now task c.in_ok-task.ensures.ok (kinds (passed_kind _ _ NoWorker same p));
+      refused = search rules;
+      settings = search rules;
+      untouched = search rules;
+      prefix = λ p. absurd (inside.1 p);
+    }
 
-pub returns-in_err-text-clause-prefix : goal.returns-in_err-text-clause-prefix
-returns-in_err-text-clause-prefix g c = λ p. absurd ((text_inside g c).1 p)
-
-pub returns-clause-prefix : goal.returns-clause-prefix
-returns-clause-prefix g c =
-    prefix_is (g.S.Source.remaining c.args.reader.now) c.args.job.now c.in_ok-task.task c.in_ok-held.held.items (bytes_of c.in_ok-text.text) c.write_to.result
-    (g.K.Sink.contents c.args.writer.now) (g.K.Sink.contents c.write_to.new.writer)
-    c.in_ok-held.ensures.ok c.in_ok-task.ensures.ok c.in_ok-text.ensures.ok c.write_to.ensures.prefix
+pub returns : goal.returns
+returns g c = record {
+  end = search rules;
+  ok = search rules;
+  read = search rules;
+  write = search rules;
+  turns = search rules;
+  no_worker = search rules;
+  refused = search rules;
+  settings = search rules;
+  untouched = search rules;
+  prefix =
+      prefix_is (g.S.Source.remaining c.args.reader.now) c.args.job.now c.in_ok-task.task c.in_ok-held.held.items (bytes_of c.in_ok-text.text) c.write_to.result
+      (g.K.Sink.contents c.args.writer.now) (g.K.Sink.contents c.write_to.new.writer)
+      c.in_ok-held.ensures.ok c.in_ok-task.ensures.ok c.in_ok-text.ensures.ok c.write_to.ensures.prefix;
+}

@@ -2,7 +2,7 @@ use Rattle.std.proofs.Common.{◌≡◌, ℕ, ◌+◌, ◌*◌, ◌≤◌, Some,
 use Rattle.rds_stream.specs.Recording.{Signal}
 use Rattle.rds_pieces.specs.Meeting.{IsMeeting, distance}
 use Rattle.rds_pieces.specs.declared.error.PieceError.{PieceError}
-use Rattle.rds_pieces.specs.declared.meeting.Seam.{Seam}
+use Rattle.rds_pieces.specs.declared.seams.Seam.{Seam}
 use Rattle.rds_sync.specs.Rules.{RuleNumbers}
 use Rattle.rds_sync.specs.declared.state.State.TheVariants.{Searching}
 use Rattle.rds_uses.proofs.Meetings.{met_at_once, cost_at_once}

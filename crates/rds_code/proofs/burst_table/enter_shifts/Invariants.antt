@@ -1,7 +1,7 @@
 use Rattle.std.proofs.Common.{ℕ, ◌*◌, ◌^◌, ◌<◌}
 use Rattle.rds_code.specs.Bursts.{IsBurst}
 use Rattle.rds_code.specs.Inside.BurstTable.{IsSound, HasBurst}
-use Rattle.rds_code.proofs.table.enter_shifts.Given as goal
+use Rattle.rds_code.proofs.burst_table.enter_shifts.Given as goal
 
 abbrev pub invariant-loop-shift : goal.invariant-loop-shift
 invariant-loop-shift l = record {

@@ -3,7 +3,7 @@ use Rattle.std.specs.Int.Count.{count_trailing_zeros}
 use borrow.Author.Count.{below_more}
 use Rattle.rds_code.specs.Inside.BurstTable.{HasBurst}
 use Rattle.rds_code.proofs.BurstLemmas.{pattern_is_burst, small_pattern}
-use Rattle.rds_code.proofs.table.enter_all.Goals as goal
+use Rattle.rds_code.proofs.burst_table.enter_all.Goals as goal
 
 -- an odd pattern stands in the table at each of its shifts
 Entered : List ℕ → ℕ → Type 0

@@ -3,7 +3,7 @@ use Rattle.rds_sync.specs.Codes.{kept_of}
 use Rattle.rds_pieces.proofs.BesideLemmas.{IsBeside}
 use Rattle.rds_pieces.proofs.ReadsLemmas.{IsPaid}
 use Rattle.rds_pieces.proofs.SeamLemmas.{own}
-use Rattle.rds_pieces.proofs.seams.go_along.Given as goal
+use Rattle.rds_pieces.proofs.walk.go_along.Given as goal
 
 abbrev pub invariant-along : goal.invariant-along
 invariant-along g l = record {

@@ -1,6 +1,6 @@
 use Rattle.std.proofs.Common.{ℕ, ◌+◌, ◌*◌, ◌^◌, ◌<◌}
 use Rattle.rds_code.specs.Inside.BurstTable.{IsSound, HasBurst}
-use Rattle.rds_code.proofs.table.enter_all.Given as goal
+use Rattle.rds_code.proofs.burst_table.enter_all.Given as goal
 
 abbrev pub invariant-loop-half : goal.invariant-loop-half
 invariant-loop-half l = record {

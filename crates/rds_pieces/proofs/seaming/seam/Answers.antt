@@ -19,7 +19,7 @@ use Rattle.rds_pieces.proofs.CodeLemmas.{codes_few}
 use Rattle.rds_pieces.proofs.SeamLemmas.{renamed, run_over}
 use Rattle.rds_pieces.proofs.SoonLemmas.{soon_met}
 use Rattle.rds_pieces.proofs.WalkLemmas.{met_from, unmet_from, passed_items, count_taken, rest_marks, totals_taken, totals_fit, end_taken}
-use Rattle.rds_pieces.proofs.seams.seam.Goals as goal
+use Rattle.rds_pieces.proofs.seaming.seam.Goals as goal
 
 pub marks_from-own-requires-clause-place : goal.marks_from-own-requires-clause-place
 marks_from-own-requires-clause-place g c =

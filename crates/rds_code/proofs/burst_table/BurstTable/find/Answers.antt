@@ -1,7 +1,7 @@
 use Rattle.std.proofs.Common.{◌≡◌, ◌∙◌, arith, get_or}
 use Rattle.std.proofs.lemmas.List.{get_or_default}
 use Rattle.rds_code.proofs.BurstLemmas.{rem-burst}
-use Rattle.rds_code.proofs.table.BurstTable.find.Goals as goal
+use Rattle.rds_code.proofs.burst_table.BurstTable.find.Goals as goal
 
 pub returns-then-span-limit-clause-zero : goal.returns-then-span-limit-clause-zero
 returns-then-span-limit-clause-zero c none =

@@ -1,4 +1,5 @@
--- The laws of runs that the proofs of this crate rest on: those that rds_sync promises.
+-- The laws of runs that the proofs of this crate rest on: those that rds_sync and rds_code promise. `run_laws`, which bodies
+-- call, has them at hand; no public call cites it.
 use Rattle.rds_code.specs.Laws.{ReadsByRule}
 use Rattle.rds_sync.specs.CodeLaws.{CodesTellTotals}
 use Rattle.rds_sync.specs.Counting.{TotalsJoin}

@@ -13,7 +13,7 @@ use Rattle.rds_pieces.proofs.MarkLaws.{last_index}
 use Rattle.rds_pieces.proofs.ReadsLemmas.{paid_room, paid_most, paid_start, paid_on, paid_step, paid_all}
 use Rattle.rds_pieces.proofs.WayLemmas.{way_paid, way_step}
 use Rattle.rds_pieces.proofs.SeamLemmas.{renamed, found, unread, said, IsCarried, codes_on, limit_ahead, limit_inside, met_first, never_met}
-use Rattle.rds_pieces.proofs.seams.go_along.Goals as goal
+use Rattle.rds_pieces.proofs.walk.go_along.Goals as goal
 
 pub advance_onto-requires-clause-lawful : goal.advance_onto-requires-clause-lawful
 advance_onto-requires-clause-lawful g c = subst (λ (y : RuleNumbers). IsLawful y c.along.place c.along.state) c.requires.rules c.along.invariant.beside.carried.lawful

@@ -4,8 +4,8 @@ use borrow.Author.Count.{below_more}
 use Rattle.rds_code.specs.Bursts.{IsBurst}
 use Rattle.rds_code.specs.Inside.BurstTable.{IsSound, HasBurst}
 use Rattle.rds_code.proofs.BurstLemmas.{pattern_is_burst}
-use Rattle.rds_code.proofs.table.enter_shifts.Goals as goal
-use Rattle.rds_code.proofs.table.enter_shifts.Goals.{then-burst, else-burst}
+use Rattle.rds_code.proofs.burst_table.enter_shifts.Goals as goal
+use Rattle.rds_code.proofs.burst_table.enter_shifts.Goals.{then-burst, else-burst}
 
 -- so short a pattern loses nothing by a shift
 whole : (m t : ℕ) → m < 32 → t < 26 → m * 2 ^ t % 2 ^ 32 ≡ m * 2 ^ t

@@ -6,7 +6,7 @@ use Rattle.rds_code.specs.Bursts.{IsBurst}
 use Rattle.rds_code.specs.Inside.BurstTable.{HasBurst}
 use Rattle.rds_code.proofs.BurstLemmas.{burst_is_one}
 use Rattle.rds_code.proofs.RemainderLemmas.{rem-lt}
-use Rattle.rds_code.proofs.table.enter.Goals as goal
+use Rattle.rds_code.proofs.burst_table.enter.Goals as goal
 
 -- a burst that stood in the table still does: where the new one takes its place, they are one
 kept : (patterns : List ℕ) (r d e : ℕ) → r ≡ rem d → r < length patterns → IsBurst 5 d → IsBurst 5 e → HasBurst patterns e → HasBurst (set patterns r d) e

@@ -1,7 +1,7 @@
 use Rattle.std.proofs.Common.{◌≡◌, ℕ, ◌∙◌, sym, ap, subst, arith, List, length, get_or, replicate, take, drop, ◌++◌}
 use Rattle.std.proofs.lemmas.List.{get_or-replicate, take-append-le, take_all, length-replicate}
 use Rattle.rds_code.specs.Inside.BurstTable.{IsSound, IsBurstTable}
-use Rattle.rds_code.proofs.table.BurstTable.new.Goals as goal
+use Rattle.rds_code.proofs.burst_table.BurstTable.new.Goals as goal
 
 -- nothing stands in an empty table
 sound_at_first : (n : ℕ) (patterns : List ℕ) → patterns ≡ replicate n 0 → n ≡ 1024 → IsSound patterns

@@ -1,0 +1,35 @@
+-- What a transcription promises of its reader, its writer and its answer, clause by clause. `transcribe` and
+-- `transcribe_gated` cite it, and every caller of theirs relies on its fields.
+use Rattle.std.specs.Prelude.{◌<◌, ◌≡◌, ◌≢◌, ◌≤◌, ◌⊎◌, ◌↔◌, ℕ, Err, IfErr, IfSome, IsErrOf, List, OnOk, Result, length}
+use Rattle.std.specs.Io.KnownBytes.{Consumes, IsAtEnd}
+use Rattle.rds_rows.specs.declared.sink.Sink.{Ghosts as Sink}
+use Rattle.rds_tool.specs.Outcome.{IsOutside, Writes, WritesPrefix, outcome}
+use Rattle.rds_tool.specs.Tasks.{AsksForThreads, task_of}
+use Rattle.rds_tool.specs.declared.devices.Source.{Ghosts as Source}
+use Rattle.rds_tool.specs.declared.error.ToolError.{ToolError}
+use Rattle.rds_tool.specs.declared.error.ToolError.TheVariants.{NoWorker, Read, TooManyTurns, Write}
+use Rattle.rds_tool.specs.declared.job.Job.{Job}
+
+-- the answer to a job, where the reader was `reader` and is now `reader'`, and the writer likewise
+pub record IsTranscribed {R W : Type 0} (source : Source R) (sink : Sink W) (job : Job) (reader reader' : R) (writer writer' : W)
+    (result : Result (Unit {0}) ToolError) : Type 0 where
+  -- where it is Ok, the whole input was read, and the text that the job makes of it was written
+  pub end : OnOk result (IsAtEnd (source.remaining reader'))
+  pub ok : OnOk result (IfSome (source.remaining reader) (λ held. Writes (sink.contents writer) (sink.contents writer') (outcome job held)))
+
+  -- a refusal for a device's sake comes exactly where one failed, one for the number of reads only where as many bytes
+  -- were read, one for a thread's only where there may be some, and another is that of the job
+  pub read : IsErrOf result Read ↔ (source.failed reader < source.failed reader')
+  pub write : IsErrOf result Write ↔ (sink.failed writer < sink.failed writer')
+  pub turns : IsErrOf result TooManyTurns
+      → (more : List ℕ) × Consumes (source.remaining reader) (source.remaining reader') more × (16777216 ≤ length more)
+  pub no_worker : IsErrOf result NoWorker → AsksForThreads job
+  pub refused : IfErr result (λ error. IsOutside error ⊎ IfSome (source.remaining reader) (λ held. outcome job held ≡ Err error))
+
+  -- settings out of their range are refused as such before anything is read
+  pub settings : IfErr (task_of job) (λ error. (result ≡ Err error) × (reader' ≡ reader))
+
+  -- what the writer has after a refusal
+  pub untouched : IfErr result (λ error. error ≢ Write → writer' ≡ writer)
+  pub prefix : IsErrOf result Write
+      → IfSome (source.remaining reader) (λ held. WritesPrefix (sink.contents writer) (sink.contents writer') (outcome job held))
