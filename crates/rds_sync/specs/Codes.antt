@@ -1,5 +1,5 @@
 -- What is kept of an item in place of it: of a group how each of its blocks came out, of an acquisition the number of its block.
--- This project's rule.
+-- Cited by `Codes::new`, `with_room`, `push`, `append`, `totals` and `totals_of_first`, and by `run_codes`. This project's rule.
 use Rattle.std.specs.Prelude.{◌≡◌, ℕ, ◌^◌, ◌<◌, List, [], ◌∷◌, ◌++◌, Bool, true, false, ◌==◌, length, take, drop, map, sum_by, count_by, count_ones, if◌then◌else◌}
 use Rattle.std.specs.List.{All, list_all}
 use Rattle.rds_code.specs.Bursts.{span}
@@ -23,12 +23,14 @@ pub data Code : Type 0 where
   blocks : List Outcome → Code
   ended : Code
 
+-- how this block came out
 abbrev pub outcome_of : Block → Outcome
 outcome_of Missing = unread
 outcome_of (Read (Valid o info)) = good
 outcome_of (Read (Corrected o info e)) = mended (span e) (count_ones e)
 outcome_of (Read Lost) = unclear
 
+-- the code of an item
 abbrev pub code_of : Item → Code
 code_of (Acquired a x) = locked x
 code_of (Group g) = blocks (map outcome_of g.blocks)
@@ -74,7 +76,7 @@ locks_among n codes = count_by is_locked (take n codes)
 abbrev pub kept_from : ℕ → KeptOf → KeptOf
 kept_from n kept = record { codes = drop n kept.codes; locks = drop (locks_among n kept.codes) kept.locks }
 
--- there is a place for each acquisition, and each lies in a recording
+-- there is a place for each acquisition, and none of them is beyond what a recording can have
 pub record AreLocks (kept : KeptOf) : Type 0 where
   pub count : length kept.locks ≡ count_by is_locked kept.codes
   pub places : All (λ a. a < 2 ^ 36) kept.locks

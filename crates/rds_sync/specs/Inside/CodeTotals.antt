@@ -1,4 +1,4 @@
--- The totals of one outcome, and counts packed in a number: the implementation's own.
+-- The totals of one outcome, and counts packed in a number. Cited by the bodies below `Codes::totals`, and by no public call.
 use Rattle.std.specs.Prelude.{ℕ, ◌+◌, ◌*◌, ◌/◌, ◌%◌, ◌^◌, [], ◌∷◌, if◌then◌else◌}
 use Rattle.rds_sync.specs.declared.totals.Totals.{Totals}
 use Rattle.rds_sync.specs.Codes.{Outcome, is_good, is_unclear, is_mended_by, bits_mended}
