@@ -13,7 +13,7 @@ use Rattle.rds_sync.specs.declared.mark.Mark.{Mark}
 use Rattle.rds_sync.specs.Rules.{RuleNumbers}
 use Rattle.rds_sync.specs.Loss.{none_bad, bad_after}
 use Rattle.rds_sync.specs.Step.{step, items_at, locked_after}
-use Rattle.rds_sync.specs.Codes.{Outcome, unread, good, unclear, mended, Code, locked, blocks, ended, is_good, KeptOf, codes_of, locks_of}
+use Rattle.rds_sync.specs.Codes.{Outcome, unread, good, unclear, corrected, Code, locked, blocks, ended, is_good, KeptOf, codes_of, locks_of}
 
 -- ---- from the bits
 
@@ -40,7 +40,7 @@ abbrev pub is_read : Outcome → Bool
 is_read unread = false
 is_read good = true
 is_read unclear = true
-is_read (mended s n) = true
+is_read (corrected s n) = true
 
 -- the number of the last block that was read among these, the first of which has number y; else `last`
 abbrev pub last_from : ℕ → List Outcome → ℕ → ℕ
