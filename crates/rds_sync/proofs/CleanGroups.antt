@@ -2,7 +2,7 @@
 use Rattle.std.proofs.Common.{◌≡◌, ℕ, ◌+◌, ◌-◌, ◌*◌, ◌≤◌, List, [], ◌∷◌, true, length, refl, ap, ◌∙◌, arith}
 use Rattle.rds_stream.specs.Recording.{Signal}
 use Rattle.rds_sync.specs.Acquiring.{has_number}
-use Rattle.rds_sync.specs.Codes.{Outcome, unread, good, unclear, mended, is_good}
+use Rattle.rds_sync.specs.Codes.{Outcome, unread, good, unclear, corrected, is_good}
 use Rattle.rds_sync.specs.Groups.{group}
 use Rattle.rds_sync.specs.Inside.CodeRuns.{AreValid}
 use Rattle.rds_sync.specs.Marks.{good_at}
@@ -13,7 +13,7 @@ pub good-only : (o : Outcome) → is_good o ≡ true → o ≡ good
 good-only unread h = cc
 good-only good h = refl
 good-only unclear h = cc
-good-only (mended s n) h = cc
+good-only (corrected s n) h = cc
 
 abbrev pub goods : List Outcome
 goods = good ∷ good ∷ good ∷ good ∷ []

@@ -11,7 +11,7 @@ use Rattle.rds_sync.specs.declared.item.Item.{Item}
 use Rattle.rds_sync.specs.declared.item.Item.TheVariants.{Acquired, Group, LostLock}
 use Rattle.rds_sync.specs.Groups.{info_of}
 use Rattle.rds_sync.specs.Totals.{sum_blocks, count_blocks, is_valid, is_lost, is_corrected_by, bits_corrected, is_acquired, is_group, is_complete, is_loss}
-use Rattle.rds_sync.specs.Codes.{Outcome, Code, locked, blocks, ended, outcome_of, code_of, codes_of, sum_outcomes, count_outcomes, is_good, is_unclear, is_mended_by, bits_mended, is_known, is_locked, is_blocks, is_whole, is_ended, totals_of_codes}
+use Rattle.rds_sync.specs.Codes.{Outcome, Code, locked, blocks, ended, outcome_of, code_of, codes_of, sum_outcomes, count_outcomes, is_good, is_unclear, has_span, bits_inverted, has_info, is_locked, is_blocks, is_whole, is_ended, totals_of_codes}
 use Rattle.rds_sync.specs.CodeLaws.{CodesTellTotals, CodesTellRanges}
 use Rattle.rds_sync.proofs.TotalsLemmas.{same_counts}
 
@@ -55,23 +55,23 @@ lost_is (Read (Valid o info)) = refl
 lost_is (Read (Corrected o info e)) = refl
 lost_is (Read Lost) = refl
 
-corrected_is : (s : ℕ) (b : Block) → is_corrected_by s b ≡ is_mended_by s (outcome_of b)
+corrected_is : (s : ℕ) (b : Block) → is_corrected_by s b ≡ has_span s (outcome_of b)
 corrected_is s Missing = refl
 corrected_is s (Read (Valid o info)) = refl
 corrected_is s (Read (Corrected o info e)) = refl
 corrected_is s (Read Lost) = refl
 
-bits_are : (b : Block) → bits_corrected b ≡ bits_mended (outcome_of b)
+bits_are : (b : Block) → bits_corrected b ≡ bits_inverted (outcome_of b)
 bits_are Missing = refl
 bits_are (Read (Valid o info)) = refl
 bits_are (Read (Corrected o info e)) = refl
 bits_are (Read Lost) = refl
 
-known_is : (b : Block) → is_some (info_of b) ≡ is_known (outcome_of b)
-known_is Missing = refl
-known_is (Read (Valid o info)) = refl
-known_is (Read (Corrected o info e)) = refl
-known_is (Read Lost) = refl
+info_is : (b : Block) → is_some (info_of b) ≡ has_info (outcome_of b)
+info_is Missing = refl
+info_is (Read (Valid o info)) = refl
+info_is (Read (Corrected o info e)) = refl
+info_is (Read Lost) = refl
 
 acquired_is : (item : Item) → is_acquired item ≡ is_locked (code_of item)
 acquired_is (Acquired a x) = refl
@@ -85,7 +85,7 @@ group_is (LostLock a) = refl
 
 complete_is : (item : Item) → is_complete item ≡ is_whole (code_of item)
 complete_is (Acquired a x) = refl
-complete_is (Group g) = all-through (λ b. is_some (info_of b)) is_known outcome_of known_is g.blocks
+complete_is (Group g) = all-through (λ b. is_some (info_of b)) has_info outcome_of info_is g.blocks
 complete_is (LostLock a) = refl
 
 loss_is : (item : Item) → is_loss item ≡ is_ended (code_of item)
@@ -96,13 +96,13 @@ loss_is (LostLock a) = refl
 pub codes_tell_totals : CodesTellTotals
 codes_tell_totals items =
     same_counts (count_is is_valid is_good valid_is items)
-    (count_is (is_corrected_by 1) (is_mended_by 1) (corrected_is 1) items)
-    (count_is (is_corrected_by 2) (is_mended_by 2) (corrected_is 2) items)
-    (count_is (is_corrected_by 3) (is_mended_by 3) (corrected_is 3) items)
-    (count_is (is_corrected_by 4) (is_mended_by 4) (corrected_is 4) items)
-    (count_is (is_corrected_by 5) (is_mended_by 5) (corrected_is 5) items)
+    (count_is (is_corrected_by 1) (has_span 1) (corrected_is 1) items)
+    (count_is (is_corrected_by 2) (has_span 2) (corrected_is 2) items)
+    (count_is (is_corrected_by 3) (has_span 3) (corrected_is 3) items)
+    (count_is (is_corrected_by 4) (has_span 4) (corrected_is 4) items)
+    (count_is (is_corrected_by 5) (has_span 5) (corrected_is 5) items)
     (count_is is_lost is_unclear lost_is items)
-    (sum_is bits_corrected bits_mended bits_are items)
+    (sum_is bits_corrected bits_inverted bits_are items)
     (number_is is_group is_blocks group_is items)
     (number_is is_complete is_whole complete_is items)
     (number_is is_acquired is_locked acquired_is items)

@@ -1,7 +1,7 @@
 -- Codes as words of 16 bits.
 use Rattle.std.proofs.Common.{◌≡◌, ◌≢◌, ℕ, zero, suc, ◌+◌, ◌-◌, ◌*◌, ◌/◌, ◌%◌, ◌<◌, ◌≤◌, [], ◌∷◌, refl, ap, ◌∙◌, arith}
 use Rattle.std.proofs.lemmas.Bool.{ne_eqb, lt-leb, le-leb}
-use Rattle.rds_sync.specs.Codes.{Outcome, unread, good, unclear, mended, locked, blocks, ended}
+use Rattle.rds_sync.specs.Codes.{Outcome, unread, good, unclear, corrected, locked, blocks, ended}
 use Rattle.rds_sync.specs.Words.{nibble, outcome_at, IsShort, blocks_in, code_in, WordsTellCodes}
 
 -- four bits tell an outcome
@@ -13,33 +13,33 @@ nibble-is : (o : Outcome) → IsShort o → IsNibble o
 nibble-is unread h = record { few = omega arith; back = refl }
 nibble-is good h = record { few = omega arith; back = refl }
 nibble-is unclear h = record { few = omega arith; back = refl }
-nibble-is (mended zero n) h = absurd (omega (arith, h.0))
-nibble-is (mended (suc zero) zero) h = absurd (omega (arith, h.2))
-nibble-is (mended (suc zero) (suc zero)) h = record { few = omega arith; back = refl }
-nibble-is (mended (suc zero) (suc (suc n))) h = absurd (omega (arith, h.3))
-nibble-is (mended (suc (suc zero)) zero) h = absurd (omega (arith, h.2))
-nibble-is (mended (suc (suc zero)) (suc zero)) h = absurd (omega (arith, h.2))
-nibble-is (mended (suc (suc zero)) (suc (suc zero))) h = record { few = omega arith; back = refl }
-nibble-is (mended (suc (suc zero)) (suc (suc (suc n)))) h = absurd (omega (arith, h.3))
-nibble-is (mended (suc (suc (suc zero))) zero) h = absurd (omega (arith, h.2))
-nibble-is (mended (suc (suc (suc zero))) (suc zero)) h = absurd (omega (arith, h.2))
-nibble-is (mended (suc (suc (suc zero))) (suc (suc zero))) h = record { few = omega arith; back = refl }
-nibble-is (mended (suc (suc (suc zero))) (suc (suc (suc zero)))) h = record { few = omega arith; back = refl }
-nibble-is (mended (suc (suc (suc zero))) (suc (suc (suc (suc n))))) h = absurd (omega (arith, h.3))
-nibble-is (mended (suc (suc (suc (suc zero)))) zero) h = absurd (omega (arith, h.2))
-nibble-is (mended (suc (suc (suc (suc zero)))) (suc zero)) h = absurd (omega (arith, h.2))
-nibble-is (mended (suc (suc (suc (suc zero)))) (suc (suc zero))) h = record { few = omega arith; back = refl }
-nibble-is (mended (suc (suc (suc (suc zero)))) (suc (suc (suc zero)))) h = record { few = omega arith; back = refl }
-nibble-is (mended (suc (suc (suc (suc zero)))) (suc (suc (suc (suc zero))))) h = record { few = omega arith; back = refl }
-nibble-is (mended (suc (suc (suc (suc zero)))) (suc (suc (suc (suc (suc n)))))) h = absurd (omega (arith, h.3))
-nibble-is (mended (suc (suc (suc (suc (suc zero))))) zero) h = absurd (omega (arith, h.2))
-nibble-is (mended (suc (suc (suc (suc (suc zero))))) (suc zero)) h = absurd (omega (arith, h.2))
-nibble-is (mended (suc (suc (suc (suc (suc zero))))) (suc (suc zero))) h = record { few = omega arith; back = refl }
-nibble-is (mended (suc (suc (suc (suc (suc zero))))) (suc (suc (suc zero)))) h = record { few = omega arith; back = refl }
-nibble-is (mended (suc (suc (suc (suc (suc zero))))) (suc (suc (suc (suc zero))))) h = record { few = omega arith; back = refl }
-nibble-is (mended (suc (suc (suc (suc (suc zero))))) (suc (suc (suc (suc (suc zero)))))) h = record { few = omega arith; back = refl }
-nibble-is (mended (suc (suc (suc (suc (suc zero))))) (suc (suc (suc (suc (suc (suc n))))))) h = absurd (omega (arith, h.3))
-nibble-is (mended (suc (suc (suc (suc (suc (suc s)))))) n) h = absurd (omega (arith, h.1))
+nibble-is (corrected zero n) h = absurd (omega (arith, h.0))
+nibble-is (corrected (suc zero) zero) h = absurd (omega (arith, h.2))
+nibble-is (corrected (suc zero) (suc zero)) h = record { few = omega arith; back = refl }
+nibble-is (corrected (suc zero) (suc (suc n))) h = absurd (omega (arith, h.3))
+nibble-is (corrected (suc (suc zero)) zero) h = absurd (omega (arith, h.2))
+nibble-is (corrected (suc (suc zero)) (suc zero)) h = absurd (omega (arith, h.2))
+nibble-is (corrected (suc (suc zero)) (suc (suc zero))) h = record { few = omega arith; back = refl }
+nibble-is (corrected (suc (suc zero)) (suc (suc (suc n)))) h = absurd (omega (arith, h.3))
+nibble-is (corrected (suc (suc (suc zero))) zero) h = absurd (omega (arith, h.2))
+nibble-is (corrected (suc (suc (suc zero))) (suc zero)) h = absurd (omega (arith, h.2))
+nibble-is (corrected (suc (suc (suc zero))) (suc (suc zero))) h = record { few = omega arith; back = refl }
+nibble-is (corrected (suc (suc (suc zero))) (suc (suc (suc zero)))) h = record { few = omega arith; back = refl }
+nibble-is (corrected (suc (suc (suc zero))) (suc (suc (suc (suc n))))) h = absurd (omega (arith, h.3))
+nibble-is (corrected (suc (suc (suc (suc zero)))) zero) h = absurd (omega (arith, h.2))
+nibble-is (corrected (suc (suc (suc (suc zero)))) (suc zero)) h = absurd (omega (arith, h.2))
+nibble-is (corrected (suc (suc (suc (suc zero)))) (suc (suc zero))) h = record { few = omega arith; back = refl }
+nibble-is (corrected (suc (suc (suc (suc zero)))) (suc (suc (suc zero)))) h = record { few = omega arith; back = refl }
+nibble-is (corrected (suc (suc (suc (suc zero)))) (suc (suc (suc (suc zero))))) h = record { few = omega arith; back = refl }
+nibble-is (corrected (suc (suc (suc (suc zero)))) (suc (suc (suc (suc (suc n)))))) h = absurd (omega (arith, h.3))
+nibble-is (corrected (suc (suc (suc (suc (suc zero))))) zero) h = absurd (omega (arith, h.2))
+nibble-is (corrected (suc (suc (suc (suc (suc zero))))) (suc zero)) h = absurd (omega (arith, h.2))
+nibble-is (corrected (suc (suc (suc (suc (suc zero))))) (suc (suc zero))) h = record { few = omega arith; back = refl }
+nibble-is (corrected (suc (suc (suc (suc (suc zero))))) (suc (suc (suc zero)))) h = record { few = omega arith; back = refl }
+nibble-is (corrected (suc (suc (suc (suc (suc zero))))) (suc (suc (suc (suc zero))))) h = record { few = omega arith; back = refl }
+nibble-is (corrected (suc (suc (suc (suc (suc zero))))) (suc (suc (suc (suc (suc zero)))))) h = record { few = omega arith; back = refl }
+nibble-is (corrected (suc (suc (suc (suc (suc zero))))) (suc (suc (suc (suc (suc (suc n))))))) h = absurd (omega (arith, h.3))
+nibble-is (corrected (suc (suc (suc (suc (suc (suc s)))))) n) h = absurd (omega (arith, h.1))
 
 -- a word that is no group's
 pub not_group : (w : ℕ) → w < 65520 → code_in w ≡ blocks (blocks_in w)

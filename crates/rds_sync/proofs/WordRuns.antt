@@ -24,7 +24,7 @@ use Rattle.rds_sync.specs.Lawful.{IsLawful}
 use Rattle.rds_sync.specs.Loss.{none_bad}
 use Rattle.rds_sync.specs.Groups.{group, block_at, wanted_beside}
 use Rattle.rds_sync.specs.Step.{run, step, items_at, locked_after, bad_with}
-use Rattle.rds_sync.specs.Codes.{Outcome, Code, mended, locked, blocks, ended, outcome_of, codes_of}
+use Rattle.rds_sync.specs.Codes.{Outcome, Code, corrected, locked, blocks, ended, outcome_of, codes_of}
 use Rattle.rds_sync.specs.Words.{IsShort, IsSmall, RunsHaveWords}
 use Rattle.rds_sync.proofs.GroupOutcomes.{outcomes}
 use Rattle.rds_sync.proofs.LawfulLemmas.{acquired-range, lawful-step}
@@ -79,7 +79,7 @@ le_from m n h = elim (cases_lt n m) [
   | inr more ↦ more
 ]
 
-short_from : (s n : ℕ) → is_short s n ≡ true → IsShort (mended s n)
+short_from : (s n : ℕ) → is_short s n ≡ true → IsShort (corrected s n)
 short_from s n h =
     let one = both _ _ h in
     let two = both _ _ one.1 in
@@ -95,7 +95,7 @@ pub record BurstLaws : Type 0 where
   pub reads : ReadsByRule
 
 module _ (laws : BurstLaws) where
-  burst-short : (limit e : ℕ) → limit ≤ 5 → IsBurst limit e → IsShort (mended (span e) (count_ones e))
+  burst-short : (limit e : ℕ) → limit ≤ 5 → IsBurst limit e → IsShort (corrected (span e) (count_ones e))
   burst-short limit e few is =
       let short = is.short in
       let five : IsBurst 5 e = record { is_block = is.is_block; not_zero = is.not_zero; short = omega (arith, short) } in

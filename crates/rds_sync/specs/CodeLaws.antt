@@ -1,4 +1,5 @@
--- The laws of codes.
+-- The laws of codes: the totals of items, or of a range of them, can be told from their codes alone. Cited by the laws
+-- `codes_tell_totals` and `codes_tell_ranges`.
 use Rattle.std.specs.Prelude.{◌≡◌, ℕ, List, slice_range}
 use Rattle.rds_sync.specs.declared.item.Item.{Item}
 use Rattle.rds_sync.specs.Totals.{totals_of}

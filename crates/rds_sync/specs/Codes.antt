@@ -1,5 +1,5 @@
 -- What is kept of an item in place of it: of a group how each of its blocks came out, of an acquisition the number of its block.
--- This project's rule.
+-- Cited by `Codes::new`, `with_room`, `push`, `append`, `totals` and `totals_of_first`, and by `run_codes`. This project's rule.
 use Rattle.std.specs.Prelude.{◌≡◌, ℕ, ◌^◌, ◌<◌, List, [], ◌∷◌, ◌++◌, Bool, true, false, ◌==◌, length, take, drop, map, sum_by, count_by, count_ones, if◌then◌else◌}
 use Rattle.std.specs.List.{All, list_all}
 use Rattle.rds_code.specs.Bursts.{span}
@@ -10,12 +10,13 @@ use Rattle.rds_sync.specs.declared.item.Item.{Item}
 use Rattle.rds_sync.specs.declared.item.Item.TheVariants.{Acquired, Group, LostLock}
 use Rattle.rds_sync.specs.declared.totals.Totals.{Totals}
 
--- how a block came out: not read, valid, lost, or corrected, with the span of its burst and how many bits were inverted
+-- how a block came out: missing (`unread`), valid (`good`), lost (`unclear`), or corrected, with the span of its burst and how many
+-- bits were inverted
 pub data Outcome : Type 0 where
   unread : Outcome
   good : Outcome
   unclear : Outcome
-  mended : ℕ → ℕ → Outcome
+  corrected : ℕ → ℕ → Outcome
 
 -- an acquisition, with the number of its block; a group; a loss
 pub data Code : Type 0 where
@@ -23,12 +24,14 @@ pub data Code : Type 0 where
   blocks : List Outcome → Code
   ended : Code
 
+-- how this block came out
 abbrev pub outcome_of : Block → Outcome
 outcome_of Missing = unread
 outcome_of (Read (Valid o info)) = good
-outcome_of (Read (Corrected o info e)) = mended (span e) (count_ones e)
+outcome_of (Read (Corrected o info e)) = corrected (span e) (count_ones e)
 outcome_of (Read Lost) = unclear
 
+-- the code of an item
 abbrev pub code_of : Item → Code
 code_of (Acquired a x) = locked x
 code_of (Group g) = blocks (map outcome_of g.blocks)
@@ -74,34 +77,38 @@ locks_among n codes = count_by is_locked (take n codes)
 abbrev pub kept_from : ℕ → KeptOf → KeptOf
 kept_from n kept = record { codes = drop n kept.codes; locks = drop (locks_among n kept.codes) kept.locks }
 
--- there is a place for each acquisition, and each lies in a recording
+-- there is a place for each acquisition, and none of them is beyond what a recording can have
 pub record AreLocks (kept : KeptOf) : Type 0 where
   pub count : length kept.locks ≡ count_by is_locked kept.codes
   pub places : All (λ a. a < 2 ^ 36) kept.locks
 
 -- ---- totals
 
+-- valid: what a rule of loss calls good
 abbrev pub is_good : Outcome → Bool
 is_good good = true
 is_good o = false
 
+-- lost
 abbrev pub is_unclear : Outcome → Bool
 is_unclear unclear = true
 is_unclear o = false
 
-abbrev pub is_mended_by : ℕ → Outcome → Bool
-is_mended_by s (mended t n) = t == s
-is_mended_by s o = false
+-- corrected, by a burst of this span
+abbrev pub has_span : ℕ → Outcome → Bool
+has_span s (corrected t n) = t == s
+has_span s o = false
 
-abbrev pub bits_mended : Outcome → ℕ
-bits_mended (mended s n) = n
-bits_mended o = 0
+-- how many bits were inverted in it
+abbrev pub bits_inverted : Outcome → ℕ
+bits_inverted (corrected s n) = n
+bits_inverted o = 0
 
--- valid or corrected
-abbrev pub is_known : Outcome → Bool
-is_known good = true
-is_known (mended s n) = true
-is_known o = false
+-- valid or corrected, so that it has an information word
+abbrev pub has_info : Outcome → Bool
+has_info good = true
+has_info (corrected s n) = true
+has_info o = false
 
 -- a sum over the blocks of the groups
 abbrev pub sum_outcomes : (Outcome → ℕ) → List Code → ℕ
@@ -114,21 +121,23 @@ abbrev pub is_blocks : Code → Bool
 is_blocks (blocks os) = true
 is_blocks code = false
 
+-- a group of which each block is valid or corrected
 abbrev pub is_whole : Code → Bool
-is_whole (blocks os) = list_all is_known os
+is_whole (blocks os) = list_all has_info os
 is_whole code = false
 
 abbrev pub is_ended : Code → Bool
 is_ended ended = true
 is_ended code = false
 
+-- the same twelve counts as those of items (`Totals`)
 abbrev pub totals_of_codes : List Code → Totals
 totals_of_codes codes = record {
   valid = count_outcomes is_good codes;
-  bursts = count_outcomes (is_mended_by 1) codes ∷ count_outcomes (is_mended_by 2) codes ∷ count_outcomes (is_mended_by 3) codes
-      ∷ count_outcomes (is_mended_by 4) codes ∷ count_outcomes (is_mended_by 5) codes ∷ [];
+  bursts = count_outcomes (has_span 1) codes ∷ count_outcomes (has_span 2) codes ∷ count_outcomes (has_span 3) codes
+      ∷ count_outcomes (has_span 4) codes ∷ count_outcomes (has_span 5) codes ∷ [];
   lost = count_outcomes is_unclear codes;
-  bits = sum_outcomes bits_mended codes;
+  bits = sum_outcomes bits_inverted codes;
   groups = count_by is_blocks codes;
   complete = count_by is_whole codes;
   acquired = count_by is_locked codes;

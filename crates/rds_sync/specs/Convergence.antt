@@ -1,4 +1,5 @@
--- Sequences, rivals and sound ranges: where all runs come into one state, whatever state they come from. This project's rules.
+-- Sequences, rivals and sound ranges: where all runs come into one state, whatever state they come from. Cited by the law
+-- `runs_converge`. This project's rules.
 --
 -- How long a sound range is, is enough. A run that is locked elsewhere sees a valid block only at a rival of its phase: with at
 -- most j of them, so many of its blocks are bad in a row that it is lost. A run that is locked on the places of the sequence with
@@ -49,6 +50,16 @@ sound_blocks (Share bad of) j = max ((j + 1) * bad) of + 6
 abbrev pub sound_bits : Loss → ℕ → ℕ
 sound_bits loss j = 26 * sound_blocks loss j
 
+-- An example, two bits a character: by the rule Run 1, where one bad block loses a lock, and for j = 1, a sound range has
+-- (1 + 1) * 1 + 6 = 8 blocks, 208 bits. A digit is the end of a block of the sequence, and its number: from p on, with c = 3.
+--
+--     s     p                                                                last                             s + 208
+--     ......3..r.........4............1.......q....2............3............4............1............2......|
+--
+-- Two rivals are about, r and q: windows that have an offset, and are no end of a block of the sequence. Neither acquires; they are
+-- not a multiple of 26 bits apart, so that no place modulo 26 has more than j = 1 of them. From whatever lawful state a run comes to
+-- s, it is in one state behind `last`: between two groups, the next block due 26 bits on.
+--
 -- from s on, a sequence of p and c, where no rival acquires, and no more than j rivals have one place modulo 26
 pub record IsSound (b : Signal) (rules : RuleNumbers) (j s p c : ℕ) : Type 0 where
   pub inside : s + sound_bits rules.loss j ≤ length_of b

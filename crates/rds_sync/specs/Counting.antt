@@ -1,4 +1,5 @@
--- Totals of two lists of items together, of the rest of one, and of one block.
+-- How totals go together: the sum of two, what is left of one, and bounds under which no sum is too great. Cited by
+-- `Totals::of_end`, `of_items`, `of_item`, `plus` and `less`, by `Codes::totals` and `totals_of_first`, and by the law `totals_join`.
 use Rattle.std.specs.Prelude.{◌≡◌, ℕ, ◌+◌, ◌*◌, ◌^◌, ◌<◌, ◌≤◌, List, [], ◌∷◌, ◌++◌, length, slice_index, if◌then◌else◌}
 use Rattle.rds_sync.specs.declared.item.Block.{Block}
 use Rattle.rds_sync.specs.declared.item.Item.{Item}

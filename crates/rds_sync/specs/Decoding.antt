@@ -1,4 +1,5 @@
--- What is still to come of a run, and lists of items that name what they are items of. This project's rules.
+-- What is still to come of a run, and a list of items that names the recording and the rules that it is of. The first is what a
+-- `Decoder` is said to be, the second what `Items` and `IndexedItems` are, and with them a report by `decode_plain`. This project's rules.
 use Rattle.std.specs.Prelude.{◌≡◌, ℕ, ◌-◌, List, Option}
 use Rattle.std.specs.Iterator.{YieldsFirst}
 use Rattle.rds_stream.specs.Recording.{Signal}

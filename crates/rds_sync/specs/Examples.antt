@@ -1,5 +1,6 @@
 -- Recordings of a few groups, with what the definitions give for them: theorems that the checker computes.
 pub mod Words
+pub mod Cycle
 pub mod ZeroGroup
 pub mod RunsOverTheZeroGroup
 pub mod DamagedBlocks

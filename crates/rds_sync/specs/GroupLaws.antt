@@ -1,5 +1,8 @@
--- What a group says, read off its blocks. The places of the blocks, the type and bit B0 are those of EN 50067:1998, 2.1 and 3.1.2;
--- which of two versions holds, and when they are in conflict, is this project's rule.
+-- What a group says, read off its blocks one by one: where each lies, the type, the version, whether two versions are in conflict.
+-- Cited by the law `groups_are_read`.
+--
+-- The places of the blocks, the type and bit B0 are those of EN 50067:1998, 2.1 and 3.1.2; which of two versions holds, and when they
+-- are in conflict, is this project's rule.
 use Rattle.std.specs.Prelude.{◌≡◌, ◌≢◌, ◌↔◌, ℕ, ◌+◌, ◌-◌, ◌*◌, ◌<◌, ◌≤◌, ◌⊎◌, Some, None, IsTrue, length, slice_get, option_map}
 use Rattle.rds_code.specs.declared.offset.Offset.{Offset}
 use Rattle.rds_code.specs.declared.offset.Offset.TheVariants.{C, Cx}
@@ -18,12 +21,13 @@ use Rattle.rds_sync.specs.Groups.{info_of, type_in, version_of_bit, version_of_o
 abbrev pub IsBlock : Group → ℕ → Block → Type 0
 IsBlock group y block = slice_get group.blocks (y - 1) ≡ Some block
 
--- block y ends 26 (x - y) places before the last block that was read, and the others are missing
-pub record BlocksAreRead (b : Signal) (rules : RuleNumbers) (f x p : ℕ) (group : Group) (second : Block) : Type 0 where
+-- block y of those from `first` to `last` ends 26 (last - y) places before the last, which ends at this place; the others are missing
+pub record BlocksAreRead (b : Signal) (rules : RuleNumbers) (first last place : ℕ) (group : Group) (second : Block) : Type 0 where
   pub four : length group.blocks ≡ 4
-  pub begins : group.place + 26 * (x - f) + 25 ≡ p
-  pub read : (y : ℕ) → f ≤ y → y ≤ x → IsBlock group y (Read (reading_at b (p - 26 * (x - y)) y (wanted_beside second) rules.burst))
-  pub missing : (y : ℕ) → 1 ≤ y → y ≤ 4 → (y < f) ⊎ (x < y) → IsBlock group y Missing
+  pub begins : group.place + 26 * (last - first) + 25 ≡ place
+  pub read : (y : ℕ) → first ≤ y → y ≤ last
+      → IsBlock group y (Read (reading_at b (place - 26 * (last - y)) y (wanted_beside second) rules.burst))
+  pub missing : (y : ℕ) → 1 ≤ y → y ≤ 4 → (y < first) ⊎ (last < y) → IsBlock group y Missing
 
 -- the version is that of a valid block 3; else that of bit B0, where block 2 has an information word; else that of a corrected
 -- block 3; else it is unknown
@@ -42,13 +46,13 @@ abbrev pub VersionsDiffer : Block → Block → Type 0
 VersionsDiffer second third = (o : Offset) × (info : ℕ) × (word : ℕ)
     × (third ≡ Read (Valid o info)) × (info_of second ≡ Some word) × (version_of_offset o ≢ version_of_bit word)
 
--- what the group says of its blocks f to x, of which the last ends at place p
-pub record GroupIsRead (b : Signal) (rules : RuleNumbers) (f x p : ℕ) (group : Group) : Type 0 where
+-- what the group says of its blocks `first` to `last`, of which the last ends at this place
+pub record GroupIsRead (b : Signal) (rules : RuleNumbers) (first last place : ℕ) (group : Group) : Type 0 where
   pub second : Block
   pub third : Block
   pub is_second : IsBlock group 2 second
   pub is_third : IsBlock group 3 third
-  pub blocks : BlocksAreRead b rules f x p group second
+  pub blocks : BlocksAreRead b rules first last place group second
   pub kind : group.kind ≡ option_map type_in (info_of second)
   pub version : VersionIsRead group.version second third
   pub conflict : IsTrue group.conflict ↔ VersionsDiffer second third
@@ -57,5 +61,5 @@ pub record GroupIsRead (b : Signal) (rules : RuleNumbers) (f x p : ℕ) (group :
 
 -- a group says what its blocks say
 abbrev pub GroupsAreRead : Type 0
-GroupsAreRead = (b : Signal) (rules : RuleNumbers) (f x p : ℕ) → 1 ≤ f → f ≤ x → x ≤ 4 → HaveRoom f x p
-    → GroupIsRead b rules f x p (group b rules f x p)
+GroupsAreRead = (b : Signal) (rules : RuleNumbers) (first last place : ℕ) → 1 ≤ first → first ≤ last → last ≤ 4
+    → HaveRoom first last place → GroupIsRead b rules first last place (group b rules first last place)

@@ -1,4 +1,5 @@
--- The laws of runs and reports, over the definitions alone. This project's rules.
+-- The laws of runs, of the report and of the rules of loss, over the definitions alone. Each is cited by the law of `laws` that has its
+-- name in small letters: `RunsAreReports` by `runs_are_reports`. This project's rules.
 use Rattle.std.specs.Prelude.{◌≡◌, ◌≢◌, ◌↔◌, ℕ, ◌+◌, ◌-◌, ◌*◌, ◌<◌, ◌≤◌, ◌⊎◌, List, [], ◌++◌, Some, None, length, Bool, nat_lt, min, if◌then◌else◌}
 use Rattle.std.specs.Int.{bit_at}
 use Rattle.rds_stream.specs.Recording.{Signal, length_of}

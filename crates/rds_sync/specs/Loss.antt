@@ -1,5 +1,8 @@
--- When a lock is lost: at so many bad blocks in a row, or where so many of its last blocks are bad. This project's rules: the
--- standard (EN 50067:1998, 2.4 and annex C) leaves to the receiver when it takes synchronism for lost.
+-- When a lock is lost: at so many bad blocks in a row, or where so many of its last blocks are bad. Said twice, by what is kept from block
+-- to block (`bad_after`, `are_too_many`: runs) and by the blocks themselves (`loses`: the report); the laws `bad_blocks_lose`,
+-- `masks_tell_blocks` and `runs_are_shares` say how these agree.
+--
+-- This project's rules: the standard (EN 50067:1998, 2.4 and annex C) leaves to the receiver when it takes synchronism for lost.
 use Rattle.std.specs.Prelude.{ℕ, zero, suc, List, ◌+◌, ◌-◌, ◌*◌, ◌%◌, ◌^◌, ◌<◌, ◌≤◌, min, Bool, false, not, ◌&&◌, nat_le, if◌then◌else◌, count_by, count_ones}
 use Rattle.std.specs.List.{list_all, range_with_len}
 use Rattle.rds_sync.specs.declared.loss.Loss.{Loss}

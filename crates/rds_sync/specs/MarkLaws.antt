@@ -1,4 +1,5 @@
--- The law of marks: those of a run come in order from its locks and codes alone.
+-- The laws of marks: those of a run come in order from its locks and codes alone, and how they go on from one code to the next. Cited by
+-- the laws `codes_tell_marks`, `marks_go_on` and `whole_groups`.
 use Rattle.std.specs.Prelude.{◌≡◌, ℕ, ◌+◌, ◌-◌, ◌<◌, ◌≤◌, List, [], ◌∷◌, map, false, length, drop, slice_index_or, if◌then◌else◌}
 use Rattle.rds_stream.specs.Recording.{Signal}
 use Rattle.rds_sync.specs.declared.state.State.{State}

@@ -1,5 +1,5 @@
--- The marks of a run: the place after each bit that gave an item, the state there, and how many items stand before it. They
--- come from the run's bits, and in order from its locks and codes alone. This project's rule.
+-- The marks of a run: the place after each bit that gave an item, the state there, and how many items stand before it. Defined from the
+-- run's bits, which `Items::push_run` cites, and from its locks and codes alone, which `Codes::marks_from` does. This project's rule.
 use Rattle.std.specs.Prelude.{ℕ, zero, suc, ◌+◌, ◌-◌, ◌*◌, List, [], ◌∷◌, ◌++◌, length, Bool, true, false, ◌==◌, min, if◌then◌else◌, slice_index_or}
 use Rattle.rds_stream.specs.Recording.{Signal}
 use Rattle.rds_sync.specs.declared.state.State.{State}
@@ -13,11 +13,11 @@ use Rattle.rds_sync.specs.declared.mark.Mark.{Mark}
 use Rattle.rds_sync.specs.Rules.{RuleNumbers}
 use Rattle.rds_sync.specs.Loss.{none_bad, bad_after}
 use Rattle.rds_sync.specs.Step.{step, items_at, locked_after}
-use Rattle.rds_sync.specs.Codes.{Outcome, unread, good, unclear, mended, Code, locked, blocks, ended, is_good, KeptOf, codes_of, locks_of}
+use Rattle.rds_sync.specs.Codes.{Outcome, unread, good, unclear, corrected, Code, locked, blocks, ended, is_good, KeptOf, codes_of, locks_of}
 
 -- ---- from the bits
 
--- the mark, where items were given
+-- a mark, if its bit gave items
 abbrev pub mark_where : List Item → Mark → List Mark
 mark_where [] p = []
 mark_where (i ∷ is) p = p ∷ []
@@ -40,13 +40,14 @@ abbrev pub is_read : Outcome → Bool
 is_read unread = false
 is_read good = true
 is_read unclear = true
-is_read (mended s n) = true
+is_read (corrected s n) = true
 
--- the number of the last block that was read, of blocks y and on
+-- the number of the last block that was read among these, the first of which has number y; else `last`
 abbrev pub last_from : ℕ → List Outcome → ℕ → ℕ
 last_from y [] last = last
 last_from y (o ∷ os) last = last_from (y + 1) os (if is_read o then y else last)
 
+-- and among all four: 0 where none was read
 abbrev pub last_read : List Outcome → ℕ
 last_read os = last_from 1 os 0
 
@@ -70,7 +71,7 @@ pub record Spot : Type 0 where
   pub place : ℕ
   pub state : State
 
--- after the blocks of a group from that which is due to its last
+-- behind a group: the blocks from the one that is due to its last that was read are counted. No run has a group behind a search
 abbrev pub after_blocks : Loss → List Outcome → State → Spot
 after_blocks loss os Searching = record { place = 0; state = Searching }
 after_blocks loss os (Locked due number bad first) =
@@ -93,23 +94,26 @@ begins_with_loss (locked x ∷ codes) = false
 begins_with_loss (blocks os ∷ codes) = false
 begins_with_loss (ended ∷ codes) = true
 
--- the bit that gave this code's item gave the next one too
+-- whether the bit that gave this code's item gave the next one too, so that there is no mark between them: block 4 that acquires is a
+-- group of its own, and a loss closes a group
 abbrev pub goes_on : Code → List Code → Bool
 goes_on (locked x) codes = x == 4
 goes_on (blocks os) codes = begins_with_loss codes
 goes_on ended codes = false
 
+-- the place of the next acquisition
 abbrev pub first_lock : List ℕ → ℕ
 first_lock [] = 0
 first_lock (a ∷ locks) = a
 
+-- the places of those behind this code, which has one itself if it is an acquisition
 abbrev pub locks_after : Code → List ℕ → List ℕ
 locks_after (locked x) [] = []
 locks_after (locked x) (a ∷ locks) = locks
 locks_after (blocks os) locks = locks
 locks_after ended locks = locks
 
--- the marks, in order
+-- the marks behind these codes, in order: one behind each bit that gave an item
 abbrev pub code_marks : Loss → List ℕ → List Code → Spot → ℕ → List Mark
 code_marks loss locks [] spot before = []
 code_marks loss locks (code ∷ codes) spot before =

@@ -1,4 +1,5 @@
--- The ranges of the rules: this project's own.
+-- The numbers that the rules may have. `Rules::of`, `new` and `with_share` refuse others, and `Rules::numbers`, `burst`, `reach` and `loss`
+-- say that theirs are such. This project's own.
 use Rattle.std.specs.Prelude.{ℕ, ◌<◌, ◌≤◌, ◌⊎◌}
 use Rattle.rds_sync.specs.declared.loss.Loss.{Loss}
 use Rattle.rds_sync.specs.declared.loss.Loss.TheVariants.{Run, Share}

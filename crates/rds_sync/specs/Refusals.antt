@@ -1,4 +1,4 @@
--- The numbers and names of the refusals: this project's own.
+-- The numbers and names of the refusals. Cited by `SyncError::number` and `name`. This project's own.
 use Rattle.std.specs.Prelude.{ℕ, List, codes}
 use Rattle.rds_sync.specs.declared.error.SyncError.{SyncError}
 use Rattle.rds_sync.specs.declared.error.SyncError.TheVariants.{BurstRange, ReachRange, LossRange, OutOfMemory, ShareRange}

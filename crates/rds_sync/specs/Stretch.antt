@@ -1,4 +1,4 @@
--- A stretch of a run: up to and including the next bit that gives an item.
+-- A stretch of a run: up to and including the next bit that gives an item, or to the range's end. Cited by `stretch`.
 use Rattle.std.specs.Prelude.{◌≡◌, ◌≢◌, ℕ, ◌-◌, ◌<◌, ◌≤◌, ◌⊎◌, []}
 use Rattle.rds_stream.specs.Recording.{Signal}
 use Rattle.rds_sync.specs.declared.step.Step.{Step}

@@ -1,4 +1,5 @@
--- A code as a word of 16 bits: four bits a block. This project's rule.
+-- A code as a word of 16 bits, four bits a block, and which items have one. `Codes::push` wants such an item; the laws `words_tell_codes`,
+-- `runs_have_words` and `runs_are_keepable` say that a word tells its code and that runs give such items alone. This project's rule.
 use Rattle.std.specs.Prelude.{◌≡◌, ℕ, ◌+◌, ◌-◌, ◌*◌, ◌/◌, ◌%◌, ◌^◌, ◌<◌, ◌≤◌, min, List, [], ◌∷◌, length, ⊤, ◌==◌, nat_le, if◌then◌else◌, slice_index_or}
 use Rattle.std.specs.List.{All}
 use Rattle.rds_code.specs.Kinds.{kind_of_burst}
@@ -9,27 +10,28 @@ use Rattle.rds_sync.specs.Rules.{RuleNumbers}
 use Rattle.rds_sync.specs.Lawful.{IsLawful}
 use Rattle.rds_sync.specs.Loss.{IsLoss}
 use Rattle.rds_sync.specs.Step.{run}
-use Rattle.rds_sync.specs.Codes.{Outcome, unread, good, unclear, mended, Code, locked, blocks, ended, code_of, codes_of, locks_of}
+use Rattle.rds_sync.specs.Codes.{Outcome, unread, good, unclear, corrected, Code, locked, blocks, ended, code_of, codes_of, locks_of}
 
 -- four bits: none for a block that was not read, else the kind that it came out as
 abbrev pub nibble : Outcome → ℕ
 nibble unread = 0
 nibble good = 1
 nibble unclear = 2
-nibble (mended s n) = kind_of_burst s n
+nibble (corrected s n) = kind_of_burst s n
 
--- the pairs in that order
+-- the outcomes in the order of these numbers
 abbrev pub outcomes_in_order : List Outcome
 outcomes_in_order =
-    unread ∷ good ∷ unclear ∷ mended 1 1 ∷ mended 2 2 ∷ mended 3 2 ∷ mended 3 3 ∷ mended 4 2 ∷ mended 4 3 ∷ mended 4 4
-    ∷ mended 5 2 ∷ mended 5 3 ∷ mended 5 4 ∷ mended 5 5 ∷ []
+    unread ∷ good ∷ unclear ∷ corrected 1 1 ∷ corrected 2 2 ∷ corrected 3 2 ∷ corrected 3 3 ∷ corrected 4 2 ∷ corrected 4 3 ∷ corrected 4 4
+    ∷ corrected 5 2 ∷ corrected 5 3 ∷ corrected 5 4 ∷ corrected 5 5 ∷ []
 
+-- what four bits say; 14 and 15 say nothing
 abbrev pub outcome_at : ℕ → Outcome
 outcome_at k = slice_index_or outcomes_in_order k unread
 
--- a burst of span 1 has one bit, and one of span s from 2 to s
+-- it has four bits of its own: the burst has span 1 and one bit, or span s up to 5 and from 2 to s bits
 abbrev pub IsShort : Outcome → Type 0
-IsShort (mended s n) = (1 ≤ s) × (s ≤ 5) × (min 2 s ≤ n) × (n ≤ s)
+IsShort (corrected s n) = (1 ≤ s) × (s ≤ 5) × (min 2 s ≤ n) × (n ≤ s)
 IsShort o = ⊤
 
 -- the first block in the lowest four bits
@@ -43,18 +45,21 @@ word_of (locked x) = 65520 + x
 word_of (blocks os) = word_of_blocks os
 word_of ended = 65535
 
+-- the four blocks that a word says
 abbrev pub blocks_in : ℕ → List Outcome
 blocks_in w = outcome_at (w % 16) ∷ outcome_at (w / 16 % 16) ∷ outcome_at (w / 256 % 16) ∷ outcome_at (w / 4096) ∷ []
 
+-- and the code that it says
 abbrev pub code_in : ℕ → Code
 code_in w = if w == 65535 then ended else (if nat_le 65520 w then locked (w - 65520) else blocks (blocks_in w))
 
+-- it has a word: its number is 4 at most, or it has four blocks that have their four bits each
 abbrev pub IsSmall : Code → Type 0
 IsSmall (locked x) = x ≤ 4
 IsSmall (blocks os) = (length os ≡ 4) × All IsShort os
 IsSmall ended = ⊤
 
--- an item of which a code can be kept
+-- an item of which a code can be kept: the code has a word, and an acquisition lies in a recording
 pub record IsKeepable (item : Item) : Type 0 where
   pub small : IsSmall (code_of item)
   pub places : All (λ a. a < 2 ^ 36) (locks_of (item ∷ []))

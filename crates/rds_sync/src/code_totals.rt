@@ -1,7 +1,7 @@
 //! The totals of items, from their codes.
 
 ghost use Rattle.std.specs.Prelude.{◌≡◌, ◌≤◌, ◌<◌, ◌*◌, ◌^◌, [], ◌∷◌, length, map};
-ghost use Rattle.rds_sync.specs.Codes.{totals_of_codes, blocks, bits_mended, is_known};
+ghost use Rattle.rds_sync.specs.Codes.{totals_of_codes, blocks, bits_inverted, has_info};
 ghost use Rattle.rds_sync.specs.Counting.{IsAtMost};
 ghost use Rattle.rds_sync.specs.Inside.CodeTotals.{packed, unpacked};
 ghost use Rattle.rds_sync.specs.Words.{code_in, outcome_at};
@@ -58,15 +58,15 @@ fn totals_of_group(one: u16, two: u16, three: u16, four: u16) -> Totals
     let blocks = unpacked(packed(one) + packed(two) + packed(three) + packed(four));
     Totals {
         groups: 1,
-        complete: u64::from(is_known(one) && is_known(two) && is_known(three) && is_known(four)),
+        complete: u64::from(has_info(one) && has_info(two) && has_info(three) && has_info(four)),
         ..blocks
     }
 }
 
 /// Whether these four bits are of a block that is valid or corrected.
-fn is_known(nibble: u16) -> bool
+fn has_info(nibble: u16) -> bool
     requires { nibble < 16 }
-    ensures { result ≡ is_known (outcome_at nibble) }
+    ensures { result ≡ has_info (outcome_at nibble) }
 {
     nibble == 1 || 3 <= nibble && nibble <= 13
 }
@@ -76,7 +76,7 @@ fn is_known(nibble: u16) -> bool
 fn packed(nibble: u16) -> u64
     requires { nibble < 16 }
     ensures value { result ≡ packed (outcome_at nibble) }
-    ensures bits { bits_mended (outcome_at nibble) ≤ 5 }
+    ensures bits { bits_inverted (outcome_at nibble) ≤ 5 }
     ensures small { result < 2 ^ 59 }
 {
     BY_NIBBLE[nibble as usize]

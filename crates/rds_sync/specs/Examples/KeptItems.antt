@@ -4,7 +4,7 @@ use Rattle.std.specs.Int.Count.{count_leading_zeros, ones, count_trailing_zeros}
 use Rattle.std.proofs.Common.{ap}
 use Rattle.std.proofs.lemmas.Bool.{false≢true, le-leb, leb-true}
 use Rattle.std.proofs.lemmas.List.Elements.{All-cons, All-head, All-nil}
-use Rattle.rds_sync.specs.Codes.{Outcome, unread, good, unclear, mended, Code, locked, blocks, ended, KeptOf, kept_of, no_codes, behind, kept_from, AreLocks, totals_of_codes}
+use Rattle.rds_sync.specs.Codes.{Outcome, unread, good, unclear, corrected, Code, locked, blocks, ended, KeptOf, kept_of, no_codes, behind, kept_from, AreLocks, totals_of_codes}
 use Rattle.rds_sync.specs.Examples.Words.{totals}
 use Rattle.rds_sync.specs.Examples.DamagedBlocks.{one_bit_items, span_5_items, block_4_lost, corrected_is_bad_items}
 use Rattle.rds_sync.specs.Examples.Spans.{corrected_items, one_to_five}
@@ -15,12 +15,12 @@ four first second third last = blocks (first ∷ second ∷ third ∷ last ∷ [
 -- ---- each outcome, in the order of the blocks
 
 -- a block that was not read, a valid one, one of which a bit was inverted, and one that was not read
-pub one_bit : kept_of one_bit_items ≡ record { codes = locked 2 ∷ four unread good (mended 1 1) unread ∷ []; locks = 51 ∷ [] }
+pub one_bit : kept_of one_bit_items ≡ record { codes = locked 2 ∷ four unread good (corrected 1 1) unread ∷ []; locks = 51 ∷ [] }
 unfolding count_leading_zeros count_trailing_zeros ones
 one_bit = refl
 
 -- a burst of span 5 that inverted two bits
-pub span_5 : kept_of span_5_items ≡ record { codes = locked 2 ∷ four unread good good (mended 5 2) ∷ []; locks = 51 ∷ [] }
+pub span_5 : kept_of span_5_items ≡ record { codes = locked 2 ∷ four unread good good (corrected 5 2) ∷ []; locks = 51 ∷ [] }
 unfolding count_leading_zeros count_trailing_zeros ones
 span_5 = refl
 
@@ -30,7 +30,7 @@ block_lost = refl
 
 -- bursts of span 2, 3 and 4, of two bits each
 pub spans_2_to_4 : kept_of corrected_items ≡
-    record { codes = locked 2 ∷ four unread good good good ∷ four good (mended 2 2) (mended 3 2) (mended 4 2) ∷ []; locks = 51 ∷ [] }
+    record { codes = locked 2 ∷ four unread good good good ∷ four good (corrected 2 2) (corrected 3 2) (corrected 4 2) ∷ []; locks = 51 ∷ [] }
 unfolding count_leading_zeros count_trailing_zeros ones
 spans_2_to_4 = refl
 
@@ -38,7 +38,7 @@ spans_2_to_4 = refl
 
 abbrev pub kept : KeptOf
 kept = record {
-  codes = locked 2 ∷ four unread good (mended 1 1) unread ∷ ended ∷ locked 4 ∷ four unread unread unread good ∷ [];
+  codes = locked 2 ∷ four unread good (corrected 1 1) unread ∷ ended ∷ locked 4 ∷ four unread unread unread good ∷ [];
   locks = 51 ∷ 103 ∷ [];
 }
 
@@ -52,7 +52,7 @@ pub from_the_first : kept_from 0 kept ≡ kept
 from_the_first = refl
 
 pub from_the_group : kept_from 1 kept ≡
-    record { codes = four unread good (mended 1 1) unread ∷ ended ∷ locked 4 ∷ four unread unread unread good ∷ []; locks = 103 ∷ [] }
+    record { codes = four unread good (corrected 1 1) unread ∷ ended ∷ locked 4 ∷ four unread unread unread good ∷ []; locks = 103 ∷ [] }
 from_the_group = refl
 
 pub from_the_second_lock : kept_from 3 kept ≡ record { codes = locked 4 ∷ four unread unread unread good ∷ []; locks = 103 ∷ [] }
@@ -102,7 +102,7 @@ unfolding count_leading_zeros count_trailing_zeros ones
 one_to_five_told = refl
 
 -- one outcome alone: a group is complete where each block is valid or corrected
-pub complete : totals_of_codes (four good (mended 1 1) (mended 3 2) (mended 5 4) ∷ []) ≡ totals 1 1 0 1 0 1 0 7 1 1 0 0
+pub complete : totals_of_codes (four good (corrected 1 1) (corrected 3 2) (corrected 5 4) ∷ []) ≡ totals 1 1 0 1 0 1 0 7 1 1 0 0
 complete = refl
 
 pub with_a_lost_block : totals_of_codes (four good unclear good good ∷ ended ∷ []) ≡ totals 3 0 0 0 0 0 1 0 1 0 0 1

@@ -10,7 +10,7 @@ use Rattle.rds_sync.specs.declared.loss.Bad.TheVariants.{Run as InARow, Mask}
 use Rattle.rds_sync.specs.declared.mark.Mark.{Mark}
 use Rattle.rds_sync.specs.Acquiring.{acquired, has_number}
 use Rattle.rds_sync.specs.Groups.{group}
-use Rattle.rds_sync.specs.Codes.{unread, good, unclear, mended, blocks, ended, kept_of}
+use Rattle.rds_sync.specs.Codes.{unread, good, unclear, corrected, blocks, ended, kept_of}
 use Rattle.rds_sync.specs.Codes.{locked as lock_by}
 use Rattle.rds_sync.specs.Marks.{marks_on, marks_from, after_code, goes_on, counted_over}
 use Rattle.rds_sync.specs.Examples.Words.{zero_group, default_rules, rules_of, rules_with_share, locked}
@@ -91,7 +91,7 @@ pub one_bad_told : marks_from (Run 10) (kept_of block_4_lost) 0 Searching ≡ at
 one_bad_told = refl
 
 -- a corrected block is a bad one, and a row goes on over the groups
-pub row_goes_on : after_code (Run 10) 0 (blocks (unclear ∷ unclear ∷ mended 1 1 ∷ unclear ∷ [])) (record { place = 104; state = locked 129 1 3 1 })
+pub row_goes_on : after_code (Run 10) 0 (blocks (unclear ∷ unclear ∷ corrected 1 1 ∷ unclear ∷ [])) (record { place = 104; state = locked 129 1 3 1 })
     ≡ record { place = 208; state = locked 233 1 7 1 }
 row_goes_on = refl
 

@@ -4,7 +4,7 @@ use Rattle.std.proofs.Common.{ap}
 use Rattle.std.proofs.lemmas.Bool.{false≢true, le-leb, leb-true}
 use Rattle.std.proofs.lemmas.List.Elements.{All-cons, All-head, All-nil}
 use Rattle.rds_sync.specs.declared.item.Item.TheVariants.{Acquired, LostLock}
-use Rattle.rds_sync.specs.Codes.{unread, good, unclear, mended, Code, locked, blocks, ended}
+use Rattle.rds_sync.specs.Codes.{unread, good, unclear, corrected, Code, locked, blocks, ended}
 use Rattle.rds_sync.specs.Examples.KeptItems.{in_a_recording}
 use Rattle.rds_sync.specs.Words.{nibble, outcome_at, outcomes_in_order, word_of, code_in, IsShort, IsSmall, IsKeepable}
 
@@ -13,16 +13,16 @@ use Rattle.rds_sync.specs.Words.{nibble, outcome_at, outcomes_in_order, word_of,
 pub in_order : map nibble outcomes_in_order ≡ 0 ∷ 1 ∷ 2 ∷ 3 ∷ 4 ∷ 5 ∷ 6 ∷ 7 ∷ 8 ∷ 9 ∷ 10 ∷ 11 ∷ 12 ∷ 13 ∷ []
 in_order = refl
 
-pub one_bit : nibble (mended 1 1) ≡ 3
+pub one_bit : nibble (corrected 1 1) ≡ 3
 one_bit = refl
 
-pub two_bits_apart : nibble (mended 3 2) ≡ 5
+pub two_bits_apart : nibble (corrected 3 2) ≡ 5
 two_bits_apart = refl
 
-pub five_bits : nibble (mended 5 5) ≡ 13
+pub five_bits : nibble (corrected 5 5) ≡ 13
 five_bits = refl
 
-pub the_eighth : outcome_at 8 ≡ mended 4 3
+pub the_eighth : outcome_at 8 ≡ corrected 4 3
 the_eighth = refl
 
 -- the last two stand for nothing
@@ -36,7 +36,7 @@ none_at_15 = refl
 
 -- 1 + 16 * 2 + 256 * 0 + 4096 * 13
 abbrev pub mixed : Code
-mixed = blocks (good ∷ unclear ∷ unread ∷ mended 5 5 ∷ [])
+mixed = blocks (good ∷ unclear ∷ unread ∷ corrected 5 5 ∷ [])
 
 pub word_of_mixed : word_of mixed ≡ 0xd021
 word_of_mixed = refl
@@ -68,35 +68,35 @@ pub loss_back : code_in 0xffff ≡ ended
 loss_back = refl
 
 -- the highest word of a group
-pub highest_group : word_of (blocks (mended 5 5 ∷ mended 5 5 ∷ mended 5 5 ∷ mended 5 5 ∷ [])) ≡ 0xdddd
+pub highest_group : word_of (blocks (corrected 5 5 ∷ corrected 5 5 ∷ corrected 5 5 ∷ corrected 5 5 ∷ [])) ≡ 0xdddd
 highest_group = refl
 
 -- ---- which codes have words
 
-pub a_burst_of_five : IsShort (mended 5 2)
+pub a_burst_of_five : IsShort (corrected 5 2)
 a_burst_of_five = (leb-true 1 5 refl, leb-true 5 5 refl, leb-true 2 2 refl, leb-true 2 5 refl)
 
-pub one_alone : IsShort (mended 1 1)
+pub one_alone : IsShort (corrected 1 1)
 one_alone = (leb-true 1 1 refl, leb-true 1 5 refl, leb-true 1 1 refl, leb-true 1 1 refl)
 
-pub not_of_six : IsShort (mended 6 2) → ⊥
+pub not_of_six : IsShort (corrected 6 2) → ⊥
 not_of_six short = false≢true (le-leb 6 5 short.1)
 
 -- a burst of span 3 has a bit at both ends
-pub not_one_of_three : IsShort (mended 3 1) → ⊥
+pub not_one_of_three : IsShort (corrected 3 1) → ⊥
 not_one_of_three short = false≢true (le-leb 2 1 short.2)
 
-pub not_four_of_three : IsShort (mended 3 4) → ⊥
+pub not_four_of_three : IsShort (corrected 3 4) → ⊥
 not_four_of_three short = false≢true (le-leb 4 3 short.3)
 
-pub longest_burst : IsShort (mended 5 5)
+pub longest_burst : IsShort (corrected 5 5)
 longest_burst = (leb-true 1 5 refl, leb-true 5 5 refl, leb-true 2 5 refl, leb-true 5 5 refl)
 
 pub mixed_is_small : IsSmall mixed
 mixed_is_small =
-    let last = All-cons IsShort (mended 5 5) [] longest_burst (All-nil IsShort) in
-    let others = All-cons IsShort unread (mended 5 5 ∷ []) tt last in
-    (refl, All-cons IsShort good (unclear ∷ unread ∷ mended 5 5 ∷ []) tt (All-cons IsShort unclear (unread ∷ mended 5 5 ∷ []) tt others))
+    let last = All-cons IsShort (corrected 5 5) [] longest_burst (All-nil IsShort) in
+    let others = All-cons IsShort unread (corrected 5 5 ∷ []) tt last in
+    (refl, All-cons IsShort good (unclear ∷ unread ∷ corrected 5 5 ∷ []) tt (All-cons IsShort unclear (unread ∷ corrected 5 5 ∷ []) tt others))
 
 pub not_three_blocks : IsSmall (blocks (good ∷ good ∷ good ∷ [])) → ⊥
 not_three_blocks small = false≢true (ap (λ n. n == 4) small.0)

@@ -1,4 +1,4 @@
--- Codes in parts, as words: the implementation's own, which no caller sees.
+-- Codes in parts, as words: what they keep. Cited by the bodies below `Codes` and `Marks`, and by no public call.
 use Rattle.std.specs.Prelude.{ℕ, List, map}
 use Rattle.std.specs.List.{flat_map}
 use Rattle.rds_sync.specs.Codes.{KeptOf}

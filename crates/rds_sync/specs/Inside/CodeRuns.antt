@@ -1,4 +1,5 @@
--- A run that keeps codes, part by part: the implementation's own, which no caller sees.
+-- A run that keeps codes, part by part: how far it came, and over which whole groups at once. Cited by the bodies below `run_codes`, and by
+-- no public call.
 use Rattle.std.specs.Prelude.{◌≡◌, ℕ, ◌+◌, ◌-◌, ◌<◌, ◌≤◌, true}
 use Rattle.rds_stream.specs.Recording.{Signal}
 use Rattle.rds_sync.specs.declared.due.Lock.{Lock}

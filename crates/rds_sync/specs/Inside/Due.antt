@@ -1,4 +1,5 @@
--- What a block does to the lock that it was due in. This project's rule.
+-- What a block does to the lock that it was due in: keeps it, closing its group or not, or loses it. Cited by the bodies of all that follow
+-- a lock, and by no public call. This project's rule.
 use Rattle.std.specs.Prelude.{◌≡◌, ◌<◌, Bool, true, false}
 use Rattle.rds_sync.specs.declared.due.Due.{Due}
 use Rattle.rds_sync.specs.declared.due.Due.TheVariants.{Inside, Closed, Lost}

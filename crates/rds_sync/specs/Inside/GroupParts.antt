@@ -1,4 +1,4 @@
--- The blocks of a group that are read, as the code hands them on.
+-- The blocks of a group that are read, as the code hands them on. Cited by the bodies below `advance` and `finish`, and by no public call.
 use Rattle.std.specs.Prelude.{◌≡◌, ◌^◌, ◌<◌, ◌≤◌, IfSome}
 use Rattle.rds_stream.specs.Recording.{Signal, length_of, heard}
 use Rattle.rds_sync.specs.Lawful.{HaveRoom}

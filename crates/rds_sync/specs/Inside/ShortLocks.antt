@@ -1,4 +1,4 @@
--- A lock that its second block loses: the implementation's own, which no caller sees.
+-- A lock that its second block loses, and the word of its group. Cited by a body below `run_codes`, and by no public call.
 use Rattle.std.specs.Prelude.{◌≡◌, ℕ, ◌+◌, ◌*◌, ◌%◌, ◌<◌, map, true, false, ◌==◌, if◌then◌else◌}
 use Rattle.rds_code.specs.declared.reading.Wanted.{Wanted}
 use Rattle.rds_code.specs.declared.reading.Wanted.TheVariants.{Either}

@@ -1,4 +1,5 @@
--- Items as they are kept, by the spans of their runs: the implementation's own, which no caller sees.
+-- Items as they are kept, by the spans of their runs: which items spans give, and where among them one is found. Cited by the bodies below
+-- `Items`, `IndexedItems` and `ItemIter`, and by no public call.
 use Rattle.std.specs.Prelude.{◌≡◌, ℕ, ◌+◌, ◌-◌, ◌≤◌, List, [], ◌∷◌, ◌++◌, All, drop, length, take}
 use Rattle.rds_stream.specs.Recording.{Signal, length_of}
 use Rattle.rds_sync.specs.declared.indexed_items.Start.{Start}

@@ -1,4 +1,5 @@
--- What is counted of items without a look at the rest.
+-- What is counted of items without a look at the rest: whole groups, acquisitions and losses. Cited by the body of `Totals::of_items`,
+-- and by no public call.
 use Rattle.std.specs.Prelude.{◌*◌, ◌∷◌, [], ℕ}
 use Rattle.rds_sync.specs.declared.totals.Totals.{Totals}
 

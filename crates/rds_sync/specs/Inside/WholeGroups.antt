@@ -1,4 +1,5 @@
--- Whole groups of a lock, as items: the implementation's own, which no caller sees.
+-- Whole groups of a lock, as items: one that does not lose it, and how far several in a row lead. Cited by the bodies below
+-- `Decoder::fill`, and by no public call.
 use Rattle.std.specs.Prelude.{◌≡◌, ℕ, ◌+◌, ◌-◌, ◌<◌, ◌≤◌, List, ◌++◌, false, length, map}
 use Rattle.rds_stream.specs.Recording.{Signal}
 use Rattle.rds_sync.specs.declared.due.Lock.{Lock}
