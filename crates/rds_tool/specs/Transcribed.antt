@@ -16,7 +16,6 @@ pub record IsTranscribed {R W : Type 0} (source : Source R) (sink : Sink W) (job
   -- where it is Ok, the whole input was read, and the text that the job makes of it was written
   pub end : OnOk result (IsAtEnd (source.remaining reader'))
   pub ok : OnOk result (IfSome (source.remaining reader) (λ held. Writes (sink.contents writer) (sink.contents writer') (outcome job held)))
-
   -- a refusal for a device's sake comes exactly where one failed, one for the number of reads only where as many bytes
   -- were read, one for a thread's only where there may be some, and another is that of the job
   pub read : IsErrOf result Read ↔ (source.failed reader < source.failed reader')
@@ -25,10 +24,8 @@ pub record IsTranscribed {R W : Type 0} (source : Source R) (sink : Sink W) (job
       → (more : List ℕ) × Consumes (source.remaining reader) (source.remaining reader') more × (16777216 ≤ length more)
   pub no_worker : IsErrOf result NoWorker → AsksForThreads job
   pub refused : IfErr result (λ error. IsOutside error ⊎ IfSome (source.remaining reader) (λ held. outcome job held ≡ Err error))
-
   -- settings out of their range are refused as such before anything is read
   pub settings : IfErr (task_of job) (λ error. (result ≡ Err error) × (reader' ≡ reader))
-
   -- what the writer has after a refusal
   pub untouched : IfErr result (λ error. error ≢ Write → writer' ≡ writer)
   pub prefix : IsErrOf result Write
