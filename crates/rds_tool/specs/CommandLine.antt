@@ -1,4 +1,5 @@
--- The command line, as `clap` reads it, and what its words ask for. This project's rule.
+-- The command line, as `clap` reads it, and what its words ask for: this project's rule. `asked_of` answers it; `rds_command`
+-- and the functions of `entries.rt` are its steps.
 use Rattle.std.specs.Prelude.{◌≡◌, ◌≢◌, ◌⊎◌, ◌<◌, ◌^◌, ◌++◌, ⊤, Bool, IfOk, List, None, Option, Result, Some, [], codes, false, find, if◌then◌else◌, option_and_then, pos, string_bytes, true, ℕ, ◌∷◌}
 use Rattle.std.specs.Str.{bytes_eq}
 use Rattle.std.specs.Str.Parse.{IsNumeral, digits_value, without_leading_plus}

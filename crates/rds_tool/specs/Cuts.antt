@@ -1,4 +1,5 @@
--- Cuttings of a recording, as settings name them. This project's rule.
+-- Cuttings of a recording, as settings name them: this project's rule. `Plans` and `Outcome` refuse by it what is no cutting,
+-- and so does `transcribe`.
 use Rattle.std.specs.Prelude.{◌&&◌, ◌++◌, ◌∷◌, ℕ, Bool, List, [], false, nat_le, nat_lt, suc, true, zero}
 use Rattle.rds_tool.specs.declared.job.Cuts.{Cuts}
 use Rattle.rds_tool.specs.declared.job.Cuts.TheVariants.{At, Even}

@@ -1,4 +1,4 @@
--- What one read adds to the count of failures. This project's rule: every error is a failure.
+-- What one read adds to the count of failures, this project's rule: every error is a failure. `Source::read` cites it.
 use Rattle.std.specs.Prelude.{ℕ, Result, Ok, Err}
 
 -- a read fails where it answers an error

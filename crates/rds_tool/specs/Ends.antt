@@ -1,4 +1,5 @@
--- What a clause sees of a source over a reader of std, and of a sink over a writer.
+-- What a clause sees of a source over a reader of std, and of a sink over a writer. `FromRead::new`, `ToWrite::new` and
+-- `into_inner` cite it.
 use Rattle.std.specs.Prelude.{ℕ}
 use Rattle.rds_tool.specs.declared.devices.FromRead.{FromRead}
 use Rattle.rds_tool.specs.declared.devices.ToWrite.{ToWrite}

@@ -1,4 +1,4 @@
--- Gaps as a command line names them: pairs `from-to`, joined by commas. This project's rule.
+-- Gaps as a command line names them, pairs `from-to`, joined by commas: this project's rule. `asked_of` reads `--gaps` by it.
 use Rattle.std.specs.Prelude.{◌&&◌, ◌==◌, ◌∷◌, ℕ, Bool, List, None, Option, Some, [], if◌then◌else◌, length, nat_le, nat_lt}
 use Rattle.std.specs.List.{after_first, before_first, slice_split}
 use Rattle.std.specs.Str.{all_ascii_digits}

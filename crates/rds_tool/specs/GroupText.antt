@@ -1,4 +1,5 @@
--- Groups to be encoded: lines of digits in, packed blocks out. This project's rule.
+-- Groups to be encoded, lines of digits in, packed blocks out: this project's rule. It is the text that `transcribe` writes
+-- for an `Encode` job, by way of `Outcome`.
 use Rattle.std.specs.Prelude.{◌*◌, ◌+◌, ◌++◌, ◌==◌, ◌^◌, ◌||◌, ◌∷◌, Bool, Err, List, Ok, Result, [], drop, if◌then◌else◌, not, slice_index, ℕ}
 use Rattle.std.specs.Int.{to_be_bytes, w128}
 use Rattle.std.specs.List.{filter, slice_split}

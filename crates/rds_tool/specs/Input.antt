@@ -1,4 +1,5 @@
--- The recording that an input stands for. This project's rule.
+-- The recording that an input stands for, or its refusal: this project's rule. `transcribe` decodes it, by way of `Outcome`,
+-- and `follow` cites how many bits are claimed.
 use Rattle.std.specs.Prelude.{◌*◌, ◌==◌, ◌^◌, ◌||◌, ◌&&◌, ◌∷◌, ℕ, Bool, Err, List, [], None, Ok, Option, Result, Some, if◌then◌else◌, length, nat_le, nat_lt, not, true}
 use Rattle.std.specs.List.{filter}
 use Rattle.hex.specs.Hex.{decode_of}

@@ -1,4 +1,4 @@
--- What an input says. This project's rule.
+-- What an input says, as contracts see it: this project's rule. Two values of `Input` are equal where they say the same.
 use Rattle.std.specs.Prelude.{ℕ, ◌==◌, Bool, List, Option}
 use Rattle.std.specs.Bool.{beq}
 use Rattle.std.specs.Cmp.{IsEquivalence, and_equiv, bool_eq_equiv, nat_eq_equiv, on_equiv}

@@ -1,4 +1,5 @@
--- The rows of a listing, as bytes. This project's rule.
+-- The rows of a listing, as bytes: this project's rule. `transcribe` and `follow` write them, by way of `Outcome` and
+-- `Following`.
 use Rattle.std.specs.Prelude.{◌++◌, ◌/◌, ◌%◌, ◌∷◌, ℕ, Bool, List, None, Option, Some, [], codes, decimal, false, map, slice_index, suc, true, zero}
 use Rattle.std.specs.List.{flat_map, join_with_byte}
 use Rattle.hex.specs.Hex.{upper_digits}

@@ -1,5 +1,5 @@
--- What a job makes of the bytes that a reader held: the text that is written, or the first refusal that applies. This
--- project's rule.
+-- What a job makes of the bytes that a reader held, this project's rule: the text that is written, or the first refusal that
+-- applies. `transcribe` promises it, by `IsTranscribed`, and `follow` how it is written.
 use Rattle.std.specs.Prelude.{◌++◌, ◌≡◌, ◌⊎◌, ℕ, Err, List, Ok, Option, Result}
 use Rattle.std.specs.Io.KnownBytes.{Appends}
 use Rattle.rds_stream.specs.Recording.{Signal}

@@ -1,4 +1,5 @@
--- What settings say of a synchroniser and its crew, once they are in their ranges. This project's rule.
+-- What settings say of a synchroniser and its crew, once they are in their ranges: this project's rule. `Plan::of` answers it
+-- or refuses, and so does `transcribe`.
 use Rattle.std.specs.Prelude.{◌≡◌, ◌≤◌, ◌||◌, ℕ, Err, Ok, Result, if◌then◌else◌, nat_lt, true}
 use Rattle.rds_stream.specs.Recording.{Signal, length_of}
 use Rattle.rds_sync.specs.Rules.{RuleNumbers}

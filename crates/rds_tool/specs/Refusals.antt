@@ -1,4 +1,5 @@
--- The numbers and names of the refusals. This project's rule.
+-- The numbers and names of the refusals, and which of them a refusal of a layer below is: this project's rule.
+-- `ToolError::number` and `name` answer them.
 use Rattle.std.specs.Prelude.{ℕ, List, codes}
 use Rattle.rds_crew.specs.declared.error.CrewError.{CrewError}
 use Rattle.rds_crew.specs.declared.error.CrewError.TheVariants as crew

@@ -1,4 +1,4 @@
--- The rules that settings give. This project's rule.
+-- The rules that settings give, or their refusal: this project's rule. `transcribe` decodes by them, by way of `Plans`.
 use Rattle.std.specs.Prelude.{◌||◌, Err, Ok, Result, if◌then◌else◌, nat_lt}
 use Rattle.rds_sync.specs.Ranges.{farthest_reach, longest_burst, most_blocks}
 use Rattle.rds_sync.specs.Rules.{RuleNumbers}

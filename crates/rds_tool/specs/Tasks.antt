@@ -1,4 +1,5 @@
--- A job whose settings are in their ranges. This project's rule.
+-- A job whose settings are in their ranges, and which jobs ask for threads: this project's rule. `transcribe` cites both, by
+-- `IsTranscribed`.
 use Rattle.std.specs.Prelude.{◌<◌, Ok, Result}
 use Rattle.rds_tool.specs.Input.{and_then}
 use Rattle.rds_tool.specs.Plans.{plan_of, workers_of}

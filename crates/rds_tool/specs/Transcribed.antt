@@ -1,5 +1,5 @@
--- What a transcription promises of its reader, its writer and its answer, clause by clause. `transcribe` and
--- `transcribe_gated` cite it, and every caller of theirs relies on its fields.
+-- What a transcription promises of its reader, its writer and its answer. `transcribe` and `transcribe_gated` cite it, and a
+-- caller relies on its fields as on clauses.
 use Rattle.std.specs.Prelude.{◌<◌, ◌≡◌, ◌≢◌, ◌≤◌, ◌⊎◌, ◌↔◌, ℕ, Err, IfErr, IfSome, IsErrOf, List, OnOk, Result, length}
 use Rattle.std.specs.Io.KnownBytes.{Consumes, IsAtEnd}
 use Rattle.rds_rows.specs.declared.sink.Sink.{Ghosts as Sink}

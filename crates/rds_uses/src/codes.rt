@@ -1,5 +1,5 @@
 //! What a user relies on of what a run keeps: codes, their totals, and the marks that they tell.
-ghost use Rattle.std.specs.Prelude.{◌≡◌, ℕ, ◌+◌, ◌-◌, ◌<◌, ◌≤◌, ◌^◌, ◌∷◌, [], List, IfErr, IfOk, Some, count_by, drop, false, length, slice_get, slice_index_or, slice_range};
+ghost use Rattle.std.specs.Prelude.{◌≡◌, ℕ, ◌+◌, ◌-◌, ◌<◌, ◌≤◌, ◌^◌, ◌∷◌, [], List, IsOkUnless, IfOk, Some, count_by, drop, false, length, slice_get, slice_index_or, slice_range};
 ghost use Rattle.std.specs.List.{All};
 ghost use Rattle.rds_stream.specs.Recording.{length_of};
 ghost use Rattle.rds_sync.specs.Codes.{Code, behind, codes_of, ended, kept_from, kept_of};
@@ -92,7 +92,7 @@ pub fn kept_in_two(
         ≡ (run_of recording.now rules.now Searching 0 (length_of recording.now)).0) }
     ensures codes { IfOk result (λ end. end.1
         ≡ kept_of (run_of recording.now rules.now Searching 0 (length_of recording.now)).1) }
-    ensures refused { IfErr result (λ error. error ≡ OutOfMemory) }
+    ensures refused { IsOkUnless result OutOfMemory }
 {
     laws::runs_join();
     let len = recording.len();

@@ -1,5 +1,5 @@
 //! What a user of `rds_crew` relies on: the report of a crew is that of one decoder, and each refusal has its cause.
-ghost use Rattle.std.specs.Prelude.{◌≡◌, ◌≤◌, ◌⊎◌, IfErr, IfOk, IsErrOf, length};
+ghost use Rattle.std.specs.Prelude.{◌≡◌, ◌≤◌, ◌⊎◌, IfErr, IsOkUnless, IfOk, IsErrOf, length};
 ghost use Rattle.rds_stream.specs.Recording.{length_of};
 ghost use Rattle.rds_crew.specs.declared.error.CrewError.TheVariants.{CrewRange, NoWorker, OutOfMemory};
 ghost use Rattle.rds_pieces.specs.Cutting.{IsCutting, pieces_of};
@@ -43,7 +43,7 @@ pub fn decoded_in_one_piece<R: Threads + Wait + Sync>(
 ) -> Result<Report, CrewError>
     requires fits { IsCutting (length_of recording.now) cutting.now }
     requires one { pieces_of cutting.now ≤ 1 }
-    ensures { IfErr result (λ error. error ≡ OutOfMemory) }
+    ensures { IsOkUnless result OutOfMemory }
 {
     let work = RecordingWork::new(recording, rules, cutting);
     decode_crew(rt, alloc, &work, 4, &OpenGate)

@@ -1,5 +1,5 @@
 //! What a user of lists of items relies on, and of their totals.
-ghost use Rattle.std.specs.Prelude.{◌≡◌, ◌-◌, ◌+◌, ◌<◌, ◌≤◌, ◌^◌, ◌++◌, [], IfErr, IfOk, IfSome, List, None, Some, drop, false, length, slice_get, slice_range, take, true, vec_capacity};
+ghost use Rattle.std.specs.Prelude.{◌≡◌, ◌-◌, ◌+◌, ◌<◌, ◌≤◌, ◌^◌, ◌++◌, [], IsOkUnless, IfOk, IfSome, List, None, Some, drop, false, length, slice_get, slice_range, take, true, vec_capacity};
 ghost use Rattle.rds_stream.specs.Recording.{length_of};
 ghost use Rattle.rds_sync.specs.Codes.{kept_of, totals_of_codes};
 ghost use Rattle.rds_sync.specs.Counting.{IsAtMost, IsRest, plus};
@@ -144,7 +144,7 @@ pub fn listed_in_one_span(
 ) -> Result<Items, SyncError>
     ensures items { IfOk result (λ items. items
         ≡ listed recording.now rules.now (report_items recording.now rules.now)) }
-    ensures refused { IfErr result (λ error. error ≡ OutOfMemory) }
+    ensures refused { IsOkUnless result OutOfMemory }
 {
     let _loss = rules.loss();
     laws::runs_are_reports();

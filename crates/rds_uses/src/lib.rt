@@ -4,23 +4,31 @@
 //! So a clause that goes, or that grows too weak for a user, is missed here, and the check fails. `docs/PROOFS.md`
 //! names the caller of each claim.
 //!
-//! - [`code`]: remainders, offsets, bursts, blocks as they are sent and read.
-//! - [`stream`]: recordings, their windows, scans, planes and tapes.
-//! - [`gaps`]: gaps in recordings, and what is read where one is touched.
-//! - [`sync`]: rules, lawful states, steps, runs, their items one after the other, and reports.
-//! - [`codes`]: what a run keeps, and the marks that it tells.
-//! - [`loss`]: what bad blocks do to a lock, by either rule.
-//! - [`items`]: lists of items of a recording, and their totals.
-//! - [`pieces`]: cuttings, guesses, seams, joins, their joints, and what is stitched of them.
-//! - [`decoder`]: all of these together, from bytes to a report.
-//! - [`live`]: streams, chunk by chunk, and what following one writes.
-//! - [`library`]: the calls for C.
-//! - [`crew`]: the reports of crews.
-//! - [`dealer`]: numbers that are dealt to seats.
-//! - [`tool`]: what is written of the bytes that a reader holds, and each refusal by its cause.
-//! - [`devices`]: sources and sinks, whatever is behind them.
-//! - [`commands`]: the command line as a job.
-//! - [`refusals`]: numbers and names, which all crates share.
+//! # Which file holds what
+//!
+//! In the order of the crates, each after those that it stands on:
+//!
+//! | Crate | File | Callers of |
+//! |---|---|---|
+//! | `rds_code` | [`code`] | remainders, offsets, bursts, blocks as they are sent and read |
+//! | `rds_stream` | [`stream`] | recordings, their windows, scans, planes and tapes |
+//! | | [`gaps`] | gaps in recordings, and what is read where one is touched, in `rds_sync` too |
+//! | `rds_sync` | [`loss`] | what bad blocks do to a lock, by either rule |
+//! | | [`sync`] | rules, lawful states, steps, runs, their items one after the other, and reports |
+//! | | [`codes`] | what a run keeps, and the marks that it tells |
+//! | | [`items`] | lists of items of a recording, and their totals |
+//! | `rds_live` | [`live`] | streams, chunk by chunk, and what `follow` of `rds_tool` writes of one |
+//! | `rds_abi` | [`library`] | the calls for C |
+//! | `rds_pieces` | [`pieces`] | cuttings, guesses, seams, joins, their joints, and what is stitched of them |
+//! | | [`decoder`] | all of these together, from bytes to a report |
+//! | `rds_crew` | [`dealer`] | numbers that are dealt to seats |
+//! | | [`crew`] | the reports of crews |
+//! | `rds_tool` | [`commands`] | the command line as a job |
+//! | | [`devices`] | sources and sinks, whatever is behind them |
+//! | | [`tool`] | what is written of the bytes that a reader holds, and each refusal by its cause |
+//! | each | [`refusals`] | numbers and names, which all crates share |
+//!
+//! `rds_rows` has its callers in `rds_rows_tests`.
 #![tactic(auto)]
 
 pub mod code;

@@ -1,5 +1,5 @@
 //! What a user of `rds_pieces` relies on: cuttings, guesses, seams, joins, and the report that is stitched of them.
-ghost use Rattle.std.specs.Prelude.{◌≡◌, ℕ, ◌+◌, ◌-◌, ◌*◌, ◌<◌, ◌≤◌, ◌^◌, ◌++◌, ◌∷◌, [], IfOk, IfErr, Some, length, slice_index, true};
+ghost use Rattle.std.specs.Prelude.{◌≡◌, ℕ, ◌+◌, ◌-◌, ◌*◌, ◌<◌, ◌≤◌, ◌^◌, ◌++◌, ◌∷◌, [], IfOk, IsOkUnless, Some, length, slice_index, true};
 ghost use Rattle.rds_stream.specs.Recording.{length_of};
 ghost use Rattle.rds_sync.specs.declared.state.State.TheVariants.{Searching};
 ghost use Rattle.rds_sync.specs.declared.loss.Loss.TheVariants.{Run};
@@ -49,7 +49,7 @@ pub fn refused_cutting(places: Vec<u64>, len: u64) -> Option<(PieceError, Vec<u6
 /// A hundred bits in three pieces, each but the last of a third, rounded up.
 pub fn thirds(alloc: Global) -> Result<Cutting, PieceError>
     ensures places { IfOk result (λ cutting. cutting ≡ 0 ∷ 34 ∷ 68 ∷ 100 ∷ []) }
-    ensures refused { IfErr result (λ error. error ≡ OutOfMemory) }
+    ensures refused { IsOkUnless result OutOfMemory }
 {
     Cutting::even(alloc, 100, 3)
 }
@@ -95,7 +95,7 @@ pub fn second_guess(
     requires two { pieces_of cutting.now ≡ 2 }
     ensures run { IfOk result (λ run. run
         ≡ run_over recording.now rules.now (slice_index cutting.now 1) (slice_index cutting.now 2)) }
-    ensures refused { IfErr result (λ error. error ≡ OutOfMemory) }
+    ensures refused { IsOkUnless result OutOfMemory }
 {
     speculate(alloc, recording, rules, cutting, 1)
 }
@@ -238,7 +238,7 @@ pub fn cost_of_seam<T: Tape>(
     requires source { run.now.source ≡ T.signal tape.old }
     requires rules { run.now.rules ≡ rules.now }
     requires room { T.reads_made tape.old ≤ 2 ^ 62 }
-    ensures refused { IfErr result (λ error. error ≡ OutOfMemory) }
+    ensures refused { IsOkUnless result OutOfMemory }
     ensures reads { T.reads_made tape.new
         ≤ T.reads_made tape.old + (rules.now.reach + 2) * (run.now.to - run.now.from + 1) }
     ensures same { T.signal tape.new ≡ T.signal tape.old }
@@ -285,7 +285,7 @@ pub fn joined_guesses(
     requires fits { IsCutting (length_of recording.now) cutting.now }
     requires two { pieces_of cutting.now ≡ 2 }
     ensures run { IfOk result (λ run. run ≡ run_over recording.now rules.now 0 (length_of recording.now)) }
-    ensures refused { IfErr result (λ error. error ≡ OutOfMemory) }
+    ensures refused { IsOkUnless result OutOfMemory }
 {
     let left = speculate(alloc, recording, rules, cutting, 0)?;
     let right = speculate(alloc, recording, rules, cutting, 1)?;
@@ -363,7 +363,7 @@ pub fn cost_of_join<T: Tape>(
     requires left { IsRunOf (T.signal tape.old) rules.now left }
     requires right { IsRunOf (T.signal tape.old) rules.now right }
     requires room { T.reads_made tape.old ≤ 2 ^ 62 }
-    ensures refused { IfErr result (λ error. error ≡ OutOfMemory) }
+    ensures refused { IsOkUnless result OutOfMemory }
     ensures reads { T.reads_made tape.new
         ≤ T.reads_made tape.old + (rules.now.reach + 2) * (right.to - right.from + 1) }
     ensures same { T.signal tape.new ≡ T.signal tape.old }
@@ -384,7 +384,7 @@ pub fn joined_by_joint(
     requires fits { IsCutting (length_of recording.now) cutting.now }
     requires two { pieces_of cutting.now ≡ 2 }
     ensures run { IfOk result (λ run. run ≡ run_over recording.now rules.now 0 (length_of recording.now)) }
-    ensures refused { IfErr result (λ error. error ≡ OutOfMemory) }
+    ensures refused { IsOkUnless result OutOfMemory }
 {
     let left = speculate(alloc, recording, rules, cutting, 0)?;
     let right = speculate(alloc, recording, rules, cutting, 1)?;
@@ -463,7 +463,7 @@ pub fn cost_of_joint<T: Tape>(
     requires left { IsRunOf (T.signal tape.old) rules.now left.now }
     requires right { IsRunOf (T.signal tape.old) rules.now right.now }
     requires room { T.reads_made tape.old ≤ 2 ^ 62 }
-    ensures refused { IfErr result (λ error. error ≡ OutOfMemory) }
+    ensures refused { IsOkUnless result OutOfMemory }
     ensures reads { T.reads_made tape.new
         ≤ T.reads_made tape.old + (rules.now.reach + 2) * (right.now.to - right.now.from + 1) }
     ensures same { T.signal tape.new ≡ T.signal tape.old }
@@ -477,7 +477,7 @@ pub fn put_together(left: PieceRun, joint: Joint, right: PieceRun) -> Result<Pie
     requires beside { IsRunOf left.source left.rules right }
     requires joint { joint ≡ the_joint_of left right }
     ensures run { IfOk result (λ run. run ≡ run_over left.source left.rules left.from right.to) }
-    ensures refused { IfErr result (λ error. error ≡ OutOfMemory) }
+    ensures refused { IsOkUnless result OutOfMemory }
 {
     PieceRun::joined(left, joint, right)
 }
@@ -496,7 +496,7 @@ pub fn decoded_in_two_pieces(
     ensures items { IfOk result (λ report. report.items
         ≡ listed recording.now rules.now (report_items recording.now rules.now)) }
     ensures totals { IfOk result (λ report. report.totals ≡ totals_of (report_items recording.now rules.now)) }
-    ensures refused { IfErr result (λ error. error ≡ OutOfMemory) }
+    ensures refused { IsOkUnless result OutOfMemory }
 {
     laws::pieces_follow();
     let mut runs = Vec::new(alloc);
@@ -569,7 +569,7 @@ pub fn report_of_work<W: Work>(alloc: Global, work: &W) -> Result<Report, PieceE
         (report_items (W.recording work.now) (W.rule_set work.now))) }
     ensures totals { IfOk result (λ report. report.totals
         ≡ totals_of (report_items (W.recording work.now) (W.rule_set work.now))) }
-    ensures refused { IfErr result (λ error. error ≡ OutOfMemory) }
+    ensures refused { IsOkUnless result OutOfMemory }
 {
     laws::pieces_follow();
     let mut runs = Vec::new(alloc);
@@ -583,7 +583,7 @@ pub fn joined_by_work<W: Work>(alloc: Global, work: &W) -> Result<PieceRun, Piec
     requires two { pieces_of (W.places work.now) ≡ 2 }
     ensures run { IfOk result (λ run. run
         ≡ run_over (W.recording work.now) (W.rule_set work.now) 0 (length_of (W.recording work.now))) }
-    ensures refused { IfErr result (λ error. error ≡ OutOfMemory) }
+    ensures refused { IsOkUnless result OutOfMemory }
 {
     let left = work.guess(alloc, 0)?;
     let right = work.guess(alloc, 1)?;

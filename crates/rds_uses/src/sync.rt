@@ -1,6 +1,6 @@
 //! What a user of `rds_sync` relies on: rules, lawful states, steps over a tape, runs over a range and their items, and
 //! reports.
-ghost use Rattle.std.specs.Prelude.{◌≡◌, ◌≢◌, ℕ, ◌+◌, ◌-◌, ◌*◌, ◌<◌, ◌≤◌, ◌^◌, ◌++◌, ◌↔◌, [], IsTrue, IfOk, IfErr, IsErrOf, None, Some, slice_get, true};
+ghost use Rattle.std.specs.Prelude.{◌≡◌, ◌≢◌, ℕ, ◌+◌, ◌-◌, ◌*◌, ◌<◌, ◌≤◌, ◌^◌, ◌++◌, ◌↔◌, [], IsTrue, IfOk, IsOkUnless, IsErrOf, None, Some, slice_get, true};
 ghost use Rattle.rds_stream.specs.Recording.{length_of};
 ghost use Rattle.rds_sync.specs.declared.item.Block.{Block as ABlock};
 ghost use Rattle.rds_sync.specs.declared.error.SyncError.TheVariants.{BurstRange, LossRange, OutOfMemory, ReachRange, ShareRange};
@@ -32,7 +32,7 @@ use std::alloc::Global;
 /// The rules that the program takes where none are given: nothing but memory can be in want.
 pub fn usual_rules(alloc: Global) -> Result<Rules, SyncError>
     ensures rules { IfOk result (λ rules. rules ≡ record { burst = 2; reach = 3; loss = Run 10 }) }
-    ensures refused { IfErr result (λ error. error ≡ OutOfMemory) }
+    ensures refused { IsOkUnless result OutOfMemory }
 {
     Rules::of(
         alloc,
@@ -47,7 +47,7 @@ pub fn usual_rules(alloc: Global) -> Result<Rules, SyncError>
 /// The same by their numbers alone.
 pub fn counted_rules(alloc: Global) -> Result<Rules, SyncError>
     ensures rules { IfOk result (λ rules. rules ≡ record { burst = 2; reach = 3; loss = Run 10 }) }
-    ensures refused { IfErr result (λ error. error ≡ OutOfMemory) }
+    ensures refused { IsOkUnless result OutOfMemory }
 {
     Rules::new(alloc, 2, 3, 10)
 }
@@ -55,7 +55,7 @@ pub fn counted_rules(alloc: Global) -> Result<Rules, SyncError>
 /// Rules that lose a lock where 10 of the last 12 blocks are bad.
 pub fn shared_rules(alloc: Global) -> Result<Rules, SyncError>
     ensures rules { IfOk result (λ rules. rules ≡ record { burst = 2; reach = 3; loss = Share 10 12 }) }
-    ensures refused { IfErr result (λ error. error ≡ OutOfMemory) }
+    ensures refused { IsOkUnless result OutOfMemory }
 {
     Rules::with_share(alloc, 2, 3, 10, 12)
 }
@@ -63,7 +63,7 @@ pub fn shared_rules(alloc: Global) -> Result<Rules, SyncError>
 /// What rules were made of, they are made of again: nothing but memory can be in want.
 pub fn same_rules(alloc: Global, rules: &Rules) -> Result<Rules, SyncError>
     ensures rules { IfOk result (λ made. made ≡ rules.now) }
-    ensures refused { IfErr result (λ error. error ≡ OutOfMemory) }
+    ensures refused { IsOkUnless result OutOfMemory }
 {
     Rules::of(alloc, rules.numbers())
 }
@@ -522,7 +522,7 @@ pub fn report_of(alloc: Global, recording: &Recording, rules: &Rules) -> Result<
     ensures items { IfOk result (λ report. report.items
         ≡ listed recording.now rules.now (report_items recording.now rules.now)) }
     ensures totals { IfOk result (λ report. report.totals ≡ totals_of (report_items recording.now rules.now)) }
-    ensures refused { IfErr result (λ error. error ≡ OutOfMemory) }
+    ensures refused { IsOkUnless result OutOfMemory }
 {
     decode_plain(alloc, recording, rules)
 }

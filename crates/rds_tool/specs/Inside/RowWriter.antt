@@ -1,4 +1,5 @@
--- A writer of rows of `csv` over a vector, between two rows.
+-- A writer of rows of `csv` over a vector, between two rows, and fields that it writes as they are. The pens of `rows.rt` and
+-- `line.rt` cite it, and no public call.
 use Rattle.std.specs.Prelude.{◌++◌, ◌≡◌, ◌≤◌, ℕ, List, Vec, false, length}
 use Rattle.csv.specs.Writing.{default_writer, fields_written, has_written, needs_quotes, writer_pending, writer_setup, writer_under}
 use Rattle.csv.specs.declared.writer.Writer.{Writer}

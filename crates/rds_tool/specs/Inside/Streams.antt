@@ -1,4 +1,4 @@
--- How far a stream was followed. This project's rule.
+-- How far a stream was followed: this project's rule. The steps of `follow` cite it, and no public call.
 use Rattle.std.specs.Prelude.{◌≡◌, ◌≤◌, ◌<◌, ◌+◌, ◌*◌, ◌^◌, ◌-◌, ◌⊎◌, ⊤, ℕ, List, None, Option, Some, length}
 use Rattle.std.specs.Io.KnownBytes.{Appends, Consumes, IsAtEnd}
 use Rattle.rds_live.specs.Live.{LiveOf, Terms, live_of}

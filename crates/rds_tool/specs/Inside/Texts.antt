@@ -1,4 +1,5 @@
--- The text that is written, whether it is made or still to be spelled.
+-- The text that is written, whether it is made or still to be spelled. `Task::text` makes it and `Text::write_to` writes it;
+-- no public call cites it.
 use Rattle.std.specs.Prelude.{◌++◌, ℕ, List}
 use Rattle.std.specs.List.{flat_map}
 use Rattle.rds_sync.specs.Counting.{plus}
