@@ -1,7 +1,7 @@
 -- Where the last bytes of a stream are gone over as a recording, of which there is always as much. This project's rule.
-use Rattle.std.specs.Prelude.{◌≡◌, ℕ, ◌+◌, ◌-◌, ◌*◌, List, ◌++◌, length, map}
+use Rattle.std.specs.Prelude.{ℕ, ◌+◌, ◌-◌, ◌*◌, List, ◌++◌, length, map}
 use Rattle.std.specs.List.{range_with_len}
-use Rattle.rds_stream.specs.Recording.{Signal, length_of}
+use Rattle.rds_stream.specs.Recording.{Signal}
 use Rattle.rds_live.specs.Gaps.{gaps_within}
 use Rattle.rds_live.specs.Live.{signal_of}
 use Rattle.rds_live.specs.Moving.{IsPartHeard}

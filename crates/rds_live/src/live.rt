@@ -241,6 +241,7 @@ impl<'r> Live<'r> {
     pub fn take(&mut self, bytes: &[u8], items: &mut Vec<Item>) -> Result<usize, StreamError>
         ensures heard { IfOk result (λ count. (before : List ℕ) → HasHeard self.old before → HasHeard self.new (before ++ take count bytes.now)) }
         ensures terms { OnOk result (self.new.terms ≡ self.old.terms) }
+        ensures place { IfOk result (λ count. self.new.place ≡ self.old.place + 8 * count) }
         ensures items { IfOk result (λ count. (before : List ℕ) → HasHeard self.old before
             → complete self.old.terms (before ++ take count bytes.now) ≡ complete self.old.terms before ++ items.new.items) }
         ensures count { IfOk result (λ count. count ≡ min (length bytes.now) (min 240 (vec_capacity items.old / 16))) }

@@ -1,4 +1,4 @@
-use Rattle.std.proofs.Common.{◌≡◌, ◌+◌, ◌^◌, ◌∷◌, ◌++◌, ℕ, List, [], Option, Some, drop, length, ap, sym, ◌∙◌, arith}
+use Rattle.std.proofs.Common.{◌+◌, ◌^◌, ◌∷◌, ◌++◌, [], drop, length, ap, sym, ◌∙◌, arith}
 use Rattle.std.proofs.lemmas.List.{length-append}
 use Rattle.rds_live.specs.Gaps.{gaps_within}
 use Rattle.rds_live.proofs.GapParts.{few-of-part, one-found}

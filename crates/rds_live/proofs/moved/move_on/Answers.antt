@@ -1,4 +1,4 @@
-use Rattle.std.proofs.Common.{◌≡◌, ◌+◌, ◌<◌, ◌^◌, ◌∙◌, ap, get_or, length, subst, sym, arith}
+use Rattle.std.proofs.Common.{◌+◌, ◌<◌, ◌^◌, ◌∙◌, ap, subst, sym, arith}
 use Rattle.std.proofs.lemmas.List.{length-set}
 use Rattle.rds_sync.specs.declared.item.Item.{Item}
 use Rattle.rds_live.specs.Moving.{moved_item}

@@ -1,4 +1,4 @@
-use Rattle.std.proofs.Common.{◌*◌, ◌^◌, ◌≤◌, ℕ, List, length, ap, arith, refl}
+use Rattle.std.proofs.Common.{◌*◌, ◌^◌, ◌≤◌, length, ap, arith, refl}
 use Rattle.std.proofs.lemmas.Bool.{false≢true}
 use Rattle.rds_live.specs.Room.{RoomOf}
 use Rattle.rds_live.proofs.GapParts.{found-of-part}

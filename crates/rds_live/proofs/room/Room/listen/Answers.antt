@@ -5,7 +5,7 @@ use Rattle.rds_stream.specs.Recording.{AreGaps, Signal, bits_of, length_of, pack
 use Rattle.rds_live.specs.Gaps.{gaps_within}
 use Rattle.rds_live.specs.Live.{signal_of}
 use Rattle.rds_live.specs.Moving.{IsPartHeard}
-use Rattle.rds_live.specs.Room.{RoomOf, filled_up, slots_of}
+use Rattle.rds_live.specs.Room.{filled_up, slots_of}
 use Rattle.rds_live.proofs.GapParts.{few-of-part, gaps-of-part, gaps-filled-up, length-filled-up}
 use Rattle.rds_live.proofs.Rooms.{heard-filled}
 use Rattle.rds_live.proofs.room.Room.listen.Goals as goal
