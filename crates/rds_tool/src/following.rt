@@ -302,7 +302,7 @@ fn rows_of_rest(
     bits: u64,
 ) -> Result<Vec<u8>, ToolError>
     requires held { bits ≤ 8 * length bytes.now }
-    requires few { bits < 8 }
+    requires few { bits ≤ 8 }
     requires limit { live.place + bits ≤ 2 ^ 36 }
     ensures rows { IfOk result (λ text. (before : List ℕ) → HasHeard live.entry before
         → let items = report_at live.entry.terms (before ++ bytes.now) (8 * length before + bits) in
