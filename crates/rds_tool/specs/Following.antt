@@ -1,5 +1,5 @@
 -- Following a stream: the rows that are written as its bytes come, and what stands where it breaks off. This project's rule.
-use Rattle.std.specs.Prelude.{◌++◌, ◌≡◌, ◌≤◌, ◌<◌, ◌+◌, ◌*◌, ◌^◌, ◌⊎◌, ⊤, ℕ, List, None, Ok, Option, Result, Some, length, min}
+use Rattle.std.specs.Prelude.{◌++◌, ◌≡◌, ◌≤◌, ◌<◌, ◌+◌, ◌*◌, ◌/◌, ◌^◌, ◌⊎◌, ⊤, ℕ, List, None, Ok, Option, Result, Some, length, min}
 use Rattle.std.specs.List.{flat_map}
 use Rattle.std.specs.Io.KnownBytes.{Appends, Consumes, IsAtEnd}
 use Rattle.rds_live.specs.Live.{Terms, complete, signal_at}

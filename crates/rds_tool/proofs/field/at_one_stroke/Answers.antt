@@ -1,4 +1,4 @@
-use Rattle.std.proofs.Common.{rules, arith, ap, replicate, ℕ, [], w64, ◌+◌, ◌++◌, ◌≡◌, ◌∙◌, ◌<◌, ◌/◌, ◌%◌, ◌^◌, ◌∷◌}
+use Rattle.std.proofs.Common.{rules, arith, ap, length, replicate, ℕ, List, [], w64, ◌+◌, ◌++◌, ◌≡◌, ◌∙◌, ◌<◌, ◌/◌, ◌%◌, ◌^◌, ◌∷◌}
 use Rattle.std.proofs.lemmas.Nat.{le_bytes_8}
 use Rattle.std.specs.Int.{to_le_bytes}
 use Rattle.rds_tool.proofs.field.at_one_stroke.Goals as goal
