@@ -1,8 +1,8 @@
 -- The end of a stream, at any bit of its last bytes.
-use Rattle.std.proofs.Common.{◌≡◌, ℕ, ◌+◌, ◌-◌, ◌*◌, ◌^◌, ◌≤◌, ◌⊎◌, List, ◌++◌, length, refl, sym, ap, ap₂, subst, ◌∙◌, arith, inl, inr}
+use Rattle.std.proofs.Common.{◌≡◌, ℕ, ◌+◌, ◌-◌, ◌*◌, ◌^◌, ◌≤◌, ◌⊎◌, List, ◌++◌, append_assoc, drop, length, take, refl, sym, ap, ap₂, subst, ◌∙◌, arith, inl, inr}
 use Rattle.std.proofs.lemmas.Bool.{cases_lt}
-use Rattle.std.proofs.lemmas.List.{length-drop, length-append}
-use Rattle.rds_stream.specs.Recording.{AreGaps, Signal, length_of}
+use Rattle.std.proofs.lemmas.List.{length-drop, length-append, take-append-drop}
+use Rattle.rds_stream.specs.Recording.{AreGaps, Signal, bits_of, length_of}
 use Rattle.rds_sync.specs.declared.state.State.{State}
 use Rattle.rds_sync.specs.declared.state.State.TheVariants.{Searching}
 use Rattle.rds_sync.specs.declared.item.Item.{Item}
@@ -12,13 +12,14 @@ use Rattle.rds_sync.specs.Lawful.{IsLawful}
 use Rattle.rds_sync.specs.Laws.{RunsJoin, RunsAreReports}
 use Rattle.rds_sync.specs.CodeLaws.{CodesTellTotals}
 use Rattle.rds_sync.specs.Counting.{TotalsJoin, plus}
+use Rattle.rds_sync.specs.Report.{report_items}
 use Rattle.rds_sync.specs.Totals.{totals_of}
 use Rattle.rds_sync.specs.Step.{run, items_of_end}
 use Rattle.rds_live.specs.Moving.{RunsMove, EndsMove, IsPartHeard, moved_state, moved_items, most_behind}
 use Rattle.rds_live.specs.Gaps.{gaps_within}
 use Rattle.rds_live.specs.Live.{Terms, report_at, signal_at, run_of, complete, last_bytes, most_kept}
 use Rattle.rds_live.proofs.GapParts.{part-touched, start-touched}
-use Rattle.rds_live.proofs.Parts.{length-at, bits-heard, first-part, last-part}
+use Rattle.rds_live.proofs.Parts.{length-at, bits-begin, bits-heard, first-part, last-part}
 use Rattle.rds_live.proofs.Following.{still-state, still-items, totals-moved}
 
 module _ (terms : Terms) (range : IsInRange terms.rules) (are : AreGaps (2 ^ 36) terms.gaps) (bytes more : List ℕ) (bits : ℕ) (held : bits ≤ 8 * length more) where
@@ -121,3 +122,11 @@ module _ (terms : Terms) (range : IsInRange terms.rules) (are : AreGaps (2 ^ 36)
           let both : sum ≡ totals_of (complete terms bytes ++ items) = sum_is ∙ ap₂ plus so_far found_items ∙ sym (join (complete terms bytes) items).joined in
           all_is ∙ ap (λ (t : Totals). plus t (totals_of last)) both ∙ sym (join (complete terms bytes ++ items) last).joined
           ∙ ap (λ (xs : List Item). totals_of xs) report-to
+
+-- the report of the first bits of a stream knows of no byte behind them
+pub report-begin : (terms : Terms) (before bytes : List ℕ) (count bits : ℕ) → bits ≤ 8 * length (before ++ take count bytes)
+    → report_at terms (before ++ take count bytes) bits ≡ report_at terms (before ++ bytes) bits
+report-begin terms before bytes count bits held =
+    ap (λ (b : List ℕ). report_items (record { bits = b; gaps = terms.gaps }) terms.rules)
+    (bits-begin (before ++ take count bytes) (drop count bytes) bits held
+    ∙ ap (λ (xs : List ℕ). bits_of xs bits) (append_assoc before (take count bytes) (drop count bytes) ∙ ap (λ (xs : List ℕ). before ++ xs) (take-append-drop count bytes)))

@@ -1,11 +1,14 @@
 -- The gaps of a part of a stream may be gaps there, and touch the same windows.
-use Rattle.std.proofs.Common.{◌≡◌, ℕ, zero, suc, ◌+◌, ◌-◌, ◌*◌, ◌<◌, ◌≤◌, List, [], ◌∷◌, Bool, true, false, length, min, refl, sym, ap, ap₂, subst, ◌∙◌, arith, inl, inr}
+use Rattle.std.proofs.Common.{◌≡◌, ℕ, zero, suc, ◌+◌, ◌-◌, ◌*◌, ◌<◌, ◌≤◌, List, [], ◌∷◌, ◌++◌, append_assoc, drop, get_or, map, Bool, true, false, Option, Some, None, length, min, refl, sym, ap, ap₂, subst, ◌∙◌, arith, inl, inr}
 use Rattle.std.specs.Prelude.{⊤, nat_le, nat_lt, ◌&&◌, ◌||◌, slice_index_or}
-use Rattle.std.specs.List.{All, AllAdjacentBelow, list_any}
-use Rattle.std.proofs.lemmas.Bool.{cases_lt, false≢true, le-leb, leb-true, le-ltb, lt-ltb, ltb-true}
+use Rattle.std.specs.List.{All, AllAdjacentBelow, cons_option, list_any, range_with_len}
+use Rattle.std.proofs.lemmas.Bool.{cases_lt, false≢true, le-leb, leb-true, lt-leb, le-ltb, lt-ltb, ltb-true}
 use Rattle.std.proofs.lemmas.List.Elements.{All-cons, All-head, All-nil, All-tail}
+use Rattle.std.proofs.lemmas.List.{drop_more, length-append}
+use Rattle.std.proofs.lemmas.List.FromFn.{length-map-range_with_len}
 use Rattle.rds_stream.specs.Recording.{AreGaps, is_touched_by}
-use Rattle.rds_live.specs.Gaps.{gaps_within}
+use Rattle.rds_live.specs.Gaps.{gaps_within, part_of_gap}
+use Rattle.rds_live.specs.Room.{filled_up, spare}
 
 -- ---- gaps, one after another
 
@@ -131,3 +134,84 @@ part-touched top d n gaps are i late early = touches-alike d n i top 0 gaps late
 -- in a beginning they are the same
 pub start-touched : (n : ℕ) (gaps : List (ℕ × ℕ)) → TouchAlike (8 * 0) n gaps gaps
 start-touched n gaps i late early = let e : i ≡ i + 8 * 0 = omega arith in ap (λ (p : ℕ). list_any (is_touched_by p) gaps) e
+
+-- ---- the gaps of a part as they are found
+
+-- what is found, and what the gaps that are left have, where the next one has some of it
+pub one-found : (d n : ℕ) (gaps found all : List (ℕ × ℕ)) (i : ℕ) (none part : ℕ × ℕ) → i < length gaps → found ++ gaps_within (drop i gaps) d n ≡ all
+    → Some part ≡ part_of_gap d n (get_or gaps i none) → (found ++ part ∷ []) ++ gaps_within (drop (i + 1) gaps) d n ≡ all
+one-found d n gaps found all i none part there so_far is =
+    append_assoc found (part ∷ []) (gaps_within (drop (i + 1) gaps) d n)
+    ∙ ap (λ (rest : List (ℕ × ℕ)). found ++ rest)
+    (ap (λ (o : Option (ℕ × ℕ)). cons_option o (gaps_within (drop (i + 1) gaps) d n)) is
+    ∙ ap (λ (rest : List (ℕ × ℕ)). gaps_within rest d n) (sym (drop_more gaps i none there)))
+    ∙ so_far
+
+-- ---- how many they are
+
+one-more : (o : Option (ℕ × ℕ)) (rest : List (ℕ × ℕ)) (n : ℕ) → length rest ≤ n → length (cons_option o rest) ≤ suc n
+one-more None rest n h = omega (arith, h)
+one-more (Some x) rest n h = omega (arith, h)
+
+no-more : (d n : ℕ) (gaps : List (ℕ × ℕ)) → length (gaps_within gaps d n) ≤ length gaps
+no-more d n [] = omega arith
+no-more d n (gap ∷ gaps) = one-more (part_of_gap d n gap) (gaps_within gaps d n) (length gaps) (no-more d n gaps)
+
+each-a-place : (low n : ℕ) (gaps : List (ℕ × ℕ)) → low ≤ n → AreFrom low gaps n → low + length gaps ≤ n
+each-a-place low n [] order h = omega (arith, order)
+each-a-place low n (gap ∷ gaps) order h = omega (arith, h.0, h.1, h.2, each-a-place gap.1 n gaps h.2 h.3)
+
+-- no more than there are, and no more than the part has places
+pub few-of-part : (top d n : ℕ) (gaps : List (ℕ × ℕ)) → AreGaps top gaps → length (gaps_within gaps d n) ≤ min (length gaps) n
+few-of-part top d n gaps are =
+    omega (arith, no-more d n gaps, each-a-place 0 n (gaps_within gaps d n) (omega arith) (in-a-row (gaps_within gaps d n) n (gaps-of-part top d n gaps are)))
+
+-- ---- gaps that stand behind a part
+
+from-before : (low m n : ℕ) (gaps : List (ℕ × ℕ)) → low ≤ m → AreFrom m gaps n → AreFrom low gaps n
+from-before low m n [] order h = tt
+from-before low m n (gap ∷ gaps) order h = (omega (arith, order, h.0), h.1, h.2, h.3)
+
+behind : (low m n : ℕ) (gaps others : List (ℕ × ℕ)) → low ≤ m → m ≤ n → AreFrom low gaps m → AreFrom m others n → AreFrom low (gaps ++ others) n
+behind low m n [] others order more h g = from-before low m n others order g
+behind low m n (gap ∷ gaps) others order more h g = (h.0, h.1, omega (arith, h.2, more), behind gap.1 m n gaps others h.2 more h.3 g)
+
+spares : (k n top : ℕ) → 2160 + k + n ≤ top → AreFrom (2160 + k) (map spare (range_with_len k n)) top
+spares k zero top room = tt
+spares k (suc n) top room =
+    let e : 2160 + (k + 1) ≡ 2160 + k + 1 = omega arith in (
+      omega arith,
+      omega arith,
+      omega (arith, room),
+      subst (λ (low : ℕ). AreFrom low (map spare (range_with_len (k + 1) n)) top) e (spares (k + 1) n top (omega (arith, room))),
+    )
+
+-- gaps of which the last lie behind the bytes that are heard
+pub gaps-filled-up : (gaps : List (ℕ × ℕ)) (slots : ℕ) → AreGaps 2160 gaps → length gaps ≤ slots → slots ≤ 2160 → AreGaps 4320 (filled_up gaps slots)
+gaps-filled-up gaps slots are fits few =
+    let row = behind 0 2160 4320 gaps (map spare (range_with_len (length gaps) (slots - length gaps))) (omega arith) (omega arith) (in-a-row gaps 2160 are)
+    (from-before 2160 (2160 + length gaps) 4320 (map spare (range_with_len (length gaps) (slots - length gaps))) (omega arith) (spares (length gaps) (slots - length gaps) 4320 (omega (arith, fits, few)))) in
+    record { each = each 0 (filled_up gaps slots) 4320 row; apart = apart 0 (filled_up gaps slots) 4320 row }
+
+pub length-filled-up : (gaps : List (ℕ × ℕ)) (slots : ℕ) → length gaps ≤ slots → length (filled_up gaps slots) ≡ slots
+length-filled-up gaps slots fits =
+    omega (arith, fits, length-append gaps (map spare (range_with_len (length gaps) (slots - length gaps))), length-map-range_with_len spare (length gaps) (slots - length gaps))
+
+spares-untouched : (i k n : ℕ) → i < 2160 → list_any (is_touched_by i) (map spare (range_with_len k n)) ≡ false
+spares-untouched i k zero early = refl
+spares-untouched i k (suc n) early = rw (lt-leb (2160 + k) i (omega (arith, early))) (spares-untouched i (k + 1) n early)
+
+touch-before : (i : ℕ) (gaps others : List (ℕ × ℕ)) → list_any (is_touched_by i) others ≡ false → list_any (is_touched_by i) (gaps ++ others) ≡ list_any (is_touched_by i) gaps
+touch-before i [] others none = none
+touch-before i (gap ∷ gaps) others none = ap (λ (t : Bool). is_touched_by i gap || t) (touch-before i gaps others none)
+
+-- they touch no window there, so that in the part all is touched as it was
+pub filled-up-touched : (top d n slots : ℕ) (gaps : List (ℕ × ℕ)) → AreGaps top gaps → n ≤ 2160
+    → TouchAlike (8 * 0) n (filled_up (gaps_within gaps d 2160) slots) (gaps_within gaps d n)
+filled-up-touched top d n slots gaps are few i late early =
+    let found = gaps_within gaps d 2160 in
+    let e : i + 8 * 0 ≡ i = omega arith in
+    part-touched top d n gaps are i late early
+    ∙ sym (part-touched top d 2160 gaps are i late (omega (arith, early, few)))
+    ∙ sym (touch-before i found (map spare (range_with_len (length found) (slots - length found))) (spares-untouched i (length found) (slots - length found) (omega (arith, early, few))))
+    ∙ ap (λ (p : ℕ). list_any (is_touched_by p) (filled_up found slots)) (sym e)

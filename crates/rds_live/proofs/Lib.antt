@@ -6,3 +6,5 @@ pub mod GapParts
 pub mod Parts
 pub mod Following
 pub mod Ending
+pub mod Rooms
+pub mod Moves

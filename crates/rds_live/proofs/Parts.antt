@@ -115,3 +115,9 @@ pub end-part : (bytes : List ℕ) → IsPartOf bytes (last_bytes bytes) (length 
 end-part bytes =
     let k = length bytes - most_kept in
     record { within = omega (arith, length-drop k bytes); same = λ j h. get_or-drop k bytes j 0 }
+
+-- the first bits of bytes that go on
+pub bits-begin : (bytes more : List ℕ) (n : ℕ) → n ≤ 8 * length bytes → bits_of bytes n ≡ bits_of (bytes ++ more) n
+bits-begin bytes more n held = same-tables (packed_bit bytes) (packed_bit (bytes ++ more)) 0 0 n (λ j h. at_bit j h) where
+  at_bit : (j : ℕ) → j < n → packed_bit bytes (0 + j) ≡ packed_bit (bytes ++ more) (0 + j)
+  at_bit j h = ap (λ (byte : ℕ). bit_at byte (7 - (0 + j) % 8)) (sym (get_or-append bytes more 0 ((0 + j) / 8) (omega (arith, held, h))))

@@ -2,3 +2,4 @@ pub mod Moving
 pub mod Live
 pub mod Gaps
 pub mod Places
+pub mod Room

@@ -1,10 +1,11 @@
 //! Gaps of a stream, and those of a part of it.
-ghost use Rattle.std.specs.Prelude.{◌≡◌, ◌<◌, ◌≤◌, ◌↔◌, IfOk, length, true};
+ghost use Rattle.std.specs.Prelude.{◌≡◌, ◌<◌, ◌≤◌, ◌↔◌, ◌^◌, length, min, true, vec_capacity};
 ghost use Rattle.std.specs.List.{All, AllAdjacentBelow};
 ghost use Rattle.rds_stream.specs.Recording.{AreGaps};
+ghost use Rattle.rds_live.specs.Room.{filled_up};
 ghost use Rattle.rds_live.specs.Gaps.{gaps_within, part_of_gap as the_part_of_gap};
 
-use std::alloc::{AllocError, Global};
+use crate::room::HELD_BITS;
 
 /// Whether these are gaps that so many bits may have: each has a place and lies within the bits, and each begins at or
 /// after the end of the one before it.
@@ -28,19 +29,38 @@ fn are_apart(gaps: &[(u64, u64)]) -> bool
     gaps.is_sorted_by(|gap, next| gap.1 <= next.0)
 }
 
-/// The gaps in the part of a stream that begins at `before` and has `len` places, by their places in the part.
-pub(crate) fn gaps_of_part(
-    alloc: Global,
+/// Puts the gaps in the part of a stream that begins at `before` and has `len` places, by their places in the part, in the
+/// place of those of `found`, which has room for them.
+pub(crate) fn fill_gaps(
+    found: &mut Vec<(u64, u64)>,
     gaps: &[(u64, u64)],
     before: u64,
     len: u64,
-) -> Result<Vec<(u64, u64)>, AllocError>
-    ensures { IfOk result (λ part. part.items ≡ gaps_within gaps.now before len) }
+)
+    requires are { AreGaps (2 ^ 36) gaps.now }
+    requires room { min (length gaps.now) len ≤ vec_capacity found.old }
+    ensures gaps { found.new.items ≡ gaps_within gaps.now before len }
+    ensures room { vec_capacity found.new ≡ vec_capacity found.old }
 {
-    gaps.iter()
-        .copied()
-        .filter_map(|gap| part_of_gap(before, len, gap))
-        .collect(alloc)
+    found.clear();
+    for &gap in gaps {
+        if let Some(part) = part_of_gap(before, len, gap) {
+            found.push_reserved(part);
+        }
+    }
+}
+
+/// Appends gaps behind the bytes that are heard, until there are so many.
+pub(crate) fn fill_up(gaps: &mut Vec<(u64, u64)>, slots: usize)
+    requires few { slots ≤ 2160 }
+    requires room { slots ≤ vec_capacity gaps.old }
+    ensures gaps { gaps.new.items ≡ filled_up gaps.old.items slots }
+    ensures room { vec_capacity gaps.new ≡ vec_capacity gaps.old }
+{
+    for number in gaps.len()..slots {
+        let place = HELD_BITS + number as u64;
+        gaps.push_reserved((place, place + 1));
+    }
 }
 
 /// As much of a gap as lies in the part, by its places there.

@@ -5,7 +5,8 @@ ghost use Rattle.rds_stream.specs.Recording.{AreGaps};
 ghost use Rattle.rds_sync.specs.Counting.{IsAtMost};
 ghost use Rattle.rds_live.specs.Live.{IsLive, live_with};
 
-use crate::live::{MOST_BITS, MOST_KEPT};
+use crate::live::MOST_BITS;
+use crate::room::MOST_KEPT;
 use rds_sync::{Rules, State, Totals};
 
 /// No count of the totals rises by more than this with a bit.

@@ -58,14 +58,13 @@
 //! looks at each of them.
 #![tactic(auto)]
 
-mod chunk;
 mod error;
 mod gaps;
 mod kept;
 pub mod laws;
 mod live;
 mod moved;
+mod room;
 
-pub use chunk::{Chunk, ChunkItems};
 pub use error::ResumeError;
-pub use live::{Live, StreamEnd};
+pub use live::{Live, MOST_ITEMS, StreamEnd};

@@ -1,6 +1,6 @@
 //! The decoder of a stream.
 
-ghost use Rattle.std.specs.Prelude.{◌≡◌, ◌≤◌, ◌<◌, ◌↔◌, ◌-◌, ◌+◌, ◌*◌, ◌/◌, ◌^◌, ◌++◌, ◌⊎◌, min, List, ℕ, [], length, vec_len, IfOk, IfErr, IsErrOf, IsOk, IsOkUnless, true};
+ghost use Rattle.std.specs.Prelude.{◌≡◌, ◌≤◌, ◌<◌, ◌↔◌, ◌-◌, ◌+◌, ◌*◌, ◌/◌, ◌^◌, ◌++◌, ◌⊎◌, min, All, List, ℕ, [], length, take, vec_capacity, IfOk, IfErr, IsErrOf, IsOk, IsOkUnless, OnErr, OnOk, true};
 ghost use Rattle.rds_stream.specs.Recording.{AreGaps, length_of};
 ghost use Rattle.rds_sync.specs.Advance.{group_item};
 ghost use Rattle.rds_sync.specs.Counting.{IsAtMost, plus};
@@ -8,26 +8,29 @@ ghost use Rattle.rds_sync.specs.Lawful.{IsLawful};
 ghost use Rattle.rds_sync.specs.Step.{run, items_of_end};
 ghost use Rattle.rds_sync.specs.Totals.{totals_of};
 ghost use Rattle.rds_live.specs.Moving.{moved_items};
-ghost use Rattle.rds_live.specs.Gaps.{gaps_within};
-ghost use Rattle.rds_live.specs.Live.{HasHeard, IsLive, Terms, by_rules, complete, last_bytes, live_of, live_with, most_counted, most_kept, report_at, report_of, signal_at, signal_of};
+ghost use Rattle.rds_live.specs.Live.{HasHeard, IsLive, Terms, by_rules, complete, last_bytes, live_of, live_with, most_counted, most_kept, report_at, report_of, signal_of};
+ghost use Rattle.rds_live.specs.Places.{place_of};
+ghost use Rattle.rds_live.specs.Room.{slots_of};
 
-use crate::chunk::Chunk;
 use crate::error::ResumeError;
-use crate::gaps::{are_gaps, gaps_of_part};
+use crate::gaps::are_gaps;
 use crate::kept::can_be_live;
 use crate::laws::{ends_move, runs_move};
-use crate::moved::{moved_back, moved_group, moved_on};
+use crate::moved::{move_on, moved_back, moved_group, moved_on};
+use crate::room::{AT_ONCE, Room};
 use rds_stream::{Counted, Recording, StreamError};
-use rds_sync::{Group, Rules, State, Totals, finish, laws, run_codes};
+use rds_sync::{Decoder, Group, Item, Rules, State, Totals, finish, laws};
 use std::alloc::{AllocError, Global};
 use std::marker::Model;
 
-/// How many of the last bytes of a stream are kept. A run may hear 233 bits behind one: those of a partner's window,
-/// eight blocks back.
-pub(crate) const MOST_KEPT: usize = 30;
-
 /// The most bits that a stream may have.
 pub(crate) const MOST_BITS: u64 = 1 << 36;
+
+/// How many items a byte may complete: two a bit.
+const ITEMS_A_BYTE: usize = 16;
+
+/// Room for as many items as [`Live::take`] completes at once, whatever it is handed.
+pub const MOST_ITEMS: usize = AT_ONCE * ITEMS_A_BYTE;
 
 const NO_GAPS: &[(u64, u64)] = &[];
 
@@ -39,25 +42,24 @@ const NO_GAPS: &[(u64, u64)] = &[];
 pub struct Live<'r> {
     rules: &'r Rules,
     gaps: &'r [(u64, u64)],
-    tail: Vec<u8>,
-    /// As much of the gaps as lies in the tail, by its places there.
-    near: Vec<(u64, u64)>,
+    /// The last bytes, and room for those that come next.
+    room: Room,
     place: u64,
     state: State,
     totals: Totals,
 }
 
 impl<'r> Model for Live<'r> {
-    ghost use Rattle.std.specs.Prelude.{◌≡◌, ◌-◌, ◌*◌, length};
-    ghost use Rattle.rds_live.specs.Gaps.{gaps_within};
+    ghost use Rattle.std.specs.Prelude.{◌≤◌, length, min};
     ghost use Rattle.rds_live.specs.Live.{LiveOf, IsLive};
+    ghost use Rattle.rds_live.specs.Room.{slots_of};
 
     ghost Value = { LiveOf };
 
-    ghost view = { λ l. record { terms = record { rules = l.rules.now; gaps = l.gaps.now }; tail = l.tail.items; place = l.place; state = l.state; totals = l.totals } };
+    ghost view = { λ l. record { terms = record { rules = l.rules.now; gaps = l.gaps.now }; tail = l.room.bytes; place = l.place; state = l.state; totals = l.totals } };
 
-    ghost invariant = { λ l. IsLive (record { terms = record { rules = l.rules.now; gaps = l.gaps.now }; tail = l.tail.items; place = l.place; state = l.state; totals = l.totals })
-        × (l.near.items ≡ gaps_within l.gaps.now (l.place - 8 * length l.tail.items) (8 * length l.tail.items)) };
+    ghost invariant = { λ l. IsLive (record { terms = record { rules = l.rules.now; gaps = l.gaps.now }; tail = l.room.bytes; place = l.place; state = l.state; totals = l.totals })
+        × (min (length l.gaps.now) 2160 ≤ slots_of l.room) };
 }
 
 /// What the end of a stream gives.
@@ -70,48 +72,56 @@ pub struct StreamEnd {
 }
 
 impl<'r> Live<'r> {
-    /// A decoder that has heard nothing yet, of a stream without gaps. Takes no memory.
-    pub fn new(alloc: Global, rules: &'r Rules) -> Live<'r>
-        ensures { result ≡ live_of (by_rules rules.now) [] }
+    /// A decoder that has heard nothing yet, of a stream without gaps.
+    ///
+    /// Refuses only where memory is refused: it takes all that it will need.
+    pub fn new(alloc: Global, rules: &'r Rules) -> Result<Live<'r>, StreamError>
+        ensures live { IfOk result (λ live. live ≡ live_of (by_rules rules.now) []) }
+        ensures only_memory { IsOkUnless result StreamError.OutOfMemory }
     {
-        Live::start(alloc, rules, NO_GAPS)
+        Ok(Live::start(alloc, rules, NO_GAPS)?)
     }
 
     /// A decoder that has heard nothing yet, of a stream with these gaps: each is the places from its first number to before
-    /// its second, by which the bits that will come there mean nothing. Takes no memory.
+    /// its second, by which the bits that will come there mean nothing.
     ///
     /// Refuses gaps that no recording may have: one that has no place or goes past 2^36 bits, or begins before the end of the
-    /// one before it. A gap past the end of the stream, once that is known, means nothing.
+    /// one before it; and then only want of memory, of which it takes all that it will need. A gap past the end of the stream,
+    /// once that is known, means nothing.
     pub fn with_gaps(
         alloc: Global,
         rules: &'r Rules,
         gaps: &'r [(u64, u64)],
     ) -> Result<Live<'r>, StreamError>
         ensures live { IfOk result (λ live. live ≡ live_of (record { rules = rules.now; gaps = gaps.now }) []) }
-        ensures taken { IsOk result ↔ AreGaps (2 ^ 36) gaps.now }
-        ensures bad_gaps { IsOkUnless result StreamError.BadGaps }
+        ensures taken { IsOk result → AreGaps (2 ^ 36) gaps.now }
+        ensures bad_gaps { IsErrOf result StreamError.BadGaps ↔ (AreGaps (2 ^ 36) gaps.now → ⊥) }
+        ensures only { IfErr result (λ e. (e ≡ StreamError.BadGaps) ⊎ (e ≡ StreamError.OutOfMemory)) }
     {
-        if are_gaps(gaps, MOST_BITS) {
-            Ok(Live::start(alloc, rules, gaps))
-        } else {
-            Err(StreamError::BadGaps)
+        if !are_gaps(gaps, MOST_BITS) {
+            return Err(StreamError::BadGaps);
         }
+        Ok(Live::start(alloc, rules, gaps)?)
     }
 
     /// A decoder that has heard nothing yet.
-    fn start(alloc: Global, rules: &'r Rules, gaps: &'r [(u64, u64)]) -> Live<'r>
+    fn start(
+        alloc: Global,
+        rules: &'r Rules,
+        gaps: &'r [(u64, u64)],
+    ) -> Result<Live<'r>, AllocError>
         requires { AreGaps (2 ^ 36) gaps.now }
-        ensures { result ≡ live_of (record { rules = rules.now; gaps = gaps.now }) [] }
+        ensures { IfOk result (λ live. live ≡ live_of (record { rules = rules.now; gaps = gaps.now }) []) }
     {
-        Live {
+        let room = Room::new(alloc, gaps.len())?;
+        Ok(Live {
             rules,
             gaps,
-            tail: Vec::new(alloc),
-            near: Vec::new(alloc),
+            room,
             place: 0,
             state: State::Searching,
             totals: Totals::NONE,
-        }
+        })
     }
 
     /// The decoder that has these gaps, and of the bits before `place` this [`tail`](Live::tail), [`state`](Live::state)
@@ -166,14 +176,12 @@ impl<'r> Live<'r> {
         requires { IsLive (live_with rules.now gaps.now tail.now place state totals) }
         ensures { IfOk result (λ live. live ≡ live_with rules.now gaps.now tail.now place state totals) }
     {
-        let kept = 8 * tail.len() as u64;
-        let near = gaps_of_part(alloc, gaps, place - kept, kept)?;
-        let tail = Vec::from_slice(alloc, tail)?;
+        let mut room = Room::new(alloc, gaps.len())?;
+        room.push(tail);
         Ok(Live {
             rules,
             gaps,
-            tail,
-            near,
+            room,
             place,
             state,
             totals,
@@ -187,7 +195,7 @@ impl<'r> Live<'r> {
         ensures count { length result.now ≡ min most_kept (self.now.place / 8) }
         ensures live { IsLive self.now }
     {
-        &self.tail
+        self.room.bytes()
     }
 
     /// How many bits were heard, which is the place of the next.
@@ -221,25 +229,49 @@ impl<'r> Live<'r> {
         are_gaps(self.gaps, self.place + bits)
     }
 
-    /// Takes the next bytes of the stream, the highest bit of a byte first, and gives the items that they complete. Any
-    /// number of bytes will do, none too.
+    /// Takes the next bytes of the stream, the highest bit of a byte first, as many as it can at once, and gives the items that
+    /// they complete in place of those of `items`. Answers how many bytes it took: the others are to be offered again.
     ///
-    /// Refuses more than 2^36 bits in all, and then only want of memory; refused, it has heard nothing.
+    /// At once it takes 240 bytes at most, and only as many as `items` has room for by the most that these may complete, 16 a
+    /// byte: [`MOST_ITEMS`] is room enough for all.
     ///
-    /// Its cost: the bytes are gone over once, as by [`run_codes`](rds_sync::run_codes), and once more as their items are
-    /// asked for. It takes memory for a copy of the bytes, and for 16 bits an item.
-    pub fn take(&mut self, bytes: &[u8]) -> Result<Chunk<'r>, StreamError>
-        ensures heard { IfOk result (λ _. (before : List ℕ) → HasHeard self.old before → HasHeard self.new (before ++ bytes.now)) }
-        ensures terms { IfOk result (λ _. self.new.terms ≡ self.old.terms) }
-        ensures items { IfOk result (λ items. (before : List ℕ) → HasHeard self.old before
-            → complete self.old.terms (before ++ bytes.now) ≡ complete self.old.terms before ++ items) }
-        ensures refused { IfErr result (λ _. self.new ≡ self.old) }
+    /// Refuses more than 2^36 bits in all, with those that it would not take at once; refused, it has heard nothing.
+    ///
+    /// Its cost: the bytes are gone over once, as by [`Decoder`], behind a copy of those that are kept. It takes no memory.
+    pub fn take(&mut self, bytes: &[u8], items: &mut Vec<Item>) -> Result<usize, StreamError>
+        ensures heard { IfOk result (λ count. (before : List ℕ) → HasHeard self.old before → HasHeard self.new (before ++ take count bytes.now)) }
+        ensures terms { OnOk result (self.new.terms ≡ self.old.terms) }
+        ensures place { IfOk result (λ count. self.new.place ≡ self.old.place + 8 * count) }
+        ensures items { IfOk result (λ count. (before : List ℕ) → HasHeard self.old before
+            → complete self.old.terms (before ++ take count bytes.now) ≡ complete self.old.terms before ++ items.new.items) }
+        ensures count { IfOk result (λ count. count ≡ min (length bytes.now) (min 240 (vec_capacity items.old / 16))) }
+        ensures room { vec_capacity items.new ≡ vec_capacity items.old }
+        ensures refused { OnErr result ((self.new ≡ self.old) × (items.new ≡ items.old)) }
         ensures too_long { IsErrOf result StreamError.TooLong ↔ (2 ^ 36 < self.old.place + 8 * length bytes.now) }
-        ensures only { IfErr result (λ e. (e ≡ StreamError.TooLong) ⊎ (e ≡ StreamError.OutOfMemory)) }
+        ensures only { IsOkUnless result StreamError.TooLong }
     {
-        let (next, items) = self.after(bytes)?;
-        *self = next;
-        Ok(items)
+        if bytes.len() as u64 > (MOST_BITS - self.place) / 8 {
+            return Err(StreamError::TooLong);
+        }
+        prove!(1 <= self.rules.reach());
+        laws::runs_join();
+        laws::totals_join();
+        laws::codes_tell_totals();
+        runs_move();
+        let count = bytes.len().min(AT_ONCE.min(items.capacity() / ITEMS_A_BYTE));
+        let from = 8 * self.room.bytes().len() as u64;
+        let before = self.place - from;
+        let to = from + 8 * count as u64;
+        self.room.push(&bytes[..count]);
+        self.room.listen(self.gaps, before);
+        let state = moved_back(self.state, before);
+        let end = fill_from(self.room.recording(), self.rules, state, from, to, items);
+        self.totals = self.totals.plus(Totals::of_items(items));
+        move_on(items.as_mut_slice(), before);
+        self.room.keep_last();
+        self.place = before + to;
+        self.state = moved_on(end, before);
+        Ok(count)
     }
 
     /// Ends the stream here: closes the group in progress, as far as it was read. Takes no memory.
@@ -254,34 +286,38 @@ impl<'r> Live<'r> {
         laws::totals_join();
         let Live {
             rules,
-            gaps: _,
-            tail,
-            near,
+            gaps,
+            room,
             place,
             state,
             totals,
         } = self;
-        let group = group_at_end(rules, tail, near, place, state);
+        let group = group_at_end(rules, gaps, room, place, state);
         ended(totals, group)
     }
 
-    /// Ends the stream with the first `bits` bits of these bytes: gives the items that they complete, and then closes the
-    /// group in progress. So a stream may end inside a byte.
+    /// Ends the stream with the first `bits` bits of these bytes, at most 1,920: gives the items that they complete in place of
+    /// those of `items`, which has room for two a bit, and then closes the group in progress. So a stream may end inside a byte.
     ///
-    /// Refuses more than 2^36 bits in all, and then only want of memory. Its cost is that of [`take`](Live::take).
+    /// Refuses more than 2^36 bits in all, and takes no memory.
     pub fn finish_with(
-        &self,
+        self,
         bytes: &[u8],
         bits: u64,
-    ) -> Result<(Chunk<'r>, StreamEnd), StreamError>
-        requires { bits ≤ 8 * length bytes.now }
-        ensures items { IfOk result (λ r. (before : List ℕ) → HasHeard self.now before
-            → complete self.now.terms before ++ r.0 ++ group_item r.1.group
-            ≡ report_at self.now.terms (before ++ bytes.now) (8 * length before + bits)) }
-        ensures totals { IfOk result (λ r. (before : List ℕ) → HasHeard self.now before
-            → r.1.totals ≡ totals_of (report_at self.now.terms (before ++ bytes.now) (8 * length before + bits))) }
-        ensures too_long { IsErrOf result StreamError.TooLong ↔ (2 ^ 36 < self.now.place + bits) }
-        ensures only { IfErr result (λ e. (e ≡ StreamError.TooLong) ⊎ (e ≡ StreamError.OutOfMemory)) }
+        items: &mut Vec<Item>,
+    ) -> Result<StreamEnd, StreamError>
+        requires held { bits ≤ 8 * length bytes.now }
+        requires few { bits ≤ 1920 }
+        requires room { 2 * bits ≤ vec_capacity items.old }
+        ensures items { IfOk result (λ end. (before : List ℕ) → HasHeard self.entry before
+            → complete self.entry.terms before ++ items.new.items ++ group_item end.group
+            ≡ report_at self.entry.terms (before ++ bytes.now) (8 * length before + bits)) }
+        ensures totals { IfOk result (λ end. (before : List ℕ) → HasHeard self.entry before
+            → end.totals ≡ totals_of (report_at self.entry.terms (before ++ bytes.now) (8 * length before + bits))) }
+        ensures room { vec_capacity items.new ≡ vec_capacity items.old }
+        ensures refused { OnErr result (items.new ≡ items.old) }
+        ensures too_long { IsErrOf result StreamError.TooLong ↔ (2 ^ 36 < self.entry.place + bits) }
+        ensures only { IsOkUnless result StreamError.TooLong }
     {
         if bits > MOST_BITS - self.place {
             return Err(StreamError::TooLong);
@@ -293,129 +329,56 @@ impl<'r> Live<'r> {
         laws::codes_tell_totals();
         runs_move();
         ends_move();
-        let from = 8 * self.tail.len() as u64;
-        let before = self.place - from;
-        let alloc = *self.tail.allocator();
-        let gaps = gaps_of_part(alloc, self.gaps, before, from + bits)?;
-        let part = part_with(&self.tail, bytes, bits, gaps)?;
-        let state = moved_back(self.state, before);
-        let (end, totals, count) = followed(&part, self.rules, state, from, alloc)?;
-        let group = moved_end(&part, self.rules, end, before);
-        let items = Chunk::new(self.rules, part, state, from, before, count);
-        Ok((items, ended(self.totals.plus(totals), group)))
-    }
-
-    /// What this decoder is after the next bytes, and the items that they complete.
-    fn after(&self, bytes: &[u8]) -> Result<(Live<'r>, Chunk<'r>), StreamError>
-        ensures heard { IfOk result (λ r. (before : List ℕ) → HasHeard self.now before → HasHeard r.0 (before ++ bytes.now)) }
-        ensures terms { IfOk result (λ r. r.0.terms ≡ self.now.terms) }
-        ensures items { IfOk result (λ r. (before : List ℕ) → HasHeard self.now before
-            → complete self.now.terms (before ++ bytes.now) ≡ complete self.now.terms before ++ r.1) }
-        ensures too_long { IsErrOf result StreamError.TooLong ↔ (2 ^ 36 < self.now.place + 8 * length bytes.now) }
-        ensures only { IfErr result (λ e. (e ≡ StreamError.TooLong) ⊎ (e ≡ StreamError.OutOfMemory)) }
-    {
-        if bytes.len() as u64 > (MOST_BITS - self.place) / 8 {
-            return Err(StreamError::TooLong);
-        }
-        prove!(1 <= self.rules.reach());
-        laws::runs_join();
-        laws::totals_join();
-        laws::codes_tell_totals();
-        runs_move();
-        let from = 8 * self.tail.len() as u64;
-        let before = self.place - from;
-        let alloc = *self.tail.allocator();
-        let gaps = gaps_of_part(alloc, self.gaps, before, from + 8 * bytes.len() as u64)?;
-        let (part, tail) = part_of(&self.tail, bytes, gaps)?;
-        let state = moved_back(self.state, before);
-        let (end, totals, count) = followed(&part, self.rules, state, from, alloc)?;
-        let place = before + part.len();
-        let kept = 8 * tail.len() as u64;
-        let near = gaps_of_part(alloc, self.gaps, place - kept, kept)?;
-        let next = Live {
-            rules: self.rules,
-            gaps: self.gaps,
-            tail,
-            near,
+        let Live {
+            rules,
+            gaps,
+            room,
             place,
-            state: moved_on(end, before),
-            totals: self.totals.plus(totals),
-        };
-        let items = Chunk::new(self.rules, part, state, from, before, count);
-        Ok((next, items))
+            state,
+            totals,
+        } = self;
+        let mut room = room;
+        let from = 8 * room.bytes().len() as u64;
+        let before = place - from;
+        room.push(&bytes[..bits.div_ceil(8) as usize]);
+        let part = room.into_recording(gaps, before, from + bits);
+        let state = moved_back(state, before);
+        let end = fill_from(&part, rules, state, from, from + bits, items);
+        let totals = totals.plus(Totals::of_items(items));
+        move_on(items.as_mut_slice(), before);
+        let group = moved_end(&part, rules, end, before);
+        Ok(ended(totals, group))
     }
 }
 
-/// The last bytes of a stream with those that follow them, as a recording with these gaps, and the last of them all.
-fn part_of(
-    tail: &Vec<u8>,
-    bytes: &[u8],
-    gaps: Vec<(u64, u64)>,
-) -> Result<(Recording, Vec<u8>), StreamError>
-    requires limit { 8 * (vec_len tail.now + length bytes.now) ≤ 2 ^ 36 }
-    requires gaps { AreGaps (8 * (vec_len tail.now + length bytes.now)) gaps.items }
-    ensures part { IfOk result (λ r. r.0 ≡ signal_of gaps.items (tail.now.items ++ bytes.now)) }
-    ensures tail { IfOk result (λ r. r.1.items ≡ last_bytes (tail.now.items ++ bytes.now)) }
-    ensures only_memory { IsOkUnless result StreamError.OutOfMemory }
-{
-    let alloc = *tail.allocator();
-    let mut joined = Vec::from_slice(alloc, tail)?;
-    joined.extend_from_slice(bytes)?;
-    let first = joined.len().saturating_sub(MOST_KEPT);
-    let last = Vec::from_slice(alloc, &joined[first..])?;
-    let bits = 8 * joined.len() as u64;
-    match Recording::with_gaps(joined, bits, gaps) {
-        Ok(part) => Ok((part, last)),
-        Err((error, _bytes, _gaps)) => Err(error),
-    }
-}
-
-/// The last bytes of a stream with the first `bits` bits of those that follow them, as a recording with these gaps.
-fn part_with(
-    tail: &Vec<u8>,
-    bytes: &[u8],
-    bits: u64,
-    gaps: Vec<(u64, u64)>,
-) -> Result<Recording, StreamError>
-    requires held { bits ≤ 8 * length bytes.now }
-    requires limit { 8 * vec_len tail.now + bits ≤ 2 ^ 36 }
-    requires gaps { AreGaps (8 * vec_len tail.now + bits) gaps.items }
-    ensures part { IfOk result (λ part. part ≡ signal_at gaps.items (tail.now.items ++ bytes.now) (8 * vec_len tail.now + bits)) }
-    ensures only_memory { IsOkUnless result StreamError.OutOfMemory }
-{
-    let mut joined = Vec::from_slice(*tail.allocator(), tail)?;
-    joined.extend_from_slice(bytes)?;
-    match Recording::with_gaps(joined, 8 * tail.len() as u64 + bits, gaps) {
-        Ok(part) => Ok(part),
-        Err((error, _bytes, _gaps)) => Err(error),
-    }
-}
-
-/// The state at the end of a recording, after the run from `state` over its bits from `from` on, the totals of the items
-/// that they give, and how many these are.
-fn followed(
+/// Gives the items of the run from `state` over the bits at `from` to `to` - 1, in place of those of `items`, which has room
+/// for two a bit. Answers the state at its end.
+fn fill_from(
     part: &Recording,
     rules: &Rules,
     state: State,
     from: u64,
-    alloc: Global,
-) -> Result<(State, Totals, usize), StreamError>
+    to: u64,
+    items: &mut Vec<Item>,
+) -> State
     requires lawful { IsLawful rules.now from state }
-    requires within { from ≤ length_of part.now }
-    ensures state { IfOk result (λ r. r.0 ≡ (run part.now rules.now state from (length_of part.now - from)).0) }
-    ensures totals { IfOk result (λ r. r.1 ≡ totals_of (run part.now rules.now state from (length_of part.now - from)).1) }
-    ensures lawful { IfOk result (λ r. IsLawful rules.now (length_of part.now) r.0) }
-    ensures small { IfOk result (λ r. IsAtMost (most_counted (length_of part.now - from)) r.1) }
-    ensures count { IfOk result (λ r. r.2 ≡ length (run part.now rules.now state from (length_of part.now - from)).1) }
-    ensures few { IfOk result (λ r. r.2 ≤ 2 ^ 37) }
-    ensures only_memory { IsOkUnless result StreamError.OutOfMemory }
+    requires order { from ≤ to }
+    requires within { to ≤ length_of part.now }
+    requires room { 2 * (to - from) ≤ vec_capacity items.old }
+    ensures state { result ≡ (run part.now rules.now state from (to - from)).0 }
+    ensures items { items.new.items ≡ (run part.now rules.now state from (to - from)).1 }
+    ensures lawful { IsLawful rules.now to result }
+    ensures early { All (λ item. place_of item < 2 ^ 36) items.new.items }
+    ensures few { length items.new.items ≤ 2 * (to - from) }
+    ensures room { vec_capacity items.new ≡ vec_capacity items.old }
 {
-    laws::codes_tell_totals();
+    prove!(1 <= rules.reach());
+    prove!(to <= part.len());
+    laws::runs_are_lawful();
     laws::runs_give_few_items();
-    match run_codes(alloc, part, rules, state, from, part.len()) {
-        Ok((end, codes)) => Ok((end, codes.totals(), codes.len())),
-        Err(_) => Err(StreamError::OutOfMemory),
-    }
+    let mut decoder = Decoder::new(part, rules, state, from, to);
+    decoder.fill(items);
+    decoder.end_state()
 }
 
 /// What the end of a stream gives, whose complete items have these totals.
@@ -436,31 +399,28 @@ fn totals_of_end(group: &Option<Group>) -> Totals
     Totals::of_end(*group)
 }
 
-/// The group in progress after the last bytes of a stream, with the gaps in them, in this state.
+/// The group in progress after the last bytes of a stream with these gaps, in this state.
 fn group_at_end(
     rules: &Rules,
-    tail: Vec<u8>,
-    near: Vec<(u64, u64)>,
+    gaps: &[(u64, u64)],
+    room: Room,
     place: u64,
     state: State,
 ) -> Option<Group>
-    requires kept { length tail.items ≡ min most_kept (place / 8) }
+    requires kept { length room.bytes ≡ min most_kept (place / 8) }
     requires whole { place ≡ 8 * (place / 8) }
     requires limit { place ≤ 2 ^ 36 }
     requires lawful { IsLawful rules.now place state }
-    requires near { AreGaps (8 * length tail.items) near.items }
-    ensures { (gaps : List (ℕ × ℕ)) (bytes : List ℕ) → AreGaps (2 ^ 36) gaps
-        → near.items ≡ gaps_within gaps (place - 8 * length tail.items) (8 * length tail.items)
-        → tail.items ≡ last_bytes bytes → place ≡ 8 * length bytes
-        → group_item result ≡ items_of_end (signal_of gaps bytes) rules.now state }
+    requires are { AreGaps (2 ^ 36) gaps.now }
+    requires slots { min (length gaps.now) 2160 ≤ slots_of room }
+    ensures { (bytes : List ℕ) → room.bytes ≡ last_bytes bytes → place ≡ 8 * length bytes
+        → group_item result ≡ items_of_end (signal_of gaps.now bytes) rules.now state }
 {
     ends_move();
-    let bits = 8 * tail.len() as u64;
+    let bits = 8 * room.bytes().len() as u64;
     let before = place - bits;
-    match Recording::with_gaps(tail, bits, near) {
-        Ok(part) => moved_end(&part, rules, moved_back(state, before), before),
-        Err(_) => None,
-    }
+    let part = room.into_recording(gaps, before, bits);
+    moved_end(&part, rules, moved_back(state, before), before)
 }
 
 /// The group in progress at the end of a recording, in this state, so many places further.

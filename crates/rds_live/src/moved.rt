@@ -1,7 +1,7 @@
 //! States and items whose places are counted from elsewhere.
 
-ghost use Rattle.std.specs.Prelude.{◌≡◌, ◌+◌, ◌<◌, ◌≤◌, ◌^◌, ◌∷◌, [], map};
-ghost use Rattle.rds_live.specs.Moving.{moved_item, moved_state};
+ghost use Rattle.std.specs.Prelude.{◌≡◌, ◌+◌, ◌<◌, ◌≤◌, ◌^◌, ◌∷◌, [], All, map};
+ghost use Rattle.rds_live.specs.Moving.{moved_item, moved_items, moved_state};
 ghost use Rattle.rds_live.specs.Places.{place_of, is_due_below, is_due_from};
 
 use rds_sync::{Group, Item, State};
@@ -18,6 +18,16 @@ pub(crate) fn moved_item(item: Item, by: u64) -> Item
         },
         Item::Group(group) => Item::Group(moved_group(group, by)),
         Item::LostLock { place } => Item::LostLock { place: place + by },
+    }
+}
+
+/// Moves all items so many places further.
+pub(crate) fn move_on(items: &mut [Item], by: u64)
+    requires { All (λ item. place_of item + by < 2 ^ 64) items.old }
+    ensures { items.new ≡ moved_items by items.old }
+{
+    for i in 0..items.len() {
+        items[i] = moved_item(items[i], by);
     }
 }
 

@@ -6,3 +6,4 @@ pub mod WindowBits
 pub mod Agreement
 pub mod MarkLemmas
 pub mod GapLemmas
+pub mod Refilling

@@ -1,5 +1,5 @@
 //! Packed bits with places.
-ghost use Rattle.std.specs.Prelude.{◌≡◌, List, ℕ, ◌+◌, ◌*◌, ◌^◌, ◌<◌, ◌≤◌, ◌-◌, ◌↔◌, [], ◌∷◌, All, vec_len, length, slice_index, if◌then◌else◌};
+ghost use Rattle.std.specs.Prelude.{◌≡◌, List, ℕ, ◌+◌, ◌*◌, ◌^◌, ◌<◌, ◌≤◌, ◌-◌, ◌++◌, ◌↔◌, [], ◌∷◌, All, drop, vec_len, length, slice_index, if◌then◌else◌};
 ghost use Rattle.rds_stream.specs.declared.error.StreamError.TheVariants.{TooLong, BitsPastBytes};
 ghost use Rattle.std.specs.Int.{bit_at};
 ghost use Rattle.rds_stream.specs.Recording.{packed_bit, bits_of, window};
@@ -39,6 +39,15 @@ fn bit_of(bytes: &[u8], place: u64) -> u8
     bytes[(place / 8) as usize] >> (7 - place % 8) & 1
 }
 
+/// Puts these bytes in the place of the first ones.
+fn put_first(stored: &mut [u8], bytes: &[u8])
+    requires { length bytes.now ≤ length stored.old }
+    ensures items { stored.new ≡ bytes.now ++ drop (length bytes.now) stored.old }
+    ensures len { length stored.new ≡ length stored.old }
+{
+    stored[..bytes.len()].copy_from_slice(bytes);
+}
+
 impl Packed {
     /// Why the bytes are not taken for so many bits, where they are not.
     pub fn refusal(bytes: &Vec<u8>, bits: u64) -> Option<StreamError>
@@ -72,6 +81,14 @@ impl Packed {
         ensures limit { result ≤ 2 ^ 36 }
     {
         self.bits
+    }
+
+    /// Puts the bits of these bytes in the place of the first ones.
+    pub fn refill(&mut self, bytes: &[u8])
+        requires { 8 * length bytes.now ≤ length self.old }
+        ensures { self.new ≡ bits_of bytes.now (8 * length bytes.now) ++ drop (8 * length bytes.now) self.old }
+    {
+        put_first(self.bytes.as_mut_slice(), bytes);
     }
 
     /// Whether the bit at `place`, which is below the length, is a one.

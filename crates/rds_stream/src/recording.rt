@@ -1,5 +1,5 @@
 //! A recording: demodulated bits with places, and the gaps in them.
-ghost use Rattle.std.specs.Prelude.{◌≡◌, ℕ, ◌+◌, ◌*◌, ◌^◌, ◌<◌, ◌≤◌, ◌-◌, ◌↔◌, [], ◌∷◌, All, vec_len, length, slice_index, if◌then◌else◌, Err, IfOk, IsOk};
+ghost use Rattle.std.specs.Prelude.{◌≡◌, ℕ, ◌+◌, ◌*◌, ◌^◌, ◌<◌, ◌≤◌, ◌-◌, ◌++◌, ◌↔◌, [], ◌∷◌, All, drop, vec_len, length, slice_index, if◌then◌else◌, Err, IfOk, IsOk};
 ghost use Rattle.std.specs.Int.{bit_at};
 ghost use Rattle.rds_code.specs.Remainder.{rem};
 ghost use Rattle.rds_code.specs.Offsets.{offset_of as the_offset_of};
@@ -21,7 +21,7 @@ pub const FIRST_WINDOW: u64 = BLOCK_BITS as u64 - 1;
 ///
 /// A window that has a place in a gap is said to touch it. No offset and no block is read from such a window.
 ///
-/// A recording never changes, and threads may share it.
+/// A recording that is lent never changes, and threads may share it. Who owns it may [`refill`](Recording::refill) it.
 #[derive(Drop)]
 pub struct Recording {
     packed: Packed,
@@ -93,6 +93,21 @@ impl Recording {
             packed: Packed::new(bytes, bits),
             gaps,
         })
+    }
+
+    /// Puts the bits of these bytes in the place of the first ones, and these gaps in the place of all, of which there are
+    /// as many. So a room that is taken once can be gone over again and again: it takes no memory.
+    pub fn refill(&mut self, bytes: &[u8], gaps: &[(u64, u64)])
+        requires within { 8 * length bytes.now ≤ length_of self.old }
+        requires as_many { length gaps.now ≡ length self.old.gaps }
+        requires gaps { AreGaps (length_of self.old) gaps.now }
+        ensures { self.new ≡ record {
+            bits = bits_of bytes.now (8 * length bytes.now) ++ drop (8 * length bytes.now) self.old.bits;
+            gaps = gaps.now;
+        } }
+    {
+        self.packed.refill(bytes);
+        self.gaps.copy_from_slice(gaps);
     }
 
     /// The number of bits, at most 2^36.

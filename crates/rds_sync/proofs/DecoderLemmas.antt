@@ -8,7 +8,7 @@ use Rattle.rds_sync.specs.declared.state.State.{State}
 use Rattle.rds_sync.specs.declared.step.Step.{Step}
 use Rattle.rds_sync.specs.Advance.{items_in}
 use Rattle.rds_sync.specs.Decoding.{DecoderOf, GivesNext}
-use Rattle.rds_sync.specs.declared.due.Lock.{Lock}
+use Rattle.rds_sync.specs.declared.lock.Lock.{Lock}
 use Rattle.rds_sync.specs.Inside.Due.{state_in}
 use Rattle.rds_sync.specs.Inside.WholeGroups.{HasGiven}
 use Rattle.rds_sync.specs.Rules.{RuleNumbers}

@@ -12,8 +12,8 @@ ghost use Rattle.rds_sync.specs.Loss.{none_bad};
 ghost use Rattle.rds_sync.specs.Step.{items_at, locked_after, group_after};
 ghost use Rattle.rds_sync.specs.declared.item.Item.TheVariants.{Acquired};
 
-use crate::due::{BLOCK_PLACES, Lock};
 use crate::item::{Block, Group, Item};
+use crate::lock::{BLOCK_PLACES, Lock};
 use crate::loss::Loss;
 use crate::rules::Rules;
 use rds_code::{Offset, Wanted};

@@ -7,8 +7,8 @@ ghost use Rattle.rds_sync.specs.Decoding.{decoder_of, GivesNext};
 ghost use Rattle.rds_sync.specs.Lawful.{IsLawful};
 ghost use Rattle.rds_sync.specs.Step.{run};
 
-use crate::due::Lock;
 use crate::item::Item;
+use crate::lock::Lock;
 use crate::push::push_one;
 use crate::rules::Rules;
 use crate::state::State;

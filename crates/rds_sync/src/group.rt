@@ -1,16 +1,15 @@
 //! How a group is read: block by block from what was heard of it, and what its blocks say of it.
 
 ghost use Rattle.std.specs.Prelude.{◌≡◌, ◌≤◌, ◌<◌, ◌+◌, ◌-◌, ◌*◌, ◌^◌, ◌&&◌, nat_le, nat_lt, if◌then◌else◌, IfSome};
-ghost use Rattle.rds_sync.specs.Groups.{info_of, are_complete, version_by_bit, version_of_offset, version, differ, in_conflict, wanted_beside, group_of, block_at, blocks_at, group};
+ghost use Rattle.rds_sync.specs.Groups.{are_complete, version, in_conflict, group_of, block_at, blocks_at, group};
 ghost use Rattle.rds_stream.specs.Recording.{offset_heard as the_offset_heard};
 ghost use Rattle.rds_sync.specs.Acquiring.{is_numbered};
 ghost use Rattle.rds_sync.specs.Inside.GroupParts.{IsGroupPart};
-ghost use Rattle.rds_sync.specs.Totals.{is_valid};
 
-use crate::due::BLOCK_PLACES;
 use crate::item::{Block, Group, Version};
+use crate::lock::BLOCK_PLACES;
 use crate::rules::Rules;
-use rds_code::{Offset, Reading, Wanted};
+use rds_code::{Reading, Wanted};
 use rds_stream::{FIRST_WINDOW, Tape, offset_heard};
 
 /// Whether what was heard has an offset of this number.
@@ -21,73 +20,6 @@ pub(crate) fn is_numbered(heard: Option<u32>, number: u8) -> bool
     match offset_heard(heard) {
         Some(offset) => offset.number() == number,
         None => false,
-    }
-}
-
-impl Version {
-    /// The version that a block 3 with this offset names.
-    fn of_offset(offset: Offset) -> Version
-        ensures { result ≡ version_of_offset offset }
-    {
-        match offset {
-            Offset::C => Version::A,
-            Offset::Cx => Version::B,
-            _ => Version::Unknown,
-        }
-    }
-
-    /// Whether one of the two is A and the other B.
-    fn differs(self, other: Version) -> bool
-        ensures { result ≡ differ self other }
-    {
-        match (self, other) {
-            (Version::A, Version::B) => true,
-            (Version::B, Version::A) => true,
-            _ => false,
-        }
-    }
-}
-
-impl Block {
-    /// The information word, where the block is valid or corrected.
-    pub fn info(&self) -> Option<u16>
-        ensures { result ≡ info_of self.now }
-    {
-        match *self {
-            Block::Read(Reading::Valid { info, .. }) => Some(info),
-            Block::Read(Reading::Corrected { info, .. }) => Some(info),
-            _ => None,
-        }
-    }
-
-    /// Whether it was read, as it was sent.
-    #[inline(always)]
-    pub(crate) fn is_valid(&self) -> bool
-        ensures { result ≡ is_valid self.now }
-    {
-        matches!(self, Block::Read(Reading::Valid { .. }))
-    }
-
-    /// What the version bit says, this being a block 2.
-    fn version_by_bit(&self) -> Version
-        ensures { result ≡ version_by_bit self.now }
-    {
-        match self.info() {
-            None => Version::Unknown,
-            Some(info) if (info >> 11) & 1 == 0 => Version::A,
-            Some(_) => Version::B,
-        }
-    }
-
-    /// The offsets that are tried for block 3, this being the block 2 before it.
-    pub(crate) fn wanted_beside(&self) -> Wanted
-        ensures { result ≡ wanted_beside self.now }
-    {
-        match self.version_by_bit() {
-            Version::A => Wanted::OnlyC,
-            Version::B => Wanted::OnlyCx,
-            Version::Unknown => Wanted::Either,
-        }
     }
 }
 

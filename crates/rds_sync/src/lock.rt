@@ -1,4 +1,4 @@
-//! A lock on a recording, followed from block to block.
+//! A lock: what a block does to it, whichever way it was read, and how it is followed over a recording from block to block.
 //!
 //! A good block costs one window, one remainder and one comparison: it is read once, where it is
 //! due, and kept until its group closes. Nothing is read in between.
@@ -8,17 +8,82 @@ ghost use Rattle.rds_stream.specs.Recording.{length_of};
 ghost use Rattle.rds_sync.specs.Acquiring.{has_number};
 ghost use Rattle.rds_sync.specs.Groups.{blocks_at, group_of};
 ghost use Rattle.rds_sync.specs.Lawful.{HaveRoom};
-ghost use Rattle.rds_sync.specs.Inside.Due.{state_in, state_of};
+ghost use Rattle.rds_sync.specs.Inside.Due.{state_in, state_of, IsAfter};
 ghost use Rattle.rds_sync.specs.Inside.Locks.{IsFollowed, IsInProgress, IsReadable, items_of_due};
-ghost use Rattle.rds_sync.specs.Step.{step, items_at};
+ghost use Rattle.rds_sync.specs.Loss.{IsLawfulBad};
+ghost use Rattle.rds_sync.specs.Ranges.{IsLossInRange};
+ghost use Rattle.rds_sync.specs.Step.{step, items_at, locked_after};
 ghost use Rattle.rds_sync.specs.Totals.{is_valid};
 ghost use Rattle.rds_sync.specs.declared.item.Block.TheVariants.{Read};
 
-use crate::due::{BLOCK_PLACES, Due, Lock};
+use crate::due::Due;
 use crate::item::{Block, Group};
+use crate::loss::{Bad, Loss};
 use crate::rules::Rules;
-use rds_code::{Reading, Wanted};
+use crate::state::State;
+use rds_code::{BLOCK_BITS, Reading, Wanted};
 use rds_stream::{FIRST_WINDOW, Reader};
+
+/// How far the last bits of two blocks in a row lie apart, in places.
+pub(crate) const BLOCK_PLACES: u64 = BLOCK_BITS as u64;
+
+/// The block that is due, and where its group and its lock's bad blocks stand.
+#[derive(Clone, Copy)]
+pub(crate) struct Lock {
+    pub due: u64,
+    pub number: u8,
+    pub bad: Bad,
+    pub first: u8,
+}
+
+impl Lock {
+    /// The lock after block `number` was read at `place`: after block 4 comes block 1, of a new
+    /// group.
+    pub fn after_block(place: u64, number: u8, bad: Bad, first: u8) -> Lock
+        requires place { place < 2 ^ 36 }
+        requires number { number ≤ 4 }
+        ensures { state_in result ≡ locked_after place number bad first }
+    {
+        Lock {
+            due: place + BLOCK_PLACES,
+            number: number % 4 + 1,
+            bad,
+            first: if number == 4 { 1 } else { first },
+        }
+    }
+
+    /// The state of a run that is in this lock.
+    pub fn state(self) -> State
+        ensures { result ≡ state_in self }
+    {
+        State::Locked {
+            due: self.due,
+            number: self.number,
+            bad: self.bad,
+            first: self.first,
+        }
+    }
+
+    /// What the block that is due does, where it is valid as what it is taken for, or is not.
+    pub fn after(self, loss: Loss, good: bool) -> Due
+        requires range { IsLossInRange loss }
+        requires lawful { IsLawfulBad loss self.bad }
+        requires place { self.due < 2 ^ 36 }
+        requires number { self.number ≤ 4 }
+        ensures { IsAfter loss self good result }
+    {
+        let bad = loss.bad_after(good, self.bad);
+        if loss.are_too_many(bad) {
+            return Due::Lost;
+        }
+        let next = Lock::after_block(self.due, self.number, bad, self.first);
+        if self.number == 4 {
+            Due::Closed(next)
+        } else {
+            Due::Inside(next)
+        }
+    }
+}
 
 /// The blocks of a group of which none was read.
 const NO_BLOCKS: [Block; 4] = [Block::Missing; 4];

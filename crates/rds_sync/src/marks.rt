@@ -17,7 +17,7 @@ ghost use Rattle.rds_sync.specs.Words.{blocks_in, code_in, outcome_at};
 
 use crate::code_cursor::Cursor;
 use crate::code_part::CodePart;
-use crate::due::BLOCK_PLACES;
+use crate::lock::BLOCK_PLACES;
 use crate::loss::{Bad, Loss, mask_after};
 use crate::mark::Mark;
 use crate::rules::Rules;

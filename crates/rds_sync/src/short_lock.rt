@@ -6,8 +6,8 @@ ghost use Rattle.rds_stream.specs.Recording.{length_of, reading_at};
 ghost use Rattle.rds_sync.specs.Acquiring.{has_number};
 ghost use Rattle.rds_sync.specs.Inside.ShortLocks.{IsLostAtOnce, wanted_behind, word_of_two};
 
-use crate::due::BLOCK_PLACES;
 use crate::item::Block;
+use crate::lock::BLOCK_PLACES;
 use crate::rules::Rules;
 use rds_code::laws::{bursts_are_listed, readings_follow_the_rule};
 use rds_code::{Kinds, Wanted};

@@ -3,7 +3,7 @@
 ghost use Rattle.std.specs.Prelude.{◌≡◌, ◌≤◌, ◌<◌, ◌^◌, ◌↔◌, IsTrue};
 ghost use Rattle.rds_sync.specs.Rules.{RuleNumbers};
 
-use crate::due::BLOCK_PLACES;
+use crate::lock::BLOCK_PLACES;
 use crate::loss::Bad;
 use crate::rules::Rules;
 use rds_stream::FIRST_WINDOW;

@@ -8,9 +8,10 @@ ghost use Rattle.rds_sync.specs.Lawful.{IsLawful, IsLawfulLock};
 ghost use Rattle.rds_sync.specs.Step.{step, items_at, run, items_of_end};
 
 use crate::acquiring::acquire;
-use crate::due::{BLOCK_PLACES, Due, Lock};
+use crate::due::Due;
 use crate::group::{GroupPart, is_numbered, read_group};
 use crate::item::{Group, Item};
+use crate::lock::{BLOCK_PLACES, Lock};
 use crate::rules::Rules;
 use crate::state::State;
 use rds_stream::Tape;

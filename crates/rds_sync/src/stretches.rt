@@ -9,9 +9,9 @@ ghost use Rattle.rds_sync.specs.Stretch.{IsStretch};
 ghost use Rattle.rds_sync.specs.declared.state.State.TheVariants.{Searching};
 
 use crate::acquiring::{Acquisition, has_partner_in};
-use crate::due::{Due, Lock};
+use crate::due::Due;
 use crate::item::Item;
-use crate::lock::{blocks_before, closed_group, follow};
+use crate::lock::{Lock, blocks_before, closed_group, follow};
 use crate::rules::Rules;
 use crate::state::State;
 use crate::step::Step;

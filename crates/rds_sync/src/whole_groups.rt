@@ -17,9 +17,9 @@ ghost use Rattle.rds_sync.specs.Stretch.{IsStretch};
 ghost use Rattle.rds_sync.specs.Words.{blocks_in};
 
 use crate::code_part::CodePart;
-use crate::due::{BLOCK_PLACES, Lock};
 use crate::error::SyncError;
 use crate::item::{Block, Item};
+use crate::lock::{BLOCK_PLACES, Lock};
 use crate::loss::{Bad, Loss};
 use crate::rules::Rules;
 use crate::step::Step;

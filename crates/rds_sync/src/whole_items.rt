@@ -15,8 +15,8 @@ ghost use Rattle.rds_sync.specs.Rules.{RuleNumbers};
 ghost use Rattle.rds_sync.specs.Words.{blocks_in};
 ghost use Rattle.rds_sync.specs.declared.item.Block.TheVariants.{Read};
 
-use crate::due::{BLOCK_PLACES, Lock};
 use crate::item::{Block, Group, Item};
+use crate::lock::{BLOCK_PLACES, Lock};
 use crate::loss::{Bad, Loss};
 use crate::push::push_one;
 use crate::rules::Rules;

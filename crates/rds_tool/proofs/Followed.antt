@@ -1,5 +1,5 @@
 -- What was done of a stream so far, and where it breaks off.
-use Rattle.std.proofs.Common.{◌≡◌, ◌≢◌, ◌+◌, ◌-◌, ◌*◌, ◌/◌, ◌%◌, ◌^◌, ◌<◌, ◌≤◌, ◌++◌, ◌⊎◌, ◌↔◌, ℕ, List, [], ◌∷◌, Err, None, Ok, Option, Result, Some, inl, inr, length, map, min, take, refl, sym, zero, suc, ap, ap₂, ◌∙◌, subst, arith, append_assoc}
+use Rattle.std.proofs.Common.{◌≡◌, ◌≢◌, ◌+◌, ◌-◌, ◌*◌, ◌/◌, ◌%◌, ◌^◌, ◌<◌, ◌≤◌, ◌++◌, ◌⊎◌, ◌↔◌, ℕ, List, [], ◌∷◌, Err, None, Ok, Option, Result, Some, inl, inr, drop, length, map, min, take, refl, sym, zero, suc, ap, ap₂, ◌∙◌, subst, arith, append_assoc}
 use Rattle.std.specs.Prelude.{IfErr, IfSome, OnErr, OnOk}
 use Rattle.std.specs.Int.{bit_at}
 use Rattle.std.specs.List.{flat_map, range_with_len}
@@ -7,7 +7,8 @@ use Rattle.std.specs.Io.KnownBytes.{Appends, Consumes, IsAtEnd, Keeps}
 use Rattle.std.proofs.Math.ListN.{get_or-append}
 use Rattle.std.proofs.lemmas.Bool.{le-ltb}
 use Rattle.std.proofs.lemmas.Grind.{flat_map-append}
-use Rattle.std.proofs.lemmas.List.{append-nil, length-append, length-take}
+use Rattle.std.proofs.Math.Seq.{take-append-add}
+use Rattle.std.proofs.lemmas.List.{append-nil, drop-drop, length-append, length-drop, length-take, take-append-drop, take_all}
 use Rattle.std.proofs.lemmas.List.FromFn.{length-map-range_with_len}
 use Rattle.rds_live.specs.Live.{LiveOf, HasHeard, Terms, complete, live_of, report_at, run_of, signal_at, signal_of}
 use Rattle.rds_stream.specs.Recording.{AreGaps, bits_of, length_of, packed_bit}
@@ -406,6 +407,56 @@ pub chunk_rows : {T : Type 0} (r : Result T ToolError) (live : LiveOf) (bytes te
     → OnOk r ((before : List ℕ) → HasHeard live before → (rows : List ℕ) × HasRows live.terms before bytes rows × Appends old new rows)
 chunk_rows (Ok x) live bytes text items old new more is did = λ before h. (text, has_rows live.terms before bytes text items (more before h) is, did)
 chunk_rows (Err e) live bytes text items old new more is did = tt
+
+-- the rows that a chunk completed
+pub chunk_text : {T : Type 0} (r : Result T ToolError) (live : LiveOf) (bytes text lines : List ℕ) (old new : Option (List ℕ))
+    → ((before : List ℕ) → HasHeard live before → rows_so_far live.terms (before ++ bytes) ≡ rows_so_far live.terms before ++ text)
+    → lines ≡ text → OnOk r (Appends old new lines)
+    → OnOk r ((before : List ℕ) → HasHeard live before → (rows : List ℕ) × HasRows live.terms before bytes rows × Appends old new rows)
+chunk_text (Ok x) live bytes text lines old new more is did = λ before h. (lines, more before h ∙ ap (λ ys. rows_so_far live.terms before ++ ys) (sym is), did)
+chunk_text (Err e) live bytes text lines old new more is did = tt
+
+-- ---- a chunk that is taken piece by piece
+
+-- nothing was taken yet
+pub none_taken : (before bytes : List ℕ) → before ≡ before ++ take (length bytes - length bytes) bytes
+none_taken before bytes =
+    let none : length bytes - length bytes ≡ 0 = omega arith in
+    sym (ap (λ n. before ++ take n bytes) none ∙ append-nil before)
+
+pub all_left : (bytes : List ℕ) → bytes ≡ drop (length bytes - length bytes) bytes
+all_left bytes = let none : length bytes - length bytes ≡ 0 = omega arith in sym (ap (λ n. drop n bytes) none)
+
+module _ (bytes rest after : List ℕ) (count : ℕ) (few : length rest ≤ length bytes) (left : rest ≡ drop (length bytes - length rest) bytes) (fits : count ≤ length rest)
+    (is : after ≡ drop count rest) where
+  abbrev done : ℕ
+  done = length bytes - length rest
+
+  pub still_few : length after + count ≡ length rest
+  still_few = omega (arith, ap length is, length-drop count rest, fits)
+
+  now_done : length bytes - length after ≡ done + count
+  now_done = omega (arith, still_few, few, fits)
+
+  -- more of them were taken
+  pub taken_on : (before : List ℕ) → (before ++ take done bytes) ++ take count rest ≡ before ++ take (length bytes - length after) bytes
+  taken_on before =
+      let front : length (take done bytes) ≡ done = omega (arith, length-take done bytes, few) in
+      append_assoc before (take done bytes) (take count rest)
+      ∙ ap (λ xs. before ++ xs)
+      (ap (λ xs. take done bytes ++ take count xs) left
+      ∙ sym (take-append-add (take done bytes) (drop done bytes) count)
+      ∙ ap₂ (λ n xs. take (n + count) xs) front (take-append-drop done bytes)
+      ∙ ap (λ n. take n bytes) (sym now_done))
+
+  pub left_on : after ≡ drop (length bytes - length after) bytes
+  left_on =
+      let e : done + count ≡ length bytes - length after = sym now_done in
+      is ∙ ap (drop count) left ∙ drop-drop count done bytes ∙ ap (λ n. drop n bytes) e
+
+-- all were taken
+pub all_taken : (before bytes rest : List ℕ) → length rest ≡ 0 → before ++ take (length bytes - length rest) bytes ≡ before ++ bytes
+all_taken before bytes rest none = ap (λ xs. before ++ xs) (take_all (length bytes - length rest) bytes (omega (arith, none)))
 
 -- what holds after any refusal, and what holds after one that is not the writer's
 pub after_refusal : {T X : Type 0} (r : Result T ToolError) → X → IfErr r (λ error. error ≢ Write → X)

@@ -1,5 +1,5 @@
 //! From a reader to a writer, as the bytes come.
-ghost use Rattle.std.specs.Prelude.{◌+◌, ◌-◌, ◌*◌, ◌/◌, ◌++◌, ◌<◌, ◌^◌, ◌≡◌, ◌≢◌, ◌≤◌, ◌⊎◌, ◌↔◌, IfErr, IfOk, IfSome, IsErrOf, List, None, Ok, OnOk, Option, Some, length, take, ℕ};
+ghost use Rattle.std.specs.Prelude.{◌+◌, ◌-◌, ◌*◌, ◌/◌, ◌++◌, ◌<◌, ◌^◌, ◌≡◌, ◌≢◌, ◌≤◌, ◌⊎◌, ◌↔◌, IfErr, IfOk, IfSome, IsErrOf, List, None, Ok, OnOk, Option, Some, length, take, vec_capacity, ℕ};
 ghost use Rattle.std.specs.Io.KnownBytes.{Consumes, IsAtEnd, Keeps, Appends};
 ghost use Rattle.std.specs.List.{flat_map};
 ghost use Rattle.rds_live.specs.Live.{HasHeard, report_at};
@@ -13,11 +13,11 @@ ghost use Rattle.rds_tool.specs.Listing.{item_row, report_text, totals_text};
 ghost use Rattle.rds_tool.specs.Outcome.{Writes, WritesPrefix};
 
 use crate::fields::push_item;
-use crate::listing::totals_rows;
+use crate::listing::{rows_of_items, totals_rows};
 use crate::rows::{rows_in_room, text_of_rows};
 use crate::text::write_flushed;
 use crate::{Failed, Sink, Source, ToolError};
-use rds_live::{Chunk, Live, StreamEnd};
+use rds_live::{Live, MOST_ITEMS, StreamEnd};
 use rds_sync::{Item, Rules, laws};
 use std::alloc::Global;
 
@@ -77,7 +77,7 @@ pub fn follow<S: Source, K: Sink>(
     let left = bits_left(bits, live.place());
     let mut last = [0u8; 1];
     let count = read_last(reader, &mut last, left)?;
-    let rows = rows_of_rest(alloc, &live, &last[..count], left)?;
+    let rows = rows_of_rest(alloc, live, &last[..count], left)?;
     write_flushed(writer, rows.as_slice())
 }
 
@@ -113,13 +113,14 @@ fn follow_bytes<'r, S: Source, K: Sink>(
     check_claim(bits)?;
     let mut live = Live::with_gaps(alloc, rules, gaps)?;
     let mut buf = vec![in alloc; 0u8; CHUNK]?;
+    let mut items = Vec::with_capacity(alloc, MOST_ITEMS)?;
     loop {
         let room = room_before_end(bits, live.place());
         let count = read_once(reader, buf.as_mut_slice(), room)?;
         if count == 0 {
             break;
         }
-        follow_chunk(alloc, writer, &mut live, &buf[..count])?;
+        follow_chunk(alloc, writer, &mut live, &buf[..count], &mut items)?;
     }
     Ok(live)
 }
@@ -214,14 +215,17 @@ fn follow_chunk<K: Sink>(
     writer: &mut K,
     live: &mut Live<'_>,
     bytes: &[u8],
+    items: &mut Vec<Item>,
 ) -> Result<(), ToolError>
-    requires { K.failed writer.old < 2 ^ 63 }
+    requires count { K.failed writer.old < 2 ^ 63 }
+    requires room { 16 ≤ vec_capacity items.old }
     ensures heard { OnOk result ((before : List ℕ) → HasHeard live.old before → HasHeard live.new (before ++ bytes.now)) }
     ensures terms { OnOk result (live.new.terms ≡ live.old.terms) }
     ensures rows { OnOk result ((before : List ℕ) → HasHeard live.old before → (rows : List ℕ)
         × (rows_so_far live.old.terms (before ++ bytes.now) ≡ rows_so_far live.old.terms before ++ rows)
         × Appends (K.contents writer.old) (K.contents writer.new) rows) }
     ensures count { OnOk result (K.failed writer.new ≡ K.failed writer.old) }
+    ensures room { vec_capacity items.new ≡ vec_capacity items.old }
     ensures fits { OnOk result (live.old.place + 8 * length bytes.now ≤ 2 ^ 36) }
     ensures write { IsErrOf result ToolError.Write ↔ (K.failed writer.old < K.failed writer.new) }
     ensures too_long { IsErrOf result ToolError.TooLong → 2 ^ 36 < live.old.place + 8 * length bytes.now }
@@ -231,45 +235,88 @@ fn follow_chunk<K: Sink>(
         × (rows_so_far live.old.terms (before ++ bytes.now) ≡ rows_so_far live.old.terms before ++ rows)
         × WritesPrefix (K.contents writer.old) (K.contents writer.new) (Ok rows) }
 {
-    let items = live.take(bytes)?;
-    let rows = rows_of_chunk(alloc, &items)?;
+    let rows = rows_of_chunk(alloc, live, bytes, items)?;
     write_flushed(writer, rows.as_slice())
 }
 
-/// The rows of the items that a chunk completed.
-fn rows_of_chunk(alloc: Global, items: &Chunk<'_>) -> Result<Vec<u8>, ToolError>
-    ensures rows { IfOk result (λ text. text.items ≡ flat_map item_row items.now) }
-    ensures refused { IfErr result (λ error. error ≡ ToolError.OutOfMemory) }
+/// Decodes the next bytes of a stream, and gives the rows that they complete.
+fn rows_of_chunk(
+    alloc: Global,
+    live: &mut Live<'_>,
+    bytes: &[u8],
+    items: &mut Vec<Item>,
+) -> Result<Vec<u8>, ToolError>
+    requires { 16 ≤ vec_capacity items.old }
+    ensures heard { OnOk result ((before : List ℕ) → HasHeard live.old before → HasHeard live.new (before ++ bytes.now)) }
+    ensures terms { OnOk result (live.new.terms ≡ live.old.terms) }
+    ensures rows { IfOk result (λ text. (before : List ℕ) → HasHeard live.old before
+        → rows_so_far live.old.terms (before ++ bytes.now) ≡ rows_so_far live.old.terms before ++ text.items) }
+    ensures room { vec_capacity items.new ≡ vec_capacity items.old }
+    ensures fits { OnOk result (live.old.place + 8 * length bytes.now ≤ 2 ^ 36) }
+    ensures too_long { IsErrOf result ToolError.TooLong → 2 ^ 36 < live.old.place + 8 * length bytes.now }
+    ensures kinds { IfErr result (λ error. (error ≡ ToolError.OutOfMemory) ⊎ (error ≡ ToolError.TooLong)) }
 {
-    let mut rows = rows_in_room(alloc, 0)?;
-    for item in items {
-        push_item(&mut rows, &item)?;
+    let mut text = Vec::new(alloc);
+    let mut rest = bytes;
+    while !rest.is_empty() {
+        let count = push_rows(alloc, &mut text, live, rest, items)?;
+        rest = &rest[count..];
     }
-    text_of_rows(rows)
+    prove!(live.place() <= MOST_BITS);
+    Ok(text)
+}
+
+/// Decodes as many of the next bytes of a stream as it takes at once, and appends the rows that they complete. Answers how many
+/// bytes these were.
+fn push_rows(
+    alloc: Global,
+    text: &mut Vec<u8>,
+    live: &mut Live<'_>,
+    bytes: &[u8],
+    items: &mut Vec<Item>,
+) -> Result<usize, ToolError>
+    requires some { 0 < length bytes.now }
+    requires room { 16 ≤ vec_capacity items.old }
+    ensures some { IfOk result (λ count. (0 < count) × (count ≤ length bytes.now)) }
+    ensures heard { IfOk result (λ count. (before : List ℕ) → HasHeard live.old before → HasHeard live.new (before ++ take count bytes.now)) }
+    ensures terms { OnOk result (live.new.terms ≡ live.old.terms) }
+    ensures place { IfOk result (λ count. live.new.place ≡ live.old.place + 8 * count) }
+    ensures rows { IfOk result (λ count. (before written : List ℕ) → HasHeard live.old before
+        → rows_so_far live.old.terms before ≡ written ++ text.old.items
+        → rows_so_far live.old.terms (before ++ take count bytes.now) ≡ written ++ text.new.items) }
+    ensures room { vec_capacity items.new ≡ vec_capacity items.old }
+    ensures too_long { IsErrOf result ToolError.TooLong → 2 ^ 36 < live.old.place + 8 * length bytes.now }
+    ensures kinds { IfErr result (λ error. (error ≡ ToolError.OutOfMemory) ⊎ (error ≡ ToolError.TooLong)) }
+{
+    let count = live.take(bytes, items)?;
+    text.extend_from_slice(rows_of_items(alloc, items.as_slice())?.as_slice())?;
+    Ok(count)
 }
 
 /// The rest of a listing: the rows that so many bits of these bytes complete, of the group in progress behind them, if there
 /// is one, and of the totals.
 fn rows_of_rest(
     alloc: Global,
-    live: &Live<'_>,
+    live: Live<'_>,
     bytes: &[u8],
     bits: u64,
 ) -> Result<Vec<u8>, ToolError>
     requires held { bits ≤ 8 * length bytes.now }
-    requires limit { live.now.place + bits ≤ 2 ^ 36 }
-    ensures rows { IfOk result (λ text. (before : List ℕ) → HasHeard live.now before
-        → let items = report_at live.now.terms (before ++ bytes.now) (8 * length before + bits) in
-        report_text items (totals_of items) ≡ rows_so_far live.now.terms before ++ text.items) }
-    ensures gaps { OnOk result (AreGaps (live.now.place + bits) live.now.terms.gaps) }
-    ensures bad_gaps { IsErrOf result ToolError.BadGaps → AreGaps (live.now.place + bits) live.now.terms.gaps → ⊥ }
+    requires few { bits ≤ 8 }
+    requires limit { live.place + bits ≤ 2 ^ 36 }
+    ensures rows { IfOk result (λ text. (before : List ℕ) → HasHeard live.entry before
+        → let items = report_at live.entry.terms (before ++ bytes.now) (8 * length before + bits) in
+        report_text items (totals_of items) ≡ rows_so_far live.entry.terms before ++ text.items) }
+    ensures gaps { OnOk result (AreGaps (live.entry.place + bits) live.entry.terms.gaps) }
+    ensures bad_gaps { IsErrOf result ToolError.BadGaps → AreGaps (live.entry.place + bits) live.entry.terms.gaps → ⊥ }
     ensures kinds { IfErr result (λ error. (error ≡ ToolError.OutOfMemory) ⊎ (error ≡ ToolError.BadGaps)) }
 {
     if !live.may_end_after(bits) {
         return Err(ToolError::BadGaps);
     }
-    let (items, end) = live.finish_with(bytes, bits)?;
-    let mut text = rows_of_chunk(alloc, &items)?;
+    let mut items = Vec::with_capacity(alloc, 2 * bits as usize)?;
+    let end = live.finish_with(bytes, bits, &mut items)?;
+    let mut text = rows_of_items(alloc, items.as_slice())?;
     text.extend_from_slice(rows_of_end(alloc, &end)?.as_slice())?;
     Ok(text)
 }

@@ -1,16 +1,16 @@
-use Rattle.std.proofs.Common.{◌≡◌, ◌-◌, ◌*◌, ◌/◌, ◌^◌, ◌≤◌, ◌⊎◌, ℕ, List, length, min, inl, inr, ap, ap₂, sym, subst, ◌∙◌, arith}
+use Rattle.std.proofs.Common.{◌≡◌, ◌-◌, ◌*◌, ◌/◌, ◌^◌, ◌≤◌, ◌⊎◌, ℕ, List, length, min, inl, inr, ap, ap₂, refl, sym, subst, ◌∙◌, arith}
 use Rattle.std.proofs.lemmas.Bool.{cases_lt}
 use Rattle.std.proofs.lemmas.List.{length-drop}
-use Rattle.rds_stream.specs.Recording.{AreGaps, Signal, bits_of, length_of}
+use Rattle.rds_stream.specs.Recording.{AreGaps, Signal, length_of}
 use Rattle.rds_sync.specs.declared.state.State.{State}
 use Rattle.rds_sync.specs.Lawful.{IsLawful}
 use Rattle.rds_sync.specs.Rules.{RuleNumbers}
 use Rattle.rds_sync.specs.Step.{items_of_end}
 use Rattle.rds_live.specs.Moving.{IsPartHeard, moved_state}
 use Rattle.rds_live.specs.Gaps.{gaps_within}
-use Rattle.rds_live.specs.Live.{last_bytes, signal_of, most_kept}
+use Rattle.rds_live.specs.Live.{last_bytes, signal_at, signal_of, most_kept}
 use Rattle.rds_live.proofs.GapParts.{part-touched}
-use Rattle.rds_live.proofs.Parts.{length-signal, bits-heard, end-part}
+use Rattle.rds_live.proofs.Parts.{length-at, length-signal, bits-heard, end-part}
 use Rattle.rds_live.proofs.Following.{lawful-back}
 use Rattle.rds_live.proofs.live.group_at_end.Goals as goal
 
@@ -45,26 +45,39 @@ module _ (tail : List ℕ) (place from : ℕ) (kept : length tail ≡ min 30 (pl
       (subst (λ (b : Signal). IsPartHeard (signal_of gaps bytes) b (place - from) from) (sym is)
       (subst (λ (d : ℕ). IsPartHeard (signal_of gaps bytes) (signal_of (gaps_within gaps (8 * k) n) (last_bytes bytes)) d from) cut heard))
 
+-- the part that is gone over at the end
+part-is : (gaps : List (ℕ × ℕ)) (tail heard : List ℕ) (place : ℕ) (part : Signal) → heard ≡ tail
+    → part ≡ signal_at (gaps_within gaps (place - 8 * length heard) (8 * length heard)) tail (8 * length heard)
+    → part ≡ signal_of (gaps_within gaps (place - 8 * length tail) (8 * length tail)) tail
+part-is gaps tail heard place part same is =
+    is ∙ ap (λ (xs : List ℕ). signal_at (gaps_within gaps (place - 8 * length xs) (8 * length xs)) tail (8 * length xs)) same
+
+-- the state in it
+lawful-at-end : (rules : RuleNumbers) (gaps : List (ℕ × ℕ)) (tail heard : List ℕ) (place : ℕ) (part : Signal) (local state : State) → heard ≡ tail
+    → part ≡ signal_at (gaps_within gaps (place - 8 * length heard) (8 * length heard)) tail (8 * length heard)
+    → length tail ≡ min 30 (place / 8) → place ≡ 8 * (place / 8) → moved_state (place - 8 * length heard) local ≡ state → IsLawful rules place state
+    → IsLawful rules (length_of part) local
+lawful-at-end rules gaps tail heard place part local state same is kept whole moved lawful =
+    let from_is : 8 * length heard ≡ 8 * length tail = ap (λ (xs : List ℕ). 8 * length xs) same in
+    let long : length_of part ≡ 8 * length heard =
+    ap (λ (b : Signal). length_of b) is ∙ length-at (gaps_within gaps (place - 8 * length heard) (8 * length heard)) tail (8 * length heard) in
+    subst (λ (n : ℕ). IsLawful rules n local) (sym long) (state-in-part tail place (8 * length heard) kept whole from_is rules local state moved lawful)
+
 pub moved_end-requires-clause-lawful : goal.moved_end-requires-clause-lawful
 moved_end-requires-clause-lawful c =
-    let tail = c.args.tail.items in
-    let near = c.args.near.items in
-    let from_is : 8 * c.len.result ≡ 8 * length tail = omega (arith, c.len.ensures) in
-    let part_is : c.in-Ok.part ≡ signal_of near tail = c.in-Ok.ensures.held ∙ ap (λ (n : ℕ). record { bits = bits_of tail n; gaps = near }) from_is in
-    let long : length_of c.in-Ok.part ≡ 8 * c.len.result = ap (λ (b : Signal). length_of b) part_is ∙ length-signal near tail ∙ sym from_is in
-    subst (λ (n : ℕ). IsLawful c.args.rules.now n c.moved_back.result) (sym long)
-    (state-in-part tail c.args.place (8 * c.len.result) c.requires.kept c.requires.whole from_is c.args.rules.now c.moved_back.result c.args.state c.moved_back.ensures c.requires.lawful)
+    lawful-at-end c.args.rules.now c.args.gaps.now c.args.room.bytes c.bytes.result.now c.args.place c.into_recording-part.result c.moved_back.result c.args.state c.bytes.ensures.value
+    c.into_recording-part.ensures c.requires.kept c.requires.whole c.moved_back.ensures c.requires.lawful
 
-pub returns-in-Ok : goal.returns-in-Ok
-returns-in-Ok c gaps bytes are near_is tail_is place_is =
-    let tail = c.args.tail.items in
-    let near = c.args.near.items in
-    let from_is : 8 * c.len.result ≡ 8 * length tail = omega (arith, c.len.ensures) in
-    let part_is : c.in-Ok.part ≡ signal_of near tail = c.in-Ok.ensures.held ∙ ap (λ (n : ℕ). record { bits = bits_of tail n; gaps = near }) from_is in
-    let long : length_of c.in-Ok.part ≡ 8 * c.len.result = ap (λ (b : Signal). length_of b) part_is ∙ length-signal near tail ∙ sym from_is in
-    let lawful = subst (λ (n : ℕ). IsLawful c.args.rules.now n c.moved_back.result) (sym long)
-    (state-in-part tail c.args.place (8 * c.len.result) c.requires.kept c.requires.whole from_is c.args.rules.now c.moved_back.result c.args.state c.moved_back.ensures c.requires.lawful) in
+pub returns : goal.returns
+returns c bytes tail_is place_is =
+    let tail = c.args.room.bytes in
+    let gaps = c.args.gaps.now in
+    let from_is : 8 * length c.bytes.result.now ≡ 8 * length tail = ap (λ (xs : List ℕ). 8 * length xs) c.bytes.ensures.value in
+    let part_is = part-is gaps tail c.bytes.result.now c.args.place c.into_recording-part.result c.bytes.ensures.value c.into_recording-part.ensures in
+    let lawful = lawful-at-end c.args.rules.now gaps tail c.bytes.result.now c.args.place c.into_recording-part.result c.moved_back.result c.args.state c.bytes.ensures.value
+    c.into_recording-part.ensures c.requires.kept c.requires.whole c.moved_back.ensures c.requires.lawful in
     c.moved_end.ensures
-    ∙ sym (c.ends_move.ensures (signal_of gaps bytes) c.in-Ok.part c.args.rules.now (c.args.place - 8 * c.len.result) c.moved_back.result lawful
-    (heard-in-part tail c.args.place (8 * c.len.result) c.requires.kept c.requires.whole from_is gaps near bytes c.in-Ok.part are near_is part_is tail_is place_is))
+    ∙ sym (c.ends_move.ensures (signal_of gaps bytes) c.into_recording-part.result c.args.rules.now (c.args.place - 8 * length c.bytes.result.now) c.moved_back.result lawful
+    (heard-in-part tail c.args.place (8 * length c.bytes.result.now) c.requires.kept c.requires.whole from_is gaps
+    (gaps_within gaps (c.args.place - 8 * length tail) (8 * length tail)) bytes c.into_recording-part.result c.requires.are refl part_is tail_is place_is))
     ∙ ap (λ (s : State). items_of_end (signal_of gaps bytes) c.args.rules.now s) c.moved_back.ensures

@@ -4,7 +4,7 @@ use Rattle.rds_sync.specs.declared.item.Block.{Block}
 use Rattle.rds_sync.specs.declared.item.Item.{Item}
 use Rattle.rds_sync.specs.declared.due.Due.{Due}
 use Rattle.rds_sync.specs.declared.due.Due.TheVariants.{Inside}
-use Rattle.rds_sync.specs.declared.due.Lock.{Lock}
+use Rattle.rds_sync.specs.declared.lock.Lock.{Lock}
 use Rattle.rds_sync.specs.declared.state.State.{State}
 use Rattle.rds_sync.specs.declared.state.State.TheVariants.{Locked}
 use Rattle.rds_sync.specs.Lawful.{IsLawful}

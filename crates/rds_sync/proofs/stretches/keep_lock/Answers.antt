@@ -6,7 +6,7 @@ use Rattle.rds_sync.specs.declared.item.Item.{Item}
 use Rattle.rds_sync.specs.declared.item.Item.TheVariants.{Group, LostLock}
 use Rattle.rds_sync.specs.declared.due.Due.{Due}
 use Rattle.rds_sync.specs.declared.due.Due.TheVariants.{Inside, Closed, Lost}
-use Rattle.rds_sync.specs.declared.due.Lock.{Lock}
+use Rattle.rds_sync.specs.declared.lock.Lock.{Lock}
 use Rattle.rds_sync.specs.declared.state.State.{State}
 use Rattle.rds_sync.specs.declared.state.State.TheVariants.{Locked}
 use Rattle.rds_sync.specs.Lawful.{IsLawful}

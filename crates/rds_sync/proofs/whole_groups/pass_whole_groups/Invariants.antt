@@ -1,6 +1,6 @@
 use Rattle.std.proofs.Common.{◌≡◌, ℕ, ◌-◌, ◌^◌, ◌<◌}
 use Rattle.rds_stream.specs.Recording.{Signal}
-use Rattle.rds_sync.specs.declared.due.Lock.{Lock}
+use Rattle.rds_sync.specs.declared.lock.Lock.{Lock}
 use Rattle.rds_sync.specs.Codes.{KeptOf}
 use Rattle.rds_sync.specs.Inside.CodeRuns.{HasPassed}
 use Rattle.rds_sync.specs.Rules.{RuleNumbers}

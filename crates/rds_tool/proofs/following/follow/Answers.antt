@@ -77,3 +77,6 @@ returns-clause-within g c = λ p.
     c.bits_left-left.result left_is (omega (arith, count, long)) (omega (arith, count, long)) c.in_ok-count.ensures.still _
     (λ before h. c.in_ok-rows.ensures.rows before h ∙ ap (λ (ys : List ℕ). rows_so_far c.in_ok-live.live.terms before ++ ys) (sym c.as_slice.ensures.value)) _
     (few_last c.in_ok-count.count bytes c.read_last.new.last refl c.in_ok-count.ensures.few) (of_err _ _ p c.write_flushed.ensures.prefix)
+
+pub rows_of_rest-requires-clause-few : goal.rows_of_rest-requires-clause-few
+rows_of_rest-requires-clause-few g c = omega (arith, c.in_ok-count.ensures.within, c.in_ok-count.ensures.few)

@@ -1,15 +1,17 @@
-use Rattle.std.proofs.Common.{length, ◌-◌, ◌^◌, ◌≡◌, List, ℕ}
+use Rattle.std.proofs.Common.{length, ◌-◌, ◌^◌, ◌≡◌, ◌≤◌, List, ℕ}
+use Rattle.std.specs.Prelude.{vec_capacity}
 use Rattle.rds_tool.specs.Inside.Streams.{IsFollowed}
 use Rattle.rds_tool.proofs.following.follow_bytes.Given as goal
 
-abbrev pub invariant-loop-buf : goal.invariant-loop-buf
-invariant-loop-buf g l = record {
+abbrev pub invariant-loop-items : goal.invariant-loop-items
+invariant-loop-items g l = record {
   followed : (heard : List ℕ) × IsFollowed (record { rules = l.fn.rules; gaps = l.fn.gaps }) l.fn.bits l.live
       (g.S.Source.remaining l.fn.reader) (g.S.Source.remaining l.reader) (g.K.Sink.contents l.fn.writer) (g.K.Sink.contents l.writer) heard;
   reads : g.S.Source.failed l.reader ≡ g.S.Source.failed l.fn.reader;
   writes : g.K.Sink.failed l.writer ≡ g.K.Sink.failed l.fn.writer;
   room : length l.buf.items ≡ 65536;
+  items : 16 ≤ vec_capacity l.items;
 }
 
-abbrev pub decreases-loop-buf : goal.decreases-loop-buf
-decreases-loop-buf g l = 2 ^ 36 - l.live.place
+abbrev pub decreases-loop-items : goal.decreases-loop-items
+decreases-loop-items g l = 2 ^ 36 - l.live.place

@@ -1,4 +1,4 @@
-use Rattle.std.proofs.Common.{◌≡◌, ◌-◌, ◌*◌, ◌^◌, ◌++◌, ℕ, List, length, refl, ap, sym, subst, ◌∙◌}
+use Rattle.std.proofs.Common.{◌≡◌, ◌++◌, ℕ, List, ap, sym, subst, ◌∙◌}
 use Rattle.rds_sync.specs.declared.item.Item.{Item}
 use Rattle.rds_sync.specs.declared.state.State.{State}
 use Rattle.rds_sync.specs.declared.state.State.TheVariants.{Searching}
@@ -10,7 +10,6 @@ use Rattle.rds_sync.specs.Loss.{IsLoss}
 use Rattle.rds_sync.specs.Step.{run, items_of_end}
 use Rattle.rds_sync.specs.Totals.{totals_of}
 use Rattle.rds_live.specs.Live.{LiveOf, Terms, HasHeard, complete, report_of, run_of, signal_of}
-use Rattle.rds_live.proofs.GapParts.{found-of-part}
 use Rattle.rds_live.proofs.Parts.{length-signal}
 use Rattle.rds_live.proofs.live.Live.finish.Goals as goal
 
@@ -31,18 +30,13 @@ all-totals join reports terms loss bytes last totals sum is totals_is sum_is =
     sum_is ∙ ap (λ (t : Totals). plus t (totals_of last)) totals_is ∙ sym (join (complete terms bytes) last).joined
     ∙ ap (λ (items : List Item). totals_of items) (all-items reports terms loss bytes last is)
 
-pub group_at_end-group-requires-clause-near : goal.group_at_end-group-requires-clause-near
-group_at_end-group-requires-clause-near c =
-    let s = c.self.inside in
-    found-of-part (2 ^ 36) (s.place - 8 * length s.tail.items) (8 * length s.tail.items) (8 * length s.tail.items) s.gaps.now s.near.items c.self.invariant.0.gaps c.self.invariant.1 refl
-
 pub returns-clause-group : goal.returns-clause-group
 returns-clause-group c bytes h =
     let s = c.self.inside in
     let terms : Terms = record { rules = s.rules.now; gaps = s.gaps.now } in
     let heard = subst (λ (live : LiveOf). HasHeard live bytes) (sym c.self.view_is) h in
     let last = ap group_item c.ended.ensures.group
-    ∙ c.group_at_end-group.ensures s.gaps.now bytes c.self.invariant.0.gaps c.self.invariant.1 (ap (λ (l : LiveOf). l.tail) heard) (ap (λ (l : LiveOf). l.place) heard)
+    ∙ c.group_at_end-group.ensures bytes (ap (λ (l : LiveOf). l.tail) heard) (ap (λ (l : LiveOf). l.place) heard)
     ∙ ap (λ (t : State). items_of_end (signal_of s.gaps.now bytes) s.rules.now t) (ap (λ (l : LiveOf). l.state) heard) in
     subst (λ (t : Terms). complete t bytes ++ group_item c.ended.result.group ≡ report_of t bytes) (ap (λ (l : LiveOf). l.terms) c.self.view_is)
     (all-items c.runs_are_reports.ensures terms c.reach.ensures.range.some_loss bytes (group_item c.ended.result.group) last)
@@ -52,7 +46,7 @@ returns-clause-totals c bytes h =
     let s = c.self.inside in
     let terms : Terms = record { rules = s.rules.now; gaps = s.gaps.now } in
     let heard = subst (λ (live : LiveOf). HasHeard live bytes) (sym c.self.view_is) h in
-    let last = c.group_at_end-group.ensures s.gaps.now bytes c.self.invariant.0.gaps c.self.invariant.1 (ap (λ (l : LiveOf). l.tail) heard) (ap (λ (l : LiveOf). l.place) heard)
+    let last = c.group_at_end-group.ensures bytes (ap (λ (l : LiveOf). l.tail) heard) (ap (λ (l : LiveOf). l.place) heard)
     ∙ ap (λ (t : State). items_of_end (signal_of s.gaps.now bytes) s.rules.now t) (ap (λ (l : LiveOf). l.state) heard) in
     subst (λ (t : Terms). c.ended.result.totals ≡ totals_of (report_of t bytes)) (ap (λ (l : LiveOf). l.terms) c.self.view_is)
     (all-totals c.totals_join.ensures c.runs_are_reports.ensures terms c.reach.ensures.range.some_loss bytes (group_item c.group_at_end-group.result) s.totals c.ended.result.totals

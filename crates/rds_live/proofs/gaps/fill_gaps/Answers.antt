@@ -1,0 +1,16 @@
+use Rattle.std.proofs.Common.{◌+◌, ◌^◌, ◌∷◌, ◌++◌, [], drop, length, ap, sym, ◌∙◌, arith}
+use Rattle.std.proofs.lemmas.List.{length-append}
+use Rattle.rds_live.specs.Gaps.{gaps_within}
+use Rattle.rds_live.proofs.GapParts.{few-of-part, one-found}
+use Rattle.rds_live.proofs.gaps.fill_gaps.Goals as goal
+
+pub push_reserved-requires : goal.push_reserved-requires
+push_reserved-requires c =
+    let loop = c.loop-gap in
+    let gaps = c.args.gaps.now in
+    let all = gaps_within gaps c.args.before c.args.len in
+    let rest = gaps_within (drop (loop.gap-index + 1) gaps) c.args.before c.args.len in
+    let is = one-found c.args.before c.args.len gaps loop.found.items all loop.gap-index (0, 0) c.in-Some.part (omega (arith, c.loop-gap-test.true, loop.invariant.end)) loop.invariant.so_far
+    (sym (sym c.part_of_gap.ensures ∙ c.in-Some.is)) in
+    omega (arith, ap length is, length-append (loop.found.items ++ c.in-Some.part ∷ []) rest, length-append loop.found.items (c.in-Some.part ∷ []),
+    few-of-part (2 ^ 36) c.args.before c.args.len gaps c.requires.are, c.requires.room, loop.invariant.room, c.clear.ensures.capacity, loop.found.ok.0)

@@ -1,0 +1,11 @@
+use Rattle.std.proofs.Common.{◌≡◌, ◌++◌, drop, length}
+use Rattle.std.specs.Prelude.{vec_capacity}
+use Rattle.rds_live.specs.Gaps.{gaps_within}
+use Rattle.rds_live.proofs.gaps.fill_gaps.Given as goal
+
+abbrev pub invariant-loop-gap : goal.invariant-loop-gap
+invariant-loop-gap l = record {
+  so_far : l.found.items ++ gaps_within (drop l.gap-index l.gaps) l.before l.len ≡ gaps_within l.gaps l.before l.len;
+  room : vec_capacity l.found ≡ vec_capacity l.initial.found;
+  end : l.gap-index-end ≡ length l.gaps;
+}

@@ -1,0 +1,17 @@
+use Rattle.std.proofs.Common.{◌++◌, ◌∙◌, ◌<◌, ◌^◌, List, ap, arith, subst, sym}
+use Rattle.std.specs.List.{All}
+use Rattle.std.proofs.lemmas.List.{get_or_append_left, length-append}
+use Rattle.rds_sync.specs.declared.item.Item.{Item}
+use Rattle.rds_sync.specs.Decoding.{DecoderOf}
+use Rattle.rds_live.specs.Places.{place_of}
+use Rattle.rds_live.proofs.ItemPlaces.{run-early}
+use Rattle.rds_live.proofs.live.fill_from.Goals as goal
+
+pub returns-clause-early : goal.returns-clause-early
+returns-clause-early c k d h =
+    let given = c.fill.new.part.items in
+    let left = c.fill.new.self.items in
+    let all : All (λ (item : Item). place_of item < 2 ^ 36) (given ++ left) =
+    subst (λ (items : List Item). All (λ (item : Item). place_of item < 2 ^ 36) items) (sym (ap (λ (decoder : DecoderOf). decoder.items) c.new-decoder.ensures) ∙ c.fill.ensures.items)
+    (run-early c.args.part.now c.args.rules.now (2 ^ 36) c.args.state c.args.from _ (omega (arith, c.requires.order, c.requires.within, c.len.ensures.value, c.len.ensures.limit))) in
+    subst (λ (item : Item). place_of item < 2 ^ 36) (get_or_append_left given left d k h) (all k d (omega (arith, h, length-append given left)))

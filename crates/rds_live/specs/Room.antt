@@ -1,0 +1,36 @@
+-- Where the last bytes of a stream are gone over as a recording, of which there is always as much. This project's rule.
+use Rattle.std.specs.Prelude.{ℕ, ◌+◌, ◌-◌, ◌*◌, List, ◌++◌, length, map}
+use Rattle.std.specs.List.{range_with_len}
+use Rattle.rds_stream.specs.Recording.{Signal}
+use Rattle.rds_live.specs.Gaps.{gaps_within}
+use Rattle.rds_live.specs.Live.{signal_of}
+use Rattle.rds_live.specs.Moving.{IsPartHeard}
+
+-- how many bytes of a stream are gone over at once, at most, and how many there is room for, with those that are kept
+abbrev pub most_at_once : ℕ
+most_at_once = 240
+
+abbrev pub most_held : ℕ
+most_held = 270
+
+-- the bytes, and the recording that they are heard in
+pub record RoomOf : Type 0 where
+  pub bytes : List ℕ
+  pub recording : Signal
+
+-- how many gaps the recording has, whether or not as many lie in the bytes
+abbrev pub slots_of : RoomOf → ℕ
+slots_of room = length room.recording.gaps
+
+-- the gap that stands at number k where none of the stream's does: it lies behind the bytes
+abbrev pub spare : ℕ → ℕ × ℕ
+spare k = (8 * most_held + k, 8 * most_held + k + 1)
+
+-- these gaps and as many of those as make up the number
+abbrev pub filled_up : List (ℕ × ℕ) → ℕ → List (ℕ × ℕ)
+filled_up gaps slots = gaps ++ map spare (range_with_len (length gaps) (slots - length gaps))
+
+-- the bytes are heard in the recording, with the gaps that lie in them, where `before` bits of the stream come before them
+abbrev pub IsHeardIn : RoomOf → List (ℕ × ℕ) → ℕ → Type 0
+IsHeardIn room gaps before =
+    IsPartHeard room.recording (signal_of (gaps_within gaps before (8 * length room.bytes)) room.bytes) 0 0
