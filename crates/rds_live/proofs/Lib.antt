@@ -8,3 +8,4 @@ pub mod Following
 pub mod Ending
 pub mod Rooms
 pub mod Moves
+pub mod Taking

@@ -3,3 +3,4 @@ pub mod Live
 pub mod Gaps
 pub mod Places
 pub mod Room
+pub mod Keeping

@@ -31,12 +31,7 @@ fn are_apart(gaps: &[(u64, u64)]) -> bool
 
 /// Puts the gaps in the part of a stream that begins at `before` and has `len` places, by their places in the part, in the
 /// place of those of `found`, which has room for them.
-pub(crate) fn fill_gaps(
-    found: &mut Vec<(u64, u64)>,
-    gaps: &[(u64, u64)],
-    before: u64,
-    len: u64,
-)
+pub(crate) fn fill_gaps(found: &mut Vec<(u64, u64)>, gaps: &[(u64, u64)], before: u64, len: u64)
     requires are { AreGaps (2 ^ 36) gaps.now }
     requires room { min (length gaps.now) len ≤ vec_capacity found.old }
     ensures gaps { found.new.items ≡ gaps_within gaps.now before len }

@@ -8,10 +8,14 @@
 //! # Example
 //!
 //! ```text
-//! let mut live = Live::new(alloc, &rules);
+//! let mut live = Live::new(alloc, &rules)?;
+//! let mut items = Vec::with_capacity(alloc, MOST_ITEMS)?;
 //! for chunk in chunks {
-//!     for item in &live.take(chunk)? {
-//!         // complete now: no later bit changes it
+//!     let mut rest = chunk;
+//!     while !rest.is_empty() {
+//!         let count = live.take(rest, &mut items)?;
+//!         // the items are complete now: no later bit changes them
+//!         rest = &rest[count..];
 //!     }
 //! }
 //! let end = live.finish();
@@ -30,7 +34,8 @@
 //!
 //! - [`Live`]: a decoder of a stream: its rules and gaps, the last 30 bytes, how many bits were heard, the state after
 //!   them, and the totals of the items that are complete.
-//! - [`Chunk`] and [`ChunkItems`]: the items that a chunk completed, and a walk over them.
+//! - [`Live::take`]: the next bytes, as many as are decoded at once, and the items that they complete, in room that the caller
+//!   keeps; [`MOST_ITEMS`] is as much of it as is ever of use. [`Live::take_all`]: a chunk of any length, and its items in a list.
 //! - [`StreamEnd`]: what the end of a stream gives, by [`Live::finish`] behind a whole byte, or by [`Live::finish_with`]
 //!   at any bit.
 //! - [`Live::tail`] and [`Live::resume`]: what a decoder has to keep beside its place, state and totals, and one that is made
@@ -43,19 +48,19 @@
 //!   it, so two that were fed the same are equal, however the stream was cut.
 //! - Whatever the chunks, the items given are those of the run over all bits so far, from a search on; with the group of
 //!   the end they are the report's, and so are the totals.
-//! - A refused call has heard nothing: the same bytes can be offered again. Refused are `TooLong` (5), past 2^36 bits in
-//!   all, and `OutOfMemory` (8).
+//! - A refused call has heard nothing: the same bytes can be offered again. `take` refuses `TooLong` (5) alone, past 2^36 bits in
+//!   all, and `take_all` `OutOfMemory` (8) too.
+//! - All memory that a stream needs is taken where it begins: `take`, `finish` and `finish_with` take none.
 //! - Both rules of loss are followed, and gaps that are told beforehand ([`Live::with_gaps`]).
 //! - A decoder that is made of what another tells is equal to that one, and so has heard the same bytes. Refused are gaps that no
 //!   stream may have, numbers that no decoder has, and want of memory: what a decoder tells is refused for want of memory alone.
 //! - It keeps no more of a stream than its last 30 bytes: 233 bits are enough to go on, those of a partner's window eight
 //!   blocks back, since a group in progress begins later.
 //!
-//! # What it leaves to others
+//! # What it costs
 //!
-//! Each chunk is made a recording, with the last bytes before it, since windows are read from one: so a call takes memory
-//! for a copy of its chunk and for 16 bits an item, which is given back with the [`Chunk`]. Where there are gaps it
-//! looks at each of them.
+//! Windows are read from a recording, so the bytes that come are copied behind those that are kept, 240 at a time, into one that
+//! was made with the decoder. Where there are gaps each such part looks at all of them.
 #![tactic(auto)]
 
 mod error;

@@ -11,13 +11,14 @@ ghost use Rattle.rds_live.specs.Moving.{moved_items};
 ghost use Rattle.rds_live.specs.Live.{HasHeard, IsLive, Terms, by_rules, complete, last_bytes, live_of, live_with, most_counted, most_kept, report_at, report_of, signal_of};
 ghost use Rattle.rds_live.specs.Places.{place_of};
 ghost use Rattle.rds_live.specs.Room.{slots_of};
+ghost use Rattle.rds_live.specs.Keeping.{IsKept, live_kept};
 
 use crate::error::ResumeError;
 use crate::gaps::are_gaps;
 use crate::kept::can_be_live;
 use crate::laws::{ends_move, runs_move};
 use crate::moved::{move_on, moved_back, moved_group, moved_on};
-use crate::room::{AT_ONCE, Room};
+use crate::room::{AT_ONCE, MOST_KEPT, Room};
 use rds_stream::{Counted, Recording, StreamError};
 use rds_sync::{Decoder, Group, Item, Rules, State, Totals, finish, laws};
 use std::alloc::{AllocError, Global};
@@ -258,7 +259,9 @@ impl<'r> Live<'r> {
         laws::totals_join();
         laws::codes_tell_totals();
         runs_move();
-        let count = bytes.len().min(AT_ONCE.min(items.capacity() / ITEMS_A_BYTE));
+        let count = bytes
+            .len()
+            .min(AT_ONCE.min(items.capacity() / ITEMS_A_BYTE));
         let from = 8 * self.room.bytes().len() as u64;
         let before = self.place - from;
         let to = from + 8 * count as u64;
@@ -272,6 +275,63 @@ impl<'r> Live<'r> {
         self.place = before + to;
         self.state = moved_on(end, before);
         Ok(count)
+    }
+
+    /// Takes all of these bytes, and gives the items that they complete in a list of its own.
+    ///
+    /// Refuses more than 2^36 bits in all, and want of memory; refused, it has heard nothing.
+    ///
+    /// Its cost: that of [`take`](Live::take) over and over, and memory for the list and for the items of 240 bytes.
+    pub fn take_all(&mut self, alloc: Global, bytes: &[u8]) -> Result<Vec<Item>, StreamError>
+        ensures heard { OnOk result ((before : List ℕ) → HasHeard self.old before → HasHeard self.new (before ++ bytes.now)) }
+        ensures terms { self.new.terms ≡ self.old.terms }
+        ensures items { IfOk result (λ items. (before : List ℕ) → HasHeard self.old before
+            → complete self.old.terms (before ++ bytes.now) ≡ complete self.old.terms before ++ items.items) }
+        ensures fits { OnOk result (self.old.place + 8 * length bytes.now ≤ 2 ^ 36) }
+        ensures refused { OnErr result (self.new ≡ self.old) }
+        ensures too_long { IsErrOf result StreamError.TooLong ↔ (2 ^ 36 < self.old.place + 8 * length bytes.now) }
+        ensures only { IfErr result (λ e. (e ≡ StreamError.TooLong) ⊎ (e ≡ StreamError.OutOfMemory)) }
+    {
+        if bytes.len() as u64 > (MOST_BITS - self.place) / 8 {
+            return Err(StreamError::TooLong);
+        }
+        let before = self.kept();
+        match taken(alloc, self, bytes) {
+            Ok(items) => Ok(items),
+            Err(_) => {
+                self.go_back(&before);
+                Err(StreamError::OutOfMemory)
+            }
+        }
+    }
+
+    /// What it knows.
+    fn kept(&self) -> Kept
+        ensures { IsKept result self.now }
+    {
+        let tail = self.room.bytes();
+        let mut bytes = [0; MOST_KEPT];
+        bytes[..tail.len()].copy_from_slice(tail);
+        Kept {
+            tail: bytes,
+            count: tail.len(),
+            place: self.place,
+            state: self.state,
+            totals: self.totals,
+        }
+    }
+
+    /// Knows again what it knew then.
+    fn go_back(&mut self, kept: &Kept)
+        requires lawful { IsLive (live_kept self.old.terms kept.now) }
+        requires within { kept.now.count ≤ 30 }
+        ensures { self.new ≡ live_kept self.old.terms kept.now }
+    {
+        self.room.clear();
+        self.room.push(&kept.tail[..kept.count]);
+        self.place = kept.place;
+        self.state = kept.state;
+        self.totals = kept.totals;
     }
 
     /// Ends the stream here: closes the group in progress, as far as it was read. Takes no memory.
@@ -348,6 +408,64 @@ impl<'r> Live<'r> {
         move_on(items.as_mut_slice(), before);
         let group = moved_end(&part, rules, end, before);
         Ok(ended(totals, group))
+    }
+}
+
+/// What a decoder knows of a stream, but for its terms.
+#[derive(Clone, Copy)]
+struct Kept {
+    tail: [u8; MOST_KEPT],
+    /// How many bytes the tail has.
+    count: usize,
+    place: u64,
+    state: State,
+    totals: Totals,
+}
+
+/// Has the decoder take all of these bytes, and gives the items that they complete.
+fn taken(alloc: Global, live: &mut Live<'_>, bytes: &[u8]) -> Result<Vec<Item>, AllocError>
+    requires fits { live.old.place + 8 * length bytes.now ≤ 2 ^ 36 }
+    ensures heard { OnOk result ((before : List ℕ) → HasHeard live.old before → HasHeard live.new (before ++ bytes.now)) }
+    ensures terms { live.new.terms ≡ live.old.terms }
+    ensures items { IfOk result (λ items. (before : List ℕ) → HasHeard live.old before
+        → complete live.old.terms (before ++ bytes.now) ≡ complete live.old.terms before ++ items.items) }
+{
+    let mut some = Vec::with_capacity(alloc, ITEMS_A_BYTE * bytes.len().min(AT_ONCE))?;
+    let mut items = Vec::new(alloc);
+    let mut rest = bytes;
+    while !rest.is_empty() {
+        let count = take_next(live, rest, &mut some, &mut items)?;
+        rest = &rest[count..];
+    }
+    Ok(items)
+}
+
+/// Has the decoder take as many of these bytes as it can at once, and puts the items that they complete behind those before.
+/// Answers how many bytes these were.
+fn take_next(
+    live: &mut Live<'_>,
+    bytes: &[u8],
+    some: &mut Vec<Item>,
+    items: &mut Vec<Item>,
+) -> Result<usize, AllocError>
+    requires some { 0 < length bytes.now }
+    requires room { 16 ≤ vec_capacity some.old }
+    requires fits { live.old.place + 8 * length bytes.now ≤ 2 ^ 36 }
+    ensures some { IfOk result (λ count. (0 < count) × (count ≤ length bytes.now)) }
+    ensures heard { IfOk result (λ count. (before : List ℕ) → HasHeard live.old before → HasHeard live.new (before ++ take count bytes.now)) }
+    ensures terms { live.new.terms ≡ live.old.terms }
+    ensures place { IfOk result (λ count. live.new.place ≡ live.old.place + 8 * count) }
+    ensures items { IfOk result (λ count. (before : List ℕ) (given : List Item) → HasHeard live.old before
+        → complete live.old.terms before ≡ given ++ items.old.items
+        → complete live.old.terms (before ++ take count bytes.now) ≡ given ++ items.new.items) }
+    ensures room { vec_capacity some.new ≡ vec_capacity some.old }
+{
+    match live.take(bytes, some) {
+        Ok(count) => {
+            items.extend_from_slice(some)?;
+            Ok(count)
+        }
+        Err(_) => unreachable!(),
     }
 }
 

@@ -93,6 +93,14 @@ impl Room {
         }
     }
 
+    /// Drops the bytes.
+    pub fn clear(&mut self)
+        ensures bytes { self.new.bytes ≡ [] }
+        ensures slots { slots_of self.new ≡ slots_of self.old }
+    {
+        self.bytes.clear();
+    }
+
     /// Keeps the last bytes alone.
     pub fn keep_last(&mut self)
         ensures bytes { self.new.bytes ≡ last_bytes self.old.bytes }

@@ -12,5 +12,14 @@ push_reserved-requires c =
     let rest = gaps_within (drop (loop.gap-index + 1) gaps) c.args.before c.args.len in
     let is = one-found c.args.before c.args.len gaps loop.found.items all loop.gap-index (0, 0) c.in-Some.part (omega (arith, c.loop-gap-test.true, loop.invariant.end)) loop.invariant.so_far
     (sym (sym c.part_of_gap.ensures ∙ c.in-Some.is)) in
-    omega (arith, ap length is, length-append (loop.found.items ++ c.in-Some.part ∷ []) rest, length-append loop.found.items (c.in-Some.part ∷ []),
-    few-of-part (2 ^ 36) c.args.before c.args.len gaps c.requires.are, c.requires.room, loop.invariant.room, c.clear.ensures.capacity, loop.found.ok.0)
+    omega (
+      arith,
+      ap length is,
+      length-append (loop.found.items ++ c.in-Some.part ∷ []) rest,
+      length-append loop.found.items (c.in-Some.part ∷ []),
+      few-of-part (2 ^ 36) c.args.before c.args.len gaps c.requires.are,
+      c.requires.room,
+      loop.invariant.room,
+      c.clear.ensures.capacity,
+      loop.found.ok.0,
+    )

@@ -26,8 +26,11 @@ part-is part gaps at n m held bytes is long bytes_are = is ∙ ap₂ (λ (k : �
 
 pub fill_from-end-requires-clause-within : goal.fill_from-end-requires-clause-within
 fill_from-end-requires-clause-within c =
-    omega (arith, size-of c.into_recording-part.result (gaps_within c.self.inside.gaps.now (c.self.inside.place - 8 * length c.bytes.result.now) (8 * length c.bytes.result.now + c.args.bits))
-    c.push.new.self.bytes (8 * length c.bytes.result.now + c.args.bits) c.into_recording-part.ensures)
+    omega (
+      arith,
+      size-of c.into_recording-part.result (gaps_within c.self.inside.gaps.now (c.self.inside.place - 8 * length c.bytes.result.now) (8 * length c.bytes.result.now + c.args.bits))
+          c.push.new.self.bytes (8 * length c.bytes.result.now + c.args.bits) c.into_recording-part.ensures,
+    )
 
 pub moved_end-group-requires-clause-lawful : goal.moved_end-group-requires-clause-lawful
 moved_end-group-requires-clause-lawful c =

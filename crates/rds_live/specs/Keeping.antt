@@ -1,0 +1,19 @@
+-- What a decoder of a stream keeps beside its terms, so that it can go back to it. This project's rule.
+use Rattle.std.specs.Prelude.{◌≡◌, ◌≤◌, length, take}
+use Rattle.rds_live.specs.Live.{LiveOf, Terms, most_kept}
+use Rattle.rds_live.specs.declared.live.Kept.{Kept}
+
+-- the decoder that knows this
+abbrev pub live_kept : Terms → Kept → LiveOf
+live_kept terms kept = record {
+  terms = terms;
+  tail = take kept.count kept.tail;
+  place = kept.place;
+  state = kept.state;
+  totals = kept.totals;
+}
+
+-- this is what it knows
+pub record IsKept (kept : Kept) (live : LiveOf) : Type 0 where
+  pub within : kept.count ≤ most_kept
+  pub same : live_kept live.terms kept ≡ live
