@@ -13,10 +13,10 @@ use crate::asked::{RdsGap, RdsRules, gaps_in, rules_of};
 use crate::going::{RdsState, state_in_c, state_of};
 use crate::layout::{RdsItem, RdsTotals, item_in_c, totals_in_c};
 use crate::refusal::Refusal;
-use rds_live::{Chunk, Live, ResumeError, StreamEnd};
+use rds_live::{Live, ResumeError};
 use rds_stream::StreamError;
 use rds_sync::{Group, Item, Rules, Totals};
-use std::alloc::Global;
+use std::alloc::{AllocError, Global};
 
 /// How many of the last bytes of a stream are known.
 const MOST_KEPT: u64 = 30;
@@ -76,8 +76,10 @@ fn live_of<'r>(
     ensures lawful { IfOk result (λ live. IsLive live) }
     ensures refused { IfErr result (RefusesStream (record { rules = rules.now; gaps = gaps.now }) stream.now) }
 {
-    if Live::with_gaps(alloc, rules, gaps).is_err() {
-        return Err(Refusal::BadGaps);
+    match Live::with_gaps(alloc, rules, gaps) {
+        Ok(_) => {}
+        Err(StreamError::BadGaps) => return Err(Refusal::BadGaps),
+        Err(_) => return Err(Refusal::OutOfMemory),
     }
     let Some(state) = state_of(rules, stream.state, stream.place) else {
         return Err(Refusal::UnlawfulState);
@@ -117,30 +119,28 @@ fn stream_in_c(live: &Live<'_>) -> RdsStream
     }
 }
 
-/// Writes the items of a chunk to the beginning of the room.
-fn fill_chunk(room: &mut [RdsItem], chunk: &Chunk<'_>)
-    requires { length chunk.now ≤ length room.old }
-    ensures { IsFilled (map item_in_c chunk.now) room.old room.new }
+/// Writes the items to the beginning of the room.
+fn fill_room(room: &mut [RdsItem], items: &[Item])
+    requires { length items.now ≤ length room.old }
+    ensures { IsFilled (map item_in_c items.now) room.old room.new }
 {
-    let mut at = 0;
-    for item in chunk {
-        room[at] = item_in_c(item);
-        at += 1;
+    for at in 0..items.len() {
+        room[at] = item_in_c(items[at]);
     }
 }
 
 /// Has the decoder take the next bytes, and gives the items that they complete.
-fn taken<'r>(live: &mut Live<'r>, bytes: &[u8]) -> Result<Chunk<'r>, Refusal>
+fn taken(alloc: Global, live: &mut Live<'_>, bytes: &[u8]) -> Result<Vec<Item>, Refusal>
     ensures heard { IfOk result (λ _. (before : List ℕ) → HasHeard live.old before → HasHeard live.new (before ++ bytes.now)) }
     ensures terms { IfOk result (λ _. live.new.terms ≡ live.old.terms) }
     ensures items { IfOk result (λ items. (before : List ℕ) → HasHeard live.old before
-        → complete live.old.terms (before ++ bytes.now) ≡ complete live.old.terms before ++ items) }
+        → complete live.old.terms (before ++ bytes.now) ≡ complete live.old.terms before ++ items.items) }
     ensures fits { IfOk result (λ _. live.old.place + 8 * length bytes.now ≤ 2 ^ 36) }
     ensures refused { IfErr result (λ refusal.
         ((refusal ≡ TooLong) × (2 ^ 36 < live.old.place + 8 * length bytes.now)) ⊎ (refusal ≡ OutOfMemory)) }
 {
-    match live.take(bytes) {
-        Ok(chunk) => Ok(chunk),
+    match live.take_all(alloc, bytes) {
+        Ok(items) => Ok(items),
         Err(StreamError::TooLong) => Err(Refusal::TooLong),
         Err(_) => Err(Refusal::OutOfMemory),
     }
@@ -155,7 +155,7 @@ fn taken<'r>(live: &mut Live<'r>, bytes: &[u8]) -> Result<Chunk<'r>, Refusal>
 ///
 /// Refuses rules out of their range, then gaps that no stream may have, then `UnlawfulState`, then `TooLong`, past 2^36
 /// bits in all, and then `SmallRoom`, where `count` tells how many items there are, and nothing else was written; and want
-/// of memory at any time. It takes memory for a copy of the bytes, for the tables of the rules, and for 16 bits an item.
+/// of memory at any time. It takes memory for the tables of the rules, and for the items.
 pub fn push(
     alloc: Global,
     bytes: &[u8],
@@ -180,12 +180,13 @@ pub fn push(
     let rules = rules_of(alloc, rules)?;
     let gaps = gaps_in(alloc, gaps)?;
     let mut live = live_of(alloc, &rules, gaps.as_slice(), stream)?;
-    let chunk = taken(&mut live, bytes)?;
-    *count = chunk.len() as u64;
-    if room.len() < chunk.len() {
+    let items = taken(alloc, &mut live, bytes)?;
+    let number = items.len();
+    *count = number as u64;
+    if room.len() < number {
         return Err(Refusal::SmallRoom);
     }
-    fill_chunk(room, &chunk);
+    fill_room(room, &items);
     *stream = stream_in_c(&live);
     Ok(())
 }
@@ -243,17 +244,22 @@ pub fn finish(
     Ok(())
 }
 
-/// The items that the first `bits` bits of these bytes complete, and what the end of the stream gives with them.
-fn ended<'r>(live: &Live<'r>, bytes: &[u8], bits: u64) -> Result<(Chunk<'r>, StreamEnd), Refusal>
-    ensures items { IfOk result (λ r. (before : List ℕ) → HasHeard live.now before
-        → complete live.now.terms before ++ (r.0 ++ group_item r.1.group)
-        ≡ report_at live.now.terms (before ++ bytes.now) (8 * length before + bits)) }
-    ensures totals { IfOk result (λ r. (before : List ℕ) → HasHeard live.now before
-        → r.1.totals ≡ totals_of (report_at live.now.terms (before ++ bytes.now) (8 * length before + bits))) }
-    ensures fits { IfOk result (λ _. (live.now.place + bits ≤ 2 ^ 36) × (bits ≤ 8 * length bytes.now)) }
+/// The items that the first `bits` bits of these bytes complete, with the group in progress where the stream ends behind them,
+/// and the totals of the report.
+fn ended(
+    alloc: Global,
+    live: Live<'_>,
+    bytes: &[u8],
+    bits: u64,
+) -> Result<(Vec<Item>, Totals), Refusal>
+    ensures items { IfOk result (λ r. (before : List ℕ) → HasHeard live.entry before
+        → complete live.entry.terms before ++ r.0.items ≡ report_at live.entry.terms (before ++ bytes.now) (8 * length before + bits)) }
+    ensures totals { IfOk result (λ r. (before : List ℕ) → HasHeard live.entry before
+        → r.1 ≡ totals_of (report_at live.entry.terms (before ++ bytes.now) (8 * length before + bits))) }
+    ensures fits { IfOk result (λ _. (live.entry.place + bits ≤ 2 ^ 36) × (bits ≤ 8 * length bytes.now)) }
     ensures refused { IfErr result (λ refusal.
-        ((refusal ≡ TooLong) × (2 ^ 36 < live.now.place + bits))
-        ⊎ ((refusal ≡ BitsPastBytes) × (live.now.place + bits ≤ 2 ^ 36) × (8 * length bytes.now < bits))
+        ((refusal ≡ TooLong) × (2 ^ 36 < live.entry.place + bits))
+        ⊎ ((refusal ≡ BitsPastBytes) × (live.entry.place + bits ≤ 2 ^ 36) × (8 * length bytes.now < bits))
         ⊎ (refusal ≡ OutOfMemory)) }
 {
     if bits > MOST_BITS - live.place() {
@@ -262,28 +268,50 @@ fn ended<'r>(live: &Live<'r>, bytes: &[u8], bits: u64) -> Result<(Chunk<'r>, Str
     if bits.div_ceil(8) > bytes.len() as u64 {
         return Err(Refusal::BitsPastBytes);
     }
-    match live.finish_with(bytes, bits) {
-        Ok((chunk, end)) => Ok((chunk, end)),
+    let mut live = live;
+    let (whole, rest) = bytes.split_at((bits / 8) as usize);
+    let Ok(first) = live.take_all(alloc, whole) else {
+        return Err(Refusal::OutOfMemory);
+    };
+    match closed(alloc, first, live, rest, bits % 8) {
+        Ok((items, totals)) => Ok((items, totals)),
         Err(_) => Err(Refusal::OutOfMemory),
     }
 }
 
-/// How many items a chunk and the end of its stream give.
-fn count_of(chunk: &Chunk<'_>, group: &Option<Group>) -> usize
-    ensures { result ≡ length (chunk.now ++ group_item group.now) }
+/// These items, those that so many bits behind them complete, and the group in progress where the stream ends with these; and
+/// the totals of the report.
+fn closed(
+    alloc: Global,
+    first: Vec<Item>,
+    live: Live<'_>,
+    rest: &[u8],
+    bits: u64,
+) -> Result<(Vec<Item>, Totals), StreamError>
+    requires held { bits ≤ 8 * length rest.now }
+    requires few { bits ≤ 8 }
+    ensures items { IfOk result (λ r. (before : List ℕ) (given : List Item) → HasHeard live.entry before
+        → complete live.entry.terms before ≡ given ++ first.items
+        → given ++ r.0.items ≡ report_at live.entry.terms (before ++ rest.now) (8 * length before + bits)) }
+    ensures totals { IfOk result (λ r. (before : List ℕ) → HasHeard live.entry before
+        → r.1 ≡ totals_of (report_at live.entry.terms (before ++ rest.now) (8 * length before + bits))) }
 {
-    chunk.len() + usize::from(group.is_some())
+    let mut items = first;
+    let mut last = Vec::with_capacity(alloc, 16)?;
+    let end = live.finish_with(rest, bits, &mut last)?;
+    items.extend_from_slice(&last)?;
+    push_group(&mut items, end.group)?;
+    Ok((items, end.totals))
 }
 
-/// Writes the items of a chunk to the beginning of the room, and the group in progress behind them, if there is one.
-fn fill_last(room: &mut [RdsItem], chunk: &Chunk<'_>, group: Option<Group>)
-    requires { length (chunk.now ++ group_item group) ≤ length room.old }
-    ensures { IsFilled (map item_in_c (chunk.now ++ group_item group)) room.old room.new }
+/// Puts the group in progress behind the items, if there is one.
+fn push_group(items: &mut Vec<Item>, group: Option<Group>) -> Result<(), AllocError>
+    ensures { OnOk result (items.new.items ≡ items.old.items ++ group_item group) }
 {
-    fill_chunk(room, chunk);
     if let Some(group) = group {
-        room[chunk.len()] = item_in_c(Item::Group(group));
+        items.push(Item::Group(group))?;
     }
+    Ok(())
 }
 
 /// Ends a stream with the first `bits` bits of these bytes, so inside a byte too: writes the items that they complete to the
@@ -316,13 +344,13 @@ pub fn finish_with(
     let rules = rules_of(alloc, rules)?;
     let gaps = gaps_in(alloc, gaps)?;
     let live = live_of(alloc, &rules, gaps.as_slice(), stream)?;
-    let (chunk, end) = ended(&live, bytes, bits)?;
-    let number = count_of(&chunk, &end.group);
+    let (items, found) = ended(alloc, live, bytes, bits)?;
+    let number = items.len();
     *count = number as u64;
     if room.len() < number {
         return Err(Refusal::SmallRoom);
     }
-    fill_last(room, &chunk, end.group);
-    *totals = totals_in_c(end.totals);
+    fill_room(room, &items);
+    *totals = totals_in_c(found);
     Ok(())
 }

@@ -6,7 +6,7 @@
 use crate::sample::Sample;
 use anyhow::{Result, bail};
 use rds_crew::{OpenGate, decode_crew};
-use rds_live::Live;
+use rds_live::{Live, MOST_ITEMS};
 use rds_pieces::{Cutting, RecordingWork, speculate};
 use rds_stream::{Recording, StreamError, ValidWindows, scan};
 use rds_sync::{Decoder, Rules, State, decode_plain, run_codes};
@@ -133,11 +133,12 @@ fn by_crew<T: Threads + Wait>(
     Ok(report.totals.groups)
 }
 
-/// How many groups a stream of these bytes counts, in chunks of 1,000.
+/// How many groups a stream of these bytes counts, in chunks that are each taken at once.
 fn by_chunks(alloc: Global, bytes: &[u8], rules: &Rules) -> Result<u64, StreamError> {
-    let mut live = Live::new(alloc, rules);
-    for chunk in bytes.chunks(1_000) {
-        let _items = live.take(chunk)?;
+    let mut live = Live::new(alloc, rules)?;
+    let mut items = Vec::with_capacity(alloc, MOST_ITEMS)?;
+    for chunk in bytes.chunks(240) {
+        live.take(chunk, &mut items)?;
     }
     Ok(live.finish().totals.groups)
 }

@@ -1,7 +1,7 @@
 //! A stream gives the report of its recording, however it is cut.
-ghost use Rattle.std.specs.Prelude.{◌*◌, ◌<◌, ◌^◌, ◌≤◌, length};
+ghost use Rattle.std.specs.Prelude.{◌*◌, ◌<◌, ◌^◌, ◌≤◌, length, vec_capacity};
 
-use rds_live::{Chunk, Live, ResumeError, StreamEnd};
+use rds_live::{Live, MOST_ITEMS, ResumeError, StreamEnd};
 use rds_stream::{Recording, StreamError};
 use rds_sync::{Item, ItemIter, Loss, RuleNumbers, Rules, State, Totals, decode_plain};
 use std::alloc::{AllocError, Global};
@@ -91,10 +91,10 @@ fn shifted(alloc: Global, bytes: &[u8], by: u32) -> Result<Vec<u8>, AllocError>
     Ok(moved)
 }
 
-/// Whether the items of a chunk are the next of a report.
-fn are_next(items: &Chunk<'_>, expected: &mut ItemIter<'_>) -> bool {
+/// Whether these are the next items of a report.
+fn are_next(items: &[Item], expected: &mut ItemIter<'_>) -> bool {
     for item in items {
-        if expected.next() != Some(item) {
+        if expected.next() != Some(*item) {
             return false;
         }
     }
@@ -138,6 +138,29 @@ fn kept_so<'r>(
     }
 }
 
+/// Whether the decoder gives the next of these items for the bytes, offered until it has taken all.
+fn takes_next(
+    live: &mut Live<'_>,
+    bytes: &[u8],
+    room: &mut Vec<Item>,
+    expected: &mut ItemIter<'_>,
+) -> Result<bool, StreamError> {
+    let mut rest = bytes;
+    let mut same = true;
+    for _ in 0..u64::MAX {
+        if rest.is_empty() {
+            break;
+        }
+        let count = live.take(rest, room)?;
+        same = are_next(room.as_slice(), expected) && same;
+        rest = match rest.split_at_checked(count) {
+            Some((_, rest)) => rest,
+            None => rest,
+        };
+    }
+    Ok(same)
+}
+
 /// Whether the decoder of the stream, which is cut into chunks of up to so many bytes, gives these items and totals.
 fn follows(
     alloc: Global,
@@ -149,7 +172,8 @@ fn follows(
     expected: ItemIter<'_>,
     totals: &Totals,
 ) -> Result<bool, Fail> {
-    let mut live = Live::new(alloc, rules);
+    let mut live = Live::new(alloc, rules)?;
+    let mut room = Vec::with_capacity(alloc, MOST_ITEMS)?;
     let mut expected = expected;
     let mut number = seed;
     let mut rest = bytes;
@@ -161,8 +185,7 @@ fn follows(
         number = next_random(number);
         let length = (number % (longest as u64).saturating_add(1)) as usize;
         let (chunk, later) = rest.split_at(length.min(rest.len()));
-        let items = live.take(chunk)?;
-        same = are_next(&items, &mut expected) && same;
+        same = takes_next(&mut live, chunk, &mut room, &mut expected)? && same;
         live = kept_so(alloc, rules, live, kept)?;
         rest = later;
     }
@@ -261,58 +284,51 @@ fn a_decoder_may_be_kept_as_numbers(rt: HostRuntime) -> Result<(), Fail> {
 #[test]
 fn a_stream_may_end_at_once(rt: HostRuntime) -> Result<(), Fail> {
     let rules = Rules::new(rt.alloc(), 2, 3, 10)?;
-    let none = Live::new(rt.alloc(), &rules).finish();
+    let none = Live::new(rt.alloc(), &rules)?.finish();
     assert!(rt; none.group == None && none.totals == Totals::NONE);
-    let mut live = Live::new(rt.alloc(), &rules);
+    let mut live = Live::new(rt.alloc(), &rules)?;
     let nothing: [u8; 0] = [];
-    let mut any = false;
-    for _ in &live.take(&nothing)? {
-        any = true;
-    }
-    assert!(rt; !any && live.place() == 0 && live.state() == State::Searching);
+    assert!(rt; live.take_all(rt.alloc(), &nothing)?.is_empty());
+    assert!(rt; live.place() == 0 && live.state() == State::Searching);
     assert!(rt; live.finish() == none);
     Ok(())
 }
 
-/// Whether the decoder gives the next of these items for the bytes.
-fn takes_next(
-    live: &mut Live<'_>,
-    bytes: &[u8],
-    expected: &mut ItemIter<'_>,
-) -> Result<bool, StreamError> {
-    let items = live.take(bytes)?;
-    Ok(are_next(&items, expected))
-}
-
-/// Whether it gives the rest of them for the last bytes, so many bits, and these totals.
+/// Whether it gives the rest of them for the last bits, fewer than eight, of a byte or of none, and these totals.
 fn finishes_so(
     live: Live<'_>,
+    last: &[u8],
+    bits: u64,
+    room: &mut Vec<Item>,
+    expected: &mut ItemIter<'_>,
+    totals: &Totals,
+) -> Result<bool, StreamError>
+    requires held { bits ≤ 8 * length last.now }
+    requires few { bits ≤ 8 }
+    requires room { 16 ≤ vec_capacity room.old }
+{
+    let end = live.finish_with(last, bits, room)?;
+    Ok(are_next(room.as_slice(), expected) && ends_so(&end, expected, totals))
+}
+
+/// Whether the decoder of the stream of these bytes, of which so many bits count, gives these items and totals.
+fn ends_inside(
+    alloc: Global,
+    rules: &Rules,
     bytes: &[u8],
     bits: u64,
-    expected: &mut ItemIter<'_>,
+    expected: ItemIter<'_>,
     totals: &Totals,
 ) -> Result<bool, StreamError>
     requires { bits ≤ 8 * length bytes.now }
 {
-    let (items, end) = live.finish_with(bytes, bits)?;
-    Ok(are_next(&items, expected) && ends_so(&end, expected, totals))
-}
-
-/// Whether the decoder of the stream, of which the last byte ends so many bits early, gives these items and totals.
-fn ends_inside(
-    alloc: Global,
-    rules: &Rules,
-    parts: (&[u8], &[u8]),
-    left: u64,
-    expected: ItemIter<'_>,
-    totals: &Totals,
-) -> Result<bool, StreamError> {
-    let mut live = Live::new(alloc, rules);
+    let mut live = Live::new(alloc, rules)?;
     let mut expected = expected;
-    let (first, last) = parts;
-    let same = takes_next(&mut live, first, &mut expected)?;
-    let bits = (last.len() as u64).saturating_mul(8).saturating_sub(left);
-    Ok(finishes_so(live, last, bits, &mut expected, totals)? && same)
+    let (whole, last) = bytes.split_at((bits / 8) as usize);
+    let items = live.take_all(alloc, whole)?;
+    let same = are_next(items.as_slice(), &mut expected);
+    let mut room = Vec::with_capacity(alloc, 16)?;
+    Ok(finishes_so(live, last, bits % 8, &mut room, &mut expected, totals)? && same)
 }
 
 #[test]
@@ -320,19 +336,17 @@ fn a_stream_may_end_at_any_bit(rt: HostRuntime) -> Result<(), Fail> {
     let alloc = rt.alloc();
     let rules = Rules::new(alloc, 2, 3, 10)?;
     let bytes = station(alloc, 7, 30, 77)?;
-    for cut in [0, 1, 40, 90usize] {
-        for left in 0..8u64 {
-            let bits = (bytes.len() as u64).saturating_mul(8).saturating_sub(left);
-            let copy = Vec::from_slice(alloc, bytes.as_slice())?;
-            let recording = Recording::from_bytes(copy, bits).map_err(|refused| refused.0)?;
-            let report = decode_plain(alloc, &recording, &rules)?;
-            let parts = bytes.as_slice().split_at(cut.min(bytes.len()));
-            let expected = report.items.iter(&recording, &rules);
-            assert!(rt;
-                ends_inside(alloc, &rules, parts, left, expected, &report.totals)?,
-                "cut at {cut}, {left} bits left out"
-            );
-        }
+    let all = (bytes.len() as u64).saturating_mul(8);
+    for left in 0..112u64 {
+        let bits = all.saturating_sub(left);
+        let copy = Vec::from_slice(alloc, bytes.as_slice())?;
+        let recording = Recording::from_bytes(copy, bits).map_err(|refused| refused.0)?;
+        let report = decode_plain(alloc, &recording, &rules)?;
+        let expected = report.items.iter(&recording, &rules);
+        assert!(rt;
+            ends_inside(alloc, &rules, bytes.as_slice(), bits, expected, &report.totals)?,
+            "{left} bits left out"
+        );
     }
     Ok(())
 }

@@ -1,6 +1,6 @@
 //! A decoder of a stream with gaps, which is kept as numbers between two chunks.
 
-use rds_live::{Chunk, Live, StreamEnd};
+use rds_live::{Live, StreamEnd};
 use rds_stream::{Recording, StreamError};
 use rds_sync::{Item, ItemIter, Rules, Totals, decode_plain};
 use std::alloc::{AllocError, Global};
@@ -41,28 +41,25 @@ fn in_two_sittings<'r>(
     gaps: &'r [(u64, u64)],
     first: &[u8],
     second: &[u8],
-) -> Result<(Chunk<'r>, Chunk<'r>, StreamEnd), StreamError> {
+) -> Result<(Vec<Item>, Vec<Item>, StreamEnd), StreamError> {
     let mut live = Live::with_gaps(alloc, rules, gaps)?;
-    let one = live.take(first)?;
+    let one = live.take_all(alloc, first)?;
     let mut again = gone_on_from(alloc, &live, rules, gaps)?;
-    let other = again.take(second)?;
+    let other = again.take_all(alloc, second)?;
     Ok((one, other, again.finish()))
 }
 
 /// Whether the items and totals of a stream's parts are those of its recording.
 fn are_of(
-    parts: &(Chunk<'_>, Chunk<'_>, StreamEnd),
+    parts: &(Vec<Item>, Vec<Item>, StreamEnd),
     expected: ItemIter<'_>,
     totals: &Totals,
 ) -> bool {
     let (one, other, end) = parts;
     let mut expected = expected;
     let mut same = end.totals == *totals;
-    for item in one {
-        same = expected.next() == Some(item) && same;
-    }
-    for item in other {
-        same = expected.next() == Some(item) && same;
+    for item in one.iter().chain(other) {
+        same = expected.next() == Some(*item) && same;
     }
     if let Some(group) = end.group {
         same = expected.next() == Some(Item::Group(group)) && same;

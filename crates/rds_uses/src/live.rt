@@ -5,11 +5,14 @@ ghost use Rattle.rds_sync.specs.Totals.{totals_of};
 ghost use Rattle.rds_live.specs.Live.{HasHeard, by_rules, complete, live_of, report_of, signal_of};
 ghost use Rattle.rds_tool.specs.Outcome.{list_text};
 
-use rds_live::{Chunk, Live, ResumeError, StreamEnd};
+use rds_live::{Live, ResumeError, StreamEnd};
 use rds_stream::StreamError;
 use rds_sync::{Item, Rules, State};
 use rds_tool::{FromRead, ToWrite, ToolError, follow};
 use std::alloc::Global;
+
+/// How many items a byte may complete, at most.
+const ITEMS_A_BYTE: usize = 16;
 
 /// Two halves of a stream are the whole: what each gives, and what the end gives, are its report.
 pub fn in_halves<'r>(
@@ -17,15 +20,15 @@ pub fn in_halves<'r>(
     rules: &'r Rules,
     first: &[u8],
     second: &[u8],
-) -> Result<(Chunk<'r>, Chunk<'r>, StreamEnd), StreamError>
-    ensures items { IfOk result (λ r. r.0 ++ r.1 ++ group_item r.2.group
+) -> Result<(Vec<Item>, Vec<Item>, StreamEnd), StreamError>
+    ensures items { IfOk result (λ r. r.0.items ++ r.1.items ++ group_item r.2.group
         ≡ report_of (by_rules rules.now) (first.now ++ second.now)) }
     ensures totals { IfOk result (λ r. r.2.totals
         ≡ totals_of (report_of (by_rules rules.now) (first.now ++ second.now))) }
 {
-    let mut live = Live::new(alloc, rules);
-    let one = live.take(first)?;
-    let other = live.take(second)?;
+    let mut live = Live::new(alloc, rules)?;
+    let one = live.take_all(alloc, first)?;
+    let other = live.take_all(alloc, second)?;
     Ok((one, other, live.finish()))
 }
 
@@ -60,18 +63,18 @@ pub fn in_two_sittings<'r>(
     gaps: &'r [(u64, u64)],
     first: &[u8],
     second: &[u8],
-) -> Result<(Chunk<'r>, Chunk<'r>, StreamEnd), StreamError>
-    ensures items { IfOk result (λ r. r.0 ++ r.1 ++ group_item r.2.group
+) -> Result<(Vec<Item>, Vec<Item>, StreamEnd), StreamError>
+    ensures items { IfOk result (λ r. r.0.items ++ r.1.items ++ group_item r.2.group
         ≡ report_of (record { rules = rules.now; gaps = gaps.now }) (first.now ++ second.now)) }
     ensures totals { IfOk result (λ r. r.2.totals
         ≡ totals_of (report_of (record { rules = rules.now; gaps = gaps.now }) (first.now ++ second.now))) }
 {
     let mut live = Live::with_gaps(alloc, rules, gaps)?;
-    let one = live.take(first)?;
+    let one = live.take_all(alloc, first)?;
     let Ok(mut again) = anew(alloc, &live, rules, gaps) else {
         return Err(StreamError::OutOfMemory);
     };
-    let other = again.take(second)?;
+    let other = again.take_all(alloc, second)?;
     Ok((one, other, again.finish()))
 }
 
@@ -83,9 +86,10 @@ pub fn one_by_one<'r>(
 ) -> Result<Live<'r>, StreamError>
     ensures { IfOk result (λ live. live ≡ live_of (by_rules rules.now) bytes.now) }
 {
-    let mut live = Live::new(alloc, rules);
+    let mut live = Live::new(alloc, rules)?;
+    let mut items = Vec::with_capacity(alloc, ITEMS_A_BYTE)?;
     for byte in bytes {
-        live.take(&[*byte])?;
+        live.take(&[*byte], &mut items)?;
     }
     Ok(live)
 }
@@ -102,8 +106,7 @@ fn put_next(
     ensures items { IfOk result (λ _. (before : List ℕ) → HasHeard live.old before
         → items.old.items ≡ complete live.old.terms before → items.new.items ≡ complete live.old.terms (before ++ bytes.now)) }
 {
-    let chunk = live.take(bytes)?;
-    let mut found = chunk.iter().collect::<Vec<Item>>(alloc)?;
+    let mut found = live.take_all(alloc, bytes)?;
     items.append(&mut found)?;
     Ok(())
 }
@@ -129,7 +132,7 @@ pub fn cut_at(
 ) -> Result<Vec<Item>, StreamError>
     ensures { IfOk result (λ items. items.items ≡ report_of (by_rules rules.now) bytes.now) }
 {
-    let mut live = Live::new(alloc, rules);
+    let mut live = Live::new(alloc, rules)?;
     let mut items = Vec::new(alloc);
     let mut at = 0;
     for &cut in cuts {

@@ -21,18 +21,18 @@ nothing-heard live r is = is ∙ ap (λ (q : Terms). live_of q []) (sym (ap (λ 
 pub returns-clause-items : goal.returns-clause-items
 returns-clause-items c =
     let first = c.args.first.now in
-    let start = nothing-heard c.new-live.result (by_rules c.args.rules.now) c.new-live.ensures in
+    let start = nothing-heard c.in_ok-live.live (by_rules c.args.rules.now) c.in_ok-live.ensures.live in
     let half = c.in_ok-one.ensures.heard [] start in
-    joined first c.args.second.now (by_rules c.args.rules.now) c.new-live.result.terms c.take.new.self.terms c.take-2.new.self.terms c.in_ok-one.one c.in_ok-other.other (group_item c.finish.result.group)
-    (ap (λ (l : LiveOf). l.terms) c.new-live.ensures) c.in_ok-one.ensures.terms c.in_ok-other.ensures.terms
+    joined first c.args.second.now (by_rules c.args.rules.now) c.in_ok-live.live.terms c.take_all.new.self.terms c.take_all-2.new.self.terms c.in_ok-one.one.items c.in_ok-other.other.items (group_item c.finish.result.group)
+    (ap (λ (l : LiveOf). l.terms) c.in_ok-live.ensures.live) c.in_ok-one.ensures.terms c.in_ok-other.ensures.terms
     (c.in_ok-one.ensures.items [] start) (c.in_ok-other.ensures.items first half)
     (c.finish.ensures.group (first ++ c.args.second.now) (c.in_ok-other.ensures.heard first half))
 
 pub returns-clause-totals : goal.returns-clause-totals
 returns-clause-totals c =
     let first = c.args.first.now in
-    let start = nothing-heard c.new-live.result (by_rules c.args.rules.now) c.new-live.ensures in
+    let start = nothing-heard c.in_ok-live.live (by_rules c.args.rules.now) c.in_ok-live.ensures.live in
     let half = c.in_ok-one.ensures.heard [] start in
     subst (λ (q : Terms). c.finish.result.totals ≡ totals_of (report_of q (first ++ c.args.second.now)))
-    (c.in_ok-other.ensures.terms ∙ c.in_ok-one.ensures.terms ∙ ap (λ (l : LiveOf). l.terms) c.new-live.ensures)
+    (c.in_ok-other.ensures.terms ∙ c.in_ok-one.ensures.terms ∙ ap (λ (l : LiveOf). l.terms) c.in_ok-live.ensures.live)
     (c.finish.ensures.totals (first ++ c.args.second.now) (c.in_ok-other.ensures.heard first half))

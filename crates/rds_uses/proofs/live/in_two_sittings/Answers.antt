@@ -24,7 +24,7 @@ returns-clause-items c =
     let terms : Terms = record { rules = c.args.rules.now; gaps = c.args.gaps.now } in
     let start = nothing-heard c.in_ok-live.live terms c.in_ok-live.ensures.live in
     let half = subst (λ (live : LiveOf). HasHeard live first) (sym c.in-Ok.ensures.same) (c.in_ok-one.ensures.heard [] start) in
-    joined first c.args.second.now terms c.in_ok-live.live.terms c.in-Ok.again.terms c.take-2.new.self.terms c.in_ok-one.one c.in_ok-other.other (group_item c.finish.result.group)
+    joined first c.args.second.now terms c.in_ok-live.live.terms c.in-Ok.again.terms c.take_all-2.new.self.terms c.in_ok-one.one.items c.in_ok-other.other.items (group_item c.finish.result.group)
     (ap (λ (l : LiveOf). l.terms) c.in_ok-live.ensures.live) (ap (λ (l : LiveOf). l.terms) c.in-Ok.ensures.same ∙ c.in_ok-one.ensures.terms) c.in_ok-other.ensures.terms
     (c.in_ok-one.ensures.items [] start) (c.in_ok-other.ensures.items first half)
     (c.finish.ensures.group (first ++ c.args.second.now) (c.in_ok-other.ensures.heard first half))
