@@ -12,7 +12,7 @@ use Rattle.rds_sync.specs.Rules.{RuleNumbers}
 use Rattle.rds_sync.specs.Acquiring.{acquired}
 use Rattle.rds_sync.specs.Lawful.{IsLawful, IsBetweenGroups}
 use Rattle.rds_sync.specs.Loss.{IsLoss, are_too_many, none_bad}
-use Rattle.rds_sync.specs.Step.{run, step, items_at, locked_after, bad_with, group_after}
+use Rattle.rds_sync.specs.Step.{run, step, after_bit, items_at, locked_after, bad_with, group_after}
 use Rattle.rds_pieces.specs.Inside.RunLaws.{RunLaws}
 
 pub none_first : {A : Type 0} → (xs ys : List A) → xs ++ ys ≡ [] → xs ≡ []
@@ -58,21 +58,21 @@ same_state (Locked due number bad first) (Locked due2 number2 bad2 first2) = eli
 module _ (b : Signal) (rules : RuleNumbers) where
   -- one bit, as it is defined
   pub step-acquiring : (i x : ℕ) → acquired b rules i ≡ Some x → step b rules i Searching ≡ locked_after i x (none_bad rules.loss) x
-  step-acquiring i x e = rw (e, step) refl
+  step-acquiring i x e = rw (e, step, after_bit) refl
 
   pub items-acquiring : (i x : ℕ) → acquired b rules i ≡ Some x → items_at b rules i Searching ≡ Acquired i x ∷ group_after b rules x x i
-  items-acquiring i x e = rw (e, items_at) refl
+  items-acquiring i x e = rw (e, items_at, after_bit) refl
 
   pub step-searching : (i : ℕ) → acquired b rules i ≡ None → step b rules i Searching ≡ Searching
-  step-searching i e = rw (e, step) refl
+  step-searching i e = rw (e, step, after_bit) refl
 
   pub step-keeping : (i number : ℕ) (bad : Bad) (first : ℕ) → are_too_many rules.loss (bad_with b rules i number bad) ≡ false
       → step b rules i (Locked i number bad first) ≡ locked_after i number (bad_with b rules i number bad) first
-  step-keeping i number bad first h = rw (eq-eqb i i refl, h, step) refl
+  step-keeping i number bad first h = rw (eq-eqb i i refl, h, step, after_bit) refl
 
   pub step-losing : (i number : ℕ) (bad : Bad) (first : ℕ) → are_too_many rules.loss (bad_with b rules i number bad) ≡ true
       → step b rules i (Locked i number bad first) ≡ Searching
-  step-losing i number bad first h = rw (eq-eqb i i refl, h, step) refl
+  step-losing i number bad first h = rw (eq-eqb i i refl, h, step, after_bit) refl
 
 module _ (laws : RunLaws) (b : Signal) (rules : RuleNumbers) where
   -- the laws by counts of bits, where they are said by places
