@@ -26,8 +26,7 @@ code-totals-more words n d h =
 -- the totals of a group from those of its blocks, one after the other
 pub outcome-group : (a b c d : Outcome) (n : ℕ) → n ≡ (if list_all has_info (a ∷ b ∷ c ∷ d ∷ []) then 1 else 0)
     → (t : Totals) → t ≡ plus (plus (plus (outcome_totals a) (outcome_totals b)) (outcome_totals c)) (outcome_totals d)
-    → record { valid = t.valid; bursts = t.bursts; lost = t.lost; bits = t.bits; groups = 1; complete = n; acquired = t.acquired; losses = t.losses }
-    ≡ totals_of_codes (blocks (a ∷ b ∷ c ∷ d ∷ []) ∷ [])
+    → record t { groups = 1; complete = n } ≡ totals_of_codes (blocks (a ∷ b ∷ c ∷ d ∷ []) ∷ [])
 outcome-group a b c d n complete t is =
     let whole : n ≡ count_by is_whole (blocks (a ∷ b ∷ c ∷ d ∷ []) ∷ []) = omega (arith, complete) in
     rw is (same_counts (count was_valid) (count (has_span 1)) (count (has_span 2)) (count (has_span 3)) (count (has_span 4))
