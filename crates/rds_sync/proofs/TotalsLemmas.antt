@@ -60,30 +60,25 @@ four_blocks (w ∷ x ∷ y ∷ []) a b c d h = absurd (omega (arith, h))
 four_blocks (w ∷ x ∷ y ∷ z ∷ []) a b c d h = refl
 four_blocks (w ∷ x ∷ y ∷ z ∷ v ∷ bs) a b c d h = absurd (omega (arith, h))
 
--- the totals of a group from those of its blocks, one after the other
-pub group_totals : (g : Group) (a b c d : Block) (n : ℕ) → g.blocks ≡ a ∷ b ∷ c ∷ d ∷ [] → n ≡ count_by is_complete (GroupItem g ∷ [])
-    → (t : Totals) → t ≡ plus (plus (plus (block_totals a) (block_totals b)) (block_totals c)) (block_totals d)
-    → record t { groups = 1; complete = n } ≡ totals_of (GroupItem g ∷ [])
-group_totals g a b c d n blocks complete t is =
-    rw is (same (count is_valid) (count (is_corrected_by 1)) (count (is_corrected_by 2)) (count (is_corrected_by 3)) (count (is_corrected_by 4))
-    (count (is_corrected_by 5)) (count is_lost) (four bits_corrected) complete) where
-      four : (f : Block → ℕ) → f a + f b + f c + f d ≡ sum_blocks f (GroupItem g ∷ [])
-      four f = rw blocks (omega arith)
-
-      count : (p : Block → Bool) → (if p a then 1 else 0) + (if p b then 1 else 0) + (if p c then 1 else 0) + (if p d then 1 else 0) ≡ count_blocks p (GroupItem g ∷ [])
-      count p = four (λ (block : Block). if p block then 1 else 0)
-
-      same : {v v2 p p2 q q2 r r2 s s2 u u2 l l2 i i2 k k2 : ℕ} → v ≡ v2 → p ≡ p2 → q ≡ q2 → r ≡ r2 → s ≡ s2 → u ≡ u2 → l ≡ l2 → i ≡ i2 → k ≡ k2
-          → ◌≡◌ {A = Totals} (record { valid = v; bursts = p ∷ q ∷ r ∷ s ∷ u ∷ []; lost = l; bits = i; groups = 1; complete = k; acquired = 0; losses = 0 })
-          (record { valid = v2; bursts = p2 ∷ q2 ∷ r2 ∷ s2 ∷ u2 ∷ []; lost = l2; bits = i2; groups = 1; complete = k2; acquired = 0; losses = 0 })
-      same h1 h2 h3 h4 h5 h6 h7 h8 h9 = cc
-
 -- totals with the same counts
 pub same_counts : {v v2 p p2 q q2 r r2 s s2 u u2 l l2 i i2 g g2 k k2 a a2 o o2 : ℕ}
     → v ≡ v2 → p ≡ p2 → q ≡ q2 → r ≡ r2 → s ≡ s2 → u ≡ u2 → l ≡ l2 → i ≡ i2 → g ≡ g2 → k ≡ k2 → a ≡ a2 → o ≡ o2
     → ◌≡◌ {A = Totals} (record { valid = v; bursts = p ∷ q ∷ r ∷ s ∷ u ∷ []; lost = l; bits = i; groups = g; complete = k; acquired = a; losses = o })
     (record { valid = v2; bursts = p2 ∷ q2 ∷ r2 ∷ s2 ∷ u2 ∷ []; lost = l2; bits = i2; groups = g2; complete = k2; acquired = a2; losses = o2 })
 same_counts h1 h2 h3 h4 h5 h6 h7 h8 h9 h10 h11 h12 = cc
+
+-- the totals of a group from those of its blocks, one after the other
+pub group_totals : (g : Group) (a b c d : Block) (n : ℕ) → g.blocks ≡ a ∷ b ∷ c ∷ d ∷ [] → n ≡ count_by is_complete (GroupItem g ∷ [])
+    → (t : Totals) → t ≡ plus (plus (plus (block_totals a) (block_totals b)) (block_totals c)) (block_totals d)
+    → record t { groups = 1; complete = n } ≡ totals_of (GroupItem g ∷ [])
+group_totals g a b c d n blocks complete t is =
+    rw is (same_counts (count is_valid) (count (is_corrected_by 1)) (count (is_corrected_by 2)) (count (is_corrected_by 3)) (count (is_corrected_by 4))
+    (count (is_corrected_by 5)) (count is_lost) (four bits_corrected) refl complete refl refl) where
+      four : (f : Block → ℕ) → f a + f b + f c + f d ≡ sum_blocks f (GroupItem g ∷ [])
+      four f = rw blocks (omega arith)
+
+      count : (p : Block → Bool) → (if p a then 1 else 0) + (if p b then 1 else 0) + (if p c then 1 else 0) + (if p d then 1 else 0) ≡ count_blocks p (GroupItem g ∷ [])
+      count p = four (λ (block : Block). if p block then 1 else 0)
 
 -- two that are added come in any order
 pub plus_swap : (t u w : Totals) → plus (plus t u) w ≡ plus (plus t w) u
