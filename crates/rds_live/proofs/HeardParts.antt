@@ -24,7 +24,7 @@ use Rattle.rds_sync.specs.Groups.{group, group_of, block_at, blocks_at, wanted_b
 use Rattle.rds_sync.specs.Ranges.{farthest_reach}
 use Rattle.rds_sync.specs.Step.{items_of_end, run, step, items_at, locked_after, bad_with, group_after}
 use Rattle.rds_sync.specs.Laws.{AcquisitionsAreLate, StepsAreLawful}
-use Rattle.rds_live.proofs.Bits.{step-waiting, items-waiting, step-keeping, items-keeping, step-losing, items-losing}
+use Rattle.rds_live.proofs.Bits.{step-searching, items-searching, step-acquiring, items-acquiring, step-waiting, items-waiting, step-keeping, items-keeping, step-losing, items-losing}
 use Rattle.rds_live.specs.Moving.{IsPartHeard, moved_state, moved_item, moved_items}
 
 -- a test of each number of a range, by another that says the same there
@@ -149,24 +149,25 @@ module _ (whole part : Signal) (d from : ℕ) (h : IsPartHeard whole part d from
 
     module _ (reach : rules.reach ≤ farthest_reach) (late : AcquisitionsAreLate) (i : ℕ) (order : from ≤ i) (within : i < length_of part) where
       step_search-moved : step whole rules (i + d) Searching ≡ moved_state d (step part rules i Searching)
-      step_search-moved =
-          ap (λ (w : Option ℕ). elim w as (λ _. State) [ None ↦ Searching | Some x ↦ locked_after (i + d) x (none_bad rules.loss) x ]) (acquired-moved reach i order within)
-          ∙ at_case (acquired part rules i) where
-            at_case : (w : Option ℕ) → elim w as (λ _. State) [ None ↦ Searching | Some x ↦ locked_after (i + d) x (none_bad rules.loss) x ]
-                ≡ moved_state d (elim w as (λ _. State) [ None ↦ Searching | Some x ↦ locked_after i x (none_bad rules.loss) x ])
-            at_case None = refl
-            at_case (Some x) = locked-moved i x (none_bad rules.loss) x
+      step_search-moved = at_case (acquired part rules i) refl where
+        at_case : (w : Option ℕ) → acquired part rules i ≡ w → step whole rules (i + d) Searching ≡ moved_state d (step part rules i Searching)
+        at_case None e =
+            step-searching whole rules (i + d) (acquired-moved reach i order within ∙ e) ∙ ap (moved_state d) (sym (step-searching part rules i e))
+        at_case (Some x) e =
+            step-acquiring whole rules (i + d) x (acquired-moved reach i order within ∙ e)
+            ∙ locked-moved i x (none_bad rules.loss) x
+            ∙ ap (moved_state d) (sym (step-acquiring part rules i x e))
 
       items_search-moved : items_at whole rules (i + d) Searching ≡ moved_items d (items_at part rules i Searching)
-      items_search-moved =
-          ap (λ (w : Option ℕ). elim w as (λ _. List Item) [ None ↦ [] | Some x ↦ Acquired (i + d) x ∷ group_after whole rules x x (i + d) ]) (acquired-moved reach i order within)
-          ∙ at_case (acquired part rules i) refl where
-            at_case : (w : Option ℕ) → acquired part rules i ≡ w → elim w as (λ _. List Item) [ None ↦ [] | Some x ↦ Acquired (i + d) x ∷ group_after whole rules x x (i + d) ]
-                ≡ moved_items d (elim w as (λ _. List Item) [ None ↦ [] | Some x ↦ Acquired i x ∷ group_after part rules x x i ])
-            at_case None e = refl
-            at_case (Some x) e =
-                let place : 51 ≤ i = (late part rules i x e).0 in
-                ap (λ (items : List Item). Acquired (i + d) x ∷ items) (group_after-moved x x i (omega arith) within)
+      items_search-moved = at_case (acquired part rules i) refl where
+        at_case : (w : Option ℕ) → acquired part rules i ≡ w → items_at whole rules (i + d) Searching ≡ moved_items d (items_at part rules i Searching)
+        at_case None e =
+            items-searching whole rules (i + d) (acquired-moved reach i order within ∙ e) ∙ ap (moved_items d) (sym (items-searching part rules i e))
+        at_case (Some x) e =
+            let place : 51 ≤ i = (late part rules i x e).0 in
+            items-acquiring whole rules (i + d) x (acquired-moved reach i order within ∙ e)
+            ∙ ap (λ (items : List Item). Acquired (i + d) x ∷ items) (group_after-moved x x i (omega arith) within)
+            ∙ ap (moved_items d) (sym (items-acquiring part rules i x e))
 
       module _ (x : ℕ) (bad : Bad) (f : ℕ) (room : 26 * (x - f) + 25 ≤ i) where
         step_due-moved : step whole rules (i + d) (Locked (i + d) x bad f) ≡ moved_state d (step part rules i (Locked i x bad f))

@@ -17,7 +17,7 @@ use Rattle.rds_sync.specs.Step.{items_of_end, run, step, items_at, bad_with, gro
 use Rattle.rds_sync.specs.Decoding.{DecoderOf, GivesNext}
 use Rattle.rds_sync.specs.Lawful.{IsLawful}
 use Rattle.rds_live.specs.Places.{place_of, is_due_below}
-use Rattle.rds_live.proofs.Bits.{items-waiting, items-keeping, items-losing}
+use Rattle.rds_live.proofs.Bits.{items-searching, items-acquiring, items-waiting, items-keeping, items-losing}
 
 module _ (b : Signal) (rules : RuleNumbers) (to : ℕ) where
   abbrev Early : Item → Type 0
@@ -41,10 +41,12 @@ module _ (b : Signal) (rules : RuleNumbers) (to : ℕ) where
     at_case false = all-nil
 
   search-early : (i : ℕ) → i < to → All Early (items_at b rules i Searching)
-  search-early i h = at_case (acquired b rules i) where
-    at_case : (w : Option ℕ) → All Early (elim w as (λ _. List Item) [ None ↦ [] | Some x ↦ Acquired i x ∷ group_after b rules x x i ])
-    at_case None = all-nil
-    at_case (Some x) = all-cons (Acquired i x) (group_after b rules x x i) h (after-early x x i h)
+  search-early i h = at_case (acquired b rules i) refl where
+    at_case : (w : Option ℕ) → acquired b rules i ≡ w → All Early (items_at b rules i Searching)
+    at_case None e = subst (λ (items : List Item). All Early items) (sym (items-searching b rules i e)) all-nil
+    at_case (Some x) e =
+        subst (λ (items : List Item). All Early items) (sym (items-acquiring b rules i x e))
+        (all-cons (Acquired i x) (group_after b rules x x i) h (after-early x x i h))
 
   due-early : (i x : ℕ) (bad : Bad) (f : ℕ) → i < to → All Early (items_at b rules i (Locked i x bad f))
   due-early i x bad f h = at_case (are_too_many rules.loss (bad_with b rules i x bad)) refl where

@@ -1,6 +1,7 @@
 -- The totals of a run's items are small: a bit gives one group at most, and a block has 26 bits.
-use Rattle.std.proofs.Common.{◌≡◌, ℕ, zero, suc, ◌+◌, ◌-◌, ◌*◌, ◌^◌, ◌<◌, ◌≤◌, Bool, true, false, List, [], ◌∷◌, ◌++◌, take, drop, Option, Some, None, refl, sym, ap, ◌∙◌, subst, arith, lit≤}
-use Rattle.std.specs.Prelude.{sum_by, if◌then◌else◌, ◌==◌, nat_le, ◌&&◌, slice_range}
+use Rattle.std.proofs.Common.{◌≡◌, ℕ, zero, suc, ◌+◌, ◌-◌, ◌*◌, ◌^◌, ◌<◌, ◌≤◌, Bool, true, false, List, [], ◌∷◌, ◌++◌, take, drop, Option, Some, None, refl, sym, ap, ◌∙◌, subst, arith, lit≤, inl, inr}
+use Rattle.std.specs.Prelude.{sum_by, if◌then◌else◌, ◌==◌, nat_le, ◌&&◌}
+use Rattle.std.proofs.lemmas.Bool.{cases_Bool, cases_eq}
 use Rattle.std.proofs.lemmas.List.{take-append-drop}
 use Rattle.std.proofs.lemmas.Nat.{ones_le_self}
 use Rattle.rds_code.specs.declared.reading.Wanted.{Wanted}
@@ -27,6 +28,7 @@ use Rattle.rds_sync.specs.Step.{run, step, items_at, group_after, bad_with}
 use Rattle.rds_sync.specs.CodeLaws.{CodesTellTotals}
 use Rattle.rds_sync.specs.Codes.{Code, codes_of, totals_of_codes}
 use Rattle.rds_pieces.proofs.KeptLemmas.{codes-take}
+use Rattle.rds_pieces.proofs.RunFacts.{items-searching, items-acquiring, items-waiting, items-keeping, items-losing}
 use Rattle.rds_sync.specs.Totals.{totals_of, is_valid, is_lost, is_corrected_by, bits_corrected}
 
 pub at_most_more : (m n : ℕ) (t : Totals) → m ≤ n → IsAtMost m t → IsAtMost n t
@@ -205,21 +207,24 @@ module _ (b : Signal) (rules : RuleNumbers) (law : ReadsByRule) (few : rules.bur
     both_at_most m n xs ys h k = subst (λ (t : Totals). IsAtMost (m + n) t) (sym (join xs ys).joined) (at_most-plus m n (totals_of xs) (totals_of ys) h k)
 
     -- what one bit gives
+    gives : {given : List Item} {items : List Item} → given ≡ items → IsAtMost per_bit (totals_of items) → IsAtMost per_bit (totals_of given)
+    gives e small = subst (λ (is : List Item). IsAtMost per_bit (totals_of is)) (sym e) small
+
     bit_at_most : (i : ℕ) (s : State) → IsAtMost per_bit (totals_of (items_at b rules i s))
-    bit_at_most i Searching = at_case (acquired b rules i) where
-      at_case : (o : Option ℕ) → IsAtMost per_bit (totals_of (elim o [ None ↦ [] | Some x ↦ Acquired i x ∷ group_after b rules x x i ]))
-      at_case None = none_at_most per_bit
-      at_case (Some x) = at_most_more (1 + (2 ^ 28 - 4)) per_bit _ (lit≤ tt)
-          (both_at_most 1 (2 ^ 28 - 4) (Acquired i x ∷ []) (group_after b rules x x i) (acquired_at_most i x) (after_at_most x x i (x == 4)))
-    bit_at_most i (Locked due x bad f) = at_case (due == i) (are_too_many rules.loss (bad_with b rules i x bad)) where
-      at_case : (here lost : Bool) → IsAtMost per_bit (totals_of (elim here [
-        | false ↦ []
-        | true ↦ elim lost [ false ↦ group_after b rules f x i | true ↦ GroupItem (group b rules f x i) ∷ LostLock i ∷ [] ]
-      ]))
-      at_case false lost = none_at_most per_bit
-      at_case true false = at_most_more (2 ^ 28 - 4) per_bit _ (lit≤ tt) (after_at_most f x i (x == 4))
-      at_case true true = at_most_more (2 ^ 28 - 4 + 1) per_bit _ (lit≤ tt)
-          (both_at_most (2 ^ 28 - 4) 1 (GroupItem (group b rules f x i) ∷ []) (LostLock i ∷ []) (closed_at_most f x i) (lost_at_most i))
+    bit_at_most i Searching = at_case (acquired b rules i) refl where
+      at_case : (o : Option ℕ) → acquired b rules i ≡ o → IsAtMost per_bit (totals_of (items_at b rules i Searching))
+      at_case None e = gives (items-searching b rules i e) (none_at_most per_bit)
+      at_case (Some x) e = gives (items-acquiring b rules i x e) (at_most_more (1 + (2 ^ 28 - 4)) per_bit _ (lit≤ tt)
+          (both_at_most 1 (2 ^ 28 - 4) (Acquired i x ∷ []) (group_after b rules x x i) (acquired_at_most i x) (after_at_most x x i (x == 4))))
+    bit_at_most i (Locked due x bad f) = elim (cases_eq due i) [
+      | inr other ↦ gives (items-waiting b rules due x bad f i other) (none_at_most per_bit)
+      | inl here ↦ subst (λ (p : ℕ). IsAtMost per_bit (totals_of (items_at b rules i (Locked p x bad f)))) (sym here)
+          (elim (cases_Bool (are_too_many rules.loss (bad_with b rules i x bad))) [
+            | inr few ↦ gives (items-keeping b rules i x bad f few) (at_most_more (2 ^ 28 - 4) per_bit _ (lit≤ tt) (after_at_most f x i (x == 4)))
+            | inl many ↦ gives (items-losing b rules i x bad f many) (at_most_more (2 ^ 28 - 4 + 1) per_bit _ (lit≤ tt)
+                (both_at_most (2 ^ 28 - 4) 1 (GroupItem (group b rules f x i) ∷ []) (LostLock i ∷ []) (closed_at_most f x i) (lost_at_most i)))
+          ])
+    ]
 
     -- what a run gives
     pub run_at_most : (s : State) (a n : ℕ) → IsAtMost (per_bit * n) (totals_of (run b rules s a n).1)

@@ -5,7 +5,7 @@ use Rattle.std.specs.List.{list_all}
 use Rattle.std.proofs.lemmas.List.{take_more, map-append}
 use Rattle.std.proofs.lemmas.List.Sums.{sum_by-append}
 use Rattle.rds_sync.specs.declared.totals.Totals.{Totals}
-use Rattle.rds_sync.specs.Codes.{Outcome, Code, blocks, sum_outcomes, count_outcomes, is_good, is_unclear, has_span, bits_inverted, has_info, is_whole, totals_of_codes}
+use Rattle.rds_sync.specs.Codes.{Outcome, Code, blocks, sum_outcomes, count_outcomes, was_valid, was_lost, has_span, bits_inverted, has_info, is_whole, totals_of_codes}
 use Rattle.rds_sync.specs.Counting.{plus}
 use Rattle.rds_sync.specs.Inside.CodeTotals.{outcome_totals, packed, unpacked}
 use Rattle.rds_sync.specs.Words.{code_in}
@@ -26,12 +26,11 @@ code-totals-more words n d h =
 -- the totals of a group from those of its blocks, one after the other
 pub outcome-group : (a b c d : Outcome) (n : ℕ) → n ≡ (if list_all has_info (a ∷ b ∷ c ∷ d ∷ []) then 1 else 0)
     → (t : Totals) → t ≡ plus (plus (plus (outcome_totals a) (outcome_totals b)) (outcome_totals c)) (outcome_totals d)
-    → record { valid = t.valid; bursts = t.bursts; lost = t.lost; bits = t.bits; groups = 1; complete = n; acquired = t.acquired; losses = t.losses }
-    ≡ totals_of_codes (blocks (a ∷ b ∷ c ∷ d ∷ []) ∷ [])
+    → record t { groups = 1; complete = n } ≡ totals_of_codes (blocks (a ∷ b ∷ c ∷ d ∷ []) ∷ [])
 outcome-group a b c d n complete t is =
     let whole : n ≡ count_by is_whole (blocks (a ∷ b ∷ c ∷ d ∷ []) ∷ []) = omega (arith, complete) in
-    rw is (same_counts (count is_good) (count (has_span 1)) (count (has_span 2)) (count (has_span 3)) (count (has_span 4))
-    (count (has_span 5)) (count is_unclear) (four bits_inverted) refl whole refl refl) where
+    rw is (same_counts (count was_valid) (count (has_span 1)) (count (has_span 2)) (count (has_span 3)) (count (has_span 4))
+    (count (has_span 5)) (count was_lost) (four bits_inverted) refl whole refl refl) where
       four : (f : Outcome → ℕ) → f a + f b + f c + f d ≡ sum_outcomes f (blocks (a ∷ b ∷ c ∷ d ∷ []) ∷ [])
       four f = omega arith
 
@@ -56,6 +55,6 @@ pub packed-four : (a b c d : Outcome)
     → unpacked (packed a + packed b + packed c + packed d) ≡ plus (plus (plus (outcome_totals a) (outcome_totals b)) (outcome_totals c)) (outcome_totals d)
 packed-four a b c d =
     unpacked-bytes _ _ _ _ _ _ _ _ (bits_inverted a + bits_inverted b + bits_inverted c + bits_inverted d) (omega arith)
-    (few is_good) (few (has_span 1)) (few (has_span 2)) (few (has_span 3)) (few (has_span 4)) (few (has_span 5)) (few is_unclear) where
+    (few was_valid) (few (has_span 1)) (few (has_span 2)) (few (has_span 3)) (few (has_span 4)) (few (has_span 5)) (few was_lost) where
       few : (p : Outcome → Bool) → (if p a then 1 else 0) + (if p b then 1 else 0) + (if p c then 1 else 0) + (if p d then 1 else 0) < 256
       few p = omega (arith, one-most (p a), one-most (p b), one-most (p c), one-most (p d))

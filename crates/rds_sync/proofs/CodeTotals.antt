@@ -11,7 +11,7 @@ use Rattle.rds_sync.specs.declared.item.Item.{Item}
 use Rattle.rds_sync.specs.declared.item.Item.TheVariants.{Acquired, Group, LostLock}
 use Rattle.rds_sync.specs.Groups.{info_of}
 use Rattle.rds_sync.specs.Totals.{sum_blocks, count_blocks, is_valid, is_lost, is_corrected_by, bits_corrected, is_acquired, is_group, is_complete, is_loss}
-use Rattle.rds_sync.specs.Codes.{Outcome, Code, locked, blocks, ended, outcome_of, code_of, codes_of, sum_outcomes, count_outcomes, is_good, is_unclear, has_span, bits_inverted, has_info, is_locked, is_blocks, is_whole, is_ended, totals_of_codes}
+use Rattle.rds_sync.specs.Codes.{Outcome, Code, locked, blocks, ended, outcome_of, code_of, codes_of, sum_outcomes, count_outcomes, was_valid, was_lost, has_span, bits_inverted, has_info, is_locked, is_blocks, is_whole, is_ended, totals_of_codes}
 use Rattle.rds_sync.specs.CodeLaws.{CodesTellTotals, CodesTellRanges}
 use Rattle.rds_sync.proofs.TotalsLemmas.{same_counts}
 
@@ -43,13 +43,13 @@ count_is p q e = sum_is (λ b. one_if (p b)) (λ o. one_if (q o)) (λ b. ap one_
 number_is : (p : Item → Bool) (q : Code → Bool) → ((item : Item) → p item ≡ q (code_of item)) → (items : List Item) → count_by p items ≡ count_by q (codes_of items)
 number_is p q e = sum-through (λ i. one_if (p i)) (λ c. one_if (q c)) code_of (λ i. ap one_if (e i))
 
-pub valid_is : (b : Block) → is_valid b ≡ is_good (outcome_of b)
+pub valid_is : (b : Block) → is_valid b ≡ was_valid (outcome_of b)
 valid_is Missing = refl
 valid_is (Read (Valid o info)) = refl
 valid_is (Read (Corrected o info e)) = refl
 valid_is (Read Lost) = refl
 
-lost_is : (b : Block) → is_lost b ≡ is_unclear (outcome_of b)
+lost_is : (b : Block) → is_lost b ≡ was_lost (outcome_of b)
 lost_is Missing = refl
 lost_is (Read (Valid o info)) = refl
 lost_is (Read (Corrected o info e)) = refl
@@ -95,13 +95,13 @@ loss_is (LostLock a) = refl
 
 pub codes_tell_totals : CodesTellTotals
 codes_tell_totals items =
-    same_counts (count_is is_valid is_good valid_is items)
+    same_counts (count_is is_valid was_valid valid_is items)
     (count_is (is_corrected_by 1) (has_span 1) (corrected_is 1) items)
     (count_is (is_corrected_by 2) (has_span 2) (corrected_is 2) items)
     (count_is (is_corrected_by 3) (has_span 3) (corrected_is 3) items)
     (count_is (is_corrected_by 4) (has_span 4) (corrected_is 4) items)
     (count_is (is_corrected_by 5) (has_span 5) (corrected_is 5) items)
-    (count_is is_lost is_unclear lost_is items)
+    (count_is is_lost was_lost lost_is items)
     (sum_is bits_corrected bits_inverted bits_are items)
     (number_is is_group is_blocks group_is items)
     (number_is is_complete is_whole complete_is items)

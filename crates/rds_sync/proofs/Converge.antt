@@ -16,7 +16,7 @@ use Rattle.rds_sync.specs.Lawful.{IsLawful}
 use Rattle.rds_code.specs.declared.offset.Offset.{Offset}
 use Rattle.rds_code.specs.Offsets.{number}
 use Rattle.rds_sync.specs.Acquiring.{acquired, has_number, number_after, has_partner, with_partner}
-use Rattle.rds_sync.specs.Step.{run, step, locked_after, bad_with}
+use Rattle.rds_sync.specs.Step.{run, step, after_bit, locked_after, bad_with}
 use Rattle.rds_sync.specs.Convergence.{IsSound, IsLastFour, sound_blocks, SoundRangesHaveFours, RunsConverge}
 use Rattle.rds_sync.proofs.RivalLemmas.{every_26, few_in_phase}
 
@@ -37,7 +37,7 @@ module _ (b : Signal) (rules : RuleNumbers) where
       rw (suc-add, e) (after_more (step b rules a s) (a + 1) m n)
 
   step_late : (due num : ℕ) (bad : Bad) (f p : ℕ) → eqb due p ≡ false → step b rules p (Locked due num bad f) ≡ Locked due num bad f
-  step_late due num bad f p e = rw (e, step) refl
+  step_late due num bad f p e = rw (e, step, after_bit) refl
 
   waits : (num : ℕ) (bad : Bad) (f p d : ℕ) → after (Locked (p + d) num bad f) p d ≡ Locked (p + d) num bad f
   waits num bad f p zero = refl
@@ -48,10 +48,10 @@ module _ (b : Signal) (rules : RuleNumbers) where
 
   read_step : (i num : ℕ) (bd : Bad) (f : ℕ) → are_too_many rules.loss (bad_with b rules i num bd) ≡ false
       → step b rules i (Locked i num bd f) ≡ locked_after i num (bad_with b rules i num bd) f
-  read_step i num bd f h = rw (eq-eqb i i refl, h, step) refl
+  read_step i num bd f h = rw (eq-eqb i i refl, h, step, after_bit) refl
 
   lost_step : (i num : ℕ) (bd : Bad) (f : ℕ) → are_too_many rules.loss (bad_with b rules i num bd) ≡ true → step b rules i (Locked i num bd f) ≡ Searching
-  lost_step i num bd f h = rw (eq-eqb i i refl, h, step) refl
+  lost_step i num bd f h = rw (eq-eqb i i refl, h, step, after_bit) refl
 
   -- how many of the next n blocks of a lock are good
   abbrev good_blocks : ℕ → ℕ → ℕ → ℕ
@@ -145,10 +145,10 @@ module _ (b : Signal) (rules : RuleNumbers) where
       partner_is _ (number o.0) x (sym (ap (λ (w : Option Offset). elim w as (λ _. Option ℕ) [ None ↦ None | Some o ↦ with_partner b rules i (number o) ]) o.1) ∙ e) ∙ o.2
 
   search_step : (i : ℕ) → acquired b rules i ≡ None → step b rules i Searching ≡ Searching
-  search_step i e = rw (e, step) refl
+  search_step i e = rw (e, step, after_bit) refl
 
   lock_step : (i x : ℕ) → acquired b rules i ≡ Some x → step b rules i Searching ≡ locked_after i x (none_bad rules.loss) x
-  lock_step i x e = rw (e, step) refl
+  lock_step i x e = rw (e, step, after_bit) refl
 
   -- a search locks at the first place that acquires
   finds : (d q x : ℕ) → ((r : ℕ) → q ≤ r → r < q + d → acquired b rules r ≡ None) → acquired b rules (q + d) ≡ Some x

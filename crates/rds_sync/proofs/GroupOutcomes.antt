@@ -13,7 +13,7 @@ use Rattle.rds_sync.specs.Acquiring.{has_number}
 use Rattle.rds_sync.specs.Rules.{RuleNumbers}
 use Rattle.rds_sync.specs.Lawful.{HaveRoom}
 use Rattle.rds_sync.specs.Groups.{block_at, wanted_beside, group}
-use Rattle.rds_sync.specs.Codes.{Outcome, outcome_of, is_good}
+use Rattle.rds_sync.specs.Codes.{Outcome, outcome_of, was_valid}
 use Rattle.rds_sync.specs.Marks.{good_at, is_read, last_read}
 use Rattle.rds_sync.proofs.HeardLemmas.{good-reading}
 use Rattle.rds_sync.proofs.CodeTotals.{valid_is}
@@ -87,11 +87,11 @@ module _ (b : Signal) (rules : RuleNumbers) (f x p : ℕ) where
       ∙ last_by f x one order four
 
   -- a block that was read is valid where its place has its number
-  pub good_block : (wanted : Wanted) (y : ℕ) → f ≤ y → y ≤ x → HaveRoom f x p → is_good (outcome_of (block_at b rules f x p wanted y)) ≡ has_number b (p - 26 * (x - y)) y
+  pub good_block : (wanted : Wanted) (y : ℕ) → f ≤ y → y ≤ x → HaveRoom f x p → was_valid (outcome_of (block_at b rules f x p wanted y)) ≡ has_number b (p - 26 * (x - y)) y
   good_block wanted y low high room =
       let place : ℕ = p - 26 * (x - y) in
       let late : 25 ≤ place = omega (arith, room) in
-      ap (λ (t : Bool). is_good (outcome_of (if t then Read (reading_at b place y wanted rules.burst) else Missing))) (ap₂ (λ (s t : Bool). s && t) (le-leb f y low) (le-leb y x high))
+      ap (λ (t : Bool). was_valid (outcome_of (if t then Read (reading_at b place y wanted rules.burst) else Missing))) (ap₂ (λ (s t : Bool). s && t) (le-leb f y low) (le-leb y x high))
       ∙ sym (valid_is (Read (reading_at b place y wanted rules.burst)))
       ∙ good-reading b place y (heard b place) wanted rules.burst (reading_at b place y wanted rules.burst) late refl refl
 

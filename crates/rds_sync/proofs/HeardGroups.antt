@@ -1,19 +1,18 @@
 -- Whole groups that were heard at once.
 use Rattle.std.proofs.Common.{◌≡◌, ◌+◌, ◌-◌, ◌*◌, ◌<◌, ◌≤◌, ℕ, zero, suc, List, [], ◌∷◌, Bool, false, map, refl, sym, ap, ap₂, subst, ◌∙◌, arith}
-use Rattle.rds_code.specs.declared.reading.Reading.TheVariants.{Corrected, Lost, Valid}
 use Rattle.rds_stream.specs.Recording.{Signal}
 use Rattle.rds_sync.specs.declared.item.Block.{Block}
-use Rattle.rds_sync.specs.declared.item.Block.TheVariants.{Missing, Read}
 use Rattle.rds_sync.specs.declared.item.Group.{Group}
 use Rattle.rds_sync.specs.declared.loss.Bad.{Bad}
 use Rattle.rds_sync.specs.declared.loss.Loss.{Loss}
-use Rattle.rds_sync.specs.Codes.{Outcome, is_good, outcome_of}
+use Rattle.rds_sync.specs.Codes.{Outcome, was_valid, outcome_of}
 use Rattle.rds_sync.specs.Groups.{blocks_at, group, group_of}
 use Rattle.rds_sync.specs.Inside.WholeGroups.{IsWhole, outcomes_at}
 use Rattle.rds_sync.specs.Loss.{IsLawfulBad, are_too_many, bad_after}
 use Rattle.rds_sync.specs.Marks.{bad_over}
 use Rattle.rds_sync.specs.Rules.{RuleNumbers}
 use Rattle.rds_sync.specs.Totals.{is_valid}
+use Rattle.rds_sync.proofs.CodeTotals.{valid_is}
 
 -- what holds of the first four holds of each of them
 pub each-of-four : (P : ℕ → Type 0) → P 0 → P 1 → P 2 → P 3 → (k : ℕ) → k < 4 → P k
@@ -22,13 +21,6 @@ each-of-four P one two three four (suc zero) h = two
 each-of-four P one two three four (suc (suc zero)) h = three
 each-of-four P one two three four (suc (suc (suc zero))) h = four
 each-of-four P one two three four (suc (suc (suc (suc k)))) h = absurd (omega (arith, h))
-
--- a block is good where it is valid
-pub good_valid : (block : Block) → is_valid block ≡ is_good (outcome_of block)
-good_valid Missing = refl
-good_valid (Read (Valid o info)) = refl
-good_valid (Read (Corrected o info e)) = refl
-good_valid (Read Lost) = refl
 
 -- a group of these blocks, with what is kept of the bad ones by how they came out
 pub whole-is : (b : Signal) (rules : RuleNumbers) (due : ℕ) (loss : Loss) (place : ℕ) (bs : List Block) (os : List Outcome) (before after : Bad) (given : Group)
@@ -54,9 +46,9 @@ module _ (loss : Loss) (bs : List Block) (a b c d : Block) (are : bs ≡ a ∷ b
   over blocks k = bad_over loss (map outcome_of blocks) bad 1 k
 
   step : (t : Bool) (block : Block) → t ≡ is_valid block → (now then before : Bad) → now ≡ before → then ≡ bad_after loss t now
-      → then ≡ bad_after loss (is_good (outcome_of block)) before
+      → then ≡ bad_after loss (was_valid (outcome_of block)) before
   step t block t_is now then before now_is then_is =
-      then_is ∙ ap₂ (λ (valid : Bool) (kept : Bad). bad_after loss valid kept) (t_is ∙ good_valid block) now_is
+      then_is ∙ ap₂ (λ (good : Bool) (kept : Bad). bad_after loss good kept) (t_is ∙ valid_is block) now_is
 
   over-one : one ≡ over (a ∷ b ∷ c ∷ d ∷ []) 1
   over-one = step g a g_is bad one bad refl one_is

@@ -27,7 +27,7 @@ use Rattle.rds_sync.specs.Rules.{RuleNumbers}
 use Rattle.rds_sync.specs.Step.{items_at, run, locked_after, bad_with}
 use Rattle.rds_sync.specs.Totals.{is_valid}
 use Rattle.rds_sync.specs.Words.{nibble, word_of_blocks}
-use Rattle.rds_sync.proofs.CleanGroups.{good-only}
+use Rattle.rds_sync.proofs.CleanGroups.{valid-only}
 use Rattle.rds_sync.proofs.CodePartLemmas.{behind-assoc}
 use Rattle.rds_sync.proofs.GroupBlocks.{block_at-read, block_at-missing}
 use Rattle.rds_sync.proofs.GroupOutcomes.{good_block}
@@ -77,7 +77,7 @@ module _ (b : Signal) (rules : RuleNumbers) (f n p : ℕ) where
   valid-is : (wanted : Wanted) (y place : ℕ) → f ≤ y → y ≤ n → HaveRoom f n p → p - 26 * (n - y) ≡ place → has_number b place y ≡ true
       → nibble (outcome_of (block_at b rules f n p wanted y)) ≡ 1
   valid-is wanted y place low high room there valid =
-      ap (λ (o : Outcome). nibble o) (good-only _ (good_block b rules f n p wanted y low high room ∙ ap (λ (q : ℕ). has_number b q y) there ∙ valid))
+      ap (λ (o : Outcome). nibble o) (valid-only _ (good_block b rules f n p wanted y low high room ∙ ap (λ (q : ℕ). has_number b q y) there ∙ valid))
 
 -- the word of a group, by the four bits of its blocks
 word-are : (b : Signal) (rules : RuleNumbers) (f n p k l m r : ℕ) → nibble (outcome_of (block_at b rules f n p Either 1)) ≡ k

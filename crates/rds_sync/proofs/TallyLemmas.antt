@@ -1,12 +1,12 @@
 -- Totals of items, of which the common ones are only counted.
 use Rattle.std.proofs.Common.{◌≡◌, ◌+◌, ◌<◌, ℕ, List, [], ◌∷◌, length, take, get_or, ap, ap₂, arith, refl, sym, ◌∙◌}
 use Rattle.std.proofs.lemmas.List.{take_more}
-use Rattle.rds_sync.specs.Counting.{plus, whole_totals}
+use Rattle.rds_sync.specs.Counting.{plus}
 use Rattle.rds_sync.specs.Totals.{totals_of}
 use Rattle.rds_sync.specs.declared.item.Item.{Item}
 use Rattle.rds_sync.specs.declared.item.Item.TheVariants.{Acquired, LostLock}
 use Rattle.rds_sync.specs.declared.totals.Totals.{Totals}
-use Rattle.rds_sync.specs.Inside.Tallies.{told}
+use Rattle.rds_sync.specs.Inside.Tallies.{told, whole_totals}
 use Rattle.rds_sync.proofs.TotalsLemmas.{totals_of-append}
 
 -- totals with the same counts

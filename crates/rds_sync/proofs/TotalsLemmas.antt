@@ -8,7 +8,8 @@ use Rattle.rds_sync.specs.declared.item.Item.{Item}
 use Rattle.rds_sync.specs.declared.item.Item.TheVariants.{Group as GroupItem}
 use Rattle.rds_sync.specs.declared.totals.Totals.{Totals}
 use Rattle.rds_sync.specs.Totals.{totals_of, sum_blocks, count_blocks, is_valid, is_lost, is_corrected_by, bits_corrected, is_complete}
-use Rattle.rds_sync.specs.Counting.{plus, whole_totals, block_totals, IsAtMost, IsRest}
+use Rattle.rds_sync.specs.Counting.{plus, IsAtMost, IsRest}
+use Rattle.rds_sync.specs.Inside.Tallies.{whole_totals, block_totals}
 
 -- the totals of two lists, one after the other
 pub totals_of-append : (xs ys : List Item) → totals_of (xs ++ ys) ≡ plus (totals_of xs) (totals_of ys)
@@ -33,16 +34,7 @@ IsAtMost-more m n t h a = record {
 
 -- small totals are small with a group's own counts too
 pub IsAtMost-group : (t : Totals) (complete : ℕ) → complete ≤ 1 → IsAtMost 1020 t
-    → IsAtMost 1024 (record {
-      valid = t.valid;
-      bursts = t.bursts;
-      lost = t.lost;
-      bits = t.bits;
-      groups = 1;
-      complete = complete;
-      acquired = t.acquired;
-      losses = t.losses;
-    })
+    → IsAtMost 1024 (record t { groups = 1; complete = complete })
 IsAtMost-group t complete h a = record {
   valid = omega (arith, a.valid);
   burst1 = omega (arith, a.burst1);
@@ -68,31 +60,25 @@ four_blocks (w ∷ x ∷ y ∷ []) a b c d h = absurd (omega (arith, h))
 four_blocks (w ∷ x ∷ y ∷ z ∷ []) a b c d h = refl
 four_blocks (w ∷ x ∷ y ∷ z ∷ v ∷ bs) a b c d h = absurd (omega (arith, h))
 
--- the totals of a group from those of its blocks, one after the other
-pub group_totals : (g : Group) (a b c d : Block) (n : ℕ) → g.blocks ≡ a ∷ b ∷ c ∷ d ∷ [] → n ≡ count_by is_complete (GroupItem g ∷ [])
-    → (t : Totals) → t ≡ plus (plus (plus (block_totals a) (block_totals b)) (block_totals c)) (block_totals d)
-    → record { valid = t.valid; bursts = t.bursts; lost = t.lost; bits = t.bits; groups = 1; complete = n; acquired = t.acquired; losses = t.losses }
-    ≡ totals_of (GroupItem g ∷ [])
-group_totals g a b c d n blocks complete t is =
-    rw is (same (count is_valid) (count (is_corrected_by 1)) (count (is_corrected_by 2)) (count (is_corrected_by 3)) (count (is_corrected_by 4))
-    (count (is_corrected_by 5)) (count is_lost) (four bits_corrected) complete) where
-      four : (f : Block → ℕ) → f a + f b + f c + f d ≡ sum_blocks f (GroupItem g ∷ [])
-      four f = rw blocks (omega arith)
-
-      count : (p : Block → Bool) → (if p a then 1 else 0) + (if p b then 1 else 0) + (if p c then 1 else 0) + (if p d then 1 else 0) ≡ count_blocks p (GroupItem g ∷ [])
-      count p = four (λ (block : Block). if p block then 1 else 0)
-
-      same : {v v2 p p2 q q2 r r2 s s2 u u2 l l2 i i2 k k2 : ℕ} → v ≡ v2 → p ≡ p2 → q ≡ q2 → r ≡ r2 → s ≡ s2 → u ≡ u2 → l ≡ l2 → i ≡ i2 → k ≡ k2
-          → ◌≡◌ {A = Totals} (record { valid = v; bursts = p ∷ q ∷ r ∷ s ∷ u ∷ []; lost = l; bits = i; groups = 1; complete = k; acquired = 0; losses = 0 })
-          (record { valid = v2; bursts = p2 ∷ q2 ∷ r2 ∷ s2 ∷ u2 ∷ []; lost = l2; bits = i2; groups = 1; complete = k2; acquired = 0; losses = 0 })
-      same h1 h2 h3 h4 h5 h6 h7 h8 h9 = cc
-
 -- totals with the same counts
 pub same_counts : {v v2 p p2 q q2 r r2 s s2 u u2 l l2 i i2 g g2 k k2 a a2 o o2 : ℕ}
     → v ≡ v2 → p ≡ p2 → q ≡ q2 → r ≡ r2 → s ≡ s2 → u ≡ u2 → l ≡ l2 → i ≡ i2 → g ≡ g2 → k ≡ k2 → a ≡ a2 → o ≡ o2
     → ◌≡◌ {A = Totals} (record { valid = v; bursts = p ∷ q ∷ r ∷ s ∷ u ∷ []; lost = l; bits = i; groups = g; complete = k; acquired = a; losses = o })
     (record { valid = v2; bursts = p2 ∷ q2 ∷ r2 ∷ s2 ∷ u2 ∷ []; lost = l2; bits = i2; groups = g2; complete = k2; acquired = a2; losses = o2 })
 same_counts h1 h2 h3 h4 h5 h6 h7 h8 h9 h10 h11 h12 = cc
+
+-- the totals of a group from those of its blocks, one after the other
+pub group_totals : (g : Group) (a b c d : Block) (n : ℕ) → g.blocks ≡ a ∷ b ∷ c ∷ d ∷ [] → n ≡ count_by is_complete (GroupItem g ∷ [])
+    → (t : Totals) → t ≡ plus (plus (plus (block_totals a) (block_totals b)) (block_totals c)) (block_totals d)
+    → record t { groups = 1; complete = n } ≡ totals_of (GroupItem g ∷ [])
+group_totals g a b c d n blocks complete t is =
+    rw is (same_counts (count is_valid) (count (is_corrected_by 1)) (count (is_corrected_by 2)) (count (is_corrected_by 3)) (count (is_corrected_by 4))
+    (count (is_corrected_by 5)) (count is_lost) (four bits_corrected) refl complete refl refl) where
+      four : (f : Block → ℕ) → f a + f b + f c + f d ≡ sum_blocks f (GroupItem g ∷ [])
+      four f = rw blocks (omega arith)
+
+      count : (p : Block → Bool) → (if p a then 1 else 0) + (if p b then 1 else 0) + (if p c then 1 else 0) + (if p d then 1 else 0) ≡ count_blocks p (GroupItem g ∷ [])
+      count p = four (λ (block : Block). if p block then 1 else 0)
 
 -- two that are added come in any order
 pub plus_swap : (t u w : Totals) → plus (plus t u) w ≡ plus (plus t w) u
@@ -142,15 +128,6 @@ rest_is part whole rest is =
     (less _ _ _ (ap (λ (t : Totals). t.complete) is.joined))
     (less _ _ _ (ap (λ (t : Totals). t.acquired) is.joined))
     (less _ _ _ (ap (λ (t : Totals). t.losses) is.joined))
-    ∙ ap (λ (bursts : List ℕ). record {
-      valid = rest.valid;
-      bursts = bursts;
-      lost = rest.lost;
-      bits = rest.bits;
-      groups = rest.groups;
-      complete = rest.complete;
-      acquired = rest.acquired;
-      losses = rest.losses;
-    }) (sym (five_numbers rest.bursts is.spans)) where
+    ∙ ap (λ (bursts : List ℕ). record rest { bursts = bursts }) (sym (five_numbers rest.bursts is.spans)) where
       less : (a b c : ℕ) → a ≡ b + c → a - b ≡ c
       less a b c h = omega (arith, h)

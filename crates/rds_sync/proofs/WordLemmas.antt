@@ -1,7 +1,7 @@
 -- Codes as words of 16 bits.
 use Rattle.std.proofs.Common.{◌≡◌, ◌≢◌, ℕ, zero, suc, ◌+◌, ◌-◌, ◌*◌, ◌/◌, ◌%◌, ◌<◌, ◌≤◌, [], ◌∷◌, refl, ap, ◌∙◌, arith}
 use Rattle.std.proofs.lemmas.Bool.{ne_eqb, lt-leb, le-leb}
-use Rattle.rds_sync.specs.Codes.{Outcome, unread, good, unclear, corrected, locked, blocks, ended}
+use Rattle.rds_sync.specs.Codes.{Outcome, missing, valid, lost, corrected, locked, blocks, ended}
 use Rattle.rds_sync.specs.Words.{nibble, outcome_at, IsShort, blocks_in, code_in, WordsTellCodes}
 
 -- four bits tell an outcome
@@ -10,9 +10,9 @@ pub record IsNibble (o : Outcome) : Type 0 where
   pub back : outcome_at (nibble o) ≡ o
 
 nibble-is : (o : Outcome) → IsShort o → IsNibble o
-nibble-is unread h = record { few = omega arith; back = refl }
-nibble-is good h = record { few = omega arith; back = refl }
-nibble-is unclear h = record { few = omega arith; back = refl }
+nibble-is missing h = record { few = omega arith; back = refl }
+nibble-is valid h = record { few = omega arith; back = refl }
+nibble-is lost h = record { few = omega arith; back = refl }
 nibble-is (corrected zero n) h = absurd (omega (arith, h.0))
 nibble-is (corrected (suc zero) zero) h = absurd (omega (arith, h.2))
 nibble-is (corrected (suc zero) (suc zero)) h = record { few = omega arith; back = refl }
@@ -60,10 +60,10 @@ words_tell_codes (blocks (o ∷ p ∷ [])) h = absurd (omega (arith, h.0))
 words_tell_codes (blocks (o ∷ p ∷ q ∷ [])) h = absurd (omega (arith, h.0))
 words_tell_codes (blocks (o ∷ p ∷ q ∷ r ∷ s ∷ os)) h = absurd (omega (arith, h.0))
 words_tell_codes (blocks (o ∷ p ∷ q ∷ r ∷ [])) h =
-    let a = nibble-is o (h.1 0 unread (omega arith)) in
-    let b = nibble-is p (h.1 1 unread (omega arith)) in
-    let c = nibble-is q (h.1 2 unread (omega arith)) in
-    let d = nibble-is r (h.1 3 unread (omega arith)) in
+    let a = nibble-is o (h.1 0 missing (omega arith)) in
+    let b = nibble-is p (h.1 1 missing (omega arith)) in
+    let c = nibble-is q (h.1 2 missing (omega arith)) in
+    let d = nibble-is r (h.1 3 missing (omega arith)) in
     let fa = a.few in
     let fb = b.few in
     let fc = c.few in

@@ -10,12 +10,11 @@ use Rattle.rds_sync.specs.declared.item.Item.{Item}
 use Rattle.rds_sync.specs.declared.item.Item.TheVariants.{Acquired, Group, LostLock}
 use Rattle.rds_sync.specs.declared.totals.Totals.{Totals}
 
--- how a block came out: missing (`unread`), valid (`good`), lost (`unclear`), or corrected, with the span of its burst and how many
--- bits were inverted
+-- how a block came out: missing, valid, lost, or corrected, with the span of its burst and how many bits were inverted
 pub data Outcome : Type 0 where
-  unread : Outcome
-  good : Outcome
-  unclear : Outcome
+  missing : Outcome
+  valid : Outcome
+  lost : Outcome
   corrected : ℕ → ℕ → Outcome
 
 -- an acquisition, with the number of its block; a group; a loss
@@ -26,10 +25,10 @@ pub data Code : Type 0 where
 
 -- how this block came out
 abbrev pub outcome_of : Block → Outcome
-outcome_of Missing = unread
-outcome_of (Read (Valid o info)) = good
+outcome_of Missing = missing
+outcome_of (Read (Valid o info)) = valid
 outcome_of (Read (Corrected o info e)) = corrected (span e) (count_ones e)
-outcome_of (Read Lost) = unclear
+outcome_of (Read Lost) = lost
 
 -- the code of an item
 abbrev pub code_of : Item → Code
@@ -84,15 +83,14 @@ pub record AreLocks (kept : KeptOf) : Type 0 where
 
 -- ---- totals
 
--- valid: what a rule of loss calls good
-abbrev pub is_good : Outcome → Bool
-is_good good = true
-is_good o = false
+-- what a rule of loss calls good
+abbrev pub was_valid : Outcome → Bool
+was_valid valid = true
+was_valid o = false
 
--- lost
-abbrev pub is_unclear : Outcome → Bool
-is_unclear unclear = true
-is_unclear o = false
+abbrev pub was_lost : Outcome → Bool
+was_lost lost = true
+was_lost o = false
 
 -- corrected, by a burst of this span
 abbrev pub has_span : ℕ → Outcome → Bool
@@ -106,7 +104,7 @@ bits_inverted o = 0
 
 -- valid or corrected, so that it has an information word
 abbrev pub has_info : Outcome → Bool
-has_info good = true
+has_info valid = true
 has_info (corrected s n) = true
 has_info o = false
 
@@ -133,10 +131,10 @@ is_ended code = false
 -- the same twelve counts as those of items (`Totals`)
 abbrev pub totals_of_codes : List Code → Totals
 totals_of_codes codes = record {
-  valid = count_outcomes is_good codes;
+  valid = count_outcomes was_valid codes;
   bursts = count_outcomes (has_span 1) codes ∷ count_outcomes (has_span 2) codes ∷ count_outcomes (has_span 3) codes
       ∷ count_outcomes (has_span 4) codes ∷ count_outcomes (has_span 5) codes ∷ [];
-  lost = count_outcomes is_unclear codes;
+  lost = count_outcomes was_lost codes;
   bits = sum_outcomes bits_inverted codes;
   groups = count_by is_blocks codes;
   complete = count_by is_whole codes;

@@ -1,10 +1,9 @@
 -- How totals go together: the sum of two, what is left of one, and bounds under which no sum is too great. Cited by
 -- `Totals::of_end`, `of_items`, `of_item`, `plus` and `less`, by `Codes::totals` and `totals_of_first`, and by the law `totals_join`.
-use Rattle.std.specs.Prelude.{◌≡◌, ℕ, ◌+◌, ◌*◌, ◌^◌, ◌<◌, ◌≤◌, List, [], ◌∷◌, ◌++◌, length, slice_index, if◌then◌else◌}
-use Rattle.rds_sync.specs.declared.item.Block.{Block}
+use Rattle.std.specs.Prelude.{◌≡◌, ℕ, ◌+◌, ◌^◌, ◌<◌, ◌≤◌, List, [], ◌∷◌, ◌++◌, length, slice_index}
 use Rattle.rds_sync.specs.declared.item.Item.{Item}
 use Rattle.rds_sync.specs.declared.totals.Totals.{Totals}
-use Rattle.rds_sync.specs.Totals.{totals_of, is_valid, is_lost, is_corrected_by, bits_corrected}
+use Rattle.rds_sync.specs.Totals.{totals_of}
 
 -- each count is the sum of the two
 abbrev pub plus : Totals → Totals → Totals
@@ -29,34 +28,6 @@ pub record IsRest (part whole rest : Totals) : Type 0 where
 -- the totals of a list are those of its first items together with those of the rest
 abbrev pub TotalsJoin : Type 0
 TotalsJoin = (first rest : List Item) → IsRest (totals_of first) (totals_of (first ++ rest)) (totals_of rest)
-
--- the totals of so many groups of four valid blocks
-abbrev pub whole_totals : ℕ → Totals
-whole_totals n = record {
-  valid = 4 * n;
-  bursts = 0 ∷ 0 ∷ 0 ∷ 0 ∷ 0 ∷ [];
-  lost = 0;
-  bits = 0;
-  groups = n;
-  complete = n;
-  acquired = 0;
-  losses = 0;
-}
-
--- the totals of a block alone
-abbrev pub block_totals : Block → Totals
-block_totals block = record {
-  valid = if is_valid block then 1 else 0;
-  bursts = (if is_corrected_by 1 block then 1 else 0) ∷ (if is_corrected_by 2 block then 1 else 0)
-      ∷ (if is_corrected_by 3 block then 1 else 0) ∷ (if is_corrected_by 4 block then 1 else 0)
-      ∷ (if is_corrected_by 5 block then 1 else 0) ∷ [];
-  lost = if is_lost block then 1 else 0;
-  bits = bits_corrected block;
-  groups = 0;
-  complete = 0;
-  acquired = 0;
-  losses = 0;
-}
 
 -- no count is above n
 pub record IsAtMost (n : ℕ) (t : Totals) : Type 0 where

@@ -13,7 +13,7 @@ use Rattle.rds_sync.specs.declared.mark.Mark.{Mark}
 use Rattle.rds_sync.specs.Rules.{RuleNumbers}
 use Rattle.rds_sync.specs.Loss.{none_bad, bad_after}
 use Rattle.rds_sync.specs.Step.{step, items_at, locked_after}
-use Rattle.rds_sync.specs.Codes.{Outcome, unread, good, unclear, corrected, Code, locked, blocks, ended, is_good, KeptOf, codes_of, locks_of}
+use Rattle.rds_sync.specs.Codes.{Outcome, missing, valid, lost, corrected, Code, locked, blocks, ended, was_valid, KeptOf, codes_of, locks_of}
 
 -- ---- from the bits
 
@@ -32,14 +32,14 @@ marks_on b rules s a before (suc bits) =
 
 -- ---- from locks and codes
 
--- block y was valid
+-- block y is good for a rule of loss: it was valid
 abbrev pub good_at : List Outcome → ℕ → Bool
-good_at os y = is_good (slice_index_or os (y - 1) unread)
+good_at os y = was_valid (slice_index_or os (y - 1) missing)
 
 abbrev pub is_read : Outcome → Bool
-is_read unread = false
-is_read good = true
-is_read unclear = true
+is_read missing = false
+is_read valid = true
+is_read lost = true
 is_read (corrected s n) = true
 
 -- the number of the last block that was read among these, the first of which has number y; else `last`
@@ -58,8 +58,8 @@ bad_over loss os bad y (suc more) = bad_over loss os (bad_after loss (good_at os
 
 -- one block more: a row is counted up to 255, which is more than any lock has that is not lost
 abbrev pub bad_counted : Loss → Bool → Bad → Bad
-bad_counted (Run n) valid (InARow row) = InARow (if valid then 0 else min 255 (row + 1))
-bad_counted loss valid bad = bad_after loss valid bad
+bad_counted (Run n) good (InARow row) = InARow (if good then 0 else min 255 (row + 1))
+bad_counted loss good bad = bad_after loss good bad
 
 -- what is counted once so many blocks from number y on were read
 abbrev pub counted_over : Loss → List Outcome → Bad → ℕ → ℕ → Bad

@@ -10,24 +10,24 @@ use Rattle.rds_sync.specs.Rules.{RuleNumbers}
 use Rattle.rds_sync.specs.Lawful.{IsLawful}
 use Rattle.rds_sync.specs.Loss.{IsLoss}
 use Rattle.rds_sync.specs.Step.{run}
-use Rattle.rds_sync.specs.Codes.{Outcome, unread, good, unclear, corrected, Code, locked, blocks, ended, code_of, codes_of, locks_of}
+use Rattle.rds_sync.specs.Codes.{Outcome, missing, valid, lost, corrected, Code, locked, blocks, ended, code_of, codes_of, locks_of}
 
--- four bits: none for a block that was not read, else the kind that it came out as
+-- four bits: none for a missing block, else the kind that it came out as
 abbrev pub nibble : Outcome → ℕ
-nibble unread = 0
-nibble good = 1
-nibble unclear = 2
+nibble missing = 0
+nibble valid = 1
+nibble lost = 2
 nibble (corrected s n) = kind_of_burst s n
 
 -- the outcomes in the order of these numbers
 abbrev pub outcomes_in_order : List Outcome
 outcomes_in_order =
-    unread ∷ good ∷ unclear ∷ corrected 1 1 ∷ corrected 2 2 ∷ corrected 3 2 ∷ corrected 3 3 ∷ corrected 4 2 ∷ corrected 4 3 ∷ corrected 4 4
+    missing ∷ valid ∷ lost ∷ corrected 1 1 ∷ corrected 2 2 ∷ corrected 3 2 ∷ corrected 3 3 ∷ corrected 4 2 ∷ corrected 4 3 ∷ corrected 4 4
     ∷ corrected 5 2 ∷ corrected 5 3 ∷ corrected 5 4 ∷ corrected 5 5 ∷ []
 
 -- what four bits say; 14 and 15 say nothing
 abbrev pub outcome_at : ℕ → Outcome
-outcome_at k = slice_index_or outcomes_in_order k unread
+outcome_at k = slice_index_or outcomes_in_order k missing
 
 -- it has four bits of its own: the burst has span 1 and one bit, or span s up to 5 and from 2 to s bits
 abbrev pub IsShort : Outcome → Type 0

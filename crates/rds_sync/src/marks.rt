@@ -2,7 +2,7 @@
 
 ghost use Rattle.std.specs.Prelude.{◌≡◌, ◌≤◌, ◌<◌, ◌+◌, ◌-◌, ◌*◌, ◌^◌, ◌==◌, suc, [], ◌∷◌, List, length, if◌then◌else◌, MatchOption, IfSome, slice_index_or};
 ghost use Rattle.std.specs.Iterator.{YieldsFirst, item_count};
-ghost use Rattle.rds_sync.specs.Codes.{behind, is_good, unread};
+ghost use Rattle.rds_sync.specs.Codes.{behind, was_valid, missing};
 ghost use Rattle.rds_sync.specs.Inside.CodeCursors.{kept_ahead, IsSound};
 ghost use Rattle.rds_sync.specs.Inside.CodeParts.{kept_in};
 ghost use Rattle.rds_sync.specs.Inside.CodeSpots.{IsBefore, IsNear, IsPassed, between_groups, spot_of, marks_ahead};
@@ -22,7 +22,7 @@ use crate::loss::{Bad, Loss, mask_after};
 use crate::mark::Mark;
 use crate::rules::Rules;
 use crate::state::State;
-use crate::words::{ENDED, LOCKED, is_good, is_locked, is_read};
+use crate::words::{ENDED, LOCKED, is_locked, is_read, was_valid};
 use rds_stream::FIRST_WINDOW;
 use std::iter::FusedIterator;
 use std::marker::Model;
@@ -247,10 +247,10 @@ fn counted_over_four(loss: Loss, word: u16, bad: Bad) -> Bad
     requires range { IsLossInRange loss }
     ensures { result ≡ counted_over loss (blocks_in word) bad 1 4 }
 {
-    let one = counted(loss, is_good(word % 16), bad);
-    let two = counted(loss, is_good(word / 16 % 16), one);
-    let three = counted(loss, is_good(word / 256 % 16), two);
-    counted(loss, is_good(word / 4096), three)
+    let one = counted(loss, was_valid(word % 16), bad);
+    let two = counted(loss, was_valid(word / 16 % 16), one);
+    let three = counted(loss, was_valid(word / 256 % 16), two);
+    counted(loss, was_valid(word / 4096), three)
 }
 
 /// Behind a word's item. An acquisition by block 4 leaves that block to the group that follows.
@@ -380,7 +380,7 @@ fn counted(loss: Loss, good: bool, bad: Bad) -> Bad
 #[inline(always)]
 fn nibble_at(word: u16, number: u8) -> u16
     requires { (1 ≤ number) × (number ≤ 4) }
-    ensures value { slice_index_or (blocks_in word) (number - 1) unread ≡ outcome_at result }
+    ensures value { slice_index_or (blocks_in word) (number - 1) missing ≡ outcome_at result }
     ensures few { result < 16 }
 {
     match number {
@@ -396,7 +396,7 @@ fn is_good_at(word: u16, number: u8) -> bool
     requires { (1 ≤ number) × (number ≤ 4) }
     ensures { result ≡ good_at (blocks_in word) number }
 {
-    is_good(nibble_at(word, number))
+    was_valid(nibble_at(word, number))
 }
 
 /// The number of the last block of a group that was read, or 0.

@@ -1,7 +1,7 @@
 //! The totals of a report.
 
 ghost use Rattle.std.specs.Prelude.{◌≡◌, ◌≤◌, ◌<◌, ◌+◌, ◌-◌, ◌*◌, ◌^◌, ℕ, [], ◌∷◌, length, true};
-ghost use Rattle.rds_sync.specs.Counting.{whole_totals};
+ghost use Rattle.rds_sync.specs.Inside.Tallies.{whole_totals};
 ghost use Rattle.rds_sync.specs.Totals.{totals_of};
 ghost use Rattle.rds_sync.specs.declared.item.Item.TheVariants.{Group as GroupItem};
 
@@ -31,9 +31,9 @@ pub struct Totals {
 
 impl Totals {
     ghost use Rattle.rds_sync.specs.Totals.{totals_of};
-    ghost use Rattle.rds_sync.specs.Counting.{plus, whole_totals, block_totals, IsAtMost, FitTogether, IsRest};
+    ghost use Rattle.rds_sync.specs.Counting.{plus, IsAtMost, FitTogether, IsRest};
     ghost use Rattle.rds_sync.specs.Advance.{group_item};
-    ghost use Rattle.rds_sync.specs.Inside.Tallies.{told};
+    ghost use Rattle.rds_sync.specs.Inside.Tallies.{block_totals, told, whole_totals};
 
     /// The totals of no items.
     pub const NONE: Totals = Totals {

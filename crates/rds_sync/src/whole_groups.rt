@@ -24,7 +24,7 @@ use crate::loss::{Bad, Loss};
 use crate::rules::Rules;
 use crate::step::Step;
 use crate::whole_items::whole_heard;
-use crate::words::{CLEAN, is_good, nibble};
+use crate::words::{CLEAN, nibble, was_valid};
 use rds_code::laws::{bursts_are_listed, readings_follow_the_rule};
 use rds_code::{Offset, Wanted, rem26};
 use rds_stream::{FIRST_WINDOW, Reader};
@@ -209,10 +209,10 @@ fn bad_after_each(loss: Loss, word: u16, bad: Bad) -> Option<Bad>
     ensures kept { IfSome result (λ _. (k : ℕ) → k < 4
         → are_too_many loss (bad_over loss (blocks_in word) bad 1 (k + 1)) ≡ false) }
 {
-    let one = kept_after(loss, is_good(word % 16), bad)?;
-    let two = kept_after(loss, is_good(word / 16 % 16), one)?;
-    let three = kept_after(loss, is_good(word / 256 % 16), two)?;
-    let four = kept_after(loss, is_good(word / 4096), three)?;
+    let one = kept_after(loss, was_valid(word % 16), bad)?;
+    let two = kept_after(loss, was_valid(word / 16 % 16), one)?;
+    let three = kept_after(loss, was_valid(word / 256 % 16), two)?;
+    let four = kept_after(loss, was_valid(word / 4096), three)?;
     Some(four)
 }
 

@@ -5,7 +5,7 @@ ghost use Rattle.rds_code.specs.Offsets.{number};
 ghost use Rattle.rds_code.specs.declared.reading.Wanted.{Wanted as TheWanted};
 ghost use Rattle.rds_stream.specs.InARow.{four_heard};
 ghost use Rattle.rds_stream.specs.Recording.{Signal, length_of, reading_heard};
-ghost use Rattle.rds_sync.specs.Codes.{good, outcome_of};
+ghost use Rattle.rds_sync.specs.Codes.{valid, outcome_of};
 ghost use Rattle.rds_sync.specs.Groups.{blocks_at};
 ghost use Rattle.rds_sync.specs.Inside.WholeGroups.{HasGiven, IsWhole};
 ghost use Rattle.rds_sync.specs.Loss.{IsLawfulBad, are_too_many};
@@ -133,7 +133,7 @@ fn valid_blocks(heard: [Option<u32>; 4]) -> Option<[Block; 4]>
     requires { All (λ heard. IfSome heard (λ window. window < 2 ^ 26)) heard }
     ensures blocks { IfSome result (λ blocks. (b : Signal) (rules : RuleNumbers) (due : ℕ) → heard ≡ four_heard b due
         → blocks ≡ blocks_at b rules 1 4 (due + 78)) }
-    ensures good { IfSome result (λ blocks. map outcome_of blocks ≡ good ∷ good ∷ good ∷ good ∷ []) }
+    ensures valid { IfSome result (λ blocks. map outcome_of blocks ≡ valid ∷ valid ∷ valid ∷ valid ∷ []) }
 {
     let [one, two, three, four] = heard;
     let first = valid_reading(one, Offset::A)?;
@@ -153,7 +153,7 @@ fn valid_blocks(heard: [Option<u32>; 4]) -> Option<[Block; 4]>
 fn valid_third(heard: Option<u32>) -> Option<Reading>
     requires { IfSome heard (λ window. window < 2 ^ 26) }
     ensures reading { IfSome result (λ reading. (wanted : TheWanted) (limit : ℕ) → reading ≡ reading_heard heard 3 wanted limit) }
-    ensures good { IfSome result (λ reading. outcome_of (Read reading) ≡ good) }
+    ensures valid { IfSome result (λ reading. outcome_of (Read reading) ≡ valid) }
 {
     match valid_reading(heard, Offset::C) {
         Some(reading) => Some(reading),
@@ -166,7 +166,7 @@ fn valid_third(heard: Option<u32>) -> Option<Reading>
 fn valid_reading(heard: Option<u32>, offset: Offset) -> Option<Reading>
     requires { IfSome heard (λ window. window < 2 ^ 26) }
     ensures reading { IfSome result (λ reading. (wanted : TheWanted) (limit : ℕ) → reading ≡ reading_heard heard (number offset) wanted limit) }
-    ensures good { IfSome result (λ reading. outcome_of (Read reading) ≡ good) }
+    ensures valid { IfSome result (λ reading. outcome_of (Read reading) ≡ valid) }
 {
     match heard {
         Some(window) if rem26(window) == offset.word() => Some(Reading::Valid {

@@ -2,7 +2,7 @@
 //! number of their block, and the loss.
 
 ghost use Rattle.std.specs.Prelude.{◌≡◌, ◌≤◌, ◌<◌, ◌+◌, ◌^◌, map, count_by};
-ghost use Rattle.rds_sync.specs.Codes.{outcome_of, blocks, is_good, is_locked};
+ghost use Rattle.rds_sync.specs.Codes.{outcome_of, blocks, was_valid, is_locked};
 ghost use Rattle.rds_sync.specs.Marks.{is_read};
 ghost use Rattle.rds_sync.specs.Words.{nibble, word_of, word_of_blocks, code_in, outcome_at};
 
@@ -52,9 +52,9 @@ pub(crate) fn is_locked(word: u16) -> bool
 
 /// Whether these four bits are of a valid block.
 #[inline(always)]
-pub(crate) fn is_good(nibble: u16) -> bool
+pub(crate) fn was_valid(nibble: u16) -> bool
     requires { nibble < 16 }
-    ensures { result ≡ is_good (outcome_at nibble) }
+    ensures { result ≡ was_valid (outcome_at nibble) }
 {
     nibble == 1
 }

@@ -9,7 +9,7 @@ use Rattle.rds_sync.specs.declared.loss.Bad.TheVariants.{Run}
 use Rattle.rds_sync.specs.declared.state.State.TheVariants.{Searching, Locked}
 use Rattle.rds_sync.specs.declared.totals.Totals.{Totals}
 use Rattle.rds_sync.specs.Acquiring.{acquired, has_number}
-use Rattle.rds_sync.specs.Codes.{KeptOf, kept_of, kept_from, locked, blocks, ended, good, unclear, unread}
+use Rattle.rds_sync.specs.Codes.{KeptOf, kept_of, kept_from, locked, blocks, ended, valid, lost, missing}
 use Rattle.rds_sync.specs.Groups.{group}
 use Rattle.rds_sync.specs.Rules.{RuleNumbers}
 use Rattle.rds_sync.specs.Examples.LostAndFound.{bytes}
@@ -42,10 +42,10 @@ not_before met = false≢true (sym (ap (λ state. number_due state == 1) met.sam
 
 -- the group of the bad block, and the loss
 abbrev pub own : KeptOf
-own = record { codes = blocks (unclear ∷ unread ∷ unread ∷ unread ∷ []) ∷ ended ∷ []; locks = [] }
+own = record { codes = blocks (lost ∷ missing ∷ missing ∷ missing ∷ []) ∷ ended ∷ []; locks = [] }
 
 -- all of the right guess stands behind the meeting: its acquisition, with its place, and its group
-pub taken : kept_from 0 (kept_of (guess b rules 104 104).1) ≡ record { codes = locked 2 ∷ blocks (unread ∷ good ∷ good ∷ good ∷ []) ∷ []; locks = 155 ∷ [] }
+pub taken : kept_from 0 (kept_of (guess b rules 104 104).1) ≡ record { codes = locked 2 ∷ blocks (missing ∷ valid ∷ valid ∷ valid ∷ []) ∷ []; locks = 155 ∷ [] }
 unfolding acquired has_number group rem window touched heard off
 taken = refl
 

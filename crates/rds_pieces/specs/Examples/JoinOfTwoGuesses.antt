@@ -13,7 +13,7 @@ use Rattle.rds_sync.specs.Groups.{group}
 use Rattle.rds_sync.specs.Examples.Words.{zero_group, default_rules, totals}
 use Rattle.rds_pieces.specs.Guess.{guess, marks}
 use Rattle.rds_sync.specs.Marks.{marks_on}
-use Rattle.rds_sync.specs.Codes.{KeptOf, kept_of, kept_from, no_codes, locked, blocks, good, unread}
+use Rattle.rds_sync.specs.Codes.{KeptOf, kept_of, kept_from, no_codes, locked, blocks, valid, missing}
 use Rattle.rds_pieces.specs.JointOf.{JointOf, joint_of}
 use Rattle.rds_pieces.specs.Meeting.{MeetAt}
 use Rattle.rds_pieces.specs.RunOf.{run_over, end_of}
@@ -38,13 +38,13 @@ unfolding acquired has_number group rem window touched heard off
 marks_up_to_the_meeting = refl
 
 -- of what is kept of the right guess the group behind it is taken over
-pub taken_from_the_meeting : kept_from 2 (kept_of (guess b default_rules 104 208).1) ≡ record { codes = blocks (good ∷ good ∷ good ∷ good ∷ []) ∷ []; locks = [] }
+pub taken_from_the_meeting : kept_from 2 (kept_of (guess b default_rules 104 208).1) ≡ record { codes = blocks (valid ∷ valid ∷ valid ∷ valid ∷ []) ∷ []; locks = [] }
 unfolding acquired has_number group rem window touched heard off
 taken_from_the_meeting = refl
 
 -- so with the group of the run up to there, and the acquisition and the group of the left guess, it is what is kept of the whole
 pub kept_of_the_whole : kept_of (guess b default_rules 0 312).1 ≡
-    record { codes = locked 2 ∷ blocks (unread ∷ good ∷ good ∷ good ∷ []) ∷ blocks (good ∷ good ∷ good ∷ good ∷ []) ∷ blocks (good ∷ good ∷ good ∷ good ∷ []) ∷ []; locks = 51 ∷ [] }
+    record { codes = locked 2 ∷ blocks (missing ∷ valid ∷ valid ∷ valid ∷ []) ∷ blocks (valid ∷ valid ∷ valid ∷ valid ∷ []) ∷ blocks (valid ∷ valid ∷ valid ∷ valid ∷ []) ∷ []; locks = 51 ∷ [] }
 unfolding acquired has_number group rem window touched heard off
 kept_of_the_whole = refl
 
@@ -67,7 +67,7 @@ joint = refl
 
 -- the group of the run up to the meeting
 abbrev pub own : KeptOf
-own = record { codes = blocks (good ∷ good ∷ good ∷ good ∷ []) ∷ []; locks = [] }
+own = record { codes = blocks (valid ∷ valid ∷ valid ∷ valid ∷ []) ∷ []; locks = [] }
 
 -- the totals over the right range: of that group, and of the one behind the meeting
 abbrev pub counted : Totals

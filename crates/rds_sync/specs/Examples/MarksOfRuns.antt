@@ -10,7 +10,7 @@ use Rattle.rds_sync.specs.declared.loss.Bad.TheVariants.{Run as InARow, Mask}
 use Rattle.rds_sync.specs.declared.mark.Mark.{Mark}
 use Rattle.rds_sync.specs.Acquiring.{acquired, has_number}
 use Rattle.rds_sync.specs.Groups.{group}
-use Rattle.rds_sync.specs.Codes.{unread, good, unclear, corrected, blocks, ended, kept_of}
+use Rattle.rds_sync.specs.Codes.{missing, valid, lost, corrected, blocks, ended, kept_of}
 use Rattle.rds_sync.specs.Codes.{locked as lock_by}
 use Rattle.rds_sync.specs.Marks.{marks_on, marks_from, after_code, goes_on, counted_over}
 use Rattle.rds_sync.specs.Examples.Words.{zero_group, default_rules, rules_of, rules_with_share, locked}
@@ -91,12 +91,12 @@ pub one_bad_told : marks_from (Run 10) (kept_of block_4_lost) 0 Searching ≡ at
 one_bad_told = refl
 
 -- a corrected block is a bad one, and a row goes on over the groups
-pub row_goes_on : after_code (Run 10) 0 (blocks (unclear ∷ unclear ∷ corrected 1 1 ∷ unclear ∷ [])) (record { place = 104; state = locked 129 1 3 1 })
+pub row_goes_on : after_code (Run 10) 0 (blocks (lost ∷ lost ∷ corrected 1 1 ∷ lost ∷ [])) (record { place = 104; state = locked 129 1 3 1 })
     ≡ record { place = 208; state = locked 233 1 7 1 }
 row_goes_on = refl
 
 -- up to 255, which no lock comes to
-pub row_of_255 : counted_over (Run 64) (unclear ∷ unclear ∷ unclear ∷ unclear ∷ []) (InARow 253) 1 4 ≡ InARow 255
+pub row_of_255 : counted_over (Run 64) (lost ∷ lost ∷ lost ∷ lost ∷ []) (InARow 253) 1 4 ≡ InARow 255
 row_of_255 = refl
 
 -- ---- by a share they stand in a mask, the newest lowest
@@ -129,16 +129,16 @@ lost_share_told = refl
 
 -- ---- which bit gave two items
 
-pub lock_by_block_4 : goes_on (lock_by 4) (blocks (unread ∷ unread ∷ unread ∷ good ∷ []) ∷ []) ≡ true
+pub lock_by_block_4 : goes_on (lock_by 4) (blocks (missing ∷ missing ∷ missing ∷ valid ∷ []) ∷ []) ≡ true
 lock_by_block_4 = refl
 
-pub lock_by_block_2 : goes_on (lock_by 2) (blocks (unread ∷ good ∷ good ∷ good ∷ []) ∷ []) ≡ false
+pub lock_by_block_2 : goes_on (lock_by 2) (blocks (missing ∷ valid ∷ valid ∷ valid ∷ []) ∷ []) ≡ false
 lock_by_block_2 = refl
 
-pub group_before_a_loss : goes_on (blocks (unclear ∷ unread ∷ unread ∷ unread ∷ [])) (ended ∷ []) ≡ true
+pub group_before_a_loss : goes_on (blocks (lost ∷ missing ∷ missing ∷ missing ∷ [])) (ended ∷ []) ≡ true
 group_before_a_loss = refl
 
-pub group_before_a_group : goes_on (blocks (good ∷ good ∷ good ∷ good ∷ [])) (blocks (good ∷ good ∷ good ∷ good ∷ []) ∷ []) ≡ false
+pub group_before_a_group : goes_on (blocks (valid ∷ valid ∷ valid ∷ valid ∷ [])) (blocks (valid ∷ valid ∷ valid ∷ valid ∷ []) ∷ []) ≡ false
 group_before_a_group = refl
 
 pub loss_before_a_lock : goes_on ended (lock_by 1 ∷ []) ≡ false

@@ -4,7 +4,7 @@ use Rattle.std.proofs.Common.{ap}
 use Rattle.std.proofs.lemmas.Bool.{false≢true, le-leb, leb-true}
 use Rattle.std.proofs.lemmas.List.Elements.{All-cons, All-head, All-nil}
 use Rattle.rds_sync.specs.declared.item.Item.TheVariants.{Acquired, LostLock}
-use Rattle.rds_sync.specs.Codes.{unread, good, unclear, corrected, Code, locked, blocks, ended}
+use Rattle.rds_sync.specs.Codes.{missing, valid, lost, corrected, Code, locked, blocks, ended}
 use Rattle.rds_sync.specs.Examples.KeptItems.{in_a_recording}
 use Rattle.rds_sync.specs.Words.{nibble, outcome_at, outcomes_in_order, word_of, code_in, IsShort, IsSmall, IsKeepable}
 
@@ -26,17 +26,17 @@ pub the_eighth : outcome_at 8 ≡ corrected 4 3
 the_eighth = refl
 
 -- the last two stand for nothing
-pub none_at_14 : outcome_at 14 ≡ unread
+pub none_at_14 : outcome_at 14 ≡ missing
 none_at_14 = refl
 
-pub none_at_15 : outcome_at 15 ≡ unread
+pub none_at_15 : outcome_at 15 ≡ missing
 none_at_15 = refl
 
 -- ---- four outcomes a group, the first in the lowest bits
 
 -- 1 + 16 * 2 + 256 * 0 + 4096 * 13
 abbrev pub mixed : Code
-mixed = blocks (good ∷ unclear ∷ unread ∷ corrected 5 5 ∷ [])
+mixed = blocks (valid ∷ lost ∷ missing ∷ corrected 5 5 ∷ [])
 
 pub word_of_mixed : word_of mixed ≡ 0xd021
 word_of_mixed = refl
@@ -44,10 +44,10 @@ word_of_mixed = refl
 pub mixed_back : code_in 0xd021 ≡ mixed
 mixed_back = refl
 
-pub all_good : word_of (blocks (good ∷ good ∷ good ∷ good ∷ [])) ≡ 0x1111
-all_good = refl
+pub all_valid : word_of (blocks (valid ∷ valid ∷ valid ∷ valid ∷ [])) ≡ 0x1111
+all_valid = refl
 
-pub last_alone : word_of (blocks (unread ∷ unread ∷ unread ∷ good ∷ [])) ≡ 0x1000
+pub last_alone : word_of (blocks (missing ∷ missing ∷ missing ∷ valid ∷ [])) ≡ 0x1000
 last_alone = refl
 
 -- ---- acquisitions and losses above all groups
@@ -95,10 +95,10 @@ longest_burst = (leb-true 1 5 refl, leb-true 5 5 refl, leb-true 2 5 refl, leb-tr
 pub mixed_is_small : IsSmall mixed
 mixed_is_small =
     let last = All-cons IsShort (corrected 5 5) [] longest_burst (All-nil IsShort) in
-    let others = All-cons IsShort unread (corrected 5 5 ∷ []) tt last in
-    (refl, All-cons IsShort good (unclear ∷ unread ∷ corrected 5 5 ∷ []) tt (All-cons IsShort unclear (unread ∷ corrected 5 5 ∷ []) tt others))
+    let others = All-cons IsShort missing (corrected 5 5 ∷ []) tt last in
+    (refl, All-cons IsShort valid (lost ∷ missing ∷ corrected 5 5 ∷ []) tt (All-cons IsShort lost (missing ∷ corrected 5 5 ∷ []) tt others))
 
-pub not_three_blocks : IsSmall (blocks (good ∷ good ∷ good ∷ [])) → ⊥
+pub not_three_blocks : IsSmall (blocks (valid ∷ valid ∷ valid ∷ [])) → ⊥
 not_three_blocks small = false≢true (ap (λ n. n == 4) small.0)
 
 pub not_block_5 : IsSmall (locked 5) → ⊥

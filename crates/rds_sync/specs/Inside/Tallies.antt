@@ -1,17 +1,25 @@
--- What is counted of items without a look at the rest: whole groups, acquisitions and losses. Cited by the body of `Totals::of_items`,
--- and by no public call.
-use Rattle.std.specs.Prelude.{◌*◌, ◌∷◌, [], ℕ}
+-- What is counted block by block, and of items without a look at the rest: whole groups, acquisitions and losses. Cited by the bodies
+-- below `Totals::of_item` and `of_items`, and `Codes::totals`, and by no public call.
+use Rattle.std.specs.Prelude.{ℕ, ◌*◌, [], ◌∷◌, if◌then◌else◌}
+use Rattle.rds_sync.specs.declared.item.Block.{Block}
 use Rattle.rds_sync.specs.declared.totals.Totals.{Totals}
+use Rattle.rds_sync.specs.Totals.{totals_of, is_valid, is_lost, is_corrected_by, bits_corrected}
 
--- the totals of so many groups of four valid blocks, acquisitions and losses
-abbrev pub told : ℕ → ℕ → ℕ → Totals
-told whole acquired losses = record {
-  valid = 4 * whole;
-  bursts = 0 ∷ 0 ∷ 0 ∷ 0 ∷ 0 ∷ [];
-  lost = 0;
-  bits = 0;
-  groups = whole;
-  complete = whole;
-  acquired = acquired;
-  losses = losses;
+-- the totals of a block alone
+abbrev pub block_totals : Block → Totals
+block_totals block = record (totals_of []) {
+  valid = if is_valid block then 1 else 0;
+  bursts = (if is_corrected_by 1 block then 1 else 0) ∷ (if is_corrected_by 2 block then 1 else 0)
+      ∷ (if is_corrected_by 3 block then 1 else 0) ∷ (if is_corrected_by 4 block then 1 else 0)
+      ∷ (if is_corrected_by 5 block then 1 else 0) ∷ [];
+  lost = if is_lost block then 1 else 0;
+  bits = bits_corrected block;
 }
+
+-- the totals of so many groups of four valid blocks
+abbrev pub whole_totals : ℕ → Totals
+whole_totals n = record (totals_of []) { valid = 4 * n; groups = n; complete = n }
+
+-- and of so many acquisitions and losses beside them
+abbrev pub told : ℕ → ℕ → ℕ → Totals
+told whole acquired losses = record (whole_totals whole) { acquired = acquired; losses = losses }

@@ -2,7 +2,7 @@ use Rattle.std.proofs.Common.{◌≡◌, ℕ, ◌+◌, List, [], ◌∷◌, true
 use Rattle.rds_sync.specs.declared.item.Item.{Item}
 use Rattle.rds_sync.specs.declared.item.Item.TheVariants.{Acquired}
 use Rattle.rds_sync.specs.Acquiring.{has_number}
-use Rattle.rds_sync.specs.Codes.{Outcome, unread, good, locked, blocks, KeptOf, behind, kept_of}
+use Rattle.rds_sync.specs.Codes.{Outcome, missing, valid, locked, blocks, KeptOf, behind, kept_of}
 use Rattle.rds_sync.specs.Inside.CodeParts.{kept_as}
 use Rattle.rds_sync.specs.Step.{group_after}
 use Rattle.rds_sync.specs.Words.{code_in}
@@ -18,11 +18,11 @@ returns-in_ok-push_word c = λ b rules e.
     let place = c.args.place in
     let number = c.args.number in
     let four = c.if-number-eq4.true in
-    let valid : has_number b place 4 ≡ true = ap (λ (n : ℕ). has_number b place n) (sym four) ∙ acquired-number b rules place number e in
+    let there : has_number b place 4 ≡ true = ap (λ (n : ℕ). has_number b place n) (sym four) ∙ acquired-number b rules place number e in
     c.in_ok-push_word.ensures.ok
     ∙ ap (λ (kept : KeptOf). behind kept (kept_as (4096 ∷ []) [])) c.in_ok-push_lock.ensures.ok
     ∙ behind-assoc old (kept_as ((65520 + number) ∷ []) (place ∷ [])) (kept_as (4096 ∷ []) [])
-    ∙ ap (λ (n : ℕ). behind old (record { codes = code_in (65520 + n) ∷ blocks (unread ∷ unread ∷ unread ∷ good ∷ []) ∷ []; locks = place ∷ [] })) four
-    ∙ ap (λ (os : List Outcome). behind old (record { codes = locked 4 ∷ blocks os ∷ []; locks = place ∷ [] })) (sym (last-alone b rules place c.requires.place.0 valid))
+    ∙ ap (λ (n : ℕ). behind old (record { codes = code_in (65520 + n) ∷ blocks (missing ∷ missing ∷ missing ∷ valid ∷ []) ∷ []; locks = place ∷ [] })) four
+    ∙ ap (λ (os : List Outcome). behind old (record { codes = locked 4 ∷ blocks os ∷ []; locks = place ∷ [] })) (sym (last-alone b rules place c.requires.place.0 there))
     ∙ ap (λ (n : ℕ). behind old (kept_of (Acquired place n ∷ group_after b rules n n place))) (sym four)
     ∙ ap (λ (is : List Item). behind old (kept_of is)) (sym (items-acquiring b rules place number e))

@@ -2,7 +2,8 @@ use Rattle.std.proofs.Common.{◌≡◌, ◌+◌, ◌*◌, ◌^◌, ◌<◌, ℕ
 use Rattle.std.proofs.lemmas.List.{take_all}
 use Rattle.rds_sync.specs.declared.totals.Totals.{Totals}
 use Rattle.rds_sync.specs.Codes.{totals_of_codes}
-use Rattle.rds_sync.specs.Counting.{plus, whole_totals, IsAtMost}
+use Rattle.rds_sync.specs.Counting.{plus, IsAtMost}
+use Rattle.rds_sync.specs.Inside.Tallies.{whole_totals}
 use Rattle.rds_sync.specs.Words.{code_in}
 use Rattle.rds_sync.proofs.CodeSums.{code-totals-more}
 use Rattle.rds_sync.proofs.TotalsLemmas.{IsAtMost-more, plus_swap, plus_whole}

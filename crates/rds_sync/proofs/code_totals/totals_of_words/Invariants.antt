@@ -1,7 +1,8 @@
 use Rattle.std.proofs.Common.{◌≡◌, ◌+◌, ◌*◌, ◌^◌, ℕ, List, take, map}
 use Rattle.rds_sync.specs.declared.totals.Totals.{Totals}
 use Rattle.rds_sync.specs.Codes.{totals_of_codes}
-use Rattle.rds_sync.specs.Counting.{plus, whole_totals, IsAtMost}
+use Rattle.rds_sync.specs.Counting.{plus, IsAtMost}
+use Rattle.rds_sync.specs.Inside.Tallies.{whole_totals}
 use Rattle.rds_sync.specs.Words.{code_in}
 use Rattle.rds_sync.proofs.code_totals.totals_of_words.Given as goal
 

@@ -2,7 +2,7 @@ use Rattle.std.proofs.Common.{◌≡◌, ◌+◌, ◌-◌, ℕ, List, [], ap, re
 use Rattle.rds_sync.specs.declared.item.Item.{Item}
 use Rattle.rds_sync.specs.declared.state.State.{State}
 use Rattle.rds_sync.specs.declared.state.State.TheVariants.{Searching}
-use Rattle.rds_sync.specs.Step.{run, step, items_at}
+use Rattle.rds_sync.specs.Step.{run, step, items_at, after_bit}
 use Rattle.rds_stream.specs.Recording.{Signal, touched}
 use Rattle.rds_sync.specs.Rules.{RuleNumbers}
 use Rattle.std.proofs.Common.{true}
@@ -14,7 +14,7 @@ nothing : (b : Signal) (rules : RuleNumbers) (place next : ℕ) → next ≡ pla
     → run b rules Searching place (next - place) ≡ (Searching, [])
 nothing b rules place next is in_gap =
     let one : next - place ≡ 1 = omega (arith, is) in
-    rw (one, acquired-touched b rules place in_gap, step, items_at) refl
+    rw (one, acquired-touched b rules place in_gap, step, items_at, after_bit) refl
 
 pub returns-clause-state : goal.returns-clause-state
 returns-clause-state g c =
