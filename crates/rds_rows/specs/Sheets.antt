@@ -1,11 +1,11 @@
 -- A sheet of rows, as callers see it: its text, how many rows may still come, and for how many it was made. `Sheet` tells it
 -- of each call, and `Rows::fill` of what is spelled.
-use Rattle.std.specs.Prelude.{◌≡◌, ℕ, [], List, None, Option, Some}
+use Rattle.std.specs.Prelude.{◌≡◌, ◌++◌, ℕ, [], List, None, Option, Some}
 use Rattle.rds_rows.specs.declared.sheet.Sheet.{Sheet}
 
 -- the rows on it, one behind the other
 abbrev pub text_of : Sheet → List ℕ
-text_of sheet = sheet.text.items
+text_of sheet = sheet.text.items ++ sheet.given.items
 
 -- how many rows may still come
 abbrev pub left_of : Sheet → ℕ

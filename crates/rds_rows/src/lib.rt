@@ -28,7 +28,8 @@
 //! - [`write_rows`]: writes all rows of a list, by up to [`MOST_WORKERS`] threads.
 //!   [`write_rows_in_parts`] is the same in parts of so many rows.
 //! - [`Rows`]: a list of rows, which can spell those from one number up to another.
-//! - [`Sheet`]: room for so many rows, into which they are spelled. It takes no memory after it is made.
+//! - [`Sheet`]: room for so many rows, into which they are spelled. It takes no memory after it is made, and keeps rows in
+//!   the memory that they come in where they are given with it ([`Sheet::give_all`]).
 //! - [`Sink`]: where the bytes go. [`write_all`] writes whole bytes to it.
 //! - [`RowsError`]: `OutOfMemory`, before the first byte, or `Write`.
 //!

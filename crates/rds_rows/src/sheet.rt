@@ -1,19 +1,23 @@
 //! Room for some rows.
-ghost use Rattle.std.specs.Prelude.{◌+◌, ◌++◌, ◌*◌, ◌<◌, ◌≡◌, ◌≤◌, IfOk, length, vec_capacity, vec_len};
+ghost use Rattle.std.specs.Prelude.{◌+◌, ◌++◌, ◌*◌, ◌<◌, ◌≡◌, ◌≤◌, [], IfOk, length, vec_capacity, vec_len};
 
 use std::alloc::{AllocError, Global};
+use std::mem;
 
 /// A sheet of rows: so many fit, none longer than so many bytes. All its memory is taken when it is made, so that a row
-/// is never refused.
+/// is never refused. Rows that come in memory of their own stay there, and that is kept for the rows that come after them.
 #[derive(Drop)]
 pub struct Sheet {
     text: Vec<u8>,
+    /// The rows that came in memory of their own, where no other row is on the sheet.
+    given: Vec<u8>,
     most: usize,
     longest: usize,
     left: usize,
-    // As many of the longest rows as may still come fit behind the text, and as many as ever may fit into the room.
-    ghost fits: { vec_len text + left * longest ≤ vec_capacity text },
+    // All rows that are there fit into the room, and behind them as many of the longest as may still come.
+    ghost fits: { vec_len text + vec_len given + left * longest ≤ vec_capacity text },
     ghost holds: { most * longest ≤ vec_capacity text },
+    ghost apart: { 0 < vec_len given → vec_len text ≡ 0 },
 }
 
 impl Sheet {
@@ -29,6 +33,7 @@ impl Sheet {
         let text = Vec::with_capacity(alloc, room)?;
         Ok(Sheet {
             text,
+            given: Vec::new(alloc),
             most,
             longest,
             left: most,
@@ -43,6 +48,7 @@ impl Sheet {
         ensures left { left_of self.new + 1 ≡ left_of self.old }
         ensures size { size_of self.new ≡ size_of self.old }
     {
+        self.settle();
         let Ok(()) = self.text.extend_from_slice(row) else {
             unreachable!()
         };
@@ -57,17 +63,69 @@ impl Sheet {
         ensures left { left_of self.new + count ≡ left_of self.old }
         ensures size { size_of self.new ≡ size_of self.old }
     {
+        self.settle();
         let Ok(()) = self.text.extend_from_slice(rows) else {
             unreachable!()
         };
         self.left -= count;
     }
 
+    /// Adds so many rows at once, and keeps them in the memory that they come in where they are the first.
+    pub fn give_all(&mut self, count: usize, rows: Vec<u8>)
+        requires room { count ≤ left_of self.old }
+        requires short { length rows.items ≤ count * (size_of self.old).1 }
+        ensures text { text_of self.new ≡ text_of self.old ++ rows.items }
+        ensures left { left_of self.new + count ≡ left_of self.old }
+        ensures size { size_of self.new ≡ size_of self.old }
+    {
+        if !self.text.is_empty() || !self.given.is_empty() {
+            return self.push_all(count, rows.as_slice());
+        }
+        let left = self.left - count;
+        self.given = rows;
+        self.left = left;
+    }
+
+    /// The memory in which rows came that are no longer there, or none. It is none of the sheet's own room.
+    pub fn spare(&mut self, alloc: Global) -> Vec<u8>
+        ensures empty { result.items ≡ [] }
+        ensures text { text_of self.new ≡ text_of self.old }
+        ensures left { left_of self.new ≡ left_of self.old }
+        ensures size { size_of self.new ≡ size_of self.old }
+    {
+        let none = Vec::new(alloc);
+        if self.given.is_empty() {
+            mem::replace(&mut self.given, none)
+        } else {
+            none
+        }
+    }
+
+    /// Moves rows that came in memory of their own to the room.
+    fn settle(&mut self)
+        ensures given { vec_len self.new.given ≡ 0 }
+        ensures text { text_of self.new ≡ text_of self.old }
+        ensures left { left_of self.new ≡ left_of self.old }
+        ensures size { size_of self.new ≡ size_of self.old }
+    {
+        if self.given.is_empty() {
+            return;
+        }
+        let Ok(()) = self.text.extend_from_slice(self.given.as_slice()) else {
+            unreachable!()
+        };
+        self.given.clear();
+    }
+
     /// The rows, one behind the other.
     pub fn as_slice(&self) -> &[u8]
         ensures { result.now ≡ text_of self.now }
     {
-        self.text.as_slice()
+        if self.given.is_empty() {
+            self.text.as_slice()
+        } else {
+            self.given.as_slice()
+        }
     }
 
     /// For how many rows it was made.
@@ -82,6 +140,7 @@ impl Sheet {
         ensures { IsBlank (size_of self.old) self.new }
     {
         self.text.clear();
+        self.given.clear();
         self.left = self.most;
     }
 }

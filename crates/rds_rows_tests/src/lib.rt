@@ -9,6 +9,8 @@ mod full;
 #[cfg(test)]
 mod many;
 #[cfg(test)]
+mod sheets;
+#[cfg(test)]
 mod stored;
 #[cfg(test)]
 mod writer;

@@ -1,12 +1,12 @@
 //! The text of a listing, row by row.
-ghost use Rattle.std.specs.Prelude.{◌+◌, ◌++◌, ◌*◌, ◌-◌, ◌<◌, ◌≡◌, ◌≤◌, All, IfErr, IfOk, OnOk, drop, length, map, take, vec_capacity};
+ghost use Rattle.std.specs.Prelude.{◌+◌, ◌++◌, ◌*◌, ◌-◌, ◌<◌, ◌≡◌, ◌≤◌, [], All, IfErr, IfOk, OnOk, drop, length, map, take, vec_capacity};
 ghost use Rattle.std.specs.List.{flat_map};
 ghost use Rattle.rds_tool.specs.Listing.{item_row, total_row, totals_text, window_row};
 ghost use Rattle.rds_tool.specs.Inside.RowWriter.{IsBetween, IsPlain, IsShort, text_of};
 
 use crate::ToolError;
 use crate::fields::{named, push_item, push_total, push_window};
-use crate::rows::{CsvRows, rows_in_room, text_of_rows};
+use crate::rows::{CsvRows, rows_in_room, rows_over, text_of_rows};
 use rds_code::Offset;
 use rds_stream::Recording;
 use rds_sync::{IndexedItems, Item, ItemIter, Rules, Totals};
@@ -38,14 +38,16 @@ pub struct Heard<'a> {
     pub rules: &'a Rules,
 }
 
-/// The rows of the items from one number up to another.
+/// The rows of the items from one number up to another, in the memory of `spare`, or in more where that is too little.
 pub fn item_rows<'a>(
     alloc: Global,
+    spare: Vec<u8>,
     heard: Heard<'a>,
     items: &IndexedItems<'a>,
     from: usize,
     to: usize,
 ) -> Result<Vec<u8>, ToolError>
+    requires empty { spare.items ≡ [] }
     requires order { from ≤ to }
     requires inside { to ≤ length items.now.list }
     requires source { items.now.source ≡ heard.recording.now }
@@ -55,7 +57,7 @@ pub fn item_rows<'a>(
     ensures refused { IfErr result (λ error. error ≡ ToolError.OutOfMemory) }
 {
     let mut part = Vec::with_capacity(alloc, PART)?;
-    let mut rows = rows_in_room(alloc, (to - from).saturating_mul(USUAL_ROW))?;
+    let mut rows = rows_over(spare, (to - from).saturating_mul(USUAL_ROW))?;
     let mut left = items.range(heard.recording, heard.rules, from, to);
     push_left(&mut rows, &mut left, &mut part)?;
     text_of_rows(rows)

@@ -67,8 +67,9 @@ impl<'a> ListingRows<'a> {
         ensures left { left_of sheet.new + (to - from) ≡ left_of sheet.old }
         ensures size { size_of sheet.new ≡ size_of sheet.old }
     {
-        match item_rows(self.alloc, self.heard, &self.items, from, to) {
-            Ok(text) => sheet.push_all(to - from, text.as_slice()),
+        let spare = sheet.spare(self.alloc);
+        match item_rows(self.alloc, spare, self.heard, &self.items, from, to) {
+            Ok(text) => sheet.give_all(to - from, text),
             Err(_) => self.fill_joined(from, to, sheet),
         }
     }
@@ -105,6 +106,9 @@ impl<'a> ListingRows<'a> {
             ++ flat_map total_row (take (to - from) (drop from (named_totals self.now.totals.now))) }
         ensures size { size_of sheet.new ≡ size_of sheet.old }
     {
+        if from == to {
+            return;
+        }
         let all = named(self.totals);
         let some = &all[from..to];
         match named_rows(self.alloc, some) {

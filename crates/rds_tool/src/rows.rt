@@ -16,7 +16,18 @@ pub fn rows_in_room(alloc: Global, room: usize) -> Result<CsvRows, ToolError>
     ensures text { IfOk result (λ rows. text_of rows ≡ []) }
     ensures refused { IfErr result (λ error. error ≡ ToolError.OutOfMemory) }
 {
-    let text = Vec::with_capacity(alloc, room)?;
+    rows_over(Vec::new(alloc), room)
+}
+
+/// The same, in the memory of this vector, which takes more where it has not room enough.
+pub fn rows_over(spare: Vec<u8>, room: usize) -> Result<CsvRows, ToolError>
+    requires { spare.items ≡ [] }
+    ensures between { IfOk result IsBetween }
+    ensures text { IfOk result (λ rows. text_of rows ≡ []) }
+    ensures refused { IfErr result (λ error. error ≡ ToolError.OutOfMemory) }
+{
+    let mut text = spare;
+    text.reserve(room)?;
     Ok(WriterBuilder::new().from_writer(text))
 }
 
