@@ -10,7 +10,7 @@ export RT
 
 SOURCES := crates.txt $(shell find crates -name out -prune -o \( -name '*.rt' -o -name '*.antt' \) -print)
 
-.PHONY: all run quick lib test proofs archive wrong-bodies wrong-bodies-of-code program library package install install-lib deb clean toolchain
+.PHONY: all run quick lib test proofs built archive wrong-bodies wrong-bodies-of-code program library package install install-lib deb clean toolchain
 all: build/rds
 
 toolchain:
@@ -49,10 +49,7 @@ quick: toolchain
 # What it built is tried while the others are; measured when nothing else runs.
 test: toolchain
 	+$(MAKE) --no-print-directory -j 2 proofs wrong-bodies-of-code
-	+$(MAKE) --no-print-directory archive
-	+$(MAKE) --no-print-directory -j 2 -O wrong-bodies program
-	+$(MAKE) --no-print-directory library
-	+$(MAKE) --no-print-directory package
+	+$(MAKE) --no-print-directory -j 2 -O wrong-bodies built
 	crates/rds_bench/out/rds_bench --check
 	@mkdir -p build
 	@[ -n "$$(git status --porcelain)" ] || git rev-parse HEAD > build/passed
@@ -70,6 +67,13 @@ wrong-bodies-of-code:
 
 wrong-bodies:
 	tests/wrong_bodies.py rds_stream rds_sync rds_live rds_abi rds_pieces rds_crew rds_rows rds_tool
+
+# One after the other. Each takes one processor for the most part, so that the wrong bodies have what is left.
+built:
+	+$(MAKE) --no-print-directory archive
+	+$(MAKE) --no-print-directory program
+	+$(MAKE) --no-print-directory library
+	+$(MAKE) --no-print-directory package
 
 # A script that hangs is ended, and named: all of them take a few minutes together. `timeout` puts it out of the terminal's
 # reach, so an interrupt is handed on.
