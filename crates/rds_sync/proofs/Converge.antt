@@ -1,7 +1,7 @@
 -- Any two runs meet on a sound.
 use Rattle.std.proofs.Common.{◌≡◌, ◌≢◌, ℕ, zero, suc, ◌+◌, ◌-◌, ◌*◌, ◌%◌, ◌/◌, ◌<◌, ◌≤◌, Bool, true, false, Option, Some, None, refl, sym, ap, ap₂, ◌∙◌, arith, add-zero, zero-add, inl, inr, ⊎_elim, eqb, cond}
 use Rattle.std.proofs.Math.Nat.{suc-add, mul-le-mul_right}
-use Rattle.std.proofs.lemmas.Bool.{ne_eqb, eq-eqb, cases_Bool, cases_eq, cases_lt, eqb-true}
+use Rattle.std.proofs.lemmas.Bool.{eq-eqb, cases_Bool, cases_eq, cases_lt, eqb-true}
 use Rattle.std.proofs.lemmas.List.Sums.{sum_by-cons}
 use Rattle.std.specs.Prelude.{◌==◌, is_some, count_by}
 use Rattle.std.specs.List.{range_with_len, list_any}
@@ -16,9 +16,10 @@ use Rattle.rds_sync.specs.Lawful.{IsLawful}
 use Rattle.rds_code.specs.declared.offset.Offset.{Offset}
 use Rattle.rds_code.specs.Offsets.{number}
 use Rattle.rds_sync.specs.Acquiring.{acquired, has_number, number_after, has_partner, with_partner}
-use Rattle.rds_sync.specs.Step.{run, step, after_bit, locked_after, bad_with}
+use Rattle.rds_sync.specs.Step.{run, step, locked_after, bad_with}
 use Rattle.rds_sync.specs.Convergence.{IsSound, IsLastFour, sound_blocks, SoundRangesHaveFours, RunsConverge}
 use Rattle.rds_sync.proofs.RivalLemmas.{every_26, few_in_phase}
+use Rattle.rds_sync.proofs.RunLemmas.{step-waiting, step-keeping, step-losing, step-searching, step-acquiring}
 
 module _ (b : Signal) (rules : RuleNumbers) where
   -- the state after the next bits from place a
@@ -36,22 +37,12 @@ module _ (b : Signal) (rules : RuleNumbers) where
       let e : a + suc m ≡ a + 1 + m = omega arith in
       rw (suc-add, e) (after_more (step b rules a s) (a + 1) m n)
 
-  step_late : (due num : ℕ) (bad : Bad) (f p : ℕ) → eqb due p ≡ false → step b rules p (Locked due num bad f) ≡ Locked due num bad f
-  step_late due num bad f p e = rw (e, step, after_bit) refl
-
   waits : (num : ℕ) (bad : Bad) (f p d : ℕ) → after (Locked (p + d) num bad f) p d ≡ Locked (p + d) num bad f
   waits num bad f p zero = refl
   waits num bad f p (suc d) =
       let e : p + suc d ≡ p + 1 + d = omega arith in
-      ap (λ (s : State). after s (p + 1) d) (step_late (p + suc d) num bad f p (ne_eqb (p + suc d) p (λ e. absurd (omega arith))))
+      ap (λ (s : State). after s (p + 1) d) (step-waiting b rules (p + suc d) num bad f p (λ e. absurd (omega arith)))
       ∙ rw e (waits num bad f (p + 1) d)
-
-  read_step : (i num : ℕ) (bd : Bad) (f : ℕ) → are_too_many rules.loss (bad_with b rules i num bd) ≡ false
-      → step b rules i (Locked i num bd f) ≡ locked_after i num (bad_with b rules i num bd) f
-  read_step i num bd f h = rw (eq-eqb i i refl, h, step, after_bit) refl
-
-  lost_step : (i num : ℕ) (bd : Bad) (f : ℕ) → are_too_many rules.loss (bad_with b rules i num bd) ≡ true → step b rules i (Locked i num bd f) ≡ Searching
-  lost_step i num bd f h = rw (eq-eqb i i refl, h, step, after_bit) refl
 
   -- how many of the next n blocks of a lock are good
   abbrev good_blocks : ℕ → ℕ → ℕ → ℕ
@@ -67,7 +58,7 @@ module _ (b : Signal) (rules : RuleNumbers) where
   next_block due num bad f bad2 e h =
       let ok : are_too_many rules.loss (bad_with b rules due num bad) ≡ false = ap (are_too_many rules.loss) e ∙ h in
       let goes : step b rules due (Locked due num bad f) ≡ Locked (due + 26) (num % 4 + 1) bad2 (cond (num == 4) 1 f) =
-      read_step due num bad f ok ∙ ap (λ (n : Bad). locked_after due num n f) e in
+      step-keeping b rules due num bad f ok ∙ ap (λ (n : Bad). locked_after due num n f) e in
       let place : due + 26 ≡ due + 1 + 25 = omega arith in
       ap (λ (s : State). after s (due + 1) 25) goes ∙ rw place (waits (num % 4 + 1) bad2 (cond (num == 4) 1 f) (due + 1) 25)
 
@@ -95,7 +86,7 @@ module _ (b : Signal) (rules : RuleNumbers) where
             let count : good_blocks due num (suc n) ≡ 0 + good_blocks (due + 26) (num % 4 + 1) n = rw ill refl in
             let fewer : (good_blocks (due + 26) (num % 4 + 1) n + 1) * needed rules.loss ≤ suc r + n = omega (arith, rw count at few) in
             elim (cases_Bool (are_too_many rules.loss (bad_after rules.loss false bad))) [
-              | inl over ↦ (1, omega arith, lost_step due num bad f (ap (are_too_many rules.loss) next ∙ over))
+              | inl over ↦ (1, omega arith, step-losing b rules due num bad f (ap (are_too_many rules.loss) next ∙ over))
               | inr kept ↦ rw limit (later (Locked due num bad f) _ due 26 (26 * n) (next_block due num bad f (bad_after rules.loss false bad) next kept)
                   (loses some n (due + 26) (num % 4 + 1) (bad_after rules.loss false bad) (cond (num == 4) 1 f) (suc r)
                   (lawful_kept rules.loss bad false h kept) (row_grows rules.loss bad r some h in_row) fewer))
@@ -144,21 +135,15 @@ module _ (b : Signal) (rules : RuleNumbers) where
       let o = has_number_offset i y has in
       partner_is _ (number o.0) x (sym (ap (λ (w : Option Offset). elim w as (λ _. Option ℕ) [ None ↦ None | Some o ↦ with_partner b rules i (number o) ]) o.1) ∙ e) ∙ o.2
 
-  search_step : (i : ℕ) → acquired b rules i ≡ None → step b rules i Searching ≡ Searching
-  search_step i e = rw (e, step, after_bit) refl
-
-  lock_step : (i x : ℕ) → acquired b rules i ≡ Some x → step b rules i Searching ≡ locked_after i x (none_bad rules.loss) x
-  lock_step i x e = rw (e, step, after_bit) refl
-
   -- a search locks at the first place that acquires
   finds : (d q x : ℕ) → ((r : ℕ) → q ≤ r → r < q + d → acquired b rules r ≡ None) → acquired b rules (q + d) ≡ Some x
       → after Searching q (d + 1) ≡ locked_after (q + d) x (none_bad rules.loss) x
-  finds zero q x none e = let place : q + 0 ≡ q = omega arith in rw place (lock_step q x (rw place at e))
+  finds zero q x none e = let place : q + 0 ≡ q = omega arith in rw place (step-acquiring b rules q x (rw place at e))
   finds (suc d) q x none e =
       let place : q + suc d ≡ q + 1 + d = omega arith in
       let e2 : acquired b rules (q + 1 + d) ≡ Some x = rw (← place) e in
       let count : suc d + 1 ≡ suc (d + 1) = omega arith in
-      rw (count, place) (ap (λ (s : State). after s (q + 1) (d + 1)) (search_step q (none q (omega arith) (omega arith)))
+      rw (count, place) (ap (λ (s : State). after s (q + 1) (d + 1)) (step-searching b rules q (none q (omega arith) (omega arith)))
       ∙ finds d (q + 1) x (λ r l u. none r (omega arith) (omega arith)) e2)
 
   module _ (p c last : ℕ) (sequence : (k : ℕ) → k ≤ last → has_number b (p + 26 * k) (number_after c k) ≡ true) where
@@ -176,7 +161,7 @@ module _ (b : Signal) (rules : RuleNumbers) where
         let kept = good_keeps rules.loss bad h in
         let none : bad_after rules.loss true bad ≡ none_bad rules.loss =
         clean_is rules.loss (bad_after rules.loss true bad) (suc r) (lawful_kept rules.loss bad true h kept) (omega arith) (clean_more rules.loss bad r clean) in
-        rw add-zero (read_step (p + 26 * k) (number_after c k) bad f (ap (are_too_many rules.loss) next ∙ kept) ∙ rw (next, none, num) refl)
+        rw add-zero (step-keeping b rules (p + 26 * k) (number_after c k) bad f (ap (are_too_many rules.loss) next ∙ kept) ∙ rw (next, none, num) refl)
     stays (suc d) k bad f r h clean long within four =
         let good = sequence k (omega arith) in
         let next : bad_with b rules (p + 26 * k) (number_after c k) bad ≡ bad_after rules.loss true bad = ap (λ (g : Bool). bad_after rules.loss g bad) good in
