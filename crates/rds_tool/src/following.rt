@@ -8,13 +8,14 @@ ghost use Rattle.rds_sync.specs.Advance.{group_item};
 ghost use Rattle.rds_sync.specs.Totals.{totals_of};
 ghost use Rattle.rds_tool.specs.Following.{AllCount, EndsShort, IsLong, IsReadAsFar, IsTooLong, MayBreakEarly, MayBreakOff, StopsBetweenRows, StopsInRows, listed, rows_so_far};
 ghost use Rattle.rds_tool.specs.Input.{claimed};
+ghost use Rattle.rds_tool.specs.Inside.RowWriter.{IsBetween, text_of};
 ghost use Rattle.rds_tool.specs.Inside.Streams.{IsFollowed, IsNearEnd, IsPlaceOf, IsShortEnough, bits_left as the_bits_left};
 ghost use Rattle.rds_tool.specs.Listing.{item_row, report_text, totals_text};
 ghost use Rattle.rds_tool.specs.Outcome.{Writes, WritesPrefix};
 
 use crate::fields::push_item;
-use crate::listing::{rows_of_items, totals_rows};
-use crate::rows::{rows_in_room, text_of_rows};
+use crate::listing::{push_items, rows_of_items, totals_rows};
+use crate::rows::{CsvRows, rows_in_room, text_of_rows};
 use crate::text::write_flushed;
 use crate::{Failed, Sink, Source, ToolError};
 use rds_live::{Live, MOST_ITEMS, StreamEnd};
@@ -23,6 +24,9 @@ use std::alloc::Global;
 
 /// How many bytes a read asks for at most.
 const CHUNK: usize = 65_536;
+
+/// How many bytes of rows a byte of a sound station gives: a group of 13 bytes has a row of some 50.
+const ROWS_A_BYTE: usize = 4;
 
 /// The most bits that a stream may have.
 const MOST_BITS: u64 = 1 << 36;
@@ -256,40 +260,42 @@ fn rows_of_chunk(
     ensures too_long { IsErrOf result ToolError.TooLong → 2 ^ 36 < live.old.place + 8 * length bytes.now }
     ensures kinds { IfErr result (λ error. (error ≡ ToolError.OutOfMemory) ⊎ (error ≡ ToolError.TooLong)) }
 {
-    let mut text = Vec::new(alloc);
+    let mut rows = rows_in_room(alloc, bytes.len().saturating_mul(ROWS_A_BYTE))?;
     let mut rest = bytes;
     while !rest.is_empty() {
-        let count = push_rows(alloc, &mut text, live, rest, items)?;
+        let count = push_rows(&mut rows, live, rest, items)?;
         rest = &rest[count..];
     }
     prove!(live.place() <= MOST_BITS);
+    let text = text_of_rows(rows)?;
     Ok(text)
 }
 
 /// Decodes as many of the next bytes of a stream as it takes at once, and appends the rows that they complete. Answers how many
 /// bytes these were.
 fn push_rows(
-    alloc: Global,
-    text: &mut Vec<u8>,
+    rows: &mut CsvRows,
     live: &mut Live<'_>,
     bytes: &[u8],
     items: &mut Vec<Item>,
 ) -> Result<usize, ToolError>
     requires some { 0 < length bytes.now }
     requires room { 16 ≤ vec_capacity items.old }
+    requires between { IsBetween rows.old }
     ensures some { IfOk result (λ count. (0 < count) × (count ≤ length bytes.now)) }
     ensures heard { IfOk result (λ count. (before : List ℕ) → HasHeard live.old before → HasHeard live.new (before ++ take count bytes.now)) }
     ensures terms { OnOk result (live.new.terms ≡ live.old.terms) }
     ensures place { IfOk result (λ count. live.new.place ≡ live.old.place + 8 * count) }
     ensures rows { IfOk result (λ count. (before written : List ℕ) → HasHeard live.old before
-        → rows_so_far live.old.terms before ≡ written ++ text.old.items
-        → rows_so_far live.old.terms (before ++ take count bytes.now) ≡ written ++ text.new.items) }
+        → rows_so_far live.old.terms before ≡ written ++ text_of rows.old
+        → rows_so_far live.old.terms (before ++ take count bytes.now) ≡ written ++ text_of rows.new) }
+    ensures between { OnOk result (IsBetween rows.new) }
     ensures room { vec_capacity items.new ≡ vec_capacity items.old }
     ensures too_long { IsErrOf result ToolError.TooLong → 2 ^ 36 < live.old.place + 8 * length bytes.now }
     ensures kinds { IfErr result (λ error. (error ≡ ToolError.OutOfMemory) ⊎ (error ≡ ToolError.TooLong)) }
 {
     let count = live.take(bytes, items)?;
-    text.extend_from_slice(rows_of_items(alloc, items.as_slice())?.as_slice())?;
+    push_items(rows, items.as_slice())?;
     Ok(count)
 }
 

@@ -97,7 +97,7 @@ pub fn rows_of_items(alloc: Global, items: &[Item]) -> Result<Vec<u8>, ToolError
 }
 
 /// The rows of these items, behind those that stand.
-fn push_items(rows: &mut CsvRows, items: &[Item]) -> Result<(), ToolError>
+pub fn push_items(rows: &mut CsvRows, items: &[Item]) -> Result<(), ToolError>
     requires between { IsBetween rows.old }
     ensures between { OnOk result (IsBetween rows.new) }
     ensures text { OnOk result (text_of rows.new ≡ text_of rows.old ++ flat_map item_row items.now) }

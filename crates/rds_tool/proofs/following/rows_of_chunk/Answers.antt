@@ -3,6 +3,7 @@ use Rattle.std.proofs.lemmas.Bool.{cases_eq, false≢true, ne_eqb}
 use Rattle.std.proofs.lemmas.List.{append-nil, take_rest}
 use Rattle.rds_live.specs.Live.{HasHeard, Terms}
 use Rattle.rds_tool.specs.Following.{rows_so_far}
+use Rattle.rds_tool.specs.Inside.RowWriter.{text_of}
 use Rattle.rds_tool.proofs.Followed.{all_left, all_taken, left_on, none_taken, still_few, taken_on}
 use Rattle.rds_tool.proofs.following.rows_of_chunk.Goals as goal
 
@@ -19,10 +20,11 @@ loop-rest-init c =
     record {
       heard = λ before h. subst (λ (xs : List ℕ). HasHeard live xs) (none_taken before bytes) h;
       terms = refl;
-      rows = λ before h. sym (ap (λ (xs : List ℕ). rows_so_far live.terms xs) (none_taken before bytes)) ∙ sym (ap (λ (xs : List ℕ). rows_so_far live.terms before ++ xs) c.new-text.ensures.items ∙ append-nil (rows_so_far live.terms before));
+      rows = λ before h. sym (ap (λ (xs : List ℕ). rows_so_far live.terms xs) (none_taken before bytes)) ∙ sym (ap (λ (xs : List ℕ). rows_so_far live.terms before ++ xs) c.in_ok-rows.ensures.text ∙ append-nil (rows_so_far live.terms before));
       place = refl;
       left = all_left bytes;
       few = omega arith;
+      between = c.in_ok-rows.ensures.between;
       room = refl;
     }
 
@@ -42,13 +44,14 @@ loop-rest-preserved c =
       heard = λ before h. subst (λ (xs : List ℕ). HasHeard c.push_rows.new.live xs) (taken_on bytes rest _ count inv.few inv.left fits is before) (c.in_ok-count.ensures.heard (so_far before) (inv.heard before h));
       terms = c.in_ok-count.ensures.terms ∙ inv.terms;
       rows = λ before h.
-          subst (λ (xs : List ℕ). rows_so_far live.terms xs ≡ rows_so_far live.terms before ++ c.push_rows.new.text.items) (taken_on bytes rest _ count inv.few inv.left fits is before)
-          (subst (λ (t : Terms). rows_so_far t (so_far before ++ take count rest) ≡ rows_so_far live.terms before ++ c.push_rows.new.text.items) inv.terms
+          subst (λ (xs : List ℕ). rows_so_far live.terms xs ≡ rows_so_far live.terms before ++ text_of c.push_rows.new.rows) (taken_on bytes rest _ count inv.few inv.left fits is before)
+          (subst (λ (t : Terms). rows_so_far t (so_far before ++ take count rest) ≡ rows_so_far live.terms before ++ text_of c.push_rows.new.rows) inv.terms
           (c.in_ok-count.ensures.rows (so_far before) (rows_so_far live.terms before) (inv.heard before h)
           (ap (λ (t : Terms). rows_so_far t (so_far before)) inv.terms ∙ inv.rows before h)));
       place = omega (arith, short, c.in_ok-count.ensures.place, inv.place);
       left = left_on bytes rest _ count inv.few inv.left fits is;
       few = omega (arith, short, inv.few);
+      between = c.in_ok-count.ensures.between;
       room = c.in_ok-count.ensures.room ∙ inv.room;
     }
 
@@ -59,3 +62,4 @@ returns-clause-heard c before h =
 pub returns-clause-rows : goal.returns-clause-rows
 returns-clause-rows c before h =
     sym (ap (λ (xs : List ℕ). rows_so_far c.args.live.now.terms xs) (all_taken before c.args.bytes.now c.loop-rest.rest.now (none-left (length c.loop-rest.rest.now) (sym c.is_empty.ensures ∙ c.loop-rest-test.false)))) ∙ c.loop-rest.invariant.rows before h
+    ∙ ap (λ (ys : List ℕ). rows_so_far c.args.live.now.terms before ++ ys) (sym c.in_ok-text.ensures.text)

@@ -2,6 +2,7 @@ use Rattle.std.proofs.Common.{◌≡◌, ◌≤◌, ◌+◌, ◌-◌, ◌*◌, �
 use Rattle.std.specs.Prelude.{vec_capacity}
 use Rattle.rds_live.specs.Live.{HasHeard}
 use Rattle.rds_tool.specs.Following.{rows_so_far}
+use Rattle.rds_tool.specs.Inside.RowWriter.{IsBetween, text_of}
 use Rattle.rds_tool.proofs.following.rows_of_chunk.Given as goal
 
 abbrev pub invariant-loop-rest : goal.invariant-loop-rest
@@ -9,7 +10,8 @@ invariant-loop-rest l = record {
   heard : (before : List ℕ) → HasHeard l.fn.live before → HasHeard l.live (before ++ take (length l.bytes - length l.rest) l.bytes);
   terms : l.live.terms ≡ l.fn.live.terms;
   rows : (before : List ℕ) → HasHeard l.fn.live before
-      → rows_so_far l.fn.live.terms (before ++ take (length l.bytes - length l.rest) l.bytes) ≡ rows_so_far l.fn.live.terms before ++ l.text.items;
+      → rows_so_far l.fn.live.terms (before ++ take (length l.bytes - length l.rest) l.bytes) ≡ rows_so_far l.fn.live.terms before ++ text_of l.rows;
+  between : IsBetween l.rows;
   place : l.live.place + 8 * length l.rest ≡ l.fn.live.place + 8 * length l.bytes;
   left : l.rest ≡ drop (length l.bytes - length l.rest) l.bytes;
   few : length l.rest ≤ length l.bytes;
