@@ -1,5 +1,6 @@
 -- What a caller asks for: bytes, how many bits of them, the gaps in these, and the numbers of rules; what is refused of it, and
--- what is found in it. This project's rules.
+-- what is found in it. `totals` and `items` cite it, and by way of `Going` and `Following` the other calls of a decoder. This
+-- project's rules.
 use Rattle.std.specs.Prelude.{◌≡◌, ℕ, ◌*◌, ◌^◌, ◌<◌, ◌≤◌, ◌⊎◌, ◌==◌, ◌++◌, List, drop, length, map, if◌then◌else◌, ⊤}
 use Rattle.rds_stream.specs.Recording.{AreGaps, Signal, bits_of}
 use Rattle.rds_sync.specs.Ranges.{IsInRange, IsRunOutside, IsShareOutside, farthest_reach, longest_burst}

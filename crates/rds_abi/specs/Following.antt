@@ -1,4 +1,5 @@
--- A stream that is followed chunk by chunk, from what the caller keeps of it as plain numbers. This project's rules.
+-- A stream that is followed chunk by chunk, from what the caller keeps of it as plain numbers. `push`, `finish` and `finish_with` cite
+-- it. This project's rules.
 use Rattle.std.specs.Prelude.{◌≡◌, ℕ, ◌+◌, ◌-◌, ◌*◌, ◌/◌, ◌^◌, ◌<◌, ◌≤◌, ◌⊎◌, ◌++◌, List, length, map, min, replicate, take, ⊤}
 use Rattle.rds_stream.specs.Recording.{AreGaps}
 use Rattle.rds_sync.specs.Ranges.{IsInRange}

@@ -1,4 +1,4 @@
--- A run that goes on from a state which the caller keeps as plain numbers. This project's rules.
+-- A run that goes on from a state which the caller keeps as plain numbers. `run` and `finish_run` cite it. This project's rules.
 use Rattle.std.specs.Prelude.{ℕ, ◌-◌, ◌<◌, ◌≤◌, ◌⊎◌, ◌==◌, List, map, if◌then◌else◌}
 use Rattle.rds_sync.specs.Lawful.{IsLawful as IsLawfulState}
 use Rattle.rds_sync.specs.Rules.{RuleNumbers}

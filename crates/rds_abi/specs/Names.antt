@@ -1,4 +1,4 @@
--- The name of a refusal as C has it: its letters and a 0 behind them. This project's rule.
+-- The name of a refusal as C has it: its letters and a 0 behind them. `refusal_name` writes it. This project's rule.
 use Rattle.std.specs.Prelude.{◌≡◌, ℕ, ◌+◌, ◌≤◌, ◌++◌, ◌∷◌, List, drop, length}
 use Rattle.rds_abi.specs.Refusals.{name_of, number_of}
 use Rattle.rds_abi.specs.declared.refusal.Refusal.{Refusal}

@@ -1,4 +1,5 @@
--- The refusals of the library, by the numbers and names that all of the project share, and its own from 64 on.
+-- The refusals of the library, by the numbers and names that all of the project share, and its own from 64 on. `Refusal::number`,
+-- `name` and `of_number` answer them.
 use Rattle.std.specs.Prelude.{ℕ, List, codes}
 use Rattle.rds_abi.specs.declared.refusal.Refusal.{Refusal}
 use Rattle.rds_abi.specs.declared.refusal.Refusal.TheVariants.{BadGaps, BitsPastBytes, BlockRange, BurstRange, LossRange, NoRefusal, OffsetRange, OutOfMemory, PlaceRange, ReachRange, ShareRange, SmallRoom, TooLong, UnlawfulState}

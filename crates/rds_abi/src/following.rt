@@ -155,7 +155,7 @@ fn taken(alloc: Global, live: &mut Live<'_>, bytes: &[u8]) -> Result<Vec<Item>, 
 ///
 /// Refuses rules out of their range, then gaps that no stream may have, then `UnlawfulState`, then `TooLong`, past 2^36
 /// bits in all, and then `SmallRoom`, where `count` tells how many items there are, and nothing else was written; and want
-/// of memory at any time. It takes memory for the tables of the rules, and for the items.
+/// of memory at any time. It takes memory for the tables of the rules, for the gaps, and for the items.
 pub fn push(
     alloc: Global,
     bytes: &[u8],

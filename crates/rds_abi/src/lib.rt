@@ -20,15 +20,16 @@
 //! - Equal states, and equal streams, are equal numbers: they may be compared, stored and hashed as the bytes that they are.
 #![tactic(auto)]
 
-mod asked;
-mod blocks;
-mod following;
-mod going;
-mod groups;
-mod layout;
-mod names;
-mod refusal;
-mod whole;
+// In the order of reading: what crosses to C, what is asked for, and the calls.
+mod layout; // What is found, as it lies in C.
+mod asked; // What a caller asks for.
+mod whole; // A recording that is handed over whole.
+mod going; // A run from range to range.
+mod following; // A stream chunk by chunk.
+mod blocks; // Blocks alone.
+mod groups; // Groups to bytes.
+mod names; // Names and the version.
+mod refusal; // Why a call is refused.
 
 pub use asked::{RdsGap, RdsRules};
 pub use blocks::{correct, remainder};

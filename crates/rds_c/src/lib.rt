@@ -9,7 +9,8 @@
 //! - After any other number nothing that was lent has changed, but for the count that a `SmallRoom` tells.
 #![tactic(auto)]
 
-mod alone;
-mod following;
-mod going;
-mod whole;
+// In the order of reading, as the calls of `rds_abi`.
+mod whole; // A recording that is handed over whole.
+mod going; // A run from range to range.
+mod following; // A stream chunk by chunk.
+mod alone; // Blocks and groups alone, names and the version.

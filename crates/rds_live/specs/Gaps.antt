@@ -1,4 +1,5 @@
--- Gaps in a part of a stream. This project's rule.
+-- Gaps in a part of a stream: as much of the stream's as lies in it. No public call cites it; by it a part is heard as the stream is
+-- (`Room`). This project's rule.
 use Rattle.std.specs.Prelude.{ℕ, ◌-◌, List, Option, Some, None, if◌then◌else◌, filter_map, min, nat_lt}
 
 -- as much of a gap as lies in the part of so many places from place d on, by its places in the part

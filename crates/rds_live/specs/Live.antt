@@ -1,4 +1,5 @@
--- What a decoder of a stream knows, by what it has heard. This project's rules.
+-- What a decoder of a stream knows, by what it has heard, and which items are complete then. Each call of `Live` cites it, and so do
+-- `follow` of rds_tool and `push`, `finish` and `finish_with` of rds_abi. This project's rules.
 use Rattle.std.specs.Prelude.{◌≡◌, ℕ, ◌-◌, ◌*◌, ◌/◌, ◌^◌, ◌≤◌, List, [], length, drop, min}
 use Rattle.rds_stream.specs.Recording.{AreGaps, Signal, bits_of}
 use Rattle.rds_sync.specs.declared.state.State.{State}

@@ -1,4 +1,5 @@
--- A run depends on what is heard alone: where the same is heard at other places, there the same is found. This project's rules.
+-- A run depends on what is heard alone: where the same is heard at other places, there the same is found. The laws `runs_move` and
+-- `ends_move` are these. This project's rules.
 use Rattle.std.specs.Prelude.{◌≡◌, ℕ, ◌+◌, ◌<◌, ◌≤◌, ◌⊎◌, List, map}
 use Rattle.rds_stream.specs.Recording.{Signal, heard, length_of}
 use Rattle.rds_sync.specs.declared.state.State.{State}

@@ -1,4 +1,4 @@
--- Where an item is.
+-- Where an item is, and where the block of a lock is due. No public call cites it: bodies that count places from elsewhere do.
 use Rattle.std.specs.Prelude.{ℕ, ◌≤◌, ◌<◌, ⊤}
 use Rattle.rds_sync.specs.declared.state.State.{State}
 use Rattle.rds_sync.specs.declared.state.State.TheVariants.{Searching, Locked}

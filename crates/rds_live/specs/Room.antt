@@ -1,4 +1,5 @@
--- Where the last bytes of a stream are gone over as a recording, of which there is always as much. This project's rule.
+-- Where the last bytes of a stream are gone over as a recording, of which there is always as much. `Live` keeps it so, and no caller
+-- sees it. This project's rule.
 use Rattle.std.specs.Prelude.{ℕ, ◌+◌, ◌-◌, ◌*◌, List, ◌++◌, length, map}
 use Rattle.std.specs.List.{range_with_len}
 use Rattle.rds_stream.specs.Recording.{Signal}

@@ -63,13 +63,14 @@
 //! was made with the decoder. Where there are gaps each such part looks at all of them.
 #![tactic(auto)]
 
-mod error;
-mod gaps;
-mod kept;
-pub mod laws;
-mod live;
-mod moved;
-mod room;
+// In the order of reading: the decoder, what it keeps, and what makes a part of a stream a recording.
+mod live; // The decoder of a stream.
+mod room; // The last bytes, and those that come behind them.
+mod gaps; // The gaps of a stream, and those of a part of it.
+mod moved; // States and items whose places are counted from elsewhere.
+mod kept; // Which numbers a decoder may be made of.
+pub mod laws; // What holds of following itself.
+mod error; // Why a decoder that was kept as numbers is refused.
 
 pub use error::ResumeError;
 pub use live::{Live, MOST_ITEMS, StreamEnd};
