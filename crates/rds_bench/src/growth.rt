@@ -137,7 +137,7 @@ fn by_crew<T: Threads + Wait>(
 fn by_chunks(alloc: Global, bytes: &[u8], rules: &Rules) -> Result<u64, StreamError> {
     let mut live = Live::new(alloc, rules)?;
     let mut items = Vec::with_capacity(alloc, MOST_ITEMS)?;
-    for chunk in bytes.chunks(240) {
+    for chunk in bytes.chunks(960) {
         live.take(chunk, &mut items)?;
     }
     Ok(live.finish().totals.groups)

@@ -176,10 +176,10 @@ behind : (low m n : ℕ) (gaps others : List (ℕ × ℕ)) → low ≤ m → m �
 behind low m n [] others order more h g = from-before low m n others order g
 behind low m n (gap ∷ gaps) others order more h g = (h.0, h.1, omega (arith, h.2, more), behind gap.1 m n gaps others h.2 more h.3 g)
 
-spares : (k n top : ℕ) → 2160 + k + n ≤ top → AreFrom (2160 + k) (map spare (range_with_len k n)) top
+spares : (k n top : ℕ) → 7920 + k + n ≤ top → AreFrom (7920 + k) (map spare (range_with_len k n)) top
 spares k zero top room = tt
 spares k (suc n) top room =
-    let e : 2160 + (k + 1) ≡ 2160 + k + 1 = omega arith in (
+    let e : 7920 + (k + 1) ≡ 7920 + k + 1 = omega arith in (
       omega arith,
       omega arith,
       omega (arith, room),
@@ -187,31 +187,31 @@ spares k (suc n) top room =
     )
 
 -- gaps of which the last lie behind the bytes that are heard
-pub gaps-filled-up : (gaps : List (ℕ × ℕ)) (slots : ℕ) → AreGaps 2160 gaps → length gaps ≤ slots → slots ≤ 2160 → AreGaps 4320 (filled_up gaps slots)
+pub gaps-filled-up : (gaps : List (ℕ × ℕ)) (slots : ℕ) → AreGaps 7920 gaps → length gaps ≤ slots → slots ≤ 7920 → AreGaps 15840 (filled_up gaps slots)
 gaps-filled-up gaps slots are fits few =
-    let row = behind 0 2160 4320 gaps (map spare (range_with_len (length gaps) (slots - length gaps))) (omega arith) (omega arith) (in-a-row gaps 2160 are)
-    (from-before 2160 (2160 + length gaps) 4320 (map spare (range_with_len (length gaps) (slots - length gaps))) (omega arith) (spares (length gaps) (slots - length gaps) 4320 (omega (arith, fits, few)))) in
-    record { each = each 0 (filled_up gaps slots) 4320 row; apart = apart 0 (filled_up gaps slots) 4320 row }
+    let row = behind 0 7920 15840 gaps (map spare (range_with_len (length gaps) (slots - length gaps))) (omega arith) (omega arith) (in-a-row gaps 7920 are)
+    (from-before 7920 (7920 + length gaps) 15840 (map spare (range_with_len (length gaps) (slots - length gaps))) (omega arith) (spares (length gaps) (slots - length gaps) 15840 (omega (arith, fits, few)))) in
+    record { each = each 0 (filled_up gaps slots) 15840 row; apart = apart 0 (filled_up gaps slots) 15840 row }
 
 pub length-filled-up : (gaps : List (ℕ × ℕ)) (slots : ℕ) → length gaps ≤ slots → length (filled_up gaps slots) ≡ slots
 length-filled-up gaps slots fits =
     omega (arith, fits, length-append gaps (map spare (range_with_len (length gaps) (slots - length gaps))), length-map-range_with_len spare (length gaps) (slots - length gaps))
 
-spares-untouched : (i k n : ℕ) → i < 2160 → list_any (is_touched_by i) (map spare (range_with_len k n)) ≡ false
+spares-untouched : (i k n : ℕ) → i < 7920 → list_any (is_touched_by i) (map spare (range_with_len k n)) ≡ false
 spares-untouched i k zero early = refl
-spares-untouched i k (suc n) early = rw (lt-leb (2160 + k) i (omega (arith, early))) (spares-untouched i (k + 1) n early)
+spares-untouched i k (suc n) early = rw (lt-leb (7920 + k) i (omega (arith, early))) (spares-untouched i (k + 1) n early)
 
 touch-before : (i : ℕ) (gaps others : List (ℕ × ℕ)) → list_any (is_touched_by i) others ≡ false → list_any (is_touched_by i) (gaps ++ others) ≡ list_any (is_touched_by i) gaps
 touch-before i [] others none = none
 touch-before i (gap ∷ gaps) others none = ap (λ (t : Bool). is_touched_by i gap || t) (touch-before i gaps others none)
 
 -- they touch no window there, so that in the part all is touched as it was
-pub filled-up-touched : (top d n slots : ℕ) (gaps : List (ℕ × ℕ)) → AreGaps top gaps → n ≤ 2160
-    → TouchAlike (8 * 0) n (filled_up (gaps_within gaps d 2160) slots) (gaps_within gaps d n)
+pub filled-up-touched : (top d n slots : ℕ) (gaps : List (ℕ × ℕ)) → AreGaps top gaps → n ≤ 7920
+    → TouchAlike (8 * 0) n (filled_up (gaps_within gaps d 7920) slots) (gaps_within gaps d n)
 filled-up-touched top d n slots gaps are few i late early =
-    let found = gaps_within gaps d 2160 in
+    let found = gaps_within gaps d 7920 in
     let e : i + 8 * 0 ≡ i = omega arith in
     part-touched top d n gaps are i late early
-    ∙ sym (part-touched top d 2160 gaps are i late (omega (arith, early, few)))
+    ∙ sym (part-touched top d 7920 gaps are i late (omega (arith, early, few)))
     ∙ sym (touch-before i found (map spare (range_with_len (length found) (slots - length found))) (spares-untouched i (length found) (slots - length found) (omega (arith, early, few))))
     ∙ ap (λ (p : ℕ). list_any (is_touched_by p) (filled_up found slots)) (sym e)

@@ -27,7 +27,7 @@ window-before xs ys i late within =
     ∙ take-append-le (i + 1 - (i - 25)) (drop (i - 25) xs) ys (omega (arith, within, late, length-drop (i - 25) xs))))
 
 -- the bytes that a room was filled with are heard in it
-module _ (top before slots : ℕ) (gaps : List (ℕ × ℕ)) (are : AreGaps top gaps) (bytes old : List ℕ) (fits : length bytes ≤ 270) where
+module _ (top before slots : ℕ) (gaps : List (ℕ × ℕ)) (are : AreGaps top gaps) (bytes old : List ℕ) (fits : length bytes ≤ 990) where
   abbrev m : ℕ
   m = 8 * length bytes
 
@@ -35,7 +35,7 @@ module _ (top before slots : ℕ) (gaps : List (ℕ × ℕ)) (are : AreGaps top 
   part = signal_of (gaps_within gaps before m) bytes
 
   abbrev filled : Signal
-  filled = record { bits = bits_of bytes m ++ drop m old; gaps = filled_up (gaps_within gaps before 2160) slots }
+  filled = record { bits = bits_of bytes m ++ drop m old; gaps = filled_up (gaps_within gaps before 7920) slots }
 
   same-heard : (i : ℕ) → 25 ≤ i → i < m → heard part i ≡ heard filled (i + 0)
   unfolding heard touched

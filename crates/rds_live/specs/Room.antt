@@ -9,10 +9,10 @@ use Rattle.rds_live.specs.Moving.{IsPartHeard}
 
 -- how many bytes of a stream are gone over at once, at most, and how many there is room for, with those that are kept
 abbrev pub most_at_once : ℕ
-most_at_once = 240
+most_at_once = 960
 
 abbrev pub most_held : ℕ
-most_held = 270
+most_held = 990
 
 -- the bytes, and the recording that they are heard in
 pub record RoomOf : Type 0 where

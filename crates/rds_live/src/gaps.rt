@@ -47,7 +47,7 @@ pub(crate) fn fill_gaps(found: &mut Vec<(u64, u64)>, gaps: &[(u64, u64)], before
 
 /// Appends gaps behind the bytes that are heard, until there are so many.
 pub(crate) fn fill_up(gaps: &mut Vec<(u64, u64)>, slots: usize)
-    requires few { slots ≤ 2160 }
+    requires few { slots ≤ 7920 }
     requires room { slots ≤ vec_capacity gaps.old }
     ensures gaps { gaps.new.items ≡ filled_up gaps.old.items slots }
     ensures room { vec_capacity gaps.new ≡ vec_capacity gaps.old }

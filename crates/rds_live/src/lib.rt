@@ -59,7 +59,7 @@
 //!
 //! # What it costs
 //!
-//! Windows are read from a recording, so the bytes that come are copied behind those that are kept, 240 at a time, into one that
+//! Windows are read from a recording, so the bytes that come are copied behind those that are kept, 960 at a time, into one that
 //! was made with the decoder. Where there are gaps each such part looks at all of them.
 #![tactic(auto)]
 

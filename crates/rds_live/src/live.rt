@@ -60,7 +60,7 @@ impl<'r> Model for Live<'r> {
     ghost view = { λ l. record { terms = record { rules = l.rules.now; gaps = l.gaps.now }; tail = l.room.bytes; place = l.place; state = l.state; totals = l.totals } };
 
     ghost invariant = { λ l. IsLive (record { terms = record { rules = l.rules.now; gaps = l.gaps.now }; tail = l.room.bytes; place = l.place; state = l.state; totals = l.totals })
-        × (min (length l.gaps.now) 2160 ≤ slots_of l.room) };
+        × (min (length l.gaps.now) 7920 ≤ slots_of l.room) };
 }
 
 /// What the end of a stream gives.
@@ -233,7 +233,7 @@ impl<'r> Live<'r> {
     /// Takes the next bytes of the stream, the highest bit of a byte first, as many as it can at once, and gives the items that
     /// they complete in place of those of `items`. Answers how many bytes it took: the others are to be offered again.
     ///
-    /// At once it takes 240 bytes at most, and only as many as `items` has room for by the most that these may complete, 16 a
+    /// At once it takes 960 bytes at most, and only as many as `items` has room for by the most that these may complete, 16 a
     /// byte: [`MOST_ITEMS`] is room enough for all.
     ///
     /// Refuses more than 2^36 bits in all, with those that it would not take at once; refused, it has heard nothing.
@@ -245,7 +245,7 @@ impl<'r> Live<'r> {
         ensures place { IfOk result (λ count. self.new.place ≡ self.old.place + 8 * count) }
         ensures items { IfOk result (λ count. (before : List ℕ) → HasHeard self.old before
             → complete self.old.terms (before ++ take count bytes.now) ≡ complete self.old.terms before ++ items.new.items) }
-        ensures count { IfOk result (λ count. count ≡ min (length bytes.now) (min 240 (vec_capacity items.old / 16))) }
+        ensures count { IfOk result (λ count. count ≡ min (length bytes.now) (min 960 (vec_capacity items.old / 16))) }
         ensures room { vec_capacity items.new ≡ vec_capacity items.old }
         ensures refused { OnErr result ((self.new ≡ self.old) × (items.new ≡ items.old)) }
         ensures too_long { IsErrOf result StreamError.TooLong ↔ (2 ^ 36 < self.old.place + 8 * length bytes.now) }
@@ -281,7 +281,7 @@ impl<'r> Live<'r> {
     ///
     /// Refuses more than 2^36 bits in all, and want of memory; refused, it has heard nothing.
     ///
-    /// Its cost: that of [`take`](Live::take) over and over, and memory for the list and for the items of 240 bytes.
+    /// Its cost: that of [`take`](Live::take) over and over, and memory for the list and for the items of 960 bytes.
     pub fn take_all(&mut self, alloc: Global, bytes: &[u8]) -> Result<Vec<Item>, StreamError>
         ensures heard { OnOk result ((before : List ℕ) → HasHeard self.old before → HasHeard self.new (before ++ bytes.now)) }
         ensures terms { self.new.terms ≡ self.old.terms }
@@ -356,7 +356,7 @@ impl<'r> Live<'r> {
         ended(totals, group)
     }
 
-    /// Ends the stream with the first `bits` bits of these bytes, at most 1,920: gives the items that they complete in place of
+    /// Ends the stream with the first `bits` bits of these bytes, at most 7,680: gives the items that they complete in place of
     /// those of `items`, which has room for two a bit, and then closes the group in progress. So a stream may end inside a byte.
     ///
     /// Refuses more than 2^36 bits in all, and takes no memory.
@@ -367,7 +367,7 @@ impl<'r> Live<'r> {
         items: &mut Vec<Item>,
     ) -> Result<StreamEnd, StreamError>
         requires held { bits ≤ 8 * length bytes.now }
-        requires few { bits ≤ 1920 }
+        requires few { bits ≤ 7680 }
         requires room { 2 * bits ≤ vec_capacity items.old }
         ensures items { IfOk result (λ end. (before : List ℕ) → HasHeard self.entry before
             → complete self.entry.terms before ++ items.new.items ++ group_item end.group
@@ -530,7 +530,7 @@ fn group_at_end(
     requires limit { place ≤ 2 ^ 36 }
     requires lawful { IsLawful rules.now place state }
     requires are { AreGaps (2 ^ 36) gaps.now }
-    requires slots { min (length gaps.now) 2160 ≤ slots_of room }
+    requires slots { min (length gaps.now) 7920 ≤ slots_of room }
     ensures { (bytes : List ℕ) → room.bytes ≡ last_bytes bytes → place ≡ 8 * length bytes
         → group_item result ≡ items_of_end (signal_of gaps.now bytes) rules.now state }
 {

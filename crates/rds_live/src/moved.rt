@@ -6,28 +6,25 @@ ghost use Rattle.rds_live.specs.Places.{place_of, is_due_below, is_due_from};
 
 use rds_sync::{Group, Item, State};
 
-/// The item, so many places further.
-pub(crate) fn moved_item(item: Item, by: u64) -> Item
-    requires { place_of item + by < 2 ^ 64 }
-    ensures { result ≡ moved_item by item }
-{
-    match item {
-        Item::Acquired { place, number } => Item::Acquired {
-            place: place + by,
-            number,
-        },
-        Item::Group(group) => Item::Group(moved_group(group, by)),
-        Item::LostLock { place } => Item::LostLock { place: place + by },
-    }
-}
-
 /// Moves all items so many places further.
 pub(crate) fn move_on(items: &mut [Item], by: u64)
     requires { All (λ item. place_of item + by < 2 ^ 64) items.old }
     ensures { items.new ≡ moved_items by items.old }
 {
     for i in 0..items.len() {
-        items[i] = moved_item(items[i], by);
+        move_item(&mut items[i], by);
+    }
+}
+
+/// Moves the item so many places further, where it stands: it is larger than a register.
+fn move_item(item: &mut Item, by: u64)
+    requires { place_of item.old + by < 2 ^ 64 }
+    ensures { item.new ≡ moved_item by item.old }
+{
+    match item {
+        Item::Acquired { place, .. } => *place += by,
+        Item::Group(group) => group.place += by,
+        Item::LostLock { place } => *place += by,
     }
 }
 

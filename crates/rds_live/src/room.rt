@@ -16,7 +16,7 @@ use std::marker::Model;
 pub(crate) const MOST_KEPT: usize = 30;
 
 /// How many bytes are gone over at once, at most.
-pub(crate) const AT_ONCE: usize = 240;
+pub(crate) const AT_ONCE: usize = 960;
 
 /// How many bytes there is room for.
 const HELD: usize = MOST_KEPT + AT_ONCE;
@@ -46,15 +46,15 @@ impl Model for Room {
 
     ghost view = { λ r. record { bytes = r.bytes.items; recording = r.recording } };
 
-    ghost invariant = { λ r. (length r.bytes.items ≤ 270) × (270 ≤ vec_capacity r.bytes) × (length_of r.recording ≡ 4320)
-        × (length r.recording.gaps ≡ r.slots) × (r.slots ≤ 2160) × (r.slots ≤ vec_capacity r.gaps) };
+    ghost invariant = { λ r. (length r.bytes.items ≤ 990) × (990 ≤ vec_capacity r.bytes) × (length_of r.recording ≡ 15840)
+        × (length r.recording.gaps ≡ r.slots) × (r.slots ≤ 7920) × (r.slots ≤ vec_capacity r.gaps) };
 }
 
 impl Room {
     /// Room for the bytes of a stream that has so many gaps. Takes the memory for them.
     pub fn new(alloc: Global, gaps: usize) -> Result<Room, AllocError>
         ensures bytes { IfOk result (λ room. room.bytes ≡ []) }
-        ensures slots { IfOk result (λ room. slots_of room ≡ min gaps 2160) }
+        ensures slots { IfOk result (λ room. slots_of room ≡ min gaps 7920) }
     {
         let slots = gaps.min(HELD_BITS as usize);
         let bytes = Vec::with_capacity(alloc, HELD)?;
@@ -76,14 +76,14 @@ impl Room {
     /// The bytes.
     pub fn bytes(&self) -> &[u8]
         ensures value { result.now ≡ self.now.bytes }
-        ensures limit { length result.now ≤ 270 }
+        ensures limit { length result.now ≤ 990 }
     {
         &self.bytes
     }
 
     /// Appends these bytes.
     pub fn push(&mut self, bytes: &[u8])
-        requires { length self.old.bytes + length bytes.now ≤ 270 }
+        requires { length self.old.bytes + length bytes.now ≤ 990 }
         ensures bytes { self.new.bytes ≡ self.old.bytes ++ bytes.now }
         ensures slots { slots_of self.new ≡ slots_of self.old }
     {
@@ -114,7 +114,7 @@ impl Room {
     /// Has the recording hear the bytes, before which there are `before` bits of a stream with these gaps.
     pub fn listen(&mut self, gaps: &[(u64, u64)], before: u64)
         requires are { AreGaps (2 ^ 36) gaps.now }
-        requires room { min (length gaps.now) 2160 ≤ slots_of self.old }
+        requires room { min (length gaps.now) 7920 ≤ slots_of self.old }
         ensures bytes { self.new.bytes ≡ self.old.bytes }
         ensures slots { slots_of self.new ≡ slots_of self.old }
         ensures heard { IsHeardIn self.new gaps.now before }
@@ -127,7 +127,7 @@ impl Room {
     /// The recording.
     pub fn recording(&self) -> &Recording
         ensures value { result.now ≡ self.now.recording }
-        ensures long { length_of result.now ≡ 4320 }
+        ensures long { length_of result.now ≡ 15840 }
     {
         &self.recording
     }
@@ -135,7 +135,7 @@ impl Room {
     /// The first `bits` bits of the bytes as a recording, with the gaps in them, as [`listen`](Room::listen) has it.
     pub fn into_recording(self, gaps: &[(u64, u64)], before: u64, bits: u64) -> Recording
         requires are { AreGaps (2 ^ 36) gaps.now }
-        requires room { min (length gaps.now) 2160 ≤ slots_of self }
+        requires room { min (length gaps.now) 7920 ≤ slots_of self }
         requires held { bits ≤ 8 * length self.bytes }
         ensures { result ≡ signal_at (gaps_within gaps.now before bits) self.bytes bits }
     {
@@ -156,7 +156,7 @@ impl Room {
 
 /// Bytes for a recording that is to hear what there is room for, and as many places for gaps behind it.
 fn silence(alloc: Global) -> Result<Vec<u8>, AllocError>
-    ensures { IfOk result (λ bytes. length bytes.items ≡ 540) }
+    ensures { IfOk result (λ bytes. length bytes.items ≡ 1980) }
 {
     vec![in alloc; 0u8; 2 * HELD]
 }

@@ -12,7 +12,7 @@ invariant-loop-rest l = record {
   place : l.live.place + 8 * length l.rest ≡ l.fn.live.place + 8 * length l.bytes;
   left : l.rest ≡ drop (length l.bytes - length l.rest) l.bytes;
   few : length l.rest ≤ length l.bytes;
-  room : 16 * min (length l.bytes) 240 ≤ vec_capacity l.some;
+  room : 16 * min (length l.bytes) 960 ≤ vec_capacity l.some;
 }
 
 abbrev pub decreases-loop-rest : goal.decreases-loop-rest

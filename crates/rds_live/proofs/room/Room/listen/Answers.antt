@@ -18,20 +18,20 @@ filled-with bytes now old found gaps is filled bytes_are gaps_are =
 
 -- it is as long as before
 as-long : (bytes old : List ℕ) (gaps : List (ℕ × ℕ)) (is : Signal) → is ≡ record { bits = bits_of bytes (8 * length bytes) ++ drop (8 * length bytes) old; gaps = gaps }
-    → length bytes ≤ 270 → length old ≡ 4320 → length_of is ≡ 4320
+    → length bytes ≤ 990 → length old ≡ 15840 → length_of is ≡ 15840
 as-long bytes old gaps is filled few long =
     let m : ℕ = 8 * length bytes in
     omega (arith, ap (λ (b : Signal). length_of b) filled, length-append (bits_of bytes m) (drop m old), length-map-range_with_len (packed_bit bytes) 0 m, length-drop m old, few, long)
 
 -- the gaps fit into the slots
-fits : (before slots : ℕ) (gaps : List (ℕ × ℕ)) → AreGaps (2 ^ 36) gaps → min (length gaps) 2160 ≤ slots → length (gaps_within gaps before 2160) ≤ slots
-fits before slots gaps are room = omega (arith, few-of-part (2 ^ 36) before 2160 gaps are, room)
+fits : (before slots : ℕ) (gaps : List (ℕ × ℕ)) → AreGaps (2 ^ 36) gaps → min (length gaps) 7920 ≤ slots → length (gaps_within gaps before 7920) ≤ slots
+fits before slots gaps are room = omega (arith, few-of-part (2 ^ 36) before 7920 gaps are, room)
 
 -- so that all of these are as many
-as-many : (before slots : ℕ) (gaps given found spelled : List (ℕ × ℕ)) → AreGaps (2 ^ 36) gaps → min (length gaps) 2160 ≤ slots
-    → spelled ≡ given → given ≡ filled_up found slots → found ≡ gaps_within gaps before 2160 → length spelled ≡ slots
+as-many : (before slots : ℕ) (gaps given found spelled : List (ℕ × ℕ)) → AreGaps (2 ^ 36) gaps → min (length gaps) 7920 ≤ slots
+    → spelled ≡ given → given ≡ filled_up found slots → found ≡ gaps_within gaps before 7920 → length spelled ≡ slots
 as-many before slots gaps given found spelled are room is filled found_is =
-    ap length (is ∙ filled ∙ ap (λ (xs : List (ℕ × ℕ)). filled_up xs slots) found_is) ∙ length-filled-up (gaps_within gaps before 2160) slots (fits before slots gaps are room)
+    ap length (is ∙ filled ∙ ap (λ (xs : List (ℕ × ℕ)). filled_up xs slots) found_is) ∙ length-filled-up (gaps_within gaps before 7920) slots (fits before slots gaps are room)
 
 pub refill-requires-clause-as_many : goal.refill-requires-clause-as_many
 refill-requires-clause-as_many c =
@@ -42,11 +42,11 @@ refill-requires-clause-as_many c =
 pub refill-requires-clause-gaps : goal.refill-requires-clause-gaps
 refill-requires-clause-gaps c =
     let s = c.self.inside in
-    let found = gaps_within c.args.gaps.now c.args.before 2160 in
+    let found = gaps_within c.args.gaps.now c.args.before 7920 in
     let room = fits c.args.before s.slots c.args.gaps.now c.requires.are (omega (arith, c.requires.room, ap slots_of c.self.view_is, c.self.invariant.3)) in
     subst (λ (n : ℕ). AreGaps n c.deref-2.result.now) (sym c.self.invariant.2)
-    (subst (λ (gaps : List (ℕ × ℕ)). AreGaps 4320 gaps) (sym (c.deref-2.ensures.value ∙ c.fill_up.ensures.gaps ∙ ap (λ (xs : List (ℕ × ℕ)). filled_up xs s.slots) c.fill_gaps.ensures.gaps))
-    (gaps-filled-up found s.slots (gaps-of-part (2 ^ 36) c.args.before 2160 c.args.gaps.now c.requires.are) room c.self.invariant.4))
+    (subst (λ (gaps : List (ℕ × ℕ)). AreGaps 15840 gaps) (sym (c.deref-2.ensures.value ∙ c.fill_up.ensures.gaps ∙ ap (λ (xs : List (ℕ × ℕ)). filled_up xs s.slots) c.fill_gaps.ensures.gaps))
+    (gaps-filled-up found s.slots (gaps-of-part (2 ^ 36) c.args.before 7920 c.args.gaps.now c.requires.are) room c.self.invariant.4))
 
 pub invariant_of-self : goal.invariant_of-self
 invariant_of-self c =
@@ -68,7 +68,7 @@ returns-clause-heard c =
     let s = c.self.inside in
     let gaps = c.args.gaps.now in
     let before = c.args.before in
-    let filled = filled-with s.bytes.items c.deref.result.now s.recording.bits c.deref-2.result.now (filled_up (gaps_within gaps before 2160) s.slots) c.refill.new.self c.refill.ensures c.deref.ensures.value
+    let filled = filled-with s.bytes.items c.deref.result.now s.recording.bits c.deref-2.result.now (filled_up (gaps_within gaps before 7920) s.slots) c.refill.new.self c.refill.ensures c.deref.ensures.value
     (c.deref-2.ensures.value ∙ c.fill_up.ensures.gaps ∙ ap (λ (xs : List (ℕ × ℕ)). filled_up xs s.slots) c.fill_gaps.ensures.gaps) in
     subst (λ (b : Signal). IsPartHeard b (signal_of (gaps_within gaps before (8 * length s.bytes.items)) s.bytes.items) 0 0) (sym filled)
     (heard-filled (2 ^ 36) before s.slots gaps c.requires.are s.bytes.items s.recording.bits c.self.invariant.0)

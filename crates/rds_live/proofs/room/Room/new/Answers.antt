@@ -7,12 +7,12 @@ use Rattle.rds_live.proofs.GapParts.{gaps-filled-up, length-filled-up}
 use Rattle.rds_live.proofs.room.Room.new.Goals as goal
 
 -- no gaps are some that a recording may have
-no-gaps : AreGaps 2160 []
+no-gaps : AreGaps 7920 []
 no-gaps = record { each = λ k d h. absurd (omega arith); apart = λ k d h. absurd (omega arith) }
 
-spare-are : (spare none : List (ℕ × ℕ)) (slots : ℕ) → spare ≡ filled_up none slots → none ≡ [] → slots ≤ 2160 → AreGaps 4320 spare
+spare-are : (spare none : List (ℕ × ℕ)) (slots : ℕ) → spare ≡ filled_up none slots → none ≡ [] → slots ≤ 7920 → AreGaps 15840 spare
 spare-are spare none slots is empty few =
-    subst (λ (gaps : List (ℕ × ℕ)). AreGaps 4320 gaps) (sym (is ∙ ap (λ (gaps : List (ℕ × ℕ)). filled_up gaps slots) empty)) (gaps-filled-up [] slots no-gaps (omega arith) few)
+    subst (λ (gaps : List (ℕ × ℕ)). AreGaps 15840 gaps) (sym (is ∙ ap (λ (gaps : List (ℕ × ℕ)). filled_up gaps slots) empty)) (gaps-filled-up [] slots no-gaps (omega arith) few)
 
 as-many : (spare none : List (ℕ × ℕ)) (slots : ℕ) → spare ≡ filled_up none slots → none ≡ [] → length spare ≡ slots
 as-many spare none slots is empty =
@@ -31,7 +31,7 @@ invariant_of-result c =
     let many = as-many c.fill_up.new.gaps.items c.in_ok-spare.spare.items c.min-slots.result c.fill_up.ensures.gaps c.in_ok-spare.ensures.items in (
       omega (arith, ap length c.in_ok-bytes.ensures.items),
       omega (arith, c.in_ok-bytes.ensures.capacity),
-      ap (λ (b : Signal). length_of b) c.in-Ok.ensures.held ∙ length-map-range_with_len (packed_bit c.in_ok-silence.silence.items) 0 4320,
+      ap (λ (b : Signal). length_of b) c.in-Ok.ensures.held ∙ length-map-range_with_len (packed_bit c.in_ok-silence.silence.items) 0 15840,
       ap (λ (b : Signal). length b.gaps) c.in-Ok.ensures.held ∙ many,
       omega (arith, c.min-slots.ensures),
       omega (arith, c.in_ok-gaps.ensures.capacity),
