@@ -1,12 +1,11 @@
 //! Tests of the five libraries of the decoder, from outside: each uses what is public alone.
 //!
 //! - `code`: bursts, blocks and offsets, against values that were made without `rds_code`.
-//! - `stream`: recordings, their windows, scans and tapes.
+//! - `stream`: windows of recordings, scans and tapes.
 //! - `sync`: rules, steps and whole reports.
 //! - `pieces`: guesses, seams and stitched reports, against what one decoder finds.
 //! - `crew`: the reports of crews, and what their gates and works see.
 //! - `front_pages`: examples of the libraries' front pages.
-//! - `refusals`: their numbers and names.
 //! - `samples`: what they decode.
 #![tactic(auto)]
 
@@ -18,8 +17,6 @@ mod crew;
 mod front_pages;
 #[cfg(test)]
 mod pieces;
-#[cfg(test)]
-mod refusals;
 #[cfg(test)]
 mod samples;
 #[cfg(test)]
