@@ -1,5 +1,4 @@
 //! Tests of `rds_pieces`.
-mod cuttings;
 pub mod guesses;
 mod joins;
 mod phases;

@@ -4,7 +4,6 @@ ghost use Rattle.std.specs.Prelude.{◌≡◌, ◌<◌, IfOk};
 ghost use Rattle.rds_stream.specs.Recording.{length_of};
 ghost use Rattle.rds_pieces.specs.Cutting.{IsCutting};
 
-use crate::kinds::groups_of_all_kinds;
 use rds_code::{Offset, Reading};
 use rds_pieces::{Cutting, PieceError};
 use rds_stream::{Recording, StreamError};
@@ -64,10 +63,6 @@ pub enum Signal {
     /// Zero groups of which about one byte in so many is damaged, where the first number says which, whose lock is lost
     /// so.
     Noisy(u64, u64, Loss),
-    /// Zero groups of which bytes are lost and turned at random, by rules that the number chooses.
-    Torn(u32),
-    /// Groups of all kinds, where the first number says which, and the second how many.
-    OfAllKinds(u64, u32),
 }
 
 /// A recording, the rules that it is read by, and what the report has to say that they give.
@@ -184,20 +179,11 @@ pub fn gapped_recording(
     Recording::with_gaps(bytes, bits, gaps).map_err(|refused| refused.0)
 }
 
-/// The next of a row of numbers that look random and are the same in each run.
-pub fn next_random(number: u64) -> u64 {
-    let number = number ^ (number << 13);
-    let number = number ^ (number >> 7);
-    number ^ (number << 17)
-}
-
 /// The recording of a signal whose report is not known.
 fn recorded(alloc: Global, signal: Signal) -> Result<Recording, Fail> {
     match signal {
         Signal::TwoBad => Ok(two_bad(alloc)?),
         Signal::Noisy(seed, rarity, _) => noisy_groups(alloc, seed, rarity),
-        Signal::Torn(number) => torn_groups(alloc, u64::from(number) * 0x9E37_79B9),
-        Signal::OfAllKinds(seed, groups) => groups_of_all_kinds(alloc, seed, groups),
         _ => Ok(zero_groups(alloc, 832)?),
     }
 }
@@ -207,7 +193,6 @@ fn rules_for(signal: Signal) -> RuleNumbers {
     let (burst, reach, loss) = match signal {
         Signal::TwoBad => (2, 3, Loss::Share { bad: 2, of: 3 }),
         Signal::Noisy(_, _, loss) => (2, 3, loss),
-        Signal::Torn(number) => (number % 6, 1 + number % 8, Loss::Run(1 + number % 11)),
         _ => (2, 3, Loss::Run(3)),
     };
     RuleNumbers { burst, reach, loss }
@@ -231,25 +216,6 @@ fn damage_some(bytes: &mut [u8], seed: u64, rarity: u64) {
             *byte ^= ((number >> 50) & 0xFF) as u8;
         }
     }
-}
-
-/// Zero groups of which bytes are lost and turned at random.
-fn torn_groups(alloc: Global, seed: u64) -> Result<Recording, Fail> {
-    let mut bytes = Vec::new(alloc);
-    let mut number = seed;
-    for byte in &zero_bytes(alloc, 40 * 104)? {
-        number = next_random(number);
-        if number % 61 != 0 {
-            let turned = if number % 37 == 0 {
-                (number >> 56) as u8
-            } else {
-                0
-            };
-            bytes.push(byte ^ turned)?;
-        }
-    }
-    let bits = (bytes.len() as u64).saturating_mul(8);
-    Ok(recording_of(bytes, bits)?)
 }
 
 /// Block 2 of the first group acquires, and the rest of it is its group; then come whole groups.

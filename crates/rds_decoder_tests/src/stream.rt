@@ -1,4 +1,3 @@
 //! Tests of `rds_stream`.
-mod recordings;
 mod scans;
 mod windows;

@@ -1,8 +1,5 @@
 //! Tests of `rds_sync`.
 mod bad_blocks;
-mod codes;
-pub mod counts;
-mod lists;
 mod losses;
 mod reports;
 mod rules;

@@ -1,25 +1,19 @@
 //! Dealers and their seats: what each call answers, to one thread and to eight.
-ghost use Rattle.std.specs.Prelude.{◌≡◌, None, All, length};
+ghost use Rattle.std.specs.Prelude.{◌≡◌, None};
 ghost use Rattle.rds_crew.specs.Seats.{IsFresh, IsOf, HasRested};
 
 use rds_crew::{Closed, CrewError, Dealer, Seat};
-use std::alloc::{AllocError, Global};
+use std::alloc::Global;
 use std::test::Fail;
 use std::thread;
 use std::thread::Threads;
 
-/// What a seat says of itself: the number it holds, whether it ended, how many it finished, and what it was told.
-fn state_of(seat: &Seat) -> (Option<u64>, bool, u64, u64) {
-    (seat.holding(), seat.ended(), seat.finished(), seat.told())
-}
-
-/// Whether a seat gets none, and has ended then, having finished one and been told of so many.
-fn ends(dealer: &Dealer, seat: Seat, told: u64) -> bool
+/// Whether a seat gets none, since nothing is left.
+fn ends(dealer: &Dealer, seat: Seat) -> bool
     requires own { IsOf dealer.now seat }
     requires empty { seat.view.held ≡ None }
 {
-    let (none, seat) = dealer.draw(seat);
-    none.is_none() && state_of(&seat) == (None, true, 1, told)
+    dealer.draw(seat).0.is_none()
 }
 
 /// Whether two seats of a dealer of two pieces draw one each, in order, and see what the other has finished.
@@ -33,16 +27,15 @@ fn take_turns(dealer: &Dealer, a: Seat, b: Seat) -> bool
     let (Some(second), b) = dealer.draw(b) else {
         return false;
     };
-    let held = (state_of(&a), state_of(&b));
     let (none_done, b) = dealer.progress(b);
     let a = dealer.finish(a, first);
     let (one_done, b) = dealer.progress(b);
     let b = dealer.finish(b, second);
     let (both_done, a) = dealer.progress(a);
-    held == ((Some(0), false, 0, 0), (Some(1), false, 0, 0))
+    (first, second) == (0, 1)
         && (none_done, one_done, both_done) == (0, 1, 2)
-        && ends(dealer, a, 2)
-        && ends(dealer, b, 1)
+        && ends(dealer, a)
+        && ends(dealer, b)
 }
 
 /// Whether the two seats of such a dealer do.
@@ -82,41 +75,20 @@ fn a_dealer_has_1_to_256_seats(rt: HostRuntime) -> Result<(), Fail> {
     Ok(())
 }
 
-/// Draws and finishes until none is left, and counts.
-fn draw_up(dealer: &Dealer, seat: Seat) -> (u64, Seat)
+/// Draws and finishes until none is left.
+fn draw_up(dealer: &Dealer, seat: Seat) -> Seat
     requires { IsFresh dealer.now seat }
-    ensures own { IsOf dealer.now result.1 }
-    ensures rested { HasRested result.1 }
+    ensures own { IsOf dealer.now result }
+    ensures rested { HasRested result }
 {
     let mut seat = seat;
-    let mut count = 0u64;
     loop {
         let (number, holder) = dealer.draw(seat);
         let Some(j) = number else {
-            return (count, holder);
+            return holder;
         };
-        count = count.saturating_add(1);
         seat = dealer.finish(holder, j);
     }
-}
-
-/// Closes the dealer with all of its seats, and adds up what they counted.
-fn close_all(
-    alloc: Global,
-    dealer: Dealer,
-    counted: Vec<(u64, Seat)>,
-) -> Result<(u64, Closed), AllocError>
-    requires len { length counted.items ≡ dealer.seats }
-    requires own { All (λ c. IsOf dealer c.1) counted.items }
-    requires rested { All (λ c. HasRested c.1) counted.items }
-{
-    let mut seats = Vec::with_capacity(alloc, counted.len())?;
-    let mut total = 0u64;
-    for (count, seat) in counted {
-        total = total.saturating_add(count);
-        seats.push_reserved(seat);
-    }
-    Ok((total, dealer.close(seats)))
 }
 
 /// Has as many threads as seats draw up all pieces, and closes.
@@ -125,19 +97,19 @@ fn deal<R: Threads + Sync>(
     alloc: Global,
     pieces: u32,
     seats: u32,
-) -> Result<(u64, Closed), CrewError> {
+) -> Result<Closed, CrewError> {
     let (dealer, seats) = Dealer::new(alloc, u64::from(pieces), seats)?;
     let lent = &dealer;
-    let counted = thread::map_vec(
+    let rested = thread::map_vec(
         rt,
         seats,
-        &|seat| -> (u64, Seat)
+        &|seat| -> Seat
             requires { IsFresh lent.now seat }
-            ensures own { IsOf lent.entry.now result.1 }
-            ensures rested { HasRested result.1 }
+            ensures own { IsOf lent.entry.now result }
+            ensures rested { HasRested result }
         { draw_up(lent, seat) },
     )?;
-    Ok(close_all(alloc, dealer, counted)?)
+    Ok(dealer.close(rested))
 }
 
 /// Whether so many threads draw all pieces and finish them.
@@ -147,9 +119,9 @@ fn are_dealt<R: Threads + Sync>(
     pieces: u32,
     seats: u32,
 ) -> Result<bool, CrewError> {
-    let (counted, closed) = deal(rt, alloc, pieces, seats)?;
+    let closed = deal(rt, alloc, pieces, seats)?;
     let all = u64::from(pieces);
-    Ok(counted == all && closed.drawn == all && closed.finished == all)
+    Ok(closed.drawn == all && closed.finished == all)
 }
 
 #[test]
@@ -157,37 +129,5 @@ fn eight_threads_draw_a_thousand_pieces(rt: HostRuntime) -> Result<(), Fail> {
     assert!(rt; are_dealt(&rt, rt.alloc(), 1000, 8)?);
     // A dealer of no pieces ends its seat.
     assert!(rt; are_dealt(&rt, rt.alloc(), 0, 1)?);
-    Ok(())
-}
-
-// By one seat or two.
-#[test]
-fn two_draws_that_were_finished_are_closed_as_two_of_each(rt: HostRuntime) -> Result<(), Fail> {
-    for &seats in &[1u32, 2] {
-        let (counted, closed) = deal(&rt, rt.alloc(), 2, seats)?;
-        assert!(rt;
-            counted == 2 && closed.drawn == 2 && closed.finished == 2,
-            "{seats} seats"
-        );
-    }
-    Ok(())
-}
-
-/// Whether the seat of a dealer of no pieces gets none, and once more none.
-fn gives_none_twice(alloc: Global) -> Result<bool, CrewError> {
-    let (dealer, mut seats) = Dealer::new(alloc, 0, 1)?;
-    let Some(seat) = seats.pop() else {
-        return Ok(false);
-    };
-    let (None, seat) = dealer.draw(seat) else {
-        return Ok(false);
-    };
-    let (again, seat) = dealer.draw(seat);
-    Ok(again.is_none() && state_of(&seat) == (None, true, 0, 0))
-}
-
-#[test]
-fn a_dealer_of_no_pieces_is_drawn_from_twice(rt: HostRuntime) -> Result<(), Fail> {
-    assert!(rt; gives_none_twice(rt.alloc())?);
     Ok(())
 }

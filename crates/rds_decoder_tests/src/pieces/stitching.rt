@@ -5,7 +5,7 @@ ghost use Rattle.rds_pieces.specs.Cutting.{IsCutting};
 
 use crate::pieces::guesses::guesses;
 use crate::samples::{Cuts, Sample, Signal};
-use rds_pieces::{Cutting, PieceError, RecordingWork, Work, stitch};
+use rds_pieces::{Cutting, PieceError, RecordingWork, stitch};
 use rds_stream::{Counted, Tape};
 use rds_sync::{Report, Spans};
 use std::alloc::Global;
@@ -54,37 +54,5 @@ fn reads_of_silence(alloc: Global, bytes: u32, pieces: u64) -> Result<Option<u64
 fn silence_is_met_at_once_and_read_by_no_seam(rt: HostRuntime) -> Result<(), Fail> {
     assert!(rt; reads_of_silence(rt.alloc(), 100, 10)? == Some(0));
     assert!(rt; reads_of_silence(rt.alloc(), 1_000_000, 1_000)? == Some(0));
-    Ok(())
-}
-
-/// The report by a work's own calls. A work can be lent to threads.
-fn by_work<W: Work + Sync>(alloc: Global, work: &W) -> Result<Report, PieceError>
-    requires { IsCutting (length_of (W.recording work.now)) (W.places work.now) }
-    ensures source { IfOk result (λ report. report.items.source ≡ W.recording work.now) }
-    ensures rules { IfOk result (λ report. report.items.rules ≡ W.rule_set work.now) }
-{
-    let runs = guesses(alloc, work)?;
-    work.report(alloc, runs.as_slice())
-}
-
-/// Whether a work's own calls give the report of a sample, cut so.
-fn is_given_by_work(alloc: Global, sample: &Sample, cuts: Cuts<'_>) -> Result<bool, PieceError> {
-    let cutting = sample.cut(alloc, cuts)?;
-    let work = RecordingWork::new(&sample.recording, &sample.rules, &cutting);
-    Ok(sample.gives(&by_work(alloc, &work)?))
-}
-
-/// Whether they give that of three zero groups.
-fn are_given_by_work(alloc: Global) -> Result<bool, Fail> {
-    let answer = {
-        let sample = Sample::of(alloc, Signal::ZeroGroups(3, 3))?;
-        is_given_by_work(alloc, &sample, Cuts::At(&[1, 52, 104, 190]))
-    };
-    Ok(answer?)
-}
-
-#[test]
-fn a_work_over_a_recording_gives_its_report(rt: HostRuntime) -> Result<(), Fail> {
-    assert!(rt; are_given_by_work(rt.alloc())?);
     Ok(())
 }
