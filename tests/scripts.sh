@@ -3,8 +3,9 @@
 #
 # A script whose tool or table is missing must not pass. Each script of this folder that says what it needs is called with
 # each of these tools away in turn, and has to end in another status than 0, with the tool's name on standard error; it finds
-# no others (`needs` of common.sh), so that its row is whole where it passes. And each is called without a program, and those
-# that read a table with an empty one, and with one whose last line is cut off, missing, or there twice. So is wrong_bodies.py.
+# no others (`needs` of common.sh), so that its row is whole where it passes. The others are called with the fewest tools. And each
+# is called without a program, and those that read a table with an empty one, and with one whose last line is cut off, missing,
+# or there twice. So is wrong_bodies.py.
 # The last line is 'N passed, M failed', and the exit status says whether all passed.
 
 usage='usage: tests/scripts.sh PATH-TO-RDS'
@@ -67,6 +68,17 @@ for script in "${scripts[@]}"; do
     refused "$script.sh of a program that is not there" 'usage: tests/' "$all_tools" bash "$here/$script.sh" "$work/none"
 done
 RT=none refused 'wrong_bodies.py without rt' 'no Rattle toolchain' "$all_tools" python3 "$here/wrong_bodies.py"
+
+# Those that say by name which part they skip for want of a tool end at the first of the tools that every part calls.
+read -ra tools <<<"$common"
+put_links "$work/few" "${tools[@]}"
+: >"$work/librds.so.0"
+for words in "recipes $rds" "library $work $rds" "package $rds $work"; do
+    read -ra words <<<"$words"
+    refused "${words[0]}.sh without a tool of all" "${words[0]}.sh: there is no '" "$work/few" \
+        "$bash" "$here/${words[0]}.sh" "${words[@]:1}"
+    refused "${words[0]}.sh without a program" 'usage: tests/' "$all_tools" bash "$here/${words[0]}.sh"
+done
 
 # ---- tables that are not whole
 

@@ -344,7 +344,14 @@ fn a_stream_may_end_at_any_bit(rt: HostRuntime) -> Result<(), Fail> {
         let report = decode_plain(alloc, &recording, &rules)?;
         let expected = report.items.iter(&recording, &rules);
         assert!(rt;
-            ends_inside(alloc, &rules, bytes.as_slice(), bits, expected, &report.totals)?,
+            ends_inside(
+                alloc,
+                &rules,
+                bytes.as_slice(),
+                bits,
+                expected,
+                &report.totals
+            )?,
             "{left} bits left out"
         );
     }
