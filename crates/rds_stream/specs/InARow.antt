@@ -1,4 +1,4 @@
--- Blocks in a row.
+-- What is heard of blocks in a row. `Reader::four_windows` answers it of four.
 use Rattle.std.specs.Prelude.{ℕ, ◌+◌, List, [], ◌∷◌, Option}
 use Rattle.rds_stream.specs.Recording.{Signal, heard}
 

@@ -1,4 +1,4 @@
--- Remainders of many places at once, bit by bit.
+-- Remainders of many places at once, bit by bit: ten numbers, of which each has a bit for each place. `planes` answers them.
 use Rattle.std.specs.Prelude.{◌≡◌, ℕ, ◌^◌, ◌<◌, List, slice_index}
 use Rattle.std.specs.Int.{bit_at}
 

@@ -1,4 +1,5 @@
--- The refusals of this crate, by the numbers and names that all crates of the project share.
+-- The refusals of this crate, by the numbers and names that all crates of the project share. `StreamError::number` and `name` answer
+-- them.
 use Rattle.std.specs.Prelude.{ℕ, List, codes}
 use Rattle.rds_stream.specs.declared.error.StreamError.{StreamError}
 use Rattle.rds_stream.specs.declared.error.StreamError.TheVariants.{BitsPastBytes, TooLong, OutOfMemory, BadGaps}

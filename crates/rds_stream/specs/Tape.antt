@@ -1,4 +1,4 @@
--- What a tape shows of itself.
+-- What a tape shows of itself: a recording, and how many of its windows were read. `Tape` and `Counted` are said to be it.
 use Rattle.std.specs.Prelude.{ℕ}
 use Rattle.rds_stream.specs.Recording.{Signal}
 

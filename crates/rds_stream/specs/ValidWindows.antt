@@ -1,4 +1,5 @@
--- The valid windows of a range, one after the other.
+-- The valid windows of a range, one after the other, and which of them are left. `ValidWindows` is said to be these, and `scan`
+-- answers them all.
 use Rattle.std.specs.Prelude.{◌≡◌, ℕ, ◌+◌, ◌<◌, ◌≤◌, Option, Some, None}
 use Rattle.rds_code.specs.declared.offset.Offset.{Offset}
 use Rattle.rds_stream.specs.Recording.{Signal, off}

@@ -102,8 +102,8 @@ impl Recording {
         requires as_many { length gaps.now ≡ length self.old.gaps }
         requires gaps { AreGaps (length_of self.old) gaps.now }
         ensures { self.new ≡ record {
-            bits = bits_of bytes.now (8 * length bytes.now) ++ drop (8 * length bytes.now) self.old.bits;
-            gaps = gaps.now;
+          bits = bits_of bytes.now (8 * length bytes.now) ++ drop (8 * length bytes.now) self.old.bits;
+          gaps = gaps.now;
         } }
     {
         self.packed.refill(bytes);

@@ -52,30 +52,31 @@
 //! are: these are for tests.
 #![tactic(auto)]
 
-mod cli;
-mod commands;
-mod devices;
-mod encode;
-mod engine;
-mod entries;
-mod error;
-mod field;
-mod fields;
-mod following;
-mod gap_text;
-mod help;
-mod input;
-mod job;
-mod line;
-mod listing;
-mod listing_rows;
-mod one_pass;
-mod pen;
-mod plan;
-mod rows;
-mod task;
-mod text;
-mod window_rows;
+// In the order of reading: the command line, a job on its way from a reader to a writer, its rows, and what has another way.
+mod cli; // A command line, as what it asks for.
+mod commands; // The commands and their options.
+mod help; // Their texts.
+mod entries; // What a parsed command line holds.
+mod gap_text; // Gaps as a command line names them.
+mod job; // What is asked for.
+mod engine; // From a reader to a writer.
+mod devices; // The two ends of that.
+mod task; // A job whose settings were looked at.
+mod plan; // Rules, workers and pieces.
+mod input; // From bytes to a recording.
+mod one_pass; // A list by one worker, written while it is decoded.
+mod text; // What a task writes.
+mod listing_rows; // The rows of a report, from any on.
+mod window_rows; // Those of a scan.
+mod listing; // The rows of a list of items.
+mod fields; // The fields of each row.
+mod field; // Those that are put together on the stack.
+mod pen; // What a row is written with.
+mod rows; // Rows that `csv` writes.
+mod line; // A row on the stack.
+mod encode; // Groups from lines of digits.
+mod following; // From a reader to a writer, as the bytes come.
+mod error; // Why a transcription is refused.
 
 pub use cli::{CliFault, FaultKind, asked_of};
 pub use devices::{FromRead, Source, ToWrite};

@@ -131,3 +131,31 @@ fn eight_threads_draw_a_thousand_pieces(rt: HostRuntime) -> Result<(), Fail> {
     assert!(rt; are_dealt(&rt, rt.alloc(), 0, 1)?);
     Ok(())
 }
+
+// By one seat or two.
+#[test]
+fn two_draws_that_were_finished_are_closed_as_two_of_each(rt: HostRuntime) -> Result<(), Fail> {
+    for &seats in &[1u32, 2] {
+        assert!(rt; are_dealt(&rt, rt.alloc(), 2, seats)?, "{seats} seats");
+    }
+    Ok(())
+}
+
+/// Whether the seat of a dealer of no pieces gets none, and once more none.
+fn gives_none_twice(alloc: Global) -> Result<bool, CrewError> {
+    let (dealer, mut seats) = Dealer::new(alloc, 0, 1)?;
+    let Some(seat) = seats.pop() else {
+        return Ok(false);
+    };
+    let (None, seat) = dealer.draw(seat) else {
+        return Ok(false);
+    };
+    let (again, seat) = dealer.draw(seat);
+    Ok(again.is_none() && seat.ended())
+}
+
+#[test]
+fn a_dealer_of_no_pieces_is_drawn_from_twice(rt: HostRuntime) -> Result<(), Fail> {
+    assert!(rt; gives_none_twice(rt.alloc())?);
+    Ok(())
+}

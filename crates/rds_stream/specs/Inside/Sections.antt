@@ -1,4 +1,5 @@
--- Sections of a recording: places in a row whose windows all touch a gap, or of which none does. This project's rule.
+-- Sections of a recording: places in a row whose windows all touch a gap, or of which none does. A reader and `ValidWindows` remember
+-- one, and no caller sees it. This project's rule.
 use Rattle.std.specs.Prelude.{◌≡◌, ◌<◌, ◌≤◌, ℕ, Bool}
 use Rattle.rds_stream.specs.Recording.{Signal, touched}
 
