@@ -89,6 +89,7 @@ program:
 	$(call within_limit,tests/program.sh crates/rds/out/rds)
 	$(call within_limit,tests/listings.sh crates/rds/out/rds)
 	$(call within_limit,tests/differential.sh crates/rds/out/rds crates/rds_plain/out/rds_plain)
+	$(call within_limit,tests/streams.py crates/rds/out/rds)
 	$(call within_limit,tests/refusals.sh crates/rds/out/rds crates/rds_parts/out/rds_parts)
 	$(call within_limit,tests/work.sh crates/rds/out/rds)
 	$(call within_limit,tests/growth.sh crates/rds/out/rds)

@@ -47,6 +47,7 @@ version_b totals --pieces 16 --workers 4
 station list --gaps $gaps --pieces 16 --workers 1
 version_b totals --gaps $gaps --pieces 16 --workers 1
 station list --share 8 --of 40 --pieces 16 --workers 1
+version_b totals --share 8 --of 40 --pieces 16 --workers 1
 damaged totals --hex --share 8 --of 40 --pieces 16 --workers 1
 wrong0.0005 totals --pieces 16 --workers 4
 wrong0.0005 list --pieces 16 --workers 4
