@@ -13,7 +13,7 @@ use Rattle.rds_abi.specs.declared.layout.RdsTotals.{RdsTotals}
 
 -- what was laid out says what it was laid out of
 pub laid_out : (live : LiveOf) (place : ℕ) (state : RdsState) (totals : RdsTotals) (tail : List ℕ)
-    → place ≡ live.place → state_of live.terms.rules state ≡ live.state → totals ≡ totals_in_c live.totals
+    → place ≡ live.place → state_of state ≡ live.state → totals ≡ totals_in_c live.totals
     → take (length live.tail) tail ≡ live.tail → length live.tail ≡ min most_kept (live.place / 8)
     → stream_of live.terms (record { place = place; state = state; totals = totals; tail = tail }) ≡ live
 laid_out live place state totals tail place_is state_is totals_are tail_is kept =

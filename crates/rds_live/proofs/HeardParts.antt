@@ -14,9 +14,8 @@ use Rattle.rds_sync.specs.declared.state.State.{State}
 use Rattle.rds_sync.specs.declared.state.State.TheVariants.{Searching, Locked}
 use Rattle.rds_sync.specs.declared.item.Item.{Item}
 use Rattle.rds_sync.specs.declared.item.Item.TheVariants.{Acquired, Group, LostLock}
-use Rattle.rds_sync.specs.declared.loss.Bad.{Bad}
 use Rattle.rds_sync.specs.Rules.{RuleNumbers}
-use Rattle.rds_sync.specs.Loss.{IsLoss, none_bad, bad_after, are_too_many}
+use Rattle.rds_sync.specs.Loss.{IsLoss, bad_after, are_too_many}
 use Rattle.rds_sync.specs.Lawful.{IsLawful}
 use Rattle.rds_sync.specs.Acquiring.{acquired, has_number, has_partner, with_partner, is_in_step, is_numbered}
 use Rattle.rds_sync.specs.declared.item.Block.{Block}
@@ -132,7 +131,7 @@ module _ (whole part : Signal) (d from : ℕ) (h : IsPartHeard whole part d from
         let place : p + d - 26 * (x - f) - 25 ≡ p - 26 * (x - f) - 25 + d = omega arith in
         ap₂ (λ (q : ℕ) (blocks : List Block). Group (group_of q blocks)) place (blocks-moved f x p room within)
 
-    locked-moved : (i x : ℕ) (bad : Bad) (f : ℕ) → locked_after (i + d) x bad f ≡ moved_state d (locked_after i x bad f)
+    locked-moved : (i x bad f : ℕ) → locked_after (i + d) x bad f ≡ moved_state d (locked_after i x bad f)
     locked-moved i x bad f =
         let due : i + d + 26 ≡ i + 26 + d = omega arith in
         rw due refl
@@ -144,7 +143,7 @@ module _ (whole part : Signal) (d from : ℕ) (h : IsPartHeard whole part d from
       at_case true = ap (λ (item : Item). item ∷ []) (group-moved f x i room within)
       at_case false = refl
 
-    bad_with-moved : (i x : ℕ) (bad : Bad) → from ≤ i → i < length_of part → bad_with whole rules (i + d) x bad ≡ bad_with part rules i x bad
+    bad_with-moved : (i x bad : ℕ) → from ≤ i → i < length_of part → bad_with whole rules (i + d) x bad ≡ bad_with part rules i x bad
     bad_with-moved i x bad order within = ap (λ (good : Bool). bad_after rules.loss good bad) (number-moved i x order within)
 
     module _ (reach : rules.reach ≤ farthest_reach) (late : AcquisitionsAreLate) (i : ℕ) (order : from ≤ i) (within : i < length_of part) where
@@ -155,7 +154,7 @@ module _ (whole part : Signal) (d from : ℕ) (h : IsPartHeard whole part d from
             step-searching whole rules (i + d) (acquired-moved reach i order within ∙ e) ∙ ap (moved_state d) (sym (step-searching part rules i e))
         at_case (Some x) e =
             step-acquiring whole rules (i + d) x (acquired-moved reach i order within ∙ e)
-            ∙ locked-moved i x (none_bad rules.loss) x
+            ∙ locked-moved i x 0 x
             ∙ ap (moved_state d) (sym (step-acquiring part rules i x e))
 
       items_search-moved : items_at whole rules (i + d) Searching ≡ moved_items d (items_at part rules i Searching)
@@ -169,18 +168,18 @@ module _ (whole part : Signal) (d from : ℕ) (h : IsPartHeard whole part d from
             ∙ ap (λ (items : List Item). Acquired (i + d) x ∷ items) (group_after-moved x x i (omega arith) within)
             ∙ ap (moved_items d) (sym (items-acquiring part rules i x e))
 
-      module _ (x : ℕ) (bad : Bad) (f : ℕ) (room : 26 * (x - f) + 25 ≤ i) where
+      module _ (x bad f : ℕ) (room : 26 * (x - f) + 25 ≤ i) where
         step_due-moved : step whole rules (i + d) (Locked (i + d) x bad f) ≡ moved_state d (step part rules i (Locked i x bad f))
         step_due-moved =
             at_case (are_too_many rules.loss (bad_with part rules i x bad)) refl where
               at_case : (t : Bool) → are_too_many rules.loss (bad_with part rules i x bad) ≡ t → step whole rules (i + d) (Locked (i + d) x bad f) ≡ moved_state d (step part rules i (Locked i x bad f))
               at_case true e =
-                  let there : are_too_many rules.loss (bad_with whole rules (i + d) x bad) ≡ true = ap (λ (b : Bad). are_too_many rules.loss b) (bad_with-moved i x bad order within) ∙ e in
+                  let there : are_too_many rules.loss (bad_with whole rules (i + d) x bad) ≡ true = ap (λ (b : ℕ). are_too_many rules.loss b) (bad_with-moved i x bad order within) ∙ e in
                   step-losing whole rules (i + d) x bad f there ∙ ap (moved_state d) (sym (step-losing part rules i x bad f e))
               at_case false e =
-                  let there : are_too_many rules.loss (bad_with whole rules (i + d) x bad) ≡ false = ap (λ (b : Bad). are_too_many rules.loss b) (bad_with-moved i x bad order within) ∙ e in
+                  let there : are_too_many rules.loss (bad_with whole rules (i + d) x bad) ≡ false = ap (λ (b : ℕ). are_too_many rules.loss b) (bad_with-moved i x bad order within) ∙ e in
                   step-keeping whole rules (i + d) x bad f there
-                  ∙ ap (λ (b : Bad). locked_after (i + d) x b f) (bad_with-moved i x bad order within)
+                  ∙ ap (λ (b : ℕ). locked_after (i + d) x b f) (bad_with-moved i x bad order within)
                   ∙ locked-moved i x (bad_with part rules i x bad) f
                   ∙ ap (moved_state d) (sym (step-keeping part rules i x bad f e))
 
@@ -189,12 +188,12 @@ module _ (whole part : Signal) (d from : ℕ) (h : IsPartHeard whole part d from
             at_case (are_too_many rules.loss (bad_with part rules i x bad)) refl where
               at_case : (t : Bool) → are_too_many rules.loss (bad_with part rules i x bad) ≡ t → items_at whole rules (i + d) (Locked (i + d) x bad f) ≡ moved_items d (items_at part rules i (Locked i x bad f))
               at_case true e =
-                  let there : are_too_many rules.loss (bad_with whole rules (i + d) x bad) ≡ true = ap (λ (b : Bad). are_too_many rules.loss b) (bad_with-moved i x bad order within) ∙ e in
+                  let there : are_too_many rules.loss (bad_with whole rules (i + d) x bad) ≡ true = ap (λ (b : ℕ). are_too_many rules.loss b) (bad_with-moved i x bad order within) ∙ e in
                   items-losing whole rules (i + d) x bad f there
                   ∙ ap (λ (item : Item). item ∷ LostLock (i + d) ∷ []) (group-moved f x i room within)
                   ∙ ap (moved_items d) (sym (items-losing part rules i x bad f e))
               at_case false e =
-                  let there : are_too_many rules.loss (bad_with whole rules (i + d) x bad) ≡ false = ap (λ (b : Bad). are_too_many rules.loss b) (bad_with-moved i x bad order within) ∙ e in
+                  let there : are_too_many rules.loss (bad_with whole rules (i + d) x bad) ≡ false = ap (λ (b : ℕ). are_too_many rules.loss b) (bad_with-moved i x bad order within) ∙ e in
                   items-keeping whole rules (i + d) x bad f there
                   ∙ group_after-moved f x i room within
                   ∙ ap (moved_items d) (sym (items-keeping part rules i x bad f e))

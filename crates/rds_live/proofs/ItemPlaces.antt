@@ -8,7 +8,6 @@ use Rattle.rds_sync.specs.declared.state.State.{State}
 use Rattle.rds_sync.specs.declared.state.State.TheVariants.{Searching, Locked}
 use Rattle.rds_sync.specs.declared.item.Item.{Item}
 use Rattle.rds_sync.specs.declared.item.Item.TheVariants.{Acquired, Group, LostLock}
-use Rattle.rds_sync.specs.declared.loss.Bad.{Bad}
 use Rattle.rds_sync.specs.Rules.{RuleNumbers}
 use Rattle.rds_sync.specs.Loss.{are_too_many}
 use Rattle.rds_sync.specs.Acquiring.{acquired}
@@ -48,7 +47,7 @@ module _ (b : Signal) (rules : RuleNumbers) (to : ℕ) where
         subst (λ (items : List Item). All Early items) (sym (items-acquiring b rules i x e))
         (all-cons (Acquired i x) (group_after b rules x x i) h (after-early x x i h))
 
-  due-early : (i x : ℕ) (bad : Bad) (f : ℕ) → i < to → All Early (items_at b rules i (Locked i x bad f))
+  due-early : (i x bad f : ℕ) → i < to → All Early (items_at b rules i (Locked i x bad f))
   due-early i x bad f h = at_case (are_too_many rules.loss (bad_with b rules i x bad)) refl where
     at_case : (t : Bool) → are_too_many rules.loss (bad_with b rules i x bad) ≡ t → All Early (items_at b rules i (Locked i x bad f))
     at_case true e =

@@ -6,7 +6,6 @@ use Rattle.std.proofs.lemmas.Nat.{mul-le}
 use Rattle.rds_stream.specs.Recording.{Signal}
 use Rattle.rds_sync.specs.declared.state.State.{State}
 use Rattle.rds_sync.specs.declared.state.State.TheVariants.{Searching, Locked}
-use Rattle.rds_sync.specs.declared.loss.Bad.{Bad}
 use Rattle.rds_sync.specs.declared.item.Item.{Item}
 use Rattle.rds_sync.specs.Rules.{RuleNumbers}
 use Rattle.rds_sync.specs.Ranges.{IsInRange}
@@ -34,7 +33,7 @@ module _ (b : Signal) (rules : RuleNumbers) where
     at_case None e = subst (IsBlockAfter i) (sym (step-searching b rules i e)) tt
     at_case (Some x) e = subst (IsBlockAfter i) (sym (step-acquiring b rules i x e)) refl
 
-  block_then : (due number : ℕ) (bad : Bad) (first : ℕ) → IsBlockAfter due (step b rules due (Locked due number bad first))
+  block_then : (due number bad first : ℕ) → IsBlockAfter due (step b rules due (Locked due number bad first))
   block_then due number bad first = elim (cases_Bool (are_too_many rules.loss (bad_with b rules due number bad))) [
     | inr kept ↦ subst (IsBlockAfter due) (sym (step-keeping b rules due number bad first kept)) refl
     | inl lost ↦ subst (IsBlockAfter due) (sym (step-losing b rules due number bad first lost)) tt

@@ -6,9 +6,8 @@ use Rattle.rds_sync.specs.declared.state.State.{State}
 use Rattle.rds_sync.specs.declared.state.State.TheVariants.{Searching, Locked}
 use Rattle.rds_sync.specs.declared.item.Item.{Item}
 use Rattle.rds_sync.specs.declared.item.Item.TheVariants.{Acquired, Group, LostLock}
-use Rattle.rds_sync.specs.declared.loss.Bad.{Bad}
 use Rattle.rds_sync.specs.Rules.{RuleNumbers}
-use Rattle.rds_sync.specs.Loss.{none_bad, are_too_many}
+use Rattle.rds_sync.specs.Loss.{are_too_many}
 use Rattle.rds_sync.specs.Acquiring.{acquired}
 use Rattle.rds_sync.specs.Lawful.{IsLawful, HaveRoom}
 use Rattle.rds_sync.specs.Groups.{group}
@@ -25,14 +24,14 @@ pub record IsGroup (f x p : ℕ) : Type 0 where
 
 pub data Bit (b : Signal) (rules : RuleNumbers) (a : ℕ) (s : State) : Type 0 where
   still : step b rules a s ≡ s → items_at b rules a s ≡ [] → Bit b rules a s
-  found : (x : ℕ) → s ≡ Searching → acquired b rules a ≡ Some x → x ≢ 4 → step b rules a s ≡ locked_after a x (none_bad rules.loss) x → items_at b rules a s ≡ Acquired a x ∷ [] → Bit b rules a s
-  found_last : s ≡ Searching → acquired b rules a ≡ Some 4 → step b rules a s ≡ locked_after a 4 (none_bad rules.loss) 4
+  found : (x : ℕ) → s ≡ Searching → acquired b rules a ≡ Some x → x ≢ 4 → step b rules a s ≡ locked_after a x 0 x → items_at b rules a s ≡ Acquired a x ∷ [] → Bit b rules a s
+  found_last : s ≡ Searching → acquired b rules a ≡ Some 4 → step b rules a s ≡ locked_after a 4 0 4
       → items_at b rules a s ≡ Acquired a 4 ∷ Group (group b rules 4 4 a) ∷ [] → Bit b rules a s
-  heard : (x : ℕ) (bad : Bad) (f : ℕ) → s ≡ Locked a x bad f → IsGroup f x a → x ≢ 4 → step b rules a s ≡ Locked (a + 26) (x + 1) (bad_with b rules a x bad) f
+  heard : (x bad f : ℕ) → s ≡ Locked a x bad f → IsGroup f x a → x ≢ 4 → step b rules a s ≡ Locked (a + 26) (x + 1) (bad_with b rules a x bad) f
       → items_at b rules a s ≡ [] → Bit b rules a s
-  closed : (bad : Bad) (f : ℕ) → s ≡ Locked a 4 bad f → IsGroup f 4 a → step b rules a s ≡ locked_after a 4 (bad_with b rules a 4 bad) f
+  closed : (bad f : ℕ) → s ≡ Locked a 4 bad f → IsGroup f 4 a → step b rules a s ≡ locked_after a 4 (bad_with b rules a 4 bad) f
       → items_at b rules a s ≡ Group (group b rules f 4 a) ∷ [] → Bit b rules a s
-  gone : (x : ℕ) (bad : Bad) (f : ℕ) → s ≡ Locked a x bad f → IsGroup f x a → step b rules a s ≡ Searching
+  gone : (x bad f : ℕ) → s ≡ Locked a x bad f → IsGroup f x a → step b rules a s ≡ Searching
       → items_at b rules a s ≡ Group (group b rules f x a) ∷ LostLock a ∷ [] → Bit b rules a s
 
 module _ (b : Signal) (rules : RuleNumbers) where

@@ -8,9 +8,8 @@ use Rattle.std.specs.List.{range_with_len, list_any}
 use Rattle.rds_stream.specs.Recording.{Signal, off}
 use Rattle.rds_sync.specs.declared.state.State.{State}
 use Rattle.rds_sync.specs.declared.state.State.TheVariants.{Searching, Locked}
-use Rattle.rds_sync.specs.declared.loss.Bad.{Bad}
 use Rattle.rds_sync.specs.Rules.{RuleNumbers}
-use Rattle.rds_sync.specs.Loss.{IsLoss, IsLawfulBad, none_bad, bad_after, are_too_many}
+use Rattle.rds_sync.specs.Loss.{IsLoss, IsLawfulBad, bad_after, are_too_many}
 use Rattle.rds_sync.proofs.BadRows.{lawful_none, lawful_kept, good_keeps, needed, memory, needed_is, memory_is, HasRow, row_zero, row_short, row_grows, IsClean, clean_zero, clean_none, clean_more, clean_is}
 use Rattle.rds_sync.specs.Lawful.{IsLawful}
 use Rattle.rds_code.specs.declared.offset.Offset.{Offset}
@@ -37,7 +36,7 @@ module _ (b : Signal) (rules : RuleNumbers) where
       let e : a + suc m ≡ a + 1 + m = omega arith in
       rw (suc-add, e) (after_more (step b rules a s) (a + 1) m n)
 
-  waits : (num : ℕ) (bad : Bad) (f p d : ℕ) → after (Locked (p + d) num bad f) p d ≡ Locked (p + d) num bad f
+  waits : (num bad f p d : ℕ) → after (Locked (p + d) num bad f) p d ≡ Locked (p + d) num bad f
   waits num bad f p zero = refl
   waits num bad f p (suc d) =
       let e : p + suc d ≡ p + 1 + d = omega arith in
@@ -53,12 +52,12 @@ module _ (b : Signal) (rules : RuleNumbers) where
   LostBy s a limit = (m : ℕ) × (m ≤ limit) × (after s a m ≡ Searching)
 
   -- a block that is read with no loss
-  next_block : (due num : ℕ) (bad : Bad) (f : ℕ) (bad2 : Bad) → bad_with b rules due num bad ≡ bad2 → are_too_many rules.loss bad2 ≡ false
+  next_block : (due num bad f bad2 : ℕ) → bad_with b rules due num bad ≡ bad2 → are_too_many rules.loss bad2 ≡ false
       → after (Locked due num bad f) due 26 ≡ Locked (due + 26) (num % 4 + 1) bad2 (cond (num == 4) 1 f)
   next_block due num bad f bad2 e h =
       let ok : are_too_many rules.loss (bad_with b rules due num bad) ≡ false = ap (are_too_many rules.loss) e ∙ h in
       let goes : step b rules due (Locked due num bad f) ≡ Locked (due + 26) (num % 4 + 1) bad2 (cond (num == 4) 1 f) =
-      step-keeping b rules due num bad f ok ∙ ap (λ (n : Bad). locked_after due num n f) e in
+      step-keeping b rules due num bad f ok ∙ ap (λ (n : ℕ). locked_after due num n f) e in
       let place : due + 26 ≡ due + 1 + 25 = omega arith in
       ap (λ (s : State). after s (due + 1) 25) goes ∙ rw place (waits (num % 4 + 1) bad2 (cond (num == 4) 1 f) (due + 1) 25)
 
@@ -66,7 +65,7 @@ module _ (b : Signal) (rules : RuleNumbers) where
   later s t a m limit e l = (m + l.0, omega (arith, l.1), after_more s a m l.0 ∙ ap (λ (u : State). after u (a + m) l.0) e ∙ l.2)
 
   -- a lock with few good blocks is lost: there are as many bad ones in a row as lose it
-  loses : IsLoss rules.loss → (n due num : ℕ) (bad : Bad) (f r : ℕ) → IsLawfulBad rules.loss bad → HasRow rules.loss bad r
+  loses : IsLoss rules.loss → (n due num bad f r : ℕ) → IsLawfulBad rules.loss bad → HasRow rules.loss bad r
       → (good_blocks due num n + 1) * needed rules.loss ≤ r + n → LostBy (Locked due num bad f) due (26 * n)
   loses some zero due num bad f r h in_row few = let short = row_short rules.loss bad r h in_row in absurd (omega arith)
   loses some (suc n) due num bad f r h in_row few =
@@ -137,7 +136,7 @@ module _ (b : Signal) (rules : RuleNumbers) where
 
   -- a search locks at the first place that acquires
   finds : (d q x : ℕ) → ((r : ℕ) → q ≤ r → r < q + d → acquired b rules r ≡ None) → acquired b rules (q + d) ≡ Some x
-      → after Searching q (d + 1) ≡ locked_after (q + d) x (none_bad rules.loss) x
+      → after Searching q (d + 1) ≡ locked_after (q + d) x 0 x
   finds zero q x none e = let place : q + 0 ≡ q = omega arith in rw place (step-acquiring b rules q x (rw place at e))
   finds (suc d) q x none e =
       let place : q + suc d ≡ q + 1 + d = omega arith in
@@ -151,15 +150,15 @@ module _ (b : Signal) (rules : RuleNumbers) where
     number_next k = omega arith
 
     -- a lock on the sequence stays, and after enough blocks nothing is left of its bad ones
-    stays : (d k : ℕ) (bad : Bad) (f r : ℕ) → IsLawfulBad rules.loss bad → IsClean rules.loss bad r → memory rules.loss ≤ r + suc d
+    stays : (d k bad f r : ℕ) → IsLawfulBad rules.loss bad → IsClean rules.loss bad r → memory rules.loss ≤ r + suc d
         → k + d ≤ last → number_after c (k + d) ≡ 4
-        → after (Locked (p + 26 * k) (number_after c k) bad f) (p + 26 * k) (26 * d + 1) ≡ Locked (p + 26 * (k + d) + 26) 1 (none_bad rules.loss) 1
+        → after (Locked (p + 26 * k) (number_after c k) bad f) (p + 26 * k) (26 * d + 1) ≡ Locked (p + 26 * (k + d) + 26) 1 0 1
     stays zero k bad f r h clean long within four =
         let num : number_after c k ≡ 4 = rw add-zero at four in
         let good = sequence k (omega arith) in
         let next : bad_with b rules (p + 26 * k) (number_after c k) bad ≡ bad_after rules.loss true bad = ap (λ (g : Bool). bad_after rules.loss g bad) good in
         let kept = good_keeps rules.loss bad h in
-        let none : bad_after rules.loss true bad ≡ none_bad rules.loss =
+        let none : bad_after rules.loss true bad ≡ 0 =
         clean_is rules.loss (bad_after rules.loss true bad) (suc r) (lawful_kept rules.loss bad true h kept) (omega arith) (clean_more rules.loss bad r clean) in
         rw add-zero (step-keeping b rules (p + 26 * k) (number_after c k) bad f (ap (are_too_many rules.loss) next ∙ kept) ∙ rw (next, none, num) refl)
     stays (suc d) k bad f r h clean long within four =
@@ -178,9 +177,9 @@ module _ (b : Signal) (rules : RuleNumbers) (p c last : ℕ) (sequence : (k : �
   -- a search that finds block k of the sequence is between two groups after the last block, which has number 4
   search_joins : (d q k : ℕ) → IsLoss rules.loss → p + 26 * k ≡ q + d → k ≤ last → number_after c last ≡ 4
       → ((r : ℕ) → q ≤ r → r < q + d → acquired b rules r ≡ None) → acquired b rules (q + d) ≡ Some (number_after c k)
-      → after b rules Searching q (p + 26 * last + 1 - q) ≡ Locked (p + 26 * last + 26) 1 (none_bad rules.loss) 1
+      → after b rules Searching q (p + 26 * last + 1 - q) ≡ Locked (p + 26 * last + 26) 1 0 1
   search_joins d q k loss place within four none found =
-      let locked : after b rules Searching q (d + 1) ≡ locked_after (p + 26 * k) (number_after c k) (none_bad rules.loss) (number_after c k) =
+      let locked : after b rules Searching q (d + 1) ≡ locked_after (p + 26 * k) (number_after c k) 0 (number_after c k) =
       rw place (finds b rules d q (number_after c k) none found) in
       elim (cases_eq k last) [
         | inl same ↦
@@ -195,16 +194,16 @@ module _ (b : Signal) (rules : RuleNumbers) (p c last : ℕ) (sequence : (k : �
             let due : p + 26 * k + 26 ≡ p + 26 * k + 1 + 25 = omega arith in
             let next : p + 26 * k + 1 + 25 ≡ p + 26 * suc k = omega arith in
             let f : ℕ = cond (number_after c k == 4) 1 (number_after c k) in
-            let waited : after b rules (Locked (p + 26 * k + 26) (number_after c k % 4 + 1) (none_bad rules.loss) f) (p + 26 * k + 1) 25 ≡ Locked (p + 26 * suc k) (number_after c (suc k)) (none_bad rules.loss) f =
-            ap (λ (n : ℕ). after b rules (Locked n (number_after c k % 4 + 1) (none_bad rules.loss) f) (p + 26 * k + 1) 25) due
-            ∙ waits b rules (number_after c k % 4 + 1) (none_bad rules.loss) f (p + 26 * k + 1) 25
-            ∙ ap₂ (λ (n m : ℕ). Locked n m (none_bad rules.loss) f) next (number_next b rules p c last sequence k) in
-            let end = stays b rules p c last sequence rest (suc k) (none_bad rules.loss) f (memory rules.loss) (lawful_none rules.loss loss) (clean_none rules.loss (memory rules.loss)) (omega arith) (omega arith) (rw all four) in
+            let waited : after b rules (Locked (p + 26 * k + 26) (number_after c k % 4 + 1) 0 f) (p + 26 * k + 1) 25 ≡ Locked (p + 26 * suc k) (number_after c (suc k)) 0 f =
+            ap (λ (n : ℕ). after b rules (Locked n (number_after c k % 4 + 1) 0 f) (p + 26 * k + 1) 25) due
+            ∙ waits b rules (number_after c k % 4 + 1) 0 f (p + 26 * k + 1) 25
+            ∙ ap₂ (λ (n m : ℕ). Locked n m 0 f) next (number_next b rules p c last sequence k) in
+            let end = stays b rules p c last sequence rest (suc k) 0 f (memory rules.loss) (lawful_none rules.loss loss) (clean_none rules.loss (memory rules.loss)) (omega arith) (omega arith) (rw all four) in
             rw count (after_more b rules Searching q (d + 1) (25 + (26 * rest + 1))
             ∙ ap₂ (λ (s : State) (a : ℕ). after b rules s a (25 + (26 * rest + 1))) locked from
-            ∙ after_more b rules (locked_after (p + 26 * k) (number_after c k) (none_bad rules.loss) (number_after c k)) (p + 26 * k + 1) 25 (26 * rest + 1)
+            ∙ after_more b rules (locked_after (p + 26 * k) (number_after c k) 0 (number_after c k)) (p + 26 * k + 1) 25 (26 * rest + 1)
             ∙ ap₂ (λ (s : State) (a : ℕ). after b rules s a (26 * rest + 1)) waited next
-            ∙ end ∙ ap (λ (n : ℕ). Locked (p + 26 * n + 26) 1 (none_bad rules.loss) 1) all)
+            ∙ end ∙ ap (λ (n : ℕ). Locked (p + 26 * n + 26) 1 0 1) all)
       ]
 
   -- a block of the sequence acquires, where the one before it is known
@@ -219,7 +218,7 @@ module _ (b : Signal) (rules : RuleNumbers) (p c last : ℕ) (sequence : (k : �
   -- a search on a sound range that begins before its second block is between two groups after the last block
   search_on : (q : ℕ) → IsLoss rules.loss → 1 ≤ rules.reach → (1 ≤ c) × (c ≤ 4) → number_after c last ≡ 4 → 1 ≤ last → q ≤ p + 26 * last
       → ((r : ℕ) → q ≤ r → r < p + 26 * last → ((k : ℕ) → r ≢ p + 26 * k) → acquired b rules r ≡ None)
-      → after b rules Searching q (p + 26 * last + 1 - q) ≡ Locked (p + 26 * last + 26) 1 (none_bad rules.loss) 1
+      → after b rules Searching q (p + 26 * last + 1 - q) ≡ Locked (p + 26 * last + 26) 1 0 1
   search_on q loss reach range four some within quiet = elim (cases_lt p q) [
     | inl past ↦
         let k : ℕ = (q - p + 25) / 26 in
@@ -232,7 +231,7 @@ module _ (b : Signal) (rules : RuleNumbers) (p c last : ℕ) (sequence : (k : �
         (let at : q + d ≡ p + 26 * k = omega arith in rw at (seq_acquires k reach low (omega arith)))
     | inr before ↦ at_case (acquired b rules p) refl before
   ] where
-    at_case : (o : Option ℕ) → acquired b rules p ≡ o → q ≤ p → after b rules Searching q (p + 26 * last + 1 - q) ≡ Locked (p + 26 * last + 26) 1 (none_bad rules.loss) 1
+    at_case : (o : Option ℕ) → acquired b rules p ≡ o → q ≤ p → after b rules Searching q (p + 26 * last + 1 - q) ≡ Locked (p + 26 * last + 26) 1 0 1
     at_case (Some x) e before =
         let start : p + 26 * 0 ≡ p = omega arith in
         let has : has_number b p (number_after c 0) ≡ true = rw start at (sequence 0 (omega arith)) in
@@ -315,13 +314,13 @@ module _ (b : Signal) (rules : RuleNumbers) where
     long : memory rules.loss + 6 ≤ sound_blocks rules.loss j
     long = memory_is rules.loss j loss
 
-    searching : (q : ℕ) → s ≤ q → q ≤ p + 26 * last → after b rules Searching q (p + 26 * last + 1 - q) ≡ Locked (p + 26 * last + 26) 1 (none_bad rules.loss) 1
+    searching : (q : ℕ) → s ≤ q → q ≤ p + 26 * last → after b rules Searching q (p + 26 * last + 1 - q) ≡ Locked (p + 26 * last + 26) 1 0 1
     searching q l u =
         let f = sound.sequence.first in
         search_on b rules p c last seq q loss reach sound.number four (omega (arith, f, enough)) u (λ r lo hi other. quiet r (omega arith) hi other)
 
-    lost_then : (due num : ℕ) (bad : Bad) (f : ℕ) → s ≤ due → due ≤ s + 25 → LostBy b rules (Locked due num bad f) due (26 * ((j + 1) * needed rules.loss))
-        → after b rules (Locked due num bad f) due (p + 26 * last + 1 - due) ≡ Locked (p + 26 * last + 26) 1 (none_bad rules.loss) 1
+    lost_then : (due num bad f : ℕ) → s ≤ due → due ≤ s + 25 → LostBy b rules (Locked due num bad f) due (26 * ((j + 1) * needed rules.loss))
+        → after b rules (Locked due num bad f) due (p + 26 * last + 1 - due) ≡ Locked (p + 26 * last + 26) 1 0 1
     lost_then due num bad f l u lost =
         let f0 = sound.sequence.first in
         let m : ℕ = lost.0 in
@@ -332,8 +331,8 @@ module _ (b : Signal) (rules : RuleNumbers) where
         ∙ ap (λ (t : State). after b rules t (due + m) (p + 26 * last + 1 - (due + m))) lost.2
         ∙ searching (due + m) (omega arith) room)
 
-    from_due : (due num : ℕ) (bad : Bad) (f : ℕ) → s ≤ due → due ≤ s + 25 → IsLawfulBad rules.loss bad → 1 ≤ num → num ≤ 4
-        → after b rules (Locked due num bad f) due (p + 26 * last + 1 - due) ≡ Locked (p + 26 * last + 26) 1 (none_bad rules.loss) 1
+    from_due : (due num bad f : ℕ) → s ≤ due → due ≤ s + 25 → IsLawfulBad rules.loss bad → 1 ≤ num → num ≤ 4
+        → after b rules (Locked due num bad f) due (p + 26 * last + 1 - due) ≡ Locked (p + 26 * last + 26) 1 0 1
     from_due due num bad f l u few low high =
         let f0 = sound.sequence.first in
         elim (cases_eq due p) [
@@ -357,7 +356,7 @@ module _ (b : Signal) (rules : RuleNumbers) where
               lost_then due num bad f l u (loses b rules loss ((j + 1) * needed rules.loss) due num bad f 0 few (row_zero rules.loss bad) (let g1 : good_blocks b rules due num ((j + 1) * needed rules.loss) + 1 ≤ j + 1 = omega (arith, g) in omega (arith, mul-le-mul_right (needed rules.loss) g1)))
         ]
 
-    pub converges : (t : State) → IsLawful rules s t → after b rules t s (p + 26 * last + 1 - s) ≡ Locked (p + 26 * last + 26) 1 (none_bad rules.loss) 1
+    pub converges : (t : State) → IsLawful rules s t → after b rules t s (p + 26 * last + 1 - s) ≡ Locked (p + 26 * last + 26) 1 0 1
     converges Searching lawful = let f0 = sound.sequence.first in searching s (omega arith) (omega (arith, f0, enough))
     converges (Locked due num bad f) lawful =
         let f0 = sound.sequence.first in

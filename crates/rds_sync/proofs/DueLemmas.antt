@@ -6,7 +6,6 @@ use Rattle.rds_sync.specs.declared.due.Due.{Due}
 use Rattle.rds_sync.specs.declared.due.Due.TheVariants.{Inside, Closed, Lost}
 use Rattle.rds_sync.specs.declared.lock.Lock.{Lock}
 use Rattle.rds_sync.specs.declared.item.Item.TheVariants.{Group, LostLock}
-use Rattle.rds_sync.specs.declared.loss.Bad.{Bad}
 use Rattle.rds_sync.specs.declared.state.State.TheVariants.{Searching, Locked}
 use Rattle.rds_sync.specs.Acquiring.{has_number}
 use Rattle.rds_sync.specs.Inside.Due.{state_in, state_of, IsKept, IsAfter}
@@ -63,7 +62,7 @@ module _ (b : Signal) (rules : RuleNumbers) (lock : Lock) (good : Bool) (good_is
   items-closed next after = items-kept next after.1 ∙ group_after-four b rules lock.first lock.number lock.due after.0
 
 -- the lock goes on inside its group, with the block after
-pub kept-next : (lock next : Lock) (bad : Bad) → lock.number < 4 → state_in next ≡ locked_after lock.due lock.number bad lock.first
+pub kept-next : (lock next : Lock) (bad : ℕ) → lock.number < 4 → state_in next ≡ locked_after lock.due lock.number bad lock.first
     → (next.due ≡ lock.due + 26) × (next.number ≡ lock.number + 1) × (next.first ≡ lock.first)
 kept-next lock next bad inside is =
     let number : lock.number % 4 + 1 ≡ lock.number + 1 = omega arith in

@@ -9,9 +9,8 @@ use Rattle.rds_code.specs.Offsets.{number}
 use Rattle.rds_stream.specs.Recording.{Signal, off}
 use Rattle.rds_sync.specs.declared.state.State.{State}
 use Rattle.rds_sync.specs.declared.state.State.TheVariants.{Searching, Locked}
-use Rattle.rds_sync.specs.declared.loss.Bad.{Bad}
 use Rattle.rds_sync.specs.Rules.{RuleNumbers}
-use Rattle.rds_sync.specs.Loss.{IsLoss, IsLawfulBad, none_bad, are_too_many}
+use Rattle.rds_sync.specs.Loss.{IsLoss, IsLawfulBad, are_too_many}
 use Rattle.rds_sync.specs.Acquiring.{acquired, has_number, has_partner, with_partner}
 use Rattle.rds_sync.specs.Lawful.{IsLawful, IsLawfulLock}
 use Rattle.rds_sync.specs.Step.{run, step, locked_after, bad_with}
@@ -112,7 +111,7 @@ module _ (b : Signal) (rules : RuleNumbers) where
   acquired-some i o e = ap (λ (w : Option Offset). elim w as (λ _. Option ℕ) [ None ↦ None | Some o ↦ with_partner b rules i (number o) ]) e
 
 -- the lock after block x was read at place i, or acquired there
-pub lawful-locked_after : (rules : RuleNumbers) (i x : ℕ) (bad : Bad) (first : ℕ) → IsLawfulBad rules.loss bad → 26 * (x - first) + 25 ≤ i → 1 ≤ first → first ≤ x → x ≤ 4
+pub lawful-locked_after : (rules : RuleNumbers) (i x bad first : ℕ) → IsLawfulBad rules.loss bad → 26 * (x - first) + 25 ≤ i → 1 ≤ first → first ≤ x → x ≤ 4
     → IsLawful rules (i + 1) (locked_after i x bad first)
 lawful-locked_after rules i x bad first few enough low order high = elim (cases_eq x 4) [
   | inl four ↦
@@ -127,7 +126,7 @@ lawful-locked_after rules i x bad first few enough low order high = elim (cases_
 ]
 
 -- the numbers of a lawful lock
-pub lawful-numbers : (rules : RuleNumbers) (place due number : ℕ) (bad : Bad) (first : ℕ) → IsLawfulLock rules place due number bad first
+pub lawful-numbers : (rules : RuleNumbers) (place due number bad first : ℕ) → IsLawfulLock rules place due number bad first
     → (1 ≤ first) × (first ≤ number) × (number ≤ 4)
 lawful-numbers rules place due number bad first lawful =
     ⊎_elim (λ o. (omega (arith, o), omega (arith, o), omega (arith, o))) (λ o. (omega (arith, o), omega (arith, o), omega (arith, o))) lawful.in_order
@@ -142,7 +141,7 @@ module _ (b : Signal) (rules : RuleNumbers) where
         let r = acquired-range b rules i x e in
         let p = acquired-place b rules i x e in
         subst (λ (t : State). IsLawful rules (i + 1) t) (sym (step-acquiring b rules i x e))
-        (lawful-locked_after rules i x (none_bad rules.loss) x (lawful_none rules.loss loss) (omega arith) (omega (arith, r)) (omega arith) (omega (arith, r)))
+        (lawful-locked_after rules i x 0 x (lawful_none rules.loss loss) (omega arith) (omega (arith, r)) (omega arith) (omega (arith, r)))
   lawful-step loss i (Locked due number bad first) lawful = elim (cases_eq due i) [
     | inl same ↦
         let n = lawful-numbers rules i due number bad first lawful in
@@ -173,19 +172,19 @@ module _ (b : Signal) (rules : RuleNumbers) where
       subst (λ (p : ℕ). IsLawful rules p (run b rules s from (to - from)).0) e (lawful-run loss s from (to - from) lawful)
 
 -- a state that is a lawful lock
-pub lawful-lock : (rules : RuleNumbers) (s : State) (place due number : ℕ) (bad : Bad) (first : ℕ) → s ≡ Locked due number bad first
+pub lawful-lock : (rules : RuleNumbers) (s : State) (place due number bad first : ℕ) → s ≡ Locked due number bad first
     → IsLawful rules place s → IsLawfulLock rules place due number bad first
 lawful-lock rules s place due number bad first is lawful = subst (λ (t : State). IsLawful rules place t) is lawful
 
 -- a lawful lock stays lawful while its block is waited for
-pub lawful-waiting : (rules : RuleNumbers) (place later due number : ℕ) (bad : Bad) (first : ℕ) → IsLawfulLock rules place due number bad first
+pub lawful-waiting : (rules : RuleNumbers) (place later due number bad first : ℕ) → IsLawfulLock rules place due number bad first
     → place ≤ later → later ≤ due → IsLawfulLock rules later due number bad first
 lawful-waiting rules place later due number bad first lawful order before =
     let soon = lawful.soon in
     record { soon = (before, omega (arith, soon.1)); few_bad = lawful.few_bad; enough_bits = lawful.enough_bits; in_order = lawful.in_order }
 
 -- the state after the block that is due is lawful
-pub lawful-due : (b : Signal) (rules : RuleNumbers) (place due number : ℕ) (bad : Bad) (first : ℕ) → IsLoss rules.loss → IsLawfulLock rules place due number bad first
+pub lawful-due : (b : Signal) (rules : RuleNumbers) (place due number bad first : ℕ) → IsLoss rules.loss → IsLawfulLock rules place due number bad first
     → IsLawful rules (due + 1) (step b rules due (Locked due number bad first))
 lawful-due b rules place due number bad first loss lawful =
     lawful-step b rules loss due (Locked due number bad first)

@@ -3,7 +3,6 @@ use Rattle.std.proofs.Common.{◌≡◌, ◌≢◌, ℕ, suc, ◌+◌, ◌-◌, 
 use Rattle.std.proofs.lemmas.Bool.{ne_eqb, cases_eq, cases_lt, le-leb, lt-leb, eq-eqb}
 use Rattle.std.specs.Prelude.{◌==◌}
 use Rattle.rds_stream.specs.Recording.{Signal}
-use Rattle.rds_sync.specs.declared.loss.Bad.{Bad}
 use Rattle.rds_sync.specs.declared.state.State.{State}
 use Rattle.rds_sync.specs.declared.state.State.TheVariants.{Searching, Locked}
 use Rattle.rds_sync.specs.declared.item.Item.{Item}
@@ -24,7 +23,7 @@ cond_same false n = refl
 
 module _ (b : Signal) (rules : RuleNumbers) (a x : ℕ) where
   -- what is kept of the bad blocks once block k was read
-  abbrev pub bad : ℕ → Bad
+  abbrev pub bad : ℕ → ℕ
   bad k = bad_at (is_good b rules a x) rules.loss k
 
   pub number_first : 1 ≤ x → x ≤ 4 → number_after x 0 ≡ x

@@ -13,10 +13,8 @@ use Rattle.std.specs.Prelude.{nat_le, nat_lt, not, count_by, count_ones}
 use Rattle.std.specs.List.{list_all, range_with_len}
 use Rattle.rds_sync.specs.declared.loss.Loss.{Loss}
 use Rattle.rds_sync.specs.declared.loss.Loss.TheVariants.{Run, Share}
-use Rattle.rds_sync.specs.declared.loss.Bad.{Bad}
-use Rattle.rds_sync.specs.declared.loss.Bad.TheVariants.{Run as InARow, Mask}
 use Rattle.rds_sync.specs.Laws.{MasksTellBlocks}
-use Rattle.rds_sync.specs.Loss.{IsLoss, IsLawfulBad, none_bad, bad_at, bad_after, are_too_many, last_blocks, loses}
+use Rattle.rds_sync.specs.Loss.{IsLoss, IsLawfulBad, bad_at, bad_after, are_too_many, last_blocks, loses}
 
 all_pass : (p : ℕ → Bool) (c d : ℕ) → ((j : ℕ) → c ≤ j → j < c + d → p j ≡ true) → list_all p (range_with_len c d) ≡ true
 all_pass p c zero h = refl
@@ -54,7 +52,7 @@ module _ (is_good : ℕ → Bool) where
   row zero = 0
   row (suc k) = cond (is_good (suc k)) 0 (row k + 1)
 
-  row_is : (n k : ℕ) → bad_at is_good (Run n) k ≡ InARow (row k)
+  row_is : (n k : ℕ) → bad_at is_good (Run n) k ≡ row k
   row_is n zero = refl
   row_is n (suc k) = ap (bad_after (Run n) (is_good (suc k))) (row_is n k)
 
@@ -119,7 +117,7 @@ module _ (is_good : ℕ → Bool) where
   mask v zero = 0
   mask v (suc k) = (2 * mask v k + flag (suc k)) % 2 ^ v
 
-  mask_is : (n v k : ℕ) → bad_at is_good (Share n v) k ≡ Mask (mask v k)
+  mask_is : (n v k : ℕ) → bad_at is_good (Share n v) k ≡ mask v k
   mask_is n v zero = refl
   mask_is n v (suc k) = ap (bad_after (Share n v) (is_good (suc k))) (mask_is n v k)
 
@@ -180,7 +178,7 @@ module _ (is_good : ℕ → Bool) where
       ap (are_too_many (Share n v)) (mask_is n v k)
       ∙ ap (nat_le n) (ones_are v k ∙ sym (bads_are v k))
 
-  none_lost : (loss : Loss) → IsLoss loss → are_too_many loss (none_bad loss) ≡ false
+  none_lost : (loss : Loss) → IsLoss loss → are_too_many loss 0 ≡ false
   unfolding ones
   none_lost (Run n) h = lt-leb n 0 h
   none_lost (Share n v) h = lt-leb n 0 h.0
@@ -251,9 +249,7 @@ module _ (is_good : ℕ → Bool) where
       within (inr u) = le-ltb i (min v k) u ∙ sym (le-ltb (suc i) (min (suc v) (suc k)) (omega arith))
 
 pub masks_tell : MasksTellBlocks
-masks_tell is_good bad of k mask' i e =
-    let same : mask is_good of k ≡ mask' = cc (mask_is is_good bad of k, e) in
-    ap (λ (m : ℕ). bit_at m i) (sym same) ∙ digits is_good of k i
+masks_tell is_good bad of k i = ap (λ (m : ℕ). bit_at m i) (mask_is is_good bad of k) ∙ digits is_good of k i
 
 ones_zero : count_ones 0 ≡ 0
 unfolding ones
@@ -266,12 +262,12 @@ few_from n m e = elim (cases_lt m n) [
 ]
 
 -- lawful: none, and what is kept of a lock that is not lost; a good block loses none
-pub lawful_none : (loss : Loss) → IsLoss loss → IsLawfulBad loss (none_bad loss)
+pub lawful_none : (loss : Loss) → IsLoss loss → IsLawfulBad loss 0
 lawful_none (Run n) h = h
 lawful_none (Share n v) h = (omega (arith, pow_pos v), omega (arith, ones_zero, h.0))
 
-pub lawful_kept : (loss : Loss) (bad : Bad) (good : Bool) → IsLawfulBad loss bad → are_too_many loss (bad_after loss good bad) ≡ false → IsLawfulBad loss (bad_after loss good bad)
-lawful_kept (Run n) (InARow row) good h e = few_from n _ e
-lawful_kept (Run n) (Mask m) good h e = absurd h
-lawful_kept (Share n v) (InARow row) good h e = absurd h
-lawful_kept (Share n v) (Mask m) good h e = (mod-lt _ (omega (arith, pow_pos v)), few_from n _ e)
+pub lawful_kept : (loss : Loss) (bad : ℕ) (good : Bool) → IsLawfulBad loss bad → are_too_many loss (bad_after loss good bad) ≡ false → IsLawfulBad loss (bad_after loss good bad)
+lawful_kept (Run n) row good h e = few_from n _ e
+lawful_kept (Run n) m good h e = absurd h
+lawful_kept (Share n v) row good h e = absurd h
+lawful_kept (Share n v) m good h e = (mod-lt _ (omega (arith, pow_pos v)), few_from n _ e)

@@ -9,7 +9,7 @@ use Rattle.rds_sync.specs.declared.item.Item.{Item}
 use Rattle.rds_sync.specs.declared.item.Item.TheVariants.{Acquired, LostLock}
 use Rattle.rds_sync.specs.Rules.{RuleNumbers}
 use Rattle.rds_sync.specs.Acquiring.{acquired, number_after}
-use Rattle.rds_sync.specs.Loss.{IsLoss, none_bad, are_too_many}
+use Rattle.rds_sync.specs.Loss.{IsLoss, are_too_many}
 use Rattle.rds_sync.specs.Report.{is_good, loses_at, places, end, read_blocks, group_closed_by, loss_items, items_of_lock, first_lock, items_from, report_items}
 use Rattle.rds_sync.specs.Step.{run, items_of_end, locked_after, group_after}
 use Rattle.rds_sync.proofs.LawfulLemmas.{acquired-range}
@@ -130,7 +130,7 @@ module _ (b : Signal) (rules : RuleNumbers) where
       let start : a + 26 * 0 ≡ a = omega arith in
       let num = number_first b rules a x low range.1 in
       let fst = first_first b rules a x range.1 in
-      let begins : locked_after a x (none_bad rules.loss) x ≡ S b rules a x 0 = rw (start, num, fst) at (S_is b rules a x low 0) in
+      let begins : locked_after a x 0 x ≡ S b rules a x 0 = rw (start, num, fst) at (S_is b rules a x low 0) in
       let closed : closes b rules a x 0 ≡ group_after b rules x x a = rw (start, num, fst) refl in
       let none_before : read_blocks b rules a x - 0 ≡ read_blocks b rules a x = omega arith in
       let d : ℕ = places b rules a x - 1 in

@@ -7,9 +7,8 @@ use Rattle.rds_sync.specs.declared.state.State.{State}
 use Rattle.rds_sync.specs.declared.state.State.TheVariants.{Searching, Locked}
 use Rattle.rds_sync.specs.declared.item.Item.{Item}
 use Rattle.rds_sync.specs.declared.item.Item.TheVariants.{Acquired, Group, LostLock}
-use Rattle.rds_sync.specs.declared.loss.Bad.{Bad}
 use Rattle.rds_sync.specs.Rules.{RuleNumbers}
-use Rattle.rds_sync.specs.Loss.{none_bad, are_too_many}
+use Rattle.rds_sync.specs.Loss.{are_too_many}
 use Rattle.rds_sync.specs.Acquiring.{acquired}
 use Rattle.rds_sync.specs.Groups.{group}
 use Rattle.rds_sync.specs.Step.{run, step, after_bit, items_at, locked_after, bad_with, group_after}
@@ -17,7 +16,7 @@ use Rattle.rds_sync.specs.Step.{run, step, after_bit, items_at, locked_after, ba
 module _ (b : Signal) (rules : RuleNumbers) where
   -- one bit
 
-  pub step-acquiring : (i x : ℕ) → acquired b rules i ≡ Some x → step b rules i Searching ≡ locked_after i x (none_bad rules.loss) x
+  pub step-acquiring : (i x : ℕ) → acquired b rules i ≡ Some x → step b rules i Searching ≡ locked_after i x 0 x
   step-acquiring i x e = rw (e, step, after_bit) refl
 
   pub items-acquiring : (i x : ℕ) → acquired b rules i ≡ Some x → items_at b rules i Searching ≡ Acquired i x ∷ group_after b rules x x i
@@ -29,24 +28,24 @@ module _ (b : Signal) (rules : RuleNumbers) where
   pub items-searching : (i : ℕ) → acquired b rules i ≡ None → items_at b rules i Searching ≡ []
   items-searching i e = rw (e, items_at, after_bit) refl
 
-  pub step-waiting : (due number : ℕ) (bad : Bad) (first i : ℕ) → due ≢ i → step b rules i (Locked due number bad first) ≡ Locked due number bad first
+  pub step-waiting : (due number bad first i : ℕ) → due ≢ i → step b rules i (Locked due number bad first) ≡ Locked due number bad first
   step-waiting due number bad first i ne = rw (ne_eqb due i ne, step, after_bit) refl
 
-  pub items-waiting : (due number : ℕ) (bad : Bad) (first i : ℕ) → due ≢ i → items_at b rules i (Locked due number bad first) ≡ []
+  pub items-waiting : (due number bad first i : ℕ) → due ≢ i → items_at b rules i (Locked due number bad first) ≡ []
   items-waiting due number bad first i ne = rw (ne_eqb due i ne, items_at, after_bit) refl
 
-  pub step-keeping : (i number : ℕ) (bad : Bad) (first : ℕ) → are_too_many rules.loss (bad_with b rules i number bad) ≡ false
+  pub step-keeping : (i number bad first : ℕ) → are_too_many rules.loss (bad_with b rules i number bad) ≡ false
       → step b rules i (Locked i number bad first) ≡ locked_after i number (bad_with b rules i number bad) first
   step-keeping i number bad first h = rw (eq-eqb i i refl, h, step, after_bit) refl
 
-  pub items-keeping : (i number : ℕ) (bad : Bad) (first : ℕ) → are_too_many rules.loss (bad_with b rules i number bad) ≡ false
+  pub items-keeping : (i number bad first : ℕ) → are_too_many rules.loss (bad_with b rules i number bad) ≡ false
       → items_at b rules i (Locked i number bad first) ≡ group_after b rules first number i
   items-keeping i number bad first h = rw (eq-eqb i i refl, h, items_at, after_bit) refl
 
-  pub step-losing : (i number : ℕ) (bad : Bad) (first : ℕ) → are_too_many rules.loss (bad_with b rules i number bad) ≡ true → step b rules i (Locked i number bad first) ≡ Searching
+  pub step-losing : (i number bad first : ℕ) → are_too_many rules.loss (bad_with b rules i number bad) ≡ true → step b rules i (Locked i number bad first) ≡ Searching
   step-losing i number bad first h = rw (eq-eqb i i refl, h, step, after_bit) refl
 
-  pub items-losing : (i number : ℕ) (bad : Bad) (first : ℕ) → are_too_many rules.loss (bad_with b rules i number bad) ≡ true
+  pub items-losing : (i number bad first : ℕ) → are_too_many rules.loss (bad_with b rules i number bad) ≡ true
       → items_at b rules i (Locked i number bad first) ≡ Group (group b rules first number i) ∷ LostLock i ∷ []
   items-losing i number bad first h = rw (eq-eqb i i refl, h, items_at, after_bit) refl
 
@@ -111,7 +110,7 @@ module _ (b : Signal) (rules : RuleNumbers) where
       )
 
   -- while a block is waited for, a run changes nothing and gives nothing
-  pub run-waiting : (due number : ℕ) (bad : Bad) (first a n : ℕ) → a + n ≤ due → run b rules (Locked due number bad first) a n ≡ (Locked due number bad first, [])
+  pub run-waiting : (due number bad first a n : ℕ) → a + n ≤ due → run b rules (Locked due number bad first) a n ≡ (Locked due number bad first, [])
   run-waiting due number bad first a zero h = refl
   run-waiting due number bad first a (suc n) h =
       let late : due ≢ a = λ e. absurd (omega arith) in
@@ -119,7 +118,7 @@ module _ (b : Signal) (rules : RuleNumbers) where
       ∙ run-waiting due number bad first (a + 1) n (omega arith)
 
   -- a run up to and including the block that is due is that of its last bit
-  pub run-reading : (due number : ℕ) (bad : Bad) (first a n : ℕ) → a + n ≡ due
+  pub run-reading : (due number bad first a n : ℕ) → a + n ≡ due
       → run b rules (Locked due number bad first) a (n + 1) ≡ (step b rules due (Locked due number bad first), items_at b rules due (Locked due number bad first))
   run-reading due number bad first a n e =
       let s : State = Locked due number bad first in
@@ -137,7 +136,7 @@ module _ (b : Signal) (rules : RuleNumbers) where
 
 -- a step, by its first state and its places
 module _ (b : Signal) (rules : RuleNumbers) (s : State) (place after : ℕ) where
-  module _ (due number : ℕ) (bad : Bad) (first : ℕ) (is : s ≡ Locked due number bad first) where
+  module _ (due number bad first : ℕ) (is : s ≡ Locked due number bad first) where
     pub run-due : place ≤ due → after ≡ due + 1
         → run b rules s place (after - place) ≡ (step b rules due (Locked due number bad first), items_at b rules due (Locked due number bad first))
     run-due order next =

@@ -5,7 +5,6 @@ use Rattle.rds_sync.specs.declared.state.State.{State}
 use Rattle.rds_sync.specs.declared.state.State.TheVariants.{Locked}
 use Rattle.rds_sync.specs.declared.item.Item.{Item}
 use Rattle.rds_sync.specs.declared.item.Item.TheVariants.{Group}
-use Rattle.rds_sync.specs.declared.loss.Bad.{Bad}
 use Rattle.rds_sync.specs.Rules.{RuleNumbers}
 use Rattle.rds_sync.specs.Loss.{bad_after, are_too_many}
 use Rattle.rds_sync.specs.Acquiring.{has_number}
@@ -19,7 +18,7 @@ use Rattle.rds_sync.proofs.RunLemmas.{run-reading, run-append, run-waiting, step
 
 module _ (b : Signal) (rules : RuleNumbers) where
   -- the next block of a lock, which it does not lose, and then more bits
-  block-then : (due x : ℕ) (bad : Bad) (f : ℕ) (good : Bool) (n : ℕ) → 25 ≤ due → has_number b due x ≡ good → are_too_many rules.loss (bad_after rules.loss good bad) ≡ false
+  block-then : (due x bad f : ℕ) (good : Bool) (n : ℕ) → 25 ≤ due → has_number b due x ≡ good → are_too_many rules.loss (bad_after rules.loss good bad) ≡ false
       → let t : State = locked_after due x (bad_after rules.loss good bad) f in
       run b rules (Locked due x bad f) (due - 25) (26 + n) ≡ ((run b rules t (due + 26 - 25) n).0, group_after b rules f x due ++ (run b rules t (due + 26 - 25) n).1)
   block-then due x bad f good n late good_is few =
@@ -33,18 +32,18 @@ module _ (b : Signal) (rules : RuleNumbers) where
       ∙ ap₂ (λ (r : State × List Item) (p : ℕ). ((run b rules r.0 p n).0, r.1 ++ (run b rules r.0 p n).1)) here place
 
   -- a whole group that does not lose the lock
-  module _ (due : ℕ) (bad : Bad) (late : 25 ≤ due)
+  module _ (due bad : ℕ) (late : 25 ≤ due)
       (few : (k : ℕ) → k < 4 → are_too_many rules.loss (bad_over rules.loss (outcomes (group b rules 1 4 (due + 78))) bad 1 (k + 1)) ≡ false) where
     abbrev os : List Outcome
     os = outcomes (group b rules 1 4 (due + 78))
 
-    abbrev bad1 : Bad
+    abbrev bad1 : ℕ
     bad1 = bad_after rules.loss (good_at os 1) bad
 
-    abbrev bad2 : Bad
+    abbrev bad2 : ℕ
     bad2 = bad_after rules.loss (good_at os 2) bad1
 
-    abbrev bad3 : Bad
+    abbrev bad3 : ℕ
     bad3 = bad_after rules.loss (good_at os 3) bad2
 
     good-is : (y place : ℕ) → 1 ≤ y → y ≤ 4 → place ≡ due + 78 - 26 * (4 - y) → has_number b place y ≡ good_at os y

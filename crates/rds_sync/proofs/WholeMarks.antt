@@ -2,7 +2,6 @@
 use Rattle.std.proofs.Common.{◌≡◌, ◌<◌, ◌+◌, ◌-◌, ◌*◌, ◌/◌, ◌%◌, ℕ, suc, List, [], ◌∷◌, ◌++◌, Bool, true, false, sym, ap, ◌∙◌, arith}
 use Rattle.std.specs.Prelude.{if◌then◌else◌}
 use Rattle.std.proofs.lemmas.List.{append_assoc}
-use Rattle.rds_sync.specs.declared.loss.Bad.{Bad}
 use Rattle.rds_sync.specs.declared.loss.Loss.{Loss}
 use Rattle.rds_sync.specs.declared.mark.Mark.{Mark}
 use Rattle.rds_sync.specs.declared.state.State.TheVariants.{Locked}
@@ -16,7 +15,7 @@ use Rattle.rds_sync.proofs.MarkWords.{marks-past, marks_past}
 use Rattle.rds_sync.proofs.WordLemmas.{not_group}
 
 -- behind a group whose last block was read
-pub after-four : (loss : Loss) (w due : ℕ) (bad : Bad) (first : ℕ) → is_read (outcome_at (w / 4096)) ≡ true
+pub after-four : (loss : Loss) (w due bad first : ℕ) → is_read (outcome_at (w / 4096)) ≡ true
     → after_blocks loss (blocks_in w) (Locked due 1 bad first)
     ≡ record { place = due + 78 + 1; state = Locked (due + 104) 1 (counted_over loss (blocks_in w) bad 1 4) 1 }
 after-four loss w due bad first read =
@@ -26,14 +25,14 @@ after-four loss w due bad first read =
     ∙ ap (λ (d : ℕ). record { place = due + 78 + 1; state = Locked d 1 (counted_over loss (blocks_in w) bad 1 4) 1 }) next
 
 -- between groups, with no loss behind the next one, that is the next mark
-pub next-whole : (loss : Loss) (w due : ℕ) (bad : Bad) (items : ℕ) (rest kept : KeptOf) → w < 65520 → is_read (outcome_at (w / 4096)) ≡ true
+pub next-whole : (loss : Loss) (w due bad items : ℕ) (rest kept : KeptOf) → w < 65520 → is_read (outcome_at (w / 4096)) ≡ true
     → kept ≡ behind (kept_as (w ∷ []) []) rest → begins_with_loss rest.codes ≡ false
     → let now : Mark = between_groups due bad items in
     let after : Mark = between_groups (due + 104) (counted_over loss (blocks_in w) bad 1 4) (items + 1) in
     code_marks loss kept.locks kept.codes (spot_of now) items ≡ after ∷ code_marks loss rest.locks rest.codes (spot_of after) (items + 1)
 next-whole loss w due bad items rest kept few read is stays =
     let os : List Outcome = blocks_in w in
-    let counted : Bad = counted_over loss os bad 1 4 in
+    let counted : ℕ = counted_over loss os bad 1 4 in
     let place : due + 78 + 1 ≡ due + 104 - 25 = omega arith in
     let one : kept ≡ behind (record { codes = blocks os ∷ []; locks = [] }) rest =
     is ∙ ap (λ (code : Code). behind (record { codes = code ∷ []; locks = [] }) rest) (not_group w few) in

@@ -4,7 +4,6 @@ use Rattle.std.proofs.Common.{◌≡◌, ◌≢◌, ℕ, zero, suc, ◌+◌, ◌
 use Rattle.std.proofs.Math.Nat.{suc-add}
 use Rattle.std.specs.Prelude.{MatchOption}
 use Rattle.rds_stream.specs.Recording.{Signal}
-use Rattle.rds_sync.specs.declared.loss.Bad.{Bad}
 use Rattle.rds_sync.specs.declared.state.State.{State}
 use Rattle.rds_sync.specs.declared.state.State.TheVariants.{Searching, Locked}
 use Rattle.rds_sync.specs.declared.item.Item.{Item}
@@ -57,16 +56,16 @@ module _ (b : Signal) (rules : RuleNumbers) where
   late : (p d : ℕ) → p + suc d ≢ p
   late p d = λ e. absurd (omega arith)
 
-  late_step : (due num : ℕ) (bad : Bad) (f p bits : ℕ) → due ≢ p → whole (Locked due num bad f) p (suc bits) ≡ whole (Locked due num bad f) (p + 1) bits
+  late_step : (due num bad f p bits : ℕ) → due ≢ p → whole (Locked due num bad f) p (suc bits) ≡ whole (Locked due num bad f) (p + 1) bits
   late_step due num bad f p bits e = goes (Locked due num bad f) (Locked due num bad f) [] p bits (items-waiting b rules due num bad f p e) (step-waiting b rules due num bad f p e)
 
-  pub skip : (num : ℕ) (bad : Bad) (f p d bits : ℕ) → whole (Locked (p + d) num bad f) p (d + bits) ≡ whole (Locked (p + d) num bad f) (p + d) bits
+  pub skip : (num bad f p d bits : ℕ) → whole (Locked (p + d) num bad f) p (d + bits) ≡ whole (Locked (p + d) num bad f) (p + d) bits
   skip num bad f p zero bits = rw (add-zero, zero-add) refl
   skip num bad f p (suc d) bits =
       rw suc-add (late_step (p + suc d) num bad f p (d + bits) (late p d)
       ∙ (let e : p + suc d ≡ p + 1 + d = omega arith in rw e (skip num bad f (p + 1) d bits)))
 
-  pub skip_to_end : (num : ℕ) (bad : Bad) (f p d bits : ℕ) → bits ≤ d → whole (Locked (p + d) num bad f) p bits ≡ items_of_end b rules (Locked (p + d) num bad f)
+  pub skip_to_end : (num bad f p d bits : ℕ) → bits ≤ d → whole (Locked (p + d) num bad f) p bits ≡ items_of_end b rules (Locked (p + d) num bad f)
   skip_to_end num bad f p d zero h = refl
   skip_to_end num bad f p zero (suc bits) h = absurd (omega arith)
   skip_to_end num bad f p (suc d) (suc bits) h =

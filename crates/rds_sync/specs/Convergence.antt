@@ -14,7 +14,7 @@ use Rattle.rds_sync.specs.declared.loss.Loss.TheVariants.{Run, Share}
 use Rattle.rds_sync.specs.declared.state.State.{State}
 use Rattle.rds_sync.specs.declared.state.State.TheVariants.{Locked}
 use Rattle.rds_sync.specs.Rules.{RuleNumbers}
-use Rattle.rds_sync.specs.Loss.{IsLoss, none_bad}
+use Rattle.rds_sync.specs.Loss.{IsLoss}
 use Rattle.rds_sync.specs.Lawful.{IsLawful}
 use Rattle.rds_sync.specs.Step.{run}
 use Rattle.rds_sync.specs.Acquiring.{acquired, has_number, number_after}
@@ -73,7 +73,7 @@ pub record IsSound (b : Signal) (rules : RuleNumbers) (j s p c : ℕ) : Type 0 w
 abbrev pub IsConverged : Signal → RuleNumbers → ℕ → ℕ → State → Type 0
 IsConverged b rules s to end = (j p c last : ℕ) → IsSound b rules j s p c → IsLastFour b s (s + sound_bits rules.loss j) p c last
     → to ≡ p + 26 * last + 1
-    → end ≡ Locked (p + 26 * last + 26) 1 (none_bad rules.loss) 1
+    → end ≡ Locked (p + 26 * last + 26) 1 0 1
 
 -- a sound range has a last block of number 4
 abbrev pub SoundRangesHaveFours : Type 0

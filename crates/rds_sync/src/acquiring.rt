@@ -8,13 +8,12 @@ ghost use Rattle.rds_sync.specs.Acquiring.{acquired, has_partner, is_in_step};
 ghost use Rattle.rds_sync.specs.Advance.{items_in};
 ghost use Rattle.rds_sync.specs.Inside.Due.{state_in};
 ghost use Rattle.rds_sync.specs.Groups.{group};
-ghost use Rattle.rds_sync.specs.Loss.{none_bad};
 ghost use Rattle.rds_sync.specs.Step.{items_at, locked_after, group_after};
 ghost use Rattle.rds_sync.specs.declared.item.Item.TheVariants.{Acquired};
 
 use crate::item::{Block, Group, Item};
 use crate::lock::{BLOCK_PLACES, Lock};
-use crate::loss::Loss;
+use crate::loss::NONE_BAD;
 use crate::rules::Rules;
 use rds_code::{Offset, Wanted};
 use rds_stream::{FIRST_WINDOW, Recording, Tape, offset_heard};
@@ -30,12 +29,12 @@ pub(crate) struct Acquisition {
 
 impl Acquisition {
     /// The lock that begins with it.
-    pub fn lock(self, loss: Loss) -> Lock
+    pub fn lock(self) -> Lock
         requires place { self.place < 2 ^ 36 }
         requires number { self.number ≤ 4 }
-        ensures { state_in result ≡ locked_after self.place self.number (none_bad loss) self.number }
+        ensures { state_in result ≡ locked_after self.place self.number 0 self.number }
     {
-        Lock::after_block(self.place, self.number, loss.none_bad(), self.number)
+        Lock::after_block(self.place, self.number, NONE_BAD, self.number)
     }
 
     /// What its bit gives: itself, and as block 4 the group that it closes alone.

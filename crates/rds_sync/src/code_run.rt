@@ -21,6 +21,7 @@ use crate::due::Due;
 use crate::error::SyncError;
 use crate::item::Block;
 use crate::lock::{BLOCK_PLACES, Lock, blocks_before, read_due};
+use crate::loss::NONE_BAD;
 use crate::rules::Rules;
 use crate::short_lock::word_if_lost;
 use crate::state::State;
@@ -149,13 +150,14 @@ fn search_codes(
 {
     let rec = reader.recording();
     prove!(to <= rec.len());
+    prove!(1 <= rules.reach());
     let mut windows = ValidWindows::new(rec, place, to);
     while let Some((here, offset)) = windows.next() {
         let number = offset.number();
         if has_partner_in(rec, rules, here, number) {
             push_found(codes, here, number)?;
             let Some(word) = word_if_lost(reader, rules, here, number, to) else {
-                let lock = Lock::after_block(here, number, rules.loss().none_bad(), number);
+                let lock = Lock::after_block(here, number, NONE_BAD, number);
                 return Ok((here + 1, lock.state()));
             };
             codes.push_lost(word)?;

@@ -18,7 +18,7 @@ ghost use Rattle.rds_sync.specs.declared.item.Block.TheVariants.{Read};
 
 use crate::due::Due;
 use crate::item::{Block, Group};
-use crate::loss::{Bad, Loss};
+use crate::loss::Loss;
 use crate::rules::Rules;
 use crate::state::State;
 use rds_code::{BLOCK_BITS, Reading, Wanted};
@@ -32,14 +32,14 @@ pub(crate) const BLOCK_PLACES: u64 = BLOCK_BITS as u64;
 pub(crate) struct Lock {
     pub due: u64,
     pub number: u8,
-    pub bad: Bad,
+    pub bad: u64,
     pub first: u8,
 }
 
 impl Lock {
     /// The lock after block `number` was read at `place`: after block 4 comes block 1, of a new
     /// group.
-    pub fn after_block(place: u64, number: u8, bad: Bad, first: u8) -> Lock
+    pub fn after_block(place: u64, number: u8, bad: u64, first: u8) -> Lock
         requires place { place < 2 ^ 36 }
         requires number { number ≤ 4 }
         ensures { state_in result ≡ locked_after place number bad first }

@@ -4,7 +4,6 @@ ghost use Rattle.std.specs.Prelude.{◌≡◌, ◌≤◌, ◌<◌, ◌^◌, ◌�
 ghost use Rattle.rds_sync.specs.Rules.{RuleNumbers};
 
 use crate::lock::BLOCK_PLACES;
-use crate::loss::Bad;
 use crate::rules::Rules;
 use rds_stream::FIRST_WINDOW;
 
@@ -13,14 +12,18 @@ use rds_stream::FIRST_WINDOW;
 pub enum State {
     /// No block is known: each bit is tried as the last of a block that acquires.
     Searching,
-    /// The next block ends at place `due` and is read as block `number` (1 to 4). The blocks that
-    /// were not valid are kept in `bad`, too few for a loss. The first block that was read in the
-    /// group in progress has number `first`, which is below `number`; both are 1 where no group is
-    /// in progress.
+    /// The next block ends at place `due` and is read as block `number` (1 to 4). The first block
+    /// that was read in the group in progress has number `first`, which is below `number`; both are
+    /// 1 where no group is in progress.
+    ///
+    /// The blocks that were not valid are kept in `bad`, too few for a loss; it is 0 where there are
+    /// none. By the rule `Loss::Run(n)` it is how many of them came in a row, below `n`. By
+    /// `Loss::Share { bad, of }` it is a mask of the last `of` blocks, in which 1 is a bad one and
+    /// the newest is the lowest bit.
     Locked {
         due: u64,
         number: u8,
-        bad: Bad,
+        bad: u64,
         first: u8,
     },
 }

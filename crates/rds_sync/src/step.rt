@@ -130,7 +130,7 @@ fn search<T: Tape>(tape: &mut T, rules: &Rules, place: u64) -> Step
         },
         Some(found) => Step {
             place: place + 1,
-            state: found.lock(rules.loss()).state(),
+            state: found.lock().state(),
             items: found.items(rules),
         },
     }

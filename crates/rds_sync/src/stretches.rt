@@ -63,6 +63,7 @@ fn search(reader: &mut Reader<'_>, rules: &Rules, place: u64, to: u64) -> Step
 {
     let rec = reader.recording();
     prove!(to <= rec.len());
+    prove!(1 <= rules.reach());
     for (here, offset) in ValidWindows::new(rec, place, to) {
         // A window is valid by chance at one place in two hundred: so its partners are looked up in
         // the recording, and the search keeps none of the windows behind it.
@@ -75,7 +76,7 @@ fn search(reader: &mut Reader<'_>, rules: &Rules, place: u64, to: u64) -> Step
             };
             return Step {
                 place: here + 1,
-                state: found.lock(rules.loss()).state(),
+                state: found.lock().state(),
                 items: found.items(rules),
             };
         }

@@ -20,7 +20,7 @@ use crate::code_part::CodePart;
 use crate::error::SyncError;
 use crate::item::{Block, Item};
 use crate::lock::{BLOCK_PLACES, Lock};
-use crate::loss::{Bad, Loss};
+use crate::loss::{Loss, NONE_BAD};
 use crate::rules::Rules;
 use crate::step::Step;
 use crate::whole_items::whole_heard;
@@ -185,7 +185,7 @@ pub(crate) fn blocks_of(rules: &Rules, heard: [Option<u32>; 4]) -> [Block; 4]
 /// What is kept of the bad blocks after those of the group of a word, or none where one of them loses the lock. Behind
 /// four good blocks no row of bad ones is left, and none is counted.
 #[inline(always)]
-pub(crate) fn bad_after_four(loss: Loss, word: u16, bad: Bad) -> Option<Bad>
+pub(crate) fn bad_after_four(loss: Loss, word: u16, bad: u64) -> Option<u64>
     requires range { IsLossInRange loss }
     requires lawful { IsLawfulBad loss bad }
     ensures bad { IfSome result (λ after. after ≡ bad_over loss (blocks_in word) bad 1 4) }
@@ -193,15 +193,15 @@ pub(crate) fn bad_after_four(loss: Loss, word: u16, bad: Bad) -> Option<Bad>
     ensures kept { IfSome result (λ _. (k : ℕ) → k < 4
         → are_too_many loss (bad_over loss (blocks_in word) bad 1 (k + 1)) ≡ false) }
 {
-    match (loss, bad) {
-        (Loss::Run(_), Bad::Run(_)) if word == CLEAN => Some(Bad::Run(0)),
+    match loss {
+        Loss::Run(_) if word == CLEAN => Some(NONE_BAD),
         _ => bad_after_each(loss, word, bad),
     }
 }
 
 /// The same, by one block after the other.
 #[inline(always)]
-fn bad_after_each(loss: Loss, word: u16, bad: Bad) -> Option<Bad>
+fn bad_after_each(loss: Loss, word: u16, bad: u64) -> Option<u64>
     requires range { IsLossInRange loss }
     requires lawful { IsLawfulBad loss bad }
     ensures bad { IfSome result (λ after. after ≡ bad_over loss (blocks_in word) bad 1 4) }
@@ -219,7 +219,7 @@ fn bad_after_each(loss: Loss, word: u16, bad: Bad) -> Option<Bad>
 /// What is kept of the bad blocks after one more, or none where it loses the lock.
 #[inline(always)]
 #[tactic(auto, using(crate::proofs::BadRows::lawful_kept))]
-pub(crate) fn kept_after(loss: Loss, good: bool, bad: Bad) -> Option<Bad>
+pub(crate) fn kept_after(loss: Loss, good: bool, bad: u64) -> Option<u64>
     requires range { IsLossInRange loss }
     requires lawful { IsLawfulBad loss bad }
     ensures bad { IfSome result (λ after. after ≡ bad_after loss good bad) }

@@ -17,7 +17,7 @@ ghost use Rattle.rds_sync.specs.declared.loss.Loss.TheVariants.{Run};
 ghost use Rattle.rds_sync.specs.declared.state.State.TheVariants.{Searching};
 
 use rds_stream::Recording;
-use rds_sync::{Bad, Codes, Decoder, Item, Mark, Marks, Rules, State, SyncError, laws, run_codes};
+use rds_sync::{Codes, Decoder, Item, Mark, Marks, Rules, State, SyncError, laws, run_codes};
 use std::alloc::{AllocError, Global};
 
 // ---- codes
@@ -210,7 +210,7 @@ pub fn group_of_good_lock<'a>(recording: &'a Recording, rules: &'a Rules, due: u
     let lock = State::Locked {
         due,
         number: 1,
-        bad: Bad::Run(0),
+        bad: 0,
         first: 1,
     };
     Decoder::new(recording, rules, lock, due - 25, due + 79)

@@ -22,7 +22,7 @@ ghost use Rattle.rds_sync.specs.Totals.{totals_of};
 
 use rds_stream::{Counted, Reader, Recording, Tape};
 use rds_sync::{
-    Bad, Block, Decoder, Group, Item, Loss, Report, RuleNumbers, Rules, State, Step, SyncError,
+    Block, Decoder, Group, Item, Loss, Report, RuleNumbers, Rules, State, Step, SyncError,
     advance, decode_plain, finish, laws, run_codes, stretch,
 };
 use std::alloc::Global;
@@ -464,7 +464,7 @@ pub fn runs_of_one_bit()
 pub fn nothing_while_waiting(
     recording: &Recording,
     rules: &Rules,
-    bad: Bad,
+    bad: u64,
     from: u64,
     due: u64,
 ) -> Option<Item>

@@ -4,7 +4,7 @@ ghost use Rattle.std.specs.Prelude.{◌<◌};
 use crate::samples::{Sample, Signal, recording_of, zero_bytes};
 use crate::sync::steps::found_from;
 use rds_stream::{Recording, StreamError};
-use rds_sync::{Bad, Item, Loss, RuleNumbers, State};
+use rds_sync::{Item, Loss, RuleNumbers, State};
 use std::alloc::{AllocError, Global};
 use std::test::Fail;
 
@@ -64,7 +64,7 @@ fn three_bad_blocks_are_outlived_and_four_are_not_whichever_is_the_first(
 const ELSEWHERE: State = State::Locked {
     due: 200,
     number: 1,
-    bad: Bad::Run(0),
+    bad: 0,
     first: 1,
 };
 

@@ -2,26 +2,22 @@
 //! whole locks.
 use crate::samples::{Sample, Signal};
 use rds_stream::Recording;
-use rds_sync::{Bad, Item, Loss, RuleNumbers, Rules, State, SyncError};
+use rds_sync::{Item, Loss, RuleNumbers, Rules, State, SyncError};
 use std::alloc::{AllocError, Global};
 use std::test::Fail;
 
 /// A rule of loss, what a lock keeps, and whether it may.
-const KEPT: [(Loss, Bad, bool); 6] = [
-    (Loss::Share { bad: 2, of: 4 }, Bad::Run(0), false),
-    (
-        Loss::Share { bad: 64, of: 64 },
-        Bad::Mask(u64::MAX - 1),
-        true,
-    ),
-    (Loss::Share { bad: 64, of: 64 }, Bad::Mask(u64::MAX), false),
-    (Loss::Run(10), Bad::Run(9), true),
-    (Loss::Run(10), Bad::Run(10), false),
-    (Loss::Run(10), Bad::Mask(0), false),
+const KEPT: [(Loss, u64, bool); 6] = [
+    (Loss::Share { bad: 64, of: 64 }, u64::MAX - 1, true),
+    (Loss::Share { bad: 64, of: 64 }, u64::MAX, false),
+    (Loss::Run(10), 0, true),
+    (Loss::Run(10), 9, true),
+    (Loss::Run(10), 10, false),
+    (Loss::Run(10), 256, false),
 ];
 
 /// Whether a lock before block 1, with these bad blocks, is lawful where a lock is lost so.
-fn is_lawful(alloc: Global, loss: Loss, bad: Bad) -> Result<bool, SyncError> {
+fn is_lawful(alloc: Global, loss: Loss, bad: u64) -> Result<bool, SyncError> {
     let lock = State::Locked {
         due: 207,
         number: 1,
@@ -42,7 +38,7 @@ fn masks_are_lawful_below_their_blocks_and_a_loss(rt: HostRuntime) -> Result<(),
     for mask in 0..32u64 {
         let lawful = mask < 16 && mask.count_ones() < 2;
         assert!(rt;
-            is_lawful(rt.alloc(), share, Bad::Mask(mask))? == lawful,
+            is_lawful(rt.alloc(), share, mask)? == lawful,
             "{mask}"
         );
     }

@@ -5,7 +5,6 @@ use Rattle.rds_code.specs.Remainder.{rem}
 use Rattle.rds_code.specs.declared.offset.Offset.TheVariants.{D}
 use Rattle.rds_stream.specs.Recording.{Signal, bits_of, ungapped, window, touched, heard, off}
 use Rattle.rds_sync.specs.declared.state.State.TheVariants.{Searching, Locked}
-use Rattle.rds_sync.specs.declared.loss.Bad.TheVariants.{Run as InARow}
 use Rattle.rds_sync.specs.declared.item.Version.TheVariants.{Unknown}
 use Rattle.rds_sync.specs.declared.item.Item.TheVariants.{Acquired}
 use Rattle.rds_sync.specs.Acquiring.{acquired, has_number}
@@ -17,34 +16,34 @@ use Rattle.rds_sync.specs.Examples.EightZeroGroups.{bytes}
 abbrev pub b : Signal
 b = ungapped (bits_of bytes 832)
 
-pub true_state_at_190 : (run b (rules_of 2 4 10) Searching 0 190).0 ≡ Locked 207 4 (InARow 0) 1
+pub true_state_at_190 : (run b (rules_of 2 4 10) Searching 0 190).0 ≡ Locked 207 4 0 1
 unfolding acquired has_number group rem window touched heard off
 true_state_at_190 = refl
 
 -- with reach 4 the search locks on the false phase, since the window four blocks before it is of the same phase
-pub locks_at_a_false_phase : run b (rules_of 2 4 10) Searching 190 11 ≡ (Locked 226 3 (InARow 0) 2, Acquired 200 2 ∷ [])
+pub locks_at_a_false_phase : run b (rules_of 2 4 10) Searching 190 11 ≡ (Locked 226 3 0 2, Acquired 200 2 ∷ [])
 unfolding acquired has_number group rem window touched heard off
 locks_at_a_false_phase = refl
 
 -- three bad blocks, then a good one, and so on: the false lock is never lost
-pub three_bad_blocks : (run b (rules_of 2 4 10) Searching 190 89).0 ≡ Locked 304 2 (InARow 3) 1
+pub three_bad_blocks : (run b (rules_of 2 4 10) Searching 190 89).0 ≡ Locked 304 2 3 1
 unfolding acquired has_number group rem window touched heard off
 three_bad_blocks = refl
 
-pub then_a_good_one : (run b (rules_of 2 4 10) Searching 190 115).0 ≡ Locked 330 3 (InARow 0) 1
+pub then_a_good_one : (run b (rules_of 2 4 10) Searching 190 115).0 ≡ Locked 330 3 0 1
 unfolding acquired has_number group rem window touched heard off
 then_a_good_one = refl
 
-pub never_lost : (run b (rules_of 2 4 10) Searching 190 642).0 ≡ Locked 850 3 (InARow 0) 1
+pub never_lost : (run b (rules_of 2 4 10) Searching 190 642).0 ≡ Locked 850 3 0 1
 unfolding acquired has_number group rem window touched heard off
 never_lost = refl
 
 -- with reach 3 the search acquires at place 207 as block 4, and is in the true state from place 208 on
 pub locks_at_the_true_phase : run b (rules_of 2 3 10) Searching 190 18
-    ≡ (Locked 233 1 (InARow 0) 1, Acquired 207 4 ∷ group_at 182 None Unknown missing missing missing (valid D 0) ∷ [])
+    ≡ (Locked 233 1 0 1, Acquired 207 4 ∷ group_at 182 None Unknown missing missing missing (valid D 0) ∷ [])
 unfolding acquired has_number group rem window touched heard off
 locks_at_the_true_phase = refl
 
-pub true_state_at_208 : (run b (rules_of 2 3 10) Searching 0 208).0 ≡ Locked 233 1 (InARow 0) 1
+pub true_state_at_208 : (run b (rules_of 2 3 10) Searching 0 208).0 ≡ Locked 233 1 0 1
 unfolding acquired has_number group rem window touched heard off
 true_state_at_208 = refl

@@ -3,7 +3,6 @@ use Rattle.std.specs.Prelude.{◌==◌, refl}
 use Rattle.std.specs.Int.Count.{ones}
 use Rattle.std.proofs.Common.{ap, inl, inr}
 use Rattle.std.proofs.lemmas.Bool.{false≢true, le-leb, leb-true}
-use Rattle.rds_sync.specs.declared.loss.Bad.TheVariants.{Mask}
 use Rattle.rds_sync.specs.declared.state.State.TheVariants.{Searching, Locked}
 use Rattle.rds_sync.specs.Lawful.{AreInOrder, IsBetweenGroups, IsLawful}
 use Rattle.rds_sync.specs.Examples.Words.{default_rules, locked, rules_of, rules_with_share}
@@ -51,7 +50,7 @@ lost lawful = false≢true (le-leb 11 10 lawful.few_bad)
 
 -- ---- which masks there may be, by a share of two of four
 
-pub oldest_of_four : IsLawful (rules_with_share 2 4) 129 (Locked 129 1 (Mask 8) 1)
+pub oldest_of_four : IsLawful (rules_with_share 2 4) 129 (Locked 129 1 8 1)
 unfolding ones
 oldest_of_four = record {
   soon = (leb-true 129 129 refl, leb-true 129 154 refl);
@@ -60,15 +59,12 @@ oldest_of_four = record {
   in_order = inl (refl, refl);
 }
 
-pub fifth_of_four : IsLawful (rules_with_share 2 4) 129 (Locked 129 1 (Mask 16) 1) → ⊥
+pub fifth_of_four : IsLawful (rules_with_share 2 4) 129 (Locked 129 1 16 1) → ⊥
 fifth_of_four lawful = false≢true (le-leb 17 16 lawful.few_bad.0)
 
-pub two_of_four : IsLawful (rules_with_share 2 4) 129 (Locked 129 1 (Mask 3) 1) → ⊥
+pub two_of_four : IsLawful (rules_with_share 2 4) 129 (Locked 129 1 3 1) → ⊥
 unfolding ones
 two_of_four lawful = false≢true (le-leb 3 2 lawful.few_bad.1)
-
-pub mask_by_a_run : IsLawful default_rules 129 (Locked 129 1 (Mask 0) 1) → ⊥
-mask_by_a_run lawful = lawful.few_bad
 
 -- ---- where its group may begin
 

@@ -6,7 +6,6 @@ use Rattle.rds_stream.specs.Recording.{bits_of, ungapped, window, touched, heard
 use Rattle.rds_sync.specs.declared.state.State.{State}
 use Rattle.rds_sync.specs.declared.state.State.TheVariants.{Searching, Locked}
 use Rattle.rds_sync.specs.declared.loss.Loss.TheVariants.{Run, Share}
-use Rattle.rds_sync.specs.declared.loss.Bad.TheVariants.{Run as InARow, Mask}
 use Rattle.rds_sync.specs.declared.mark.Mark.{Mark}
 use Rattle.rds_sync.specs.Acquiring.{acquired, has_number}
 use Rattle.rds_sync.specs.Groups.{group}
@@ -95,14 +94,14 @@ pub row_goes_on : after_code (Run 10) 0 (blocks (lost ∷ lost ∷ corrected 1 1
     ≡ record { place = 208; state = locked 233 1 7 1 }
 row_goes_on = refl
 
--- up to 255, which no lock comes to
-pub row_of_255 : counted_over (Run 64) (lost ∷ lost ∷ lost ∷ lost ∷ []) (InARow 253) 1 4 ≡ InARow 255
-row_of_255 = refl
+-- up to the one that loses the lock
+pub row_of_64 : counted_over (Run 64) (lost ∷ lost ∷ lost ∷ lost ∷ []) 62 1 4 ≡ 64
+row_of_64 = refl
 
 -- ---- by a share they stand in a mask, the newest lowest
 
 abbrev pub of_share : List Mark
-of_share = mark 52 (Locked 77 3 (Mask 0) 2) 1 ∷ mark 104 (Locked 129 1 (Mask 0) 1) 2 ∷ mark 208 (Locked 233 1 (Mask 8) 1) 3 ∷ []
+of_share = mark 52 (Locked 77 3 0 2) 1 ∷ mark 104 (Locked 129 1 0 1) 2 ∷ mark 208 (Locked 233 1 8 1) 3 ∷ []
 
 pub share : marks_on (ungapped (bits_of one_bad 208)) (rules_with_share 2 4) Searching 0 0 208 ≡ of_share
 unfolding acquired has_number group rem window touched heard off ones
@@ -114,10 +113,10 @@ share_told = refl
 -- a loss at block 3, of a mask of 5: the lock behind it begins with none
 abbrev pub of_lost_share : List Mark
 of_lost_share =
-    mark 52 (Locked 77 3 (Mask 0) 2) 1
-    ∷ mark 104 (Locked 129 1 (Mask 0) 1) 2
+    mark 52 (Locked 77 3 0 2) 1
+    ∷ mark 104 (Locked 129 1 0 1) 2
     ∷ mark 182 Searching 4
-    ∷ mark 208 (Locked 233 1 (Mask 0) 1) 6
+    ∷ mark 208 (Locked 233 1 0 1) 6
     ∷ []
 
 pub lost_share : marks_on (ungapped (bits_of two_bad 208)) (rules_with_share 2 3) Searching 0 0 208 ≡ of_lost_share

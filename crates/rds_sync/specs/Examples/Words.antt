@@ -5,7 +5,6 @@ use Rattle.rds_code.specs.declared.reading.Reading.TheVariants.{Valid, Corrected
 use Rattle.rds_stream.specs.Recording.{Signal, bits_of, ungapped}
 use Rattle.rds_sync.specs.Rules.{RuleNumbers}
 use Rattle.rds_sync.specs.declared.loss.Loss.TheVariants.{Run, Share}
-use Rattle.rds_sync.specs.declared.loss.Bad.TheVariants.{Run as InARow}
 use Rattle.rds_sync.specs.declared.item.Block.{Block}
 use Rattle.rds_sync.specs.declared.item.Block.TheVariants.{Missing, Read}
 use Rattle.rds_sync.specs.declared.item.Version.{Version}
@@ -55,7 +54,7 @@ group_at place kind version one two three four = Group (record {
 
 -- a lock: where its next block ends, that block's number, the bad blocks in a row, and the number of its group's first block
 abbrev pub locked : ℕ → ℕ → ℕ → ℕ → State
-locked due number bad first = Locked due number (InARow bad) first
+locked due number bad first = Locked due number bad first
 
 -- the twelve totals, in the order of the listing
 abbrev pub totals : ℕ → ℕ → ℕ → ℕ → ℕ → ℕ → ℕ → ℕ → ℕ → ℕ → ℕ → ℕ → Totals

@@ -2,7 +2,6 @@
 -- by no public call.
 use Rattle.std.specs.Prelude.{◌≡◌, ℕ, ◌+◌, ◌-◌, ◌*◌, ◌^◌, ◌≤◌, List, ◌++◌, ⊤}
 use Rattle.rds_sync.specs.declared.code_cursor.Cursor.{Cursor}
-use Rattle.rds_sync.specs.declared.loss.Bad.{Bad}
 use Rattle.rds_sync.specs.declared.loss.Loss.{Loss}
 use Rattle.rds_sync.specs.declared.mark.Mark.{Mark}
 use Rattle.rds_sync.specs.declared.state.State.{State}
@@ -32,5 +31,5 @@ abbrev pub IsPassed : List Mark → List Mark → Type 0
 IsPassed before after = (passed : List Mark) × (before ≡ passed ++ after)
 
 -- the mark between two groups of a lock
-abbrev pub between_groups : ℕ → Bad → ℕ → Mark
+abbrev pub between_groups : ℕ → ℕ → ℕ → Mark
 between_groups due bad items = record { place = due - 25; state = Locked due 1 bad 1; items = items }

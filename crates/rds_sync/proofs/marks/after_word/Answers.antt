@@ -1,5 +1,4 @@
-use Rattle.std.proofs.Common.{◌≡◌, ◌<◌, ◌+◌, ◌/◌, true, sym, ap, ◌∙◌, arith}
-use Rattle.rds_sync.specs.declared.loss.Bad.{Bad}
+use Rattle.std.proofs.Common.{ℕ, ◌≡◌, ◌<◌, ◌+◌, ◌/◌, true, sym, ap, ◌∙◌, arith}
 use Rattle.rds_sync.specs.declared.state.State.{State}
 use Rattle.rds_sync.specs.declared.state.State.TheVariants.{Locked}
 use Rattle.rds_sync.specs.Codes.{Code}
@@ -22,4 +21,4 @@ returns-in-Locked-default-eq1-default-default-clause-spot c =
     sym (ap (λ (code : Code). after_code loss c.args.lock code (spot_of c.args.mark)) (not_group w few)
     ∙ ap (λ (s : State). after_blocks loss (blocks_in w) s) state_is
     ∙ after-four loss w lock.due lock.bad lock.first read
-    ∙ ap (λ (b : Bad). record { place = lock.due + 78 + 1; state = Locked (lock.due + 104) 1 b 1 }) (sym c.counted_over_four.ensures))
+    ∙ ap (λ (b : ℕ). record { place = lock.due + 78 + 1; state = Locked (lock.due + 104) 1 b 1 }) (sym c.counted_over_four.ensures))

@@ -10,8 +10,6 @@ use Rattle.rds_sync.specs.declared.state.State.TheVariants.{Searching}
 use Rattle.rds_sync.specs.Acquiring.{acquired, has_partner}
 use Rattle.rds_sync.specs.Lawful.{IsLawful}
 use Rattle.rds_sync.specs.Rules.{RuleNumbers}
-use Rattle.rds_sync.specs.Loss.{none_bad}
-use Rattle.rds_sync.specs.declared.loss.Loss.{Loss}
 use Rattle.rds_sync.specs.Step.{step, locked_after}
 use Rattle.rds_sync.proofs.ItemLemmas.{some_given}
 use Rattle.rds_sync.proofs.RunLemmas.{step-acquiring, items-acquiring, run-found, run-quiet, run-unfound}
@@ -107,7 +105,6 @@ returns-then-has_partner_in-clause-reached c =
     let run_is = run-found b rules c.args.place here range.0 none in
     let state_is : c.state.result ≡ step b rules here Searching =
     c.state.ensures ∙ c.lock.ensures
-    ∙ ap (λ (loss : Loss). locked_after here number (none_bad loss) number) c.loss.ensures.value
     ∙ sym (step-acquiring b rules here number e) in
     let given = c.items.ensures b (c.window.ensures.value ∙ ap (λ (signal : Signal). heard signal here) searched.same) ∙ sym (items-acquiring b rules here number e) in
     let last : here + 1 - 1 ≡ here = omega arith in
@@ -119,7 +116,7 @@ returns-then-has_partner_in-clause-reached c =
       quiet = rw last (ap (λ (r : State × List Item). r.1) (run-unfound b rules c.args.place here range.0 none));
       ended = inr (some_given _ _ _ (given ∙ items-acquiring b rules here number e));
       lawful = subst (λ (t : State). IsLawful rules (here + 1) t) (sym state_is)
-          (lawful-step b rules c.loss.ensures.range.some_loss here Searching tt);
+          (lawful-step b rules c.reach.ensures.range.some_loss here Searching tt);
     }
 
 pub returns-clause-reached : goal.returns-clause-reached

@@ -3,7 +3,6 @@ use Rattle.rds_stream.specs.Recording.{Signal}
 use Rattle.rds_sync.specs.declared.lock.Lock.{Lock}
 use Rattle.rds_sync.specs.declared.item.Item.{Item}
 use Rattle.rds_sync.specs.declared.item.Item.TheVariants.{Group}
-use Rattle.rds_sync.specs.declared.loss.Bad.{Bad}
 use Rattle.rds_sync.specs.declared.loss.Loss.{Loss}
 use Rattle.rds_sync.specs.declared.state.State.{State}
 use Rattle.rds_sync.specs.declared.state.State.TheVariants.{Locked}
@@ -26,7 +25,7 @@ use Rattle.rds_sync.proofs.whole_groups.pass_whole_groups.Goals as goal
 
 -- one whole group more
 module _ (b : Signal) (rules : RuleNumbers) (lock now : Lock) (to : ℕ) (before codes after : KeptOf) (passed : HasPassed b rules lock to before now codes)
-    (start : 25 ≤ lock.due) (room : now.due + 78 < to) (word : ℕ) (bad : Bad)
+    (start : 25 ≤ lock.due) (room : now.due + 78 < to) (word bad : ℕ)
     (word_is : blocks_in word ≡ outcomes (group b rules 1 4 (now.due + 78))) (small : word < 65520)
     (bad_is : bad ≡ bad_over rules.loss (blocks_in word) now.bad 1 4) (lawful : IsLawfulBad rules.loss bad)
     (few : (k : ℕ) → k < 4 → are_too_many rules.loss (bad_over rules.loss (blocks_in word) now.bad 1 (k + 1)) ≡ false)
@@ -44,7 +43,7 @@ module _ (b : Signal) (rules : RuleNumbers) (lock now : Lock) (to : ℕ) (before
   here =
       whole_group b rules now.due now.bad late
       (subst (λ (os : List Outcome). (k : ℕ) → k < 4 → are_too_many rules.loss (bad_over rules.loss os now.bad 1 (k + 1)) ≡ false) word_is few)
-      ∙ ap (λ (c : Bad). (Locked (now.due + 104) 1 c 1, the_group ∷ []))
+      ∙ ap (λ (c : ℕ). (Locked (now.due + 104) 1 c 1, the_group ∷ []))
       (ap (λ (os : List Outcome). bad_over rules.loss os now.bad 1 4) (sym word_is) ∙ sym bad_is)
 
   total : run b rules (state_in lock) (lock.due - 25) (now.due + 104 - lock.due) ≡ (Locked (now.due + 104) 1 bad 1, so_far.1 ++ the_group ∷ [])

@@ -2,7 +2,6 @@ use Rattle.std.proofs.Common.{◌≡◌, ◌≤◌, ◌<◌, ◌+◌, ◌-◌, �
 use Rattle.rds_stream.specs.Recording.{Signal}
 use Rattle.rds_sync.specs.declared.item.Item.{Item}
 use Rattle.rds_sync.specs.declared.item.Item.TheVariants.{Group}
-use Rattle.rds_sync.specs.declared.loss.Bad.{Bad}
 use Rattle.rds_sync.specs.declared.state.State.{State}
 use Rattle.rds_sync.specs.declared.state.State.TheVariants.{Locked}
 use Rattle.rds_sync.specs.declared.step.Step.{Step}
@@ -20,7 +19,7 @@ use Rattle.rds_sync.proofs.WholeGroupLemmas.{whole_group, whole_quiet}
 use Rattle.rds_sync.proofs.whole_groups.whole_group.Goals as goal
 
 -- the step over a whole group is a stretch
-module _ (b : Signal) (rules : RuleNumbers) (s : State) (due to : ℕ) (bad after : Bad) (late : 25 ≤ due) (room : due + 78 < to)
+module _ (b : Signal) (rules : RuleNumbers) (s : State) (due to bad after : ℕ) (late : 25 ≤ due) (room : due + 78 < to)
     (state : s ≡ Locked due 1 bad 1)
     (few : (k : ℕ) → k < 4 → are_too_many rules.loss (bad_over rules.loss (outcomes (group b rules 1 4 (due + 78))) bad 1 (k + 1)) ≡ false)
     (after_is : after ≡ bad_over rules.loss (outcomes (group b rules 1 4 (due + 78))) bad 1 4) (lawful : IsLawfulBad rules.loss after) where
@@ -34,7 +33,7 @@ module _ (b : Signal) (rules : RuleNumbers) (s : State) (due to : ℕ) (bad afte
   over =
       let bits : due + 78 + 1 - (due - 25) ≡ 104 = omega (arith, late) in
       rw (state, bits) (whole_group b rules due bad late few
-      ∙ ap (λ (c : Bad). (Locked (due + 104) 1 c 1, Group (group b rules 1 4 (due + 78)) ∷ [])) (sym after_is))
+      ∙ ap (λ (c : ℕ). (Locked (due + 104) 1 c 1, Group (group b rules 1 4 (due + 78)) ∷ [])) (sym after_is))
 
   pub is_stretch : IsStretch b rules s (due - 25) to reached
   is_stretch =

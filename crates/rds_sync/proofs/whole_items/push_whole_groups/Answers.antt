@@ -4,7 +4,6 @@ use Rattle.rds_sync.specs.declared.lock.Lock.{Lock}
 use Rattle.rds_sync.specs.declared.item.Group.{Group as GroupRecord}
 use Rattle.rds_sync.specs.declared.item.Item.{Item}
 use Rattle.rds_sync.specs.declared.item.Item.TheVariants.{Group}
-use Rattle.rds_sync.specs.declared.loss.Bad.{Bad}
 use Rattle.rds_sync.specs.declared.state.State.{State}
 use Rattle.rds_sync.specs.declared.state.State.TheVariants.{Locked}
 use Rattle.rds_sync.specs.Inside.Due.{state_in}
@@ -17,7 +16,7 @@ use Rattle.rds_sync.proofs.whole_items.push_whole_groups.Goals as goal
 
 -- one whole group more
 module _ (b : Signal) (rules : RuleNumbers) (lock now : Lock) (to : ℕ) (before items after : List Item) (given : HasGiven b rules lock to before now items)
-    (start : 25 ≤ lock.due) (room : now.due + 78 < to) (found : GroupRecord) (bad : Bad) (whole : IsWhole b rules now.due now.bad found bad)
+    (start : 25 ≤ lock.due) (room : now.due + 78 < to) (found : GroupRecord) (bad : ℕ) (whole : IsWhole b rules now.due now.bad found bad)
     (pushed : after ≡ items ++ Group found ∷ []) where
   abbrev so_far : State × List Item
   so_far = run b rules (state_in lock) (lock.due - 25) (now.due - lock.due)
@@ -28,7 +27,7 @@ module _ (b : Signal) (rules : RuleNumbers) (lock now : Lock) (to : ℕ) (before
   here : run b rules (Locked now.due 1 now.bad 1) (now.due - 25) 104 ≡ (Locked (now.due + 104) 1 bad 1, Group found ∷ [])
   here =
       whole_group b rules now.due now.bad late whole.few
-      ∙ ap₂ (λ (c : Bad) (g : GroupRecord). (Locked (now.due + 104) 1 c 1, Group g ∷ [])) (sym whole.bad_is) (sym whole.given_is)
+      ∙ ap₂ (λ (c : ℕ) (g : GroupRecord). (Locked (now.due + 104) 1 c 1, Group g ∷ [])) (sym whole.bad_is) (sym whole.given_is)
 
   total : run b rules (state_in lock) (lock.due - 25) (now.due + 104 - lock.due) ≡ (Locked (now.due + 104) 1 bad 1, so_far.1 ++ Group found ∷ [])
   total =
