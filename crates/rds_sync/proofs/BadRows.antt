@@ -1,17 +1,17 @@
 -- Bad blocks in a row, and good ones in a row, by what is kept of them: for both rules of loss.
-use Rattle.std.proofs.Common.{◌≡◌, ℕ, zero, suc, ◌+◌, ◌*◌, ◌%◌, ◌/◌, ◌^◌, ◌<◌, ◌≤◌, Bool, true, false, refl, sym, ap, ap₂, ◌∙◌, subst, arith, inl, inr}
-use Rattle.std.proofs.Math.Nat.{mod-lt, pow-suc, mul-le-mul_right}
+use Rattle.std.proofs.Common.{◌≡◌, ℕ, zero, suc, ◌+◌, ◌*◌, ◌%◌, ◌/◌, ◌^◌, ◌<◌, ◌≤◌, true, false, refl, sym, ap, ap₂, ◌∙◌, subst, arith}
+use Rattle.std.proofs.Math.Nat.{pow-suc, mul-le-mul_right}
 use Rattle.std.proofs.Math.Pow.{pow_pos}
-use Rattle.std.proofs.lemmas.Bool.{cases_lt, le-leb, lt-leb}
+use Rattle.std.proofs.lemmas.Bool.{lt-leb}
 use Rattle.std.specs.Int.Count.{ones, ones_step}
-use Rattle.std.specs.Prelude.{nat_le, count_ones, ⊤}
+use Rattle.std.specs.Prelude.{count_ones, ⊤}
 use Rattle.rds_sync.specs.declared.loss.Loss.{Loss}
 use Rattle.rds_sync.specs.declared.loss.Loss.TheVariants.{Run, Share}
 use Rattle.rds_sync.specs.Loss.{IsLoss, IsLawfulBad, bad_after, are_too_many}
 use Rattle.rds_sync.specs.Convergence.{sound_blocks}
 use Rattle.rds_sync.specs.Marks.{bad_over}
 use Rattle.rds_sync.specs.Words.{blocks_in}
-use Rattle.rds_sync.proofs.LossLemmas.{double, ones_below}
+use Rattle.rds_sync.proofs.LossLemmas.{double, ones_below, ones_zero}
 
 -- the lowest j digits of m are all f
 abbrev pub Lows : ℕ → ℕ → ℕ → Type 0
@@ -60,10 +60,6 @@ lows_start : (i m : ℕ) → i ≤ 0 → Lows 0 i m
 lows_start zero m h = tt
 lows_start (suc i) m h = absurd (omega arith)
 
-ones_zero : count_ones 0 ≡ 0
-unfolding ones
-ones_zero = refl
-
 -- a remainder has no more ones
 ones_fewer : (v m : ℕ) → count_ones (m % 2 ^ v) ≤ count_ones m
 ones_fewer zero m = let none : m % 1 ≡ 0 = omega arith in let e : count_ones (m % 1) ≡ 0 = ap count_ones none ∙ ones_zero in omega (arith, e)
@@ -72,21 +68,7 @@ ones_fewer (suc v) m =
     let e : count_ones (m % 2 ^ suc v) ≡ count_ones ((m / 2) % 2 ^ v) + m % 2 = ap count_ones (split v m) ∙ ones_below ((m / 2) % 2 ^ v) (m % 2) (omega arith) in
     omega (arith, s, e, ones_fewer v (m / 2))
 
-few_from : (n m : ℕ) → nat_le n m ≡ false → m < n
-few_from n m e = elim (cases_lt m n) [
-  | inl few ↦ few
-  | inr many ↦ let t : nat_le n m ≡ true = le-leb n m many in let no : true ≡ false = sym t ∙ e in cc no
-]
-
--- lawful: none, and what is kept of a lock that is not lost; a good block loses none
-pub lawful_none : (loss : Loss) → IsLoss loss → IsLawfulBad loss 0
-lawful_none (Run n) h = h
-lawful_none (Share n v) h = (omega (arith, pow_pos v), omega (arith, ones_zero, h.0))
-
-pub lawful_kept : (loss : Loss) (bad : ℕ) (good : Bool) → IsLawfulBad loss bad → are_too_many loss (bad_after loss good bad) ≡ false → IsLawfulBad loss (bad_after loss good bad)
-lawful_kept (Run n) row good h e = few_from n _ e
-lawful_kept (Share n v) m good h e = (mod-lt _ (omega (arith, pow_pos v)), few_from n _ e)
-
+-- a good block loses no lock
 pub good_keeps : (loss : Loss) (bad : ℕ) → IsLawfulBad loss bad → are_too_many loss (bad_after loss true bad) ≡ false
 good_keeps (Run n) row h = lt-leb n 0 (omega (arith, h))
 good_keeps (Share n v) m h =

@@ -10,7 +10,8 @@ use Rattle.rds_sync.specs.declared.state.State.{State}
 use Rattle.rds_sync.specs.declared.state.State.TheVariants.{Searching, Locked}
 use Rattle.rds_sync.specs.Rules.{RuleNumbers}
 use Rattle.rds_sync.specs.Loss.{IsLoss, IsLawfulBad, bad_after, are_too_many}
-use Rattle.rds_sync.proofs.BadRows.{lawful_none, lawful_kept, good_keeps, needed, memory, needed_is, memory_is, HasRow, row_zero, row_short, row_grows, IsClean, clean_zero, clean_none, clean_more, clean_is}
+use Rattle.rds_sync.proofs.LossLemmas.{lawful_none, lawful_kept}
+use Rattle.rds_sync.proofs.BadRows.{good_keeps, needed, memory, needed_is, memory_is, HasRow, row_zero, row_short, row_grows, IsClean, clean_zero, clean_none, clean_more, clean_is}
 use Rattle.rds_sync.specs.Lawful.{IsLawful}
 use Rattle.rds_code.specs.declared.offset.Offset.{Offset}
 use Rattle.rds_code.specs.Offsets.{number}

@@ -251,7 +251,7 @@ module _ (is_good : ℕ → Bool) where
 pub masks_tell : MasksTellBlocks
 masks_tell is_good bad of k i = ap (λ (m : ℕ). bit_at m i) (mask_is is_good bad of k) ∙ digits is_good of k i
 
-ones_zero : count_ones 0 ≡ 0
+pub ones_zero : count_ones 0 ≡ 0
 unfolding ones
 ones_zero = refl
 
@@ -261,13 +261,11 @@ few_from n m e = elim (cases_lt m n) [
   | inr many ↦ let t : nat_le n m ≡ true = le-leb n m many in let no : true ≡ false = sym t ∙ e in cc no
 ]
 
--- lawful: none, and what is kept of a lock that is not lost; a good block loses none
+-- lawful: none, and what is kept of a lock that is not lost
 pub lawful_none : (loss : Loss) → IsLoss loss → IsLawfulBad loss 0
 lawful_none (Run n) h = h
 lawful_none (Share n v) h = (omega (arith, pow_pos v), omega (arith, ones_zero, h.0))
 
 pub lawful_kept : (loss : Loss) (bad : ℕ) (good : Bool) → IsLawfulBad loss bad → are_too_many loss (bad_after loss good bad) ≡ false → IsLawfulBad loss (bad_after loss good bad)
 lawful_kept (Run n) row good h e = few_from n _ e
-lawful_kept (Run n) m good h e = absurd h
-lawful_kept (Share n v) row good h e = absurd h
 lawful_kept (Share n v) m good h e = (mod-lt _ (omega (arith, pow_pos v)), few_from n _ e)

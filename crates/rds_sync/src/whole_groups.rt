@@ -218,7 +218,7 @@ fn bad_after_each(loss: Loss, word: u16, bad: u64) -> Option<u64>
 
 /// What is kept of the bad blocks after one more, or none where it loses the lock.
 #[inline(always)]
-#[tactic(auto, using(crate::proofs::BadRows::lawful_kept))]
+#[tactic(auto, using(crate::proofs::LossLemmas::lawful_kept))]
 pub(crate) fn kept_after(loss: Loss, good: bool, bad: u64) -> Option<u64>
     requires range { IsLossInRange loss }
     requires lawful { IsLawfulBad loss bad }

@@ -13,8 +13,6 @@ use Rattle.rds_sync.specs.declared.item.Item.TheVariants.{Group}
 use Rattle.rds_sync.specs.declared.totals.Totals.{Totals}
 use Rattle.rds_sync.specs.Report.{report_items}
 use Rattle.rds_sync.specs.Totals.{totals_of}
-use Rattle.rds_sync.specs.declared.state.State.{State}
-use Rattle.rds_sync.specs.declared.state.State.TheVariants.{Locked}
 
 -- four information words 0 in a group of version A, with their checkwords
 abbrev pub zero_group : List ℕ
@@ -51,10 +49,6 @@ group_at place kind version one two three four = Group (record {
   version = version;
   conflict = false;
 })
-
--- a lock: where its next block ends, that block's number, the bad blocks in a row, and the number of its group's first block
-abbrev pub locked : ℕ → ℕ → ℕ → ℕ → State
-locked due number bad first = Locked due number bad first
 
 -- the twelve totals, in the order of the listing
 abbrev pub totals : ℕ → ℕ → ℕ → ℕ → ℕ → ℕ → ℕ → ℕ → ℕ → ℕ → ℕ → ℕ → Totals
