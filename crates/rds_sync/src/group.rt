@@ -1,15 +1,15 @@
-//! How a group is read: block by block from what was heard of it, and what its blocks say of it.
+//! How a group is read: block by block, from what was heard of it.
 
 ghost use Rattle.std.specs.Prelude.{◌≡◌, ◌≤◌, ◌<◌, ◌+◌, ◌-◌, ◌*◌, ◌^◌, ◌&&◌, nat_le, nat_lt, if◌then◌else◌, IfSome};
-ghost use Rattle.rds_sync.specs.Groups.{are_complete, version, in_conflict, group_of, block_at, blocks_at, group};
+ghost use Rattle.rds_sync.specs.Groups.{block_at, blocks_at, group};
 ghost use Rattle.rds_stream.specs.Recording.{offset_heard as the_offset_heard};
 ghost use Rattle.rds_sync.specs.Acquiring.{is_numbered};
 ghost use Rattle.rds_sync.specs.Inside.GroupParts.{IsGroupPart};
 
-use crate::item::{Block, Group, Version};
+use crate::item::{Block, Group};
 use crate::lock::BLOCK_PLACES;
 use crate::rules::Rules;
-use rds_code::{Reading, Wanted};
+use rds_code::Wanted;
 use rds_stream::{FIRST_WINDOW, Tape, offset_heard};
 
 /// Whether what was heard has an offset of this number.
@@ -20,60 +20,6 @@ pub(crate) fn is_numbered(heard: Option<u32>, number: u8) -> bool
     match offset_heard(heard) {
         Some(offset) => offset.number() == number,
         None => false,
-    }
-}
-
-/// The version that blocks 2 and 3 of a group give it.
-fn version_of(second: Block, third: Block) -> Version
-    ensures { result ≡ version second third }
-{
-    let by_bit = second.version_by_bit();
-    match third {
-        Block::Read(Reading::Valid { offset, .. }) => Version::of_offset(offset),
-        Block::Read(Reading::Corrected { offset, .. }) => match by_bit {
-            Version::Unknown => Version::of_offset(offset),
-            known => known,
-        },
-        _ => by_bit,
-    }
-}
-
-/// Whether a valid block 3 and block 2 name different versions.
-fn is_in_conflict(second: Block, third: Block) -> bool
-    ensures { result ≡ in_conflict second third }
-{
-    match third {
-        Block::Read(Reading::Valid { offset, .. }) => {
-            second.version_by_bit().differs(Version::of_offset(offset))
-        }
-        _ => false,
-    }
-}
-
-impl Group {
-    /// Whether all four blocks are valid or corrected.
-    pub fn is_complete(&self) -> bool
-        ensures { result ≡ are_complete self.now.blocks }
-    {
-        self.blocks.iter().all(|block| block.info().is_some())
-    }
-
-    /// The group of four blocks whose first read bit is at `place`.
-    #[inline(always)]
-    pub(crate) fn of_blocks(place: u64, blocks: [Block; 4]) -> Group
-        ensures { result ≡ group_of place blocks }
-    {
-        let [_, second, third, _] = blocks;
-        Group {
-            place,
-            blocks,
-            kind: match second.info() {
-                Some(info) => Some((info >> 12) as u8),
-                None => None,
-            },
-            version: version_of(second, third),
-            conflict: is_in_conflict(second, third),
-        }
     }
 }
 
