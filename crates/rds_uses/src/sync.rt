@@ -22,8 +22,8 @@ ghost use Rattle.rds_sync.specs.Totals.{totals_of};
 
 use rds_stream::{Counted, Reader, Recording, Tape};
 use rds_sync::{
-    Block, Decoder, Group, Item, Loss, Report, RuleNumbers, Rules, State, Step, SyncError,
-    advance, decode_plain, finish, laws, run_codes, stretch,
+    Block, Decoder, Group, Item, Loss, Report, RuleNumbers, Rules, State, Step, SyncError, advance,
+    decode_plain, finish, laws, run_codes, stretch,
 };
 use std::alloc::Global;
 

@@ -37,10 +37,7 @@ fn masks_are_lawful_below_their_blocks_and_a_loss(rt: HostRuntime) -> Result<(),
     let share = Loss::Share { bad: 2, of: 4 };
     for mask in 0..32u64 {
         let lawful = mask < 16 && mask.count_ones() < 2;
-        assert!(rt;
-            is_lawful(rt.alloc(), share, mask)? == lawful,
-            "{mask}"
-        );
+        assert!(rt; is_lawful(rt.alloc(), share, mask)? == lawful, "{mask}");
     }
     for &(loss, bad, lawful) in &KEPT {
         assert!(rt; is_lawful(rt.alloc(), loss, bad)? == lawful);
