@@ -1,7 +1,7 @@
-//! Words of marks: which of up to 64 places in a row have a valid window.
+//! Words of valid places: which of up to 64 places in a row have a valid window.
 //!
-//! A mark is a one just where all ten planes agree with one of the five offset words, so marks are exact both ways:
-//! each valid window is marked, and no other is looked at.
+//! A bit is a one just where all ten planes agree with one of the five offset words, so words are exact both ways:
+//! each valid window has a one, and no other is looked at.
 ghost use Rattle.std.specs.Prelude.{◌≡◌, ◌≢◌, ℕ, max, ◌+◌, ◌<◌, ◌≤◌, ◌^◌, ◌↔◌, false, slice_index, IsSome};
 ghost use Rattle.std.specs.Int.{bit_at};
 ghost use Rattle.rds_code.specs.Offsets.{offset_of as the_offset_of};
@@ -9,7 +9,7 @@ ghost use Rattle.rds_stream.specs.Inside.Lanes.{HoldInLane};
 ghost use Rattle.rds_stream.specs.Recording.{Signal, length_of, off};
 ghost use Rattle.rds_stream.specs.Inside.Sections.{IsSection};
 ghost use Rattle.rds_stream.specs.ValidWindows.{NoneValid};
-ghost use Rattle.rds_stream.specs.Inside.Marks.{AreMarks};
+ghost use Rattle.rds_stream.specs.Inside.ValidPlaces.{TellsValidPlaces};
 
 use crate::bit_planes::plane_lanes;
 use crate::gaps::Section;
@@ -21,44 +21,44 @@ use std::simd::prelude::*;
 /// Up to 64 places in a row, from `next` to before `ahead`. Bit k of `word` is a one where the window at place
 /// `next` + k is valid.
 #[derive(Clone, Copy, Drop)]
-pub(crate) struct Marks {
+pub(crate) struct ValidPlaces {
     pub(crate) next: u64,
     pub(crate) ahead: u64,
     pub(crate) word: u64,
 }
 
-impl Marks {
-    /// The marks of the places from `from` on to before `end`, of 64 at most. None of their windows touches a gap.
-    fn of(recording: &Recording, from: u64, end: u64) -> Marks
+impl ValidPlaces {
+    /// The valid ones of the places from `from` on to before `end`, of 64 at most. None of their windows touches a gap.
+    fn of(recording: &Recording, from: u64, end: u64) -> ValidPlaces
         requires first { 25 ≤ from }
         requires order { from ≤ end }
         requires within { end ≤ length_of recording.now }
         requires clear { IsSection recording.now from end false }
-        ensures marks { AreMarks recording.now result.next result.ahead result.word }
+        ensures places { TellsValidPlaces recording.now result.next result.ahead result.word }
         ensures from { result.next ≡ from }
         ensures forward { (result.ahead ≤ end) × (from < end → from < result.ahead) }
     {
         if end - from < 64 {
-            return Marks {
+            return ValidPlaces {
                 next: from,
                 ahead: end,
                 word: one_by_one(recording, from, end),
             };
         }
-        Marks {
+        ValidPlaces {
             next: from,
             ahead: from + 64,
             word: at_once(recording, from),
         }
     }
 
-    /// Goes on from marks without a one, to the next places of the section that they end in, or of the one after it.
-    fn next(self, recording: &Recording, section: &mut Section, end: u64) -> Marks
+    /// Goes on from places without a valid one, to the next places of the section that they end in, or of the one after it.
+    fn next(self, recording: &Recording, section: &mut Section, end: u64) -> ValidPlaces
         requires first { 25 ≤ self.ahead }
         requires order { self.ahead < end }
         requires within { end ≤ length_of recording.now }
         requires section { IsSection recording.now section.old.from section.old.to section.old.touched }
-        ensures marks { AreMarks recording.now result.next result.ahead result.word }
+        ensures places { TellsValidPlaces recording.now result.next result.ahead result.word }
         ensures forward { (self.ahead ≤ result.next) × (self.ahead < result.ahead) × (result.ahead ≤ end) }
         ensures over { NoneValid recording.now self.ahead result.next }
         ensures section { IsSection recording.now section.new.from section.new.to section.new.touched }
@@ -66,59 +66,64 @@ impl Marks {
         recording.go_on_to(section, self.ahead);
         let limit = end.min(section.to);
         if section.touched {
-            Marks {
+            ValidPlaces {
                 next: limit,
                 ahead: limit,
                 word: 0,
             }
         } else {
-            Marks::of(recording, self.ahead, limit)
+            ValidPlaces::of(recording, self.ahead, limit)
         }
     }
 
-    /// The marks of the places from `place` on: of none, where it is behind all of these.
+    /// Those from `place` on: none, where it is behind all of these.
     #[inline(always)]
-    pub(crate) fn from_on(self, place: u64) -> Marks
+    pub(crate) fn from_on(self, place: u64) -> ValidPlaces
         requires order { self.next ≤ place }
         requires width { self.ahead ≤ self.next + 64 }
-        ensures marks { (b : Signal) → AreMarks b self.next self.ahead self.word → AreMarks b result.next result.ahead result.word }
+        ensures places { (b : Signal) → TellsValidPlaces b self.next self.ahead self.word → TellsValidPlaces b result.next result.ahead result.word }
         ensures from { result.next ≡ place }
         ensures ahead { result.ahead ≡ max self.ahead place }
     {
         if place < self.ahead {
-            return Marks {
+            return ValidPlaces {
                 next: place,
                 ahead: self.ahead,
                 word: self.word >> (place - self.next),
             };
         }
-        Marks {
+        ValidPlaces {
             next: place,
             ahead: place,
             word: 0,
         }
     }
 
-    /// Goes on from marks to the next ones that have a one, or up to `end` where there are none; to these same marks,
+    /// Goes on to the next places that have a valid one, or up to `end` where there are none; to these same places,
     /// where they have one.
-    pub(crate) fn next_marked(self, recording: &Recording, section: &mut Section, end: u64) -> Marks
-        requires marks { AreMarks recording.now self.next self.ahead self.word }
+    pub(crate) fn next_valid(
+        self,
+        recording: &Recording,
+        section: &mut Section,
+        end: u64,
+    ) -> ValidPlaces
+        requires places { TellsValidPlaces recording.now self.next self.ahead self.word }
         requires first { self.ahead < end → 25 ≤ self.ahead }
         requires order { self.ahead ≤ end }
         requires within { end ≤ length_of recording.now }
         requires section { IsSection recording.now section.old.from section.old.to section.old.touched }
-        ensures marks { AreMarks recording.now result.next result.ahead result.word }
+        ensures places { TellsValidPlaces recording.now result.next result.ahead result.word }
         ensures forward { (self.next ≤ result.next) × (result.ahead ≤ end) }
         ensures first { result.ahead < end → 25 ≤ result.ahead }
         ensures over { NoneValid recording.now self.next result.next }
         ensures ended { result.word ≡ 0 → result.ahead ≡ end }
         ensures section { IsSection recording.now section.new.from section.new.to section.new.touched }
     {
-        let mut marks = self;
-        while marks.word == 0 && marks.ahead < end {
-            marks = marks.next(recording, section, end);
+        let mut places = self;
+        while places.word == 0 && places.ahead < end {
+            places = places.next(recording, section, end);
         }
-        marks
+        places
     }
 }
 
@@ -131,7 +136,7 @@ fn at_once(recording: &Recording, at: u64) -> u64
     ensures { (k : ℕ) → k < 64 → (bit_at result k ≡ 1) ↔ IsSome (off recording.now (at + k)) }
 {
     prove!(at < recording.len());
-    joined(valid_places(&plane_lanes(recording, at)))
+    joined(offset_words(&plane_lanes(recording, at)))
 }
 
 /// Ones at the valid places from `from` to before `to`, fewer than 64, one by one; bit k stands for place `from` + k.
@@ -141,20 +146,20 @@ fn one_by_one(recording: &Recording, from: u64, to: u64) -> u64
     requires few { to < from + 64 }
     requires within { to ≤ length_of recording.now }
     requires clear { IsSection recording.now from to false }
-    ensures { AreMarks recording.now from to result }
+    ensures { TellsValidPlaces recording.now from to result }
 {
-    let mut marks = 0;
+    let mut places = 0;
     for place in from..to {
         if recording.stored_offset(place).is_some() {
-            marks |= 1 << (place - from);
+            places |= 1 << (place - from);
         }
     }
-    marks
+    places
 }
 
 /// Ones where the planes hold an offset word.
 #[inline(always)]
-fn valid_places(planes: &[u64x2; 10]) -> u64x2
+fn offset_words(planes: &[u64x2; 10]) -> u64x2
     ensures { (j k remainder : ℕ) → j < 2 → k < 32 → HoldInLane planes.now j k remainder
         → (bit_at (slice_index result j) k ≡ 1) ↔ IsSome (the_offset_of remainder) }
 {

@@ -1,6 +1,6 @@
 use Rattle.std.proofs.Common.{◌∙◌, arith}
 use Rattle.rds_stream.proofs.WindowLists.{off_touched}
-use Rattle.rds_stream.proofs.marks.Marks.next.Goals as goal
+use Rattle.rds_stream.proofs.valid_places.ValidPlaces.next.Goals as goal
 
 pub returns-then-section-clause-over : goal.returns-then-section-clause-over
 returns-then-section-clause-over c i low high =

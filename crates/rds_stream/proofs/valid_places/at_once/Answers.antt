@@ -5,7 +5,7 @@ use Rattle.rds_code.specs.Remainder.{rem}
 use Rattle.rds_code.specs.Offsets.{offset_of}
 use Rattle.rds_stream.specs.Recording.{window}
 use Rattle.rds_stream.proofs.WindowLists.{off_clear}
-use Rattle.rds_stream.proofs.marks.at_once.Goals as goal
+use Rattle.rds_stream.proofs.valid_places.at_once.Goals as goal
 
 pub returns : goal.returns
 returns c k within =
@@ -17,8 +17,8 @@ returns c k within =
     let low : bit < 32 = omega arith in
     let split : 32 * j + bit ≡ k = omega arith in
     let held = c.plane_lanes.ensures j bit lane low in
-    let is = c.valid_places.ensures j bit (rem (window b.bits (at + (32 * j + bit)))) lane low held in
-    let there : bit_at c.joined.result k ≡ bit_at (get_or c.valid_places.result j 0) bit = sym (ap (bit_at c.joined.result) split) ∙ c.joined.ensures j bit lane low in
+    let is = c.offset_words.ensures j bit (rem (window b.bits (at + (32 * j + bit)))) lane low held in
+    let there : bit_at c.joined.result k ≡ bit_at (get_or c.offset_words.result j 0) bit = sym (ap (bit_at c.joined.result) split) ∙ c.joined.ensures j bit lane low in
     let same : at + (32 * j + bit) ≡ at + k = omega arith in
     let offset = sym (ap (λ (p : ℕ). rem (window b.bits p)) same) in
     subst (λ (o : Option Offset). (bit_at c.joined.result k ≡ 1) ↔ IsSome o) (sym (off_clear b (at + k) (omega (arith, c.requires.first)) (c.requires.clear (at + k) (omega arith) (omega arith))))

@@ -1,7 +1,7 @@
 use Rattle.std.proofs.Common.{◌≡◌, ◌+◌, ◌/◌, ◌^◌, ◌∙◌, ap, arith}
 use Rattle.std.specs.Int.{bit_at}
 use Rattle.rds_stream.proofs.BitOrder.{shr_bit}
-use Rattle.rds_stream.proofs.marks.above.Goals as goal
+use Rattle.rds_stream.proofs.valid_places.above.Goals as goal
 
 pub returns : goal.returns
 returns c k =

@@ -1,7 +1,7 @@
 use Rattle.std.proofs.Common.{◌≡◌, ℕ, ◌<◌, ◌↔◌, slice_index}
 use Rattle.std.specs.Int.{bit_at}
 use Rattle.rds_stream.proofs.Agreement.{Agree}
-use Rattle.rds_stream.proofs.marks.equal_to.Given as goal
+use Rattle.rds_stream.proofs.valid_places.equal_to.Given as goal
 
 -- ones where the planes so far hold the word's bits so far
 abbrev pub invariant-loop-r : goal.invariant-loop-r

@@ -1,7 +1,7 @@
 use Rattle.std.proofs.Common.{◌∙◌, ap, bit_or, get_or}
 use mathlib.Core.Path.{ap₂}
 use Rattle.rds_stream.proofs.Agreement.{offset_bit, told}
-use Rattle.rds_stream.proofs.marks.valid_places.Goals as goal
+use Rattle.rds_stream.proofs.valid_places.offset_words.Goals as goal
 
 pub returns : goal.returns
 returns c j k remainder l m held =
