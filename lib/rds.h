@@ -182,7 +182,7 @@ uint8_t rds_finish_run(const uint8_t *bytes, size_t bytes_len, uint64_t bits, co
  * never too little. Where there is too little room (64), count tells how many items there are, and nothing else is written: the
  * same bytes can be offered again. Numbers that no call can have left are refused (65); others are gone on with, whoever wrote
  * them. It asks for memory for the tables of the rules, the gaps, and the items: those that these bytes complete, and as many as
- * 240 bytes may. The bytes themselves take none. Refusals: 1, 2, 3, 15, then 16, 65, 5 (past 2^36 bits in all), 64, and 8. */
+ * 960 bytes may. The bytes themselves take none. Refusals: 1, 2, 3, 15, then 16, 65, 5 (past 2^36 bits in all), 64, and 8. */
 uint8_t rds_push(const uint8_t *bytes, size_t bytes_len, const rds_gap_t *gaps, size_t gaps_len, const rds_rules_t *rules,
                              rds_stream_t *stream, rds_item_t *room, size_t room_len, uint64_t *count);
 
