@@ -10,7 +10,7 @@ export RT
 
 SOURCES := crates.txt $(shell find crates -name out -prune -o \( -name '*.rt' -o -name '*.antt' \) -print)
 
-.PHONY: all run quick lib test proofs built archive wrong-bodies wrong-bodies-of-code program library package install install-lib deb clean toolchain
+.PHONY: all run quick lib test proofs built archive wrong-bodies wrong-bodies-of-lowest program library package install install-lib deb clean toolchain
 all: build/rds
 
 toolchain:
@@ -45,10 +45,10 @@ run: toolchain
 quick: toolchain
 	tests/quick.sh
 
-# The wrong bodies of the lowest library need nothing that rt ci builds: they are tried while it has one crate to prove.
-# What it built is tried while the others are; measured when nothing else runs.
+# The wrong bodies of the libraries that stand on no other need nothing that rt ci builds: they have what it leaves of the
+# processors while it has one crate to prove. What it built is tried while the others are; measured when nothing else runs.
 test: toolchain
-	+$(MAKE) --no-print-directory -j 2 proofs wrong-bodies-of-code
+	+$(MAKE) --no-print-directory -j 2 proofs wrong-bodies-of-lowest
 	+$(MAKE) --no-print-directory -j 2 -O wrong-bodies built
 	crates/rds_bench/out/rds_bench --check
 	@mkdir -p build
@@ -62,11 +62,12 @@ archive:
 	tests/archive.py
 	lib/make_library.sh crates/rds_c/out/librds_c.a build/lib
 
-wrong-bodies-of-code:
-	tests/wrong_bodies.py rds_code
+wrong-bodies-of-lowest:
+	nice tests/wrong_bodies.py rds_code
+	nice tests/wrong_bodies.py rds_rows
 
 wrong-bodies:
-	tests/wrong_bodies.py rds_stream rds_sync rds_live rds_abi rds_pieces rds_crew rds_rows rds_tool
+	tests/wrong_bodies.py rds_stream rds_sync rds_live rds_abi rds_pieces rds_crew rds_tool
 
 # One after the other. Each takes one processor for the most part, so that the wrong bodies have what is left.
 built:

@@ -107,24 +107,24 @@ if [ -z "$is_listing" ]; then decode
 elif [ -n "$last" ]; then end_of_listing
 else run cat < "$file" > "$work/listing"; fi
 
-# Per cent of the blocks sent that are valid, and corrected; and seconds since the last good group, if there is one.
+# Per cent of the blocks sent that are valid, and corrected; and seconds since the last group of four valid blocks, if there is one.
 # shellcheck disable=SC2154
 run listing_awk -v begin="$begin" "$listing"'
   # of the blocks sent; where the recording is cut, a block more may be read than was sent whole
   function per_cent(blocks) { return blocks > sent ? 100 : 100 * blocks / sent }
   listed > furthest { furthest = listed }
   $1 == "group" {
-    good = 0
-    for (i = first; i <= last; i++) if ($i ~ /~/) corrected++; else if ($i != "lost") { valid++; good++ }
-    if (good == 4) good_end = listed
+    of_group = 0
+    for (i = first; i <= last; i++) if ($i ~ /~/) corrected++; else if ($i != "lost") { valid++; of_group++ }
+    if (of_group == 4) valid_end = listed
   }
   END {
     end = bits == "" ? furthest : bits
     sent = (end - begin) / 26
     if (sent < 1) die(1, "there is no block in it")
-    printf "%.2f %.2f %s\n", per_cent(valid), per_cent(corrected), good_end ? seconds(end - good_end) : ""
+    printf "%.2f %.2f %s\n", per_cent(valid), per_cent(corrected), valid_end ? seconds(end - valid_end) : ""
   }' < "$work/listing" > "$work/shares"
-read -r good corrected age < "$work/shares"
+read -r valid corrected age < "$work/shares"
 quiet=0
 [ -z "$last" ] || quiet=$(($(date +%s) - $(stat -c %Y -- "$file")))
 
@@ -136,15 +136,15 @@ level=0
 # at_least LEVEL
 at_least() { [ "$level" -ge "$1" ] || level=$1; }
 
-if below "$good" "$lowest"; then at_least 2; elif below "$good" "$low"; then at_least 1; fi
-said="$good % of the blocks good"
+if below "$valid" "$lowest"; then at_least 2; elif below "$valid" "$low"; then at_least 1; fi
+said="$valid % of the blocks valid"
 if [ -n "$age" ]; then
   age=$(awk -v age="$age" -v quiet="$quiet" 'BEGIN { printf "%.3f", age + (quiet > 0 ? quiet : 0) }')
   if above "$age" "$oldest"; then at_least 2; elif above "$age" "$old"; then at_least 1; fi
-  said="$said, last good group $age s ago"
+  said="$said, last valid group $age s ago"
 else
   at_least 2
-  said="$said, no good group"
+  said="$said, no valid group"
 fi
 
 if [ -n "$programme" ]; then
@@ -174,4 +174,4 @@ if [ -n "$name" ]; then
   else at_least 2; said="$said, name $received instead of $name"; fi
 fi
 
-report "$level" "$said" "good=$good%;$low:;$lowest:;0;100 corrected=$corrected%;;;0;100 age=${age:-U}${age:+s;$old;$oldest;0}"
+report "$level" "$said" "valid=$valid%;$low:;$lowest:;0;100 corrected=$corrected%;;;0;100 age=${age:-U}${age:+s;$old;$oldest;0}"

@@ -11,7 +11,7 @@
 #   totals(recording, row, name, value)
 # The times are those of the place: seconds from the start of the recording, and UTC where its start is known, else NULL. They
 # are reckoned from `start` and `rate` when they are asked for, by views over the tables group_rows, acquired_rows and lost_rows:
-# who finds the clock out later corrects two values. year.sql asks for good blocks by day, and for outages.
+# who finds the clock out later corrects two values. year.sql asks for valid blocks by day, and for outages.
 # Needs awk, sqlite3.
 usage='usage: to_sqlite.sh [--station TEXT] [--start TIME] [--rate BITS] [--length FILE|BITS] [--trust-length]'
 usage="$usage DATABASE NAME < LISTING"

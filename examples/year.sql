@@ -1,6 +1,6 @@
 -- A year of a station, from a database of to_sqlite.sh:
 --   sqlite3 -box year.db < examples/year.sql
--- Three tables: good blocks by day; outages by their length; the twenty longest outages. They are of the recordings whose start is
+-- Three tables: valid blocks by day; outages by their length; the twenty longest outages. They are of the recordings whose start is
 -- known, by station, in UTC.
 
 -- The time that each recording covers, in seconds since 1970.
@@ -8,7 +8,7 @@ CREATE TEMP TABLE covered AS
   SELECT id AS recording, COALESCE(station, '') AS station, rate, bits, began, began + bits / rate AS ended
   FROM (SELECT *, ROUND((julianday(start) - 2440587.5) * 86400, 3) AS began FROM recordings WHERE start IS NOT NULL);
 
--- Good blocks by day: those that are valid, and not corrected, of those that were sent while a recording ran, by its clock.
+-- Valid blocks by day, of those that were sent while a recording ran, by its clock.
 WITH RECURSIVE
   days(recording, day) AS (
     SELECT recording, CAST(began / 86400 AS INTEGER) FROM covered
@@ -19,13 +19,13 @@ WITH RECURSIVE
     SELECT station, day, rate, recording,
       MAX(0, (day * 86400 - began) * rate), MIN(bits, ((day + 1) * 86400 - began) * rate)
     FROM days JOIN covered USING (recording)),
-  counts(station, day, seconds, sent, good) AS (
+  counts(station, day, seconds, sent, valid) AS (
     SELECT station, day, SUM((past - first) / rate), SUM((past - first) / 26), SUM((
       SELECT COALESCE(SUM(valid), 0) FROM group_rows
       WHERE group_rows.recording = parts.recording AND place >= first AND place < past))
     FROM parts GROUP BY station, day)
-SELECT station, date(day * 86400, 'unixepoch') AS day, ROUND(seconds / 3600, 2) AS hours, CAST(sent AS INTEGER) AS sent, good,
-  ROUND(100 * good / sent, 2) AS good_percent
+SELECT station, date(day * 86400, 'unixepoch') AS day, ROUND(seconds / 3600, 2) AS hours, CAST(sent AS INTEGER) AS sent, valid,
+  ROUND(100 * valid / sent, 2) AS valid_percent
 FROM counts ORDER BY station, day;
 
 -- Outages: a second or more in which no group came whole, its four blocks valid. Noise gives none of these. No clock is so slow

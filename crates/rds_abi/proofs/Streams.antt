@@ -1,19 +1,23 @@
 -- A stream as a decoder has it, and as its numbers say it.
-use Rattle.std.proofs.Common.{◌≡◌, ◌∙◌, ◌+◌, ◌*◌, ◌/◌, ◌^◌, ◌≤◌, ◌++◌, ℕ, List, Option, Some, None, ap, arith, length, min, refl, subst, sym, take}
+use Rattle.std.proofs.Common.{◌≡◌, ◌∙◌, ◌+◌, ◌*◌, ◌/◌, ◌^◌, ◌<◌, ◌≤◌, ◌++◌, ℕ, List, Option, Some, None, ap, arith, length, map, min, refl, subst, sym, take}
+use Rattle.std.proofs.lemmas.List.{length-map}
 use Rattle.rds_sync.specs.Advance.{group_item}
 use Rattle.rds_sync.specs.declared.item.Group.{Group as GroupRecord}
 use Rattle.rds_sync.specs.declared.item.Item.{Item}
-use Rattle.rds_live.specs.Live.{HasHeard, LiveOf, Terms, complete, most_kept, report_at, report_of}
-use Rattle.rds_abi.specs.Following.{AreClosed, AreCompleted, AreLeft, stream_of}
+use Rattle.rds_live.specs.Live.{HasHeard, IsLive, LiveOf, Terms, complete, most_kept, report_at, report_of}
+use Rattle.rds_abi.specs.Following.{AreClosed, AreCompleted, AreLeft, AreTooMany, AreWritten, stream_of}
+use Rattle.rds_abi.specs.Asked.{IsFilled}
 use Rattle.rds_abi.specs.Going.{state_of}
-use Rattle.rds_abi.specs.Layout.{totals_in_c}
+use Rattle.rds_abi.specs.Layout.{item_in_c, totals_in_c}
 use Rattle.rds_abi.specs.declared.following.RdsStream.{RdsStream}
 use Rattle.rds_abi.specs.declared.going.RdsState.{RdsState}
+use Rattle.rds_abi.specs.declared.layout.RdsItem.{RdsItem}
 use Rattle.rds_abi.specs.declared.layout.RdsTotals.{RdsTotals}
+use Rattle.rds_abi.specs.declared.refusal.Refusal.TheVariants.{SmallRoom}
 
 -- what was laid out says what it was laid out of
 pub laid_out : (live : LiveOf) (place : ℕ) (state : RdsState) (totals : RdsTotals) (tail : List ℕ)
-    → place ≡ live.place → state_of live.terms.rules state ≡ live.state → totals ≡ totals_in_c live.totals
+    → place ≡ live.place → state_of state ≡ live.state → totals ≡ totals_in_c live.totals
     → take (length live.tail) tail ≡ live.tail → length live.tail ≡ min most_kept (live.place / 8)
     → stream_of live.terms (record { place = place; state = state; totals = totals; tail = tail }) ≡ live
 laid_out live place state totals tail place_is state_is totals_are tail_is kept =
@@ -58,6 +62,21 @@ module _ (terms : Terms) (s : RdsStream) (live : LiveOf) (is : live ≡ stream_o
   left bytes bits items gives =
       subst (λ (l : LiveOf). (before : List ℕ) → HasHeard l before → complete l.terms before ++ items ≡ report_at l.terms (before ++ bytes) (8 * length before + bits)) is gives
 
+  -- it is one that a caller may have kept
+  pub is_live : IsLive live → IsLive (stream_of terms s)
+  is_live = subst (λ (l : LiveOf). IsLive l) is
+
   -- so many more bits fit
   pub fits : (n : ℕ) → live.place + n ≤ 2 ^ 36 → s.place + n ≤ 2 ^ 36
   fits n = subst (λ (l : LiveOf). l.place + n ≤ 2 ^ 36) is
+
+module _ (wanted : List Item → Type 0) (items : List Item) (found : wanted items) (count : ℕ) (told : count ≡ length items) where
+  -- items that are wanted and were written
+  pub are_written : (given : List Item) (old new : List RdsItem) → given ≡ items → IsFilled (map item_in_c given) old new → AreWritten wanted old new count
+  are_written given old new same filled = (items, found, subst (λ (xs : List Item). IsFilled (map item_in_c xs) old new) same filled, told)
+
+  -- and such as have no room
+  pub too_many : (room : ℕ) → room < length items → AreTooMany wanted room SmallRoom count
+  too_many room small =
+      let same = length-map items item_in_c in
+      (items, found, (refl, omega (arith, same, small), omega (arith, same, told)))

@@ -42,7 +42,7 @@ stream_of terms s = record {
   terms = terms;
   tail = take (min most_kept (s.place / 8)) s.tail;
   place = s.place;
-  state = state_of terms.rules s.state;
+  state = state_of s.state;
   totals = totals_from_c s.totals;
 }
 

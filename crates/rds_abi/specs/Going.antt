@@ -1,13 +1,8 @@
 -- A run that goes on from a state which the caller keeps as plain numbers. `run` and `finish_run` cite it. This project's rules.
 use Rattle.std.specs.Prelude.{ℕ, ◌-◌, ◌<◌, ◌≤◌, ◌⊎◌, ◌==◌, List, map, if◌then◌else◌}
 use Rattle.rds_sync.specs.Lawful.{IsLawful as IsLawfulState}
-use Rattle.rds_sync.specs.Rules.{RuleNumbers}
-use Rattle.rds_sync.specs.Step.{items_of_end, run}
+use Rattle.rds_sync.specs.Step.{items_of_end, run, lock_of}
 use Rattle.rds_sync.specs.declared.item.Item.{Item}
-use Rattle.rds_sync.specs.declared.loss.Bad.{Bad}
-use Rattle.rds_sync.specs.declared.loss.Bad.TheVariants.{Mask, Run as InARow}
-use Rattle.rds_sync.specs.declared.loss.Loss.{Loss}
-use Rattle.rds_sync.specs.declared.loss.Loss.TheVariants.{Run, Share}
 use Rattle.rds_sync.specs.declared.state.State.{State}
 use Rattle.rds_sync.specs.declared.state.State.TheVariants.{Locked, Searching}
 use Rattle.rds_abi.specs.Asked.{Asked, IsLawful, Refuses, recording_of, rules_of}
@@ -17,28 +12,19 @@ use Rattle.rds_abi.specs.declared.layout.RdsItem.{RdsItem}
 use Rattle.rds_abi.specs.declared.refusal.Refusal.{Refusal}
 use Rattle.rds_abi.specs.declared.refusal.Refusal.TheVariants.{PlaceRange, UnlawfulState}
 
--- what a lock keeps of its bad blocks: how many in a row, or which of the last, as the rule has it
-abbrev pub bad_of : Loss → ℕ → Bad
-bad_of (Run n) bad = InARow bad
-bad_of (Share most of) bad = Mask bad
-
 -- the state that these numbers say: the number 0 of a block is a search
-abbrev pub state_of : RuleNumbers → RdsState → State
-state_of rules s = if s.number == 0 then Searching else Locked s.due s.number (bad_of rules.loss s.bad) s.first
+abbrev pub state_of : RdsState → State
+state_of s = if s.number == 0 then Searching else Locked (lock_of s.due s.number s.bad s.first)
 
 -- and as such numbers: all 0 where no block is known
-abbrev pub bad_in_c : Bad → ℕ
-bad_in_c (InARow bad) = bad
-bad_in_c (Mask bad) = bad
-
 abbrev pub state_in_c : State → RdsState
 state_in_c Searching = record { due = 0; bad = 0; number = 0; first = 0 }
-state_in_c (Locked due number bad first) = record { due = due; bad = bad_in_c bad; number = number; first = first }
+state_in_c (Locked lock) = record { due = lock.due; bad = lock.bad; number = lock.number; first = lock.first }
 
 -- what else is refused of a run: places that are no range of the recording, and then a state that is not lawful before them
 abbrev pub RefusesPlaces : Asked → ℕ → ℕ → RdsState → Refusal → Type 0
 RefusesPlaces a from to s PlaceRange = (to < from) ⊎ (a.bits < to)
-RefusesPlaces a from to s UnlawfulState = (from ≤ to) × (to ≤ a.bits) × (IsLawfulState (rules_of a.rules) from (state_of (rules_of a.rules) s) → ⊥)
+RefusesPlaces a from to s UnlawfulState = (from ≤ to) × (to ≤ a.bits) × (IsLawfulState (rules_of a.rules) from (state_of s) → ⊥)
 RefusesPlaces a from to s other = ⊥
 
 -- what is asked for is looked at first
@@ -50,18 +36,18 @@ pub record IsRun (a : Asked) (from to : ℕ) (s : RdsState) : Type 0 where
   pub asked : IsLawful a
   pub order : from ≤ to
   pub within : to ≤ a.bits
-  pub state : IsLawfulState (rules_of a.rules) from (state_of (rules_of a.rules) s)
+  pub state : IsLawfulState (rules_of a.rules) from (state_of s)
 
 -- ---- what is found
 
 -- the run over the places from `from` to before `to`
 abbrev pub run_asked : Asked → ℕ → ℕ → RdsState → State × List Item
 run_asked a from to s =
-    run (recording_of a.bytes a.bits a.gaps) (rules_of a.rules) (state_of (rules_of a.rules) s) from (to - from)
+    run (recording_of a.bytes a.bits a.gaps) (rules_of a.rules) (state_of s) from (to - from)
 
 abbrev pub items_of_run : Asked → ℕ → ℕ → RdsState → List RdsItem
 items_of_run a from to s = map item_in_c (run_asked a from to s).1
 
 -- the group in progress at the recording's end, if there is one
 abbrev pub items_at_end : Asked → RdsState → List RdsItem
-items_at_end a s = map item_in_c (items_of_end (recording_of a.bytes a.bits a.gaps) (rules_of a.rules) (state_of (rules_of a.rules) s))
+items_at_end a s = map item_in_c (items_of_end (recording_of a.bytes a.bits a.gaps) (rules_of a.rules) (state_of s))

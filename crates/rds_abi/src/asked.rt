@@ -39,7 +39,7 @@ fn loss_of(asked: RdsRules) -> Loss
     ensures { result ≡ the_loss_of asked }
 {
     if asked.of == 0 {
-        Loss::Run(asked.loss)
+        Loss::InARow(asked.loss)
     } else {
         Loss::Share {
             bad: asked.loss,

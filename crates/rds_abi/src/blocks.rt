@@ -9,11 +9,8 @@ ghost use Rattle.rds_abi.specs.declared.refusal.Refusal.TheVariants.{BlockRange}
 
 use crate::layout::{RdsBlock, reading_in_c};
 use crate::refusal::Refusal;
-use rds_code::{BurstTable, Wanted, is_block, read_block, rem26};
+use rds_code::{BlockNumber, BurstLimit, BurstTable, Wanted, is_block, read_block, rem26};
 use std::alloc::Global;
-
-/// The longest burst that is corrected, in bits.
-const LONGEST_BURST: u8 = 5;
 
 /// The remainder of a word of 26 bits by the generator (EN 50067:1998, 2.3 and annex B): below 1024.
 ///
@@ -30,17 +27,16 @@ pub fn remainder(word: u32) -> Result<u16, Refusal>
 }
 
 /// The block that an offset's number asks for, and the offsets that are tried for it.
-fn block_wanted(offset: u8) -> Option<(u8, Wanted)>
-    ensures value { result ≡ the_block_wanted offset }
-    ensures range { IfSome result (λ block. (1 ≤ block.0) × (block.0 ≤ 4)) }
+fn block_wanted(offset: u8) -> Option<(BlockNumber, Wanted)>
+    ensures { result ≡ the_block_wanted offset }
 {
     match offset {
-        1 => Some((1, Wanted::Either)),
-        2 => Some((2, Wanted::Either)),
-        3 => Some((3, Wanted::OnlyC)),
-        4 => Some((3, Wanted::OnlyCx)),
-        5 => Some((4, Wanted::Either)),
-        6 => Some((3, Wanted::Either)),
+        1 => Some((BlockNumber::ONE, Wanted::Either)),
+        2 => Some((BlockNumber::TWO, Wanted::Either)),
+        3 => Some((BlockNumber::THREE, Wanted::OnlyC)),
+        4 => Some((BlockNumber::THREE, Wanted::OnlyCx)),
+        5 => Some((BlockNumber::FOUR, Wanted::Either)),
+        6 => Some((BlockNumber::THREE, Wanted::Either)),
         _ => None,
     }
 }
@@ -63,9 +59,9 @@ pub fn correct(alloc: Global, word: u32, offset: u8, limit: u8) -> Result<RdsBlo
     let Some((number, wanted)) = block_wanted(offset) else {
         return Err(Refusal::OffsetRange);
     };
-    if limit > LONGEST_BURST {
+    let Some(limit) = BurstLimit::new(u32::from(limit)) else {
         return Err(Refusal::BurstRange);
-    }
+    };
     match BurstTable::new(alloc) {
         Ok(table) => Ok(reading_in_c(read_block(&table, word, number, wanted, limit))),
         Err(_) => Err(Refusal::OutOfMemory),

@@ -1,22 +1,20 @@
 //! A run that goes on from a state which the caller keeps.
 
-ghost use Rattle.std.specs.Prelude.{◌≡◌, ◌≢◌, ◌-◌, ◌≤◌, ◌⊎◌, ℕ, IfErr, IfOk, IfSome, None, OnErr, OnOk, length, map};
+ghost use Rattle.std.specs.Prelude.{◌≡◌, ◌≢◌, ◌-◌, ◌≤◌, ◌⊎◌, ℕ, IfErr, IfOk, IfSome, IsOkUnless, None, OnErr, OnOk, length, map};
 ghost use Rattle.rds_stream.specs.Recording.{length_of};
 ghost use Rattle.rds_sync.specs.Lawful.{IsLawful as IsLawfulState};
-ghost use Rattle.rds_sync.specs.Loss.{IsLawfulBad};
-ghost use Rattle.rds_sync.specs.Ranges.{IsLossInRange};
 ghost use Rattle.rds_sync.specs.Rules.{RuleNumbers};
 ghost use Rattle.rds_sync.specs.Step.{run as the_run};
 ghost use Rattle.rds_abi.specs.Asked.{IsFilled, IsTooMuch, asked, recording_of as the_recording_of, rules_of as the_rules_of};
 ghost use Rattle.rds_abi.specs.declared.refusal.Refusal.TheVariants.{OutOfMemory};
-ghost use Rattle.rds_abi.specs.Going.{IsRun, RefusesRun, bad_in_c as the_bad_in_c, bad_of as the_bad_of, items_at_end, items_of_run, run_asked, state_in_c as the_state_in_c, state_of as the_state_of};
+ghost use Rattle.rds_abi.specs.Going.{IsRun, RefusesRun, items_at_end, items_of_run, run_asked, state_in_c as the_state_in_c, state_of as the_state_of};
 ghost use Rattle.rds_abi.specs.Layout.{item_in_c};
 
 use crate::asked::{RdsGap, RdsRules, recording_of, rules_of};
 use crate::layout::{RdsItem, item_in_c};
 use crate::refusal::Refusal;
 use rds_stream::{Counted, Recording};
-use rds_sync::{Bad, Decoder, Item, Loss, Rules, State, finish, laws, run_codes};
+use rds_sync::{Decoder, Item, Lock, Rules, State, finish, laws, run_codes};
 use std::alloc::Global;
 
 /// What a run knows between two bits: 24 bytes, all 0 where no block is known.
@@ -25,7 +23,8 @@ use std::alloc::Global;
 pub struct RdsState {
     /// Where the next block ends.
     pub due: u64,
-    /// How many of the last blocks in a row were bad; or, by a share, which of the last: the newest lowest, 1 is bad.
+    /// The lock's bad blocks, 0 where there are none: how many of the last in a row were bad; or, by a share, which of the
+    /// last, the newest lowest, 1 is bad.
     pub bad: u64,
     /// The number of the next block, 1 to 4, or 0 where no block is known.
     pub number: u32,
@@ -43,35 +42,22 @@ impl RdsState {
     };
 }
 
-/// What this number says of bad blocks, or none where no lock has so many.
-fn bad_of(loss: Loss, bad: u64) -> Option<Bad>
-    ensures some { IfSome result (λ kept. kept ≡ the_bad_of loss bad) }
-    ensures none { result ≡ None → IsLossInRange loss → IsLawfulBad loss (the_bad_of loss bad) → ⊥ }
-{
-    match loss {
-        Loss::Run(_) if bad > 255 => None,
-        Loss::Run(_) => Some(Bad::Run(bad as u8)),
-        Loss::Share { .. } => Some(Bad::Mask(bad)),
-    }
-}
-
 /// The lock that these numbers say, of a block that is known, or none where it is not lawful before `place`.
 fn lock_of(rules: &Rules, s: RdsState, place: u64) -> Option<State>
     requires { s.number ≢ 0 }
-    ensures some { IfSome result (λ state. state ≡ the_state_of rules.now s) }
+    ensures some { IfSome result (λ state. state ≡ the_state_of s) }
     ensures lawful { IfSome result (λ state. IsLawfulState rules.now place state) }
-    ensures none { result ≡ None → IsLawfulState rules.now place (the_state_of rules.now s) → ⊥ }
+    ensures none { result ≡ None → IsLawfulState rules.now place (the_state_of s) → ⊥ }
 {
     if s.number > 4 || s.first > 4 {
         return None;
     }
-    let bad = bad_of(rules.loss(), s.bad)?;
-    let state = State::Locked {
+    let state = State::Locked(Lock {
         due: s.due,
         number: s.number as u8,
-        bad,
+        bad: s.bad,
         first: s.first as u8,
-    };
+    });
     if state.is_lawful(rules, place) {
         Some(state)
     } else {
@@ -81,9 +67,9 @@ fn lock_of(rules: &Rules, s: RdsState, place: u64) -> Option<State>
 
 /// The state that these numbers say, or none where it is not lawful before `place`.
 pub(crate) fn state_of(rules: &Rules, s: RdsState, place: u64) -> Option<State>
-    ensures some { IfSome result (λ state. state ≡ the_state_of rules.now s) }
+    ensures some { IfSome result (λ state. state ≡ the_state_of s) }
     ensures lawful { IfSome result (λ state. IsLawfulState rules.now place state) }
-    ensures none { result ≡ None → IsLawfulState rules.now place (the_state_of rules.now s) → ⊥ }
+    ensures none { result ≡ None → IsLawfulState rules.now place (the_state_of s) → ⊥ }
 {
     if s.number == 0 {
         Some(State::Searching)
@@ -92,34 +78,18 @@ pub(crate) fn state_of(rules: &Rules, s: RdsState, place: u64) -> Option<State>
     }
 }
 
-/// What is kept of bad blocks, for C.
-fn bad_in_c(bad: Bad) -> u64
-    ensures value { result ≡ the_bad_in_c bad }
-    ensures says { (loss : Loss) → IsLawfulBad loss bad → the_bad_of loss result ≡ bad }
-{
-    match bad {
-        Bad::Run(row) => u64::from(row),
-        Bad::Mask(mask) => mask,
-    }
-}
-
 /// A state, for C.
 pub(crate) fn state_in_c(state: State) -> RdsState
     ensures value { result ≡ the_state_in_c state }
-    ensures says { (rules : RuleNumbers) (place : ℕ) → IsLawfulState rules place state → the_state_of rules result ≡ state }
+    ensures says { (rules : RuleNumbers) (place : ℕ) → IsLawfulState rules place state → the_state_of result ≡ state }
 {
     match state {
         State::Searching => RdsState::SEARCHING,
-        State::Locked {
-            due,
-            number,
-            bad,
-            first,
-        } => RdsState {
-            due,
-            bad: bad_in_c(bad),
-            number: u32::from(number),
-            first: u32::from(first),
+        State::Locked(lock) => RdsState {
+            due: lock.due,
+            bad: lock.bad,
+            number: u32::from(lock.number),
+            first: u32::from(lock.first),
         },
     }
 }
@@ -145,7 +115,7 @@ fn start_of(
     ensures recording { IfOk result (λ start. start.recording ≡ the_recording_of bytes.now bits gaps.now) }
     ensures len { IfOk result (λ start. length_of start.recording ≡ bits) }
     ensures rules { IfOk result (λ start. start.rules ≡ the_rules_of rules) }
-    ensures state { IfOk result (λ start. start.state ≡ the_state_of (the_rules_of rules) state) }
+    ensures state { IfOk result (λ start. start.state ≡ the_state_of state) }
     ensures lawful { IfOk result (λ _. IsRun (asked bytes.now bits gaps.now rules) range.0 range.1 state) }
     ensures refused { IfErr result (RefusesRun (asked bytes.now bits gaps.now rules) range.0 range.1 state) }
 {
@@ -185,10 +155,10 @@ pub fn run(
 ) -> Result<(), Refusal>
     ensures filled { OnOk result (IsFilled (items_of_run (asked bytes.now bits gaps.now rules) range.0 range.1 state.old) room.old room.new) }
     ensures count { OnOk result (count.new ≡ length (items_of_run (asked bytes.now bits gaps.now rules) range.0 range.1 state.old)) }
-    ensures state { OnOk result (the_state_of (the_rules_of rules) state.new
+    ensures state { OnOk result (the_state_of state.new
         ≡ (run_asked (asked bytes.now bits gaps.now rules) range.0 range.1 state.old).0) }
     ensures laid { OnOk result (state.new ≡ the_state_in_c (run_asked (asked bytes.now bits gaps.now rules) range.0 range.1 state.old).0) }
-    ensures next { OnOk result (IsLawfulState (the_rules_of rules) range.1 (the_state_of (the_rules_of rules) state.new)) }
+    ensures next { OnOk result (IsLawfulState (the_rules_of rules) range.1 (the_state_of state.new)) }
     ensures lawful { OnOk result (IsRun (asked bytes.now bits gaps.now rules) range.0 range.1 state.old) }
     ensures untouched { OnErr result ((room.new ≡ room.old) × (state.new ≡ state.old)) }
     ensures refused { IfErr result (λ refusal.
@@ -217,7 +187,7 @@ fn counted(alloc: Global, start: &Start, from: u64, to: u64) -> Result<(State, u
     ensures state { IfOk result (λ end. end.0 ≡ (the_run start.now.recording start.now.rules start.now.state from (to - from)).0) }
     ensures count { IfOk result (λ end. end.1 ≡ length (the_run start.now.recording start.now.rules start.now.state from (to - from)).1) }
     ensures lawful { IfOk result (λ end. IsLawfulState start.now.rules to end.0) }
-    ensures refused { IfErr result (λ refusal. refusal ≡ OutOfMemory) }
+    ensures refused { IsOkUnless result OutOfMemory }
 {
     laws::runs_give_few_items();
     prove!(to <= start.recording.len());

@@ -98,7 +98,7 @@ fn job_of(alloc: Global, workers: u32, loss: u32, listing: bool) -> Job {
     let settings = Settings {
         burst: 2,
         reach: 3,
-        loss: Loss::Run(loss),
+        loss: Loss::InARow(loss),
         workers,
         cuts: Cuts::Even(16),
     };

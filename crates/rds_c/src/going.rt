@@ -26,10 +26,10 @@ pub extern "C" fn rds_run(
 ) -> u8
     ensures filled { result ≡ 0 → IsFilled (items_of_run (asked bytes.now bits gaps.now rules.now) from to state.old) room.old room.new }
     ensures count { result ≡ 0 → count.new ≡ length (items_of_run (asked bytes.now bits gaps.now rules.now) from to state.old) }
-    ensures state { result ≡ 0 → state_of (rules_of rules.now) state.new
+    ensures state { result ≡ 0 → state_of state.new
         ≡ (run_asked (asked bytes.now bits gaps.now rules.now) from to state.old).0 }
     ensures laid { result ≡ 0 → state.new ≡ state_in_c (run_asked (asked bytes.now bits gaps.now rules.now) from to state.old).0 }
-    ensures next { result ≡ 0 → IsLawfulState (rules_of rules.now) to (state_of (rules_of rules.now) state.new) }
+    ensures next { result ≡ 0 → IsLawfulState (rules_of rules.now) to (state_of state.new) }
     ensures lawful { result ≡ 0 → IsRun (asked bytes.now bits gaps.now rules.now) from to state.old }
     ensures refused { result ≢ 0 → RefusedBy (λ refusal.
         (IsRun (asked bytes.now bits gaps.now rules.now) from to state.old

@@ -5,6 +5,7 @@ ghost use Rattle.rds_code.specs.Inside.BurstTable.{IsSound, HasBurst};
 
 use crate::block::BLOCK_BITS;
 use crate::burst::Burst;
+use crate::burst_limit::BurstLimit;
 use crate::error::CodeError;
 use crate::remainder::rem26;
 use std::alloc::{AllocError, Global};
@@ -41,23 +42,23 @@ impl BurstTable {
         Ok(BurstTable { patterns })
     }
 
-    /// The burst of up to `limit` bits, 0 to 5, whose remainder is `remainder`, below 1024, or none (EN 50067:1998,
-    /// Annex B). There is none for limit 0, nor for remainder 0.
-    pub fn find(&self, remainder: u16, limit: u8) -> Option<Burst>
-        requires remainder { remainder < 1024 }
-        requires limit { limit ≤ 5 }
+    /// The burst within `limit` whose remainder is `remainder`, below 1024, or none (EN 50067:1998, Annex B). There is none
+    /// for limit 0, nor for remainder 0.
+    pub fn find(&self, remainder: u16, limit: BurstLimit) -> Option<Burst>
+        requires { remainder < 1024 }
         ensures burst { IfSome result (λ e. IsBurst limit e) }
         ensures fits { IfSome result (λ e. rem e ≡ remainder) }
         ensures only { IfSome result (λ e. (d : ℕ) → IsBurst 5 d → rem d ≡ remainder → d ≡ e) }
         ensures none { result ≡ None → (d : ℕ) → IsBurst limit d → rem d ≡ remainder → ⊥ }
         ensures zero { remainder ≡ 0 → result ≡ None }
+        ensures limit { limit ≤ 5 }
     {
         let pattern = self.patterns[remainder as usize];
         if pattern == 0 {
             return None;
         }
         let burst = Burst::new(pattern);
-        if burst.span() <= limit {
+        if burst.span() <= limit.bits() {
             Some(burst)
         } else {
             None

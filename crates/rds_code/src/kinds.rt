@@ -6,6 +6,8 @@ ghost use Rattle.rds_code.specs.declared.offset.Offset.TheVariants.{C, Cx};
 ghost use Rattle.rds_code.specs.Reading.{reading};
 ghost use Rattle.rds_code.specs.Remainder.{rem};
 
+use crate::block_number::BlockNumber;
+use crate::burst_limit::BurstLimit;
 use crate::burst_table::BurstTable;
 use crate::error::CodeError;
 use crate::offset::Offset;
@@ -24,7 +26,7 @@ const REMAINDERS: u16 = 1024;
 pub struct Kinds {
     /// By the sum of a remainder and an offset word.
     kinds: Vec<u8>,
-    limit: u8,
+    limit: BurstLimit,
 }
 
 impl Model for Kinds {
@@ -45,28 +47,32 @@ impl Kinds {
     /// The kind of a lost block.
     pub const LOST: u8 = 2;
 
-    /// The kinds where bursts of up to `limit` bits, 0 to 5, are corrected. Takes 1,024 bytes, and fails with
-    /// `OutOfMemory` alone.
-    pub fn new(alloc: Global, table: &BurstTable, limit: u8) -> Result<Kinds, CodeError>
-        requires { limit ≤ 5 }
+    /// The kinds where bursts within `limit` are corrected. Takes 1,024 bytes, and fails with `OutOfMemory` alone.
+    pub fn new(alloc: Global, table: &BurstTable, limit: BurstLimit) -> Result<Kinds, CodeError>
         ensures { IfOk result (λ kinds. kinds ≡ limit) }
     {
         let kinds = all_kinds(alloc, table, limit)?;
         Ok(Kinds { kinds, limit })
     }
 
-    /// The kind of the window `w`, a word of 26 bits, read as block `number`, 1 to 4: 1 where it is valid, 2 where it is
-    /// lost, and 3 to 13 by the burst that is taken off.
+    /// The bursts that are corrected.
     #[inline(always)]
-    pub fn of_block(&self, w: u32, number: u8, wanted: Wanted) -> u8
-        requires block { w < 2 ^ 26 }
-        requires first { 1 ≤ number }
-        requires last { number ≤ 4 }
+    pub fn limit(&self) -> BurstLimit
+        ensures { result ≡ self.now }
+    {
+        self.limit
+    }
+
+    /// The kind of the window `w`, a word of 26 bits, read as block `number`: 1 where it is valid, 2 where it is lost, and
+    /// 3 to 13 by the burst that is taken off.
+    #[inline(always)]
+    pub fn of_block(&self, w: u32, number: BlockNumber, wanted: Wanted) -> u8
+        requires { w < 2 ^ 26 }
         ensures value { result ≡ kind_of (reading w number wanted self.now) }
         ensures most { result ≤ 13 }
     {
         let remainder = rem26(w);
-        match number {
+        match number.get() {
             1 => self.with(remainder, Offset::A),
             2 => self.with(remainder, Offset::B),
             3 => {
@@ -86,6 +92,7 @@ impl Kinds {
         ensures most { result ≤ 13 }
         ensures few { self.now ≤ 5 }
     {
+        prove!(self.limit.bits() <= 5);
         self.kinds[(remainder ^ offset.word()) as usize]
     }
 }
@@ -111,8 +118,7 @@ fn of_third(version_a: u8, version_b: u8, wanted: Wanted) -> u8
 }
 
 /// The kinds by all remainders.
-fn all_kinds(alloc: Global, table: &BurstTable, limit: u8) -> Result<Vec<u8>, AllocError>
-    requires { limit ≤ 5 }
+fn all_kinds(alloc: Global, table: &BurstTable, limit: BurstLimit) -> Result<Vec<u8>, AllocError>
     ensures { IfOk result (λ kinds. (length kinds.items ≡ 1024) × StandIn limit kinds.items) }
 {
     let mut kinds = Vec::with_capacity(alloc, REMAINDERS as usize)?;
@@ -123,9 +129,8 @@ fn all_kinds(alloc: Global, table: &BurstTable, limit: u8) -> Result<Vec<u8>, Al
 }
 
 /// The kind by one remainder.
-fn kind(table: &BurstTable, remainder: u16, limit: u8) -> u8
-    requires remainder { remainder < 1024 }
-    requires limit { limit ≤ 5 }
+fn kind(table: &BurstTable, remainder: u16, limit: BurstLimit) -> u8
+    requires { remainder < 1024 }
     ensures { IsKind limit remainder result }
 {
     match table.find(remainder, limit) {

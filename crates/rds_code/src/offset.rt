@@ -1,6 +1,8 @@
 ghost use Rattle.std.specs.Prelude.{◌≡◌};
 ghost use Rattle.rds_code.specs.Offsets.{offset_of as the_offset_of};
 
+use crate::block_number::BlockNumber;
+
 /// The offset word that was added to a block's checkword, which tells the blocks of a group apart.
 ///
 /// EN 50067:1998, section 2.3 and Annex A. `Cx` stands for C'.
@@ -34,15 +36,15 @@ impl Offset {
         }
     }
 
-    /// The number of the block in its group, 1 to 4.
-    pub fn number(self) -> u8
+    /// The number of the block in its group.
+    pub fn number(self) -> BlockNumber
         ensures { result ≡ number self }
     {
         match self {
-            Offset::A => 1,
-            Offset::B => 2,
-            Offset::C | Offset::Cx => 3,
-            Offset::D => 4,
+            Offset::A => BlockNumber::ONE,
+            Offset::B => BlockNumber::TWO,
+            Offset::C | Offset::Cx => BlockNumber::THREE,
+            Offset::D => BlockNumber::FOUR,
         }
     }
 

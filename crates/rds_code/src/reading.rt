@@ -4,7 +4,9 @@ ghost use Rattle.rds_code.specs.Remainder.{rem};
 ghost use Rattle.rds_code.specs.Offsets.{number as number_of, offset_of as the_offset_of};
 ghost use Rattle.rds_code.specs.Reading.{information, IsReading, corrections, by_only, corrected as the_corrected, reading};
 
+use crate::block_number::BlockNumber;
 use crate::burst::Burst;
+use crate::burst_limit::BurstLimit;
 use crate::burst_table::BurstTable;
 use crate::offset::{Offset, offset_of};
 use crate::remainder::rem26;
@@ -38,21 +40,24 @@ pub enum Reading {
     Lost,
 }
 
-/// Reads the window `w`, a word of 26 bits, as block `number`, 1 to 4, and corrects a burst of up to `limit` bits, 0 to
-/// 5.
+/// Reads the window `w`, a word of 26 bits, as block `number`, and corrects a burst within `limit`.
 ///
 /// The window is valid where its remainder is an offset word of that number, whatever is wanted. Else it is corrected
 /// where one pair alone of a wanted offset and a burst fits, and else lost: this project's rule.
 // In line: a valid block then stays in registers, and is not stored and loaded again where it is kept.
 #[inline(always)]
-pub fn read_block(table: &BurstTable, w: u32, number: u8, wanted: Wanted, limit: u8) -> Reading
+pub fn read_block(
+    table: &BurstTable,
+    w: u32,
+    number: BlockNumber,
+    wanted: Wanted,
+    limit: BurstLimit,
+) -> Reading
     requires block { w < 2 ^ 26 }
-    requires first { 1 ≤ number }
-    requires last { number ≤ 4 }
-    requires limit { limit ≤ 5 }
     ensures value { result ≡ reading w number wanted limit }
     ensures rule { IsReading w number wanted limit result }
 {
+    prove!(number.get() <= 4 && limit.bits() <= 5);
     let remainder = rem26(w);
     if let Some(offset) = own_offset(remainder, number) {
         return Reading::Valid {
@@ -64,7 +69,7 @@ pub fn read_block(table: &BurstTable, w: u32, number: u8, wanted: Wanted, limit:
 }
 
 /// The offset of block `number` whose word is `remainder`.
-fn own_offset(remainder: u16, number: u8) -> Option<Offset>
+fn own_offset(remainder: u16, number: BlockNumber) -> Option<Offset>
     ensures offset { IfSome result (λ o. the_offset_of remainder ≡ Some o) }
     ensures own { IfSome result (λ o. number_of o ≡ number) }
     ensures none { result ≡ None → (o : Offset) → the_offset_of remainder ≡ Some o → number_of o ≡ number → ⊥ }
@@ -81,18 +86,15 @@ fn corrected(
     table: &BurstTable,
     w: u32,
     remainder: u16,
-    number: u8,
+    number: BlockNumber,
     wanted: Wanted,
-    limit: u8,
+    limit: BurstLimit,
 ) -> Reading
     requires block { w < 2 ^ 26 }
     requires of_window { remainder ≡ rem w }
-    requires first { 1 ≤ number }
-    requires last { number ≤ 4 }
-    requires limit { limit ≤ 5 }
     ensures { result ≡ the_corrected w number wanted limit }
 {
-    match (number, wanted) {
+    match (number.get(), wanted) {
         (1, _) => corrected_to(table, w, remainder, Offset::A, limit),
         (2, _) => corrected_to(table, w, remainder, Offset::B, limit),
         (4, _) => corrected_to(table, w, remainder, Offset::D, limit),
@@ -103,10 +105,15 @@ fn corrected(
 }
 
 /// The window corrected to a block with `offset`.
-fn corrected_to(table: &BurstTable, w: u32, remainder: u16, offset: Offset, limit: u8) -> Reading
+fn corrected_to(
+    table: &BurstTable,
+    w: u32,
+    remainder: u16,
+    offset: Offset,
+    limit: BurstLimit,
+) -> Reading
     requires block { w < 2 ^ 26 }
     requires of_window { remainder ≡ rem w }
-    requires limit { limit ≤ 5 }
     ensures { result ≡ by_only w (corrections (offset ∷ []) limit w) }
 {
     match table.find(remainder ^ offset.word(), limit) {
@@ -116,10 +123,9 @@ fn corrected_to(table: &BurstTable, w: u32, remainder: u16, offset: Offset, limi
 }
 
 /// The window corrected to block 3 of either version, where one alone fits.
-fn corrected_to_either(table: &BurstTable, w: u32, remainder: u16, limit: u8) -> Reading
+fn corrected_to_either(table: &BurstTable, w: u32, remainder: u16, limit: BurstLimit) -> Reading
     requires block { w < 2 ^ 26 }
     requires of_window { remainder ≡ rem w }
-    requires limit { limit ≤ 5 }
     ensures { result ≡ by_only w (corrections (C ∷ Cx ∷ []) limit w) }
 {
     let version_a = table.find(remainder ^ Offset::C.word(), limit);

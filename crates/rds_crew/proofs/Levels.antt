@@ -4,18 +4,14 @@ use Rattle.std.specs.List.{range_with_len}
 use Rattle.std.proofs.lemmas.List.FromFn.{fill_by_all}
 use Rattle.rds_stream.specs.Recording.{Signal}
 use Rattle.rds_sync.specs.Rules.{RuleNumbers}
-use Rattle.rds_pieces.specs.RunOf.{RunOf, IsRunOf, run_over, FollowEachOther}
+use Rattle.rds_pieces.specs.Joining.{AreNeighbours}
+use Rattle.rds_pieces.specs.RunOf.{RunOf, run_over, FollowEachOther}
 use Rattle.rds_pieces.specs.JointOf.{JointOf, joint_of}
 use Rattle.rds_crew.specs.Inside.Tree.{level_above, joints_of, joint_at}
 
 module _ (b : Signal) (rules : RuleNumbers) where
-  -- two neighbours of a row
-  pub record AreNeighbours (left right : RunOf) : Type 0 where
-    pub left_is : IsRunOf b rules left
-    pub right_is : IsRunOf b rules right
-    pub next : left.to ≡ right.from
-
-  pub first_two : (from to : ℕ) (left right : RunOf) (runs : List RunOf) → FollowEachOther b rules from to (left ∷ right ∷ runs) → AreNeighbours left right
+  -- the first two of a row
+  pub first_two : (from to : ℕ) (left right : RunOf) (runs : List RunOf) → FollowEachOther b rules from to (left ∷ right ∷ runs) → AreNeighbours b rules left right
   first_two from to left right runs row = record {
     left_is = (ap (λ (r : RunOf). r.source) row.0, ap (λ (r : RunOf). r.rules) row.0);
     right_is = (ap (λ (r : RunOf). r.source) row.2.0, ap (λ (r : RunOf). r.rules) row.2.0);
@@ -24,7 +20,7 @@ module _ (b : Signal) (rules : RuleNumbers) where
 
   -- the runs that joint m joins are neighbours
   pub joined_at : (from to : ℕ) (runs : List RunOf) (m i j : ℕ) (d e : RunOf) → FollowEachOther b rules from to runs → i ≡ m * 2 → j ≡ i + 1 → m < length runs / 2
-      → AreNeighbours (get_or runs i d) (get_or runs j e) × (joint_at b rules runs m ≡ joint_of (get_or runs i d) (get_or runs j e))
+      → AreNeighbours b rules (get_or runs i d) (get_or runs j e) × (joint_at b rules runs m ≡ joint_of (get_or runs i d) (get_or runs j e))
   joined_at from to [] m i j d e row left right below = absurd (omega arith)
   joined_at from to (x ∷ []) m i j d e row left right below = absurd (omega arith)
   joined_at from to (x ∷ (y ∷ runs)) zero zero (suc zero) d e row left right below = (first_two from to x y runs row, refl)

@@ -5,7 +5,8 @@ use Rattle.rds_sync.specs.Rules.{RuleNumbers}
 use Rattle.rds_pieces.specs.RunOf.{RunOf, run_over, FollowEachOther}
 use Rattle.rds_pieces.specs.JointOf.{JointOf, joint_of}
 use Rattle.rds_crew.specs.Inside.Tree.{level_above, joints_of}
-use Rattle.rds_crew.proofs.Levels.{AreNeighbours, first_two}
+use Rattle.rds_pieces.specs.Joining.{AreNeighbours}
+use Rattle.rds_crew.proofs.Levels.{first_two}
 
 -- joints that are left have their runs
 pub two_left : (rest : List RunOf) (joint : JointOf) (joints : List JointOf) → joint ∷ joints ≡ joints_of rest → 2 ≤ length rest

@@ -2,5 +2,5 @@
 mod dealing;
 mod gates;
 mod journal;
-mod reports;
+mod refusals;
 mod tree;

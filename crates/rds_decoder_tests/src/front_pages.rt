@@ -1,9 +1,10 @@
-//! Examples of the libraries' front pages, and what comes out of them. Those of pieces, of joins, of crews and of dealers
-//! stand among the tests of these.
-use crate::samples::{gapped_recording, zero_bytes, zero_groups};
-use rds_code::{BurstTable, Offset, Reading, Wanted, encode_block, is_block, read_block};
+//! The examples of the front pages of `rds_code` and `rds_stream`, and what comes out of them.
+use crate::samples::{gapped_recording, zero_bytes};
+use rds_code::{
+    BlockNumber, BurstLimit, BurstTable, Offset, Reading, Wanted, encode_block, is_block,
+    read_block,
+};
 use rds_stream::{Reader, Recording, StreamError, read_heard, scan};
-use rds_sync::{Item, ItemIter, Rules, SyncError, decode_plain};
 use std::alloc::Global;
 use std::test::Fail;
 
@@ -13,7 +14,13 @@ fn is_corrected(table: &BurstTable) -> bool {
     if !is_block(damaged) {
         return false;
     }
-    match read_block(table, damaged, 4, Wanted::Either, 2) {
+    match read_block(
+        table,
+        damaged,
+        BlockNumber::FOUR,
+        Wanted::Either,
+        BurstLimit::LONGEST,
+    ) {
         Reading::Corrected {
             offset,
             info,
@@ -48,7 +55,13 @@ fn loses_block_3(
         return Ok(false);
     }
     let heard = Reader::new(recording).window(77);
-    let reading = read_heard(table, heard, 3, Wanted::Either, 2);
+    let reading = read_heard(
+        table,
+        heard,
+        BlockNumber::THREE,
+        Wanted::Either,
+        BurstLimit::LONGEST,
+    );
     let found = scan(alloc, recording, 0, recording.len())?;
     Ok(heard.is_none() && reading == Reading::Lost && found.as_slice() == WINDOWS.as_slice())
 }
@@ -63,38 +76,5 @@ fn is_lost_in_a_gap(alloc: Global, table: &BurstTable) -> Result<bool, StreamErr
 fn of_the_block_code_and_of_recordings(rt: HostRuntime) -> Result<(), Fail> {
     let table = BurstTable::new(rt.alloc())?;
     assert!(rt; is_corrected(&table) && is_lost_in_a_gap(rt.alloc(), &table)?);
-    Ok(())
-}
-
-/// The places of two zero groups, and their type. Block 2 of the first acquired.
-const GROUPS: [(u64, Option<u8>); 2] = [(26, Some(0)), (104, Some(0))];
-
-fn have_groups(items: ItemIter<'_>) -> bool {
-    let mut left = GROUPS.iter();
-    for item in items {
-        if let Item::Group(group) = item
-            && left.next() != Some(&(group.place, group.kind))
-        {
-            return false;
-        }
-    }
-    left.next().is_none()
-}
-
-/// Whether one decoder reports them.
-fn are_reported(alloc: Global, recording: &Recording) -> Result<bool, SyncError> {
-    let rules = Rules::new(alloc, 2, 3, 10)?;
-    let report = decode_plain(alloc, recording, &rules)?;
-    Ok(have_groups(report.items.iter(recording, &rules)))
-}
-
-fn two_groups_are_reported(alloc: Global) -> Result<bool, Fail> {
-    let recording = zero_groups(alloc, 208)?;
-    Ok(are_reported(alloc, &recording)?)
-}
-
-#[test]
-fn of_the_synchroniser(rt: HostRuntime) -> Result<(), Fail> {
-    assert!(rt; two_groups_are_reported(rt.alloc())?);
     Ok(())
 }

@@ -1,25 +1,28 @@
-//! Tests of the five libraries of the decoder, from outside: each uses what is public alone.
+//! Tests of the libraries of the decoder, from outside, of what no clause says: each uses what is public alone.
 //!
-//! - `code`: bursts, blocks and offsets, against values that were made without `rds_code`.
-//! - `stream`: windows of recordings, scans and tapes.
-//! - `sync`: rules, steps and whole reports.
-//! - `pieces`: guesses, seams and stitched reports, against what one decoder finds.
-//! - `crew`: the reports of crews, and what their gates and works see.
-//! - `front_pages`: examples of the libraries' front pages.
+//! - `crew`: what gates and works see of a crew at its work, and what dealers answer to many threads.
+//! - `meetings`: where the true run meets a guess, at each place of a group.
+//! - `bad_blocks`: how many bad blocks in a row a lock outlives.
+//! - `locks`: random recordings against a plain program over whole locks.
+//! - `single_calls`: calls that nothing else makes.
+//! - `sizes`: how much memory a reading and an item take.
+//! - `front_pages`: examples of the front pages of the two lowest.
 //! - `samples`: what they decode.
 #![tactic(auto)]
 
 #[cfg(test)]
-mod code;
+mod bad_blocks;
 #[cfg(test)]
 mod crew;
 #[cfg(test)]
 mod front_pages;
 #[cfg(test)]
-mod pieces;
+mod locks;
+#[cfg(test)]
+mod meetings;
 #[cfg(test)]
 mod samples;
 #[cfg(test)]
-mod stream;
+mod single_calls;
 #[cfg(test)]
-mod sync;
+mod sizes;

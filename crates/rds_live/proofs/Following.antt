@@ -1,5 +1,5 @@
 -- What a decoder of a stream knows after further bytes.
-use Rattle.std.proofs.Common.{◌≡◌, ℕ, ◌+◌, ◌-◌, ◌*◌, ◌^◌, ◌≤◌, ◌⊎◌, List, [], ◌∷◌, ◌++◌, length, drop, refl, sym, ap, ap₂, subst, ◌∙◌, arith, inl, inr}
+use Rattle.std.proofs.Common.{◌≡◌, ℕ, ◌+◌, ◌-◌, ◌*◌, ◌/◌, ◌^◌, ◌≤◌, ◌⊎◌, List, [], ◌∷◌, ◌++◌, length, drop, min, refl, sym, ap, ap₂, subst, ◌∙◌, arith, inl, inr}
 use Rattle.std.proofs.lemmas.Bool.{cases_lt}
 use Rattle.std.proofs.lemmas.List.{length-drop, length-append, drop-append-le, drop-drop}
 use Rattle.rds_stream.specs.Recording.{AreGaps, Signal, length_of}
@@ -26,7 +26,7 @@ use Rattle.rds_live.proofs.Parts.{length-signal, bits-heard, first-part, last-pa
 -- moved by nothing
 pub still-state : (s : State) → moved_state 0 s ≡ s
 still-state Searching = refl
-still-state (Locked due x bad f) = let e : due + 0 ≡ due = omega arith in ap (λ (p : ℕ). Locked p x bad f) e
+still-state (Locked lock) = let e : lock.due + 0 ≡ lock.due = omega arith in ap (λ (p : ℕ). Locked (record lock { due = p })) e
 
 still-item : (item : Item) → moved_item 0 item ≡ item
 still-item (Acquired a x) = let e : a + 0 ≡ a = omega arith in ap (λ (p : ℕ). Acquired p x) e
@@ -50,28 +50,31 @@ codes-moved d (item ∷ items) = ap₂ (λ (x : Code) (xs : List Code). x ∷ xs
 pub totals-moved : CodesTellTotals → (d : ℕ) (items : List Item) → totals_of (moved_items d items) ≡ totals_of items
 totals-moved tell d items = tell (moved_items d items) ∙ ap totals_of_codes (codes-moved d items) ∙ sym (tell items)
 
-pub lawful-moved : (rules : RuleNumbers) (d place : ℕ) (s : State) → IsLawful rules place s → IsLawful rules (place + d) (moved_state d s)
-lawful-moved rules d place Searching h = tt
-lawful-moved rules d place (Locked due x bad f) h = record {
-  soon = (omega (arith, h.soon), omega (arith, h.soon));
-  few_bad = h.few_bad;
-  enough_bits = omega (arith, h.enough_bits);
-  in_order = h.in_order;
-}
-
--- and back, where that is to before the group in progress
+-- moved back into a part that begins before the group in progress, a lawful state is lawful
 pub lawful-back : (rules : RuleNumbers) (d from place : ℕ) (s t : State) → moved_state d s ≡ t → IsLawful rules place t → from + d ≡ place → (d ≡ 0) ⊎ (most_behind ≤ from)
     → IsLawful rules from s
 lawful-back rules d from place Searching t is h there early = tt
-lawful-back rules d from place (Locked due x bad f) t is h there early =
-    let l : IsLawful rules place (Locked (due + d) x bad f) = subst (λ (u : State). IsLawful rules place u) (sym is) h in
-    let short : 26 * (x - f) ≤ 78 = (elim l.in_order [ inl between ↦ omega arith | inr inside ↦ omega arith ]) in
+lawful-back rules d from place (Locked lock) t is h there early =
+    let l : IsLawful rules place (moved_state d (Locked lock)) = subst (λ (u : State). IsLawful rules place u) (sym is) h in
+    let short : 26 * (lock.number - lock.first) ≤ 78 = (elim l.in_order [ inl between ↦ omega arith | inr inside ↦ omega arith ]) in
     record {
       soon = (omega (arith, l.soon, there), omega (arith, l.soon, there));
       few_bad = l.few_bad;
       enough_bits = (elim early [ inl first ↦ omega (arith, l.enough_bits) | inr late ↦ omega (arith, l.soon, there, short) ]);
       in_order = l.in_order;
     }
+
+-- the part that is kept of a stream goes back to its first bit or behind any group in progress
+module _ (tail : List ℕ) (place from : ℕ) (kept : length tail ≡ min most_kept (place / 8)) (whole : place ≡ 8 * (place / 8)) (from_is : from ≡ 8 * length tail) where
+  pub early-or-long : (place - from ≡ 0) ⊎ (most_behind ≤ from)
+  early-or-long = elim (cases_lt (place / 8) 31) [
+    | inl few ↦ inl (omega (arith, whole, kept, from_is))
+    | inr many ↦ inr (omega (arith, kept, from_is))
+  ]
+
+  -- and the state in it
+  pub state-in-part : (rules : RuleNumbers) (local state : State) → moved_state (place - from) local ≡ state → IsLawful rules place state → IsLawful rules from local
+  state-in-part rules local state is lawful = lawful-back rules (place - from) from place local state is lawful (omega (arith, whole, kept, from_is)) early-or-long
 
 -- the last bytes of all are the last of the last ones and those that follow
 pub last-bytes : (bytes more : List ℕ) → last_bytes (last_bytes bytes ++ more) ≡ last_bytes (bytes ++ more)

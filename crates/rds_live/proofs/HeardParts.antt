@@ -14,15 +14,14 @@ use Rattle.rds_sync.specs.declared.state.State.{State}
 use Rattle.rds_sync.specs.declared.state.State.TheVariants.{Searching, Locked}
 use Rattle.rds_sync.specs.declared.item.Item.{Item}
 use Rattle.rds_sync.specs.declared.item.Item.TheVariants.{Acquired, Group, LostLock}
-use Rattle.rds_sync.specs.declared.loss.Bad.{Bad}
 use Rattle.rds_sync.specs.Rules.{RuleNumbers}
-use Rattle.rds_sync.specs.Loss.{IsLoss, none_bad, bad_after, are_too_many}
+use Rattle.rds_sync.specs.Loss.{IsLoss, bad_after, are_too_many}
 use Rattle.rds_sync.specs.Lawful.{IsLawful}
 use Rattle.rds_sync.specs.Acquiring.{acquired, has_number, has_partner, with_partner, is_in_step, is_numbered}
 use Rattle.rds_sync.specs.declared.item.Block.{Block}
 use Rattle.rds_sync.specs.Groups.{group, group_of, block_at, blocks_at, wanted_beside}
 use Rattle.rds_sync.specs.Ranges.{farthest_reach}
-use Rattle.rds_sync.specs.Step.{items_of_end, run, step, items_at, locked_after, bad_with, group_after}
+use Rattle.rds_sync.specs.Step.{items_of_end, run, step, items_at, bad_with, group_after, lock_of, lock_after}
 use Rattle.rds_sync.specs.Laws.{AcquisitionsAreLate, StepsAreLawful}
 use Rattle.rds_live.proofs.Bits.{step-searching, items-searching, step-acquiring, items-acquiring, step-waiting, items-waiting, step-keeping, items-keeping, step-losing, items-losing}
 use Rattle.rds_live.specs.Moving.{IsPartHeard, moved_state, moved_item, moved_items}
@@ -132,7 +131,7 @@ module _ (whole part : Signal) (d from : ℕ) (h : IsPartHeard whole part d from
         let place : p + d - 26 * (x - f) - 25 ≡ p - 26 * (x - f) - 25 + d = omega arith in
         ap₂ (λ (q : ℕ) (blocks : List Block). Group (group_of q blocks)) place (blocks-moved f x p room within)
 
-    locked-moved : (i x : ℕ) (bad : Bad) (f : ℕ) → locked_after (i + d) x bad f ≡ moved_state d (locked_after i x bad f)
+    locked-moved : (i x bad f : ℕ) → Locked (lock_after (i + d) x bad f) ≡ moved_state d (Locked (lock_after i x bad f))
     locked-moved i x bad f =
         let due : i + d + 26 ≡ i + 26 + d = omega arith in
         rw due refl
@@ -144,7 +143,7 @@ module _ (whole part : Signal) (d from : ℕ) (h : IsPartHeard whole part d from
       at_case true = ap (λ (item : Item). item ∷ []) (group-moved f x i room within)
       at_case false = refl
 
-    bad_with-moved : (i x : ℕ) (bad : Bad) → from ≤ i → i < length_of part → bad_with whole rules (i + d) x bad ≡ bad_with part rules i x bad
+    bad_with-moved : (i x bad : ℕ) → from ≤ i → i < length_of part → bad_with whole rules (i + d) x bad ≡ bad_with part rules i x bad
     bad_with-moved i x bad order within = ap (λ (good : Bool). bad_after rules.loss good bad) (number-moved i x order within)
 
     module _ (reach : rules.reach ≤ farthest_reach) (late : AcquisitionsAreLate) (i : ℕ) (order : from ≤ i) (within : i < length_of part) where
@@ -155,7 +154,7 @@ module _ (whole part : Signal) (d from : ℕ) (h : IsPartHeard whole part d from
             step-searching whole rules (i + d) (acquired-moved reach i order within ∙ e) ∙ ap (moved_state d) (sym (step-searching part rules i e))
         at_case (Some x) e =
             step-acquiring whole rules (i + d) x (acquired-moved reach i order within ∙ e)
-            ∙ locked-moved i x (none_bad rules.loss) x
+            ∙ locked-moved i x 0 x
             ∙ ap (moved_state d) (sym (step-acquiring part rules i x e))
 
       items_search-moved : items_at whole rules (i + d) Searching ≡ moved_items d (items_at part rules i Searching)
@@ -169,58 +168,58 @@ module _ (whole part : Signal) (d from : ℕ) (h : IsPartHeard whole part d from
             ∙ ap (λ (items : List Item). Acquired (i + d) x ∷ items) (group_after-moved x x i (omega arith) within)
             ∙ ap (moved_items d) (sym (items-acquiring part rules i x e))
 
-      module _ (x : ℕ) (bad : Bad) (f : ℕ) (room : 26 * (x - f) + 25 ≤ i) where
-        step_due-moved : step whole rules (i + d) (Locked (i + d) x bad f) ≡ moved_state d (step part rules i (Locked i x bad f))
+      module _ (x bad f : ℕ) (room : 26 * (x - f) + 25 ≤ i) where
+        step_due-moved : step whole rules (i + d) (Locked (lock_of (i + d) x bad f)) ≡ moved_state d (step part rules i (Locked (lock_of i x bad f)))
         step_due-moved =
             at_case (are_too_many rules.loss (bad_with part rules i x bad)) refl where
-              at_case : (t : Bool) → are_too_many rules.loss (bad_with part rules i x bad) ≡ t → step whole rules (i + d) (Locked (i + d) x bad f) ≡ moved_state d (step part rules i (Locked i x bad f))
+              at_case : (t : Bool) → are_too_many rules.loss (bad_with part rules i x bad) ≡ t → step whole rules (i + d) (Locked (lock_of (i + d) x bad f)) ≡ moved_state d (step part rules i (Locked (lock_of i x bad f)))
               at_case true e =
-                  let there : are_too_many rules.loss (bad_with whole rules (i + d) x bad) ≡ true = ap (λ (b : Bad). are_too_many rules.loss b) (bad_with-moved i x bad order within) ∙ e in
-                  step-losing whole rules (i + d) x bad f there ∙ ap (moved_state d) (sym (step-losing part rules i x bad f e))
+                  let there : are_too_many rules.loss (bad_with whole rules (i + d) x bad) ≡ true = ap (λ (b : ℕ). are_too_many rules.loss b) (bad_with-moved i x bad order within) ∙ e in
+                  step-losing whole rules (lock_of (i + d) x bad f) there ∙ ap (moved_state d) (sym (step-losing part rules (lock_of i x bad f) e))
               at_case false e =
-                  let there : are_too_many rules.loss (bad_with whole rules (i + d) x bad) ≡ false = ap (λ (b : Bad). are_too_many rules.loss b) (bad_with-moved i x bad order within) ∙ e in
-                  step-keeping whole rules (i + d) x bad f there
-                  ∙ ap (λ (b : Bad). locked_after (i + d) x b f) (bad_with-moved i x bad order within)
+                  let there : are_too_many rules.loss (bad_with whole rules (i + d) x bad) ≡ false = ap (λ (b : ℕ). are_too_many rules.loss b) (bad_with-moved i x bad order within) ∙ e in
+                  step-keeping whole rules (lock_of (i + d) x bad f) there
+                  ∙ ap (λ (b : ℕ). Locked (lock_after (i + d) x b f)) (bad_with-moved i x bad order within)
                   ∙ locked-moved i x (bad_with part rules i x bad) f
-                  ∙ ap (moved_state d) (sym (step-keeping part rules i x bad f e))
+                  ∙ ap (moved_state d) (sym (step-keeping part rules (lock_of i x bad f) e))
 
-        items_due-moved : items_at whole rules (i + d) (Locked (i + d) x bad f) ≡ moved_items d (items_at part rules i (Locked i x bad f))
+        items_due-moved : items_at whole rules (i + d) (Locked (lock_of (i + d) x bad f)) ≡ moved_items d (items_at part rules i (Locked (lock_of i x bad f)))
         items_due-moved =
             at_case (are_too_many rules.loss (bad_with part rules i x bad)) refl where
-              at_case : (t : Bool) → are_too_many rules.loss (bad_with part rules i x bad) ≡ t → items_at whole rules (i + d) (Locked (i + d) x bad f) ≡ moved_items d (items_at part rules i (Locked i x bad f))
+              at_case : (t : Bool) → are_too_many rules.loss (bad_with part rules i x bad) ≡ t → items_at whole rules (i + d) (Locked (lock_of (i + d) x bad f)) ≡ moved_items d (items_at part rules i (Locked (lock_of i x bad f)))
               at_case true e =
-                  let there : are_too_many rules.loss (bad_with whole rules (i + d) x bad) ≡ true = ap (λ (b : Bad). are_too_many rules.loss b) (bad_with-moved i x bad order within) ∙ e in
-                  items-losing whole rules (i + d) x bad f there
+                  let there : are_too_many rules.loss (bad_with whole rules (i + d) x bad) ≡ true = ap (λ (b : ℕ). are_too_many rules.loss b) (bad_with-moved i x bad order within) ∙ e in
+                  items-losing whole rules (lock_of (i + d) x bad f) there
                   ∙ ap (λ (item : Item). item ∷ LostLock (i + d) ∷ []) (group-moved f x i room within)
-                  ∙ ap (moved_items d) (sym (items-losing part rules i x bad f e))
+                  ∙ ap (moved_items d) (sym (items-losing part rules (lock_of i x bad f) e))
               at_case false e =
-                  let there : are_too_many rules.loss (bad_with whole rules (i + d) x bad) ≡ false = ap (λ (b : Bad). are_too_many rules.loss b) (bad_with-moved i x bad order within) ∙ e in
-                  items-keeping whole rules (i + d) x bad f there
+                  let there : are_too_many rules.loss (bad_with whole rules (i + d) x bad) ≡ false = ap (λ (b : ℕ). are_too_many rules.loss b) (bad_with-moved i x bad order within) ∙ e in
+                  items-keeping whole rules (lock_of (i + d) x bad f) there
                   ∙ group_after-moved f x i room within
-                  ∙ ap (moved_items d) (sym (items-keeping part rules i x bad f e))
+                  ∙ ap (moved_items d) (sym (items-keeping part rules (lock_of i x bad f) e))
 
       step-moved : (s : State) → IsLawful rules i s → step whole rules (i + d) (moved_state d s) ≡ moved_state d (step part rules i s)
       step-moved Searching lawful = step_search-moved
-      step-moved (Locked due x bad f) lawful = elim (cases_eq due i) [
+      step-moved (Locked lock) lawful = elim (cases_eq lock.due i) [
         | inl now ↦
-            let room : 26 * (x - f) + 25 ≤ i = omega (arith, lawful.enough_bits) in
-            subst (λ (p : ℕ). step whole rules (i + d) (Locked (p + d) x bad f) ≡ moved_state d (step part rules i (Locked p x bad f))) (sym now)
-            (step_due-moved x bad f room)
+            let room : 26 * (lock.number - lock.first) + 25 ≤ i = omega (arith, lawful.enough_bits) in
+            subst (λ (p : ℕ). step whole rules (i + d) (moved_state d (Locked (record lock { due = p }))) ≡ moved_state d (step part rules i (Locked (record lock { due = p }))))
+            (sym now) (step_due-moved lock.number lock.bad lock.first room)
         | inr later ↦
-            let there : due + d ≢ i + d = λ e. later (omega arith) in
-            step-waiting whole rules (due + d) x bad f (i + d) there ∙ ap (moved_state d) (sym (step-waiting part rules due x bad f i later))
+            let there : lock.due + d ≢ i + d = λ e. later (omega arith) in
+            step-waiting whole rules (record lock { due = lock.due + d }) (i + d) there ∙ ap (moved_state d) (sym (step-waiting part rules lock i later))
       ]
 
       items-moved : (s : State) → IsLawful rules i s → items_at whole rules (i + d) (moved_state d s) ≡ moved_items d (items_at part rules i s)
       items-moved Searching lawful = items_search-moved
-      items-moved (Locked due x bad f) lawful = elim (cases_eq due i) [
+      items-moved (Locked lock) lawful = elim (cases_eq lock.due i) [
         | inl now ↦
-            let room : 26 * (x - f) + 25 ≤ i = omega (arith, lawful.enough_bits) in
-            subst (λ (p : ℕ). items_at whole rules (i + d) (Locked (p + d) x bad f) ≡ moved_items d (items_at part rules i (Locked p x bad f))) (sym now)
-            (items_due-moved x bad f room)
+            let room : 26 * (lock.number - lock.first) + 25 ≤ i = omega (arith, lawful.enough_bits) in
+            subst (λ (p : ℕ). items_at whole rules (i + d) (moved_state d (Locked (record lock { due = p }))) ≡ moved_items d (items_at part rules i (Locked (record lock { due = p }))))
+            (sym now) (items_due-moved lock.number lock.bad lock.first room)
         | inr later ↦
-            let there : due + d ≢ i + d = λ e. later (omega arith) in
-            items-waiting whole rules (due + d) x bad f (i + d) there ∙ ap (moved_items d) (sym (items-waiting part rules due x bad f i later))
+            let there : lock.due + d ≢ i + d = λ e. later (omega arith) in
+            items-waiting whole rules (record lock { due = lock.due + d }) (i + d) there ∙ ap (moved_items d) (sym (items-waiting part rules lock i later))
       ]
 
     module _ (reach : rules.reach ≤ farthest_reach) (late : AcquisitionsAreLate) (lawful_steps : StepsAreLawful) (loss : IsLoss rules.loss) where
@@ -243,15 +242,15 @@ module _ (whole part : Signal) (d from : ℕ) (h : IsPartHeard whole part d from
 pub end-moved : (whole part : Signal) (rules : RuleNumbers) (d : ℕ) (s : State) → IsLawful rules (length_of part) s → IsPartHeard whole part d (length_of part)
     → items_of_end whole rules (moved_state d s) ≡ moved_items d (items_of_end part rules s)
 end-moved whole part rules d Searching lawful h = refl
-end-moved whole part rules d (Locked due x bad f) lawful h = elim (cases_eq x 1) [
-  | inl between ↦ let e : eqb x 1 ≡ true = eq-eqb x 1 between in rw (e, items_of_end) refl
+end-moved whole part rules d (Locked lock) lawful h = elim (cases_eq lock.number 1) [
+  | inl between ↦ let e : eqb lock.number 1 ≡ true = eq-eqb lock.number 1 between in rw (e, items_of_end) refl
   | inr inside ↦
-      let e : eqb x 1 ≡ false = ne_eqb x 1 inside in
-      let room : 26 * (x - 1 - f) + 25 ≤ due - 26 = (elim lawful.in_order [
+      let e : eqb lock.number 1 ≡ false = ne_eqb lock.number 1 inside in
+      let room : 26 * (lock.number - 1 - lock.first) + 25 ≤ lock.due - 26 = (elim lawful.in_order [
         | inl first ↦ absurd (inside first.0)
         | inr later ↦ omega (arith, lawful.enough_bits, later)
       ]) in
-      let place : due + d - 26 ≡ due - 26 + d = omega (arith, lawful.enough_bits) in
-      let group_is = group-moved whole part d (length_of part) h rules f (x - 1) (due - 26) room (omega (arith, lawful.soon, lawful.enough_bits)) in
-      rw (e, items_of_end) (ap (λ (p : ℕ). Group (group whole rules f (x - 1) p) ∷ []) place ∙ ap (λ (item : Item). item ∷ []) group_is)
+      let place : lock.due + d - 26 ≡ lock.due - 26 + d = omega (arith, lawful.enough_bits) in
+      let group_is = group-moved whole part d (length_of part) h rules lock.first (lock.number - 1) (lock.due - 26) room (omega (arith, lawful.soon, lawful.enough_bits)) in
+      rw (e, items_of_end) (ap (λ (p : ℕ). Group (group whole rules lock.first (lock.number - 1) p) ∷ []) place ∙ ap (λ (item : Item). item ∷ []) group_is)
 ]

@@ -4,11 +4,11 @@ use Rattle.std.proofs.lemmas.Bool.{cases_eq}
 use Rattle.std.proofs.lemmas.List.Elements.{All-append}
 use Rattle.std.specs.List.{All}
 use Rattle.rds_stream.specs.Recording.{Signal}
+use Rattle.rds_sync.specs.declared.lock.Lock.{Lock}
 use Rattle.rds_sync.specs.declared.state.State.{State}
 use Rattle.rds_sync.specs.declared.state.State.TheVariants.{Searching, Locked}
 use Rattle.rds_sync.specs.declared.item.Item.{Item}
 use Rattle.rds_sync.specs.declared.item.Item.TheVariants.{Acquired, Group, LostLock}
-use Rattle.rds_sync.specs.declared.loss.Bad.{Bad}
 use Rattle.rds_sync.specs.Rules.{RuleNumbers}
 use Rattle.rds_sync.specs.Loss.{are_too_many}
 use Rattle.rds_sync.specs.Acquiring.{acquired}
@@ -48,19 +48,20 @@ module _ (b : Signal) (rules : RuleNumbers) (to : ℕ) where
         subst (λ (items : List Item). All Early items) (sym (items-acquiring b rules i x e))
         (all-cons (Acquired i x) (group_after b rules x x i) h (after-early x x i h))
 
-  due-early : (i x : ℕ) (bad : Bad) (f : ℕ) → i < to → All Early (items_at b rules i (Locked i x bad f))
-  due-early i x bad f h = at_case (are_too_many rules.loss (bad_with b rules i x bad)) refl where
-    at_case : (t : Bool) → are_too_many rules.loss (bad_with b rules i x bad) ≡ t → All Early (items_at b rules i (Locked i x bad f))
+  due-early : (lock : Lock) → lock.due < to → All Early (items_at b rules lock.due (Locked lock))
+  due-early lock h = at_case (are_too_many rules.loss (bad_with b rules lock.due lock.number lock.bad)) refl where
+    at_case : (t : Bool) → are_too_many rules.loss (bad_with b rules lock.due lock.number lock.bad) ≡ t → All Early (items_at b rules lock.due (Locked lock))
     at_case true e =
-        subst (λ (items : List Item). All Early items) (sym (items-losing b rules i x bad f e))
-        (all-cons (Group (group b rules f x i)) (LostLock i ∷ []) (group-early f x i h) (all-cons (LostLock i) [] h all-nil))
-    at_case false e = subst (λ (items : List Item). All Early items) (sym (items-keeping b rules i x bad f e)) (after-early f x i h)
+        subst (λ (items : List Item). All Early items) (sym (items-losing b rules lock e))
+        (all-cons (Group (group b rules lock.first lock.number lock.due)) (LostLock lock.due ∷ [])
+        (group-early lock.first lock.number lock.due h) (all-cons (LostLock lock.due) [] h all-nil))
+    at_case false e = subst (λ (items : List Item). All Early items) (sym (items-keeping b rules lock e)) (after-early lock.first lock.number lock.due h)
 
   items-early : (i : ℕ) (s : State) → i < to → All Early (items_at b rules i s)
   items-early i Searching h = search-early i h
-  items-early i (Locked due x bad f) h = elim (cases_eq due i) [
-    | inl now ↦ subst (λ (p : ℕ). All Early (items_at b rules i (Locked p x bad f))) (sym now) (due-early i x bad f h)
-    | inr later ↦ subst (λ (items : List Item). All Early items) (sym (items-waiting b rules due x bad f i later)) all-nil
+  items-early i (Locked lock) h = elim (cases_eq lock.due i) [
+    | inl now ↦ subst (λ (p : ℕ). All Early (items_at b rules p (Locked lock))) now (due-early lock (omega (arith, now, h)))
+    | inr later ↦ subst (λ (items : List Item). All Early items) (sym (items-waiting b rules lock i later)) all-nil
   ]
 
   pub run-early : (s : State) (a n : ℕ) → a + n ≤ to → All Early (run b rules s a n).1
@@ -71,18 +72,13 @@ module _ (b : Signal) (rules : RuleNumbers) (to : ℕ) where
 -- the group in progress at the end lies before it
 pub end-early : (b : Signal) (rules : RuleNumbers) (to : ℕ) (s : State) → is_due_below to s → All (λ (item : Item). place_of item < to) (items_of_end b rules s)
 end-early b rules to Searching h = all-nil b rules to
-end-early b rules to (Locked due x bad f) h = at_case (eqb x 1) where
-  at_case : (t : Bool) → All (λ (item : Item). place_of item < to) (elim t as (λ _. List Item) [ true ↦ [] | false ↦ Group (group b rules f (x - 1) (due - 26)) ∷ [] ])
+end-early b rules to (Locked lock) h = at_case (eqb lock.number 1) where
+  at_case : (t : Bool) → All (λ (item : Item). place_of item < to)
+      (elim t as (λ _. List Item) [ true ↦ [] | false ↦ Group (group b rules lock.first (lock.number - 1) (lock.due - 26)) ∷ [] ])
   at_case true = all-nil b rules to
-  at_case false = all-cons b rules to (Group (group b rules f (x - 1) (due - 26))) [] (group-early b rules to f (x - 1) (due - 26) (omega (arith, h))) (all-nil b rules to)
+  at_case false = all-cons b rules to (Group (group b rules lock.first (lock.number - 1) (lock.due - 26))) []
+      (group-early b rules to lock.first (lock.number - 1) (lock.due - 26) (omega (arith, h))) (all-nil b rules to)
 
 pub due-soon : (rules : RuleNumbers) (place to : ℕ) (s : State) → IsLawful rules place s → place + 26 ≤ to → is_due_below to s
 due-soon rules place to Searching lawful h = tt
-due-soon rules place to (Locked due x bad f) lawful h = omega (arith, lawful.soon)
-
--- what holds of the items that are left holds once the first of them is given
-pub rest-all : (P : Item → Type 0) (old : DecoderOf) (given : Option Item) (new : DecoderOf) → GivesNext old given new → All P old.items → All P new.items
-rest-all P old None new gives all = subst (λ (items : List Item). All P items) (sym gives.0.1) (λ k d h. absurd (omega arith))
-rest-all P old (Some item) new gives all =
-    let first : All P (item ∷ new.items) = subst (λ (items : List Item). All P items) gives.0 all in
-    λ k d h. first (suc k) d (omega arith)
+due-soon rules place to (Locked lock) lawful h = omega (arith, lawful.soon)

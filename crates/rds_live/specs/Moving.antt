@@ -15,7 +15,7 @@ use Rattle.rds_sync.specs.Step.{run, items_of_end}
 -- the state, where all places are so many further
 abbrev pub moved_state : ℕ → State → State
 moved_state d Searching = Searching
-moved_state d (Locked due number bad first) = Locked (due + d) number bad first
+moved_state d (Locked lock) = Locked (record lock { due = lock.due + d })
 
 -- the item, where all places are so many further
 abbrev pub moved_item : ℕ → Item → Item

@@ -14,9 +14,9 @@ place_of (LostLock a) = a
 -- the block that is waited for, if there is one, ends at this place or later
 abbrev pub is_due_from : ℕ → State → Type 0
 is_due_from place Searching = ⊤
-is_due_from place (Locked due number bad first) = place ≤ due
+is_due_from place (Locked lock) = place ≤ lock.due
 
 -- and before this place
 abbrev pub is_due_below : ℕ → State → Type 0
 is_due_below place Searching = ⊤
-is_due_below place (Locked due number bad first) = due < place
+is_due_below place (Locked lock) = lock.due < place

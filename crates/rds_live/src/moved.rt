@@ -4,7 +4,7 @@ ghost use Rattle.std.specs.Prelude.{◌≡◌, ◌+◌, ◌<◌, ◌≤◌, ◌^
 ghost use Rattle.rds_live.specs.Moving.{moved_item, moved_items, moved_state};
 ghost use Rattle.rds_live.specs.Places.{place_of, is_due_below, is_due_from};
 
-use rds_sync::{Group, Item, State};
+use rds_sync::{Group, Item, Lock, State};
 
 /// Moves all items so many places further.
 pub(crate) fn move_on(items: &mut [Item], by: u64)
@@ -46,17 +46,10 @@ pub(crate) fn moved_on(state: State, by: u64) -> State
 {
     match state {
         State::Searching => State::Searching,
-        State::Locked {
-            due,
-            number,
-            bad,
-            first,
-        } => State::Locked {
-            due: due + by,
-            number,
-            bad,
-            first,
-        },
+        State::Locked(lock) => State::Locked(Lock {
+            due: lock.due + by,
+            ..lock
+        }),
     }
 }
 
@@ -67,16 +60,9 @@ pub(crate) fn moved_back(state: State, by: u64) -> State
 {
     match state {
         State::Searching => State::Searching,
-        State::Locked {
-            due,
-            number,
-            bad,
-            first,
-        } => State::Locked {
-            due: due - by,
-            number,
-            bad,
-            first,
-        },
+        State::Locked(lock) => State::Locked(Lock {
+            due: lock.due - by,
+            ..lock
+        }),
     }
 }

@@ -2,13 +2,16 @@
 ghost use Rattle.std.specs.Prelude.{◌≡◌, IfOk};
 ghost use Rattle.rds_stream.specs.Recording.{length_of};
 ghost use Rattle.rds_pieces.specs.Cutting.{IsCutting, pieces_of};
+ghost use Rattle.rds_pieces.specs.Joining.{AreNeighbours};
 ghost use Rattle.rds_pieces.specs.JointOf.{joint_of as the_joint_of};
-ghost use Rattle.rds_pieces.specs.RunOf.{FollowEachOther, IsRunOf};
+ghost use Rattle.rds_pieces.specs.RunOf.{FollowEachOther};
 
-use rds_pieces::{Cutting, Joint, PieceError, PieceRun, joint_of, laws, speculate, stitch};
+use rds_pieces::{
+    Cutting, Joint, PieceError, PieceRun, join_runs, joint_of, laws, speculate, stitch,
+};
 use rds_stream::{Counted, Recording, Tape};
-use rds_sync::{Rules, Spans};
-use std::alloc::Global;
+use rds_sync::{Codes, Item, Rules, Spans, Totals};
+use std::alloc::{AllocError, Global};
 
 /// What a call found, and how many windows it read.
 #[derive(Clone, Copy)]
@@ -16,6 +19,20 @@ pub struct Found {
     pub items: u64,
     pub valid: u64,
     pub reads: u64,
+}
+
+impl Found {
+    /// The items and the valid blocks that these totals count.
+    fn of_totals(totals: &Totals, reads: u64) -> Found {
+        Found {
+            items: totals
+                .acquired
+                .saturating_add(totals.groups)
+                .saturating_add(totals.losses),
+            valid: totals.valid,
+            reads,
+        }
+    }
 }
 
 /// What a join of the two guesses finds. They are only lent to what is made once more, and then put together.
@@ -35,14 +52,7 @@ pub fn joined(
         Err(_) => join_once(alloc, recording, rules, &left, &right)?,
     };
     let totals = PieceRun::joined(left, joint, right)?.totals();
-    Ok(Found {
-        items: totals
-            .acquired
-            .saturating_add(totals.groups)
-            .saturating_add(totals.losses),
-        valid: totals.valid,
-        reads,
-    })
+    Ok(Found::of_totals(&totals, reads))
 }
 
 /// What joins two guesses, and how many windows that reads.
@@ -53,14 +63,51 @@ fn join_once(
     left: &PieceRun,
     right: &PieceRun,
 ) -> Result<(Joint, u64), PieceError>
-    requires next { left.now.to ≡ right.now.from }
-    requires left { IsRunOf recording.now rules.now left.now }
-    requires right { IsRunOf recording.now rules.now right.now }
+    requires { AreNeighbours recording.now rules.now left.now right.now }
     ensures { IfOk result (λ made. made.0 ≡ the_joint_of left.now right.now) }
 {
     let mut tape = Counted::new(recording);
     let joint = joint_of(alloc, &mut tape, rules, left, right)?;
     Ok((joint, tape.reads()))
+}
+
+/// What a join of the two guesses finds that takes them. They are made anew where it is refused.
+pub fn joined_at_once(
+    alloc: Global,
+    recording: &Recording,
+    rules: &Rules,
+    cutting: &Cutting,
+) -> Result<Found, PieceError>
+    requires fits { IsCutting (length_of recording.now) cutting.now }
+    requires two { pieces_of cutting.now ≡ 2 }
+{
+    match join_at_once(alloc, recording, rules, cutting) {
+        Ok(found) => Ok(found),
+        Err(_) => join_at_once(alloc, recording, rules, cutting),
+    }
+}
+
+fn join_at_once(
+    alloc: Global,
+    recording: &Recording,
+    rules: &Rules,
+    cutting: &Cutting,
+) -> Result<Found, PieceError>
+    requires fits { IsCutting (length_of recording.now) cutting.now }
+    requires two { pieces_of cutting.now ≡ 2 }
+{
+    let left = speculate(alloc, recording, rules, cutting, 0)?;
+    let right = speculate(alloc, recording, rules, cutting, 1)?;
+    let mut tape = Counted::new(recording);
+    let totals = join_runs(alloc, &mut tape, rules, left, right)?.totals();
+    Ok(Found::of_totals(&totals, tape.reads()))
+}
+
+/// How many codes are kept of one loss, in room made for it.
+pub fn kept_in_room(alloc: Global) -> Result<usize, AllocError> {
+    let mut codes = Codes::with_room(alloc, 1)?;
+    codes.push(&Item::LostLock { place: 0 })?;
+    Ok(codes.len())
 }
 
 /// What the report stitched of the two guesses says.

@@ -1,4 +1,5 @@
-//! `rds_parts`: calls that a crew is made of, each by itself: a join, a report stitched of two guesses, a dealer.
+//! `rds_parts`: calls that a crew is made of, each by itself: joins, a report stitched of two guesses, codes,
+//! a dealer.
 //!
 //! tests/refusals.sh refuses memory to it, allocation by allocation. A call that was refused is made once more of the
 //! same recording, rules and runs, which have to be as they were: a refused allocation changes no answer of these calls.
@@ -46,6 +47,11 @@ fn answers(alloc: Global) -> Result<String, AllocError> {
         Err(_) => seats(alloc).map_err(|_| AllocError)?,
     };
     writeln!(text, "{seats} seats")?;
+    let kept = match calls::kept_in_room(alloc) {
+        Ok(kept) => kept,
+        Err(_) => calls::kept_in_room(alloc)?,
+    };
+    writeln!(text, "{kept} code")?;
     Ok(text)
 }
 
@@ -67,8 +73,12 @@ fn push_found(
     let rules = Rules::new(alloc, 2, reach, 10).map_err(|_| AllocError)?;
     let cutting = cut(alloc, recording)?;
     let joined = calls::joined(alloc, recording, &rules, &cutting).map_err(|_| AllocError)?;
+    let at_once = calls::joined_at_once(alloc, recording, &rules, &cutting).map_err(
+        |_| AllocError,
+    )?;
     let stitched = calls::stitched(alloc, recording, &rules, &cutting).map_err(|_| AllocError)?;
     push_row(text, "joined", joined)?;
+    push_row(text, "joined at once", at_once)?;
     push_row(text, "stitched", stitched)
 }
 

@@ -1,12 +1,11 @@
 -- What joins two runs that follow each other, and what it makes of them.
-use Rattle.std.proofs.Common.{◌≡◌, ℕ, ◌+◌, ◌-◌, ◌≤◌, ◌^◌, List, ◌++◌, length, drop, refl, sym, ap, ap₂, ◌∙◌, arith, append_assoc}
-use Rattle.std.proofs.lemmas.List.{length-map}
+use Rattle.std.proofs.Common.{◌≡◌, ℕ, ◌-◌, ◌≤◌, ◌^◌, List, length, drop, sym, ap, ap₂, ◌∙◌, arith, append_assoc}
 use Rattle.rds_stream.specs.Recording.{Signal, length_of}
 use Rattle.rds_sync.specs.declared.state.State.{State}
 use Rattle.rds_sync.specs.declared.state.State.TheVariants.{Searching}
 use Rattle.rds_sync.specs.declared.item.Item.{Item}
 use Rattle.rds_sync.specs.declared.totals.Totals.{Totals}
-use Rattle.rds_sync.specs.Codes.{Code, KeptOf, kept_of, kept_from, behind, code_of, totals_of_codes}
+use Rattle.rds_sync.specs.Codes.{Code, KeptOf, kept_of, kept_from, behind, totals_of_codes}
 use Rattle.rds_sync.specs.Counting.{FitTogether, plus}
 use Rattle.rds_sync.specs.Ranges.{IsInRange}
 use Rattle.rds_sync.specs.Rules.{RuleNumbers}

@@ -1,7 +1,7 @@
 -- The marks of a run that goes on: over a range and the next, moved, and where it meets a guess.
-use Rattle.std.proofs.Common.{◌≡◌, ℕ, zero, suc, ◌+◌, ◌-◌, ◌<◌, ◌≤◌, List, [], ◌∷◌, ◌++◌, length, get_or, map, drop, refl, sym, ap, ap₂, ◌∙◌, subst, arith, append-nil, append_assoc, length-append, add-zero, zero-add, add-one, inl, inr}
+use Rattle.std.proofs.Common.{◌≡◌, ℕ, zero, suc, ◌+◌, ◌-◌, ◌<◌, ◌≤◌, List, [], ◌∷◌, ◌++◌, length, get_or, drop, refl, sym, ap, ap₂, ◌∙◌, subst, arith, append-nil, append_assoc, length-append, zero-add, add-one, inl, inr}
 use Rattle.std.proofs.lemmas.Bool.{cases_lt}
-use Rattle.std.proofs.lemmas.List.{map-append, drop_at, get_or_append_left, get_or-append_right}
+use Rattle.std.proofs.lemmas.List.{drop_at, get_or_append_left, get_or-append_right}
 use Rattle.rds_stream.specs.Recording.{Signal}
 use Rattle.rds_sync.specs.declared.state.State.{State}
 use Rattle.rds_sync.specs.declared.state.State.TheVariants.{Searching}
@@ -13,7 +13,7 @@ use Rattle.rds_pieces.specs.Guess.{guess, mark_at, marks}
 use Rattle.rds_sync.specs.Marks.{mark_where, marks_on}
 use Rattle.rds_pieces.specs.Meeting.{MeetAt}
 use Rattle.rds_pieces.specs.Inside.RunLaws.{RunLaws}
-use Rattle.rds_pieces.proofs.RunFacts.{none_first, none_rest, run-append}
+use Rattle.rds_pieces.proofs.RunFacts.{none_first, none_rest}
 use Rattle.rds_pieces.proofs.SeamLemmas.{IsLastMark, unread, found}
 use Rattle.rds_pieces.proofs.GuessLemmas.{guess_state-more, guess_items-more, marks-none, marks-some}
 

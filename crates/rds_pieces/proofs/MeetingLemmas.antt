@@ -16,7 +16,7 @@ use Rattle.rds_pieces.proofs.RunFacts.{none_first, none_rest, items-acquiring, s
 -- the block of this state is not due before place p
 abbrev pub IsNotDueBefore : ℕ → State → Type 0
 IsNotDueBefore p Searching = ⊤
-IsNotDueBefore p (Locked due number bad first) = p ≤ due
+IsNotDueBefore p (Locked lock) = p ≤ lock.due
 
 module _ (b : Signal) (rules : RuleNumbers) where
   -- bits that give nothing lead to no state between groups but the one that they began in
@@ -43,4 +43,4 @@ module _ (b : Signal) (rules : RuleNumbers) where
       let there = none_rest (items_at b rules a Searching) _ none in
       ap (λ (s : State). (run b rules s (a + 1) n).0) same
       ∙ run_state-quiet laws Searching (a + 1) n tt (ap (λ (s : State). (run b rules s (a + 1) n).1) (sym same) ∙ there)
-  run_state-quiet laws (Locked due x bad f) a n h none = ap (λ (r : State × List Item). r.0) (run-waiting laws b rules due x bad f a n h)
+  run_state-quiet laws (Locked lock) a n h none = ap (λ (r : State × List Item). r.0) (run-waiting laws b rules lock a n h)

@@ -4,9 +4,9 @@ use Rattle.std.specs.Prelude.{⊤}
 use Rattle.std.proofs.lemmas.Bool.{cases_Bool, cases_lt, lt-ltb, le-ltb}
 use Rattle.std.proofs.lemmas.Nat.{mul-le}
 use Rattle.rds_stream.specs.Recording.{Signal}
+use Rattle.rds_sync.specs.declared.lock.Lock.{Lock}
 use Rattle.rds_sync.specs.declared.state.State.{State}
 use Rattle.rds_sync.specs.declared.state.State.TheVariants.{Searching, Locked}
-use Rattle.rds_sync.specs.declared.loss.Bad.{Bad}
 use Rattle.rds_sync.specs.declared.item.Item.{Item}
 use Rattle.rds_sync.specs.Rules.{RuleNumbers}
 use Rattle.rds_sync.specs.Ranges.{IsInRange}
@@ -25,7 +25,7 @@ mul_more r n k = grind arith
 -- the next block, if one is waited for, ends 26 places after place i
 abbrev IsBlockAfter : ℕ → State → Type 0
 IsBlockAfter i Searching = ⊤
-IsBlockAfter i (Locked due number bad first) = due ≡ i + 26
+IsBlockAfter i (Locked lock) = lock.due ≡ i + 26
 
 module _ (b : Signal) (rules : RuleNumbers) where
   search_then : (i : ℕ) → IsBlockAfter i (step b rules i Searching)
@@ -34,17 +34,17 @@ module _ (b : Signal) (rules : RuleNumbers) where
     at_case None e = subst (IsBlockAfter i) (sym (step-searching b rules i e)) tt
     at_case (Some x) e = subst (IsBlockAfter i) (sym (step-acquiring b rules i x e)) refl
 
-  block_then : (due number : ℕ) (bad : Bad) (first : ℕ) → IsBlockAfter due (step b rules due (Locked due number bad first))
-  block_then due number bad first = elim (cases_Bool (are_too_many rules.loss (bad_with b rules due number bad))) [
-    | inr kept ↦ subst (IsBlockAfter due) (sym (step-keeping b rules due number bad first kept)) refl
-    | inl lost ↦ subst (IsBlockAfter due) (sym (step-losing b rules due number bad first lost)) tt
+  block_then : (lock : Lock) → IsBlockAfter lock.due (step b rules lock.due (Locked lock))
+  block_then lock = elim (cases_Bool (are_too_many rules.loss (bad_with b rules lock.due lock.number lock.bad))) [
+    | inr kept ↦ subst (IsBlockAfter lock.due) (sym (step-keeping b rules lock kept)) refl
+    | inl lost ↦ subst (IsBlockAfter lock.due) (sym (step-losing b rules lock lost)) tt
   ]
 
   module _ (base from : ℕ) where
     -- paid for by the bits up to and including the block that is due, where one is waited for
     abbrev IsPaidAhead : ℕ → State → Type 0
     IsPaidAhead reads Searching = ⊤
-    IsPaidAhead reads (Locked due number bad first) = reads + 4 ≤ base + ((rules.reach + 2) * (due + 1 - from) + 1)
+    IsPaidAhead reads (Locked lock) = reads + 4 ≤ base + ((rules.reach + 2) * (lock.due + 1 - from) + 1)
 
     -- the reads since `base` are paid for by the bits since `from`, reach + 2 a bit, and one more
     pub record IsPaid (reads place : ℕ) (state : State) : Type 0 where
@@ -53,17 +53,17 @@ module _ (b : Signal) (rules : RuleNumbers) where
 
     pub paid_start : (s : State) → 1 ≤ rules.reach → IsLawful rules from s → IsPaid base from s
     paid_start Searching some lawful = record { so_far = omega arith; ahead = tt }
-    paid_start (Locked due number bad first) some lawful =
+    paid_start (Locked lock) some lawful =
         let soon = lawful.soon in
-        let enough = mul-le 3 1 (rules.reach + 2) (due + 1 - from) (omega arith) (omega arith) in
+        let enough = mul-le 3 1 (rules.reach + 2) (lock.due + 1 - from) (omega arith) (omega arith) in
         record { so_far = omega arith; ahead = omega (arith, enough) }
 
     -- after a block that was read, or an acquisition, at place i
     paid_after : (reads i : ℕ) (s : State) → from ≤ i → reads ≤ base + ((rules.reach + 2) * (i + 1 - from) + 1) → IsBlockAfter i s → IsPaid reads (i + 1) s
     paid_after reads i Searching low so_far next = record { so_far = so_far; ahead = tt }
-    paid_after reads i (Locked due number bad first) low so_far next =
+    paid_after reads i (Locked lock) low so_far next =
         let more = mul_more (rules.reach + 2) (i + 1 - from) 26 in
-        let sum : due + 1 - from ≡ (i + 1 - from) + 26 = omega arith in
+        let sum : lock.due + 1 - from ≡ (i + 1 - from) + 26 = omega arith in
         record { so_far = so_far; ahead = rw (sum, more) (omega arith) }
 
     pub paid_on : RunLaws → (reads reads2 place to next : ℕ) (s after : State) → from ≤ place → IsLawful rules place s → IsPaid reads place s → IsStepTo b rules s place to next after
@@ -78,24 +78,24 @@ module _ (b : Signal) (rules : RuleNumbers) where
         let so_far = paid.so_far in
         let enough : reads2 ≤ base + ((rules.reach + 2) * (place + 1 - from) + 1) = rw (sum, more) (omega arith) in
         rw (n, is) (paid_after reads2 place (step b rules place Searching) low enough (search_then place))
-    paid_on laws reads reads2 place to next (Locked due number bad first) after low lawful paid goes few =
-        elim (cases_lt due to) [
+    paid_on laws reads reads2 place to next (Locked lock) after low lawful paid goes few =
+        elim (cases_lt lock.due to) [
           | inl soon ↦
-              let n : next ≡ due + 1 = goes.place_is ∙ rw (lt-ltb due to soon, next_place) refl in
-              let four : reads_most rules (Locked due number bad first) to ≡ 4 = rw (lt-ltb due to soon, reads_most) refl in
+              let n : next ≡ lock.due + 1 = goes.place_is ∙ rw (lt-ltb lock.due to soon, next_place) refl in
+              let four : reads_most rules (Locked lock) to ≡ 4 = rw (lt-ltb lock.due to soon, reads_most) refl in
               let l = lawful.soon in
-              let all : next - place ≡ due - place + 1 = omega arith in
-              let is : after ≡ step b rules due (Locked due number bad first) =
-              goes.state_is ∙ ap (λ (k : ℕ). (run b rules (Locked due number bad first) place k).0) all
-              ∙ ap (λ (r : State × List Item). r.0) (run-reading laws b rules due number bad first place (due - place) (omega arith)) in
+              let all : next - place ≡ lock.due - place + 1 = omega arith in
+              let is : after ≡ step b rules lock.due (Locked lock) =
+              goes.state_is ∙ ap (λ (k : ℕ). (run b rules (Locked lock) place k).0) all
+              ∙ ap (λ (r : State × List Item). r.0) (run-reading laws b rules lock place (lock.due - place) (omega arith)) in
               let ahead = paid.ahead in
-              rw (n, is) (paid_after reads2 due (step b rules due (Locked due number bad first)) (omega (arith, l)) (omega (arith, four, ahead, few)) (block_then due number bad first))
+              rw (n, is) (paid_after reads2 lock.due (step b rules lock.due (Locked lock)) (omega (arith, l)) (omega (arith, four, ahead, few)) (block_then lock))
           | inr late ↦
-              let n : next ≡ to = goes.place_is ∙ rw (le-ltb due to late, next_place) refl in
-              let none : reads_most rules (Locked due number bad first) to ≡ 0 = rw (le-ltb due to late, reads_most) refl in
+              let n : next ≡ to = goes.place_is ∙ rw (le-ltb lock.due to late, next_place) refl in
+              let none : reads_most rules (Locked lock) to ≡ 0 = rw (le-ltb lock.due to late, reads_most) refl in
               let m = goes.moved in
-              let is : after ≡ Locked due number bad first =
-              goes.state_is ∙ ap (λ (r : State × List Item). r.0) (run-waiting laws b rules due number bad first place (next - place) (omega arith)) in
+              let is : after ≡ Locked lock =
+              goes.state_is ∙ ap (λ (r : State × List Item). r.0) (run-waiting laws b rules lock place (next - place) (omega arith)) in
               let so_far = paid.so_far in
               let ahead = paid.ahead in
               let grows = mul-le (rules.reach + 2) (place - from) (rules.reach + 2) (next - from) (omega arith) (omega arith) in
@@ -123,15 +123,15 @@ module _ (b : Signal) (rules : RuleNumbers) where
       let more = mul_more (rules.reach + 2) (place - from) 1 in
       let grows = mul-le (rules.reach + 2) (place - from + 1) (rules.reach + 2) (to - from + 1) (omega arith) (omega arith) in
       omega (arith, so_far, more, grows, few)
-  paid_step base from reads reads2 place limit to (Locked due number bad first) low high near lawful paid few = elim (cases_lt due limit) [
+  paid_step base from reads reads2 place limit to (Locked lock) low high near lawful paid few = elim (cases_lt lock.due limit) [
     | inl soon ↦
-        let four : reads_most rules (Locked due number bad first) limit ≡ 4 = rw (lt-ltb due limit soon, reads_most) refl in
+        let four : reads_most rules (Locked lock) limit ≡ 4 = rw (lt-ltb lock.due limit soon, reads_most) refl in
         let ahead = paid.ahead in
         let more = mul_more (rules.reach + 2) (to - from) 1 in
-        let grows = mul-le (rules.reach + 2) (due + 1 - from) (rules.reach + 2) (to - from) (omega arith) (omega arith) in
+        let grows = mul-le (rules.reach + 2) (lock.due + 1 - from) (rules.reach + 2) (to - from) (omega arith) (omega arith) in
         omega (arith, four, ahead, more, grows, few)
     | inr late ↦
-        let none : reads_most rules (Locked due number bad first) limit ≡ 0 = rw (le-ltb due limit late, reads_most) refl in
+        let none : reads_most rules (Locked lock) limit ≡ 0 = rw (le-ltb lock.due limit late, reads_most) refl in
         let so_far = paid.so_far in
         let more = mul_more (rules.reach + 2) (to - from) 1 in
         let grows = mul-le (rules.reach + 2) (place - from) (rules.reach + 2) (to - from) (omega arith) (omega arith) in

@@ -2,18 +2,17 @@
 use Rattle.std.proofs.Common.{◌≡◌, ◌≢◌, ℕ, ◌+◌, ◌-◌, ◌≤◌, ◌⊎◌, List, [], ◌∷◌, ◌++◌, true, false, Some, None, refl, ap, ap₂, ◌∙◌, arith, inl, inr}
 use Rattle.std.proofs.lemmas.Bool.{cases_eq, eq-eqb, ne_eqb}
 use Rattle.rds_stream.specs.Recording.{Signal}
+use Rattle.rds_sync.specs.declared.lock.Lock.{Lock}
 use Rattle.rds_sync.specs.declared.state.State.{State}
 use Rattle.rds_sync.specs.declared.state.State.TheVariants.{Searching, Locked}
-use Rattle.rds_sync.specs.declared.loss.Bad.{Bad}
-use Rattle.rds_sync.specs.declared.loss.Bad.TheVariants.{Run, Mask}
 use Rattle.rds_sync.specs.declared.item.Item.{Item}
 use Rattle.rds_sync.specs.declared.item.Item.TheVariants.{Acquired, Group, LostLock}
 use Rattle.rds_sync.specs.Rules.{RuleNumbers}
 use Rattle.rds_sync.specs.Acquiring.{acquired}
 use Rattle.rds_sync.specs.Groups.{group}
 use Rattle.rds_sync.specs.Lawful.{IsLawful, IsBetweenGroups}
-use Rattle.rds_sync.specs.Loss.{IsLoss, are_too_many, none_bad}
-use Rattle.rds_sync.specs.Step.{run, step, after_bit, items_at, locked_after, bad_with, group_after}
+use Rattle.rds_sync.specs.Loss.{IsLoss, are_too_many}
+use Rattle.rds_sync.specs.Step.{run, step, after_bit, items_at, bad_with, group_after, lock_after}
 use Rattle.rds_pieces.specs.Inside.RunLaws.{RunLaws}
 
 pub none_first : {A : Type 0} → (xs ys : List A) → xs ++ ys ≡ [] → xs ≡ []
@@ -24,33 +23,23 @@ pub none_rest : {A : Type 0} → (xs ys : List A) → xs ++ ys ≡ [] → ys ≡
 none_rest [] ys e = e
 none_rest (x ∷ xs) ys e = cc
 
--- the bad blocks of two locks are the same, or not
-same_bad : (one other : Bad) → (one ≡ other) ⊎ (one ≢ other)
-same_bad (Run row) (Run row2) = elim (cases_eq row row2) [
-  | inl same ↦ inl (ap Run same)
-  | inr other ↦ inr (λ e. other cc)
-]
-same_bad (Run row) (Mask mask) = inr (λ e. cc)
-same_bad (Mask mask) (Run row) = inr (λ e. cc)
-same_bad (Mask mask) (Mask mask2) = elim (cases_eq mask mask2) [
-  | inl same ↦ inl (ap Mask same)
-  | inr other ↦ inr (λ e. other cc)
-]
-
 -- two states are one, or not
 same_state : (s t : State) → (s ≡ t) ⊎ (s ≢ t)
 same_state Searching Searching = inl refl
-same_state Searching (Locked due number bad first) = inr (λ e. cc)
-same_state (Locked due number bad first) Searching = inr (λ e. cc)
-same_state (Locked due number bad first) (Locked due2 number2 bad2 first2) = elim (cases_eq due due2) [
+same_state Searching (Locked lock) = inr (λ e. cc)
+same_state (Locked lock) Searching = inr (λ e. cc)
+same_state (Locked lock) (Locked lock2) = elim (cases_eq lock.due lock2.due) [
   | inr other ↦ inr (λ e. other cc)
-  | inl one ↦ elim (cases_eq number number2) [
+  | inl one ↦ elim (cases_eq lock.number lock2.number) [
     | inr other ↦ inr (λ e. other cc)
-    | inl two ↦ elim (same_bad bad bad2) [
+    | inl two ↦ elim (cases_eq lock.bad lock2.bad) [
       | inr other ↦ inr (λ e. other cc)
-      | inl three ↦ elim (cases_eq first first2) [
+      | inl three ↦ elim (cases_eq lock.first lock2.first) [
         | inr other ↦ inr (λ e. other cc)
-        | inl four ↦ inl cc
+        | inl four ↦ inl (
+            ap₂ (λ (d x : ℕ). Locked (record lock { due = d; number = x })) one two
+            ∙ ap₂ (λ (b f : ℕ). Locked (record lock2 { bad = b; first = f })) three four
+            )
       ]
     ]
   ]
@@ -58,7 +47,7 @@ same_state (Locked due number bad first) (Locked due2 number2 bad2 first2) = eli
 
 module _ (b : Signal) (rules : RuleNumbers) where
   -- one bit, as it is defined
-  pub step-acquiring : (i x : ℕ) → acquired b rules i ≡ Some x → step b rules i Searching ≡ locked_after i x (none_bad rules.loss) x
+  pub step-acquiring : (i x : ℕ) → acquired b rules i ≡ Some x → step b rules i Searching ≡ Locked (lock_after i x 0 x)
   step-acquiring i x e = rw (e, step, after_bit) refl
 
   pub items-acquiring : (i x : ℕ) → acquired b rules i ≡ Some x → items_at b rules i Searching ≡ Acquired i x ∷ group_after b rules x x i
@@ -70,24 +59,24 @@ module _ (b : Signal) (rules : RuleNumbers) where
   pub items-searching : (i : ℕ) → acquired b rules i ≡ None → items_at b rules i Searching ≡ []
   items-searching i e = rw (e, items_at, after_bit) refl
 
-  pub items-waiting : (due number : ℕ) (bad : Bad) (first i : ℕ) → due ≢ i → items_at b rules i (Locked due number bad first) ≡ []
-  items-waiting due number bad first i ne = rw (ne_eqb due i ne, items_at, after_bit) refl
+  pub items-waiting : (lock : Lock) (i : ℕ) → lock.due ≢ i → items_at b rules i (Locked lock) ≡ []
+  items-waiting lock i ne = rw (ne_eqb lock.due i ne, items_at, after_bit) refl
 
-  pub step-keeping : (i number : ℕ) (bad : Bad) (first : ℕ) → are_too_many rules.loss (bad_with b rules i number bad) ≡ false
-      → step b rules i (Locked i number bad first) ≡ locked_after i number (bad_with b rules i number bad) first
-  step-keeping i number bad first h = rw (eq-eqb i i refl, h, step, after_bit) refl
+  pub step-keeping : (lock : Lock) → are_too_many rules.loss (bad_with b rules lock.due lock.number lock.bad) ≡ false
+      → step b rules lock.due (Locked lock) ≡ Locked (lock_after lock.due lock.number (bad_with b rules lock.due lock.number lock.bad) lock.first)
+  step-keeping lock h = rw (eq-eqb lock.due lock.due refl, h, step, after_bit) refl
 
-  pub items-keeping : (i number : ℕ) (bad : Bad) (first : ℕ) → are_too_many rules.loss (bad_with b rules i number bad) ≡ false
-      → items_at b rules i (Locked i number bad first) ≡ group_after b rules first number i
-  items-keeping i number bad first h = rw (eq-eqb i i refl, h, items_at, after_bit) refl
+  pub items-keeping : (lock : Lock) → are_too_many rules.loss (bad_with b rules lock.due lock.number lock.bad) ≡ false
+      → items_at b rules lock.due (Locked lock) ≡ group_after b rules lock.first lock.number lock.due
+  items-keeping lock h = rw (eq-eqb lock.due lock.due refl, h, items_at, after_bit) refl
 
-  pub step-losing : (i number : ℕ) (bad : Bad) (first : ℕ) → are_too_many rules.loss (bad_with b rules i number bad) ≡ true
-      → step b rules i (Locked i number bad first) ≡ Searching
-  step-losing i number bad first h = rw (eq-eqb i i refl, h, step, after_bit) refl
+  pub step-losing : (lock : Lock) → are_too_many rules.loss (bad_with b rules lock.due lock.number lock.bad) ≡ true
+      → step b rules lock.due (Locked lock) ≡ Searching
+  step-losing lock h = rw (eq-eqb lock.due lock.due refl, h, step, after_bit) refl
 
-  pub items-losing : (i number : ℕ) (bad : Bad) (first : ℕ) → are_too_many rules.loss (bad_with b rules i number bad) ≡ true
-      → items_at b rules i (Locked i number bad first) ≡ Group (group b rules first number i) ∷ LostLock i ∷ []
-  items-losing i number bad first h = rw (eq-eqb i i refl, h, items_at, after_bit) refl
+  pub items-losing : (lock : Lock) → are_too_many rules.loss (bad_with b rules lock.due lock.number lock.bad) ≡ true
+      → items_at b rules lock.due (Locked lock) ≡ Group (group b rules lock.first lock.number lock.due) ∷ LostLock lock.due ∷ []
+  items-losing lock h = rw (eq-eqb lock.due lock.due refl, h, items_at, after_bit) refl
 
 module _ (laws : RunLaws) (b : Signal) (rules : RuleNumbers) where
   -- the laws by counts of bits, where they are said by places
@@ -106,10 +95,10 @@ module _ (laws : RunLaws) (b : Signal) (rules : RuleNumbers) where
   pub run_items-append : (s : State) (a m n : ℕ) → (run b rules s a (m + n)).1 ≡ (run b rules s a m).1 ++ (run b rules (run b rules s a m).0 (a + m) n).1
   run_items-append s a m n = ap (λ (r : State × List Item). r.1) (run-append s a m n)
 
-  pub run-waiting : (due number : ℕ) (bad : Bad) (first a n : ℕ) → a + n ≤ due → run b rules (Locked due number bad first) a n ≡ (Locked due number bad first, [])
-  run-waiting due number bad first a n h =
+  pub run-waiting : (lock : Lock) (a n : ℕ) → a + n ≤ lock.due → run b rules (Locked lock) a n ≡ (Locked lock, [])
+  run-waiting lock a n h =
       let bits : a + n - a ≡ n = omega arith in
-      rw bits at (laws.wait b rules due number bad first a (a + n) (omega arith) h)
+      rw bits at (laws.wait b rules lock a (a + n) (omega arith) h)
 
   pub lawful-run : IsLoss rules.loss → (s : State) (a n : ℕ) → IsLawful rules a s → IsLawful rules (a + n) (run b rules s a n).0
   lawful-run loss s a n lawful =
@@ -117,13 +106,12 @@ module _ (laws : RunLaws) (b : Signal) (rules : RuleNumbers) where
       rw bits at (laws.lawful_runs b rules loss s a (a + n) (omega arith) lawful)
 
   -- a run up to and including the block that is due is that of its last bit
-  pub run-reading : (due number : ℕ) (bad : Bad) (first a n : ℕ) → a + n ≡ due
-      → run b rules (Locked due number bad first) a (n + 1) ≡ (step b rules due (Locked due number bad first), items_at b rules due (Locked due number bad first))
-  run-reading due number bad first a n e =
-      let s : State = Locked due number bad first in
-      run-append s a n 1
-      ∙ ap₂ (λ (r : State × List Item) (p : ℕ). ((run b rules r.0 p 1).0, r.1 ++ (run b rules r.0 p 1).1)) (run-waiting due number bad first a n (omega arith)) e
-      ∙ laws.one_bit b rules s due
+  pub run-reading : (lock : Lock) (a n : ℕ) → a + n ≡ lock.due
+      → run b rules (Locked lock) a (n + 1) ≡ (step b rules lock.due (Locked lock), items_at b rules lock.due (Locked lock))
+  run-reading lock a n e =
+      run-append (Locked lock) a n 1
+      ∙ ap₂ (λ (r : State × List Item) (p : ℕ). ((run b rules r.0 p 1).0, r.1 ++ (run b rules r.0 p 1).1)) (run-waiting lock a n (omega arith)) e
+      ∙ laws.one_bit b rules (Locked lock) lock.due
 
   -- a bit that gives no item and after which no group is in progress leaves the state as it was
   pub quiet-step : (i : ℕ) (s : State) → IsLawful rules i s → items_at b rules i s ≡ [] → IsBetweenGroups (step b rules i s) → step b rules i s ≡ s

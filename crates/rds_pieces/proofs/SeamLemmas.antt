@@ -1,5 +1,5 @@
 -- A run that is carried over a piece beside the piece's guess, from mark to mark, until the two meet.
-use Rattle.std.proofs.Common.{◌≡◌, ◌≢◌, ℕ, ◌+◌, ◌-◌, ◌<◌, ◌≤◌, List, [], ◌++◌, length, get_or, refl, sym, ap, ap₂, ◌∙◌, subst, arith, append_assoc, append-nil, inl, inr}
+use Rattle.std.proofs.Common.{◌≡◌, ◌≢◌, ℕ, ◌+◌, ◌-◌, ◌<◌, ◌≤◌, List, [], ◌++◌, length, get_or, refl, sym, ap, ap₂, ◌∙◌, subst, arith, append-nil, inl, inr}
 use Rattle.std.proofs.lemmas.Bool.{cases_eq, cases_lt}
 use Rattle.std.proofs.lemmas.List.{append_cancel_left, get_or_default}
 use Rattle.rds_stream.specs.Recording.{Signal}
@@ -25,7 +25,7 @@ use Rattle.rds_pieces.proofs.StepLemmas.{one_step, waits}
 -- a lawful state's block is not due before its place
 not_due : (rules : RuleNumbers) (place : ℕ) (s : State) → IsLawful rules place s → IsNotDueBefore place s
 not_due rules place Searching h = h
-not_due rules place (Locked due number bad first) h = h.soon.0
+not_due rules place (Locked lock) h = h.soon.0
 
 -- a fact over another name of the recording and of the rules
 pub renamed : (P : Signal → RuleNumbers → Type 0) (b b2 : Signal) (rules rules2 : RuleNumbers) → b ≡ b2 → rules ≡ rules2 → P b rules → P b2 rules2
@@ -60,21 +60,10 @@ module _ (b : Signal) (rules : RuleNumbers) (from to : ℕ) where
     pub same : IsNotDueBefore place m.state → (guess_at place).0 ≡ m.state
     pub count : m.items ≡ length (guess_at place).1
 
-  -- a mark as a slice is read
-  pub read_mark : (ms : List Mark) (mark : ℕ) (m : Mark) → ms ≡ found → mark < length found → get_or ms mark m ≡ get_or found mark unread
-  read_mark ms mark m e h = ap (λ (xs : List Mark). get_or xs mark m) e ∙ get_or_default found mark m unread h
-
   -- the place of the next mark, or the end where there is none
   pub record IsPlaceAfter (mark limit : ℕ) : Type 0 where
     pub next : mark + 1 < length found → limit ≡ (get_or found (mark + 1) unread).place
     pub end : length found ≤ mark + 1 → limit ≡ to
-
-  pub place_after_is : (ms : List Mark) (mark limit end : ℕ) → ms ≡ found → ((m : Mark) → mark + 1 < length ms → limit ≡ (get_or ms (mark + 1) m).place)
-      → (length ms ≤ mark + 1 → limit ≡ end) → end ≡ to → IsPlaceAfter mark limit
-  place_after_is ms mark limit end e next last t = record {
-    next = λ more. next unread (subst (λ (xs : List Mark). mark + 1 < length xs) (sym e) more) ∙ ap (λ (xs : List Mark). (get_or xs (mark + 1) unread).place) e;
-    end = λ none. last (subst (λ (xs : List Mark). length xs ≤ mark + 1) (sym e) none) ∙ t;
-  }
 
   -- the run from s0 before place `place`
   abbrev pub own : State → ℕ → State × List Item

@@ -47,23 +47,6 @@ at_most_more m n t h a = record {
   losses = omega (arith, a.losses);
 }
 
--- the rest of a list has no more than the whole
-at_most-rest : (n : ℕ) (t u : Totals) → IsAtMost n (plus t u) → IsAtMost n u
-at_most-rest n t u a = record {
-  valid = omega (arith, a.valid);
-  burst1 = omega (arith, a.burst1);
-  burst2 = omega (arith, a.burst2);
-  burst3 = omega (arith, a.burst3);
-  burst4 = omega (arith, a.burst4);
-  burst5 = omega (arith, a.burst5);
-  lost = omega (arith, a.lost);
-  bits = omega (arith, a.bits);
-  groups = omega (arith, a.groups);
-  complete = omega (arith, a.complete);
-  acquired = omega (arith, a.acquired);
-  losses = omega (arith, a.losses);
-}
-
 at_most-plus : (m n : ℕ) (t u : Totals) → IsAtMost m t → IsAtMost n u → IsAtMost (m + n) (plus t u)
 at_most-plus m n t u a b = record {
   valid = omega (arith, a.valid, b.valid);
@@ -122,8 +105,10 @@ group_at_most g a b c d e h i j k =
       losses = omega arith;
     }
 
-acquired_at_most : (i x : ℕ) → IsAtMost 1 (totals_of (Acquired i x ∷ []))
-acquired_at_most i x = record {
+-- items of no block
+few_at_most : (n acquired losses : ℕ) → acquired ≤ n → losses ≤ n
+    → IsAtMost n (record { valid = 0; bursts = 0 ∷ 0 ∷ 0 ∷ 0 ∷ 0 ∷ []; lost = 0; bits = 0; groups = 0; complete = 0; acquired = acquired; losses = losses })
+few_at_most n acquired losses some others = record {
   valid = omega arith;
   burst1 = omega arith;
   burst2 = omega arith;
@@ -134,41 +119,18 @@ acquired_at_most i x = record {
   bits = omega arith;
   groups = omega arith;
   complete = omega arith;
-  acquired = omega arith;
-  losses = omega arith;
+  acquired = some;
+  losses = others;
 }
+
+acquired_at_most : (i x : ℕ) → IsAtMost 1 (totals_of (Acquired i x ∷ []))
+acquired_at_most i x = few_at_most 1 1 0 (omega arith) (omega arith)
 
 lost_at_most : (i : ℕ) → IsAtMost 1 (totals_of (LostLock i ∷ []))
-lost_at_most i = record {
-  valid = omega arith;
-  burst1 = omega arith;
-  burst2 = omega arith;
-  burst3 = omega arith;
-  burst4 = omega arith;
-  burst5 = omega arith;
-  lost = omega arith;
-  bits = omega arith;
-  groups = omega arith;
-  complete = omega arith;
-  acquired = omega arith;
-  losses = omega arith;
-}
+lost_at_most i = few_at_most 1 0 1 (omega arith) (omega arith)
 
 none_at_most : (n : ℕ) → IsAtMost n (totals_of [])
-none_at_most n = record {
-  valid = omega arith;
-  burst1 = omega arith;
-  burst2 = omega arith;
-  burst3 = omega arith;
-  burst4 = omega arith;
-  burst5 = omega arith;
-  lost = omega arith;
-  bits = omega arith;
-  groups = omega arith;
-  complete = omega arith;
-  acquired = omega arith;
-  losses = omega arith;
-}
+none_at_most n = few_at_most n 0 0 (omega arith) (omega arith)
 
 -- a burst lies in a block
 reading_small : ReadsByRule → (w x : ℕ) (wanted : Wanted) (limit : ℕ) → 1 ≤ x → x ≤ 4 → limit ≤ 5 → bits_corrected (Read (reading w x wanted limit)) < 2 ^ 26
@@ -216,13 +178,15 @@ module _ (b : Signal) (rules : RuleNumbers) (law : ReadsByRule) (few : rules.bur
       at_case None e = gives (items-searching b rules i e) (none_at_most per_bit)
       at_case (Some x) e = gives (items-acquiring b rules i x e) (at_most_more (1 + (2 ^ 28 - 4)) per_bit _ (lit≤ tt)
           (both_at_most 1 (2 ^ 28 - 4) (Acquired i x ∷ []) (group_after b rules x x i) (acquired_at_most i x) (after_at_most x x i (x == 4))))
-    bit_at_most i (Locked due x bad f) = elim (cases_eq due i) [
-      | inr other ↦ gives (items-waiting b rules due x bad f i other) (none_at_most per_bit)
-      | inl here ↦ subst (λ (p : ℕ). IsAtMost per_bit (totals_of (items_at b rules i (Locked p x bad f)))) (sym here)
-          (elim (cases_Bool (are_too_many rules.loss (bad_with b rules i x bad))) [
-            | inr few ↦ gives (items-keeping b rules i x bad f few) (at_most_more (2 ^ 28 - 4) per_bit _ (lit≤ tt) (after_at_most f x i (x == 4)))
-            | inl many ↦ gives (items-losing b rules i x bad f many) (at_most_more (2 ^ 28 - 4 + 1) per_bit _ (lit≤ tt)
-                (both_at_most (2 ^ 28 - 4) 1 (GroupItem (group b rules f x i) ∷ []) (LostLock i ∷ []) (closed_at_most f x i) (lost_at_most i)))
+    bit_at_most i (Locked lock) = elim (cases_eq lock.due i) [
+      | inr other ↦ gives (items-waiting b rules lock i other) (none_at_most per_bit)
+      | inl here ↦ subst (λ (p : ℕ). IsAtMost per_bit (totals_of (items_at b rules p (Locked lock)))) here
+          (elim (cases_Bool (are_too_many rules.loss (bad_with b rules lock.due lock.number lock.bad))) [
+            | inr few ↦ gives (items-keeping b rules lock few)
+                (at_most_more (2 ^ 28 - 4) per_bit _ (lit≤ tt) (after_at_most lock.first lock.number lock.due (lock.number == 4)))
+            | inl many ↦ gives (items-losing b rules lock many) (at_most_more (2 ^ 28 - 4 + 1) per_bit _ (lit≤ tt)
+                (both_at_most (2 ^ 28 - 4) 1 (GroupItem (group b rules lock.first lock.number lock.due) ∷ []) (LostLock lock.due ∷ [])
+                (closed_at_most lock.first lock.number lock.due) (lost_at_most lock.due)))
           ])
     ]
 

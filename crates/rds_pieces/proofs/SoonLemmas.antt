@@ -8,8 +8,8 @@ use Rattle.rds_sync.specs.declared.item.Item.{Item}
 use Rattle.rds_sync.specs.Rules.{RuleNumbers}
 use Rattle.rds_sync.specs.Convergence.{sound_bits, SoundRangesHaveFours, RunsConverge}
 use Rattle.rds_sync.specs.Lawful.{IsLawful, IsBetweenGroups}
-use Rattle.rds_sync.specs.Loss.{IsLoss, none_bad}
-use Rattle.rds_sync.specs.Step.{run}
+use Rattle.rds_sync.specs.Loss.{IsLoss}
+use Rattle.rds_sync.specs.Step.{run, lock_of}
 use Rattle.rds_pieces.specs.Meeting.{MeetAt, IsMeeting}
 use Rattle.rds_pieces.specs.Inside.RunLaws.{RunLaws}
 use Rattle.rds_pieces.specs.Soon.{IsSoonMet, MeetSoon}
@@ -39,7 +39,7 @@ module _ (b : Signal) (rules : RuleNumbers) (one other : State) (from to : ℕ) 
       let q : ℕ = p + 26 * last + 1 in
       let before : q ≤ s + sound_bits rules.loss j = omega (arith, inside) in
       let behind : s ≤ q = omega (arith, first) in
-      let ends : (t : State) → IsLawful rules from t → (run b rules t from (q - from)).0 ≡ Locked (p + 26 * last + 26) 1 (none_bad rules.loss) 1 =
+      let ends : (t : State) → IsLawful rules from t → (run b rules t from (q - from)).0 ≡ Locked (lock_of (p + 26 * last + 26) 1 0 1) =
       λ t lawful.
       ap (λ (end : State × List Item). end.0) (laws.join b rules t from s q low behind)
       ∙ converge b rules loss reach s q (run b rules t from (s - from)).0 (laws.lawful_runs b rules loss t from s low lawful) j p c last sound four.1 refl in

@@ -23,11 +23,6 @@ use Rattle.rds_pieces.specs.Inside.RunLaws.{RunLaws}
 use Rattle.rds_pieces.specs.Seams.{seam_reads, IsSumOfReads}
 use Rattle.rds_pieces.proofs.SmallTotals.{per_bit, at_most_more, run_at_most}
 
--- the end closes one group at most
-pub group_item-few : (g : Option Group) → length (group_item g) ≤ 1
-group_item-few None = omega arith
-group_item-few (Some g) = omega arith
-
 -- runs that follow each other lie between the places
 pub follow_inside : (b : Signal) (rules : RuleNumbers) (from to : ℕ) (runs : List RunOf) → FollowEachOther b rules from to runs → from ≤ to
 follow_inside b rules from to [] h = omega (arith, h)
@@ -101,15 +96,6 @@ module _ (b : Signal) (rules : RuleNumbers) (runs : List RunOf) where
 
     pub lawful_here : IsLawful rules r.from state
     lawful_here = subst (λ (p : ℕ). IsLawful rules p state) (sym from_is) done.lawful
-
-    pub reads_few : length_of b ≤ 2 ^ 36 → base ≤ 2 ^ 61 → reads ≤ 2 ^ 62
-    reads_few bits room =
-        let t = to_inside in
-        let f = from_is in
-        let n = next_follows.1 in
-        let m = done.reads_most in
-        let l = done.few in
-        omega (arith, t, f, n, m, l)
 
     -- its totals and those before fit into one word
     pub fits_next : RunLaws → IsInRange rules → length_of b ≤ 2 ^ 36 → (t u : Totals) → t ≡ totals_of items → u ≡ totals_of (run b rules state r.from (r.to - r.from)).1 → FitTogether t u

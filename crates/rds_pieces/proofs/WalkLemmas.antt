@@ -1,7 +1,7 @@
 -- What a walk along a guess has to take over from the guess where it met it.
-use Rattle.std.proofs.Common.{◌≡◌, ℕ, ◌+◌, ◌-◌, ◌<◌, ◌≤◌, ◌^◌, List, ◌++◌, length, get_or, map, drop, Option, Some, None, refl, sym, ap, ap₂, ◌∙◌, subst, arith, append_assoc, length-append}
+use Rattle.std.proofs.Common.{◌≡◌, ℕ, ◌+◌, ◌-◌, ◌≤◌, ◌^◌, List, ◌++◌, length, drop, Option, Some, None, refl, sym, ap, ap₂, ◌∙◌, subst, arith, append_assoc, length-append}
 use Rattle.std.proofs.lemmas.List.{drop_at}
-use Rattle.rds_stream.specs.Recording.{Signal, length_of}
+use Rattle.rds_stream.specs.Recording.{Signal}
 use Rattle.rds_sync.specs.declared.state.State.{State}
 use Rattle.rds_sync.specs.declared.state.State.TheVariants.{Searching}
 use Rattle.rds_sync.specs.declared.item.Item.{Item}
@@ -12,7 +12,7 @@ use Rattle.rds_sync.specs.Step.{run}
 use Rattle.rds_sync.specs.Totals.{totals_of}
 use Rattle.rds_pieces.specs.declared.walk.Passed.{Passed}
 use Rattle.rds_sync.specs.declared.mark.Mark.{Mark}
-use Rattle.rds_pieces.specs.Guess.{guess, marks}
+use Rattle.rds_pieces.specs.Guess.{guess}
 use Rattle.rds_sync.specs.Marks.{marks_on}
 use Rattle.rds_sync.specs.Codes.{KeptOf, kept_of, behind, kept_from}
 use Rattle.rds_pieces.specs.Meeting.{IsMeeting, distance}
@@ -54,16 +54,7 @@ module _ (b : Signal) (rules : RuleNumbers) (laws : RunLaws) (s : State) (from t
   pub passed_items : passed.items ≤ length (theirs to).1
   passed_items = let l = guess_goes_on in let e = met.items_are in omega arith
 
-  -- the items that are taken over
-  pub items_taken : (before items rest items2 : List Item) → items ≡ before ++ (ours place).1 → rest ≡ drop passed.items (theirs to).1 → items2 ≡ items ++ rest
-      → items2 ≡ before ++ (ours to).1
-  items_taken before items rest items2 is left given =
-      given
-      ∙ ap₂ (λ (xs ys : List Item). xs ++ ys) is (left ∙ ap (λ (k : ℕ). drop k (theirs to).1) met.items_are)
-      ∙ append_assoc before (ours place).1 (drop (length (theirs place).1) (theirs to).1)
-      ∙ ap (λ (xs : List Item). before ++ xs) (sym (run-met b rules laws s from to place met.first.here).1)
-
-  -- and their totals
+  -- the totals of the items up to there and of those that are taken over
   pub totals_taken : (t u : Totals) → t ≡ totals_of (ours place).1 → u ≡ totals_of (drop passed.items (theirs to).1) → plus t u ≡ totals_of (ours to).1
   totals_taken t u t_is u_is =
       ap₂ (λ (x y : Totals). plus x y) t_is (u_is ∙ ap (λ (k : ℕ). totals_of (drop k (theirs to).1)) met.items_are)
@@ -93,10 +84,6 @@ module _ (b : Signal) (rules : RuleNumbers) (laws : RunLaws) (s : State) (from t
       let i = met.first.here.inside in
       left ∙ met.ahead_are ∙ marks-after b rules laws from place to i.0 i.1
       ∙ ap₂ (λ (t : State) (k : ℕ). marks_on b rules t place k (to - place)) (sym met.first.here.same) (sym met.items_are)
-
-  -- as are its items
-  pub rest_items : (run b rules (ours place).0 place (to - place)).1 ≡ drop passed.items (theirs to).1
-  rest_items = ap (λ (t : State). (run b rules t place (to - place)).1) met.first.here.same ∙ sym rest_is_run
 
   pub count_taken : length (theirs to).1 ≡ passed.items + length (run b rules (ours place).0 place (to - place)).1
   count_taken =

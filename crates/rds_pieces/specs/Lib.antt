@@ -5,6 +5,7 @@ pub mod Meeting
 pub mod Seams
 pub mod Soon
 pub mod JointOf
+pub mod Joining
 pub mod WorkOf
 pub mod Laws
 pub mod Refusals

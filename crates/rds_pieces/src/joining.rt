@@ -1,11 +1,8 @@
 //! Two neighbours joined into one run.
-ghost use Rattle.std.specs.Prelude.{◌≡◌, ℕ, ◌+◌, ◌-◌, ◌*◌, ◌≤◌, ◌^◌, Option, IfOk, IsOkUnless};
+ghost use Rattle.std.specs.Prelude.{◌≡◌, ◌≤◌, ◌^◌, IfOk};
+ghost use Rattle.rds_pieces.specs.Joining.{AreNeighbours, IsJoin};
 ghost use Rattle.rds_pieces.specs.JointOf.{joint_of as the_joint_of};
-ghost use Rattle.rds_pieces.specs.Meeting.{IsMeeting};
-ghost use Rattle.rds_pieces.specs.RunOf.{IsRunOf, end_of, run_over};
-ghost use Rattle.rds_pieces.specs.Seams.{seam_reads};
-ghost use Rattle.rds_pieces.specs.Soon.{MeetSoon};
-ghost use Rattle.rds_pieces.specs.declared.error.PieceError.TheVariants.{OutOfMemory};
+ghost use Rattle.rds_pieces.specs.RunOf.{run_over};
 
 use crate::error::PieceError;
 use crate::joint::Joint;
@@ -13,8 +10,8 @@ use crate::laws::run_laws;
 use crate::run::PieceRun;
 use crate::walk::go_along;
 use rds_stream::Tape;
+use rds_sync::Rules;
 use rds_sync::laws::runs_converge;
-use rds_sync::{Rules, State};
 use std::alloc::Global;
 
 /// The guess of both ranges of two runs that follow each other, of the tape's recording and by these rules: the left
@@ -27,7 +24,8 @@ use std::alloc::Global;
 ///
 /// Its cost: it reads at most (reach + 2)(d + 1) windows of the tape, which has counted at most 2^62 before; d is the
 /// number of bits of the right range up to the meeting, or to its end where there is none; no more where memory is
-/// refused on the way. It takes memory for the codes of the way up to there alone: those of both runs are moved.
+/// refused on the way. It takes memory for the codes of the way up to there alone: those of both runs are moved. What it
+/// costs are the fields of `IsJoin` (`specs/Joining.antt`).
 pub fn join_runs<T: Tape>(
     alloc: Global,
     tape: &mut T,
@@ -35,25 +33,11 @@ pub fn join_runs<T: Tape>(
     left: PieceRun,
     right: PieceRun,
 ) -> Result<PieceRun, PieceError>
-    requires next { left.to ≡ right.from }
-    requires left { IsRunOf (T.signal tape.old) rules.now left }
-    requires right { IsRunOf (T.signal tape.old) rules.now right }
+    requires neighbours { AreNeighbours (T.signal tape.old) rules.now left right }
     requires room { T.reads_made tape.old ≤ 2 ^ 62 }
-
     ensures ok { IfOk result (λ r. r ≡ run_over (T.signal tape.old) rules.now left.from right.to) }
-    ensures soon { IfOk result (λ _.
-        MeetSoon (T.signal tape.old) rules.now (end_of left) State.Searching right.from right.to) }
-    ensures reads { IfOk result (λ _. (met : Option ℕ)
-        × IsMeeting (T.signal tape.old) rules.now (end_of left) State.Searching right.from right.to met
-        × (T.reads_made tape.new ≤ T.reads_made tape.old + seam_reads rules.now right.from right.to met)) }
-
-    ensures err { IsOkUnless result OutOfMemory }
+    ensures cost { IsJoin (T.signal tape.old) rules.now left right (T.reads_made tape.old) (T.reads_made tape.new) result }
     ensures same { T.signal tape.new ≡ T.signal tape.old }
-    ensures reads_way { (met : Option ℕ)
-        → IsMeeting (T.signal tape.old) rules.now (end_of left) State.Searching right.from right.to met
-        → T.reads_made tape.new ≤ T.reads_made tape.old + seam_reads rules.now right.from right.to met }
-    ensures reads_most { T.reads_made tape.new
-        ≤ T.reads_made tape.old + (rules.now.reach + 2) * (right.to - right.from + 1) }
 {
     let joint = joint_of(alloc, tape, rules, &left, &right)?;
     PieceRun::joined(left, joint, right)
@@ -72,25 +56,12 @@ pub fn joint_of<T: Tape>(
     left: &PieceRun,
     right: &PieceRun,
 ) -> Result<Joint, PieceError>
-    requires next { left.now.to ≡ right.now.from }
-    requires left { IsRunOf (T.signal tape.old) rules.now left.now }
-    requires right { IsRunOf (T.signal tape.old) rules.now right.now }
+    requires neighbours { AreNeighbours (T.signal tape.old) rules.now left.now right.now }
     requires room { T.reads_made tape.old ≤ 2 ^ 62 }
-
     ensures ok { IfOk result (λ joint. joint ≡ the_joint_of left.now right.now) }
-    ensures soon { IfOk result (λ _.
-        MeetSoon (T.signal tape.old) rules.now (end_of left.now) State.Searching right.now.from right.now.to) }
-    ensures reads { IfOk result (λ _. (met : Option ℕ)
-        × IsMeeting (T.signal tape.old) rules.now (end_of left.now) State.Searching right.now.from right.now.to met
-        × (T.reads_made tape.new ≤ T.reads_made tape.old + seam_reads rules.now right.now.from right.now.to met)) }
-
-    ensures err { IsOkUnless result OutOfMemory }
+    ensures cost { IsJoin (T.signal tape.old) rules.now left.now right.now
+        (T.reads_made tape.old) (T.reads_made tape.new) result }
     ensures same { T.signal tape.new ≡ T.signal tape.old }
-    ensures reads_way { (met : Option ℕ)
-        → IsMeeting (T.signal tape.old) rules.now (end_of left.now) State.Searching right.now.from right.now.to met
-        → T.reads_made tape.new ≤ T.reads_made tape.old + seam_reads rules.now right.now.from right.now.to met }
-    ensures reads_most { T.reads_made tape.new
-        ≤ T.reads_made tape.old + (rules.now.reach + 2) * (right.now.to - right.now.from + 1) }
 {
     // Runs in a row are one run, and over a sound range they come into one state.
     run_laws();

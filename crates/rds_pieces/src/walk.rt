@@ -119,7 +119,7 @@ fn meets(state: &State, mark: &Mark) -> bool
 {
     let between = match state {
         State::Searching => true,
-        State::Locked { number, .. } => *number == 1,
+        State::Locked(lock) => lock.number == 1,
     };
     between && *state == mark.state
 }

@@ -6,8 +6,9 @@ ghost use Rattle.rds_sync.specs.Report.{report_items};
 ghost use Rattle.rds_sync.specs.Rules.{RuleNumbers};
 ghost use Rattle.rds_sync.specs.Totals.{totals_of};
 ghost use Rattle.rds_pieces.specs.Cutting.{IsCutting, pieces_of};
+ghost use Rattle.rds_pieces.specs.Joining.{AreNeighbours};
 ghost use Rattle.rds_pieces.specs.JointOf.{joint_of as the_joint_of};
-ghost use Rattle.rds_pieces.specs.RunOf.{FollowEachOther, IsRunOf, run_at};
+ghost use Rattle.rds_pieces.specs.RunOf.{FollowEachOther, run_at};
 ghost use Rattle.rds_pieces.specs.declared.error.PieceError.TheVariants.{OutOfMemory};
 
 use crate::cutting::Cutting;
@@ -55,9 +56,7 @@ pub trait Work {
     /// What joins the runs of two ranges that follow each other: [`PieceRun::joined`] puts them together. Fails with
     /// `OutOfMemory` alone.
     fn join(&self, alloc: Global, left: &PieceRun, right: &PieceRun) -> Result<Joint, PieceError>
-        requires next { left.now.to ≡ right.now.from }
-        requires left { IsRunOf (recording self.now) (rule_set self.now) left.now }
-        requires right { IsRunOf (recording self.now) (rule_set self.now) right.now }
+        requires { AreNeighbours (recording self.now) (rule_set self.now) left.now right.now }
         ensures ok { IfOk result (λ joint. joint ≡ the_joint_of left.now right.now) }
         ensures err { IsOkUnless result OutOfMemory };
 

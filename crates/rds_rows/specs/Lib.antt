@@ -1,4 +1,5 @@
 pub mod Sheets
 pub mod Parts
 pub mod Writes
-pub mod Blocks
+pub mod Written
+pub mod Gathered

@@ -1,5 +1,5 @@
 -- What writes do to a writer: how failures are counted, and what was added to what it held. `Sink`, `write_all`, `write_rows`
--- and `write_rows_in_parts` cite it.
+-- and `write_rows_in_parts` cite it, and `IsWritten`.
 use Rattle.std.specs.Prelude.{◌==◌, ◌&&◌, ◌++◌, ◌≡◌, ℕ, Err, List, Ok, Option, Result, if◌then◌else◌, length, not}
 use Rattle.std.specs.Io.KnownBytes.{Appends}
 

@@ -57,7 +57,7 @@ mod write; // All rows of a list, written.
 mod pool; // The threads that make the parts, and the writer of what they make.
 mod seat; // Where they meet.
 mod slot; // What lies under the lock of a seat.
-mod block; // Parts that are gathered to larger writes.
+mod gathered; // Parts that are gathered to larger writes.
 mod hand; // A writer that is handed in and back.
 mod error; // Why rows are not written.
 

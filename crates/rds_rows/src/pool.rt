@@ -3,10 +3,10 @@ ghost use Rattle.std.specs.Prelude.{◌++◌, ◌<◌, ◌^◌, ◌≡◌, [], A
 ghost use Rattle.std.specs.Io.KnownBytes.{Appends};
 ghost use Rattle.rds_rows.specs.Parts.{IsNamed, first_parts};
 ghost use Rattle.rds_rows.specs.Sheets.{size_of};
-ghost use Rattle.rds_rows.specs.Blocks.{kept_in};
+ghost use Rattle.rds_rows.specs.Gathered.{kept_in};
 ghost use Rattle.rds_rows.specs.Writes.{AppendsBut, AppendsPrefix};
 
-use crate::block::Block;
+use crate::gathered::Gathered;
 use crate::hand::Hand;
 use crate::rows::{Rows, fill_part};
 use crate::seat::Seat;
@@ -67,7 +67,7 @@ fn make_parts<R: Wait, J: Named, T: Rows>(
     }
 }
 
-/// Puts part `k` behind what the block keeps, and gives its sheet back for the next part of the seat. Where no thread makes
+/// Puts part `k` behind what is gathered, and gives its sheet back for the next part of the seat. Where no thread makes
 /// the part, it is made here.
 fn write_part<R: Wait, J: Named, T: Rows, W: Hand + Drop>(
     rt: &R,
@@ -75,7 +75,7 @@ fn write_part<R: Wait, J: Named, T: Rows, W: Hand + Drop>(
     seats: &[Seat<J>],
     k: usize,
     is_alone: bool,
-    block: &mut Block,
+    gathered: &mut Gathered,
     out: &mut W,
 ) -> Result<(), Failed>
     requires named { IsNamed (T.rows rows.now) (T.longest rows.now) J.size J.part }
@@ -83,35 +83,35 @@ fn write_part<R: Wait, J: Named, T: Rows, W: Hand + Drop>(
     requires count { W.failed out.old < 2 ^ 63 }
     ensures name { W.name out.new ≡ W.name out.old }
     ensures ok { OnOk result (AppendsBut (W.contents out.old) (W.contents out.new)
-        (kept_in block.old ++ J.part k) (kept_in block.new)) }
+        (kept_in gathered.old ++ J.part k) (kept_in gathered.new)) }
     ensures count { OnOk result (W.failed out.new ≡ W.failed out.old) }
     ensures failed { OnErr result (W.failed out.old < W.failed out.new) }
     ensures prefix { OnErr result (AppendsPrefix (W.contents out.old) (W.contents out.new)
-        (kept_in block.old ++ J.part k)) }
+        (kept_in gathered.old ++ J.part k)) }
 {
     let seat = &seats[k % seats.len()];
     if is_alone {
         make_part(rt, rows, seat, k);
     }
     let sheet = seat.wait_for_part(rt, k);
-    block.put(sheet.as_slice(), out)?;
+    gathered.put(sheet.as_slice(), out)?;
     seat.give_back(rt, k.saturating_add(seats.len()), sheet);
     Ok(())
 }
 
-/// Writes all parts in order, gathered by a block that keeps nothing yet.
+/// Writes all parts in order, gathered to large writes. Nothing is gathered yet.
 fn write_parts<R: Wait, J: Named, T: Rows, W: Hand + Drop>(
     rt: &R,
     rows: &T,
     seats: &[Seat<J>],
     parts: usize,
     is_alone: bool,
-    block: Block,
+    gathered: Gathered,
     out: &mut W,
 ) -> Result<(), Failed>
     requires named { IsNamed (T.rows rows.now) (T.longest rows.now) J.size J.part }
     requires some { 0 < length seats.now }
-    requires none { kept_in block ≡ [] }
+    requires none { kept_in gathered ≡ [] }
     requires count { W.failed out.old < 2 ^ 63 }
     ensures name { W.name out.new ≡ W.name out.old }
     ensures ok { OnOk result (Appends (W.contents out.old) (W.contents out.new) (first_parts J.part parts)) }
@@ -119,11 +119,11 @@ fn write_parts<R: Wait, J: Named, T: Rows, W: Hand + Drop>(
     ensures failed { OnErr result (W.failed out.old < W.failed out.new) }
     ensures prefix { OnErr result (AppendsPrefix (W.contents out.old) (W.contents out.new) (first_parts J.part parts)) }
 {
-    let mut block = block;
+    let mut gathered = gathered;
     for k in 0..parts {
-        write_part(rt, rows, seats, k, is_alone, &mut block, out)?;
+        write_part(rt, rows, seats, k, is_alone, &mut gathered, out)?;
     }
-    block.write_out(out)
+    gathered.write_out(out)
 }
 
 /// Lets the threads end: no number is left to draw, and who waits for a sheet goes away without.
@@ -147,12 +147,12 @@ pub(crate) fn by_pool<
     seats: &[Seat<J>],
     threads: usize,
     parts: usize,
-    block: Block,
+    gathered: Gathered,
     out: W,
 ) -> (W, Result<(), Failed>)
     requires named { IsNamed (T.rows rows.now) (T.longest rows.now) J.size J.part }
     requires some { 0 < length seats.now }
-    requires none { kept_in block ≡ [] }
+    requires none { kept_in gathered ≡ [] }
     requires count { W.failed out < 2 ^ 63 }
     ensures name { W.name result.0 ≡ W.name out }
     ensures ok { OnOk result.1 (Appends (W.contents out) (W.contents result.0) (first_parts J.part parts)) }
@@ -167,7 +167,7 @@ pub(crate) fn by_pool<
         rt,
         move |scope| -> (W, Result<(), Failed>)
             requires { IsNamed (T.rows rows.now) (T.longest rows.now) J.size J.part
-                × (0 < length seats.now) × (kept_in block ≡ []) × (W.failed out < 2 ^ 63) }
+                × (0 < length seats.now) × (kept_in gathered ≡ []) × (W.failed out < 2 ^ 63) }
             ensures name { W.name result.0 ≡ W.name out }
             ensures ok { OnOk result.1 (Appends (W.contents out) (W.contents result.0) (first_parts J.part parts)) }
             ensures count { OnOk result.1 (W.failed result.0 ≡ W.failed out) }
@@ -182,7 +182,7 @@ pub(crate) fn by_pool<
                 }
             }
             let mut out = out;
-            let wrote = write_parts(rt, rows, seats, parts, is_alone, block, &mut out);
+            let wrote = write_parts(rt, rows, seats, parts, is_alone, gathered, &mut out);
             stop(rt, seats, dealer, parts);
             (out, wrote)
         },

@@ -1,14 +1,13 @@
 //! All rows of a list, written.
-ghost use Rattle.std.specs.Prelude.{◌*◌, ◌<◌, ◌^◌, ◌≡◌, ◌≤◌, ◌↔◌, ◌⊎◌, [], All, IfOk, IfErr, IsErrOf, OnErr, OnOk, length};
+ghost use Rattle.std.specs.Prelude.{◌*◌, ◌<◌, ◌^◌, ◌≡◌, ◌≤◌, [], All, IfOk, length};
 ghost use Rattle.std.specs.List.{concat};
-ghost use Rattle.std.specs.Io.KnownBytes.{Appends};
-ghost use Rattle.rds_rows.specs.Blocks.{kept_in};
+ghost use Rattle.rds_rows.specs.Gathered.{kept_in};
 ghost use Rattle.rds_rows.specs.Parts.{IsNamed, first_parts};
 ghost use Rattle.rds_rows.specs.Sheets.{size_of};
-ghost use Rattle.rds_rows.specs.Writes.{AppendsPrefix};
+ghost use Rattle.rds_rows.specs.Written.{IsWritten};
 
-use crate::block::Block;
 use crate::error::RowsError;
+use crate::gathered::Gathered;
 use crate::hand::{Hand, Lent};
 use crate::pool::{by_pool, seats_of};
 use crate::rows::Rows;
@@ -34,7 +33,7 @@ const ALL_ROWS: usize = 65_536;
 ///
 /// `OutOfMemory` comes before the first byte, and before the first thread is started: the writer is as it was. `Write`
 /// comes where a write failed; what was written is a beginning of the rows' text. There is no other refusal: a thread
-/// that the system refuses is done without.
+/// that the system refuses is done without. Each promise is a field of `IsWritten` (`specs/Written.antt`).
 pub fn write_rows<R: Threads + Wait + Sync, T: Rows + Sync, K: Sink>(
     rt: &R,
     alloc: Global,
@@ -45,12 +44,7 @@ pub fn write_rows<R: Threads + Wait + Sync, T: Rows + Sync, K: Sink>(
     requires some { 0 < workers }
     requires few { workers ≤ 256 }
     requires count { K.failed writer.old < 2 ^ 63 }
-    ensures ok { OnOk result (Appends (K.contents writer.old) (K.contents writer.new) (concat (T.rows rows.now))) }
-    ensures count { OnOk result (K.failed writer.new ≡ K.failed writer.old) }
-    ensures write { IsErrOf result RowsError.Write ↔ (K.failed writer.old < K.failed writer.new) }
-    ensures untouched { IsErrOf result RowsError.OutOfMemory → writer.new ≡ writer.old }
-    ensures prefix { IsErrOf result RowsError.Write
-        → AppendsPrefix (K.contents writer.old) (K.contents writer.new) (concat (T.rows rows.now)) }
+    ensures { IsWritten K.contents K.failed (concat (T.rows rows.now)) writer.old writer.new result }
 {
     let most = (ALL_ROWS / workers as usize).min(USUAL_PART);
     write_rows_in_parts(rt, alloc, rows, workers, most, writer)
@@ -69,21 +63,14 @@ pub fn write_rows_in_parts<R: Threads + Wait + Sync, T: Rows + Sync, K: Sink>(
     requires few { workers ≤ 256 }
     requires rows { 0 < most }
     requires count { K.failed writer.old < 2 ^ 63 }
-
-    // Clause by clause as `write_rows`.
-    ensures ok { OnOk result (Appends (K.contents writer.old) (K.contents writer.new) (concat (T.rows rows.now))) }
-    ensures count { OnOk result (K.failed writer.new ≡ K.failed writer.old) }
-    ensures write { IsErrOf result RowsError.Write ↔ (K.failed writer.old < K.failed writer.new) }
-    ensures untouched { IsErrOf result RowsError.OutOfMemory → writer.new ≡ writer.old }
-    ensures prefix { IsErrOf result RowsError.Write
-        → AppendsPrefix (K.contents writer.old) (K.contents writer.new) (concat (T.rows rows.now)) }
+    ensures { IsWritten K.contents K.failed (concat (T.rows rows.now)) writer.old writer.new result }
 {
     // No sheet has room for more rows than there are.
     let most = most.min(rows.len()).max(1);
     let plan = Plan::new(rows.len(), workers as usize, most);
     let sheets = sheets_of(alloc, plan.sheets(), most, rows.longest_row())?;
-    let block = Block::new(alloc, most, rows.longest_row())?;
-    let (lent, result) = by_value(rt, alloc, rows, sheets, block, plan, Lent { writer });
+    let gathered = Gathered::new(alloc, most, rows.longest_row())?;
+    let (lent, result) = by_value(rt, alloc, rows, sheets, gathered, plan, Lent { writer });
     let Lent { writer: back } = lent;
     take_back(back);
     result
@@ -156,24 +143,19 @@ fn by_value<R: Threads + Wait + Sync, T: Rows + Sync, W: Hand + Drop>(
     alloc: Global,
     rows: &T,
     sheets: Vec<Sheet>,
-    block: Block,
+    gathered: Gathered,
     plan: Plan,
     out: W,
 ) -> (W, Result<(), RowsError>)
     requires sheets { 0 < length sheets.items }
     requires size { All (λ s. size_of s ≡ (plan.most, T.longest rows.now)) sheets.items }
-    requires none { kept_in block ≡ [] }
+    requires none { kept_in gathered ≡ [] }
     requires parts { length (T.rows rows.now) ≤ plan.parts * plan.most }
     requires count { W.failed out < 2 ^ 63 }
     ensures name { W.name result.0 ≡ W.name out }
-    ensures ok { OnOk result.1 (Appends (W.contents out) (W.contents result.0) (concat (T.rows rows.now))) }
-    ensures count { OnOk result.1 (W.failed result.0 ≡ W.failed out) }
-    ensures write { IsErrOf result.1 RowsError.Write ↔ (W.failed out < W.failed result.0) }
-    ensures untouched { IsErrOf result.1 RowsError.OutOfMemory → result.0 ≡ out }
-    ensures prefix { IsErrOf result.1 RowsError.Write
-        → AppendsPrefix (W.contents out) (W.contents result.0) (concat (T.rows rows.now)) }
+    ensures written { IsWritten W.contents W.failed (concat (T.rows rows.now)) out result.0 result.1 }
 {
-    seated::<R, Brand, T, W>(rt, alloc, rows, sheets, block, plan, out)
+    seated::<R, Brand, T, W>(rt, alloc, rows, sheets, gathered, plan, out)
 }
 
 /// The rows, made and written with a seat for each sheet.
@@ -182,23 +164,18 @@ fn seated<R: Threads + Wait + Sync, J: Named + Send + Sync, T: Rows + Sync, W: H
     alloc: Global,
     rows: &T,
     sheets: Vec<Sheet>,
-    block: Block,
+    gathered: Gathered,
     plan: Plan,
     out: W,
 ) -> (W, Result<(), RowsError>)
     requires named { IsNamed (T.rows rows.now) (T.longest rows.now) J.size J.part }
     requires sheets { 0 < length sheets.items }
     requires size { All (λ s. size_of s ≡ J.size) sheets.items }
-    requires none { kept_in block ≡ [] }
+    requires none { kept_in gathered ≡ [] }
     requires parts { length (T.rows rows.now) ≤ plan.parts * J.size.0 }
     requires count { W.failed out < 2 ^ 63 }
     ensures name { W.name result.0 ≡ W.name out }
-    ensures ok { OnOk result.1 (Appends (W.contents out) (W.contents result.0) (concat (T.rows rows.now))) }
-    ensures count { OnOk result.1 (W.failed result.0 ≡ W.failed out) }
-    ensures write { IsErrOf result.1 RowsError.Write ↔ (W.failed out < W.failed result.0) }
-    ensures untouched { IsErrOf result.1 RowsError.OutOfMemory → result.0 ≡ out }
-    ensures prefix { IsErrOf result.1 RowsError.Write
-        → AppendsPrefix (W.contents out) (W.contents result.0) (concat (T.rows rows.now)) }
+    ensures written { IsWritten W.contents W.failed (concat (T.rows rows.now)) out result.0 result.1 }
 {
     let Ok(seats) = seats_of::<J>(alloc, sheets) else {
         return (out, Err(RowsError::OutOfMemory));
@@ -209,7 +186,7 @@ fn seated<R: Threads + Wait + Sync, J: Named + Send + Sync, T: Rows + Sync, W: H
         seats.as_slice(),
         plan.threads,
         plan.parts,
-        block,
+        gathered,
         out,
     ) {
         (out, Ok(())) => (out, Ok(())),

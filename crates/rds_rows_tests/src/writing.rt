@@ -1,39 +1,8 @@
-//! All rows, by any number of workers.
+//! How much a write of many rows has, by any number of workers.
 use crate::stored::{LONGEST, Stored};
 use crate::writer::{Failure, SlowWriter};
-use rds_rows::{MOST_WORKERS, write_rows, write_rows_in_parts};
+use rds_rows::{write_rows, write_rows_in_parts};
 use std::test::Fail;
-
-#[test]
-fn each_number_of_workers_gives_the_same_text(rt: HostRuntime) -> Result<(), Fail> {
-    let alloc = rt.alloc();
-    let rows = Stored::new(alloc, 700)?;
-    let text = rows.text(alloc)?;
-    for workers in 1..=MOST_WORKERS {
-        let mut writer = SlowWriter::new(alloc, usize::MAX, Failure::Never);
-        let result = write_rows_in_parts(&rt, alloc, &rows, workers, 3, &mut writer);
-        assert!(rt; result.is_ok() && writer.held == text, "{workers} workers");
-    }
-    Ok(())
-}
-
-#[test]
-fn each_count_of_rows_gives_its_text(rt: HostRuntime) -> Result<(), Fail> {
-    let alloc = rt.alloc();
-    for count in 0..60usize {
-        let rows = Stored::new(alloc, count)?;
-        let text = rows.text(alloc)?;
-        for most in 1..9usize {
-            let mut writer = SlowWriter::new(alloc, usize::MAX, Failure::Never);
-            let result = write_rows_in_parts(&rt, alloc, &rows, 3, most, &mut writer);
-            assert!(rt;
-                result.is_ok() && writer.held == text,
-                "{count} rows in parts of {most}"
-            );
-        }
-    }
-    Ok(())
-}
 
 // A write has 64 KiB, or the bytes of a part of the longest rows: of 4,096, or of 256 where there are 256 workers.
 #[test]
@@ -78,16 +47,5 @@ fn parts_of_any_size_go_in_large_writes(rt: HostRuntime) -> Result<(), Fail> {
             );
         }
     }
-    Ok(())
-}
-
-#[test]
-fn what_a_writer_held_stays_before_the_rows(rt: HostRuntime) -> Result<(), Fail> {
-    let alloc = rt.alloc();
-    let rows = Stored::new(alloc, 3)?;
-    let mut writer = SlowWriter::new(alloc, usize::MAX, Failure::Never);
-    writer.held.extend_from_slice(b"rows:")?;
-    assert!(rt; write_rows(&rt, alloc, &rows, 2, &mut writer).is_ok());
-    assert!(rt; writer.held.as_slice() == b"rows:bcc".as_slice());
     Ok(())
 }

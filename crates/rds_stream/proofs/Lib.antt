@@ -4,6 +4,6 @@ pub mod BitOrder
 pub mod RemainderBits
 pub mod WindowBits
 pub mod Agreement
-pub mod MarkLemmas
+pub mod ValidPlaceLemmas
 pub mod GapLemmas
 pub mod Refilling

@@ -2,7 +2,9 @@
 ghost use Rattle.std.specs.Prelude.{◌≡◌, ◌<◌, ◌≤◌, ◌^◌, IfSome};
 ghost use Rattle.rds_stream.specs.Recording.{offset_heard, reading_heard};
 
-use rds_code::{BurstTable, Offset, Reading, Wanted, offset_of, read_block, rem26};
+use rds_code::{
+    BlockNumber, BurstLimit, BurstTable, Offset, Reading, Wanted, offset_of, read_block, rem26,
+};
 
 /// The offset of a window that was heard, a word of 26 bits: the one whose word is its remainder (EN 50067:1998, 2.3
 /// and annex A), or none. Nothing has no offset: this project's rule.
@@ -14,20 +16,17 @@ pub fn offset_heard(heard: Option<u32>) -> Option<Offset>
     offset_of(rem26(heard?))
 }
 
-/// A window that was heard, a word of 26 bits, read as block `number`, 1 to 4, with bursts of up to `limit` bits
-/// corrected, 0 to 5, by [`read_block`]. Nothing is read as a lost block, whatever bits were stored: this project's
-/// rule.
+/// A window that was heard, a word of 26 bits, read as block `number`, with bursts within `limit` corrected, by
+/// [`read_block`]. Nothing is read as a lost block, whatever bits were stored: this project's rule.
 #[inline(always)]
 pub fn read_heard(
     table: &BurstTable,
     heard: Option<u32>,
-    number: u8,
+    number: BlockNumber,
     wanted: Wanted,
-    limit: u8,
+    limit: BurstLimit,
 ) -> Reading
-    requires block { IfSome heard (λ window. window < 2 ^ 26) }
-    requires number { (1 ≤ number) × (number ≤ 4) }
-    requires limit { limit ≤ 5 }
+    requires { IfSome heard (λ window. window < 2 ^ 26) }
     ensures { result ≡ reading_heard heard number wanted limit }
 {
     match heard {

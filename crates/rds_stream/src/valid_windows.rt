@@ -4,11 +4,11 @@ ghost use Rattle.std.specs.Iterator.{at_most};
 ghost use Rattle.rds_stream.specs.Recording.{length_of};
 ghost use Rattle.rds_stream.specs.Inside.Sections.{IsSection};
 ghost use Rattle.rds_stream.specs.ValidWindows.{WindowsLeft, GivesFirst};
-ghost use Rattle.rds_stream.specs.Inside.Marks.{AreMarks};
+ghost use Rattle.rds_stream.specs.Inside.ValidPlaces.{TellsValidPlaces};
 
 use crate::gaps::Section;
-use crate::marks::{Marks, above, lowest};
 use crate::recording::{FIRST_WINDOW, Recording};
+use crate::valid_places::{ValidPlaces, above, lowest};
 use rds_code::Offset;
 use std::marker::Model;
 
@@ -21,17 +21,17 @@ use std::marker::Model;
 pub struct ValidWindows<'a> {
     recording: &'a Recording,
     section: Section,
-    marks: Marks,
+    places: ValidPlaces,
     end: u64,
 }
 
 impl<'a> Model for ValidWindows<'a> {
     ghost Value = { WindowsLeft };
 
-    ghost view = { λ w. record { signal = w.recording.now; next = w.marks.next; end = w.end } };
+    ghost view = { λ w. record { signal = w.recording.now; next = w.places.next; end = w.end } };
 
-    ghost invariant = { λ w. AreMarks w.recording.now w.marks.next w.marks.ahead w.marks.word
-        × (w.marks.ahead < w.end → 25 ≤ w.marks.ahead) × (w.marks.ahead ≤ w.end) × (w.end ≤ length_of w.recording.now)
+    ghost invariant = { λ w. TellsValidPlaces w.recording.now w.places.next w.places.ahead w.places.word
+        × (w.places.ahead < w.end → 25 ≤ w.places.ahead) × (w.places.ahead ≤ w.end) × (w.end ≤ length_of w.recording.now)
         × IsSection w.recording.now w.section.from w.section.to w.section.touched };
 }
 
@@ -50,7 +50,7 @@ impl ValidWindows<'_> {
                 to: from,
                 touched: false,
             },
-            marks: Marks {
+            places: ValidPlaces {
                 next: from,
                 ahead: from.max(FIRST_WINDOW.min(to)),
                 word: 0,
@@ -66,7 +66,7 @@ impl ValidWindows<'_> {
         requires end { place ≤ self.old.end }
         ensures { self.new ≡ record { signal = self.old.signal; next = place; end = self.old.end } }
     {
-        self.marks = self.marks.from_on(place);
+        self.places = self.places.from_on(place);
     }
 }
 
@@ -78,25 +78,25 @@ impl<'a> Iterator for ValidWindows<'a> {
     ghost remaining = { λ w. at_most (w.end - w.next) };
 
     fn next(&mut self) -> Option<(u64, Offset)> {
-        let marks = self
-            .marks
-            .next_marked(self.recording, &mut self.section, self.end);
-        if marks.word == 0 {
-            self.marks = Marks {
+        let places = self
+            .places
+            .next_valid(self.recording, &mut self.section, self.end);
+        if places.word == 0 {
+            self.places = ValidPlaces {
                 next: self.end,
                 ahead: self.end,
                 word: 0,
             };
             return None;
         }
-        let bit = lowest(marks.word);
-        let place = marks.next + bit as u64;
-        self.marks = Marks {
+        let bit = lowest(places.word);
+        let place = places.next + bit as u64;
+        self.places = ValidPlaces {
             next: place + 1,
-            ahead: marks.ahead,
-            word: above(marks.word, bit),
+            ahead: places.ahead,
+            word: above(places.word, bit),
         };
-        // A marked place has an offset.
+        // A place whose bit is a one has an offset.
         let offset = self.recording.stored_offset(place)?;
         Some((place, offset))
     }

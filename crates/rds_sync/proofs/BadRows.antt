@@ -1,19 +1,17 @@
 -- Bad blocks in a row, and good ones in a row, by what is kept of them: for both rules of loss.
-use Rattle.std.proofs.Common.{◌≡◌, ℕ, zero, suc, ◌+◌, ◌*◌, ◌%◌, ◌/◌, ◌^◌, ◌<◌, ◌≤◌, Bool, true, false, refl, sym, ap, ap₂, ◌∙◌, subst, arith, inl, inr}
-use Rattle.std.proofs.Math.Nat.{mod-lt, pow-suc, mul-le-mul_right}
+use Rattle.std.proofs.Common.{◌≡◌, ℕ, zero, suc, ◌+◌, ◌*◌, ◌%◌, ◌/◌, ◌^◌, ◌<◌, ◌≤◌, true, false, refl, sym, ap, ap₂, ◌∙◌, subst, arith}
+use Rattle.std.proofs.Math.Nat.{pow-suc, mul-le-mul_right}
 use Rattle.std.proofs.Math.Pow.{pow_pos}
-use Rattle.std.proofs.lemmas.Bool.{cases_lt, le-leb, lt-leb}
+use Rattle.std.proofs.lemmas.Bool.{lt-leb}
 use Rattle.std.specs.Int.Count.{ones, ones_step}
-use Rattle.std.specs.Prelude.{nat_le, count_ones, ⊤}
+use Rattle.std.specs.Prelude.{count_ones, ⊤}
 use Rattle.rds_sync.specs.declared.loss.Loss.{Loss}
-use Rattle.rds_sync.specs.declared.loss.Loss.TheVariants.{Run, Share}
-use Rattle.rds_sync.specs.declared.loss.Bad.{Bad}
-use Rattle.rds_sync.specs.declared.loss.Bad.TheVariants.{Run as InARow, Mask}
-use Rattle.rds_sync.specs.Loss.{IsLoss, IsLawfulBad, none_bad, bad_after, are_too_many}
+use Rattle.rds_sync.specs.declared.loss.Loss.TheVariants.{InARow, Share}
+use Rattle.rds_sync.specs.Loss.{IsLoss, IsLawfulBad, bad_after, are_too_many}
 use Rattle.rds_sync.specs.Convergence.{sound_blocks}
 use Rattle.rds_sync.specs.Marks.{bad_over}
 use Rattle.rds_sync.specs.Words.{blocks_in}
-use Rattle.rds_sync.proofs.LossLemmas.{double, ones_below}
+use Rattle.rds_sync.proofs.LossLemmas.{double, ones_below, ones_zero}
 
 -- the lowest j digits of m are all f
 abbrev pub Lows : ℕ → ℕ → ℕ → Type 0
@@ -62,10 +60,6 @@ lows_start : (i m : ℕ) → i ≤ 0 → Lows 0 i m
 lows_start zero m h = tt
 lows_start (suc i) m h = absurd (omega arith)
 
-ones_zero : count_ones 0 ≡ 0
-unfolding ones
-ones_zero = refl
-
 -- a remainder has no more ones
 ones_fewer : (v m : ℕ) → count_ones (m % 2 ^ v) ≤ count_ones m
 ones_fewer zero m = let none : m % 1 ≡ 0 = omega arith in let e : count_ones (m % 1) ≡ 0 = ap count_ones none ∙ ones_zero in omega (arith, e)
@@ -74,109 +68,77 @@ ones_fewer (suc v) m =
     let e : count_ones (m % 2 ^ suc v) ≡ count_ones ((m / 2) % 2 ^ v) + m % 2 = ap count_ones (split v m) ∙ ones_below ((m / 2) % 2 ^ v) (m % 2) (omega arith) in
     omega (arith, s, e, ones_fewer v (m / 2))
 
-few_from : (n m : ℕ) → nat_le n m ≡ false → m < n
-few_from n m e = elim (cases_lt m n) [
-  | inl few ↦ few
-  | inr many ↦ let t : nat_le n m ≡ true = le-leb n m many in let no : true ≡ false = sym t ∙ e in cc no
-]
-
--- lawful: none, and what is kept of a lock that is not lost; a good block loses none
-pub lawful_none : (loss : Loss) → IsLoss loss → IsLawfulBad loss (none_bad loss)
-lawful_none (Run n) h = h
-lawful_none (Share n v) h = (omega (arith, pow_pos v), omega (arith, ones_zero, h.0))
-
-pub lawful_kept : (loss : Loss) (bad : Bad) (good : Bool) → IsLawfulBad loss bad → are_too_many loss (bad_after loss good bad) ≡ false → IsLawfulBad loss (bad_after loss good bad)
-lawful_kept (Run n) (InARow row) good h e = few_from n _ e
-lawful_kept (Run n) (Mask m) good h e = absurd h
-lawful_kept (Share n v) (InARow row) good h e = absurd h
-lawful_kept (Share n v) (Mask m) good h e = (mod-lt _ (omega (arith, pow_pos v)), few_from n _ e)
-
-pub good_keeps : (loss : Loss) (bad : Bad) → IsLawfulBad loss bad → are_too_many loss (bad_after loss true bad) ≡ false
-good_keeps (Run n) (InARow row) h = lt-leb n 0 (omega (arith, h))
-good_keeps (Run n) (Mask m) h = absurd h
-good_keeps (Share n v) (InARow row) h = absurd h
-good_keeps (Share n v) (Mask m) h =
+-- a good block loses no lock
+pub good_keeps : (loss : Loss) (bad : ℕ) → IsLawfulBad loss bad → are_too_many loss (bad_after loss true bad) ≡ false
+good_keeps (InARow n) row h = lt-leb n 0 (omega (arith, h))
+good_keeps (Share n v) m h =
     let shifted : count_ones (2 * m + 0) ≡ count_ones m + 0 = ones_below m 0 (omega arith) in
     let fewer = ones_fewer v (2 * m + 0) in
     lt-leb n (count_ones ((2 * m + 0) % 2 ^ v)) (omega (arith, shifted, fewer, h.1))
 
 -- how many bad blocks lose a lock, and how many good ones leave nothing of the bad ones
 abbrev pub needed : Loss → ℕ
-needed (Run n) = n
+needed (InARow n) = n
 needed (Share n v) = n
 
 abbrev pub memory : Loss → ℕ
-memory (Run n) = 1
+memory (InARow n) = 1
 memory (Share n v) = v
 
 pub needed_is : (loss : Loss) (j : ℕ) → (j + 1) * needed loss + 6 ≤ sound_blocks loss j
-needed_is (Run n) j = omega arith
+needed_is (InARow n) j = omega arith
 needed_is (Share n v) j = omega arith
 
 pub memory_is : (loss : Loss) (j : ℕ) → IsLoss loss → memory loss + 6 ≤ sound_blocks loss j
-memory_is (Run n) j h = let more : 1 * n ≤ (j + 1) * n = mul-le-mul_right n (omega arith) in omega (arith, more, h)
+memory_is (InARow n) j h = let more : 1 * n ≤ (j + 1) * n = mul-le-mul_right n (omega arith) in omega (arith, more, h)
 memory_is (Share n v) j h = omega arith
 
 -- at least the last r blocks were bad
-abbrev pub HasRow : Loss → Bad → ℕ → Type 0
-HasRow (Run n) (InARow row) r = r ≤ row
-HasRow (Share n v) (Mask m) r = Lows 1 r m
-HasRow loss other r = ⊤
+abbrev pub HasRow : Loss → ℕ → ℕ → Type 0
+HasRow (InARow n) row r = r ≤ row
+HasRow (Share n v) m r = Lows 1 r m
 
-pub row_zero : (loss : Loss) (bad : Bad) → HasRow loss bad 0
-row_zero (Run n) (InARow row) = omega arith
-row_zero (Run n) (Mask m) = tt
-row_zero (Share n v) (InARow row) = tt
-row_zero (Share n v) (Mask m) = tt
+pub row_zero : (loss : Loss) (bad : ℕ) → HasRow loss bad 0
+row_zero (InARow n) row = omega arith
+row_zero (Share n v) m = tt
 
-pub row_short : (loss : Loss) (bad : Bad) (r : ℕ) → IsLawfulBad loss bad → HasRow loss bad r → r < needed loss
-row_short (Run n) (InARow row) r h l = omega (arith, h, l)
-row_short (Run n) (Mask m) r h l = absurd h
-row_short (Share n v) (InARow row) r h l = absurd h
-row_short (Share n v) (Mask m) r h l = omega (arith, h.1, lows_ones r m l)
+pub row_short : (loss : Loss) (bad r : ℕ) → IsLawfulBad loss bad → HasRow loss bad r → r < needed loss
+row_short (InARow n) row r h l = omega (arith, h, l)
+row_short (Share n v) m r h l = omega (arith, h.1, lows_ones r m l)
 
-pub row_grows : (loss : Loss) (bad : Bad) (r : ℕ) → IsLoss loss → IsLawfulBad loss bad → HasRow loss bad r → HasRow loss (bad_after loss false bad) (suc r)
-row_grows (Run n) (InARow row) r some h l = omega (arith, l)
-row_grows (Run n) (Mask m) r some h l = absurd h
-row_grows (Share n v) (InARow row) r some h l = absurd h
-row_grows (Share n v) (Mask m) r some h l =
-    let short : r < n = row_short (Share n v) (Mask m) r h l in
+pub row_grows : (loss : Loss) (bad r : ℕ) → IsLoss loss → IsLawfulBad loss bad → HasRow loss bad r → HasRow loss (bad_after loss false bad) (suc r)
+row_grows (InARow n) row r some h l = omega (arith, l)
+row_grows (Share n v) m r some h l =
+    let short : r < n = row_short (Share n v) m r h l in
     lows_more 1 r v m (omega arith) (omega (arith, short, some.1)) l
 
 -- at least the last r blocks were good
-abbrev pub IsClean : Loss → Bad → ℕ → Type 0
-IsClean (Run n) (InARow row) r = 1 ≤ r → row ≡ 0
-IsClean (Share n v) (Mask m) r = (i : ℕ) → i ≤ r → i ≤ v → Lows 0 i m
-IsClean loss other r = ⊤
+abbrev pub IsClean : Loss → ℕ → ℕ → Type 0
+IsClean (InARow n) row r = 1 ≤ r → row ≡ 0
+IsClean (Share n v) m r = (i : ℕ) → i ≤ r → i ≤ v → Lows 0 i m
 
-pub clean_zero : (loss : Loss) (bad : Bad) → IsClean loss bad 0
-clean_zero (Run n) (InARow row) = λ h. absurd (omega arith)
-clean_zero (Run n) (Mask m) = tt
-clean_zero (Share n v) (InARow row) = tt
-clean_zero (Share n v) (Mask m) = λ i l u. lows_start i m l
+pub clean_zero : (loss : Loss) (bad : ℕ) → IsClean loss bad 0
+clean_zero (InARow n) row = λ h. absurd (omega arith)
+clean_zero (Share n v) m = λ i l u. lows_start i m l
 
-pub clean_none : (loss : Loss) (r : ℕ) → IsClean loss (none_bad loss) r
-clean_none (Run n) r = λ h. refl
+pub clean_none : (loss : Loss) (r : ℕ) → IsClean loss 0 r
+clean_none (InARow n) r = λ h. refl
 clean_none (Share n v) r = λ i l u. lows_zero i
 
 shift_clean : (v m r : ℕ) → ((i : ℕ) → i ≤ r → i ≤ v → Lows 0 i m) → (i : ℕ) → i ≤ suc r → i ≤ v → Lows 0 i ((2 * m + 0) % 2 ^ v)
 shift_clean v m r clean zero l u = tt
 shift_clean v m r clean (suc i) l u = lows_more 0 i v m (omega arith) u (clean i (omega arith) (omega arith))
 
-pub clean_more : (loss : Loss) (bad : Bad) (r : ℕ) → IsClean loss bad r → IsClean loss (bad_after loss true bad) (suc r)
-clean_more (Run n) (InARow row) r c = λ h. refl
-clean_more (Run n) (Mask m) r c = tt
-clean_more (Share n v) (InARow row) r c = tt
-clean_more (Share n v) (Mask m) r c = shift_clean v m r c
+pub clean_more : (loss : Loss) (bad r : ℕ) → IsClean loss bad r → IsClean loss (bad_after loss true bad) (suc r)
+clean_more (InARow n) row r c = λ h. refl
+clean_more (Share n v) m r c = shift_clean v m r c
 
-pub clean_is : (loss : Loss) (bad : Bad) (r : ℕ) → IsLawfulBad loss bad → memory loss ≤ r → IsClean loss bad r → bad ≡ none_bad loss
-clean_is (Run n) (InARow row) r h some c = ap InARow (c some)
-clean_is (Run n) (Mask m) r h some c = absurd h
-clean_is (Share n v) (InARow row) r h some c = absurd h
-clean_is (Share n v) (Mask m) r h some c = ap Mask (lows_none v m h.0 (c v some (omega arith)))
+pub clean_is : (loss : Loss) (bad r : ℕ) → IsLawfulBad loss bad → memory loss ≤ r → IsClean loss bad r → bad ≡ 0
+clean_is (InARow n) row r h some c = c some
+clean_is (Share n v) m r h some c = lows_none v m h.0 (c v some (omega arith))
 
 -- four good blocks leave no row, and none of them loses a lock
-pub clean_kept : (n row k : ℕ) → 1 ≤ n → k < 4 → are_too_many (Run n) (bad_over (Run n) (blocks_in 4369) (InARow row) 1 (k + 1)) ≡ false
+pub clean_kept : (n row k : ℕ) → 1 ≤ n → k < 4 → are_too_many (InARow n) (bad_over (InARow n) (blocks_in 4369) row 1 (k + 1)) ≡ false
 clean_kept n row zero some h = lt-leb n 0 some
 clean_kept n row (suc zero) some h = lt-leb n 0 some
 clean_kept n row (suc (suc zero)) some h = lt-leb n 0 some

@@ -1,22 +1,23 @@
 -- Any two runs meet on a sound.
-use Rattle.std.proofs.Common.{◌≡◌, ◌≢◌, ℕ, zero, suc, ◌+◌, ◌-◌, ◌*◌, ◌%◌, ◌/◌, ◌<◌, ◌≤◌, Bool, true, false, Option, Some, None, refl, sym, ap, ap₂, ◌∙◌, arith, add-zero, zero-add, inl, inr, ⊎_elim, eqb, cond}
+use Rattle.std.proofs.Common.{◌≡◌, ◌≢◌, ℕ, zero, suc, ◌+◌, ◌-◌, ◌*◌, ◌%◌, ◌/◌, ◌<◌, ◌≤◌, Bool, true, false, Option, Some, None, refl, sym, ap, ap₂, ◌∙◌, arith, add-zero, zero-add, inl, inr, ⊎_elim, cond}
 use Rattle.std.proofs.Math.Nat.{suc-add, mul-le-mul_right}
 use Rattle.std.proofs.lemmas.Bool.{eq-eqb, cases_Bool, cases_eq, cases_lt, eqb-true}
 use Rattle.std.proofs.lemmas.List.Sums.{sum_by-cons}
 use Rattle.std.specs.Prelude.{◌==◌, is_some, count_by}
 use Rattle.std.specs.List.{range_with_len, list_any}
 use Rattle.rds_stream.specs.Recording.{Signal, off}
+use Rattle.rds_sync.specs.declared.lock.Lock.{Lock}
 use Rattle.rds_sync.specs.declared.state.State.{State}
 use Rattle.rds_sync.specs.declared.state.State.TheVariants.{Searching, Locked}
-use Rattle.rds_sync.specs.declared.loss.Bad.{Bad}
 use Rattle.rds_sync.specs.Rules.{RuleNumbers}
-use Rattle.rds_sync.specs.Loss.{IsLoss, IsLawfulBad, none_bad, bad_after, are_too_many}
-use Rattle.rds_sync.proofs.BadRows.{lawful_none, lawful_kept, good_keeps, needed, memory, needed_is, memory_is, HasRow, row_zero, row_short, row_grows, IsClean, clean_zero, clean_none, clean_more, clean_is}
+use Rattle.rds_sync.specs.Loss.{IsLoss, IsLawfulBad, bad_after, are_too_many}
+use Rattle.rds_sync.proofs.LossLemmas.{lawful_none, lawful_kept}
+use Rattle.rds_sync.proofs.BadRows.{good_keeps, needed, memory, needed_is, memory_is, HasRow, row_zero, row_short, row_grows, IsClean, clean_zero, clean_none, clean_more, clean_is}
 use Rattle.rds_sync.specs.Lawful.{IsLawful}
 use Rattle.rds_code.specs.declared.offset.Offset.{Offset}
 use Rattle.rds_code.specs.Offsets.{number}
 use Rattle.rds_sync.specs.Acquiring.{acquired, has_number, number_after, has_partner, with_partner}
-use Rattle.rds_sync.specs.Step.{run, step, locked_after, bad_with}
+use Rattle.rds_sync.specs.Step.{run, step, bad_with, lock_of, lock_after}
 use Rattle.rds_sync.specs.Convergence.{IsSound, IsLastFour, sound_blocks, SoundRangesHaveFours, RunsConverge}
 use Rattle.rds_sync.proofs.RivalLemmas.{every_26, few_in_phase}
 use Rattle.rds_sync.proofs.RunLemmas.{step-waiting, step-keeping, step-losing, step-searching, step-acquiring}
@@ -37,12 +38,11 @@ module _ (b : Signal) (rules : RuleNumbers) where
       let e : a + suc m ≡ a + 1 + m = omega arith in
       rw (suc-add, e) (after_more (step b rules a s) (a + 1) m n)
 
-  waits : (num : ℕ) (bad : Bad) (f p d : ℕ) → after (Locked (p + d) num bad f) p d ≡ Locked (p + d) num bad f
-  waits num bad f p zero = refl
-  waits num bad f p (suc d) =
-      let e : p + suc d ≡ p + 1 + d = omega arith in
-      ap (λ (s : State). after s (p + 1) d) (step-waiting b rules (p + suc d) num bad f p (λ e. absurd (omega arith)))
-      ∙ rw e (waits num bad f (p + 1) d)
+  waits : (lock : Lock) (p d : ℕ) → p + d ≤ lock.due → after (Locked lock) p d ≡ Locked lock
+  waits lock p zero early = refl
+  waits lock p (suc d) early =
+      ap (λ (s : State). after s (p + 1) d) (step-waiting b rules lock p (λ e. absurd (omega arith)))
+      ∙ waits lock (p + 1) d (omega arith)
 
   -- how many of the next n blocks of a lock are good
   abbrev good_blocks : ℕ → ℕ → ℕ → ℕ
@@ -53,21 +53,19 @@ module _ (b : Signal) (rules : RuleNumbers) where
   LostBy s a limit = (m : ℕ) × (m ≤ limit) × (after s a m ≡ Searching)
 
   -- a block that is read with no loss
-  next_block : (due num : ℕ) (bad : Bad) (f : ℕ) (bad2 : Bad) → bad_with b rules due num bad ≡ bad2 → are_too_many rules.loss bad2 ≡ false
-      → after (Locked due num bad f) due 26 ≡ Locked (due + 26) (num % 4 + 1) bad2 (cond (num == 4) 1 f)
+  next_block : (due num bad f bad2 : ℕ) → bad_with b rules due num bad ≡ bad2 → are_too_many rules.loss bad2 ≡ false
+      → after (Locked (lock_of due num bad f)) due 26 ≡ Locked (lock_after due num bad2 f)
   next_block due num bad f bad2 e h =
       let ok : are_too_many rules.loss (bad_with b rules due num bad) ≡ false = ap (are_too_many rules.loss) e ∙ h in
-      let goes : step b rules due (Locked due num bad f) ≡ Locked (due + 26) (num % 4 + 1) bad2 (cond (num == 4) 1 f) =
-      step-keeping b rules due num bad f ok ∙ ap (λ (n : Bad). locked_after due num n f) e in
-      let place : due + 26 ≡ due + 1 + 25 = omega arith in
-      ap (λ (s : State). after s (due + 1) 25) goes ∙ rw place (waits (num % 4 + 1) bad2 (cond (num == 4) 1 f) (due + 1) 25)
+      ap (λ (s : State). after s (due + 1) 25) (step-keeping b rules (lock_of due num bad f) ok ∙ ap (λ (n : ℕ). Locked (lock_after due num n f)) e)
+      ∙ waits (lock_after due num bad2 f) (due + 1) 25 (omega arith)
 
   later : (s t : State) (a m limit : ℕ) → after s a m ≡ t → LostBy t (a + m) limit → LostBy s a (m + limit)
   later s t a m limit e l = (m + l.0, omega (arith, l.1), after_more s a m l.0 ∙ ap (λ (u : State). after u (a + m) l.0) e ∙ l.2)
 
   -- a lock with few good blocks is lost: there are as many bad ones in a row as lose it
-  loses : IsLoss rules.loss → (n due num : ℕ) (bad : Bad) (f r : ℕ) → IsLawfulBad rules.loss bad → HasRow rules.loss bad r
-      → (good_blocks due num n + 1) * needed rules.loss ≤ r + n → LostBy (Locked due num bad f) due (26 * n)
+  loses : IsLoss rules.loss → (n due num bad f r : ℕ) → IsLawfulBad rules.loss bad → HasRow rules.loss bad r
+      → (good_blocks due num n + 1) * needed rules.loss ≤ r + n → LostBy (Locked (lock_of due num bad f)) due (26 * n)
   loses some zero due num bad f r h in_row few = let short = row_short rules.loss bad r h in_row in absurd (omega arith)
   loses some (suc n) due num bad f r h in_row few =
       let limit : 26 * suc n ≡ 26 + 26 * n = omega arith in
@@ -78,7 +76,7 @@ module _ (b : Signal) (rules : RuleNumbers) where
             let kept = good_keeps rules.loss bad h in
             let count : good_blocks due num (suc n) ≡ 1 + good_blocks (due + 26) (num % 4 + 1) n = rw good refl in
             let fewer : (good_blocks (due + 26) (num % 4 + 1) n + 1) * needed rules.loss ≤ 0 + n = omega (arith, rw count at few) in
-            rw limit (later (Locked due num bad f) _ due 26 (26 * n) (next_block due num bad f (bad_after rules.loss true bad) next kept)
+            rw limit (later (Locked (lock_of due num bad f)) _ due 26 (26 * n) (next_block due num bad f (bad_after rules.loss true bad) next kept)
             (loses some n (due + 26) (num % 4 + 1) (bad_after rules.loss true bad) (cond (num == 4) 1 f) 0
             (lawful_kept rules.loss bad true h kept) (row_zero rules.loss (bad_after rules.loss true bad)) fewer))
         | inr ill ↦
@@ -86,8 +84,8 @@ module _ (b : Signal) (rules : RuleNumbers) where
             let count : good_blocks due num (suc n) ≡ 0 + good_blocks (due + 26) (num % 4 + 1) n = rw ill refl in
             let fewer : (good_blocks (due + 26) (num % 4 + 1) n + 1) * needed rules.loss ≤ suc r + n = omega (arith, rw count at few) in
             elim (cases_Bool (are_too_many rules.loss (bad_after rules.loss false bad))) [
-              | inl over ↦ (1, omega arith, step-losing b rules due num bad f (ap (are_too_many rules.loss) next ∙ over))
-              | inr kept ↦ rw limit (later (Locked due num bad f) _ due 26 (26 * n) (next_block due num bad f (bad_after rules.loss false bad) next kept)
+              | inl over ↦ (1, omega arith, step-losing b rules (lock_of due num bad f) (ap (are_too_many rules.loss) next ∙ over))
+              | inr kept ↦ rw limit (later (Locked (lock_of due num bad f)) _ due 26 (26 * n) (next_block due num bad f (bad_after rules.loss false bad) next kept)
                   (loses some n (due + 26) (num % 4 + 1) (bad_after rules.loss false bad) (cond (num == 4) 1 f) (suc r)
                   (lawful_kept rules.loss bad false h kept) (row_grows rules.loss bad r some h in_row) fewer))
             ]
@@ -137,7 +135,7 @@ module _ (b : Signal) (rules : RuleNumbers) where
 
   -- a search locks at the first place that acquires
   finds : (d q x : ℕ) → ((r : ℕ) → q ≤ r → r < q + d → acquired b rules r ≡ None) → acquired b rules (q + d) ≡ Some x
-      → after Searching q (d + 1) ≡ locked_after (q + d) x (none_bad rules.loss) x
+      → after Searching q (d + 1) ≡ Locked (lock_after (q + d) x 0 x)
   finds zero q x none e = let place : q + 0 ≡ q = omega arith in rw place (step-acquiring b rules q x (rw place at e))
   finds (suc d) q x none e =
       let place : q + suc d ≡ q + 1 + d = omega arith in
@@ -151,17 +149,17 @@ module _ (b : Signal) (rules : RuleNumbers) where
     number_next k = omega arith
 
     -- a lock on the sequence stays, and after enough blocks nothing is left of its bad ones
-    stays : (d k : ℕ) (bad : Bad) (f r : ℕ) → IsLawfulBad rules.loss bad → IsClean rules.loss bad r → memory rules.loss ≤ r + suc d
+    stays : (d k bad f r : ℕ) → IsLawfulBad rules.loss bad → IsClean rules.loss bad r → memory rules.loss ≤ r + suc d
         → k + d ≤ last → number_after c (k + d) ≡ 4
-        → after (Locked (p + 26 * k) (number_after c k) bad f) (p + 26 * k) (26 * d + 1) ≡ Locked (p + 26 * (k + d) + 26) 1 (none_bad rules.loss) 1
+        → after (Locked (lock_of (p + 26 * k) (number_after c k) bad f)) (p + 26 * k) (26 * d + 1) ≡ Locked (lock_of (p + 26 * (k + d) + 26) 1 0 1)
     stays zero k bad f r h clean long within four =
         let num : number_after c k ≡ 4 = rw add-zero at four in
         let good = sequence k (omega arith) in
         let next : bad_with b rules (p + 26 * k) (number_after c k) bad ≡ bad_after rules.loss true bad = ap (λ (g : Bool). bad_after rules.loss g bad) good in
         let kept = good_keeps rules.loss bad h in
-        let none : bad_after rules.loss true bad ≡ none_bad rules.loss =
+        let none : bad_after rules.loss true bad ≡ 0 =
         clean_is rules.loss (bad_after rules.loss true bad) (suc r) (lawful_kept rules.loss bad true h kept) (omega arith) (clean_more rules.loss bad r clean) in
-        rw add-zero (step-keeping b rules (p + 26 * k) (number_after c k) bad f (ap (are_too_many rules.loss) next ∙ kept) ∙ rw (next, none, num) refl)
+        rw add-zero (step-keeping b rules (lock_of (p + 26 * k) (number_after c k) bad f) (ap (are_too_many rules.loss) next ∙ kept) ∙ rw (next, none, num) refl)
     stays (suc d) k bad f r h clean long within four =
         let good = sequence k (omega arith) in
         let next : bad_with b rules (p + 26 * k) (number_after c k) bad ≡ bad_after rules.loss true bad = ap (λ (g : Bool). bad_after rules.loss g bad) good in
@@ -169,7 +167,7 @@ module _ (b : Signal) (rules : RuleNumbers) where
         let place : p + 26 * k + 26 ≡ p + 26 * suc k = omega arith in
         let count : 26 * suc d + 1 ≡ 26 + (26 * d + 1) = omega arith in
         let moved : k + suc d ≡ suc k + d = omega arith in
-        rw (count, moved) (after_more (Locked (p + 26 * k) (number_after c k) bad f) (p + 26 * k) 26 (26 * d + 1)
+        rw (count, moved) (after_more (Locked (lock_of (p + 26 * k) (number_after c k) bad f)) (p + 26 * k) 26 (26 * d + 1)
         ∙ ap (λ (s : State). after s (p + 26 * k + 26) (26 * d + 1)) (next_block (p + 26 * k) (number_after c k) bad f (bad_after rules.loss true bad) next kept)
         ∙ rw (place, number_next k) (stays d (suc k) (bad_after rules.loss true bad) (cond (number_after c k == 4) 1 f) (suc r)
         (lawful_kept rules.loss bad true h kept) (clean_more rules.loss bad r clean) (omega arith) (omega arith) (rw (← moved) four)))
@@ -178,9 +176,9 @@ module _ (b : Signal) (rules : RuleNumbers) (p c last : ℕ) (sequence : (k : �
   -- a search that finds block k of the sequence is between two groups after the last block, which has number 4
   search_joins : (d q k : ℕ) → IsLoss rules.loss → p + 26 * k ≡ q + d → k ≤ last → number_after c last ≡ 4
       → ((r : ℕ) → q ≤ r → r < q + d → acquired b rules r ≡ None) → acquired b rules (q + d) ≡ Some (number_after c k)
-      → after b rules Searching q (p + 26 * last + 1 - q) ≡ Locked (p + 26 * last + 26) 1 (none_bad rules.loss) 1
+      → after b rules Searching q (p + 26 * last + 1 - q) ≡ Locked (lock_of (p + 26 * last + 26) 1 0 1)
   search_joins d q k loss place within four none found =
-      let locked : after b rules Searching q (d + 1) ≡ locked_after (p + 26 * k) (number_after c k) (none_bad rules.loss) (number_after c k) =
+      let locked : after b rules Searching q (d + 1) ≡ Locked (lock_after (p + 26 * k) (number_after c k) 0 (number_after c k)) =
       rw place (finds b rules d q (number_after c k) none found) in
       elim (cases_eq k last) [
         | inl same ↦
@@ -192,19 +190,19 @@ module _ (b : Signal) (rules : RuleNumbers) (p c last : ℕ) (sequence : (k : �
             let count : p + 26 * last + 1 - q ≡ (d + 1) + (25 + (26 * rest + 1)) = omega (arith, place) in
             let all : suc k + rest ≡ last = omega arith in
             let from : q + (d + 1) ≡ p + 26 * k + 1 = omega (arith, place) in
-            let due : p + 26 * k + 26 ≡ p + 26 * k + 1 + 25 = omega arith in
+            let due : p + 26 * k + 26 ≡ p + 26 * suc k = omega arith in
             let next : p + 26 * k + 1 + 25 ≡ p + 26 * suc k = omega arith in
             let f : ℕ = cond (number_after c k == 4) 1 (number_after c k) in
-            let waited : after b rules (Locked (p + 26 * k + 26) (number_after c k % 4 + 1) (none_bad rules.loss) f) (p + 26 * k + 1) 25 ≡ Locked (p + 26 * suc k) (number_after c (suc k)) (none_bad rules.loss) f =
-            ap (λ (n : ℕ). after b rules (Locked n (number_after c k % 4 + 1) (none_bad rules.loss) f) (p + 26 * k + 1) 25) due
-            ∙ waits b rules (number_after c k % 4 + 1) (none_bad rules.loss) f (p + 26 * k + 1) 25
-            ∙ ap₂ (λ (n m : ℕ). Locked n m (none_bad rules.loss) f) next (number_next b rules p c last sequence k) in
-            let end = stays b rules p c last sequence rest (suc k) (none_bad rules.loss) f (memory rules.loss) (lawful_none rules.loss loss) (clean_none rules.loss (memory rules.loss)) (omega arith) (omega arith) (rw all four) in
+            let lock : Lock = lock_after (p + 26 * k) (number_after c k) 0 (number_after c k) in
+            let waited : after b rules (Locked lock) (p + 26 * k + 1) 25 ≡ Locked (lock_of (p + 26 * suc k) (number_after c (suc k)) 0 f) =
+            waits b rules lock (p + 26 * k + 1) 25 (omega arith)
+            ∙ ap₂ (λ (n m : ℕ). Locked (lock_of n m 0 f)) due (number_next b rules p c last sequence k) in
+            let end = stays b rules p c last sequence rest (suc k) 0 f (memory rules.loss) (lawful_none rules.loss loss) (clean_none rules.loss (memory rules.loss)) (omega arith) (omega arith) (rw all four) in
             rw count (after_more b rules Searching q (d + 1) (25 + (26 * rest + 1))
             ∙ ap₂ (λ (s : State) (a : ℕ). after b rules s a (25 + (26 * rest + 1))) locked from
-            ∙ after_more b rules (locked_after (p + 26 * k) (number_after c k) (none_bad rules.loss) (number_after c k)) (p + 26 * k + 1) 25 (26 * rest + 1)
+            ∙ after_more b rules (Locked lock) (p + 26 * k + 1) 25 (26 * rest + 1)
             ∙ ap₂ (λ (s : State) (a : ℕ). after b rules s a (26 * rest + 1)) waited next
-            ∙ end ∙ ap (λ (n : ℕ). Locked (p + 26 * n + 26) 1 (none_bad rules.loss) 1) all)
+            ∙ end ∙ ap (λ (n : ℕ). Locked (lock_of (p + 26 * n + 26) 1 0 1)) all)
       ]
 
   -- a block of the sequence acquires, where the one before it is known
@@ -219,7 +217,7 @@ module _ (b : Signal) (rules : RuleNumbers) (p c last : ℕ) (sequence : (k : �
   -- a search on a sound range that begins before its second block is between two groups after the last block
   search_on : (q : ℕ) → IsLoss rules.loss → 1 ≤ rules.reach → (1 ≤ c) × (c ≤ 4) → number_after c last ≡ 4 → 1 ≤ last → q ≤ p + 26 * last
       → ((r : ℕ) → q ≤ r → r < p + 26 * last → ((k : ℕ) → r ≢ p + 26 * k) → acquired b rules r ≡ None)
-      → after b rules Searching q (p + 26 * last + 1 - q) ≡ Locked (p + 26 * last + 26) 1 (none_bad rules.loss) 1
+      → after b rules Searching q (p + 26 * last + 1 - q) ≡ Locked (lock_of (p + 26 * last + 26) 1 0 1)
   search_on q loss reach range four some within quiet = elim (cases_lt p q) [
     | inl past ↦
         let k : ℕ = (q - p + 25) / 26 in
@@ -232,7 +230,7 @@ module _ (b : Signal) (rules : RuleNumbers) (p c last : ℕ) (sequence : (k : �
         (let at : q + d ≡ p + 26 * k = omega arith in rw at (seq_acquires k reach low (omega arith)))
     | inr before ↦ at_case (acquired b rules p) refl before
   ] where
-    at_case : (o : Option ℕ) → acquired b rules p ≡ o → q ≤ p → after b rules Searching q (p + 26 * last + 1 - q) ≡ Locked (p + 26 * last + 26) 1 (none_bad rules.loss) 1
+    at_case : (o : Option ℕ) → acquired b rules p ≡ o → q ≤ p → after b rules Searching q (p + 26 * last + 1 - q) ≡ Locked (lock_of (p + 26 * last + 26) 1 0 1)
     at_case (Some x) e before =
         let start : p + 26 * 0 ≡ p = omega arith in
         let has : has_number b p (number_after c 0) ≡ true = rw start at (sequence 0 (omega arith)) in
@@ -315,25 +313,25 @@ module _ (b : Signal) (rules : RuleNumbers) where
     long : memory rules.loss + 6 ≤ sound_blocks rules.loss j
     long = memory_is rules.loss j loss
 
-    searching : (q : ℕ) → s ≤ q → q ≤ p + 26 * last → after b rules Searching q (p + 26 * last + 1 - q) ≡ Locked (p + 26 * last + 26) 1 (none_bad rules.loss) 1
+    searching : (q : ℕ) → s ≤ q → q ≤ p + 26 * last → after b rules Searching q (p + 26 * last + 1 - q) ≡ Locked (lock_of (p + 26 * last + 26) 1 0 1)
     searching q l u =
         let f = sound.sequence.first in
         search_on b rules p c last seq q loss reach sound.number four (omega (arith, f, enough)) u (λ r lo hi other. quiet r (omega arith) hi other)
 
-    lost_then : (due num : ℕ) (bad : Bad) (f : ℕ) → s ≤ due → due ≤ s + 25 → LostBy b rules (Locked due num bad f) due (26 * ((j + 1) * needed rules.loss))
-        → after b rules (Locked due num bad f) due (p + 26 * last + 1 - due) ≡ Locked (p + 26 * last + 26) 1 (none_bad rules.loss) 1
+    lost_then : (due num bad f : ℕ) → s ≤ due → due ≤ s + 25 → LostBy b rules (Locked (lock_of due num bad f)) due (26 * ((j + 1) * needed rules.loss))
+        → after b rules (Locked (lock_of due num bad f)) due (p + 26 * last + 1 - due) ≡ Locked (lock_of (p + 26 * last + 26) 1 0 1)
     lost_then due num bad f l u lost =
         let f0 = sound.sequence.first in
         let m : ℕ = lost.0 in
         let few : m ≤ 26 * ((j + 1) * needed rules.loss) = lost.1 in
         let room : due + m ≤ p + 26 * last = omega (arith, f0, enough) in
         let count : p + 26 * last + 1 - due ≡ m + (p + 26 * last + 1 - (due + m)) = omega arith in
-        rw count (after_more b rules (Locked due num bad f) due m (p + 26 * last + 1 - (due + m))
+        rw count (after_more b rules (Locked (lock_of due num bad f)) due m (p + 26 * last + 1 - (due + m))
         ∙ ap (λ (t : State). after b rules t (due + m) (p + 26 * last + 1 - (due + m))) lost.2
         ∙ searching (due + m) (omega arith) room)
 
-    from_due : (due num : ℕ) (bad : Bad) (f : ℕ) → s ≤ due → due ≤ s + 25 → IsLawfulBad rules.loss bad → 1 ≤ num → num ≤ 4
-        → after b rules (Locked due num bad f) due (p + 26 * last + 1 - due) ≡ Locked (p + 26 * last + 26) 1 (none_bad rules.loss) 1
+    from_due : (due num bad f : ℕ) → s ≤ due → due ≤ s + 25 → IsLawfulBad rules.loss bad → 1 ≤ num → num ≤ 4
+        → after b rules (Locked (lock_of due num bad f)) due (p + 26 * last + 1 - due) ≡ Locked (lock_of (p + 26 * last + 26) 1 0 1)
     from_due due num bad f l u few low high =
         let f0 = sound.sequence.first in
         elim (cases_eq due p) [
@@ -357,9 +355,10 @@ module _ (b : Signal) (rules : RuleNumbers) where
               lost_then due num bad f l u (loses b rules loss ((j + 1) * needed rules.loss) due num bad f 0 few (row_zero rules.loss bad) (let g1 : good_blocks b rules due num ((j + 1) * needed rules.loss) + 1 ≤ j + 1 = omega (arith, g) in omega (arith, mul-le-mul_right (needed rules.loss) g1)))
         ]
 
-    pub converges : (t : State) → IsLawful rules s t → after b rules t s (p + 26 * last + 1 - s) ≡ Locked (p + 26 * last + 26) 1 (none_bad rules.loss) 1
+    pub converges : (t : State) → IsLawful rules s t → after b rules t s (p + 26 * last + 1 - s) ≡ Locked (lock_of (p + 26 * last + 26) 1 0 1)
     converges Searching lawful = let f0 = sound.sequence.first in searching s (omega arith) (omega (arith, f0, enough))
-    converges (Locked due num bad f) lawful =
+    converges (Locked lock) lawful =
+        let record { due = due; number = num; bad = bad; first = f } = lock in
         let f0 = sound.sequence.first in
         let soon = lawful.soon in
         let few : IsLawfulBad rules.loss bad = lawful.few_bad in
@@ -367,8 +366,8 @@ module _ (b : Signal) (rules : RuleNumbers) where
         let d : ℕ = due - s in
         let place : s + d ≡ due = omega (arith, soon) in
         let count : p + 26 * last + 1 - s ≡ d + (p + 26 * last + 1 - due) = omega (arith, soon, f0, enough) in
-        let waited : after b rules (Locked due num bad f) s d ≡ Locked due num bad f = rw place at (waits b rules num bad f s d) in
-        rw count (after_more b rules (Locked due num bad f) s d (p + 26 * last + 1 - due)
+        let waited : after b rules (Locked lock) s d ≡ Locked lock = waits b rules lock s d (omega (arith, soon)) in
+        rw count (after_more b rules (Locked lock) s d (p + 26 * last + 1 - due)
         ∙ ap₂ (λ (t : State) (a : ℕ). after b rules t a (p + 26 * last + 1 - due)) waited place
         ∙ from_due due num bad f (omega (arith, soon)) (omega (arith, soon)) few range.0 range.1)
 

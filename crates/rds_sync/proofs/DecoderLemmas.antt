@@ -5,11 +5,11 @@ use Rattle.std.specs.Iterator.{MakesProgress, YieldsFirst, item_count}
 use Rattle.rds_stream.specs.Recording.{Signal}
 use Rattle.rds_sync.specs.declared.item.Item.{Item}
 use Rattle.rds_sync.specs.declared.state.State.{State}
+use Rattle.rds_sync.specs.declared.state.State.TheVariants.{Locked}
 use Rattle.rds_sync.specs.declared.step.Step.{Step}
 use Rattle.rds_sync.specs.Advance.{items_in}
 use Rattle.rds_sync.specs.Decoding.{DecoderOf, GivesNext}
 use Rattle.rds_sync.specs.declared.lock.Lock.{Lock}
-use Rattle.rds_sync.specs.Inside.Due.{state_in}
 use Rattle.rds_sync.specs.Inside.WholeGroups.{HasGiven}
 use Rattle.rds_sync.specs.Rules.{RuleNumbers}
 use Rattle.rds_sync.specs.Step.{run}
@@ -93,30 +93,30 @@ none_ready (Some item) other = absurd (other item refl)
 
 -- whole groups that were given stand before the rest
 module _ (b read : Signal) (rules : RuleNumbers) (s : State) (place to : ℕ) (lock now : Lock) (before after : List Item) (given : HasGiven b rules lock to before now after)
-    (same : read ≡ b) (s_is : s ≡ state_in lock) (place_is : place + 25 ≡ lock.due) (far : lock.due < now.due) (old : DecoderOf) (old_is : old ≡ left_of b rules None s place to) where
+    (same : read ≡ b) (s_is : s ≡ Locked lock) (place_is : place + 25 ≡ lock.due) (far : lock.due < now.due) (old : DecoderOf) (old_is : old ≡ left_of b rules None s place to) where
   abbrev behind : State × List Item
-  behind = run b rules (state_in now) (now.due - 25) (to - (now.due - 25))
+  behind = run b rules (Locked now) (now.due - 25) (to - (now.due - 25))
 
   abbrev passed : State × List Item
-  passed = run b rules (state_in lock) (lock.due - 25) (now.due - lock.due)
+  passed = run b rules (Locked lock) (lock.due - 25) (now.due - lock.due)
 
   over : run b rules s place (to - place) ≡ (behind.0, passed.1 ++ behind.1)
   over =
       let bits : now.due - 25 - place ≡ now.due - lock.due = omega (arith, place_is) in
       let here : place ≡ lock.due - 25 = omega (arith, place_is) in
       let first : run b rules s place (now.due - 25 - place) ≡ passed =
-      ap (λ (t : State). run b rules t place (now.due - 25 - place)) s_is ∙ ap₂ (λ (p n : ℕ). run b rules (state_in lock) p n) here bits in
+      ap (λ (t : State). run b rules t place (now.due - 25 - place)) s_is ∙ ap₂ (λ (p n : ℕ). run b rules (Locked lock) p n) here bits in
       run-places b rules s place (now.due - 25) to (omega (arith, place_is, far)) (given.limit far)
       ∙ ap (λ (r : State × List Item). ((run b rules r.0 (now.due - 25) (to - (now.due - 25))).0, r.1 ++ (run b rules r.0 (now.due - 25) (to - (now.due - 25))).1)) first
       ∙ ap (λ (t : State). ((run b rules t (now.due - 25) (to - (now.due - 25))).0, passed.1 ++ (run b rules t (now.due - 25) (to - (now.due - 25))).1)) given.state
 
-  pub groups-items : before ++ old.items ≡ after ++ (left_of read rules None (state_in now) (now.due - 25) to).items
+  pub groups-items : before ++ old.items ≡ after ++ (left_of read rules None (Locked now) (now.due - 25) to).items
   groups-items =
       ap (λ (d : DecoderOf). before ++ d.items) old_is ∙ ap (λ (r : State × List Item). before ++ r.1) over
       ∙ sym (append_assoc before passed.1 behind.1) ∙ ap (λ (is : List Item). is ++ behind.1) (sym given.items)
-      ∙ ap (λ (signal : Signal). after ++ (run signal rules (state_in now) (now.due - 25) (to - (now.due - 25))).1) (sym same)
+      ∙ ap (λ (signal : Signal). after ++ (run signal rules (Locked now) (now.due - 25) (to - (now.due - 25))).1) (sym same)
 
-  pub groups-end : (left_of read rules None (state_in now) (now.due - 25) to).end ≡ old.end
+  pub groups-end : (left_of read rules None (Locked now) (now.due - 25) to).end ≡ old.end
   groups-end =
-      ap (λ (signal : Signal). (run signal rules (state_in now) (now.due - 25) (to - (now.due - 25))).0) same
+      ap (λ (signal : Signal). (run signal rules (Locked now) (now.due - 25) (to - (now.due - 25))).0) same
       ∙ sym (ap (λ (d : DecoderOf). d.end) old_is ∙ ap (λ (r : State × List Item). r.0) over)

@@ -7,9 +7,10 @@ use Rattle.rds_sync.specs.declared.lock.Lock.{Lock}
 use Rattle.rds_sync.specs.declared.item.Block.{Block}
 use Rattle.rds_sync.specs.declared.item.Group.{Group as GroupRecord}
 use Rattle.rds_sync.specs.declared.item.Item.TheVariants.{Group, LostLock}
+use Rattle.rds_sync.specs.declared.state.State.TheVariants.{Locked}
 use Rattle.rds_sync.specs.Acquiring.{has_number}
 use Rattle.rds_sync.specs.Groups.{blocks_at}
-use Rattle.rds_sync.specs.Inside.Due.{state_in, IsAfter}
+use Rattle.rds_sync.specs.Inside.Due.{IsAfter}
 use Rattle.rds_sync.specs.Inside.Locks.{IsFollowed, items_of_due}
 use Rattle.rds_sync.specs.Rules.{RuleNumbers}
 use Rattle.rds_sync.specs.Step.{items_at}
@@ -20,7 +21,7 @@ use Rattle.rds_sync.proofs.ItemLemmas.{some_given}
 module _ (b : Signal) (rules : RuleNumbers) (lock : Lock) (good : Bool) (good_is : good ≡ has_number b lock.due lock.number)
     (blocks : List Block) (read : blocks ≡ blocks_at b rules lock.first lock.number lock.due) where
   -- the items that are made of the blocks are those of the step
-  pub given-due : (due : Due) → IsAfter rules.loss lock good due → items_of_due lock blocks due ≡ items_at b rules lock.due (state_in lock)
+  pub given-due : (due : Due) → IsAfter rules.loss lock good due → items_of_due lock blocks due ≡ items_at b rules lock.due (Locked lock)
   given-due (Inside next) after = sym (items-inside b rules lock good good_is next after)
   given-due (Closed next) after =
       ap (λ (g : GroupRecord). Group g ∷ []) (group-blocks b rules lock.first lock.number lock.due blocks read)

@@ -6,14 +6,13 @@ use Rattle.rds_sync.specs.declared.due.Due.{Due}
 use Rattle.rds_sync.specs.declared.due.Due.TheVariants.{Inside, Closed, Lost}
 use Rattle.rds_sync.specs.declared.lock.Lock.{Lock}
 use Rattle.rds_sync.specs.declared.item.Item.TheVariants.{Group, LostLock}
-use Rattle.rds_sync.specs.declared.loss.Bad.{Bad}
 use Rattle.rds_sync.specs.declared.state.State.TheVariants.{Searching, Locked}
 use Rattle.rds_sync.specs.Acquiring.{has_number}
-use Rattle.rds_sync.specs.Inside.Due.{state_in, state_of, IsKept, IsAfter}
+use Rattle.rds_sync.specs.Inside.Due.{state_of, IsKept, IsAfter}
 use Rattle.rds_sync.specs.Groups.{group}
 use Rattle.rds_sync.specs.Loss.{bad_after, are_too_many}
 use Rattle.rds_sync.specs.Rules.{RuleNumbers}
-use Rattle.rds_sync.specs.Step.{step, items_at, locked_after, group_after}
+use Rattle.rds_sync.specs.Step.{step, items_at, group_after, lock_of, lock_after}
 use Rattle.rds_sync.proofs.RunLemmas.{step-keeping, items-keeping, step-losing, items-losing}
 
 pub group_after-inside : (b : Signal) (rules : RuleNumbers) (first number due : ℕ) → number < 4 → group_after b rules first number due ≡ []
@@ -30,43 +29,43 @@ module _ (b : Signal) (rules : RuleNumbers) (lock : Lock) (good : Bool) (good_is
   too_many t e = ap (λ (g : Bool). are_too_many rules.loss (bad_after rules.loss g lock.bad)) (sym good_is) ∙ e
 
   -- the block was read, and the lock goes on
-  pub step-kept : (next : Lock) → IsKept rules.loss lock good next → step b rules lock.due (state_in lock) ≡ state_in next
+  pub step-kept : (next : Lock) → IsKept rules.loss lock good next → step b rules lock.due (Locked lock) ≡ Locked next
   step-kept next kept =
-      step-keeping b rules lock.due lock.number lock.bad lock.first (too_many false kept.few_bad)
-      ∙ ap (λ (g : Bool). locked_after lock.due lock.number (bad_after rules.loss g lock.bad) lock.first) (sym good_is)
-      ∙ sym kept.next_is
+      step-keeping b rules lock (too_many false kept.few_bad)
+      ∙ ap (λ (g : Bool). Locked (lock_after lock.due lock.number (bad_after rules.loss g lock.bad) lock.first)) (sym good_is)
+      ∙ ap (λ (lock : Lock). Locked lock) (sym kept.next_is)
 
   pub items-kept : (next : Lock) → IsKept rules.loss lock good next
-      → items_at b rules lock.due (state_in lock) ≡ group_after b rules lock.first lock.number lock.due
-  items-kept next kept = items-keeping b rules lock.due lock.number lock.bad lock.first (too_many false kept.few_bad)
+      → items_at b rules lock.due (Locked lock) ≡ group_after b rules lock.first lock.number lock.due
+  items-kept next kept = items-keeping b rules lock (too_many false kept.few_bad)
 
   -- the block was read, and the lock is lost
-  pub step-lost : are_too_many rules.loss (bad_after rules.loss good lock.bad) ≡ true → step b rules lock.due (state_in lock) ≡ Searching
-  step-lost many = step-losing b rules lock.due lock.number lock.bad lock.first (too_many true many)
+  pub step-lost : are_too_many rules.loss (bad_after rules.loss good lock.bad) ≡ true → step b rules lock.due (Locked lock) ≡ Searching
+  step-lost many = step-losing b rules lock (too_many true many)
 
   pub items-lost : are_too_many rules.loss (bad_after rules.loss good lock.bad) ≡ true
-      → items_at b rules lock.due (state_in lock) ≡ Group (group b rules lock.first lock.number lock.due) ∷ LostLock lock.due ∷ []
-  items-lost many = items-losing b rules lock.due lock.number lock.bad lock.first (too_many true many)
+      → items_at b rules lock.due (Locked lock) ≡ Group (group b rules lock.first lock.number lock.due) ∷ LostLock lock.due ∷ []
+  items-lost many = items-losing b rules lock (too_many true many)
 
   -- whatever it did, the state is that of the step
-  pub step-due : (due : Due) → IsAfter rules.loss lock good due → step b rules lock.due (state_in lock) ≡ state_of due
+  pub step-due : (due : Due) → IsAfter rules.loss lock good due → step b rules lock.due (Locked lock) ≡ state_of due
   step-due (Inside next) after = step-kept next after.1
   step-due (Closed next) after = step-kept next after.1
   step-due Lost after = step-lost after
 
   -- and what it gave are the items of the step
-  pub items-inside : (next : Lock) → IsAfter rules.loss lock good (Inside next) → items_at b rules lock.due (state_in lock) ≡ []
+  pub items-inside : (next : Lock) → IsAfter rules.loss lock good (Inside next) → items_at b rules lock.due (Locked lock) ≡ []
   items-inside next after = items-kept next after.1 ∙ group_after-inside b rules lock.first lock.number lock.due after.0
 
   pub items-closed : (next : Lock) → IsAfter rules.loss lock good (Closed next)
-      → items_at b rules lock.due (state_in lock) ≡ Group (group b rules lock.first lock.number lock.due) ∷ []
+      → items_at b rules lock.due (Locked lock) ≡ Group (group b rules lock.first lock.number lock.due) ∷ []
   items-closed next after = items-kept next after.1 ∙ group_after-four b rules lock.first lock.number lock.due after.0
 
 -- the lock goes on inside its group, with the block after
-pub kept-next : (lock next : Lock) (bad : Bad) → lock.number < 4 → state_in next ≡ locked_after lock.due lock.number bad lock.first
+pub kept-next : (lock next : Lock) (bad : ℕ) → lock.number < 4 → next ≡ lock_after lock.due lock.number bad lock.first
     → (next.due ≡ lock.due + 26) × (next.number ≡ lock.number + 1) × (next.first ≡ lock.first)
 kept-next lock next bad inside is =
     let number : lock.number % 4 + 1 ≡ lock.number + 1 = omega arith in
-    let goes_on : state_in next ≡ Locked (lock.due + 26) (lock.number + 1) bad lock.first =
+    let goes_on : next ≡ lock_of (lock.due + 26) (lock.number + 1) bad lock.first =
     is ∙ rw (ne_eqb lock.number 4 (λ e. omega arith), number) refl in
-    (cc goes_on, cc goes_on, cc goes_on)
+    (ap (λ (l : Lock). l.due) goes_on, ap (λ (l : Lock). l.number) goes_on, ap (λ (l : Lock). l.first) goes_on)

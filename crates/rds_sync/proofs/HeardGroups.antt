@@ -3,7 +3,6 @@ use Rattle.std.proofs.Common.{◌≡◌, ◌+◌, ◌-◌, ◌*◌, ◌<◌, ◌
 use Rattle.rds_stream.specs.Recording.{Signal}
 use Rattle.rds_sync.specs.declared.item.Block.{Block}
 use Rattle.rds_sync.specs.declared.item.Group.{Group}
-use Rattle.rds_sync.specs.declared.loss.Bad.{Bad}
 use Rattle.rds_sync.specs.declared.loss.Loss.{Loss}
 use Rattle.rds_sync.specs.Codes.{Outcome, was_valid, outcome_of}
 use Rattle.rds_sync.specs.Groups.{blocks_at, group, group_of}
@@ -23,7 +22,7 @@ each-of-four P one two three four (suc (suc (suc zero))) h = four
 each-of-four P one two three four (suc (suc (suc (suc k)))) h = absurd (omega (arith, h))
 
 -- a group of these blocks, with what is kept of the bad ones by how they came out
-pub whole-is : (b : Signal) (rules : RuleNumbers) (due : ℕ) (loss : Loss) (place : ℕ) (bs : List Block) (os : List Outcome) (before after : Bad) (given : Group)
+pub whole-is : (b : Signal) (rules : RuleNumbers) (due : ℕ) (loss : Loss) (place : ℕ) (bs : List Block) (os : List Outcome) (before after : ℕ) (given : Group)
     → 25 ≤ due → place ≡ due - 25 → bs ≡ blocks_at b rules 1 4 (due + 78) → os ≡ outcomes_at b rules due → loss ≡ rules.loss → given ≡ group_of place bs
     → after ≡ bad_over loss os before 1 4 → IsLawfulBad loss after → ((k : ℕ) → k < 4 → are_too_many loss (bad_over loss os before 1 (k + 1)) ≡ false)
     → IsWhole b rules due before given after
@@ -39,16 +38,16 @@ whole-is b rules due loss place bs os before after given late place_is bs_are os
     }
 
 -- what is kept of the bad blocks after each of these four
-module _ (loss : Loss) (bs : List Block) (a b c d : Block) (are : bs ≡ a ∷ b ∷ c ∷ d ∷ []) (g h i j : Bool) (bad one two three four : Bad)
+module _ (loss : Loss) (bs : List Block) (a b c d : Block) (are : bs ≡ a ∷ b ∷ c ∷ d ∷ []) (g h i j : Bool) (bad one two three four : ℕ)
     (g_is : g ≡ is_valid a) (h_is : h ≡ is_valid b) (i_is : i ≡ is_valid c) (j_is : j ≡ is_valid d)
     (one_is : one ≡ bad_after loss g bad) (two_is : two ≡ bad_after loss h one) (three_is : three ≡ bad_after loss i two) (four_is : four ≡ bad_after loss j three) where
-  abbrev over : List Block → ℕ → Bad
+  abbrev over : List Block → ℕ → ℕ
   over blocks k = bad_over loss (map outcome_of blocks) bad 1 k
 
-  step : (t : Bool) (block : Block) → t ≡ is_valid block → (now then before : Bad) → now ≡ before → then ≡ bad_after loss t now
+  step : (t : Bool) (block : Block) → t ≡ is_valid block → (now then before : ℕ) → now ≡ before → then ≡ bad_after loss t now
       → then ≡ bad_after loss (was_valid (outcome_of block)) before
   step t block t_is now then before now_is then_is =
-      then_is ∙ ap₂ (λ (good : Bool) (kept : Bad). bad_after loss good kept) (t_is ∙ valid_is block) now_is
+      then_is ∙ ap₂ (λ (good : Bool) (kept : ℕ). bad_after loss good kept) (t_is ∙ valid_is block) now_is
 
   over-one : one ≡ over (a ∷ b ∷ c ∷ d ∷ []) 1
   over-one = step g a g_is bad one bad refl one_is
@@ -71,5 +70,5 @@ module _ (loss : Loss) (bs : List Block) (a b c d : Block) (are : bs ≡ a ∷ b
       subst (λ (blocks : List Block). (k : ℕ) → k < 4 → are_too_many loss (over blocks (k + 1)) ≡ false) (sym are)
       (each-of-four (λ (k : ℕ). are_too_many loss (over (a ∷ b ∷ c ∷ d ∷ []) (k + 1)) ≡ false)
       (kept over-one few1) (kept over-two few2) (kept over-three few3) (kept over-four few4)) where
-        kept : {now then : Bad} → now ≡ then → are_too_many loss now ≡ false → are_too_many loss then ≡ false
-        kept is few = ap (λ (b : Bad). are_too_many loss b) (sym is) ∙ few
+        kept : {now then : ℕ} → now ≡ then → are_too_many loss now ≡ false → are_too_many loss then ≡ false
+        kept is few = ap (λ (b : ℕ). are_too_many loss b) (sym is) ∙ few

@@ -22,15 +22,15 @@ items_at-few b rules i Searching = at_case (acquired b rules i) refl where
     | inl four ↦ rw (eq-eqb x 4 four, group_after) (omega arith)
     | inr fewer ↦ rw (ne_eqb x 4 fewer, group_after) (omega arith)
   ])
-items_at-few b rules i (Locked due x bad f) = elim (cases_eq due i) [
-  | inl same ↦ rw same (elim (cases_Bool (are_too_many rules.loss (bad_with b rules i x bad))) [
-    | inr few ↦ rw (items-keeping b rules i x bad f few) (elim (cases_eq x 4) [
-      | inl four ↦ rw (eq-eqb x 4 four, group_after) (omega arith)
-      | inr fewer ↦ rw (ne_eqb x 4 fewer, group_after) (omega arith)
+items_at-few b rules i (Locked lock) = elim (cases_eq lock.due i) [
+  | inl same ↦ rw (← same) (elim (cases_Bool (are_too_many rules.loss (bad_with b rules lock.due lock.number lock.bad))) [
+    | inr few ↦ rw (items-keeping b rules lock few) (elim (cases_eq lock.number 4) [
+      | inl four ↦ rw (eq-eqb lock.number 4 four, group_after) (omega arith)
+      | inr fewer ↦ rw (ne_eqb lock.number 4 fewer, group_after) (omega arith)
     ])
-    | inl many ↦ rw (items-losing b rules i x bad f many) (omega arith)
+    | inl many ↦ rw (items-losing b rules lock many) (omega arith)
   ])
-  | inr other ↦ rw (items-waiting b rules due x bad f i other) (omega arith)
+  | inr other ↦ rw (items-waiting b rules lock i other) (omega arith)
 ]
 
 -- so a run gives at most two a bit
@@ -46,9 +46,9 @@ run_items-few b rules s a (suc n) =
 
 items_of_end-few : (b : Signal) (rules : RuleNumbers) (s : State) → length (items_of_end b rules s) ≤ 1
 items_of_end-few b rules Searching = omega arith
-items_of_end-few b rules (Locked due x bad f) = elim (cases_eq x 1) [
-  | inl one ↦ rw (eq-eqb x 1 one, items_of_end) (omega arith)
-  | inr more ↦ rw (ne_eqb x 1 more, items_of_end) (omega arith)
+items_of_end-few b rules (Locked lock) = elim (cases_eq lock.number 1) [
+  | inl one ↦ rw (eq-eqb lock.number 1 one, items_of_end) (omega arith)
+  | inr more ↦ rw (ne_eqb lock.number 1 more, items_of_end) (omega arith)
 ]
 
 -- a list with a first item is not empty

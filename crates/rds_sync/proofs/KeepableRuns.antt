@@ -9,9 +9,8 @@ use Rattle.rds_sync.specs.declared.state.State.{State}
 use Rattle.rds_sync.specs.declared.state.State.TheVariants.{Searching, Locked}
 use Rattle.rds_sync.specs.Groups.{group}
 use Rattle.rds_sync.specs.Lawful.{IsLawful}
-use Rattle.rds_sync.specs.Loss.{none_bad}
 use Rattle.rds_sync.specs.Rules.{RuleNumbers}
-use Rattle.rds_sync.specs.Step.{run, step, items_at, locked_after, bad_with}
+use Rattle.rds_sync.specs.Step.{run, step, items_at, bad_with, lock_of, lock_after}
 use Rattle.rds_sync.specs.Words.{IsKeepable, RunsAreKeepable}
 use Rattle.rds_sync.proofs.Bits.{Bit, still, found, found_last, heard as heard_bit, closed, gone, bit}
 use Rattle.rds_sync.proofs.LawfulLemmas.{acquired-range, lawful-step}
@@ -41,20 +40,20 @@ module _ (laws : BurstLaws) where
         at_case : Bit b rules a s → ((t : State) → IsLawful rules (a + 1) t → All IsKeepable (run b rules t (a + 1) n).1) → All IsKeepable (run b rules s a (suc n)).1
         at_case (still e i) rest = as_items _ _ (first s [] e i) (rest s (next s e))
         at_case (found x is acquires ne e i) rest =
-            let t : State = locked_after a x (none_bad rules.loss) x in
+            let t : State = Locked (lock_after a x 0 x) in
             as_items _ _ (first t (Acquired a x ∷ []) e i)
             (All-cons IsKeepable (Acquired a x) (run b rules t (a + 1) n).1 (keep-lock a x (acquired-range b rules a x acquires).1 (omega (arith, early))) (rest t (next t e)))
         at_case (found_last is acquires e i) rest =
-            let t : State = locked_after a 4 (none_bad rules.loss) 4 in
+            let t : State = Locked (lock_after a 4 0 4) in
             let items : List Item = (run b rules t (a + 1) n).1 in
             as_items _ _ (first t (Acquired a 4 ∷ Group (group b rules 4 4 a) ∷ []) e i)
             (All-cons IsKeepable (Acquired a 4) (Group (group b rules 4 4 a) ∷ items) (keep-lock a 4 (omega arith) (omega (arith, early)))
             (All-cons IsKeepable (Group (group b rules 4 4 a)) items (keep-group b rules 4 4 a few) (rest t (next t e))))
         at_case (heard_bit x bad f is g ne e i) rest =
-            let t : State = Locked (a + 26) (x + 1) (bad_with b rules a x bad) f in
+            let t : State = Locked (lock_of (a + 26) (x + 1) (bad_with b rules a x bad) f) in
             as_items _ _ (first t [] e i) (rest t (next t e))
         at_case (closed bad f is g e i) rest =
-            let t : State = locked_after a 4 (bad_with b rules a 4 bad) f in
+            let t : State = Locked (lock_after a 4 (bad_with b rules a 4 bad) f) in
             as_items _ _ (first t (Group (group b rules f 4 a) ∷ []) e i)
             (All-cons IsKeepable (Group (group b rules f 4 a)) (run b rules t (a + 1) n).1 (keep-group b rules f 4 a few) (rest t (next t e)))
         at_case (gone x bad f is g e i) rest =

@@ -7,14 +7,14 @@ use Rattle.rds_code.specs.declared.offset.Offset.{Offset}
 use Rattle.rds_code.specs.declared.offset.Offset.TheVariants.{A, B, C, Cx, D}
 use Rattle.rds_code.specs.Offsets.{number}
 use Rattle.rds_stream.specs.Recording.{Signal, off}
+use Rattle.rds_sync.specs.declared.lock.Lock.{Lock}
 use Rattle.rds_sync.specs.declared.state.State.{State}
 use Rattle.rds_sync.specs.declared.state.State.TheVariants.{Searching, Locked}
-use Rattle.rds_sync.specs.declared.loss.Bad.{Bad}
 use Rattle.rds_sync.specs.Rules.{RuleNumbers}
-use Rattle.rds_sync.specs.Loss.{IsLoss, IsLawfulBad, none_bad, are_too_many}
+use Rattle.rds_sync.specs.Loss.{IsLoss, IsLawfulBad, are_too_many}
 use Rattle.rds_sync.specs.Acquiring.{acquired, has_number, has_partner, with_partner}
 use Rattle.rds_sync.specs.Lawful.{IsLawful, IsLawfulLock}
-use Rattle.rds_sync.specs.Step.{run, step, locked_after, bad_with}
+use Rattle.rds_sync.specs.Step.{run, step, bad_with, lock_of, lock_after}
 use Rattle.rds_sync.proofs.LossLemmas.{lawful_none, lawful_kept}
 use Rattle.rds_sync.proofs.RunLemmas.{step-acquiring, step-searching, step-waiting, step-keeping, step-losing}
 
@@ -112,24 +112,24 @@ module _ (b : Signal) (rules : RuleNumbers) where
   acquired-some i o e = ap (λ (w : Option Offset). elim w as (λ _. Option ℕ) [ None ↦ None | Some o ↦ with_partner b rules i (number o) ]) e
 
 -- the lock after block x was read at place i, or acquired there
-pub lawful-locked_after : (rules : RuleNumbers) (i x : ℕ) (bad : Bad) (first : ℕ) → IsLawfulBad rules.loss bad → 26 * (x - first) + 25 ≤ i → 1 ≤ first → first ≤ x → x ≤ 4
-    → IsLawful rules (i + 1) (locked_after i x bad first)
-lawful-locked_after rules i x bad first few enough low order high = elim (cases_eq x 4) [
+pub lawful-lock_after : (rules : RuleNumbers) (i x bad first : ℕ) → IsLawfulBad rules.loss bad → 26 * (x - first) + 25 ≤ i → 1 ≤ first → first ≤ x → x ≤ 4
+    → IsLawful rules (i + 1) (Locked (lock_after i x bad first))
+lawful-lock_after rules i x bad first few enough low order high = elim (cases_eq x 4) [
   | inl four ↦
-      let e : locked_after i x bad first ≡ Locked (i + 26) 1 bad 1 = rw four refl in
+      let e : Locked (lock_after i x bad first) ≡ Locked (lock_of (i + 26) 1 bad 1) = rw four refl in
       subst (λ (s : State). IsLawful rules (i + 1) s) (sym e)
       (record { soon = (omega arith, omega arith); few_bad = few; enough_bits = omega arith; in_order = inl (refl, refl) })
   | inr less ↦
       let n : x % 4 + 1 ≡ x + 1 = omega arith in
-      let e : locked_after i x bad first ≡ Locked (i + 26) (x + 1) bad first = rw (ne_eqb x 4 less, n) refl in
+      let e : Locked (lock_after i x bad first) ≡ Locked (lock_of (i + 26) (x + 1) bad first) = rw (ne_eqb x 4 less, n) refl in
       subst (λ (s : State). IsLawful rules (i + 1) s) (sym e)
       (record { soon = (omega arith, omega arith); few_bad = few; enough_bits = omega arith; in_order = inr (low, omega arith, omega arith) })
 ]
 
 -- the numbers of a lawful lock
-pub lawful-numbers : (rules : RuleNumbers) (place due number : ℕ) (bad : Bad) (first : ℕ) → IsLawfulLock rules place due number bad first
-    → (1 ≤ first) × (first ≤ number) × (number ≤ 4)
-lawful-numbers rules place due number bad first lawful =
+pub lawful-numbers : (rules : RuleNumbers) (place : ℕ) (lock : Lock) → IsLawfulLock rules place lock
+    → (1 ≤ lock.first) × (lock.first ≤ lock.number) × (lock.number ≤ 4)
+lawful-numbers rules place lock lawful =
     ⊎_elim (λ o. (omega (arith, o), omega (arith, o), omega (arith, o))) (λ o. (omega (arith, o), omega (arith, o), omega (arith, o))) lawful.in_order
 
 module _ (b : Signal) (rules : RuleNumbers) where
@@ -142,20 +142,21 @@ module _ (b : Signal) (rules : RuleNumbers) where
         let r = acquired-range b rules i x e in
         let p = acquired-place b rules i x e in
         subst (λ (t : State). IsLawful rules (i + 1) t) (sym (step-acquiring b rules i x e))
-        (lawful-locked_after rules i x (none_bad rules.loss) x (lawful_none rules.loss loss) (omega arith) (omega (arith, r)) (omega arith) (omega (arith, r)))
-  lawful-step loss i (Locked due number bad first) lawful = elim (cases_eq due i) [
+        (lawful-lock_after rules i x 0 x (lawful_none rules.loss loss) (omega arith) (omega (arith, r)) (omega arith) (omega (arith, r)))
+  lawful-step loss i (Locked lock) lawful = elim (cases_eq lock.due i) [
     | inl same ↦
-        let n = lawful-numbers rules i due number bad first lawful in
-        let enough : 26 * (number - first) + 25 ≤ i = omega (arith, lawful.enough_bits) in
-        subst (λ (d : ℕ). IsLawful rules (i + 1) (step b rules i (Locked d number bad first))) (sym same)
-        (elim (cases_Bool (are_too_many rules.loss (bad_with b rules i number bad))) [
-          | inr few ↦ subst (λ (t : State). IsLawful rules (i + 1) t) (sym (step-keeping b rules i number bad first few))
-              (lawful-locked_after rules i number (bad_with b rules i number bad) first (lawful_kept rules.loss bad (has_number b i number) lawful.few_bad few) enough n.0 n.1 n.2)
-          | inl many ↦ subst (λ (t : State). IsLawful rules (i + 1) t) (sym (step-losing b rules i number bad first many)) tt
+        let bad : ℕ = bad_with b rules lock.due lock.number lock.bad in
+        let n = lawful-numbers rules i lock lawful in
+        subst (λ (p : ℕ). IsLawful rules (p + 1) (step b rules p (Locked lock))) same
+        (elim (cases_Bool (are_too_many rules.loss bad)) [
+          | inr few ↦ subst (λ (t : State). IsLawful rules (lock.due + 1) t) (sym (step-keeping b rules lock few))
+              (lawful-lock_after rules lock.due lock.number bad lock.first (lawful_kept rules.loss lock.bad (has_number b lock.due lock.number) lawful.few_bad few)
+              lawful.enough_bits n.0 n.1 n.2)
+          | inl many ↦ subst (λ (t : State). IsLawful rules (lock.due + 1) t) (sym (step-losing b rules lock many)) tt
         ])
     | inr other ↦
         let soon = lawful.soon in
-        subst (λ (t : State). IsLawful rules (i + 1) t) (sym (step-waiting b rules due number bad first i other))
+        subst (λ (t : State). IsLawful rules (i + 1) t) (sym (step-waiting b rules lock i other))
         (record { soon = (omega (arith, soon), omega (arith, soon)); few_bad = lawful.few_bad; enough_bits = lawful.enough_bits; in_order = lawful.in_order })
   ]
 
@@ -173,20 +174,18 @@ module _ (b : Signal) (rules : RuleNumbers) where
       subst (λ (p : ℕ). IsLawful rules p (run b rules s from (to - from)).0) e (lawful-run loss s from (to - from) lawful)
 
 -- a state that is a lawful lock
-pub lawful-lock : (rules : RuleNumbers) (s : State) (place due number : ℕ) (bad : Bad) (first : ℕ) → s ≡ Locked due number bad first
-    → IsLawful rules place s → IsLawfulLock rules place due number bad first
-lawful-lock rules s place due number bad first is lawful = subst (λ (t : State). IsLawful rules place t) is lawful
+pub lawful-lock : (rules : RuleNumbers) (s : State) (place : ℕ) (lock : Lock) → s ≡ Locked lock → IsLawful rules place s → IsLawfulLock rules place lock
+lawful-lock rules s place lock is lawful = subst (λ (t : State). IsLawful rules place t) is lawful
 
 -- a lawful lock stays lawful while its block is waited for
-pub lawful-waiting : (rules : RuleNumbers) (place later due number : ℕ) (bad : Bad) (first : ℕ) → IsLawfulLock rules place due number bad first
-    → place ≤ later → later ≤ due → IsLawfulLock rules later due number bad first
-lawful-waiting rules place later due number bad first lawful order before =
+pub lawful-waiting : (rules : RuleNumbers) (place later : ℕ) (lock : Lock) → IsLawfulLock rules place lock
+    → place ≤ later → later ≤ lock.due → IsLawfulLock rules later lock
+lawful-waiting rules place later lock lawful order before =
     let soon = lawful.soon in
     record { soon = (before, omega (arith, soon.1)); few_bad = lawful.few_bad; enough_bits = lawful.enough_bits; in_order = lawful.in_order }
 
 -- the state after the block that is due is lawful
-pub lawful-due : (b : Signal) (rules : RuleNumbers) (place due number : ℕ) (bad : Bad) (first : ℕ) → IsLoss rules.loss → IsLawfulLock rules place due number bad first
-    → IsLawful rules (due + 1) (step b rules due (Locked due number bad first))
-lawful-due b rules place due number bad first loss lawful =
-    lawful-step b rules loss due (Locked due number bad first)
-    (lawful-waiting rules place due due number bad first lawful lawful.soon.0 (omega arith))
+pub lawful-due : (b : Signal) (rules : RuleNumbers) (place : ℕ) (lock : Lock) → IsLoss rules.loss → IsLawfulLock rules place lock
+    → IsLawful rules (lock.due + 1) (step b rules lock.due (Locked lock))
+lawful-due b rules place lock loss lawful =
+    lawful-step b rules loss lock.due (Locked lock) (lawful-waiting rules place lock.due lock lawful lawful.soon.0 (omega arith))

@@ -3,7 +3,7 @@ use Rattle.std.proofs.Common.{◌≡◌, ◌≢◌, ℕ, suc, ◌+◌, ◌-◌, 
 use Rattle.std.proofs.lemmas.Bool.{ne_eqb, cases_eq, cases_lt, le-leb, lt-leb, eq-eqb}
 use Rattle.std.specs.Prelude.{◌==◌}
 use Rattle.rds_stream.specs.Recording.{Signal}
-use Rattle.rds_sync.specs.declared.loss.Bad.{Bad}
+use Rattle.rds_sync.specs.declared.lock.Lock.{Lock}
 use Rattle.rds_sync.specs.declared.state.State.{State}
 use Rattle.rds_sync.specs.declared.state.State.TheVariants.{Searching, Locked}
 use Rattle.rds_sync.specs.declared.item.Item.{Item}
@@ -13,7 +13,7 @@ use Rattle.rds_sync.specs.Acquiring.{number_after}
 use Rattle.rds_sync.specs.Groups.{group}
 use Rattle.rds_sync.specs.Loss.{are_too_many, bad_at}
 use Rattle.rds_sync.specs.Report.{is_good, loses_at, first_of_group}
-use Rattle.rds_sync.specs.Step.{items_of_end, locked_after, group_after}
+use Rattle.rds_sync.specs.Step.{items_of_end, group_after, lock_of, lock_after}
 use Rattle.rds_sync.proofs.LossLemmas.{loses_is}
 use Rattle.rds_sync.proofs.RunLemmas.{items-keeping, step-keeping, items-losing, step-losing}
 use Rattle.rds_sync.proofs.WholeRuns.{whole, goes, skip, skip_to_end}
@@ -24,7 +24,7 @@ cond_same false n = refl
 
 module _ (b : Signal) (rules : RuleNumbers) (a x : ℕ) where
   -- what is kept of the bad blocks once block k was read
-  abbrev pub bad : ℕ → Bad
+  abbrev pub bad : ℕ → ℕ
   bad k = bad_at (is_good b rules a x) rules.loss k
 
   pub number_first : 1 ≤ x → x ≤ 4 → number_after x 0 ≡ x
@@ -39,9 +39,12 @@ module _ (b : Signal) (rules : RuleNumbers) (a x : ℕ) where
   pub loses_here : (k : ℕ) → are_too_many rules.loss (bad k) ≡ true → loses_at b rules a x k ≡ true
   loses_here k e = sym (loses_is (is_good b rules a x) rules.loss k) ∙ e
 
-  -- the state once block k was read
+  -- the lock, and the state, once block k was read
+  abbrev pub lock_behind : ℕ → Lock
+  lock_behind k = lock_of (a + 26 * suc k) (number_after x (suc k)) (bad k) (first_of_group b rules a x (suc k))
+
   abbrev pub S : ℕ → State
-  S k = Locked (a + 26 * suc k) (number_after x (suc k)) (bad k) (first_of_group b rules a x (suc k))
+  S k = Locked (lock_behind k)
 
   -- the group that ends with block k
   abbrev pub G : ℕ → Item
@@ -62,30 +65,30 @@ module _ (b : Signal) (rules : RuleNumbers) (a x : ℕ) where
     ]
   ]
 
-  pub S_is : 1 ≤ x → (k : ℕ) → locked_after (a + 26 * k) (number_after x k) (bad k) (first_of_group b rules a x k) ≡ S k
+  pub S_is : 1 ≤ x → (k : ℕ) → Locked (lock_after (a + 26 * k) (number_after x k) (bad k) (first_of_group b rules a x k)) ≡ S k
   S_is low k =
       let due : a + 26 * k + 26 ≡ a + 26 * suc k = omega arith in
       rw (due, number_next k, first_next low k) refl
 
   wait : (k bits : ℕ) → whole b rules (S k) (a + 26 * k + 1) (25 + suc bits) ≡ whole b rules (S k) (a + 26 * suc k) (suc bits)
-  wait k bits = let due : a + 26 * suc k ≡ a + 26 * k + 1 + 25 = omega arith in
-      rw due (skip b rules (number_after x (suc k)) (bad k) (first_of_group b rules a x (suc k)) (a + 26 * k + 1) 25 (suc bits))
+  wait k bits =
+      let due : a + 26 * k + 1 + 25 ≡ a + 26 * suc k = omega arith in
+      rw due at (skip b rules (lock_behind k) (a + 26 * k + 1) 25 (suc bits) (omega arith))
 
   pub block_good : 1 ≤ x → (k bits : ℕ) → are_too_many rules.loss (bad (suc k)) ≡ false
       → whole b rules (S k) (a + 26 * k + 1) (25 + suc bits) ≡ closes (suc k) ++ whole b rules (S (suc k)) (a + 26 * suc k + 1) bits
   block_good low k bits h = wait k bits ∙ goes b rules (S k) (S (suc k)) (closes (suc k)) (a + 26 * suc k) bits
-      (items-keeping b rules (a + 26 * suc k) (number_after x (suc k)) (bad k) (first_of_group b rules a x (suc k)) h)
-      (step-keeping b rules (a + 26 * suc k) (number_after x (suc k)) (bad k) (first_of_group b rules a x (suc k)) h ∙ S_is low (suc k))
+      (items-keeping b rules (lock_behind k) h)
+      (step-keeping b rules (lock_behind k) h ∙ S_is low (suc k))
 
   pub block_lost : (k bits : ℕ) → are_too_many rules.loss (bad (suc k)) ≡ true
       → whole b rules (S k) (a + 26 * k + 1) (25 + suc bits) ≡ G (suc k) ∷ LostLock (a + 26 * suc k) ∷ whole b rules Searching (a + 26 * suc k + 1) bits
   block_lost k bits h = wait k bits ∙ goes b rules (S k) Searching (G (suc k) ∷ LostLock (a + 26 * suc k) ∷ []) (a + 26 * suc k) bits
-      (items-losing b rules (a + 26 * suc k) (number_after x (suc k)) (bad k) (first_of_group b rules a x (suc k)) h)
-      (step-losing b rules (a + 26 * suc k) (number_after x (suc k)) (bad k) (first_of_group b rules a x (suc k)) h)
+      (items-losing b rules (lock_behind k) h)
+      (step-losing b rules (lock_behind k) h)
 
   pub block_end : (k bits : ℕ) → bits ≤ 25 → whole b rules (S k) (a + 26 * k + 1) bits ≡ items_of_end b rules (S k)
-  block_end k bits h = let due : a + 26 * suc k ≡ a + 26 * k + 1 + 25 = omega arith in
-      rw due (skip_to_end b rules (number_after x (suc k)) (bad k) (first_of_group b rules a x (suc k)) (a + 26 * k + 1) 25 bits h)
+  block_end k bits h = skip_to_end b rules (lock_behind k) (a + 26 * k + 1) bits (omega arith)
 
   -- at the end of the recording the group in progress is closed
   pub last_group : 1 ≤ x → (k : ℕ) → closes k ++ items_of_end b rules (S k) ≡ G k ∷ []

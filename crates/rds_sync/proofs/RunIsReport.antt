@@ -4,14 +4,14 @@ use Rattle.std.proofs.lemmas.Bool.{ne_eqb, cases_Bool, cases_eq, eq-eqb}
 use Rattle.std.specs.Prelude.{MatchOption, filter_map, find}
 use Rattle.std.specs.List.{range_with_len}
 use Rattle.rds_stream.specs.Recording.{Signal, length_of}
-use Rattle.rds_sync.specs.declared.state.State.TheVariants.{Searching}
+use Rattle.rds_sync.specs.declared.state.State.TheVariants.{Searching, Locked}
 use Rattle.rds_sync.specs.declared.item.Item.{Item}
 use Rattle.rds_sync.specs.declared.item.Item.TheVariants.{Acquired, LostLock}
 use Rattle.rds_sync.specs.Rules.{RuleNumbers}
 use Rattle.rds_sync.specs.Acquiring.{acquired, number_after}
-use Rattle.rds_sync.specs.Loss.{IsLoss, none_bad, are_too_many}
+use Rattle.rds_sync.specs.Loss.{IsLoss, are_too_many}
 use Rattle.rds_sync.specs.Report.{is_good, loses_at, places, end, read_blocks, group_closed_by, loss_items, items_of_lock, first_lock, items_from, report_items}
-use Rattle.rds_sync.specs.Step.{run, items_of_end, locked_after, group_after}
+use Rattle.rds_sync.specs.Step.{run, items_of_end, group_after, lock_after}
 use Rattle.rds_sync.proofs.LawfulLemmas.{acquired-range}
 use Rattle.rds_sync.proofs.LockBlocks.{bad, keeps, loses_here, number_first, first_first, S, G, closes, S_is, block_good, block_lost, block_end, last_group}
 use Rattle.rds_sync.proofs.LossLemmas.{never_0}
@@ -130,7 +130,7 @@ module _ (b : Signal) (rules : RuleNumbers) where
       let start : a + 26 * 0 ≡ a = omega arith in
       let num = number_first b rules a x low range.1 in
       let fst = first_first b rules a x range.1 in
-      let begins : locked_after a x (none_bad rules.loss) x ≡ S b rules a x 0 = rw (start, num, fst) at (S_is b rules a x low 0) in
+      let begins : Locked (lock_after a x 0 x) ≡ S b rules a x 0 = rw (start, num, fst) at (S_is b rules a x low 0) in
       let closed : closes b rules a x 0 ≡ group_after b rules x x a = rw (start, num, fst) refl in
       let none_before : read_blocks b rules a x - 0 ≡ read_blocks b rules a x = omega arith in
       let d : ℕ = places b rules a x - 1 in

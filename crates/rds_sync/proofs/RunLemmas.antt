@@ -3,21 +3,25 @@ use Rattle.std.proofs.Common.{◌≡◌, ◌≢◌, ℕ, zero, suc, ◌+◌, ◌
 use Rattle.std.proofs.Math.Nat.{suc-add}
 use Rattle.std.proofs.lemmas.Bool.{ne_eqb, eq-eqb}
 use Rattle.rds_stream.specs.Recording.{Signal}
+use Rattle.rds_sync.specs.declared.lock.Lock.{Lock}
 use Rattle.rds_sync.specs.declared.state.State.{State}
 use Rattle.rds_sync.specs.declared.state.State.TheVariants.{Searching, Locked}
 use Rattle.rds_sync.specs.declared.item.Item.{Item}
 use Rattle.rds_sync.specs.declared.item.Item.TheVariants.{Acquired, Group, LostLock}
-use Rattle.rds_sync.specs.declared.loss.Bad.{Bad}
 use Rattle.rds_sync.specs.Rules.{RuleNumbers}
-use Rattle.rds_sync.specs.Loss.{none_bad, are_too_many}
+use Rattle.rds_sync.specs.Loss.{are_too_many}
 use Rattle.rds_sync.specs.Acquiring.{acquired}
 use Rattle.rds_sync.specs.Groups.{group}
-use Rattle.rds_sync.specs.Step.{run, step, after_bit, items_at, locked_after, bad_with, group_after}
+use Rattle.rds_sync.specs.Step.{run, step, after_bit, items_at, bad_with, group_after, lock_after}
+
+-- the lock of a state
+pub same-lock : (lock other : Lock) → Locked lock ≡ Locked other → lock ≡ other
+same-lock lock other same = cc
 
 module _ (b : Signal) (rules : RuleNumbers) where
   -- one bit
 
-  pub step-acquiring : (i x : ℕ) → acquired b rules i ≡ Some x → step b rules i Searching ≡ locked_after i x (none_bad rules.loss) x
+  pub step-acquiring : (i x : ℕ) → acquired b rules i ≡ Some x → step b rules i Searching ≡ Locked (lock_after i x 0 x)
   step-acquiring i x e = rw (e, step, after_bit) refl
 
   pub items-acquiring : (i x : ℕ) → acquired b rules i ≡ Some x → items_at b rules i Searching ≡ Acquired i x ∷ group_after b rules x x i
@@ -29,26 +33,26 @@ module _ (b : Signal) (rules : RuleNumbers) where
   pub items-searching : (i : ℕ) → acquired b rules i ≡ None → items_at b rules i Searching ≡ []
   items-searching i e = rw (e, items_at, after_bit) refl
 
-  pub step-waiting : (due number : ℕ) (bad : Bad) (first i : ℕ) → due ≢ i → step b rules i (Locked due number bad first) ≡ Locked due number bad first
-  step-waiting due number bad first i ne = rw (ne_eqb due i ne, step, after_bit) refl
+  pub step-waiting : (lock : Lock) (i : ℕ) → lock.due ≢ i → step b rules i (Locked lock) ≡ Locked lock
+  step-waiting lock i ne = rw (ne_eqb lock.due i ne, step, after_bit) refl
 
-  pub items-waiting : (due number : ℕ) (bad : Bad) (first i : ℕ) → due ≢ i → items_at b rules i (Locked due number bad first) ≡ []
-  items-waiting due number bad first i ne = rw (ne_eqb due i ne, items_at, after_bit) refl
+  pub items-waiting : (lock : Lock) (i : ℕ) → lock.due ≢ i → items_at b rules i (Locked lock) ≡ []
+  items-waiting lock i ne = rw (ne_eqb lock.due i ne, items_at, after_bit) refl
 
-  pub step-keeping : (i number : ℕ) (bad : Bad) (first : ℕ) → are_too_many rules.loss (bad_with b rules i number bad) ≡ false
-      → step b rules i (Locked i number bad first) ≡ locked_after i number (bad_with b rules i number bad) first
-  step-keeping i number bad first h = rw (eq-eqb i i refl, h, step, after_bit) refl
+  pub step-keeping : (lock : Lock) → are_too_many rules.loss (bad_with b rules lock.due lock.number lock.bad) ≡ false
+      → step b rules lock.due (Locked lock) ≡ Locked (lock_after lock.due lock.number (bad_with b rules lock.due lock.number lock.bad) lock.first)
+  step-keeping lock h = rw (eq-eqb lock.due lock.due refl, h, step, after_bit) refl
 
-  pub items-keeping : (i number : ℕ) (bad : Bad) (first : ℕ) → are_too_many rules.loss (bad_with b rules i number bad) ≡ false
-      → items_at b rules i (Locked i number bad first) ≡ group_after b rules first number i
-  items-keeping i number bad first h = rw (eq-eqb i i refl, h, items_at, after_bit) refl
+  pub items-keeping : (lock : Lock) → are_too_many rules.loss (bad_with b rules lock.due lock.number lock.bad) ≡ false
+      → items_at b rules lock.due (Locked lock) ≡ group_after b rules lock.first lock.number lock.due
+  items-keeping lock h = rw (eq-eqb lock.due lock.due refl, h, items_at, after_bit) refl
 
-  pub step-losing : (i number : ℕ) (bad : Bad) (first : ℕ) → are_too_many rules.loss (bad_with b rules i number bad) ≡ true → step b rules i (Locked i number bad first) ≡ Searching
-  step-losing i number bad first h = rw (eq-eqb i i refl, h, step, after_bit) refl
+  pub step-losing : (lock : Lock) → are_too_many rules.loss (bad_with b rules lock.due lock.number lock.bad) ≡ true → step b rules lock.due (Locked lock) ≡ Searching
+  step-losing lock h = rw (eq-eqb lock.due lock.due refl, h, step, after_bit) refl
 
-  pub items-losing : (i number : ℕ) (bad : Bad) (first : ℕ) → are_too_many rules.loss (bad_with b rules i number bad) ≡ true
-      → items_at b rules i (Locked i number bad first) ≡ Group (group b rules first number i) ∷ LostLock i ∷ []
-  items-losing i number bad first h = rw (eq-eqb i i refl, h, items_at, after_bit) refl
+  pub items-losing : (lock : Lock) → are_too_many rules.loss (bad_with b rules lock.due lock.number lock.bad) ≡ true
+      → items_at b rules lock.due (Locked lock) ≡ Group (group b rules lock.first lock.number lock.due) ∷ LostLock lock.due ∷ []
+  items-losing lock h = rw (eq-eqb lock.due lock.due refl, h, items_at, after_bit) refl
 
   -- the run of one bit
   pub run-one : (s : State) (a : ℕ) → run b rules s a 1 ≡ (step b rules a s, items_at b rules a s)
@@ -111,21 +115,20 @@ module _ (b : Signal) (rules : RuleNumbers) where
       )
 
   -- while a block is waited for, a run changes nothing and gives nothing
-  pub run-waiting : (due number : ℕ) (bad : Bad) (first a n : ℕ) → a + n ≤ due → run b rules (Locked due number bad first) a n ≡ (Locked due number bad first, [])
-  run-waiting due number bad first a zero h = refl
-  run-waiting due number bad first a (suc n) h =
-      let late : due ≢ a = λ e. absurd (omega arith) in
-      run-first (Locked due number bad first) (Locked due number bad first) [] a n (step-waiting due number bad first a late) (items-waiting due number bad first a late)
-      ∙ run-waiting due number bad first (a + 1) n (omega arith)
+  pub run-waiting : (lock : Lock) (a n : ℕ) → a + n ≤ lock.due → run b rules (Locked lock) a n ≡ (Locked lock, [])
+  run-waiting lock a zero h = refl
+  run-waiting lock a (suc n) h =
+      let late : lock.due ≢ a = λ e. absurd (omega arith) in
+      run-first (Locked lock) (Locked lock) [] a n (step-waiting lock a late) (items-waiting lock a late)
+      ∙ run-waiting lock (a + 1) n (omega arith)
 
   -- a run up to and including the block that is due is that of its last bit
-  pub run-reading : (due number : ℕ) (bad : Bad) (first a n : ℕ) → a + n ≡ due
-      → run b rules (Locked due number bad first) a (n + 1) ≡ (step b rules due (Locked due number bad first), items_at b rules due (Locked due number bad first))
-  run-reading due number bad first a n e =
-      let s : State = Locked due number bad first in
-      run-append s a n 1
-      ∙ ap₂ (λ (r : State × List Item) (p : ℕ). ((run b rules r.0 p 1).0, r.1 ++ (run b rules r.0 p 1).1)) (run-waiting due number bad first a n (omega arith)) e
-      ∙ run-one s due
+  pub run-reading : (lock : Lock) (a n : ℕ) → a + n ≡ lock.due
+      → run b rules (Locked lock) a (n + 1) ≡ (step b rules lock.due (Locked lock), items_at b rules lock.due (Locked lock))
+  run-reading lock a n e =
+      run-append (Locked lock) a n 1
+      ∙ ap₂ (λ (r : State × List Item) (p : ℕ). ((run b rules r.0 p 1).0, r.1 ++ (run b rules r.0 p 1).1)) (run-waiting lock a n (omega arith)) e
+      ∙ run-one (Locked lock) lock.due
 
   -- a search goes on where no place acquires
   pub run-searching : (a n : ℕ) → ((i : ℕ) → a ≤ i → i < a + n → acquired b rules i ≡ None) → run b rules Searching a n ≡ (Searching, [])
@@ -137,15 +140,15 @@ module _ (b : Signal) (rules : RuleNumbers) where
 
 -- a step, by its first state and its places
 module _ (b : Signal) (rules : RuleNumbers) (s : State) (place after : ℕ) where
-  module _ (due number : ℕ) (bad : Bad) (first : ℕ) (is : s ≡ Locked due number bad first) where
-    pub run-due : place ≤ due → after ≡ due + 1
-        → run b rules s place (after - place) ≡ (step b rules due (Locked due number bad first), items_at b rules due (Locked due number bad first))
+  module _ (lock : Lock) (is : s ≡ Locked lock) where
+    pub run-due : place ≤ lock.due → after ≡ lock.due + 1
+        → run b rules s place (after - place) ≡ (step b rules lock.due (Locked lock), items_at b rules lock.due (Locked lock))
     run-due order next =
-        let bits : after - place ≡ (due - place) + 1 = omega arith in
-        rw (is, bits) (run-reading b rules due number bad first place (due - place) (omega arith))
+        let bits : after - place ≡ (lock.due - place) + 1 = omega arith in
+        rw (is, bits) (run-reading b rules lock place (lock.due - place) (omega arith))
 
-    pub run-early : place ≤ after → after ≤ due → run b rules s place (after - place) ≡ (Locked due number bad first, [])
-    run-early order before = rw is (run-waiting b rules due number bad first place (after - place) (omega arith))
+    pub run-early : place ≤ after → after ≤ lock.due → run b rules s place (after - place) ≡ (Locked lock, [])
+    run-early order before = rw is (run-waiting b rules lock place (after - place) (omega arith))
 
 -- a run over a range and its next, each as a state and items
 pub run-further : (b : Signal) (rules : RuleNumbers) (s now t : State) (items found : List Item) (from place after : ℕ)

@@ -15,16 +15,16 @@ use Rattle.rds_sync.specs.declared.item.Block.TheVariants.{Read}
 use Rattle.rds_sync.specs.declared.item.Item.{Item}
 use Rattle.rds_sync.specs.declared.item.Item.TheVariants.{Group, LostLock}
 use Rattle.rds_sync.specs.declared.state.State.{State}
-use Rattle.rds_sync.specs.declared.state.State.TheVariants.{Searching}
+use Rattle.rds_sync.specs.declared.state.State.TheVariants.{Searching, Locked}
 use Rattle.rds_sync.specs.Acquiring.{acquired, has_number}
 use Rattle.rds_sync.specs.Codes.{Outcome, outcome_of, Code, blocks, ended, KeptOf, behind, kept_of}
 use Rattle.rds_sync.specs.Groups.{block_at, blocks_at, group, wanted_beside}
 use Rattle.rds_sync.specs.Inside.CodeParts.{kept_as}
 use Rattle.rds_sync.specs.Inside.ShortLocks.{IsLostAtOnce, wanted_behind, first_behind, word_of_two}
 use Rattle.rds_sync.specs.Lawful.{HaveRoom}
-use Rattle.rds_sync.specs.Loss.{none_bad, bad_after, are_too_many}
+use Rattle.rds_sync.specs.Loss.{bad_after, are_too_many}
 use Rattle.rds_sync.specs.Rules.{RuleNumbers}
-use Rattle.rds_sync.specs.Step.{items_at, run, locked_after, bad_with}
+use Rattle.rds_sync.specs.Step.{items_at, run, bad_with, lock_after, lock_of}
 use Rattle.rds_sync.specs.Totals.{is_valid}
 use Rattle.rds_sync.specs.Words.{nibble, word_of_blocks}
 use Rattle.rds_sync.proofs.CleanGroups.{valid-only}
@@ -139,21 +139,21 @@ two-are b rules place (suc (suc (suc (suc (suc x))))) k late low high valid is =
 -- the run from before a lock that its second block loses to behind it
 module _ (b : Signal) (rules : RuleNumbers) (here x to word : ℕ) (acquires : acquired b rules here ≡ Some x) (lost : IsLostAtOnce b rules here x to word) where
   abbrev lock : State
-  lock = locked_after here x (none_bad rules.loss) x
+  lock = Locked (lock_after here x 0 x)
 
-  many : are_too_many rules.loss (bad_with b rules (here + 26) (x % 4 + 1) (none_bad rules.loss)) ≡ true
-  many = ap (λ (good : Bool). are_too_many rules.loss (bad_after rules.loss good (none_bad rules.loss))) lost.bad ∙ lost.loses
+  many : are_too_many rules.loss (bad_with b rules (here + 26) (x % 4 + 1) 0) ≡ true
+  many = ap (λ (good : Bool). are_too_many rules.loss (bad_after rules.loss good 0)) lost.bad ∙ lost.loses
 
   last-items : items_at b rules (here + 26) lock ≡ Group (group b rules (first_behind x) (x % 4 + 1) (here + 26)) ∷ LostLock (here + 26) ∷ []
-  last-items = items-losing b rules (here + 26) (x % 4 + 1) (none_bad rules.loss) (first_behind x) many
+  last-items = items-losing b rules (lock_of (here + 26) (x % 4 + 1) 0 (first_behind x)) many
 
   pub short-run : (from : ℕ) → from ≤ here → ((j : ℕ) → from ≤ j → j < here → acquired b rules j ≡ None)
       → run b rules Searching from (here + 27 - from) ≡ (Searching, items_at b rules here Searching ++ items_at b rules (here + 26) lock)
   short-run from order none =
-      let last = run-due b rules lock (here + 1) (here + 27) (here + 26) (x % 4 + 1) (none_bad rules.loss) (first_behind x) refl (omega arith) (omega arith) in
+      let last = run-due b rules lock (here + 1) (here + 27) (lock_of (here + 26) (x % 4 + 1) 0 (first_behind x)) refl (omega arith) (omega arith) in
       run-further b rules Searching lock Searching (items_at b rules here Searching) (items_at b rules (here + 26) lock) from (here + 1) (here + 27) (omega arith) (omega arith)
       (run-found b rules from here order none ∙ ap (λ (s : State). (s, items_at b rules here Searching)) (step-acquiring b rules here x acquires))
-      (sym (ap (λ (r : State × List Item). r.0) last ∙ step-losing b rules (here + 26) (x % 4 + 1) (none_bad rules.loss) (first_behind x) many))
+      (sym (ap (λ (r : State × List Item). r.0) last ∙ step-losing b rules (lock_of (here + 26) (x % 4 + 1) 0 (first_behind x)) many))
       (sym (ap (λ (r : State × List Item). r.1) last))
 
   -- and what is kept of it behind its acquisition

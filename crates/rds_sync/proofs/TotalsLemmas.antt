@@ -17,38 +17,12 @@ totals_of-append xs ys = simp sum_by-append
 
 -- a greater bound holds too
 pub IsAtMost-more : (m n : ℕ) (t : Totals) → m ≤ n → IsAtMost m t → IsAtMost n t
-IsAtMost-more m n t h a = record {
-  valid = omega (arith, a.valid);
-  burst1 = omega (arith, a.burst1);
-  burst2 = omega (arith, a.burst2);
-  burst3 = omega (arith, a.burst3);
-  burst4 = omega (arith, a.burst4);
-  burst5 = omega (arith, a.burst5);
-  lost = omega (arith, a.lost);
-  bits = omega (arith, a.bits);
-  groups = omega (arith, a.groups);
-  complete = omega (arith, a.complete);
-  acquired = omega (arith, a.acquired);
-  losses = omega (arith, a.losses);
-}
+IsAtMost-more m n t h a = omega (arith, a)
 
 -- small totals are small with a group's own counts too
 pub IsAtMost-group : (t : Totals) (complete : ℕ) → complete ≤ 1 → IsAtMost 1020 t
     → IsAtMost 1024 (record t { groups = 1; complete = complete })
-IsAtMost-group t complete h a = record {
-  valid = omega (arith, a.valid);
-  burst1 = omega (arith, a.burst1);
-  burst2 = omega (arith, a.burst2);
-  burst3 = omega (arith, a.burst3);
-  burst4 = omega (arith, a.burst4);
-  burst5 = omega (arith, a.burst5);
-  lost = omega (arith, a.lost);
-  bits = omega (arith, a.bits);
-  groups = omega arith;
-  complete = omega arith;
-  acquired = omega (arith, a.acquired);
-  losses = omega (arith, a.losses);
-}
+IsAtMost-group t complete h a = omega (arith, a)
 
 -- four blocks, one by one
 pub four_blocks : (bs : List Block) (a b c d : Block) → length bs ≡ 4

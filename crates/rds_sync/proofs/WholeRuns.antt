@@ -1,10 +1,10 @@
 -- Runs to the end of a recording, with the item of the end: what they give up to the first place that acquires, and up to the next
 -- block of a lock.
-use Rattle.std.proofs.Common.{◌≡◌, ◌≢◌, ℕ, zero, suc, ◌+◌, ◌≤◌, List, [], ◌++◌, Option, Some, None, refl, ap, ap₂, ◌∙◌, arith, append_assoc, add-zero, zero-add}
+use Rattle.std.proofs.Common.{◌≡◌, ◌≢◌, ℕ, zero, suc, ◌+◌, ◌<◌, ◌≤◌, List, [], ◌++◌, Option, Some, None, refl, ap, ap₂, ◌∙◌, arith, append_assoc, add-zero, zero-add}
 use Rattle.std.proofs.Math.Nat.{suc-add}
 use Rattle.std.specs.Prelude.{MatchOption}
 use Rattle.rds_stream.specs.Recording.{Signal}
-use Rattle.rds_sync.specs.declared.loss.Bad.{Bad}
+use Rattle.rds_sync.specs.declared.lock.Lock.{Lock}
 use Rattle.rds_sync.specs.declared.state.State.{State}
 use Rattle.rds_sync.specs.declared.state.State.TheVariants.{Searching, Locked}
 use Rattle.rds_sync.specs.declared.item.Item.{Item}
@@ -54,21 +54,17 @@ module _ (b : Signal) (rules : RuleNumbers) where
     at_case h (Some x) e = rw (first_some p bits x e) (bits, omega arith, omega arith, e, refl)
 
   -- nothing happens before the next block
-  late : (p d : ℕ) → p + suc d ≢ p
-  late p d = λ e. absurd (omega arith)
+  late_step : (lock : Lock) (p bits : ℕ) → p < lock.due → whole (Locked lock) p (suc bits) ≡ whole (Locked lock) (p + 1) bits
+  late_step lock p bits early =
+      let late : lock.due ≢ p = λ e. absurd (omega arith) in
+      goes (Locked lock) (Locked lock) [] p bits (items-waiting b rules lock p late) (step-waiting b rules lock p late)
 
-  late_step : (due num : ℕ) (bad : Bad) (f p bits : ℕ) → due ≢ p → whole (Locked due num bad f) p (suc bits) ≡ whole (Locked due num bad f) (p + 1) bits
-  late_step due num bad f p bits e = goes (Locked due num bad f) (Locked due num bad f) [] p bits (items-waiting b rules due num bad f p e) (step-waiting b rules due num bad f p e)
+  pub skip : (lock : Lock) (p d bits : ℕ) → p + d ≤ lock.due → whole (Locked lock) p (d + bits) ≡ whole (Locked lock) (p + d) bits
+  skip lock p zero bits early = rw (add-zero, zero-add) refl
+  skip lock p (suc d) bits early =
+      let e : p + suc d ≡ p + 1 + d = omega arith in
+      rw (suc-add, e) (late_step lock p (d + bits) (omega arith) ∙ skip lock (p + 1) d bits (omega arith))
 
-  pub skip : (num : ℕ) (bad : Bad) (f p d bits : ℕ) → whole (Locked (p + d) num bad f) p (d + bits) ≡ whole (Locked (p + d) num bad f) (p + d) bits
-  skip num bad f p zero bits = rw (add-zero, zero-add) refl
-  skip num bad f p (suc d) bits =
-      rw suc-add (late_step (p + suc d) num bad f p (d + bits) (late p d)
-      ∙ (let e : p + suc d ≡ p + 1 + d = omega arith in rw e (skip num bad f (p + 1) d bits)))
-
-  pub skip_to_end : (num : ℕ) (bad : Bad) (f p d bits : ℕ) → bits ≤ d → whole (Locked (p + d) num bad f) p bits ≡ items_of_end b rules (Locked (p + d) num bad f)
-  skip_to_end num bad f p d zero h = refl
-  skip_to_end num bad f p zero (suc bits) h = absurd (omega arith)
-  skip_to_end num bad f p (suc d) (suc bits) h =
-      late_step (p + suc d) num bad f p bits (late p d)
-      ∙ (let e : p + suc d ≡ p + 1 + d = omega arith in rw e (skip_to_end num bad f (p + 1) d bits (omega arith)))
+  pub skip_to_end : (lock : Lock) (p bits : ℕ) → p + bits ≤ lock.due → whole (Locked lock) p bits ≡ items_of_end b rules (Locked lock)
+  skip_to_end lock p zero early = refl
+  skip_to_end lock p (suc bits) early = late_step lock p bits (omega arith) ∙ skip_to_end lock (p + 1) bits (omega arith)

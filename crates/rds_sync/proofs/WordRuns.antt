@@ -21,9 +21,8 @@ use Rattle.rds_sync.specs.declared.item.Item.{Item}
 use Rattle.rds_sync.specs.declared.item.Item.TheVariants.{Acquired, Group, LostLock}
 use Rattle.rds_sync.specs.Rules.{RuleNumbers}
 use Rattle.rds_sync.specs.Lawful.{IsLawful}
-use Rattle.rds_sync.specs.Loss.{none_bad}
 use Rattle.rds_sync.specs.Groups.{group, block_at, wanted_beside}
-use Rattle.rds_sync.specs.Step.{run, step, items_at, locked_after, bad_with}
+use Rattle.rds_sync.specs.Step.{run, step, items_at, bad_with, lock_of, lock_after}
 use Rattle.rds_sync.specs.Codes.{Outcome, Code, corrected, locked, blocks, ended, outcome_of, codes_of}
 use Rattle.rds_sync.specs.Words.{IsShort, IsSmall, RunsHaveWords}
 use Rattle.rds_sync.proofs.GroupOutcomes.{outcomes}
@@ -146,20 +145,20 @@ module _ (laws : BurstLaws) where
     at_case : Bit b rules a s → ((t : State) → IsLawful rules (a + 1) t → All IsSmall (codes_of (run b rules t (a + 1) n).1)) → All IsSmall (codes_of (run b rules s a (suc n)).1)
     at_case (still e i) rest = as_items _ _ (first s [] e i) (rest s (next s e))
     at_case (found x is acquires ne e i) rest =
-        let t : State = locked_after a x (none_bad rules.loss) x in
+        let t : State = Locked (lock_after a x 0 x) in
         as_items _ _ (first t (Acquired a x ∷ []) e i)
         (All-cons IsSmall (locked x) (codes_of (run b rules t (a + 1) n).1) (acquired-range b rules a x acquires).1 (rest t (next t e)))
     at_case (found_last is acquires e i) rest =
-        let t : State = locked_after a 4 (none_bad rules.loss) 4 in
+        let t : State = Locked (lock_after a 4 0 4) in
         let codes : List Code = codes_of (run b rules t (a + 1) n).1 in
         as_items _ _ (first t (Acquired a 4 ∷ Group (group b rules 4 4 a) ∷ []) e i)
         (All-cons IsSmall (locked 4) (blocks (outcomes (group b rules 4 4 a)) ∷ codes) (omega arith)
         (All-cons IsSmall (blocks (outcomes (group b rules 4 4 a))) codes (group-small b rules 4 4 a few) (rest t (next t e))))
     at_case (heard_bit x bad f is g ne e i) rest =
-        let t : State = Locked (a + 26) (x + 1) (bad_with b rules a x bad) f in
+        let t : State = Locked (lock_of (a + 26) (x + 1) (bad_with b rules a x bad) f) in
         as_items _ _ (first t [] e i) (rest t (next t e))
     at_case (closed bad f is g e i) rest =
-        let t : State = locked_after a 4 (bad_with b rules a 4 bad) f in
+        let t : State = Locked (lock_after a 4 (bad_with b rules a 4 bad) f) in
         as_items _ _ (first t (Group (group b rules f 4 a) ∷ []) e i)
         (All-cons IsSmall (blocks (outcomes (group b rules f 4 a))) (codes_of (run b rules t (a + 1) n).1) (group-small b rules f 4 a few) (rest t (next t e)))
     at_case (gone x bad f is g e i) rest =

@@ -12,12 +12,12 @@ use Rattle.rds_sync.specs.Rules.{RuleNumbers}
 -- and including the block that is due
 abbrev pub next_place : State → ℕ → ℕ → ℕ
 next_place Searching place to = place + 1
-next_place (Locked due number bad first) place to = elim (nat_lt due to) [ true ↦ due + 1 | false ↦ to ]
+next_place (Locked lock) place to = elim (nat_lt lock.due to) [ true ↦ lock.due + 1 | false ↦ to ]
 
 -- how many windows a step asks for at most: its own and a partner's at each distance, or a group's four blocks
 abbrev pub reads_most : RuleNumbers → State → ℕ → ℕ
 reads_most rules Searching to = rules.reach + 1
-reads_most rules (Locked due number bad first) to = elim (nat_lt due to) [ true ↦ 4 | false ↦ 0 ]
+reads_most rules (Locked lock) to = elim (nat_lt lock.due to) [ true ↦ 4 | false ↦ 0 ]
 
 -- the items that are there, in order
 abbrev pub items_in : List (Option Item) → List Item

@@ -10,13 +10,13 @@ use Rattle.std.specs.List.{All}
 use Rattle.std.specs.List.Sorted.{IsStrictlyIncreasing}
 use Rattle.rds_stream.specs.Recording.{Signal, length_of, off}
 use Rattle.rds_sync.specs.declared.loss.Loss.{Loss}
-use Rattle.rds_sync.specs.declared.loss.Loss.TheVariants.{Run, Share}
+use Rattle.rds_sync.specs.declared.loss.Loss.TheVariants.{InARow, Share}
 use Rattle.rds_sync.specs.declared.state.State.{State}
 use Rattle.rds_sync.specs.declared.state.State.TheVariants.{Locked}
 use Rattle.rds_sync.specs.Rules.{RuleNumbers}
-use Rattle.rds_sync.specs.Loss.{IsLoss, none_bad}
+use Rattle.rds_sync.specs.Loss.{IsLoss}
 use Rattle.rds_sync.specs.Lawful.{IsLawful}
-use Rattle.rds_sync.specs.Step.{run}
+use Rattle.rds_sync.specs.Step.{run, lock_of}
 use Rattle.rds_sync.specs.Acquiring.{acquired, has_number, number_after}
 
 module _ (b : Signal) (from to : ℕ) where
@@ -43,14 +43,14 @@ module _ (b : Signal) (from to : ℕ) where
 
 -- how many blocks a sound range has: enough for j + 1 losses, and for the blocks that a rule of loss looks at
 abbrev pub sound_blocks : Loss → ℕ → ℕ
-sound_blocks (Run n) j = (j + 1) * n + 6
+sound_blocks (InARow n) j = (j + 1) * n + 6
 sound_blocks (Share bad of) j = max ((j + 1) * bad) of + 6
 
 -- the same in bits: 416 under the default rules, where no rival is about
 abbrev pub sound_bits : Loss → ℕ → ℕ
 sound_bits loss j = 26 * sound_blocks loss j
 
--- An example, two bits a character: by the rule Run 1, where one bad block loses a lock, and for j = 1, a sound range has
+-- An example, two bits a character: by the rule InARow 1, where one bad block loses a lock, and for j = 1, a sound range has
 -- (1 + 1) * 1 + 6 = 8 blocks, 208 bits. A digit is the end of a block of the sequence, and its number: from p on, with c = 3.
 --
 --     s     p                                                                last                             s + 208
@@ -73,7 +73,7 @@ pub record IsSound (b : Signal) (rules : RuleNumbers) (j s p c : ℕ) : Type 0 w
 abbrev pub IsConverged : Signal → RuleNumbers → ℕ → ℕ → State → Type 0
 IsConverged b rules s to end = (j p c last : ℕ) → IsSound b rules j s p c → IsLastFour b s (s + sound_bits rules.loss j) p c last
     → to ≡ p + 26 * last + 1
-    → end ≡ Locked (p + 26 * last + 26) 1 (none_bad rules.loss) 1
+    → end ≡ Locked (lock_of (p + 26 * last + 26) 1 0 1)
 
 -- a sound range has a last block of number 4
 abbrev pub SoundRangesHaveFours : Type 0

@@ -3,13 +3,12 @@
 use Rattle.std.specs.Prelude.{◌≡◌, ◌≢◌, ◌↔◌, ℕ, ◌+◌, ◌-◌, ◌*◌, ◌<◌, ◌≤◌, ◌⊎◌, List, [], ◌++◌, Some, None, length, Bool, nat_lt, min, if◌then◌else◌}
 use Rattle.std.specs.Int.{bit_at}
 use Rattle.rds_stream.specs.Recording.{Signal, length_of}
+use Rattle.rds_sync.specs.declared.lock.Lock.{Lock}
 use Rattle.rds_sync.specs.declared.loss.Loss.{Loss}
-use Rattle.rds_sync.specs.declared.loss.Loss.TheVariants.{Run, Share}
-use Rattle.rds_sync.specs.declared.loss.Bad.TheVariants.{Mask}
+use Rattle.rds_sync.specs.declared.loss.Loss.TheVariants.{InARow, Share}
 use Rattle.rds_sync.specs.declared.state.State.{State}
 use Rattle.rds_sync.specs.declared.state.State.TheVariants.{Searching, Locked}
 use Rattle.rds_sync.specs.declared.item.Item.{Item}
-use Rattle.rds_sync.specs.declared.loss.Bad.{Bad}
 use Rattle.rds_sync.specs.Rules.{RuleNumbers}
 use Rattle.rds_sync.specs.Loss.{IsLoss, bad_at, are_too_many, loses}
 use Rattle.rds_sync.specs.Acquiring.{acquired}
@@ -57,8 +56,8 @@ OneBitRuns = (b : Signal) (rules : RuleNumbers) (s : State) (place : ℕ)
 
 -- while a block is waited for, a run changes nothing and gives nothing
 abbrev pub LocksWait : Type 0
-LocksWait = (b : Signal) (rules : RuleNumbers) (due number : ℕ) (bad : Bad) (first from to : ℕ) → from ≤ to → to ≤ due
-    → run b rules (Locked due number bad first) from (to - from) ≡ (Locked due number bad first, [])
+LocksWait = (b : Signal) (rules : RuleNumbers) (lock : Lock) (from to : ℕ) → from ≤ to → to ≤ lock.due
+    → run b rules (Locked lock) from (to - from) ≡ (Locked lock, [])
 
 -- while no place acquires, a search changes nothing and gives nothing
 abbrev pub SearchesGoOn : Type 0
@@ -82,8 +81,8 @@ AcquisitionsAreLate = (b : Signal) (rules : RuleNumbers) (i x : ℕ) → acquire
 
 -- bit i of a mask tells whether block k - i was bad, where that is one of the last `of` blocks, and is 0 elsewhere
 abbrev pub MasksTellBlocks : Type 0
-MasksTellBlocks = (is_good : ℕ → Bool) (bad of k mask i : ℕ) → bad_at is_good (Share bad of) k ≡ Mask mask
-    → bit_at mask i ≡ (if nat_lt i (min of k) then (if is_good (k - i) then 0 else 1) else 0)
+MasksTellBlocks = (is_good : ℕ → Bool) (bad of k i : ℕ)
+    → bit_at (bad_at is_good (Share bad of) k) i ≡ (if nat_lt i (min of k) then (if is_good (k - i) then 0 else 1) else 0)
 
 -- what is kept of a lock's bad blocks loses it exactly where its blocks do
 abbrev pub BadBlocksLose : Type 0
@@ -91,4 +90,4 @@ BadBlocksLose = (is_good : ℕ → Bool) (loss : Loss) (k : ℕ) → are_too_man
 
 -- n bad blocks in a row are n bad blocks among the last n
 abbrev pub RunsAreShares : Type 0
-RunsAreShares = (is_good : ℕ → Bool) (n k : ℕ) → loses (Run n) is_good k ≡ loses (Share n n) is_good k
+RunsAreShares = (is_good : ℕ → Bool) (n k : ℕ) → loses (InARow n) is_good k ≡ loses (Share n n) is_good k

@@ -6,13 +6,12 @@ use Rattle.rds_sync.specs.declared.state.State.{State}
 use Rattle.rds_sync.specs.declared.mark.Mark.{Mark}
 use Rattle.rds_sync.specs.Rules.{RuleNumbers}
 use Rattle.rds_sync.specs.declared.state.State.TheVariants.{Locked}
-use Rattle.rds_sync.specs.declared.loss.Bad.{Bad}
 use Rattle.rds_sync.specs.declared.item.Item.TheVariants.{Group}
 use Rattle.rds_sync.specs.Groups.{group}
 use Rattle.rds_sync.specs.Loss.{are_too_many}
 use Rattle.rds_sync.specs.Ranges.{IsLossInRange}
 use Rattle.rds_sync.specs.Lawful.{IsLawful}
-use Rattle.rds_sync.specs.Step.{run}
+use Rattle.rds_sync.specs.Step.{run, lock_of}
 use Rattle.rds_sync.specs.declared.loss.Loss.{Loss}
 use Rattle.rds_sync.specs.Codes.{Outcome, outcome_of, Code, ended, is_locked}
 use Rattle.rds_sync.specs.Marks.{bad_over, marks_on, item_marks, Spot, after_code, goes_on, code_marks}
@@ -38,7 +37,7 @@ MarksGoOn = (loss : Loss) (locks : List ℕ) (codes : List Code) (spot : Spot) (
 
 -- a lock between groups that none of the next four blocks loses: these bits give that group, and its code says the state
 abbrev pub WholeGroups : Type 0
-WholeGroups = (b : Signal) (rules : RuleNumbers) (due : ℕ) (bad : Bad) → 25 ≤ due
+WholeGroups = (b : Signal) (rules : RuleNumbers) (due bad : ℕ) → 25 ≤ due
     → let os : List Outcome = map outcome_of (group b rules 1 4 (due + 78)).blocks in
     ((k : ℕ) → k < 4 → are_too_many rules.loss (bad_over rules.loss os bad 1 (k + 1)) ≡ false)
-    → run b rules (Locked due 1 bad 1) (due - 25) 104 ≡ (Locked (due + 104) 1 (bad_over rules.loss os bad 1 4) 1, Group (group b rules 1 4 (due + 78)) ∷ [])
+    → run b rules (Locked (lock_of due 1 bad 1)) (due - 25) 104 ≡ (Locked (lock_of (due + 104) 1 (bad_over rules.loss os bad 1 4) 1), Group (group b rules 1 4 (due + 78)) ∷ [])

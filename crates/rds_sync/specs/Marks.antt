@@ -5,14 +5,12 @@ use Rattle.rds_stream.specs.Recording.{Signal}
 use Rattle.rds_sync.specs.declared.state.State.{State}
 use Rattle.rds_sync.specs.declared.state.State.TheVariants.{Searching, Locked}
 use Rattle.rds_sync.specs.declared.loss.Loss.{Loss}
-use Rattle.rds_sync.specs.declared.loss.Loss.TheVariants.{Run}
-use Rattle.rds_sync.specs.declared.loss.Bad.{Bad}
-use Rattle.rds_sync.specs.declared.loss.Bad.TheVariants.{Run as InARow}
+use Rattle.rds_sync.specs.declared.loss.Loss.TheVariants.{InARow, Share}
 use Rattle.rds_sync.specs.declared.item.Item.{Item}
 use Rattle.rds_sync.specs.declared.mark.Mark.{Mark}
 use Rattle.rds_sync.specs.Rules.{RuleNumbers}
-use Rattle.rds_sync.specs.Loss.{none_bad, bad_after}
-use Rattle.rds_sync.specs.Step.{step, items_at, locked_after}
+use Rattle.rds_sync.specs.Loss.{bad_after}
+use Rattle.rds_sync.specs.Step.{step, items_at, lock_of, lock_after}
 use Rattle.rds_sync.specs.Codes.{Outcome, missing, valid, lost, corrected, Code, locked, blocks, ended, was_valid, KeptOf, codes_of, locks_of}
 
 -- ---- from the bits
@@ -52,17 +50,17 @@ abbrev pub last_read : List Outcome → ℕ
 last_read os = last_from 1 os 0
 
 -- what is kept of the bad blocks once so many blocks from number y on were read
-abbrev pub bad_over : Loss → List Outcome → Bad → ℕ → ℕ → Bad
+abbrev pub bad_over : Loss → List Outcome → ℕ → ℕ → ℕ → ℕ
 bad_over loss os bad y zero = bad
 bad_over loss os bad y (suc more) = bad_over loss os (bad_after loss (good_at os y) bad) (y + 1) more
 
--- one block more: a row is counted up to 255, which is more than any lock has that is not lost
-abbrev pub bad_counted : Loss → Bool → Bad → Bad
-bad_counted (Run n) good (InARow row) = InARow (if good then 0 else min 255 (row + 1))
-bad_counted loss good bad = bad_after loss good bad
+-- one block more: a row is counted up to the one that loses the lock, and no further
+abbrev pub bad_counted : Loss → Bool → ℕ → ℕ
+bad_counted (InARow n) good row = if good then 0 else min n (row + 1)
+bad_counted (Share bad of) good mask = bad_after (Share bad of) good mask
 
 -- what is counted once so many blocks from number y on were read
-abbrev pub counted_over : Loss → List Outcome → Bad → ℕ → ℕ → Bad
+abbrev pub counted_over : Loss → List Outcome → ℕ → ℕ → ℕ → ℕ
 counted_over loss os bad y zero = bad
 counted_over loss os bad y (suc more) = counted_over loss os (bad_counted loss (good_at os y) bad) (y + 1) more
 
@@ -74,17 +72,17 @@ pub record Spot : Type 0 where
 -- behind a group: the blocks from the one that is due to its last that was read are counted. No run has a group behind a search
 abbrev pub after_blocks : Loss → List Outcome → State → Spot
 after_blocks loss os Searching = record { place = 0; state = Searching }
-after_blocks loss os (Locked due number bad first) =
+after_blocks loss os (Locked lock) =
     let last : ℕ = last_read os in
-    let end : ℕ = due + 26 * (last - number) in
-    record { place = end + 1; state = locked_after end last (counted_over loss os bad number (suc last - number)) first }
+    let end : ℕ = lock.due + 26 * (last - lock.number) in
+    record { place = end + 1; state = Locked (lock_after end last (counted_over loss os lock.bad lock.number (suc last - lock.number)) lock.first) }
 
 -- after a code; an acquisition by block 4 leaves that block to the group that follows
 abbrev pub after_code : Loss → ℕ → Code → Spot → Spot
 after_code loss lock (locked x) spot =
     if x == 4
-    then record { place = lock; state = Locked lock 4 (none_bad loss) 4 }
-    else record { place = lock + 1; state = locked_after lock x (none_bad loss) x }
+    then record { place = lock; state = Locked (lock_of lock 4 0 4) }
+    else record { place = lock + 1; state = Locked (lock_after lock x 0 x) }
 after_code loss lock (blocks os) spot = after_blocks loss os spot.state
 after_code loss lock ended spot = record { place = spot.place; state = Searching }
 

@@ -6,17 +6,15 @@ ghost use Rattle.rds_code.specs.declared.offset.Offset.{Offset};
 ghost use Rattle.rds_stream.specs.Recording.{Signal, length_of, heard, off};
 ghost use Rattle.rds_sync.specs.Acquiring.{acquired, has_partner, is_in_step};
 ghost use Rattle.rds_sync.specs.Advance.{items_in};
-ghost use Rattle.rds_sync.specs.Inside.Due.{state_in};
 ghost use Rattle.rds_sync.specs.Groups.{group};
-ghost use Rattle.rds_sync.specs.Loss.{none_bad};
-ghost use Rattle.rds_sync.specs.Step.{items_at, locked_after, group_after};
+ghost use Rattle.rds_sync.specs.Step.{items_at, lock_after, group_after};
 ghost use Rattle.rds_sync.specs.declared.item.Item.TheVariants.{Acquired};
 
 use crate::item::{Block, Group, Item};
 use crate::lock::{BLOCK_PLACES, Lock};
-use crate::loss::Loss;
+use crate::loss::NONE_BAD;
 use crate::rules::Rules;
-use rds_code::{Offset, Wanted};
+use rds_code::{BlockNumber, Offset, Wanted};
 use rds_stream::{FIRST_WINDOW, Recording, Tape, offset_heard};
 
 /// A block that acquires: the place at which it ends, the number with which it does, and what was
@@ -24,31 +22,31 @@ use rds_stream::{FIRST_WINDOW, Recording, Tape, offset_heard};
 #[derive(Clone, Copy)]
 pub(crate) struct Acquisition {
     pub place: u64,
-    pub number: u8,
+    pub number: BlockNumber,
     pub heard: Option<u32>,
 }
 
 impl Acquisition {
     /// The lock that begins with it.
-    pub fn lock(self, loss: Loss) -> Lock
-        requires place { self.place < 2 ^ 36 }
-        requires number { self.number ≤ 4 }
-        ensures { state_in result ≡ locked_after self.place self.number (none_bad loss) self.number }
+    pub fn lock(&self) -> Lock
+        requires { self.now.place < 2 ^ 36 }
+        ensures { result ≡ lock_after self.now.place self.now.number 0 self.now.number }
     {
-        Lock::after_block(self.place, self.number, loss.none_bad(), self.number)
+        let number = self.number.get();
+        Lock::after_block(self.place, number, NONE_BAD, number)
     }
 
     /// What its bit gives: itself, and as block 4 the group that it closes alone.
-    pub fn items(self, rules: &Rules) -> [Option<Item>; 2]
-        requires block { (25 ≤ self.place) × IfSome self.heard (λ window. window < 2 ^ 26) }
-        ensures { (b : Signal) → self.heard ≡ heard b self.place → items_in result
-            ≡ Acquired self.place self.number ∷ group_after b rules.now self.number self.number self.place }
+    pub fn items(&self, rules: &Rules) -> [Option<Item>; 2]
+        requires block { (25 ≤ self.now.place) × IfSome self.now.heard (λ window. window < 2 ^ 26) }
+        ensures { (b : Signal) → self.now.heard ≡ heard b self.now.place → items_in result
+            ≡ Acquired self.now.place self.now.number ∷ group_after b rules.now self.now.number self.now.number self.now.place }
     {
         let acquired = Item::Acquired {
             place: self.place,
-            number: self.number,
+            number: self.number.get(),
         };
-        if self.number == 4 {
+        if self.number == BlockNumber::FOUR {
             [Some(acquired), Some(Item::Group(self.group(rules)))]
         } else {
             [Some(acquired), None]
@@ -56,23 +54,25 @@ impl Acquisition {
     }
 
     /// The group of this block alone, as its block 4.
-    fn group(self, rules: &Rules) -> Group
-        requires block { (25 ≤ self.place) × IfSome self.heard (λ window. window < 2 ^ 26) }
-        ensures { (b : Signal) → self.heard ≡ heard b self.place → result ≡ group b rules.now 4 4 self.place }
+    fn group(&self, rules: &Rules) -> Group
+        requires block { (25 ≤ self.now.place) × IfSome self.now.heard (λ window. window < 2 ^ 26) }
+        ensures { (b : Signal) → self.now.heard ≡ heard b self.now.place → result ≡ group b rules.now 4 4 self.now.place }
     {
-        let last = Block::Read(rules.read(self.heard, 4, Wanted::Either));
+        let last = Block::Read(rules.read(self.heard, BlockNumber::FOUR, Wanted::Either));
         let blocks = [Block::Missing, Block::Missing, Block::Missing, last];
         Group::of_blocks(self.place - FIRST_WINDOW, blocks)
     }
 }
 
 /// Whether an offset so many blocks before a block of this number stands in step with it.
-fn is_in_step(offset: Option<Offset>, number: u8, distance: u32) -> bool
+fn is_in_step(offset: Option<Offset>, number: BlockNumber, distance: u32) -> bool
     requires { distance ≤ 8 }
     ensures { result ≡ is_in_step offset number distance }
 {
     match offset {
-        Some(offset) => (u32::from(offset.number()) + distance) % 4 == u32::from(number) % 4,
+        Some(offset) => {
+            (u32::from(offset.number().get()) + distance) % 4 == u32::from(number.get()) % 4
+        }
         None => false,
     }
 }
@@ -86,7 +86,6 @@ pub(crate) fn acquire<T: Tape>(tape: &mut T, rules: &Rules, place: u64) -> Optio
     ensures place { IfSome result (λ found. found.place ≡ place) }
     ensures heard { IfSome result (λ found. found.heard ≡ heard (T.signal tape.old) place) }
     ensures block { IfSome result (λ found. (25 ≤ place) × IfSome found.heard (λ window. window < 2 ^ 26)) }
-    ensures range { IfSome result (λ found. (1 ≤ found.number) × (found.number ≤ 4)) }
     ensures same { T.signal tape.new ≡ T.signal tape.old }
     ensures reads { T.reads_made tape.new ≤ T.reads_made tape.old + (rules.now.reach + 1) }
 {
@@ -110,7 +109,7 @@ pub(crate) fn acquire<T: Tape>(tape: &mut T, rules: &Rules, place: u64) -> Optio
 }
 
 /// Whether a block of this number at a place has a partner within reach.
-fn has_partner<T: Tape>(tape: &mut T, rules: &Rules, place: u64, number: u8) -> bool
+fn has_partner<T: Tape>(tape: &mut T, rules: &Rules, place: u64, number: BlockNumber) -> bool
     requires within { place < length_of (T.signal tape.old) }
     requires counted { T.reads_made tape.old + 8 ≤ 2 ^ 63 }
     ensures value { result
@@ -128,7 +127,7 @@ fn has_partner<T: Tape>(tape: &mut T, rules: &Rules, place: u64, number: u8) -> 
 }
 
 /// Whether the window so many blocks back is valid, with the number that a block there has.
-fn is_partner<T: Tape>(tape: &mut T, place: u64, number: u8, distance: u32) -> bool
+fn is_partner<T: Tape>(tape: &mut T, place: u64, number: BlockNumber, distance: u32) -> bool
     requires distance { distance ≤ 8 }
     requires within { place < length_of (T.signal tape.old) }
     requires counted { T.reads_made tape.old < 2 ^ 63 }
@@ -156,7 +155,12 @@ fn offset_at<T: Tape>(tape: &mut T, place: u64) -> Option<Offset>
 }
 
 /// Whether a block of this number at a place of a recording has a partner within reach.
-pub(crate) fn has_partner_in(rec: &Recording, rules: &Rules, place: u64, number: u8) -> bool
+pub(crate) fn has_partner_in(
+    rec: &Recording,
+    rules: &Rules,
+    place: u64,
+    number: BlockNumber,
+) -> bool
     requires { place < length_of rec.now }
     ensures { result ≡ list_any (has_partner rec.now place number) (range_with_len 1 rules.now.reach) }
 {
@@ -169,7 +173,7 @@ pub(crate) fn has_partner_in(rec: &Recording, rules: &Rules, place: u64, number:
 }
 
 /// Whether the window so many blocks back is valid, with the number that a block there has.
-fn is_partner_in(rec: &Recording, place: u64, number: u8, distance: u32) -> bool
+fn is_partner_in(rec: &Recording, place: u64, number: BlockNumber, distance: u32) -> bool
     requires distance { distance ≤ 8 }
     requires within { place < length_of rec.now }
     ensures { result ≡ has_partner rec.now place number distance }

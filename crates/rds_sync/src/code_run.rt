@@ -5,14 +5,14 @@ ghost use Rattle.rds_stream.specs.Recording.{Signal, length_of};
 ghost use Rattle.rds_sync.specs.Acquiring.{acquired, has_number};
 ghost use Rattle.rds_sync.specs.Codes.{kept_of, behind};
 ghost use Rattle.rds_sync.specs.Inside.CodeRuns.{IsCodeStretch, HasPassed};
-ghost use Rattle.rds_sync.specs.Inside.Due.{state_in, state_of};
+ghost use Rattle.rds_sync.specs.Inside.Due.{state_of};
 ghost use Rattle.rds_sync.specs.Inside.Locks.{IsFollowed, IsInProgress, IsReadable};
 ghost use Rattle.rds_sync.specs.Lawful.{IsLawful, IsLawfulLock};
 ghost use Rattle.rds_sync.specs.Loss.{IsLawfulBad};
 ghost use Rattle.rds_sync.specs.Ranges.{IsLossInRange};
 ghost use Rattle.rds_sync.specs.Rules.{RuleNumbers};
 ghost use Rattle.rds_sync.specs.Step.{run, step, items_at};
-ghost use Rattle.rds_sync.specs.declared.state.State.TheVariants.{Searching};
+ghost use Rattle.rds_sync.specs.declared.state.State.TheVariants.{Locked, Searching};
 
 use crate::acquiring::has_partner_in;
 use crate::code_part::CodePart;
@@ -21,11 +21,13 @@ use crate::due::Due;
 use crate::error::SyncError;
 use crate::item::Block;
 use crate::lock::{BLOCK_PLACES, Lock, blocks_before, read_due};
+use crate::loss::NONE_BAD;
 use crate::rules::Rules;
 use crate::short_lock::word_if_lost;
 use crate::state::State;
 use crate::whole_groups::pass_whole_groups;
 use crate::words::ENDED;
+use rds_code::BlockNumber;
 use rds_code::laws::{bursts_are_listed, readings_follow_the_rule};
 use rds_stream::{FIRST_WINDOW, Reader, Recording, ValidWindows};
 use std::alloc::{AllocError, Global};
@@ -112,20 +114,7 @@ fn code_stretch(
 {
     match state {
         State::Searching => search_codes(reader, rules, place, to, codes),
-        State::Locked {
-            due,
-            number,
-            bad,
-            first,
-        } => {
-            let lock = Lock {
-                due,
-                number,
-                bad,
-                first,
-            };
-            keep_codes(reader, rules, lock, place, to, codes)
-        }
+        State::Locked(lock) => keep_codes(reader, rules, lock, place, to, codes),
     }
 }
 
@@ -149,14 +138,16 @@ fn search_codes(
 {
     let rec = reader.recording();
     prove!(to <= rec.len());
+    prove!(1 <= rules.reach());
     let mut windows = ValidWindows::new(rec, place, to);
     while let Some((here, offset)) = windows.next() {
         let number = offset.number();
         if has_partner_in(rec, rules, here, number) {
             push_found(codes, here, number)?;
             let Some(word) = word_if_lost(reader, rules, here, number, to) else {
-                let lock = Lock::after_block(here, number, rules.loss().none_bad(), number);
-                return Ok((here + 1, lock.state()));
+                let number = number.get();
+                let lock = Lock::after_block(here, number, NONE_BAD, number);
+                return Ok((here + 1, State::Locked(lock)));
             };
             codes.push_lost(word)?;
             windows.pass(here + PASSED);
@@ -169,12 +160,12 @@ fn search_codes(
 const LAST_BLOCK: u16 = 0x1000;
 
 /// Appends what a block of this number that acquires gives: itself, and as block 4 the group that it closes alone.
-fn push_found(codes: &mut CodePart, place: u64, number: u8) -> Result<(), AllocError>
-    requires place { (25 ≤ place) × (place < 2 ^ 36) }
-    requires number { number ≤ 4 }
+fn push_found(codes: &mut CodePart, place: u64, number: BlockNumber) -> Result<(), AllocError>
+    requires { (25 ≤ place) × (place < 2 ^ 36) }
     ensures { (b : Signal) (rules : RuleNumbers) → acquired b rules place ≡ Some number
         → OnOk result (codes.new ≡ behind codes.old (kept_of (items_at b rules place Searching))) }
 {
+    let number = number.get();
     codes.push_lock(place, number)?;
     if number == 4 {
         codes.push_word(LAST_BLOCK)?;
@@ -192,11 +183,11 @@ fn keep_codes(
     to: u64,
     codes: &mut CodePart,
 ) -> Result<(u64, State), SyncError>
-    requires lawful { IsLawfulLock rules.now place lock.due lock.number lock.bad lock.first }
+    requires lawful { IsLawfulLock rules.now place lock }
     requires order { place < to }
     requires within { to ≤ length_of reader.old }
     ensures reached { IfOk result (λ reached.
-        IsCodeStretch reader.old rules.now (state_in lock) place to codes.old reached codes.new) }
+        IsCodeStretch reader.old rules.now (Locked lock) place to codes.old reached codes.new) }
     ensures same { reader.new ≡ reader.old }
     ensures only_memory { IsOkUnless result SyncError.OutOfMemory }
 {
@@ -204,7 +195,7 @@ fn keep_codes(
     if lock.number == 1 {
         let next = pass_whole_groups(reader, rules, lock, to, codes)?;
         if next.due > lock.due {
-            return Ok((next.due - FIRST_WINDOW, next.state()));
+            return Ok((next.due - FIRST_WINDOW, State::Locked(next)));
         }
     }
     keep_group(reader, rules, lock, place, to, codes)
@@ -220,11 +211,11 @@ fn keep_group(
     to: u64,
     codes: &mut CodePart,
 ) -> Result<(u64, State), SyncError>
-    requires lawful { IsLawfulLock rules.now place lock.due lock.number lock.bad lock.first }
+    requires lawful { IsLawfulLock rules.now place lock }
     requires order { place < to }
     requires within { to ≤ length_of reader.old }
     ensures reached { IfOk result (λ reached.
-        IsCodeStretch reader.old rules.now (state_in lock) place to codes.old reached codes.new) }
+        IsCodeStretch reader.old rules.now (Locked lock) place to codes.old reached codes.new) }
     ensures same { reader.new ≡ reader.old }
     ensures only_memory { IsOkUnless result SyncError.OutOfMemory }
 {
@@ -235,11 +226,11 @@ fn keep_group(
         let past = now.due + 1;
         match follow_code(reader, rules, now, &mut blocks, codes)? {
             Due::Inside(next) => now = next,
-            Due::Closed(next) => return Ok((past, next.state())),
+            Due::Closed(next) => return Ok((past, State::Locked(next))),
             Due::Lost => return Ok((past, State::Searching)),
         }
     }
-    Ok((to, now.state()))
+    Ok((to, State::Locked(now)))
 }
 
 /// Follows a lock by the block that is due.
@@ -253,9 +244,9 @@ fn follow_code(
     requires readable { IsReadable reader.old rules.now lock }
     requires within { lock.due < length_of reader.old }
     requires in_progress { IsInProgress reader.old rules.now lock blocks.old }
-    ensures state { IfOk result (λ due. state_of due ≡ step reader.old rules.now lock.due (state_in lock)) }
+    ensures state { IfOk result (λ due. state_of due ≡ step reader.old rules.now lock.due (Locked lock)) }
     ensures codes { OnOk result (codes.new
-        ≡ behind codes.old (kept_of (items_at reader.old rules.now lock.due (state_in lock)))) }
+        ≡ behind codes.old (kept_of (items_at reader.old rules.now lock.due (Locked lock)))) }
     ensures followed { IfOk result (IsFollowed reader.old rules.now lock blocks.new) }
     ensures same { reader.new ≡ reader.old }
     ensures only_memory { IsOkUnless result SyncError.OutOfMemory }

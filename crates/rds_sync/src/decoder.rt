@@ -8,7 +8,6 @@ ghost use Rattle.rds_sync.specs.Lawful.{IsLawful};
 ghost use Rattle.rds_sync.specs.Step.{run};
 
 use crate::item::Item;
-use crate::lock::Lock;
 use crate::push::push_one;
 use crate::rules::Rules;
 use crate::state::State;
@@ -125,21 +124,7 @@ impl<'a> Decoder<'a> {
     {
         prove!(self.to <= self.reader.recording().len());
         match (self.ready, self.state) {
-            (
-                None,
-                State::Locked {
-                    due,
-                    number: 1,
-                    bad,
-                    first: 1,
-                },
-            ) if self.place + FIRST_WINDOW == due => {
-                let lock = Lock {
-                    due,
-                    number: 1,
-                    bad,
-                    first: 1,
-                };
+            (None, State::Locked(lock)) if lock.begins_group_at(self.place) => {
                 let next = push_whole_groups(
                     &mut self.reader,
                     self.rules,
@@ -148,11 +133,11 @@ impl<'a> Decoder<'a> {
                     part,
                     most,
                 );
-                if next.due == due {
+                if next.due == lock.due {
                     return false;
                 }
                 self.place = next.due - FIRST_WINDOW;
-                self.state = next.state();
+                self.state = State::Locked(next);
                 true
             }
             _ => false,

@@ -1,15 +1,15 @@
-//! How a group is read: block by block from what was heard of it, and what its blocks say of it.
+//! How a group is read: block by block, from what was heard of it.
 
 ghost use Rattle.std.specs.Prelude.{◌≡◌, ◌≤◌, ◌<◌, ◌+◌, ◌-◌, ◌*◌, ◌^◌, ◌&&◌, nat_le, nat_lt, if◌then◌else◌, IfSome};
-ghost use Rattle.rds_sync.specs.Groups.{are_complete, version, in_conflict, group_of, block_at, blocks_at, group};
+ghost use Rattle.rds_sync.specs.Groups.{block_at, blocks_at, group};
 ghost use Rattle.rds_stream.specs.Recording.{offset_heard as the_offset_heard};
 ghost use Rattle.rds_sync.specs.Acquiring.{is_numbered};
 ghost use Rattle.rds_sync.specs.Inside.GroupParts.{IsGroupPart};
 
-use crate::item::{Block, Group, Version};
+use crate::item::{Block, Group};
 use crate::lock::BLOCK_PLACES;
 use crate::rules::Rules;
-use rds_code::{Reading, Wanted};
+use rds_code::{BlockNumber, Wanted};
 use rds_stream::{FIRST_WINDOW, Tape, offset_heard};
 
 /// Whether what was heard has an offset of this number.
@@ -18,62 +18,8 @@ pub(crate) fn is_numbered(heard: Option<u32>, number: u8) -> bool
     ensures { result ≡ is_numbered (the_offset_heard heard) number }
 {
     match offset_heard(heard) {
-        Some(offset) => offset.number() == number,
+        Some(offset) => offset.number().get() == number,
         None => false,
-    }
-}
-
-/// The version that blocks 2 and 3 of a group give it.
-fn version_of(second: Block, third: Block) -> Version
-    ensures { result ≡ version second third }
-{
-    let by_bit = second.version_by_bit();
-    match third {
-        Block::Read(Reading::Valid { offset, .. }) => Version::of_offset(offset),
-        Block::Read(Reading::Corrected { offset, .. }) => match by_bit {
-            Version::Unknown => Version::of_offset(offset),
-            known => known,
-        },
-        _ => by_bit,
-    }
-}
-
-/// Whether a valid block 3 and block 2 name different versions.
-fn is_in_conflict(second: Block, third: Block) -> bool
-    ensures { result ≡ in_conflict second third }
-{
-    match third {
-        Block::Read(Reading::Valid { offset, .. }) => {
-            second.version_by_bit().differs(Version::of_offset(offset))
-        }
-        _ => false,
-    }
-}
-
-impl Group {
-    /// Whether all four blocks are valid or corrected.
-    pub fn is_complete(&self) -> bool
-        ensures { result ≡ are_complete self.now.blocks }
-    {
-        self.blocks.iter().all(|block| block.info().is_some())
-    }
-
-    /// The group of four blocks whose first read bit is at `place`.
-    #[inline(always)]
-    pub(crate) fn of_blocks(place: u64, blocks: [Block; 4]) -> Group
-        ensures { result ≡ group_of place blocks }
-    {
-        let [_, second, third, _] = blocks;
-        Group {
-            place,
-            blocks,
-            kind: match second.info() {
-                Some(info) => Some((info >> 12) as u8),
-                None => None,
-            },
-            version: version_of(second, third),
-            conflict: is_in_conflict(second, third),
-        }
     }
 }
 
@@ -87,16 +33,15 @@ pub(crate) struct GroupPart {
     pub heard: Option<u32>,
 }
 
-/// Block `number`, 1 to 4, of the group that `part` describes; `Missing` outside it. Only a block before the last takes
+/// Block `number` of the group that `part` describes; `Missing` outside it. Only a block before the last takes
 /// a window from the tape.
 fn read_at<T: Tape>(
     tape: &mut T,
     rules: &Rules,
     part: GroupPart,
-    number: u8,
+    number: BlockNumber,
     wanted: Wanted,
 ) -> Block
-    requires number { (1 ≤ number) × (number ≤ 4) }
     requires part { IsGroupPart (T.signal tape.old) part }
     requires counted { T.reads_made tape.old < 2 ^ 63 }
     ensures value { result
@@ -105,13 +50,14 @@ fn read_at<T: Tape>(
     ensures reads { T.reads_made tape.new
         ≡ T.reads_made tape.old + (if nat_le part.first number && nat_lt number part.last then 1 else 0) }
 {
-    if number < part.first || part.last < number {
+    let at = number.get();
+    if at < part.first || part.last < at {
         return Block::Missing;
     }
-    let heard = if number == part.last {
+    let heard = if at == part.last {
         part.heard
     } else {
-        tape.window(part.place - BLOCK_PLACES * u64::from(part.last - number))
+        tape.window(part.place - BLOCK_PLACES * u64::from(part.last - at))
     };
     Block::Read(rules.read(heard, number, wanted))
 }
@@ -124,10 +70,10 @@ pub(crate) fn read_blocks<T: Tape>(tape: &mut T, rules: &Rules, part: GroupPart)
     ensures same { T.signal tape.new ≡ T.signal tape.old }
     ensures reads { T.reads_made tape.new ≡ T.reads_made tape.old + (part.last - part.first) }
 {
-    let one = read_at(tape, rules, part, 1, Wanted::Either);
-    let two = read_at(tape, rules, part, 2, Wanted::Either);
-    let three = read_at(tape, rules, part, 3, two.wanted_beside());
-    let four = read_at(tape, rules, part, 4, Wanted::Either);
+    let one = read_at(tape, rules, part, BlockNumber::ONE, Wanted::Either);
+    let two = read_at(tape, rules, part, BlockNumber::TWO, Wanted::Either);
+    let three = read_at(tape, rules, part, BlockNumber::THREE, two.wanted_beside());
+    let four = read_at(tape, rules, part, BlockNumber::FOUR, Wanted::Either);
     [one, two, three, four]
 }
 

@@ -1,7 +1,7 @@
 //! The rule of loss: what a lock keeps of its bad blocks, and when they lose it.
 
 ghost use Rattle.std.specs.Prelude.{◌≡◌, true, false, ◌≤◌, ◌<◌, ◌↔◌, ◌+◌, ◌*◌, ◌%◌, ◌^◌, ◌⊎◌, IsTrue, IsErrOf, IfOk, IfErr, if◌then◌else◌};
-ghost use Rattle.rds_sync.specs.Loss.{none_bad, bad_after, are_too_many, IsLawfulBad};
+ghost use Rattle.rds_sync.specs.Loss.{bad_after, are_too_many, IsLawfulBad};
 ghost use Rattle.rds_sync.specs.Ranges.{IsLossInRange, IsRunOutside, IsShareOutside};
 
 use crate::error::SyncError;
@@ -13,19 +13,13 @@ const MOST_BLOCKS: u32 = 64;
 #[derive(Clone, Copy, Debug, PartialEq, Eq)]
 pub enum Loss {
     /// After so many bad blocks in a row: 1 to 64.
-    Run(u32),
+    InARow(u32),
     /// Where `bad` of the last `of` blocks are bad: 1 ≤ bad ≤ of ≤ 64.
     Share { bad: u32, of: u32 },
 }
 
-/// What a lock keeps of the bad blocks that were read in it. Its kind is that of the rule.
-#[derive(Clone, Copy, Debug, PartialEq, Eq)]
-pub enum Bad {
-    /// How many blocks in a row were bad.
-    Run(u8),
-    /// Which of the last blocks were bad: the newest is the lowest bit, and 1 is bad.
-    Mask(u64),
-}
+/// What a lock keeps of its bad blocks where there are none, by either rule.
+pub(crate) const NONE_BAD: u64 = 0;
 
 impl Loss {
     /// Refuses a rule that is out of its range.
@@ -36,7 +30,7 @@ impl Loss {
         ensures share { IsErrOf result SyncError.ShareRange ↔ IsShareOutside self }
     {
         match self {
-            Loss::Run(loss) if loss < 1 || loss > MOST_BLOCKS => Err(SyncError::LossRange),
+            Loss::InARow(loss) if loss < 1 || loss > MOST_BLOCKS => Err(SyncError::LossRange),
             Loss::Share { bad, of } if bad < 1 || of < bad || of > MOST_BLOCKS => Err(
                 SyncError::ShareRange,
             ),
@@ -47,60 +41,45 @@ impl Loss {
     /// Whether one bad block is known to lose a lock.
     pub(crate) fn loses_by_one(self) -> bool
         requires { IsLossInRange self }
-        ensures { result ≡ true → are_too_many self (bad_after self false (none_bad self)) ≡ true }
+        ensures { result ≡ true → are_too_many self (bad_after self false 0) ≡ true }
     {
         match self {
-            Loss::Run(1) => true,
+            Loss::InARow(1) => true,
             Loss::Share { bad: 1, .. } => true,
             _ => false,
         }
     }
 
-    /// What is kept where no block is bad.
-    pub(crate) fn none_bad(self) -> Bad
-        ensures { result ≡ none_bad self }
-    {
-        match self {
-            Loss::Run(_) => Bad::Run(0),
-            Loss::Share { .. } => Bad::Mask(0),
-        }
-    }
-
-    /// What is kept after one more block.
-    pub(crate) fn bad_after(self, good: bool, bad: Bad) -> Bad
+    /// What is kept after one more block: how many were bad in a row, or a mask of the last ones.
+    pub(crate) fn bad_after(self, good: bool, bad: u64) -> u64
         requires range { IsLossInRange self }
         requires lawful { IsLawfulBad self bad }
         ensures { result ≡ bad_after self good bad }
     {
-        match (self, bad) {
-            (Loss::Run(_), Bad::Run(row)) => Bad::Run(if good { 0 } else { row + 1 }),
-            (Loss::Share { of, .. }, Bad::Mask(mask)) => Bad::Mask(mask_after(mask, good, of)),
-            _ => bad,
+        match self {
+            Loss::InARow(_) => if good { 0 } else { bad + 1 },
+            Loss::Share { of, .. } => mask_after(bad, good, of),
         }
     }
 
     /// Whether these bad blocks lose the lock.
-    pub(crate) fn are_too_many(self, bad: Bad) -> bool
+    pub(crate) fn are_too_many(self, bad: u64) -> bool
         ensures { result ≡ are_too_many self bad }
     {
-        match (self, bad) {
-            (Loss::Run(most), Bad::Run(row)) => most <= u32::from(row),
-            (Loss::Share { bad: most, .. }, Bad::Mask(mask)) => most <= mask.count_ones(),
-            _ => false,
+        match self {
+            Loss::InARow(most) => u64::from(most) <= bad,
+            Loss::Share { bad: most, .. } => most <= bad.count_ones(),
         }
     }
 
     /// Whether a lock that is not lost can have these bad blocks.
-    pub(crate) fn is_lawful_bad(self, bad: Bad) -> bool
+    pub(crate) fn is_lawful_bad(self, bad: u64) -> bool
         requires { IsLossInRange self }
         ensures { IsTrue result ↔ IsLawfulBad self bad }
     {
-        match (self, bad) {
-            (Loss::Run(most), Bad::Run(row)) => u32::from(row) < most,
-            (Loss::Share { bad: most, of }, Bad::Mask(mask)) => {
-                is_mask_of(mask, of) && mask.count_ones() < most
-            }
-            _ => false,
+        match self {
+            Loss::InARow(most) => bad < u64::from(most),
+            Loss::Share { bad: most, of } => is_mask_of(bad, of) && bad.count_ones() < most,
         }
     }
 }

@@ -9,16 +9,15 @@ ghost use Rattle.rds_sync.specs.Inside.CodeSpots.{IsBefore, IsNear, IsPassed, be
 ghost use Rattle.rds_sync.specs.Lawful.{IsLawful};
 ghost use Rattle.rds_sync.specs.Marks.{after_blocks, after_code, bad_counted, counted_over, good_at, goes_on, is_read, last_read, marks_from};
 ghost use Rattle.rds_sync.specs.Ranges.{IsLossInRange};
-ghost use Rattle.rds_sync.specs.Loss.{none_bad};
-ghost use Rattle.rds_sync.specs.Step.{locked_after};
+ghost use Rattle.rds_sync.specs.Step.{lock_of, lock_after};
 ghost use Rattle.rds_sync.specs.declared.mark.Mark.{Mark};
 ghost use Rattle.rds_sync.specs.declared.state.State.TheVariants.{Locked};
 ghost use Rattle.rds_sync.specs.Words.{blocks_in, code_in, outcome_at};
 
 use crate::code_cursor::Cursor;
 use crate::code_part::CodePart;
-use crate::lock::BLOCK_PLACES;
-use crate::loss::{Bad, Loss, mask_after};
+use crate::lock::{BLOCK_PLACES, Lock};
+use crate::loss::{Loss, NONE_BAD, mask_after};
 use crate::mark::Mark;
 use crate::rules::Rules;
 use crate::state::State;
@@ -133,20 +132,14 @@ fn pass_groups<'a>(loss: Loss, cursor: Cursor<'a>, mark: Mark, items: u64) -> (M
     ensures sound { IsSound result.1 }
     ensures before { IsBefore result.0 (length (kept_ahead result.1).codes) }
 {
-    let State::Locked {
-        due,
-        number: 1,
-        bad,
-        first: 1,
-    } = mark.state
-    else {
+    let State::Locked(lock) = mark.state else {
         return (mark, cursor);
     };
-    if due < FIRST_WINDOW || mark.place != due - FIRST_WINDOW {
+    if !lock.begins_group_at(mark.place) {
         return (mark, cursor);
     }
     let mut ahead = cursor;
-    let (mut due, mut bad, mut count) = (due, bad, mark.items);
+    let (mut due, mut bad, mut count) = (lock.due, lock.bad, mark.items);
     while count < items
         && let Some((word, rest)) = ahead.next_whole()
     {
@@ -159,18 +152,18 @@ fn pass_groups<'a>(loss: Loss, cursor: Cursor<'a>, mark: Mark, items: u64) -> (M
 }
 
 /// The mark between two groups of a lock.
-fn between_groups(due: u64, bad: Bad, items: u64) -> Mark
+fn between_groups(due: u64, bad: u64, items: u64) -> Mark
     requires { 25 ≤ due }
     ensures { result ≡ between_groups due bad items }
 {
     Mark {
         place: due - FIRST_WINDOW,
-        state: State::Locked {
+        state: State::Locked(Lock {
             due,
             number: 1,
             bad,
             first: 1,
-        },
+        }),
         items,
     }
 }
@@ -222,19 +215,14 @@ fn after_word(loss: Loss, lock: u64, word: u16, mark: Mark) -> Mark
     ensures near { IsNear result.state result.items }
 {
     match mark.state {
-        State::Locked {
-            due,
-            number: 1,
-            bad,
-            ..
-        } if word < LOCKED && is_read(word / 4096) => Mark {
-            place: due + 3 * BLOCK_PLACES + 1,
-            state: State::Locked {
-                due: due + 4 * BLOCK_PLACES,
+        State::Locked(now) if now.number == 1 && word < LOCKED && is_read(word / 4096) => Mark {
+            place: now.due + 3 * BLOCK_PLACES + 1,
+            state: State::Locked(Lock {
+                due: now.due + 4 * BLOCK_PLACES,
                 number: 1,
-                bad: counted_over_four(loss, word, bad),
+                bad: counted_over_four(loss, word, now.bad),
                 first: 1,
-            },
+            }),
             items: mark.items + 1,
         },
         _ => after_any(loss, lock, word, mark),
@@ -243,7 +231,7 @@ fn after_word(loss: Loss, lock: u64, word: u16, mark: Mark) -> Mark
 
 /// What is counted of the bad blocks once the four blocks of a group were read.
 #[inline(always)]
-fn counted_over_four(loss: Loss, word: u16, bad: Bad) -> Bad
+fn counted_over_four(loss: Loss, word: u16, bad: u64) -> u64
     requires range { IsLossInRange loss }
     ensures { result ≡ counted_over loss (blocks_in word) bad 1 4 }
 {
@@ -263,7 +251,7 @@ fn after_any(loss: Loss, lock: u64, word: u16, mark: Mark) -> Mark
     ensures near { IsNear result.state result.items }
 {
     if is_locked(word) {
-        return after_lock(loss, lock, (word - LOCKED) as u8, mark.items + 1);
+        return after_lock(lock, (word - LOCKED) as u8, mark.items + 1);
     }
     if word == ENDED {
         return Mark {
@@ -276,44 +264,31 @@ fn after_any(loss: Loss, lock: u64, word: u16, mark: Mark) -> Mark
 }
 
 /// Behind an acquisition.
-fn after_lock(loss: Loss, lock: u64, number: u8, items: u64) -> Mark
+fn after_lock(lock: u64, number: u8, items: u64) -> Mark
     requires lock { lock < 2 ^ 36 }
     requires number { number < 16 }
     ensures spot { spot_of result ≡ (if number == 4
-        then record { place = lock; state = Locked lock 4 (none_bad loss) 4 }
-        else record { place = lock + 1; state = locked_after lock number (none_bad loss) number }) }
+        then record { place = lock; state = Locked (lock_of lock 4 0 4) }
+        else record { place = lock + 1; state = Locked (lock_after lock number 0 number) }) }
     ensures items { result.items ≡ items }
     ensures near { IsNear result.state items }
 {
     if number == 4 {
         return Mark {
             place: lock,
-            state: State::Locked {
+            state: State::Locked(Lock {
                 due: lock,
                 number: 4,
-                bad: loss.none_bad(),
+                bad: NONE_BAD,
                 first: 4,
-            },
+            }),
             items,
         };
     }
     Mark {
         place: lock + 1,
-        state: locked_after(lock, number, loss.none_bad(), number),
+        state: State::Locked(Lock::after_block(lock, number, NONE_BAD, number)),
         items,
-    }
-}
-
-/// The state of a lock after block `number` was read at `place`.
-fn locked_after(place: u64, number: u8, bad: Bad, first: u8) -> State
-    requires { place < 2 ^ 60 }
-    ensures { result ≡ locked_after place number bad first }
-{
-    State::Locked {
-        due: place + BLOCK_PLACES,
-        number: number % 4 + 1,
-        bad,
-        first: if number == 4 { 1 } else { first },
     }
 }
 
@@ -331,18 +306,13 @@ fn after_group(loss: Loss, word: u16, mark: Mark) -> Mark
             state: State::Searching,
             items: mark.items + 1,
         },
-        State::Locked {
-            due,
-            number,
-            bad,
-            first,
-        } => {
+        State::Locked(lock) => {
             let last = last_read(word);
-            let end = due + BLOCK_PLACES * u64::from(last.saturating_sub(number));
-            let bad = counted_over(loss, word, bad, number, last);
+            let end = lock.due + BLOCK_PLACES * u64::from(last.saturating_sub(lock.number));
+            let bad = counted_over(loss, word, lock.bad, lock.number, last);
             Mark {
                 place: end + 1,
-                state: locked_after(end, last, bad, first),
+                state: State::Locked(Lock::after_block(end, last, bad, lock.first)),
                 items: mark.items + 1,
             }
         }
@@ -350,7 +320,7 @@ fn after_group(loss: Loss, word: u16, mark: Mark) -> Mark
 }
 
 /// What is counted of the bad blocks once the blocks from `number` to `last` of a group were read.
-fn counted_over(loss: Loss, word: u16, bad: Bad, number: u8, last: u8) -> Bad
+fn counted_over(loss: Loss, word: u16, bad: u64, number: u8, last: u8) -> u64
     requires range { IsLossInRange loss }
     requires number { 1 ≤ number }
     requires last { last ≤ 4 }
@@ -363,16 +333,16 @@ fn counted_over(loss: Loss, word: u16, bad: Bad, number: u8, last: u8) -> Bad
     now
 }
 
-/// What is counted of the bad blocks after one more: a row up to 255, which no lock has that is not lost.
+/// What is counted of the bad blocks after one more: a row up to the one that loses the lock.
 #[inline(always)]
-fn counted(loss: Loss, good: bool, bad: Bad) -> Bad
+fn counted(loss: Loss, good: bool, bad: u64) -> u64
     requires { IsLossInRange loss }
     ensures { result ≡ bad_counted loss good bad }
 {
-    match (loss, bad) {
-        (Loss::Run(_), Bad::Run(row)) => Bad::Run(if good { 0 } else { row.saturating_add(1) }),
-        (Loss::Share { of, .. }, Bad::Mask(mask)) => Bad::Mask(mask_after(mask, good, of)),
-        _ => bad,
+    match loss {
+        Loss::InARow(_) if good => 0,
+        Loss::InARow(most) => bad.saturating_add(1).min(u64::from(most)),
+        Loss::Share { of, .. } => mask_after(bad, good, of),
     }
 }
 

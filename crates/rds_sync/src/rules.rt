@@ -4,16 +4,14 @@ ghost use Rattle.std.specs.Prelude.{◌≡◌, ◌≢◌, ◌<◌, ◌≤◌, �
 ghost use Rattle.rds_code.specs.Kinds.{kind_of};
 ghost use Rattle.rds_stream.specs.Recording.{reading_heard};
 ghost use Rattle.rds_sync.specs.Ranges.{IsInRange, IsRunOutside, IsShareOutside, farthest_reach, longest_burst, most_blocks};
-ghost use Rattle.rds_sync.specs.declared.loss.Loss.TheVariants.{Run, Share};
+ghost use Rattle.rds_sync.specs.declared.loss.Loss.TheVariants.{InARow, Share};
 
 use crate::error::SyncError;
 use crate::loss::Loss;
-use rds_code::{BurstTable, Kinds, Reading, Wanted};
+use rds_code::{BlockNumber, BurstLimit, BurstTable, Kinds, Reading, Wanted};
 use rds_stream::read_heard;
 use std::alloc::Global;
 use std::marker::Model;
-
-const LONGEST_BURST: u32 = 5;
 
 const FARTHEST_REACH: u32 = 8;
 
@@ -65,15 +63,15 @@ impl Rules {
         ensures share_range { IsErrOf result SyncError.ShareRange
             ↔ ((numbers.burst ≤ longest_burst) × (1 ≤ numbers.reach) × (numbers.reach ≤ farthest_reach) × IsShareOutside numbers.loss) }
     {
-        if numbers.burst > LONGEST_BURST {
+        let Some(limit) = BurstLimit::new(numbers.burst) else {
             return Err(SyncError::BurstRange);
-        }
+        };
         if numbers.reach < 1 || numbers.reach > FARTHEST_REACH {
             return Err(SyncError::ReachRange);
         }
         numbers.loss.check()?;
         let table = BurstTable::new(alloc)?;
-        let kinds = Kinds::new(alloc, &table, numbers.burst as u8)?;
+        let kinds = Kinds::new(alloc, &table, limit)?;
         Ok(Rules {
             numbers,
             table,
@@ -88,7 +86,7 @@ impl Rules {
     /// Refuses a burst, then a reach, then a loss out of its range, and otherwise only want of
     /// memory.
     pub fn new(alloc: Global, burst: u32, reach: u32, loss: u32) -> Result<Rules, SyncError>
-        ensures numbers { IfOk result (λ rules. (rules.burst ≡ burst) × (rules.reach ≡ reach) × (rules.loss ≡ Run loss)) }
+        ensures numbers { IfOk result (λ rules. (rules.burst ≡ burst) × (rules.reach ≡ reach) × (rules.loss ≡ InARow loss)) }
 
         ensures burst_range { IsErrOf result SyncError.BurstRange ↔ (longest_burst < burst) }
         ensures reach_range { IsErrOf result SyncError.ReachRange
@@ -102,7 +100,7 @@ impl Rules {
             RuleNumbers {
                 burst,
                 reach,
-                loss: Loss::Run(loss),
+                loss: Loss::InARow(loss),
             },
         )
     }
@@ -173,19 +171,17 @@ impl Rules {
 
     /// What was heard, read as the block of this number, corrected where these rules allow it.
     #[inline]
-    pub(crate) fn read(&self, heard: Option<u32>, number: u8, wanted: Wanted) -> Reading
-        requires block { IfSome heard (λ window. window < 2 ^ 26) }
-        requires number { (1 ≤ number) × (number ≤ 4) }
+    pub(crate) fn read(&self, heard: Option<u32>, number: BlockNumber, wanted: Wanted) -> Reading
+        requires { IfSome heard (λ window. window < 2 ^ 26) }
         ensures { result ≡ reading_heard heard number wanted self.now.burst }
     {
-        read_heard(&self.table, heard, number, wanted, self.burst() as u8)
+        read_heard(&self.table, heard, number, wanted, self.kinds.limit())
     }
 
     /// How it comes out: the kind of that reading, which takes less time.
     #[inline(always)]
-    pub(crate) fn kind(&self, heard: Option<u32>, number: u8, wanted: Wanted) -> u16
-        requires block { IfSome heard (λ window. window < 2 ^ 26) }
-        requires number { (1 ≤ number) × (number ≤ 4) }
+    pub(crate) fn kind(&self, heard: Option<u32>, number: BlockNumber, wanted: Wanted) -> u16
+        requires { IfSome heard (λ window. window < 2 ^ 26) }
         ensures value { result ≡ kind_of (reading_heard heard number wanted self.now.burst) }
         ensures most { result ≤ 13 }
     {

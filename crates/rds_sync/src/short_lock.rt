@@ -10,7 +10,7 @@ use crate::item::Block;
 use crate::lock::BLOCK_PLACES;
 use crate::rules::Rules;
 use rds_code::laws::{bursts_are_listed, readings_follow_the_rule};
-use rds_code::{Kinds, Wanted};
+use rds_code::{BlockNumber, Kinds, Wanted};
 use rds_stream::Reader;
 
 /// The word of the group of a lock that begins with block `number` at `place`, where the block behind it, before `to`,
@@ -20,10 +20,9 @@ pub(crate) fn word_if_lost(
     reader: &mut Reader<'_>,
     rules: &Rules,
     place: u64,
-    number: u8,
+    number: BlockNumber,
     to: u64,
 ) -> Option<u16>
-    requires number { (1 ≤ number) × (number ≤ 4) }
     requires valid { (25 ≤ place) × (has_number reader.old place number ≡ true) }
     requires order { place < to }
     requires within { to ≤ length_of reader.old }
@@ -39,6 +38,7 @@ pub(crate) fn word_if_lost(
     }
     let loss = rules.loss();
     if loss.loses_by_one() {
+        prove!(number.get() <= 4);
         let kind = kind_behind(reader, rules, place, number);
         if kind != u16::from(Kinds::VALID) {
             return Some(word_of_two(number, kind));
@@ -49,13 +49,12 @@ pub(crate) fn word_if_lost(
 
 /// The word of a group of a valid block of this number and the one behind it of this kind; behind block 4, of that alone.
 #[inline(always)]
-fn word_of_two(number: u8, kind: u16) -> u16
-    requires number { (1 ≤ number) × (number ≤ 4) }
+fn word_of_two(number: BlockNumber, kind: u16) -> u16
     requires kind { kind ≤ 13 }
     ensures value { result ≡ word_of_two number kind }
     ensures few { result < 65520 }
 {
-    match number {
+    match number.get() {
         1 => 0x0001 + 0x0010 * kind,
         2 => 0x0010 + 0x0100 * kind,
         3 => 0x0100 + 0x1000 * kind,
@@ -65,8 +64,7 @@ fn word_of_two(number: u8, kind: u16) -> u16
 
 /// How the block behind one of this number at `place` came out.
 #[inline(always)]
-fn kind_behind(reader: &mut Reader<'_>, rules: &Rules, place: u64, number: u8) -> u16
-    requires number { (1 ≤ number) × (number ≤ 4) }
+fn kind_behind(reader: &mut Reader<'_>, rules: &Rules, place: u64, number: BlockNumber) -> u16
     requires first { 25 ≤ place }
     requires within { place + 26 < length_of reader.old }
     requires near { place < 2 ^ 36 }
@@ -76,19 +74,23 @@ fn kind_behind(reader: &mut Reader<'_>, rules: &Rules, place: u64, number: u8) -
     ensures same { reader.new ≡ reader.old }
 {
     let wanted = wanted_behind(reader, rules, place, number);
-    rules.kind(reader.window(place + BLOCK_PLACES), number % 4 + 1, wanted)
+    rules.kind(reader.window(place + BLOCK_PLACES), number.next(), wanted)
 }
 
 /// The offsets that are tried for that block.
 #[inline(always)]
-fn wanted_behind(reader: &mut Reader<'_>, rules: &Rules, place: u64, number: u8) -> Wanted
+fn wanted_behind(reader: &mut Reader<'_>, rules: &Rules, place: u64, number: BlockNumber) -> Wanted
     requires first { 25 ≤ place }
     requires within { place < length_of reader.old }
     ensures value { result ≡ wanted_behind reader.old rules.now place number }
     ensures same { reader.new ≡ reader.old }
 {
-    if number == 2 {
-        let second = Block::Read(rules.read(reader.window(place), 2, Wanted::Either));
+    if number == BlockNumber::TWO {
+        let second = Block::Read(rules.read(
+            reader.window(place),
+            BlockNumber::TWO,
+            Wanted::Either,
+        ));
         return second.wanted_beside();
     }
     Wanted::Either

@@ -31,8 +31,8 @@ impl Span {
         match self {
             Span::Run { items, .. } => *items,
             Span::End {
-                state: State::Locked { number, .. },
-            } if *number != 1 => 1,
+                state: State::Locked(lock),
+            } if lock.number != 1 => 1,
             Span::End { .. } => 0,
         }
     }

@@ -3,26 +3,16 @@
 ghost use Rattle.std.specs.Prelude.{◌≡◌, ◌≤◌, ◌<◌, ◌^◌, ◌↔◌, IsTrue};
 ghost use Rattle.rds_sync.specs.Rules.{RuleNumbers};
 
-use crate::lock::BLOCK_PLACES;
-use crate::loss::Bad;
+use crate::lock::Lock;
 use crate::rules::Rules;
-use rds_stream::FIRST_WINDOW;
 
 /// The state before a bit: this project's rule, after the flywheel of annex C.
 #[derive(Clone, Copy, Debug, PartialEq, Eq)]
 pub enum State {
     /// No block is known: each bit is tried as the last of a block that acquires.
     Searching,
-    /// The next block ends at place `due` and is read as block `number` (1 to 4). The blocks that
-    /// were not valid are kept in `bad`, too few for a loss. The first block that was read in the
-    /// group in progress has number `first`, which is below `number`; both are 1 where no group is
-    /// in progress.
-    Locked {
-        due: u64,
-        number: u8,
-        bad: Bad,
-        first: u8,
-    },
+    /// Blocks are known, and so are the place and the number of the next.
+    Locked(Lock),
 }
 
 impl State {
@@ -36,18 +26,7 @@ impl State {
     {
         match *self {
             State::Searching => true,
-            State::Locked {
-                due,
-                number,
-                bad,
-                first,
-            } => {
-                place <= due
-                    && due - place < BLOCK_PLACES
-                    && rules.loss().is_lawful_bad(bad)
-                    && BLOCK_PLACES * u64::from(number.saturating_sub(first)) + FIRST_WINDOW <= due
-                    && (number == 1 && first == 1 || 1 <= first && first < number && number <= 4)
-            }
+            State::Locked(lock) => lock.is_lawful(rules, place),
         }
     }
 }

@@ -3,7 +3,6 @@
 ghost use Rattle.std.specs.Prelude.{◌≡◌, ◌≤◌, ◌<◌, ◌+◌, ◌-◌, ◌*◌, ◌^◌, length};
 ghost use Rattle.rds_stream.specs.Recording.{length_of};
 ghost use Rattle.rds_sync.specs.Advance.{next_place, reads_most, items_in, group_item};
-ghost use Rattle.rds_sync.specs.Inside.Due.{state_in};
 ghost use Rattle.rds_sync.specs.Lawful.{IsLawful, IsLawfulLock};
 ghost use Rattle.rds_sync.specs.Step.{step, items_at, run, items_of_end};
 
@@ -55,21 +54,8 @@ pub fn advance<T: Tape>(tape: &mut T, rules: &Rules, state: State, place: u64, t
     prove!(1 <= rules.reach());
     match state {
         State::Searching => search(tape, rules, place),
-        State::Locked {
-            due,
-            number,
-            bad,
-            first,
-        } if due < to => {
-            let lock = Lock {
-                due,
-                number,
-                bad,
-                first,
-            };
-            read_due(tape, rules, lock)
-        }
-        State::Locked { .. } => Step {
+        State::Locked(lock) if lock.due < to => read_due(tape, rules, lock),
+        State::Locked(_) => Step {
             place: to,
             state,
             items: [None, None],
@@ -90,17 +76,12 @@ pub fn finish<T: Tape>(tape: &mut T, rules: &Rules, state: State) -> Option<Grou
     ensures reads { T.reads_made tape.new ≤ T.reads_made tape.old + 3 }
 {
     match state {
-        State::Locked {
-            due,
-            number,
-            first,
-            ..
-        } if number != 1 => {
-            let place = due - BLOCK_PLACES;
+        State::Locked(lock) if lock.number != 1 => {
+            let place = lock.due - BLOCK_PLACES;
             let heard = tape.window(place);
             let part = GroupPart {
-                first,
-                last: number - 1,
+                first: lock.first,
+                last: lock.number - 1,
                 place,
                 heard,
             };
@@ -130,7 +111,7 @@ fn search<T: Tape>(tape: &mut T, rules: &Rules, place: u64) -> Step
         },
         Some(found) => Step {
             place: place + 1,
-            state: found.lock(rules.loss()).state(),
+            state: State::Locked(found.lock()),
             items: found.items(rules),
         },
     }
@@ -138,13 +119,13 @@ fn search<T: Tape>(tape: &mut T, rules: &Rules, place: u64) -> Step
 
 /// The block that is due, while locked.
 fn read_due<T: Tape>(tape: &mut T, rules: &Rules, lock: Lock) -> Step
-    requires lawful { IsLawfulLock rules.now lock.due lock.due lock.number lock.bad lock.first }
+    requires lawful { IsLawfulLock rules.now lock.due lock }
     requires within { lock.due < length_of (T.signal tape.old) }
     requires place { lock.due < 2 ^ 36 }
     requires counted { T.reads_made tape.old + 16 ≤ 2 ^ 63 }
     ensures place { result.place ≡ lock.due + 1 }
-    ensures state { result.state ≡ step (T.signal tape.old) rules.now lock.due (state_in lock) }
-    ensures items { items_in result.items ≡ items_at (T.signal tape.old) rules.now lock.due (state_in lock) }
+    ensures state { result.state ≡ step (T.signal tape.old) rules.now lock.due (State.Locked lock) }
+    ensures items { items_in result.items ≡ items_at (T.signal tape.old) rules.now lock.due (State.Locked lock) }
     ensures same { T.signal tape.new ≡ T.signal tape.old }
     ensures reads { T.reads_made tape.new ≤ T.reads_made tape.old + 4 }
 {
@@ -159,12 +140,12 @@ fn read_due<T: Tape>(tape: &mut T, rules: &Rules, lock: Lock) -> Step
     match lock.after(rules.loss(), is_numbered(heard, lock.number)) {
         Due::Inside(next) => Step {
             place,
-            state: next.state(),
+            state: State::Locked(next),
             items: [None, None],
         },
         Due::Closed(next) => Step {
             place,
-            state: next.state(),
+            state: State::Locked(next),
             items: [Some(Item::Group(read_group(tape, rules, part))), None],
         },
         Due::Lost => {

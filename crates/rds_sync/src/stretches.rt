@@ -3,10 +3,9 @@
 
 ghost use Rattle.std.specs.Prelude.{◌≡◌, ◌≤◌, ◌<◌};
 ghost use Rattle.rds_stream.specs.Recording.{length_of};
-ghost use Rattle.rds_sync.specs.Inside.Due.{state_in};
 ghost use Rattle.rds_sync.specs.Lawful.{IsLawful, IsLawfulLock};
 ghost use Rattle.rds_sync.specs.Stretch.{IsStretch};
-ghost use Rattle.rds_sync.specs.declared.state.State.TheVariants.{Searching};
+ghost use Rattle.rds_sync.specs.declared.state.State.TheVariants.{Locked, Searching};
 
 use crate::acquiring::{Acquisition, has_partner_in};
 use crate::due::Due;
@@ -37,20 +36,7 @@ pub fn stretch(reader: &mut Reader<'_>, rules: &Rules, state: State, place: u64,
 {
     match state {
         State::Searching => search(reader, rules, place, to),
-        State::Locked {
-            due,
-            number,
-            bad,
-            first,
-        } => {
-            let lock = Lock {
-                due,
-                number,
-                bad,
-                first,
-            };
-            keep_lock(reader, rules, lock, place, to)
-        }
+        State::Locked(lock) => keep_lock(reader, rules, lock, place, to),
     }
 }
 
@@ -63,6 +49,7 @@ fn search(reader: &mut Reader<'_>, rules: &Rules, place: u64, to: u64) -> Step
 {
     let rec = reader.recording();
     prove!(to <= rec.len());
+    prove!(1 <= rules.reach());
     for (here, offset) in ValidWindows::new(rec, place, to) {
         // A window is valid by chance at one place in two hundred: so its partners are looked up in
         // the recording, and the search keeps none of the windows behind it.
@@ -75,7 +62,7 @@ fn search(reader: &mut Reader<'_>, rules: &Rules, place: u64, to: u64) -> Step
             };
             return Step {
                 place: here + 1,
-                state: found.lock(rules.loss()).state(),
+                state: State::Locked(found.lock()),
                 items: found.items(rules),
             };
         }
@@ -90,10 +77,10 @@ fn search(reader: &mut Reader<'_>, rules: &Rules, place: u64, to: u64) -> Step
 /// Follows a lock up to and including the next block that closes a group, or up to `to` where none is due before it: over
 /// a whole group at once where it can, and else from block to block.
 fn keep_lock(reader: &mut Reader<'_>, rules: &Rules, lock: Lock, place: u64, to: u64) -> Step
-    requires lawful { IsLawfulLock rules.now place lock.due lock.number lock.bad lock.first }
+    requires lawful { IsLawfulLock rules.now place lock }
     requires order { place < to }
     requires within { to ≤ length_of reader.old }
-    ensures reached { IsStretch reader.old rules.now (state_in lock) place to result }
+    ensures reached { IsStretch reader.old rules.now (Locked lock) place to result }
     ensures same { reader.new ≡ reader.old }
 {
     prove!(1 <= rules.reach());
@@ -108,7 +95,7 @@ fn keep_lock(reader: &mut Reader<'_>, rules: &Rules, lock: Lock, place: u64, to:
             Due::Closed(next) => {
                 return Step {
                     place: now.due + 1,
-                    state: next.state(),
+                    state: State::Locked(next),
                     items: [Some(Item::Group(closed_group(now, blocks))), None],
                 };
             }
@@ -126,7 +113,7 @@ fn keep_lock(reader: &mut Reader<'_>, rules: &Rules, lock: Lock, place: u64, to:
     }
     Step {
         place: to,
-        state: now.state(),
+        state: State::Locked(now),
         items: [None, None],
     }
 }

@@ -8,25 +8,26 @@ ghost use Rattle.rds_sync.specs.Acquiring.{is_numbered};
 ghost use Rattle.rds_sync.specs.Codes.{outcome_of};
 ghost use Rattle.rds_sync.specs.Groups.{blocks_at, group};
 ghost use Rattle.rds_sync.specs.Inside.CodeRuns.{AreValid, HasPassed};
-ghost use Rattle.rds_sync.specs.Inside.Due.{state_in};
 ghost use Rattle.rds_sync.specs.Lawful.{IsLawfulLock};
 ghost use Rattle.rds_sync.specs.Loss.{IsLawfulBad, bad_after, are_too_many};
 ghost use Rattle.rds_sync.specs.Marks.{bad_over};
 ghost use Rattle.rds_sync.specs.Ranges.{IsLossInRange};
 ghost use Rattle.rds_sync.specs.Stretch.{IsStretch};
 ghost use Rattle.rds_sync.specs.Words.{blocks_in};
+ghost use Rattle.rds_sync.specs.declared.state.State.TheVariants.{Locked};
 
 use crate::code_part::CodePart;
 use crate::error::SyncError;
 use crate::item::{Block, Item};
 use crate::lock::{BLOCK_PLACES, Lock};
-use crate::loss::{Bad, Loss};
+use crate::loss::{Loss, NONE_BAD};
 use crate::rules::Rules;
+use crate::state::State;
 use crate::step::Step;
 use crate::whole_items::whole_heard;
 use crate::words::{CLEAN, nibble, was_valid};
 use rds_code::laws::{bursts_are_listed, readings_follow_the_rule};
-use rds_code::{Offset, Wanted, rem26};
+use rds_code::{BlockNumber, Offset, Wanted, rem26};
 use rds_stream::{FIRST_WINDOW, Reader};
 
 /// The lock behind the whole groups that come next, none of whose blocks loses it, of which the last ends before `to`.
@@ -71,22 +72,22 @@ pub(crate) fn whole_group(
     place: u64,
     to: u64,
 ) -> Option<Step>
-    requires lawful { IsLawfulLock rules.now place lock.due lock.number lock.bad lock.first }
+    requires lawful { IsLawfulLock rules.now place lock }
     requires order { place < to }
     requires within { to ≤ length_of reader.old }
-    ensures reached { IfSome result (IsStretch reader.old rules.now (state_in lock) place to) }
+    ensures reached { IfSome result (IsStretch reader.old rules.now (Locked lock) place to) }
     ensures same { reader.new ≡ reader.old }
 {
     prove!(to <= reader.recording().len());
     let last = lock.due + 3 * BLOCK_PLACES;
-    if lock.number != 1 || lock.first != 1 || place + FIRST_WINDOW != lock.due || to <= last {
+    if !lock.begins_group_at(place) || to <= last {
         return None;
     }
     let heard = reader.four_windows(lock.due);
     let (group, bad) = whole_heard(rules, rules.loss(), place, heard, lock.bad)?;
     Some(Step {
         place: last + 1,
-        state: Lock::after_block(last, 4, bad, 1).state(),
+        state: State::Locked(Lock::after_block(last, 4, bad, 1)),
         items: [Some(Item::Group(group)), None],
     })
 }
@@ -161,10 +162,10 @@ fn damaged_word(rules: &Rules, heard: [Option<u32>; 4]) -> u16
     readings_follow_the_rule();
     prove!(rules.burst() <= 5);
     let [one, two, three, four] = heard;
-    let second = Block::Read(rules.read(two, 2, Wanted::Either));
-    let first = rules.kind(one, 1, Wanted::Either);
-    let third = rules.kind(three, 3, second.wanted_beside());
-    let fourth = rules.kind(four, 4, Wanted::Either);
+    let second = Block::Read(rules.read(two, BlockNumber::TWO, Wanted::Either));
+    let first = rules.kind(one, BlockNumber::ONE, Wanted::Either);
+    let third = rules.kind(three, BlockNumber::THREE, second.wanted_beside());
+    let fourth = rules.kind(four, BlockNumber::FOUR, Wanted::Either);
     first + 16 * (nibble(&second) + 16 * (third + 16 * fourth))
 }
 
@@ -175,17 +176,17 @@ pub(crate) fn blocks_of(rules: &Rules, heard: [Option<u32>; 4]) -> [Block; 4]
     ensures { (b : Signal) (due : ℕ) → heard ≡ four_heard b due → result ≡ blocks_at b rules.now 1 4 (due + 78) }
 {
     let [one, two, three, four] = heard;
-    let first = Block::Read(rules.read(one, 1, Wanted::Either));
-    let second = Block::Read(rules.read(two, 2, Wanted::Either));
-    let third = Block::Read(rules.read(three, 3, second.wanted_beside()));
-    let fourth = Block::Read(rules.read(four, 4, Wanted::Either));
+    let first = Block::Read(rules.read(one, BlockNumber::ONE, Wanted::Either));
+    let second = Block::Read(rules.read(two, BlockNumber::TWO, Wanted::Either));
+    let third = Block::Read(rules.read(three, BlockNumber::THREE, second.wanted_beside()));
+    let fourth = Block::Read(rules.read(four, BlockNumber::FOUR, Wanted::Either));
     [first, second, third, fourth]
 }
 
 /// What is kept of the bad blocks after those of the group of a word, or none where one of them loses the lock. Behind
 /// four good blocks no row of bad ones is left, and none is counted.
 #[inline(always)]
-pub(crate) fn bad_after_four(loss: Loss, word: u16, bad: Bad) -> Option<Bad>
+pub(crate) fn bad_after_four(loss: Loss, word: u16, bad: u64) -> Option<u64>
     requires range { IsLossInRange loss }
     requires lawful { IsLawfulBad loss bad }
     ensures bad { IfSome result (λ after. after ≡ bad_over loss (blocks_in word) bad 1 4) }
@@ -193,15 +194,15 @@ pub(crate) fn bad_after_four(loss: Loss, word: u16, bad: Bad) -> Option<Bad>
     ensures kept { IfSome result (λ _. (k : ℕ) → k < 4
         → are_too_many loss (bad_over loss (blocks_in word) bad 1 (k + 1)) ≡ false) }
 {
-    match (loss, bad) {
-        (Loss::Run(_), Bad::Run(_)) if word == CLEAN => Some(Bad::Run(0)),
+    match loss {
+        Loss::InARow(_) if word == CLEAN => Some(NONE_BAD),
         _ => bad_after_each(loss, word, bad),
     }
 }
 
 /// The same, by one block after the other.
 #[inline(always)]
-fn bad_after_each(loss: Loss, word: u16, bad: Bad) -> Option<Bad>
+fn bad_after_each(loss: Loss, word: u16, bad: u64) -> Option<u64>
     requires range { IsLossInRange loss }
     requires lawful { IsLawfulBad loss bad }
     ensures bad { IfSome result (λ after. after ≡ bad_over loss (blocks_in word) bad 1 4) }
@@ -218,8 +219,8 @@ fn bad_after_each(loss: Loss, word: u16, bad: Bad) -> Option<Bad>
 
 /// What is kept of the bad blocks after one more, or none where it loses the lock.
 #[inline(always)]
-#[tactic(auto, using(crate::proofs::BadRows::lawful_kept))]
-pub(crate) fn kept_after(loss: Loss, good: bool, bad: Bad) -> Option<Bad>
+#[tactic(auto, using(crate::proofs::LossLemmas::lawful_kept))]
+pub(crate) fn kept_after(loss: Loss, good: bool, bad: u64) -> Option<u64>
     requires range { IsLossInRange loss }
     requires lawful { IsLawfulBad loss bad }
     ensures bad { IfSome result (λ after. after ≡ bad_after loss good bad) }

@@ -17,7 +17,7 @@ ghost use Rattle.rds_sync.specs.declared.item.Block.TheVariants.{Read};
 
 use crate::item::{Block, Group, Item};
 use crate::lock::{BLOCK_PLACES, Lock};
-use crate::loss::{Bad, Loss};
+use crate::loss::{Loss, NONE_BAD};
 use crate::push::push_one;
 use crate::rules::Rules;
 use crate::whole_groups::{bad_after_four, blocks_of, kept_after};
@@ -72,8 +72,8 @@ pub(crate) fn whole_heard(
     loss: Loss,
     place: u64,
     heard: [Option<u32>; 4],
-    bad: Bad,
-) -> Option<(Group, Bad)>
+    bad: u64,
+) -> Option<(Group, u64)>
     requires blocks { All (λ heard. IfSome heard (λ window. window < 2 ^ 26)) heard }
     requires loss { loss ≡ rules.now.loss }
     requires range { IsLossInRange loss }
@@ -97,8 +97,8 @@ fn damaged_heard(
     loss: Loss,
     place: u64,
     heard: [Option<u32>; 4],
-    bad: Bad,
-) -> Option<(Group, Bad)>
+    bad: u64,
+) -> Option<(Group, u64)>
     requires blocks { All (λ heard. IfSome heard (λ window. window < 2 ^ 26)) heard }
     requires loss { loss ≡ rules.now.loss }
     requires range { IsLossInRange loss }
@@ -113,7 +113,7 @@ fn damaged_heard(
 
 /// What is kept of the bad blocks after four good ones, of which none loses a lock.
 #[inline(always)]
-fn bad_after_clean(loss: Loss, bad: Bad) -> Option<Bad>
+fn bad_after_clean(loss: Loss, bad: u64) -> Option<u64>
     requires range { IsLossInRange loss }
     requires lawful { IsLawfulBad loss bad }
     ensures bad { IfSome result (λ after. after ≡ bad_over loss (blocks_in 0x1111) bad 1 4) }
@@ -121,9 +121,9 @@ fn bad_after_clean(loss: Loss, bad: Bad) -> Option<Bad>
     ensures kept { IfSome result (λ _. (k : ℕ) → k < 4
         → are_too_many loss (bad_over loss (blocks_in 0x1111) bad 1 (k + 1)) ≡ false) }
 {
-    match (loss, bad) {
-        (Loss::Run(_), Bad::Run(_)) => Some(Bad::Run(0)),
-        _ => bad_after_four(loss, CLEAN, bad),
+    match loss {
+        Loss::InARow(_) => Some(NONE_BAD),
+        Loss::Share { .. } => bad_after_four(loss, CLEAN, bad),
     }
 }
 
@@ -179,7 +179,7 @@ fn valid_reading(heard: Option<u32>, offset: Offset) -> Option<Reading>
 
 /// What is kept of the bad blocks after these four, or none where one of them loses the lock.
 #[inline(always)]
-fn bad_after_blocks(loss: Loss, blocks: &[Block; 4], bad: Bad) -> Option<Bad>
+fn bad_after_blocks(loss: Loss, blocks: &[Block; 4], bad: u64) -> Option<u64>
     requires range { IsLossInRange loss }
     requires lawful { IsLawfulBad loss bad }
     ensures bad { IfSome result (λ after. after ≡ bad_over loss (map outcome_of blocks.now) bad 1 4) }

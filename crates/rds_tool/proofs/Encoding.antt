@@ -1,11 +1,11 @@
 -- Lines encoded one after the other.
-use Rattle.std.proofs.Common.{◌+◌, ◌++◌, ◌<◌, ◌∙◌, ◌∷◌, ◌≡◌, ◌≢◌, ◌⊎◌, Bool, Bor, Err, List, Ok, Result, [], add-one, ap, append_assoc, drop, false, get_or, length, map, refl, inl, inr, sym, true, ℕ}
+use Rattle.std.proofs.Common.{◌+◌, ◌++◌, ◌<◌, ◌∙◌, ◌∷◌, ◌≡◌, ◌≢◌, Bool, Bor, Err, List, Ok, Result, [], add-one, ap, append_assoc, drop, false, get_or, length, map, refl, inl, inr, sym, true, ℕ}
 use Rattle.std.proofs.Math.Seq.{drop-cons}
 use Rattle.rds_tool.specs.GroupText.{group_bytes, group_text, line_text, lines_text, words_of}
 use Rattle.hex.specs.Hex.{encode_lower}
 use Rattle.rds_tool.specs.Input.{and_then}
+use Rattle.rds_tool.specs.Refusals.{IsMemoryOrErrOf}
 use Rattle.rds_tool.specs.declared.error.ToolError.{ToolError}
-use Rattle.rds_tool.specs.declared.error.ToolError.TheVariants.{OutOfMemory}
 
 -- the text so far, and then what is made of the lines that are left
 abbrev pub with_rest : Bool → List ℕ → List (List ℕ) → Result (List ℕ) ToolError
@@ -54,7 +54,7 @@ module _ (hex : Bool) (lines : List (Bor (List ℕ))) (i : ℕ) (none : Bor (Lis
       let rest = map (λ (l : Bor (List ℕ)). l.now) (drop (i + 1) lines) in
       here ∙ line_taken hex text (get_or lines i none).now rest more taken ∙ ap (λ t. with_rest hex t rest) (sym is_new)
 
-  pub one_refused : (error : ToolError) → (error ≡ OutOfMemory) ⊎ (line_text hex (get_or lines i none).now ≡ Err error) → (error ≡ OutOfMemory) ⊎ (whole ≡ Err error)
+  pub one_refused : (error : ToolError) → IsMemoryOrErrOf (line_text hex (get_or lines i none).now) error → IsMemoryOrErrOf whole error
   one_refused error (inl memory) = inl memory
   one_refused error (inr refused) = inr (here ∙ line_refused hex text (get_or lines i none).now (map (λ (l : Bor (List ℕ)). l.now) (drop (i + 1) lines)) error refused)
 

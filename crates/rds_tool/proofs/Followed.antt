@@ -1,14 +1,14 @@
 -- What was done of a stream so far, and where it breaks off.
-use Rattle.std.proofs.Common.{◌≡◌, ◌≢◌, ◌+◌, ◌-◌, ◌*◌, ◌/◌, ◌%◌, ◌^◌, ◌<◌, ◌≤◌, ◌++◌, ◌⊎◌, ◌↔◌, ℕ, List, [], ◌∷◌, Err, None, Ok, Option, Result, Some, inl, inr, drop, length, map, min, take, refl, sym, zero, suc, ap, ap₂, ◌∙◌, subst, arith, append_assoc}
+use Rattle.std.proofs.Common.{◌≡◌, ◌≢◌, ◌+◌, ◌-◌, ◌*◌, ◌/◌, ◌%◌, ◌^◌, ◌<◌, ◌≤◌, ◌++◌, ◌⊎◌, ◌↔◌, ℕ, List, [], ◌∷◌, Err, None, Ok, Option, Result, Some, inl, inr, length, map, min, take, refl, sym, zero, suc, ap, ap₂, ◌∙◌, subst, arith, append_assoc}
 use Rattle.std.specs.Prelude.{IfErr, IfSome, OnErr, OnOk}
 use Rattle.std.specs.Int.{bit_at}
 use Rattle.std.specs.List.{flat_map, range_with_len}
 use Rattle.std.specs.Io.KnownBytes.{Appends, Consumes, IsAtEnd, Keeps}
+use Rattle.std.proofs.KnownBytes.{Appends-nil, Appends-trans, Consumes-kept, Consumes-nil, Consumes-trans}
 use Rattle.std.proofs.Math.ListN.{get_or-append}
 use Rattle.std.proofs.lemmas.Bool.{le-ltb}
 use Rattle.std.proofs.lemmas.Grind.{flat_map-append}
-use Rattle.std.proofs.Math.Seq.{take-append-add}
-use Rattle.std.proofs.lemmas.List.{append-nil, drop-drop, length-append, length-drop, length-take, take-append-drop, take_all}
+use Rattle.std.proofs.lemmas.List.{append-nil, length-append, length-take, nil_from_length}
 use Rattle.std.proofs.lemmas.List.FromFn.{length-map-range_with_len}
 use Rattle.rds_live.specs.Live.{LiveOf, HasHeard, Terms, complete, live_of, report_at, run_of, signal_at, signal_of}
 use Rattle.rds_stream.specs.Recording.{AreGaps, bits_of, length_of, packed_bit}
@@ -28,21 +28,6 @@ use Rattle.rds_tool.specs.declared.error.ToolError.{ToolError}
 use Rattle.rds_tool.specs.declared.error.ToolError.TheVariants.{BadGaps, OutOfMemory, Read, TooLong, Write}
 use Rattle.rds_tool.proofs.GapLists.{pass_as_gaps}
 use Rattle.rds_tool.proofs.Passing.{passed_kind}
-use Rattle.rds_tool.proofs.Steps.{appends_more, appends_none, consumes_more}
-
-consumes_none : (a : Option (List ℕ)) → Consumes a a []
-consumes_none None = tt
-consumes_none (Some a) = refl
-
-consumes_kept : (a b c : Option (List ℕ)) (xs : List ℕ) → Consumes a b xs → Keeps b c → Consumes a c xs
-consumes_kept None b c xs p q = tt
-consumes_kept (Some a) None c xs p q = absurd p
-consumes_kept (Some a) (Some b) None xs p q = absurd q
-consumes_kept (Some a) (Some b) (Some c) xs p q = p ∙ ap (λ w. xs ++ w) (sym q)
-
-pub keeps_same : (a : Option (List ℕ)) → Keeps a a
-keeps_same None = tt
-keeps_same (Some a) = refl
 
 -- ---- a read
 
@@ -72,7 +57,7 @@ fits_room n room bytes buf is within = let count : length bytes ≡ length (take
 pub few_last : (n : ℕ) (bytes buf : List ℕ) → bytes ≡ take n buf → n ≤ 1 → length bytes ≤ 65536
 few_last n bytes buf is few = let count : length bytes ≡ length (take n buf) = ap (λ (xs : List ℕ). length xs) is in omega (arith, count, length-take n buf, few)
 
-pub took_all : (n : ℕ) (bytes buf : List ℕ) → bytes ≡ take n buf → n ≤ length buf → length bytes ≡ n
+took_all : (n : ℕ) (bytes buf : List ℕ) → bytes ≡ take n buf → n ≤ length buf → length bytes ≡ n
 took_all n bytes buf is within = let count : length bytes ≡ length (take n buf) = ap (λ (xs : List ℕ). length xs) is in omega (arith, count, length-take n buf, within)
 
 -- ---- the bits that count
@@ -117,11 +102,11 @@ module _ (terms : Terms) (bits : Option ℕ) where
   has_heard live heard is = is ∙ ap (λ (t : Terms). live_of t heard) (sym (ap (λ (l : LiveOf). l.terms) is))
 
   pub followed_none : (live : LiveOf) (from old : Option (List ℕ)) → live ≡ live_of terms [] → IsFollowed terms bits live from from old old []
-  followed_none live from old is = record { live_is = is; taken = consumes_none from; written = appends_none old; short = omega arith; all_count = all_none bits }
+  followed_none live from old is = record { live_is = is; taken = Consumes-nil from; written = Appends-nil old; short = omega arith; all_count = all_none bits }
 
   -- nothing was read, and nothing written
   pub nothing_done : (from old : Option (List ℕ)) → StopsBetweenRows terms bits from from old old
-  nothing_done from old = ([], [], omega arith, all_none bits, consumes_none from, appends_none old)
+  nothing_done from old = ([], [], omega arith, all_none bits, Consumes-nil from, Appends-nil old)
 
   -- the listing of a stream begins with the rows so far
   listing_begins : RunsAreReports → IsLoss terms.rules.loss → (bytes : List ℕ) → AllCount bits bytes
@@ -156,7 +141,7 @@ module _ (terms : Terms) (bits : Option ℕ) where
     -- nothing came behind it
     pub stops_here : (after : Option (List ℕ)) → Keeps to after → StopsBetweenRows terms bits from after old new
     stops_here after kept =
-        (heard, [], omega arith, f.all_count, subst (λ xs. Consumes from after xs) (sym (append-nil heard)) (consumes_kept from to after heard f.taken kept), f.written)
+        (heard, [], omega arith, f.all_count, subst (λ xs. Consumes from after xs) (sym (append-nil heard)) (Consumes-kept from to after heard f.taken kept), f.written)
 
     module _ (after : Option (List ℕ)) (n : ℕ) (buf : List ℕ) (took : Consumes to after (take n buf)) where
       -- nothing more came
@@ -165,7 +150,7 @@ module _ (terms : Terms) (bits : Option ℕ) where
           let nothing : Consumes to after [] = subst (λ m. Consumes to after (take m buf)) none took in
           record {
             live_is = f.live_is;
-            taken = subst (λ xs. Consumes from after xs) (append-nil heard) (consumes_more from to after heard [] f.taken nothing);
+            taken = subst (λ xs. Consumes from after xs) (append-nil heard) (Consumes-trans from to after heard [] f.taken nothing);
             written = f.written;
             short = f.short;
             all_count = f.all_count;
@@ -176,7 +161,7 @@ module _ (terms : Terms) (bits : Option ℕ) where
         took_bytes = subst (λ xs. Consumes to after xs) (sym bytes_are) took
 
         pub taken_more : Consumes from after (heard ++ bytes)
-        taken_more = consumes_more from to after heard bytes f.taken took_bytes
+        taken_more = Consumes-trans from to after heard bytes f.taken took_bytes
 
         -- these came behind it, and no row of them was written
         pub stops_behind : length bytes ≤ 65536 → StopsBetweenRows terms bits from after old new
@@ -206,7 +191,7 @@ module _ (terms : Terms) (bits : Option ℕ) where
                 record {
                   live_is = hears heard known ∙ ap (λ (t : Terms). live_of t (heard ++ bytes)) (same ∙ terms_are);
                   taken = taken_more;
-                  written = subst (λ ys. Appends old later ys) (sym more) (appends_more old new later (rows_so_far terms heard) rows f.written did);
+                  written = subst (λ ys. Appends old later ys) (sym more) (Appends-trans old new later (rows_so_far terms heard) rows f.written did);
                   short = omega (arith, limit, place_is, length-append heard bytes);
                   all_count = all_of_them;
                 }
@@ -231,7 +216,7 @@ module _ (terms : Terms) (bits : Option ℕ) where
                   rest ++ ending,
                   listing_begins reports loss all all_of_them ∙ ap (λ ys. ys ++ ending) (more ∙ ap (λ ys. front ++ ys) split)
                       ∙ append_assoc front (written ++ rest) ending ∙ ap (λ ys. front ++ ys) (append_assoc written rest ending),
-                  appends_more old new later front written f.written did,
+                  Appends-trans old new later front written f.written did,
                 )
 
     -- how far the next state is from the most bits
@@ -324,44 +309,57 @@ module _ (terms : Terms) (bits : Option ℕ) (live : LiveOf) (from to old new : 
           | inl many ↦ elim near [ inl close ↦ absurd (omega (arith, is, many.0, close)) | inr at_end ↦ subst IsAtEnd (sym many.1) at_end ]
           | inr at_end ↦ at_end
         ]) in
-        (heard, consumes_kept from to after heard f.taken kept, ended, omega (arith, is, past.0, place))
+        (heard, Consumes-kept from to after heard f.taken kept, ended, omega (arith, is, past.0, place))
 
-  module _ (after : Option (List ℕ)) (n : ℕ) (buf : List ℕ) (took : Consumes to after (take n buf)) (bytes : List ℕ) (bytes_are : bytes ≡ take n buf)
-      (left : ℕ) (left_is : left ≡ bits_left bits live.place) (few : left ≤ 8 * length bytes) (less : 8 * length bytes < left + 8) (still : left ≡ 0 → after ≡ to) where
-    read_all : Consumes from after (heard ++ bytes)
-    read_all = taken_more terms bits live from to old new heard f after n buf took bytes bytes_are
+  -- the byte of these, if there is one, was read
+  module _ (after : Option (List ℕ)) (n : ℕ) (buf : List ℕ) (took : Consumes to after (take n buf)) (left place : ℕ) (told : left ≡ bits_left bits place) (there : place ≡ live.place)
+      (fit : (n ≤ length buf) × (left ≤ 8 * n) × (8 * n < left + 8)) (still : left ≡ 0 → after ≡ to) where
+    abbrev last : List ℕ
+    last = take n buf
+
+    left_is : left ≡ bits_left bits live.place
+    left_is = told ∙ ap (bits_left bits) there
+
+    few : left ≤ 8 * length last
+    few = let long = took_all n last buf refl fit.0 in omega (arith, long, fit.1)
+
+    less : 8 * length last < left + 8
+    less = let long = took_all n last buf refl fit.0 in omega (arith, long, fit.2)
+
+    read_all : Consumes from after (heard ++ last)
+    read_all = taken_more terms bits live from to old new heard f after n buf took last refl
 
     at_place : live.place ≡ 8 * length heard
     at_place = place_is terms bits live from to old new heard f
 
     pub read_as_far : IsReadAsFar bits from after
-    read_as_far = as_far bits live.place left heard bytes at_place f.all_count left_is few less from to after near still read_all
+    read_as_far = as_far bits live.place left heard last at_place f.all_count left_is few less from to after near still read_all
 
-    all_counted : counted bits (heard ++ bytes) ≡ 8 * length heard + left
-    all_counted = counted_left bits live.place left heard bytes at_place f.all_count left_is few less
+    all_counted : counted bits (heard ++ last) ≡ 8 * length heard + left
+    all_counted = counted_left bits live.place left heard last at_place f.all_count left_is few less
 
-    count_is : (a : List ℕ) → Consumes (Some a) after (heard ++ bytes) → IsReadAsFar bits (Some a) after → claimed bits a ≡ live.place + left
+    count_is : (a : List ℕ) → Consumes (Some a) after (heard ++ last) → IsReadAsFar bits (Some a) after → claimed bits a ≡ live.place + left
     count_is a read far =
-        let found = claimed_is bits a after (heard ++ bytes) read far (held_left bits live.place left heard bytes at_place f.all_count left_is few less) in
+        let found = claimed_is bits a after (heard ++ last) read far (held_left bits live.place left heard last at_place f.all_count left_is few less) in
         omega (arith, found, all_counted, at_place)
 
     -- the recording may not have these gaps
     pub no_such_gaps : (gaps : List (ℕ × ℕ)) → (AreGaps (live.place + left) gaps → ⊥) → IfSome from (λ held. AreGaps (claimed bits held) gaps → ⊥)
     no_such_gaps gaps none = by from read_all read_as_far where
-      by : (o : Option (List ℕ)) → Consumes o after (heard ++ bytes) → IsReadAsFar bits o after → IfSome o (λ held. AreGaps (claimed bits held) gaps → ⊥)
+      by : (o : Option (List ℕ)) → Consumes o after (heard ++ last) → IsReadAsFar bits o after → IfSome o (λ held. AreGaps (claimed bits held) gaps → ⊥)
       by None read far = tt
       by (Some a) read far = λ are. none (subst (λ (m : ℕ). AreGaps m gaps) (count_is a read far) are)
 
     -- the rest of the listing
     module _ (text : List ℕ)
-        (rows : (before : List ℕ) → HasHeard live before → let items = report_at live.terms (before ++ bytes) (8 * length before + left) in
+        (rows : (before : List ℕ) → HasHeard live before → let items = report_at live.terms (before ++ last) (8 * length before + left) in
         report_text items (totals_of items) ≡ rows_so_far live.terms before ++ text) where
-      listing_ends : stream_text terms bits (heard ++ bytes) ≡ rows_so_far terms heard ++ text
+      listing_ends : stream_text terms bits (heard ++ last) ≡ rows_so_far terms heard ++ text
       listing_ends =
           let terms_are : live.terms ≡ terms = ap (λ (l : LiveOf). l.terms) f.live_is in
           let known : HasHeard live heard = f.live_is ∙ ap (λ (t : Terms). live_of t heard) (sym terms_are) in
-          ap (λ (m : ℕ). list_text terms.rules (signal_at terms.gaps (heard ++ bytes) m)) all_counted
-          ∙ subst (λ (t : Terms). list_text t.rules (signal_at t.gaps (heard ++ bytes) (8 * length heard + left)) ≡ rows_so_far t heard ++ text) terms_are (rows heard known)
+          ap (λ (m : ℕ). list_text terms.rules (signal_at terms.gaps (heard ++ last) m)) all_counted
+          ∙ subst (λ (t : Terms). list_text t.rules (signal_at t.gaps (heard ++ last) (8 * length heard + left)) ≡ rows_so_far t heard ++ text) terms_are (rows heard known)
 
       module _ (later : Option (List ℕ)) where
         -- it was written
@@ -369,44 +367,36 @@ module _ (terms : Terms) (bits : Option ℕ) (live : LiveOf) (from to old new : 
             → OnOk r (IfSome from (λ held. Writes old later (listed terms bits held)))
         wrote_all (Err e) short are did = tt
         wrote_all (Ok x) short are did = by from f.written read_all read_as_far where
-          all : Appends old later (stream_text terms bits (heard ++ bytes))
-          all = subst (λ ys. Appends old later ys) (sym listing_ends) (appends_more old new later (rows_so_far terms heard) text f.written did)
+          all : Appends old later (stream_text terms bits (heard ++ last))
+          all = subst (λ ys. Appends old later ys) (sym listing_ends) (Appends-trans old new later (rows_so_far terms heard) text f.written did)
 
-          by : (o : Option (List ℕ)) → Appends old new (rows_so_far terms heard) → Consumes o after (heard ++ bytes) → IsReadAsFar bits o after → IfSome o (λ held. Writes old later (listed terms bits held))
+          by : (o : Option (List ℕ)) → Appends old new (rows_so_far terms heard) → Consumes o after (heard ++ last) → IsReadAsFar bits o after → IfSome o (λ held. Writes old later (listed terms bits held))
           by None w read far = tt
           by (Some a) w read far =
               let claim = count_is a read far in
-              let within : claimed bits a ≤ 8 * length (heard ++ bytes) = omega (arith, claim, at_place, few, length-append heard bytes) in
-              let counts : claimed bits a ≡ counted bits (heard ++ bytes) = omega (arith, claim, at_place, all_counted) in
-              let is : listed terms bits a ≡ Ok (stream_text terms bits (heard ++ bytes)) =
-              listed_as terms a after (heard ++ bytes) (claimed bits a) read (omega (arith, claim, short)) within (subst (λ (m : ℕ). AreGaps m terms.gaps) (sym claim) are)
-              ∙ ap (λ (m : ℕ). Ok (list_text terms.rules (signal_at terms.gaps (heard ++ bytes) m))) counts in
+              let within : claimed bits a ≤ 8 * length (heard ++ last) = omega (arith, claim, at_place, few, length-append heard last) in
+              let counts : claimed bits a ≡ counted bits (heard ++ last) = omega (arith, claim, at_place, all_counted) in
+              let is : listed terms bits a ≡ Ok (stream_text terms bits (heard ++ last)) =
+              listed_as terms a after (heard ++ last) (claimed bits a) read (omega (arith, claim, short)) within (subst (λ (m : ℕ). AreGaps m terms.gaps) (sym claim) are)
+              ∙ ap (λ (m : ℕ). Ok (list_text terms.rules (signal_at terms.gaps (heard ++ last) m))) counts in
               subst (λ (w : Result (List ℕ) ToolError). Writes old later w) (sym is) all
 
         -- a beginning of it was written
-        pub stops_at_end : length bytes ≤ 65536 → WritesPrefix new later (Ok text) → StopsInRows terms bits from after old later
+        pub stops_at_end : length last ≤ 65536 → WritesPrefix new later (Ok text) → StopsInRows terms bits from after old later
         stops_at_end short (written, rest, split, did) =
             let front : List ℕ = rows_so_far terms heard in (
               heard,
-              bytes,
+              last,
               short,
               f.all_count,
               read_all,
               written,
               rest,
               listing_ends ∙ ap (λ ys. front ++ ys) split,
-              appends_more old new later front written f.written did,
+              Appends-trans old new later front written f.written did,
             )
 
 -- ---- refusals
-
--- the rows of a chunk, where they were written
-pub chunk_rows : {T : Type 0} (r : Result T ToolError) (live : LiveOf) (bytes text : List ℕ) (items : List Item) (old new : Option (List ℕ))
-    → ((before : List ℕ) → HasHeard live before → complete live.terms (before ++ bytes) ≡ complete live.terms before ++ items)
-    → text ≡ flat_map item_row items → OnOk r (Appends old new text)
-    → OnOk r ((before : List ℕ) → HasHeard live before → (rows : List ℕ) × HasRows live.terms before bytes rows × Appends old new rows)
-chunk_rows (Ok x) live bytes text items old new more is did = λ before h. (text, has_rows live.terms before bytes text items (more before h) is, did)
-chunk_rows (Err e) live bytes text items old new more is did = tt
 
 -- the rows that a chunk completed
 pub chunk_text : {T : Type 0} (r : Result T ToolError) (live : LiveOf) (bytes text lines : List ℕ) (old new : Option (List ℕ))
@@ -418,45 +408,51 @@ chunk_text (Err e) live bytes text lines old new more is did = tt
 
 -- ---- a chunk that is taken piece by piece
 
--- nothing was taken yet
-pub none_taken : (before bytes : List ℕ) → before ≡ before ++ take (length bytes - length bytes) bytes
-none_taken before bytes =
-    let none : length bytes - length bytes ≡ 0 = omega arith in
-    sym (ap (λ n. before ++ take n bytes) none ∙ append-nil before)
+-- some of these bytes were taken: they were heard, and these are the rows that they complete
+pub record HasTaken (live next : LiveOf) (bytes rest rows : List ℕ) : Type 0 where
+  pub taken : List ℕ
+  pub parted : bytes ≡ taken ++ rest
+  pub heard : (before : List ℕ) → HasHeard live before → HasHeard next (before ++ taken)
+  pub are_rows : (before : List ℕ) → HasHeard live before → HasRows live.terms before taken rows
 
-pub all_left : (bytes : List ℕ) → bytes ≡ drop (length bytes - length bytes) bytes
-all_left bytes = let none : length bytes - length bytes ≡ 0 = omega arith in sym (ap (λ n. drop n bytes) none)
+pub none_taken : (live : LiveOf) (bytes rows : List ℕ) → rows ≡ [] → HasTaken live live bytes bytes rows
+none_taken live bytes rows none = record {
+  taken = [];
+  parted = refl;
+  heard = λ before h. subst (λ xs. HasHeard live xs) (sym (append-nil before)) h;
+  are_rows = λ before h. has_rows live.terms before [] rows [] (ap (complete live.terms) (append-nil before) ∙ sym (append-nil (complete live.terms before))) none;
+}
 
-module _ (bytes rest after : List ℕ) (count : ℕ) (few : length rest ≤ length bytes) (left : rest ≡ drop (length bytes - length rest) bytes) (fits : count ≤ length rest)
-    (is : after ≡ drop count rest) where
-  abbrev done : ℕ
-  done = length bytes - length rest
+module _ (live next : LiveOf) (bytes rest rows : List ℕ) (t : HasTaken live next bytes rest rows) where
+  -- and then a part of the rest
+  pub more_taken : (later : LiveOf) (part after all : List ℕ) → next.terms ≡ live.terms → rest ≡ part ++ after
+      → ((before : List ℕ) → HasHeard next before → HasHeard later (before ++ part))
+      → ((before written : List ℕ) → HasHeard next before → rows_so_far next.terms before ≡ written ++ rows → rows_so_far next.terms (before ++ part) ≡ written ++ all)
+      → HasTaken live later bytes after all
+  more_taken later part after all same split hears makes =
+      let whole : (before : List ℕ) → (before ++ t.taken) ++ part ≡ before ++ (t.taken ++ part) = λ before. append_assoc before t.taken part in
+      record {
+        taken = t.taken ++ part;
+        parted = t.parted ∙ ap (λ xs. t.taken ++ xs) split ∙ sym (append_assoc t.taken part after);
+        heard = λ before h. subst (λ xs. HasHeard later xs) (whole before) (hears (before ++ t.taken) (t.heard before h));
+        are_rows = λ before h.
+            subst (λ xs. rows_so_far live.terms xs ≡ rows_so_far live.terms before ++ all) (whole before)
+            (subst (λ (u : Terms). rows_so_far u ((before ++ t.taken) ++ part) ≡ rows_so_far live.terms before ++ all) same
+            (makes (before ++ t.taken) (rows_so_far live.terms before) (t.heard before h)
+            (ap (λ (u : Terms). rows_so_far u (before ++ t.taken)) same ∙ t.are_rows before h)));
+      }
 
-  pub still_few : length after + count ≡ length rest
-  still_few = omega (arith, ap length is, length-drop count rest, fits)
+  -- and where nothing is left, all of them
+  module _ (none : length rest ≡ 0) where
+    whole : t.taken ≡ bytes
+    whole = sym (t.parted ∙ ap (λ xs. t.taken ++ xs) (nil_from_length rest none) ∙ append-nil t.taken)
 
-  now_done : length bytes - length after ≡ done + count
-  now_done = omega (arith, still_few, few, fits)
+    pub all_heard : (before : List ℕ) → HasHeard live before → HasHeard next (before ++ bytes)
+    all_heard before h = subst (λ xs. HasHeard next (before ++ xs)) whole (t.heard before h)
 
-  -- more of them were taken
-  pub taken_on : (before : List ℕ) → (before ++ take done bytes) ++ take count rest ≡ before ++ take (length bytes - length after) bytes
-  taken_on before =
-      let front : length (take done bytes) ≡ done = omega (arith, length-take done bytes, few) in
-      append_assoc before (take done bytes) (take count rest)
-      ∙ ap (λ xs. before ++ xs)
-      (ap (λ xs. take done bytes ++ take count xs) left
-      ∙ sym (take-append-add (take done bytes) (drop done bytes) count)
-      ∙ ap₂ (λ n xs. take (n + count) xs) front (take-append-drop done bytes)
-      ∙ ap (λ n. take n bytes) (sym now_done))
-
-  pub left_on : after ≡ drop (length bytes - length after) bytes
-  left_on =
-      let e : done + count ≡ length bytes - length after = sym now_done in
-      is ∙ ap (drop count) left ∙ drop-drop count done bytes ∙ ap (λ n. drop n bytes) e
-
--- all were taken
-pub all_taken : (before bytes rest : List ℕ) → length rest ≡ 0 → before ++ take (length bytes - length rest) bytes ≡ before ++ bytes
-all_taken before bytes rest none = ap (λ xs. before ++ xs) (take_all (length bytes - length rest) bytes (omega (arith, none)))
+    pub all_rows : (text before : List ℕ) → text ≡ rows → HasHeard live before → HasRows live.terms before bytes text
+    all_rows text before is h =
+        subst (λ xs. HasRows live.terms before xs text) whole (t.are_rows before h ∙ ap (λ ys. rows_so_far live.terms before ++ ys) (sym is))
 
 -- what holds after any refusal, and what holds after one that is not the writer's
 pub after_refusal : {T X : Type 0} (r : Result T ToolError) → X → IfErr r (λ error. error ≢ Write → X)

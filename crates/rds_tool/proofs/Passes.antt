@@ -1,12 +1,13 @@
 -- A run that is gone over once, and what is written and counted of it.
-use Rattle.std.proofs.Common.{◌≡◌, ◌++◌, ◌-◌, ◌*◌, ◌^◌, ◌≤◌, ℕ, List, Option, Result, Ok, Err, ap, ap₂, arith, append_assoc, length, subst, sym, ◌∙◌}
+use Rattle.std.proofs.Common.{◌≡◌, ◌++◌, ◌-◌, ◌*◌, ◌^◌, ◌≤◌, ℕ, List, Option, Result, Ok, Err, ap, ap₂, arith, append_assoc, length, refl, subst, sym, ◌∙◌}
 use Rattle.std.specs.Prelude.{OnErr, OnOk}
 use Rattle.std.specs.List.{flat_map}
 use Rattle.std.specs.Io.KnownBytes.{Appends}
+use Rattle.std.proofs.KnownBytes.{Appends-trans}
 use Rattle.std.proofs.lemmas.Grind.{flat_map-append}
 use Rattle.rds_rows.specs.Writes.{AppendsPrefix}
 use Rattle.rds_stream.specs.Recording.{Signal, length_of}
-use Rattle.rds_sync.specs.Counting.{IsAtMost, TotalsJoin, plus}
+use Rattle.rds_sync.specs.Counting.{TotalsJoin, plus}
 use Rattle.rds_sync.specs.Decoding.{DecoderOf, decoder_of}
 use Rattle.rds_sync.specs.Lawful.{IsLawful}
 use Rattle.rds_sync.specs.Laws.{RunsAreLawful, RunsAreReports, RunsGiveFewItems}
@@ -21,24 +22,7 @@ use Rattle.rds_sync.specs.declared.state.State.TheVariants.{Searching}
 use Rattle.rds_sync.specs.declared.totals.Totals.{Totals}
 use Rattle.rds_tool.specs.Inside.Texts.{end_text}
 use Rattle.rds_tool.specs.Listing.{item_row, report_text, totals_text}
-use Rattle.rds_tool.proofs.Steps.{appends_more}
-
--- a greater bound holds too
-pub at_most_more : (m n : ℕ) (t : Totals) → m ≤ n → IsAtMost m t → IsAtMost n t
-at_most_more m n t h a = record {
-  valid = omega (arith, a.valid);
-  burst1 = omega (arith, a.burst1);
-  burst2 = omega (arith, a.burst2);
-  burst3 = omega (arith, a.burst3);
-  burst4 = omega (arith, a.burst4);
-  burst5 = omega (arith, a.burst5);
-  lost = omega (arith, a.lost);
-  bits = omega (arith, a.bits);
-  groups = omega (arith, a.groups);
-  complete = omega (arith, a.complete);
-  acquired = omega (arith, a.acquired);
-  losses = omega (arith, a.losses);
-}
+use Rattle.rds_tool.specs.Outcome.{list_text}
 
 -- ---- totals that grow
 
@@ -50,23 +34,20 @@ module _ (join : TotalsJoin) where
 
 -- ---- what was written
 
--- a whole text, and then a prefix of another, with more behind
-pub prefix_between : (a b c : Option (List ℕ)) (xs ys zs : List ℕ) → Appends a b xs → AppendsPrefix b c ys → AppendsPrefix a c (xs ++ (ys ++ zs))
-prefix_between a b c xs ys zs p (prefix, rest, split, q) = (
-  xs ++ prefix,
-  rest ++ zs,
-  ap (λ (w : List ℕ). xs ++ (w ++ zs)) split ∙ ap (λ (w : List ℕ). xs ++ w) (append_assoc prefix rest zs) ∙ sym (append_assoc xs prefix (rest ++ zs)),
-  appends_more a b c xs prefix p q,
-)
-
+-- a whole text, and then a prefix of another
 pub prefix_more : (a b c : Option (List ℕ)) (xs ys : List ℕ) → Appends a b xs → AppendsPrefix b c ys → AppendsPrefix a c (xs ++ ys)
-prefix_more a b c xs ys p (prefix, rest, split, q) = (xs ++ prefix, rest, ap (λ (w : List ℕ). xs ++ w) split ∙ sym (append_assoc xs prefix rest), appends_more a b c xs prefix p q)
+prefix_more a b c xs ys p (prefix, rest, split, q) = (xs ++ prefix, rest, ap (λ (w : List ℕ). xs ++ w) split ∙ sym (append_assoc xs prefix rest), Appends-trans a b c xs prefix p q)
 
+-- a prefix of the first part of a text
 pub prefix_wider : (a b : Option (List ℕ)) (xs ys : List ℕ) → AppendsPrefix a b xs → AppendsPrefix a b (xs ++ ys)
 prefix_wider a b xs ys (prefix, rest, split, q) = (prefix, rest ++ ys, ap (λ (w : List ℕ). w ++ ys) split ∙ append_assoc prefix rest ys, q)
 
+-- a whole text, and then a prefix of another, with more behind
+pub prefix_between : (a b c : Option (List ℕ)) (xs ys zs : List ℕ) → Appends a b xs → AppendsPrefix b c ys → AppendsPrefix a c (xs ++ (ys ++ zs))
+prefix_between a b c xs ys zs p q = prefix_more a b c xs (ys ++ zs) p (prefix_wider b c ys zs q)
+
 -- the listing: the rows of the run, then of its end, then of the totals
-pub listing_is : (join : TotalsJoin) (run_items last all : List Item) (t u : Totals) → run_items ++ last ≡ all → t ≡ totals_of run_items → u ≡ totals_of last
+listing_is : (join : TotalsJoin) (run_items last all : List Item) (t u : Totals) → run_items ++ last ≡ all → t ≡ totals_of run_items → u ≡ totals_of last
     → flat_map item_row run_items ++ (flat_map item_row last ++ totals_text (plus t u)) ≡ report_text all (totals_of all)
 listing_is join run_items last all t u whole t_is u_is =
     let counted : plus t u ≡ totals_of all = two_parts join run_items last t u t_is u_is ∙ ap (λ (items : List Item). totals_of items) whole in
@@ -78,7 +59,7 @@ listing_is join run_items last all t u whole t_is u_is =
 module _ {T E : Type 0} where
   -- both went well, or the second failed
   pub ok_more : (r : Result T E) (a b c : Option (List ℕ)) (xs ys zs : List ℕ) → xs ++ ys ≡ zs → Appends a b xs → OnOk r (Appends b c ys) → OnOk r (Appends a c zs)
-  ok_more (Ok x) a b c xs ys zs e p q = subst (λ (ws : List ℕ). Appends a c ws) e (appends_more a b c xs ys p q)
+  ok_more (Ok x) a b c xs ys zs e p q = subst (λ (ws : List ℕ). Appends a c ws) e (Appends-trans a b c xs ys p q)
   ok_more (Err x) a b c xs ys zs e p q = tt
 
   pub err_more : (r : Result T E) (a b c : Option (List ℕ)) (xs ys zs : List ℕ) → xs ++ ys ≡ zs → Appends a b xs → OnErr r (AppendsPrefix b c ys) → OnErr r (AppendsPrefix a c zs)
@@ -93,13 +74,19 @@ prefix_first a b xs ys zs e p = subst (λ (ws : List ℕ). AppendsPrefix a b ws)
 
 module _ (b : Signal) (rules : RuleNumbers) (len : ℕ) (is : len ≡ length_of b) (d : DecoderOf) (of : d ≡ decoder_of b rules Searching 0 len) (loss : IsLoss rules.loss) where
   -- its items, and then those of the end, are the report's
-  pub whole_report : RunsAreReports → (end : State) → end ≡ d.end → d.items ++ items_of_end b rules end ≡ report_items b rules
+  whole_report : RunsAreReports → (end : State) → end ≡ d.end → d.items ++ items_of_end b rules end ≡ report_items b rules
   whole_report reports end ends =
       let none : len - 0 ≡ length_of b = omega (arith, is) in
       ap (λ (s : State). d.items ++ items_of_end b rules s) ends
       ∙ ap (λ (e : DecoderOf). e.items ++ items_of_end b rules e.end) of
       ∙ ap (λ (n : ℕ). (run b rules Searching 0 n).1 ++ items_of_end b rules (run b rules Searching 0 n).0) none
       ∙ reports b rules loss
+
+  -- their rows, and then the text of its end, are the listing
+  pub report_rows : TotalsJoin → RunsAreReports → (end : State) → end ≡ d.end → (totals : Totals) → totals ≡ totals_of d.items
+      → flat_map item_row d.items ++ end_text totals (items_of_end b rules end) ≡ list_text rules b
+  report_rows join reports end ends totals counted =
+      listing_is join d.items (items_of_end b rules end) (report_items b rules) totals (totals_of (items_of_end b rules end)) (whole_report reports end ends) counted refl
 
   -- it ends lawfully
   pub lawful_end : RunsAreLawful → (end : State) → end ≡ d.end → IsLawful rules (length_of b) end
@@ -136,8 +123,3 @@ pub end_is : (totals u all : Totals) (slice last : List Item) → slice ≡ last
 end_is totals u all slice last same counted joined =
     ap₂ (λ (xs : List Item) (t : Totals). flat_map item_row xs ++ totals_text t) same
     (joined ∙ ap (λ (v : Totals). plus totals v) (counted ∙ ap (λ (xs : List Item). totals_of xs) same))
-
--- a refusal that is passed on
-pub on_err : {T E : Type 0} {P : Type 0} (r : Result T E) → P → OnErr r P
-on_err (Ok x) p = tt
-on_err (Err x) p = p

@@ -1,8 +1,19 @@
--- What the refusals of a read tell.
-use Rattle.std.proofs.Common.{◌<◌, ◌≡◌, ◌↔◌, ◌∙◌, ◌⊎◌, Err, Ok, Result, ap, arith, inl, inr, sym, ℕ}
+-- Reads in turn, and what the refusals of a read tell.
+use Rattle.std.proofs.Common.{◌++◌, ◌<◌, ◌≡◌, ◌↔◌, ◌∙◌, ◌⊎◌, Err, List, Ok, Option, Result, ap, arith, inl, inr, refl, subst, sym, ℕ}
+use Rattle.std.specs.Io.KnownBytes.{Consumes, IsAtEnd}
+use Rattle.std.specs.Prelude.{IfSome}
+use Rattle.std.proofs.KnownBytes.{Consumes-trans, Consumes-whole}
 use Rattle.rds_tool.specs.declared.error.ToolError.{ToolError}
 use Rattle.rds_tool.specs.declared.error.ToolError.TheVariants.{OutOfMemory, Read, TooManyTurns}
 use Rattle.rds_tool.proofs.Passing.{passed_kind}
+
+-- bytes read so far, and then a read
+pub read_more : (a b c : Option (List ℕ)) (xs more ys : List ℕ) → Consumes a b xs → Consumes b c more → ys ≡ xs ++ more → Consumes a c ys
+read_more a b c xs more ys p q e = subst (λ zs. Consumes a c zs) (sym e) (Consumes-trans a b c xs more p q)
+
+-- at the end all was read
+pub read_whole : (a b : Option (List ℕ)) (xs : List ℕ) → Consumes a b xs → IsAtEnd b → IfSome a (λ held. xs ≡ held)
+read_whole a b xs p q = Consumes-whole a b xs (λ held. xs ≡ held) p q refl
 
 -- memory was refused and no failure counted, or the read failed and was counted
 abbrev pub Refuses : ToolError → ℕ → ℕ → Type 0

@@ -1,5 +1,5 @@
 -- The texts of the tasks, and what they can't be refused for.
-use Rattle.std.proofs.Common.{◌↔◌, ◌||◌, arith, ◌++◌, ◌∙◌, ◌*◌, ◌^◌, length, not, nat_lt, ◌≡◌, ◌<◌, ◌≢◌, ◌⊎◌, Bool, Err, List, None, Ok, Option, Result, Some, [], ◌∷◌, ap, ap₂, false, if◌then◌else◌, inl, inr, refl, subst, sym, true, ℕ}
+use Rattle.std.proofs.Common.{◌↔◌, ◌||◌, arith, ◌++◌, ◌∙◌, ◌*◌, ◌^◌, length, not, nat_lt, ◌≡◌, ◌<◌, ◌≢◌, Bool, Err, List, None, Ok, Option, Result, Some, [], ◌∷◌, ap, ap₂, false, if◌then◌else◌, inl, inr, refl, subst, sym, true, ℕ}
 use Rattle.std.specs.Prelude.{IfErr, IfOk, IfSome}
 use Rattle.std.specs.List.{filter}
 use Rattle.hex.specs.Hex.{decode_of, decode_sized}
@@ -18,7 +18,8 @@ use Rattle.rds_tool.specs.Listing.{report_text, totals_text}
 use Rattle.rds_tool.specs.Outcome.{WritesPrefix, cut_recording, list_text, outcome, text_of_task, totals_list}
 use Rattle.rds_tool.specs.Plans.{PlanOf, crew_of, cut_by, plan_of, workers_of}
 use Rattle.rds_sync.specs.declared.loss.Loss.{Loss}
-use Rattle.rds_sync.specs.declared.loss.Loss.TheVariants.{Run, Share}
+use Rattle.rds_sync.specs.declared.loss.Loss.TheVariants.{InARow, Share}
+use Rattle.rds_tool.specs.Refusals.{IsMemoryOrErrOf, IsShortageOrErrOf}
 use Rattle.rds_tool.specs.Rules.{loss_of, rules_of}
 use Rattle.rds_tool.specs.Tasks.{AsksForThreads, MayStartThreads, task_of}
 use Rattle.rds_tool.specs.declared.error.ToolError.{ToolError}
@@ -159,26 +160,22 @@ task_errs (task.Encode hex) held = lines_errs hex (lines_of held)
 of_bytes : (t : Task) (held : List ℕ) (e : ToolError) → text_of_task t held ≡ Err e → IsOfOutcome e
 of_bytes t held e q = let P : Result (List ℕ) ToolError → Type 0 = λ r. IfErr r IsOfOutcome in subst P q (task_errs t held)
 
--- what a text is refused for: want of memory, a thread that is not started, in this case, or the bytes
-abbrev pub MayRefuse : Type 0 → Task → List ℕ → ToolError → Type 0
-MayRefuse X t held e = (e ≡ OutOfMemory) ⊎ (((e ≡ NoWorker) × X) ⊎ (text_of_task t held ≡ Err e))
-
 -- a thread is not started in this case alone
-pub started : (X : Type 0) (t : Task) (held : List ℕ) (e : ToolError) → MayRefuse X t held e → e ≡ NoWorker → X
+pub started : (X : Type 0) (t : Task) (held : List ℕ) (e : ToolError) → IsShortageOrErrOf X (text_of_task t held) e → e ≡ NoWorker → X
 started X t held e (inl m) p = let bad : OutOfMemory ≡ NoWorker = sym m ∙ p in cc bad
 started X t held e (inr (inl h)) p = h.1
 started X t held e (inr (inr q)) p = absurd (subst IsOfOutcome p (of_bytes t held e q))
 
 -- a text is refused for want of memory or threads, or for its bytes
 pub refused_inside : (X : Type 0) (t : Task) (held : List ℕ) (e : ToolError)
-    → MayRefuse X t held e → IsInside e
+    → IsShortageOrErrOf X (text_of_task t held) e → IsInside e
 refused_inside X t held e (inl m) = memory_inside e m
 refused_inside X t held e (inr (inl h)) = threads_inside e h.0
 refused_inside X t held e (inr (inr p)) = inside e (of_bytes t held e p)
 
 loss_errs : (loss : Loss) → IfErr (loss_of loss) IsOfOutcome
-loss_errs (Run n) = by_test (nat_lt n 1 || nat_lt 64 n) where
-  by_test : (t : Bool) → let r : Result Loss ToolError = if t then Err LossRange else Ok (Run n) in IfErr r IsOfOutcome
+loss_errs (InARow n) = by_test (nat_lt n 1 || nat_lt 64 n) where
+  by_test : (t : Bool) → let r : Result Loss ToolError = if t then Err LossRange else Ok (InARow n) in IfErr r IsOfOutcome
   by_test true = tt
   by_test false = tt
 loss_errs (Share bad of) = by_test (nat_lt bad 1 || nat_lt of bad || nat_lt 64 of) where
@@ -219,7 +216,7 @@ settings_errs (Totals input settings) = then_errs IsOfOutcome (plan_of settings)
 settings_errs (Encode hex) = tt
 
 -- settings are refused for want of memory, or as such
-pub settings_inside : (job : Job) (e : ToolError) → (e ≡ OutOfMemory) ⊎ (task_of job ≡ Err e) → IsInside e × (e ≢ NoWorker)
+pub settings_inside : (job : Job) (e : ToolError) → IsMemoryOrErrOf (task_of job) e → IsInside e × (e ≢ NoWorker)
 settings_inside job e (inl m) = (memory_inside e m, λ p. let bad : OutOfMemory ≡ NoWorker = sym m ∙ p in cc bad)
 settings_inside job e (inr q) =
     let P : Result Task ToolError → Type 0 = λ r. IfErr r IsOfOutcome in

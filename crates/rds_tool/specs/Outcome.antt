@@ -1,7 +1,8 @@
 -- What a job makes of the bytes that a reader held, this project's rule: the text that is written, or the first refusal that
 -- applies. `transcribe` promises it, by `IsTranscribed`, and `follow` how it is written.
-use Rattle.std.specs.Prelude.{◌++◌, ◌≡◌, ◌⊎◌, ℕ, Err, List, Ok, Option, Result}
+use Rattle.std.specs.Prelude.{◌≡◌, ◌⊎◌, ℕ, Err, List, Ok, Option, Result}
 use Rattle.std.specs.Io.KnownBytes.{Appends}
+use Rattle.rds_rows.specs.Writes.{AppendsPrefix}
 use Rattle.rds_stream.specs.Recording.{Signal}
 use Rattle.rds_sync.specs.Report.{report_items}
 use Rattle.rds_sync.specs.Rules.{RuleNumbers}
@@ -53,5 +54,5 @@ Writes old new (Err e) = ⊥
 
 -- a prefix of the text was added to what the writer held
 abbrev pub WritesPrefix : Option (List ℕ) → Option (List ℕ) → Result (List ℕ) ToolError → Type 0
-WritesPrefix old new (Ok text) = (prefix : List ℕ) × (rest : List ℕ) × (text ≡ prefix ++ rest) × Appends old new prefix
+WritesPrefix old new (Ok text) = AppendsPrefix old new text
 WritesPrefix old new (Err e) = ⊥

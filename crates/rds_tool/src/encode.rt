@@ -1,7 +1,8 @@
 //! Groups from lines of digits to packed blocks.
-ghost use Rattle.std.specs.Prelude.{◌*◌, ◌+◌, ◌++◌, ◌==◌, ◌≡◌, ◌⊎◌, Err, IfErr, IfOk, List, Ok, OnOk, map, ℕ};
+ghost use Rattle.std.specs.Prelude.{◌*◌, ◌+◌, ◌++◌, ◌==◌, ◌≡◌, IfErr, IfOk, List, Ok, OnOk, map, ℕ};
 ghost use Rattle.std.specs.List.{slice_split};
 ghost use Rattle.rds_tool.specs.GroupText.{encoded_text, group_bytes, group_text, line_text, lines_text, words_of as the_words_of};
+ghost use Rattle.rds_tool.specs.Refusals.{IsMemoryOrErrOf};
 
 use crate::ToolError;
 use rds_code::encode_group;
@@ -11,7 +12,7 @@ use std::alloc::{AllocError, Global};
 /// digits. The first faulty line is refused.
 pub fn encode_lines(alloc: Global, hex: bool, held: &[u8]) -> Result<Vec<u8>, ToolError>
     ensures ok { IfOk result (λ text. encoded_text hex held.now ≡ Ok text.items) }
-    ensures refused { IfErr result (λ error. (error ≡ ToolError.OutOfMemory) ⊎ (encoded_text hex held.now ≡ Err error)) }
+    ensures refused { IfErr result (IsMemoryOrErrOf (encoded_text hex held.now)) }
 {
     let digits: Vec<u8> = held
         .iter()
@@ -30,7 +31,7 @@ fn lines_of(alloc: Global, digits: &[u8]) -> Result<Vec<&[u8]>, AllocError>
 
 fn text_of_lines(alloc: Global, hex: bool, lines: &[&[u8]]) -> Result<Vec<u8>, ToolError>
     ensures ok { IfOk result (λ text. lines_text hex (map (λ line. line.now) lines.now) ≡ Ok text.items) }
-    ensures refused { IfErr result (λ error. (error ≡ ToolError.OutOfMemory) ⊎ (lines_text hex (map (λ line. line.now) lines.now) ≡ Err error)) }
+    ensures refused { IfErr result (IsMemoryOrErrOf (lines_text hex (map (λ line. line.now) lines.now))) }
 {
     let mut text = Vec::new(alloc);
     for line in lines {
@@ -42,7 +43,7 @@ fn text_of_lines(alloc: Global, hex: bool, lines: &[&[u8]]) -> Result<Vec<u8>, T
 /// What is written for one line.
 fn push_line(text: &mut Vec<u8>, hex: bool, line: &[u8]) -> Result<(), ToolError>
     ensures ok { OnOk result ((more : List ℕ) × (line_text hex line.now ≡ Ok more) × (text.new.items ≡ text.old.items ++ more)) }
-    ensures refused { IfErr result (λ error. (error ≡ ToolError.OutOfMemory) ⊎ (line_text hex line.now ≡ Err error)) }
+    ensures refused { IfErr result (IsMemoryOrErrOf (line_text hex line.now)) }
 {
     if line.is_empty() {
         return Ok(());

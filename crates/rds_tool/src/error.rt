@@ -8,7 +8,7 @@ use rds_pieces::PieceError;
 use rds_rows::RowsError;
 use rds_stream::StreamError;
 use rds_sync::SyncError;
-use std::alloc::{AllocError, AllocFailed};
+use std::alloc::AllocError;
 use thiserror::Error;
 
 /// Why a transcription is refused. Each refusal has a number and a name, which the program prints.
@@ -118,14 +118,6 @@ impl From<AllocError> for ToolError {
     ghost from_gives = { λ _ error. error ≡ OutOfMemory };
 
     fn from(_error: AllocError) -> ToolError {
-        ToolError::OutOfMemory
-    }
-}
-
-impl<T: Drop> From<AllocFailed<T>> for ToolError {
-    ghost from_gives = { λ _ error. error ≡ OutOfMemory };
-
-    fn from(_error: AllocFailed<T>) -> ToolError {
         ToolError::OutOfMemory
     }
 }

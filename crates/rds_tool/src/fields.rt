@@ -2,6 +2,7 @@
 ghost use Rattle.std.specs.Prelude.{◌+◌, ◌++◌, ◌≡◌, ◌≤◌, All, IfErr, OnOk, length, map};
 ghost use Rattle.rds_tool.specs.Listing.{item_row, kind_text, named_totals, total_row, version_text, window_row};
 ghost use Rattle.rds_tool.specs.Inside.RowWriter.{IsPlain, IsShort};
+ghost use Rattle.rds_tool.specs.Refusals.{IsMemoryWhere};
 
 use crate::ToolError;
 use crate::field::Field;
@@ -18,7 +19,7 @@ pub fn push_window<P: Pen>(pen: &mut P, place: u64, offset: Offset) -> Result<()
     ensures written { OnOk result (P.has_written pen.new) }
     ensures text { OnOk result (P.text pen.new ≡ P.text pen.old ++ window_row (record { 0 = place; 1 = offset })) }
     ensures short { OnOk result (length (P.text pen.new) ≤ length (P.text pen.old) + 168) }
-    ensures refused { IfErr result (λ error. (error ≡ ToolError.OutOfMemory) × P.may_refuse pen.old) }
+    ensures refused { IfErr result (IsMemoryWhere (P.may_refuse pen.old)) }
 {
     let mut digits = Buffer::new();
     let fields = [digits.format(place).as_bytes(), offset.name().as_bytes()];
@@ -31,7 +32,7 @@ pub fn push_item<P: Pen>(pen: &mut P, item: &Item) -> Result<(), ToolError>
     ensures written { OnOk result (P.has_written pen.new) }
     ensures text { OnOk result (P.text pen.new ≡ P.text pen.old ++ item_row item.now) }
     ensures short { OnOk result (length (P.text pen.new) ≤ length (P.text pen.old) + 168) }
-    ensures refused { IfErr result (λ error. (error ≡ ToolError.OutOfMemory) × P.may_refuse pen.old) }
+    ensures refused { IfErr result (IsMemoryWhere (P.may_refuse pen.old)) }
 {
     match item {
         Item::Acquired { place, number } => push_acquired(pen, *place, *number),
@@ -45,7 +46,7 @@ fn push_acquired<P: Pen>(pen: &mut P, place: u64, number: u8) -> Result<(), Tool
     ensures written { OnOk result (P.has_written pen.new) }
     ensures text { OnOk result (P.text pen.new ≡ P.text pen.old ++ item_row (Item.Acquired place number)) }
     ensures short { OnOk result (length (P.text pen.new) ≤ length (P.text pen.old) + 168) }
-    ensures refused { IfErr result (λ error. (error ≡ ToolError.OutOfMemory) × P.may_refuse pen.old) }
+    ensures refused { IfErr result (IsMemoryWhere (P.may_refuse pen.old)) }
 {
     let mut places = Buffer::new();
     let mut numbers = Buffer::new();
@@ -60,7 +61,7 @@ fn push_loss<P: Pen>(pen: &mut P, place: u64) -> Result<(), ToolError>
     ensures written { OnOk result (P.has_written pen.new) }
     ensures text { OnOk result (P.text pen.new ≡ P.text pen.old ++ item_row (Item.LostLock place)) }
     ensures short { OnOk result (length (P.text pen.new) ≤ length (P.text pen.old) + 168) }
-    ensures refused { IfErr result (λ error. (error ≡ ToolError.OutOfMemory) × P.may_refuse pen.old) }
+    ensures refused { IfErr result (IsMemoryWhere (P.may_refuse pen.old)) }
 {
     let mut places = Buffer::new();
     let place = places.format(place).as_bytes();
@@ -73,7 +74,7 @@ fn push_group<P: Pen>(pen: &mut P, group: &Group) -> Result<(), ToolError>
     ensures written { OnOk result (P.has_written pen.new) }
     ensures text { OnOk result (P.text pen.new ≡ P.text pen.old ++ item_row (Item.Group group.now)) }
     ensures short { OnOk result (length (P.text pen.new) ≤ length (P.text pen.old) + 168) }
-    ensures refused { IfErr result (λ error. (error ≡ ToolError.OutOfMemory) × P.may_refuse pen.old) }
+    ensures refused { IfErr result (IsMemoryWhere (P.may_refuse pen.old)) }
 {
     let mut places = Buffer::new();
     let mut kinds = Buffer::new();
@@ -152,7 +153,7 @@ pub fn push_total<P: Pen>(pen: &mut P, name: &str, value: u64) -> Result<(), Too
     ensures written { OnOk result (P.has_written pen.new) }
     ensures text { OnOk result (P.text pen.new ≡ P.text pen.old ++ total_row (name.now, value)) }
     ensures short { OnOk result (length (P.text pen.new) ≤ length (P.text pen.old) + 168) }
-    ensures refused { IfErr result (λ error. (error ≡ ToolError.OutOfMemory) × P.may_refuse pen.old) }
+    ensures refused { IfErr result (IsMemoryWhere (P.may_refuse pen.old)) }
 {
     let mut digits = Buffer::new();
     let value = digits.format(value).as_bytes();

@@ -1,5 +1,5 @@
 //! From a reader to a writer, as the bytes come.
-ghost use Rattle.std.specs.Prelude.{◌+◌, ◌-◌, ◌*◌, ◌/◌, ◌++◌, ◌<◌, ◌^◌, ◌≡◌, ◌≢◌, ◌≤◌, ◌⊎◌, ◌↔◌, IfErr, IfOk, IfSome, IsErrOf, List, None, Ok, OnOk, Option, Some, length, take, vec_capacity, ℕ};
+ghost use Rattle.std.specs.Prelude.{◌+◌, ◌-◌, ◌*◌, ◌/◌, ◌++◌, ◌<◌, ◌^◌, ◌≡◌, ◌≢◌, ◌≤◌, ◌⊎◌, ◌↔◌, IfErr, IfOk, IsOkUnless, IfSome, IsErrOf, List, None, Ok, OnOk, Option, Some, length, take, vec_capacity, ℕ};
 ghost use Rattle.std.specs.Io.KnownBytes.{Consumes, IsAtEnd, Keeps, Appends};
 ghost use Rattle.std.specs.List.{flat_map};
 ghost use Rattle.rds_live.specs.Live.{HasHeard, report_at};
@@ -174,7 +174,7 @@ fn read_once<S: Source>(reader: &mut S, buf: &mut [u8], room: usize) -> Result<u
     ensures kept { IfErr result (λ error. Keeps (S.remaining reader.old) (S.remaining reader.new)) }
     ensures count { OnOk result (S.failed reader.new ≡ S.failed reader.old) }
     ensures failed { IfErr result (λ error. S.failed reader.old < S.failed reader.new) }
-    ensures kinds { IfErr result (λ error. error ≡ ToolError.Read) }
+    ensures kinds { IsOkUnless result ToolError.Read }
 {
     let room = room.min(buf.len());
     if room == 0 {
@@ -330,7 +330,7 @@ fn rows_of_rest(
 /// The last rows of a listing: of the group in progress, if there is one, and of the totals.
 fn rows_of_end(alloc: Global, end: &StreamEnd) -> Result<Vec<u8>, ToolError>
     ensures rows { IfOk result (λ text. text.items ≡ flat_map item_row (group_item end.now.group) ++ totals_text end.now.totals) }
-    ensures refused { IfErr result (λ error. error ≡ ToolError.OutOfMemory) }
+    ensures refused { IsOkUnless result ToolError.OutOfMemory }
 {
     let mut rows = rows_in_room(alloc, 0)?;
     if let Some(group) = end.group {

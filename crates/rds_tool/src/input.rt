@@ -1,6 +1,7 @@
 //! From the bytes that a reader held to the recording that they stand for.
-ghost use Rattle.std.specs.Prelude.{◌≡◌, ◌⊎◌, Err, IfErr, IfOk, Ok};
+ghost use Rattle.std.specs.Prelude.{◌≡◌, IfErr, IfOk, Ok};
 ghost use Rattle.rds_tool.specs.Input.{decoded, first_bits as the_first_bits, is_blank as blank, recording_of as the_recording_of};
+ghost use Rattle.rds_tool.specs.Refusals.{IsMemoryOrErrOf};
 
 use crate::{Input, ToolError};
 use hex::FromHexError;
@@ -23,7 +24,7 @@ impl Input {
 /// The recording of an input.
 pub fn recording_of(alloc: Global, input: Input, held: Vec<u8>) -> Result<Recording, ToolError>
     ensures ok { IfOk result (λ recording. the_recording_of input held.items ≡ Ok recording) }
-    ensures refused { IfErr result (λ error. (error ≡ ToolError.OutOfMemory) ⊎ (the_recording_of input held.items ≡ Err error)) }
+    ensures refused { IfErr result (IsMemoryOrErrOf (the_recording_of input held.items)) }
 {
     let Input { hex, bits, gaps } = input;
     let bytes = if hex {
@@ -55,7 +56,7 @@ fn is_blank(byte: u8) -> bool
 /// The bytes of hexadecimal text, in which blanks don't count.
 fn hex_bytes(alloc: Global, text: &[u8]) -> Result<Vec<u8>, ToolError>
     ensures ok { IfOk result (λ bytes. decoded text.now ≡ Ok bytes.items) }
-    ensures refused { IfErr result (λ error. (error ≡ ToolError.OutOfMemory) ⊎ (decoded text.now ≡ Err error)) }
+    ensures refused { IfErr result (IsMemoryOrErrOf (decoded text.now)) }
 {
     let digits: Vec<u8> = text
         .iter()

@@ -1,5 +1,5 @@
 //! The text of a listing, row by row.
-ghost use Rattle.std.specs.Prelude.{◌+◌, ◌++◌, ◌*◌, ◌-◌, ◌<◌, ◌≡◌, ◌≤◌, [], All, IfErr, IfOk, OnOk, drop, length, map, take, vec_capacity};
+ghost use Rattle.std.specs.Prelude.{◌+◌, ◌++◌, ◌*◌, ◌-◌, ◌<◌, ◌≡◌, ◌≤◌, [], All, IfOk, IsOkUnless, OnOk, drop, length, map, take, vec_capacity};
 ghost use Rattle.std.specs.List.{flat_map};
 ghost use Rattle.rds_tool.specs.Listing.{item_row, total_row, totals_text, window_row};
 ghost use Rattle.rds_tool.specs.Inside.RowWriter.{IsBetween, IsPlain, IsShort, text_of};
@@ -22,7 +22,7 @@ const PART: usize = 256;
 pub fn window_rows(alloc: Global, windows: &[(u64, Offset)]) -> Result<Vec<u8>, ToolError>
     ensures rows { IfOk result (λ text. text.items ≡ flat_map window_row windows.now) }
     ensures short { IfOk result (λ text. length text.items ≤ length windows.now * 168) }
-    ensures refused { IfErr result (λ error. error ≡ ToolError.OutOfMemory) }
+    ensures refused { IsOkUnless result ToolError.OutOfMemory }
 {
     let mut rows = rows_in_room(alloc, 0)?;
     for (place, offset) in windows {
@@ -54,7 +54,7 @@ pub fn item_rows<'a>(
     requires rules { items.now.rules ≡ heard.rules.now }
     ensures rows { IfOk result (λ text. text.items ≡ flat_map item_row (take (to - from) (drop from items.now.list))) }
     ensures short { IfOk result (λ text. length text.items ≤ (to - from) * 168) }
-    ensures refused { IfErr result (λ error. error ≡ ToolError.OutOfMemory) }
+    ensures refused { IsOkUnless result ToolError.OutOfMemory }
 {
     let mut part = Vec::with_capacity(alloc, PART)?;
     let mut rows = rows_over(spare, (to - from).saturating_mul(USUAL_ROW))?;
@@ -74,7 +74,7 @@ fn push_left(
     ensures between { OnOk result (IsBetween rows.new) }
     ensures text { OnOk result (text_of rows.new ≡ text_of rows.old ++ flat_map item_row left.old) }
     ensures short { OnOk result (length (text_of rows.new) ≤ length (text_of rows.old) + length left.old * 168) }
-    ensures refused { IfErr result (λ error. error ≡ ToolError.OutOfMemory) }
+    ensures refused { IsOkUnless result ToolError.OutOfMemory }
 {
     'parts: loop {
         left.fill(part);
@@ -89,7 +89,7 @@ fn push_left(
 pub fn rows_of_items(alloc: Global, items: &[Item]) -> Result<Vec<u8>, ToolError>
     ensures rows { IfOk result (λ text. text.items ≡ flat_map item_row items.now) }
     ensures short { IfOk result (λ text. length text.items ≤ length items.now * 168) }
-    ensures refused { IfErr result (λ error. error ≡ ToolError.OutOfMemory) }
+    ensures refused { IsOkUnless result ToolError.OutOfMemory }
 {
     let mut rows = rows_in_room(alloc, items.len().saturating_mul(USUAL_ROW))?;
     push_items(&mut rows, items)?;
@@ -102,7 +102,7 @@ pub fn push_items(rows: &mut CsvRows, items: &[Item]) -> Result<(), ToolError>
     ensures between { OnOk result (IsBetween rows.new) }
     ensures text { OnOk result (text_of rows.new ≡ text_of rows.old ++ flat_map item_row items.now) }
     ensures short { OnOk result (length (text_of rows.new) ≤ length (text_of rows.old) + length items.now * 168) }
-    ensures refused { IfErr result (λ error. error ≡ ToolError.OutOfMemory) }
+    ensures refused { IsOkUnless result ToolError.OutOfMemory }
 {
     for item in items {
         push_item(rows, item)?;
@@ -113,7 +113,7 @@ pub fn push_items(rows: &mut CsvRows, items: &[Item]) -> Result<(), ToolError>
 /// The rows of all totals.
 pub fn totals_rows(alloc: Global, totals: &Totals) -> Result<Vec<u8>, ToolError>
     ensures rows { IfOk result (λ text. text.items ≡ totals_text totals.now) }
-    ensures refused { IfErr result (λ error. error ≡ ToolError.OutOfMemory) }
+    ensures refused { IsOkUnless result ToolError.OutOfMemory }
 {
     named_rows(alloc, &named(totals))
 }
@@ -124,7 +124,7 @@ pub fn named_rows(alloc: Global, totals: &[(&'static str, u64)]) -> Result<Vec<u
     requires short { All (λ total. IsShort total.0.now) totals.now }
     ensures rows { IfOk result (λ text. text.items ≡ flat_map total_row (map (λ total. (total.0.now, total.1)) totals.now)) }
     ensures short { IfOk result (λ text. length text.items ≤ length totals.now * 168) }
-    ensures refused { IfErr result (λ error. error ≡ ToolError.OutOfMemory) }
+    ensures refused { IsOkUnless result ToolError.OutOfMemory }
 {
     let mut rows = rows_in_room(alloc, 0)?;
     for (name, value) in totals {

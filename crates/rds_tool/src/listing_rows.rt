@@ -1,5 +1,5 @@
 //! The rows of a report, which can be spelled from any on.
-ghost use Rattle.std.specs.Prelude.{◌+◌, ◌++◌, ◌-◌, ◌≡◌, ◌≤◌, All, IfErr, IfOk, drop, length, map, take};
+ghost use Rattle.std.specs.Prelude.{◌+◌, ◌++◌, ◌-◌, ◌≡◌, ◌≤◌, All, IfOk, IsOkUnless, drop, length, map, take};
 ghost use Rattle.std.specs.List.{flat_map};
 ghost use Rattle.rds_rows.specs.Sheets.{left_of, size_of, text_of};
 ghost use Rattle.rds_tool.specs.Listing.{item_row, named_totals, total_row};
@@ -41,7 +41,7 @@ impl<'a> ListingRows<'a> {
         requires source { report.now.items.source ≡ heard.recording.now }
         requires rules { report.now.items.rules ≡ heard.rules.now }
         ensures rows { IfOk result (λ rows. listing_of rows ≡ rows_of_report report.now.items.list report.now.totals) }
-        ensures refused { IfErr result (λ error. error ≡ RowsError.OutOfMemory) }
+        ensures refused { IsOkUnless result RowsError.OutOfMemory }
     {
         let Some(len) = report.items.len().checked_add(TOTALS) else {
             return Err(RowsError::OutOfMemory);

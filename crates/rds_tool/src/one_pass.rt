@@ -1,5 +1,5 @@
 //! A report that is written while it is decoded, by one worker.
-ghost use Rattle.std.specs.Prelude.{◌+◌, ◌++◌, ◌*◌, ◌<◌, ◌^◌, ◌≡◌, ◌≤◌, ◌↔◌, ◌⊎◌, [], IfOk, IsErrOf, OnErr, OnOk, length, vec_capacity};
+ghost use Rattle.std.specs.Prelude.{◌+◌, ◌++◌, ◌*◌, ◌<◌, ◌^◌, ◌≡◌, ◌≤◌, ◌↔◌, [], IfOk, IsErrOf, OnErr, OnOk, length, vec_capacity};
 ghost use Rattle.std.specs.Io.KnownBytes.{Appends};
 ghost use Rattle.std.specs.List.{flat_map};
 ghost use Rattle.rds_rows.specs.Sheets.{left_of, size_of, text_of};
@@ -177,12 +177,19 @@ fn write_end<K: Sink>(
     ensures prefix { OnErr result (AppendsPrefix (K.contents writer.old) (K.contents writer.new)
         (end_text totals (items_of_end recording.now rules.now end))) }
 {
-    let group = finish(&mut Counted::new(recording), rules, end);
-    take_end(items, group);
+    take_end(items, group_at_end(recording, rules, end));
     let part = items.as_slice();
     let all = totals.plus(Totals::of_items(part));
     write_part(alloc, part, sheet, writer)?;
     write_totals(alloc, &all, sheet, writer)
+}
+
+/// The group in progress, where the run ended so and there is one.
+fn group_at_end(recording: &Recording, rules: &Rules, end: State) -> Option<Group>
+    requires { IsLawful rules.now (length_of recording.now) end }
+    ensures { group_item result ≡ items_of_end recording.now rules.now end }
+{
+    finish(&mut Counted::new(recording), rules, end)
 }
 
 /// Takes the group in progress, if there is one, in place of the items.

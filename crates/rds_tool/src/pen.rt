@@ -3,6 +3,7 @@ ghost use Rattle.std.specs.Prelude.{◌+◌, ◌++◌, ◌≡◌, ◌≤◌, IfE
 ghost use Rattle.std.specs.List.{AllByRecursion};
 ghost use Rattle.rds_tool.specs.Listing.{row};
 ghost use Rattle.rds_tool.specs.Inside.RowWriter.{IsPlain, IsShort};
+ghost use Rattle.rds_tool.specs.Refusals.{IsMemoryWhere};
 
 use crate::ToolError;
 
@@ -30,5 +31,5 @@ pub trait Pen {
         ensures written { OnOk result (has_written self.new) }
         ensures text { OnOk result (text self.new ≡ text self.old ++ row (map (λ field. field.now) fields.now)) }
         ensures short { OnOk result (length (text self.new) ≤ length (text self.old) + 168) }
-        ensures refused { IfErr result (λ error. (error ≡ ToolError.OutOfMemory) × may_refuse self.old) };
+        ensures refused { IfErr result (IsMemoryWhere (may_refuse self.old)) };
 }

@@ -6,6 +6,7 @@ ghost use Rattle.rds_sync.specs.Report.{report_items};
 ghost use Rattle.rds_sync.specs.Totals.{totals_of};
 ghost use Rattle.rds_tool.specs.Cuts.{are_inner, cuts_any, cuts_bits, has_pieces, places_at};
 ghost use Rattle.rds_tool.specs.Plans.{crew_of, cut_by};
+ghost use Rattle.rds_tool.specs.Refusals.{IsMemoryOrErrOf};
 ghost use Rattle.rds_tool.specs.Rules.{rules_of as the_rules_of};
 
 use crate::{Cuts, Settings, ToolError};
@@ -80,7 +81,7 @@ impl<'a> Plan<'a> {
     /// The plan of these settings. One out of its range is refused as such, whether or not memory is.
     pub fn of(alloc: Global, settings: &'a Settings) -> Result<Plan<'a>, ToolError>
         ensures ok { IfOk result (λ plan. plan_of settings.now ≡ Ok plan) }
-        ensures refused { IfErr result (λ error. (error ≡ ToolError.OutOfMemory) ⊎ (plan_of settings.now ≡ Err error)) }
+        ensures refused { IfErr result (IsMemoryOrErrOf (plan_of settings.now)) }
         ensures settings { IfErr (plan_of settings.now) (λ error. result ≡ Err error) }
     {
         match rules_of(alloc, settings) {
@@ -153,7 +154,7 @@ impl<'a> Plan<'a> {
 /// The rules of these settings.
 fn rules_of(alloc: Global, settings: &Settings) -> Result<Rules, ToolError>
     ensures ok { IfOk result (λ rules. the_rules_of settings.now ≡ Ok rules) }
-    ensures refused { IfErr result (λ error. (error ≡ ToolError.OutOfMemory) ⊎ (the_rules_of settings.now ≡ Err error)) }
+    ensures refused { IfErr result (IsMemoryOrErrOf (the_rules_of settings.now)) }
     ensures settings { IfErr (the_rules_of settings.now) (λ error. result ≡ Err error) }
 {
     let numbers = RuleNumbers {

@@ -1,5 +1,5 @@
 //! Rows of plain fields, written by `csv`.
-ghost use Rattle.std.specs.Prelude.{◌≡◌, IfErr, IfOk, [], ⊤};
+ghost use Rattle.std.specs.Prelude.{◌≡◌, IfOk, IsOkUnless, [], ⊤};
 ghost use Rattle.rds_tool.specs.Inside.RowWriter.{IsBetween, text_of};
 
 use crate::ToolError;
@@ -14,7 +14,7 @@ pub type CsvRows = Writer<Vec<u8>>;
 pub fn rows_in_room(alloc: Global, room: usize) -> Result<CsvRows, ToolError>
     ensures between { IfOk result IsBetween }
     ensures text { IfOk result (λ rows. text_of rows ≡ []) }
-    ensures refused { IfErr result (λ error. error ≡ ToolError.OutOfMemory) }
+    ensures refused { IsOkUnless result ToolError.OutOfMemory }
 {
     rows_over(Vec::new(alloc), room)
 }
@@ -24,7 +24,7 @@ pub fn rows_over(spare: Vec<u8>, room: usize) -> Result<CsvRows, ToolError>
     requires { spare.items ≡ [] }
     ensures between { IfOk result IsBetween }
     ensures text { IfOk result (λ rows. text_of rows ≡ []) }
-    ensures refused { IfErr result (λ error. error ≡ ToolError.OutOfMemory) }
+    ensures refused { IsOkUnless result ToolError.OutOfMemory }
 {
     let mut text = spare;
     text.reserve(room)?;
@@ -51,7 +51,7 @@ impl Pen for CsvRows {
 /// The text of all rows.
 pub fn text_of_rows(rows: CsvRows) -> Result<Vec<u8>, ToolError>
     ensures text { IfOk result (λ text. text.items ≡ text_of rows) }
-    ensures refused { IfErr result (λ error. error ≡ ToolError.OutOfMemory) }
+    ensures refused { IsOkUnless result ToolError.OutOfMemory }
 {
     match rows.into_inner() {
         Ok(text) => Ok(text),

@@ -1,8 +1,9 @@
 //! A job whose settings were looked at.
-ghost use Rattle.std.specs.Prelude.{◌<◌, ◌≡◌, ◌⊎◌, Err, IfErr, IfOk, Ok, true};
+ghost use Rattle.std.specs.Prelude.{◌<◌, ◌≡◌, Err, IfErr, IfOk, Ok, true};
 ghost use Rattle.rds_tool.specs.Cuts.{cuts_any};
 ghost use Rattle.rds_tool.specs.Listing.{report_text, totals_text};
 ghost use Rattle.rds_tool.specs.Outcome.{cut_recording, text_of_task};
+ghost use Rattle.rds_tool.specs.Refusals.{IsMemoryOrErrOf, IsShortageOrErrOf};
 ghost use Rattle.rds_tool.specs.Inside.Texts.{bytes_of};
 ghost use Rattle.rds_tool.specs.declared.task.Task.TheVariants as task;
 
@@ -33,7 +34,7 @@ impl<'a> Task<'a> {
     /// The task of a job. A setting out of its range is refused as such, whether or not there is memory.
     pub fn of(alloc: Global, job: &'a Job) -> Result<Task<'a>, ToolError>
         ensures ok { IfOk result (λ task. task_of job.now ≡ Ok task) }
-        ensures refused { IfErr result (λ error. (error ≡ ToolError.OutOfMemory) ⊎ (task_of job.now ≡ Err error)) }
+        ensures refused { IfErr result (IsMemoryOrErrOf (task_of job.now)) }
         ensures settings { IfErr (task_of job.now) (λ error. result ≡ Err error) }
     {
         match job {
@@ -62,9 +63,7 @@ impl<'a> Task<'a> {
         gate: &G,
     ) -> Result<Text<'a>, ToolError>
         ensures ok { IfOk result (λ text. text_of_task self.entry held.items ≡ Ok (bytes_of text)) }
-        ensures refused { IfErr result (λ error. (error ≡ ToolError.OutOfMemory)
-            ⊎ (((error ≡ ToolError.NoWorker) × MayStartThreads self.entry)
-            ⊎ (text_of_task self.entry held.items ≡ Err error))) }
+        ensures refused { IfErr result (IsShortageOrErrOf (MayStartThreads self.entry) (text_of_task self.entry held.items)) }
     {
         match self {
             Task::Scan(input, workers) => {
@@ -98,8 +97,7 @@ fn one_pass_of<'a>(
 ) -> Result<Text<'a>, ToolError>
     requires { cuts_any plan.cuts ≡ true }
     ensures ok { IfOk result (λ text. text_of_task (task.List input plan.entry) held.items ≡ Ok (bytes_of text)) }
-    ensures refused { IfErr result (λ error. (error ≡ ToolError.OutOfMemory)
-        ⊎ (text_of_task (task.List input plan.entry) held.items ≡ Err error)) }
+    ensures refused { IfErr result (IsMemoryOrErrOf (text_of_task (task.List input plan.entry) held.items)) }
 {
     let recording = recording_of(alloc, input, held)?;
     Ok(Text::OnePass(recording, plan))
@@ -117,9 +115,7 @@ fn listing_of<'a, R: Threads + Wait, G: Gate + Sync>(
 ) -> Result<Listing<'a>, ToolError>
     ensures list { IfOk result (λ listing. text_of_task (task.List input plan.entry) held.items
         ≡ Ok (report_text listing.report.items.list listing.report.totals)) }
-    ensures refused { IfErr result (λ error. (error ≡ ToolError.OutOfMemory)
-        ⊎ (((error ≡ ToolError.NoWorker) × (1 < plan.entry.workers))
-        ⊎ (cut_recording input plan.entry.cuts held.items ≡ Err error))) }
+    ensures refused { IfErr result (IsShortageOrErrOf (1 < plan.entry.workers) (cut_recording input plan.entry.cuts held.items)) }
 {
     let recording = recording_of(alloc, input, held)?;
     let report = plan.report(rt, alloc, &recording, Spans::Short, gate)?;
@@ -141,9 +137,7 @@ fn totals_of<R: Threads + Wait, G: Gate + Sync>(
 ) -> Result<Totals, ToolError>
     ensures totals { IfOk result (λ totals. text_of_task (task.Totals input plan.now) held.items
         ≡ Ok (totals_text totals)) }
-    ensures refused { IfErr result (λ error. (error ≡ ToolError.OutOfMemory)
-        ⊎ (((error ≡ ToolError.NoWorker) × (1 < plan.now.workers))
-        ⊎ (cut_recording input plan.now.cuts held.items ≡ Err error))) }
+    ensures refused { IfErr result (IsShortageOrErrOf (1 < plan.now.workers) (cut_recording input plan.now.cuts held.items)) }
 {
     let recording = recording_of(alloc, input, held)?;
     let report = plan.report(rt, alloc, &recording, Spans::Whole, gate)?;

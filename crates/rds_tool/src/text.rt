@@ -1,5 +1,5 @@
 //! What a task writes.
-ghost use Rattle.std.specs.Prelude.{◌<◌, ◌≤◌, ◌^◌, ◌≡◌, ◌≢◌, ◌↔◌, ◌⊎◌, IfErr, IsErrOf, Ok, OnErr, OnOk};
+ghost use Rattle.std.specs.Prelude.{◌<◌, ◌≤◌, ◌^◌, ◌≡◌, ◌≢◌, ◌↔◌, ◌⊎◌, IfErr, IsErrOf, IsOkUnless, Ok, OnErr, OnOk};
 ghost use Rattle.std.specs.Io.KnownBytes.{Appends, Keeps};
 ghost use Rattle.rds_rows.specs.Writes.{AppendsPrefix};
 ghost use Rattle.rds_tool.specs.Listing.{report_text, scan_text};
@@ -173,7 +173,7 @@ pub fn write_flushed<K: Sink>(writer: &mut K, text: &[u8]) -> Result<(), ToolErr
     ensures ok { OnOk result (Appends (K.contents writer.old) (K.contents writer.new) text.now) }
     ensures count { OnOk result (K.failed writer.new ≡ K.failed writer.old) }
     ensures write { IsErrOf result ToolError.Write ↔ (K.failed writer.old < K.failed writer.new) }
-    ensures kinds { IfErr result (λ error. error ≡ ToolError.Write) }
+    ensures kinds { IsOkUnless result ToolError.Write }
     ensures prefix { OnErr result (WritesPrefix (K.contents writer.old) (K.contents writer.new) (Ok text.now)) }
 {
     match write_all(writer, text) {
@@ -187,7 +187,7 @@ fn flush<K: Sink>(writer: &mut K) -> Result<(), ToolError>
     ensures bytes { Keeps (K.contents writer.old) (K.contents writer.new) }
     ensures count { OnOk result (K.failed writer.new ≡ K.failed writer.old) }
     ensures write { IsErrOf result ToolError.Write ↔ (K.failed writer.old < K.failed writer.new) }
-    ensures kinds { IfErr result (λ error. error ≡ ToolError.Write) }
+    ensures kinds { IsOkUnless result ToolError.Write }
 {
     match writer.flush() {
         Ok(()) => Ok(()),

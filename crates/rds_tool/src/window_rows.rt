@@ -1,5 +1,5 @@
 //! The rows of a scan, which can be spelled from any place on.
-ghost use Rattle.std.specs.Prelude.{◌*◌, ◌-◌, ◌++◌, ◌<◌, ◌≡◌, ◌≤◌, IfErr, IfOk, drop, length, take};
+ghost use Rattle.std.specs.Prelude.{◌*◌, ◌-◌, ◌++◌, ◌<◌, ◌≡◌, ◌≤◌, IfOk, IsOkUnless, drop, length, take};
 ghost use Rattle.std.specs.List.{concat};
 ghost use Rattle.rds_rows.specs.Sheets.{left_of, size_of, text_of};
 ghost use Rattle.rds_stream.specs.Recording.{length_of, off, valid_at};
@@ -33,7 +33,7 @@ impl WindowRows<'_> {
         ensures rows { IfOk result (λ text. text.items
             ≡ concat (take (to - from) (drop from (rows_of_places self.now.recording.now)))) }
         ensures short { IfOk result (λ text. length text.items ≤ (to - from) * 168) }
-        ensures refused { IfErr result (λ error. error ≡ ToolError.OutOfMemory) }
+        ensures refused { IsOkUnless result ToolError.OutOfMemory }
     {
         let windows = scan(self.alloc, self.recording, from, to)?;
         Ok(window_rows(self.alloc, windows.as_slice())?)

@@ -1,4 +1,5 @@
-//! Readers and writers over memory that give and take as little as they are told, and fail on demand.
+//! Readers and writers over memory: one that gives as little as it is told and fails on demand, one that counts, and one that
+//! withholds.
 ghost use Rattle.std.specs.Prelude.{◌^◌, ◌<◌, ◌≡◌, Some};
 
 use rds_tool::{Failed, FromRead, Job, Sink, Source, ToWrite, ToolError, transcribe};
@@ -59,77 +60,41 @@ impl Source for SlowReader<'_> {
     }
 }
 
-/// How a writer fails: at one of its writes, by number from 1, or at a flush.
-#[derive(Clone, Copy)]
-pub enum Failure {
-    /// It never does.
-    Never,
-    /// The write answers `Failed`.
-    Refuses(u64),
-    /// The write takes no byte and answers `Ok(0)`.
-    TakesNone(u64),
-    /// Each flush answers `Failed`.
-    NoFlush,
-}
-
-/// Takes at most `step` bytes a write, and fails as it is told.
+/// Takes all that it is handed, and counts the writes.
 #[derive(Drop)]
-pub struct SlowWriter {
+pub struct CountingWriter {
     pub held: Vec<u8>,
-    pub step: usize,
-    pub failure: Failure,
     pub writes: u64,
     pub failures: u64,
 }
 
-impl SlowWriter {
-    pub fn new(alloc: Global, step: usize, failure: Failure) -> SlowWriter
+impl CountingWriter {
+    pub fn new(alloc: Global) -> CountingWriter
         ensures { result.failures ≡ 0 }
     {
-        SlowWriter {
+        CountingWriter {
             held: Vec::new(alloc),
-            step,
-            failure,
             writes: 0,
             failures: 0,
         }
     }
 }
 
-impl Sink for SlowWriter {
+impl Sink for CountingWriter {
     ghost contents = { λ writer. Some writer.held.items };
 
     ghost failed = { λ writer. writer.failures };
 
     fn write(&mut self, bytes: &[u8]) -> Result<usize, Failed> {
         self.writes = self.writes.wrapping_add(1);
-        if bytes.is_empty() {
-            return Ok(0);
-        }
-        match self.failure {
-            Failure::Refuses(at) if at == self.writes => {
-                self.failures += 1;
-                return Err(Failed);
-            }
-            Failure::TakesNone(at) if at == self.writes => {
-                self.failures += 1;
-                return Ok(0);
-            }
-            _ => {}
-        }
-        let count = bytes.len().min(self.step.max(1));
-        if self.held.extend_from_slice(&bytes[..count]).is_err() {
+        if self.held.extend_from_slice(bytes).is_err() {
             self.failures += 1;
             return Err(Failed);
         }
-        Ok(count)
+        Ok(bytes.len())
     }
 
     fn flush(&mut self) -> Result<(), Failed> {
-        if matches!(&self.failure, Failure::NoFlush) {
-            self.failures += 1;
-            return Err(Failed);
-        }
         Ok(())
     }
 

@@ -1,7 +1,7 @@
-//! Devices that give or take little, fail, or have no end.
-use crate::devices::{Failure, SlowReader, SlowWriter, Withholding, gives};
+//! Devices that withhold what they are given, or have no end.
+use crate::devices::{SlowReader, Withholding, gives};
 use crate::jobs::{scan_of_digits, scan_of_no_bits};
-use rds_tool::{FromRead, Sink, Source, ToWrite, ToolError, transcribe};
+use rds_tool::{FromRead, Sink, ToWrite, ToolError, transcribe};
 use std::alloc::Global;
 use std::sync::Wait;
 use std::test::Fail;
@@ -10,91 +10,6 @@ use std::thread::Threads;
 const ZERO_GROUP: &[u8] = b"00003f000019800005a00001b4";
 
 const ROWS: &[u8] = b"25,A\n51,B\n77,C\n96,B\n103,D\n";
-
-#[test]
-fn a_failing_read_ends_the_reading(rt: HostRuntime) {
-    for k in 1..28u64 {
-        let mut reader = SlowReader::new(ZERO_GROUP, 1, k);
-        let job = scan_of_digits(rt.alloc());
-        let is_refused = gives(&rt, rt.alloc(), &job, &mut reader, Err(ToolError::Read));
-        assert!(rt;
-            is_refused && reader.failures == 1 && reader.reads == k,
-            "at {k}"
-        );
-    }
-}
-
-#[test]
-fn a_failing_write_leaves_a_prefix(rt: HostRuntime) {
-    let alloc = rt.alloc();
-    for k in 0..26usize {
-        let ending = Ending {
-            answer: Err(ToolError::Write),
-            text: &ROWS[..k],
-            writes: k as u64 + 1,
-        };
-        assert!(rt;
-            ending.comes_of(&rt, alloc, 1, Failure::Refuses(k as u64 + 1))
-                && ending.comes_of(&rt, alloc, 1, Failure::TakesNone(k as u64 + 1)),
-            "after {k} bytes"
-        );
-    }
-}
-
-#[test]
-fn a_failing_flush_is_a_refusal(rt: HostRuntime) {
-    let ending = Ending {
-        answer: Err(ToolError::Write),
-        text: ROWS,
-        writes: 26,
-    };
-    assert!(rt; ending.comes_of(&rt, rt.alloc(), 1, Failure::NoFlush));
-}
-
-/// How many bytes are taken a call, and in how many writes the text goes.
-static STEPS: [(usize, u64); 6] = [(1, 26), (2, 13), (7, 4), (25, 2), (26, 1), (27, 1)];
-
-#[test]
-fn a_writer_may_take_the_text_in_parts(rt: HostRuntime) {
-    for (step, writes) in STEPS.iter() {
-        let ending = Ending {
-            answer: Ok(()),
-            text: ROWS,
-            writes: *writes,
-        };
-        assert!(rt;
-            ending.comes_of(&rt, rt.alloc(), *step, Failure::Never),
-            "{step} bytes a call"
-        );
-    }
-}
-
-/// How a scan ends: the answer, the text written, and how often the writer was asked.
-#[derive(Clone, Copy)]
-struct Ending<'a> {
-    answer: Result<(), ToolError>,
-    text: &'a [u8],
-    writes: u64,
-}
-
-impl Ending<'_> {
-    /// Whether a scan ends so where devices give and take so many bytes a call, and the writer fails so.
-    fn comes_of<R: Threads + Wait + Sync>(
-        &self,
-        rt: &R,
-        alloc: Global,
-        step: usize,
-        failure: Failure,
-    ) -> bool {
-        let mut reader = SlowReader::new(ZERO_GROUP, step, 0);
-        let mut writer = SlowWriter::new(alloc, step, failure);
-        let answer = transcribe(rt, alloc, &mut reader, &mut writer, &scan_of_digits(alloc));
-        answer == self.answer
-            && writer.failures == answer.is_err() as u64
-            && writer.writes == self.writes
-            && writer.held.as_slice() == self.text
-    }
-}
 
 // No contract of std says what a flush does, so none of ours can: a writer that waits for it tells.
 #[test]

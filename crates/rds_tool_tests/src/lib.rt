@@ -1,26 +1,18 @@
-//! Tests of `rds_tool` from outside: worked examples from bytes to bytes, and devices that fail.
+//! Tests of `rds_tool` from outside, of what no clause says: how much a read and a write have, that workers run at the same
+//! time, and that calls succeed where memory and threads are there.
 //! What is no command line is tried on the built program, by `tests/program.sh`.
 //!
-//! - `lines`: command lines, and what they ask for.
-//! - `scanning` and `encoding`: valid windows and groups, from bytes to rows and back.
-//! - `cutting`, `crew` and `workers`: lists and totals in pieces, by as many workers as are asked for.
-//! - `following`: streams, whose rows come as soon as they are complete.
+//! - `workers`: lists and totals by as many workers as are asked for.
+//! - `following`: a stream, whose rows come as soon as they are complete.
 //! - `bulk` and `long_texts`: inputs and texts that no read or write holds at once.
-//! - `failing` and `ends`: devices that fail, and what readers and writers of std are handed.
-//! - `front_pages`: the example of the library's front page.
+//! - `failing` and `ends`: devices that withhold or have no end, and what readers and writers of std are handed.
 //! - `devices`, `jobs` and `samples`: what these share.
 #![tactic(auto)]
 
 #[cfg(test)]
 mod bulk;
 #[cfg(test)]
-mod crew;
-#[cfg(test)]
-mod cutting;
-#[cfg(test)]
 mod devices;
-#[cfg(test)]
-mod encoding;
 #[cfg(test)]
 mod ends;
 #[cfg(test)]
@@ -28,16 +20,10 @@ mod failing;
 #[cfg(test)]
 mod following;
 #[cfg(test)]
-mod front_pages;
-#[cfg(test)]
 mod jobs;
-#[cfg(test)]
-mod lines;
 #[cfg(test)]
 mod long_texts;
 #[cfg(test)]
 mod samples;
-#[cfg(test)]
-mod scanning;
 #[cfg(test)]
 mod workers;

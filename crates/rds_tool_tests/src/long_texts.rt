@@ -1,5 +1,5 @@
 //! Texts longer than a reader or a writer takes at once, whose rows workers make part by part.
-use crate::devices::{Failure, SlowWriter};
+use crate::devices::CountingWriter;
 use crate::jobs::ungapped;
 use rds_tool::{Cuts, FromRead, Job, Loss, Settings, ToolError, transcribe};
 use std::alloc::{AllocError, Global};
@@ -80,7 +80,7 @@ impl Long {
                 let settings = Settings {
                     burst: 2,
                     reach: 3,
-                    loss: Loss::Run(10),
+                    loss: Loss::InARow(10),
                     workers,
                     cuts: Cuts::Even(16),
                 };
@@ -96,17 +96,15 @@ impl Long {
         }
     }
 
-    /// What the job answers to a writer that takes so many bytes a call and fails so, and that writer.
+    /// What the job answers, and its writer.
     fn written<R: Threads + Wait + Sync>(
         self,
         rt: &R,
         alloc: Global,
         bytes: &[u8],
-        step: usize,
-        failure: Failure,
-    ) -> (Result<(), ToolError>, SlowWriter) {
+    ) -> (Result<(), ToolError>, CountingWriter) {
         let mut reader = FromRead::new(bytes);
-        let mut writer = SlowWriter::new(alloc, step, failure);
+        let mut writer = CountingWriter::new(alloc);
         let answer = transcribe(rt, alloc, &mut reader, &mut writer, &self.job(alloc));
         (answer, writer)
     }
@@ -118,69 +116,13 @@ fn a_long_text_goes_in_large_writes(rt: HostRuntime) -> Result<(), Fail> {
     let bytes = zero_groups(rt.alloc())?;
     for long in JOBS.iter() {
         let text = long.text(rt.alloc())?;
-        let (answer, writer) = long.written(
-            &rt,
-            rt.alloc(),
-            bytes.as_slice(),
-            usize::MAX,
-            Failure::Never,
-        );
+        let (answer, writer) = long.written(&rt, rt.alloc(), bytes.as_slice());
         let most = text.len() as u64 / 65_536 + 1;
         assert!(rt;
             answer.is_ok() && writer.held.as_slice() == text.as_bytes() && writer.writes <= most,
             "{long:?}: {} writes",
             writer.writes
         );
-    }
-    Ok(())
-}
-
-#[test]
-fn a_writer_may_take_few_bytes_of_a_long_text(rt: HostRuntime) -> Result<(), Fail> {
-    let bytes = zero_groups(rt.alloc())?;
-    for long in JOBS.iter() {
-        let text = long.text(rt.alloc())?;
-        for step in [7usize, 1_000, 65_537] {
-            let (answer, writer) = long.written(
-                &rt,
-                rt.alloc(),
-                bytes.as_slice(),
-                step,
-                Failure::Never,
-            );
-            assert!(rt;
-                answer.is_ok() && writer.held.as_slice() == text.as_bytes(),
-                "{long:?}: {step} bytes a call"
-            );
-        }
-    }
-    Ok(())
-}
-
-// Each write of some 40 in turn, most in the middle of what is written at once, while workers make the parts behind it.
-#[test]
-fn each_failing_write_of_a_long_text_leaves_a_beginning(rt: HostRuntime) -> Result<(), Fail> {
-    let bytes = zero_groups(rt.alloc())?;
-    for long in JOBS.iter() {
-        let text = long.text(rt.alloc())?;
-        for at in 1..30u64 {
-            for failure in [Failure::Refuses(at), Failure::TakesNone(at)] {
-                let (answer, writer) = long.written(
-                    &rt,
-                    rt.alloc(),
-                    bytes.as_slice(),
-                    10_000,
-                    failure,
-                );
-                assert!(rt;
-                    answer == Err(ToolError::Write)
-                        && writer.failures == 1
-                        && writer.writes == at
-                        && text.as_bytes().starts_with(writer.held.as_slice()),
-                    "{long:?}: write {at}"
-                );
-            }
-        }
     }
     Ok(())
 }

@@ -55,8 +55,6 @@ fn work_at_once<R: Sync + Threads + Wait>(
     at_once: u64,
 ) -> bool {
     let crew = Crew {
-        bits: None,
-        gaps: &[],
         rules: TWO_GROUPS.rules,
         workers,
         pieces,

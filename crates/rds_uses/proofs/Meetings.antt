@@ -1,6 +1,7 @@
--- A run from Searching is in the guess's state at once.
-use Rattle.std.proofs.Common.{◌≡◌, ℕ, ◌+◌, ◌-◌, ◌*◌, ◌<◌, ◌≤◌, ◌⊎◌, List, [], ◌∷◌, Option, Some, None, length, refl, ap, inl, inr, arith}
+-- A run from Searching is in the guess's state at once, and what that spares.
+use Rattle.std.proofs.Common.{◌≡◌, ℕ, ◌+◌, ◌-◌, ◌*◌, ◌<◌, ◌≤◌, ◌⊎◌, List, [], ◌∷◌, Option, Some, None, Result, Ok, Err, length, refl, ap, inl, inr, arith}
 use Rattle.std.proofs.lemmas.Bool.{cases_lt}
+use Rattle.std.specs.Result.{OnErr}
 use Rattle.rds_stream.specs.Recording.{Signal}
 use Rattle.rds_sync.specs.declared.state.State.TheVariants.{Searching}
 use Rattle.rds_sync.specs.Lawful.{IsBetweenGroups}
@@ -9,6 +10,11 @@ use Rattle.rds_sync.specs.Step.{run}
 use Rattle.rds_pieces.specs.Meeting.{IsMeeting, MeetAt, distance}
 use Rattle.rds_pieces.specs.RunOf.{RunOf, FollowEachOther}
 use Rattle.rds_pieces.specs.Seams.{IsSumOfReads, seam_reads}
+
+-- a fact, where the answer is a refusal
+pub where_refused : {T E P : Type 0} (r : Result T E) → P → OnErr r P
+where_refused (Ok value) fact = tt
+where_refused (Err e) fact = fact
 
 module _ (b : Signal) (rules : RuleNumbers) where
   meet_here : (from to : ℕ) → from ≤ to → MeetAt b rules Searching Searching from to from

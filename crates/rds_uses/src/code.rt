@@ -13,8 +13,8 @@ ghost use Rattle.rds_code.specs.Encoding.{IsBlockOf, third_offset};
 ghost use Rattle.rds_code.specs.Correction.{ReadsAsSent, version_burst};
 
 use rds_code::{
-    Burst, BurstTable, CodeError, Kinds, Offset, Reading, Wanted, encode_block, encode_group,
-    is_block, laws, offset_of, plain, read_block, rem26,
+    BlockNumber, Burst, BurstLimit, BurstTable, CodeError, Kinds, Offset, Reading, Wanted,
+    encode_block, encode_group, is_block, laws, offset_of, plain, read_block, rem26,
 };
 use std::alloc::Global;
 
@@ -96,7 +96,7 @@ pub fn index_in_group(offset: Offset) -> usize
     ensures value { result + 1 ≡ number offset }
     ensures inside { result < 4 }
 {
-    (offset.number() - 1) as usize
+    (offset.number().get() - 1) as usize
 }
 
 /// C' is printed as `Cx`.
@@ -155,24 +155,23 @@ pub fn bits_of_two(one: Burst, other: Burst) -> u8
 pub fn found_again(table: &BurstTable, burst: Burst) -> Option<Burst>
     ensures { result ≡ Some burst }
 {
-    table.find(rem26(burst.pattern()), burst.span())
+    let limit = BurstLimit::new(u32::from(burst.span()))?;
+    table.find(rem26(burst.pattern()), limit)
 }
 
 /// What the table finds has the remainder that was asked for, and the span.
-pub fn found_as_asked(table: &BurstTable, remainder: u16, limit: u8) -> bool
+pub fn found_as_asked(table: &BurstTable, remainder: u16, limit: BurstLimit) -> bool
     requires remainder { remainder < 1024 }
-    requires limit { limit ≤ 5 }
     ensures { result ≡ true }
 {
     match table.find(remainder, limit) {
-        Some(burst) => rem26(burst.pattern()) == remainder && burst.span() <= limit,
+        Some(burst) => rem26(burst.pattern()) == remainder && burst.span() <= limit.bits(),
         None => true,
     }
 }
 
 /// An undamaged block has no burst to be found.
-pub fn nothing_found(table: &BurstTable, limit: u8) -> Option<Burst>
-    requires { limit ≤ 5 }
+pub fn nothing_found(table: &BurstTable, limit: BurstLimit) -> Option<Burst>
     ensures { result ≡ None }
 {
     table.find(0, limit)
@@ -198,10 +197,31 @@ pub fn sent_and_told(kinds: &Kinds, info: u16, offset: Offset, wanted: Wanted) -
 }
 
 /// Kinds are by the limit that they were made for.
-pub fn kinds_of_two(alloc: Global, table: &BurstTable) -> Result<Kinds, CodeError>
-    ensures { IfOk result (λ kinds. kinds ≡ 2) }
+pub fn limit_of_kinds(alloc: Global, table: &BurstTable, limit: BurstLimit) -> Result<u8, CodeError>
+    ensures { IfOk result (λ bits. (bits ≡ limit) × (bits ≤ 5)) }
 {
-    Kinds::new(alloc, table, 2)
+    let kinds = Kinds::new(alloc, table, limit)?;
+    Ok(kinds.limit().bits())
+}
+
+/// Bursts of three bits may be corrected, and those of six may not.
+pub fn limit_of_three() -> Option<u8>
+    ensures { result ≡ Some 3 }
+{
+    match (BurstLimit::new(3), BurstLimit::new(6)) {
+        (Some(limit), None) => Some(limit.bits()),
+        _ => None,
+    }
+}
+
+/// Block 1 comes behind block 4, and there is no block 5.
+pub fn number_behind_last() -> Option<u8>
+    ensures { result ≡ Some 1 }
+{
+    match BlockNumber::new(5) {
+        Some(_) => None,
+        None => Some(BlockNumber::new(4)?.next().get()),
+    }
 }
 
 /// Each burst has one of eleven kinds.
@@ -217,9 +237,8 @@ pub fn sent_and_read(
     info: u16,
     offset: Offset,
     wanted: Wanted,
-    limit: u8,
+    limit: BurstLimit,
 ) -> Reading
-    requires { limit ≤ 5 }
     ensures { result ≡ Valid offset info }
 {
     laws::blocks_are_read_as_sent();
@@ -240,28 +259,32 @@ pub fn damaged_and_read(
     info: u16,
     offset: Offset,
     burst: Burst,
-    limit: u8,
+    limit: BurstLimit,
 ) -> Reading
     requires not_third { number offset ≢ 3 }
-    requires limit { limit ≤ 5 }
     requires burst { IsBurst limit burst }
     ensures { result ≡ Corrected offset info burst }
 {
+    prove!(limit.bits() <= 5);
     laws::damaged_blocks_are_corrected();
     let block = damaged(encode_block(info, offset), burst.pattern());
     read_block(table, block, offset.number(), Wanted::Either, limit)
 }
 
 /// Block 3 of version A likewise, where C alone is wanted.
-pub fn damaged_third_and_read(table: &BurstTable, info: u16, burst: Burst, limit: u8) -> Reading
-    requires limit { limit ≤ 5 }
+pub fn damaged_third_and_read(
+    table: &BurstTable,
+    info: u16,
+    burst: Burst,
+    limit: BurstLimit,
+) -> Reading
     requires burst { IsBurst limit burst }
     requires not_that_one { burst ≢ version_burst }
     ensures { result ≡ Corrected C info burst }
 {
     laws::damaged_blocks_are_corrected();
     let block = damaged(encode_block(info, Offset::C), burst.pattern());
-    read_block(table, block, 3, Wanted::OnlyC, limit)
+    read_block(table, block, BlockNumber::THREE, Wanted::OnlyC, limit)
 }
 
 /// The one burst that makes of block 3 of version A a valid one of version B.
@@ -278,26 +301,21 @@ pub fn taken_for_other_version(info: u16, burst: Burst) -> Option<Offset>
 pub fn corrected_by_one_pair(
     table: &BurstTable,
     w: u32,
-    number: u8,
+    number: BlockNumber,
     wanted: Wanted,
-    limit: u8,
+    limit: BurstLimit,
 ) -> Reading
     requires block { w < 2 ^ 26 }
-    requires first { 1 ≤ number }
-    requires last { number ≤ 4 }
-    requires limit { limit ≤ 5 }
     ensures { (o : AnOffset) (info e : ℕ) → result ≡ Corrected o info e → FitsAlone w number wanted limit o e }
 {
     read_block(table, w, number, wanted, limit)
 }
 
 /// The rule of reading gives each window a reading, whoever reads.
-pub fn has_reading(w: u32, number: u8, wanted: Wanted, limit: u8)
-    requires first { 1 ≤ number }
-    requires last { number ≤ 4 }
-    requires limit { limit ≤ 5 }
+pub fn has_reading(w: u32, number: BlockNumber, wanted: Wanted, limit: BurstLimit)
     ensures { IsReading w number wanted limit (reading w number wanted limit) }
 {
+    prove!(number.get() <= 4 && limit.bits() <= 5);
     laws::readings_follow_the_rule();
 }
 
@@ -305,32 +323,30 @@ pub fn has_reading(w: u32, number: u8, wanted: Wanted, limit: u8)
 pub fn read_by_the_rule(
     table: &BurstTable,
     w: u32,
-    number: u8,
+    number: BlockNumber,
     wanted: Wanted,
-    limit: u8,
+    limit: BurstLimit,
 ) -> Reading
     requires block { w < 2 ^ 26 }
-    requires first { 1 ≤ number }
-    requires last { number ≤ 4 }
-    requires limit { limit ≤ 5 }
     ensures { (r : AReading) → IsReading w number wanted limit r → r ≡ result }
 {
+    prove!(number.get() <= 4 && limit.bits() <= 5);
     laws::readings_follow_the_rule();
     read_block(table, w, number, wanted, limit)
 }
 
 /// A group that is sent and read, block by block: block 3 has C' where the version bit is set.
-pub fn group_sent_and_read(table: &BurstTable, words: [u16; 4]) -> [Reading; 4]
+pub fn group_sent_and_read(table: &BurstTable, words: [u16; 4], limit: BurstLimit) -> [Reading; 4]
     ensures { result ≡ Valid A (slice_index words 0) ∷ Valid B (slice_index words 1)
         ∷ Valid (third_offset (slice_index words 1)) (slice_index words 2) ∷ Valid D (slice_index words 3) ∷ [] }
 {
     laws::blocks_are_read_as_sent();
     let [one, two, three, four] = encode_group(words);
     [
-        read_block(table, one, 1, Wanted::Either, 0),
-        read_block(table, two, 2, Wanted::Either, 0),
-        read_block(table, three, 3, Wanted::Either, 0),
-        read_block(table, four, 4, Wanted::Either, 0),
+        read_block(table, one, BlockNumber::ONE, Wanted::Either, limit),
+        read_block(table, two, BlockNumber::TWO, Wanted::Either, limit),
+        read_block(table, three, BlockNumber::THREE, Wanted::Either, limit),
+        read_block(table, four, BlockNumber::FOUR, Wanted::Either, limit),
     ]
 }
 

@@ -13,11 +13,11 @@ ghost use Rattle.rds_sync.specs.declared.error.SyncError.TheVariants.{OutOfMemor
 ghost use Rattle.rds_sync.specs.declared.item.Item.{Item as AnItem};
 ghost use Rattle.rds_sync.specs.declared.item.Item.TheVariants.{Group};
 ghost use Rattle.rds_sync.specs.declared.loss.Loss.{Loss as ALoss};
-ghost use Rattle.rds_sync.specs.declared.loss.Loss.TheVariants.{Run};
+ghost use Rattle.rds_sync.specs.declared.loss.Loss.TheVariants.{InARow};
 ghost use Rattle.rds_sync.specs.declared.state.State.TheVariants.{Searching};
 
 use rds_stream::Recording;
-use rds_sync::{Bad, Codes, Decoder, Item, Mark, Marks, Rules, State, SyncError, laws, run_codes};
+use rds_sync::{Codes, Decoder, Item, Lock, Mark, Marks, Rules, State, SyncError, laws, run_codes};
 use std::alloc::{AllocError, Global};
 
 // ---- codes
@@ -199,7 +199,7 @@ pub fn same_totals()
 /// Where ten bad blocks in a row lose a lock, one that has had none gives the next group whatever its bits are, and goes
 /// on between groups.
 pub fn group_of_good_lock<'a>(recording: &'a Recording, rules: &'a Rules, due: u64) -> Decoder<'a>
-    requires loss { rules.now.loss ≡ Run 10 }
+    requires loss { rules.now.loss ≡ InARow 10 }
     requires first { 25 ≤ due }
     requires last { due + 79 ≤ length_of recording.now }
     ensures items { result.items ≡ Group (group_at recording.now rules.now 1 4 (due + 78)) ∷ [] }
@@ -207,11 +207,11 @@ pub fn group_of_good_lock<'a>(recording: &'a Recording, rules: &'a Rules, due: u
 {
     let _len = recording.len();
     laws::whole_groups();
-    let lock = State::Locked {
+    let lock = Lock {
         due,
         number: 1,
-        bad: Bad::Run(0),
+        bad: 0,
         first: 1,
     };
-    Decoder::new(recording, rules, lock, due - 25, due + 79)
+    Decoder::new(recording, rules, State::Locked(lock), due - 25, due + 79)
 }

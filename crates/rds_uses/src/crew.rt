@@ -15,7 +15,8 @@ use std::alloc::Global;
 use std::sync::Wait;
 use std::thread::Threads;
 
-/// The report of a recording by four workers, however it is cut: that of one decoder.
+/// The report of a recording by four workers, however it is cut: that of one decoder. No thread is asked for where there is
+/// one piece: memory alone can be in want.
 pub fn decoded_by_four<R: Threads + Wait + Sync>(
     rt: &R,
     alloc: Global,
@@ -28,22 +29,7 @@ pub fn decoded_by_four<R: Threads + Wait + Sync>(
         ≡ listed recording.now rules.now (report_items recording.now rules.now)) }
     ensures totals { IfOk result (λ report. report.totals ≡ totals_of (report_items recording.now rules.now)) }
     ensures refused { IfErr result (λ error. (error ≡ OutOfMemory) ⊎ (error ≡ NoWorker)) }
-{
-    let work = RecordingWork::new(recording, rules, cutting);
-    decode_crew(rt, alloc, &work, 4, &OpenGate)
-}
-
-/// No thread is asked for where there is one piece: memory alone can be in want.
-pub fn decoded_in_one_piece<R: Threads + Wait + Sync>(
-    rt: &R,
-    alloc: Global,
-    recording: &Recording,
-    rules: &Rules,
-    cutting: &Cutting,
-) -> Result<Report, CrewError>
-    requires fits { IsCutting (length_of recording.now) cutting.now }
-    requires one { pieces_of cutting.now ≤ 1 }
-    ensures { IsOkUnless result OutOfMemory }
+    ensures alone { pieces_of cutting.now ≤ 1 → IsOkUnless result OutOfMemory }
 {
     let work = RecordingWork::new(recording, rules, cutting);
     decode_crew(rt, alloc, &work, 4, &OpenGate)

@@ -4,7 +4,7 @@ ghost use Rattle.rds_stream.specs.Recording.{length_of};
 ghost use Rattle.rds_pieces.specs.Cutting.{IsCutting};
 ghost use Rattle.rds_pieces.specs.RunOf.{runs_of};
 ghost use Rattle.rds_sync.specs.Report.{report_items};
-ghost use Rattle.rds_sync.specs.declared.loss.Loss.TheVariants.{Run};
+ghost use Rattle.rds_sync.specs.declared.loss.Loss.TheVariants.{InARow};
 ghost use Rattle.rds_uses.specs.Jobs.{all_bits};
 
 use crate::sync::usual_rules;
@@ -18,22 +18,34 @@ pub fn decoded(alloc: Global, bytes: Vec<u8>, pieces: u64) -> Option<Report>
     requires few { 8 * vec_len bytes ≤ 2 ^ 36 }
     requires some { 1 ≤ pieces }
     ensures { IfSome result (λ report. report.items.list
-        ≡ report_items (all_bits bytes.items) (record { burst = 2; reach = 3; loss = Run 10 })) }
+        ≡ report_items (all_bits bytes.items) (record { burst = 2; reach = 3; loss = InARow 10 })) }
 {
     let bits = 8 * bytes.len() as u64;
     let recording = Recording::from_bytes(bytes, bits).ok()?;
     let rules = usual_rules(alloc).ok()?;
-    let cutting = Cutting::even(alloc, recording.len(), pieces).ok()?;
-    let runs = guesses(alloc, &recording, &rules, &cutting).ok()?;
+    in_pieces(alloc, &recording, &rules, pieces).ok()
+}
+
+/// The report of a recording in so many even pieces.
+fn in_pieces(
+    alloc: Global,
+    recording: &Recording,
+    rules: &Rules,
+    pieces: u64,
+) -> Result<Report, PieceError>
+    requires { 1 ≤ pieces }
+    ensures { IfOk result (λ report. report.items.list ≡ report_items recording.now rules.now) }
+{
+    let cutting = Cutting::even(alloc, recording.len(), pieces)?;
+    let runs = guesses(alloc, recording, rules, &cutting)?;
     laws::pieces_follow();
     stitch(
         alloc,
-        &mut Counted::new(&recording),
-        &rules,
+        &mut Counted::new(recording),
+        rules,
         runs.as_slice(),
         Spans::Short,
     )
-    .ok()
 }
 
 /// The guesses of all pieces, in order.

@@ -8,7 +8,7 @@ ghost use Rattle.rds_sync.specs.Advance.{items_in};
 ghost use Rattle.rds_sync.specs.Groups.{group as group_at};
 ghost use Rattle.rds_sync.specs.declared.state.State.TheVariants.{Searching};
 
-use rds_code::{BurstTable, Offset, Reading, Wanted};
+use rds_code::{BlockNumber, BurstLimit, BurstTable, Offset, Reading, Wanted};
 use rds_stream::{Counted, Reader, Recording, StreamError, Tape, offset_heard, read_heard};
 use rds_sync::{Group, Rules, State, Step, advance, laws};
 
@@ -27,37 +27,17 @@ pub fn recorded_with_gaps(bytes: Vec<u8>, bits: u64, gaps: Vec<(u64, u64)>) -> O
     Recording::with_gaps(bytes, bits, gaps).ok()
 }
 
-/// Gaps that do not lie among the bits in order are refused, and the bytes and the gaps come back.
-pub fn bad_gaps(bytes: Vec<u8>, bits: u64, gaps: Vec<(u64, u64)>) -> Result<Recording, Refused>
-    requires few { bits ≤ 2 ^ 36 }
-    requires held { bits ≤ 8 * vec_len bytes }
-    requires gaps { AreGaps bits gaps.items → ⊥ }
-    ensures { result ≡ Err (BadGaps, bytes, gaps) }
-{
-    Recording::with_gaps(bytes, bits, gaps)
-}
-
-/// More bits than the bytes hold are refused as such, whatever the gaps.
-pub fn bits_before_gaps(
+/// More bits than a recording may have are refused as such, whatever the gaps, then more than the bytes hold, and then gaps
+/// that do not lie among the bits in order. The bytes and the gaps come back.
+pub fn refused_in_order(
     bytes: Vec<u8>,
     bits: u64,
     gaps: Vec<(u64, u64)>,
 ) -> Result<Recording, Refused>
-    requires few { bits ≤ 2 ^ 36 }
-    requires more { 8 * vec_len bytes < bits }
-    ensures { result ≡ Err (BitsPastBytes, bytes, gaps) }
-{
-    Recording::with_gaps(bytes, bits, gaps)
-}
-
-/// More bits than a recording may have are refused as such, whatever the gaps.
-pub fn length_before_gaps(
-    bytes: Vec<u8>,
-    bits: u64,
-    gaps: Vec<(u64, u64)>,
-) -> Result<Recording, Refused>
-    requires { 2 ^ 36 < bits }
-    ensures { result ≡ Err (TooLong, bytes, gaps) }
+    ensures too_long { 2 ^ 36 < bits → result ≡ Err (TooLong, bytes, gaps) }
+    ensures past { bits ≤ 2 ^ 36 → 8 * vec_len bytes < bits → result ≡ Err (BitsPastBytes, bytes, gaps) }
+    ensures bad_gaps { bits ≤ 2 ^ 36 → bits ≤ 8 * vec_len bytes → (AreGaps bits gaps.items → ⊥)
+        → result ≡ Err (BadGaps, bytes, gaps) }
 {
     Recording::with_gaps(bytes, bits, gaps)
 }
@@ -89,40 +69,22 @@ pub fn heard_or_touched(recording: &Recording, place: u64) -> bool
     reader.window(place) == heard
 }
 
-/// A block that touches a gap is lost, whatever its bits are.
-pub fn block_in_gap(
+/// A block that touches a gap is lost, whatever its bits are; one that touches none is read from the window as it is stored.
+pub fn block_with_gaps(
     table: &BurstTable,
     recording: &Recording,
     place: u64,
-    number: u8,
+    number: BlockNumber,
     wanted: Wanted,
 ) -> Reading
     requires first { 25 ≤ place }
     requires last { place < length_of recording.now }
-    requires touched { touched recording.now place ≡ true }
-    requires number { (1 ≤ number) × (number ≤ 4) }
-    ensures { result ≡ Lost }
+    ensures touched { touched recording.now place ≡ true → result ≡ Lost }
+    ensures clear { touched recording.now place ≡ false
+        → result ≡ reading (window recording.now.bits place) number wanted 5 }
 {
     let heard = Reader::new(recording).window(place);
-    read_heard(table, heard, number, wanted, 5)
-}
-
-/// One that touches none is read from the window as it is stored.
-pub fn block_outside_gaps(
-    table: &BurstTable,
-    recording: &Recording,
-    place: u64,
-    number: u8,
-    wanted: Wanted,
-) -> Reading
-    requires first { 25 ≤ place }
-    requires last { place < length_of recording.now }
-    requires clear { touched recording.now place ≡ false }
-    requires number { (1 ≤ number) × (number ≤ 4) }
-    ensures { result ≡ reading (window recording.now.bits place) number wanted 5 }
-{
-    let heard = Reader::new(recording).window(place);
-    read_heard(table, heard, number, wanted, 5)
+    read_heard(table, heard, number, wanted, BurstLimit::LONGEST)
 }
 
 /// A reader gives the same whichever places it was asked for before.

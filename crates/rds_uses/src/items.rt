@@ -255,27 +255,6 @@ pub fn totals_of_range(
     totals
 }
 
-/// The totals of the items of a run are those of its first part and those of the rest, added up.
-pub fn totals_in_two(
-    alloc: Global,
-    recording: &Recording,
-    rules: &Rules,
-    middle: u64,
-) -> Result<Totals, SyncError>
-    requires { middle ≤ length_of recording.now }
-    ensures { IfOk result (λ totals. totals
-        ≡ totals_of (run_of recording.now rules.now Searching 0 (length_of recording.now)).1) }
-{
-    laws::runs_join();
-    laws::runs_give_few_items();
-    laws::codes_tell_totals();
-    laws::totals_join();
-    let len = recording.len();
-    let (state, first) = run_codes(alloc, recording, rules, State::Searching, 0, middle)?;
-    let (_end, rest) = run_codes(alloc, recording, rules, state, middle, len)?;
-    Ok(first.totals().plus(rest.totals()))
-}
-
 /// The totals of a report: those of what a run keeps, and of the group at the recording's end.
 pub fn totals_of_report(
     alloc: Global,

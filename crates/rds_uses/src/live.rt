@@ -14,24 +14,6 @@ use std::alloc::Global;
 /// How many items a byte may complete, at most.
 const ITEMS_A_BYTE: usize = 16;
 
-/// Two halves of a stream are the whole: what each gives, and what the end gives, are its report.
-pub fn in_halves<'r>(
-    alloc: Global,
-    rules: &'r Rules,
-    first: &[u8],
-    second: &[u8],
-) -> Result<(Vec<Item>, Vec<Item>, StreamEnd), StreamError>
-    ensures items { IfOk result (λ r. r.0.items ++ r.1.items ++ group_item r.2.group
-        ≡ report_of (by_rules rules.now) (first.now ++ second.now)) }
-    ensures totals { IfOk result (λ r. r.2.totals
-        ≡ totals_of (report_of (by_rules rules.now) (first.now ++ second.now))) }
-{
-    let mut live = Live::new(alloc, rules)?;
-    let one = live.take_all(alloc, first)?;
-    let other = live.take_all(alloc, second)?;
-    Ok((one, other, live.finish()))
-}
-
 /// A decoder made anew of what another tells, by the same rules and gaps: it knows the same, and so has heard the same
 /// bytes. Only want of memory refuses it.
 pub fn anew<'r>(

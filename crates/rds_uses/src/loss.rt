@@ -1,7 +1,6 @@
 //! What a user of a rule of loss relies on: what is kept of bad blocks says when a lock is lost, as its blocks do.
 ghost use Rattle.std.specs.Prelude.{◌≡◌, ℕ, ◌≤◌, Bool, if◌then◌else◌};
 ghost use Rattle.std.specs.Int.{bit_at};
-ghost use Rattle.rds_sync.specs.declared.loss.Bad.TheVariants.{Mask};
 ghost use Rattle.rds_sync.specs.declared.loss.Loss.TheVariants.{Share};
 ghost use Rattle.rds_sync.specs.Loss.{bad_at, loses};
 
@@ -9,7 +8,7 @@ use rds_sync::{Loss, laws};
 
 /// A lock is lost where the mask that is kept of its last blocks has too many ones.
 pub fn lost_by_mask(bad: u32, of: u32, mask: u64) -> bool
-    ensures { (is_good : ℕ → Bool) (k : ℕ) → bad_at is_good (Share bad of) k ≡ Mask mask
+    ensures { (is_good : ℕ → Bool) (k : ℕ) → bad_at is_good (Share bad of) k ≡ mask
         → loses (Share bad of) is_good k ≡ result }
 {
     laws::bad_blocks_lose();
@@ -19,8 +18,8 @@ pub fn lost_by_mask(bad: u32, of: u32, mask: u64) -> bool
 /// The lowest bit of a mask tells whether the newest block was bad.
 pub fn newest_in_mask(bad: u32, of: u32)
     requires { 1 ≤ of }
-    ensures { (is_good : ℕ → Bool) (k mask : ℕ) → 1 ≤ k → bad_at is_good (Share bad of) k ≡ Mask mask
-        → bit_at mask 0 ≡ (if is_good k then 0 else 1) }
+    ensures { (is_good : ℕ → Bool) (k : ℕ) → 1 ≤ k → bit_at (bad_at is_good (Share bad of) k) 0
+        ≡ (if is_good k then 0 else 1) }
 {
     laws::masks_tell_blocks();
 }
@@ -31,7 +30,7 @@ pub fn as_share(loss: Loss) -> Loss
 {
     laws::runs_are_shares();
     match loss {
-        Loss::Run(blocks) => Loss::Share {
+        Loss::InARow(blocks) => Loss::Share {
             bad: blocks,
             of: blocks,
         },

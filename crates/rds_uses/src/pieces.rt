@@ -1,8 +1,8 @@
 //! What a user of `rds_pieces` relies on: cuttings, guesses, seams, joins, and the report that is stitched of them.
-ghost use Rattle.std.specs.Prelude.{◌≡◌, ℕ, ◌+◌, ◌-◌, ◌*◌, ◌<◌, ◌≤◌, ◌^◌, ◌++◌, ◌∷◌, [], IfOk, IsOkUnless, Some, length, slice_index, true};
+ghost use Rattle.std.specs.Prelude.{◌≡◌, ℕ, ◌+◌, ◌-◌, ◌*◌, ◌<◌, ◌≤◌, ◌^◌, ◌++◌, ◌∷◌, [], IfOk, IsOkUnless, OnErr, OnOk, Some, length, slice_index, true};
 ghost use Rattle.rds_stream.specs.Recording.{length_of};
 ghost use Rattle.rds_sync.specs.declared.state.State.TheVariants.{Searching};
-ghost use Rattle.rds_sync.specs.declared.loss.Loss.TheVariants.{Run};
+ghost use Rattle.rds_sync.specs.declared.loss.Loss.TheVariants.{InARow};
 ghost use Rattle.rds_sync.specs.Codes.{kept_of};
 ghost use Rattle.rds_sync.specs.Convergence.{IsSound};
 ghost use Rattle.rds_sync.specs.Decoding.{listed};
@@ -13,7 +13,8 @@ ghost use Rattle.rds_sync.specs.Totals.{totals_of};
 ghost use Rattle.rds_pieces.specs.Cutting.{IsCutting, pieces_of};
 ghost use Rattle.rds_pieces.specs.Guess.{guess, marks};
 ghost use Rattle.rds_pieces.specs.JointOf.{joint_of as the_joint_of};
-ghost use Rattle.rds_pieces.specs.RunOf.{FollowEachOther, IsRunOf, end_of, run_over};
+ghost use Rattle.rds_pieces.specs.Joining.{AreNeighbours};
+ghost use Rattle.rds_pieces.specs.RunOf.{FollowEachOther, end_of, run_over};
 ghost use Rattle.rds_pieces.specs.declared.error.PieceError.TheVariants.{BadCutting, OutOfMemory};
 
 use rds_pieces::{
@@ -195,7 +196,8 @@ pub fn carried_on<'a>(
     Ok((before, seam))
 }
 
-/// A seam that comes from a search meets the guess at once, and costs the reach and two windows more at most.
+/// A seam that comes from a search meets the guess at once, and costs the reach and two windows more at most, refused
+/// memory or not.
 pub fn met_at_once<T: Tape>(
     alloc: Global,
     tape: &mut T,
@@ -206,35 +208,22 @@ pub fn met_at_once<T: Tape>(
     requires rules { run.now.rules ≡ rules.now }
     requires room { T.reads_made tape.old ≤ 2 ^ 62 }
     ensures met { IfOk result (λ seam. seam.met_at ≡ Some run.now.from) }
-    ensures reads { IfOk result (λ _. T.reads_made tape.new ≤ T.reads_made tape.old + (rules.now.reach + 2)) }
+    ensures reads { OnOk result (T.reads_made tape.new ≤ T.reads_made tape.old + (rules.now.reach + 2)) }
+    ensures refused { OnErr result (T.reads_made tape.new ≤ T.reads_made tape.old + (rules.now.reach + 2)) }
 {
     run.from();
     seam(alloc, tape, rules, State::Searching, run, Spans::Whole)
 }
 
-/// A seam that comes from a search costs no more where it is refused memory.
-pub fn cost_from_search<T: Tape>(
-    alloc: Global,
-    tape: &mut T,
-    rules: &Rules,
-    run: &PieceRun,
-) -> Result<Seam, PieceError>
-    requires source { run.now.source ≡ T.signal tape.old }
-    requires rules { run.now.rules ≡ rules.now }
-    requires room { T.reads_made tape.old ≤ 2 ^ 62 }
-    ensures { T.reads_made tape.new ≤ T.reads_made tape.old + (rules.now.reach + 2) }
-{
-    run.from();
-    seam(alloc, tape, rules, State::Searching, run, Spans::Whole)
-}
-
-/// What a seam costs where memory is refused: the refusal, and no more windows than else; the tape is of the same bits.
+/// What any seam costs, refused memory or not: no more windows than its piece has places for; the tape is of the same bits.
 pub fn cost_of_seam<T: Tape>(
     alloc: Global,
     tape: &mut T,
     rules: &Rules,
+    state: State,
     run: &PieceRun,
 ) -> Result<Seam, PieceError>
+    requires lawful { IsLawful rules.now run.now.from state }
     requires source { run.now.source ≡ T.signal tape.old }
     requires rules { run.now.rules ≡ rules.now }
     requires room { T.reads_made tape.old ≤ 2 ^ 62 }
@@ -243,7 +232,7 @@ pub fn cost_of_seam<T: Tape>(
         ≤ T.reads_made tape.old + (rules.now.reach + 2) * (run.now.to - run.now.from + 1) }
     ensures same { T.signal tape.new ≡ T.signal tape.old }
 {
-    seam(alloc, tape, rules, State::Searching, run, Spans::Whole)
+    seam(alloc, tape, rules, state, run, Spans::Whole)
 }
 
 /// On sound signal from the piece's first place on, a seam meets the guess within 416 bits by a loss of ten blocks.
@@ -257,7 +246,7 @@ pub fn met_on_sound_signal(
     requires lawful { IsLawful rules.now run.now.from state }
     requires source { run.now.source ≡ recording.now }
     requires rules { run.now.rules ≡ rules.now }
-    requires loss { rules.now.loss ≡ Run 10 }
+    requires loss { rules.now.loss ≡ InARow 10 }
     requires sound { (p : ℕ) × (c : ℕ) × IsSound recording.now rules.now 0 run.now.from p c }
     requires inside { run.now.from + 416 ≤ run.now.to }
     ensures { IfOk result (λ met. (place : ℕ) × (met ≡ Some place) × (place ≤ run.now.from + 416)) }
@@ -292,66 +281,7 @@ pub fn joined_guesses(
     join_runs(alloc, &mut Counted::new(recording), rules, left, right)
 }
 
-/// A join whose left run ends in a search meets the right one at once, and costs the reach and two windows at most.
-pub fn join_behind_search<T: Tape>(
-    alloc: Global,
-    tape: &mut T,
-    rules: &Rules,
-    left: PieceRun,
-    right: PieceRun,
-) -> Result<PieceRun, PieceError>
-    requires next { left.to ≡ right.from }
-    requires left { IsRunOf (T.signal tape.old) rules.now left }
-    requires right { IsRunOf (T.signal tape.old) rules.now right }
-    requires room { T.reads_made tape.old ≤ 2 ^ 62 }
-    requires search { end_of left ≡ Searching }
-    ensures reads { IfOk result (λ _. T.reads_made tape.new ≤ T.reads_made tape.old + (rules.now.reach + 2)) }
-{
-    right.from();
-    join_runs(alloc, tape, rules, left, right)
-}
-
-/// It costs no more where it is refused memory.
-pub fn cost_of_join_behind_search<T: Tape>(
-    alloc: Global,
-    tape: &mut T,
-    rules: &Rules,
-    left: PieceRun,
-    right: PieceRun,
-) -> Result<PieceRun, PieceError>
-    requires next { left.to ≡ right.from }
-    requires left { IsRunOf (T.signal tape.old) rules.now left }
-    requires right { IsRunOf (T.signal tape.old) rules.now right }
-    requires room { T.reads_made tape.old ≤ 2 ^ 62 }
-    requires search { end_of left ≡ Searching }
-    ensures { T.reads_made tape.new ≤ T.reads_made tape.old + (rules.now.reach + 2) }
-{
-    right.from();
-    join_runs(alloc, tape, rules, left, right)
-}
-
-/// On sound signal from the cut on, a join costs the windows of 416 bits at most by a loss of ten blocks.
-pub fn join_on_sound_signal<T: Tape>(
-    alloc: Global,
-    tape: &mut T,
-    rules: &Rules,
-    left: PieceRun,
-    right: PieceRun,
-) -> Result<PieceRun, PieceError>
-    requires next { left.to ≡ right.from }
-    requires left { IsRunOf (T.signal tape.old) rules.now left }
-    requires right { IsRunOf (T.signal tape.old) rules.now right }
-    requires room { T.reads_made tape.old ≤ 2 ^ 62 }
-    requires loss { rules.now.loss ≡ Run 10 }
-    requires sound { (p : ℕ) × (c : ℕ) × IsSound (T.signal tape.old) rules.now 0 right.from p c }
-    requires inside { right.from + 416 ≤ right.to }
-    ensures reads { IfOk result (λ _. T.reads_made tape.new
-        ≤ T.reads_made tape.old + (rules.now.reach + 2) * 417) }
-{
-    join_runs(alloc, tape, rules, left, right)
-}
-
-/// What a join costs where memory is refused: the refusal, and no more windows than else; the tape is of the same bits.
+/// What a join costs, which is said of it as it is of a joint.
 pub fn cost_of_join<T: Tape>(
     alloc: Global,
     tape: &mut T,
@@ -359,9 +289,7 @@ pub fn cost_of_join<T: Tape>(
     left: PieceRun,
     right: PieceRun,
 ) -> Result<PieceRun, PieceError>
-    requires next { left.to ≡ right.from }
-    requires left { IsRunOf (T.signal tape.old) rules.now left }
-    requires right { IsRunOf (T.signal tape.old) rules.now right }
+    requires neighbours { AreNeighbours (T.signal tape.old) rules.now left right }
     requires room { T.reads_made tape.old ≤ 2 ^ 62 }
     ensures refused { IsOkUnless result OutOfMemory }
     ensures reads { T.reads_made tape.new
@@ -392,7 +320,7 @@ pub fn joined_by_joint(
     PieceRun::joined(left, joint, right)
 }
 
-/// A joint whose left run ends in a search costs the reach and two windows at most.
+/// A joint whose left run ends in a search costs the reach and two windows at most, refused memory or not.
 pub fn joint_behind_search<T: Tape>(
     alloc: Global,
     tape: &mut T,
@@ -400,28 +328,7 @@ pub fn joint_behind_search<T: Tape>(
     left: &PieceRun,
     right: &PieceRun,
 ) -> Result<Joint, PieceError>
-    requires next { left.now.to ≡ right.now.from }
-    requires left { IsRunOf (T.signal tape.old) rules.now left.now }
-    requires right { IsRunOf (T.signal tape.old) rules.now right.now }
-    requires room { T.reads_made tape.old ≤ 2 ^ 62 }
-    requires search { end_of left.now ≡ Searching }
-    ensures reads { IfOk result (λ _. T.reads_made tape.new ≤ T.reads_made tape.old + (rules.now.reach + 2)) }
-{
-    right.from();
-    joint_of(alloc, tape, rules, left, right)
-}
-
-/// It costs no more where it is refused memory.
-pub fn cost_of_joint_behind_search<T: Tape>(
-    alloc: Global,
-    tape: &mut T,
-    rules: &Rules,
-    left: &PieceRun,
-    right: &PieceRun,
-) -> Result<Joint, PieceError>
-    requires next { left.now.to ≡ right.now.from }
-    requires left { IsRunOf (T.signal tape.old) rules.now left.now }
-    requires right { IsRunOf (T.signal tape.old) rules.now right.now }
+    requires neighbours { AreNeighbours (T.signal tape.old) rules.now left.now right.now }
     requires room { T.reads_made tape.old ≤ 2 ^ 62 }
     requires search { end_of left.now ≡ Searching }
     ensures { T.reads_made tape.new ≤ T.reads_made tape.old + (rules.now.reach + 2) }
@@ -438,20 +345,17 @@ pub fn joint_on_sound_signal<T: Tape>(
     left: &PieceRun,
     right: &PieceRun,
 ) -> Result<Joint, PieceError>
-    requires next { left.now.to ≡ right.now.from }
-    requires left { IsRunOf (T.signal tape.old) rules.now left.now }
-    requires right { IsRunOf (T.signal tape.old) rules.now right.now }
+    requires neighbours { AreNeighbours (T.signal tape.old) rules.now left.now right.now }
     requires room { T.reads_made tape.old ≤ 2 ^ 62 }
-    requires loss { rules.now.loss ≡ Run 10 }
+    requires loss { rules.now.loss ≡ InARow 10 }
     requires sound { (p : ℕ) × (c : ℕ) × IsSound (T.signal tape.old) rules.now 0 right.now.from p c }
     requires inside { right.now.from + 416 ≤ right.now.to }
-    ensures reads { IfOk result (λ _. T.reads_made tape.new
-        ≤ T.reads_made tape.old + (rules.now.reach + 2) * 417) }
+    ensures { OnOk result (T.reads_made tape.new ≤ T.reads_made tape.old + (rules.now.reach + 2) * 417) }
 {
     joint_of(alloc, tape, rules, left, right)
 }
 
-/// What a joint costs where memory is refused: the refusal, and no more windows than else; the tape is of the same bits.
+/// What any joint costs, refused memory or not: no more windows than the right run has places for.
 pub fn cost_of_joint<T: Tape>(
     alloc: Global,
     tape: &mut T,
@@ -459,9 +363,7 @@ pub fn cost_of_joint<T: Tape>(
     left: &PieceRun,
     right: &PieceRun,
 ) -> Result<Joint, PieceError>
-    requires next { left.now.to ≡ right.now.from }
-    requires left { IsRunOf (T.signal tape.old) rules.now left.now }
-    requires right { IsRunOf (T.signal tape.old) rules.now right.now }
+    requires neighbours { AreNeighbours (T.signal tape.old) rules.now left.now right.now }
     requires room { T.reads_made tape.old ≤ 2 ^ 62 }
     ensures refused { IsOkUnless result OutOfMemory }
     ensures reads { T.reads_made tape.new
@@ -473,8 +375,7 @@ pub fn cost_of_joint<T: Tape>(
 
 /// Runs that are put together by their joint are the run of both ranges, or there was no memory.
 pub fn put_together(left: PieceRun, joint: Joint, right: PieceRun) -> Result<PieceRun, PieceError>
-    requires next { left.to ≡ right.from }
-    requires beside { IsRunOf left.source left.rules right }
+    requires neighbours { AreNeighbours left.source left.rules left right }
     requires joint { joint ≡ the_joint_of left right }
     ensures run { IfOk result (λ run. run ≡ run_over left.source left.rules left.from right.to) }
     ensures refused { IsOkUnless result OutOfMemory }
@@ -511,7 +412,8 @@ pub fn decoded_in_two_pieces(
     )
 }
 
-/// A recording in one piece is stitched at the cost of one seam that meets at once, and of its end.
+/// A recording in one piece is stitched at the cost of one seam that meets at once, and of its end; it costs no more where
+/// it is refused memory.
 pub fn cost_of_one_piece<T: Tape>(
     alloc: Global,
     tape: &mut T,
@@ -521,23 +423,9 @@ pub fn cost_of_one_piece<T: Tape>(
     requires in_a_row { FollowEachOther (T.signal tape.old) rules.now 0 (length_of (T.signal tape.old)) runs.now }
     requires one { length runs.now ≡ 1 }
     requires room { T.reads_made tape.old ≤ 2 ^ 61 }
-    ensures reads { IfOk result (λ _. T.reads_made tape.new ≤ T.reads_made tape.old + (rules.now.reach + 2) + 3) }
+    ensures reads { OnOk result (T.reads_made tape.new ≤ T.reads_made tape.old + (rules.now.reach + 2) + 3) }
+    ensures refused { OnErr result (T.reads_made tape.new ≤ T.reads_made tape.old + (rules.now.reach + 2) + 3) }
     ensures same { T.signal tape.new ≡ T.signal tape.old }
-{
-    stitch(alloc, tape, rules, runs, Spans::Short)
-}
-
-/// It costs no more where it is refused memory.
-pub fn cost_where_refused<T: Tape>(
-    alloc: Global,
-    tape: &mut T,
-    rules: &Rules,
-    runs: &[PieceRun],
-) -> Result<Report, PieceError>
-    requires in_a_row { FollowEachOther (T.signal tape.old) rules.now 0 (length_of (T.signal tape.old)) runs.now }
-    requires one { length runs.now ≡ 1 }
-    requires room { T.reads_made tape.old ≤ 2 ^ 61 }
-    ensures { T.reads_made tape.new ≤ T.reads_made tape.old + (rules.now.reach + 2) + 3 }
 {
     stitch(alloc, tape, rules, runs, Spans::Short)
 }

@@ -6,10 +6,10 @@ use Rattle.rds_code.specs.declared.reading.Wanted.TheVariants.{OnlyC, Either}
 use Rattle.rds_sync.specs.declared.item.Block.TheVariants.{Read}
 use Rattle.rds_sync.specs.declared.item.Item.TheVariants.{Acquired, Group, LostLock}
 use Rattle.rds_sync.specs.declared.item.Version.TheVariants.{B}
-use Rattle.rds_sync.specs.declared.loss.Bad.TheVariants.{Mask, Run as InARow}
-use Rattle.rds_sync.specs.declared.loss.Loss.TheVariants.{Run, Share}
+use Rattle.rds_sync.specs.declared.loss.Loss.TheVariants.{InARow, Share}
 use Rattle.rds_sync.specs.declared.state.State.TheVariants.{Locked, Searching}
-use Rattle.rds_abi.specs.Asked.{loss_of, rules_of}
+use Rattle.rds_sync.specs.Step.{lock_of}
+use Rattle.rds_abi.specs.Asked.{loss_of}
 use Rattle.rds_live.specs.Live.{Terms, live_of}
 use Rattle.rds_abi.specs.Blocks.{block_wanted}
 use Rattle.rds_abi.specs.Following.{stream_of}
@@ -56,20 +56,17 @@ in_a_row = record { burst = 2; reach = 3; loss = 10; of = 0 }
 abbrev pub of_twenty : RdsRules
 of_twenty = record { burst = 2; reach = 3; loss = 5; of = 20 }
 
-pub run_of_ten : loss_of in_a_row ≡ Run 10
+pub run_of_ten : loss_of in_a_row ≡ InARow 10
 run_of_ten = refl
 
 pub five_of_twenty : loss_of of_twenty ≡ Share 5 20
 five_of_twenty = refl
 
--- the same number says what the rule keeps
-pub three_in_a_row : state_of (rules_of in_a_row) (record { due = 100; bad = 3; number = 2; first = 1 }) ≡ Locked 100 2 (InARow 3) 1
+-- a lock, and a search
+pub three_in_a_row : state_of (record { due = 100; bad = 3; number = 2; first = 1 }) ≡ Locked (lock_of 100 2 3 1)
 three_in_a_row = refl
 
-pub last_two : state_of (rules_of of_twenty) (record { due = 100; bad = 3; number = 2; first = 1 }) ≡ Locked 100 2 (Mask 3) 1
-last_two = refl
-
-pub zeros : state_of (rules_of of_twenty) (record { due = 0; bad = 0; number = 0; first = 0 }) ≡ Searching
+pub zeros : state_of (record { due = 0; bad = 0; number = 0; first = 0 }) ≡ Searching
 zeros = refl
 
 -- of a stream of zeros nothing was heard

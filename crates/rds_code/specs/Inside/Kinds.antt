@@ -1,5 +1,5 @@
 -- A table of the kinds of blocks by their remainders. `Kinds` keeps it so, and no caller sees it.
-use Rattle.std.specs.Prelude.{◌≡◌, ℕ, ◌<◌, ◌≤◌, ◌⊎◌, List, length, slice_index}
+use Rattle.std.specs.Prelude.{◌≡◌, ℕ, ◌<◌, ◌⊎◌, List, length, slice_index}
 use Rattle.std.specs.Int.Count.{ones}
 use Rattle.rds_code.specs.Remainder.{rem}
 use Rattle.rds_code.specs.Bursts.{IsBurst, span}
@@ -22,6 +22,5 @@ abbrev pub StandIn : ℕ → List ℕ → Type 0
 StandIn limit kinds = (d : ℕ) → d < length kinds → IsKind limit d (slice_index kinds d)
 
 pub record AreKinds (limit : ℕ) (kinds : List ℕ) : Type 0 where
-  pub few : limit ≤ 5
   pub long : length kinds ≡ 1024
   pub each : StandIn limit kinds

@@ -1,4 +1,4 @@
-//! Dealers and their seats: what each call answers, to one thread and to eight.
+//! Dealers and their seats: what each call answers, to one thread and to many.
 ghost use Rattle.std.specs.Prelude.{◌≡◌, None};
 ghost use Rattle.rds_crew.specs.Seats.{IsFresh, IsOf, HasRested};
 
@@ -7,73 +7,6 @@ use std::alloc::Global;
 use std::test::Fail;
 use std::thread;
 use std::thread::Threads;
-
-/// Whether a seat gets none, since nothing is left.
-fn ends(dealer: &Dealer, seat: Seat) -> bool
-    requires own { IsOf dealer.now seat }
-    requires empty { seat.view.held ≡ None }
-{
-    dealer.draw(seat).0.is_none()
-}
-
-/// Whether two seats of a dealer of two pieces draw one each, in order, and see what the other has finished.
-fn take_turns(dealer: &Dealer, a: Seat, b: Seat) -> bool
-    requires a { IsFresh dealer.now a }
-    requires b { IsFresh dealer.now b }
-{
-    let (Some(first), a) = dealer.draw(a) else {
-        return false;
-    };
-    let (Some(second), b) = dealer.draw(b) else {
-        return false;
-    };
-    let (none_done, b) = dealer.progress(b);
-    let a = dealer.finish(a, first);
-    let (one_done, b) = dealer.progress(b);
-    let b = dealer.finish(b, second);
-    let (both_done, a) = dealer.progress(a);
-    (first, second) == (0, 1)
-        && (none_done, one_done, both_done) == (0, 1, 2)
-        && ends(dealer, a)
-        && ends(dealer, b)
-}
-
-/// Whether the two seats of such a dealer do.
-fn two_take_turns(alloc: Global) -> Result<bool, CrewError> {
-    let (dealer, mut seats) = Dealer::new(alloc, 2, 2)?;
-    let Some(b) = seats.pop() else {
-        return Ok(false);
-    };
-    let Some(a) = seats.pop() else {
-        return Ok(false);
-    };
-    Ok(take_turns(&dealer, a, b))
-}
-
-#[test]
-fn two_seats_take_turns(rt: HostRuntime) -> Result<(), Fail> {
-    assert!(rt; two_take_turns(rt.alloc())?);
-    Ok(())
-}
-
-/// How many seats a dealer of so many is made with, or its refusal.
-fn seats_made(alloc: Global, seats: u32) -> Result<usize, CrewError> {
-    let (_dealer, made) = Dealer::new(alloc, 2, seats)?;
-    Ok(made.len())
-}
-
-/// Whether so many seats are refused.
-fn are_refused(alloc: Global, seats: u32) -> bool {
-    seats_made(alloc, seats).err() == Some(CrewError::CrewRange)
-}
-
-#[test]
-fn a_dealer_has_1_to_256_seats(rt: HostRuntime) -> Result<(), Fail> {
-    let alloc = rt.alloc();
-    assert!(rt; are_refused(alloc, 0) && are_refused(alloc, 257) && are_refused(alloc, u32::MAX));
-    assert!(rt; seats_made(alloc, 1)? == 1 && seats_made(alloc, 256)? == 256);
-    Ok(())
-}
 
 /// Draws and finishes until none is left.
 fn draw_up(dealer: &Dealer, seat: Seat) -> Seat
@@ -127,8 +60,12 @@ fn are_dealt<R: Threads + Sync>(
 #[test]
 fn eight_threads_draw_a_thousand_pieces(rt: HostRuntime) -> Result<(), Fail> {
     assert!(rt; are_dealt(&rt, rt.alloc(), 1000, 8)?);
-    // A dealer of no pieces ends its seat.
-    assert!(rt; are_dealt(&rt, rt.alloc(), 0, 1)?);
+    Ok(())
+}
+
+#[test]
+fn a_dealer_may_have_256_seats(rt: HostRuntime) -> Result<(), Fail> {
+    assert!(rt; are_dealt(&rt, rt.alloc(), 1000, 256)?);
     Ok(())
 }
 
@@ -141,21 +78,58 @@ fn two_draws_that_were_finished_are_closed_as_two_of_each(rt: HostRuntime) -> Re
     Ok(())
 }
 
-/// Whether the seat of a dealer of no pieces gets none, and once more none.
-fn gives_none_twice(alloc: Global) -> Result<bool, CrewError> {
-    let (dealer, mut seats) = Dealer::new(alloc, 0, 1)?;
-    let Some(seat) = seats.pop() else {
-        return Ok(false);
+/// Whether the seat of a dealer of one piece tells what it holds, has finished and was told, and its end.
+fn tells_its_steps(dealer: &Dealer, seat: Seat) -> bool
+    requires { IsFresh dealer.now seat }
+{
+    let (Some(j), seat) = dealer.draw(seat) else {
+        return false;
     };
-    let (None, seat) = dealer.draw(seat) else {
-        return Ok(false);
-    };
+    let holds_it = seat.holding() == Some(j) && seat.finished() == 0 && !seat.ended();
+    let seat = dealer.finish(seat, j);
+    let (done, seat) = dealer.progress(seat);
+    holds_it && (done, seat.told(), seat.finished()) == (1, 1, 1) && ends(dealer, seat)
+}
+
+/// Whether a seat that holds none gets none, and once more none.
+fn ends(dealer: &Dealer, seat: Seat) -> bool
+    requires own { IsOf dealer.now seat }
+    requires empty { seat.view.held ≡ None }
+{
+    let (first, seat) = dealer.draw(seat);
+    if first.is_some() {
+        return false;
+    }
     let (again, seat) = dealer.draw(seat);
-    Ok(again.is_none() && seat.ended())
+    again.is_none() && seat.ended() && seat.holding().is_none()
+}
+
+#[test]
+fn a_seat_tells_what_it_holds_and_has_done(rt: HostRuntime) -> Result<(), Fail> {
+    assert!(rt; one_seat_tells(rt.alloc())?);
+    Ok(())
+}
+
+/// Whether the one seat of a dealer of one piece does.
+fn one_seat_tells(alloc: Global) -> Result<bool, CrewError> {
+    let (dealer, mut seats) = Dealer::new(alloc, 1, 1)?;
+    match seats.pop() {
+        Some(seat) => Ok(tells_its_steps(&dealer, seat)),
+        None => Ok(false),
+    }
 }
 
 #[test]
 fn a_dealer_of_no_pieces_is_drawn_from_twice(rt: HostRuntime) -> Result<(), Fail> {
     assert!(rt; gives_none_twice(rt.alloc())?);
     Ok(())
+}
+
+/// Whether the seat of a dealer of no pieces gets none, and once more none.
+fn gives_none_twice(alloc: Global) -> Result<bool, CrewError> {
+    let (dealer, mut seats) = Dealer::new(alloc, 0, 1)?;
+    match seats.pop() {
+        Some(seat) => Ok(ends(&dealer, seat)),
+        None => Ok(false),
+    }
 }

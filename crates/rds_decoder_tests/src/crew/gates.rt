@@ -1,10 +1,12 @@
 //! What gates and works see of a crew at its work. No contract says it: neither that workers run at the same time,
 //! nor when a gate is called, nor whose runs make the report.
-use crate::crew::journal::{Event, Journal, NO_JOIN, Noted};
-use crate::crew::reports::{is_decoded, is_signal_decoded};
-use crate::samples::{Cuts, Sample, Signal};
-use rds_crew::Gate;
-use rds_pieces::{Joint, PieceRun, RecordingWork};
+ghost use Rattle.rds_stream.specs.Recording.{length_of};
+ghost use Rattle.rds_pieces.specs.Cutting.{IsCutting};
+
+use crate::crew::journal::{Event, Journal, Noted};
+use crate::samples::Sample;
+use rds_crew::{CrewError, Gate, decode_crew};
+use rds_pieces::{Joint, PieceRun, RecordingWork, Work};
 use std::alloc::Global;
 use std::sync::Wait;
 use std::sync::atomic::{AtomicU64, Ordering};
@@ -80,11 +82,8 @@ impl<R: Wait> Gate for Watch<'_, R> {
     }
 }
 
-/// What most crews here decode.
-const TWO_GROUPS: Signal = Signal::ZeroGroups(2, 3);
-
 /// The cut between two zero groups.
-const HALVES: Cuts<'_> = Cuts::At(&[104]);
+const HALVES: &[u64] = &[104];
 
 /// What one worker does with two pieces, in order.
 const EVENTS: [Event; 10] = [
@@ -100,37 +99,86 @@ const EVENTS: [Event; 10] = [
     Event::Reported,
 ];
 
-/// Whether a crew decodes a sample, cut so, as it is reported, by a work that notes its calls.
-fn is_cut_noted<R: Sync + Threads + Wait, G: Gate + Sync>(
+/// Has a crew of so many workers make a work's report.
+fn decode<R: Threads + Wait, W: Work + Sync, G: Gate + Sync>(
+    rt: &R,
+    alloc: Global,
+    work: &W,
+    workers: u32,
+    gate: &G,
+) -> Result<(), CrewError>
+    requires { IsCutting (length_of (W.recording work.now)) (W.places work.now) }
+{
+    let _report = decode_crew(rt, alloc, work, workers, gate)?;
+    Ok(())
+}
+
+/// Has a crew decode a sample, cut so.
+pub fn decode_cut<R: Threads + Wait, G: Gate + Sync>(
     rt: &R,
     alloc: Global,
     sample: &Sample,
-    cuts: Cuts<'_>,
+    cuts: &[u64],
     workers: u32,
-    journal: &Journal<'_, R>,
     gate: &G,
-) -> Result<bool, Fail> {
-    let cutting = sample.cut(alloc, cuts)?;
+) -> Result<(), CrewError> {
+    let Ok(cutting) = sample.cut(alloc, cuts) else {
+        return Err(CrewError::OutOfMemory);
+    };
+    let work = RecordingWork::new(&sample.recording, &sample.rules, &cutting);
+    decode(rt, alloc, &work, workers, gate)
+}
+
+/// Has a crew decode so many zero groups, cut so.
+pub fn decode_groups<R: Threads + Wait, G: Gate + Sync>(
+    rt: &R,
+    alloc: Global,
+    groups: u8,
+    cuts: &[u64],
+    workers: u32,
+    gate: &G,
+) -> Result<(), Fail> {
+    let answer = {
+        let sample = Sample::of_groups(alloc, groups)?;
+        decode_cut(rt, alloc, &sample, cuts, workers, gate)
+    };
+    Ok(answer?)
+}
+
+fn note_cut<'a, R: Sync + Threads + Wait, G: Gate + Sync>(
+    rt: &R,
+    alloc: Global,
+    sample: &'a Sample,
+    cuts: &[u64],
+    workers: u32,
+    journal: &'a Journal<'a, R>,
+    gate: &G,
+) -> Result<(), CrewError> {
+    let Ok(cutting) = sample.cut(alloc, cuts) else {
+        return Err(CrewError::OutOfMemory);
+    };
     let work = Noted {
         journal,
         inner: RecordingWork::new(&sample.recording, &sample.rules, &cutting),
-        refused: NO_JOIN,
     };
-    Ok(is_decoded(rt, alloc, sample, &work, workers, gate)?)
+    decode(rt, alloc, &work, workers, gate)
 }
 
-/// Whether it decodes a signal so.
-pub fn is_noted<R: Sync + Threads + Wait, G: Gate + Sync>(
+/// Has a crew decode so many zero groups, cut so, by a work that notes its calls.
+pub fn note_groups<R: Sync + Threads + Wait, G: Gate + Sync>(
     rt: &R,
     alloc: Global,
-    signal: Signal,
-    cuts: Cuts<'_>,
+    groups: u8,
+    cuts: &[u64],
     workers: u32,
     journal: &Journal<'_, R>,
     gate: &G,
-) -> Result<bool, Fail> {
-    let sample = Sample::of(alloc, signal)?;
-    is_cut_noted(rt, alloc, &sample, cuts, workers, journal, gate)
+) -> Result<(), Fail> {
+    let answer = {
+        let sample = Sample::of_groups(alloc, groups)?;
+        note_cut(rt, alloc, &sample, cuts, workers, journal, gate)
+    };
+    Ok(answer?)
 }
 
 /// A gate at which piece 0 waits until the other three are done, each over the range that the cuts give it.
@@ -163,8 +211,8 @@ fn a_worker_makes_all_else_while_another_is_held_back(rt: HostRuntime) -> Result
     let gate = HeldBack {
         others: Meeting::of(3),
     };
-    let cuts = Cuts::At(&[52, 104, 156]);
-    assert!(rt; is_signal_decoded(&rt, rt.alloc(), TWO_GROUPS, cuts, 2, &gate)?);
+    let cuts = [52, 104, 156];
+    decode_groups(&rt, rt.alloc(), 2, &cuts, 2, &gate)?;
     assert!(rt; !gate.others.was_missed());
     Ok(())
 }
@@ -189,7 +237,7 @@ fn two_workers_run_at_the_same_time_and_their_runs_make_the_report(
         journal: &journal,
         second: Meeting::of(1),
     };
-    assert!(rt; is_noted(&rt, rt.alloc(), TWO_GROUPS, HALVES, 2, &journal, &watch)?);
+    note_groups(&rt, rt.alloc(), 2, HALVES, 2, &journal, &watch)?;
     assert!(rt; !watch.second.was_missed() && shows_both_workers(&journal));
     Ok(())
 }
@@ -197,16 +245,7 @@ fn two_workers_run_at_the_same_time_and_their_runs_make_the_report(
 #[test]
 fn the_gate_is_called_before_and_after_each_piece(rt: HostRuntime) -> Result<(), Fail> {
     let journal = Journal::new(&rt, rt.alloc());
-    assert!(rt; is_noted(&rt, rt.alloc(), TWO_GROUPS, HALVES, 1, &journal, &journal)?);
+    note_groups(&rt, rt.alloc(), 2, HALVES, 1, &journal, &journal)?;
     assert!(rt; journal.has(0, &EVENTS));
-    Ok(())
-}
-
-#[test]
-fn no_bits_have_no_pieces_and_an_empty_report(rt: HostRuntime) -> Result<(), Fail> {
-    let journal = Journal::new(&rt, rt.alloc());
-    let (none, cuts) = (Signal::Silence(0), Cuts::Even(16));
-    assert!(rt; is_noted(&rt, rt.alloc(), none, cuts, 4, &journal, &journal)?);
-    assert!(rt; journal.has(0, &[Event::Reported]));
     Ok(())
 }

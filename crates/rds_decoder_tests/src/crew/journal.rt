@@ -173,15 +173,11 @@ impl<R: Wait> Gate for Journal<'_, R> {
     }
 }
 
-/// The range of a join that no crew makes.
-pub const NO_JOIN: (u64, u64) = (0, 0);
-
-/// A work over a recording that keeps each call in a journal, and refuses memory to the join over one range.
+/// A work over a recording that keeps each call in a journal.
 #[derive(Drop)]
 pub struct Noted<'a, R> {
     pub journal: &'a Journal<'a, R>,
     pub inner: RecordingWork<'a>,
-    pub refused: (u64, u64),
 }
 
 impl<R: Wait> Work for Noted<'_, R> {
@@ -211,9 +207,6 @@ impl<R: Wait> Work for Noted<'_, R> {
     fn join(&self, alloc: Global, left: &PieceRun, right: &PieceRun) -> Result<Joint, PieceError> {
         let range = (left.from(), right.to());
         self.journal.keep_join(range, left, right)?;
-        if range == self.refused {
-            return Err(PieceError::OutOfMemory);
-        }
         self.inner.join(alloc, left, right)
     }
 

@@ -1,10 +1,8 @@
 //! The tree of joins, as gates and works see it: which runs are joined, in which order, and side by side.
-use crate::crew::gates::{Meeting, is_noted};
-use crate::crew::journal::{Event, Journal, Noted};
-use crate::crew::reports::{is_decoded, is_signal_decoded};
-use crate::samples::{Cuts, Sample, Signal};
-use rds_crew::{CrewError, Gate, OpenGate};
-use rds_pieces::{PieceError, PieceRun, RecordingWork};
+use crate::crew::gates::{Meeting, decode_groups, note_groups};
+use crate::crew::journal::{Event, Journal};
+use rds_crew::Gate;
+use rds_pieces::PieceRun;
 use std::alloc::Global;
 use std::sync::Wait;
 use std::test::Fail;
@@ -36,16 +34,13 @@ fn the_joins_of_a_level_are_made_at_the_same_time(rt: HostRuntime) -> Result<(),
     let gate = BesideEachOther {
         second: Meeting::of(1),
     };
-    let (four, cuts) = (Signal::ZeroGroups(4, 3), Cuts::At(&[104, 208, 312]));
-    assert!(rt; is_signal_decoded(&rt, rt.alloc(), four, cuts, 2, &gate)?);
+    decode_groups(&rt, rt.alloc(), 4, &[104, 208, 312], 2, &gate)?;
     assert!(rt; !gate.second.was_missed());
     Ok(())
 }
 
-/// Five zero groups, and the cuts between them.
-const FIVE_GROUPS: Signal = Signal::ZeroGroups(5, 3);
-
-const BETWEEN: Cuts<'_> = Cuts::At(&[104, 208, 312, 416]);
+/// The cuts between five zero groups.
+const BETWEEN: &[u64] = &[104, 208, 312, 416];
 
 /// What comes after the 15 events of the guesses of five pieces of a group each, by one worker.
 const LEVELS: [Event; 13] = [
@@ -96,64 +91,7 @@ fn neighbours_are_joined_level_by_level_and_the_last_goes_up_as_it_is(
     rt: HostRuntime,
 ) -> Result<(), Fail> {
     let journal = Journal::new(&rt, rt.alloc());
-    assert!(rt; is_noted(&rt, rt.alloc(), FIVE_GROUPS, BETWEEN, 1, &journal, &journal)?);
+    note_groups(&rt, rt.alloc(), 5, BETWEEN, 1, &journal, &journal)?;
     assert!(rt; shows_all_joins(&journal));
-    Ok(())
-}
-
-/// Whether that join, refused memory, is the refusal of a crew of so many workers.
-fn is_refusal<R: Sync + Threads + Wait>(
-    rt: &R,
-    alloc: Global,
-    sample: &Sample,
-    refused: (u64, u64),
-    workers: u32,
-) -> Result<bool, PieceError> {
-    let cutting = sample.cut(alloc, BETWEEN)?;
-    let work = Noted {
-        journal: &Journal::new(rt, alloc),
-        inner: RecordingWork::new(&sample.recording, &sample.rules, &cutting),
-        refused,
-    };
-    let answer = is_decoded(rt, alloc, sample, &work, workers, &OpenGate);
-    Ok(answer.err() == Some(CrewError::OutOfMemory))
-}
-
-/// The joins of five pieces of a group each, by their ranges.
-const RANGES: [(u64, u64); 4] = [(0, 208), (208, 416), (0, 416), (0, 520)];
-
-/// Whether each of them is, refused in turn.
-fn are_refusals<R: Sync + Threads + Wait>(
-    rt: &R,
-    alloc: Global,
-    sample: &Sample,
-    workers: u32,
-) -> Result<bool, Fail> {
-    for &refused in &RANGES {
-        if !is_refusal(rt, alloc, sample, refused, workers)? {
-            return Ok(false);
-        }
-    }
-    Ok(true)
-}
-
-/// Whether they are over five groups.
-fn are_refusals_of_five<R: Sync + Threads + Wait>(
-    rt: &R,
-    alloc: Global,
-    workers: u32,
-) -> Result<bool, Fail> {
-    let sample = Sample::of(alloc, FIVE_GROUPS)?;
-    are_refusals(rt, alloc, &sample, workers)
-}
-
-#[test]
-fn a_join_that_is_refused_memory_is_the_crews_refusal(rt: HostRuntime) -> Result<(), Fail> {
-    for &workers in &[1, 2, 9] {
-        assert!(rt;
-            are_refusals_of_five(&rt, rt.alloc(), workers)?,
-            "{workers} workers"
-        );
-    }
     Ok(())
 }

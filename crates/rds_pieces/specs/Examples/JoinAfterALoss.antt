@@ -5,7 +5,6 @@ use Rattle.std.proofs.Common.{ap, sym}
 use Rattle.std.proofs.lemmas.Bool.{false≢true, leb-true}
 use Rattle.rds_code.specs.Remainder.{rem}
 use Rattle.rds_stream.specs.Recording.{Signal, bits_of, ungapped, window, touched, heard, off}
-use Rattle.rds_sync.specs.declared.loss.Bad.TheVariants.{Run}
 use Rattle.rds_sync.specs.declared.state.State.TheVariants.{Searching, Locked}
 use Rattle.rds_sync.specs.declared.totals.Totals.{Totals}
 use Rattle.rds_sync.specs.Acquiring.{acquired, has_number}
@@ -14,6 +13,7 @@ use Rattle.rds_sync.specs.Groups.{group}
 use Rattle.rds_sync.specs.Rules.{RuleNumbers}
 use Rattle.rds_sync.specs.Examples.LostAndFound.{bytes}
 use Rattle.rds_sync.specs.Examples.Words.{rules_of, totals}
+use Rattle.rds_sync.specs.Step.{lock_of}
 use Rattle.rds_pieces.specs.Guess.{guess}
 use Rattle.rds_pieces.specs.JointOf.{joint_of}
 use Rattle.rds_pieces.specs.Meeting.{MeetAt}
@@ -27,16 +27,16 @@ b = ungapped (bits_of bytes 208)
 abbrev pub rules : RuleNumbers
 rules = rules_of 2 3 1
 
-pub end_of_the_left : end_of (run_over b rules 0 104) ≡ Locked 129 1 (Run 0) 1
+pub end_of_the_left : end_of (run_over b rules 0 104) ≡ Locked (lock_of 129 1 0 1)
 unfolding acquired has_number group rem window touched heard off
 end_of_the_left = refl
 
 -- behind the bit of the loss both search
-pub meets_in_the_search : MeetAt b rules (Locked 129 1 (Run 0) 1) Searching 104 208 130
+pub meets_in_the_search : MeetAt b rules (Locked (lock_of 129 1 0 1)) Searching 104 208 130
 unfolding acquired has_number group rem window touched heard off
 meets_in_the_search = record { inside = (leb-true 104 130 refl, leb-true 130 208 refl); same = refl; between = tt }
 
-pub not_before : MeetAt b rules (Locked 129 1 (Run 0) 1) Searching 104 208 129 → ⊥
+pub not_before : MeetAt b rules (Locked (lock_of 129 1 0 1)) Searching 104 208 129 → ⊥
 unfolding acquired has_number group rem window touched heard off
 not_before met = false≢true (sym (ap (λ state. number_due state == 1) met.same))
 
@@ -52,7 +52,7 @@ taken = refl
 abbrev pub counted : Totals
 counted = totals 3 0 0 0 0 0 1 0 2 0 1 1
 
-pub joins : IsJoint (joint_of (run_over b rules 0 104) (run_over b rules 104 208)) own 0 counted (Locked 233 1 (Run 0) 1)
+pub joins : IsJoint (joint_of (run_over b rules 0 104) (run_over b rules 104 208)) own 0 counted (Locked (lock_of 233 1 0 1))
 unfolding acquired has_number group rem window touched heard off
 joins = record {
   inside = (leb-true 0 104 refl, leb-true 104 208 refl, leb-true 208 208 refl);

@@ -4,7 +4,6 @@ use Rattle.std.proofs.Common.{ap, sym}
 use Rattle.std.proofs.lemmas.Bool.{false≢true, leb-true}
 use Rattle.rds_code.specs.Remainder.{rem}
 use Rattle.rds_stream.specs.Recording.{Signal, bits_of, ungapped, window, touched, heard, off}
-use Rattle.rds_sync.specs.declared.loss.Bad.TheVariants.{Run}
 use Rattle.rds_sync.specs.declared.state.State.{State}
 use Rattle.rds_sync.specs.declared.state.State.TheVariants.{Searching, Locked}
 use Rattle.rds_sync.specs.declared.totals.Totals.{Totals}
@@ -14,6 +13,7 @@ use Rattle.rds_sync.specs.Examples.Words.{zero_group, default_rules, totals}
 use Rattle.rds_pieces.specs.Guess.{guess, marks}
 use Rattle.rds_sync.specs.Marks.{marks_on}
 use Rattle.rds_sync.specs.Codes.{KeptOf, kept_of, kept_from, no_codes, locked, blocks, valid, missing}
+use Rattle.rds_sync.specs.Step.{lock_of}
 use Rattle.rds_pieces.specs.JointOf.{JointOf, joint_of}
 use Rattle.rds_pieces.specs.Meeting.{MeetAt}
 use Rattle.rds_pieces.specs.RunOf.{run_over, end_of}
@@ -23,17 +23,17 @@ abbrev pub b : Signal
 b = ungapped (bits_of (zero_group ++ zero_group ++ zero_group) 312)
 
 -- the left guess ends in the lock, and goes on from there
-pub end_of_the_left : end_of (run_over b default_rules 0 104) ≡ Locked 129 1 (Run 0) 1
+pub end_of_the_left : end_of (run_over b default_rules 0 104) ≡ Locked (lock_of 129 1 0 1)
 unfolding acquired has_number group rem window touched heard off
 end_of_the_left = refl
 
 -- behind its first group the run from there is in the state of the right guess, which acquired within that group
-pub meets_behind_the_group : MeetAt b default_rules (Locked 129 1 (Run 0) 1) Searching 104 312 208
+pub meets_behind_the_group : MeetAt b default_rules (Locked (lock_of 129 1 0 1)) Searching 104 312 208
 unfolding acquired has_number group rem window touched heard off
 meets_behind_the_group = record { inside = (leb-true 104 208 refl, leb-true 208 312 refl); same = refl; between = refl }
 
 -- up to there the run has one mark, which counts the two items of the left guess too
-pub marks_up_to_the_meeting : marks_on b default_rules (Locked 129 1 (Run 0) 1) 104 2 104 ≡ record { place = 208; state = Locked 233 1 (Run 0) 1; items = 3 } ∷ []
+pub marks_up_to_the_meeting : marks_on b default_rules (Locked (lock_of 129 1 0 1)) 104 2 104 ≡ record { place = 208; state = Locked (lock_of 233 1 0 1); items = 3 } ∷ []
 unfolding acquired has_number group rem window touched heard off
 marks_up_to_the_meeting = refl
 
@@ -51,8 +51,8 @@ kept_of_the_whole = refl
 -- all of them, with those of the left guess, are the marks of the whole
 pub marks_of_the_whole : marks b default_rules 0 312 ≡
     marks b default_rules 0 104
-    ++ record { place = 208; state = Locked 233 1 (Run 0) 1; items = 3 }
-    ∷ record { place = 312; state = Locked 337 1 (Run 0) 1; items = 4 }
+    ++ record { place = 208; state = Locked (lock_of 233 1 0 1); items = 3 }
+    ∷ record { place = 312; state = Locked (lock_of 337 1 0 1); items = 4 }
     ∷ []
 unfolding acquired has_number group rem window touched heard off
 marks_of_the_whole = refl
@@ -74,7 +74,7 @@ abbrev pub counted : Totals
 counted = totals 8 0 0 0 0 0 0 0 2 2 0 0
 
 abbrev pub end : State
-end = Locked 337 1 (Run 0) 1
+end = Locked (lock_of 337 1 0 1)
 
 -- of the right guess two items stand before the meeting
 pub joins : IsJoint the_joint own 2 counted end
@@ -115,9 +115,9 @@ not_of_the_way_alone joint = false≢true (ap (λ it. it.valid == 8) joint.count
 
 abbrev pub due_in : State → ℕ
 due_in Searching = 0
-due_in (Locked due number bad first) = due
+due_in (Locked lock) = lock.due
 
 -- the state is that behind the last bit, and not that at the meeting
-pub not_where_they_met : IsJoint the_joint own 2 counted (Locked 233 1 (Run 0) 1) → ⊥
+pub not_where_they_met : IsJoint the_joint own 2 counted (Locked (lock_of 233 1 0 1)) → ⊥
 unfolding acquired has_number group rem window touched heard off
 not_where_they_met joint = false≢true (ap (λ state. due_in state == 337) joint.ends)

@@ -10,13 +10,14 @@ use Rattle.rds_sync.specs.declared.state.State.TheVariants.{Searching, Locked}
 use Rattle.rds_sync.specs.Acquiring.{acquired, has_number}
 use Rattle.rds_sync.specs.Groups.{group}
 use Rattle.rds_sync.specs.Rules.{RuleNumbers}
-use Rattle.rds_sync.specs.Examples.Words.{zero_group, locked, rules_of}
+use Rattle.rds_sync.specs.Examples.Words.{zero_group, rules_of}
+use Rattle.rds_sync.specs.Step.{lock_of}
 use Rattle.rds_pieces.specs.Meeting.{IsMeeting, MeetAt, distance}
 
 -- whether it is a lock, and the number of the block that is due
 abbrev pub number_due : State → ℕ
 number_due Searching = 0
-number_due (Locked due number bad first) = number
+number_due (Locked lock) = lock.number
 
 -- ---- three zero groups, cut at 190, where the true state waits for the block 4 that ends at 207
 
@@ -24,7 +25,7 @@ abbrev pub b : Signal
 b = ungapped (bits_of (zero_group ++ zero_group ++ zero_group) 312)
 
 abbrev pub cut_at_190 : RuleNumbers → ℕ → Type 0
-cut_at_190 rules = MeetAt b rules (locked 207 4 0 1) Searching 190 312
+cut_at_190 rules = MeetAt b rules (Locked (lock_of 207 4 0 1)) Searching 190 312
 
 -- the guess acquires at that block, and both wait for the next block 1
 pub behind_207 : cut_at_190 (rules_of 2 3 10) 208
@@ -46,11 +47,11 @@ unfolding acquired has_number group rem window touched heard off
 not_in_the_phase met = false≢true (sym (ap (λ state. number_due state == 1) met.same))
 
 -- the end of the range counts, and no place past it
-pub at_the_end : MeetAt b (rules_of 2 3 10) (locked 207 4 0 1) Searching 190 208 208
+pub at_the_end : MeetAt b (rules_of 2 3 10) (Locked (lock_of 207 4 0 1)) Searching 190 208 208
 unfolding acquired has_number group rem window touched heard off
 at_the_end = record { inside = (leb-true 190 208 refl, leb-true 208 208 refl); same = refl; between = refl }
 
-pub not_past_the_end : MeetAt b (rules_of 2 3 10) (locked 207 4 0 1) Searching 190 207 208 → ⊥
+pub not_past_the_end : MeetAt b (rules_of 2 3 10) (Locked (lock_of 207 4 0 1)) Searching 190 207 208 → ⊥
 not_past_the_end met = false≢true (le-leb 208 207 met.inside.1)
 
 -- ---- three bits without a window: a lock is lost at place 1 by the first bad block, and the run is a search from
@@ -60,7 +61,7 @@ abbrev pub three_bits : Signal
 three_bits = ungapped (0 ∷ 0 ∷ 0 ∷ [])
 
 abbrev pub with_search : ℕ → ℕ → ℕ → Type 0
-with_search from to = MeetAt three_bits (rules_of 2 3 1) (locked 1 4 0 1) Searching from to
+with_search from to = MeetAt three_bits (rules_of 2 3 1) (Locked (lock_of 1 4 0 1)) Searching from to
 
 pub not_at_0 : (to : ℕ) → with_search 0 to 0 → ⊥
 not_at_0 to met = false≢true (sym (ap (λ state. number_due state == 4) met.same))
@@ -75,14 +76,14 @@ before_2 to (suc zero) below met = not_at_1 to met
 before_2 to (suc (suc q)) below met = not-suc-le-zero (le_of_suc-le-suc (le_of_suc-le-suc below))
 
 -- the least place, inside the range and at its end
-pub met_inside : IsMeeting three_bits (rules_of 2 3 1) (locked 1 4 0 1) Searching 0 3 (Some 2)
+pub met_inside : IsMeeting three_bits (rules_of 2 3 1) (Locked (lock_of 1 4 0 1)) Searching 0 3 (Some 2)
 unfolding acquired has_number off
 met_inside = record {
   here = record { inside = (leb-true 0 2 refl, leb-true 2 3 refl); same = refl; between = tt };
   least = before_2 3;
 }
 
-pub met_at_the_end : IsMeeting three_bits (rules_of 2 3 1) (locked 1 4 0 1) Searching 0 2 (Some 2)
+pub met_at_the_end : IsMeeting three_bits (rules_of 2 3 1) (Locked (lock_of 1 4 0 1)) Searching 0 2 (Some 2)
 unfolding acquired has_number off
 met_at_the_end = record {
   here = record { inside = (leb-true 0 2 refl, leb-true 2 2 refl); same = refl; between = tt };
@@ -90,11 +91,11 @@ met_at_the_end = record {
 }
 
 -- not at a later place
-pub not_the_second : IsMeeting three_bits (rules_of 2 3 1) (locked 1 4 0 1) Searching 0 3 (Some 3) → ⊥
+pub not_the_second : IsMeeting three_bits (rules_of 2 3 1) (Locked (lock_of 1 4 0 1)) Searching 0 3 (Some 3) → ⊥
 not_the_second met = met.least 2 (leb-true 3 3 refl) met_inside.here
 
 -- in the range's first bit alone they do not meet
-pub none : IsMeeting three_bits (rules_of 2 3 1) (locked 1 4 0 1) Searching 0 1 None
+pub none : IsMeeting three_bits (rules_of 2 3 1) (Locked (lock_of 1 4 0 1)) Searching 0 1 None
 none zero met = not_at_0 1 met
 none (suc zero) met = not_at_1 1 met
 none (suc (suc q)) met = not-suc-le-zero (le_of_suc-le-suc met.inside.1)

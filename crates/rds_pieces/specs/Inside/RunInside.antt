@@ -1,5 +1,5 @@
 -- What the type of a piece's run keeps. Its calls tell it of the guess.
-use Rattle.std.specs.Prelude.{◌≡◌, ◌+◌, ◌-◌, ◌^◌, ◌≤◌}
+use Rattle.std.specs.Prelude.{◌≡◌, ◌-◌, ◌^◌, ◌≤◌}
 use Rattle.rds_stream.specs.Recording.{length_of}
 use Rattle.rds_sync.specs.declared.state.State.{State}
 use Rattle.rds_sync.specs.declared.totals.Totals.{Totals}

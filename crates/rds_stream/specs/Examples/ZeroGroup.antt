@@ -46,6 +46,10 @@ pub one_place : valid_windows once 96 97 ≡ (96, B) ∷ []
 unfolding rem window touched heard off
 one_place = refl
 
+pub place_129 : valid_windows twice 129 130 ≡ (129, A) ∷ []
+unfolding rem window touched heard off
+place_129 = refl
+
 pub first_places : valid_windows once 0 25 ≡ []
 unfolding rem window touched heard off
 first_places = refl

@@ -3,10 +3,10 @@ use Rattle.std.specs.Prelude.{◌==◌, refl}
 use Rattle.std.specs.Int.Count.{ones}
 use Rattle.std.proofs.Common.{ap, inl, inr}
 use Rattle.std.proofs.lemmas.Bool.{false≢true, le-leb, leb-true}
-use Rattle.rds_sync.specs.declared.loss.Bad.TheVariants.{Mask}
 use Rattle.rds_sync.specs.declared.state.State.TheVariants.{Searching, Locked}
 use Rattle.rds_sync.specs.Lawful.{AreInOrder, IsBetweenGroups, IsLawful}
-use Rattle.rds_sync.specs.Examples.Words.{default_rules, locked, rules_of, rules_with_share}
+use Rattle.rds_sync.specs.Examples.Words.{default_rules, rules_of, rules_with_share}
+use Rattle.rds_sync.specs.Step.{lock_of}
 
 pub search_at_0 : IsLawful default_rules 0 Searching
 search_at_0 = tt
@@ -14,7 +14,7 @@ search_at_0 = tt
 -- ---- which place a block may be due at
 
 -- due at this place, and at the last of the next 26
-pub due_now : IsLawful default_rules 129 (locked 129 1 9 1)
+pub due_now : IsLawful default_rules 129 (Locked (lock_of 129 1 9 1))
 due_now = record {
   soon = (leb-true 129 129 refl, leb-true 129 154 refl);
   few_bad = leb-true 10 10 refl;
@@ -22,7 +22,7 @@ due_now = record {
   in_order = inl (refl, refl);
 }
 
-pub due_last : IsLawful default_rules 104 (locked 129 1 0 1)
+pub due_last : IsLawful default_rules 104 (Locked (lock_of 129 1 0 1))
 due_last = record {
   soon = (leb-true 104 129 refl, leb-true 129 129 refl);
   few_bad = leb-true 1 10 refl;
@@ -30,15 +30,15 @@ due_last = record {
   in_order = inl (refl, refl);
 }
 
-pub due_before : IsLawful default_rules 130 (locked 129 1 0 1) → ⊥
+pub due_before : IsLawful default_rules 130 (Locked (lock_of 129 1 0 1)) → ⊥
 due_before lawful = false≢true (le-leb 130 129 lawful.soon.0)
 
-pub due_after_27 : IsLawful default_rules 103 (locked 129 1 0 1) → ⊥
+pub due_after_27 : IsLawful default_rules 103 (Locked (lock_of 129 1 0 1)) → ⊥
 due_after_27 lawful = false≢true (le-leb 129 128 lawful.soon.1)
 
 -- ---- how many bad blocks there may be
 
-pub all_but_one_of_64 : IsLawful (rules_of 2 3 64) 129 (locked 129 1 63 1)
+pub all_but_one_of_64 : IsLawful (rules_of 2 3 64) 129 (Locked (lock_of 129 1 63 1))
 all_but_one_of_64 = record {
   soon = (leb-true 129 129 refl, leb-true 129 154 refl);
   few_bad = leb-true 64 64 refl;
@@ -46,12 +46,12 @@ all_but_one_of_64 = record {
   in_order = inl (refl, refl);
 }
 
-pub lost : IsLawful default_rules 129 (locked 129 1 10 1) → ⊥
+pub lost : IsLawful default_rules 129 (Locked (lock_of 129 1 10 1)) → ⊥
 lost lawful = false≢true (le-leb 11 10 lawful.few_bad)
 
 -- ---- which masks there may be, by a share of two of four
 
-pub oldest_of_four : IsLawful (rules_with_share 2 4) 129 (Locked 129 1 (Mask 8) 1)
+pub oldest_of_four : IsLawful (rules_with_share 2 4) 129 (Locked (lock_of 129 1 8 1))
 unfolding ones
 oldest_of_four = record {
   soon = (leb-true 129 129 refl, leb-true 129 154 refl);
@@ -60,20 +60,17 @@ oldest_of_four = record {
   in_order = inl (refl, refl);
 }
 
-pub fifth_of_four : IsLawful (rules_with_share 2 4) 129 (Locked 129 1 (Mask 16) 1) → ⊥
+pub fifth_of_four : IsLawful (rules_with_share 2 4) 129 (Locked (lock_of 129 1 16 1)) → ⊥
 fifth_of_four lawful = false≢true (le-leb 17 16 lawful.few_bad.0)
 
-pub two_of_four : IsLawful (rules_with_share 2 4) 129 (Locked 129 1 (Mask 3) 1) → ⊥
+pub two_of_four : IsLawful (rules_with_share 2 4) 129 (Locked (lock_of 129 1 3 1)) → ⊥
 unfolding ones
 two_of_four lawful = false≢true (le-leb 3 2 lawful.few_bad.1)
-
-pub mask_by_a_run : IsLawful default_rules 129 (Locked 129 1 (Mask 0) 1) → ⊥
-mask_by_a_run lawful = lawful.few_bad
 
 -- ---- where its group may begin
 
 -- the first block of the group ends at place 25, the least
-pub least_start : IsLawful default_rules 26 (locked 51 2 0 1)
+pub least_start : IsLawful default_rules 26 (Locked (lock_of 51 2 0 1))
 least_start = record {
   soon = (leb-true 26 51 refl, leb-true 51 51 refl);
   few_bad = leb-true 1 10 refl;
@@ -81,12 +78,12 @@ least_start = record {
   in_order = inr (leb-true 1 1 refl, leb-true 2 2 refl, leb-true 2 4 refl);
 }
 
-pub before_the_start : IsLawful default_rules 25 (locked 50 2 0 1) → ⊥
+pub before_the_start : IsLawful default_rules 25 (Locked (lock_of 50 2 0 1)) → ⊥
 before_the_start lawful = false≢true (le-leb 51 50 lawful.enough_bits)
 
 -- ---- which numbers it may have
 
-pub last_of_a_group : IsLawful default_rules 129 (locked 129 4 0 3)
+pub last_of_a_group : IsLawful default_rules 129 (Locked (lock_of 129 4 0 3))
 last_of_a_group = record {
   soon = (leb-true 129 129 refl, leb-true 129 154 refl);
   few_bad = leb-true 1 10 refl;
@@ -94,7 +91,7 @@ last_of_a_group = record {
   in_order = inr (leb-true 1 3 refl, leb-true 4 4 refl, leb-true 4 4 refl);
 }
 
-pub past_4 : IsLawful default_rules 129 (locked 129 5 0 1) → ⊥
+pub past_4 : IsLawful default_rules 129 (Locked (lock_of 129 5 0 1)) → ⊥
 past_4 lawful = out_of_order lawful.in_order
   where
     out_of_order : AreInOrder 1 5 → ⊥
@@ -102,14 +99,14 @@ past_4 lawful = out_of_order lawful.in_order
     out_of_order (inr (some, before, few)) = false≢true (le-leb 5 4 few)
 
 -- no first block before block 2, but block 1 alone
-pub first_is_due : IsLawful default_rules 129 (locked 129 2 0 2) → ⊥
+pub first_is_due : IsLawful default_rules 129 (Locked (lock_of 129 2 0 2)) → ⊥
 first_is_due lawful = out_of_order lawful.in_order
   where
     out_of_order : AreInOrder 2 2 → ⊥
     out_of_order (inl (is_1, first)) = false≢true (ap (λ x. x == 1) is_1)
     out_of_order (inr (some, before, few)) = false≢true (le-leb 3 2 before)
 
-pub new_group_after_2 : IsLawful default_rules 129 (locked 129 1 0 2) → ⊥
+pub new_group_after_2 : IsLawful default_rules 129 (Locked (lock_of 129 1 0 2)) → ⊥
 new_group_after_2 lawful = out_of_order lawful.in_order
   where
     out_of_order : AreInOrder 2 1 → ⊥
@@ -118,11 +115,11 @@ new_group_after_2 lawful = out_of_order lawful.in_order
 
 -- ---- groups in progress
 
-pub between_at_1 : IsBetweenGroups (locked 129 1 3 1)
+pub between_at_1 : IsBetweenGroups (Locked (lock_of 129 1 3 1))
 between_at_1 = refl
 
 pub between_in_a_search : IsBetweenGroups Searching
 between_in_a_search = tt
 
-pub in_progress_at_2 : IsBetweenGroups (locked 155 2 0 1) → ⊥
+pub in_progress_at_2 : IsBetweenGroups (Locked (lock_of 155 2 0 1)) → ⊥
 in_progress_at_2 between = false≢true (ap (λ x. x == 1) between)

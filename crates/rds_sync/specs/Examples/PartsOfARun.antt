@@ -14,8 +14,9 @@ use Rattle.rds_sync.specs.Acquiring.{acquired, has_number}
 use Rattle.rds_sync.specs.Groups.{group}
 use Rattle.rds_sync.specs.Decoding.{DecoderOf, decoder_of, GivesNext, listed}
 use Rattle.rds_sync.specs.Report.{report_items}
-use Rattle.rds_sync.specs.Examples.Words.{zero_group, default_rules, rules_of, locked, missing, valid, group_at}
+use Rattle.rds_sync.specs.Examples.Words.{zero_group, default_rules, rules_of, missing, valid, group_at}
 use Rattle.rds_sync.specs.Examples.ZeroGroup.{items_of_whole}
+use Rattle.rds_sync.specs.Step.{lock_of}
 
 abbrev pub b : Signal
 b = ungapped (bits_of zero_group 104)
@@ -28,31 +29,31 @@ left items end = record { items = items; end = end }
 
 -- ---- all of a range
 
-pub whole : decoder_of b default_rules Searching 0 104 ≡ left (Acquired 51 2 ∷ the_group ∷ []) (locked 129 1 0 1)
+pub whole : decoder_of b default_rules Searching 0 104 ≡ left (Acquired 51 2 ∷ the_group ∷ []) (Locked (lock_of 129 1 0 1))
 unfolding acquired has_number group rem window touched heard off
 whole = refl
 
 -- from a state on, over the places before the range's end alone
-pub from_the_lock : decoder_of b default_rules (locked 77 3 0 2) 52 104 ≡ left (the_group ∷ []) (locked 129 1 0 1)
+pub from_the_lock : decoder_of b default_rules (Locked (lock_of 77 3 0 2)) 52 104 ≡ left (the_group ∷ []) (Locked (lock_of 129 1 0 1))
 unfolding acquired has_number group rem window touched heard off
 from_the_lock = refl
 
-pub before_its_end : decoder_of b default_rules (locked 77 3 0 2) 52 103 ≡ left [] (locked 103 4 0 2)
+pub before_its_end : decoder_of b default_rules (Locked (lock_of 77 3 0 2)) 52 103 ≡ left [] (Locked (lock_of 103 4 0 2))
 unfolding acquired has_number group rem window touched heard off
 before_its_end = refl
 
-pub no_places : decoder_of b default_rules (locked 77 3 0 2) 52 52 ≡ left [] (locked 77 3 0 2)
+pub no_places : decoder_of b default_rules (Locked (lock_of 77 3 0 2)) 52 52 ≡ left [] (Locked (lock_of 77 3 0 2))
 no_places = refl
 
 -- ---- one after the other
 
-pub the_first : GivesNext (left (Acquired 51 2 ∷ the_group ∷ []) (locked 129 1 0 1)) (Some (Acquired 51 2)) (left (the_group ∷ []) (locked 129 1 0 1))
+pub the_first : GivesNext (left (Acquired 51 2 ∷ the_group ∷ []) (Locked (lock_of 129 1 0 1))) (Some (Acquired 51 2)) (left (the_group ∷ []) (Locked (lock_of 129 1 0 1)))
 the_first = (refl, refl)
 
-pub the_last : GivesNext (left (the_group ∷ []) (locked 129 1 0 1)) (Some the_group) (left [] (locked 129 1 0 1))
+pub the_last : GivesNext (left (the_group ∷ []) (Locked (lock_of 129 1 0 1))) (Some the_group) (left [] (Locked (lock_of 129 1 0 1)))
 the_last = (refl, refl)
 
-pub none_left : GivesNext (left [] (locked 129 1 0 1)) None (left [] (locked 129 1 0 1))
+pub none_left : GivesNext (left [] (Locked (lock_of 129 1 0 1))) None (left [] (Locked (lock_of 129 1 0 1)))
 none_left = ((refl, refl), refl)
 
 abbrev pub is_empty : List Item → Bool
@@ -60,11 +61,11 @@ is_empty [] = true
 is_empty (item ∷ items) = false
 
 -- none is given only where none is left
-pub not_none : GivesNext (left (the_group ∷ []) (locked 129 1 0 1)) None (left [] (locked 129 1 0 1)) → ⊥
+pub not_none : GivesNext (left (the_group ∷ []) (Locked (lock_of 129 1 0 1))) None (left [] (Locked (lock_of 129 1 0 1))) → ⊥
 not_none gives = false≢true (ap is_empty gives.0.0)
 
 -- an item is given once
-pub not_twice : GivesNext (left (the_group ∷ []) (locked 129 1 0 1)) (Some the_group) (left (the_group ∷ []) (locked 129 1 0 1)) → ⊥
+pub not_twice : GivesNext (left (the_group ∷ []) (Locked (lock_of 129 1 0 1))) (Some the_group) (left (the_group ∷ []) (Locked (lock_of 129 1 0 1))) → ⊥
 not_twice gives = false≢true (sym (ap is_last gives.0))
   where
     is_last : List Item → Bool
@@ -72,12 +73,12 @@ not_twice gives = false≢true (sym (ap is_last gives.0))
     is_last (item ∷ items) = is_empty items
 
 -- and the run ends as before
-pub not_another_end : GivesNext (left (the_group ∷ []) (locked 129 1 0 1)) (Some the_group) (left [] Searching) → ⊥
+pub not_another_end : GivesNext (left (the_group ∷ []) (Locked (lock_of 129 1 0 1))) (Some the_group) (left [] Searching) → ⊥
 not_another_end gives = false≢true (ap is_search gives.1)
   where
     is_search : State → Bool
     is_search Searching = false
-    is_search (Locked due number bad first) = true
+    is_search (Locked lock) = true
 
 -- ---- items with their recording and their rules
 

@@ -5,13 +5,12 @@ use Rattle.rds_code.specs.Remainder.{rem}
 use Rattle.rds_code.specs.declared.offset.Offset.TheVariants.{B as OB, C, D}
 use Rattle.rds_stream.specs.Recording.{bits_of, ungapped, window, touched, heard, off}
 use Rattle.rds_sync.specs.declared.state.State.TheVariants.{Searching, Locked}
-use Rattle.rds_sync.specs.declared.loss.Bad.TheVariants.{Mask}
 use Rattle.rds_sync.specs.declared.item.Version.TheVariants.{A, Unknown}
 use Rattle.rds_sync.specs.declared.item.Item.{Item}
 use Rattle.rds_sync.specs.declared.item.Item.TheVariants.{Acquired, LostLock}
 use Rattle.rds_sync.specs.Acquiring.{acquired, has_number}
 use Rattle.rds_sync.specs.Groups.{group}
-use Rattle.rds_sync.specs.Step.{run}
+use Rattle.rds_sync.specs.Step.{run, lock_of}
 use Rattle.rds_sync.specs.Examples.Words.{zero_group, rules_with_share, missing, valid, lost, group_at, totals, HasReport}
 use Rattle.rds_sync.specs.Examples.ZeroGroup.{items_of_whole}
 use Rattle.rds_sync.specs.Examples.LostAndFound.{bytes as one_bad, items as items_of_loss}
@@ -30,7 +29,7 @@ unfolding acquired has_number group rem window touched heard off
 two_of_four = (refl, refl)
 
 -- its mask after the block at place 207: of the last four blocks the oldest is bad
-pub run_two_of_four : run (ungapped (bits_of one_bad 208)) (rules_with_share 2 4) Searching 0 208 ≡ (Locked 233 1 (Mask 8) 1, items_kept)
+pub run_two_of_four : run (ungapped (bits_of one_bad 208)) (rules_with_share 2 4) Searching 0 208 ≡ (Locked (lock_of 233 1 8 1), items_kept)
 unfolding acquired has_number group rem window touched heard off ones
 run_two_of_four = refl
 
@@ -51,7 +50,7 @@ pub two_of_three : HasReport two_bad 208 (rules_with_share 2 3) items_lost (tota
 unfolding acquired has_number group rem window touched heard off
 two_of_three = (refl, refl)
 
-pub run_two_of_three : run (ungapped (bits_of two_bad 208)) (rules_with_share 2 3) Searching 0 208 ≡ (Locked 233 1 (Mask 0) 1, items_lost)
+pub run_two_of_three : run (ungapped (bits_of two_bad 208)) (rules_with_share 2 3) Searching 0 208 ≡ (Locked (lock_of 233 1 0 1), items_lost)
 unfolding acquired has_number group rem window touched heard off ones
 run_two_of_three = refl
 
@@ -63,6 +62,6 @@ pub two_of_two : HasReport two_bad 208 (rules_with_share 2 2) items_apart (total
 unfolding acquired has_number group rem window touched heard off
 two_of_two = (refl, refl)
 
-pub run_two_of_two : run (ungapped (bits_of two_bad 208)) (rules_with_share 2 2) Searching 0 208 ≡ (Locked 233 1 (Mask 2) 1, items_apart)
+pub run_two_of_two : run (ungapped (bits_of two_bad 208)) (rules_with_share 2 2) Searching 0 208 ≡ (Locked (lock_of 233 1 2 1), items_apart)
 unfolding acquired has_number group rem window touched heard off ones
 run_two_of_two = refl

@@ -8,13 +8,14 @@ use Rattle.rds_stream.specs.Recording.{Signal, bits_of, ungapped, window, touche
 use Rattle.rds_sync.specs.declared.item.Item.{Item}
 use Rattle.rds_sync.specs.declared.item.Item.TheVariants.{Acquired, Group}
 use Rattle.rds_sync.specs.declared.state.State.{State}
-use Rattle.rds_sync.specs.declared.state.State.TheVariants.{Searching}
+use Rattle.rds_sync.specs.declared.state.State.TheVariants.{Searching, Locked}
 use Rattle.rds_sync.specs.declared.step.Step.{Step}
 use Rattle.rds_sync.specs.Acquiring.{acquired, has_number}
 use Rattle.rds_sync.specs.Groups.{group}
 use Rattle.rds_sync.specs.Advance.{items_in}
 use Rattle.rds_sync.specs.Stretch.{IsStretch}
-use Rattle.rds_sync.specs.Examples.Words.{zero_group, default_rules, locked}
+use Rattle.rds_sync.specs.Examples.Words.{zero_group, default_rules}
+use Rattle.rds_sync.specs.Step.{lock_of}
 
 abbrev pub b : Signal
 b = ungapped (bits_of zero_group 104)
@@ -37,7 +38,7 @@ is_some_item [] = false
 is_some_item (item ∷ items) = true
 
 -- the search ends behind the bit that acquires
-pub to_the_acquisition : IsStretch b default_rules Searching 0 104 (reached 52 (locked 77 3 0 2) acquires)
+pub to_the_acquisition : IsStretch b default_rules Searching 0 104 (reached 52 (Locked (lock_of 77 3 0 2)) acquires)
 unfolding acquired has_number group rem window touched heard off
 to_the_acquisition = record {
   forward = leb-true 1 52 refl;
@@ -64,7 +65,7 @@ not_before stretch = goes_on stretch.ended
     goes_on (inr some) = some refl
 
 -- and not one bit behind it, though the state is that of the run
-pub not_behind : IsStretch b default_rules Searching 0 104 (reached 53 (locked 77 3 0 2) acquires) → ⊥
+pub not_behind : IsStretch b default_rules Searching 0 104 (reached 53 (Locked (lock_of 77 3 0 2)) acquires) → ⊥
 unfolding acquired has_number group rem window touched heard off
 not_behind stretch = false≢true (sym (ap is_some_item stretch.quiet))
 
@@ -82,7 +83,7 @@ to_the_end = record {
 }
 
 -- a lock is read up to and including the block that closes its group
-pub to_the_group : IsStretch b default_rules (locked 77 3 0 2) 52 104 (reached 104 (locked 129 1 0 1) closes)
+pub to_the_group : IsStretch b default_rules (Locked (lock_of 77 3 0 2)) 52 104 (reached 104 (Locked (lock_of 129 1 0 1)) closes)
 unfolding acquired has_number group rem window touched heard off
 to_the_group = record {
   forward = leb-true 53 104 refl;

@@ -4,8 +4,7 @@ use Rattle.rds_code.specs.declared.offset.Offset.{Offset}
 use Rattle.rds_code.specs.declared.reading.Reading.TheVariants.{Valid, Corrected, Lost}
 use Rattle.rds_stream.specs.Recording.{Signal, bits_of, ungapped}
 use Rattle.rds_sync.specs.Rules.{RuleNumbers}
-use Rattle.rds_sync.specs.declared.loss.Loss.TheVariants.{Run, Share}
-use Rattle.rds_sync.specs.declared.loss.Bad.TheVariants.{Run as InARow}
+use Rattle.rds_sync.specs.declared.loss.Loss.TheVariants.{InARow, Share}
 use Rattle.rds_sync.specs.declared.item.Block.{Block}
 use Rattle.rds_sync.specs.declared.item.Block.TheVariants.{Missing, Read}
 use Rattle.rds_sync.specs.declared.item.Version.{Version}
@@ -14,15 +13,13 @@ use Rattle.rds_sync.specs.declared.item.Item.TheVariants.{Group}
 use Rattle.rds_sync.specs.declared.totals.Totals.{Totals}
 use Rattle.rds_sync.specs.Report.{report_items}
 use Rattle.rds_sync.specs.Totals.{totals_of}
-use Rattle.rds_sync.specs.declared.state.State.{State}
-use Rattle.rds_sync.specs.declared.state.State.TheVariants.{Locked}
 
 -- four information words 0 in a group of version A, with their checkwords
 abbrev pub zero_group : List ℕ
 zero_group = 0x00 ∷ 0x00 ∷ 0x3f ∷ 0x00 ∷ 0x00 ∷ 0x19 ∷ 0x80 ∷ 0x00 ∷ 0x05 ∷ 0xa0 ∷ 0x00 ∷ 0x01 ∷ 0xb4 ∷ []
 
 abbrev pub rules_of : ℕ → ℕ → ℕ → RuleNumbers
-rules_of burst reach loss = record { burst = burst; reach = reach; loss = Run loss }
+rules_of burst reach loss = record { burst = burst; reach = reach; loss = InARow loss }
 
 -- rules by which a lock is lost at `bad` bad blocks among the last `of`
 abbrev pub rules_with_share : ℕ → ℕ → RuleNumbers
@@ -52,10 +49,6 @@ group_at place kind version one two three four = Group (record {
   version = version;
   conflict = false;
 })
-
--- a lock: where its next block ends, that block's number, the bad blocks in a row, and the number of its group's first block
-abbrev pub locked : ℕ → ℕ → ℕ → ℕ → State
-locked due number bad first = Locked due number (InARow bad) first
 
 -- the twelve totals, in the order of the listing
 abbrev pub totals : ℕ → ℕ → ℕ → ℕ → ℕ → ℕ → ℕ → ℕ → ℕ → ℕ → ℕ → ℕ → Totals

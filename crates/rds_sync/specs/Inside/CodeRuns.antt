@@ -4,9 +4,9 @@ use Rattle.std.specs.Prelude.{◌≡◌, ℕ, ◌+◌, ◌-◌, ◌<◌, ◌≤�
 use Rattle.rds_stream.specs.Recording.{Signal}
 use Rattle.rds_sync.specs.declared.lock.Lock.{Lock}
 use Rattle.rds_sync.specs.declared.state.State.{State}
+use Rattle.rds_sync.specs.declared.state.State.TheVariants.{Locked}
 use Rattle.rds_sync.specs.Acquiring.{has_number}
 use Rattle.rds_sync.specs.Codes.{KeptOf, behind, kept_of}
-use Rattle.rds_sync.specs.Inside.Due.{state_in}
 use Rattle.rds_sync.specs.Lawful.{IsLawful}
 use Rattle.rds_sync.specs.Loss.{IsLawfulBad}
 use Rattle.rds_sync.specs.Rules.{RuleNumbers}
@@ -34,5 +34,5 @@ pub record HasPassed (b : Signal) (rules : RuleNumbers) (lock : Lock) (to : ℕ)
   pub from_on : lock.due ≤ now.due
   pub limit : lock.due < now.due → now.due - 25 ≤ to
   pub far : lock.due < now.due → lock.due < now.due - 25
-  pub state : (run b rules (state_in lock) (lock.due - 25) (now.due - lock.due)).0 ≡ state_in now
-  pub codes : after ≡ behind before (kept_of (run b rules (state_in lock) (lock.due - 25) (now.due - lock.due)).1)
+  pub state : (run b rules (Locked lock) (lock.due - 25) (now.due - lock.due)).0 ≡ Locked now
+  pub codes : after ≡ behind before (kept_of (run b rules (Locked lock) (lock.due - 25) (now.due - lock.due)).1)

@@ -2,13 +2,13 @@
 -- by no public call.
 use Rattle.std.specs.Prelude.{◌≡◌, ℕ, ◌+◌, ◌-◌, ◌*◌, ◌^◌, ◌≤◌, List, ◌++◌, ⊤}
 use Rattle.rds_sync.specs.declared.code_cursor.Cursor.{Cursor}
-use Rattle.rds_sync.specs.declared.loss.Bad.{Bad}
 use Rattle.rds_sync.specs.declared.loss.Loss.{Loss}
 use Rattle.rds_sync.specs.declared.mark.Mark.{Mark}
 use Rattle.rds_sync.specs.declared.state.State.{State}
 use Rattle.rds_sync.specs.declared.state.State.TheVariants.{Searching, Locked}
 use Rattle.rds_sync.specs.Inside.CodeCursors.{kept_ahead}
 use Rattle.rds_sync.specs.Marks.{Spot, code_marks}
+use Rattle.rds_sync.specs.Step.{lock_of}
 
 abbrev pub spot_of : Mark → Spot
 spot_of mark = record { place = mark.place; state = mark.state }
@@ -20,7 +20,7 @@ marks_ahead loss cursor mark = code_marks loss (kept_ahead cursor).locks (kept_a
 -- a lock behind so many items is due at a place that a word of 64 bits holds
 abbrev pub IsNear : State → ℕ → Type 0
 IsNear Searching items = ⊤
-IsNear (Locked due number bad first) items = (1 ≤ number) × (number ≤ 4) × (due ≤ 2 ^ 37 + 256 * items)
+IsNear (Locked lock) items = (1 ≤ lock.number) × (lock.number ≤ 4) × (lock.due ≤ 2 ^ 37 + 256 * items)
 
 -- a mark from which so many codes can be passed
 pub record IsBefore (mark : Mark) (left : ℕ) : Type 0 where
@@ -32,5 +32,5 @@ abbrev pub IsPassed : List Mark → List Mark → Type 0
 IsPassed before after = (passed : List Mark) × (before ≡ passed ++ after)
 
 -- the mark between two groups of a lock
-abbrev pub between_groups : ℕ → Bad → ℕ → Mark
-between_groups due bad items = record { place = due - 25; state = Locked due 1 bad 1; items = items }
+abbrev pub between_groups : ℕ → ℕ → ℕ → Mark
+between_groups due bad items = record { place = due - 25; state = Locked (lock_of due 1 bad 1); items = items }

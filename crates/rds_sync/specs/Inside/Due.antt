@@ -8,22 +8,18 @@ use Rattle.rds_sync.specs.declared.loss.Loss.{Loss}
 use Rattle.rds_sync.specs.declared.state.State.{State}
 use Rattle.rds_sync.specs.declared.state.State.TheVariants.{Searching, Locked}
 use Rattle.rds_sync.specs.Loss.{bad_after, are_too_many}
-use Rattle.rds_sync.specs.Step.{locked_after}
-
--- the state of a run that is in this lock
-abbrev pub state_in : Lock → State
-state_in lock = Locked lock.due lock.number lock.bad lock.first
+use Rattle.rds_sync.specs.Step.{lock_after}
 
 -- the state to which a block that was due led
 abbrev pub state_of : Due → State
-state_of (Inside next) = state_in next
-state_of (Closed next) = state_in next
+state_of (Inside next) = Locked next
+state_of (Closed next) = Locked next
 state_of Lost = Searching
 
 -- the lock is kept, with what is then kept of its bad blocks
 pub record IsKept (loss : Loss) (lock : Lock) (good : Bool) (next : Lock) : Type 0 where
   pub few_bad : are_too_many loss (bad_after loss good lock.bad) ≡ false
-  pub next_is : state_in next ≡ locked_after lock.due lock.number (bad_after loss good lock.bad) lock.first
+  pub next_is : next ≡ lock_after lock.due lock.number (bad_after loss good lock.bad) lock.first
 
 -- what the block that is due does to this lock, where it is good or not
 abbrev pub IsAfter : Loss → Lock → Bool → Due → Type 0

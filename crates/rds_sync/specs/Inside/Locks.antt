@@ -8,7 +8,7 @@ use Rattle.rds_sync.specs.declared.item.Item.TheVariants.{Group, LostLock}
 use Rattle.rds_sync.specs.declared.due.Due.{Due}
 use Rattle.rds_sync.specs.declared.due.Due.TheVariants.{Inside, Closed, Lost}
 use Rattle.rds_sync.specs.declared.lock.Lock.{Lock}
-use Rattle.rds_sync.specs.Inside.Due.{state_in}
+use Rattle.rds_sync.specs.declared.state.State.TheVariants.{Locked}
 use Rattle.rds_sync.specs.Groups.{blocks_at, group_of}
 use Rattle.rds_sync.specs.Lawful.{AreInOrder, HaveRoom}
 use Rattle.rds_sync.specs.Loss.{IsLawfulBad}
@@ -38,12 +38,12 @@ items_of_due lock blocks Lost = closing lock blocks ∷ LostLock lock.due ∷ []
 
 -- where the group goes on, nothing was given, the next block is due after 26 places, and the blocks are those read so far
 pub record GoesOn (b : Signal) (rules : RuleNumbers) (lock next : Lock) (blocks : List Block) : Type 0 where
-  pub nothing : items_at b rules lock.due (state_in lock) ≡ []
+  pub nothing : items_at b rules lock.due (Locked lock) ≡ []
   pub due : next.due ≡ lock.due + 26
   pub in_progress : IsInProgress b rules next blocks
 
 -- and where the block closed it, an item was given
 abbrev pub IsFollowed : Signal → RuleNumbers → Lock → List Block → Due → Type 0
 IsFollowed b rules lock blocks (Inside next) = GoesOn b rules lock next blocks
-IsFollowed b rules lock blocks (Closed next) = items_at b rules lock.due (state_in lock) ≢ []
-IsFollowed b rules lock blocks Lost = items_at b rules lock.due (state_in lock) ≢ []
+IsFollowed b rules lock blocks (Closed next) = items_at b rules lock.due (Locked lock) ≢ []
+IsFollowed b rules lock blocks Lost = items_at b rules lock.due (Locked lock) ≢ []

@@ -7,7 +7,7 @@ use Rattle.rds_sync.specs.declared.item.Block.TheVariants.{Read}
 use Rattle.rds_sync.specs.Acquiring.{has_number}
 use Rattle.rds_sync.specs.Codes.{outcome_of}
 use Rattle.rds_sync.specs.Groups.{group, wanted_beside}
-use Rattle.rds_sync.specs.Loss.{none_bad, bad_after, are_too_many}
+use Rattle.rds_sync.specs.Loss.{bad_after, are_too_many}
 use Rattle.rds_sync.specs.Rules.{RuleNumbers}
 use Rattle.rds_sync.specs.Words.{blocks_in}
 
@@ -27,6 +27,6 @@ word_of_two x k = if x == 1 then 1 + 16 * k else (if x == 2 then 16 + 256 * k el
 pub record IsLostAtOnce (b : Signal) (rules : RuleNumbers) (place x to word : ℕ) : Type 0 where
   pub before : place + 26 < to
   pub bad : has_number b (place + 26) (x % 4 + 1) ≡ false
-  pub loses : are_too_many rules.loss (bad_after rules.loss false (none_bad rules.loss)) ≡ true
+  pub loses : are_too_many rules.loss (bad_after rules.loss false 0) ≡ true
   pub few : word < 65520
   pub blocks : blocks_in word ≡ map outcome_of (group b rules (first_behind x) (x % 4 + 1) (place + 26)).blocks

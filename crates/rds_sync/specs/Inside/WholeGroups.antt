@@ -5,10 +5,9 @@ use Rattle.rds_stream.specs.Recording.{Signal}
 use Rattle.rds_sync.specs.declared.lock.Lock.{Lock}
 use Rattle.rds_sync.specs.declared.item.Group.{Group}
 use Rattle.rds_sync.specs.declared.item.Item.{Item}
-use Rattle.rds_sync.specs.declared.loss.Bad.{Bad}
+use Rattle.rds_sync.specs.declared.state.State.TheVariants.{Locked}
 use Rattle.rds_sync.specs.Codes.{Outcome, outcome_of}
 use Rattle.rds_sync.specs.Groups.{group}
-use Rattle.rds_sync.specs.Inside.Due.{state_in}
 use Rattle.rds_sync.specs.Loss.{IsLawfulBad, are_too_many}
 use Rattle.rds_sync.specs.Marks.{bad_over}
 use Rattle.rds_sync.specs.Rules.{RuleNumbers}
@@ -19,7 +18,7 @@ abbrev pub outcomes_at : Signal → RuleNumbers → ℕ → List Outcome
 outcomes_at b rules due = map outcome_of (group b rules 1 4 (due + 78)).blocks
 
 -- that group, none of whose blocks loses the lock, and what is kept of the bad blocks behind it
-pub record IsWhole (b : Signal) (rules : RuleNumbers) (due : ℕ) (before : Bad) (given : Group) (after : Bad) : Type 0 where
+pub record IsWhole (b : Signal) (rules : RuleNumbers) (due before : ℕ) (given : Group) (after : ℕ) : Type 0 where
   pub given_is : given ≡ group b rules 1 4 (due + 78)
   pub bad_is : after ≡ bad_over rules.loss (outcomes_at b rules due) before 1 4
   pub lawful : IsLawfulBad rules.loss after
@@ -32,5 +31,5 @@ pub record HasGiven (b : Signal) (rules : RuleNumbers) (lock : Lock) (to : ℕ) 
   pub from_on : lock.due ≤ now.due
   pub limit : lock.due < now.due → now.due - 25 ≤ to
   pub more : lock.due < now.due → length before < length after
-  pub state : (run b rules (state_in lock) (lock.due - 25) (now.due - lock.due)).0 ≡ state_in now
-  pub items : after ≡ before ++ (run b rules (state_in lock) (lock.due - 25) (now.due - lock.due)).1
+  pub state : (run b rules (Locked lock) (lock.due - 25) (now.due - lock.due)).0 ≡ Locked now
+  pub items : after ≡ before ++ (run b rules (Locked lock) (lock.due - 25) (now.due - lock.due)).1

@@ -5,6 +5,7 @@ use Rattle.clap.specs.Takes.{flags_pass, walk_passes}
 use Rattle.clap.specs.Faults.{defaults_fault, flags_fault, walk_fault}
 use Rattle.clap.specs.Walk.{bundle_met, walked}
 use Rattle.clap.specs.Words.{Row, Text, first_of, one_of}
+use Rattle.clap.specs.declared.error.kind.ErrorKind.{ErrorKind}
 use Rattle.clap.specs.declared.error.kind.ErrorKind.TheVariants as kind
 use Rattle.rds_tool.specs.CommandLine.{entries_of, faults_of}
 
@@ -83,55 +84,39 @@ pub no_fault : faults_of each_option ≡ []
 unfolding walked bundle_met flags_pass walk_passes flags_fault walk_fault defaults_fault
 no_fault = refl
 
-pub help : faults_of (codes "rds" ∷ codes "list" ∷ codes "--help" ∷ []) ≡ kind.DisplayHelp ∷ []
-unfolding walked bundle_met flags_pass walk_passes flags_fault walk_fault defaults_fault
-help = refl
+-- these words behind the name of the program have just these faults
+abbrev pub HaveFaults : List (List Text × List ErrorKind) → Type 0
+HaveFaults rows = map (λ row. faults_of (codes "rds" ∷ row.0)) rows ≡ map (λ row. row.1) rows
 
-pub version : faults_of (codes "rds" ∷ codes "--version" ∷ []) ≡ kind.DisplayVersion ∷ []
+-- help and the version, of which a command has none of its own
+pub texts_asked_for : HaveFaults (
+    (codes "list" ∷ codes "--help" ∷ [], kind.DisplayHelp ∷ [])
+    ∷ (codes "--version" ∷ [], kind.DisplayVersion ∷ [])
+    ∷ (codes "scan" ∷ codes "--version" ∷ [], kind.UnknownArgument ∷ [])
+    ∷ []
+    )
 unfolding walked bundle_met flags_pass walk_passes flags_fault walk_fault defaults_fault
-version = refl
+texts_asked_for = refl
 
--- a command has no version of its own
-pub no_version : faults_of (codes "rds" ∷ codes "scan" ∷ codes "--version" ∷ []) ≡ kind.UnknownArgument ∷ []
+-- a command there must be, and each has options of its own
+pub words_wanted : HaveFaults (
+    ([], kind.MissingSubcommand ∷ [])
+    ∷ (codes "scan" ∷ codes "--burst" ∷ codes "2" ∷ [], kind.UnknownArgument ∷ [])
+    ∷ (codes "follow" ∷ codes "--workers=2" ∷ [], kind.UnknownArgument ∷ [])
+    ∷ (codes "scan" ∷ codes "--gaps=" ∷ [], [])
+    ∷ (codes "encode" ∷ codes "--gaps=1-2" ∷ [], kind.UnknownArgument ∷ [])
+    ∷ []
+    )
 unfolding walked bundle_met flags_pass walk_passes flags_fault walk_fault defaults_fault
-no_version = refl
-
-pub no_command : faults_of (codes "rds" ∷ []) ≡ kind.MissingSubcommand ∷ []
-unfolding walked bundle_met flags_pass walk_passes flags_fault walk_fault defaults_fault
-no_command = refl
-
-pub no_such_option : faults_of (codes "rds" ∷ codes "scan" ∷ codes "--burst" ∷ codes "2" ∷ [])
-    ≡ kind.UnknownArgument ∷ []
-unfolding walked bundle_met flags_pass walk_passes flags_fault walk_fault defaults_fault
-no_such_option = refl
-
-pub no_workers_to_follow : faults_of (codes "rds" ∷ codes "follow" ∷ codes "--workers=2" ∷ []) ≡ kind.UnknownArgument ∷ []
-unfolding walked bundle_met flags_pass walk_passes flags_fault walk_fault defaults_fault
-no_workers_to_follow = refl
-
-pub any_gaps : faults_of (codes "rds" ∷ codes "scan" ∷ codes "--gaps=" ∷ []) ≡ []
-unfolding walked bundle_met flags_pass walk_passes flags_fault walk_fault defaults_fault
-any_gaps = refl
-
-pub no_gaps_to_encode : faults_of (codes "rds" ∷ codes "encode" ∷ codes "--gaps=1-2" ∷ []) ≡ kind.UnknownArgument ∷ []
-unfolding walked bundle_met flags_pass walk_passes flags_fault walk_fault defaults_fault
-no_gaps_to_encode = refl
+words_wanted = refl
 
 -- 2^40 bits are taken, and one more is not; 2^32 is past every other number
-pub most_bits : faults_of (codes "rds" ∷ codes "scan" ∷ codes "--bits" ∷ codes "1099511627776" ∷ []) ≡ []
+pub numbers_taken : HaveFaults (
+    (codes "scan" ∷ codes "--bits" ∷ codes "1099511627776" ∷ [], [])
+    ∷ (codes "scan" ∷ codes "--bits" ∷ codes "1099511627777" ∷ [], kind.ValueValidation ∷ [])
+    ∷ (codes "list" ∷ codes "--loss" ∷ codes "4294967295" ∷ [], [])
+    ∷ (codes "list" ∷ codes "--loss" ∷ codes "4294967296" ∷ [], kind.ValueValidation ∷ [])
+    ∷ []
+    )
 unfolding walked bundle_met flags_pass walk_passes flags_fault walk_fault defaults_fault
-most_bits = refl
-
-pub too_many_bits : faults_of (codes "rds" ∷ codes "scan" ∷ codes "--bits" ∷ codes "1099511627777" ∷ [])
-    ≡ kind.ValueValidation ∷ []
-unfolding walked bundle_met flags_pass walk_passes flags_fault walk_fault defaults_fault
-too_many_bits = refl
-
-pub most_loss : faults_of (codes "rds" ∷ codes "list" ∷ codes "--loss" ∷ codes "4294967295" ∷ []) ≡ []
-unfolding walked bundle_met flags_pass walk_passes flags_fault walk_fault defaults_fault
-most_loss = refl
-
-pub too_much_loss : faults_of (codes "rds" ∷ codes "list" ∷ codes "--loss" ∷ codes "4294967296" ∷ [])
-    ≡ kind.ValueValidation ∷ []
-unfolding walked bundle_met flags_pass walk_passes flags_fault walk_fault defaults_fault
-too_much_loss = refl
+numbers_taken = refl

@@ -1,4 +1,4 @@
-use Rattle.std.proofs.Common.{◌∙◌, ap, refl, sym, subst}
+use Rattle.std.proofs.Common.{◌∙◌, ap, refl, sym, subst, arith}
 use Rattle.rds_code.specs.Offsets.{offset_of}
 use Rattle.rds_code.specs.Reading.{IsReading}
 use Rattle.rds_code.proofs.ReadingLemmas.{reads_corrected, reading_is}
@@ -13,4 +13,4 @@ returns-clause-value c =
 pub returns-clause-rule : goal.returns-clause-rule
 returns-clause-rule c =
     subst (IsReading c.args.w c.args.number c.args.wanted c.args.limit) (sym (returns-clause-value c))
-    (reading_is c.args.w c.args.number c.args.wanted c.args.limit c.requires.first c.requires.last c.requires.limit)
+    (reading_is c.args.w c.args.number c.args.wanted c.args.limit (omega arith) (omega arith) (omega arith))

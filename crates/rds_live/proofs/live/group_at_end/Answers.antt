@@ -1,5 +1,4 @@
 use Rattle.std.proofs.Common.{◌≡◌, ◌-◌, ◌*◌, ◌/◌, ◌^◌, ◌≤◌, ◌⊎◌, ℕ, List, length, min, inl, inr, ap, ap₂, refl, sym, subst, ◌∙◌, arith}
-use Rattle.std.proofs.lemmas.Bool.{cases_lt}
 use Rattle.std.proofs.lemmas.List.{length-drop}
 use Rattle.rds_stream.specs.Recording.{AreGaps, Signal, length_of}
 use Rattle.rds_sync.specs.declared.state.State.{State}
@@ -11,20 +10,11 @@ use Rattle.rds_live.specs.Gaps.{gaps_within}
 use Rattle.rds_live.specs.Live.{last_bytes, signal_at, signal_of, most_kept}
 use Rattle.rds_live.proofs.GapParts.{part-touched}
 use Rattle.rds_live.proofs.Parts.{length-at, length-signal, bits-heard, end-part}
-use Rattle.rds_live.proofs.Following.{lawful-back}
+use Rattle.rds_live.proofs.Following.{early-or-long, state-in-part}
 use Rattle.rds_live.proofs.live.group_at_end.Goals as goal
 
--- the part that is kept of a stream, and the state in it
+-- the part that is kept of a stream
 module _ (tail : List ℕ) (place from : ℕ) (kept : length tail ≡ min 30 (place / 8)) (whole : place ≡ 8 * (place / 8)) (from_is : from ≡ 8 * length tail) where
-  early-or-long : (place - from ≡ 0) ⊎ (233 ≤ from)
-  early-or-long = elim (cases_lt (place / 8) 31) [
-    | inl few ↦ inl (omega (arith, whole, kept, from_is))
-    | inr many ↦ inr (omega (arith, kept, from_is))
-  ]
-
-  state-in-part : (rules : RuleNumbers) (local state : State) → moved_state (place - from) local ≡ state → IsLawful rules place state → IsLawful rules from local
-  state-in-part rules local state is lawful = lawful-back rules (place - from) from place local state is lawful (omega (arith, whole, kept, from_is)) early-or-long
-
   heard-in-part : (gaps near : List (ℕ × ℕ)) (bytes : List ℕ) (part : Signal) → AreGaps (2 ^ 36) gaps → near ≡ gaps_within gaps (place - 8 * length tail) (8 * length tail)
       → part ≡ signal_of near tail → tail ≡ last_bytes bytes → place ≡ 8 * length bytes → IsPartHeard (signal_of gaps bytes) part (place - from) (length_of part)
   heard-in-part gaps near bytes part are near_is part_is tail_is place_is =
@@ -33,7 +23,7 @@ module _ (tail : List ℕ) (place from : ℕ) (kept : length tail ≡ min 30 (pl
       let long : length_of part ≡ from = ap (λ (b : Signal). length_of b) part_is ∙ length-signal near tail ∙ sym from_is in
       let count : length tail ≡ length bytes - k = ap (λ (xs : List ℕ). length xs) tail_is ∙ length-drop k bytes in
       let cut : 8 * k ≡ place - from = omega (arith, count, place_is, from_is) in
-      let early : (8 * k ≡ 0) ⊎ (233 ≤ from) = subst (λ (d : ℕ). (d ≡ 0) ⊎ (233 ≤ from)) (sym cut) early-or-long in
+      let early : (8 * k ≡ 0) ⊎ (233 ≤ from) = subst (λ (d : ℕ). (d ≡ 0) ⊎ (233 ≤ from)) (sym cut) (early-or-long tail place from kept whole from_is) in
       let heard : IsPartHeard (signal_of gaps bytes) (signal_of (gaps_within gaps (8 * k) n) (last_bytes bytes)) (8 * k) from =
       bits-heard bytes (last_bytes bytes) k (end-part bytes) n (8 * length bytes) (omega arith) (omega (arith, length-drop k bytes))
       gaps (gaps_within gaps (8 * k) n) (part-touched (2 ^ 36) (8 * k) n gaps are) from early in

@@ -1,4 +1,4 @@
-use Rattle.std.proofs.Common.{◌≡◌, ℕ, List, ◌+◌, ◌-◌, ◌<◌, subst, sym, arith}
+use Rattle.std.proofs.Common.{List, ◌-◌, subst, sym, arith}
 use Rattle.std.specs.List.{All}
 use Rattle.rds_sync.specs.declared.item.Item.{Item}
 use Rattle.rds_sync.specs.Words.{IsKeepable}

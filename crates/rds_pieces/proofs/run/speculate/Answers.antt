@@ -1,4 +1,4 @@
-use Rattle.std.proofs.Common.{◌-◌, List, length, ap, ◌∙◌, sym, arith}
+use Rattle.std.proofs.Common.{◌-◌, length, ap, ◌∙◌, sym, arith}
 use Rattle.std.proofs.lemmas.List.{length-map}
 use Rattle.rds_stream.specs.Recording.{length_of}
 use Rattle.rds_sync.specs.Codes.{KeptOf, code_of, totals_of_codes}

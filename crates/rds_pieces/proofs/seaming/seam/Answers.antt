@@ -1,8 +1,7 @@
-use Rattle.std.proofs.Common.{◌≡◌, ℕ, ◌+◌, ◌-◌, ◌*◌, ◌≤◌, List, [], Some, None, length, drop, refl, sym, ap, ap₂, subst, ◌∙◌, arith}
+use Rattle.std.proofs.Common.{◌≡◌, ℕ, ◌+◌, ◌-◌, ◌≤◌, List, Some, None, length, refl, sym, ap, ap₂, subst, ◌∙◌, arith}
 use Rattle.std.proofs.lemmas.List.{length-map}
-use Rattle.rds_stream.specs.Recording.{Signal}
 use Rattle.rds_sync.specs.declared.state.State.TheVariants.{Searching}
-use Rattle.rds_sync.specs.Codes.{KeptOf, code_of, kept_of, totals_of_codes}
+use Rattle.rds_sync.specs.Codes.{KeptOf, code_of, totals_of_codes}
 use Rattle.rds_sync.specs.Decoding.{ItemsOf}
 use Rattle.rds_sync.specs.Lawful.{IsLawful}
 use Rattle.rds_sync.specs.Marks.{marks_on}
@@ -18,7 +17,7 @@ use Rattle.rds_pieces.specs.Soon.{IsSoonMet}
 use Rattle.rds_pieces.proofs.CodeLemmas.{codes_few}
 use Rattle.rds_pieces.proofs.SeamLemmas.{renamed, run_over}
 use Rattle.rds_pieces.proofs.SoonLemmas.{soon_met}
-use Rattle.rds_pieces.proofs.WalkLemmas.{met_from, unmet_from, passed_items, count_taken, rest_marks, totals_taken, totals_fit, end_taken}
+use Rattle.rds_pieces.proofs.WalkLemmas.{met_from, unmet_from, passed_items, count_taken, rest_marks, totals_taken, totals_fit}
 use Rattle.rds_pieces.proofs.seaming.seam.Goals as goal
 
 pub marks_from-own-requires-clause-place : goal.marks_from-own-requires-clause-place

@@ -1,5 +1,4 @@
-use Rattle.std.proofs.Common.{◌++◌, List, ap, ap₂, ◌∙◌, arith}
-use Rattle.rds_stream.specs.Recording.{Signal}
+use Rattle.std.proofs.Common.{◌++◌, List, ap, ◌∙◌, arith}
 use Rattle.rds_sync.specs.declared.item.Item.{Item}
 use Rattle.rds_sync.specs.Decoding.{ItemsOf, listed}
 use Rattle.rds_sync.specs.Step.{items_of_end}

@@ -1,4 +1,4 @@
-use Rattle.std.proofs.Common.{◌≡◌, ◌≢◌, ℕ, List, ◌++◌, [], ◌+◌, ◌-◌, ◌≤◌, length, get_or, drop, sym, ap, ◌∙◌, subst, arith, refl}
+use Rattle.std.proofs.Common.{◌≡◌, ◌≢◌, ℕ, List, ◌+◌, ◌-◌, ◌<◌, ◌≤◌, length, get_or, drop, sym, ap, ◌∙◌, subst, arith, refl}
 use Rattle.rds_stream.specs.Recording.{Signal, length_of}
 use Rattle.rds_sync.specs.Rules.{RuleNumbers}
 use Rattle.rds_sync.specs.Lawful.{IsLawful, IsBetweenGroups}
@@ -8,11 +8,14 @@ use Rattle.rds_sync.specs.Step.{run}
 use Rattle.rds_sync.specs.declared.mark.Mark.{Mark}
 use Rattle.rds_pieces.specs.Inside.Advance.{IsStepTo}
 use Rattle.rds_pieces.specs.Inside.Walk.{next_place}
-use Rattle.rds_pieces.proofs.BesideLemmas.{beside_start, beside_near, beside_next, place_after}
+use Rattle.rds_pieces.specs.RunOf.{RunOf}
+use Rattle.rds_pieces.proofs.BesideLemmas.{IsBeside, beside_start, beside_near, beside_next, place_after}
 use Rattle.rds_pieces.proofs.MarkLaws.{last_index}
-use Rattle.rds_pieces.proofs.ReadsLemmas.{paid_room, paid_most, paid_start, paid_on, paid_step, paid_all}
+use Rattle.rds_pieces.proofs.ReadsLemmas.{IsPaid, paid_room, paid_most, paid_start, paid_on, paid_step, paid_all}
 use Rattle.rds_pieces.proofs.WayLemmas.{way_paid, way_step}
-use Rattle.rds_pieces.proofs.SeamLemmas.{renamed, found, unread, said, IsCarried, codes_on, limit_ahead, limit_inside, met_first, never_met}
+use Rattle.rds_pieces.proofs.SeamLemmas.{renamed, found, own, unread, said, IsCarried, codes_on, limit_ahead, limit_inside, met_first, never_met}
+use Rattle.rds_pieces.proofs.walk.go_along.Given.{Over}
+use Rattle.rds_pieces.proofs.walk.go_along.Goals.{In_ok-reached}
 use Rattle.rds_pieces.proofs.walk.go_along.Goals as goal
 
 pub advance_onto-requires-clause-lawful : goal.advance_onto-requires-clause-lawful
@@ -74,86 +77,76 @@ returns-in_err-reached-clause-reads_most g c =
     paid_step r.source r.rules (g.T.Tape.reads_made c.args.tape.now) r.from (g.T.Tape.reads_made c.along.tape) (g.T.Tape.reads_made c.advance_onto.new.tape) c.along.place c.along.limit r.to c.along.state
     carried.inside.0 (omega (arith, ahead, high)) high carried.lawful inv.paid few
 
+-- what is known once a step was gone
+module _ (g : Over) (c : In_ok-reached g) where
+  abbrev r : RunOf
+  r = c.args.run.now
+
+  apart : ¬ ((c.along.state ≡ c.along.mark.state) × IsBetweenGroups c.along.state)
+  apart = λ p. (let t = c.meets.ensures.1 p in let f = c.if-meets.false in cc)
+
+  goes : IsStepTo r.source r.rules c.along.state c.along.place c.along.limit c.in_ok-reached.reached c.in_ok-reached.after
+  goes =
+      renamed (λ b rules. IsStepTo b rules c.along.state c.along.place c.along.limit c.in_ok-reached.reached c.in_ok-reached.after) (g.T.Tape.signal c.along.tape) r.source c.args.rules.now r.rules
+      c.along.invariant.same (sym c.requires.rules) c.in_ok-reached.ensures.step
+
+  codes_are : c.advance_onto.new.codes ≡ kept_of (own r.source r.rules r.from r.to c.args.state c.in_ok-reached.reached).1
+  codes_are =
+      let beside = c.along.invariant.beside in
+      let after_mark = place_after r.source r.rules r.from r.to c.args.state c.along.place c.along.state c.along.mark c.along.ahead c.along.limit beside in
+      let given : c.advance_onto.new.codes ≡ behind c.along.codes (kept_of (run r.source r.rules c.along.state c.along.place (c.in_ok-reached.reached - c.along.place)).1) =
+      renamed (λ b rules. c.advance_onto.new.codes ≡ behind c.along.codes (kept_of (run b rules c.along.state c.along.place (c.in_ok-reached.reached - c.along.place)).1))
+      (g.T.Tape.signal c.along.tape) r.source c.args.rules.now r.rules c.along.invariant.same (sym c.requires.rules) c.in_ok-reached.ensures.codes in
+      codes_on r.source r.rules r.from r.to c.run_laws.ensures c.range-from.ensures.rules.some_loss c.args.state c.along.place beside.index c.along.limit c.in_ok-reached.reached c.along.state c.in_ok-reached.after
+      beside.carried (λ p. apart (p.0 ∙ sym (ap (λ (m : Mark). m.state) beside.passed_is), p.1)) goes after_mark c.along.codes c.advance_onto.new.codes c.along.invariant.codes_are given
+
+  paid : IsPaid r.source r.rules (g.T.Tape.reads_made c.args.tape.now) r.from (g.T.Tape.reads_made c.advance_onto.new.tape) c.in_ok-reached.reached c.in_ok-reached.after
+  paid =
+      let carried = c.along.invariant.beside.carried in
+      let few = subst (λ (y : RuleNumbers). g.T.Tape.reads_made c.advance_onto.new.tape ≤ g.T.Tape.reads_made c.along.tape + reads_most y c.along.state c.along.limit) (sym c.requires.rules) c.advance_onto.ensures.reads in
+      paid_on r.source r.rules (g.T.Tape.reads_made c.args.tape.now) r.from c.run_laws.ensures (g.T.Tape.reads_made c.along.tape) (g.T.Tape.reads_made c.advance_onto.new.tape)
+      c.along.place c.along.limit c.in_ok-reached.reached c.along.state c.in_ok-reached.after carried.inside.0 carried.lawful c.along.invariant.paid goes few
+
+  -- where no mark was passed
+  near : (ahead : List Mark) → ¬ ((c.in_ok-reached.reached ≡ c.along.limit) × (0 < length c.along.ahead)) → ahead ≡ c.along.ahead
+      → IsBeside r.source r.rules r.from r.to c.args.state c.in_ok-reached.reached c.in_ok-reached.after c.along.mark ahead c.along.limit
+  near ahead other same =
+      beside_near r.source r.rules r.from r.to c.run_laws.ensures c.range-from.ensures.rules.some_loss c.args.state c.along.place c.in_ok-reached.reached c.along.state c.in_ok-reached.after c.along.mark
+      c.along.ahead ahead c.along.limit c.along.invariant.beside apart goes other same
+
 pub along-preserved-in-Some-next : goal.along-preserved-in-Some-next
 along-preserved-in-Some-next g c =
     let r = c.args.run.now in
-    let inv = c.along.invariant in
-    let beside = inv.beside in
-    let carried = beside.carried in
-    let some = c.range-from.ensures.rules.some_loss in
-    let after_mark = place_after r.source r.rules r.from r.to c.args.state c.along.place c.along.state c.along.mark c.along.ahead c.along.limit beside in
-    let apart : ¬ ((c.along.state ≡ c.along.mark.state) × IsBetweenGroups c.along.state) = λ p. (let t = c.meets.ensures.1 p in let f = c.if-meets.false in cc) in
-    let goes : IsStepTo r.source r.rules c.along.state c.along.place c.along.limit c.in_ok-reached.reached c.in_ok-reached.after =
-    renamed (λ b rules. IsStepTo b rules c.along.state c.along.place c.along.limit c.in_ok-reached.reached c.in_ok-reached.after) (g.T.Tape.signal c.along.tape) r.source c.args.rules.now r.rules
-    inv.same (sym c.requires.rules) c.in_ok-reached.ensures.step in
-    let given : c.advance_onto.new.codes ≡ behind c.along.codes (kept_of (run r.source r.rules c.along.state c.along.place (c.in_ok-reached.reached - c.along.place)).1) =
-    renamed (λ b rules. c.advance_onto.new.codes ≡ behind c.along.codes (kept_of (run b rules c.along.state c.along.place (c.in_ok-reached.reached - c.along.place)).1))
-    (g.T.Tape.signal c.along.tape) r.source c.args.rules.now r.rules inv.same (sym c.requires.rules) c.in_ok-reached.ensures.codes in
-    let few = subst (λ (y : RuleNumbers). g.T.Tape.reads_made c.advance_onto.new.tape ≤ g.T.Tape.reads_made c.along.tape + reads_most y c.along.state c.along.limit) (sym c.requires.rules) c.advance_onto.ensures.reads in
+    let step = (goal.at.along-preserved-in-Some-next g c).In_ok-reached in
     record {
-      beside = beside_next r.source r.rules r.from r.to c.run_laws.ensures some c.args.state c.along.place c.in_ok-reached.reached c.along.state c.in_ok-reached.after c.along.mark c.in-Some-next.passed
-          c.along.ahead c.next-in-along.new.self c.along.limit c.place_of_next-limit-in-Some-next.result beside apart goes c.if-place-limit.false c.in-Some-next.ensures.steps
-          (c.place_of_next-limit-in-Some-next.ensures ∙ ap (λ (p : ℕ). next_place c.next-in-along.new.self p) c.range-from.ensures.end);
-      codes_are = codes_on r.source r.rules r.from r.to c.run_laws.ensures some c.args.state c.along.place beside.index c.along.limit c.in_ok-reached.reached c.along.state c.in_ok-reached.after
-          carried (λ p. apart (p.0 ∙ sym (ap (λ (m : Mark). m.state) beside.passed_is), p.1)) goes after_mark c.along.codes c.advance_onto.new.codes inv.codes_are given;
-      paid = paid_on r.source r.rules (g.T.Tape.reads_made c.args.tape.now) r.from c.run_laws.ensures (g.T.Tape.reads_made c.along.tape) (g.T.Tape.reads_made c.advance_onto.new.tape)
-          c.along.place c.along.limit c.in_ok-reached.reached c.along.state c.in_ok-reached.after carried.inside.0 carried.lawful inv.paid goes few;
-      same = c.advance_onto.ensures.same ∙ inv.same;
+      beside = beside_next r.source r.rules r.from r.to c.run_laws.ensures c.range-from.ensures.rules.some_loss c.args.state c.along.place c.in_ok-reached.reached c.along.state c.in_ok-reached.after c.along.mark
+          c.in-Some-next.passed c.along.ahead c.next-in-along.new.self c.along.limit c.place_of_next-limit-in-Some-next.result c.along.invariant.beside (apart g step) (goes g step) c.if-place-limit.false
+          c.in-Some-next.ensures.steps (c.place_of_next-limit-in-Some-next.ensures ∙ ap (λ (p : ℕ). next_place c.next-in-along.new.self p) c.range-from.ensures.end);
+      codes_are = codes_are g step;
+      paid = paid g step;
+      same = c.advance_onto.ensures.same ∙ c.along.invariant.same;
     }
 
 pub along-preserved-then-place-limit : goal.along-preserved-then-place-limit
 along-preserved-then-place-limit g c =
-    let r = c.args.run.now in
-    let inv = c.along.invariant in
-    let beside = inv.beside in
-    let carried = beside.carried in
-    let some = c.range-from.ensures.rules.some_loss in
-    let after_mark = place_after r.source r.rules r.from r.to c.args.state c.along.place c.along.state c.along.mark c.along.ahead c.along.limit beside in
-    let apart : ¬ ((c.along.state ≡ c.along.mark.state) × IsBetweenGroups c.along.state) = λ p. (let t = c.meets.ensures.1 p in let f = c.if-meets.false in cc) in
-    let goes : IsStepTo r.source r.rules c.along.state c.along.place c.along.limit c.in_ok-reached.reached c.in_ok-reached.after =
-    renamed (λ b rules. IsStepTo b rules c.along.state c.along.place c.along.limit c.in_ok-reached.reached c.in_ok-reached.after) (g.T.Tape.signal c.along.tape) r.source c.args.rules.now r.rules
-    inv.same (sym c.requires.rules) c.in_ok-reached.ensures.step in
-    let given : c.advance_onto.new.codes ≡ behind c.along.codes (kept_of (run r.source r.rules c.along.state c.along.place (c.in_ok-reached.reached - c.along.place)).1) =
-    renamed (λ b rules. c.advance_onto.new.codes ≡ behind c.along.codes (kept_of (run b rules c.along.state c.along.place (c.in_ok-reached.reached - c.along.place)).1))
-    (g.T.Tape.signal c.along.tape) r.source c.args.rules.now r.rules inv.same (sym c.requires.rules) c.in_ok-reached.ensures.codes in
-    let few = subst (λ (y : RuleNumbers). g.T.Tape.reads_made c.advance_onto.new.tape ≤ g.T.Tape.reads_made c.along.tape + reads_most y c.along.state c.along.limit) (sym c.requires.rules) c.advance_onto.ensures.reads in
+    let step = (goal.at.along-preserved-then-place-limit g c).In_ok-reached in
     record {
-      beside = beside_near r.source r.rules r.from r.to c.run_laws.ensures some c.args.state c.along.place c.in_ok-reached.reached c.along.state c.in_ok-reached.after c.along.mark
-          c.along.ahead c.along.ahead c.along.limit beside apart goes
-          (λ p. c.if-place-limit.true p.0) refl;
-      codes_are = codes_on r.source r.rules r.from r.to c.run_laws.ensures some c.args.state c.along.place beside.index c.along.limit c.in_ok-reached.reached c.along.state c.in_ok-reached.after
-          carried (λ p. apart (p.0 ∙ sym (ap (λ (m : Mark). m.state) beside.passed_is), p.1)) goes after_mark c.along.codes c.advance_onto.new.codes inv.codes_are given;
-      paid = paid_on r.source r.rules (g.T.Tape.reads_made c.args.tape.now) r.from c.run_laws.ensures (g.T.Tape.reads_made c.along.tape) (g.T.Tape.reads_made c.advance_onto.new.tape)
-          c.along.place c.along.limit c.in_ok-reached.reached c.along.state c.in_ok-reached.after carried.inside.0 carried.lawful inv.paid goes few;
-      same = c.advance_onto.ensures.same ∙ inv.same;
+      beside = near g step c.along.ahead (λ p. c.if-place-limit.true p.0) refl;
+      codes_are = codes_are g step;
+      paid = paid g step;
+      same = c.advance_onto.ensures.same ∙ c.along.invariant.same;
     }
 
 pub along-preserved : goal.along-preserved
 along-preserved g c =
-    let r = c.args.run.now in
-    let inv = c.along.invariant in
-    let beside = inv.beside in
-    let carried = beside.carried in
-    let some = c.range-from.ensures.rules.some_loss in
-    let after_mark = place_after r.source r.rules r.from r.to c.args.state c.along.place c.along.state c.along.mark c.along.ahead c.along.limit beside in
-    let apart : ¬ ((c.along.state ≡ c.along.mark.state) × IsBetweenGroups c.along.state) = λ p. (let t = c.meets.ensures.1 p in let f = c.if-meets.false in cc) in
-    let goes : IsStepTo r.source r.rules c.along.state c.along.place c.along.limit c.in_ok-reached.reached c.in_ok-reached.after =
-    renamed (λ b rules. IsStepTo b rules c.along.state c.along.place c.along.limit c.in_ok-reached.reached c.in_ok-reached.after) (g.T.Tape.signal c.along.tape) r.source c.args.rules.now r.rules
-    inv.same (sym c.requires.rules) c.in_ok-reached.ensures.step in
-    let given : c.advance_onto.new.codes ≡ behind c.along.codes (kept_of (run r.source r.rules c.along.state c.along.place (c.in_ok-reached.reached - c.along.place)).1) =
-    renamed (λ b rules. c.advance_onto.new.codes ≡ behind c.along.codes (kept_of (run b rules c.along.state c.along.place (c.in_ok-reached.reached - c.along.place)).1))
-    (g.T.Tape.signal c.along.tape) r.source c.args.rules.now r.rules inv.same (sym c.requires.rules) c.in_ok-reached.ensures.codes in
-    let few = subst (λ (y : RuleNumbers). g.T.Tape.reads_made c.advance_onto.new.tape ≤ g.T.Tape.reads_made c.along.tape + reads_most y c.along.state c.along.limit) (sym c.requires.rules) c.advance_onto.ensures.reads in
+    let step = (goal.at.along-preserved g c).In_ok-reached in
     record {
-      beside = beside_near r.source r.rules r.from r.to c.run_laws.ensures some c.args.state c.along.place c.in_ok-reached.reached c.along.state c.in_ok-reached.after c.along.mark
-          c.along.ahead c.next-in-along.new.self c.along.limit beside apart goes
+      beside = near g step c.next-in-along.new.self
           (λ p. let none = ap (λ (ms : List Mark). length ms) c.in_default-next.ensures.steps.0 in let some = p.1 in absurd (omega (arith, none, some)))
           (c.in_default-next.ensures.steps.1 ∙ sym c.in_default-next.ensures.steps.0);
-      codes_are = codes_on r.source r.rules r.from r.to c.run_laws.ensures some c.args.state c.along.place beside.index c.along.limit c.in_ok-reached.reached c.along.state c.in_ok-reached.after
-          carried (λ p. apart (p.0 ∙ sym (ap (λ (m : Mark). m.state) beside.passed_is), p.1)) goes after_mark c.along.codes c.advance_onto.new.codes inv.codes_are given;
-      paid = paid_on r.source r.rules (g.T.Tape.reads_made c.args.tape.now) r.from c.run_laws.ensures (g.T.Tape.reads_made c.along.tape) (g.T.Tape.reads_made c.advance_onto.new.tape)
-          c.along.place c.along.limit c.in_ok-reached.reached c.along.state c.in_ok-reached.after carried.inside.0 carried.lawful inv.paid goes few;
-      same = c.advance_onto.ensures.same ∙ inv.same;
+      codes_are = codes_are g step;
+      paid = paid g step;
+      same = c.advance_onto.ensures.same ∙ c.along.invariant.same;
     }
 
 pub returns-then-meets-clause-met : goal.returns-then-meets-clause-met

@@ -1,5 +1,5 @@
 use Rattle.std.proofs.Common.{◌+◌, ◌-◌, ◌≡◌, arith, rules, subst, sym}
-use Rattle.rds_rows.specs.Blocks.{kept_in}
+use Rattle.rds_rows.specs.Gathered.{kept_in}
 use Rattle.rds_rows.specs.Parts.{first_parts}
 use Rattle.rds_rows.specs.Writes.{AppendsBut, AppendsPrefix}
 use Rattle.rds_rows.proofs.Parts.{more_parts, next_part}
@@ -13,7 +13,7 @@ returns-in_err-write_part-clause-prefix g c =
     let old = g.W.Hand.contents c.args.out.now in
     let new = g.W.Hand.contents c.write_part.new.out in
     let more = more_parts part k c.args.parts (c.args.parts - (k + 1)) (omega arith) in
-    let here = but_prefix_more old _ new (first_parts part k) (part k) (kept_in c.loop-k.block) c.loop-k.invariant.written c.in_err-write_part.ensures.prefix in
+    let here = but_prefix_more old _ new (first_parts part k) (part k) (kept_in c.loop-k.gathered) c.loop-k.invariant.written c.in_err-write_part.ensures.prefix in
     on_any_err c.from_residual.result (subst (AppendsPrefix old new) (sym more.1) (prefix_wider old new _ more.0 here))
 
 pub loop-k-preserved : goal.loop-k-preserved
@@ -22,8 +22,8 @@ loop-k-preserved g c =
     let k = c.loop-k.k in
     let old = g.W.Hand.contents c.args.out.now in
     let new = g.W.Hand.contents c.write_part.new.out in
-    let kept = kept_in c.write_part.new.block in
-    let more = but_more old _ new (first_parts part k) (part k) (kept_in c.loop-k.block) kept c.loop-k.invariant.written c.in_ok-write_part.ensures.ok in
+    let kept = kept_in c.write_part.new.gathered in
+    let more = but_more old _ new (first_parts part k) (part k) (kept_in c.loop-k.gathered) kept c.loop-k.invariant.written c.in_ok-write_part.ensures.ok in
     record {
       name = search rules;
       written = subst (λ text. AppendsBut old new text kept) (next_part part k) more;
@@ -38,5 +38,5 @@ returns-clause-prefix g c =
     let all : c.loop-k.k ≡ c.args.parts = omega arith in
     on_err c.write_out.result
     (λ wrote. subst (λ k. AppendsPrefix old new (first k)) all
-    (but_prefix old (g.W.Hand.contents c.loop-k.out) new (first c.loop-k.k) (kept_in c.loop-k.block) c.loop-k.invariant.written wrote))
+    (but_prefix old (g.W.Hand.contents c.loop-k.out) new (first c.loop-k.k) (kept_in c.loop-k.gathered) c.loop-k.invariant.written wrote))
     c.write_out.ensures.prefix

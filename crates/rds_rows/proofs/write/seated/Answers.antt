@@ -1,22 +1,36 @@
-use Rattle.std.proofs.Common.{◌∙◌, ap, subst}
+use Rattle.std.proofs.Common.{◌≡◌, ◌∙◌, ap, rules, subst}
 use Rattle.std.specs.Io.KnownBytes.{Appends}
+use Rattle.std.specs.List.{concat}
 use Rattle.rds_rows.specs.Parts.{first_parts}
 use Rattle.rds_rows.specs.Writes.{AppendsPrefix}
 use Rattle.rds_rows.proofs.Parts.{all_rows}
+use Rattle.rds_rows.proofs.write.seated.Given.{Over}
+use Rattle.rds_rows.proofs.write.seated.Goals.{After-by_pool}
 use Rattle.rds_rows.proofs.write.seated.Goals as goal
 
-pub returns-in_default-Ok-clause-ok : goal.returns-in_default-Ok-clause-ok
-returns-in_default-Ok-clause-ok g c =
-    let rows = g.T.Rows.rows c.args.rows.now in
-    let parts = c.args.plan.parts in
-    let whole = ap (λ part. first_parts part parts) c.requires.named.1 ∙ all_rows rows g.J.Named.size.0 parts c.requires.parts in
-    let wrote = rw c.in_default-Ok.is-1 at c.by_pool.ensures.ok in
-    subst (Appends (g.W.Hand.contents c.args.out) (g.W.Hand.contents c.by_pool.result.0)) whole wrote
+-- the parts, one behind the other, are all rows
+whole : (g : Over) (c : After-by_pool g) → first_parts g.J.Named.part c.args.plan.parts ≡ concat (g.T.Rows.rows c.args.rows.now)
+whole g c =
+    ap (λ part. first_parts part c.args.plan.parts) c.requires.named.1 ∙ all_rows (g.T.Rows.rows c.args.rows.now) g.J.Named.size.0 c.args.plan.parts c.requires.parts
 
-pub returns-clause-prefix : goal.returns-clause-prefix
-returns-clause-prefix g c =
-    let rows = g.T.Rows.rows c.args.rows.now in
-    let parts = c.args.plan.parts in
-    let whole = ap (λ part. first_parts part parts) c.requires.named.1 ∙ all_rows rows g.J.Named.size.0 parts c.requires.parts in
+pub returns-in_default-Ok-clause-written : goal.returns-in_default-Ok-clause-written
+returns-in_default-Ok-clause-written g c =
+    let wrote = rw c.in_default-Ok.is-1 at c.by_pool.ensures.ok in
+    record {
+      ok = subst (Appends (g.W.Hand.contents c.args.out) (g.W.Hand.contents c.by_pool.result.0)) (whole g (goal.at.returns-in_default-Ok-clause-written g c).After-by_pool) wrote;
+      count = search rules;
+      write = search rules;
+      untouched = search rules;
+      prefix = search rules;
+    }
+
+pub returns-clause-written : goal.returns-clause-written
+returns-clause-written g c =
     let wrote = rw c.in_default-Err.is-1 at c.by_pool.ensures.prefix in
-    λ _. subst (AppendsPrefix (g.W.Hand.contents c.args.out) (g.W.Hand.contents c.by_pool.result.0)) whole wrote
+    record {
+      ok = search rules;
+      count = search rules;
+      write = search rules;
+      untouched = search rules;
+      prefix = λ _. subst (AppendsPrefix (g.W.Hand.contents c.args.out) (g.W.Hand.contents c.by_pool.result.0)) (whole g (goal.at.returns-clause-written g c).After-by_pool) wrote;
+    }

@@ -1,11 +1,11 @@
-use Rattle.std.proofs.Common.{◌≡◌, ℕ, ◌-◌, ◌<◌, ◌≤◌, List, ◌++◌, refl, sym, ap, subst, ◌∙◌, arith, inl}
+use Rattle.std.proofs.Common.{◌≡◌, ℕ, ◌-◌, ◌<◌, ◌≤◌, List, ◌++◌, refl, sym, ap, ◌∙◌, arith, inl}
 use Rattle.rds_stream.specs.Recording.{Signal}
 use Rattle.rds_sync.specs.declared.lock.Lock.{Lock}
 use Rattle.rds_sync.specs.declared.item.Item.{Item}
 use Rattle.rds_sync.specs.declared.state.State.{State}
+use Rattle.rds_sync.specs.declared.state.State.TheVariants.{Locked}
 use Rattle.rds_sync.specs.Codes.{KeptOf, behind, kept_of}
 use Rattle.rds_sync.specs.Inside.CodeRuns.{HasPassed, IsCodeStretch}
-use Rattle.rds_sync.specs.Inside.Due.{state_in}
 use Rattle.rds_sync.specs.Lawful.{IsLawful, IsLawfulLock}
 use Rattle.rds_sync.specs.Rules.{RuleNumbers}
 use Rattle.rds_sync.specs.Step.{run}
@@ -13,19 +13,19 @@ use Rattle.rds_sync.proofs.RunLemmas.{run-early, run-places}
 use Rattle.rds_sync.proofs.code_run.keep_codes.Goals as goal
 
 module _ (b : Signal) (rules : RuleNumbers) (lock next : Lock) (place to : ℕ) (before after : KeptOf) (passed : HasPassed b rules lock to before next after)
-    (lawful : IsLawfulLock rules place lock.due lock.number lock.bad lock.first) (start : 25 ≤ lock.due) (more : lock.due < next.due) where
+    (lawful : IsLawfulLock rules place lock) (start : 25 ≤ lock.due) (more : lock.due < next.due) where
   -- what is waited for before the place changes nothing
-  same-run : run b rules (state_in lock) (lock.due - 25) (next.due - lock.due) ≡ run b rules (state_in lock) place (next.due - 25 - place)
+  same-run : run b rules (Locked lock) (lock.due - 25) (next.due - lock.due) ≡ run b rules (Locked lock) place (next.due - 25 - place)
   same-run =
       let soon = lawful.soon in
       let far = passed.far more in
       let count : next.due - lock.due ≡ next.due - 25 - (lock.due - 25) = omega (arith, start, more) in
-      ap (λ (n : ℕ). run b rules (state_in lock) (lock.due - 25) n) count
-      ∙ run-places b rules (state_in lock) (lock.due - 25) place (next.due - 25) (omega (arith, soon.1)) (omega (arith, soon.0, far))
+      ap (λ (n : ℕ). run b rules (Locked lock) (lock.due - 25) n) count
+      ∙ run-places b rules (Locked lock) (lock.due - 25) place (next.due - 25) (omega (arith, soon.1)) (omega (arith, soon.0, far))
       ∙ ap (λ (r : State × List Item). ((run b rules r.0 place (next.due - 25 - place)).0, r.1 ++ (run b rules r.0 place (next.due - 25 - place)).1))
-      (run-early b rules (state_in lock) (lock.due - 25) place lock.due lock.number lock.bad lock.first refl (omega (arith, soon.1)) soon.0)
+      (run-early b rules (Locked lock) (lock.due - 25) place lock refl (omega (arith, soon.1)) soon.0)
 
-  lawful-next : IsLawful rules (next.due - 25) (state_in next)
+  lawful-next : IsLawful rules (next.due - 25) (Locked next)
   lawful-next =
       let far = passed.far more in
       record {
@@ -35,13 +35,13 @@ module _ (b : Signal) (rules : RuleNumbers) (lock next : Lock) (place to : ℕ) 
         in_order = inl passed.between;
       }
 
-  stretch-is : (t : State) → t ≡ state_in next → IsCodeStretch b rules (state_in lock) place to before (next.due - 25, t) after
-  stretch-is t is = record {
+  stretch-is : IsCodeStretch b rules (Locked lock) place to before (next.due - 25, Locked next) after
+  stretch-is = record {
     forward = omega (arith, lawful.soon.0, passed.far more);
     limit = passed.limit more;
-    state = is ∙ sym passed.state ∙ ap (λ (r : State × List Item). r.0) same-run;
+    state = sym passed.state ∙ ap (λ (r : State × List Item). r.0) same-run;
     codes = passed.codes ∙ ap (λ (r : State × List Item). behind before (kept_of r.1)) same-run;
-    lawful = subst (λ (u : State). IsLawful rules (next.due - 25) u) (sym is) lawful-next;
+    lawful = lawful-next;
   }
 
 pub pass_whole_groups-requires-clause-near : goal.pass_whole_groups-requires-clause-near
@@ -51,4 +51,4 @@ pub returns-then-next-lock-clause-reached : goal.returns-then-next-lock-clause-r
 returns-then-next-lock-clause-reached c =
     let room = c.requires.lawful.enough_bits in
     stretch-is c.args.reader.now c.args.rules.now c.args.lock c.in_ok-next.next c.args.place c.args.to c.args.codes.now c.pass_whole_groups.new.codes c.in_ok-next.ensures.passed
-    c.requires.lawful (omega (arith, room)) c.if-next-lock.true c.state.result c.state.ensures
+    c.requires.lawful (omega (arith, room)) c.if-next-lock.true

@@ -6,8 +6,9 @@ use Rattle.rds_code.specs.Offsets.{number}
 use Rattle.rds_stream.specs.Recording.{Signal, off}
 use Rattle.rds_stream.specs.ValidWindows.{WindowsLeft, GivesFirst, NoneValid}
 use Rattle.rds_sync.specs.declared.item.Item.{Item}
+use Rattle.rds_sync.specs.declared.lock.Lock.{Lock}
 use Rattle.rds_sync.specs.declared.state.State.{State}
-use Rattle.rds_sync.specs.declared.state.State.TheVariants.{Searching}
+use Rattle.rds_sync.specs.declared.state.State.TheVariants.{Searching, Locked}
 use Rattle.rds_sync.specs.Codes.{KeptOf, behind, kept_of}
 use Rattle.rds_sync.proofs.CodeMarks.{acquired-number}
 use Rattle.rds_sync.proofs.CodePartLemmas.{behind-none}
@@ -17,10 +18,7 @@ use Rattle.rds_sync.specs.Inside.CodeParts.{kept_as}
 use Rattle.rds_sync.specs.Inside.ShortLocks.{IsLostAtOnce}
 use Rattle.rds_sync.specs.Lawful.{IsLawful}
 use Rattle.rds_sync.specs.Rules.{RuleNumbers}
-use Rattle.rds_sync.specs.Loss.{none_bad}
-use Rattle.rds_sync.specs.declared.loss.Loss.{Loss}
-use Rattle.rds_sync.specs.declared.loss.Bad.{Bad}
-use Rattle.rds_sync.specs.Step.{step, items_at, locked_after, run}
+use Rattle.rds_sync.specs.Step.{step, items_at, run, lock_after}
 use Rattle.rds_sync.proofs.RunLemmas.{step-acquiring, run-found, run-unfound, run-further}
 use Rattle.rds_sync.proofs.LawfulLemmas.{acquired-none, lawful-step, off-place}
 use Rattle.rds_sync.proofs.HeardLemmas.{acquired-offset}
@@ -84,8 +82,8 @@ module _ (b read : Signal) (rules : RuleNumbers) (place to : ℕ) (old : Windows
       acquired-offset b rules here x offset found answer (offset_is (here, offset) new gives) number_is
       (partner ∙ ap (λ (signal : Signal). list_any (has_partner signal here x) (range_with_len 1 rules.reach)) rec_is) answered
 
-pub push_found-requires-clause-place : goal.push_found-requires-clause-place
-push_found-requires-clause-place c =
+pub push_found-requires : goal.push_found-requires
+push_found-requires c =
     let b = c.args.reader.now in
     let l = c.loop-here in
     let here = c.in-Some.here in
@@ -128,9 +126,9 @@ returns-in_default-word_if_lost-clause-reached c =
     let found_is = run-found b rules l.windows.next here given.0 (none_before b l.reader rules c.args.place c.args.to l.windows c.args.codes.now l.codes searched here given.2) in
     let all = run_to b l.reader rules c.args.place c.args.to l.windows c.args.codes.now l.codes searched (here + 1) (step b rules here Searching)
     (items_at b rules here Searching) c.push_found.new.codes low found_is in
-    let state_is : c.state.result ≡ step b rules here Searching =
-    c.state.ensures ∙ c.after_block-lock.ensures
-    ∙ ap (λ (bad : Bad). locked_after here x bad x) (c.none_bad.ensures ∙ ap (λ (loss : Loss). none_bad loss) c.loss.ensures.value)
+    let state_is : Locked c.after_block-lock.result ≡ step b rules here Searching =
+    ap (λ (lock : Lock). Locked lock) c.after_block-lock.ensures
+    ∙ ap (λ (n : ℕ). Locked (lock_after here n 0 n)) c.get-number.ensures.value
     ∙ sym (step-acquiring b rules here x e) in
     record {
       forward = omega (arith, given.0, searched.from_on);
@@ -140,7 +138,7 @@ returns-in_default-word_if_lost-clause-reached c =
           (items_at b rules here Searching) c.push_found.new.codes low found_is (c.in_ok-push_found.ensures b rules e)
           ∙ ap (λ (r : State × List Item). behind c.args.codes.now (kept_of r.1)) (sym all);
       lawful = subst (λ (t : State). IsLawful rules (here + 1) t) (sym state_is)
-          (lawful-step b rules c.loss.ensures.range.some_loss here Searching tt);
+          (lawful-step b rules c.reach.ensures.range.some_loss here Searching tt);
     }
 
 pub loop-here-preserved-then-has_partner_in : goal.loop-here-preserved-then-has_partner_in
@@ -157,7 +155,7 @@ loop-here-preserved-then-has_partner_in c =
     let e : acquired b rules here ≡ Some x = acquires b l.reader rules c.args.place c.args.to l.windows c.args.codes.now l.codes searched here x offset c.next.new.self
     c.recording-rec.result.now c.has_partner_in.result true given c.number-number.ensures c.recording-rec.ensures c.has_partner_in.ensures c.if-has_partner_in.true in
     let lost = subst (λ (signal : Signal). IsLostAtOnce signal rules here x c.args.to word) searched.same c.in-Some-word_if_lost.ensures.lost in
-    let lock : State = locked_after here x (none_bad rules.loss) x in
+    let lock : State = Locked (lock_after here x 0 x) in
     let run_is = short-run b rules here x c.args.to word e lost l.windows.next given.0
     (none_before b l.reader rules c.args.place c.args.to l.windows c.args.codes.now l.codes searched here given.2) in
     let codes_are = kept-further l.codes c.push_found.new.codes c.push_lost.new.self (items_at b rules here Searching) (items_at b rules (here + 26) lock)

@@ -1,5 +1,4 @@
 use Rattle.std.proofs.Common.{◌≡◌, ℕ, ◌+◌, ◌-◌, suc, Bool, List, ap, sym, ◌∙◌, arith}
-use Rattle.rds_sync.specs.declared.loss.Bad.{Bad}
 use Rattle.rds_sync.specs.Codes.{Outcome}
 use Rattle.rds_sync.specs.Marks.{bad_counted, counted_over, good_at}
 use Rattle.rds_sync.specs.Words.{blocks_in}
@@ -13,6 +12,6 @@ loop-y-preserved c =
     let last = c.args.last in
     let more : suc last - l.y ≡ suc (suc last - (l.y + 1)) = omega (arith, c.loop-y-test.true) in
     let now_is : c.counted-now.result ≡ bad_counted loss (good_at os l.y) l.now = c.counted-now.ensures ∙ ap (λ (t : Bool). bad_counted loss t l.now) c.is_good_at.ensures in
-    ap (λ (b : Bad). counted_over loss os b (l.y + 1) (suc last - (l.y + 1))) now_is
+    ap (λ (b : ℕ). counted_over loss os b (l.y + 1) (suc last - (l.y + 1))) now_is
     ∙ sym (ap (λ (n : ℕ). counted_over loss os l.now l.y n) more)
     ∙ l.invariant

@@ -1,5 +1,4 @@
-use Rattle.std.proofs.Common.{◌≡◌, ◌+◌, ◌≤◌, ◌*◌, ◌^◌, ◌∷◌, length, sym, ap, ◌∙◌, arith}
-use Rattle.rds_sync.specs.declared.loss.Bad.{Bad}
+use Rattle.std.proofs.Common.{ℕ, ◌≡◌, ◌+◌, ◌≤◌, ◌*◌, ◌^◌, ◌∷◌, length, sym, ap, ◌∙◌, arith}
 use Rattle.rds_sync.specs.declared.mark.Mark.{Mark}
 use Rattle.rds_sync.specs.Codes.{KeptOf}
 use Rattle.rds_sync.specs.Inside.CodeCursors.{kept_ahead}
@@ -19,7 +18,7 @@ loop-count-preserved c =
     let one : length (kept_ahead l.ahead).codes ≡ length (kept_ahead rest).codes + 1 = ap (λ (k : KeptOf). length k.codes) c.in-Some.ensures.ahead ∙ omega arith in
     let next : marks_ahead loss l.ahead now ≡ after ∷ marks_ahead loss rest after =
     next-whole loss w l.due l.bad l.count (kept_ahead rest) (kept_ahead l.ahead) c.in-Some.ensures.word.0 c.in-Some.ensures.word.1 c.in-Some.ensures.ahead c.in-Some.ensures.stays
-    ∙ sym (ap (λ (b : Bad). between_groups (l.due + 104) b (l.count + 1) ∷ marks_ahead loss rest (between_groups (l.due + 104) b (l.count + 1))) c.counted_over_four-bad.ensures) in
+    ∙ sym (ap (λ (b : ℕ). between_groups (l.due + 104) b (l.count + 1) ∷ marks_ahead loss rest (between_groups (l.due + 104) b (l.count + 1))) c.counted_over_four-bad.ensures) in
     let near : l.due ≤ 2 ^ 37 + 256 * l.count = has.before_rest.near.2 in (
       omega (arith, l.invariant.0),
       record {

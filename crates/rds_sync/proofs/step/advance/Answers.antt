@@ -19,31 +19,31 @@ returns-in-Searching-clause-lawful g c =
 pub returns-in-Locked-clause-state : goal.returns-in-Locked-clause-state
 returns-in-Locked-clause-state g c =
     let l = c.in-Locked in
-    let lock = lawful-lock c.args.rules.now c.args.state c.args.place l.due l.number l.bad l.first l.is c.requires.lawful in
+    let lock = lawful-lock c.args.rules.now c.args.state c.args.place l.lock l.is c.requires.lawful in
     c.read_due.ensures.state
     ∙ sym (ap (λ (r : State × List Item). r.0)
-    (run-due (g.T.Tape.signal c.args.tape.now) c.args.rules.now c.args.state c.args.place c.read_due.result.place l.due l.number l.bad l.first l.is
+    (run-due (g.T.Tape.signal c.args.tape.now) c.args.rules.now c.args.state c.args.place c.read_due.result.place l.lock l.is
     lock.soon.0 c.read_due.ensures.place))
 
 pub returns-in-Locked-clause-items : goal.returns-in-Locked-clause-items
 returns-in-Locked-clause-items g c =
     let l = c.in-Locked in
-    let lock = lawful-lock c.args.rules.now c.args.state c.args.place l.due l.number l.bad l.first l.is c.requires.lawful in
+    let lock = lawful-lock c.args.rules.now c.args.state c.args.place l.lock l.is c.requires.lawful in
     c.read_due.ensures.items
     ∙ sym (ap (λ (r : State × List Item). r.1)
-    (run-due (g.T.Tape.signal c.args.tape.now) c.args.rules.now c.args.state c.args.place c.read_due.result.place l.due l.number l.bad l.first l.is
+    (run-due (g.T.Tape.signal c.args.tape.now) c.args.rules.now c.args.state c.args.place c.read_due.result.place l.lock l.is
     lock.soon.0 c.read_due.ensures.place))
 
 pub returns-in-Locked-2-clause-state : goal.returns-in-Locked-2-clause-state
 returns-in-Locked-2-clause-state g c =
     let l = c.in-Locked in
     sym (ap (λ (r : State × List Item). r.0)
-    (run-early (g.T.Tape.signal c.args.tape.now) c.args.rules.now c.args.state c.args.place c.args.to l.due l.number l.bad l.first l.is
-    (omega (arith, c.requires.before)) c.if-due-to.false))
+    (run-early (g.T.Tape.signal c.args.tape.now) c.args.rules.now c.args.state c.args.place c.args.to l.lock l.is
+    (omega (arith, c.requires.before)) c.if-lock-to.false))
 
 pub returns-in-Locked-2-clause-items : goal.returns-in-Locked-2-clause-items
 returns-in-Locked-2-clause-items g c =
     let l = c.in-Locked in
     sym (ap (λ (r : State × List Item). r.1)
-    (run-early (g.T.Tape.signal c.args.tape.now) c.args.rules.now c.args.state c.args.place c.args.to l.due l.number l.bad l.first l.is
-    (omega (arith, c.requires.before)) c.if-due-to.false))
+    (run-early (g.T.Tape.signal c.args.tape.now) c.args.rules.now c.args.state c.args.place c.args.to l.lock l.is
+    (omega (arith, c.requires.before)) c.if-lock-to.false))

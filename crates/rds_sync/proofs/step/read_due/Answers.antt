@@ -17,7 +17,7 @@ returns-in-Inside-clause-state g c =
     let lock = c.args.lock in
     let good = good-heard b lock.due lock.number c.window-heard.result c.is_numbered.result (omega arith) c.window-heard.ensures.value c.is_numbered.ensures in
     let after = subst (λ (loss : Loss). IsAfter loss lock c.is_numbered.result c.after.result) c.loss.ensures.value c.after.ensures in
-    c.state.ensures ∙ ap state_of (sym c.in-Inside.is) ∙ sym (step-due b rules lock c.is_numbered.result good c.after.result after)
+    ap state_of (sym c.in-Inside.is) ∙ sym (step-due b rules lock c.is_numbered.result good c.after.result after)
 
 pub returns-in-Inside-clause-items : goal.returns-in-Inside-clause-items
 returns-in-Inside-clause-items g c =
@@ -36,7 +36,7 @@ returns-in-Closed-clause-state g c =
     let lock = c.args.lock in
     let good = good-heard b lock.due lock.number c.window-heard.result c.is_numbered.result (omega arith) c.window-heard.ensures.value c.is_numbered.ensures in
     let after = subst (λ (loss : Loss). IsAfter loss lock c.is_numbered.result c.after.result) c.loss.ensures.value c.after.ensures in
-    c.state-in-Closed.ensures ∙ ap state_of (sym c.in-Closed.is) ∙ sym (step-due b rules lock c.is_numbered.result good c.after.result after)
+    ap state_of (sym c.in-Closed.is) ∙ sym (step-due b rules lock c.is_numbered.result good c.after.result after)
 
 pub returns-in-Closed-clause-items : goal.returns-in-Closed-clause-items
 returns-in-Closed-clause-items g c =

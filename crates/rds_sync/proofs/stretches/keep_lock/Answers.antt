@@ -10,7 +10,7 @@ use Rattle.rds_sync.specs.declared.lock.Lock.{Lock}
 use Rattle.rds_sync.specs.declared.state.State.{State}
 use Rattle.rds_sync.specs.declared.state.State.TheVariants.{Locked}
 use Rattle.rds_sync.specs.Lawful.{IsLawful}
-use Rattle.rds_sync.specs.Inside.Due.{state_in, state_of}
+use Rattle.rds_sync.specs.Inside.Due.{state_of}
 use Rattle.rds_sync.specs.Inside.Locks.{IsFollowed, items_of_due}
 use Rattle.rds_sync.specs.Loss.{IsLoss}
 use Rattle.rds_sync.specs.Rules.{RuleNumbers}
@@ -23,40 +23,40 @@ use Rattle.rds_sync.proofs.stretches.keep_lock.Goals as goal
 module _ (b read : Signal) (rules : RuleNumbers) (s : State) (place to : ℕ) (now : Lock) (blocks : List Block)
     (loss : IsLoss rules.loss) (followed : HasFollowed b read rules s place to now blocks) where
   abbrev lock : State
-  lock = Locked now.due now.number now.bad now.first
+  lock = Locked now
 
   -- the run up to and including the block that is due
   one_more : run b rules s place (now.due + 1 - place) ≡ (step b rules now.due lock, items_at b rules now.due lock)
   one_more =
       let soon = followed.lawful.soon in
-      let next_run = run-due b rules lock followed.next (now.due + 1) now.due now.number now.bad now.first refl soon.0 refl in
+      let next_run = run-due b rules lock followed.next (now.due + 1) now refl soon.0 refl in
       run-further b rules s lock _ [] _ place followed.next (now.due + 1) followed.from_on (omega (arith, soon.0))
       followed.so_far (sym (ap (λ (r : State × List Item). r.0) next_run)) (sym (ap (λ (r : State × List Item). r.1) next_run))
 
   lawful_after : IsLawful rules (now.due + 1) (step b rules now.due lock)
-  lawful_after = lawful-due b rules followed.next now.due now.number now.bad now.first loss followed.lawful
+  lawful_after = lawful-due b rules followed.next now loss followed.lawful
 
   -- the run up to a place before the block that is due
   waited : (later : ℕ) → followed.next ≤ later → later ≤ now.due → run b rules s place (later - place) ≡ (lock, [])
   waited later low high =
-      let wait = run-early b rules lock followed.next later now.due now.number now.bad now.first refl low high in
+      let wait = run-early b rules lock followed.next later now refl low high in
       run-further b rules s lock _ [] [] place followed.next later followed.from_on low followed.so_far
       (sym (ap (λ (r : State × List Item). r.0) wait)) (sym (ap (λ (r : State × List Item). r.1) wait))
 
 -- what the block that is due does over what was read, it does over the recording
 module _ (b read : Signal) (rules : RuleNumbers) (lock : Lock) (same : read ≡ b) where
-  state_over : (t : State) → t ≡ step read rules lock.due (state_in lock) → t ≡ step b rules lock.due (state_in lock)
-  state_over t is = is ∙ ap (λ (signal : Signal). step signal rules lock.due (state_in lock)) same
+  state_over : (t : State) → t ≡ step read rules lock.due (Locked lock) → t ≡ step b rules lock.due (Locked lock)
+  state_over t is = is ∙ ap (λ (signal : Signal). step signal rules lock.due (Locked lock)) same
 
-  items_over : (given : List Item) → given ≡ items_at read rules lock.due (state_in lock) → given ≡ items_at b rules lock.due (state_in lock)
-  items_over given is = is ∙ ap (λ (signal : Signal). items_at signal rules lock.due (state_in lock)) same
+  items_over : (given : List Item) → given ≡ items_at read rules lock.due (Locked lock) → given ≡ items_at b rules lock.due (Locked lock)
+  items_over given is = is ∙ ap (λ (signal : Signal). items_at signal rules lock.due (Locked lock)) same
 
 pub loop-now-preserved : goal.loop-now-preserved
 loop-now-preserved c =
     let b = c.args.reader.now in
     let rules = c.args.rules.now in
     let a = c.args.lock in
-    let s : State = Locked a.due a.number a.bad a.first in
+    let s : State = Locked a in
     let loss = c.reach.ensures.range.some_loss in
     let l = c.loop-now in
     let now = l.now in
@@ -92,14 +92,14 @@ returns-in-Closed-clause-reached c =
     let b = c.args.reader.now in
     let rules = c.args.rules.now in
     let a = c.args.lock in
-    let s : State = Locked a.due a.number a.bad a.first in
+    let s : State = Locked a in
     let loss = c.reach.ensures.range.some_loss in
     let l = c.loop-now in
     let now = l.now in
     let followed = l.invariant in
     let soon = followed.lawful.soon in
     let more = one_more b c.loop-now.reader rules s c.args.place c.args.to now l.blocks loss followed in
-    let state_is = c.state.ensures ∙ ap (λ (o : Due). state_of o) (sym c.in-Closed.is) ∙ state_over b c.loop-now.reader rules now followed.same _ c.follow.ensures.state in
+    let state_is = ap (λ (o : Due). state_of o) (sym c.in-Closed.is) ∙ state_over b c.loop-now.reader rules now followed.same _ c.follow.ensures.state in
     let given = subst (λ (signal : Signal). IsFollowed signal rules now c.follow.new.blocks (Closed c.in-Closed.next)) followed.same
     (subst (λ (o : Due). IsFollowed c.loop-now.reader rules now c.follow.new.blocks o) c.in-Closed.is c.follow.ensures.followed) in
     let last : now.due + 1 - 1 ≡ now.due = omega arith in
@@ -121,7 +121,7 @@ returns-in-Lost-clause-reached c =
     let b = c.args.reader.now in
     let rules = c.args.rules.now in
     let a = c.args.lock in
-    let s : State = Locked a.due a.number a.bad a.first in
+    let s : State = Locked a in
     let loss = c.reach.ensures.range.some_loss in
     let l = c.loop-now in
     let now = l.now in
@@ -150,7 +150,7 @@ returns-clause-reached c =
     let b = c.args.reader.now in
     let rules = c.args.rules.now in
     let a = c.args.lock in
-    let s : State = Locked a.due a.number a.bad a.first in
+    let s : State = Locked a in
     let loss = c.reach.ensures.range.some_loss in
     let l = c.loop-now in
     let now = l.now in
@@ -160,10 +160,9 @@ returns-clause-reached c =
     record {
       forward = c.requires.order;
       limit = omega arith;
-      state = c.state-2.ensures ∙ sym (ap (λ (r : State × List Item). r.0) wait);
+      state = sym (ap (λ (r : State × List Item). r.0) wait);
       items = sym nothing;
       quiet = run-quiet b rules s c.args.place c.args.to c.requires.order nothing;
       ended = inl refl;
-      lawful = subst (λ (t : State). IsLawful rules c.args.to t) (sym c.state-2.ensures)
-          (lawful-waiting rules followed.next c.args.to now.due now.number now.bad now.first followed.lawful followed.limit c.loop-now-test.false);
+      lawful = lawful-waiting rules followed.next c.args.to now followed.lawful followed.limit c.loop-now-test.false;
     }

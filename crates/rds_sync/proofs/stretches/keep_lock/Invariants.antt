@@ -17,12 +17,12 @@ pub record HasFollowed (b read : Signal) (rules : RuleNumbers) (s : State) (plac
   pub next : ℕ
   pub from_on : place ≤ next
   pub limit : next ≤ to
-  pub lawful : IsLawfulLock rules next now.due now.number now.bad now.first
+  pub lawful : IsLawfulLock rules next now
   pub in_progress : IsInProgress b rules now blocks
-  pub so_far : run b rules s place (next - place) ≡ (Locked now.due now.number now.bad now.first, [])
+  pub so_far : run b rules s place (next - place) ≡ (Locked now, [])
 
 abbrev pub invariant-loop-now : goal.invariant-loop-now
-invariant-loop-now l = HasFollowed l.fn.reader l.reader l.rules (Locked l.fn.lock.due l.fn.lock.number l.fn.lock.bad l.fn.lock.first) l.place l.to l.now l.blocks
+invariant-loop-now l = HasFollowed l.fn.reader l.reader l.rules (Locked l.fn.lock) l.place l.to l.now l.blocks
 
 abbrev pub decreases-loop-now : goal.decreases-loop-now
 decreases-loop-now l = l.to - l.now.due

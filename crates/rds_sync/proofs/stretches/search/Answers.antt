@@ -5,17 +5,16 @@ use Rattle.rds_code.specs.declared.offset.Offset.{Offset}
 use Rattle.rds_stream.specs.Recording.{Signal, heard, off}
 use Rattle.rds_stream.specs.ValidWindows.{WindowsLeft, GivesFirst, NoneValid}
 use Rattle.rds_sync.specs.declared.item.Item.{Item}
+use Rattle.rds_sync.specs.declared.lock.Lock.{Lock}
 use Rattle.rds_sync.specs.declared.state.State.{State}
-use Rattle.rds_sync.specs.declared.state.State.TheVariants.{Searching}
+use Rattle.rds_sync.specs.declared.state.State.TheVariants.{Searching, Locked}
 use Rattle.rds_sync.specs.Acquiring.{acquired, has_partner}
 use Rattle.rds_sync.specs.Lawful.{IsLawful}
 use Rattle.rds_sync.specs.Rules.{RuleNumbers}
-use Rattle.rds_sync.specs.Loss.{none_bad}
-use Rattle.rds_sync.specs.declared.loss.Loss.{Loss}
-use Rattle.rds_sync.specs.Step.{step, locked_after}
+use Rattle.rds_sync.specs.Step.{step}
 use Rattle.rds_sync.proofs.ItemLemmas.{some_given}
 use Rattle.rds_sync.proofs.RunLemmas.{step-acquiring, items-acquiring, run-found, run-quiet, run-unfound}
-use Rattle.rds_sync.proofs.LawfulLemmas.{acquired-none, lawful-step, number-range, off-place}
+use Rattle.rds_sync.proofs.LawfulLemmas.{acquired-none, lawful-step, off-place}
 use Rattle.rds_sync.proofs.HeardLemmas.{acquired-offset}
 use Rattle.rds_sync.proofs.stretches.search.Invariants.{HasSearched}
 use Rattle.rds_sync.proofs.stretches.search.Goals as goal
@@ -83,9 +82,6 @@ items-requires c =
     c.loop-here.invariant.2 (c.in-Some.here, c.in-Some.offset) c.next.new.self c.in-Some.ensures.steps) in
     record { block = (late, c.window.ensures.block) }
 
-pub lock-requires-clause-number : goal.lock-requires-clause-number
-lock-requires-clause-number c = omega (arith, c.number-number.ensures, number-range c.in-Some.offset)
-
 pub returns-then-has_partner_in-clause-reached : goal.returns-then-has_partner_in-clause-reached
 returns-then-has_partner_in-clause-reached c =
     let b = c.args.reader.now in
@@ -105,9 +101,8 @@ returns-then-has_partner_in-clause-reached c =
     acquired-offset b rules here number offset c.has_partner_in.result true
     is c.number-number.ensures partner_is c.if-has_partner_in.true in
     let run_is = run-found b rules c.args.place here range.0 none in
-    let state_is : c.state.result ≡ step b rules here Searching =
-    c.state.ensures ∙ c.lock.ensures
-    ∙ ap (λ (loss : Loss). locked_after here number (none_bad loss) number) c.loss.ensures.value
+    let state_is : Locked c.lock.result ≡ step b rules here Searching =
+    ap (λ (lock : Lock). Locked lock) c.lock.ensures
     ∙ sym (step-acquiring b rules here number e) in
     let given = c.items.ensures b (c.window.ensures.value ∙ ap (λ (signal : Signal). heard signal here) searched.same) ∙ sym (items-acquiring b rules here number e) in
     let last : here + 1 - 1 ≡ here = omega arith in
@@ -119,7 +114,7 @@ returns-then-has_partner_in-clause-reached c =
       quiet = rw last (ap (λ (r : State × List Item). r.1) (run-unfound b rules c.args.place here range.0 none));
       ended = inr (some_given _ _ _ (given ∙ items-acquiring b rules here number e));
       lawful = subst (λ (t : State). IsLawful rules (here + 1) t) (sym state_is)
-          (lawful-step b rules c.loss.ensures.range.some_loss here Searching tt);
+          (lawful-step b rules c.reach.ensures.range.some_loss here Searching tt);
     }
 
 pub returns-clause-reached : goal.returns-clause-reached

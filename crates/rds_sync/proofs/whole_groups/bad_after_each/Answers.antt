@@ -1,5 +1,4 @@
 use Rattle.std.proofs.Common.{◌≡◌, ◌+◌, ◌<◌, ℕ, zero, suc, List, Bool, false, sym, ap, ◌∙◌, arith}
-use Rattle.rds_sync.specs.declared.loss.Bad.{Bad}
 use Rattle.rds_sync.specs.Codes.{Outcome}
 use Rattle.rds_sync.specs.Loss.{are_too_many, bad_after}
 use Rattle.rds_sync.specs.Marks.{bad_over, good_at}
@@ -21,11 +20,11 @@ returns-clause-kept c =
     let bad = c.args.bad in
     let one : c.in_ok-one.one ≡ bad_over loss os bad 1 1 = c.in_ok-one.ensures.bad ∙ ap (λ (g : Bool). bad_after loss g bad) c.was_valid.ensures in
     let two : c.in_ok-two.two ≡ bad_over loss os bad 1 2 =
-    c.in_ok-two.ensures.bad ∙ ap (λ (g : Bool). bad_after loss g c.in_ok-one.one) c.was_valid-2.ensures ∙ ap (λ (b : Bad). bad_after loss (good_at os 2) b) one in
+    c.in_ok-two.ensures.bad ∙ ap (λ (g : Bool). bad_after loss g c.in_ok-one.one) c.was_valid-2.ensures ∙ ap (λ (b : ℕ). bad_after loss (good_at os 2) b) one in
     let three : c.in_ok-three.three ≡ bad_over loss os bad 1 3 =
-    c.in_ok-three.ensures.bad ∙ ap (λ (g : Bool). bad_after loss g c.in_ok-two.two) c.was_valid-3.ensures ∙ ap (λ (b : Bad). bad_after loss (good_at os 3) b) two in
+    c.in_ok-three.ensures.bad ∙ ap (λ (g : Bool). bad_after loss g c.in_ok-two.two) c.was_valid-3.ensures ∙ ap (λ (b : ℕ). bad_after loss (good_at os 3) b) two in
     let four : c.in_ok-four.four ≡ bad_over loss os bad 1 4 =
-    c.in_ok-four.ensures.bad ∙ ap (λ (g : Bool). bad_after loss g c.in_ok-three.three) c.was_valid-4.ensures ∙ ap (λ (b : Bad). bad_after loss (good_at os 4) b) three in
-    let kept : (b now : Bad) → now ≡ b → are_too_many loss now ≡ false → are_too_many loss b ≡ false = λ b now is few. ap (λ (bad : Bad). are_too_many loss bad) (sym is) ∙ few in
+    c.in_ok-four.ensures.bad ∙ ap (λ (g : Bool). bad_after loss g c.in_ok-three.three) c.was_valid-4.ensures ∙ ap (λ (b : ℕ). bad_after loss (good_at os 4) b) three in
+    let kept : (b now : ℕ) → now ≡ b → are_too_many loss now ≡ false → are_too_many loss b ≡ false = λ b now is few. ap (λ (bad : ℕ). are_too_many loss bad) (sym is) ∙ few in
     each-of-four (λ (k : ℕ). are_too_many loss (bad_over loss os bad 1 (k + 1)) ≡ false)
     (kept _ _ one c.in_ok-one.ensures.kept) (kept _ _ two c.in_ok-two.ensures.kept) (kept _ _ three c.in_ok-three.ensures.kept) (kept _ _ four c.in_ok-four.ensures.kept)

@@ -3,7 +3,6 @@ use Rattle.rds_stream.specs.Recording.{Signal}
 use Rattle.rds_sync.specs.declared.lock.Lock.{Lock}
 use Rattle.rds_sync.specs.declared.item.Item.{Item}
 use Rattle.rds_sync.specs.declared.item.Item.TheVariants.{Group}
-use Rattle.rds_sync.specs.declared.loss.Bad.{Bad}
 use Rattle.rds_sync.specs.declared.loss.Loss.{Loss}
 use Rattle.rds_sync.specs.declared.state.State.{State}
 use Rattle.rds_sync.specs.declared.state.State.TheVariants.{Locked}
@@ -11,11 +10,10 @@ use Rattle.rds_sync.specs.Codes.{Code, Outcome, blocks, KeptOf, behind, kept_of}
 use Rattle.rds_sync.specs.Groups.{group}
 use Rattle.rds_sync.specs.Inside.CodeParts.{kept_as}
 use Rattle.rds_sync.specs.Inside.CodeRuns.{HasPassed}
-use Rattle.rds_sync.specs.Inside.Due.{state_in}
 use Rattle.rds_sync.specs.Loss.{IsLawfulBad, are_too_many}
 use Rattle.rds_sync.specs.Marks.{bad_over}
 use Rattle.rds_sync.specs.Rules.{RuleNumbers}
-use Rattle.rds_sync.specs.Step.{run}
+use Rattle.rds_sync.specs.Step.{run, lock_of}
 use Rattle.rds_sync.specs.Words.{blocks_in}
 use Rattle.rds_sync.proofs.CodeRunLemmas.{kept-further}
 use Rattle.rds_sync.proofs.GroupOutcomes.{outcomes}
@@ -26,13 +24,13 @@ use Rattle.rds_sync.proofs.whole_groups.pass_whole_groups.Goals as goal
 
 -- one whole group more
 module _ (b : Signal) (rules : RuleNumbers) (lock now : Lock) (to : ℕ) (before codes after : KeptOf) (passed : HasPassed b rules lock to before now codes)
-    (start : 25 ≤ lock.due) (room : now.due + 78 < to) (word : ℕ) (bad : Bad)
+    (start : 25 ≤ lock.due) (room : now.due + 78 < to) (word bad : ℕ)
     (word_is : blocks_in word ≡ outcomes (group b rules 1 4 (now.due + 78))) (small : word < 65520)
     (bad_is : bad ≡ bad_over rules.loss (blocks_in word) now.bad 1 4) (lawful : IsLawfulBad rules.loss bad)
     (few : (k : ℕ) → k < 4 → are_too_many rules.loss (bad_over rules.loss (blocks_in word) now.bad 1 (k + 1)) ≡ false)
     (pushed : after ≡ behind codes (kept_as (word ∷ []) [])) where
   abbrev so_far : State × List Item
-  so_far = run b rules (state_in lock) (lock.due - 25) (now.due - lock.due)
+  so_far = run b rules (Locked lock) (lock.due - 25) (now.due - lock.due)
 
   abbrev the_group : Item
   the_group = Group (group b rules 1 4 (now.due + 78))
@@ -40,20 +38,20 @@ module _ (b : Signal) (rules : RuleNumbers) (lock now : Lock) (to : ℕ) (before
   late : 25 ≤ now.due
   late = omega (arith, start, passed.from_on)
 
-  here : run b rules (Locked now.due 1 now.bad 1) (now.due - 25) 104 ≡ (Locked (now.due + 104) 1 bad 1, the_group ∷ [])
+  here : run b rules (Locked (lock_of now.due 1 now.bad 1)) (now.due - 25) 104 ≡ (Locked (lock_of (now.due + 104) 1 bad 1), the_group ∷ [])
   here =
       whole_group b rules now.due now.bad late
       (subst (λ (os : List Outcome). (k : ℕ) → k < 4 → are_too_many rules.loss (bad_over rules.loss os now.bad 1 (k + 1)) ≡ false) word_is few)
-      ∙ ap (λ (c : Bad). (Locked (now.due + 104) 1 c 1, the_group ∷ []))
+      ∙ ap (λ (c : ℕ). (Locked (lock_of (now.due + 104) 1 c 1), the_group ∷ []))
       (ap (λ (os : List Outcome). bad_over rules.loss os now.bad 1 4) (sym word_is) ∙ sym bad_is)
 
-  total : run b rules (state_in lock) (lock.due - 25) (now.due + 104 - lock.due) ≡ (Locked (now.due + 104) 1 bad 1, so_far.1 ++ the_group ∷ [])
+  total : run b rules (Locked lock) (lock.due - 25) (now.due + 104 - lock.due) ≡ (Locked (lock_of (now.due + 104) 1 bad 1), so_far.1 ++ the_group ∷ [])
   total =
       let count : now.due + 104 - lock.due ≡ now.due - lock.due + 104 = omega (arith, passed.from_on) in
       let place : lock.due - 25 + (now.due - lock.due) ≡ now.due - 25 = omega (arith, start, passed.from_on) in
-      let state : so_far.0 ≡ Locked now.due 1 now.bad 1 = passed.state ∙ ap₂ (λ (x f : ℕ). Locked now.due x now.bad f) passed.between.0 passed.between.1 in
-      ap (λ (n : ℕ). run b rules (state_in lock) (lock.due - 25) n) count
-      ∙ run-append b rules (state_in lock) (lock.due - 25) (now.due - lock.due) 104
+      let state : so_far.0 ≡ Locked (lock_of now.due 1 now.bad 1) = passed.state ∙ ap₂ (λ (x f : ℕ). Locked (lock_of now.due x now.bad f)) passed.between.0 passed.between.1 in
+      ap (λ (n : ℕ). run b rules (Locked lock) (lock.due - 25) n) count
+      ∙ run-append b rules (Locked lock) (lock.due - 25) (now.due - lock.due) 104
       ∙ ap₂ (λ (t : State) (p : ℕ). ((run b rules t p 104).0, so_far.1 ++ (run b rules t p 104).1)) state place
       ∙ ap (λ (r : State × List Item). (r.0, so_far.1 ++ r.1)) here
 
@@ -64,7 +62,7 @@ module _ (b : Signal) (rules : RuleNumbers) (lock now : Lock) (to : ℕ) (before
     from_on = omega (arith, passed.from_on);
     limit = λ more. omega (arith, room);
     far = λ more. omega (arith, passed.from_on);
-    state = ap (λ (r : State × List Item). r.0) total ∙ sym (ap₂ (λ (x f : ℕ). Locked (now.due + 104) x bad f) passed.between.0 passed.between.1);
+    state = ap (λ (r : State × List Item). r.0) total ∙ sym (ap₂ (λ (x f : ℕ). Locked (lock_of (now.due + 104) x bad f)) passed.between.0 passed.between.1);
     codes = kept-further before codes after so_far.1 (the_group ∷ []) passed.codes
         (pushed ∙ ap (λ (code : Code). behind codes (record { codes = code ∷ []; locks = [] })) (not_group word small)
         ∙ ap (λ (os : List Outcome). behind codes (record { codes = blocks os ∷ []; locks = [] })) word_is)

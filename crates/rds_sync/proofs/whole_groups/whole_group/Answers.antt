@@ -2,30 +2,29 @@ use Rattle.std.proofs.Common.{◌≡◌, ◌≤◌, ◌<◌, ◌+◌, ◌-◌, �
 use Rattle.rds_stream.specs.Recording.{Signal}
 use Rattle.rds_sync.specs.declared.item.Item.{Item}
 use Rattle.rds_sync.specs.declared.item.Item.TheVariants.{Group}
-use Rattle.rds_sync.specs.declared.loss.Bad.{Bad}
+use Rattle.rds_sync.specs.declared.lock.Lock.{Lock}
 use Rattle.rds_sync.specs.declared.state.State.{State}
 use Rattle.rds_sync.specs.declared.state.State.TheVariants.{Locked}
 use Rattle.rds_sync.specs.declared.step.Step.{Step}
 use Rattle.rds_sync.specs.Groups.{group}
-use Rattle.rds_sync.specs.Inside.Due.{state_in}
 use Rattle.rds_sync.specs.Lawful.{IsLawful}
 use Rattle.rds_sync.specs.Loss.{IsLawfulBad, are_too_many}
 use Rattle.rds_sync.specs.Marks.{bad_over}
 use Rattle.rds_sync.specs.Rules.{RuleNumbers}
-use Rattle.rds_sync.specs.Step.{run}
+use Rattle.rds_sync.specs.Step.{run, lock_of}
 use Rattle.rds_sync.specs.Stretch.{IsStretch}
 use Rattle.rds_sync.proofs.GroupOutcomes.{outcomes}
-use Rattle.rds_sync.proofs.LawfulLemmas.{lawful-locked_after}
+use Rattle.rds_sync.proofs.LawfulLemmas.{lawful-lock_after}
 use Rattle.rds_sync.proofs.WholeGroupLemmas.{whole_group, whole_quiet}
 use Rattle.rds_sync.proofs.whole_groups.whole_group.Goals as goal
 
 -- the step over a whole group is a stretch
-module _ (b : Signal) (rules : RuleNumbers) (s : State) (due to : ℕ) (bad after : Bad) (late : 25 ≤ due) (room : due + 78 < to)
-    (state : s ≡ Locked due 1 bad 1)
+module _ (b : Signal) (rules : RuleNumbers) (s : State) (due to bad after : ℕ) (late : 25 ≤ due) (room : due + 78 < to)
+    (state : s ≡ Locked (lock_of due 1 bad 1))
     (few : (k : ℕ) → k < 4 → are_too_many rules.loss (bad_over rules.loss (outcomes (group b rules 1 4 (due + 78))) bad 1 (k + 1)) ≡ false)
     (after_is : after ≡ bad_over rules.loss (outcomes (group b rules 1 4 (due + 78))) bad 1 4) (lawful : IsLawfulBad rules.loss after) where
   abbrev next : State
-  next = Locked (due + 104) 1 after 1
+  next = Locked (lock_of (due + 104) 1 after 1)
 
   abbrev reached : Step
   reached = record { place = due + 78 + 1; state = next; items = Some (Group (group b rules 1 4 (due + 78))) ∷ None ∷ [] }
@@ -34,7 +33,7 @@ module _ (b : Signal) (rules : RuleNumbers) (s : State) (due to : ℕ) (bad afte
   over =
       let bits : due + 78 + 1 - (due - 25) ≡ 104 = omega (arith, late) in
       rw (state, bits) (whole_group b rules due bad late few
-      ∙ ap (λ (c : Bad). (Locked (due + 104) 1 c 1, Group (group b rules 1 4 (due + 78)) ∷ [])) (sym after_is))
+      ∙ ap (λ (c : ℕ). (Locked (lock_of (due + 104) 1 c 1), Group (group b rules 1 4 (due + 78)) ∷ [])) (sym after_is))
 
   pub is_stretch : IsStretch b rules s (due - 25) to reached
   is_stretch =
@@ -47,8 +46,8 @@ module _ (b : Signal) (rules : RuleNumbers) (s : State) (due to : ℕ) (bad afte
         items = sym (ap (λ (r : State × List Item). r.1) over);
         quiet = rw (state, bits) (whole_quiet b rules due bad late few);
         ended = inr (λ none. cc);
-        lawful = subst (λ (p : ℕ). IsLawful rules (due + 78 + 1) (Locked p 1 after 1)) place
-            (lawful-locked_after rules (due + 78) 4 after 1 lawful (omega arith) (omega arith) (omega arith) (omega arith));
+        lawful = subst (λ (p : ℕ). IsLawful rules (due + 78 + 1) (Locked (lock_of p 1 after 1))) place
+            (lawful-lock_after rules (due + 78) 4 after 1 lawful (omega arith) (omega arith) (omega arith) (omega arith));
       }
 
 pub returns-clause-reached : goal.returns-clause-reached
@@ -59,13 +58,14 @@ returns-clause-reached c =
     let due = lock.due in
     let place = c.args.place in
     let bad = c.in_ok-group.bad in
-    let late : 25 ≤ due = omega (arith, c.if-place-lock.false) in
-    let there : due - 25 ≡ place = omega (arith, c.if-place-lock.false) in
+    let begins = c.begins_group_at.ensures.0 c.if-not-begins_group_at.false in
+    let late : 25 ≤ due = omega (arith, begins.2) in
+    let there : due - 25 ≡ place = omega (arith, begins.2) in
     let whole = c.in_ok-group.ensures b due late (sym there) c.four_windows-heard.ensures.value in
-    let state : state_in lock ≡ Locked due 1 lock.bad 1 = ap₂ (λ (x f : ℕ). Locked due x lock.bad f) (let e : lock.number ≡ 1 = omega (arith, c.if-lock-ne1.false) in e) (let e : lock.first ≡ 1 = omega (arith, c.if-lock-ne1-2.false) in e) in
-    let stretch = is_stretch b rules (state_in lock) due c.args.to lock.bad bad late (omega (arith, c.if-to-last.false)) state whole.few whole.bad_is whole.lawful in
-    let next_is : c.state.result ≡ Locked (due + 104) 1 bad 1 =
-    c.state.ensures ∙ c.after_block.ensures ∙ ap (λ (p : ℕ). Locked p 1 bad 1) (let e : due + 78 + 26 ≡ due + 104 = omega arith in e) in
-    subst (λ (p : ℕ). IsStretch b rules (state_in lock) p c.args.to
-    (record { place = due + 78 + 1; state = c.state.result; items = Some (Group c.in_ok-group.group) ∷ None ∷ [] })) there
+    let state : Locked lock ≡ Locked (lock_of due 1 lock.bad 1) = ap₂ (λ (x f : ℕ). Locked (lock_of due x lock.bad f)) begins.0 begins.1 in
+    let stretch = is_stretch b rules (Locked lock) due c.args.to lock.bad bad late (omega (arith, c.if-to-last.false)) state whole.few whole.bad_is whole.lawful in
+    let next_is : Locked c.after_block.result ≡ Locked (lock_of (due + 104) 1 bad 1) =
+    ap (λ (l : Lock). Locked l) c.after_block.ensures ∙ ap (λ (p : ℕ). Locked (lock_of p 1 bad 1)) (let e : due + 78 + 26 ≡ due + 104 = omega arith in e) in
+    subst (λ (p : ℕ). IsStretch b rules (Locked lock) p c.args.to
+    (record { place = due + 78 + 1; state = Locked c.after_block.result; items = Some (Group c.in_ok-group.group) ∷ None ∷ [] })) there
     (rw (next_is, whole.given_is) stretch)

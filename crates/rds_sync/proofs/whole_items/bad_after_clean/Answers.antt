@@ -4,7 +4,7 @@ use Rattle.rds_sync.specs.Loss.{IsLoss}
 use Rattle.rds_sync.proofs.BadRows.{clean_kept}
 use Rattle.rds_sync.proofs.whole_items.bad_after_clean.Goals as goal
 
-pub returns-in-Run-Run-clause-kept : goal.returns-in-Run-Run-clause-kept
-returns-in-Run-Run-clause-kept c k h =
-    let rule = c.in-Run-Run.is-0 in
-    rw (rule, c.in-Run-Run.is-1) (clean_kept c.in-Run-Run.field-0-0 c.in-Run-Run.field-0-1 k (subst (λ (loss : Loss). IsLoss loss) rule c.requires.range.0) h)
+pub returns-in-InARow-clause-kept : goal.returns-in-InARow-clause-kept
+returns-in-InARow-clause-kept c k h =
+    let rule = c.in-InARow.is in
+    rw rule (clean_kept c.in-InARow.field-0 c.args.bad k (subst (λ (loss : Loss). IsLoss loss) rule c.requires.range.0) h)

@@ -4,39 +4,37 @@ use Rattle.rds_sync.specs.declared.lock.Lock.{Lock}
 use Rattle.rds_sync.specs.declared.item.Group.{Group as GroupRecord}
 use Rattle.rds_sync.specs.declared.item.Item.{Item}
 use Rattle.rds_sync.specs.declared.item.Item.TheVariants.{Group}
-use Rattle.rds_sync.specs.declared.loss.Bad.{Bad}
 use Rattle.rds_sync.specs.declared.state.State.{State}
 use Rattle.rds_sync.specs.declared.state.State.TheVariants.{Locked}
-use Rattle.rds_sync.specs.Inside.Due.{state_in}
 use Rattle.rds_sync.specs.Inside.WholeGroups.{HasGiven, IsWhole}
 use Rattle.rds_sync.specs.Rules.{RuleNumbers}
-use Rattle.rds_sync.specs.Step.{run}
+use Rattle.rds_sync.specs.Step.{run, lock_of}
 use Rattle.rds_sync.proofs.RunLemmas.{run-append}
 use Rattle.rds_sync.proofs.WholeGroupLemmas.{whole_group}
 use Rattle.rds_sync.proofs.whole_items.push_whole_groups.Goals as goal
 
 -- one whole group more
 module _ (b : Signal) (rules : RuleNumbers) (lock now : Lock) (to : ℕ) (before items after : List Item) (given : HasGiven b rules lock to before now items)
-    (start : 25 ≤ lock.due) (room : now.due + 78 < to) (found : GroupRecord) (bad : Bad) (whole : IsWhole b rules now.due now.bad found bad)
+    (start : 25 ≤ lock.due) (room : now.due + 78 < to) (found : GroupRecord) (bad : ℕ) (whole : IsWhole b rules now.due now.bad found bad)
     (pushed : after ≡ items ++ Group found ∷ []) where
   abbrev so_far : State × List Item
-  so_far = run b rules (state_in lock) (lock.due - 25) (now.due - lock.due)
+  so_far = run b rules (Locked lock) (lock.due - 25) (now.due - lock.due)
 
   late : 25 ≤ now.due
   late = omega (arith, start, given.from_on)
 
-  here : run b rules (Locked now.due 1 now.bad 1) (now.due - 25) 104 ≡ (Locked (now.due + 104) 1 bad 1, Group found ∷ [])
+  here : run b rules (Locked (lock_of now.due 1 now.bad 1)) (now.due - 25) 104 ≡ (Locked (lock_of (now.due + 104) 1 bad 1), Group found ∷ [])
   here =
       whole_group b rules now.due now.bad late whole.few
-      ∙ ap₂ (λ (c : Bad) (g : GroupRecord). (Locked (now.due + 104) 1 c 1, Group g ∷ [])) (sym whole.bad_is) (sym whole.given_is)
+      ∙ ap₂ (λ (c : ℕ) (g : GroupRecord). (Locked (lock_of (now.due + 104) 1 c 1), Group g ∷ [])) (sym whole.bad_is) (sym whole.given_is)
 
-  total : run b rules (state_in lock) (lock.due - 25) (now.due + 104 - lock.due) ≡ (Locked (now.due + 104) 1 bad 1, so_far.1 ++ Group found ∷ [])
+  total : run b rules (Locked lock) (lock.due - 25) (now.due + 104 - lock.due) ≡ (Locked (lock_of (now.due + 104) 1 bad 1), so_far.1 ++ Group found ∷ [])
   total =
       let count : now.due + 104 - lock.due ≡ now.due - lock.due + 104 = omega (arith, given.from_on) in
       let place : lock.due - 25 + (now.due - lock.due) ≡ now.due - 25 = omega (arith, start, given.from_on) in
-      let state : so_far.0 ≡ Locked now.due 1 now.bad 1 = given.state ∙ ap₂ (λ (x f : ℕ). Locked now.due x now.bad f) given.between.0 given.between.1 in
-      ap (λ (n : ℕ). run b rules (state_in lock) (lock.due - 25) n) count
-      ∙ run-append b rules (state_in lock) (lock.due - 25) (now.due - lock.due) 104
+      let state : so_far.0 ≡ Locked (lock_of now.due 1 now.bad 1) = given.state ∙ ap₂ (λ (x f : ℕ). Locked (lock_of now.due x now.bad f)) given.between.0 given.between.1 in
+      ap (λ (n : ℕ). run b rules (Locked lock) (lock.due - 25) n) count
+      ∙ run-append b rules (Locked lock) (lock.due - 25) (now.due - lock.due) 104
       ∙ ap₂ (λ (t : State) (p : ℕ). ((run b rules t p 104).0, so_far.1 ++ (run b rules t p 104).1)) state place
       ∙ ap (λ (r : State × List Item). (r.0, so_far.1 ++ r.1)) here
 
@@ -53,7 +51,7 @@ module _ (b : Signal) (rules : RuleNumbers) (lock now : Lock) (to : ℕ) (before
     from_on = omega (arith, given.from_on);
     limit = λ more. omega (arith, room);
     more = λ more. omega (arith, longer, at_least);
-    state = ap (λ (r : State × List Item). r.0) total ∙ sym (ap₂ (λ (x f : ℕ). Locked (now.due + 104) x bad f) given.between.0 given.between.1);
+    state = ap (λ (r : State × List Item). r.0) total ∙ sym (ap₂ (λ (x f : ℕ). Locked (lock_of (now.due + 104) x bad f)) given.between.0 given.between.1);
     items = pushed ∙ ap (λ (is : List Item). is ++ Group found ∷ []) given.items ∙ append_assoc before so_far.1 (Group found ∷ [])
         ∙ ap (λ (r : State × List Item). before ++ r.1) (sym total);
   }

@@ -1,8 +1,7 @@
 use Rattle.std.proofs.Common.{arith, ◌∙◌}
 use Rattle.std.proofs.lemmas.Grind.{common_steps}
 use Rattle.rds_tool.proofs.Passing.{passed, passes}
-use Rattle.rds_tool.proofs.Reading.{end_told, kind_told, ok_told, read_told, turns_not_told}
-use Rattle.rds_tool.proofs.Steps.{read_more, read_whole}
+use Rattle.rds_tool.proofs.Reading.{end_told, kind_told, ok_told, read_more, read_told, read_whole, turns_not_told}
 use Rattle.rds_tool.proofs.engine.read_all.Goals as goal
 
 pub returns-then-is_at_end-clause-ok : goal.returns-then-is_at_end-clause-ok

@@ -1,11 +1,11 @@
-use Rattle.std.proofs.Common.{◌≡◌, ◌+◌, ◌^◌, ◌≤◌, ◌++◌, ◌∙◌, ℕ, List, ap, arith, inr, length, refl, subst, sym, take}
+use Rattle.std.proofs.Common.{◌≡◌, ◌+◌, ◌^◌, ◌≤◌, ◌++◌, ◌∙◌, ℕ, List, ap, arith, inr, refl, subst, sym, take}
 use Rattle.std.specs.Prelude.{IfSome}
 use Rattle.rds_live.specs.Live.{LiveOf}
 use Rattle.rds_stream.specs.Recording.{AreGaps}
 use Rattle.rds_tool.specs.Following.{rows_so_far}
 use Rattle.rds_tool.specs.Input.{claimed}
 use Rattle.rds_tool.specs.Inside.Streams.{bits_left}
-use Rattle.rds_tool.proofs.Followed.{after_refusal, ends_short, few_last, is_place, no_such_gaps, of_call, of_err, on_any_ok, read_as_far, short_left, stops_at_end, stops_behind, stops_here, took_all, wrote_all}
+use Rattle.rds_tool.proofs.Followed.{after_refusal, ends_short, few_last, is_place, no_such_gaps, of_call, of_err, on_any_ok, read_as_far, short_left, stops_at_end, stops_behind, stops_here, wrote_all}
 use Rattle.rds_tool.proofs.Passing.{passed}
 use Rattle.rds_tool.proofs.following.follow.Goals as goal
 
@@ -24,14 +24,10 @@ returns-in_err-count-clause-between g c =
 pub returns-in_err-rows-clause-bad_gaps : goal.returns-in_err-rows-clause-bad_gaps
 returns-in_err-rows-clause-bad_gaps g c = λ p.
     let (heard, f) = c.in_ok-live.ensures.followed in
-    let count = c.in_ok-count.ensures.within in
-    let bytes = take c.in_ok-count.count c.read_last.new.last in
-    let long : length bytes ≡ c.in_ok-count.count = took_all c.in_ok-count.count bytes c.read_last.new.last refl count.0 in
-    let left_is : c.bits_left-left.result ≡ bits_left c.args.bits c.in_ok-live.live.place = c.bits_left-left.ensures ∙ ap (bits_left c.args.bits) c.place.ensures.value in
     let gaps_are = ap (λ (l : LiveOf). l.terms.gaps) f.live_is in
     inr (subst (λ (gs : List (ℕ × ℕ)). IfSome (g.S.Source.remaining c.args.reader.now) (λ held. AreGaps (claimed c.args.bits held) gs → ⊥)) gaps_are
-    (no_such_gaps _ _ _ _ _ _ _ heard f c.in_ok-live.ensures.near_end _ _ _ c.in_ok-count.ensures.taken bytes refl
-    c.bits_left-left.result left_is (omega (arith, count, long)) (omega (arith, count, long)) c.in_ok-count.ensures.still c.in_ok-live.live.terms.gaps
+    (no_such_gaps _ _ _ _ _ _ _ heard f c.in_ok-live.ensures.near_end _ c.in_ok-count.count c.read_last.new.last c.in_ok-count.ensures.taken
+    c.bits_left-left.result c.place.result c.bits_left-left.ensures c.place.ensures.value c.in_ok-count.ensures.within c.in_ok-count.ensures.still c.in_ok-live.live.terms.gaps
     (c.in_err-rows.ensures.bad_gaps (of_call _ _ (passed _ _ c.from_residual-in_err-rows.ensures) _ p))))
 
 pub returns-in_err-rows-clause-between : goal.returns-in_err-rows-clause-between
@@ -43,40 +39,29 @@ returns-in_err-rows-clause-between g c =
 pub returns-clause-end : goal.returns-clause-end
 returns-clause-end g c =
     let (heard, f) = c.in_ok-live.ensures.followed in
-    let count = c.in_ok-count.ensures.within in
-    let bytes = take c.in_ok-count.count c.read_last.new.last in
-    let long : length bytes ≡ c.in_ok-count.count = took_all c.in_ok-count.count bytes c.read_last.new.last refl count.0 in
-    let left_is : c.bits_left-left.result ≡ bits_left c.args.bits c.in_ok-live.live.place = c.bits_left-left.ensures ∙ ap (bits_left c.args.bits) c.place.ensures.value in
-    on_any_ok _ (read_as_far _ _ _ _ _ _ _ heard f c.in_ok-live.ensures.near_end _ _ _ c.in_ok-count.ensures.taken bytes refl
-    c.bits_left-left.result left_is (omega (arith, count, long)) (omega (arith, count, long)) c.in_ok-count.ensures.still)
+    on_any_ok _ (read_as_far _ _ _ _ _ _ _ heard f c.in_ok-live.ensures.near_end _ c.in_ok-count.count c.read_last.new.last c.in_ok-count.ensures.taken
+    c.bits_left-left.result c.place.result c.bits_left-left.ensures c.place.ensures.value c.in_ok-count.ensures.within c.in_ok-count.ensures.still)
 
 pub returns-clause-ok : goal.returns-clause-ok
 returns-clause-ok g c =
     let (heard, f) = c.in_ok-live.ensures.followed in
-    let count = c.in_ok-count.ensures.within in
-    let bytes = take c.in_ok-count.count c.read_last.new.last in
-    let long : length bytes ≡ c.in_ok-count.count = took_all c.in_ok-count.count bytes c.read_last.new.last refl count.0 in
     let left_is : c.bits_left-left.result ≡ bits_left c.args.bits c.in_ok-live.live.place = c.bits_left-left.ensures ∙ ap (bits_left c.args.bits) c.place.ensures.value in
     let limit : c.in_ok-live.live.place ≤ 2 ^ 36 = omega (arith, c.place.ensures.value, c.place.ensures.limit) in
     let enough = short_left c.args.bits c.in_ok-live.live.place limit c.in_ok-live.ensures.claims (is_place _ _ _ _ _ _ _ heard f) in
     let short : c.in_ok-live.live.place + c.bits_left-left.result ≤ 2 ^ 36 = omega (arith, enough, left_is) in
     let gaps_are = ap (λ (l : LiveOf). l.terms.gaps) f.live_is in
-    wrote_all _ _ _ _ _ _ _ heard f c.in_ok-live.ensures.near_end _ _ _ c.in_ok-count.ensures.taken bytes refl
-    c.bits_left-left.result left_is (omega (arith, count, long)) (omega (arith, count, long)) c.in_ok-count.ensures.still _
+    wrote_all _ _ _ _ _ _ _ heard f c.in_ok-live.ensures.near_end _ c.in_ok-count.count c.read_last.new.last c.in_ok-count.ensures.taken
+    c.bits_left-left.result c.place.result c.bits_left-left.ensures c.place.ensures.value c.in_ok-count.ensures.within c.in_ok-count.ensures.still _
     (λ before h. c.in_ok-rows.ensures.rows before h ∙ ap (λ (ys : List ℕ). rows_so_far c.in_ok-live.live.terms before ++ ys) (sym c.as_slice.ensures.value)) _
     c.write_flushed.result short (subst (λ (gs : List (ℕ × ℕ)). AreGaps (c.in_ok-live.live.place + c.bits_left-left.result) gs) gaps_are c.in_ok-rows.ensures.gaps) c.write_flushed.ensures.ok
 
 pub returns-clause-within : goal.returns-clause-within
 returns-clause-within g c = λ p.
     let (heard, f) = c.in_ok-live.ensures.followed in
-    let count = c.in_ok-count.ensures.within in
-    let bytes = take c.in_ok-count.count c.read_last.new.last in
-    let long : length bytes ≡ c.in_ok-count.count = took_all c.in_ok-count.count bytes c.read_last.new.last refl count.0 in
-    let left_is : c.bits_left-left.result ≡ bits_left c.args.bits c.in_ok-live.live.place = c.bits_left-left.ensures ∙ ap (bits_left c.args.bits) c.place.ensures.value in
-    stops_at_end _ _ _ _ _ _ _ heard f c.in_ok-live.ensures.near_end _ _ _ c.in_ok-count.ensures.taken bytes refl
-    c.bits_left-left.result left_is (omega (arith, count, long)) (omega (arith, count, long)) c.in_ok-count.ensures.still _
+    stops_at_end _ _ _ _ _ _ _ heard f c.in_ok-live.ensures.near_end _ c.in_ok-count.count c.read_last.new.last c.in_ok-count.ensures.taken
+    c.bits_left-left.result c.place.result c.bits_left-left.ensures c.place.ensures.value c.in_ok-count.ensures.within c.in_ok-count.ensures.still _
     (λ before h. c.in_ok-rows.ensures.rows before h ∙ ap (λ (ys : List ℕ). rows_so_far c.in_ok-live.live.terms before ++ ys) (sym c.as_slice.ensures.value)) _
-    (few_last c.in_ok-count.count bytes c.read_last.new.last refl c.in_ok-count.ensures.few) (of_err _ _ p c.write_flushed.ensures.prefix)
+    (few_last c.in_ok-count.count _ c.read_last.new.last refl c.in_ok-count.ensures.few) (of_err _ _ p c.write_flushed.ensures.prefix)
 
 pub rows_of_rest-requires-clause-few : goal.rows_of_rest-requires-clause-few
 rows_of_rest-requires-clause-few g c = omega (arith, c.in_ok-count.ensures.within, c.in_ok-count.ensures.few)

@@ -1,12 +1,14 @@
 use Rattle.std.proofs.Common.{◌+◌, ◌*◌, ◌^◌, ◌++◌, ◌∙◌, ◌≡◌, ℕ, List, ap, append_assoc, arith, length, length-append, subst, sym}
 use Rattle.std.specs.List.{flat_map}
 use Rattle.std.specs.Io.KnownBytes.{Appends}
+use Rattle.std.proofs.KnownBytes.{Appends-trans}
 use Rattle.rds_rows.specs.Writes.{AppendsPrefix}
 use Rattle.rds_sync.specs.declared.item.Item.{Item}
+use Rattle.rds_sync.specs.Counting.{IsAtMost}
 use Rattle.rds_sync.specs.Totals.{totals_of}
 use Rattle.rds_tool.specs.Listing.{item_row}
-use Rattle.rds_tool.proofs.Passes.{at_most_more, more_rows, on_err, parted_rows, prefix_between, two_parts}
-use Rattle.rds_tool.proofs.Steps.{appends_more}
+use Rattle.rds_tool.proofs.Passes.{more_rows, parted_rows, prefix_between, two_parts}
+use Rattle.rds_tool.proofs.Passing.{on_any_err}
 use Rattle.rds_tool.proofs.one_pass.write_items.Goals as goal
 
 pub parts-preserved : goal.parts-preserved
@@ -14,18 +16,18 @@ parts-preserved g c =
     let before = c.parts.invariant.done in
     let part = c.fill.new.part.items in
     let same : c.as_slice-part.result.now ≡ part = c.as_slice-part.ensures.value in
+    let bound : 2 ^ 10 * length before.done + 2 ^ 10 * length c.as_slice-part.result.now ≡ 2 ^ 10 * length (before.done ++ part) =
+    omega (arith, length-append before.done part, ap (λ (xs : List Item). length xs) same) in
     record {
       done = record {
         done = before.done ++ part;
         parted = before.parted ∙ ap (λ (xs : List Item). before.done ++ xs) c.fill.ensures.items ∙ sym (append_assoc before.done part c.fill.new.self.items);
         written = subst (λ (text : List ℕ). Appends (g.K.Sink.contents c.args.writer.now) (g.K.Sink.contents c.write_part.new.writer) text)
             (more_rows before.done part c.as_slice-part.result.now same)
-            (appends_more _ _ _ _ _ before.written c.in_ok-write_part.ensures.ok);
+            (Appends-trans _ _ _ _ _ before.written c.in_ok-write_part.ensures.ok);
         counted = c.plus-totals.ensures.value
             ∙ two_parts c.totals_join.ensures before.done part _ _ before.counted (c.of_items.ensures.value ∙ ap (λ (xs : List Item). totals_of xs) same);
-        small = at_most_more (2 ^ 10 * length before.done + 2 ^ 10 * length c.as_slice-part.result.now) (2 ^ 10 * length (before.done ++ part)) c.plus-totals.result
-            (omega (arith, length-append before.done part, ap (λ (xs : List Item). length xs) same))
-            (c.plus-totals.ensures.small _ _ before.small c.of_items.ensures.small);
+        small = subst (λ (n : ℕ). IsAtMost n c.plus-totals.result) bound (c.plus-totals.ensures.small _ _ before.small c.of_items.ensures.small);
       };
       end = c.fill.ensures.end ∙ c.parts.invariant.end;
       room = c.fill.ensures.room ∙ c.parts.invariant.room;
@@ -37,6 +39,6 @@ pub returns-in_err-write_part-clause-prefix : goal.returns-in_err-write_part-cla
 returns-in_err-write_part-clause-prefix g c =
     let before = c.parts.invariant.done in
     let rows = parted_rows c.args.decoder.now.items before.done c.parts.decoder.items c.fill.new.part.items c.fill.new.self.items c.as_slice-part.result.now before.parted c.fill.ensures.items c.as_slice-part.ensures.value in
-    on_err c.from_residual.result
+    on_any_err c.from_residual.result
     (subst (λ (text : List ℕ). AppendsPrefix (g.K.Sink.contents c.args.writer.now) (g.K.Sink.contents c.write_part.new.writer) text) rows
     (prefix_between _ _ _ _ _ (flat_map item_row c.fill.new.self.items) before.written c.in_err-write_part.ensures.prefix))

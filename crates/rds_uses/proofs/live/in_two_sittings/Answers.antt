@@ -3,6 +3,7 @@ use Rattle.rds_sync.specs.declared.item.Item.{Item}
 use Rattle.rds_sync.specs.Advance.{group_item}
 use Rattle.rds_sync.specs.Totals.{totals_of}
 use Rattle.rds_live.specs.Live.{LiveOf, HasHeard, Terms, complete, live_of, report_of}
+use Rattle.rds_uses.proofs.live.in_two_sittings.Goals.{After-finish}
 use Rattle.rds_uses.proofs.live.in_two_sittings.Goals as goal
 
 -- what decoders by these terms give for two halves, and at their end
@@ -18,23 +19,36 @@ joined first second r a b d one other last a_is b_is d_is one_is other_is last_i
 nothing-heard : (live : LiveOf) (r : Terms) → live ≡ live_of r [] → HasHeard live []
 nothing-heard live r is = is ∙ ap (λ (q : Terms). live_of q []) (sym (ap (λ (l : LiveOf). l.terms) is))
 
+-- what the decoder of the second sitting has heard
+module _ (c : After-finish) where
+  abbrev terms : Terms
+  terms = record { rules = c.args.rules.now; gaps = c.args.gaps.now }
+
+  start : HasHeard c.in_ok-live.live []
+  start = nothing-heard c.in_ok-live.live terms c.in_ok-live.ensures.live
+
+  half : HasHeard c.in-Ok.again c.args.first.now
+  half = subst (λ (live : LiveOf). HasHeard live c.args.first.now) (sym c.in-Ok.ensures.same) (c.in_ok-one.ensures.heard [] start)
+
+  terms_first : c.in_ok-live.live.terms ≡ terms
+  terms_first = ap (λ (l : LiveOf). l.terms) c.in_ok-live.ensures.live
+
+  terms_again : c.in-Ok.again.terms ≡ c.in_ok-live.live.terms
+  terms_again = ap (λ (l : LiveOf). l.terms) c.in-Ok.ensures.same ∙ c.in_ok-one.ensures.terms
+
 pub returns-clause-items : goal.returns-clause-items
 returns-clause-items c =
     let first = c.args.first.now in
-    let terms : Terms = record { rules = c.args.rules.now; gaps = c.args.gaps.now } in
-    let start = nothing-heard c.in_ok-live.live terms c.in_ok-live.ensures.live in
-    let half = subst (λ (live : LiveOf). HasHeard live first) (sym c.in-Ok.ensures.same) (c.in_ok-one.ensures.heard [] start) in
-    joined first c.args.second.now terms c.in_ok-live.live.terms c.in-Ok.again.terms c.take_all-2.new.self.terms c.in_ok-one.one.items c.in_ok-other.other.items (group_item c.finish.result.group)
-    (ap (λ (l : LiveOf). l.terms) c.in_ok-live.ensures.live) (ap (λ (l : LiveOf). l.terms) c.in-Ok.ensures.same ∙ c.in_ok-one.ensures.terms) c.in_ok-other.ensures.terms
-    (c.in_ok-one.ensures.items [] start) (c.in_ok-other.ensures.items first half)
-    (c.finish.ensures.group (first ++ c.args.second.now) (c.in_ok-other.ensures.heard first half))
+    let at_end = (goal.at.returns-clause-items c).After-finish in
+    joined first c.args.second.now (terms at_end) c.in_ok-live.live.terms c.in-Ok.again.terms c.take_all-2.new.self.terms c.in_ok-one.one.items c.in_ok-other.other.items (group_item c.finish.result.group)
+    (terms_first at_end) (terms_again at_end) c.in_ok-other.ensures.terms
+    (c.in_ok-one.ensures.items [] (start at_end)) (c.in_ok-other.ensures.items first (half at_end))
+    (c.finish.ensures.group (first ++ c.args.second.now) (c.in_ok-other.ensures.heard first (half at_end)))
 
 pub returns-clause-totals : goal.returns-clause-totals
 returns-clause-totals c =
     let first = c.args.first.now in
-    let terms : Terms = record { rules = c.args.rules.now; gaps = c.args.gaps.now } in
-    let start = nothing-heard c.in_ok-live.live terms c.in_ok-live.ensures.live in
-    let half = subst (λ (live : LiveOf). HasHeard live first) (sym c.in-Ok.ensures.same) (c.in_ok-one.ensures.heard [] start) in
+    let at_end = (goal.at.returns-clause-totals c).After-finish in
     subst (λ (q : Terms). c.finish.result.totals ≡ totals_of (report_of q (first ++ c.args.second.now)))
-    (c.in_ok-other.ensures.terms ∙ ap (λ (l : LiveOf). l.terms) c.in-Ok.ensures.same ∙ c.in_ok-one.ensures.terms ∙ ap (λ (l : LiveOf). l.terms) c.in_ok-live.ensures.live)
-    (c.finish.ensures.totals (first ++ c.args.second.now) (c.in_ok-other.ensures.heard first half))
+    (c.in_ok-other.ensures.terms ∙ terms_again at_end ∙ terms_first at_end)
+    (c.finish.ensures.totals (first ++ c.args.second.now) (c.in_ok-other.ensures.heard first (half at_end)))

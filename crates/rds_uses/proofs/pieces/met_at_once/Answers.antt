@@ -1,11 +1,11 @@
-use Rattle.std.proofs.Common.{◌≡◌, ℕ, ◌+◌, ◌*◌, ◌≤◌, Some, Ok, Err, IfOk, arith}
+use Rattle.std.proofs.Common.{◌≡◌, ℕ, ◌+◌, ◌*◌, ◌≤◌, Some, Ok, Err, IfOk, refl, arith}
 use Rattle.rds_stream.specs.Recording.{Signal}
 use Rattle.rds_pieces.specs.Meeting.{IsMeeting, distance}
 use Rattle.rds_pieces.specs.declared.error.PieceError.{PieceError}
 use Rattle.rds_pieces.specs.declared.seams.Seam.{Seam}
 use Rattle.rds_sync.specs.Rules.{RuleNumbers}
 use Rattle.rds_sync.specs.declared.state.State.TheVariants.{Searching}
-use Rattle.rds_uses.proofs.Meetings.{met_at_once, cost_at_once}
+use Rattle.rds_uses.proofs.Meetings.{met_at_once, first_meeting, cost_at_once, where_refused}
 use Rattle.rds_uses.proofs.pieces.met_at_once.Goals as goal
 
 at_once : (b : Signal) (rules : RuleNumbers) (from to : ℕ) (result : _) → from ≤ to
@@ -27,3 +27,10 @@ returns-clause-reads g c = cheap _ _ _ _ _ _ c.seam.result c.from.ensures.inside
 
 pub returns-clause-met : goal.returns-clause-met
 returns-clause-met g c = at_once _ _ _ _ c.seam.result c.from.ensures.inside.0 c.seam.ensures.met
+
+pub returns-clause-refused : goal.returns-clause-refused
+returns-clause-refused g c =
+    let r = c.args.run.now in
+    let b = g.T.Tape.signal c.args.tape.now in
+    let way = c.seam.ensures.reads_way (Some r.from) (first_meeting b c.args.rules.now r.from r.to c.from.ensures.inside.0) in
+    where_refused c.seam.result (omega (arith, way, cost_at_once b c.args.rules.now r.from r.to (Some r.from) refl))

@@ -8,18 +8,10 @@ none_early : (b : Signal) (rules : RuleNumbers) (i : ℕ) (found : Option ℕ) �
 none_early b rules i None early late = refl
 none_early b rules i (Some x) early late = absurd (omega (arith, late x refl))
 
-pub returns-clause-state : goal.returns-clause-state
-returns-clause-state c =
+pub returns : goal.returns
+returns c =
     let b = c.args.recording.now in
     let rules = c.args.rules.now in
     let quiet = c.searches_go_on.ensures b rules 0 51 (omega arith) (λ i _ early.
     none_early b rules i (acquired b rules i) early (λ x is. (c.acquisitions_are_late.ensures b rules i x is).0)) in
-    grind arith
-
-pub returns-clause-items : goal.returns-clause-items
-returns-clause-items c =
-    let b = c.args.recording.now in
-    let rules = c.args.rules.now in
-    let quiet = c.searches_go_on.ensures b rules 0 51 (omega arith) (λ i _ early.
-    none_early b rules i (acquired b rules i) early (λ x is. (c.acquisitions_are_late.ensures b rules i x is).0)) in
-    grind arith
+    record { state = grind arith; items = grind arith }

@@ -11,7 +11,7 @@ four_or_none false = omega arith
 
 few_reads : (rules : RuleNumbers) (state : State) (to : ℕ) → rules.reach ≤ 8 → reads_most rules state to ≤ 9
 few_reads rules Searching to few = omega arith
-few_reads rules (Locked due number bad first) to few = four_or_none (nat_lt due to)
+few_reads rules (Locked lock) to few = four_or_none (nat_lt lock.due to)
 
 pub advance-second-requires-clause-counted : goal.advance-second-requires-clause-counted
 advance-second-requires-clause-counted g c = omega (arith, few_reads c.args.rules.now c.args.state c.args.to c.reach-reach.ensures.range.reach)

@@ -24,12 +24,12 @@ one_offset limit w r k x y wanted o few here list own alone is kind =
 pub returns-in-1-clause-value : goal.returns-in-1-clause-value
 returns-in-1-clause-value c =
     one_offset c.args.self.now c.args.w c.rem26-remainder.result c.with.result 1 c.args.number c.args.wanted A
-    c.with.ensures.few c.in-1.is (wanted_1 c.args.wanted).0 refl only_A c.rem26-remainder.ensures.value c.with.ensures.kind
+    c.with.ensures.few (sym c.get.ensures.value ∙ c.in-1.is) (wanted_1 c.args.wanted).0 refl only_A c.rem26-remainder.ensures.value c.with.ensures.kind
 
 pub returns-in-2-clause-value : goal.returns-in-2-clause-value
 returns-in-2-clause-value c =
     one_offset c.args.self.now c.args.w c.rem26-remainder.result c.with-in-2.result 2 c.args.number c.args.wanted B
-    c.with-in-2.ensures.few c.in-2.is (wanted_2 c.args.wanted).0 refl only_B c.rem26-remainder.ensures.value c.with-in-2.ensures.kind
+    c.with-in-2.ensures.few (sym c.get.ensures.value ∙ c.in-2.is) (wanted_2 c.args.wanted).0 refl only_B c.rem26-remainder.ensures.value c.with-in-2.ensures.kind
 
 pub returns-in-3-clause-value : goal.returns-in-3-clause-value
 returns-in-3-clause-value c =
@@ -38,10 +38,10 @@ returns-in-3-clause-value c =
     c.of_third.ensures.value c.args.w limit c.with-version_a.ensures.few
     (with_offset limit c.args.w r c.with-version_a.result C c.rem26-remainder.ensures.value c.with-version_a.ensures.kind)
     (with_offset limit c.args.w r c.with-version_b.result Cx c.rem26-remainder.ensures.value c.with-version_b.ensures.kind)
-    ∙ ap (λ (n : ℕ). kind_of (reading c.args.w n c.args.wanted limit)) (sym c.in-3.is)
+    ∙ ap (λ (n : ℕ). kind_of (reading c.args.w n c.args.wanted limit)) (sym (sym c.get.ensures.value ∙ c.in-3.is))
 
 pub returns-in_default-clause-value : goal.returns-in_default-clause-value
 returns-in_default-clause-value c =
-    let four : c.args.number ≡ 4 = omega (arith, c.requires.first, c.requires.last, c.in_default) in
+    let four : c.args.number ≡ 4 = omega (arith, c.get.ensures, c.in_default) in
     one_offset c.args.self.now c.args.w c.rem26-remainder.result c.with-in_default.result 4 c.args.number c.args.wanted D
     c.with-in_default.ensures.few four (wanted_4 c.args.wanted).0 refl only_D c.rem26-remainder.ensures.value c.with-in_default.ensures.kind

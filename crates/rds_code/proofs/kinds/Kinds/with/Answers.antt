@@ -31,4 +31,4 @@ returns-clause-most c =
     let d : ℕ = bit_xor c.args.remainder c.word.result in
     let within : d < length kinds = omega (arith, sum-lt c.args.remainder c.word.result c.args.offset c.requires c.word.ensures, c.self.invariant.long) in
     let entry : c.index.result.now ≡ slice_index kinds d = c.index.ensures ∙ get_or_default kinds d c.index.result.now 0 within in
-    omega (arith, entry, at_most_13 c.self.inside.limit d (slice_index kinds d) c.self.invariant.few (c.self.invariant.each d within))
+    omega (arith, entry, at_most_13 c.self.inside.limit d (slice_index kinds d) (omega arith) (c.self.invariant.each d within))

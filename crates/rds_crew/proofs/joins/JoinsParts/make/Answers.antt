@@ -8,7 +8,7 @@ join-requires g c =
     let b = g.W.Work.recording c.args.self.now.work.now in
     let m = c.args.number in
     let pair = joined_at b (g.W.Work.rule_set c.args.self.now.work.now) 0 (length_of b) c.args.self.now.below.now m (m * 2) (m * 2 + 1) c.index-self-left.result c.index-self-left-2.result c.requires.ready refl refl c.requires.below in
-    record { next = pair.0.next; left = pair.0.left_is; right = pair.0.right_is }
+    pair.0
 
 pub returns-clause-ok : goal.returns-clause-ok
 returns-clause-ok g c =

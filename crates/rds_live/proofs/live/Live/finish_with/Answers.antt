@@ -1,9 +1,9 @@
-use Rattle.std.proofs.Common.{◌≡◌, ◌+◌, ◌-◌, ◌*◌, ◌/◌, ◌≤◌, ◌⊎◌, ◌++◌, List, ℕ, length, take, inl, inr, refl, sym, ap, ap₂, subst, ◌∙◌, arith}
-use Rattle.std.proofs.lemmas.Bool.{cases_lt}
+use Rattle.std.proofs.Common.{◌≡◌, ◌+◌, ◌-◌, ◌*◌, ◌≤◌, ◌++◌, List, ℕ, length, take, refl, sym, ap, ap₂, subst, ◌∙◌, arith}
 use Rattle.std.proofs.lemmas.List.{length-append, length-map, length-take-le, with_items_is}
 use Rattle.std.specs.Vec.{with_items}
 use Rattle.rds_stream.specs.Recording.{Signal, length_of}
 use Rattle.rds_sync.specs.declared.item.Item.{Item}
+use Rattle.rds_sync.specs.declared.state.State.{State}
 use Rattle.rds_sync.specs.Advance.{group_item}
 use Rattle.rds_sync.specs.Lawful.{IsLawful}
 use Rattle.rds_sync.specs.Step.{run}
@@ -12,8 +12,9 @@ use Rattle.rds_live.specs.Gaps.{gaps_within}
 use Rattle.rds_live.specs.Live.{LiveOf, Terms, HasHeard, complete, report_at, signal_at}
 use Rattle.rds_live.specs.Moving.{moved_item, moved_items}
 use Rattle.rds_live.proofs.Parts.{length-at}
-use Rattle.rds_live.proofs.Following.{lawful-back}
+use Rattle.rds_live.proofs.Following.{state-in-part}
 use Rattle.rds_live.proofs.Ending.{IsLast, report-begin, report-to, totals-to}
+use Rattle.rds_live.proofs.live.Live.finish_with.Goals.{After-ended}
 use Rattle.rds_live.proofs.live.Live.finish_with.Goals as goal
 
 size-of : (part : Signal) (gaps : List (ℕ × ℕ)) (bytes : List ℕ) (n : ℕ) → part ≡ signal_at gaps bytes n → length_of part ≡ n
@@ -38,103 +39,103 @@ moved_end-group-requires-clause-lawful c =
     let long = size-of c.into_recording-part.result (gaps_within c.self.inside.gaps.now (c.self.inside.place - 8 * length c.bytes.result.now) n) c.push.new.self.bytes n c.into_recording-part.ensures in
     subst (λ (k : ℕ). IsLawful c.self.inside.rules.now k c.fill_from-end.result) (sym long) c.fill_from-end.ensures.lawful
 
+-- where the bits that end the stream were gone over, behind those that are kept of the bytes heard before
+module _ (c : After-ended) (before : List ℕ) (h : HasHeard c.args.self before) where
+  abbrev terms : Terms
+  terms = record { rules = c.self.inside.rules.now; gaps = c.self.inside.gaps.now }
+
+  abbrev more : List ℕ
+  more = take c.div_ceil.result c.args.bytes.now
+
+  abbrev tail : List ℕ
+  tail = c.self.inside.room.bytes
+
+  abbrev from : ℕ
+  from = 8 * length c.bytes.result.now
+
+  abbrev at : ℕ
+  at = c.self.inside.place - from
+
+  abbrev local : State
+  local = c.moved_back-state.result
+
+  abbrev part : Signal
+  part = c.into_recording-part.result
+
+  abbrev found : State × List Item
+  found = run part terms.rules local from (length_of part - from)
+
+  from_is : from ≡ 8 * length tail
+  from_is = ap (λ (xs : List ℕ). 8 * length xs) c.bytes.ensures.value
+
+  held : c.args.bits ≤ 8 * length more
+  held =
+      let few = length-take-le c.div_ceil.result c.args.bytes.now (omega (arith, c.div_ceil.ensures, c.requires.held)) in
+      omega (arith, few, c.div_ceil.ensures)
+
+  long : length_of part ≡ from + c.args.bits
+  long = size-of part (gaps_within terms.gaps at (from + c.args.bits)) c.push.new.self.bytes (from + c.args.bits) c.into_recording-part.ensures
+
+  heard : HasHeard (record { terms = terms; tail = tail; place = c.self.inside.place; state = c.self.inside.state; totals = c.self.inside.totals }) before
+  heard = subst (λ (live : LiveOf). HasHeard live before) (sym c.self.view_is) h
+
+  last : IsLast terms c.reach.ensures.range c.self.invariant.0.gaps before more c.args.bits held tail c.self.inside.place from at local part
+  last =
+      let live = c.self.invariant.0 in
+      record {
+        tail_is = ap (λ (l : LiveOf). l.tail) heard;
+        place_is = ap (λ (l : LiveOf). l.place) heard;
+        part_is = part-is part terms.gaps at (from + c.args.bits) (8 * length tail + c.args.bits) c.push.new.self.bytes (tail ++ more) c.into_recording-part.ensures
+            (omega (arith, from_is)) c.push.ensures.bytes;
+        from_is = from_is;
+        before_is = refl;
+        local_is = c.moved_back-state.ensures ∙ ap (λ (l : LiveOf). l.state) heard;
+        lawful = state-in-part tail c.self.inside.place from live.kept live.whole from_is terms.rules local c.self.inside.state c.moved_back-state.ensures live.lawful;
+      }
+
+  left : from + c.args.bits - from ≡ length_of part - from
+  left = omega (arith, long)
+
+  found_are : c.fill_from-end.new.items.items ≡ found.1
+  found_are = c.fill_from-end.ensures.items ∙ ap (λ (n : ℕ). (run part terms.rules local from n).1) left
+
+  end_is : c.fill_from-end.result ≡ found.0
+  end_is = c.fill_from-end.ensures.state ∙ ap (λ (n : ℕ). (run part terms.rules local from n).0) left
+
+  end_lawful : IsLawful terms.rules (length_of part) c.fill_from-end.result
+  end_lawful = subst (λ (n : ℕ). IsLawful terms.rules n c.fill_from-end.result) (sym long) c.fill_from-end.ensures.lawful
+
+  given_are : c.move_on.new.items ≡ moved_items at found.1
+  given_are = c.move_on.ensures ∙ ap (moved_items at) (c.as_mut_slice.ensures.value ∙ found_are)
+
+  report_is : report_at terms (before ++ more) (8 * length before + c.args.bits) ≡ report_at terms (before ++ c.args.bytes.now) (8 * length before + c.args.bits)
+  report_is = report-begin terms before c.args.bytes.now c.div_ceil.result (8 * length before + c.args.bits) (omega (arith, held, length-append before more))
+
+  items_of_report : complete c.args.self.terms before ++ (with_items c.fill_from-end.new.items c.move_on.new.items).items ++ group_item c.ended.result.group
+      ≡ report_at c.args.self.terms (before ++ c.args.bytes.now) (8 * length before + c.args.bits)
+  items_of_report =
+      let given : List Item = c.move_on.new.items in
+      let counted = ap length c.move_on.ensures ∙ length-map c.as_mut_slice.result.now (moved_item at) ∙ c.as_mut_slice.ensures.len in
+      let items_are = with_items_is c.fill_from-end.new.items given counted ∙ given_are in
+      subst (λ (t : Terms). complete t before ++ (with_items c.fill_from-end.new.items given).items ++ group_item c.ended.result.group ≡ report_at t (before ++ c.args.bytes.now) (8 * length before + c.args.bits))
+      (ap (λ (l : LiveOf). l.terms) c.self.view_is)
+      (report-to terms c.reach.ensures.range c.self.invariant.0.gaps before more c.args.bits held tail c.self.inside.place from at local part
+      c.runs_join.ensures c.runs_move.ensures c.ends_move.ensures c.runs_are_reports.ensures last (with_items c.fill_from-end.new.items given).items (group_item c.ended.result.group) c.fill_from-end.result
+      items_are end_is end_lawful (ap group_item c.ended.ensures.group ∙ c.moved_end-group.ensures) ∙ report_is)
+
+  totals_of_report : c.ended.result.totals ≡ totals_of (report_at c.args.self.terms (before ++ c.args.bytes.now) (8 * length before + c.args.bits))
+  totals_of_report =
+      subst (λ (t : Terms). c.ended.result.totals ≡ totals_of (report_at t (before ++ c.args.bytes.now) (8 * length before + c.args.bits)))
+      (ap (λ (l : LiveOf). l.terms) c.self.view_is)
+      (totals-to terms c.reach.ensures.range c.self.invariant.0.gaps before more c.args.bits held tail c.self.inside.place from at local part
+      c.runs_join.ensures c.runs_move.ensures c.ends_move.ensures c.runs_are_reports.ensures last c.move_on.new.items (group_item c.moved_end-group.result) c.fill_from-end.result
+      given_are end_is end_lawful c.moved_end-group.ensures
+      c.totals_join.ensures c.codes_tell_totals.ensures c.self.inside.totals c.of_items.result c.plus-totals.result c.ended.result.totals
+      (ap (λ (l : LiveOf). l.totals) heard) (c.of_items.ensures.value ∙ ap (λ (items : List Item). totals_of items) (c.deref.ensures.value ∙ found_are)) c.plus-totals.ensures.value c.ended.ensures.totals
+      ∙ ap (λ (items : List Item). totals_of items) report_is)
+
 pub returns-clause-items : goal.returns-clause-items
-returns-clause-items c before h =
-    let s = c.self.inside in
-    let terms : Terms = record { rules = s.rules.now; gaps = s.gaps.now } in
-    let range = c.reach.ensures.range in
-    let live = c.self.invariant.0 in
-    let count : ℕ = c.div_ceil.result in
-    let more : List ℕ = take count c.args.bytes.now in
-    let tail : List ℕ = s.room.bytes in
-    let from : ℕ = 8 * length c.bytes.result.now in
-    let at : ℕ = s.place - from in
-    let local = c.moved_back-state.result in
-    let part = c.into_recording-part.result in
-    let from_is : from ≡ 8 * length tail = ap (λ (xs : List ℕ). 8 * length xs) c.bytes.ensures.value in
-    let few : length more ≡ count = length-take-le count c.args.bytes.now (omega (arith, c.div_ceil.ensures, c.requires.held)) in
-    let held : c.args.bits ≤ 8 * length more = omega (arith, few, c.div_ceil.ensures) in
-    let long = size-of part (gaps_within s.gaps.now at (from + c.args.bits)) c.push.new.self.bytes (from + c.args.bits) c.into_recording-part.ensures in
-    let early : (at ≡ 0) ⊎ (233 ≤ from) = (elim (cases_lt (s.place / 8) 31) [
-      | inl short ↦ inl (omega (arith, live.whole, live.kept, from_is))
-      | inr many ↦ inr (omega (arith, live.kept, from_is))
-    ]) in
-    let lawful = lawful-back s.rules.now at from s.place local s.state c.moved_back-state.ensures live.lawful (omega (arith, live.whole, live.kept, from_is)) early in
-    let heard = subst (λ (live : LiveOf). HasHeard live before) (sym c.self.view_is) h in
-    let p : IsLast terms range live.gaps before more c.args.bits held tail s.place from at local part = record {
-      tail_is = ap (λ (l : LiveOf). l.tail) heard;
-      place_is = ap (λ (l : LiveOf). l.place) heard;
-      part_is = part-is part s.gaps.now at (from + c.args.bits) (8 * length tail + c.args.bits) c.push.new.self.bytes (tail ++ more) c.into_recording-part.ensures
-          (omega (arith, from_is)) c.push.ensures.bytes;
-      from_is = from_is;
-      before_is = refl;
-      local_is = c.moved_back-state.ensures ∙ ap (λ (l : LiveOf). l.state) heard;
-      lawful = lawful;
-    } in
-    let left : from + c.args.bits - from ≡ length_of part - from = omega (arith, long) in
-    let found : c.fill_from-end.new.items.items ≡ (run part s.rules.now local from (length_of part - from)).1 =
-    c.fill_from-end.ensures.items ∙ ap (λ (n : ℕ). (run part s.rules.now local from n).1) left in
-    let end_is : c.fill_from-end.result ≡ (run part s.rules.now local from (length_of part - from)).0 =
-    c.fill_from-end.ensures.state ∙ ap (λ (n : ℕ). (run part s.rules.now local from n).0) left in
-    let end_lawful : IsLawful s.rules.now (length_of part) c.fill_from-end.result = subst (λ (n : ℕ). IsLawful s.rules.now n c.fill_from-end.result) (sym long) c.fill_from-end.ensures.lawful in
-    let given : List Item = c.move_on.new.items in
-    let given_are : given ≡ moved_items at (run part s.rules.now local from (length_of part - from)).1 = c.move_on.ensures ∙ ap (moved_items at) (c.as_mut_slice.ensures.value ∙ found) in
-    let report_is = report-begin terms before c.args.bytes.now count (8 * length before + c.args.bits) (omega (arith, held, length-append before more)) in
-    let counted = ap length c.move_on.ensures ∙ length-map c.as_mut_slice.result.now (moved_item at) ∙ c.as_mut_slice.ensures.len in
-    let items_are = with_items_is c.fill_from-end.new.items given counted ∙ given_are in
-    subst (λ (t : Terms). complete t before ++ (with_items c.fill_from-end.new.items given).items ++ group_item c.ended.result.group ≡ report_at t (before ++ c.args.bytes.now) (8 * length before + c.args.bits))
-    (ap (λ (l : LiveOf). l.terms) c.self.view_is)
-    (report-to terms range live.gaps before more c.args.bits held tail s.place from at local part
-    c.runs_join.ensures c.runs_move.ensures c.ends_move.ensures c.runs_are_reports.ensures p (with_items c.fill_from-end.new.items given).items (group_item c.ended.result.group) c.fill_from-end.result
-    items_are end_is end_lawful (ap group_item c.ended.ensures.group ∙ c.moved_end-group.ensures) ∙ report_is)
+returns-clause-items c before h = items_of_report (goal.at.returns-clause-items c).After-ended before h
 
 pub returns-clause-totals : goal.returns-clause-totals
-returns-clause-totals c before h =
-    let s = c.self.inside in
-    let terms : Terms = record { rules = s.rules.now; gaps = s.gaps.now } in
-    let range = c.reach.ensures.range in
-    let live = c.self.invariant.0 in
-    let count : ℕ = c.div_ceil.result in
-    let more : List ℕ = take count c.args.bytes.now in
-    let tail : List ℕ = s.room.bytes in
-    let from : ℕ = 8 * length c.bytes.result.now in
-    let at : ℕ = s.place - from in
-    let local = c.moved_back-state.result in
-    let part = c.into_recording-part.result in
-    let from_is : from ≡ 8 * length tail = ap (λ (xs : List ℕ). 8 * length xs) c.bytes.ensures.value in
-    let few : length more ≡ count = length-take-le count c.args.bytes.now (omega (arith, c.div_ceil.ensures, c.requires.held)) in
-    let held : c.args.bits ≤ 8 * length more = omega (arith, few, c.div_ceil.ensures) in
-    let long = size-of part (gaps_within s.gaps.now at (from + c.args.bits)) c.push.new.self.bytes (from + c.args.bits) c.into_recording-part.ensures in
-    let early : (at ≡ 0) ⊎ (233 ≤ from) = (elim (cases_lt (s.place / 8) 31) [
-      | inl short ↦ inl (omega (arith, live.whole, live.kept, from_is))
-      | inr many ↦ inr (omega (arith, live.kept, from_is))
-    ]) in
-    let lawful = lawful-back s.rules.now at from s.place local s.state c.moved_back-state.ensures live.lawful (omega (arith, live.whole, live.kept, from_is)) early in
-    let heard = subst (λ (live : LiveOf). HasHeard live before) (sym c.self.view_is) h in
-    let p : IsLast terms range live.gaps before more c.args.bits held tail s.place from at local part = record {
-      tail_is = ap (λ (l : LiveOf). l.tail) heard;
-      place_is = ap (λ (l : LiveOf). l.place) heard;
-      part_is = part-is part s.gaps.now at (from + c.args.bits) (8 * length tail + c.args.bits) c.push.new.self.bytes (tail ++ more) c.into_recording-part.ensures
-          (omega (arith, from_is)) c.push.ensures.bytes;
-      from_is = from_is;
-      before_is = refl;
-      local_is = c.moved_back-state.ensures ∙ ap (λ (l : LiveOf). l.state) heard;
-      lawful = lawful;
-    } in
-    let left : from + c.args.bits - from ≡ length_of part - from = omega (arith, long) in
-    let found : c.fill_from-end.new.items.items ≡ (run part s.rules.now local from (length_of part - from)).1 =
-    c.fill_from-end.ensures.items ∙ ap (λ (n : ℕ). (run part s.rules.now local from n).1) left in
-    let end_is : c.fill_from-end.result ≡ (run part s.rules.now local from (length_of part - from)).0 =
-    c.fill_from-end.ensures.state ∙ ap (λ (n : ℕ). (run part s.rules.now local from n).0) left in
-    let end_lawful : IsLawful s.rules.now (length_of part) c.fill_from-end.result = subst (λ (n : ℕ). IsLawful s.rules.now n c.fill_from-end.result) (sym long) c.fill_from-end.ensures.lawful in
-    let given : List Item = c.move_on.new.items in
-    let given_are : given ≡ moved_items at (run part s.rules.now local from (length_of part - from)).1 = c.move_on.ensures ∙ ap (moved_items at) (c.as_mut_slice.ensures.value ∙ found) in
-    let report_is = report-begin terms before c.args.bytes.now count (8 * length before + c.args.bits) (omega (arith, held, length-append before more)) in
-    subst (λ (t : Terms). c.ended.result.totals ≡ totals_of (report_at t (before ++ c.args.bytes.now) (8 * length before + c.args.bits)))
-    (ap (λ (l : LiveOf). l.terms) c.self.view_is)
-    (totals-to terms range live.gaps before more c.args.bits held tail s.place from at local part
-    c.runs_join.ensures c.runs_move.ensures c.ends_move.ensures c.runs_are_reports.ensures p given (group_item c.moved_end-group.result) c.fill_from-end.result
-    given_are end_is end_lawful c.moved_end-group.ensures
-    c.totals_join.ensures c.codes_tell_totals.ensures s.totals c.of_items.result c.plus-totals.result c.ended.result.totals
-    (ap (λ (l : LiveOf). l.totals) heard) (c.of_items.ensures.value ∙ ap (λ (items : List Item). totals_of items) (c.deref.ensures.value ∙ found)) c.plus-totals.ensures.value c.ended.ensures.totals
-    ∙ ap (λ (items : List Item). totals_of items) report_is)
+returns-clause-totals c before h = totals_of_report (goal.at.returns-clause-totals c).After-ended before h

@@ -1,4 +1,4 @@
-use Rattle.std.proofs.Common.{◌≡◌, ℕ, ◌-◌, ◌≤◌, List, length, drop, refl, sym, ap, ap₂, ◌∙◌, subst, arith}
+use Rattle.std.proofs.Common.{◌≡◌, ℕ, ◌-◌, ◌≤◌, List, length, drop, refl, sym, ap, ◌∙◌, subst, arith}
 use Rattle.std.proofs.lemmas.List.{length-map}
 use Rattle.rds_stream.specs.Recording.{Signal, length_of}
 use Rattle.rds_sync.specs.declared.item.Item.{Item}
@@ -12,7 +12,7 @@ use Rattle.rds_pieces.specs.Guess.{guess}
 use Rattle.rds_pieces.specs.Inside.JointInside.{IsJoint}
 use Rattle.rds_pieces.specs.JointOf.{JointOf, joint_of}
 use Rattle.rds_pieces.specs.RunOf.{end_of}
-use Rattle.rds_pieces.proofs.JointLemmas.{counted, joint_met, joint_unmet}
+use Rattle.rds_pieces.proofs.JointLemmas.{joint_met, joint_unmet}
 use Rattle.rds_pieces.proofs.SeamLemmas.{renamed}
 use Rattle.rds_pieces.proofs.WalkLemmas.{met_from, unmet_from, passed_items, totals_fit}
 use Rattle.rds_pieces.proofs.joint.Joint.of_walk.Goals.{in-Some, in-None}

@@ -9,8 +9,8 @@ invariant_of-self c =
     let after = c.from_on-self-inside in
     let ahead = after.ensures.ahead in
     let end = ap (λ (w : WindowsLeft). w.end) c.self.view_is in
-    let low : inside.marks.ahead ≤ after.result.ahead = omega (arith, ahead) in (
-      after.ensures.marks inside.recording.now old.0,
+    let low : inside.places.ahead ≤ after.result.ahead = omega (arith, ahead) in (
+      after.ensures.places inside.recording.now old.0,
       λ more. omega (arith, low, old.1 (omega (arith, low, more))),
       omega (arith, ahead, old.2, c.requires.end, end),
       old.3,

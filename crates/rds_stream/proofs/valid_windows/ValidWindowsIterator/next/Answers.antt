@@ -1,52 +1,52 @@
 use Rattle.std.proofs.Common.{◌+◌, Some, None, refl, sym, ◌∙◌, subst, arith}
 use Rattle.rds_stream.specs.ValidWindows.{WindowsLeft, GivesFirst}
 use Rattle.rds_stream.proofs.WindowLists.{off_stored}
-use Rattle.rds_stream.proofs.MarkLemmas.{never_some, none_ahead, none_below, join_none, marked_valid, valid_late}
+use Rattle.rds_stream.proofs.ValidPlaceLemmas.{never_some, none_ahead, none_below, join_none, one_valid, valid_late}
 use Rattle.rds_stream.proofs.valid_windows.ValidWindowsIterator.next.Goals as goal
 
-pub returns-then-marks-eq0-clause-steps : goal.returns-then-marks-eq0-clause-steps
-returns-then-marks-eq0-clause-steps c =
+pub returns-then-places-eq0-clause-steps : goal.returns-then-places-eq0-clause-steps
+returns-then-places-eq0-clause-steps c =
     let b = c.self.inside.recording.now in
     let end = c.self.inside.end in
-    let found = c.next_marked-marks in
-    let marks = found.result in
-    let ahead = none_ahead b marks.next marks.ahead marks.word found.ensures.marks c.if-marks-eq0.true in
-    let ended = found.ensures.ended c.if-marks-eq0.true in
-    let none = join_none b c.self.inside.marks.next marks.next marks.ahead found.ensures.over ahead in
+    let found = c.next_valid-places in
+    let places = found.result in
+    let ahead = none_ahead b places.next places.ahead places.word found.ensures.places c.if-places-eq0.true in
+    let ended = found.ensures.ended c.if-places-eq0.true in
+    let none = join_none b c.self.inside.places.next places.next places.ahead found.ensures.over ahead in
     subst (λ (old : WindowsLeft). GivesFirst old None (record { signal = b; next = end; end = end })) c.self.view_is
     (λ i low high. none i low (omega (arith, ended, high)), refl)
 
 pub stored_offset-requires-clause-first : goal.stored_offset-requires-clause-first
 stored_offset-requires-clause-first c =
     let b = c.self.inside.recording.now in
-    let marks = c.next_marked-marks.result in
+    let places = c.next_valid-places.result in
     let bit = c.lowest-bit.result in
-    valid_late b (marks.next + bit) (marked_valid b marks.next marks.ahead marks.word bit c.next_marked-marks.ensures.marks c.lowest-bit.ensures.set).1
+    valid_late b (places.next + bit) (one_valid b places.next places.ahead places.word bit c.next_valid-places.ensures.places c.lowest-bit.ensures.set).1
 
--- a place that is marked has an offset as it is stored
+-- a valid place has an offset as it is stored
 pub returns-in_err-offset-clause-steps : goal.returns-in_err-offset-clause-steps
 returns-in_err-offset-clause-steps c =
     let b = c.self.inside.recording.now in
-    let marks = c.next_marked-marks.result in
+    let places = c.next_valid-places.result in
     let bit = c.lowest-bit.result in
-    let valid = (marked_valid b marks.next marks.ahead marks.word bit c.next_marked-marks.ensures.marks c.lowest-bit.ensures.set).1 in
-    absurd (never_some b (marks.next + bit) (off_stored b (marks.next + bit) valid ∙ sym c.stored_offset.ensures ∙ c.in_err-offset.was) valid)
+    let valid = (one_valid b places.next places.ahead places.word bit c.next_valid-places.ensures.places c.lowest-bit.ensures.set).1 in
+    absurd (never_some b (places.next + bit) (off_stored b (places.next + bit) valid ∙ sym c.stored_offset.ensures ∙ c.in_err-offset.was) valid)
 
 pub returns-clause-steps : goal.returns-clause-steps
 returns-clause-steps c =
     let b = c.self.inside.recording.now in
     let end = c.self.inside.end in
-    let found = c.next_marked-marks in
-    let marks = found.result in
+    let found = c.next_valid-places in
+    let places = found.result in
     let bit = c.lowest-bit.result in
-    let is = found.ensures.marks in
-    let place = marks.next + bit in
-    let valid = marked_valid b marks.next marks.ahead marks.word bit is c.lowest-bit.ensures.set in
-    let below = none_below b marks.next marks.ahead marks.word bit is (omega (arith, valid.0)) c.lowest-bit.ensures.below in
+    let is = found.ensures.places in
+    let place = places.next + bit in
+    let valid = one_valid b places.next places.ahead places.word bit is c.lowest-bit.ensures.set in
+    let below = none_below b places.next places.ahead places.word bit is (omega (arith, valid.0)) c.lowest-bit.ensures.below in
     subst (λ (old : WindowsLeft). GivesFirst old (Some (place, c.in_ok-offset.offset)) (record { signal = b; next = place + 1; end = end })) c.self.view_is (
       omega (arith, found.ensures.forward),
       omega (arith, found.ensures.forward, valid.0),
-      join_none b c.self.inside.marks.next marks.next place found.ensures.over below,
+      join_none b c.self.inside.places.next places.next place found.ensures.over below,
       off_stored b place valid.1 ∙ sym c.stored_offset.ensures ∙ c.in_ok-offset.was,
       refl,
     )

@@ -1,5 +1,0 @@
-//! Tests of `rds_code`.
-mod blocks;
-mod bursts;
-mod laws;
-mod offsets;

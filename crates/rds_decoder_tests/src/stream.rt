@@ -1,3 +1,0 @@
-//! Tests of `rds_stream`.
-mod scans;
-mod windows;

@@ -1,0 +1,31 @@
+-- What is asked of two runs that are joined, and what their join costs. `join_runs` and `joint_of` cite both, and callers rely
+-- on the fields as on clauses; `Work::join` cites the first.
+use Rattle.std.specs.Prelude.{◌≡◌, ℕ, ◌+◌, ◌-◌, ◌*◌, ◌≤◌, IsOkUnless, OnOk, Option, Result}
+use Rattle.rds_stream.specs.Recording.{Signal}
+use Rattle.rds_sync.specs.declared.state.State.TheVariants.{Searching}
+use Rattle.rds_sync.specs.Rules.{RuleNumbers}
+use Rattle.rds_pieces.specs.Meeting.{IsMeeting}
+use Rattle.rds_pieces.specs.RunOf.{IsRunOf, RunOf, end_of}
+use Rattle.rds_pieces.specs.Seams.{seam_reads}
+use Rattle.rds_pieces.specs.Soon.{MeetSoon}
+use Rattle.rds_pieces.specs.declared.error.PieceError.{PieceError}
+use Rattle.rds_pieces.specs.declared.error.PieceError.TheVariants.{OutOfMemory}
+
+module _ (b : Signal) (rules : RuleNumbers) (left right : RunOf) where
+  -- runs of this recording, by these rules, of which the right one begins where the left one ends
+  pub record AreNeighbours : Type 0 where
+    pub next : left.to ≡ right.from
+    pub left_is : IsRunOf b rules left
+    pub right_is : IsRunOf b rules right
+
+  -- the answer to a join over a tape that had counted `old` windows and has now counted `new`
+  pub record IsJoin {A : Type 0} (old new : ℕ) (result : Result A PieceError) : Type 0 where
+    pub err : IsOkUnless result OutOfMemory
+    -- where a sound range lies inside the right run's, the left one's end meets it by that range's end
+    pub soon : OnOk result (MeetSoon b rules (end_of left) Searching right.from right.to)
+    -- it reads on up to the meeting, and no more where it is refused memory
+    pub reads : OnOk result ((met : Option ℕ) × IsMeeting b rules (end_of left) Searching right.from right.to met
+        × (new ≤ old + seam_reads rules right.from right.to met))
+    pub reads_way : (met : Option ℕ) → IsMeeting b rules (end_of left) Searching right.from right.to met
+        → new ≤ old + seam_reads rules right.from right.to met
+    pub reads_most : new ≤ old + (rules.reach + 2) * (right.to - right.from + 1)
