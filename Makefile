@@ -10,7 +10,7 @@ export RT
 
 SOURCES := crates.txt $(shell find crates -name out -prune -o \( -name '*.rt' -o -name '*.antt' \) -print)
 
-.PHONY: all run quick lib test proofs built archive wrong-bodies wrong-bodies-of-lowest program library package install install-lib deb clean toolchain
+.PHONY: all run quick lib test proofs built archive wrong-bodies program library package install install-lib deb clean toolchain
 all: build/rds
 
 toolchain:
@@ -45,32 +45,34 @@ run: toolchain
 quick: toolchain
 	tests/quick.sh
 
-# The wrong bodies of the libraries that stand on no other need nothing that rt ci builds: they have what it leaves of the
-# processors while it has one crate to prove. What it built is tried while the others are; measured when nothing else runs.
+# The wrong bodies have what `rt ci` leaves of the processors: it has one crate to prove for much of its time, since most stand on
+# one another. What it built is tried when all is proved, and measured when nothing else runs.
 test: toolchain
-	+$(MAKE) --no-print-directory -j 2 proofs wrong-bodies-of-lowest
-	+$(MAKE) --no-print-directory -j 2 -O wrong-bodies built
-	crates/rds_bench/out/rds_bench --check
 	@mkdir -p build
+	@rm -f $(LOG)
+	+$(MAKE) --no-print-directory -j 2 WHEN='--beside $(LOG)' wrong-bodies built
+	crates/rds_bench/out/rds_bench --check
 	@[ -n "$$(git status --porcelain)" ] || git rev-parse HEAD > build/passed
 
+# what `rt ci` says, for the wrong bodies that wait for it
+LOG := build/proofs.log
+
 proofs:
-	$(RT) ci
+	@mkdir -p build
+	@echo $(RT) ci
+	@{ $(RT) ci; echo $$? > build/proofs.status; echo "proofs: ended"; } 2>&1 | tee $(LOG)
+	@exit $$(cat build/proofs.status)
 
 # The library for C over what `proofs` has just built, so that `lib` has nothing left to do: it would prove all of that once more.
 archive:
 	tests/archive.py
 	lib/make_library.sh crates/rds_c/out/librds_c.a build/lib
 
-wrong-bodies-of-lowest:
-	nice tests/wrong_bodies.py rds_code
-	nice tests/wrong_bodies.py rds_rows
-
 wrong-bodies:
-	tests/wrong_bodies.py rds_stream rds_sync rds_live rds_abi rds_pieces rds_crew rds_tool
+	nice tests/wrong_bodies.py $(WHEN)
 
 # One after the other. Each takes one processor for the most part, so that the wrong bodies have what is left.
-built:
+built: proofs
 	+$(MAKE) --no-print-directory archive
 	+$(MAKE) --no-print-directory program
 	+$(MAKE) --no-print-directory library

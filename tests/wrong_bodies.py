@@ -1,7 +1,7 @@
 #!/usr/bin/env python3
 """Makes the wrong bodies of crates/*/wrong/, all of a crate at once, and fails unless the prover refuses each.
 
-    tests/wrong_bodies.py [--right] [CRATE..]
+    tests/wrong_bodies.py [--right] [--beside LOG] [CRATE..]
 
 A wrong body is an edit, as those of must-fail/ are; a line `fails: FUNCTION` names one that it makes wrong from outside
 its body, by a constant say. In a copy every function has a hole for its proof, but for the edited ones, which are
@@ -16,15 +16,19 @@ behind it under another name, with the same contract and the same proof. A wrong
 
 An edit with a line `equal: WHY` leaves the meaning as it was: it may be refused by lines, and by no goal.
 
-With --right the right bodies are tried in the same way, in the place of the wrong ones, and none may be refused.
+With --right the right bodies are tried in the same way, in the place of the wrong ones, and none may be refused. With --beside
+what `rt ci` says is written to LOG meanwhile, with a line 'proofs: ended' behind it: each crate waits until those that it stands on
+are proved, and half of the processors are left to `rt ci`.
 """
 
+import argparse
 import os
 import re
 import shutil
 import subprocess
 import sys
 import tempfile
+import time
 from concurrent.futures import ThreadPoolExecutor
 from dataclasses import dataclass, replace
 
@@ -33,6 +37,8 @@ from holes import EXPORTED, LIBRARIES, RT, TOP, below, copied, functions_of, is_
 CRATES = f"{TOP}/crates"
 # The table that says what is false of an edit that is refused by lines of answers alone.
 TOLD = "tests/wrong_bodies.answers"
+# The line behind all that `rt ci` says.
+ENDED = re.compile(r"^proofs: ended$", re.M)
 # What a check says of an answer that names what an edit took away.
 GONE = "has no field|is not in scope|has no `|was not admitted"
 
@@ -200,28 +206,58 @@ def try_all(room, crate, told, are_right):
     return bodies
 
 
-def main(names, are_right):
+def build(crates):
+    """Builds the libraries that these crates stand on, where they are not built."""
+    for it in (it for it in LIBRARIES if any(it in below(crate) for crate in crates) and not is_built(it)):
+        if subprocess.run([RT, "lib"], cwd=f"{CRATES}/{it}", stdout=subprocess.DEVNULL).returncode:
+            sys.exit(f"{it} is not proved: no wrong body is tried above it")
+
+
+def wait_for_proofs(crates, log):
+    """Waits until `rt ci`, by what it says in its log, has proved all of these crates."""
+    while True:
+        said = read(log) if os.path.isfile(log) else ""
+        lacking = [it for it in crates if not re.search(rf"^rt: {it} (proved|is kept: .*)$", said, re.M)]
+        if not lacking:
+            return
+        if ENDED.search(said):
+            sys.exit(f"{lacking[0]} is not proved: no wrong body is tried above it")
+        time.sleep(1)
+
+
+def main(names, are_right, log):
     told = told_of()
     crates = [it for it in [*LIBRARIES, EXPORTED] if os.path.isdir(f"{CRATES}/{it}/wrong")]
     if unknown := [it for it in names if it not in crates]:
         sys.exit(f"there are no wrong bodies of {', '.join(unknown)}")
     crates = [it for it in crates if it in (names or crates)]
-    for it in (it for it in LIBRARIES if any(it in below(crate) for crate in crates) and not is_built(it)):
-        if subprocess.run([RT, "lib"], cwd=f"{CRATES}/{it}", stdout=subprocess.DEVNULL).returncode:
-            sys.exit(f"{it} is not proved: no wrong body is tried above it")
-    # Those that take longest come first.
-    crates.sort(key=lambda it: len(os.listdir(f"{CRATES}/{it}/wrong")), reverse=True)
     lanes = len(os.sched_getaffinity(0))
+    if log:
+        # Those that wait for the fewest come first.
+        lanes = max(1, lanes // 2)
+        crates.sort(key=lambda it: len(below(it)))
+    else:
+        build(crates)
+        # Those that take longest come first.
+        crates.sort(key=lambda it: len(os.listdir(f"{CRATES}/{it}/wrong")), reverse=True)
+
+    def tried(crate):
+        if log:
+            wait_for_proofs(below(crate), log)
+        return try_all(room, crate, told, are_right)
+
     with tempfile.TemporaryDirectory(prefix="wrong-bodies-") as room, ThreadPoolExecutor(lanes) as pool:
-        tried = sum(pool.map(lambda it: try_all(room, it, told, are_right), crates), [])
-    failed = [it.name for it in tried if not is_as_wanted(it, told, are_right)]
+        bodies = sum(pool.map(tried, crates), [])
+    failed = [it.name for it in bodies if not is_as_wanted(it, told, are_right)]
     kind = "right" if are_right else "wrong"
-    print(f"{kind} bodies: {len(tried) - len(failed)} as they must be, {len(failed)} not: {' '.join(failed)}")
-    return 1 if failed or not tried else 0
+    print(f"{kind} bodies: {len(bodies) - len(failed)} as they must be, {len(failed)} not: {' '.join(failed)}")
+    return 1 if failed or not bodies else 0
 
 
 if __name__ == "__main__":
-    if "--help" in sys.argv:
-        print(__doc__)
-        sys.exit()
-    sys.exit(main([it for it in sys.argv[1:] if it != "--right"], "--right" in sys.argv))
+    parser = argparse.ArgumentParser(description=__doc__, formatter_class=argparse.RawDescriptionHelpFormatter)
+    parser.add_argument("--right", action="store_true")
+    parser.add_argument("--beside", metavar="LOG")
+    parser.add_argument("names", metavar="CRATE", nargs="*")
+    asked = parser.parse_args()
+    sys.exit(main(asked.names, asked.right, asked.beside))
