@@ -10,7 +10,7 @@ export RT
 
 SOURCES := crates.txt $(shell find crates -name out -prune -o \( -name '*.rt' -o -name '*.antt' \) -print)
 
-.PHONY: all run quick lib test proofs built archive wrong-bodies program library package install install-lib deb clean toolchain
+.PHONY: all run quick lib test proofs built archive wrong-bodies install install-lib deb clean toolchain
 all: build/rds
 
 toolchain:
@@ -46,11 +46,12 @@ quick: toolchain
 	tests/quick.sh
 
 # The wrong bodies have what `rt ci` leaves of the processors: it has one crate to prove for much of its time, since most stand on
-# one another. What it built is tried when all is proved, and measured when nothing else runs.
+# one another. What it built is tried when all is proved, and timed when nothing else runs.
 test: toolchain
 	@mkdir -p build
 	@rm -f $(LOG)
 	+$(MAKE) --no-print-directory -j 2 WHEN='--beside $(LOG)' wrong-bodies built
+	+$(MAKE) --no-print-directory tests/growth.sh
 	crates/rds_bench/out/rds_bench --check
 	@[ -n "$$(git status --porcelain)" ] || git rev-parse HEAD > build/passed
 
@@ -71,38 +72,29 @@ archive:
 wrong-bodies:
 	nice tests/wrong_bodies.py $(WHEN)
 
-# One after the other. Each takes one processor for the most part, so that the wrong bodies have what is left.
+# Those of the flags that make hands on say how many lanes there are: the scripts have lanes of their own.
 built: proofs
 	+$(MAKE) --no-print-directory archive
-	+$(MAKE) --no-print-directory program
-	+$(MAKE) --no-print-directory library
-	+$(MAKE) --no-print-directory package
+	MAKEFLAGS= make --no-print-directory -j $$(nproc) -O $(SCRIPTS)
+
+# The scripts over what is built; those that take longest come first.
+SCRIPTS := $(addprefix tests/,recipes.sh refusals.sh differential.sh library.sh scripts.sh docs.sh package.sh work.sh program.sh \
+  streams.py listings.sh)
+RDS := crates/rds/out/rds
+OVER = $(RDS)
+tests/differential.sh: OVER = $(RDS) crates/rds_plain/out/rds_plain
+tests/refusals.sh: OVER = $(RDS) crates/rds_parts/out/rds_parts
+tests/library.sh: OVER = build/lib $(RDS)
+tests/package.sh: OVER = $(RDS) build/lib
+tests/library.sh tests/package.sh: lib
 
 # A script that hangs is ended, and named: all of them take a few minutes together. `timeout` puts it out of the terminal's
 # reach, so an interrupt is handed on.
-define within_limit
-@echo $(1)
-@trap 'kill $$!' INT TERM; timeout 1200 $(1) & wait $$! || { status=$$?; \
-  [ $$status != 124 ] || echo "$(firstword $(1)): ended, since it ran for more than 1200 seconds" >&2; exit $$status; }
-endef
-
-program:
-	$(call within_limit,tests/scripts.sh crates/rds/out/rds)
-	$(call within_limit,tests/docs.sh crates/rds/out/rds)
-	$(call within_limit,tests/program.sh crates/rds/out/rds)
-	$(call within_limit,tests/listings.sh crates/rds/out/rds)
-	$(call within_limit,tests/differential.sh crates/rds/out/rds crates/rds_plain/out/rds_plain)
-	$(call within_limit,tests/streams.py crates/rds/out/rds)
-	$(call within_limit,tests/refusals.sh crates/rds/out/rds crates/rds_parts/out/rds_parts)
-	$(call within_limit,tests/work.sh crates/rds/out/rds)
-	$(call within_limit,tests/growth.sh crates/rds/out/rds)
-	$(call within_limit,tests/recipes.sh crates/rds/out/rds)
-
-library: lib
-	$(call within_limit,tests/library.sh build/lib crates/rds/out/rds)
-
-package: lib
-	$(call within_limit,tests/package.sh crates/rds/out/rds build/lib)
+.PHONY: $(SCRIPTS) tests/growth.sh
+$(SCRIPTS) tests/growth.sh:
+	@echo $@ $(OVER)
+	@trap 'kill $$!' INT TERM; timeout 1200 $@ $(OVER) & wait $$! || { status=$$?; \
+	  [ $$status != 124 ] || echo "$@: ended, since it ran for more than 1200 seconds" >&2; exit $$status; }
 
 # The program, its manual page, the scripts of the recipes, and completion for bash and zsh.
 SHARE = $(DESTDIR)$(PREFIX)/share
