@@ -1,9 +1,10 @@
-use Rattle.std.proofs.Common.{◌≡◌, ◌∙◌, ap, rules, subst}
+use Rattle.std.proofs.Common.{◌≡◌, ◌∙◌, ap, subst}
 use Rattle.std.specs.Io.KnownBytes.{Appends}
 use Rattle.std.specs.List.{concat}
 use Rattle.rds_rows.specs.Parts.{first_parts}
 use Rattle.rds_rows.specs.Writes.{AppendsPrefix}
 use Rattle.rds_rows.proofs.Parts.{all_rows}
+use Rattle.rds_rows.proofs.Promises.{all_written, write_failed}
 use Rattle.rds_rows.proofs.write.seated.Given.{Over}
 use Rattle.rds_rows.proofs.write.seated.Goals.{After-by_pool}
 use Rattle.rds_rows.proofs.write.seated.Goals as goal
@@ -16,21 +17,13 @@ whole g c =
 pub returns-in_default-Ok-clause-written : goal.returns-in_default-Ok-clause-written
 returns-in_default-Ok-clause-written g c =
     let wrote = rw c.in_default-Ok.is-1 at c.by_pool.ensures.ok in
-    record {
-      ok = subst (Appends (g.W.Hand.contents c.args.out) (g.W.Hand.contents c.by_pool.result.0)) (whole g (goal.at.returns-in_default-Ok-clause-written g c).After-by_pool) wrote;
-      count = search rules;
-      write = search rules;
-      untouched = search rules;
-      prefix = search rules;
-    }
+    let same = rw c.in_default-Ok.is-1 at c.by_pool.ensures.count in
+    let all = subst (Appends (g.W.Hand.contents c.args.out) (g.W.Hand.contents c.by_pool.result.0)) (whole g (goal.at.returns-in_default-Ok-clause-written g c).After-by_pool) wrote in
+    all_written g.W.Hand.contents g.W.Hand.failed _ _ _ all same
 
 pub returns-clause-written : goal.returns-clause-written
 returns-clause-written g c =
     let wrote = rw c.in_default-Err.is-1 at c.by_pool.ensures.prefix in
-    record {
-      ok = search rules;
-      count = search rules;
-      write = search rules;
-      untouched = search rules;
-      prefix = λ _. subst (AppendsPrefix (g.W.Hand.contents c.args.out) (g.W.Hand.contents c.by_pool.result.0)) (whole g (goal.at.returns-clause-written g c).After-by_pool) wrote;
-    }
+    let more = rw c.in_default-Err.is-1 at c.by_pool.ensures.failed in
+    let some = subst (AppendsPrefix (g.W.Hand.contents c.args.out) (g.W.Hand.contents c.by_pool.result.0)) (whole g (goal.at.returns-clause-written g c).After-by_pool) wrote in
+    write_failed g.W.Hand.contents g.W.Hand.failed _ _ _ more some
