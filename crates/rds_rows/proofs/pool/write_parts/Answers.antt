@@ -1,10 +1,9 @@
 use Rattle.std.proofs.Common.{◌+◌, ◌-◌, ◌≡◌, arith, rules, subst, sym}
-use Rattle.std.specs.Io.KnownBytes.{Appends}
 use Rattle.rds_rows.specs.Gathered.{kept_in}
 use Rattle.rds_rows.specs.Parts.{first_parts}
 use Rattle.rds_rows.specs.Writes.{AppendsBut, AppendsPrefix}
 use Rattle.rds_rows.proofs.Parts.{more_parts, next_part}
-use Rattle.rds_rows.proofs.Steps.{but_more, but_prefix, but_prefix_more, but_rest, on_any_err, on_err, on_ok, prefix_wider}
+use Rattle.rds_rows.proofs.Steps.{but_more, but_prefix, but_prefix_more, on_any_err, on_err, prefix_wider}
 use Rattle.rds_rows.proofs.pool.write_parts.Goals as goal
 
 pub returns-in_err-write_part-clause-prefix : goal.returns-in_err-write_part-clause-prefix
@@ -30,17 +29,6 @@ loop-k-preserved g c =
       written = subst (λ text. AppendsBut old new text kept) (next_part part k) more;
       count = search rules;
     }
-
-pub returns-clause-ok : goal.returns-clause-ok
-returns-clause-ok g c =
-    let old = g.W.Hand.contents c.args.out.now in
-    let new = g.W.Hand.contents c.write_out.new.out in
-    let first = first_parts g.J.Named.part in
-    let all : c.loop-k.k ≡ c.args.parts = omega arith in
-    on_ok c.write_out.result
-    (λ wrote. subst (λ k. Appends old new (first k)) all
-    (but_rest old (g.W.Hand.contents c.loop-k.out) new (first c.loop-k.k) (kept_in c.loop-k.gathered) c.loop-k.invariant.written wrote))
-    c.write_out.ensures.ok
 
 pub returns-clause-prefix : goal.returns-clause-prefix
 returns-clause-prefix g c =
