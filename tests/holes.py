@@ -33,9 +33,13 @@ class Function:
         """The folder of its proof below the crates in `folder`."""
         return f"{folder}/{self.crate}/proofs/{self.path.replace('.', '/')}"
 
+    def has_room_for_hole(self):
+        """Whether there is a proof, in a folder of the function's name."""
+        return bool(self.body) and self.path.replace(".", "").isidentifier()
+
     def put_hole(self, folder):
-        """Puts a hole in the place of its proof, where the proof has a folder of the function's name."""
-        if self.body and self.path.replace(".", "").isidentifier():
+        """Puts a hole in the place of its proof."""
+        if self.has_room_for_hole():
             shutil.rmtree(self.proof(folder), ignore_errors=True)
             os.makedirs(self.proof(folder))
             text = HOLE.format(crate=self.crate, path=self.path, name=self.path.rpartition(".")[2])

@@ -4,8 +4,8 @@
     tests/wrong_bodies.py [--right] [--beside LOG] [CRATE..]
 
 A wrong body is an edit, as those of must-fail/ are; a line `fails: FUNCTION` names one that it makes wrong from outside
-its body, by a constant say. In a copy every function has a hole for its proof, but for the edited ones, which are
-checked from the contracts of what they call. A second edit of a function is made in a twin of it, a copy of the function
+its body, by a constant say. In a copy every function has a hole for its proof and a body that calls nothing, but for the edited
+ones, which are checked from the contracts of what they call. A second edit of a function is made in a twin of it, a copy of the function
 behind it under another name, with the same contract and the same proof. A wrong body is refused
 
 - by a goal, where `search` leaves one of its function open that it proves of the right body: one, that is, for which
@@ -39,6 +39,8 @@ CRATES = f"{TOP}/crates"
 TOLD = "tests/wrong_bodies.answers"
 # The line behind all that `rt ci` says.
 ENDED = re.compile(r"^proofs: ended$", re.M)
+# What stands before a body that says more than its contract: a constant is worked out of it, and a type.
+KEEPS_BODY = r"\bconst fn\b|->\s*impl\b"
 # What a check says of an answer that names what an edit took away.
 GONE = "has no field|is not in scope|has no `|was not admitted"
 
@@ -137,6 +139,17 @@ def put_proof(folder, f, twin):
             write(f"{to}/{it}", re.sub(rf"\bproofs\.{f.path}\b", f"proofs.{twin.path}", read(f"{at}/{it}")))
 
 
+def put_loops(folder, crate, edited):
+    """Gives each other function of the copy that has a hole a body that calls nothing: a check goes over what is called, too."""
+    functions = [f for f in functions_of(f"{folder}/{crate}") if f.has_room_for_hole() and f.path not in edited]
+    for file in {f.file for f in functions}:
+        text = read(f"{folder}/{file}")
+        for start, end, size in sorted((*f.place, len(f.body)) for f in functions if f.file == file)[::-1]:
+            if not re.search(KEEPS_BODY, text[start : end - size]):
+                text = f"{text[:end - size]}{{ loop {{}} }}{text[end:]}"
+        write(f"{folder}/{file}", text)
+
+
 def prepare(folder, crate, bodies):
     """Puts the wrong bodies into the copy, and the right proofs of their functions."""
     count = {}
@@ -151,6 +164,7 @@ def prepare(folder, crate, bodies):
     edits = [it for body in bodies for it in body.edits]
     for path in {it[0] for it in edits}:
         write(f"{folder}/{path}", edited(read(f"{CRATES}/{path}"), [it for it in edits if it[0] == path]))
+    put_loops(folder, crate, {f.path for body in bodies for f in body.functions})
     places = {f.path: f.place for f in functions_of(f"{folder}/{crate}")}
     for body in bodies:
         body.functions = [replace(f, place=places[f.path]) for f in body.functions]
