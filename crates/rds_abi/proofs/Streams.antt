@@ -1,5 +1,5 @@
 -- A stream as a decoder has it, and as its numbers say it.
-use Rattle.std.proofs.Common.{◌≡◌, ◌∙◌, ◌+◌, ◌*◌, ◌/◌, ◌^◌, ◌<◌, ◌≤◌, ◌++◌, ℕ, List, Option, Some, None, ap, arith, length, map, min, refl, subst, sym, take}
+use Rattle.std.proofs.Common.{◌≡◌, ◌+◌, ◌*◌, ◌/◌, ◌^◌, ◌<◌, ◌≤◌, ◌++◌, ℕ, List, Option, Some, None, arith, length, map, min, refl, subst, sym, take}
 use Rattle.std.proofs.lemmas.List.{length-map}
 use Rattle.rds_sync.specs.Advance.{group_item}
 use Rattle.rds_sync.specs.declared.item.Group.{Group as GroupRecord}
@@ -24,19 +24,6 @@ laid_out live place state totals tail place_is state_is totals_are tail_is kept 
     rw (place_is, state_is, totals_are, sym kept, tail_is) refl
 
 module _ (terms : Terms) (s : RdsStream) (live : LiveOf) (is : live ≡ stream_of terms s) where
-  -- numbers that were laid out of a decoder by the same terms
-  pub by_same_terms : (next : LiveOf) (laid : RdsStream) → next.terms ≡ live.terms → stream_of next.terms laid ≡ next → stream_of terms laid ≡ next
-  by_same_terms next laid same laid_is =
-      subst (λ (t : Terms). stream_of t laid ≡ next) (same ∙ ap (λ (l : LiveOf). l.terms) is) laid_is
-
-  -- what a decoder has heard, and its numbers with it
-  pub heard : (next : LiveOf) (laid : RdsStream) (bytes : List ℕ) → stream_of terms laid ≡ next
-      → ((before : List ℕ) → HasHeard live before → HasHeard next (before ++ bytes))
-      → (before : List ℕ) → HasHeard (stream_of terms s) before → HasHeard (stream_of terms laid) (before ++ bytes)
-  heard next laid bytes laid_is hears before had =
-      subst (λ (l : LiveOf). HasHeard l (before ++ bytes)) (sym laid_is)
-      (hears before (subst (λ (l : LiveOf). HasHeard l before) (sym is) had))
-
   -- the items that it completed
   pub completed : (bytes : List ℕ) (items : List Item)
       → ((before : List ℕ) → HasHeard live before → complete live.terms (before ++ bytes) ≡ complete live.terms before ++ items)

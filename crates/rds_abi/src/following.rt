@@ -1,6 +1,6 @@
 //! A stream that is followed chunk by chunk, from what the caller keeps of it.
 
-ghost use Rattle.std.specs.Prelude.{◌≡◌, ◌++◌, ◌<◌, ◌≤◌, ◌⊎◌, ◌+◌, ◌-◌, ◌*◌, ◌^◌, ℕ, List, IfErr, IfOk, OnErr, OnOk, false, length, map, replicate, take, true};
+ghost use Rattle.std.specs.Prelude.{◌≡◌, ◌++◌, ◌<◌, ◌≤◌, ◌⊎◌, ◌+◌, ◌-◌, ◌*◌, ◌^◌, ℕ, List, IfErr, IfOk, OnErr, OnOk, length, map, replicate, take};
 ghost use Rattle.rds_sync.specs.Advance.{group_item};
 ghost use Rattle.rds_sync.specs.Totals.{totals_of};
 ghost use Rattle.rds_live.specs.Live.{HasHeard, IsLive, complete, report_at, report_of};
@@ -10,7 +10,7 @@ ghost use Rattle.rds_abi.specs.Layout.{item_in_c, totals_in_c};
 ghost use Rattle.rds_abi.specs.declared.refusal.Refusal.TheVariants.{BitsPastBytes, OutOfMemory, TooLong};
 
 use crate::asked::{RdsGap, RdsRules, gaps_in, rules_of};
-use crate::going::{RdsState, state_in_c, state_of};
+use crate::going::{RdsState, fill_end, state_in_c, state_of};
 use crate::layout::{RdsItem, RdsTotals, item_in_c, totals_in_c};
 use crate::refusal::Refusal;
 use rds_live::{Live, ResumeError};
@@ -129,18 +129,21 @@ fn fill_room(room: &mut [RdsItem], items: &[Item])
     }
 }
 
-/// Has the decoder take the next bytes, and gives the items that they complete.
-fn taken(alloc: Global, live: &mut Live<'_>, bytes: &[u8]) -> Result<Vec<Item>, Refusal>
-    ensures heard { IfOk result (λ _. (before : List ℕ) → HasHeard live.old before → HasHeard live.new (before ++ bytes.now)) }
-    ensures terms { IfOk result (λ _. live.new.terms ≡ live.old.terms) }
-    ensures items { IfOk result (λ items. (before : List ℕ) → HasHeard live.old before
-        → complete live.old.terms (before ++ bytes.now) ≡ complete live.old.terms before ++ items.items) }
-    ensures fits { IfOk result (λ _. live.old.place + 8 * length bytes.now ≤ 2 ^ 36) }
+/// Has the decoder take the next bytes, and gives the items that they complete, and what is known of the stream then.
+fn taken(alloc: Global, live: Live<'_>, bytes: &[u8]) -> Result<(Vec<Item>, RdsStream), Refusal>
+    ensures heard { IfOk result (λ r. (before : List ℕ) → HasHeard live.entry before
+        → HasHeard (the_stream_of live.entry.terms r.1) (before ++ bytes.now)) }
+    ensures laid { IfOk result (λ r. r.1 ≡ the_stream_in_c (the_stream_of live.entry.terms r.1)) }
+    ensures lawful { IfOk result (λ r. IsLive (the_stream_of live.entry.terms r.1)) }
+    ensures items { IfOk result (λ r. (before : List ℕ) → HasHeard live.entry before
+        → complete live.entry.terms (before ++ bytes.now) ≡ complete live.entry.terms before ++ r.0.items) }
+    ensures fits { IfOk result (λ _. live.entry.place + 8 * length bytes.now ≤ 2 ^ 36) }
     ensures refused { IfErr result (λ refusal.
-        ((refusal ≡ TooLong) × (2 ^ 36 < live.old.place + 8 * length bytes.now)) ⊎ (refusal ≡ OutOfMemory)) }
+        ((refusal ≡ TooLong) × (2 ^ 36 < live.entry.place + 8 * length bytes.now)) ⊎ (refusal ≡ OutOfMemory)) }
 {
+    let mut live = live;
     match live.take_all(alloc, bytes) {
-        Ok(items) => Ok(items),
+        Ok(items) => Ok((items, stream_in_c(&live))),
         Err(StreamError::TooLong) => Err(Refusal::TooLong),
         Err(_) => Err(Refusal::OutOfMemory),
     }
@@ -179,34 +182,16 @@ pub fn push(
 {
     let rules = rules_of(alloc, rules)?;
     let gaps = gaps_in(alloc, gaps)?;
-    let mut live = live_of(alloc, &rules, gaps.as_slice(), stream)?;
-    let items = taken(alloc, &mut live, bytes)?;
+    let live = live_of(alloc, &rules, gaps.as_slice(), stream)?;
+    let (items, next) = taken(alloc, live, bytes)?;
     let number = items.len();
     *count = number as u64;
     if room.len() < number {
         return Err(Refusal::SmallRoom);
     }
     fill_room(room, &items);
-    *stream = stream_in_c(&live);
+    *stream = next;
     Ok(())
-}
-
-/// Writes the group in progress, if there is one, to the beginning of the room, and to the count whether there is one.
-/// Whether there was room for it.
-fn fill_end(room: &mut [RdsItem], group: Option<Group>, count: &mut u64) -> bool
-    ensures filled { result ≡ true → IsFilled (map item_in_c (group_item group)) room.old room.new }
-    ensures count { count.new ≡ length (group_item group) }
-    ensures untouched { result ≡ false → room.new ≡ room.old }
-    ensures small { result ≡ false → length room.old < length (group_item group) }
-{
-    *count = u64::from(group.is_some());
-    if let Some(group) = group {
-        let Some(slot) = room.first_mut() else {
-            return false;
-        };
-        *slot = item_in_c(Item::Group(group));
-    }
-    true
 }
 
 /// Ends a stream: writes the group in progress, as far as it was read, to the beginning of `room`, to `count` how many

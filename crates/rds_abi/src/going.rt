@@ -1,7 +1,8 @@
 //! A run that goes on from a state which the caller keeps.
 
-ghost use Rattle.std.specs.Prelude.{◌≡◌, ◌≢◌, ◌-◌, ◌≤◌, ◌⊎◌, ℕ, IfErr, IfOk, IfSome, IsOkUnless, None, OnErr, OnOk, length, map};
+ghost use Rattle.std.specs.Prelude.{◌≡◌, ◌≢◌, ◌-◌, ◌<◌, ◌≤◌, ◌⊎◌, ℕ, IfErr, IfOk, IfSome, IsOkUnless, None, OnErr, OnOk, false, length, map, true};
 ghost use Rattle.rds_stream.specs.Recording.{length_of};
+ghost use Rattle.rds_sync.specs.Advance.{group_item};
 ghost use Rattle.rds_sync.specs.Lawful.{IsLawful as IsLawfulState};
 ghost use Rattle.rds_sync.specs.Rules.{RuleNumbers};
 ghost use Rattle.rds_sync.specs.Step.{run as the_run};
@@ -14,7 +15,7 @@ use crate::asked::{RdsGap, RdsRules, recording_of, rules_of};
 use crate::layout::{RdsItem, item_in_c};
 use crate::refusal::Refusal;
 use rds_stream::{Counted, Recording};
-use rds_sync::{Decoder, Item, Lock, Rules, State, finish, laws, run_codes};
+use rds_sync::{Decoder, Group, Item, Lock, Rules, State, finish, laws, run_codes};
 use std::alloc::Global;
 
 /// What a run knows between two bits: 24 bytes, all 0 where no block is known.
@@ -209,6 +210,24 @@ fn fill_run(room: &mut [RdsItem], items: Decoder<'_>)
     }
 }
 
+/// Writes the group in progress, if there is one, to the beginning of the room, and to the count whether there is one.
+/// Whether there was room for it.
+pub(crate) fn fill_end(room: &mut [RdsItem], group: Option<Group>, count: &mut u64) -> bool
+    ensures filled { result ≡ true → IsFilled (map item_in_c (group_item group)) room.old room.new }
+    ensures count { count.new ≡ length (group_item group) }
+    ensures untouched { result ≡ false → room.new ≡ room.old }
+    ensures small { result ≡ false → length room.old < length (group_item group) }
+{
+    *count = u64::from(group.is_some());
+    if let Some(group) = group {
+        let Some(slot) = room.first_mut() else {
+            return false;
+        };
+        *slot = item_in_c(Item::Group(group));
+    }
+    true
+}
+
 /// Writes the group in progress at a recording's end, where a run over it ended in this state, to the beginning of
 /// `room`, and to `count` how many groups these are: one or none.
 ///
@@ -234,15 +253,9 @@ pub fn finish_run(
 {
     let start = start_of(alloc, bytes, bits, gaps, rules, (bits, bits), state)?;
     let tape = &mut Counted::new(&start.recording);
-    match finish(tape, &start.rules, start.state) {
-        Some(group) => {
-            *count = 1;
-            let Some(slot) = room.first_mut() else {
-                return Err(Refusal::SmallRoom);
-            };
-            *slot = item_in_c(Item::Group(group));
-        }
-        None => *count = 0,
+    let group = finish(tape, &start.rules, start.state);
+    if !fill_end(room, group, count) {
+        return Err(Refusal::SmallRoom);
     }
     Ok(())
 }

@@ -1,7 +1,7 @@
-use Rattle.std.proofs.Common.{◌≡◌, ◌<◌, ap, arith, inl, length, subst, sym, ◌∙◌}
-use Rattle.rds_live.specs.Live.{IsLive, LiveOf}
+use Rattle.std.proofs.Common.{◌≡◌, ◌<◌, ◌++◌, ℕ, List, arith, inl, length, subst}
+use Rattle.rds_live.specs.Live.{HasHeard, IsLive, LiveOf}
 use Rattle.rds_abi.specs.Following.{AreCompleted, stream_in_c, stream_of, terms_of}
-use Rattle.rds_abi.proofs.Streams.{are_written, by_same_terms, completed, fits, heard, is_live, too_many}
+use Rattle.rds_abi.proofs.Streams.{are_written, completed, fits, is_live, too_many}
 use Rattle.rds_abi.proofs.following.push.Goals as goal
 use Rattle.rds_abi.proofs.following.push.Goals.{In_ok-live}
 
@@ -27,22 +27,13 @@ returns-then-room-number-clause-refused c =
 
 pub returns-clause-heard : goal.returns-clause-heard
 returns-clause-heard c =
-    let terms = terms_of c.args.rules c.args.gaps.now in
-    let live = c.in_ok-live.live in
     let is = live_is (goal.at.returns-clause-heard c).In_ok-live in
-    let next = c.taken.new.live in
-    heard terms c.args.stream.now live is next c.stream_in_c.result c.args.bytes.now
-    (by_same_terms terms c.args.stream.now live is next c.stream_in_c.result c.in_ok-items.ensures.terms c.stream_in_c.ensures.says)
-    c.in_ok-items.ensures.heard
+    subst (λ (l : LiveOf). (before : List ℕ) → HasHeard l before → HasHeard (stream_of l.terms c.in_ok-items.next) (before ++ c.args.bytes.now)) is c.in_ok-items.ensures.heard
 
 pub returns-clause-laid : goal.returns-clause-laid
 returns-clause-laid c =
-    let terms = terms_of c.args.rules c.args.gaps.now in
-    let live = c.in_ok-live.live in
     let is = live_is (goal.at.returns-clause-laid c).In_ok-live in
-    let next = c.taken.new.live in
-    c.stream_in_c.ensures.laid
-    ∙ ap stream_in_c (sym (by_same_terms terms c.args.stream.now live is next c.stream_in_c.result c.in_ok-items.ensures.terms c.stream_in_c.ensures.says))
+    subst (λ (l : LiveOf). c.in_ok-items.next ≡ stream_in_c (stream_of l.terms c.in_ok-items.next)) is c.in_ok-items.ensures.laid
 
 pub returns-clause-items : goal.returns-clause-items
 returns-clause-items c =
@@ -57,15 +48,10 @@ returns-clause-items c =
 
 pub returns-clause-next : goal.returns-clause-next
 returns-clause-next c =
-    let terms = terms_of c.args.rules c.args.gaps.now in
-    let live = c.in_ok-live.live in
     let is = live_is (goal.at.returns-clause-next c).In_ok-live in
-    let next = c.taken.new.live in
     record {
       range = c.in_ok-rules.ensures.range;
-      live = subst (λ (l : LiveOf). IsLive l)
-          (sym (by_same_terms terms c.args.stream.now live is next c.stream_in_c.result c.in_ok-items.ensures.terms c.stream_in_c.ensures.says))
-          c.stream_in_c.ensures.lawful;
+      live = subst (λ (l : LiveOf). IsLive (stream_of l.terms c.in_ok-items.next)) is c.in_ok-items.ensures.lawful;
     }
 
 pub returns-clause-lawful : goal.returns-clause-lawful
