@@ -16,6 +16,7 @@ use crate::laws::run_laws;
 use crate::run::PieceRun;
 use crate::seaming::seam;
 use rds_stream::Tape;
+use rds_sync::laws::totals_join;
 use rds_sync::{Items, Report, Rules, Spans, State, Totals, finish};
 use std::alloc::Global;
 
@@ -48,6 +49,8 @@ pub fn stitch<T: Tape>(
     ensures reads_way { (n : ℕ) → IsSumOfReads (T.signal tape.old) rules.now State.Searching runs.now n
         → T.reads_made tape.new ≤ T.reads_made tape.old + n + 3 }
 {
+    // The end's totals join those before it.
+    totals_join();
     let (end_state, mut report) = carry_over_all(alloc, tape, rules, runs, spans)?;
     let last = finish(tape, rules, end_state);
     report.totals = report.totals.plus(Totals::of_end(last));

@@ -1,8 +1,11 @@
-use Rattle.std.proofs.Common.{◌≤◌, ◌+◌, ◌-◌, ◌*◌, ℕ, rules, sym, subst, ◌∙◌}
+use Rattle.std.proofs.Common.{◌≡◌, ◌≤◌, ◌+◌, ◌-◌, ◌*◌, ℕ, rules, sym, subst, ◌∙◌}
 use Rattle.rds_sync.specs.declared.state.State.{State}
 use Rattle.rds_sync.specs.declared.state.State.TheVariants.{Searching}
 use Rattle.rds_sync.specs.Lawful.{IsLawful}
 use Rattle.rds_sync.specs.Rules.{RuleNumbers}
+use Rattle.rds_sync.specs.Codes.{kept_of}
+use Rattle.rds_sync.specs.Step.{run}
+use Rattle.rds_pieces.specs.Inside.Walk.{IsWalk, IsMetOrNot}
 use Rattle.rds_pieces.specs.Meeting.{IsMeeting}
 use Rattle.rds_pieces.specs.RunOf.{end_of}
 use Rattle.rds_pieces.specs.Seams.{seam_reads}
@@ -11,6 +14,33 @@ use Rattle.rds_pieces.proofs.SeamLemmas.{renamed}
 use Rattle.rds_pieces.proofs.SoonLemmas.{soon_met, meet_soon}
 use Rattle.rds_pieces.proofs.WalkLemmas.{meeting_of}
 use Rattle.rds_pieces.proofs.joining.joint_of.Goals as goal
+
+pub of_walk-requires-clause-walk : goal.of_walk-requires-clause-walk
+of_walk-requires-clause-walk g c =
+    let l = c.args.left.now in
+    let r = c.args.right.now in
+    let w = c.in_ok-walk.walk in
+    let sides = c.requires.neighbours in
+    renamed (λ b rules. IsWalk b rules (end_of l) r.from r.to w.place w.state) r.source l.source r.rules l.rules (sides.right_is.0 ∙ sym sides.left_is.0) (sides.right_is.1 ∙ sym sides.left_is.1)
+    (subst (λ (s : State). IsWalk r.source r.rules s r.from r.to w.place w.state) c.end_state.ensures c.in_ok-walk.ensures.walk)
+
+pub of_walk-requires-clause-met : goal.of_walk-requires-clause-met
+of_walk-requires-clause-met g c =
+    let l = c.args.left.now in
+    let r = c.args.right.now in
+    let w = c.in_ok-walk.walk in
+    let sides = c.requires.neighbours in
+    renamed (λ b rules. IsMetOrNot b rules (end_of l) r.from r.to w.place w.met) r.source l.source r.rules l.rules (sides.right_is.0 ∙ sym sides.left_is.0) (sides.right_is.1 ∙ sym sides.left_is.1)
+    (subst (λ (s : State). IsMetOrNot r.source r.rules s r.from r.to w.place w.met) c.end_state.ensures c.in_ok-walk.ensures.met)
+
+pub of_walk-requires-clause-codes : goal.of_walk-requires-clause-codes
+of_walk-requires-clause-codes g c =
+    let l = c.args.left.now in
+    let r = c.args.right.now in
+    let w = c.in_ok-walk.walk in
+    let sides = c.requires.neighbours in
+    renamed (λ b rules. w.codes ≡ kept_of (run b rules (end_of l) r.from (w.place - r.from)).1) r.source l.source r.rules l.rules (sides.right_is.0 ∙ sym sides.left_is.0) (sides.right_is.1 ∙ sym sides.left_is.1)
+    (subst (λ (s : State). w.codes ≡ kept_of (run r.source r.rules s r.from (w.place - r.from)).1) c.end_state.ensures c.in_ok-walk.ensures.codes)
 
 pub returns-clause-cost : goal.returns-clause-cost
 returns-clause-cost g c =
