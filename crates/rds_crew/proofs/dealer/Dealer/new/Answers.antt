@@ -1,8 +1,11 @@
 use Rattle.std.proofs.Common.{rules, ap, ◌≡◌, ◌-◌, arith}
 use Rattle.atomic_table.specs.Table.{Me}
 use Rattle.rds_crew.specs.declared.deal.View.{View}
-use Rattle.rds_crew.proofs.Moves.{splits}
+use Rattle.rds_crew.proofs.Moves.{opens, splits}
 use Rattle.rds_crew.proofs.dealer.Dealer.new.Goals as goal
+
+pub of_words-requires : goal.of_words-requires
+of_words-requires c = opens _ c.requires (search rules)
 
 pub split_seat-other-requires : goal.split_seat-other-requires
 split_seat-other-requires c =
