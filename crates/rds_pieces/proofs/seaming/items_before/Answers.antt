@@ -1,4 +1,4 @@
-use Rattle.std.proofs.Common.{◌-◌, ◌≤◌, arith}
+use Rattle.std.proofs.Common.{◌-◌, arith}
 use Rattle.rds_pieces.proofs.CodeLemmas.{codes_few}
 use Rattle.rds_pieces.proofs.seaming.items_before.Goals as goal
 

@@ -1,4 +1,4 @@
-use Rattle.std.proofs.Common.{◌≡◌, ℕ, ◌+◌, ◌-◌, ◌≤◌, List, Some, None, length, refl, sym, ap, ap₂, subst, ◌∙◌, arith}
+use Rattle.std.proofs.Common.{◌≡◌, ℕ, ◌+◌, ◌-◌, length, refl, sym, ap, ap₂, ◌∙◌, arith}
 use Rattle.std.proofs.lemmas.List.{length-map}
 use Rattle.rds_sync.specs.declared.state.State.TheVariants.{Searching}
 use Rattle.rds_sync.specs.Codes.{KeptOf, code_of}
@@ -9,7 +9,7 @@ use Rattle.rds_sync.specs.Step.{run}
 use Rattle.rds_pieces.specs.Guess.{guess}
 use Rattle.rds_pieces.proofs.CodeLemmas.{codes_few}
 use Rattle.rds_pieces.proofs.SeamLemmas.{renamed}
-use Rattle.rds_pieces.proofs.WalkLemmas.{met_from, unmet_from, count_taken, rest_marks}
+use Rattle.rds_pieces.proofs.WalkLemmas.{met_from, count_taken, rest_marks}
 use Rattle.rds_pieces.proofs.seaming.items_of.Goals as goal
 
 pub len-requires : goal.len-requires
