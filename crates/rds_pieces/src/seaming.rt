@@ -93,7 +93,7 @@ fn ends_of(walk: &Walk<'_>, state: State, run: &PieceRun) -> (Totals, State, Opt
     ensures met { IsMeeting run.now.source run.now.rules state State.Searching run.now.from run.now.to result.2 }
     ensures way { distance run.now.from run.now.to result.2 ≡ walk.now.place - run.now.from }
 {
-    // A run and the guess that are in one state go on as one.
+    // A run and the guess that are in one state go on as one, and a range has its first place before its last.
     run_laws();
     run.range();
     let _ = state;
