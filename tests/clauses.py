@@ -55,7 +55,7 @@ def check_without(folder, clauses, callers):
         for start, end in (it.place for it in clauses if it.file == file):
             text = text[:start] + re.sub(r"[^\n]", " ", text[start:end]) + text[end:]
         write(f"{folder}/{file}", text)
-    check = [*words(folder, "rds_uses", callers, are_copied=True), "--jobs", "2"]
+    check = [*words(folder, "rds_uses", callers), "--jobs", "2"]
     ran = subprocess.run(
         check, cwd=f"{folder}/rds_uses", stdout=subprocess.PIPE, stderr=subprocess.STDOUT, encoding="utf-8"
     )

@@ -139,15 +139,20 @@ def is_built(crate):
     """Whether what `rt` built of a library is newer than its sources and theirs below it."""
     folders = [f"{TOP}/crates/{it}/{part}" for it in [*below(crate), crate] for part in ("src", "specs", "proofs")]
     files = (f"{at}/{name}" for folder in folders for at, _, names in os.walk(folder) for name in names)
-    rlib = f"{TOP}/crates/{crate}/out/rlib/{crate}.rlib"
+    rlib = built(crate)
     return os.path.isdir(rlib) and os.path.getmtime(rlib) > max(os.path.getmtime(it) for it in files)
 
 
-def over(crate):
+def built(crate):
+    """Where `rt` puts what it builds of a library."""
+    return f"{TOP}/crates/{crate}/out/rlib/{crate}.rlib"
+
+
+def over(crate, where=built):
     """The words that name the libraries below a crate, as `rt` built them."""
     said = []
     for it in below(crate):
-        rlib = f"{TOP}/crates/{it}/out/rlib/{it}.rlib"
+        rlib = where(it)
         said += ["--extern", f"{it}={rlib}"] if it in used_by(crate)[0] else []
         said += ["-L", f"dependency={os.path.dirname(rlib)}"]
     return said
@@ -160,13 +165,13 @@ def of_kit(crate, kit):
     return said + [word for it in sorted(kit) for word in ("--extern", f"{it}={KIT}/rlibs/{it}.rlib")]
 
 
-def words(folder, crate, only, are_copied):
-    """The words that check these functions of a copy. The libraries below are copies beside it, or as `rt` built them."""
+def words(folder, crate, only, where=None):
+    """The words that check these functions of a copy. The libraries below are copies beside it, or built `where` it says."""
     kit = {"core", "std", *(name for it in [*below(crate), crate] for name in used_by(it)[1])}
     said = [f"{KIT}/bin/rattle", "check", *of_kit(crate, kit), "--allow-holes", "--incremental", f"{folder}/kept_{crate}"]
-    if are_copied:
+    if where:
+        said += over(crate, where)
+    else:
         for it in below(crate):
             said += ["--lib", f"{it}:{','.join(['core', 'std', *sum(used_by(it), [])])}={folder}/{it}/src/lib.rt"]
-    else:
-        said += over(crate)
     return said + [word for it in sorted(only) for word in ("--only", it)]

@@ -68,9 +68,9 @@ for script in "${scripts[@]}"; do
     refused "$script.sh of a program that is not there" 'usage: tests/' "$all_tools" bash "$here/$script.sh" "$work/none"
 done
 RT=none refused 'wrong_bodies.py without rt' 'no Rattle toolchain' "$all_tools" python3 "$here/wrong_bodies.py"
-printf '%s\n' 'rt: rds_code proved' 'rt: rds_stream NOT PROVED' 'proofs: ended' >"$work/proofs.log"
-RT=true refused 'wrong_bodies.py beside proofs that fail' 'rds_stream is not proved' "$all_tools" \
-    python3 "$here/wrong_bodies.py" --beside "$work/proofs.log" rds_sync
+printf '%s\n' 'rt: rds_code NOT PROVED' 'proofs: ended' >"$work/proofs.log"
+RT=true refused 'wrong_bodies.py beside proofs that fail' 'rds_code is not proved' "$all_tools" \
+    python3 "$here/wrong_bodies.py" --beside "$work/proofs.log" rds_stream
 
 # Those that say by name which part they skip for want of a tool end at the first of the tools that every part calls.
 read -ra tools <<<"$common"

@@ -5,8 +5,8 @@
 
 A wrong body is an edit, as those of must-fail/ are; a line `fails: FUNCTION` names one that it makes wrong from outside
 its body, by a constant say. In a copy every function has a hole for its proof and a body that calls nothing, but for the edited
-ones, which are checked from the contracts of what they call. A second edit of a function is made in a twin of it, a copy of the function
-behind it under another name, with the same contract and the same proof. A wrong body is refused
+ones, which are checked from the contracts of what they call. A second edit of a function is made in a twin of it, a copy of
+the function behind it under another name, with the same contract and the same proof. A wrong body is refused
 
 - by a goal, where `search` leaves one of its function open that it proves of the right body: one, that is, for which
   the right proof, checked by `rt ci`, has no answer by hand;
@@ -17,8 +17,8 @@ behind it under another name, with the same contract and the same proof. A wrong
 An edit with a line `equal: WHY` leaves the meaning as it was: it may be refused by lines, and by no goal.
 
 With --right the right bodies are tried in the same way, in the place of the wrong ones, and none may be refused. With --beside
-what `rt ci` says is written to LOG meanwhile, with a line 'proofs: ended' behind it: each crate waits until those that it stands on
-are proved, and half of the processors are left to `rt ci`.
+what `rt ci` says is written to LOG meanwhile, with a line 'proofs: ended' behind it: each crate waits until those that it
+stands on are proved, and until all are, half of the processors are left to `rt ci`.
 """
 
 import argparse
@@ -32,7 +32,7 @@ import time
 from concurrent.futures import ThreadPoolExecutor
 from dataclasses import dataclass, replace
 
-from holes import EXPORTED, LIBRARIES, RT, TOP, below, copied, functions_of, is_built, read, words, write
+from holes import EXPORTED, LIBRARIES, RT, TOP, below, built, copied, functions_of, is_built, read, words, write
 
 CRATES = f"{TOP}/crates"
 # The table that says what is false of an edit that is refused by lines of answers alone.
@@ -194,8 +194,8 @@ def is_as_wanted(body, told, are_right):
     return not body.is_refused(told) if body.is_equal else body.is_refused(told)
 
 
-def try_all(room, crate, told, are_right):
-    """Tries the wrong bodies of a crate, all in one run, or the right ones in their places."""
+def try_all(room, crate, where, told, are_right):
+    """Tries the wrong bodies of a crate over the libraries there, all in one run, or the right ones in their places."""
     functions = copied(room, [crate])
     files = sorted(it for it in os.listdir(f"{CRATES}/{crate}/wrong") if it.endswith(".edit"))
     bodies = [wrong_body(crate, it, functions) for it in files]
@@ -203,7 +203,7 @@ def try_all(room, crate, told, are_right):
         body.edits = [(path, at, old, old) for path, at, old, _ in body.edits]
     prepare(room, crate, bodies)
     ran = subprocess.run(
-        words(room, crate, {f.path.replace(".", "::") for it in bodies for f in it.functions}, are_copied=False),
+        words(room, crate, {f.path.replace(".", "::") for it in bodies for f in it.functions}, where),
         cwd=f"{room}/{crate}",
         stdout=subprocess.PIPE,
         stderr=subprocess.STDOUT,
@@ -227,16 +227,60 @@ def build(crates):
             sys.exit(f"{it} is not proved: no wrong body is tried above it")
 
 
-def wait_for_proofs(crates, log):
-    """Waits until `rt ci`, by what it says in its log, has proved all of these crates."""
-    while True:
+def link(path, to):
+    """Links a file, or copies it where no link can be made."""
+    try:
+        os.link(path, to)
+    except OSError:
+        shutil.copy2(path, to)
+
+
+def follow(log, where):
+    """Links the libraries that `rt ci` proves, by what it says in its log: at its end it puts back what it found at its start."""
+    is_ended = False
+    while not is_ended:
         said = read(log) if os.path.isfile(log) else ""
-        lacking = [it for it in crates if not re.search(rf"^rt: {it} (proved|is kept: .*)$", said, re.M)]
-        if not lacking:
-            return
-        if ENDED.search(said):
+        for it in re.findall(r"^rt: (\w+) (?:proved|is kept: .*)$", said, re.M):
+            if it in LIBRARIES and not os.path.isdir(where(it)):
+                shutil.copytree(built(it), f"{where(it)}.new", copy_function=link)
+                os.rename(f"{where(it)}.new", where(it))
+        is_ended = ENDED.search(said)
+        time.sleep(1)
+
+
+def wait_for(crates, where, proofs):
+    """Waits until all of these crates are proved."""
+    while lacking := [it for it in crates if not os.path.isdir(where(it))]:
+        if proofs.done() and not any(os.path.isdir(where(it)) for it in lacking):
+            proofs.result()
             sys.exit(f"{lacking[0]} is not proved: no wrong body is tried above it")
         time.sleep(1)
+
+
+def tried(crates, are_right, log):
+    """Tries the wrong bodies of these crates, over what is built or beside `rt ci`."""
+    told, lanes = told_of(), len(os.sched_getaffinity(0))
+    if log:
+        # One of these follows the log.
+        lanes = lanes // 2 + 1
+    with tempfile.TemporaryDirectory(prefix="wrong-bodies-") as room, ThreadPoolExecutor(lanes) as pool:
+        if not log:
+            build(crates)
+            # Those that take longest come first.
+            crates.sort(key=lambda it: len(os.listdir(f"{CRATES}/{it}/wrong")), reverse=True)
+            return sum(pool.map(lambda it: try_all(room, it, built, told, are_right), crates), [])
+
+        def where(crate):
+            return f"{room}/built/{crate}.rlib"
+
+        def wait_and_try(crate):
+            wait_for(below(crate), where, proofs)
+            return try_all(room, crate, where, told, are_right)
+
+        os.mkdir(f"{room}/built")
+        proofs = pool.submit(follow, log, where)
+        # Those that wait for the fewest come first.
+        return sum(pool.map(wait_and_try, sorted(crates, key=lambda it: len(below(it)))), [])
 
 
 def main(names, are_right, log):
@@ -244,24 +288,7 @@ def main(names, are_right, log):
     crates = [it for it in [*LIBRARIES, EXPORTED] if os.path.isdir(f"{CRATES}/{it}/wrong")]
     if unknown := [it for it in names if it not in crates]:
         sys.exit(f"there are no wrong bodies of {', '.join(unknown)}")
-    crates = [it for it in crates if it in (names or crates)]
-    lanes = len(os.sched_getaffinity(0))
-    if log:
-        # Those that wait for the fewest come first.
-        lanes = max(1, lanes // 2)
-        crates.sort(key=lambda it: len(below(it)))
-    else:
-        build(crates)
-        # Those that take longest come first.
-        crates.sort(key=lambda it: len(os.listdir(f"{CRATES}/{it}/wrong")), reverse=True)
-
-    def tried(crate):
-        if log:
-            wait_for_proofs(below(crate), log)
-        return try_all(room, crate, told, are_right)
-
-    with tempfile.TemporaryDirectory(prefix="wrong-bodies-") as room, ThreadPoolExecutor(lanes) as pool:
-        bodies = sum(pool.map(tried, crates), [])
+    bodies = tried([it for it in crates if it in (names or crates)], are_right, log)
     failed = [it.name for it in bodies if not is_as_wanted(it, told, are_right)]
     kind = "right" if are_right else "wrong"
     print(f"{kind} bodies: {len(bodies) - len(failed)} as they must be, {len(failed)} not: {' '.join(failed)}")
