@@ -47,12 +47,26 @@ pub fn joined(
 {
     let left = speculate(alloc, recording, rules, cutting, 0)?;
     let right = speculate(alloc, recording, rules, cutting, 1)?;
-    let (joint, reads) = match join_once(alloc, recording, rules, &left, &right) {
-        Ok(made) => made,
-        Err(_) => join_once(alloc, recording, rules, &left, &right)?,
-    };
+    let (joint, reads) = join_again(alloc, recording, rules, &left, &right)?;
     let totals = PieceRun::joined(left, joint, right)?.totals();
     Ok(Found::of_totals(&totals, reads))
+}
+
+/// What joins two guesses, made once more where it is refused, and how many windows that reads.
+fn join_again(
+    alloc: Global,
+    recording: &Recording,
+    rules: &Rules,
+    left: &PieceRun,
+    right: &PieceRun,
+) -> Result<(Joint, u64), PieceError>
+    requires { AreNeighbours recording.now rules.now left.now right.now }
+    ensures { IfOk result (λ made. made.0 ≡ the_joint_of left.now right.now) }
+{
+    match join_once(alloc, recording, rules, left, right) {
+        Ok(made) => Ok(made),
+        Err(_) => join_once(alloc, recording, rules, left, right),
+    }
 }
 
 /// What joins two guesses, and how many windows that reads.

@@ -13,7 +13,7 @@ mod calls;
 
 use calls::Found;
 use rds_crew::{CrewError, Dealer};
-use rds_pieces::Cutting;
+use rds_pieces::{Cutting, PieceError};
 use rds_stream::Recording;
 use rds_sync::Rules;
 use std::alloc::{AllocError, Global};
@@ -38,21 +38,29 @@ fn main(rt: HostRuntime) -> ExitCode {
 
 /// What the calls answer over eight zero groups cut at place 190: by reach 3 the runs meet soon, by reach 4 never.
 fn answers(alloc: Global) -> Result<String, AllocError> {
-    let recording = eight_groups(alloc)?;
     let mut text = String::new(alloc);
-    push_found(alloc, &mut text, &recording, 3)?;
-    push_found(alloc, &mut text, &recording, 4)?;
+    push_answers(alloc, &mut text)?;
+    Ok(text)
+}
+
+fn push_answers(alloc: Global, text: &mut String) -> Result<(), AllocError> {
+    let recording = eight_groups(alloc)?;
+    push_found(alloc, text, &recording, 3)?;
+    push_found(alloc, text, &recording, 4)?;
+    push_made(alloc, text)
+}
+
+/// What is made of no recording: seats, and a code that is kept. What is refused is made once more.
+fn push_made(alloc: Global, text: &mut String) -> Result<(), AllocError> {
     let seats = match seats(alloc) {
         Ok(seats) => seats,
         Err(_) => seats(alloc).map_err(|_| AllocError)?,
     };
-    writeln!(text, "{seats} seats")?;
     let kept = match calls::kept_in_room(alloc) {
         Ok(kept) => kept,
         Err(_) => calls::kept_in_room(alloc)?,
     };
-    writeln!(text, "{kept} code")?;
-    Ok(text)
+    writeln!(text, "{seats} seats\n{kept} code")
 }
 
 fn eight_groups(alloc: Global) -> Result<Recording, AllocError> {
@@ -63,7 +71,7 @@ fn eight_groups(alloc: Global) -> Result<Recording, AllocError> {
     Recording::from_bytes(bytes, 832).map_err(|_| AllocError)
 }
 
-/// A row of what a join and a report find by this reach.
+/// The rows of what joins and a report find by this reach.
 fn push_found(
     alloc: Global,
     text: &mut String,
@@ -72,14 +80,26 @@ fn push_found(
 ) -> Result<(), AllocError> {
     let rules = Rules::new(alloc, 2, reach, 10).map_err(|_| AllocError)?;
     let cutting = cut(alloc, recording)?;
-    let joined = calls::joined(alloc, recording, &rules, &cutting).map_err(|_| AllocError)?;
-    let at_once = calls::joined_at_once(alloc, recording, &rules, &cutting).map_err(
-        |_| AllocError,
-    )?;
-    let stitched = calls::stitched(alloc, recording, &rules, &cutting).map_err(|_| AllocError)?;
+    push_calls(alloc, text, recording, &rules, &cutting).map_err(|_| AllocError)
+}
+
+fn push_calls(
+    alloc: Global,
+    text: &mut String,
+    recording: &Recording,
+    rules: &Rules,
+    cutting: &Cutting,
+) -> Result<(), PieceError>
+    requires fits { IsCutting (length_of recording.now) cutting.now }
+    requires two { pieces_of cutting.now ≡ 2 }
+{
+    let joined = calls::joined(alloc, recording, rules, cutting)?;
     push_row(text, "joined", joined)?;
+    let at_once = calls::joined_at_once(alloc, recording, rules, cutting)?;
     push_row(text, "joined at once", at_once)?;
-    push_row(text, "stitched", stitched)
+    let stitched = calls::stitched(alloc, recording, rules, cutting)?;
+    push_row(text, "stitched", stitched)?;
+    Ok(())
 }
 
 fn push_row(text: &mut String, call: &str, found: Found) -> Result<(), AllocError> {

@@ -29,40 +29,76 @@ mod windows;
 use anyhow::{Context, Result, bail};
 use rds_stream::Recording;
 use rds_sync::{Item, Rules, decode_plain};
-use std::alloc::Global;
+use std::alloc::{AllocError, Global};
 use std::env;
 use std::io::{Read, Write};
 
 fn main(rt: HostRuntime) -> Result<()> {
-    let given: Vec<String> = env::args(&rt)?.skip(1).collect(rt.alloc())?;
-    let words: Vec<&str> = given.iter().map(|word| word.as_str()).collect(rt.alloc())?;
+    let words: Vec<String> = env::args(&rt)?.skip(1).collect(rt.alloc())?;
     let text = text_of(&rt, words.as_slice())?;
     rt.stdout().write_all(text.as_slice())?;
     Ok(())
 }
 
 /// What these words ask for.
-fn text_of(rt: &HostRuntime, words: &[&str]) -> Result<Vec<u8>> {
-    let alloc = rt.alloc();
+fn text_of(rt: &HostRuntime, words: &[String]) -> Result<Vec<u8>> {
     let (command, rest) = words.split_first().context("no command is given")?;
-    match *command {
-        "make" => Ok(making::recording(alloc, number(rest, 0)?)?),
-        "lines" => Ok(groups::lines(alloc, number(rest, 0)?)?.into_bytes()),
-        "encode" => groups::encoded(alloc, input(rt)?.as_slice())?.context("a line is no group"),
+    match command.as_str() {
+        "make" => made(rt.alloc(), rest),
+        "lines" => lines(rt.alloc(), rest),
+        "encode" => encoded(rt),
         "scan" => scan(rt, rest),
-        "list" => {
-            let items = items(rt, rest)?;
-            let mut text = rows::of_items(alloc, &items)?;
-            text.push_str(rows::of_totals(alloc, &items)?.as_str())?;
-            Ok(text.into_bytes())
-        }
-        "totals" => Ok(rows::of_totals(alloc, &items(rt, rest)?)?.into_bytes()),
+        "list" => list(rt, rest),
+        "totals" => totals(rt, rest),
         _ => bail!("no such command"),
     }
 }
 
+fn made(alloc: Global, words: &[String]) -> Result<Vec<u8>> {
+    Ok(making::recording(alloc, number(words, 0)?)?)
+}
+
+fn lines(alloc: Global, words: &[String]) -> Result<Vec<u8>> {
+    Ok(groups::lines(alloc, number(words, 0)?)?.into_bytes())
+}
+
+fn encoded(rt: &HostRuntime) -> Result<Vec<u8>> {
+    groups::encoded(rt.alloc(), input(rt)?.as_slice())?.context("a line is no group")
+}
+
+fn scan(rt: &HostRuntime, words: &[String]) -> Result<Vec<u8>> {
+    let mut text = String::new(rt.alloc());
+    push_windows(rt, &mut text, words)?;
+    Ok(text.into_bytes())
+}
+
+fn push_windows(rt: &HostRuntime, text: &mut String, words: &[String]) -> Result<()> {
+    let recording = recording(rt, words)?;
+    let gaps = gaps(rt.alloc(), words)?;
+    Ok(windows::push_rows(text, &recording, gaps.as_slice())?)
+}
+
+fn list(rt: &HostRuntime, words: &[String]) -> Result<Vec<u8>> {
+    let items = items(rt, words)?;
+    let mut text = String::new(rt.alloc());
+    push_list(&mut text, items.as_slice())?;
+    Ok(text.into_bytes())
+}
+
+fn push_list(text: &mut String, items: &[Item]) -> Result<(), AllocError> {
+    rows::push_items(text, items)?;
+    rows::push_totals(text, items)
+}
+
+fn totals(rt: &HostRuntime, words: &[String]) -> Result<Vec<u8>> {
+    let items = items(rt, words)?;
+    let mut text = String::new(rt.alloc());
+    rows::push_totals(&mut text, items.as_slice())?;
+    Ok(text.into_bytes())
+}
+
 /// The number among these words that has so many before it.
-fn number(words: &[&str], before: usize) -> Result<u64> {
+fn number(words: &[String], before: usize) -> Result<u64> {
     words
         .get(before)
         .context("a number is missing")?
@@ -76,35 +112,36 @@ fn input(rt: &HostRuntime) -> Result<Vec<u8>> {
     Ok(bytes)
 }
 
-fn scan(rt: &HostRuntime, words: &[&str]) -> Result<Vec<u8>> {
-    let recording = recording(rt, words)?;
-    let gaps = gaps(rt.alloc(), words)?;
-    let rows = windows::rows(rt.alloc(), &recording, gaps.as_slice())?;
-    Ok(rows.into_bytes())
-}
-
 /// The recording on standard input, of as many bits as the first word says, with the gaps of the second.
-fn recording(rt: &HostRuntime, words: &[&str]) -> Result<Recording> {
+fn recording(rt: &HostRuntime, words: &[String]) -> Result<Recording> {
     let bits = number(words, 0)?;
     let gaps = gaps(rt.alloc(), words)?;
     Ok(Recording::with_gaps(input(rt)?, bits, gaps).map_err(|refused| refused.0)?)
 }
 
-fn gaps(alloc: Global, words: &[&str]) -> Result<Vec<(u64, u64)>> {
+fn gaps(alloc: Global, words: &[String]) -> Result<Vec<(u64, u64)>> {
     let mut gaps = Vec::new(alloc);
-    let text = *words.get(1).context("the gaps are missing")?;
-    if text == "-" {
-        return Ok(gaps);
-    }
-    for pair in text.split(',') {
-        let (from, to) = pair.split_once('-').context("a gap is no pair")?;
-        gaps.push((from.parse::<u64>()?, to.parse::<u64>()?))?;
+    let text = words.get(1).context("the gaps are missing")?;
+    if text.as_str() != "-" {
+        push_gaps(&mut gaps, text.as_str())?;
     }
     Ok(gaps)
 }
 
+fn push_gaps(gaps: &mut Vec<(u64, u64)>, text: &str) -> Result<()> {
+    for pair in text.split(',') {
+        gaps.push(gap(pair)?)?;
+    }
+    Ok(())
+}
+
+fn gap(pair: &str) -> Result<(u64, u64)> {
+    let (from, to) = pair.split_once('-').context("a gap is no pair")?;
+    Ok((from.parse::<u64>()?, to.parse::<u64>()?))
+}
+
 /// The items of that recording's report, by the rules that the words after it spell.
-fn items(rt: &HostRuntime, words: &[&str]) -> Result<Vec<Item>> {
+fn items(rt: &HostRuntime, words: &[String]) -> Result<Vec<Item>> {
     let rules = rules(rt.alloc(), words)?;
     reported(rt.alloc(), &recording(rt, words)?, &rules)
 }
@@ -115,11 +152,11 @@ fn reported(alloc: Global, recording: &Recording, rules: &Rules) -> Result<Vec<I
 }
 
 /// A number of the rules.
-fn setting(words: &[&str], before: usize) -> Result<u32> {
+fn setting(words: &[String], before: usize) -> Result<u32> {
     Ok(u32::try_from(number(words, before)?)?)
 }
 
-fn rules(alloc: Global, words: &[&str]) -> Result<Rules> {
+fn rules(alloc: Global, words: &[String]) -> Result<Rules> {
     let burst = setting(words, 2)?;
     let reach = setting(words, 3)?;
     let loss = setting(words, 4)?;

@@ -1,25 +1,37 @@
 //! The rows of a report.
 use crate::counts::Counts;
-use rds_code::Reading;
+use rds_code::{Offset, Reading};
 use rds_sync::{Block, Group, Item, Version};
-use std::alloc::{AllocError, Global};
+use std::alloc::AllocError;
 
 /// A row for each item.
-pub fn of_items(alloc: Global, items: &[Item]) -> Result<String, AllocError> {
-    let mut text = String::new(alloc);
+pub fn push_items(text: &mut String, items: &[Item]) -> Result<(), AllocError> {
     for item in items {
-        match item {
-            Item::Acquired { place, number } => {
-                writeln!(text, "acquired,{place},{number},-,-,-,-,-")?
-            }
-            Item::Group(group) => push_group(&mut text, group)?,
-            Item::LostLock { place } => writeln!(text, "lost,{place},-,-,-,-,-,-")?,
-        }
+        push_item(text, item)?;
     }
-    Ok(text)
+    Ok(())
+}
+
+fn push_item(text: &mut String, item: &Item) -> Result<(), AllocError> {
+    match item {
+        Item::Acquired { place, number } => {
+            writeln!(text, "acquired,{place},{number},-,-,-,-,-")
+        }
+        Item::Group(group) => push_group(text, group),
+        Item::LostLock { place } => writeln!(text, "lost,{place},-,-,-,-,-,-"),
+    }
 }
 
 fn push_group(text: &mut String, group: &Group) -> Result<(), AllocError> {
+    push_kind(text, group)?;
+    for block in &group.blocks {
+        push_block(text, block)?;
+    }
+    text.push_str("\n")
+}
+
+/// A group's place, type and version.
+fn push_kind(text: &mut String, group: &Group) -> Result<(), AllocError> {
     let place = group.place;
     match group.kind {
         Some(kind) => write!(text, "group,{place},{kind},")?,
@@ -31,22 +43,14 @@ fn push_group(text: &mut String, group: &Group) -> Result<(), AllocError> {
         Version::Unknown => "?",
     };
     let conflict = if group.conflict { "!" } else { "" };
-    write!(text, "{version}{conflict}")?;
-    for block in &group.blocks {
-        push_block(text, block)?;
-    }
-    text.push_str("\n")?;
-    Ok(())
+    write!(text, "{version}{conflict}")
 }
 
 fn push_block(text: &mut String, block: &Block) -> Result<(), AllocError> {
     match block {
-        Block::Missing => write!(text, ",none"),
-        Block::Read(Reading::Lost) => write!(text, ",lost"),
-        Block::Read(Reading::Valid { offset, info }) => {
-            let name = offset.name();
-            write!(text, ",{name}:{info:04X}")
-        }
+        Block::Missing => text.push_str(",none"),
+        Block::Read(Reading::Lost) => text.push_str(",lost"),
+        Block::Read(Reading::Valid { offset, info }) => push_word(text, *offset, *info),
         Block::Read(
             Reading::Corrected {
                 offset,
@@ -54,19 +58,23 @@ fn push_block(text: &mut String, block: &Block) -> Result<(), AllocError> {
                 burst,
             },
         ) => {
-            let name = offset.name();
+            push_word(text, *offset, *info)?;
             let pattern = burst.pattern();
-            write!(text, ",{name}:{info:04X}~{pattern:07X}")
+            write!(text, "~{pattern:07X}")
         }
     }
 }
 
+fn push_word(text: &mut String, offset: Offset, info: u16) -> Result<(), AllocError> {
+    let name = offset.name();
+    write!(text, ",{name}:{info:04X}")
+}
+
 /// A row for each total of these items, which are counted one by one.
-pub fn of_totals(alloc: Global, items: &[Item]) -> Result<String, AllocError> {
+pub fn push_totals(text: &mut String, items: &[Item]) -> Result<(), AllocError> {
     let counts = Counts::of(items);
-    let mut text = String::new(alloc);
     for (name, count) in counts.as_slice() {
         writeln!(text, "total,{name},{count},-,-,-,-,-")?;
     }
-    Ok(text)
+    Ok(())
 }

@@ -4,15 +4,14 @@ ghost use Rattle.std.specs.Prelude.{◌<◌, ◌^◌};
 use crate::offsets;
 use rds_code::plain;
 use rds_stream::Recording;
-use std::alloc::{AllocError, Global};
+use std::alloc::AllocError;
 
 /// A row for each place whose last 26 bits lie in no gap and leave an offset word.
-pub fn rows(
-    alloc: Global,
+pub fn push_rows(
+    text: &mut String,
     recording: &Recording,
     gaps: &[(u64, u64)],
-) -> Result<String, AllocError> {
-    let mut text = String::new(alloc);
+) -> Result<(), AllocError> {
     let mut window = 0u32;
     let mut sound = 0u64;
     for place in 0..recording.len() {
@@ -28,7 +27,7 @@ pub fn rows(
             writeln!(text, "{place},{name}")?;
         }
     }
-    Ok(text)
+    Ok(())
 }
 
 fn is_in(gaps: &[(u64, u64)], place: u64) -> bool {
