@@ -165,10 +165,15 @@ def of_kit(crate, kit):
     return said + [word for it in sorted(kit) for word in ("--extern", f"{it}={KIT}/rlibs/{it}.rlib")]
 
 
+def checked(crate):
+    """The words that check a crate, but for those of the libraries below it in this repository."""
+    kit = {"core", "std", *(name for it in [*below(crate), crate] for name in used_by(it)[1])}
+    return [f"{KIT}/bin/rattle", "check", *of_kit(crate, kit)]
+
+
 def words(folder, crate, only, where=None):
     """The words that check these functions of a copy. The libraries below are copies beside it, or built `where` it says."""
-    kit = {"core", "std", *(name for it in [*below(crate), crate] for name in used_by(it)[1])}
-    said = [f"{KIT}/bin/rattle", "check", *of_kit(crate, kit), "--allow-holes", "--incremental", f"{folder}/kept_{crate}"]
+    said = [*checked(crate), "--allow-holes", "--incremental", f"{folder}/kept_{crate}"]
     if where:
         said += over(crate, where)
     else:

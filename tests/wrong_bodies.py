@@ -2,6 +2,7 @@
 """Makes the wrong bodies of crates/*/wrong/, all of a crate at once, and fails unless the prover refuses each.
 
     tests/wrong_bodies.py [--right] [--beside LOG] [CRATE..]
+    tests/wrong_bodies.py --cut [CRATE..]
 
 A wrong body is an edit, as those of must-fail/ are; a line `fails: FUNCTION` names one that it makes wrong from outside
 its body, by a constant say. In a copy every function has a hole for its proof and a body that calls nothing, but for the edited
@@ -16,7 +17,8 @@ the function behind it under another name, with the same contract and the same p
 
 An edit with a line `equal: WHY` leaves the meaning as it was: it may be refused by lines, and by no goal.
 
-With --right the right bodies are tried in the same way, in the place of the wrong ones, and none may be refused. With --beside
+With --right the right bodies are tried in the same way, in the place of the wrong ones, and none may be refused. With --cut each
+crate is checked as its edits of must-fail/ cut it, without what they make wrong: it must be proved. With --beside
 what `rt ci` says is written to LOG meanwhile, with a line 'proofs: ended' behind it: each crate waits until those that it
 stands on are proved, and until all are, half of the processors are left to `rt ci`.
 """
@@ -32,7 +34,9 @@ import time
 from concurrent.futures import ThreadPoolExecutor
 from dataclasses import dataclass, replace
 
-from holes import EXPORTED, LIBRARIES, RT, TOP, below, built, copied, functions_of, is_built, read, words, write
+from holes import (
+    EXPORTED, LIBRARIES, RT, TOP, below, built, checked, copied, functions_of, is_built, over, read, words, write
+)
 
 CRATES = f"{TOP}/crates"
 # The table that says what is false of an edit that is refused by lines of answers alone.
@@ -227,6 +231,38 @@ def build(crates):
             sys.exit(f"{it} is not proved: no wrong body is tried above it")
 
 
+def cut(folder, crate):
+    """Leaves out of a copy what the crate's edits of must-fail/ leave out: lines that get `#[cfg(test)]` before them."""
+    for file in sorted(os.listdir(f"{CRATES}/{crate}/must-fail")):
+        path, old = "", ""
+        for it in read(f"{CRATES}/{crate}/must-fail/{file}").splitlines():
+            key, _, said = it.partition(": ")
+            path = f"{folder}/{crate}/{said}" if key == "file" else path
+            if key == "new" and said == f"#[cfg(test)] {old}":
+                write(path, read(path).replace(old, said))
+            old = said
+
+
+def is_cut_proved(crate):
+    """Whether a crate is proved as its edits of must-fail/ cut it."""
+    with tempfile.TemporaryDirectory(prefix="cut-") as room:
+        shutil.copytree(f"{CRATES}/{crate}", f"{room}/{crate}", ignore=shutil.ignore_patterns("out"))
+        cut(room, crate)
+        ran = subprocess.run(
+            [*checked(crate), *over(crate)], cwd=f"{room}/{crate}", stdout=subprocess.PIPE, stderr=subprocess.STDOUT, encoding="utf-8"
+        )
+    is_proved = "\nlogic=proved" in ran.stdout
+    print(f"{crate}, as it is cut: {'proved' if is_proved else f'NOT PROVED:{chr(10)}{ran.stdout[-2000:]}'}", flush=True)
+    return is_proved
+
+
+def try_cuts(names):
+    crates = [it for it in LIBRARIES if it in (names or LIBRARIES)]
+    build(crates)
+    with ThreadPoolExecutor(len(os.sched_getaffinity(0))) as pool:
+        return 0 if all(list(pool.map(is_cut_proved, crates))) else 1
+
+
 def link(path, to):
     """Links a file, or copies it where no link can be made."""
     try:
@@ -298,7 +334,8 @@ def main(names, are_right, log):
 if __name__ == "__main__":
     parser = argparse.ArgumentParser(description=__doc__, formatter_class=argparse.RawDescriptionHelpFormatter)
     parser.add_argument("--right", action="store_true")
+    parser.add_argument("--cut", action="store_true")
     parser.add_argument("--beside", metavar="LOG")
     parser.add_argument("names", metavar="CRATE", nargs="*")
     asked = parser.parse_args()
-    sys.exit(main(asked.names, asked.right, asked.beside))
+    sys.exit(try_cuts(asked.names) if asked.cut else main(asked.names, asked.right, asked.beside))

@@ -9,6 +9,7 @@ use crate::timing::{Form, Timing};
 use anyhow::Result;
 use rds_crew::{Dealer, Seat};
 use rds_pieces::{Cutting, PieceError, RecordingWork, Work};
+use rds_stream::Recording;
 use rds_sync::Rules;
 use std::alloc::Global;
 use std::thread;
@@ -28,8 +29,17 @@ pub fn measure<T: Threads + Sync>(
 ) -> Result<()> {
     let recording = sample.recording(rt.alloc(), bits)?;
     let rules = Rules::new(rt.alloc(), 2, 3, 10)?;
+    time_pieces(rt, threads, &recording, &rules)
+}
+
+fn time_pieces<T: Threads + Sync>(
+    rt: &HostRuntime,
+    threads: &T,
+    recording: &Recording,
+    rules: &Rules,
+) -> Result<()> {
     let cutting = Cutting::even(rt.alloc(), recording.len(), PIECES)?;
-    let work = RecordingWork::new(&recording, &rules, &cutting);
+    let work = RecordingWork::new(recording, rules, &cutting);
     time_both(rt, threads, &work, recording.len())
 }
 

@@ -4,6 +4,7 @@
 //! one that goes over it once more for each acquisition, or for each piece, takes sixteen times. No time is compared with
 //! a number of seconds, nor with that of another form, which the same fault may slow as well.
 use crate::sample::Sample;
+use crate::timing::nanos_since;
 use anyhow::{Result, bail};
 use rds_crew::{OpenGate, decode_crew};
 use rds_live::{Live, MOST_ITEMS};
@@ -136,11 +137,16 @@ fn by_crew<T: Threads + Wait>(
 /// How many groups a stream of these bytes counts, in chunks that are each taken at once.
 fn by_chunks(alloc: Global, bytes: &[u8], rules: &Rules) -> Result<u64, StreamError> {
     let mut live = Live::new(alloc, rules)?;
+    take_all(alloc, &mut live, bytes)?;
+    Ok(live.finish().totals.groups)
+}
+
+fn take_all(alloc: Global, live: &mut Live<'_>, bytes: &[u8]) -> Result<(), StreamError> {
     let mut items = Vec::with_capacity(alloc, MOST_ITEMS)?;
     for chunk in bytes.chunks(960) {
         live.take(chunk, &mut items)?;
     }
-    Ok(live.finish().totals.groups)
+    Ok(())
 }
 
 /// Times each call over a sixteenth of so many bits of the sample, over a fourth, and over all.
@@ -151,15 +157,20 @@ pub fn measure<T: Threads + Wait>(
     sample: Sample,
 ) -> Result<()> {
     let rules = Rules::new(rt.alloc(), 2, 3, sample.loss())?;
-    let sizes = [
-        Size::of(rt.alloc(), bits / 16, sample)?,
-        Size::of(rt.alloc(), bits / 4, sample)?,
-        Size::of(rt.alloc(), bits, sample)?,
-    ];
+    let sizes = sizes_of(rt.alloc(), bits, sample)?;
     for call in &CALLS {
-        grows(rt, threads, *call, &sizes, &rules)?;
+        grows(rt, threads, *call, sizes.as_slice(), &rules)?;
     }
     Ok(())
+}
+
+/// The recordings of these sizes, the smallest first.
+fn sizes_of(alloc: Global, bits: u64, sample: Sample) -> Result<Vec<Size>> {
+    let mut sizes = Vec::new(alloc);
+    for part in [16, 4, 1] {
+        sizes.push(Size::of(alloc, bits / part, sample)?)?;
+    }
+    Ok(sizes)
 }
 
 /// Shows the call's times over the recordings: an error where one is too long for that before it.
@@ -167,10 +178,12 @@ fn grows<T: Threads + Wait>(
     rt: &HostRuntime,
     threads: &T,
     call: Call,
-    sizes: &[Size; 3],
+    sizes: &[Size],
     rules: &Rules,
 ) -> Result<()> {
-    let [small, middle, large] = sizes;
+    let [small, middle, large] = sizes else {
+        bail!("there are no three sizes")
+    };
     let small = least_time(rt, threads, call, small, rules)?;
     let middle = least_time(rt, threads, call, middle, rules)?;
     let large = least_time(rt, threads, call, large, rules)?;
@@ -194,8 +207,7 @@ fn least_time<T: Threads + Wait>(
     for _ in 0..TURNS {
         let start = Instant::now(rt)?;
         call.make(threads, rt.alloc(), size, rules)?;
-        let nanos = u64::try_from(start.elapsed(rt)?.as_nanos()).unwrap_or(u64::MAX);
-        least = least.min(nanos);
+        least = least.min(nanos_since(rt, start)?);
     }
     Ok(least)
 }

@@ -9,6 +9,7 @@ use crate::timing::{Form, Timing};
 use anyhow::{Context, Result, bail};
 use rds_crew::{Gate, decode_crew};
 use rds_pieces::{Cutting, PieceError, PieceRun, RecordingWork, Work, laws};
+use rds_stream::Recording;
 use rds_sync::Rules;
 use std::alloc::{AllocError, Global};
 use std::sync::{Mutex, Wait};
@@ -58,12 +59,27 @@ pub fn measure<T: Sync + Threads + Wait>(
 ) -> Result<()> {
     let recording = sample.recording(rt.alloc(), bits)?;
     let rules = Rules::new(rt.alloc(), 2, REACH, 10)?;
-    let len = recording.len();
-    let Ok(cutting) = Cutting::new(places(rt.alloc(), len)?, len) else {
-        bail!("too few bits for {PIECES} pieces")
-    };
-    let work = RecordingWork::new(&recording, &rules, &cutting);
-    time_all(rt, threads, &work, len)
+    time_pieces(rt, threads, &recording, &rules)
+}
+
+fn time_pieces<T: Sync + Threads + Wait>(
+    rt: &HostRuntime,
+    threads: &T,
+    recording: &Recording,
+    rules: &Rules,
+) -> Result<()> {
+    let cutting = cutting(rt.alloc(), recording.len())?;
+    let work = RecordingWork::new(recording, rules, &cutting);
+    time_all(rt, threads, &work, recording.len())
+}
+
+fn cutting(alloc: Global, len: u64) -> Result<Cutting>
+    ensures { IfOk result (λ cutting. IsCutting len cutting) }
+{
+    match Cutting::new(places(alloc, len)?, len) {
+        Ok(cutting) => Ok(cutting),
+        Err(_) => bail!("too few bits for {PIECES} pieces"),
+    }
 }
 
 /// The places of sixteen pieces of about one length.

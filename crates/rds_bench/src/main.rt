@@ -49,45 +49,49 @@ station, or 'zeros', groups of zero words, in which guesses may lock on a false 
 const BITS: u64 = 100_000_000;
 
 /// What the words of the command line ask for.
-#[derive(Drop)]
-struct Asked {
-    measurement: String,
+#[derive(Clone, Copy)]
+struct Asked<'a> {
+    measurement: &'a str,
     bits: u64,
     sample: Sample,
 }
 
 fn main(rt: HostRuntime) -> Result<()> {
-    match asked_for(&rt)? {
-        Some(asked) if asked.measurement.as_str() == "--check" => standards::check(&rt, &rt),
-        Some(asked) => measure(&rt, &rt, &asked),
+    let words: Vec<String> = env::args(&rt)?.skip(1).collect(rt.alloc())?;
+    match asked_by(words.as_slice())? {
+        Some(asked) if asked.measurement == "--check" => standards::check(&rt, &rt),
+        Some(asked) => measure(&rt, &rt, asked),
         None => show_usage(&rt),
     }
 }
 
 /// What is asked for, if anything is.
-fn asked_for(rt: &HostRuntime) -> Result<Option<Asked>> {
-    let mut words = env::args(rt)?.skip(1);
-    let Some(measurement) = words.next() else {
+fn asked_by(words: &[String]) -> Result<Option<Asked<'_>>> {
+    let Some(measurement) = words.first() else {
         return Ok(None);
     };
-    let bits = match words.next() {
+    let bits = match words.get(1) {
         Some(text) => text.parse::<u64>().context("BITS is no number")?,
         None => BITS,
     };
-    let sample = match words.next() {
-        Some(name) => Sample::named(&name).context("SAMPLE is no sample")?,
+    let sample = match words.get(2) {
+        Some(name) => Sample::named(name).context("SAMPLE is no sample")?,
         None => Sample::Station,
     };
     Ok(Some(Asked {
-        measurement,
+        measurement: measurement.as_str(),
         bits,
         sample,
     }))
 }
 
-fn measure<T: Threads + Wait + Sync>(rt: &HostRuntime, threads: &T, asked: &Asked) -> Result<()> {
+fn measure<T: Threads + Wait + Sync>(
+    rt: &HostRuntime,
+    threads: &T,
+    asked: Asked<'_>,
+) -> Result<()> {
     let (bits, sample) = (asked.bits, asked.sample);
-    match asked.measurement.as_str() {
+    match asked.measurement {
         "scan" => windows::measure(rt, bits),
         "remainder" => remainders::measure(rt, bits),
         "run" => runs::measure(rt, threads, bits, sample),

@@ -86,20 +86,17 @@ fn noise(alloc: Global, bits: u64) -> Result<Vec<u8>, AllocError> {
     let mut number = SEED;
     for _ in 0..bits / 8 {
         number = next_random(number);
-        bytes.push((number >> 20 & 255) as u8)?;
+        bytes.push(noisy_byte(number))?;
     }
     Ok(bytes)
 }
 
+fn noisy_byte(number: u64) -> u8 {
+    (number >> 20 & 255) as u8
+}
+
 fn losing(alloc: Global, bits: u64) -> Result<Vec<u8>, AllocError> {
-    let mut bytes = station(alloc, bits)?;
-    let hiss = noise(alloc, bits)?;
-    for (at, (byte, noisy)) in bytes.iter_mut().zip(hiss.iter()).enumerate() {
-        if at / 13 % 6 > 1 {
-            *byte = *noisy;
-        }
-    }
-    Ok(bytes)
+    Ok(with_hiss(station(alloc, bits)?))
 }
 
 fn station(alloc: Global, bits: u64) -> Result<Vec<u8>, AllocError> {
@@ -146,6 +143,19 @@ fn past_mending(bytes: Vec<u8>) -> Vec<u8> {
     let mut bytes = bytes;
     for (at, byte) in bytes.iter_mut().enumerate() {
         *byte ^= TURNED[at % 13];
+    }
+    bytes
+}
+
+/// The bytes with noise in the place of four groups of six.
+fn with_hiss(bytes: Vec<u8>) -> Vec<u8> {
+    let mut bytes = bytes;
+    let mut number = SEED;
+    for (at, byte) in bytes.iter_mut().enumerate() {
+        number = next_random(number);
+        if at / 13 % 6 > 1 {
+            *byte = noisy_byte(number);
+        }
     }
     bytes
 }

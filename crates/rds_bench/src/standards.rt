@@ -43,16 +43,20 @@ pub fn check<T: Sync + Threads + Wait>(rt: &HostRuntime, threads: &T) -> Result<
     for (name, sample) in MEASURED.iter() {
         println!(rt; "{name}:")?;
         let asked = Asked {
-            measurement: String::from_str(rt.alloc(), name)?,
+            measurement: name,
             bits: BITS,
             sample: *sample,
         };
-        attempt(rt, threads, &asked)?;
+        attempt(rt, threads, asked)?;
     }
     Ok(())
 }
 
-fn attempt<T: Sync + Threads + Wait>(rt: &HostRuntime, threads: &T, asked: &Asked) -> Result<()> {
+fn attempt<T: Sync + Threads + Wait>(
+    rt: &HostRuntime,
+    threads: &T,
+    asked: Asked<'_>,
+) -> Result<()> {
     for _ in 1..ATTEMPTS {
         if measure(rt, threads, asked).is_ok() {
             return Ok(());

@@ -3,6 +3,7 @@
 //! A form has a bound where its ratio to the first says that work is done once, by tables or by whole words. The bounds
 //! are wide, half of what docs/MEASUREMENTS.md states, so that a busy machine keeps them.
 use anyhow::{Result, bail};
+use std::io;
 use std::time::Instant;
 
 /// How the time of a form may stand to that of the first one, in hundredths of it.
@@ -71,21 +72,37 @@ impl Timing {
     /// Shows the time since `start` and what the form counted, which is the same for all forms that do the task: an error
     /// where the time is past the form's bound.
     pub fn show(&mut self, rt: &HostRuntime, form: Form, start: Instant, found: u64) -> Result<()> {
-        let nanos = u64::try_from(start.elapsed(rt)?.as_nanos()).unwrap_or(u64::MAX);
+        let nanos = nanos_since(rt, start)?;
         let first = *self.first.get_or_insert(nanos);
         let hundredths = nanos as u128 * 100 / self.bits.max(1) as u128;
         let ratio = nanos as u128 * 100 / first.max(1) as u128;
         let name = form.name;
-        println!(rt;
-            "{name:<24} {}.{:02} ns a bit, {}.{:02} times the first, count {found}",
-            hundredths / 100,
-            hundredths % 100,
-            ratio / 100,
-            ratio % 100
-        )?;
+        show_row(rt, name, hundredths, ratio, found)?;
         if !form.bound.keeps(ratio) {
             bail!("'{name}' takes too long or too little beside the first form");
         }
         Ok(())
     }
+}
+
+/// The nanoseconds since then.
+pub fn nanos_since(rt: &HostRuntime, start: Instant) -> Result<u64> {
+    Ok(u64::try_from(start.elapsed(rt)?.as_nanos()).unwrap_or(u64::MAX))
+}
+
+/// Shows a form's time, in hundredths of a nanosecond a bit, and its ratio to the first, in hundredths.
+fn show_row(
+    rt: &HostRuntime,
+    name: &str,
+    hundredths: u128,
+    ratio: u128,
+    found: u64,
+) -> Result<(), io::Error> {
+    println!(rt;
+        "{name:<24} {}.{:02} ns a bit, {}.{:02} times the first, count {found}",
+        hundredths / 100,
+        hundredths % 100,
+        ratio / 100,
+        ratio % 100
+    )
 }

@@ -2,7 +2,7 @@
 -- the midst, and no caller sees it. This project's rule.
 use Rattle.std.specs.Prelude.{◌≡◌, ◌≤◌, length, take}
 use Rattle.rds_live.specs.Live.{LiveOf, Terms, most_kept}
-use Rattle.rds_live.specs.declared.live.Kept.{Kept}
+use Rattle.rds_live.specs.declared.kept.Kept.{Kept}
 
 -- the decoder that knows this
 abbrev pub live_kept : Terms → Kept → LiveOf

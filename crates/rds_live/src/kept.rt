@@ -1,16 +1,29 @@
-//! Whether numbers are such as a decoder of a stream has.
+//! The numbers that a decoder of a stream is kept as, and whether numbers are such.
 
 ghost use Rattle.std.specs.Prelude.{◌≡◌, ◌↔◌, ◌≤◌, ◌^◌, ℕ, List, true};
 ghost use Rattle.rds_stream.specs.Recording.{AreGaps};
 ghost use Rattle.rds_sync.specs.Counting.{IsAtMost};
 ghost use Rattle.rds_live.specs.Live.{IsLive, live_with};
 
-use crate::live::MOST_BITS;
 use crate::room::MOST_KEPT;
 use rds_sync::{Rules, State, Totals};
 
+/// The most bits that a stream may have.
+pub(crate) const MOST_BITS: u64 = 1 << 36;
+
 /// No count of the totals rises by more than this with a bit.
 const MOST_COUNTED: u64 = 1 << 11;
+
+/// What a decoder knows of a stream, but for its terms.
+#[derive(Clone, Copy)]
+pub(crate) struct Kept {
+    pub tail: [u8; MOST_KEPT],
+    /// How many bytes the tail has.
+    pub count: usize,
+    pub place: u64,
+    pub state: State,
+    pub totals: Totals,
+}
 
 /// Whether a decoder of a stream can have these numbers, by these rules and whichever gaps: whole bytes were heard, no more
 /// than a recording may hold, the tail has as many of them as are kept, the state is lawful, and the totals are small.

@@ -68,7 +68,7 @@ mod live; // The decoder of a stream.
 mod room; // The last bytes, and those that come behind them.
 mod gaps; // The gaps of a stream, and those of a part of it.
 mod moved; // States and items whose places are counted from elsewhere.
-mod kept; // Which numbers a decoder may be made of.
+mod kept; // The numbers that a decoder may be made of.
 pub mod laws; // What holds of following itself.
 mod error; // Why a decoder that was kept as numbers is refused.
 

@@ -15,7 +15,7 @@ ghost use Rattle.rds_live.specs.Keeping.{IsKept, live_kept};
 
 use crate::error::ResumeError;
 use crate::gaps::are_gaps;
-use crate::kept::can_be_live;
+use crate::kept::{Kept, MOST_BITS, can_be_live};
 use crate::laws::{ends_move, runs_move};
 use crate::moved::{move_on, moved_back, moved_group, moved_on};
 use crate::room::{AT_ONCE, MOST_KEPT, Room};
@@ -23,9 +23,6 @@ use rds_stream::{Counted, Recording, StreamError};
 use rds_sync::{Decoder, Group, Item, Rules, State, Totals, finish, laws};
 use std::alloc::{AllocError, Global};
 use std::marker::Model;
-
-/// The most bits that a stream may have.
-pub(crate) const MOST_BITS: u64 = 1 << 36;
 
 /// How many items a byte may complete: two a bit.
 const ITEMS_A_BYTE: usize = 16;
@@ -409,17 +406,6 @@ impl<'r> Live<'r> {
         let group = moved_end(&part, rules, end, before);
         Ok(ended(totals, group))
     }
-}
-
-/// What a decoder knows of a stream, but for its terms.
-#[derive(Clone, Copy)]
-struct Kept {
-    tail: [u8; MOST_KEPT],
-    /// How many bytes the tail has.
-    count: usize,
-    place: u64,
-    state: State,
-    totals: Totals,
 }
 
 /// Has the decoder take all of these bytes, and gives the items that they complete.

@@ -8,7 +8,7 @@ ghost use Rattle.rds_sync.specs.Rules.{RuleNumbers};
 use crate::item_iter::ItemIter;
 use crate::items::spans_from;
 use crate::rules::{RuleNumbers, Rules};
-use crate::span::Span;
+use crate::span::{Span, Start};
 use rds_stream::Recording;
 use std::alloc::{AllocError, Global};
 use std::marker::Model;
@@ -16,13 +16,6 @@ use std::snapshot::Snapshot;
 
 /// How many spans lie between two of which it is kept how many items stand before them.
 const STEP: usize = 16;
-
-/// A span that stands in a list, and how many items stand before it.
-#[derive(Clone, Copy)]
-pub(crate) struct Start {
-    pub span: usize,
-    pub before: usize,
-}
 
 /// The first span of a list.
 const FIRST: Start = Start { span: 0, before: 0 };

@@ -37,3 +37,10 @@ impl Span {
         }
     }
 }
+
+/// A span that stands in a list, and how many items stand before it.
+#[derive(Clone, Copy)]
+pub(crate) struct Start {
+    pub span: usize,
+    pub before: usize,
+}

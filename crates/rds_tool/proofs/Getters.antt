@@ -19,8 +19,8 @@ use Rattle.rds_sync.specs.declared.loss.Loss.{Loss}
 use Rattle.rds_sync.specs.declared.loss.Loss.TheVariants.{InARow, Share}
 use Rattle.rds_tool.specs.CommandLine.{FitNoInput, FitNoRules, FitNoSettings, FitNoStream, GivesNoRuled, GivesNoRules, GivesNothing, IsAsked, IsFlag, MaySpell, Reports, gaps_asked_for, gaps_spelled, is_given, is_of_words, Spells, SpellsLoss}
 use Rattle.rds_tool.specs.GapText.{gaps_of}
-use Rattle.rds_tool.specs.declared.entries.NoJob.{NoJob}
-use Rattle.rds_tool.specs.declared.entries.NoJob.TheVariants.{Entries, Gaps, Loss as BadLoss, Memory}
+use Rattle.rds_tool.specs.declared.fault.NoJob.{NoJob}
+use Rattle.rds_tool.specs.declared.fault.NoJob.TheVariants.{Entries, Gaps, Loss as BadLoss, Memory}
 use Rattle.rds_tool.specs.declared.job.Asked.{Asked}
 use Rattle.rds_tool.specs.declared.job.Asked.TheVariants.{Job as AskedJob, Follow}
 use Rattle.rds_tool.specs.declared.job.Job.TheVariants.{Encode, List as ListJob, Scan, Totals}

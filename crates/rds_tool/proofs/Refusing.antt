@@ -7,8 +7,8 @@ use Rattle.clap.specs.declared.error.Error.{Error}
 use Rattle.clap.specs.declared.error.kind.ErrorKind.{ErrorKind}
 use Rattle.clap.specs.declared.error.kind.ErrorKind.TheVariants as kind
 use Rattle.rds_tool.specs.CommandLine.{IsFault, MayAnswer}
-use Rattle.rds_tool.specs.declared.cli.FaultKind.{FaultKind}
-use Rattle.rds_tool.specs.declared.cli.FaultKind.TheVariants.{Help, Memory, Version, Words}
+use Rattle.rds_tool.specs.declared.fault.FaultKind.{FaultKind}
+use Rattle.rds_tool.specs.declared.fault.FaultKind.TheVariants.{Help, Memory, Version, Words}
 
 -- the kind answered is that of one of the faults, or want of memory
 pub refused_by : (faults : Kinds) (entries : Option (Text × List Row)) (e : Error) (answer : FaultKind) → HasKind faults e

@@ -16,11 +16,11 @@ use Rattle.rds_sync.specs.Rules.{RuleNumbers}
 use Rattle.rds_sync.specs.declared.loss.Loss.{Loss}
 use Rattle.rds_sync.specs.declared.loss.Loss.TheVariants.{InARow, Share}
 use Rattle.rds_tool.specs.GapText.{gaps_of}
-use Rattle.rds_tool.specs.declared.cli.CliFault.{CliFault}
-use Rattle.rds_tool.specs.declared.cli.FaultKind.{FaultKind}
-use Rattle.rds_tool.specs.declared.cli.FaultKind.TheVariants.{Help, Memory, Version, Words}
-use Rattle.rds_tool.specs.declared.entries.NoJob.{NoJob}
-use Rattle.rds_tool.specs.declared.entries.NoJob.TheVariants as no
+use Rattle.rds_tool.specs.declared.fault.CliFault.{CliFault}
+use Rattle.rds_tool.specs.declared.fault.FaultKind.{FaultKind}
+use Rattle.rds_tool.specs.declared.fault.FaultKind.TheVariants.{Help, Memory, Version, Words}
+use Rattle.rds_tool.specs.declared.fault.NoJob.{NoJob}
+use Rattle.rds_tool.specs.declared.fault.NoJob.TheVariants as no
 use Rattle.rds_tool.specs.declared.job.Asked.{Asked}
 use Rattle.rds_tool.specs.declared.job.Asked.TheVariants.{Job as AskedJob, Follow}
 use Rattle.rds_tool.specs.declared.job.Cuts.{Cuts}

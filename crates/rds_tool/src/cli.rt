@@ -7,34 +7,13 @@ ghost use Rattle.rds_tool.specs.CommandLine.{HasBadGaps, HasBadLoss, IsAskedOf, 
 
 use crate::Asked;
 use crate::commands::rds_command;
-use crate::entries::{NoJob, asked_in};
+use crate::entries::asked_in;
+use crate::fault::{CliFault, FaultKind, NoJob};
 use clap::ArgMatches;
 use clap::error::ErrorKind;
 use std::alloc::Global;
 
 const BAD_LOSS: &str = "bad --loss or --of: --of needs --share, and --loss excludes it\n";
-
-/// Why words ask for nothing.
-#[derive(Clone, Copy, Debug, PartialEq, Eq)]
-pub enum FaultKind {
-    /// Help was asked for.
-    Help,
-    /// The program's name and version were asked for.
-    Version,
-    /// The words aren't a command line.
-    Words,
-    /// A growth of memory was refused.
-    Memory,
-}
-
-/// What to show in place of doing what was asked for.
-#[derive(Debug, Drop)]
-pub struct CliFault {
-    /// Whether that is what was asked for, or why the words were refused.
-    pub kind: FaultKind,
-    /// The text to show, its line ends included. It is empty where memory was refused.
-    pub text: String,
-}
 
 /// What a command line asks for: a job, or to follow a stream. The words begin with the program's name.
 ///

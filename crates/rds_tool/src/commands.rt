@@ -239,5 +239,8 @@ fn with_share<'a>(alloc: Global, command: Made<'a>) -> Made<'a>
 fn with_command<'a>(top: Made<'a>, command: Made<'a>) -> Made<'a>
     ensures { (above below : App) → Makes top.entry above → Makes command.entry below → Makes result (with_subcommand above below.top) }
 {
-    top?.subcommand(command?)
+    match (top, command) {
+        (Ok(top), Ok(command)) => top.subcommand(command),
+        _ => Err(AllocError),
+    }
 }

@@ -2,38 +2,17 @@
 ghost use Rattle.std.specs.Prelude.{◌≡◌, ◌⊎◌, IfErr, IfNone, IfOk, IfSome, List, None, Option, Some, codes, false, ℕ};
 ghost use Rattle.clap.specs.Words.{found_of, one_of, rows_of, subcommand_rows_of};
 ghost use Rattle.rds_sync.specs.declared.loss.Loss.{Loss};
-ghost use Rattle.rds_tool.specs.declared.entries.NoJob.TheVariants.{Memory};
 ghost use Rattle.rds_tool.specs.declared.job.Cuts.{Cuts};
 ghost use Rattle.rds_tool.specs.declared.job.Input.{Input};
 ghost use Rattle.rds_tool.specs.CommandLine.{AreRules, AreSettings, FitNoInput, FitNoRules, FitNoSettings, FitNoStream, GivesNoRuled, GivesNoRules, GivesNothing, IsAsked, IsAskedOf, IsFlag, IsInput, MaySpell, Spells, SpellsLoss, SpellsPieces, gaps_asked_for, is_given as the_words_give, mixes_losses as the_mixing_of_losses};
 
+use crate::fault::NoJob;
 use crate::gap_text::gaps_of;
 use crate::{Asked, Cuts, Input, Job, Settings};
 use clap::ArgMatches;
 use clap::parser::ValueSource;
 use rds_sync::{Loss, RuleNumbers};
-use std::alloc::{AllocError, Global};
-
-/// Why entries ask for nothing.
-#[derive(Clone, Copy, Debug, PartialEq, Eq)]
-pub enum NoJob {
-    /// `--gaps` spells no gaps.
-    Gaps,
-    /// `--loss` was given beside `--share`, or `--of` without it.
-    Loss,
-    /// Another entry is none that a job or a stream has.
-    Entries,
-    /// A growth of memory was refused.
-    Memory,
-}
-
-impl From<AllocError> for NoJob {
-    ghost from_gives = { λ _ why. why ≡ Memory };
-
-    fn from(_error: AllocError) -> NoJob {
-        NoJob::Memory
-    }
-}
+use std::alloc::Global;
 
 /// What a parsed command line asks for, or why that is nothing.
 pub fn asked_in(alloc: Global, matches: &ArgMatches<'_>) -> Result<Asked, NoJob>

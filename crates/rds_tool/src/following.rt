@@ -322,8 +322,18 @@ fn rows_of_rest(
     }
     let mut items = Vec::with_capacity(alloc, 2 * bits as usize)?;
     let end = live.finish_with(bytes, bits, &mut items)?;
-    let mut text = rows_of_items(alloc, items.as_slice())?;
-    text.extend_from_slice(rows_of_end(alloc, &end)?.as_slice())?;
+    let text = rows_to_end(alloc, items.as_slice(), &end)?;
+    Ok(text)
+}
+
+/// The rows of the last items of a listing, and those of its end.
+fn rows_to_end(alloc: Global, items: &[Item], end: &StreamEnd) -> Result<Vec<u8>, ToolError>
+    ensures rows { IfOk result (λ text. text.items
+        ≡ flat_map item_row items.now ++ (flat_map item_row (group_item end.now.group) ++ totals_text end.now.totals)) }
+    ensures refused { IsOkUnless result ToolError.OutOfMemory }
+{
+    let mut text = rows_of_items(alloc, items)?;
+    text.extend_from_slice(rows_of_end(alloc, end)?.as_slice())?;
     Ok(text)
 }
 

@@ -57,6 +57,7 @@ mod cli; // A command line, as what it asks for.
 mod commands; // The commands and their options.
 mod help; // Their texts.
 mod entries; // What a parsed command line holds.
+mod fault; // Why it asks for nothing.
 mod gap_text; // Gaps as a command line names them.
 mod job; // What is asked for.
 mod engine; // From a reader to a writer.
@@ -78,10 +79,11 @@ mod encode; // Groups from lines of digits.
 mod following; // From a reader to a writer, as the bytes come.
 mod error; // Why a transcription is refused.
 
-pub use cli::{CliFault, FaultKind, asked_of};
+pub use cli::asked_of;
 pub use devices::{FromRead, Source, ToWrite};
 pub use engine::{transcribe, transcribe_gated};
 pub use error::ToolError;
+pub use fault::{CliFault, FaultKind};
 pub use following::follow;
 pub use job::{Asked, Cuts, Input, Job, Settings};
 pub use rds_rows::{Failed, Sink, write_all};

@@ -3,6 +3,7 @@ ghost use Rattle.std.specs.Prelude.{◌<◌, ◌≡◌, Err, IfErr, IfOk, Ok, tr
 ghost use Rattle.rds_tool.specs.Cuts.{cuts_any};
 ghost use Rattle.rds_tool.specs.Listing.{report_text, totals_text};
 ghost use Rattle.rds_tool.specs.Outcome.{cut_recording, text_of_task};
+ghost use Rattle.rds_tool.specs.Plans.{plan_of};
 ghost use Rattle.rds_tool.specs.Refusals.{IsMemoryOrErrOf, IsShortageOrErrOf};
 ghost use Rattle.rds_tool.specs.Inside.Texts.{bytes_of};
 ghost use Rattle.rds_tool.specs.declared.task.Task.TheVariants as task;
@@ -12,7 +13,7 @@ use crate::input::recording_of;
 use crate::listing::totals_rows;
 use crate::plan::{Plan, Workers};
 use crate::text::{Listing, Text};
-use crate::{Input, Job, ToolError};
+use crate::{Input, Job, Settings, ToolError};
 use rds_crew::Gate;
 use rds_sync::{Spans, Totals};
 use std::alloc::Global;
@@ -43,12 +44,12 @@ impl<'a> Task<'a> {
                 Ok(Task::Scan(input.copied(alloc)?, workers))
             }
             Job::List(input, settings) => {
-                let plan = Plan::of(alloc, settings)?;
-                Ok(Task::List(input.copied(alloc)?, plan))
+                let (input, plan) = planned(alloc, input, settings)?;
+                Ok(Task::List(input, plan))
             }
             Job::Totals(input, settings) => {
-                let plan = Plan::of(alloc, settings)?;
-                Ok(Task::Totals(input.copied(alloc)?, plan))
+                let (input, plan) = planned(alloc, input, settings)?;
+                Ok(Task::Totals(input, plan))
             }
             Job::Encode { hex } => Ok(Task::Encode { hex: *hex }),
         }
@@ -66,26 +67,42 @@ impl<'a> Task<'a> {
         ensures refused { IfErr result (IsShortageOrErrOf (MayStartThreads self.entry) (text_of_task self.entry held.items)) }
     {
         match self {
-            Task::Scan(input, workers) => {
-                let recording = recording_of(alloc, input, held)?;
-                Ok(Text::Windows(recording, workers))
-            }
+            Task::Scan(input, workers) => windows_of(alloc, input, workers, held),
             Task::List(input, plan) if plan.is_for_one() => one_pass_of(alloc, input, plan, held),
-            Task::List(input, plan) => {
-                let listing = listing_of(rt, alloc, input, plan, held, gate)?;
-                Ok(Text::Listing(listing))
-            }
-            Task::Totals(input, plan) => {
-                let totals = totals_of(rt, alloc, input, &plan, held, gate)?;
-                let rows = totals_rows(alloc, &totals)?;
-                Ok(Text::Whole(rows))
-            }
-            Task::Encode { hex } => {
-                let blocks = encode_lines(alloc, hex, held.as_slice())?;
-                Ok(Text::Whole(blocks))
-            }
+            Task::List(input, plan) => report_of(rt, alloc, input, plan, held, gate),
+            Task::Totals(input, plan) => rows_of_totals(rt, alloc, input, &plan, held, gate),
+            Task::Encode { hex } => blocks_of(alloc, hex, held.as_slice()),
         }
     }
+}
+
+/// The input and the plan of a job over a recording. A setting out of its range is refused first.
+fn planned<'a>(
+    alloc: Global,
+    input: &Input,
+    settings: &'a Settings,
+) -> Result<(Input, Plan<'a>), ToolError>
+    ensures ok { IfOk result (λ planned. (planned.0 ≡ input.now) × (plan_of settings.entry.now ≡ Ok planned.1)) }
+    ensures refused { IfErr result (IsMemoryOrErrOf (plan_of settings.entry.now)) }
+    ensures settings { IfErr (plan_of settings.entry.now) (λ error. result ≡ Err error) }
+{
+    let plan = Plan::of(alloc, settings)?;
+    let input = input.copied(alloc)?;
+    Ok((input, plan))
+}
+
+/// The recording that the bytes give, whose valid windows are written.
+fn windows_of<'a>(
+    alloc: Global,
+    input: Input,
+    workers: Workers,
+    held: Vec<u8>,
+) -> Result<Text<'a>, ToolError>
+    ensures ok { IfOk result (λ text. text_of_task (task.Scan input workers) held.items ≡ Ok (bytes_of text)) }
+    ensures refused { IfErr result (IsMemoryOrErrOf (text_of_task (task.Scan input workers) held.items)) }
+{
+    let recording = recording_of(alloc, input, held)?;
+    Ok(Text::Windows(recording, workers))
 }
 
 /// The recording that the bytes give, whose report is written while it is decoded.
@@ -101,6 +118,22 @@ fn one_pass_of<'a>(
 {
     let recording = recording_of(alloc, input, held)?;
     Ok(Text::OnePass(recording, plan))
+}
+
+/// The report of the recording that the bytes give, as a text.
+fn report_of<'a, R: Threads + Wait, G: Gate + Sync>(
+    rt: &R,
+    alloc: Global,
+    input: Input,
+    plan: Plan<'a>,
+    held: Vec<u8>,
+    gate: &G,
+) -> Result<Text<'a>, ToolError>
+    ensures ok { IfOk result (λ text. text_of_task (task.List input plan.entry) held.items ≡ Ok (bytes_of text)) }
+    ensures refused { IfErr result (IsShortageOrErrOf (1 < plan.entry.workers) (text_of_task (task.List input plan.entry) held.items)) }
+{
+    let listing = listing_of(rt, alloc, input, plan, held, gate)?;
+    Ok(Text::Listing(listing))
 }
 
 /// The report of the recording that the bytes give. Its items are decoded again where their rows are made, so the
@@ -126,6 +159,23 @@ fn listing_of<'a, R: Threads + Wait, G: Gate + Sync>(
     })
 }
 
+/// The rows of the totals of the recording that the bytes give.
+fn rows_of_totals<'a, R: Threads + Wait, G: Gate + Sync>(
+    rt: &R,
+    alloc: Global,
+    input: Input,
+    plan: &Plan<'_>,
+    held: Vec<u8>,
+    gate: &G,
+) -> Result<Text<'a>, ToolError>
+    ensures ok { IfOk result (λ text. text_of_task (task.Totals input plan.now) held.items ≡ Ok (bytes_of text)) }
+    ensures refused { IfErr result (IsShortageOrErrOf (1 < plan.now.workers) (text_of_task (task.Totals input plan.now) held.items)) }
+{
+    let totals = totals_of(rt, alloc, input, plan, held, gate)?;
+    let rows = totals_rows(alloc, &totals)?;
+    Ok(Text::Whole(rows))
+}
+
 /// The totals of the recording that the bytes give, which is dropped before their text is made.
 fn totals_of<R: Threads + Wait, G: Gate + Sync>(
     rt: &R,
@@ -142,4 +192,13 @@ fn totals_of<R: Threads + Wait, G: Gate + Sync>(
     let recording = recording_of(alloc, input, held)?;
     let report = plan.report(rt, alloc, &recording, Spans::Whole, gate)?;
     Ok(report.totals)
+}
+
+/// The blocks of the groups that the lines spell.
+fn blocks_of<'a>(alloc: Global, hex: bool, lines: &[u8]) -> Result<Text<'a>, ToolError>
+    ensures ok { IfOk result (λ text. text_of_task (task.Encode hex) lines.now ≡ Ok (bytes_of text)) }
+    ensures refused { IfErr result (IsMemoryOrErrOf (text_of_task (task.Encode hex) lines.now)) }
+{
+    let blocks = encode_lines(alloc, hex, lines)?;
+    Ok(Text::Whole(blocks))
 }

@@ -11,8 +11,8 @@ use Rattle.rds_sync.specs.Rules.{RuleNumbers}
 use Rattle.rds_sync.specs.declared.loss.Loss.{Loss}
 use Rattle.rds_sync.specs.declared.loss.Loss.TheVariants.{InARow, Share}
 use Rattle.rds_tool.specs.CommandLine.{AreRules, HasBadGaps, HasBadLoss, IsAskedOf, IsInput, MayAnswer, Spells, entries_of, faults_of}
-use Rattle.rds_tool.specs.declared.cli.FaultKind.{FaultKind}
-use Rattle.rds_tool.specs.declared.cli.FaultKind.TheVariants.{Help, Memory, Version, Words}
+use Rattle.rds_tool.specs.declared.fault.FaultKind.{FaultKind}
+use Rattle.rds_tool.specs.declared.fault.FaultKind.TheVariants.{Help, Memory, Version, Words}
 use Rattle.rds_tool.specs.declared.job.Input.{Input}
 use Rattle.rds_tool.specs.declared.job.Asked.{Asked}
 use Rattle.rds_tool.specs.declared.job.Asked.TheVariants as asked

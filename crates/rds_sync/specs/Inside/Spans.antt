@@ -2,7 +2,7 @@
 -- `Items`, `IndexedItems` and `ItemIter`, and by no public call.
 use Rattle.std.specs.Prelude.{◌≡◌, ℕ, ◌+◌, ◌-◌, ◌≤◌, List, [], ◌∷◌, ◌++◌, All, drop, length, take}
 use Rattle.rds_stream.specs.Recording.{Signal, length_of}
-use Rattle.rds_sync.specs.declared.indexed_items.Start.{Start}
+use Rattle.rds_sync.specs.declared.span.Start.{Start}
 use Rattle.rds_sync.specs.declared.item.Item.{Item}
 use Rattle.rds_sync.specs.declared.span.Span.{Span}
 use Rattle.rds_sync.specs.declared.span.Span.TheVariants.{Run, End}

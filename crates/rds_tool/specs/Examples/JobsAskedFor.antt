@@ -13,7 +13,7 @@ use Rattle.rds_sync.specs.Rules.{RuleNumbers}
 use Rattle.rds_sync.specs.declared.loss.Loss.{Loss}
 use Rattle.rds_sync.specs.declared.loss.Loss.TheVariants.{InARow, Share}
 use Rattle.rds_tool.specs.CommandLine.{HasBadGaps, HasBadLoss, IsAskedOf, IsFlag, MayAnswer, Spells, SpellsLoss, entries_of, faults_of, mixes_losses}
-use Rattle.rds_tool.specs.declared.cli.FaultKind.TheVariants.{Help, Memory, Version, Words}
+use Rattle.rds_tool.specs.declared.fault.FaultKind.TheVariants.{Help, Memory, Version, Words}
 use Rattle.rds_tool.specs.declared.job.Asked.{Asked}
 use Rattle.rds_tool.specs.declared.job.Asked.TheVariants.{Job as AskedJob, Follow}
 use Rattle.rds_tool.specs.declared.job.Job.{Job}

@@ -1,6 +1,6 @@
 use Rattle.std.proofs.Common.{◌≡◌, ◌<◌, ◌^◌, All, List, length, take, ℕ}
 use Rattle.rds_stream.specs.Recording.{Signal}
-use Rattle.rds_sync.specs.declared.indexed_items.Start.{Start}
+use Rattle.rds_sync.specs.declared.span.Start.{Start}
 use Rattle.rds_sync.specs.declared.span.Span.{Span}
 use Rattle.rds_sync.specs.Inside.Spans.{IsSpan, IsStart, items_in}
 use Rattle.rds_sync.specs.Rules.{RuleNumbers}

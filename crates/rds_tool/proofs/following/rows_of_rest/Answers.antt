@@ -1,9 +1,9 @@
-use Rattle.std.proofs.Common.{◌∙◌, ◌++◌, ℕ, List, ap, ap₂}
+use Rattle.std.proofs.Common.{◌∙◌, ◌++◌, List, ap}
 use Rattle.std.specs.List.{flat_map}
 use Rattle.rds_live.specs.Live.{complete}
 use Rattle.rds_sync.specs.declared.item.Item.{Item}
 use Rattle.rds_sync.specs.Advance.{group_item}
-use Rattle.rds_tool.specs.Listing.{item_row}
+use Rattle.rds_tool.specs.Listing.{item_row, totals_text}
 use Rattle.rds_tool.proofs.Followed.{rest_is}
 use Rattle.rds_tool.proofs.following.rows_of_rest.Goals as goal
 
@@ -11,5 +11,5 @@ pub returns-clause-rows : goal.returns-clause-rows
 returns-clause-rows c = λ before h.
     rest_is (complete c.args.live.terms before) c.finish_with.new.items.items (group_item c.in_ok-end.end.group) _ c.in_ok-end.end.totals _
     (c.in_ok-end.ensures.items before h) (c.in_ok-end.ensures.totals before h)
-    (c.in_ok-extend_from_slice.ensures.items ∙ ap₂ (λ (xs ys : List ℕ). xs ++ ys)
-    (c.in_ok-text.ensures.rows ∙ ap (λ (items : List Item). flat_map item_row items) c.as_slice.ensures.value) (c.as_slice-2.ensures.value ∙ c.in_ok-rows_of_end.ensures.rows))
+    (c.in_ok-text.ensures.rows
+    ∙ ap (λ (items : List Item). flat_map item_row items ++ (flat_map item_row (group_item c.in_ok-end.end.group) ++ totals_text c.in_ok-end.end.totals)) c.as_slice.ensures.value)

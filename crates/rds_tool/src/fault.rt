@@ -1,0 +1,48 @@
+//! Why a command line asks for nothing.
+ghost use Rattle.std.specs.Prelude.{◌≡◌};
+ghost use Rattle.rds_tool.specs.declared.fault.NoJob.TheVariants.{Memory};
+
+use std::alloc::AllocError;
+
+/// Why words ask for nothing.
+#[derive(Clone, Copy, Debug, PartialEq, Eq)]
+pub enum FaultKind {
+    /// Help was asked for.
+    Help,
+    /// The program's name and version were asked for.
+    Version,
+    /// The words aren't a command line.
+    Words,
+    /// A growth of memory was refused.
+    Memory,
+}
+
+/// What to show in place of doing what was asked for.
+#[derive(Debug, Drop)]
+pub struct CliFault {
+    /// Whether that is what was asked for, or why the words were refused.
+    pub kind: FaultKind,
+    /// The text to show, its line ends included. It is empty where memory was refused.
+    pub text: String,
+}
+
+/// Why entries ask for nothing.
+#[derive(Clone, Copy, Debug, PartialEq, Eq)]
+pub enum NoJob {
+    /// `--gaps` spells no gaps.
+    Gaps,
+    /// `--loss` was given beside `--share`, or `--of` without it.
+    Loss,
+    /// Another entry is none that a job or a stream has.
+    Entries,
+    /// A growth of memory was refused.
+    Memory,
+}
+
+impl From<AllocError> for NoJob {
+    ghost from_gives = { λ _ why. why ≡ Memory };
+
+    fn from(_error: AllocError) -> NoJob {
+        NoJob::Memory
+    }
+}
