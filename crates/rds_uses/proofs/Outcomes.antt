@@ -1,5 +1,5 @@
 -- What jobs make of the bits of bytes.
-use Rattle.std.proofs.Common.{◌≡◌, ℕ, ◌*◌, ◌^◌, ◌≤◌, List, [], Bool, true, false, None, Some, Result, Ok, Err, cond, length, sym, ap, arith}
+use Rattle.std.proofs.Common.{◌≡◌, ℕ, ◌*◌, ◌^◌, ◌≤◌, List, [], Bool, true, false, Option, IfSome, OnOk, None, Some, Result, Ok, Err, cond, length, refl, sym, ap, arith, ◌++◌}
 use Rattle.std.proofs.lemmas.Bool.Decides.{nat_tests}
 use Rattle.rds_stream.specs.Recording.{Signal, bits_of, length_of}
 use Rattle.rds_sync.specs.Rules.{RuleNumbers}
@@ -20,6 +20,21 @@ use Rattle.rds_uses.specs.Jobs.{all_bits, plain, IsListBy, IsScan, IsTotalsBy}
 
 pub all_bits-few : (bytes : List ℕ) → 8 * length bytes ≤ 2 ^ 36 → recording_of plain bytes ≡ Ok (all_bits bytes)
 all_bits-few bytes few = grind (arith, nat_tests)
+
+-- what is so of a text is so of it where there is one
+pub if-some : {A : Type 0} {P Q : A → Type 0} (found : Option A) → ((a : A) → P a → Q a) → IfSome found P → IfSome found Q
+if-some (Some a) also is = also a is
+if-some None also is = is
+
+-- what a writer holds afterwards is what it held before and the text
+pub added : (outcome : Result (List ℕ) ToolError) (old new : List ℕ) → Writes (Some old) (Some new) outcome
+    → (more : List ℕ) × (outcome ≡ Ok more) × (new ≡ old ++ more)
+added (Ok text) old new is = (text, refl, is)
+added (Err e) old new is = absurd is
+
+pub on-ok : {A E P Q : Type 0} (result : Result A E) → (P → Q) → OnOk result P → OnOk result Q
+on-ok (Ok a) also is = also is
+on-ok (Err e) also is = is
 
 -- what an empty writer holds afterwards is the text
 pub written : (outcome : Result (List ℕ) ToolError) (new : List ℕ) → Writes (Some []) (Some new) outcome → outcome ≡ Ok new
@@ -54,21 +69,19 @@ module _ (bytes text : List ℕ) (few : 8 * length bytes ≤ 2 ^ 36) (rules : Ru
 
 module _ (bytes new : List ℕ) (few : 8 * length bytes ≤ 2 ^ 36) (rules : RuleNumbers) where
   -- what a listing writes into an empty writer
-  pub listed : (job : Job) → IsListBy job rules → Writes (Some []) (Some new) (outcome job bytes) → new ≡ list_text rules (all_bits bytes)
+  pub listed : (job : Job) → IsListBy job rules → outcome job bytes ≡ Ok new → new ≡ list_text rules (all_bits bytes)
   listed (job.List input settings) by is =
-      let text = written (outcome (job.List input settings) bytes) new is in
       let same = by.0 in
-      list-text bytes new few rules settings by.1 (rw same at text)
+      list-text bytes new few rules settings by.1 (rw same at is)
   listed (job.Scan input workers) by is = absurd by
   listed (job.Totals input settings) by is = absurd by
   listed (job.Encode hex) by is = absurd by
 
   -- what totals write into one
-  pub totalled : (job : Job) → IsTotalsBy job rules → Writes (Some []) (Some new) (outcome job bytes) → new ≡ totals_list rules (all_bits bytes)
+  pub totalled : (job : Job) → IsTotalsBy job rules → outcome job bytes ≡ Ok new → new ≡ totals_list rules (all_bits bytes)
   totalled (job.Totals input settings) by is =
-      let text = written (outcome (job.Totals input settings) bytes) new is in
       let same = by.0 in
-      totals-text bytes new few rules settings by.1 (rw same at text)
+      totals-text bytes new few rules settings by.1 (rw same at is)
   totalled (job.Scan input workers) by is = absurd by
   totalled (job.List input settings) by is = absurd by
   totalled (job.Encode hex) by is = absurd by
@@ -82,10 +95,9 @@ module _ (input : Input) (recorded : Signal) (bytes text : List ℕ) (is_recordi
 
 module _ (bytes new : List ℕ) (few : 8 * length bytes ≤ 2 ^ 36) where
   -- what a scan writes into an empty writer
-  pub scanned : (asked : Job) → IsScan asked → Writes (Some []) (Some new) (outcome asked bytes) → new ≡ scan_text (all_bits bytes)
+  pub scanned : (asked : Job) → IsScan asked → outcome asked bytes ≡ Ok new → new ≡ scan_text (all_bits bytes)
   scanned (job.Scan input workers) by is =
-      let text = written (outcome (job.Scan input workers) bytes) new is in
-      scan-text plain (all_bits bytes) bytes new (all_bits-few bytes few) (workers_of workers) (rw by at text)
+      scan-text plain (all_bits bytes) bytes new (all_bits-few bytes few) (workers_of workers) (rw by at is)
   scanned (job.List input settings) by is = absurd by
   scanned (job.Totals input settings) by is = absurd by
   scanned (job.Encode hex) by is = absurd by
@@ -103,6 +115,6 @@ module _ (bytes : List ℕ) (few : 8 * length bytes ≤ 2 ^ 36) (gaps : List (�
 
   -- what a scan of them writes
   pub scanned_with_gaps : (new : List ℕ) → may_be_gaps 0 gaps (8 * length bytes) ≡ true
-      → Writes (Some []) (Some new) (outcome (job.Scan gapped 4) bytes) → new ≡ scan_text recorded
+      → outcome (job.Scan gapped 4) bytes ≡ Ok new → new ≡ scan_text recorded
   scanned_with_gaps new lawful is =
-      scan-text gapped recorded bytes new (few_with_gaps lawful) (workers_of 4) (written (outcome (job.Scan gapped 4) bytes) new is)
+      scan-text gapped recorded bytes new (few_with_gaps lawful) (workers_of 4) is

@@ -1,15 +1,13 @@
 //! A decoder as a user of the libraries writes it: from bytes to a report, piece by piece.
 ghost use Rattle.std.specs.Prelude.{◌≡◌, ◌*◌, ◌≤◌, ◌^◌, IfOk, IfSome, length, vec_len};
-ghost use Rattle.rds_stream.specs.Recording.{length_of};
-ghost use Rattle.rds_pieces.specs.Cutting.{IsCutting};
-ghost use Rattle.rds_pieces.specs.RunOf.{runs_of};
 ghost use Rattle.rds_sync.specs.Report.{report_items};
 ghost use Rattle.rds_sync.specs.declared.loss.Loss.TheVariants.{InARow};
 ghost use Rattle.rds_uses.specs.Jobs.{all_bits};
 
+use crate::pieces::stitched;
 use crate::sync::usual_rules;
-use rds_pieces::{Cutting, PieceError, PieceRun, laws, speculate, stitch};
-use rds_stream::{Counted, Recording};
+use rds_pieces::{Cutting, PieceError};
+use rds_stream::Recording;
 use rds_sync::{Report, Rules, Spans};
 use std::alloc::Global;
 
@@ -37,30 +35,5 @@ fn in_pieces(
     ensures { IfOk result (λ report. report.items.list ≡ report_items recording.now rules.now) }
 {
     let cutting = Cutting::even(alloc, recording.len(), pieces)?;
-    let runs = guesses(alloc, recording, rules, &cutting)?;
-    laws::pieces_follow();
-    stitch(
-        alloc,
-        &mut Counted::new(recording),
-        rules,
-        runs.as_slice(),
-        Spans::Short,
-    )
-}
-
-/// The guesses of all pieces, in order.
-fn guesses(
-    alloc: Global,
-    recording: &Recording,
-    rules: &Rules,
-    cutting: &Cutting,
-) -> Result<Vec<PieceRun>, PieceError>
-    requires { IsCutting (length_of recording.now) cutting.now }
-    ensures { IfOk result (λ runs. runs.items ≡ runs_of recording.now rules.now cutting.now) }
-{
-    let mut runs = Vec::new(alloc);
-    for j in 0..cutting.pieces() {
-        runs.push(speculate(alloc, recording, rules, cutting, j)?)?;
-    }
-    Ok(runs)
+    stitched(alloc, recording, rules, &cutting, Spans::Short)
 }

@@ -1,5 +1,5 @@
 //! What a user of lists of items relies on, and of their totals.
-ghost use Rattle.std.specs.Prelude.{◌≡◌, ◌-◌, ◌+◌, ◌<◌, ◌≤◌, ◌^◌, ◌++◌, [], IsOkUnless, IfOk, IfSome, List, None, Some, drop, false, length, slice_get, slice_range, take, true, vec_capacity};
+ghost use Rattle.std.specs.Prelude.{◌≡◌, ◌-◌, ◌+◌, ◌<◌, ◌≤◌, ◌^◌, ◌++◌, [], IsOkUnless, IfOk, IfSome, List, None, OnOk, Some, drop, false, length, slice_get, slice_range, take, true, vec_capacity};
 ghost use Rattle.rds_stream.specs.Recording.{length_of};
 ghost use Rattle.rds_sync.specs.Codes.{kept_of, totals_of_codes};
 ghost use Rattle.rds_sync.specs.Counting.{IsAtMost, IsRest, plus};
@@ -14,6 +14,7 @@ ghost use Rattle.rds_sync.specs.declared.item.Item.{Item as AnItem};
 ghost use Rattle.rds_sync.specs.declared.state.State.TheVariants.{Searching};
 ghost use Rattle.rds_sync.specs.declared.totals.Totals.{Totals as TheTotals};
 
+use crate::codes::marks_of_run;
 use rds_stream::{Counted, Recording};
 use rds_sync::{
     Codes, Decoder, Item, ItemIter, Items, Mark, Marks, Rules, State, SyncError, Totals, finish,
@@ -100,8 +101,26 @@ pub fn listed_by_marks(
     ensures { IfOk result (λ items. items ≡ listed recording.now rules.now
         (run_of recording.now rules.now state from (length_of recording.now - from)).1) }
 {
-    let _loss = rules.loss();
-    laws::codes_tell_marks();
+    let mut items = Items::none(alloc, Snapshot::of(recording), rules);
+    push_by_marks(alloc, recording, rules, state, from, &mut items)?;
+    Ok(items)
+}
+
+/// Appends the items of a run to a list that has none, in the spans that its marks cut.
+fn push_by_marks(
+    alloc: Global,
+    recording: &Recording,
+    rules: &Rules,
+    state: State,
+    from: u64,
+    items: &mut Items,
+) -> Result<(), SyncError>
+    requires lawful { IsLawful rules.now from state }
+    requires within { from ≤ length_of recording.now }
+    requires none { items.old ≡ listed recording.now rules.now [] }
+    ensures { OnOk result (items.new ≡ listed recording.now rules.now
+        (run_of recording.now rules.now state from (length_of recording.now - from)).1) }
+{
     laws::runs_give_few_items();
     let len = recording.len();
     let (_end, codes) = run_codes(alloc, recording, rules, state, from, len)?;
@@ -110,11 +129,10 @@ pub fn listed_by_marks(
         state,
         items: 0,
     };
-    let mut marks = codes.marks_from(rules, from, state);
+    let mut marks = marks_of_run(&codes, recording, rules, state, from, len);
     let _first = marks.next();
-    let mut items = Items::none(alloc, Snapshot::of(recording), rules);
     items.push_run(first, marks, len, codes.len() as u64)?;
-    Ok(items)
+    Ok(())
 }
 
 /// Items in a row by the index of a list, which are those of the list.
@@ -146,15 +164,31 @@ pub fn listed_in_one_span(
         ≡ listed recording.now rules.now (report_items recording.now rules.now)) }
     ensures refused { IsOkUnless result OutOfMemory }
 {
-    let _loss = rules.loss();
-    laws::runs_are_reports();
+    let mut items = Items::none(alloc, Snapshot::of(recording), rules);
+    push_report(alloc, recording, rules, &mut items)?;
+    Ok(items)
+}
+
+/// Appends the items of a report to a list that has none.
+fn push_report(
+    alloc: Global,
+    recording: &Recording,
+    rules: &Rules,
+    items: &mut Items,
+) -> Result<(), SyncError>
+    requires { items.old ≡ listed recording.now rules.now [] }
+    ensures items { OnOk result (items.new
+        ≡ listed recording.now rules.now (report_items recording.now rules.now)) }
+    ensures refused { IsOkUnless result OutOfMemory }
+{
     laws::runs_give_few_items();
     let len = recording.len();
     let (end, codes) = run_codes(alloc, recording, rules, State::Searching, 0, len)?;
-    let mut items = Items::none(alloc, Snapshot::of(recording), rules);
     items.push_span(State::Searching, 0, len, codes.len())?;
     items.close(end)?;
-    Ok(items)
+    let _loss = rules.loss();
+    laws::runs_are_reports();
+    Ok(())
 }
 
 /// Where there was no memory for the spans of a run, the list stays as it was.
@@ -263,15 +297,16 @@ pub fn totals_of_report(
 ) -> Result<Totals, SyncError>
     ensures { IfOk result (λ totals. totals ≡ totals_of (report_items recording.now rules.now)) }
 {
-    let _loss = rules.loss();
-    laws::runs_are_reports();
     laws::runs_give_few_items();
-    laws::codes_tell_totals();
-    laws::totals_join();
     let len = recording.len();
     let (end, codes) = run_codes(alloc, recording, rules, State::Searching, 0, len)?;
     let group = finish(&mut Counted::new(recording), rules, end);
-    Ok(codes.totals().plus(Totals::of_end(group)))
+    let totals = codes.totals().plus(Totals::of_end(group));
+    let _loss = rules.loss();
+    laws::runs_are_reports();
+    laws::codes_tell_totals();
+    laws::totals_join();
+    Ok(totals)
 }
 
 /// The totals of the rest of a list are those of all, less those of its first items.

@@ -14,7 +14,7 @@ ghost use Rattle.rds_pieces.specs.Cutting.{IsCutting, pieces_of};
 ghost use Rattle.rds_pieces.specs.Guess.{guess, marks};
 ghost use Rattle.rds_pieces.specs.JointOf.{joint_of as the_joint_of};
 ghost use Rattle.rds_pieces.specs.Joining.{AreNeighbours};
-ghost use Rattle.rds_pieces.specs.RunOf.{FollowEachOther, end_of, run_over};
+ghost use Rattle.rds_pieces.specs.RunOf.{FollowEachOther, end_of, run_at, run_over, runs_of};
 ghost use Rattle.rds_pieces.specs.declared.error.PieceError.TheVariants.{BadCutting, OutOfMemory};
 
 use rds_pieces::{
@@ -27,6 +27,7 @@ use rds_sync::{
     laws as laws_of_runs, run_codes,
 };
 use std::alloc::{AllocError, Global};
+use std::slice;
 use std::snapshot::Snapshot;
 
 // ---- cuttings
@@ -276,8 +277,7 @@ pub fn joined_guesses(
     ensures run { IfOk result (λ run. run ≡ run_over recording.now rules.now 0 (length_of recording.now)) }
     ensures refused { IsOkUnless result OutOfMemory }
 {
-    let left = speculate(alloc, recording, rules, cutting, 0)?;
-    let right = speculate(alloc, recording, rules, cutting, 1)?;
+    let (left, right) = two_guesses(alloc, &RecordingWork::new(recording, rules, cutting))?;
     join_runs(alloc, &mut Counted::new(recording), rules, left, right)
 }
 
@@ -314,10 +314,9 @@ pub fn joined_by_joint(
     ensures run { IfOk result (λ run. run ≡ run_over recording.now rules.now 0 (length_of recording.now)) }
     ensures refused { IsOkUnless result OutOfMemory }
 {
-    let left = speculate(alloc, recording, rules, cutting, 0)?;
-    let right = speculate(alloc, recording, rules, cutting, 1)?;
-    let joint = joint_of(alloc, &mut Counted::new(recording), rules, &left, &right)?;
-    PieceRun::joined(left, joint, right)
+    let (left, right) = two_guesses(alloc, &RecordingWork::new(recording, rules, cutting))?;
+    let joint = joint_of(alloc, &mut Counted::new(recording), rules, &left, &right);
+    joined_unless_refused(left, joint, right)
 }
 
 /// A joint whose left run ends in a search costs the reach and two windows at most, refused memory or not.
@@ -373,6 +372,21 @@ pub fn cost_of_joint<T: Tape>(
     joint_of(alloc, tape, rules, left, right)
 }
 
+/// Two neighbours put together, where what joins them was not refused memory.
+fn joined_unless_refused(
+    left: PieceRun,
+    joint: Result<Joint, PieceError>,
+    right: PieceRun,
+) -> Result<PieceRun, PieceError>
+    requires neighbours { AreNeighbours left.source left.rules left right }
+    requires joint { IfOk joint (λ joint. joint ≡ the_joint_of left right) }
+    requires memory { IsOkUnless joint OutOfMemory }
+    ensures run { IfOk result (λ run. run ≡ run_over left.source left.rules left.from right.to) }
+    ensures refused { IsOkUnless result OutOfMemory }
+{
+    PieceRun::joined(left, joint?, right)
+}
+
 /// Runs that are put together by their joint are the run of both ranges, or there was no memory.
 pub fn put_together(left: PieceRun, joint: Joint, right: PieceRun) -> Result<PieceRun, PieceError>
     requires neighbours { AreNeighbours left.source left.rules left right }
@@ -385,7 +399,7 @@ pub fn put_together(left: PieceRun, joint: Joint, right: PieceRun) -> Result<Pie
 
 // ---- reports
 
-/// The report of a recording in two pieces, by hand: it is that of one decoder.
+/// The report of a recording in two pieces is that of one decoder.
 pub fn decoded_in_two_pieces(
     alloc: Global,
     recording: &Recording,
@@ -399,17 +413,50 @@ pub fn decoded_in_two_pieces(
     ensures totals { IfOk result (λ report. report.totals ≡ totals_of (report_items recording.now rules.now)) }
     ensures refused { IsOkUnless result OutOfMemory }
 {
+    stitched(alloc, recording, rules, cutting, Spans::Whole)
+}
+
+/// The report of a recording in the pieces of a cutting.
+pub(crate) fn stitched(
+    alloc: Global,
+    recording: &Recording,
+    rules: &Rules,
+    cutting: &Cutting,
+    spans: Spans,
+) -> Result<Report, PieceError>
+    requires { IsCutting (length_of recording.now) cutting.now }
+    ensures items { IfOk result (λ report. report.items
+        ≡ listed recording.now rules.now (report_items recording.now rules.now)) }
+    ensures totals { IfOk result (λ report. report.totals ≡ totals_of (report_items recording.now rules.now)) }
+    ensures refused { IsOkUnless result OutOfMemory }
+{
+    let runs = guesses(alloc, recording, rules, cutting)?;
     laws::pieces_follow();
-    let mut runs = Vec::new(alloc);
-    runs.push(speculate(alloc, recording, rules, cutting, 0)?)?;
-    runs.push(speculate(alloc, recording, rules, cutting, 1)?)?;
     stitch(
         alloc,
         &mut Counted::new(recording),
         rules,
         runs.as_slice(),
-        Spans::Whole,
+        spans,
     )
+}
+
+/// The guesses of all pieces, in order.
+fn guesses(
+    alloc: Global,
+    recording: &Recording,
+    rules: &Rules,
+    cutting: &Cutting,
+) -> Result<Vec<PieceRun>, PieceError>
+    requires { IsCutting (length_of recording.now) cutting.now }
+    ensures runs { IfOk result (λ runs. runs.items ≡ runs_of recording.now rules.now cutting.now) }
+    ensures refused { IsOkUnless result OutOfMemory }
+{
+    let mut runs = Vec::new(alloc);
+    for j in 0..cutting.pieces() {
+        runs.push(speculate(alloc, recording, rules, cutting, j)?)?;
+    }
+    Ok(runs)
 }
 
 /// A recording in one piece is stitched at the cost of one seam that meets at once, and of its end; it costs no more where
@@ -460,9 +507,8 @@ pub fn report_of_work<W: Work>(alloc: Global, work: &W) -> Result<Report, PieceE
     ensures refused { IsOkUnless result OutOfMemory }
 {
     laws::pieces_follow();
-    let mut runs = Vec::new(alloc);
-    runs.push(work.guess(alloc, 0)?)?;
-    work.report(alloc, runs.as_slice())
+    let run = work.guess(alloc, 0)?;
+    work.report(alloc, slice::from_ref(&run))
 }
 
 /// The guesses of a work that is cut into two pieces, joined by it: the guess of the whole recording.
@@ -473,10 +519,22 @@ pub fn joined_by_work<W: Work>(alloc: Global, work: &W) -> Result<PieceRun, Piec
         ≡ run_over (W.recording work.now) (W.rule_set work.now) 0 (length_of (W.recording work.now))) }
     ensures refused { IsOkUnless result OutOfMemory }
 {
+    let (left, right) = two_guesses(alloc, work)?;
+    let joint = work.join(alloc, &left, &right);
+    joined_unless_refused(left, joint, right)
+}
+
+/// The guesses of a work that is cut into two pieces.
+fn two_guesses<W: Work>(alloc: Global, work: &W) -> Result<(PieceRun, PieceRun), PieceError>
+    requires fits { IsCutting (length_of (W.recording work.now)) (W.places work.now) }
+    requires two { pieces_of (W.places work.now) ≡ 2 }
+    ensures left { IfOk result (λ runs. runs.0 ≡ run_at (W.recording work.now) (W.rule_set work.now) (W.places work.now) 0) }
+    ensures right { IfOk result (λ runs. runs.1 ≡ run_at (W.recording work.now) (W.rule_set work.now) (W.places work.now) 1) }
+    ensures refused { IsOkUnless result OutOfMemory }
+{
     let left = work.guess(alloc, 0)?;
     let right = work.guess(alloc, 1)?;
-    let joint = work.join(alloc, &left, &right)?;
-    PieceRun::joined(left, joint, right)
+    Ok((left, right))
 }
 
 /// What a work names, as a caller sees it.

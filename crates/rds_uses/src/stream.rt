@@ -2,7 +2,7 @@
 ghost use Rattle.std.specs.Prelude.{◌≡◌, ℕ, ◌+◌, ◌-◌, ◌*◌, ◌<◌, ◌≤◌, ◌^◌, IfSome, None, Some, Err, if◌then◌else◌, slice_index, true, vec_len};
 ghost use Rattle.std.specs.Int.{bit_at};
 ghost use Rattle.rds_code.specs.Remainder.{rem};
-ghost use Rattle.rds_stream.specs.Recording.{bits_of, length_of, off, ungapped, valid_windows, window};
+ghost use Rattle.rds_stream.specs.Recording.{bits_of, heard, length_of, off, ungapped, valid_windows, window};
 ghost use Rattle.rds_stream.specs.ValidWindows.{NoneValid};
 ghost use Rattle.rds_stream.specs.declared.error.StreamError.TheVariants.{BitsPastBytes, OutOfMemory, TooLong};
 
@@ -96,10 +96,21 @@ pub fn heard_in_a_row(reader: &mut Reader<'_>, place: u64) -> bool
 {
     let _len = reader.recording().len();
     let [one, two, three, four] = reader.four_windows(place);
-    four == reader.window(place + 78)
-        && three == reader.window(place + 52)
-        && two == reader.window(place + 26)
-        && one == reader.window(place)
+    hears(reader, place + 78, four)
+        && hears(reader, place + 52, three)
+        && hears(reader, place + 26, two)
+        && hears(reader, place, one)
+}
+
+/// What is heard at a place is what was told of it.
+fn hears(reader: &mut Reader<'_>, place: u64, told: Option<u32>) -> bool
+    requires first { 25 ≤ place }
+    requires last { place < length_of reader.old }
+    requires told { told ≡ heard reader.old place }
+    ensures result { result ≡ true }
+    ensures same { reader.new ≡ reader.old }
+{
+    told == reader.window(place)
 }
 
 /// Each of them is a block, whose remainder can be taken.

@@ -10,6 +10,7 @@ ghost use Rattle.rds_tool.specs.Listing.{report_text, scan_text, totals_text};
 ghost use Rattle.rds_tool.specs.Outcome.{IsOutside, WritesPrefix, outcome};
 ghost use Rattle.rds_tool.specs.Tasks.{AsksForThreads, task_of};
 ghost use Rattle.rds_tool.specs.declared.error.ToolError.TheVariants.{BadGaps, BurstRange, NoWorker, OutOfMemory, Read, TooManyTurns, Write};
+ghost use Rattle.rds_tool.specs.declared.job.Input.{Input as AnInput};
 ghost use Rattle.rds_uses.specs.Jobs.{IsListBy, IsScan, IsTotalsBy, all_bits, plain};
 
 use rds_crew::Gate;
@@ -37,11 +38,7 @@ pub fn listing<R: Threads + Wait + Sync>(
     ensures { IfSome result (λ text. let items = report_items (all_bits bytes.now) rules.now in
         text.items ≡ report_text items (totals_of items)) }
 {
-    let mut writer = ToWrite::new(Vec::new(alloc));
-    match transcribe(rt, alloc, &mut FromRead::new(bytes), &mut writer, job) {
-        Ok(()) => Some(writer.into_inner()),
-        Err(_) => None,
-    }
+    written(rt, alloc, bytes, job)
 }
 
 /// The totals of the bytes of a recording alone.
@@ -57,11 +54,7 @@ pub fn totals<R: Threads + Wait + Sync>(
     ensures { IfSome result (λ text. text.items
         ≡ totals_text (totals_of (report_items (all_bits bytes.now) rules.now))) }
 {
-    let mut writer = ToWrite::new(Vec::new(alloc));
-    match transcribe(rt, alloc, &mut FromRead::new(bytes), &mut writer, job) {
-        Ok(()) => Some(writer.into_inner()),
-        Err(_) => None,
-    }
+    written(rt, alloc, bytes, job)
 }
 
 /// The rows of the valid windows of the bytes of a recording.
@@ -75,11 +68,7 @@ pub fn windows<R: Threads + Wait + Sync>(
     requires job { IsScan job.now }
     ensures { IfSome result (λ text. text.items ≡ scan_text (all_bits bytes.now)) }
 {
-    let mut writer = ToWrite::new(Vec::new(alloc));
-    match transcribe(rt, alloc, &mut FromRead::new(bytes), &mut writer, job) {
-        Ok(()) => Some(writer.into_inner()),
-        Err(_) => None,
-    }
+    written(rt, alloc, bytes, job)
 }
 
 /// The rows of the valid windows where there are gaps: of those that touch none.
@@ -100,11 +89,7 @@ pub fn windows_with_gaps<R: Threads + Wait + Sync>(
         gaps,
     };
     let job = Job::Scan(input, 4);
-    let mut writer = ToWrite::new(Vec::new(alloc));
-    match transcribe(rt, alloc, &mut FromRead::new(bytes), &mut writer, &job) {
-        Ok(()) => Some(writer.into_inner()),
-        Err(_) => None,
-    }
+    written(rt, alloc, bytes, &job)
 }
 
 /// The blocks of the groups that lines of digits spell, in digits.
@@ -117,8 +102,20 @@ pub fn encoded<R: Threads + Wait + Sync>(
     requires { job.now ≡ Job.Encode true }
     ensures { IfSome result (λ text. encoded_text true lines.now ≡ Ok text.items) }
 {
+    written(rt, alloc, lines, job)
+}
+
+/// What a job writes of bytes, where nothing is refused: its outcome.
+fn written<R: Threads + Wait + Sync>(
+    rt: &R,
+    alloc: Global,
+    bytes: &[u8],
+    job: &Job,
+) -> Option<Vec<u8>>
+    ensures { IfSome result (λ text. outcome job.now bytes.now ≡ Ok text.items) }
+{
     let mut writer = ToWrite::new(Vec::new(alloc));
-    match transcribe(rt, alloc, &mut FromRead::new(lines), &mut writer, job) {
+    match transcribe(rt, alloc, &mut FromRead::new(bytes), &mut writer, job) {
         Ok(()) => Some(writer.into_inner()),
         Err(_) => None,
     }
@@ -276,6 +273,22 @@ pub fn few_causes<R: Threads + Wait + Sync>(
     requires job { job.now ≡ Job.Scan plain 4 }
     ensures { IfSome result (λ error. (error ≡ OutOfMemory) ⊎ ((error ≡ Read) ⊎ (error ≡ Write))) }
 {
+    refusal_of_scan(rt, alloc, bytes, job)
+}
+
+/// The refusal of a scan of fewer than 16,777,216 bytes: want of memory, that of a device, or the outcome.
+fn refusal_of_scan<R: Threads + Wait + Sync>(
+    rt: &R,
+    alloc: Global,
+    bytes: &[u8],
+    job: &Job,
+) -> Option<ToolError>
+    requires few { length bytes.now < 16777216 }
+    requires job { (input : AnInput) × (job.now ≡ Job.Scan input 4) }
+    ensures none { result ≡ None → (text : List ℕ) × (outcome job.now bytes.now ≡ Ok text) }
+    ensures some { IfSome result (λ error. (outcome job.now bytes.now ≡ Err error)
+        ⊎ ((error ≡ OutOfMemory) ⊎ ((error ≡ Read) ⊎ (error ≡ Write)))) }
+{
     let mut writer = ToWrite::new(Vec::new(alloc));
     transcribe(rt, alloc, &mut FromRead::new(bytes), &mut writer, job).err()
 }
@@ -298,8 +311,7 @@ pub fn bad_gaps<R: Threads + Wait + Sync>(
         gaps,
     };
     let job = Job::Scan(input, 4);
-    let mut writer = ToWrite::new(Vec::new(alloc));
-    transcribe(rt, alloc, &mut FromRead::new(bytes), &mut writer, &job).err()
+    refusal_of_scan(rt, alloc, bytes, &job)
 }
 
 /// Settings out of their range are refused as such, and nothing is read.

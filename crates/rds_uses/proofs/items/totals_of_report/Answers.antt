@@ -18,7 +18,7 @@ returns c =
     let ended = c.finish-group.ensures.group ∙ ap (λ (t : TapeState). items_of_end t.signal rules c.in_ok-end.end) c.new.ensures
     ∙ ap (λ (s : State). items_of_end b rules s) c.in_ok-end.ensures.state in
     let all : c.len-len.result - 0 ≡ length_of b = omega (arith, c.len-len.ensures.value) in
-    c.plus.ensures.value
+    c.plus-totals.ensures.value
     ∙ ap₂ plus (c.totals.ensures.value ∙ totals-kept c.codes_tell_totals.ensures c.in_ok-end.codes whole.1 c.in_ok-end.ensures.codes)
     (c.of_end.ensures.value ∙ ap (λ (items : List Item). totals_of items) ended)
     ∙ sym ((c.totals_join.ensures whole.1 (items_of_end b rules whole.0)).joined)

@@ -1,4 +1,4 @@
-use Rattle.std.proofs.Common.{◌++◌, [], refl, sym, subst, List, ℕ}
+use Rattle.std.proofs.Common.{◌++◌, [], refl, subst, List, ℕ}
 use Rattle.rds_live.specs.Live.{HasHeard}
 use Rattle.rds_abi.specs.Following.{stream_of, terms_of}
 use Rattle.rds_uses.proofs.NumberedStreams.{alike}

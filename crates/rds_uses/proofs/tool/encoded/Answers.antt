@@ -1,11 +1,5 @@
-use Rattle.std.proofs.Common.{◌≡◌, [], Ok, ap, sym, ◌∙◌}
-use Rattle.rds_uses.proofs.Outcomes.{written}
+use Rattle.rds_uses.proofs.Outcomes.{if-some}
 use Rattle.rds_uses.proofs.tool.encoded.Goals as goal
 
-pub returns-in-Ok : goal.returns-in-Ok
-returns-in-Ok g c =
-    let ok = c.in-Ok.ensures.ok in
-    let held : c.new-2.result.reader.now ≡ c.args.lines.now = cc in
-    let empty : c.new-writer.result.writer.items ≡ [] = cc in
-    let text : c.into_inner.result.items ≡ c.transcribe.new.writer.writer.items = cc in
-    let is = rw (held, empty, c.requires) at ok in written _ _ is ∙ ap Ok (sym text)
+pub returns : goal.returns
+returns g c = if-some c.written.result (λ text is. rw c.requires at is) c.written.ensures

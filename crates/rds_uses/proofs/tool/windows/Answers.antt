@@ -1,11 +1,5 @@
-use Rattle.std.proofs.Common.{◌≡◌, [], ◌∙◌}
-use Rattle.rds_uses.proofs.Outcomes.{scanned}
+use Rattle.rds_uses.proofs.Outcomes.{if-some, scanned}
 use Rattle.rds_uses.proofs.tool.windows.Goals as goal
 
-pub returns-in-Ok : goal.returns-in-Ok
-returns-in-Ok g c =
-    let ok = c.in-Ok.ensures.ok in
-    let held : c.new-2.result.reader.now ≡ c.args.bytes.now = cc in
-    let empty : c.new-writer.result.writer.items ≡ [] = cc in
-    let text : c.into_inner.result.items ≡ c.transcribe.new.writer.writer.items = cc in
-    text ∙ scanned c.args.bytes.now _ c.requires.few c.args.job.now c.requires.job (rw (held, empty) at ok)
+pub returns : goal.returns
+returns g c = if-some c.written.result (λ text is. scanned c.args.bytes.now text.items c.requires.few c.args.job.now c.requires.job is) c.written.ensures
