@@ -1,5 +1,5 @@
 //! The examples of the front pages of `rds_code` and `rds_stream`, and what comes out of them.
-use crate::samples::{gapped_recording, zero_bytes};
+use crate::samples::zero_bytes;
 use rds_code::{
     BlockNumber, BurstLimit, BurstTable, Offset, Reading, Wanted, encode_block, is_block,
     read_block,
@@ -32,9 +32,11 @@ fn is_corrected(table: &BurstTable) -> bool {
 
 /// A zero group with a gap at place 60.
 fn with_a_gap(alloc: Global) -> Result<Recording, StreamError> {
-    let mut gaps = Vec::new(alloc);
-    gaps.push((60, 61))?;
-    gapped_recording(zero_bytes(alloc, 104)?, 104, gaps)
+    let gaps = vec![in alloc; (60, 61)]?;
+    match Recording::with_gaps(zero_bytes(alloc, 104)?, 104, gaps) {
+        Ok(recording) => Ok(recording),
+        Err((error, _bytes, _gaps)) => Err(error),
+    }
 }
 
 /// Its valid windows.

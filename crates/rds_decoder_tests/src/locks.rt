@@ -40,7 +40,13 @@ fn acquired_at(rec: &Recording, reach: u64, place: u64) -> u8 {
 /// How many of the last `count` blocks, the first of them left out, are bad.
 fn bad_among(good: &[bool], count: usize) -> usize {
     let from = good.len().saturating_sub(count).max(1);
-    good.iter().skip(from).filter(|good| !**good).count()
+    let mut bad = 0usize;
+    for i in from..good.len() {
+        if !good[i] {
+            bad = bad.saturating_add(1);
+        }
+    }
+    bad
 }
 
 /// Whether a lock of whose blocks these are good, the acquiring one first, is lost at the last.
@@ -108,12 +114,9 @@ fn has_locks(alloc: Global, sample: &Sample) -> Result<bool, SyncError> {
 }
 
 /// Whether that of noisy groups has, whose lock is lost so.
-fn has_locks_of(alloc: Global, seed: u64, loss: Loss) -> Result<bool, Fail> {
-    let answer = {
-        let sample = Sample::noisy(alloc, seed, seed % 13 + 2, loss)?;
-        has_locks(alloc, &sample)
-    };
-    Ok(answer?)
+fn has_locks_of(alloc: Global, seed: u64, loss: Loss) -> Result<bool, SyncError> {
+    let sample = Sample::noisy(alloc, seed, seed % 13 + 2, loss)?;
+    has_locks(alloc, &sample)
 }
 
 const LOSSES: [Loss; 6] = [

@@ -1,24 +1,13 @@
 //! Where the true state meets the guess behind a cut, at each place of a group.
 ghost use Rattle.std.specs.Prelude.{◌≡◌, ◌<◌, IfOk};
 
-use crate::samples::{Sample, recording_of, zero_groups};
+use crate::samples::Sample;
 use rds_code::encode_group;
 use rds_pieces::{PieceError, PieceRun, seam, speculate};
-use rds_stream::{Counted, Recording};
-use rds_sync::{Decoder, Item, Loss, RuleNumbers, Rules, Spans, State, SyncError};
+use rds_stream::Counted;
+use rds_sync::{Decoder, Item, Loss, Spans, State};
 use std::alloc::{AllocError, Global};
 use std::test::Fail;
-
-/// A recording, and rules by which its lock is lost so.
-fn sample_of(alloc: Global, recording: Recording, loss: Loss) -> Result<Sample, SyncError> {
-    let numbers = RuleNumbers {
-        burst: 2,
-        reach: 3,
-        loss,
-    };
-    let rules = Rules::of(alloc, numbers)?;
-    Ok(Sample { recording, rules })
-}
 
 /// The guess of the second of two pieces, cut there.
 fn guess_from(alloc: Global, sample: &Sample, cut: u64) -> Result<PieceRun, PieceError>
@@ -63,29 +52,48 @@ fn met_at(alloc: Global, sample: &Sample, cut: u64) -> Result<Option<u64>, Piece
     met_from(alloc, sample, &guess, run_over(sample, 0, cut).end_state())
 }
 
-/// Whether the guess behind a cut acquires at block 1 of the second of two zero groups, and is met behind that group.
-fn is_met_behind_its_group(alloc: Global, loss: Loss, cut: u64) -> Result<bool, Fail> {
-    let sample = sample_of(alloc, zero_groups(alloc, 208)?, loss)?;
-    let acquired = Item::Acquired {
-        place: 129,
-        number: 1,
-    };
-    let first = run_over(&sample, cut, 208).next();
-    Ok(first == Some(acquired) && met_at(alloc, &sample, cut)? == Some(208))
+/// Whether the run from a cut on first acquires at block 1 of the second of two zero groups.
+fn acquires_the_second(sample: &Sample, cut: u64) -> bool {
+    let first = run_over(sample, cut, 208).next();
+    matches!(
+        first,
+        Some(Item::Acquired {
+            place: 129,
+            number: 1
+        })
+    )
 }
 
-// Between the groups, in the middle of block 1, and before its last bit.
+/// Whether the guess behind a cut acquires there, and is met behind that group.
+fn is_met_behind_its_group(alloc: Global, sample: &Sample, cut: u64) -> Result<bool, PieceError> {
+    Ok(acquires_the_second(sample, cut) && met_at(alloc, sample, cut)? == Some(208))
+}
+
+/// Whether that of two zero groups is, whose lock is lost so.
+fn is_met_in_two_groups(alloc: Global, loss: Loss, cut: u64) -> Result<bool, PieceError> {
+    let sample = Sample::of_groups(alloc, 2, loss)?;
+    is_met_behind_its_group(alloc, &sample, cut)
+}
+
+/// Rules of loss, and cuts between the groups, in the middle of block 1, and before its last bit.
+const CUT_OFF: [(Loss, u64); 6] = [
+    (Loss::InARow(10), 104),
+    (Loss::InARow(10), 116),
+    (Loss::InARow(10), 129),
+    (Loss::Share { bad: 2, of: 4 }, 104),
+    (Loss::Share { bad: 2, of: 4 }, 116),
+    (Loss::Share { bad: 2, of: 4 }, 129),
+];
+
 #[test]
 fn a_guess_cut_off_in_a_group_acquires_its_next_block_and_is_met_behind_the_group(
     rt: HostRuntime,
 ) -> Result<(), Fail> {
-    for &loss in &[Loss::InARow(10), Loss::Share { bad: 2, of: 4 }] {
-        for &cut in &[104u64, 116, 129] {
-            assert!(rt;
-                is_met_behind_its_group(rt.alloc(), loss, cut)?,
-                "a cut at {cut}"
-            );
-        }
+    for &(loss, cut) in &CUT_OFF {
+        assert!(rt;
+            is_met_in_two_groups(rt.alloc(), loss, cut)?,
+            "a cut at {cut}"
+        );
     }
     Ok(())
 }
@@ -106,17 +114,14 @@ fn station_bytes(alloc: Global) -> Result<Vec<u8>, AllocError> {
             | (second as u128) << 52
             | (third as u128) << 26
             | fourth as u128;
-        for k in 0..13u32 {
-            bytes.push((packed >> (96 - 8 * k) & 255) as u8)?;
-        }
+        bytes.extend_from_slice(&packed.to_be_bytes()[3..])?;
     }
     Ok(bytes)
 }
 
 /// Those groups, read by the default rules.
-fn station(alloc: Global) -> Result<Sample, Fail> {
-    let recording = recording_of(station_bytes(alloc)?, 312)?;
-    Ok(sample_of(alloc, recording, Loss::InARow(10))?)
+fn station(alloc: Global) -> Result<Sample, AllocError> {
+    Sample::of(station_bytes(alloc)?, 312, 2, Loss::InARow(10))
 }
 
 /// Where the seam at a cut has to meet: while the decoder searches, at the cut itself; else behind the group of the first
@@ -131,14 +136,27 @@ fn met_by_rule(cut: u64) -> u64
     (acquired / 104 + 1) * 104
 }
 
+/// The first cut below 208 whose seam meets elsewhere, or 208.
+fn first_unruly_cut(alloc: Global, sample: &Sample) -> Result<u64, PieceError> {
+    for cut in 1..208u64 {
+        if met_at(alloc, sample, cut)? != Some(met_by_rule(cut)) {
+            return Ok(cut);
+        }
+    }
+    Ok(208)
+}
+
+/// That of the station.
+fn first_unruly_cut_of_station(alloc: Global) -> Result<u64, PieceError> {
+    let sample = station(alloc)?;
+    first_unruly_cut(alloc, &sample)
+}
+
 #[test]
 fn a_station_cut_at_any_place_of_its_groups_is_met_at_the_cut_or_behind_the_group(
     rt: HostRuntime,
 ) -> Result<(), Fail> {
-    let sample = station(rt.alloc())?;
-    for cut in 1..208u64 {
-        let met = met_at(rt.alloc(), &sample, cut)?;
-        assert!(rt; met == Some(met_by_rule(cut)), "a cut at {cut}");
-    }
+    let cut = first_unruly_cut_of_station(rt.alloc())?;
+    assert!(rt; cut == 208, "a cut at {cut}");
     Ok(())
 }

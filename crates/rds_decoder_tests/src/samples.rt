@@ -1,13 +1,13 @@
-//! What the tests decode: recordings, the rules that they are read by, and cuttings of them.
+//! What the tests decode: recordings, the rules that they are read by, and cuttings of them. Recordings and rules that
+//! cannot be made are refused as for want of memory.
 ghost use Rattle.std.specs.Prelude.{◌≡◌, IfOk};
 ghost use Rattle.rds_stream.specs.Recording.{length_of};
 ghost use Rattle.rds_pieces.specs.Cutting.{IsCutting};
 
 use rds_pieces::{Cutting, PieceError};
-use rds_stream::{Recording, StreamError};
+use rds_stream::Recording;
 use rds_sync::{Loss, RuleNumbers, Rules};
 use std::alloc::{AllocError, Global};
-use std::test::Fail;
 
 /// The group of four zero words, 104 bits.
 const ZERO_GROUP: [u8; 13] = [
@@ -23,11 +23,6 @@ pub fn zero_bytes(alloc: Global, bits: u64) -> Result<Vec<u8>, AllocError> {
     Ok(bytes)
 }
 
-/// The first `bits` bits of zero groups sent one after the other.
-pub fn zero_groups(alloc: Global, bits: u64) -> Result<Recording, StreamError> {
-    recording_of(zero_bytes(alloc, bits)?, bits)
-}
-
 /// A recording, and the rules that it is read by.
 #[derive(Drop)]
 pub struct Sample {
@@ -36,25 +31,34 @@ pub struct Sample {
 }
 
 impl Sample {
-    /// So many zero groups, one after the other.
-    pub fn of_groups(alloc: Global, groups: u8) -> Result<Sample, Fail> {
-        Ok(Sample {
-            recording: zero_groups(alloc, 104 * u64::from(groups))?,
-            rules: Rules::new(alloc, 2, 3, 10)?,
-        })
-    }
-
-    /// Zero groups of which about one byte in `rarity` is damaged, as the seed has it, and whose lock is lost so.
-    pub fn noisy(alloc: Global, seed: u64, rarity: u64, loss: Loss) -> Result<Sample, Fail> {
+    /// The first bits of these bytes, read with a reach of 3, by this longest burst, and by a lock that is lost so.
+    pub fn of(bytes: Vec<u8>, bits: u64, burst: u32, loss: Loss) -> Result<Sample, AllocError> {
         let numbers = RuleNumbers {
-            burst: 2,
+            burst,
             reach: 3,
             loss,
         };
-        Ok(Sample {
-            recording: noisy_groups(alloc, seed, rarity)?,
-            rules: Rules::of(alloc, numbers)?,
-        })
+        let alloc = *bytes.allocator();
+        match (
+            Recording::from_bytes(bytes, bits),
+            Rules::of(alloc, numbers),
+        ) {
+            (Ok(recording), Ok(rules)) => Ok(Sample { recording, rules }),
+            _ => Err(AllocError),
+        }
+    }
+
+    /// So many zero groups, one after the other, whose lock is lost so.
+    pub fn of_groups(alloc: Global, groups: u8, loss: Loss) -> Result<Sample, AllocError> {
+        let bits = 104 * u64::from(groups);
+        Sample::of(zero_bytes(alloc, bits)?, bits, 2, loss)
+    }
+
+    /// Zero groups of which about one byte in `rarity` is damaged, as the seed has it, and whose lock is lost so.
+    pub fn noisy(alloc: Global, seed: u64, rarity: u64, loss: Loss) -> Result<Sample, AllocError> {
+        let mut bytes = zero_bytes(alloc, 8_000)?;
+        damage_some(&mut bytes, seed, rarity);
+        Sample::of(bytes, 8_000, 2, loss)
     }
 
     /// Its recording, cut at these places inside it.
@@ -65,39 +69,19 @@ impl Sample {
     }
 }
 
+/// The places 0 and `len`, and these between them.
+fn places_of(alloc: Global, len: u64, inner: &[u64]) -> Result<Vec<u64>, AllocError> {
+    [&[0], inner, &[len]].concat(alloc)
+}
+
 fn cutting_at(alloc: Global, len: u64, inner: &[u64]) -> Result<Cutting, PieceError>
     ensures { IfOk result (λ c. IsCutting len c) }
 {
-    let mut places = Vec::new(alloc);
-    places.push(0)?;
-    places.extend_from_slice(inner)?;
-    places.push(len)?;
+    let places = places_of(alloc, len, inner)?;
     match Cutting::new(places, len) {
         Ok(cutting) => Ok(cutting),
         Err((error, _places)) => Err(error),
     }
-}
-
-pub fn recording_of(bytes: Vec<u8>, bits: u64) -> Result<Recording, StreamError> {
-    match Recording::from_bytes(bytes, bits) {
-        Ok(recording) => Ok(recording),
-        Err((error, _bytes)) => Err(error),
-    }
-}
-
-pub fn gapped_recording(
-    bytes: Vec<u8>,
-    bits: u64,
-    gaps: Vec<(u64, u64)>,
-) -> Result<Recording, StreamError> {
-    Recording::with_gaps(bytes, bits, gaps).map_err(|refused| refused.0)
-}
-
-/// Zero groups of which about one byte in `rarity` is damaged, as the seed has it.
-fn noisy_groups(alloc: Global, seed: u64, rarity: u64) -> Result<Recording, Fail> {
-    let mut bytes = zero_bytes(alloc, 8_000)?;
-    damage_some(&mut bytes, seed, rarity);
-    Ok(recording_of(bytes, 8_000)?)
 }
 
 /// Turns bits of about one byte in `rarity`.

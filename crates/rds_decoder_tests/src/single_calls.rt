@@ -1,7 +1,9 @@
 //! Calls that no program and no other test makes.
-use crate::samples::zero_groups;
+ghost use Rattle.std.specs.Prelude.{◌≡◌};
+
+use crate::samples::Sample;
 use rds_stream::{FIRST_WINDOW, Recording, planes};
-use rds_sync::{Item, Rules, SyncError, decode_plain};
+use rds_sync::{Item, Items, Loss, SyncError, decode_plain};
 use std::alloc::Global;
 use std::test::Fail;
 
@@ -10,21 +12,33 @@ fn has_lowest_bits(twice: &Recording) -> bool {
     twice.len() == 208 && planes(twice, FIRST_WINDOW)[0] == 0x7043_C80F_7061_1758
 }
 
-/// Whether a recording's report has its last item, a group at place 104, as its third.
-fn ends_at_the_third(alloc: Global, recording: &Recording) -> Result<bool, SyncError> {
-    let rules = Rules::new(alloc, 2, 3, 10)?;
-    let report = decode_plain(alloc, recording, &rules)?;
-    let Some(Item::Group(last)) = report.items.get(recording, &rules, 2) else {
-        return Ok(false);
-    };
-    let none = report.items.get(recording, &rules, 3);
-    Ok(last.place == 104 && none.is_none() && !report.items.is_empty())
+/// Whether a sample's items have their last, a group at place 104, as their third.
+fn end_at_the_third(sample: &Sample, items: &Items) -> bool
+    requires source { items.now.source ≡ sample.now.recording }
+    requires rules { items.now.rules ≡ sample.now.rules }
+{
+    match items.get(&sample.recording, &sample.rules, 2) {
+        Some(Item::Group(last)) if last.place == 104 => {
+            items.get(&sample.recording, &sample.rules, 3).is_none() && !items.is_empty()
+        }
+        _ => false,
+    }
+}
+
+/// Whether those of a sample's report do, and its planes have those bits.
+fn has_bits_and_items(alloc: Global, sample: &Sample) -> Result<bool, SyncError> {
+    let report = decode_plain(alloc, &sample.recording, &sample.rules)?;
+    Ok(has_lowest_bits(&sample.recording) && end_at_the_third(sample, &report.items))
+}
+
+/// Whether that holds of two zero groups.
+fn two_groups_have(alloc: Global) -> Result<bool, SyncError> {
+    let twice = Sample::of_groups(alloc, 2, Loss::InARow(10))?;
+    has_bits_and_items(alloc, &twice)
 }
 
 #[test]
 fn planes_and_items_by_number_of_two_zero_groups(rt: HostRuntime) -> Result<(), Fail> {
-    let twice = zero_groups(rt.alloc(), 208)?;
-    assert!(rt; has_lowest_bits(&twice));
-    assert!(rt; ends_at_the_third(rt.alloc(), &twice)?);
+    assert!(rt; two_groups_have(rt.alloc())?);
     Ok(())
 }

@@ -1,6 +1,7 @@
 //! Inputs of more than a million bytes.
 use crate::devices::gives_for;
 use crate::jobs::scan_of_digits;
+use rds_crew::OpenGate;
 use std::alloc::{AllocError, Global};
 use std::test::Fail;
 
@@ -23,6 +24,6 @@ fn a_million_digits_are_scanned(rt: HostRuntime) -> Result<(), Fail> {
     let digits = digits(rt.alloc(), 1_048_576)?;
     let rows = b"4194329,A\n4194355,B\n4194381,C\n4194400,B\n4194407,D\n";
     let job = scan_of_digits(rt.alloc());
-    assert!(rt; gives_for(&rt, rt.alloc(), &job, digits.as_slice(), Ok(rows)));
+    assert!(rt; gives_for(&rt, rt.alloc(), &job, digits.as_slice(), &OpenGate, rows));
     Ok(())
 }

@@ -2,7 +2,10 @@
 //! withholds.
 ghost use Rattle.std.specs.Prelude.{◌^◌, ◌<◌, ◌≡◌, Some};
 
-use rds_tool::{Failed, FromRead, Job, Sink, Source, ToWrite, ToolError, transcribe};
+use rds_crew::Gate;
+use rds_tool::{
+    Failed, FromRead, Job, Sink, Source, ToWrite, ToolError, transcribe, transcribe_gated,
+};
 use std::alloc::{AllocError, Global};
 use std::io;
 use std::io::Write;
@@ -137,32 +140,49 @@ impl Write for Withholding {
     }
 }
 
-/// Whether a job over this reader writes this text, or is refused so with nothing written.
-pub fn gives<R: Threads + Wait + Sync, S: Source>(
+/// Whether a job over this reader, at this gate, writes this text, or is refused so with nothing written.
+pub fn gives<R: Threads + Wait + Sync, S: Source, G: Gate + Sync>(
     rt: &R,
     alloc: Global,
     job: &Job,
     reader: &mut S,
+    gate: &G,
     wanted: Result<&[u8], ToolError>,
 ) -> bool
     requires { S.failed reader.old < 2 ^ 63 }
 {
     let mut writer = ToWrite::new(Vec::new(alloc));
-    let answer = transcribe(rt, alloc, reader, &mut writer, job);
+    let answer = transcribe_gated(rt, alloc, reader, &mut writer, job, gate);
     let failures = writer.failures();
     is_answer(answer, writer.into_inner().as_slice(), wanted) && failures == 0
 }
 
-/// Whether a job over an input in memory writes this text, or is refused so with nothing written.
-pub fn gives_for<R: Threads + Wait + Sync>(
+/// Whether a job over an input in memory, at this gate, writes this text.
+pub fn gives_for<R: Threads + Wait + Sync, G: Gate + Sync>(
     rt: &R,
     alloc: Global,
     job: &Job,
     input: &[u8],
-    wanted: Result<&[u8], ToolError>,
+    gate: &G,
+    wanted: &[u8],
 ) -> bool {
     let mut reader = FromRead::new(input);
-    gives(rt, alloc, job, &mut reader, wanted)
+    gives(rt, alloc, job, &mut reader, gate, Ok(wanted))
+}
+
+/// What a job over an input in memory answers to this writer of std, how often that failed, and the writer.
+pub fn written_to<R: Threads + Wait + Sync, W: Write>(
+    rt: &R,
+    alloc: Global,
+    job: &Job,
+    input: &[u8],
+    under: W,
+) -> (Result<(), ToolError>, u64, W) {
+    let mut reader = FromRead::new(input);
+    let mut writer = ToWrite::new(under);
+    let answer = transcribe(rt, alloc, &mut reader, &mut writer, job);
+    let failures = writer.failures();
+    (answer, failures, writer.into_inner())
 }
 
 /// Whether this answer with this text is what was wanted.

@@ -1,8 +1,9 @@
 //! What readers and writers of std are handed. No contract says it: one that gives or takes a byte a call has all
 //! clauses too, but would end at 16,777,216 bytes, and go through a call of the system for each.
-use crate::devices::{SlowReader, gives, is_answer};
+use crate::devices::{SlowReader, gives, written_to};
 use crate::jobs::{scan_of_bytes, scan_of_digits, scan_of_no_bits};
-use rds_tool::{FromRead, ToWrite, ToolError, transcribe};
+use rds_crew::OpenGate;
+use rds_tool::{FromRead, ToolError};
 use std::alloc::{AllocError, Global};
 use std::io;
 use std::io::{Read, Write};
@@ -128,9 +129,14 @@ fn a_reader_of_std_is_asked_for_65536_bytes_at_once(rt: HostRuntime) -> Result<(
 /// Whether all of these bytes are read, and the whole text is written.
 fn is_scanned<R: Sync + Threads + Wait>(rt: &R, alloc: Global, noted: Noted<'_>) -> bool {
     let mut reader = FromRead::new(noted);
-    let mut writer = ToWrite::new(Vec::new(alloc));
-    let answer = transcribe(rt, alloc, &mut reader, &mut writer, &scan_of_bytes(alloc));
-    is_answer(answer, writer.into_inner().as_slice(), Ok(ROWS))
+    gives(
+        rt,
+        alloc,
+        &scan_of_bytes(alloc),
+        &mut reader,
+        &OpenGate,
+        Ok(ROWS),
+    )
 }
 
 /// Whether a reader that gives so many of these bytes a read is answered so.
@@ -142,7 +148,14 @@ fn is_read_by<R: Sync + Threads + Wait>(
     wanted: Result<&[u8], ToolError>,
 ) -> bool {
     let mut reader = SlowReader::new(bytes, step, 0);
-    gives(rt, alloc, &scan_of_bytes(alloc), &mut reader, wanted)
+    gives(
+        rt,
+        alloc,
+        &scan_of_bytes(alloc),
+        &mut reader,
+        &OpenGate,
+        wanted,
+    )
 }
 
 #[test]
@@ -168,23 +181,15 @@ fn a_writer_of_std_is_handed_all_that_is_left(rt: HostRuntime) {
 
 /// What a writer that takes so many bytes a call notes of the scan of a zero group.
 fn written<R: Sync + Threads + Wait>(rt: &R, alloc: Global, step: usize) -> Notes {
-    let mut reader = FromRead::new(b"00003f000019800005a00001b4".as_slice());
-    let mut writer = ToWrite::new(Notes::new(alloc, step, false));
-    let _answer = transcribe(rt, alloc, &mut reader, &mut writer, &scan_of_digits(alloc));
-    writer.into_inner()
+    let notes = Notes::new(alloc, step, false);
+    let digits = b"00003f000019800005a00001b4";
+    written_to(rt, alloc, &scan_of_digits(alloc), digits, notes).2
 }
 
 #[test]
 fn a_failing_flush_is_a_refusal_of_an_empty_text_too(rt: HostRuntime) {
-    let mut reader = FromRead::new(b"".as_slice());
-    let mut writer = ToWrite::new(Notes::new(rt.alloc(), 1, true));
-    let answer = transcribe(
-        &rt,
-        rt.alloc(),
-        &mut reader,
-        &mut writer,
-        &scan_of_no_bits(rt.alloc()),
-    );
-    let under = writer.into_inner();
+    let notes = Notes::new(rt.alloc(), 1, true);
+    let job = scan_of_no_bits(rt.alloc());
+    let (answer, _failures, under) = written_to(&rt, rt.alloc(), &job, b"", notes);
     assert!(rt; answer == Err(ToolError::Write) && under.writes == 0 && under.flushes == 1);
 }

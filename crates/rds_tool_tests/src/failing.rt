@@ -1,7 +1,10 @@
 //! Devices that withhold what they are given, or have no end.
-use crate::devices::{SlowReader, Withholding, gives};
+ghost use Rattle.std.specs.Prelude.{◌≤◌, length};
+
+use crate::devices::{SlowReader, Withholding, gives, written_to};
 use crate::jobs::{scan_of_digits, scan_of_no_bits};
-use rds_tool::{FromRead, Sink, ToWrite, ToolError, transcribe};
+use rds_crew::OpenGate;
+use rds_tool::ToolError;
 use std::alloc::Global;
 use std::sync::Wait;
 use std::test::Fail;
@@ -26,11 +29,14 @@ fn hands_on<R: Threads + Wait + Sync>(
     wanted: Result<(), ToolError>,
     handed_on: usize,
 ) -> bool {
-    let mut reader = FromRead::new(ZERO_GROUP);
-    let mut writer = ToWrite::new(Withholding::new(alloc, flush_fails));
-    let answer = transcribe(rt, alloc, &mut reader, &mut writer, &scan_of_digits(alloc));
-    let failures = writer.failures();
-    let under = writer.into_inner();
+    let withholding = Withholding::new(alloc, flush_fails);
+    let (answer, failures, under) = written_to(
+        rt,
+        alloc,
+        &scan_of_digits(alloc),
+        ZERO_GROUP,
+        withholding,
+    );
     answer == wanted
         && failures == flush_fails as u64
         && under.held.as_slice() == ROWS
@@ -41,20 +47,24 @@ fn hands_on<R: Threads + Wait + Sync>(
 #[test]
 fn a_reader_without_an_end_is_left(rt: HostRuntime) -> Result<(), Fail> {
     let zeros = vec![in rt.alloc(); 0u8; 16_777_216]?;
-    let bytes = zeros.as_slice();
-    assert!(rt; is_read(&rt, rt.alloc(), &bytes[1..], 1, Ok(b""), 16_777_216));
-    assert!(rt;
-        is_read(
-            &rt,
-            rt.alloc(),
+    assert!(rt; is_left_in_time(&rt, rt.alloc(), zeros.as_slice()));
+    Ok(())
+}
+
+/// Whether that holds of a reader of these 16,777,216 bytes.
+fn is_left_in_time<R: Threads + Wait + Sync>(rt: &R, alloc: Global, bytes: &[u8]) -> bool
+    requires { 1 ≤ length bytes.now }
+{
+    is_read(rt, alloc, &bytes[1..], 1, Ok(b""), 16_777_216)
+        && is_read(
+            rt,
+            alloc,
             bytes,
             1,
             Err(ToolError::TooManyTurns),
-            16_777_216
+            16_777_216,
         )
-    );
-    assert!(rt; is_read(&rt, rt.alloc(), bytes, usize::MAX, Ok(b""), 257));
-    Ok(())
+        && is_read(rt, alloc, bytes, usize::MAX, Ok(b""), 257)
 }
 
 /// Whether a reader that gives so many of these bytes a read is answered so, after so many reads of 64 KiB.
@@ -67,7 +77,7 @@ fn is_read<R: Threads + Wait + Sync>(
     reads: u64,
 ) -> bool {
     let mut reader = SlowReader::new(bytes, step, 0);
-    gives(rt, alloc, &scan_of_no_bits(alloc), &mut reader, wanted)
-        && reader.reads == reads
-        && reader.least_buffer == 65_536
+    let job = scan_of_no_bits(alloc);
+    let is_given = gives(rt, alloc, &job, &mut reader, &OpenGate, wanted);
+    is_given && reader.reads == reads && reader.least_buffer == 65_536
 }

@@ -1,7 +1,9 @@
 //! Texts longer than a reader or a writer takes at once, whose rows workers make part by part.
+ghost use Rattle.std.specs.Prelude.{◌<◌, ◌^◌};
+
 use crate::devices::CountingWriter;
 use crate::jobs::ungapped;
-use rds_tool::{Cuts, FromRead, Job, Loss, Settings, ToolError, transcribe};
+use rds_tool::{Cuts, FromRead, Job, Loss, Settings, transcribe};
 use std::alloc::{AllocError, Global};
 use std::sync::Wait;
 use std::test::Fail;
@@ -28,41 +30,45 @@ fn zero_groups(alloc: Global) -> Result<Vec<u8>, AllocError> {
     Ok(bytes)
 }
 
-/// Their list: block 2 of the first acquires, and each group is whole from then on.
-fn list_rows(alloc: Global) -> Result<String, AllocError> {
-    let mut rows = String::from_str(
-        alloc,
-        "acquired,51,2,-,-,-,-,-\ngroup,26,0,A,none,B:0000,C:0000,D:0000\n",
-    )?;
+/// Puts their list behind a text: block 2 of the first acquires, and each group is whole from then on.
+fn push_list(text: &mut String) -> Result<(), AllocError> {
+    text.push_str("acquired,51,2,-,-,-,-,-\ngroup,26,0,A,none,B:0000,C:0000,D:0000\n")?;
     for group in 1..GROUPS {
         let place = 104 * group;
-        writeln!(rows, "group,{place},0,A,A:0000,B:0000,C:0000,D:0000")?;
+        writeln!(text, "group,{place},0,A,A:0000,B:0000,C:0000,D:0000")?;
     }
-    rows.push_str(TOTALS)?;
-    Ok(rows)
+    Ok(text.push_str(TOTALS)?)
 }
 
-/// Their scan: the four blocks, a window within the last two, and between two groups one more.
-fn scan_rows(alloc: Global) -> Result<String, AllocError> {
-    let mut rows = String::from_str(alloc, "25,A\n51,B\n77,C\n96,B\n103,D\n")?;
+/// Puts their scan behind a text: the four blocks, a window within the last two, and between two groups one more.
+fn push_scan(text: &mut String) -> Result<(), AllocError> {
+    text.push_str("25,A\n51,B\n77,C\n96,B\n103,D\n")?;
     for group in 1..GROUPS {
-        for (behind, offset) in [
-            (19u8, "B"),
-            (25, "A"),
-            (51, "B"),
-            (77, "C"),
-            (96, "B"),
-            (103, "D"),
-        ] {
-            let place = 104 * group + u64::from(behind);
-            writeln!(rows, "{place},{offset}")?;
-        }
+        push_windows(text, 104 * group)?;
     }
-    Ok(rows)
+    Ok(())
+}
+
+/// Puts the windows of a group that begins there behind a text, and the one before it.
+fn push_windows(text: &mut String, from: u64) -> Result<(), AllocError>
+    requires { from < 2 ^ 32 }
+{
+    for (behind, offset) in [
+        (19u8, "B"),
+        (25, "A"),
+        (51, "B"),
+        (77, "C"),
+        (96, "B"),
+        (103, "D"),
+    ] {
+        let place = from + u64::from(behind);
+        writeln!(text, "{place},{offset}")?;
+    }
+    Ok(())
 }
 
 /// A job by one worker, or by several, which make its rows in parts.
-#[derive(Clone, Copy, Debug)]
+#[derive(Clone, Copy)]
 enum Long {
     List(u32),
     Scan(u32),
@@ -89,40 +95,46 @@ impl Long {
         }
     }
 
-    fn text(self, alloc: Global) -> Result<String, AllocError> {
+    fn push_text(self, text: &mut String) -> Result<(), AllocError> {
         match self {
-            Long::List(_) => list_rows(alloc),
-            Long::Scan(_) => scan_rows(alloc),
+            Long::List(_) => push_list(text),
+            Long::Scan(_) => push_scan(text),
         }
     }
 
-    /// What the job answers, and its writer.
-    fn written<R: Threads + Wait + Sync>(
+    /// Whether the job writes this text of these bytes, 64 KiB or more at a time but for the last.
+    fn writes<R: Threads + Wait + Sync>(
         self,
         rt: &R,
         alloc: Global,
         bytes: &[u8],
-    ) -> (Result<(), ToolError>, CountingWriter) {
+        text: &[u8],
+    ) -> bool {
         let mut reader = FromRead::new(bytes);
         let mut writer = CountingWriter::new(alloc);
         let answer = transcribe(rt, alloc, &mut reader, &mut writer, &self.job(alloc));
-        (answer, writer)
+        let most = text.len() as u64 / 65_536 + 1;
+        answer.is_ok() && writer.held.as_slice() == text && writer.writes <= most
+    }
+
+    /// Whether it writes its text of the groups so.
+    fn writes_its_text<R: Threads + Wait + Sync>(
+        self,
+        rt: &R,
+        alloc: Global,
+    ) -> Result<bool, AllocError> {
+        let mut text = String::new(alloc);
+        self.push_text(&mut text)?;
+        let bytes = zero_groups(alloc)?;
+        Ok(self.writes(rt, alloc, bytes.as_slice(), text.as_bytes()))
     }
 }
 
 // A write has 64 KiB or more, but for the last. One that hands on 512 bytes a call, or a row, has all clauses too.
 #[test]
 fn a_long_text_goes_in_large_writes(rt: HostRuntime) -> Result<(), Fail> {
-    let bytes = zero_groups(rt.alloc())?;
-    for long in JOBS.iter() {
-        let text = long.text(rt.alloc())?;
-        let (answer, writer) = long.written(&rt, rt.alloc(), bytes.as_slice());
-        let most = text.len() as u64 / 65_536 + 1;
-        assert!(rt;
-            answer.is_ok() && writer.held.as_slice() == text.as_bytes() && writer.writes <= most,
-            "{long:?}: {} writes",
-            writer.writes
-        );
+    for (k, long) in JOBS.iter().enumerate() {
+        assert!(rt; long.writes_its_text(&rt, rt.alloc())?, "job {k}");
     }
     Ok(())
 }

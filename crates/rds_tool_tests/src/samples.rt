@@ -1,6 +1,7 @@
 //! Recordings with the texts of their lists and totals, and whether a crew gives these.
 use crate::devices::gives_for;
 use crate::jobs::ungapped;
+use rds_crew::{Gate, OpenGate};
 use rds_tool::Loss::InARow;
 use rds_tool::{Cuts, Job, Loss, Settings};
 use std::alloc::{AllocError, Global};
@@ -8,18 +9,17 @@ use std::sync::Wait;
 use std::thread::Threads;
 
 /// Burst, reach and the rule of loss.
-pub type Rules = (u32, u32, Loss);
+type Rules = (u32, u32, Loss);
 
 /// A recording, and what a list and totals of it write, by whatever crew.
-#[derive(Clone, Copy)]
 pub struct Sample {
     /// The recording, in hexadecimal digits.
-    pub digits: &'static str,
-    pub rules: Rules,
+    digits: &'static str,
+    rules: Rules,
     /// The rows of its list.
-    pub list: &'static str,
+    list: &'static str,
     /// The rows of its totals.
-    pub totals: &'static str,
+    totals: &'static str,
 }
 
 /// The sample of some digits by some rules: the rows of its items, and its totals from `valid` to `losses`.
@@ -42,7 +42,7 @@ macro_rules! sample {
 }
 
 /// The group of four zero words, twice: 208 bits.
-pub const TWO_GROUPS: Sample = sample!(
+pub static TWO_GROUPS: Sample = sample!(
     "00003f000019800005a00001b4 00003f000019800005a00001b4",
     (2, 3, InARow(10)),
     "acquired,51,2,-,-,-,-,-\n\
@@ -52,7 +52,7 @@ pub const TWO_GROUPS: Sample = sample!(
 );
 
 /// Two groups, block 1 of the second damaged: by a loss of 1 the lock is lost there, and acquired again.
-pub const A_LOSS: Sample = sample!(
+pub static A_LOSS: Sample = sample!(
     "00003f000019800005a00001b4 000037400019800005a00001b4",
     (2, 3, InARow(1)),
     "acquired,51,2,-,-,-,-,-\n\
@@ -73,75 +73,82 @@ impl Sample {
         workers: u32,
         pieces: Pieces<'_>,
     ) -> bool {
-        let crew = Crew {
-            rules: self.rules,
-            workers,
-            pieces,
-        };
-        let digits = self.digits.as_bytes();
-        job_gives(rt, alloc, crew.list(alloc), digits, self.list.as_bytes())
-            && job_gives(
+        self.is_written(rt, alloc, Rows::OfList, workers, pieces, &OpenGate)
+            && self.is_written(rt, alloc, Rows::OfTotals, workers, pieces, &OpenGate)
+    }
+
+    /// Whether there is memory for the job, and it writes its text, at this gate.
+    pub fn is_written<R: Threads + Wait + Sync, G: Gate + Sync>(
+        &self,
+        rt: &R,
+        alloc: Global,
+        rows: Rows,
+        workers: u32,
+        pieces: Pieces<'_>,
+        gate: &G,
+    ) -> bool {
+        match self.job(alloc, rows, workers, pieces) {
+            Ok(job) => gives_for(
                 rt,
                 alloc,
-                crew.totals(alloc),
-                digits,
-                self.totals.as_bytes(),
-            )
+                &job,
+                self.digits.as_bytes(),
+                gate,
+                self.text(rows),
+            ),
+            Err(AllocError) => false,
+        }
+    }
+
+    fn text(&self, rows: Rows) -> &'static [u8] {
+        match rows {
+            Rows::OfList => self.list.as_bytes(),
+            Rows::OfTotals => self.totals.as_bytes(),
+        }
+    }
+
+    fn job(
+        &self,
+        alloc: Global,
+        rows: Rows,
+        workers: u32,
+        pieces: Pieces<'_>,
+    ) -> Result<Job, AllocError> {
+        let (burst, reach, loss) = self.rules;
+        let settings = Settings {
+            burst,
+            reach,
+            loss,
+            workers,
+            cuts: pieces.cuts(alloc)?,
+        };
+        let input = ungapped(alloc, true, None);
+        Ok(match rows {
+            Rows::OfList => Job::List(input, settings),
+            Rows::OfTotals => Job::Totals(input, settings),
+        })
     }
 }
 
+/// What is written of a sample.
+#[derive(Clone, Copy)]
+pub enum Rows {
+    OfList,
+    OfTotals,
+}
+
 /// Where a recording is cut: `Cuts` that can be copied.
-#[derive(Clone, Copy, Debug)]
+#[derive(Clone, Copy)]
 pub enum Pieces<'a> {
     Even(u64),
     At(&'a [u64]),
 }
 
-/// How hexadecimal input is decoded.
-#[derive(Clone, Copy)]
-pub struct Crew<'a> {
-    pub rules: Rules,
-    pub workers: u32,
-    pub pieces: Pieces<'a>,
-}
-
-impl Crew<'_> {
-    /// The job to list.
-    pub fn list(&self, alloc: Global) -> Result<Job, AllocError> {
-        Ok(Job::List(ungapped(alloc, true, None), self.settings(alloc)?))
-    }
-
-    /// The job to write the totals.
-    fn totals(&self, alloc: Global) -> Result<Job, AllocError> {
-        Ok(Job::Totals(ungapped(alloc, true, None), self.settings(alloc)?))
-    }
-
-    fn settings(&self, alloc: Global) -> Result<Settings, AllocError> {
-        let (burst, reach, loss) = self.rules;
-        let cuts = match self.pieces {
-            Pieces::Even(pieces) => Cuts::Even(pieces),
-            Pieces::At(places) => Cuts::At(places.to_vec(alloc)?),
-        };
-        Ok(Settings {
-            burst,
-            reach,
-            loss,
-            workers: self.workers,
-            cuts,
-        })
-    }
-}
-
-/// Whether there was memory for the job, and the digits give this.
-fn job_gives<R: Threads + Wait + Sync>(
-    rt: &R,
-    alloc: Global,
-    job: Result<Job, AllocError>,
-    digits: &[u8],
-    wanted: &[u8],
-) -> bool {
-    match job {
-        Ok(job) => gives_for(rt, alloc, &job, digits, Ok(wanted)),
-        Err(AllocError) => false,
+impl Pieces<'_> {
+    fn cuts(self, alloc: Global) -> Result<Cuts, AllocError> {
+        match self {
+            Pieces::Even(pieces) => Ok(Cuts::Even(pieces)),
+            Pieces::At(places) => Ok(Cuts::At(places.to_vec(alloc)?)),
+        }
     }
 }

@@ -1,11 +1,9 @@
 //! How many workers there are at once: as many as are asked for and have pieces. No contract says that any two run at
 //! the same time.
-use crate::devices::is_answer;
 use crate::samples::Pieces::{At, Even};
-use crate::samples::{A_LOSS, Crew, Pieces, TWO_GROUPS};
+use crate::samples::{A_LOSS, Pieces, Rows, TWO_GROUPS};
 use rds_crew::Gate;
 use rds_pieces::PieceRun;
-use rds_tool::{FromRead, ToWrite, transcribe_gated};
 use std::alloc::Global;
 use std::sync::Wait;
 use std::sync::atomic::{AtomicU64, Ordering};
@@ -54,33 +52,9 @@ fn work_at_once<R: Sync + Threads + Wait>(
     pieces: Pieces<'_>,
     at_once: u64,
 ) -> bool {
-    let crew = Crew {
-        rules: TWO_GROUPS.rules,
-        workers,
-        pieces,
-    };
     let barrier = Barrier::new(at_once);
-    lists_at(rt, alloc, &crew, &barrier) && barrier.misses.load(Ordering::SeqCst) == 0
-}
-
-/// Whether the crew lists the two groups at this gate.
-fn lists_at<R: Sync + Threads + Wait, G: Gate + Sync>(
-    rt: &R,
-    alloc: Global,
-    crew: &Crew<'_>,
-    gate: &G,
-) -> bool {
-    let Ok(job) = crew.list(alloc) else {
-        return false;
-    };
-    let mut reader = FromRead::new(TWO_GROUPS.digits.as_bytes());
-    let mut writer = ToWrite::new(Vec::new(alloc));
-    let answer = transcribe_gated(rt, alloc, &mut reader, &mut writer, &job, gate);
-    is_answer(
-        answer,
-        writer.into_inner().as_slice(),
-        Ok(TWO_GROUPS.list.as_bytes()),
-    )
+    TWO_GROUPS.is_written(rt, alloc, Rows::OfList, workers, pieces, &barrier)
+        && barrier.misses.load(Ordering::SeqCst) == 0
 }
 
 /// Workers, pieces, and how many of these are begun before the first is done.
@@ -96,10 +70,10 @@ static CREWS: [(u32, Pieces<'static>, u64); 6] = [
 // With fewer threads than that the first pieces would wait in vain for the last.
 #[test]
 fn as_many_workers_as_asked_for_run_at_the_same_time(rt: HostRuntime) {
-    for (workers, pieces, at_once) in CREWS.iter() {
+    for (k, &(workers, pieces, at_once)) in CREWS.iter().enumerate() {
         assert!(rt;
-            work_at_once(&rt, rt.alloc(), *workers, *pieces, *at_once),
-            "{workers} workers, {pieces:?}"
+            work_at_once(&rt, rt.alloc(), workers, pieces, at_once),
+            "crew {k}"
         );
     }
 }

@@ -2,7 +2,7 @@
 ghost use Rattle.std.specs.Prelude.{◌≡◌, None};
 ghost use Rattle.rds_crew.specs.Seats.{IsFresh, IsOf, HasRested};
 
-use rds_crew::{Closed, CrewError, Dealer, Seat};
+use rds_crew::{CrewError, Dealer, Seat};
 use std::alloc::Global;
 use std::test::Fail;
 use std::thread;
@@ -24,13 +24,13 @@ fn draw_up(dealer: &Dealer, seat: Seat) -> Seat
     }
 }
 
-/// Has as many threads as seats draw up all pieces, and closes.
-fn deal<R: Threads + Sync>(
+/// Whether as many threads as seats draw up all pieces, each of which is then drawn and finished.
+fn are_dealt<R: Threads + Sync>(
     rt: &R,
     alloc: Global,
     pieces: u32,
     seats: u32,
-) -> Result<Closed, CrewError> {
+) -> Result<bool, CrewError> {
     let (dealer, seats) = Dealer::new(alloc, u64::from(pieces), seats)?;
     let lent = &dealer;
     let rested = thread::map_vec(
@@ -42,17 +42,7 @@ fn deal<R: Threads + Sync>(
             ensures rested { HasRested result }
         { draw_up(lent, seat) },
     )?;
-    Ok(dealer.close(rested))
-}
-
-/// Whether so many threads draw all pieces and finish them.
-fn are_dealt<R: Threads + Sync>(
-    rt: &R,
-    alloc: Global,
-    pieces: u32,
-    seats: u32,
-) -> Result<bool, CrewError> {
-    let closed = deal(rt, alloc, pieces, seats)?;
+    let closed = dealer.close(rested);
     let all = u64::from(pieces);
     Ok(closed.drawn == all && closed.finished == all)
 }
@@ -72,9 +62,7 @@ fn a_dealer_may_have_256_seats(rt: HostRuntime) -> Result<(), Fail> {
 // By one seat or two.
 #[test]
 fn two_draws_that_were_finished_are_closed_as_two_of_each(rt: HostRuntime) -> Result<(), Fail> {
-    for &seats in &[1u32, 2] {
-        assert!(rt; are_dealt(&rt, rt.alloc(), 2, seats)?, "{seats} seats");
-    }
+    assert!(rt; are_dealt(&rt, rt.alloc(), 2, 1)? && are_dealt(&rt, rt.alloc(), 2, 2)?);
     Ok(())
 }
 
@@ -85,10 +73,19 @@ fn tells_its_steps(dealer: &Dealer, seat: Seat) -> bool
     let (Some(j), seat) = dealer.draw(seat) else {
         return false;
     };
-    let holds_it = seat.holding() == Some(j) && seat.finished() == 0 && !seat.ended();
-    let seat = dealer.finish(seat, j);
-    let (done, seat) = dealer.progress(seat);
-    holds_it && (done, seat.told(), seat.finished()) == (1, 1, 1) && ends(dealer, seat)
+    let holds_it = holds(&seat, j);
+    let (done, seat) = dealer.progress(dealer.finish(seat, j));
+    holds_it && has_done_one(&seat, done) && ends(dealer, seat)
+}
+
+/// Whether a seat holds that piece as its first.
+fn holds(seat: &Seat, j: u64) -> bool {
+    seat.holding() == Some(j) && seat.finished() == 0 && !seat.ended()
+}
+
+/// Whether a seat has finished one piece, and was told that so many are: one.
+fn has_done_one(seat: &Seat, done: u64) -> bool {
+    done == 1 && seat.told() == 1 && seat.finished() == 1
 }
 
 /// Whether a seat that holds none gets none, and once more none.
@@ -96,40 +93,31 @@ fn ends(dealer: &Dealer, seat: Seat) -> bool
     requires own { IsOf dealer.now seat }
     requires empty { seat.view.held ≡ None }
 {
-    let (first, seat) = dealer.draw(seat);
-    if first.is_some() {
+    let (None, seat) = dealer.draw(seat) else {
         return false;
-    }
+    };
     let (again, seat) = dealer.draw(seat);
     again.is_none() && seat.ended() && seat.holding().is_none()
 }
 
 #[test]
 fn a_seat_tells_what_it_holds_and_has_done(rt: HostRuntime) -> Result<(), Fail> {
-    assert!(rt; one_seat_tells(rt.alloc())?);
+    assert!(rt; one_seat_does(rt.alloc(), 1)?);
     Ok(())
-}
-
-/// Whether the one seat of a dealer of one piece does.
-fn one_seat_tells(alloc: Global) -> Result<bool, CrewError> {
-    let (dealer, mut seats) = Dealer::new(alloc, 1, 1)?;
-    match seats.pop() {
-        Some(seat) => Ok(tells_its_steps(&dealer, seat)),
-        None => Ok(false),
-    }
 }
 
 #[test]
 fn a_dealer_of_no_pieces_is_drawn_from_twice(rt: HostRuntime) -> Result<(), Fail> {
-    assert!(rt; gives_none_twice(rt.alloc())?);
+    assert!(rt; one_seat_does(rt.alloc(), 0)?);
     Ok(())
 }
 
-/// Whether the seat of a dealer of no pieces gets none, and once more none.
-fn gives_none_twice(alloc: Global) -> Result<bool, CrewError> {
-    let (dealer, mut seats) = Dealer::new(alloc, 0, 1)?;
+/// Whether the one seat of a dealer tells its steps over its one piece, or ends where it has none.
+fn one_seat_does(alloc: Global, pieces: u32) -> Result<bool, CrewError> {
+    let (dealer, mut seats) = Dealer::new(alloc, u64::from(pieces), 1)?;
     match seats.pop() {
-        Some(seat) => Ok(ends(&dealer, seat)),
+        Some(seat) if pieces == 0 => Ok(ends(&dealer, seat)),
+        Some(seat) => Ok(tells_its_steps(&dealer, seat)),
         None => Ok(false),
     }
 }

@@ -7,6 +7,7 @@ use crate::crew::journal::{Event, Journal, Noted};
 use crate::samples::Sample;
 use rds_crew::{CrewError, Gate, decode_crew};
 use rds_pieces::{Joint, PieceRun, RecordingWork, Work};
+use rds_sync::Loss;
 use std::alloc::Global;
 use std::sync::Wait;
 use std::sync::atomic::{AtomicU64, Ordering};
@@ -114,7 +115,7 @@ fn decode<R: Threads + Wait, W: Work + Sync, G: Gate + Sync>(
 }
 
 /// Has a crew decode a sample, cut so.
-pub fn decode_cut<R: Threads + Wait, G: Gate + Sync>(
+fn decode_cut<R: Threads + Wait, G: Gate + Sync>(
     rt: &R,
     alloc: Global,
     sample: &Sample,
@@ -137,16 +138,12 @@ pub fn decode_groups<R: Threads + Wait, G: Gate + Sync>(
     cuts: &[u64],
     workers: u32,
     gate: &G,
-) -> Result<(), Fail> {
-    let answer = {
-        let sample = Sample::of_groups(alloc, groups)?;
-        decode_cut(rt, alloc, &sample, cuts, workers, gate)
-    };
-    Ok(answer?)
+) -> Result<(), CrewError> {
+    let sample = Sample::of_groups(alloc, groups, Loss::InARow(10))?;
+    decode_cut(rt, alloc, &sample, cuts, workers, gate)
 }
 
 fn note_cut<'a, R: Sync + Threads + Wait, G: Gate + Sync>(
-    rt: &R,
     alloc: Global,
     sample: &'a Sample,
     cuts: &[u64],
@@ -161,24 +158,20 @@ fn note_cut<'a, R: Sync + Threads + Wait, G: Gate + Sync>(
         journal,
         inner: RecordingWork::new(&sample.recording, &sample.rules, &cutting),
     };
-    decode(rt, alloc, &work, workers, gate)
+    decode(journal.rt, alloc, &work, workers, gate)
 }
 
 /// Has a crew decode so many zero groups, cut so, by a work that notes its calls.
 pub fn note_groups<R: Sync + Threads + Wait, G: Gate + Sync>(
-    rt: &R,
     alloc: Global,
     groups: u8,
     cuts: &[u64],
     workers: u32,
     journal: &Journal<'_, R>,
     gate: &G,
-) -> Result<(), Fail> {
-    let answer = {
-        let sample = Sample::of_groups(alloc, groups)?;
-        note_cut(rt, alloc, &sample, cuts, workers, journal, gate)
-    };
-    Ok(answer?)
+) -> Result<(), CrewError> {
+    let sample = Sample::of_groups(alloc, groups, Loss::InARow(10))?;
+    note_cut(alloc, &sample, cuts, workers, journal, gate)
 }
 
 /// A gate at which piece 0 waits until the other three are done, each over the range that the cuts give it.
@@ -229,23 +222,19 @@ fn shows_both_workers<R: Wait>(journal: &Journal<'_, R>) -> bool {
 // One thread that makes both pieces in turn would miss, since piece 0 waits for piece 1. A crew that drops the runs of
 // its workers would guess or join again, or report of runs that are not joined.
 #[test]
-fn two_workers_run_at_the_same_time_and_their_runs_make_the_report(
-    rt: HostRuntime,
-) -> Result<(), Fail> {
+fn two_workers_run_at_the_same_time_and_their_runs_make_the_report(rt: HostRuntime) {
     let journal = Journal::new(&rt, rt.alloc());
     let watch = Watch {
         journal: &journal,
         second: Meeting::of(1),
     };
-    note_groups(&rt, rt.alloc(), 2, HALVES, 2, &journal, &watch)?;
-    assert!(rt; !watch.second.was_missed() && shows_both_workers(&journal));
-    Ok(())
+    let answer = note_groups(rt.alloc(), 2, HALVES, 2, &journal, &watch);
+    assert!(rt; answer.is_ok() && !watch.second.was_missed() && shows_both_workers(&journal));
 }
 
 #[test]
-fn the_gate_is_called_before_and_after_each_piece(rt: HostRuntime) -> Result<(), Fail> {
+fn the_gate_is_called_before_and_after_each_piece(rt: HostRuntime) {
     let journal = Journal::new(&rt, rt.alloc());
-    note_groups(&rt, rt.alloc(), 2, HALVES, 1, &journal, &journal)?;
-    assert!(rt; journal.has(0, &EVENTS));
-    Ok(())
+    let answer = note_groups(rt.alloc(), 2, HALVES, 1, &journal, &journal);
+    assert!(rt; answer.is_ok() && journal.has(0, &EVENTS));
 }

@@ -3,7 +3,7 @@ use rds_crew::Gate;
 use rds_pieces::{Cutting, Joint, PieceError, PieceRun, RecordingWork, Work};
 use rds_stream::Recording;
 use rds_sync::{Report, Rules, State, Totals};
-use std::alloc::{AllocError, Global};
+use std::alloc::Global;
 use std::snapshot::Snapshot;
 use std::sync::{Mutex, Wait};
 
@@ -45,8 +45,7 @@ impl Shown {
 /// is made of, each beside its event.
 #[derive(Drop)]
 pub struct Journal<'a, R> {
-    rt: &'a R,
-    alloc: Global,
+    pub rt: &'a R,
     events: Mutex<Vec<Event>>,
     runs: Mutex<Vec<(Event, Shown)>>,
 }
@@ -55,7 +54,6 @@ impl<'a, R: Wait> Journal<'a, R> {
     pub fn new(rt: &'a R, alloc: Global) -> Journal<'a, R> {
         Journal {
             rt,
-            alloc,
             events: Mutex::new(Vec::new(alloc)),
             runs: Mutex::new(Vec::new(alloc)),
         }
@@ -66,22 +64,9 @@ impl<'a, R: Wait> Journal<'a, R> {
         let _kept = self.events.lock(self.rt).push(event);
     }
 
-    /// Keeps a run of an event, beside those that it has.
-    fn keep_run(&self, event: Event, run: &PieceRun) -> Result<(), AllocError> {
-        Ok(self.runs.lock(self.rt).push((event, Shown::of(run)))?)
-    }
-
-    /// Keeps a join, and the runs that it is of.
-    fn keep_join(
-        &self,
-        range: (u64, u64),
-        left: &PieceRun,
-        right: &PieceRun,
-    ) -> Result<(), AllocError> {
-        let event = Event::Joined(range.0, range.1);
-        self.keep(event);
-        self.keep_run(event, left)?;
-        self.keep_run(event, right)
+    /// Keeps a run of an event, beside those that it has, in the same way.
+    fn keep_run(&self, event: Event, run: &PieceRun) {
+        let _kept = self.runs.lock(self.rt).push((event, Shown::of(run)));
     }
 
     /// Whether that is what happened from event `first` on.
@@ -89,37 +74,14 @@ impl<'a, R: Wait> Journal<'a, R> {
         self.events.lock(self.rt).as_slice().get(first..) == Some(events)
     }
 
-    /// Whether each of these happened once, and nothing else.
+    /// Whether each of these, of which no two are the same, happened once, and nothing else.
     pub fn has_each_once(&self, events: &[Event]) -> bool {
-        for event in events {
-            if self.count(*event) != 1 {
-                return false;
-            }
-        }
-        self.events.lock(self.rt).len() == events.len()
-    }
-
-    /// How often that happened.
-    fn count(&self, event: Event) -> usize {
-        let mut count = 0usize;
-        for kept in self.events.lock(self.rt).iter() {
-            if *kept == event {
-                count = count.saturating_add(1);
-            }
-        }
-        count
+        are_in(events, self.events.lock(self.rt).as_slice())
     }
 
     /// Whether the runs of an event are those that these others have, one each, in this order.
     pub fn has_runs_of(&self, event: Event, others: &[Event]) -> bool {
-        let runs = self.runs.lock(self.rt);
-        for (i, other) in others.iter().enumerate() {
-            let run = run_of(runs.as_slice(), event, i);
-            if run.is_none() || run != run_of(runs.as_slice(), *other, 0) {
-                return false;
-            }
-        }
-        run_of(runs.as_slice(), event, others.len()).is_none()
+        are_runs_of(self.runs.lock(self.rt).as_slice(), event, others)
     }
 
     /// Whether an event has one run, which is over that range.
@@ -129,15 +91,29 @@ impl<'a, R: Wait> Journal<'a, R> {
 
     /// Whether the runs of an event are over these ranges, in this order.
     pub fn has_runs_over(&self, event: Event, ranges: &[(u64, u64)]) -> bool {
-        let runs = self.runs.lock(self.rt);
-        for (i, range) in ranges.iter().enumerate() {
-            match run_of(runs.as_slice(), event, i) {
-                Some(run) if (run.from, run.to) == *range => {}
-                _ => return false,
-            }
-        }
-        run_of(runs.as_slice(), event, ranges.len()).is_none()
+        are_over(self.runs.lock(self.rt).as_slice(), event, ranges)
     }
+}
+
+/// Whether each of these events is kept, as many as are kept.
+fn are_in(events: &[Event], kept: &[Event]) -> bool {
+    for event in events {
+        if !kept.contains(event) {
+            return false;
+        }
+    }
+    kept.len() == events.len()
+}
+
+/// Whether the runs of an event are those that these others have, one each, in this order.
+fn are_runs_of(runs: &[(Event, Shown)], event: Event, others: &[Event]) -> bool {
+    for (i, other) in others.iter().enumerate() {
+        let run = run_of(runs, event, i);
+        if run.is_none() || run != run_of(runs, *other, 0) {
+            return false;
+        }
+    }
+    run_of(runs, event, others.len()).is_none()
 }
 
 /// Run `i` of an event, from 0 on.
@@ -154,6 +130,17 @@ fn run_of(runs: &[(Event, Shown)], event: Event, i: usize) -> Option<&Shown> {
     None
 }
 
+/// Whether the runs of an event are over these ranges, in this order.
+fn are_over(runs: &[(Event, Shown)], event: Event, ranges: &[(u64, u64)]) -> bool {
+    for (i, range) in ranges.iter().enumerate() {
+        match run_of(runs, event, i) {
+            Some(run) if (run.from, run.to) == *range => {}
+            _ => return false,
+        }
+    }
+    run_of(runs, event, ranges.len()).is_none()
+}
+
 impl<R: Wait> Gate for Journal<'_, R> {
     fn begin(&self, j: u64) {
         self.keep(Event::Begun(j));
@@ -161,7 +148,7 @@ impl<R: Wait> Gate for Journal<'_, R> {
 
     fn done(&self, j: u64, run: &PieceRun) {
         self.keep(Event::Done(j));
-        let _kept = self.keep_run(Event::Done(j), run);
+        self.keep_run(Event::Done(j), run);
     }
 
     fn join_begin(&self, level: u32, m: u64) {
@@ -205,15 +192,17 @@ impl<R: Wait> Work for Noted<'_, R> {
     }
 
     fn join(&self, alloc: Global, left: &PieceRun, right: &PieceRun) -> Result<Joint, PieceError> {
-        let range = (left.from(), right.to());
-        self.journal.keep_join(range, left, right)?;
+        let event = Event::Joined(left.from(), right.to());
+        self.journal.keep(event);
+        self.journal.keep_run(event, left);
+        self.journal.keep_run(event, right);
         self.inner.join(alloc, left, right)
     }
 
     fn report(&self, alloc: Global, runs: &[PieceRun]) -> Result<Report, PieceError> {
         self.journal.keep(Event::Reported);
         for run in runs {
-            self.journal.keep_run(Event::Reported, run)?;
+            self.journal.keep_run(Event::Reported, run);
         }
         self.inner.report(alloc, runs)
     }

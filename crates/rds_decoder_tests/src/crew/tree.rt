@@ -69,29 +69,21 @@ const LENT: [(Event, &[(u64, u64)]); 5] = [
     (Event::Reported, &[(0, 520)]),
 ];
 
-/// The guesses that are joined in the first level.
-const GUESSED: [(Event, &[Event]); 2] = [
-    (Event::Joined(0, 208), &[Event::Done(0), Event::Done(1)]),
-    (Event::Joined(208, 416), &[Event::Done(2), Event::Done(3)]),
-];
-
-/// Whether those are.
+/// Whether those are, and the guesses are joined in the first level.
 fn shows_all_joins<R: Wait>(journal: &Journal<'_, R>) -> bool {
-    GUESSED
-        .iter()
-        .all(|(event, guesses)| journal.has_runs_of(*event, guesses))
-        && LENT
-            .iter()
-            .all(|(event, ranges)| journal.has_runs_over(*event, ranges))
-        && journal.has(15, &LEVELS)
+    for (event, ranges) in &LENT {
+        if !journal.has_runs_over(*event, ranges) {
+            return false;
+        }
+    }
+    journal.has(15, &LEVELS)
+        && journal.has_runs_of(Event::Joined(0, 208), &[Event::Done(0), Event::Done(1)])
+        && journal.has_runs_of(Event::Joined(208, 416), &[Event::Done(2), Event::Done(3)])
 }
 
 #[test]
-fn neighbours_are_joined_level_by_level_and_the_last_goes_up_as_it_is(
-    rt: HostRuntime,
-) -> Result<(), Fail> {
+fn neighbours_are_joined_level_by_level_and_the_last_goes_up_as_it_is(rt: HostRuntime) {
     let journal = Journal::new(&rt, rt.alloc());
-    note_groups(&rt, rt.alloc(), 5, BETWEEN, 1, &journal, &journal)?;
-    assert!(rt; shows_all_joins(&journal));
-    Ok(())
+    let answer = note_groups(rt.alloc(), 5, BETWEEN, 1, &journal, &journal);
+    assert!(rt; answer.is_ok() && shows_all_joins(&journal));
 }
