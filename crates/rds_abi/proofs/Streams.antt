@@ -1,19 +1,23 @@
 -- A stream as a decoder has it, and as its numbers say it.
-use Rattle.std.proofs.Common.{◌≡◌, ◌+◌, ◌*◌, ◌/◌, ◌^◌, ◌<◌, ◌≤◌, ◌++◌, ℕ, List, Option, Some, None, arith, length, map, min, refl, subst, sym, take}
+use Rattle.std.proofs.Common.{◌≡◌, ◌+◌, ◌*◌, ◌/◌, ◌^◌, ◌<◌, ◌≤◌, ◌++◌, ◌⊎◌, ℕ, List, Option, Some, None, ap, arith, inl, inr, length, map, min, refl, subst, sym, take, ◌∙◌}
 use Rattle.std.proofs.lemmas.List.{length-map}
 use Rattle.rds_sync.specs.Advance.{group_item}
 use Rattle.rds_sync.specs.declared.item.Group.{Group as GroupRecord}
 use Rattle.rds_sync.specs.declared.item.Item.{Item}
 use Rattle.rds_live.specs.Live.{HasHeard, IsLive, LiveOf, Terms, complete, most_kept, report_at, report_of}
-use Rattle.rds_abi.specs.Following.{AreClosed, AreCompleted, AreLeft, AreTooMany, AreWritten, stream_of}
-use Rattle.rds_abi.specs.Asked.{IsFilled}
+use Rattle.rds_sync.specs.Ranges.{IsInRange}
+use Rattle.rds_abi.specs.Following.{AreClosed, AreCompleted, AreLeft, AreTooMany, AreWritten, IsFollowed, RefusesEnd, RefusesFollowed, RefusesLast, RefusesPush, RefusesStream, place_after, stream_of, terms_of}
+use Rattle.rds_abi.specs.Asked.{IsFilled, rules_of}
 use Rattle.rds_abi.specs.Going.{state_of}
 use Rattle.rds_abi.specs.Layout.{item_in_c, totals_in_c}
+use Rattle.rds_abi.specs.declared.asked.RdsGap.{RdsGap}
+use Rattle.rds_abi.specs.declared.asked.RdsRules.{RdsRules}
 use Rattle.rds_abi.specs.declared.following.RdsStream.{RdsStream}
 use Rattle.rds_abi.specs.declared.going.RdsState.{RdsState}
 use Rattle.rds_abi.specs.declared.layout.RdsItem.{RdsItem}
 use Rattle.rds_abi.specs.declared.layout.RdsTotals.{RdsTotals}
-use Rattle.rds_abi.specs.declared.refusal.Refusal.TheVariants.{SmallRoom}
+use Rattle.rds_abi.specs.declared.refusal.Refusal.{Refusal}
+use Rattle.rds_abi.specs.declared.refusal.Refusal.TheVariants.{OutOfMemory, SmallRoom, TooLong}
 
 -- what was laid out says what it was laid out of
 pub laid_out : (live : LiveOf) (place : ℕ) (state : RdsState) (totals : RdsTotals) (tail : List ℕ)
@@ -22,6 +26,44 @@ pub laid_out : (live : LiveOf) (place : ℕ) (state : RdsState) (totals : RdsTot
     → stream_of live.terms (record { place = place; state = state; totals = totals; tail = tail }) ≡ live
 laid_out live place state totals tail place_is state_is totals_are tail_is kept =
     rw (place_is, state_is, totals_are, sym kept, tail_is) refl
+
+-- the numbers that are laid out of what a decoder has become say it by the terms that it began with
+pub says_next : (terms : Terms) (s laid : RdsStream) (live next : LiveOf) → live ≡ stream_of terms s → next.terms ≡ live.terms
+    → stream_of next.terms laid ≡ next → stream_of terms laid ≡ next
+says_next terms s laid live next is same says =
+    subst (λ (t : Terms). stream_of t laid ≡ next) (same ∙ ap (λ (l : LiveOf). l.terms) is) says
+
+-- what is refused of bytes, where the stream is one that a caller may have kept
+pub refused_bytes : (terms : Terms) (s : RdsStream) (bytes : List ℕ) (refusal : Refusal) (TooMany Same : Type 0) → IsLive (stream_of terms s)
+    → ((place_after s bytes ≤ 2 ^ 36) × TooMany) ⊎ ((((refusal ≡ TooLong) × (2 ^ 36 < place_after s bytes)) ⊎ (refusal ≡ OutOfMemory)) × Same)
+    → (IsLive (stream_of terms s) × (place_after s bytes ≤ 2 ^ 36) × TooMany)
+    ⊎ ((RefusesStream terms s refusal ⊎ (IsLive (stream_of terms s) × (2 ^ 36 < place_after s bytes) × (refusal ≡ TooLong))) × Same)
+refused_bytes terms s bytes r TooMany Same live (inl (fits, many)) = inl (live, fits, many)
+refused_bytes terms s bytes r TooMany Same live (inr (inl (is, long), same)) = inr (inr (live, long, is), same)
+refused_bytes terms s bytes r TooMany Same live (inr (inr is, same)) = inr (inl (subst (λ (refusal : Refusal). RefusesStream terms s refusal) (sym is) tt), same)
+
+-- what is refused of bytes, by rules that are in range
+pub refused_push : (rules : RdsRules) (gaps : List RdsGap) (s : RdsStream) (bytes : List ℕ) (refusal : Refusal) (TooMany Same : Type 0) → IsInRange (rules_of rules)
+    → (IsLive (stream_of (terms_of rules gaps) s) × (place_after s bytes ≤ 2 ^ 36) × TooMany)
+    ⊎ ((RefusesStream (terms_of rules gaps) s refusal ⊎ (IsLive (stream_of (terms_of rules gaps) s) × (2 ^ 36 < place_after s bytes) × (refusal ≡ TooLong))) × Same)
+    → (IsFollowed rules gaps s × (place_after s bytes ≤ 2 ^ 36) × TooMany) ⊎ (RefusesPush rules gaps s bytes refusal × Same)
+refused_push rules gaps s bytes r TooMany Same range (inl (live, fits, many)) = inl (record { range = range; live = live }, fits, many)
+refused_push rules gaps s bytes r TooMany Same range (inr (inl of_stream, same)) = inr (inl (inr (range, of_stream)), same)
+refused_push rules gaps s bytes r TooMany Same range (inr (inr (live, long, is), same)) = inr (inr (record { range = range; live = live }, long, is), same)
+
+-- and of its end
+pub refused_end : (rules : RdsRules) (gaps : List RdsGap) (s : RdsStream) (refusal : Refusal) (TooMany Same : Type 0) → IsInRange (rules_of rules)
+    → (IsLive (stream_of (terms_of rules gaps) s) × TooMany) ⊎ (RefusesStream (terms_of rules gaps) s refusal × Same)
+    → (IsFollowed rules gaps s × TooMany) ⊎ (RefusesFollowed rules gaps s refusal × Same)
+refused_end rules gaps s r TooMany Same range (inl (live, many)) = inl (record { range = range; live = live }, many)
+refused_end rules gaps s r TooMany Same range (inr (of_stream, same)) = inr (inr (range, of_stream), same)
+
+-- and of its last bits
+pub refused_last : (rules : RdsRules) (gaps : List RdsGap) (s : RdsStream) (bytes : List ℕ) (bits : ℕ) (refusal : Refusal) → IsInRange (rules_of rules)
+    → RefusesStream (terms_of rules gaps) s refusal ⊎ (IsLive (stream_of (terms_of rules gaps) s) × RefusesLast s bytes bits refusal)
+    → RefusesEnd rules gaps s bytes bits refusal
+refused_last rules gaps s bytes bits r range (inl of_stream) = inl (inr (range, of_stream))
+refused_last rules gaps s bytes bits r range (inr (live, of_last)) = inr (record { range = range; live = live }, of_last)
 
 module _ (terms : Terms) (s : RdsStream) (live : LiveOf) (is : live ≡ stream_of terms s) where
   -- the items that it completed

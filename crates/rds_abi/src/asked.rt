@@ -3,7 +3,7 @@
 ghost use Rattle.std.specs.Prelude.{◌≡◌, IfErr, IfOk};
 ghost use Rattle.rds_stream.specs.Recording.{length_of};
 ghost use Rattle.rds_sync.specs.Ranges.{IsInRange};
-ghost use Rattle.rds_abi.specs.Asked.{IsRecording, RefusesRecording, RefusesRules, gaps_of, loss_of as the_loss_of, recording_of as the_recording_of, rules_of as the_rules_of};
+ghost use Rattle.rds_abi.specs.Asked.{IsLawful, IsRecording, Refuses, RefusesRecording, RefusesRules, asked, gaps_of, loss_of as the_loss_of, recording_of as the_recording_of, rules_of as the_rules_of};
 
 use crate::refusal::Refusal;
 use rds_stream::{Recording, StreamError};
@@ -80,7 +80,7 @@ pub(crate) fn gaps_in(alloc: Global, gaps: &[RdsGap]) -> Result<Vec<(u64, u64)>,
 }
 
 /// The recording of these bytes, which are copied.
-pub(crate) fn recording_of(
+fn recording_of(
     alloc: Global,
     bytes: &[u8],
     bits: u64,
@@ -100,4 +100,30 @@ pub(crate) fn recording_of(
         Err((StreamError::BadGaps, _, _)) => Err(Refusal::BadGaps),
         Err((StreamError::OutOfMemory, _, _)) => Err(Refusal::OutOfMemory),
     }
+}
+
+/// A recording, and the rules that it is decoded by.
+#[derive(Drop)]
+pub(crate) struct Input {
+    pub(crate) recording: Recording,
+    pub(crate) rules: Rules,
+}
+
+/// The recording of the first `bits` bits of these bytes, with these gaps, and these rules, which are looked at first.
+pub(crate) fn input_of(
+    alloc: Global,
+    bytes: &[u8],
+    bits: u64,
+    gaps: &[RdsGap],
+    rules: RdsRules,
+) -> Result<Input, Refusal>
+    ensures recording { IfOk result (λ input. input.recording ≡ the_recording_of bytes.now bits gaps.now) }
+    ensures len { IfOk result (λ input. length_of input.recording ≡ bits) }
+    ensures rules { IfOk result (λ input. input.rules ≡ the_rules_of rules) }
+    ensures lawful { IfOk result (λ _. IsLawful (asked bytes.now bits gaps.now rules)) }
+    ensures refused { IfErr result (Refuses (asked bytes.now bits gaps.now rules)) }
+{
+    let rules = rules_of(alloc, rules)?;
+    let recording = recording_of(alloc, bytes, bits, gaps)?;
+    Ok(Input { recording, rules })
 }

@@ -1,22 +1,24 @@
 //! A stream that is followed chunk by chunk, from what the caller keeps of it.
 
-ghost use Rattle.std.specs.Prelude.{◌≡◌, ◌++◌, ◌<◌, ◌≤◌, ◌⊎◌, ◌+◌, ◌-◌, ◌*◌, ◌^◌, ℕ, List, IfErr, IfOk, OnErr, OnOk, length, map, replicate, take};
+ghost use Rattle.std.specs.Prelude.{◌≡◌, ◌++◌, ◌<◌, ◌≤◌, ◌⊎◌, ◌+◌, ◌-◌, ◌*◌, ◌^◌, ℕ, List, IfErr, IfOk, OnErr, OnOk, length, map, replicate, take, vec_capacity};
 ghost use Rattle.rds_sync.specs.Advance.{group_item};
 ghost use Rattle.rds_sync.specs.Totals.{totals_of};
 ghost use Rattle.rds_live.specs.Live.{HasHeard, IsLive, complete, report_at, report_of};
-ghost use Rattle.rds_abi.specs.Asked.{IsFilled};
-ghost use Rattle.rds_abi.specs.Following.{AreClosed, AreCompleted, AreLast, AreLeft, AreTooMany, AreWritten, IsFollowed, RefusesEnd, RefusesFollowed, RefusesPush, RefusesStream, place_after, stream_in_c as the_stream_in_c, stream_of as the_stream_of, terms_of, totals_from_c};
+ghost use Rattle.rds_sync.specs.Ranges.{IsInRange};
+ghost use Rattle.rds_abi.specs.Asked.{IsFilled, RefusesRules, rules_of as the_rules_of};
+ghost use Rattle.rds_abi.specs.Following.{AreClosed, AreCompleted, AreLast, AreLeft, AreTooMany, AreWritten, IsFollowed, RefusesEnd, RefusesFollowed, RefusesLast, RefusesPush, RefusesStream, place_after, stream_in_c as the_stream_in_c, stream_of as the_stream_of, terms_of, totals_from_c};
 ghost use Rattle.rds_abi.specs.Layout.{item_in_c, totals_in_c};
-ghost use Rattle.rds_abi.specs.declared.refusal.Refusal.TheVariants.{BitsPastBytes, OutOfMemory, TooLong};
+ghost use Rattle.rds_abi.specs.declared.refusal.Refusal.TheVariants.{BitsPastBytes, OutOfMemory, SmallRoom, TooLong};
 
 use crate::asked::{RdsGap, RdsRules, gaps_in, rules_of};
-use crate::going::{RdsState, fill_end, state_in_c, state_of};
+use crate::going::{RdsState, state_in_c, state_of, write_end};
 use crate::layout::{RdsItem, RdsTotals, item_in_c, totals_in_c};
 use crate::refusal::Refusal;
 use rds_live::{Live, ResumeError};
 use rds_stream::StreamError;
 use rds_sync::{Group, Item, Rules, Totals};
 use std::alloc::{AllocError, Global};
+use std::marker::Model;
 
 /// How many of the last bytes of a stream are known.
 const MOST_KEPT: u64 = 30;
@@ -65,17 +67,40 @@ fn totals_from_c(totals: RdsTotals) -> Totals
     }
 }
 
-/// The decoder of the stream that these numbers say.
-fn live_of<'r>(
-    alloc: Global,
-    rules: &'r Rules,
-    gaps: &'r [(u64, u64)],
-    stream: &RdsStream,
-) -> Result<Live<'r>, Refusal>
-    ensures live { IfOk result (λ live. live ≡ the_stream_of (record { rules = rules.now; gaps = gaps.now }) stream.now) }
-    ensures lawful { IfOk result (λ live. IsLive live) }
-    ensures refused { IfErr result (RefusesStream (record { rules = rules.now; gaps = gaps.now }) stream.now) }
+/// What is told of a stream: the rules and the gaps.
+#[derive(Drop)]
+struct Told {
+    rules: Rules,
+    gaps: Vec<(u64, u64)>,
+}
+
+impl Model for Told {
+    ghost use Rattle.rds_live.specs.Live.{Terms};
+
+    ghost Value = { Terms };
+
+    ghost view = { λ t. record { rules = t.rules; gaps = t.gaps.items } };
+}
+
+/// What is told of a stream, from C.
+fn told_of(alloc: Global, rules: RdsRules, gaps: &[RdsGap]) -> Result<Told, Refusal>
+    ensures terms { IfOk result (λ told. told ≡ terms_of rules gaps.now) }
+    ensures range { IfOk result (λ _. IsInRange (the_rules_of rules)) }
+    ensures refused { IfErr result (RefusesRules (the_rules_of rules)) }
 {
+    let rules = rules_of(alloc, rules)?;
+    let gaps = gaps_in(alloc, gaps)?;
+    Ok(Told { rules, gaps })
+}
+
+/// The decoder of the stream that these numbers say.
+fn live_of<'r>(alloc: Global, told: &'r Told, stream: &RdsStream) -> Result<Live<'r>, Refusal>
+    ensures live { IfOk result (λ live. live ≡ the_stream_of told.now stream.now) }
+    ensures lawful { IfOk result (λ live. IsLive live) }
+    ensures refused { IfErr result (RefusesStream told.now stream.now) }
+{
+    let rules = &told.rules;
+    let gaps = told.gaps.as_slice();
     match Live::with_gaps(alloc, rules, gaps) {
         Ok(_) => {}
         Err(StreamError::BadGaps) => return Err(Refusal::BadGaps),
@@ -119,6 +144,21 @@ fn stream_in_c(live: &Live<'_>) -> RdsStream
     }
 }
 
+/// Writes the items to the beginning of the room, and how many they are to the count.
+fn write_items(room: &mut [RdsItem], items: &[Item], count: &mut u64) -> Result<(), Refusal>
+    ensures filled { OnOk result (IsFilled (map item_in_c items.now) room.old room.new) }
+    ensures count { count.new ≡ length items.now }
+    ensures untouched { OnErr result (room.new ≡ room.old) }
+    ensures refused { IfErr result (λ refusal. (refusal ≡ SmallRoom) × (length room.old < length items.now)) }
+{
+    *count = items.len() as u64;
+    if room.len() < items.len() {
+        return Err(Refusal::SmallRoom);
+    }
+    fill_room(room, items);
+    Ok(())
+}
+
 /// Writes the items to the beginning of the room.
 fn fill_room(room: &mut [RdsItem], items: &[Item])
     requires { length items.now ≤ length room.old }
@@ -126,26 +166,6 @@ fn fill_room(room: &mut [RdsItem], items: &[Item])
 {
     for at in 0..items.len() {
         room[at] = item_in_c(items[at]);
-    }
-}
-
-/// Has the decoder take the next bytes, and gives the items that they complete, and what is known of the stream then.
-fn taken(alloc: Global, live: Live<'_>, bytes: &[u8]) -> Result<(Vec<Item>, RdsStream), Refusal>
-    ensures heard { IfOk result (λ r. (before : List ℕ) → HasHeard live.entry before
-        → HasHeard (the_stream_of live.entry.terms r.1) (before ++ bytes.now)) }
-    ensures laid { IfOk result (λ r. r.1 ≡ the_stream_in_c (the_stream_of live.entry.terms r.1)) }
-    ensures lawful { IfOk result (λ r. IsLive (the_stream_of live.entry.terms r.1)) }
-    ensures items { IfOk result (λ r. (before : List ℕ) → HasHeard live.entry before
-        → complete live.entry.terms (before ++ bytes.now) ≡ complete live.entry.terms before ++ r.0.items) }
-    ensures fits { IfOk result (λ _. live.entry.place + 8 * length bytes.now ≤ 2 ^ 36) }
-    ensures refused { IfErr result (λ refusal.
-        ((refusal ≡ TooLong) × (2 ^ 36 < live.entry.place + 8 * length bytes.now)) ⊎ (refusal ≡ OutOfMemory)) }
-{
-    let mut live = live;
-    match live.take_all(alloc, bytes) {
-        Ok(items) => Ok((items, stream_in_c(&live))),
-        Err(StreamError::TooLong) => Err(Refusal::TooLong),
-        Err(_) => Err(Refusal::OutOfMemory),
     }
 }
 
@@ -180,18 +200,65 @@ pub fn push(
         × AreTooMany (AreCompleted (terms_of rules gaps.now) stream.old bytes.now) (length room.old) refusal count.new)
         ⊎ (RefusesPush rules gaps.now stream.old bytes.now refusal × (count.new ≡ count.old))) }
 {
-    let rules = rules_of(alloc, rules)?;
-    let gaps = gaps_in(alloc, gaps)?;
-    let live = live_of(alloc, &rules, gaps.as_slice(), stream)?;
-    let (items, next) = taken(alloc, live, bytes)?;
-    let number = items.len();
-    *count = number as u64;
-    if room.len() < number {
-        return Err(Refusal::SmallRoom);
-    }
-    fill_room(room, &items);
-    *stream = next;
+    let told = told_of(alloc, rules, gaps)?;
+    go_on(alloc, &told, bytes, stream, room, count)
+}
+
+/// Takes the next bytes of a stream, and writes what they give.
+fn go_on(
+    alloc: Global,
+    told: &Told,
+    bytes: &[u8],
+    stream: &mut RdsStream,
+    room: &mut [RdsItem],
+    count: &mut u64,
+) -> Result<(), Refusal>
+    ensures heard { OnOk result ((before : List ℕ) → HasHeard (the_stream_of told.now stream.old) before
+        → HasHeard (the_stream_of told.now stream.new) (before ++ bytes.now)) }
+    ensures laid { OnOk result (stream.new ≡ the_stream_in_c (the_stream_of told.now stream.new)) }
+    ensures items { OnOk result (AreWritten (AreCompleted told.now stream.old bytes.now) room.old room.new count.new) }
+    ensures next { OnOk result (IsLive (the_stream_of told.now stream.new)) }
+    ensures lawful { OnOk result (IsLive (the_stream_of told.now stream.old) × (place_after stream.old bytes.now ≤ 2 ^ 36)) }
+    ensures untouched { OnErr result ((room.new ≡ room.old) × (stream.new ≡ stream.old)) }
+    ensures refused { IfErr result (λ refusal.
+        (IsLive (the_stream_of told.now stream.old) × (place_after stream.old bytes.now ≤ 2 ^ 36)
+        × AreTooMany (AreCompleted told.now stream.old bytes.now) (length room.old) refusal count.new)
+        ⊎ ((RefusesStream told.now stream.old refusal
+        ⊎ (IsLive (the_stream_of told.now stream.old) × (2 ^ 36 < place_after stream.old bytes.now) × (refusal ≡ TooLong)))
+        × (count.new ≡ count.old))) }
+{
+    let mut live = live_of(alloc, told, stream)?;
+    take_all(alloc, &mut live, bytes, room, count)?;
+    *stream = stream_in_c(&live);
     Ok(())
+}
+
+/// Has the decoder take the next bytes, and writes the items that they complete.
+fn take_all(
+    alloc: Global,
+    live: &mut Live<'_>,
+    bytes: &[u8],
+    room: &mut [RdsItem],
+    count: &mut u64,
+) -> Result<(), Refusal>
+    ensures heard { OnOk result ((before : List ℕ) → HasHeard live.old before → HasHeard live.new (before ++ bytes.now)) }
+    ensures terms { live.new.terms ≡ live.old.terms }
+    ensures items { OnOk result (AreWritten (λ items. (before : List ℕ) → HasHeard live.old before
+        → complete live.old.terms (before ++ bytes.now) ≡ complete live.old.terms before ++ items) room.old room.new count.new) }
+    ensures fits { OnOk result (live.old.place + 8 * length bytes.now ≤ 2 ^ 36) }
+    ensures untouched { OnErr result (room.new ≡ room.old) }
+    ensures refused { IfErr result (λ refusal.
+        ((live.old.place + 8 * length bytes.now ≤ 2 ^ 36)
+        × AreTooMany (λ items. (before : List ℕ) → HasHeard live.old before
+        → complete live.old.terms (before ++ bytes.now) ≡ complete live.old.terms before ++ items) (length room.old) refusal count.new)
+        ⊎ ((((refusal ≡ TooLong) × (2 ^ 36 < live.old.place + 8 * length bytes.now)) ⊎ (refusal ≡ OutOfMemory))
+        × (count.new ≡ count.old))) }
+{
+    match live.take_all(alloc, bytes) {
+        Ok(items) => write_items(room, &items, count),
+        Err(StreamError::TooLong) => Err(Refusal::TooLong),
+        Err(_) => Err(Refusal::OutOfMemory),
+    }
 }
 
 /// Ends a stream: writes the group in progress, as far as it was read, to the beginning of `room`, to `count` how many
@@ -218,84 +285,33 @@ pub fn finish(
         × AreTooMany (AreClosed (terms_of rules gaps.now) stream.now) (length room.old) refusal count.new)
         ⊎ (RefusesFollowed rules gaps.now stream.now refusal × (count.new ≡ count.old))) }
 {
-    let rules = rules_of(alloc, rules)?;
-    let gaps = gaps_in(alloc, gaps)?;
-    let live = live_of(alloc, &rules, gaps.as_slice(), stream)?;
-    let end = live.finish();
-    if !fill_end(room, end.group, count) {
-        return Err(Refusal::SmallRoom);
-    }
-    *totals = totals_in_c(end.totals);
-    Ok(())
+    let told = told_of(alloc, rules, gaps)?;
+    close(alloc, &told, stream, room, count, totals)
 }
 
-/// The items that the first `bits` bits of these bytes complete, with the group in progress where the stream ends behind them,
-/// and the totals of the report.
-fn ended(
+/// Ends a stream, and writes what this gives.
+fn close(
     alloc: Global,
-    live: Live<'_>,
-    bytes: &[u8],
-    bits: u64,
-) -> Result<(Vec<Item>, Totals), Refusal>
-    ensures items { IfOk result (λ r. (before : List ℕ) → HasHeard live.entry before
-        → complete live.entry.terms before ++ r.0.items ≡ report_at live.entry.terms (before ++ bytes.now) (8 * length before + bits)) }
-    ensures totals { IfOk result (λ r. (before : List ℕ) → HasHeard live.entry before
-        → r.1 ≡ totals_of (report_at live.entry.terms (before ++ bytes.now) (8 * length before + bits))) }
-    ensures fits { IfOk result (λ _. (live.entry.place + bits ≤ 2 ^ 36) × (bits ≤ 8 * length bytes.now)) }
+    told: &Told,
+    stream: &RdsStream,
+    room: &mut [RdsItem],
+    count: &mut u64,
+    totals: &mut RdsTotals,
+) -> Result<(), Refusal>
+    ensures items { OnOk result (AreWritten (AreClosed told.now stream.now) room.old room.new count.new) }
+    ensures totals { OnOk result ((bytes : List ℕ) → HasHeard (the_stream_of told.now stream.now) bytes
+        → totals.new ≡ totals_in_c (totals_of (report_of told.now bytes))) }
+    ensures lawful { OnOk result (IsLive (the_stream_of told.now stream.now)) }
+    ensures untouched { OnErr result ((room.new ≡ room.old) × (totals.new ≡ totals.old)) }
     ensures refused { IfErr result (λ refusal.
-        ((refusal ≡ TooLong) × (2 ^ 36 < live.entry.place + bits))
-        ⊎ ((refusal ≡ BitsPastBytes) × (live.entry.place + bits ≤ 2 ^ 36) × (8 * length bytes.now < bits))
-        ⊎ (refusal ≡ OutOfMemory)) }
+        (IsLive (the_stream_of told.now stream.now)
+        × AreTooMany (AreClosed told.now stream.now) (length room.old) refusal count.new)
+        ⊎ (RefusesStream told.now stream.now refusal × (count.new ≡ count.old))) }
 {
-    if bits > MOST_BITS - live.place() {
-        return Err(Refusal::TooLong);
-    }
-    if bits.div_ceil(8) > bytes.len() as u64 {
-        return Err(Refusal::BitsPastBytes);
-    }
-    let mut live = live;
-    let (whole, rest) = bytes.split_at((bits / 8) as usize);
-    let Ok(first) = live.take_all(alloc, whole) else {
-        return Err(Refusal::OutOfMemory);
-    };
-    match closed(alloc, first, live, rest, bits % 8) {
-        Ok((items, totals)) => Ok((items, totals)),
-        Err(_) => Err(Refusal::OutOfMemory),
-    }
-}
-
-/// These items, those that so many bits behind them complete, and the group in progress where the stream ends with these; and
-/// the totals of the report.
-fn closed(
-    alloc: Global,
-    first: Vec<Item>,
-    live: Live<'_>,
-    rest: &[u8],
-    bits: u64,
-) -> Result<(Vec<Item>, Totals), StreamError>
-    requires held { bits ≤ 8 * length rest.now }
-    requires few { bits ≤ 8 }
-    ensures items { IfOk result (λ r. (before : List ℕ) (given : List Item) → HasHeard live.entry before
-        → complete live.entry.terms before ≡ given ++ first.items
-        → given ++ r.0.items ≡ report_at live.entry.terms (before ++ rest.now) (8 * length before + bits)) }
-    ensures totals { IfOk result (λ r. (before : List ℕ) → HasHeard live.entry before
-        → r.1 ≡ totals_of (report_at live.entry.terms (before ++ rest.now) (8 * length before + bits))) }
-{
-    let mut items = first;
-    let mut last = Vec::with_capacity(alloc, 16)?;
-    let end = live.finish_with(rest, bits, &mut last)?;
-    items.extend_from_slice(&last)?;
-    push_group(&mut items, end.group)?;
-    Ok((items, end.totals))
-}
-
-/// Puts the group in progress behind the items, if there is one.
-fn push_group(items: &mut Vec<Item>, group: Option<Group>) -> Result<(), AllocError>
-    ensures { OnOk result (items.new.items ≡ items.old.items ++ group_item group) }
-{
-    if let Some(group) = group {
-        items.push(Item::Group(group))?;
-    }
+    let live = live_of(alloc, told, stream)?;
+    let end = live.finish();
+    write_end(room, end.group, count)?;
+    *totals = totals_in_c(end.totals);
     Ok(())
 }
 
@@ -326,16 +342,143 @@ pub fn finish_with(
         × AreTooMany (AreLeft (terms_of rules gaps.now) stream.now bytes.now bits) (length room.old) refusal count.new)
         ⊎ (RefusesEnd rules gaps.now stream.now bytes.now bits refusal × (count.new ≡ count.old))) }
 {
-    let rules = rules_of(alloc, rules)?;
-    let gaps = gaps_in(alloc, gaps)?;
-    let live = live_of(alloc, &rules, gaps.as_slice(), stream)?;
-    let (items, found) = ended(alloc, live, bytes, bits)?;
-    let number = items.len();
-    *count = number as u64;
-    if room.len() < number {
-        return Err(Refusal::SmallRoom);
-    }
-    fill_room(room, &items);
+    let (items, found) = left_of(alloc, bytes, bits, gaps, rules, stream)?;
+    write_items(room, &items, count)?;
     *totals = totals_in_c(found);
+    Ok(())
+}
+
+/// The items that the first `bits` bits of these bytes complete, with the group in progress where the stream ends behind them,
+/// and the totals of the report.
+fn left_of(
+    alloc: Global,
+    bytes: &[u8],
+    bits: u64,
+    gaps: &[RdsGap],
+    rules: RdsRules,
+    stream: &RdsStream,
+) -> Result<(Vec<Item>, Totals), Refusal>
+    ensures items { IfOk result (λ r. AreLeft (terms_of rules gaps.now) stream.now bytes.now bits r.0.items) }
+    ensures totals { IfOk result (λ r. (before : List ℕ) → HasHeard (the_stream_of (terms_of rules gaps.now) stream.now) before
+        → r.1 ≡ totals_of (report_at (terms_of rules gaps.now) (before ++ bytes.now) (8 * length before + bits))) }
+    ensures lawful { IfOk result (λ _. IsFollowed rules gaps.now stream.now × AreLast stream.now bytes.now bits) }
+    ensures refused { IfErr result (RefusesEnd rules gaps.now stream.now bytes.now bits) }
+{
+    let told = told_of(alloc, rules, gaps)?;
+    last_of(alloc, &told, bytes, bits, stream)
+}
+
+/// The items that these bits complete, with the group in progress behind them, and the totals of the report.
+fn last_of(
+    alloc: Global,
+    told: &Told,
+    bytes: &[u8],
+    bits: u64,
+    stream: &RdsStream,
+) -> Result<(Vec<Item>, Totals), Refusal>
+    ensures items { IfOk result (λ r. AreLeft told.now stream.now bytes.now bits r.0.items) }
+    ensures totals { IfOk result (λ r. (before : List ℕ) → HasHeard (the_stream_of told.now stream.now) before
+        → r.1 ≡ totals_of (report_at told.now (before ++ bytes.now) (8 * length before + bits))) }
+    ensures lawful { IfOk result (λ _. IsLive (the_stream_of told.now stream.now) × AreLast stream.now bytes.now bits) }
+    ensures refused { IfErr result (λ refusal. RefusesStream told.now stream.now refusal
+        ⊎ (IsLive (the_stream_of told.now stream.now) × RefusesLast stream.now bytes.now bits refusal)) }
+{
+    let live = live_of(alloc, told, stream)?;
+    refuse_last(live.place(), bytes, bits)?;
+    match ended(alloc, live, bytes, bits) {
+        Ok(left) => Ok(left),
+        Err(_) => Err(Refusal::OutOfMemory),
+    }
+}
+
+/// Refuses bits with which a stream would be too long, and then more than the bytes have.
+fn refuse_last(place: u64, bytes: &[u8], bits: u64) -> Result<(), Refusal>
+    requires { place ≤ 2 ^ 36 }
+    ensures fits { OnOk result ((place + bits ≤ 2 ^ 36) × (bits ≤ 8 * length bytes.now)) }
+    ensures refused { IfErr result (λ refusal.
+        ((refusal ≡ TooLong) × (2 ^ 36 < place + bits))
+        ⊎ ((refusal ≡ BitsPastBytes) × (place + bits ≤ 2 ^ 36) × (8 * length bytes.now < bits))) }
+{
+    if bits > MOST_BITS - place {
+        return Err(Refusal::TooLong);
+    }
+    if bits.div_ceil(8) > bytes.len() as u64 {
+        return Err(Refusal::BitsPastBytes);
+    }
+    Ok(())
+}
+
+/// The items that so many bits complete, with the group in progress where the stream ends behind them, and the totals of the
+/// report.
+fn ended(
+    alloc: Global,
+    live: Live<'_>,
+    bytes: &[u8],
+    bits: u64,
+) -> Result<(Vec<Item>, Totals), StreamError>
+    requires { bits ≤ 8 * length bytes.now }
+    ensures items { IfOk result (λ r. (before : List ℕ) → HasHeard live.entry before
+        → complete live.entry.terms before ++ r.0.items ≡ report_at live.entry.terms (before ++ bytes.now) (8 * length before + bits)) }
+    ensures totals { IfOk result (λ r. (before : List ℕ) → HasHeard live.entry before
+        → r.1 ≡ totals_of (report_at live.entry.terms (before ++ bytes.now) (8 * length before + bits))) }
+{
+    let mut live = live;
+    let (whole, rest) = bytes.split_at((bits / 8) as usize);
+    let mut items = live.take_all(alloc, whole)?;
+    let totals = push_last(alloc, live, rest, bits % 8, &mut items)?;
+    Ok((items, totals))
+}
+
+/// Puts behind the items those that so many bits behind them complete, and the group in progress where the stream ends with
+/// these. The totals of the report.
+fn push_last(
+    alloc: Global,
+    live: Live<'_>,
+    rest: &[u8],
+    bits: u64,
+    items: &mut Vec<Item>,
+) -> Result<Totals, StreamError>
+    requires held { bits ≤ 8 * length rest.now }
+    requires few { bits ≤ 8 }
+    ensures items { OnOk result ((before : List ℕ) (given : List Item) → HasHeard live.entry before
+        → complete live.entry.terms before ≡ given ++ items.old.items
+        → given ++ items.new.items ≡ report_at live.entry.terms (before ++ rest.now) (8 * length before + bits)) }
+    ensures totals { IfOk result (λ totals. (before : List ℕ) → HasHeard live.entry before
+        → totals ≡ totals_of (report_at live.entry.terms (before ++ rest.now) (8 * length before + bits))) }
+{
+    let mut last = Vec::with_capacity(alloc, 16)?;
+    push_with(live, rest, bits, &mut last, items)
+}
+
+/// The same, by way of a list that has room for the last items.
+fn push_with(
+    live: Live<'_>,
+    rest: &[u8],
+    bits: u64,
+    last: &mut Vec<Item>,
+    items: &mut Vec<Item>,
+) -> Result<Totals, StreamError>
+    requires held { bits ≤ 8 * length rest.now }
+    requires few { bits ≤ 8 }
+    requires room { 16 ≤ vec_capacity last.old }
+    ensures items { OnOk result ((before : List ℕ) (given : List Item) → HasHeard live.entry before
+        → complete live.entry.terms before ≡ given ++ items.old.items
+        → given ++ items.new.items ≡ report_at live.entry.terms (before ++ rest.now) (8 * length before + bits)) }
+    ensures totals { IfOk result (λ totals. (before : List ℕ) → HasHeard live.entry before
+        → totals ≡ totals_of (report_at live.entry.terms (before ++ rest.now) (8 * length before + bits))) }
+{
+    let end = live.finish_with(rest, bits, last)?;
+    push_end(items, last, end.group)?;
+    Ok(end.totals)
+}
+
+/// Puts the last items behind the others, and behind them the group in progress, if there is one.
+fn push_end(items: &mut Vec<Item>, last: &[Item], group: Option<Group>) -> Result<(), AllocError>
+    ensures { OnOk result (items.new.items ≡ items.old.items ++ last.now ++ group_item group) }
+{
+    items.extend_from_slice(last)?;
+    if let Some(group) = group {
+        items.push(Item::Group(group))?;
+    }
     Ok(())
 }

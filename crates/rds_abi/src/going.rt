@@ -1,20 +1,20 @@
 //! A run that goes on from a state which the caller keeps.
 
-ghost use Rattle.std.specs.Prelude.{◌≡◌, ◌≢◌, ◌-◌, ◌<◌, ◌≤◌, ◌⊎◌, ℕ, IfErr, IfOk, IfSome, IsOkUnless, None, OnErr, OnOk, false, length, map, true};
+ghost use Rattle.std.specs.Prelude.{◌≡◌, ◌≢◌, ◌-◌, ◌<◌, ◌≤◌, ◌⊎◌, ℕ, IfErr, IfOk, IfSome, IsOkUnless, None, OnErr, OnOk, length, map};
 ghost use Rattle.rds_stream.specs.Recording.{length_of};
 ghost use Rattle.rds_sync.specs.Advance.{group_item};
 ghost use Rattle.rds_sync.specs.Lawful.{IsLawful as IsLawfulState};
 ghost use Rattle.rds_sync.specs.Rules.{RuleNumbers};
 ghost use Rattle.rds_sync.specs.Step.{run as the_run};
 ghost use Rattle.rds_abi.specs.Asked.{IsFilled, IsTooMuch, asked, recording_of as the_recording_of, rules_of as the_rules_of};
-ghost use Rattle.rds_abi.specs.declared.refusal.Refusal.TheVariants.{OutOfMemory};
+ghost use Rattle.rds_abi.specs.declared.refusal.Refusal.TheVariants.{OutOfMemory, PlaceRange, SmallRoom, UnlawfulState};
 ghost use Rattle.rds_abi.specs.Going.{IsRun, RefusesRun, items_at_end, items_of_run, run_asked, state_in_c as the_state_in_c, state_of as the_state_of};
 ghost use Rattle.rds_abi.specs.Layout.{item_in_c};
 
-use crate::asked::{RdsGap, RdsRules, recording_of, rules_of};
+use crate::asked::{Input, RdsGap, RdsRules, input_of};
 use crate::layout::{RdsItem, item_in_c};
 use crate::refusal::Refusal;
-use rds_stream::{Counted, Recording};
+use rds_stream::Counted;
 use rds_sync::{Decoder, Group, Item, Lock, Rules, State, finish, laws, run_codes};
 use std::alloc::Global;
 
@@ -95,11 +95,30 @@ pub(crate) fn state_in_c(state: State) -> RdsState
     }
 }
 
-/// A recording with its rules, and a state that is lawful at a place of it.
+/// The state that a run over the places of this range begins with, in a recording of so many bits.
+fn state_at(rules: &Rules, bits: u64, range: (u64, u64), s: RdsState) -> Result<State, Refusal>
+    ensures state { IfOk result (λ state. state ≡ the_state_of s) }
+    ensures lawful { IfOk result (λ state. IsLawfulState rules.now range.0 state) }
+    ensures order { IfOk result (λ _. range.0 ≤ range.1) }
+    ensures within { IfOk result (λ _. range.1 ≤ bits) }
+    ensures refused { IfErr result (λ refusal.
+        ((refusal ≡ PlaceRange) × ((range.1 < range.0) ⊎ (bits < range.1)))
+        ⊎ ((refusal ≡ UnlawfulState) × (range.0 ≤ range.1) × (range.1 ≤ bits) × (IsLawfulState rules.now range.0 (the_state_of s) → ⊥))) }
+{
+    let (from, to) = range;
+    if to < from || bits < to {
+        return Err(Refusal::PlaceRange);
+    }
+    match state_of(rules, s, from) {
+        Some(state) => Ok(state),
+        None => Err(Refusal::UnlawfulState),
+    }
+}
+
+/// A recording and rules, and a state that is lawful at a place of it.
 #[derive(Drop)]
 struct Start {
-    recording: Recording,
-    rules: Rules,
+    input: Input,
     state: State,
 }
 
@@ -113,27 +132,16 @@ fn start_of(
     range: (u64, u64),
     state: RdsState,
 ) -> Result<Start, Refusal>
-    ensures recording { IfOk result (λ start. start.recording ≡ the_recording_of bytes.now bits gaps.now) }
-    ensures len { IfOk result (λ start. length_of start.recording ≡ bits) }
-    ensures rules { IfOk result (λ start. start.rules ≡ the_rules_of rules) }
+    ensures recording { IfOk result (λ start. start.input.recording ≡ the_recording_of bytes.now bits gaps.now) }
+    ensures len { IfOk result (λ start. length_of start.input.recording ≡ bits) }
+    ensures rules { IfOk result (λ start. start.input.rules ≡ the_rules_of rules) }
     ensures state { IfOk result (λ start. start.state ≡ the_state_of state) }
     ensures lawful { IfOk result (λ _. IsRun (asked bytes.now bits gaps.now rules) range.0 range.1 state) }
     ensures refused { IfErr result (RefusesRun (asked bytes.now bits gaps.now rules) range.0 range.1 state) }
 {
-    let (from, to) = range;
-    let rules = rules_of(alloc, rules)?;
-    let recording = recording_of(alloc, bytes, bits, gaps)?;
-    if to < from || bits < to {
-        return Err(Refusal::PlaceRange);
-    }
-    match state_of(&rules, state, from) {
-        Some(state) => Ok(Start {
-            recording,
-            rules,
-            state,
-        }),
-        None => Err(Refusal::UnlawfulState),
-    }
+    let input = input_of(alloc, bytes, bits, gaps, rules)?;
+    let state = state_at(&input.rules, bits, range, state)?;
+    Ok(Start { input, state })
 }
 
 /// Runs over the places from `from` to before `to` of a recording, from a state that is lawful before `from`, and writes
@@ -169,12 +177,44 @@ pub fn run(
 {
     let start = start_of(alloc, bytes, bits, gaps, rules, range, *state)?;
     let (from, to) = range;
-    let (end, number) = counted(alloc, &start, from, to)?;
+    go_on(alloc, &start, from, to, state, room, count)
+}
+
+/// Runs over these places from a start, and writes what this gives.
+fn go_on(
+    alloc: Global,
+    start: &Start,
+    from: u64,
+    to: u64,
+    state: &mut RdsState,
+    room: &mut [RdsItem],
+    count: &mut u64,
+) -> Result<(), Refusal>
+    requires lawful { IsLawfulState start.now.input.rules from start.now.state }
+    requires order { from ≤ to }
+    requires within { to ≤ length_of start.now.input.recording }
+    ensures filled { OnOk result (IsFilled (map item_in_c (the_run start.now.input.recording start.now.input.rules start.now.state from (to - from)).1) room.old room.new) }
+    ensures count { OnOk result (count.new ≡ length (the_run start.now.input.recording start.now.input.rules start.now.state from (to - from)).1) }
+    ensures laid { OnOk result (state.new ≡ the_state_in_c (the_run start.now.input.recording start.now.input.rules start.now.state from (to - from)).0) }
+    ensures state { OnOk result (the_state_of state.new ≡ (the_run start.now.input.recording start.now.input.rules start.now.state from (to - from)).0) }
+    ensures next { OnOk result (IsLawfulState start.now.input.rules to (the_state_of state.new)) }
+    ensures untouched { OnErr result ((room.new ≡ room.old) × (state.new ≡ state.old)) }
+    ensures refused { IfErr result (λ refusal.
+        IsTooMuch (map item_in_c (the_run start.now.input.recording start.now.input.rules start.now.state from (to - from)).1) (length room.old) refusal count.new
+        ⊎ ((refusal ≡ OutOfMemory) × (count.new ≡ count.old))) }
+{
+    let (end, number) = counted(alloc, start, from, to)?;
     *count = number as u64;
     if room.len() < number {
         return Err(Refusal::SmallRoom);
     }
-    let items = Decoder::new(&start.recording, &start.rules, start.state, from, to);
+    let items = Decoder::new(
+        &start.input.recording,
+        &start.input.rules,
+        start.state,
+        from,
+        to,
+    );
     fill_run(room, items);
     *state = state_in_c(end);
     Ok(())
@@ -182,17 +222,18 @@ pub fn run(
 
 /// The state at the end of a run, and how many items it gives.
 fn counted(alloc: Global, start: &Start, from: u64, to: u64) -> Result<(State, usize), Refusal>
-    requires lawful { IsLawfulState start.now.rules from start.now.state }
+    requires lawful { IsLawfulState start.now.input.rules from start.now.state }
     requires order { from ≤ to }
-    requires within { to ≤ length_of start.now.recording }
-    ensures state { IfOk result (λ end. end.0 ≡ (the_run start.now.recording start.now.rules start.now.state from (to - from)).0) }
-    ensures count { IfOk result (λ end. end.1 ≡ length (the_run start.now.recording start.now.rules start.now.state from (to - from)).1) }
-    ensures lawful { IfOk result (λ end. IsLawfulState start.now.rules to end.0) }
+    requires within { to ≤ length_of start.now.input.recording }
+    ensures state { IfOk result (λ end. end.0 ≡ (the_run start.now.input.recording start.now.input.rules start.now.state from (to - from)).0) }
+    ensures count { IfOk result (λ end. end.1 ≡ length (the_run start.now.input.recording start.now.input.rules start.now.state from (to - from)).1) }
+    ensures lawful { IfOk result (λ end. IsLawfulState start.now.input.rules to end.0) }
     ensures refused { IsOkUnless result OutOfMemory }
 {
+    let input = &start.input;
     laws::runs_give_few_items();
-    prove!(to <= start.recording.len());
-    match run_codes(alloc, &start.recording, &start.rules, start.state, from, to) {
+    prove!(to <= input.recording.len());
+    match run_codes(alloc, &input.recording, &input.rules, start.state, from, to) {
         Ok((end, codes)) => Ok((end, codes.len())),
         Err(_) => Err(Refusal::OutOfMemory),
     }
@@ -211,21 +252,24 @@ fn fill_run(room: &mut [RdsItem], items: Decoder<'_>)
 }
 
 /// Writes the group in progress, if there is one, to the beginning of the room, and to the count whether there is one.
-/// Whether there was room for it.
-pub(crate) fn fill_end(room: &mut [RdsItem], group: Option<Group>, count: &mut u64) -> bool
-    ensures filled { result ≡ true → IsFilled (map item_in_c (group_item group)) room.old room.new }
+pub(crate) fn write_end(
+    room: &mut [RdsItem],
+    group: Option<Group>,
+    count: &mut u64,
+) -> Result<(), Refusal>
+    ensures filled { OnOk result (IsFilled (map item_in_c (group_item group)) room.old room.new) }
     ensures count { count.new ≡ length (group_item group) }
-    ensures untouched { result ≡ false → room.new ≡ room.old }
-    ensures small { result ≡ false → length room.old < length (group_item group) }
+    ensures untouched { OnErr result (room.new ≡ room.old) }
+    ensures refused { IfErr result (λ refusal. (refusal ≡ SmallRoom) × (length room.old < length (group_item group))) }
 {
     *count = u64::from(group.is_some());
     if let Some(group) = group {
         let Some(slot) = room.first_mut() else {
-            return false;
+            return Err(Refusal::SmallRoom);
         };
         *slot = item_in_c(Item::Group(group));
     }
-    true
+    Ok(())
 }
 
 /// Writes the group in progress at a recording's end, where a run over it ended in this state, to the beginning of
@@ -252,10 +296,7 @@ pub fn finish_run(
         ⊎ (RefusesRun (asked bytes.now bits gaps.now rules) bits bits state refusal × (count.new ≡ count.old))) }
 {
     let start = start_of(alloc, bytes, bits, gaps, rules, (bits, bits), state)?;
-    let tape = &mut Counted::new(&start.recording);
-    let group = finish(tape, &start.rules, start.state);
-    if !fill_end(room, group, count) {
-        return Err(Refusal::SmallRoom);
-    }
-    Ok(())
+    let tape = &mut Counted::new(&start.input.recording);
+    let group = finish(tape, &start.input.rules, start.state);
+    write_end(room, group, count)
 }

@@ -1,53 +1,14 @@
 //! A recording that is handed over whole.
 
 ghost use Rattle.std.specs.Prelude.{◌≡◌, ◌++◌, ◌<◌, ◌≤◌, ◌⊎◌, IfErr, IfOk, OnErr, OnOk, drop, length, map};
-ghost use Rattle.rds_abi.specs.Asked.{IsFilled, IsLawful, IsTooMuch, Refuses, asked, items_asked, recording_of as the_recording_of, rules_of as the_rules_of, totals_asked};
+ghost use Rattle.rds_abi.specs.Asked.{IsFilled, IsLawful, IsTooMuch, Refuses, asked, items_asked, totals_asked};
 ghost use Rattle.rds_abi.specs.Layout.{item_in_c};
-ghost use Rattle.rds_sync.specs.Decoding.{listed};
-ghost use Rattle.rds_sync.specs.Report.{report_items};
-ghost use Rattle.rds_sync.specs.Totals.{totals_of};
 
-use crate::asked::{RdsGap, RdsRules, recording_of, rules_of};
+use crate::asked::{Input, RdsGap, RdsRules, input_of};
 use crate::layout::{RdsItem, RdsTotals, item_in_c, totals_in_c};
 use crate::refusal::Refusal;
-use rds_stream::Recording;
-use rds_sync::{ItemIter, Report, Rules, decode_plain};
+use rds_sync::{ItemIter, Items, decode_plain};
 use std::alloc::Global;
-
-/// A recording with its rules and its report.
-#[derive(Drop)]
-struct Decoded {
-    recording: Recording,
-    rules: Rules,
-    report: Report,
-}
-
-/// The report of the first `bits` bits of these bytes, with these gaps, by these rules.
-fn report_of(
-    alloc: Global,
-    bytes: &[u8],
-    bits: u64,
-    gaps: &[RdsGap],
-    rules: RdsRules,
-) -> Result<Decoded, Refusal>
-    ensures items { IfOk result (λ d. d.report.items ≡ listed d.recording d.rules (report_items d.recording d.rules)) }
-    ensures totals { IfOk result (λ d. d.report.totals ≡ totals_of (report_items d.recording d.rules)) }
-    ensures recording { IfOk result (λ d. d.recording ≡ the_recording_of bytes.now bits gaps.now) }
-    ensures rules { IfOk result (λ d. d.rules ≡ the_rules_of rules) }
-    ensures lawful { IfOk result (λ _. IsLawful (asked bytes.now bits gaps.now rules)) }
-    ensures refused { IfErr result (Refuses (asked bytes.now bits gaps.now rules)) }
-{
-    let rules = rules_of(alloc, rules)?;
-    let recording = recording_of(alloc, bytes, bits, gaps)?;
-    match decode_plain(alloc, &recording, &rules) {
-        Ok(report) => Ok(Decoded {
-            recording,
-            rules,
-            report,
-        }),
-        Err(_) => Err(Refusal::OutOfMemory),
-    }
-}
 
 /// The totals of the first `bits` bits of these bytes, the highest bit of a byte first, with these gaps, by these rules.
 ///
@@ -64,8 +25,11 @@ pub fn totals(
     ensures lawful { IfOk result (λ _. IsLawful (asked bytes.now bits gaps.now rules)) }
     ensures refused { IfErr result (Refuses (asked bytes.now bits gaps.now rules)) }
 {
-    let found = report_of(alloc, bytes, bits, gaps, rules)?;
-    Ok(totals_in_c(found.report.totals))
+    let input = input_of(alloc, bytes, bits, gaps, rules)?;
+    match decode_plain(alloc, &input.recording, &input.rules) {
+        Ok(report) => Ok(totals_in_c(report.totals)),
+        Err(_) => Err(Refusal::OutOfMemory),
+    }
 }
 
 /// Writes the items of the first `bits` bits of these bytes to the beginning of `room`, in order of place, and how many
@@ -91,13 +55,32 @@ pub fn items(
         × IsTooMuch (items_asked (asked bytes.now bits gaps.now rules)) (length room.old) refusal count.new)
         ⊎ (Refuses (asked bytes.now bits gaps.now rules) refusal × (count.new ≡ count.old))) }
 {
-    let found = report_of(alloc, bytes, bits, gaps, rules)?;
-    let items = &found.report.items;
+    let input = input_of(alloc, bytes, bits, gaps, rules)?;
+    match decode_plain(alloc, &input.recording, &input.rules) {
+        Ok(report) => write_items(room, &report.items, &input, count),
+        Err(_) => Err(Refusal::OutOfMemory),
+    }
+}
+
+/// Writes the items of a report to the beginning of the room, and how many they are to the count.
+fn write_items(
+    room: &mut [RdsItem],
+    items: &Items,
+    input: &Input,
+    count: &mut u64,
+) -> Result<(), Refusal>
+    requires source { items.now.source ≡ input.now.recording }
+    requires rules { items.now.rules ≡ input.now.rules }
+    ensures filled { OnOk result (IsFilled (map item_in_c items.now.list) room.old room.new) }
+    ensures count { OnOk result (count.new ≡ length items.now.list) }
+    ensures room { OnErr result (room.new ≡ room.old) }
+    ensures refused { IfErr result (λ refusal. IsTooMuch (map item_in_c items.now.list) (length room.old) refusal count.new) }
+{
     *count = items.len() as u64;
     if room.len() < items.len() {
         return Err(Refusal::SmallRoom);
     }
-    fill(room, items.iter(&found.recording, &found.rules));
+    fill(room, items.iter(&input.recording, &input.rules));
     Ok(())
 }
 

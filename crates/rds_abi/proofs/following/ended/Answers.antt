@@ -15,21 +15,21 @@ same_end old new before bytes whole rest bits terms front back long =
     ap (λ (t : Terms). report_at t (before ++ whole ++ rest) (8 * length (before ++ whole) + bits % 8)) terms
     ∙ ap₂ (λ (all : List ℕ) (n : ℕ). report_at old all n) bytes_are at
 
-pub returns-in-Ok-closed-clause-items : goal.returns-in-Ok-closed-clause-items
-returns-in-Ok-closed-clause-items c before h =
+pub returns-clause-items : goal.returns-clause-items
+returns-clause-items c before h =
     let old = c.args.live.terms in
     let new = c.take_all.new.self.terms in
     let whole = c.split_at.result.0.now in
     let same : new ≡ old = c.take_all.ensures.terms in
-    c.in-Ok-closed.ensures.items (before ++ whole) (complete old before) (c.in-Ok.ensures.heard before h)
-    (ap (λ (t : Terms). complete t (before ++ whole)) same ∙ c.in-Ok.ensures.items before h)
+    c.in_ok-totals.ensures.items (before ++ whole) (complete old before) (c.in_ok-items.ensures.heard before h)
+    (ap (λ (t : Terms). complete t (before ++ whole)) same ∙ c.in_ok-items.ensures.items before h)
     ∙ same_end old new before c.args.bytes.now whole c.split_at.result.1.now c.args.bits same c.split_at.ensures.front c.split_at.ensures.back c.split_at.ensures.front_len
 
-pub returns-in-Ok-closed-clause-totals : goal.returns-in-Ok-closed-clause-totals
-returns-in-Ok-closed-clause-totals c before h =
+pub returns-clause-totals : goal.returns-clause-totals
+returns-clause-totals c before h =
     let old = c.args.live.terms in
     let new = c.take_all.new.self.terms in
     let whole = c.split_at.result.0.now in
-    c.in-Ok-closed.ensures.totals (before ++ whole) (c.in-Ok.ensures.heard before h)
+    c.in_ok-totals.ensures.totals (before ++ whole) (c.in_ok-items.ensures.heard before h)
     ∙ ap (λ (items : List Item). totals_of items)
     (same_end old new before c.args.bytes.now whole c.split_at.result.1.now c.args.bits c.take_all.ensures.terms c.split_at.ensures.front c.split_at.ensures.back c.split_at.ensures.front_len)

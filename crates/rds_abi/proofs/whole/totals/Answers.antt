@@ -2,7 +2,7 @@ use Rattle.std.proofs.Common.{ap, refl, ◌∙◌}
 use Rattle.rds_abi.specs.Layout.{totals_in_c}
 use Rattle.rds_abi.proofs.whole.totals.Goals as goal
 
-pub returns-clause-found : goal.returns-clause-found
-returns-clause-found c =
-    let found = c.in_ok-found.ensures in
-    c.totals_in_c.ensures ∙ ap totals_in_c (rw (found.totals, found.recording, found.rules) refl)
+pub returns-in-Ok-clause-found : goal.returns-in-Ok-clause-found
+returns-in-Ok-clause-found c =
+    let input = c.in_ok-input.ensures in
+    c.totals_in_c.ensures ∙ ap totals_in_c (rw (c.in-Ok.ensures.totals, input.recording, input.rules) refl)
