@@ -11,7 +11,7 @@ use Rattle.rds_abi.specs.Going.{state_in_c, state_of}
 use Rattle.rds_abi.specs.Layout.{item_in_c, totals_in_c}
 use Rattle.rds_abi.specs.declared.asked.RdsGap.{RdsGap}
 use Rattle.rds_abi.specs.declared.asked.RdsRules.{RdsRules}
-use Rattle.rds_abi.specs.declared.following.RdsStream.{RdsStream}
+use Rattle.rds_abi.specs.declared.layout.RdsStream.{RdsStream}
 use Rattle.rds_abi.specs.declared.layout.RdsItem.{RdsItem}
 use Rattle.rds_abi.specs.declared.layout.RdsTotals.{RdsTotals}
 use Rattle.rds_abi.specs.declared.refusal.Refusal.{Refusal}

@@ -7,7 +7,7 @@ use Rattle.rds_sync.specs.declared.state.State.{State}
 use Rattle.rds_sync.specs.declared.state.State.TheVariants.{Locked, Searching}
 use Rattle.rds_abi.specs.Asked.{Asked, IsLawful, Refuses, recording_of, rules_of}
 use Rattle.rds_abi.specs.Layout.{item_in_c}
-use Rattle.rds_abi.specs.declared.going.RdsState.{RdsState}
+use Rattle.rds_abi.specs.declared.layout.RdsState.{RdsState}
 use Rattle.rds_abi.specs.declared.layout.RdsItem.{RdsItem}
 use Rattle.rds_abi.specs.declared.refusal.Refusal.{Refusal}
 use Rattle.rds_abi.specs.declared.refusal.Refusal.TheVariants.{PlaceRange, UnlawfulState}

@@ -11,8 +11,8 @@ ghost use Rattle.rds_abi.specs.Layout.{item_in_c, totals_in_c};
 ghost use Rattle.rds_abi.specs.declared.refusal.Refusal.TheVariants.{BitsPastBytes, OutOfMemory, SmallRoom, TooLong};
 
 use crate::asked::{RdsGap, RdsRules, gaps_in, rules_of};
-use crate::going::{RdsState, state_in_c, state_of, write_end};
-use crate::layout::{RdsItem, RdsTotals, item_in_c, totals_in_c};
+use crate::going::{state_in_c, state_of, write_end};
+use crate::layout::{RdsItem, RdsStream, RdsTotals, item_in_c, totals_in_c};
 use crate::refusal::Refusal;
 use rds_live::{Live, ResumeError};
 use rds_stream::StreamError;
@@ -25,30 +25,6 @@ const MOST_KEPT: u64 = 30;
 
 /// The most bits that a stream may have.
 const MOST_BITS: u64 = 1 << 36;
-
-/// What is known of a stream between two chunks: 160 bytes, all 0 where nothing was heard yet.
-#[repr(C)]
-#[derive(Clone, Copy, Debug, PartialEq, Eq)]
-pub struct RdsStream {
-    /// How many bits were heard, which is the place of the next.
-    pub place: u64,
-    /// The state after them.
-    pub state: RdsState,
-    /// The totals of the items that are complete.
-    pub totals: RdsTotals,
-    /// The last 30 bytes that were heard, or all, and zeros behind them. What is handed over there means nothing.
-    pub tail: [u8; 32],
-}
-
-impl RdsStream {
-    /// A stream of which nothing was heard yet.
-    pub const UNHEARD: RdsStream = RdsStream {
-        place: 0,
-        state: RdsState::SEARCHING,
-        totals: RdsTotals::NONE,
-        tail: [0; 32],
-    };
-}
 
 /// Totals, from C.
 fn totals_from_c(totals: RdsTotals) -> Totals

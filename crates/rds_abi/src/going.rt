@@ -12,36 +12,11 @@ ghost use Rattle.rds_abi.specs.Going.{IsRun, RefusesRun, items_at_end, items_of_
 ghost use Rattle.rds_abi.specs.Layout.{item_in_c};
 
 use crate::asked::{Input, RdsGap, RdsRules, input_of};
-use crate::layout::{RdsItem, item_in_c};
+use crate::layout::{RdsItem, RdsState, item_in_c};
 use crate::refusal::Refusal;
 use rds_stream::Counted;
 use rds_sync::{Decoder, Group, Item, Lock, Rules, State, finish, laws, run_codes};
 use std::alloc::Global;
-
-/// What a run knows between two bits: 24 bytes, all 0 where no block is known.
-#[repr(C)]
-#[derive(Clone, Copy, Debug, PartialEq, Eq)]
-pub struct RdsState {
-    /// Where the next block ends.
-    pub due: u64,
-    /// The lock's bad blocks, 0 where there are none: how many of the last in a row were bad; or, by a share, which of the
-    /// last, the newest lowest, 1 is bad.
-    pub bad: u64,
-    /// The number of the next block, 1 to 4, or 0 where no block is known.
-    pub number: u32,
-    /// The number of the first block that was read in the group in progress.
-    pub first: u32,
-}
-
-impl RdsState {
-    /// The state of a run that knows no block yet.
-    pub const SEARCHING: RdsState = RdsState {
-        due: 0,
-        bad: 0,
-        number: 0,
-        first: 0,
-    };
-}
 
 /// The lock that these numbers say, of a block that is known, or none where it is not lawful before `place`.
 fn lock_of(rules: &Rules, s: RdsState, place: u64) -> Option<State>

@@ -86,6 +86,55 @@ pub struct RdsItem {
     pub unused: u32,
 }
 
+/// What a run knows between two bits: 24 bytes, all 0 where no block is known.
+#[repr(C)]
+#[derive(Clone, Copy, Debug, PartialEq, Eq)]
+pub struct RdsState {
+    /// Where the next block ends.
+    pub due: u64,
+    /// The lock's bad blocks, 0 where there are none: how many of the last in a row were bad; or, by a share, which of the
+    /// last, the newest lowest, 1 is bad.
+    pub bad: u64,
+    /// The number of the next block, 1 to 4, or 0 where no block is known.
+    pub number: u32,
+    /// The number of the first block that was read in the group in progress.
+    pub first: u32,
+}
+
+impl RdsState {
+    /// The state of a run that knows no block yet.
+    pub const SEARCHING: RdsState = RdsState {
+        due: 0,
+        bad: 0,
+        number: 0,
+        first: 0,
+    };
+}
+
+/// What is known of a stream between two chunks: 160 bytes, all 0 where nothing was heard yet.
+#[repr(C)]
+#[derive(Clone, Copy, Debug, PartialEq, Eq)]
+pub struct RdsStream {
+    /// How many bits were heard, which is the place of the next.
+    pub place: u64,
+    /// The state after them.
+    pub state: RdsState,
+    /// The totals of the items that are complete.
+    pub totals: RdsTotals,
+    /// The last 30 bytes that were heard, or all, and zeros behind them. What is handed over there means nothing.
+    pub tail: [u8; 32],
+}
+
+impl RdsStream {
+    /// A stream of which nothing was heard yet.
+    pub const UNHEARD: RdsStream = RdsStream {
+        place: 0,
+        state: RdsState::SEARCHING,
+        totals: RdsTotals::NONE,
+        tail: [0; 32],
+    };
+}
+
 /// Totals, for C.
 pub(crate) fn totals_in_c(totals: Totals) -> RdsTotals
     ensures { result ≡ totals_in_c totals }

@@ -21,7 +21,7 @@
 #![tactic(auto)]
 
 // In the order of reading: what crosses to C, what is asked for, and the calls.
-mod layout; // What is found, as it lies in C.
+mod layout; // What is found, and what is known between two calls, as it lies in C.
 mod asked; // What a caller asks for.
 mod whole; // A recording that is handed over whole.
 mod going; // A run from range to range.
@@ -33,10 +33,10 @@ mod refusal; // Why a call is refused.
 
 pub use asked::{RdsGap, RdsRules};
 pub use blocks::{correct, remainder};
-pub use following::{RdsStream, finish, finish_with, push};
-pub use going::{RdsState, finish_run, run};
+pub use following::{finish, finish_with, push};
+pub use going::{finish_run, run};
 pub use groups::{RdsPacked, RdsWords, encode};
-pub use layout::{RdsBlock, RdsItem, RdsTotals};
+pub use layout::{RdsBlock, RdsItem, RdsState, RdsStream, RdsTotals};
 pub use names::{VERSION, refusal_name};
 pub use refusal::Refusal;
 pub use whole::{items, totals};

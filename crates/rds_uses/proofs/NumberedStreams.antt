@@ -6,7 +6,7 @@ use Rattle.rds_live.specs.Live.{HasHeard, Terms, report_at, report_of}
 use Rattle.rds_abi.specs.Examples.Layouts.{unheard}
 use Rattle.rds_abi.specs.Following.{AreClosed, AreCompleted, AreLeft, AreWritten, stream_in_c, stream_of}
 use Rattle.rds_abi.specs.Layout.{item_in_c}
-use Rattle.rds_abi.specs.declared.following.RdsStream.{RdsStream}
+use Rattle.rds_abi.specs.declared.layout.RdsStream.{RdsStream}
 use Rattle.rds_abi.specs.declared.layout.RdsItem.{RdsItem}
 use Rattle.rds_uses.proofs.Wholes.{written}
 
