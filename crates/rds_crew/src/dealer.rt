@@ -1,15 +1,15 @@
 //! A dealer of the numbers of pieces: any threads draw them, each with a seat of its own, and nobody waits.
 ghost use Rattle.std.specs.Prelude.{◌≡◌, ◌⊎◌, ◌↔◌, ◌+◌, ◌^◌, ◌<◌, ◌≤◌};
-ghost use Rattle.std.specs.Prelude.{ℕ, Some, None, IfSome, IfNone, IfOk, IfErr, IsErrOf, length, replicate, All};
-ghost use Rattle.rds_crew.specs.Deal.{held_count};
+ghost use Rattle.std.specs.Prelude.{ℕ, [], Some, None, IfSome, IfNone, IfOk, IfErr, IsErrOf, length, replicate, All};
+ghost use Rattle.rds_crew.specs.Deal.{fresh, held_count};
 ghost use Rattle.rds_crew.specs.Seats.{fresh_seat, seat_after, IsOf, HasRested, DrewAllOnce, DidWholeRun};
 ghost use Rattle.rds_crew.specs.declared.deal.Event.TheVariants.{Draw, Finish, Progress};
 
 use crate::deal::{Draws, Finishes, OneShare, Pools, Rule, Tells, Terms, View};
 use crate::error::CrewError;
-use crate::seat::Seat;
-use atomic_table::Table;
-use std::alloc::Global;
+use crate::seat::{Seat, Token};
+use atomic_table::{Shared, Table};
+use std::alloc::{AllocError, Global};
 use std::marker::Model;
 
 /// The most seats that a dealer may have.
@@ -78,13 +78,8 @@ impl Dealer {
             pieces,
             seats: u64::from(seats),
         };
-        let (table, mut token) = Table::of_words(alloc, &[0, 0], &terms)?;
-        let mut dealt = Vec::with_capacity(alloc, seats as usize)?;
-        for _ in 0..seats - 1 {
-            let other = table.shared.split_seat::<OneShare>(&mut token);
-            dealt.push_reserved(Seat::of_token(other));
-        }
-        dealt.push_reserved(Seat::of_token(token));
+        let (table, token) = Table::of_words(alloc, &[0, 0], &terms)?;
+        let dealt = seats_of(alloc, &table.shared, token, seats)?;
         Ok((Dealer { table, pieces }, dealt))
     }
 
@@ -188,4 +183,31 @@ impl Dealer {
             finished,
         }
     }
+}
+
+/// The seats of so many shares, which a new table's token has.
+fn seats_of(
+    alloc: Global,
+    shared: &Shared<(), View, Terms, Rule>,
+    token: Token,
+    seats: u32,
+) -> Result<Vec<Seat>, AllocError>
+    requires words { shared.now.table_id.words ≡ 2 }
+    requires table { token.table_id ≡ shared.now.table_id }
+    requires new { token.me ≡ (fresh shared.now.key.pieces seats, []) }
+    requires some { 0 < seats }
+    requires few { shared.now.key.pieces < 2 ^ 63 }
+    ensures { IfOk result (λ dealt. dealt.items ≡ replicate seats (record {
+      dealer = record { table = shared.now.table_id; pieces = shared.now.key.pieces };
+      view = fresh shared.now.key.pieces 1;
+    })) }
+{
+    let mut token = token;
+    let mut dealt = Vec::with_capacity(alloc, seats as usize)?;
+    for _ in 0..seats - 1 {
+        let other = shared.split_seat::<OneShare>(&mut token);
+        dealt.push_reserved(Seat::of_token(other));
+    }
+    dealt.push_reserved(Seat::of_token(token));
+    Ok(dealt)
 }

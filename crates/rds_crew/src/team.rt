@@ -40,13 +40,53 @@ pub(crate) fn make_all<R: Threads + Wait, P: Parts + Sync>(
     if threads == 0 {
         return Ok(Vec::new(alloc));
     }
-    let (dealer, seats) = Dealer::new(alloc, count, threads)?;
-    let drawn = if threads == 1 {
-        draw_alone(alloc, parts, &dealer, seats)?
-    } else {
-        draw_by_threads(rt, alloc, parts, &dealer, seats)?
-    };
+    deal_out(rt, alloc, parts, threads, slots)
+}
+
+/// All parts, which are dealt to so many threads, from these slots.
+fn deal_out<R: Threads + Wait, P: Parts + Sync>(
+    rt: &R,
+    alloc: Global,
+    parts: &P,
+    threads: u32,
+    slots: Vec<Option<P::Made>>,
+) -> Result<Vec<P::Made>, CrewError>
+    requires ready { P.ready parts.now }
+    requires some { 0 < threads }
+    requires few { threads ≤ 256 }
+    requires slots { length slots.items ≡ P.how_many parts.now }
+    ensures made { IfOk result (λ made. made.items
+        ≡ map (P.made_of parts.now) (range_with_len 0 (P.how_many parts.now))) }
+    ensures err { IfErr result (λ e. (e ≡ CrewError.OutOfMemory) ⊎ (e ≡ CrewError.NoWorker)) }
+    ensures no_worker { IsErrOf result CrewError.NoWorker → 1 < threads }
+{
+    let (dealer, seats) = Dealer::new(alloc, slots.len() as u64, threads)?;
+    let drawn = draw(rt, alloc, parts, &dealer, seats)?;
     in_order(alloc, parts, dealer, drawn, slots)
+}
+
+/// What is drawn with these seats: with one by the calling thread, else by a thread for each.
+fn draw<R: Threads + Wait, P: Parts + Sync>(
+    rt: &R,
+    alloc: Global,
+    parts: &P,
+    dealer: &Dealer,
+    seats: Vec<Seat>,
+) -> Result<Vec<Drawn<P::Made>>, CrewError>
+    requires ready { P.ready parts.now }
+    requires all { dealer.now.name.pieces ≡ P.how_many parts.now }
+    requires new { All (IsFresh dealer.now) seats.items }
+    requires some { 0 < length seats.items }
+    ensures drawn { IfOk result (λ drawn. All (IsDrawn (P.made_of parts.now) dealer.now) drawn.items) }
+    ensures len { IfOk result (λ drawn. length drawn.items ≡ length seats.items) }
+    ensures err { IfErr result (λ e. (e ≡ CrewError.OutOfMemory) ⊎ (e ≡ CrewError.NoWorker)) }
+    ensures no_worker { IsErrOf result CrewError.NoWorker → 1 < length seats.items }
+{
+    if seats.len() == 1 {
+        draw_alone(alloc, parts, dealer, seats)
+    } else {
+        draw_by_threads(rt, alloc, parts, dealer, seats)
+    }
 }
 
 /// What the calling thread draws, with one seat.
@@ -64,13 +104,15 @@ fn draw_alone<P: Parts>(
     ensures len { IfOk result (λ drawn. length drawn.items ≡ length seats.items) }
     ensures err { IsOkUnless result CrewError.OutOfMemory }
 {
+    let mut seats = seats;
+    let Some(seat) = seats.pop() else {
+        unreachable!()
+    };
     let mut drawn = Vec::with_capacity(alloc, 1)?;
-    for seat in seats {
-        let Ok(made) = draw_all(alloc, parts, dealer, seat) else {
-            return Err(CrewError::OutOfMemory);
-        };
-        drawn.push_reserved(made);
-    }
+    let Ok(made) = draw_all(alloc, parts, dealer, seat) else {
+        return Err(CrewError::OutOfMemory);
+    };
+    drawn.push_reserved(made);
     Ok(drawn)
 }
 
@@ -127,19 +169,38 @@ fn start_workers<'s, E, R: Threads, P: Parts + Sync>(
     // The room is taken before the first thread is started, so that no running thread's handle is lost.
     let mut threads = Vec::with_capacity(alloc, seats.len())?;
     for seat in seats {
-        let promise = DrawPromise::new(parts, dealer);
-        let draws = move || -> Result<Drawn<P::Made>, PieceError>
-            requires { P.ready parts.now × (dealer.now.name.pieces ≡ P.how_many parts.now)
-                × IsFresh dealer.now seat }
-            ensures { IfOk result (IsDrawn (P.made_of parts.entry.now) dealer.entry.now) }
-        { draw_all(alloc, parts, dealer, seat) };
-        let Ok(thread) = scope.spawn_with(promise, draws) else {
+        let Ok(thread) = start(scope, alloc, parts, dealer, seat) else {
             wait_for(rt, threads);
             return Err(CrewError::NoWorker);
         };
         threads.push_reserved(thread);
     }
     Ok(threads)
+}
+
+/// Starts the thread of a seat.
+fn start<'s, E, P: Parts + Sync>(
+    scope: &'s Scope<'s, E>,
+    alloc: Global,
+    parts: &'s P,
+    dealer: &'s Dealer,
+    seat: Seat,
+) -> Result<Worker<P>, CrewError>
+    requires ready { P.ready parts.now }
+    requires all { dealer.now.name.pieces ≡ P.how_many parts.now }
+    requires new { IsFresh dealer.now seat }
+    ensures { IfOk result (IsWorkerOf parts.now dealer.now) }
+{
+    let promise = DrawPromise::new(parts, dealer);
+    let draws = move || -> Result<Drawn<P::Made>, PieceError>
+        requires { P.ready parts.now × (dealer.now.name.pieces ≡ P.how_many parts.now)
+            × IsFresh dealer.now seat }
+        ensures { IfOk result (IsDrawn (P.made_of parts.entry.now) dealer.entry.now) }
+    { draw_all(alloc, parts, dealer, seat) };
+    match scope.spawn_with(promise, draws) {
+        Ok(thread) => Ok(thread),
+        Err(_) => Err(CrewError::NoWorker),
+    }
 }
 
 /// Waits for the threads, and drops what they made.

@@ -1,7 +1,8 @@
 //! The tree of joins: neighbours become one run, level by level, until one run is left.
 ghost use Rattle.std.specs.Prelude.{◌≡◌, ◌⊎◌, ◌<◌, ◌≤◌, length, IfOk, IfErr, IsOkUnless, IsErrOf};
 ghost use Rattle.rds_stream.specs.Recording.{length_of};
-ghost use Rattle.rds_pieces.specs.RunOf.{FollowEachOther};
+ghost use Rattle.rds_pieces.specs.JointOf.{joint_of};
+ghost use Rattle.rds_pieces.specs.RunOf.{FollowEachOther, run_over};
 ghost use Rattle.rds_crew.specs.Inside.Tree.{joints_of, level_above};
 
 use crate::error::CrewError;
@@ -89,16 +90,31 @@ fn put_together<W: Work>(
     let mut above = Vec::with_capacity(alloc, below.len().div_ceil(2))?;
     let mut runs = below.into_iter();
     for joint in joints {
-        let (Some(left), Some(right)) = (runs.next(), runs.next()) else {
+        let Some(left) = runs.next() else {
             unreachable!()
         };
-        let Ok(run) = PieceRun::joined(left, joint, right) else {
-            return Err(CrewError::OutOfMemory);
+        let Some(right) = runs.next() else {
+            unreachable!()
         };
-        above.push_reserved(run);
+        above.push_reserved(joined(left, joint, right)?);
     }
     if let Some(last) = runs.next() {
         above.push_reserved(last);
     }
     Ok(above)
+}
+
+/// Two neighbours as one run, by what joins them.
+fn joined(left: PieceRun, joint: Joint, right: PieceRun) -> Result<PieceRun, CrewError>
+    requires next { left.to ≡ right.from }
+    requires source { right.source ≡ left.source }
+    requires rules { right.rules ≡ left.rules }
+    requires joint { joint ≡ joint_of left right }
+    ensures ok { IfOk result (λ run. run ≡ run_over left.source left.rules left.from right.to) }
+    ensures err { IsOkUnless result CrewError.OutOfMemory }
+{
+    match PieceRun::joined(left, joint, right) {
+        Ok(run) => Ok(run),
+        Err(_) => Err(CrewError::OutOfMemory),
+    }
 }
