@@ -4,7 +4,6 @@ ghost use Rattle.std.specs.Prelude.{◌≡◌, IfSome, None};
 ghost use Rattle.rds_abi.specs.declared.refusal.Refusal.TheVariants.{OutOfMemory};
 
 use std::alloc::AllocError;
-use std::fmt;
 use thiserror::Error;
 
 /// A refusal. Those of the decoder have the numbers and names that the program gives them; those of the library alone
@@ -12,32 +11,46 @@ use thiserror::Error;
 #[derive(Clone, Copy, Debug, PartialEq, Eq, Error)]
 pub enum Refusal {
     /// The longest burst to be corrected is above 5 bits.
+    #[error("the burst limit is above 5")]
     BurstRange,
     /// The reach is not 1 to 8 blocks.
+    #[error("the reach is not 1 to 8")]
     ReachRange,
     /// The loss is not 1 to 64 blocks.
+    #[error("the loss is not 1 to 64")]
     LossRange,
     /// More bits were claimed than the bytes hold.
+    #[error("more bits than the bytes hold")]
     BitsPastBytes,
     /// A recording holds at most 2^36 bits.
+    #[error("more than 2^36 bits")]
     TooLong,
     /// Memory was refused.
+    #[error("out of memory")]
     OutOfMemory,
     /// The share is not `loss` of the last `of` blocks, 1 ≤ loss ≤ of ≤ 64.
+    #[error("the share is not 1 to 64 bad blocks of as many or more, up to 64")]
     ShareRange,
     /// The gaps of a recording each have a place, lie within its bits, and begin at or after the end of the one before.
+    #[error("gaps that are empty, out of order or past the bits")]
     BadGaps,
     /// There is too little room for the items. How many there are was told.
+    #[error("too little room for the items")]
     SmallRoom,
     /// The state is none that a call can have left.
+    #[error("a state that no call left")]
     UnlawfulState,
     /// The places are no range of the recording.
+    #[error("places that are no range of the recording")]
     PlaceRange,
     /// A word has more than 26 bits.
+    #[error("a word of more than 26 bits")]
     BlockRange,
     /// A number that is none of an offset.
+    #[error("a number that is none of an offset")]
     OffsetRange,
     /// A number that is none of a refusal.
+    #[error("a number that is none of a refusal")]
     NoRefusal,
 }
 
@@ -110,29 +123,6 @@ impl Refusal {
             Refusal::OffsetRange => "OffsetRange",
             Refusal::NoRefusal => "NoRefusal",
         }
-    }
-}
-
-impl fmt::Display for Refusal {
-    fn fmt<W: fmt::Write>(&self, f: &mut fmt::Formatter<W>) -> fmt::Result {
-        let reason = match self {
-            Refusal::BurstRange => "the burst limit is above 5",
-            Refusal::ReachRange => "the reach is not 1 to 8",
-            Refusal::LossRange => "the loss is not 1 to 64",
-            Refusal::BitsPastBytes => "more bits than the bytes hold",
-            Refusal::TooLong => "more than 2^36 bits",
-            Refusal::OutOfMemory => "out of memory",
-            Refusal::ShareRange =>
-                "the share is not 1 to 64 bad blocks of as many or more, up to 64",
-            Refusal::BadGaps => "gaps that are empty, out of order or past the bits",
-            Refusal::SmallRoom => "too little room for the items",
-            Refusal::UnlawfulState => "a state that no call left",
-            Refusal::PlaceRange => "places that are no range of the recording",
-            Refusal::BlockRange => "a word of more than 26 bits",
-            Refusal::OffsetRange => "a number that is none of an offset",
-            Refusal::NoRefusal => "a number that is none of a refusal",
-        };
-        f.write_str(reason)
     }
 }
 
