@@ -6,7 +6,7 @@ use Rattle.rds_sync.specs.declared.item.Group.{Group as GroupRecord}
 use Rattle.rds_sync.specs.declared.item.Item.{Item}
 use Rattle.rds_live.specs.Live.{HasHeard, IsLive, LiveOf, Terms, complete, most_kept, report_at, report_of}
 use Rattle.rds_sync.specs.Ranges.{IsInRange}
-use Rattle.rds_abi.specs.Following.{AreClosed, AreCompleted, AreLeft, AreTooMany, AreWritten, IsFollowed, RefusesEnd, RefusesFollowed, RefusesLast, RefusesPush, RefusesStream, place_after, stream_of, terms_of}
+use Rattle.rds_abi.specs.Following.{AreClosed, AreLeft, AreTooMany, AreWritten, IsFollowed, RefusesEnd, RefusesFollowed, RefusesLast, RefusesPush, RefusesStream, place_after, stream_of, terms_of}
 use Rattle.rds_abi.specs.Asked.{IsFilled, rules_of}
 use Rattle.rds_abi.specs.Going.{state_of}
 use Rattle.rds_abi.specs.Layout.{item_in_c, totals_in_c}
@@ -66,14 +66,7 @@ refused_last rules gaps s bytes bits r range (inl of_stream) = inl (inr (range, 
 refused_last rules gaps s bytes bits r range (inr (live, of_last)) = inr (record { range = range; live = live }, of_last)
 
 module _ (terms : Terms) (s : RdsStream) (live : LiveOf) (is : live ≡ stream_of terms s) where
-  -- the items that it completed
-  pub completed : (bytes : List ℕ) (items : List Item)
-      → ((before : List ℕ) → HasHeard live before → complete live.terms (before ++ bytes) ≡ complete live.terms before ++ items)
-      → AreCompleted terms s bytes items
-  completed bytes items gives =
-      subst (λ (l : LiveOf). (before : List ℕ) → HasHeard l before → complete l.terms (before ++ bytes) ≡ complete l.terms before ++ items) is gives
-
-  -- and the group that its end closes
+  -- the group that its end closes
   pub closed : (group : Option GroupRecord)
       → ((bytes : List ℕ) → HasHeard live bytes → complete live.terms bytes ++ group_item group ≡ report_of live.terms bytes)
       → AreClosed terms s (group_item group)
