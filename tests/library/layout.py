@@ -150,8 +150,7 @@ def as_python_has_them(functions):
 def refusals_of_crate():
     """The number of each, its name and what is said of it."""
     text = text_of(f"{TOP}/crates/rds_abi/src/refusal.rt")
-    shown = text[text.index("impl fmt::Display for Refusal") :]
-    said = dict(re.findall(r'Refusal::(\w+) =>[\s{]*"(.*?)"', shown))
+    said = {name: said for said, name in re.findall(r'#\[error\("(.*?)"\)\]\s*(\w+),', text)}
     return {int(number): (name, said[name]) for name, number in re.findall(r"Refusal::(\w+) => (\d+),", text)}
 
 
