@@ -33,6 +33,7 @@ import tempfile
 import time
 from concurrent.futures import ThreadPoolExecutor
 from dataclasses import dataclass, replace
+from threading import Semaphore
 
 from holes import (
     EXPORTED, LIBRARIES, RT, TOP, below, built, checked, copied, functions_of, is_built, over, read, words, write
@@ -293,28 +294,41 @@ def wait_for(crates, where, proofs):
         time.sleep(1)
 
 
+def in_turn(free, *what):
+    """Tries the wrong bodies of a crate when a processor is free for that."""
+    with free:
+        return try_all(*what)
+
+
 def tried(crates, are_right, log):
     """Tries the wrong bodies of these crates, over what is built or beside `rt ci`."""
     told, lanes = told_of(), len(os.sched_getaffinity(0))
-    if log:
-        # One of these follows the log.
-        lanes = lanes // 2 + 1
-    with tempfile.TemporaryDirectory(prefix="wrong-bodies-") as room, ThreadPoolExecutor(lanes) as pool:
+    with tempfile.TemporaryDirectory(prefix="wrong-bodies-") as room, ThreadPoolExecutor(len(crates) + 1) as pool:
         if not log:
             build(crates)
+            free = Semaphore(lanes)
             # Those that take longest come first.
             crates.sort(key=lambda it: len(os.listdir(f"{CRATES}/{it}/wrong")), reverse=True)
-            return sum(pool.map(lambda it: try_all(room, it, built, told, are_right), crates), [])
+            return sum(pool.map(lambda it: in_turn(free, room, it, built, told, are_right), crates), [])
 
         def where(crate):
             return f"{room}/built/{crate}.rlib"
 
+        def follow_to_end():
+            try:
+                follow(log, where)
+            finally:
+                for _ in range(lanes - half):
+                    free.release()
+
         def wait_and_try(crate):
             wait_for(below(crate), where, proofs)
-            return try_all(room, crate, where, told, are_right)
+            return in_turn(free, room, crate, where, told, are_right)
 
         os.mkdir(f"{room}/built")
-        proofs = pool.submit(follow, log, where)
+        half = max(lanes // 2, 1)
+        free = Semaphore(half)
+        proofs = pool.submit(follow_to_end)
         # Those that wait for the fewest come first.
         return sum(pool.map(wait_and_try, sorted(crates, key=lambda it: len(below(it)))), [])
 

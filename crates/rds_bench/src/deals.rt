@@ -14,7 +14,6 @@ use rds_sync::Rules;
 use std::alloc::Global;
 use std::thread;
 use std::thread::Threads;
-use std::time::Instant;
 
 const PIECES: u64 = 16;
 
@@ -51,15 +50,13 @@ fn time_both<T: Threads + Sync, W: Work + Sync>(
 ) -> Result<()>
     requires { IsCutting (length_of (W.recording work.now)) (W.places work.now) }
 {
-    let mut timing = Timing::new(bits);
+    let mut timing = Timing::new(rt, bits)?;
 
-    let start = Instant::now(rt)?;
     let guessed = by_shares(threads, rt.alloc(), work)?;
-    timing.show(rt, Form::free("shared out beforehand"), start, guessed)?;
+    timing.show(rt, Form::free("shared out beforehand"), guessed)?;
 
-    let start = Instant::now(rt)?;
     let guessed = by_draws(threads, rt.alloc(), work)?;
-    timing.show(rt, Form::free("drawn from a dealer"), start, guessed)
+    timing.show(rt, Form::free("drawn from a dealer"), guessed)
 }
 
 /// How many bits the workers guess where worker k has the pieces k, k + 4, k + 8 and so on.

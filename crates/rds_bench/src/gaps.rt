@@ -5,7 +5,6 @@ use anyhow::Result;
 use rds_stream::{Recording, StreamError, ValidWindows};
 use rds_sync::{Rules, decode_plain};
 use std::alloc::{AllocError, Global};
-use std::time::Instant;
 
 /// There is a gap of one place in so many: 100,000 of them in a recording of 100,000,000 bits.
 const EVERY: u64 = 1_000;
@@ -26,7 +25,7 @@ fn time_both(rt: &HostRuntime, whole: &Recording, gapped: &Recording) -> Result<
 
 fn time_decoders(rt: &HostRuntime, whole: &Recording, gapped: &Recording) -> Result<()> {
     let rules = Rules::new(rt.alloc(), 2, 3, 10)?;
-    let mut timing = Timing::new(whole.len());
+    let mut timing = Timing::new(rt, whole.len())?;
     time_decoder(rt, &mut timing, Form::free("one decoder"), whole, &rules)?;
     time_decoder(
         rt,
@@ -38,7 +37,7 @@ fn time_decoders(rt: &HostRuntime, whole: &Recording, gapped: &Recording) -> Res
 }
 
 fn time_searches(rt: &HostRuntime, whole: &Recording, gapped: &Recording) -> Result<()> {
-    let mut timing = Timing::new(whole.len());
+    let mut timing = Timing::new(rt, whole.len())?;
     time_windows(rt, &mut timing, Form::free("valid windows"), whole)?;
     time_windows(
         rt,
@@ -55,9 +54,8 @@ fn time_decoder(
     recording: &Recording,
     rules: &Rules,
 ) -> Result<()> {
-    let start = Instant::now(rt)?;
     let totals = decode_plain(rt.alloc(), recording, rules)?.totals;
-    timing.show(rt, form, start, totals.valid)
+    timing.show(rt, form, totals.valid)
 }
 
 fn time_windows(
@@ -66,9 +64,8 @@ fn time_windows(
     form: Form,
     recording: &Recording,
 ) -> Result<()> {
-    let start = Instant::now(rt)?;
     let found = ValidWindows::new(recording, 0, recording.len()).count();
-    timing.show(rt, form, start, found as u64)
+    timing.show(rt, form, found as u64)
 }
 
 fn with_gaps(alloc: Global, bits: u64, sample: Sample) -> Result<Recording, StreamError> {

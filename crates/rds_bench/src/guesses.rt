@@ -6,7 +6,6 @@ use rds_pieces::{Cutting, speculate};
 use rds_stream::Recording;
 use rds_sync::{Decoder, Rules, State, Totals};
 use std::alloc::Global;
-use std::time::Instant;
 
 pub fn measure(rt: &HostRuntime, bits: u64, sample: Sample) -> Result<()> {
     let recording = sample.recording(rt.alloc(), bits)?;
@@ -24,16 +23,14 @@ fn most_for(sample: Sample) -> u128 {
 }
 
 fn time_both(rt: &HostRuntime, recording: &Recording, rules: &Rules, most: u128) -> Result<()> {
-    let mut timing = Timing::new(recording.len());
+    let mut timing = Timing::new(rt, recording.len())?;
 
-    let start = Instant::now(rt)?;
     let valid = by_items(recording, rules);
-    timing.show(rt, Form::free("item by item"), start, valid)?;
+    timing.show(rt, Form::free("item by item"), valid)?;
 
     // A guess makes no items of its codes.
-    let start = Instant::now(rt)?;
     let valid = by_guess(rt.alloc(), recording, rules)?;
-    timing.show(rt, Form::at_most("a guess", most), start, valid)
+    timing.show(rt, Form::at_most("a guess", most), valid)
 }
 
 /// How many valid blocks the items of the whole recording have.

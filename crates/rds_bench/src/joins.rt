@@ -123,7 +123,7 @@ fn time_all<T: Sync + Threads + Wait, W: Work + Sync>(
 ) -> Result<()>
     requires { IsCutting (length_of (W.recording work.now)) (W.places work.now) }
 {
-    let mut timing = Timing::new(bits);
+    let mut timing = Timing::new(rt, bits)?;
     time_stitching(rt, work, &mut timing)?;
     for tree in &trees() {
         time_tree(rt, threads, work, &mut timing, tree)?;
@@ -137,7 +137,7 @@ fn time_stitching<W: Work>(rt: &HostRuntime, work: &W, timing: &mut Timing) -> R
     let runs = guesses(rt.alloc(), work)?;
     let start = Instant::now(rt)?;
     let valid = work.report(rt.alloc(), runs.as_slice())?.totals.valid;
-    timing.show(rt, Form::free("left to right"), start, valid)
+    timing.show_since(rt, Form::free("left to right"), start, valid)
 }
 
 /// The guesses of all pieces, in order.
@@ -173,6 +173,6 @@ fn time_tree<T: Sync + Threads + Wait, W: Work + Sync>(
     let start = Instant::now(rt)?;
     let report = decode_crew(threads, rt.alloc(), work, tree.workers, &gate)?;
     let begun = gate.begun.into_inner().context("no join was begun")?;
-    timing.show(rt, tree.joins, begun, report.totals.valid)?;
-    timing.show(rt, tree.all, start, report.totals.valid)
+    timing.show_since(rt, tree.joins, begun, report.totals.valid)?;
+    timing.show_since(rt, tree.all, start, report.totals.valid)
 }

@@ -2,24 +2,16 @@
 use crate::timing::{Form, Timing};
 use anyhow::Result;
 use rds_code::{plain, rem26};
-use std::time::Instant;
 
 /// As many blocks as bits, one after the other, so that no recording is read.
 pub fn measure(rt: &HostRuntime, blocks: u64) -> Result<()> {
-    let mut timing = Timing::new(blocks);
+    let mut timing = Timing::new(rt, blocks)?;
 
-    let start = Instant::now(rt)?;
     let found = by_tables(blocks);
-    timing.show(rt, Form::free("by tables"), start, found)?;
+    timing.show(rt, Form::free("by tables"), found)?;
 
-    let start = Instant::now(rt)?;
     let found = by_division(blocks);
-    timing.show(
-        rt,
-        Form::at_least("by dividing each block", 400),
-        start,
-        found,
-    )
+    timing.show(rt, Form::at_least("by dividing each block", 400), found)
 }
 
 /// The sum of the remainders, which all have to be found for it.

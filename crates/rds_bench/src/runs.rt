@@ -9,7 +9,6 @@ use rds_sync::{Rules, decode_plain};
 use std::alloc::Global;
 use std::sync::Wait;
 use std::thread::Threads;
-use std::time::Instant;
 
 /// One decoder, one thread that guesses sixteen pieces and stitches them, and the search for valid windows.
 pub fn measure<T: Threads + Wait>(
@@ -29,21 +28,18 @@ fn time_both<T: Threads + Wait>(
     recording: &Recording,
     rules: &Rules,
 ) -> Result<()> {
-    let mut timing = Timing::new(recording.len());
+    let mut timing = Timing::new(rt, recording.len())?;
 
-    let start = Instant::now(rt)?;
     let valid = one_decoder(rt.alloc(), recording, rules)?;
-    timing.show(rt, Form::free("one decoder"), start, valid)?;
+    timing.show(rt, Form::free("one decoder"), valid)?;
 
     // Each piece is guessed once, and little of it is read again.
-    let start = Instant::now(rt)?;
     let valid = sixteen_pieces(threads, rt.alloc(), recording, rules)?;
-    timing.show(rt, Form::at_most("sixteen pieces", 340), start, valid)?;
+    timing.show(rt, Form::at_most("sixteen pieces", 340), valid)?;
 
     // What a search has to do, whatever it finds.
-    let start = Instant::now(rt)?;
     let windows = ValidWindows::new(recording, 0, recording.len()).count();
-    timing.show(rt, Form::free("valid windows alone"), start, windows as u64)
+    timing.show(rt, Form::free("valid windows alone"), windows as u64)
 }
 
 /// How many valid blocks the report of one decoder counts.

@@ -62,16 +62,36 @@ impl Form {
 pub struct Timing {
     bits: u64,
     first: Option<u64>,
+    /// When the form that comes next was begun.
+    start: Instant,
 }
 
 impl Timing {
-    pub fn new(bits: u64) -> Timing {
-        Timing { bits, first: None }
+    /// The first form begins now.
+    pub fn new(rt: &HostRuntime, bits: u64) -> Result<Timing> {
+        Ok(Timing {
+            bits,
+            first: None,
+            start: Instant::now(rt)?,
+        })
     }
 
-    /// Shows the time since `start` and what the form counted, which is the same for all forms that do the task: an error
-    /// where the time is past the form's bound.
-    pub fn show(&mut self, rt: &HostRuntime, form: Form, start: Instant, found: u64) -> Result<()> {
+    /// Shows the time of a form and what it counted, which is the same for all forms that do the task: an error where the
+    /// time is past the form's bound. The next form begins behind that.
+    pub fn show(&mut self, rt: &HostRuntime, form: Form, found: u64) -> Result<()> {
+        self.show_since(rt, form, self.start, found)?;
+        self.start = Instant::now(rt)?;
+        Ok(())
+    }
+
+    /// Shows the time since `start`, in the same way.
+    pub fn show_since(
+        &mut self,
+        rt: &HostRuntime,
+        form: Form,
+        start: Instant,
+        found: u64,
+    ) -> Result<()> {
         let nanos = nanos_since(rt, start)?;
         let first = *self.first.get_or_insert(nanos);
         let hundredths = nanos as u128 * 100 / self.bits.max(1) as u128;

@@ -6,7 +6,6 @@ use rds_tool::{Cuts, FromRead, Input, Job, Loss, Settings, ToWrite, transcribe};
 use std::alloc::Global;
 use std::sync::Wait;
 use std::thread::Threads;
-use std::time::Instant;
 
 /// A crew of so many workers, and how its time is shown.
 #[derive(Clone, Copy)]
@@ -55,7 +54,7 @@ fn time_crews<T: Threads + Wait + Sync>(
     loss: u32,
     listing: bool,
 ) -> Result<()> {
-    let mut timing = Timing::new((bytes.len() as u64).saturating_mul(8));
+    let mut timing = Timing::new(rt, (bytes.len() as u64).saturating_mul(8))?;
     for crew in &crews() {
         let job = job_of(rt.alloc(), crew.workers, loss, listing);
         time_job(rt, threads, &mut timing, bytes, crew.form, &job)?;
@@ -71,9 +70,8 @@ fn time_job<T: Threads + Wait + Sync>(
     form: Form,
     job: &Job,
 ) -> Result<()> {
-    let start = Instant::now(rt)?;
     let written = written_by(threads, rt.alloc(), bytes, job)?;
-    timing.show(rt, form, start, written)
+    timing.show(rt, form, written)
 }
 
 /// How many bytes the job writes of these.

@@ -4,7 +4,6 @@ use crate::timing::{Form, Timing};
 use anyhow::Result;
 use rds_code::{offset_of, plain};
 use rds_stream::{Recording, ValidWindows, scan};
-use std::time::Instant;
 
 pub fn measure(rt: &HostRuntime, bits: u64) -> Result<()> {
     let recording = Sample::Noise.recording(rt.alloc(), bits)?;
@@ -12,24 +11,20 @@ pub fn measure(rt: &HostRuntime, bits: u64) -> Result<()> {
 }
 
 fn time_all(rt: &HostRuntime, recording: &Recording) -> Result<()> {
-    let mut timing = Timing::new(recording.len());
+    let mut timing = Timing::new(rt, recording.len())?;
 
-    let start = Instant::now(rt)?;
     let found = scan(rt.alloc(), recording, 0, recording.len())?.len();
-    timing.show(rt, Form::free("the scan"), start, found as u64)?;
+    timing.show(rt, Form::free("the scan"), found as u64)?;
 
-    let start = Instant::now(rt)?;
     let found = ValidWindows::new(recording, 0, recording.len()).count();
-    timing.show(rt, Form::free("one after the other"), start, found as u64)?;
+    timing.show(rt, Form::free("one after the other"), found as u64)?;
 
-    let start = Instant::now(rt)?;
     let found = by_tables(recording);
-    timing.show(rt, Form::free("place by place"), start, found)?;
+    timing.show(rt, Form::free("place by place"), found)?;
 
     // The scan goes by planes, and not place by place.
-    let start = Instant::now(rt)?;
     let found = by_division(recording);
-    timing.show(rt, Form::at_least("by long division", 1000), start, found)
+    timing.show(rt, Form::at_least("by long division", 1000), found)
 }
 
 /// How many windows are valid, each remainder taken by tables.
