@@ -3,7 +3,7 @@ use Rattle.std.proofs.Common.{◌≡◌, ℕ, ◌+◌, ◌-◌, ◌*◌, ◌^◌
 use Rattle.std.specs.Prelude.{if◌then◌else◌}
 use Rattle.std.proofs.lemmas.Bool.{cases_lt}
 use Rattle.std.proofs.lemmas.Grind.{flat_map-append}
-use Rattle.std.proofs.lemmas.List.{drop-append-le, take-append-le, take_all}
+use Rattle.std.proofs.lemmas.List.{drop-append-le, drop_all, take-append-le, take_all}
 use Rattle.std.proofs.lemmas.List.Sums.{sum_by-append}
 use Rattle.std.proofs.Math.Seq.{drop-append-add, take-append-add}
 use Rattle.rds_sync.specs.declared.totals.Totals.{Totals}
@@ -55,6 +55,24 @@ kept-into part more n are near =
     ∙ drop-append-le (locks_among n part.codes) part.locks more.locks (locks-enough n part are) in
     ap₂ (λ (cs : List Code) (ls : List ℕ). record { codes = cs; locks = ls }) (drop-append-le n part.codes more.codes near) locks
 
+-- no code is left behind the last one
+pub kept-gone : (part : KeptOf) (n : ℕ) → AreLocks part → length part.codes ≤ n → kept_from n part ≡ no_codes
+kept-gone part n are far =
+    let all : locks_among n part.codes ≡ length part.locks = ap (λ (cs : List Code). count_by is_locked cs) (take_all n part.codes far) ∙ sym are.count in
+    ap₂ (λ (cs : List Code) (ls : List ℕ). record { codes = cs; locks = ls }) (drop_all n part.codes far)
+    (drop_all (locks_among n part.codes) part.locks (omega (arith, all)))
+
+-- what is left of the first part, and of those behind it
+kept-over : (part more : KeptOf) (n : ℕ) → AreLocks part → kept_from n (behind part more) ≡ behind (kept_from n part) (kept_from (n - length part.codes) more)
+kept-over part more n are = elim (cases_lt n (length part.codes)) [
+  | inl near ↦
+      let none : n - length part.codes ≡ 0 = omega (arith, near) in
+      kept-into part more n are (omega (arith, near)) ∙ sym (ap (λ (k : ℕ). behind (kept_from n part) (kept_from k more)) none)
+  | inr far ↦
+      kept-past part more n are (omega (arith, far))
+      ∙ sym (ap (λ (kept : KeptOf). behind kept (kept_from (n - length part.codes) more)) (kept-gone part n are (omega (arith, far))))
+]
+
 -- ---- moving parts behind others
 
 -- the parts that were gone over stand behind the codes before, from a number on; or nothing of them does, where it is behind them
@@ -74,17 +92,12 @@ module _ (old now : KeptOf) (first left : ℕ) (parts : List KeptOf) (part : Kep
   count-more : length (kept_in (parts ++ part ∷ [])).codes ≡ length (kept_in parts).codes + length part.codes
   count-more = ap (λ (kept : KeptOf). length kept.codes) (kept_in-more parts part) ∙ length-append (kept_in parts).codes part.codes
 
-  pub moved-past : length part.codes ≤ left → HasMoved old now first (left - length part.codes) (parts ++ part ∷ [])
-  moved-past far = record {
-    moved = λ more. ap (λ (kept : KeptOf). behind now kept) (sym (kept-past part more left are far)) ∙ one-more more;
+  pub moved-on : (after : KeptOf) → after ≡ behind now (kept_from left part) → HasMoved old after first (left - length part.codes) (parts ++ part ∷ [])
+  moved-on after is = record {
+    moved = λ more. ap (λ (kept : KeptOf). behind kept (kept_from (left - length part.codes) more)) is
+        ∙ behind-assoc now (kept_from left part) (kept_from (left - length part.codes) more)
+        ∙ ap (λ (kept : KeptOf). behind now kept) (sym (kept-over part more left are)) ∙ one-more more;
     within = λ n h. let was : left ≤ length part.codes + n = before.within (length part.codes + n) (omega (arith, h, count-more)) in omega (arith, was);
-  }
-
-  pub moved-into : (after : KeptOf) → left ≤ length part.codes → after ≡ behind now (kept_from left part) → HasMoved old after first 0 (parts ++ part ∷ [])
-  moved-into after near is = record {
-    moved = λ more. ap (λ (kept : KeptOf). behind kept more) is ∙ behind-assoc now (kept_from left part) more
-        ∙ ap (λ (kept : KeptOf). behind now kept) (sym (kept-into part more left are near)) ∙ one-more more;
-    within = λ n h. omega arith;
   }
 
 -- ---- counting parts

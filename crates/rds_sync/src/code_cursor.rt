@@ -7,17 +7,8 @@ ghost use Rattle.rds_sync.specs.Inside.CodeParts.{kept_as, kept_in};
 ghost use Rattle.rds_sync.specs.Marks.{begins_with_loss, is_read};
 ghost use Rattle.rds_sync.specs.Words.{code_in, outcome_at};
 
-use crate::code_part::CodePart;
+use crate::kept::{CodePart, Cursor};
 use crate::words::{ENDED, LOCKED, is_locked, is_read};
-
-/// Before a code: what is left of its part, and the parts after it.
-#[derive(Clone, Copy)]
-pub(crate) struct Cursor<'a> {
-    words: &'a [u16],
-    places: &'a [u64],
-    parts: &'a [CodePart],
-    last: Option<&'a CodePart>,
-}
 
 impl<'a> Cursor<'a> {
     /// Before the first code of these parts and the last one.
@@ -25,30 +16,12 @@ impl<'a> Cursor<'a> {
         ensures sound { IsSound result }
         ensures ahead { kept_ahead result ≡ behind (kept_in parts.now) last.now }
     {
-        Cursor {
+        settled(Cursor {
             words: &[],
             places: &[],
             parts,
             last: Some(last),
-        }
-        .settled()
-    }
-
-    /// The same place, in a part that has a code left wherever there is one.
-    #[inline(always)]
-    fn settled(self) -> Cursor<'a>
-        requires { AreLocks (kept_here self) }
-        ensures sound { IsSound result }
-        ensures same { kept_ahead result ≡ kept_ahead self.entry }
-    {
-        let mut now = self;
-        while now.words.is_empty() {
-            let Some(next) = now.next_part() else {
-                break;
-            };
-            now = next;
-        }
-        now
+        })
     }
 
     /// Behind a part of which no code is left: before the first code of the next one, if there is one.
@@ -75,30 +48,6 @@ impl<'a> Cursor<'a> {
             parts: self.parts,
             last: None,
         })
-    }
-
-    /// The next word, with the place of the acquisition where it is one, and the cursor behind it.
-    #[inline(always)]
-    pub fn next(self) -> Option<(u16, u64, Cursor<'a>)>
-        requires { IsSound self }
-        ensures ahead { MatchOption result (kept_ahead self.entry ≡ no_codes) (λ next. kept_ahead self.entry
-            ≡ behind (kept_as (next.0 ∷ []) (if is_locked (code_in next.0) then next.1 ∷ [] else [])) (kept_ahead next.2)) }
-        ensures sound { IfSome result (λ next. IsSound next.2) }
-        ensures place { IfSome result (λ next. next.1 < 2 ^ 36) }
-    {
-        let (word, words) = self.words.split_first()?;
-        if !is_locked(*word) {
-            let rest = Cursor { words, ..self }.settled();
-            return Some((*word, 0, rest));
-        }
-        let (place, places) = self.places.split_first()?;
-        let rest = Cursor {
-            words,
-            places,
-            ..self
-        }
-        .settled();
-        Some((*word, *place, rest))
     }
 
     /// The next word and the cursor behind it, where it is the word of a group whose block 4 was read, and another word
@@ -132,4 +81,44 @@ impl<'a> Cursor<'a> {
             None => false,
         }
     }
+}
+
+/// The same place, in a part that has a code left wherever there is one.
+#[inline(always)]
+fn settled(cursor: Cursor<'_>) -> Cursor<'_>
+    requires { AreLocks (kept_here cursor) }
+    ensures sound { IsSound result }
+    ensures same { kept_ahead result ≡ kept_ahead cursor.entry }
+{
+    let mut now = cursor;
+    while now.words.is_empty() {
+        let Some(next) = now.next_part() else {
+            break;
+        };
+        now = next;
+    }
+    now
+}
+
+/// The next word, with the place of the acquisition where it is one, and the cursor behind it.
+#[inline(always)]
+pub(crate) fn next_code(cursor: Cursor<'_>) -> Option<(u16, u64, Cursor<'_>)>
+    requires { IsSound cursor }
+    ensures ahead { MatchOption result (kept_ahead cursor.entry ≡ no_codes) (λ next. kept_ahead cursor.entry
+        ≡ behind (kept_as (next.0 ∷ []) (if is_locked (code_in next.0) then next.1 ∷ [] else [])) (kept_ahead next.2)) }
+    ensures sound { IfSome result (λ next. IsSound next.2) }
+    ensures place { IfSome result (λ next. next.1 < 2 ^ 36) }
+{
+    let (word, words) = cursor.words.split_first()?;
+    if !is_locked(*word) {
+        let rest = settled(Cursor { words, ..cursor });
+        return Some((*word, 0, rest));
+    }
+    let (place, places) = cursor.places.split_first()?;
+    let rest = settled(Cursor {
+        words,
+        places,
+        ..cursor
+    });
+    Some((*word, *place, rest))
 }

@@ -6,37 +6,14 @@ ghost use Rattle.rds_sync.specs.Inside.CodeParts.{kept_as};
 ghost use Rattle.rds_sync.specs.Words.{IsKeepable, IsSmall, code_in};
 
 use crate::item::{Block, Item};
+use crate::kept::CodePart;
 use crate::words::{ENDED, LOCKED, locks_in, word_of_blocks};
 use std::alloc::{AllocError, Global};
-use std::marker::Model;
 
 /// How many codes are pushed to a part of a list before the next is begun: they take 6 KiB, and their places up to 8, since
 /// a lock has two codes more than its place at least. So parts fit where others were that were dropped; a list that grew on
 /// in one part would move to ever new memory.
 const FULL: usize = 3072;
-
-/// Words of codes, and the places of the acquisitions among them; the first so many of each are passed over, and are no
-/// part of it.
-#[derive(Drop)]
-pub(crate) struct CodePart {
-    words: Vec<u16>,
-    places: Vec<u64>,
-    words_passed: usize,
-    places_passed: usize,
-}
-
-impl Model for CodePart {
-    ghost use Rattle.std.specs.Prelude.{◌≤◌, length, drop};
-    ghost use Rattle.rds_sync.specs.Codes.{KeptOf, AreLocks};
-    ghost use Rattle.rds_sync.specs.Inside.CodeParts.{kept_as};
-
-    ghost Value = { KeptOf };
-
-    ghost view = { λ p. kept_as (drop p.words_passed p.words.items) (drop p.places_passed p.places.items) };
-
-    ghost invariant = { λ p. (p.words_passed ≤ length p.words.items) × (p.places_passed ≤ length p.places.items)
-        × AreLocks (kept_as (drop p.words_passed p.words.items) (drop p.places_passed p.places.items)) };
-}
 
 impl CodePart {
     /// No codes. Takes no memory.
@@ -109,19 +86,9 @@ impl CodePart {
     {
         match item {
             Item::Acquired { place, number } => self.push_lock(*place, *number),
-            Item::Group(group) => self.push_group(&group.blocks),
+            Item::Group(group) => push_group(self, &group.blocks),
             Item::LostLock { .. } => self.push_word(ENDED),
         }
-    }
-
-    /// Appends the code of a group of these blocks.
-    pub fn push_group(&mut self, group: &[Block; 4]) -> Result<(), AllocError>
-        requires { IsSmall (blocks (map outcome_of group.now)) }
-        ensures ok { OnOk result (self.new
-            ≡ behind self.old (record { codes = blocks (map outcome_of group.now) ∷ []; locks = [] })) }
-        ensures refused { OnErr result (self.new ≡ self.old) }
-    {
-        self.push_word(word_of_blocks(group))
     }
 
     /// Appends a code that is no acquisition's.
@@ -153,30 +120,10 @@ impl CodePart {
         ensures refused { OnErr result (self.new ≡ self.old) }
     {
         self.places.reserve(1)?;
-        self.words.push(LOCKED + u16::from(number))?;
-        self.places.push(place)?;
+        self.words.reserve(1)?;
+        self.words.push_reserved(LOCKED + u16::from(number));
+        self.places.push_reserved(place);
         Ok(())
-    }
-
-    /// The part without its first codes.
-    pub fn after(self, first: usize) -> CodePart
-        requires { first ≤ length self.codes }
-        ensures { result ≡ kept_from first self }
-    {
-        let CodePart {
-            words,
-            places,
-            words_passed,
-            places_passed,
-        } = self;
-        let passed = words_passed + first;
-        let places_passed = places_passed + locks_in(&words[words_passed..passed]);
-        CodePart {
-            words,
-            places,
-            words_passed: passed,
-            places_passed,
-        }
     }
 
     /// The words, and the places of the acquisitions among them.
@@ -188,5 +135,36 @@ impl CodePart {
             &self.words[self.words_passed..],
             &self.places[self.places_passed..],
         )
+    }
+}
+
+/// Appends the code of a group of these blocks.
+pub(crate) fn push_group(part: &mut CodePart, group: &[Block; 4]) -> Result<(), AllocError>
+    requires { IsSmall (blocks (map outcome_of group.now)) }
+    ensures ok { OnOk result (part.new
+        ≡ behind part.old (record { codes = blocks (map outcome_of group.now) ∷ []; locks = [] })) }
+    ensures refused { OnErr result (part.new ≡ part.old) }
+{
+    part.push_word(word_of_blocks(group))
+}
+
+/// A part without its first codes.
+pub(crate) fn rest_of(part: CodePart, first: usize) -> CodePart
+    requires { first ≤ length part.codes }
+    ensures { result ≡ kept_from first part }
+{
+    let CodePart {
+        words,
+        places,
+        words_passed,
+        places_passed,
+    } = part;
+    let passed = words_passed + first;
+    let places_passed = places_passed + locks_in(&words[words_passed..passed]);
+    CodePart {
+        words,
+        places,
+        words_passed: passed,
+        places_passed,
     }
 }

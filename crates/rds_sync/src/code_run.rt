@@ -15,12 +15,14 @@ ghost use Rattle.rds_sync.specs.Step.{run, step, items_at};
 ghost use Rattle.rds_sync.specs.declared.state.State.TheVariants.{Locked, Searching};
 
 use crate::acquiring::has_partner_in;
-use crate::code_part::CodePart;
+use crate::code_part::push_group;
 use crate::codes::Codes;
 use crate::due::Due;
 use crate::error::SyncError;
+use crate::follow::{blocks_before, read_due};
 use crate::item::Block;
-use crate::lock::{BLOCK_PLACES, Lock, blocks_before, read_due};
+use crate::kept::CodePart;
+use crate::lock::{BLOCK_PLACES, Lock};
 use crate::loss::NONE_BAD;
 use crate::rules::Rules;
 use crate::short_lock::word_if_lost;
@@ -260,9 +262,9 @@ fn follow_code(
     let due = lock.after(loss, good);
     match due {
         Due::Inside(_) => {}
-        Due::Closed(_) => codes.push_group(blocks)?,
+        Due::Closed(_) => push_group(codes, blocks)?,
         Due::Lost => {
-            codes.push_group(blocks)?;
+            push_group(codes, blocks)?;
             codes.push_word(ENDED)?;
         }
     }

@@ -1,15 +1,16 @@
 //! What a run keeps of its items: a code of 16 bits each, and the places of the acquisitions.
 
-ghost use Rattle.std.specs.Prelude.{◌≡◌, ◌≤◌, ◌<◌, ◌+◌, ◌*◌, ◌^◌, [], ◌∷◌, length, take, IfOk, OnOk, OnErr};
+ghost use Rattle.std.specs.Prelude.{◌≡◌, ◌≤◌, ◌<◌, ◌+◌, ◌-◌, ◌*◌, ◌^◌, [], ◌∷◌, length, take, IfOk, OnOk, OnErr};
 ghost use Rattle.rds_sync.specs.Codes.{kept_of, no_codes, behind, kept_from, totals_of_codes, AreLocks};
 ghost use Rattle.rds_sync.specs.Counting.{IsAtMost};
 ghost use Rattle.rds_sync.specs.Lawful.{IsLawful};
 ghost use Rattle.rds_sync.specs.Marks.{marks_from};
 ghost use Rattle.rds_sync.specs.Words.{IsKeepable};
 
-use crate::code_part::CodePart;
+use crate::code_part::rest_of;
 use crate::code_totals::totals_of_words;
 use crate::item::Item;
+use crate::kept::CodePart;
 use crate::marks::Marks;
 use crate::rules::Rules;
 use crate::state::State;
@@ -109,17 +110,9 @@ impl Codes {
         let Codes { before, last } = other;
         let mut left = first;
         for part in before {
-            let len = part.len();
-            if left < len {
-                self.push_part(part.after(left))?;
-                left = 0;
-            } else {
-                left -= len;
-            }
+            left = self.push_from(part, left)?;
         }
-        if left < last.len() {
-            self.push_part(last.after(left))?;
-        }
+        self.push_from(last, left)?;
         Ok(())
     }
 
@@ -179,6 +172,21 @@ impl Codes {
         let full = mem::replace(&mut self.last, next);
         self.before.push_reserved(full);
         Ok(())
+    }
+
+    /// Appends the codes of a part from number `first` on. Tells how many are passed over behind it, where it has not
+    /// so many.
+    fn push_from(&mut self, part: CodePart, first: usize) -> Result<usize, AllocError>
+        ensures moved { OnOk result (self.new ≡ behind self.old (kept_from first part)) }
+        ensures left { IfOk result (λ left. left ≡ first - length part.codes) }
+        ensures locks { AreLocks part }
+    {
+        let len = part.len();
+        if len <= first {
+            return Ok(first - len);
+        }
+        self.push_part(rest_of(part, first))?;
+        Ok(0)
     }
 
     /// Appends a part.

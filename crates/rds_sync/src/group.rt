@@ -6,6 +6,7 @@ ghost use Rattle.rds_stream.specs.Recording.{offset_heard as the_offset_heard};
 ghost use Rattle.rds_sync.specs.Acquiring.{is_numbered};
 ghost use Rattle.rds_sync.specs.Inside.GroupParts.{IsGroupPart};
 
+use crate::group_part::GroupPart;
 use crate::item::{Block, Group};
 use crate::lock::BLOCK_PLACES;
 use crate::rules::Rules;
@@ -21,16 +22,6 @@ pub(crate) fn is_numbered(heard: Option<u32>, number: u8) -> bool
         Some(offset) => offset.number().get() == number,
         None => false,
     }
-}
-
-/// The blocks of a group that are read: `first` to `last`. The last one ends at `place`, where this
-/// was heard.
-#[derive(Clone, Copy)]
-pub(crate) struct GroupPart {
-    pub first: u8,
-    pub last: u8,
-    pub place: u64,
-    pub heard: Option<u32>,
 }
 
 /// Block `number` of the group that `part` describes; `Missing` outside it. Only a block before the last takes

@@ -10,7 +10,7 @@ use crate::push::push_one;
 use crate::rules::Rules;
 use crate::span::Span;
 use crate::state::State;
-use crate::step::finish;
+use crate::steps::finish;
 use rds_stream::{Counted, Recording};
 use std::iter::FusedIterator;
 use std::marker::Model;

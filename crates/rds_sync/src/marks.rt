@@ -14,8 +14,8 @@ ghost use Rattle.rds_sync.specs.declared.mark.Mark.{Mark};
 ghost use Rattle.rds_sync.specs.declared.state.State.TheVariants.{Locked};
 ghost use Rattle.rds_sync.specs.Words.{blocks_in, code_in, outcome_at};
 
-use crate::code_cursor::Cursor;
-use crate::code_part::CodePart;
+use crate::code_cursor::next_code;
+use crate::kept::{CodePart, Cursor};
 use crate::lock::{BLOCK_PLACES, Lock};
 use crate::loss::{Loss, NONE_BAD, mask_after};
 use crate::mark::Mark;
@@ -181,7 +181,7 @@ fn next_mark<'a>(loss: Loss, cursor: Cursor<'a>, mark: Mark) -> Option<(Mark, Cu
 {
     let mut ahead = cursor;
     let mut now = mark;
-    while let Some((word, place, rest)) = ahead.next() {
+    while let Some((word, place, rest)) = next_code(ahead) {
         now = after_word(loss, place, word, now);
         ahead = rest;
         if !goes_on(word, rest) {

@@ -9,8 +9,9 @@ ghost use Rattle.rds_sync.specs.declared.state.State.TheVariants.{Locked, Search
 
 use crate::acquiring::{Acquisition, has_partner_in};
 use crate::due::Due;
+use crate::follow::{blocks_before, closed_group, follow};
 use crate::item::Item;
-use crate::lock::{Lock, blocks_before, closed_group, follow};
+use crate::lock::Lock;
 use crate::rules::Rules;
 use crate::state::State;
 use crate::step::Step;

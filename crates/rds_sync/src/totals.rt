@@ -229,6 +229,6 @@ impl Totals {
 fn is_whole(group: &Group) -> bool
     ensures { result ≡ true → totals_of (GroupItem group.now ∷ []) ≡ whole_totals 1 }
 {
-    let [one, two, three, four] = &group.blocks;
-    one.is_valid() && two.is_valid() && three.is_valid() && four.is_valid()
+    let blocks = &group.blocks;
+    blocks[0].is_valid() && blocks[1].is_valid() && blocks[2].is_valid() && blocks[3].is_valid()
 }

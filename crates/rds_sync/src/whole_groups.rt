@@ -16,9 +16,9 @@ ghost use Rattle.rds_sync.specs.Stretch.{IsStretch};
 ghost use Rattle.rds_sync.specs.Words.{blocks_in};
 ghost use Rattle.rds_sync.specs.declared.state.State.TheVariants.{Locked};
 
-use crate::code_part::CodePart;
 use crate::error::SyncError;
 use crate::item::{Block, Item};
+use crate::kept::CodePart;
 use crate::lock::{BLOCK_PLACES, Lock};
 use crate::loss::{Loss, NONE_BAD};
 use crate::rules::Rules;

@@ -1,6 +1,6 @@
 -- A walk over what a run keeps, code by code: what is left of it. Cited by the bodies below `Codes` and `Marks`, and by no public call.
 use Rattle.std.specs.Prelude.{◌≡◌, ℕ, ◌+◌, length, None, Some}
-use Rattle.rds_sync.specs.declared.code_cursor.Cursor.{Cursor}
+use Rattle.rds_sync.specs.declared.kept.Cursor.{Cursor}
 use Rattle.rds_sync.specs.Codes.{KeptOf, AreLocks, behind, no_codes}
 use Rattle.rds_sync.specs.Inside.CodeParts.{kept_as, kept_in}
 

@@ -1,7 +1,7 @@
 -- A walk along the marks that codes tell: what is left of them, and that places stay in a word. Cited by the bodies below `Marks`, and
 -- by no public call.
 use Rattle.std.specs.Prelude.{◌≡◌, ℕ, ◌+◌, ◌-◌, ◌*◌, ◌^◌, ◌≤◌, List, ◌++◌, ⊤}
-use Rattle.rds_sync.specs.declared.code_cursor.Cursor.{Cursor}
+use Rattle.rds_sync.specs.declared.kept.Cursor.{Cursor}
 use Rattle.rds_sync.specs.declared.loss.Loss.{Loss}
 use Rattle.rds_sync.specs.declared.mark.Mark.{Mark}
 use Rattle.rds_sync.specs.declared.state.State.{State}

@@ -2,7 +2,7 @@
 use Rattle.std.specs.Prelude.{◌≡◌, ◌^◌, ◌<◌, ◌≤◌, IfSome}
 use Rattle.rds_stream.specs.Recording.{Signal, length_of, heard}
 use Rattle.rds_sync.specs.Lawful.{HaveRoom}
-use Rattle.rds_sync.specs.declared.group.GroupPart.{GroupPart}
+use Rattle.rds_sync.specs.declared.group_part.GroupPart.{GroupPart}
 
 -- the blocks first to last, of which the last ends at this place, where this was heard
 pub record IsGroupPart (b : Signal) (part : GroupPart) : Type 0 where

@@ -1,5 +1,5 @@
 use Rattle.std.proofs.Common.{◌≤◌, ◌-◌, ◌∷◌, List, length}
-use Rattle.rds_sync.specs.declared.code_cursor.Cursor.{Cursor}
+use Rattle.rds_sync.specs.declared.kept.Cursor.{Cursor}
 use Rattle.rds_sync.specs.declared.loss.Loss.{Loss}
 use Rattle.rds_sync.specs.declared.mark.Mark.{Mark}
 use Rattle.rds_sync.specs.Inside.CodeCursors.{kept_ahead, IsSound}

@@ -8,7 +8,7 @@ use Rattle.rds_sync.specs.Inside.Due.{state_of, IsAfter}
 use Rattle.rds_sync.specs.Groups.{group}
 use Rattle.rds_sync.proofs.DueLemmas.{step-due, items-inside, items-closed, items-lost}
 use Rattle.rds_sync.proofs.HeardLemmas.{good-heard}
-use Rattle.rds_sync.proofs.step.read_due.Goals as goal
+use Rattle.rds_sync.proofs.steps.read_due.Goals as goal
 
 pub returns-in-Inside-clause-state : goal.returns-in-Inside-clause-state
 returns-in-Inside-clause-state g c =

@@ -1,6 +1,6 @@
 use Rattle.std.proofs.Common.{◌≡◌, ◌-◌, ◌*◌}
 use Rattle.rds_sync.specs.Groups.{blocks_at}
-use Rattle.rds_sync.proofs.lock.blocks_before.Given as goal
+use Rattle.rds_sync.proofs.follow.blocks_before.Given as goal
 
 -- the blocks before this number were read
 abbrev pub invariant-loop-number : goal.invariant-loop-number

@@ -3,7 +3,7 @@ use Rattle.std.proofs.Common.{subst, sym}
 use Rattle.rds_sync.specs.Inside.Due.{IsAfter}
 use Rattle.rds_sync.proofs.DueLemmas.{step-due}
 use Rattle.rds_sync.proofs.DueItems.{given-due, followed-due}
-use Rattle.rds_sync.proofs.lock.follow.Goals as goal
+use Rattle.rds_sync.proofs.follow.follow.Goals as goal
 
 pub returns-clause-state : goal.returns-clause-state
 returns-clause-state c =

@@ -4,7 +4,7 @@ use Rattle.rds_sync.specs.Codes.{Code, KeptOf, AreLocks, is_locked, locks_among,
 use Rattle.rds_sync.specs.Inside.CodeParts.{kept_as}
 use Rattle.rds_sync.specs.Words.{code_in}
 use Rattle.rds_sync.proofs.CodeLocks.{locks-enough, locks-from, passed-further}
-use Rattle.rds_sync.proofs.code_part.CodePart.after.Goals as goal
+use Rattle.rds_sync.proofs.code_part.rest_of.Goals as goal
 
 -- the words that are passed over now were counted
 module _ (ws ps : List ℕ) (w p first n : ℕ) (counted : n ≡ count_by is_locked (map code_in (take (w + first - w) (drop w ws)))) where
@@ -22,23 +22,23 @@ module _ (ws ps : List ℕ) (w p first n : ℕ) (counted : n ≡ count_by is_loc
 
 pub invariant_of-result : goal.invariant_of-result
 invariant_of-result c =
-    let inside = c.self.inside in
-    let are = c.self.invariant.2 in
+    let inside = c.part.inside in
+    let are = c.part.invariant.2 in
     let ws = inside.words.items in
     let ps = inside.places.items in
     let w = inside.words_passed in
     let p = inside.places_passed in
     let first = c.args.first in
     let n = c.locks_in.result in
-    let kept : first ≤ length (drop w ws) = grind (arith, c.requires, c.self.view_is, length-map) in (
-      omega (arith, kept, length-drop w ws, c.self.invariant.0),
-      within ws ps w p first n (grind (arith, c.locks_in.ensures, c.deref.ensures.value)) c.self.invariant.1 are,
+    let kept : first ≤ length (drop w ws) = grind (arith, c.requires, c.part.view_is, length-map) in (
+      omega (arith, kept, length-drop w ws, c.part.invariant.0),
+      within ws ps w p first n (grind (arith, c.locks_in.ensures, c.deref.ensures.value)) c.part.invariant.1 are,
       subst (λ (kept : KeptOf). AreLocks kept) (sym (further ws ps w p first n (grind (arith, c.locks_in.ensures, c.deref.ensures.value))))
           (locks-from first (kept_as (drop w ws) (drop p ps)) are),
     )
 
 pub returns : goal.returns
 returns c =
-    let inside = c.self.inside in
+    let inside = c.part.inside in
     further inside.words.items inside.places.items inside.words_passed inside.places_passed c.args.first c.locks_in.result (grind (arith, c.locks_in.ensures, c.deref.ensures.value))
-    ∙ ap (λ (kept : KeptOf). kept_from c.args.first kept) c.self.view_is
+    ∙ ap (λ (kept : KeptOf). kept_from c.args.first kept) c.part.view_is

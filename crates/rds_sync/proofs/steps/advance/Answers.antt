@@ -6,7 +6,7 @@ use Rattle.rds_sync.specs.Lawful.{IsLawful}
 use Rattle.rds_sync.specs.Step.{step}
 use Rattle.rds_sync.proofs.LawfulLemmas.{lawful-lock, lawful-step}
 use Rattle.rds_sync.proofs.RunLemmas.{run-due, run-early}
-use Rattle.rds_sync.proofs.step.advance.Goals as goal
+use Rattle.rds_sync.proofs.steps.advance.Goals as goal
 
 pub returns-in-Searching-clause-lawful : goal.returns-in-Searching-clause-lawful
 returns-in-Searching-clause-lawful g c =

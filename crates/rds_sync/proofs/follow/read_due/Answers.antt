@@ -6,8 +6,8 @@ use Rattle.rds_code.specs.declared.reading.Wanted.TheVariants.{Either}
 use Rattle.rds_sync.specs.Groups.{block_at, wanted_beside}
 use Rattle.rds_sync.proofs.GroupBlocks.{blocks_at-next}
 use Rattle.rds_sync.proofs.HeardLemmas.{good-reading}
-use Rattle.rds_sync.proofs.lock.read_due.Goals as goal
-use Rattle.rds_sync.proofs.lock.read_due.Goals.{then-lock-eq3, else-lock-eq3, After-index-blocks-lock}
+use Rattle.rds_sync.proofs.follow.read_due.Goals as goal
+use Rattle.rds_sync.proofs.follow.read_due.Goals.{then-lock-eq3, else-lock-eq3, After-index-blocks-lock}
 
 -- the number that is read is the lock's
 reading_is : (c : After-index-blocks-lock) → c.read-reading.result ≡ reading_heard c.window.result c.args.lock.number c.if-lock-eq3.wanted c.args.rules.now.burst

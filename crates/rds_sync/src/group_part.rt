@@ -1,0 +1,11 @@
+//! Which blocks of a group are read.
+
+/// The blocks of a group that are read: `first` to `last`. The last one ends at `place`, where this
+/// was heard.
+#[derive(Clone, Copy)]
+pub(crate) struct GroupPart {
+    pub first: u8,
+    pub last: u8,
+    pub place: u64,
+    pub heard: Option<u32>,
+}

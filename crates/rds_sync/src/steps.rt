@@ -1,0 +1,154 @@
+//! A run over a tape, step by step: a bit while searching, a block while locked.
+
+ghost use Rattle.std.specs.Prelude.{◌≡◌, ◌≤◌, ◌<◌, ◌+◌, ◌-◌, ◌*◌, ◌^◌, length};
+ghost use Rattle.rds_stream.specs.Recording.{length_of};
+ghost use Rattle.rds_sync.specs.Advance.{next_place, reads_most, items_in, group_item};
+ghost use Rattle.rds_sync.specs.Lawful.{IsLawful, IsLawfulLock};
+ghost use Rattle.rds_sync.specs.Step.{step, items_at, run, items_of_end};
+
+use crate::acquiring::acquire;
+use crate::due::Due;
+use crate::group::{is_numbered, read_group};
+use crate::group_part::GroupPart;
+use crate::item::{Group, Item};
+use crate::lock::{BLOCK_PLACES, Lock};
+use crate::rules::Rules;
+use crate::state::State;
+use crate::step::Step;
+use rds_stream::Tape;
+
+/// One step of a run from a state that is lawful before `place`, towards `to`: a bit while
+/// searching; while locked, up to and including the block that is due, or up to `to` where that
+/// comes first. Runs are this project's rule, after EN 50067:1998, annex C.
+///
+/// It asks the tape for at most `reach` + 1 windows while searching, and at most four while
+/// locked; for none where no block is due before `to`. The tape has counted at most 2^63 - 16
+/// windows before. Takes no memory.
+pub fn advance<T: Tape>(tape: &mut T, rules: &Rules, state: State, place: u64, to: u64) -> Step
+    requires lawful { IsLawful rules.now place state }
+    requires before { place < to }
+    requires within { to ≤ length_of (T.signal tape.old) }
+    requires counted { T.reads_made tape.old + 16 ≤ 2 ^ 63 }
+
+    ensures place { result.place ≡ next_place state place to }
+    ensures state { result.state
+        ≡ (run (T.signal tape.old) rules.now state place (result.place - place)).0 }
+    ensures items { items_in result.items
+        ≡ (run (T.signal tape.old) rules.now state place (result.place - place)).1 }
+    ensures lawful { IsLawful rules.now result.place result.state }
+    ensures forward { (place < result.place) × (result.place ≤ to) }
+
+    ensures same { T.signal tape.new ≡ T.signal tape.old }
+    ensures reads { T.reads_made tape.new ≤ T.reads_made tape.old + reads_most rules.now state to }
+{
+    prove!(to <= tape.len());
+    prove!(1 <= rules.reach());
+    match state {
+        State::Searching => search(tape, rules, place),
+        State::Locked(lock) if lock.due < to => read_due(tape, rules, lock),
+        State::Locked(_) => Step {
+            place: to,
+            state,
+            items: [None, None],
+        },
+    }
+}
+
+/// The group in progress at the end of the recording, where the run ended in `state`, as far as it
+/// was read, or none: this project's rule. Asks the tape, which has counted at most 2^63 - 16
+/// windows before, for at most three, and takes no memory.
+pub fn finish<T: Tape>(tape: &mut T, rules: &Rules, state: State) -> Option<Group>
+    requires lawful { IsLawful rules.now (length_of (T.signal tape.old)) state }
+    requires counted { T.reads_made tape.old + 16 ≤ 2 ^ 63 }
+
+    ensures group { group_item result ≡ items_of_end (T.signal tape.old) rules.now state }
+
+    ensures same { T.signal tape.new ≡ T.signal tape.old }
+    ensures reads { T.reads_made tape.new ≤ T.reads_made tape.old + 3 }
+{
+    match state {
+        State::Locked(lock) if lock.number != 1 => {
+            let place = lock.due - BLOCK_PLACES;
+            let heard = tape.window(place);
+            let part = GroupPart {
+                first: lock.first,
+                last: lock.number - 1,
+                place,
+                heard,
+            };
+            Some(read_group(tape, rules, part))
+        }
+        _ => None,
+    }
+}
+
+/// The bit at a place, while searching.
+fn search<T: Tape>(tape: &mut T, rules: &Rules, place: u64) -> Step
+    requires within { place < length_of (T.signal tape.old) }
+    requires place { place < 2 ^ 36 }
+    requires counted { T.reads_made tape.old + 16 ≤ 2 ^ 63 }
+    ensures place { result.place ≡ place + 1 }
+    ensures state { result.state ≡ step (T.signal tape.old) rules.now place State.Searching }
+    ensures items { items_in result.items
+        ≡ items_at (T.signal tape.old) rules.now place State.Searching }
+    ensures same { T.signal tape.new ≡ T.signal tape.old }
+    ensures reads { T.reads_made tape.new ≤ T.reads_made tape.old + (rules.now.reach + 1) }
+{
+    match acquire(tape, rules, place) {
+        None => Step {
+            place: place + 1,
+            state: State::Searching,
+            items: [None, None],
+        },
+        Some(found) => Step {
+            place: place + 1,
+            state: State::Locked(found.lock()),
+            items: found.items(rules),
+        },
+    }
+}
+
+/// The block that is due, while locked.
+fn read_due<T: Tape>(tape: &mut T, rules: &Rules, lock: Lock) -> Step
+    requires lawful { IsLawfulLock rules.now lock.due lock }
+    requires within { lock.due < length_of (T.signal tape.old) }
+    requires place { lock.due < 2 ^ 36 }
+    requires counted { T.reads_made tape.old + 16 ≤ 2 ^ 63 }
+    ensures place { result.place ≡ lock.due + 1 }
+    ensures state { result.state ≡ step (T.signal tape.old) rules.now lock.due (State.Locked lock) }
+    ensures items { items_in result.items ≡ items_at (T.signal tape.old) rules.now lock.due (State.Locked lock) }
+    ensures same { T.signal tape.new ≡ T.signal tape.old }
+    ensures reads { T.reads_made tape.new ≤ T.reads_made tape.old + 4 }
+{
+    let heard = tape.window(lock.due);
+    let part = GroupPart {
+        first: lock.first,
+        last: lock.number,
+        place: lock.due,
+        heard,
+    };
+    let place = lock.due + 1;
+    match lock.after(rules.loss(), is_numbered(heard, lock.number)) {
+        Due::Inside(next) => Step {
+            place,
+            state: State::Locked(next),
+            items: [None, None],
+        },
+        Due::Closed(next) => Step {
+            place,
+            state: State::Locked(next),
+            items: [Some(Item::Group(read_group(tape, rules, part))), None],
+        },
+        Due::Lost => {
+            let group = read_group(tape, rules, part);
+            Step {
+                place,
+                state: State::Searching,
+                items: [
+                    Some(Item::Group(group)),
+                    Some(Item::LostLock { place: lock.due }),
+                ],
+            }
+        }
+    }
+}
