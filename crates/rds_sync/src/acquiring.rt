@@ -42,11 +42,12 @@ impl Acquisition {
         ensures { (b : Signal) → self.now.heard ≡ heard b self.now.place → items_in result
             ≡ Acquired self.now.place self.now.number ∷ group_after b rules.now self.now.number self.now.number self.now.place }
     {
+        let number = self.number.get();
         let acquired = Item::Acquired {
             place: self.place,
-            number: self.number.get(),
+            number,
         };
-        if self.number == BlockNumber::FOUR {
+        if number == 4 {
             [Some(acquired), Some(Item::Group(self.group(rules)))]
         } else {
             [Some(acquired), None]

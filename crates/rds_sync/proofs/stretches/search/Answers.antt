@@ -134,3 +134,20 @@ returns-clause-reached c =
       ended = inl refl;
       lawful = tt;
     }
+
+pub loop-here-init : goal.loop-here-init
+loop-here-init c =
+    let left = c.into_iter-here-iterator.result in
+    let is = c.into_iter-here-iterator.ensures.into_iter_gives ∙ c.new-here-items.ensures in
+    let next : left.next ≡ c.args.place = ap (λ (windows : WindowsLeft). windows.next) is in
+    let end : left.end ≡ c.args.to = ap (λ (windows : WindowsLeft). windows.end) is in (
+      tt,
+      tt,
+      record {
+        same = refl;
+        signal = ap (λ (windows : WindowsLeft). windows.signal) is ∙ c.recording-rec.ensures;
+        end = end;
+        from_on = omega (arith, next);
+        none = λ j low high. absurd (omega (arith, low, high, next));
+      },
+    )

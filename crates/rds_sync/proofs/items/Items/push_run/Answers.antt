@@ -1,4 +1,4 @@
-use Rattle.std.proofs.Common.{◌≡◌, ◌+◌, ◌-◌, List, ◌++◌, length, ap, sym, subst, ◌∙◌, arith}
+use Rattle.std.proofs.Common.{◌≡◌, ℕ, ◌+◌, ◌-◌, List, ◌++◌, length, take, ap, sym, subst, ◌∙◌, arith}
 use Rattle.rds_sync.specs.declared.item.Item.{Item}
 use Rattle.rds_sync.specs.declared.span.Span.{Span}
 use Rattle.rds_sync.specs.Decoding.{ItemsOf, listed}
@@ -30,3 +30,11 @@ returns-in-Ok-clause-ok c =
     ∙ ap (λ (is : List Item). items_in b s.rules s.spans.items ++ is) behind.given)
     ∙ ap (λ (items : ItemsOf). listed items.source items.rules (items.list ++ (run items.source items.rules first.state first.place (c.args.to - first.place)).1))
     c.self.view_is
+
+pub returns-in-Err-clause-refused : goal.returns-in-Err-clause-refused
+returns-in-Err-clause-refused c =
+    let s = c.self.inside in
+    let before : c.len-before.result ≡ length s.spans.items = grind (arith, c.len-before.ensures) in
+    let same : c.truncate.new.self.items ≡ s.spans.items =
+    c.truncate.ensures.items ∙ ap (λ (n : ℕ). take n c.push_spans.new.spans.items) before ∙ c.in-Err.ensures.refused in
+    ap (λ (spans : List Span). listed s.source.value s.rules (items_in s.source.value s.rules spans)) same ∙ c.self.view_is
