@@ -4,7 +4,7 @@ use Rattle.rds_sync.specs.declared.state.State.TheVariants.{Searching}
 use Rattle.rds_sync.specs.declared.item.Item.{Item}
 use Rattle.rds_sync.specs.Lawful.{IsLawful}
 use Rattle.rds_sync.specs.Step.{step}
-use Rattle.rds_sync.proofs.LawfulLemmas.{lawful-lock, lawful-step}
+use Rattle.rds_sync.proofs.LawfulLemmas.{lawful-lock, lawful-step, lawful-waiting}
 use Rattle.rds_sync.proofs.RunLemmas.{run-due, run-early}
 use Rattle.rds_sync.proofs.steps.advance.Goals as goal
 
@@ -47,3 +47,9 @@ returns-in-Locked-2-clause-items g c =
     sym (ap (λ (r : State × List Item). r.1)
     (run-early (g.T.Tape.signal c.args.tape.now) c.args.rules.now c.args.state c.args.place c.args.to l.lock l.is
     (omega (arith, c.requires.before)) c.if-lock-to.false))
+
+pub returns-in-Locked-2-clause-lawful : goal.returns-in-Locked-2-clause-lawful
+returns-in-Locked-2-clause-lawful g c =
+    let l = c.in-Locked in
+    let lock = lawful-lock c.args.rules.now c.args.state c.args.place l.lock l.is c.requires.lawful in
+    lawful-waiting c.args.rules.now c.args.place c.args.to l.lock lock (omega (arith, c.requires.before)) c.if-lock-to.false
