@@ -77,7 +77,7 @@ planted $map 's|rds_sync/specs/Loss.antt|rds_sync/specs/Losses.antt|' "$map: the
 planted $map 's|`Loss::bad_after`, |`Bad::bad_after`, |' "$map: crates/rds_sync/src/loss.rt has no Bad::bad_after"
 planted $map 's|`search` (`rds_sync/src/stretches.rt`)|`seek` (`rds_sync/src/stretches.rt`)|' \
     "$map: crates/rds_sync/src/stretches.rt has no seek"
-planted $map 's|(`blocks_before`, `lock.rt`)|(`blocks_before`, `locks.rt`)|' "$map: there is no locks.rt"
+planted $map 's|(`blocks_before`, `follow.rt`)|(`blocks_before`, `followed.rt`)|' "$map: there is no followed.rt"
 planted docs/PROOFS.md 's/`only_remainder`/`one_remainder`/' 'docs/PROOFS.md: crates/rds_uses/src/code.rt has no one_remainder'
 planted docs/PROOFS.md 's/`BurstLemmas`, `SpanLemmas`/`BurstLemma`, `SpanLemmas`/' 'docs/PROOFS.md: no proofs have BurstLemma.antt'
 planted tests/README.md '/^| `common.sh` |/d' 'tests/README.md, files'
