@@ -239,8 +239,17 @@ fn with_share<'a>(alloc: Global, command: Made<'a>) -> Made<'a>
 fn with_command<'a>(top: Made<'a>, command: Made<'a>) -> Made<'a>
     ensures { (above below : App) → Makes top.entry above → Makes command.entry below → Makes result (with_subcommand above below.top) }
 {
-    match (top, command) {
-        (Ok(top), Ok(command)) => top.subcommand(command),
-        _ => Err(AllocError),
+    match command {
+        Ok(command) => with_made_command(top, command),
+        Err(error) => Err(error),
+    }
+}
+
+fn with_made_command<'a>(top: Made<'a>, command: Command<'a>) -> Made<'a>
+    ensures { (above below : App) → Makes top.entry above → ReadsAs command.entry below → Makes result (with_subcommand above below.top) }
+{
+    match top {
+        Ok(top) => top.subcommand(command),
+        Err(error) => Err(error),
     }
 }

@@ -106,9 +106,6 @@ returns-clause-near_end g c =
     subst (λ (p : ℕ). IsNearEnd c.args.bits p (g.S.Source.remaining c.read_once.new.reader)) c.place.ensures.value
     (near_end_by c.args.bits c.place.result c.room_before_end-room.result _ c.room_before_end-room.ensures.none (c.in_ok-count.ensures.end c.if-count-eq0.true))
 
-pub returns-in_err-check_claim-clause-between : goal.returns-in_err-check_claim-clause-between
-returns-in_err-check_claim-clause-between g c = after_refusal _ (nothing_done _ _ _ _)
-
 pub returns-in_err-items-clause-between : goal.returns-in_err-items-clause-between
 returns-in_err-items-clause-between g c = after_refusal _ (nothing_done _ _ _ _)
 
