@@ -114,10 +114,8 @@ fn follow_bytes<'r, S: Source, K: Sink>(
 {
     prove!(1 <= rules.reach());
     laws::runs_are_reports();
-    let mut live = begin(alloc, rules, gaps, bits)?;
-    let mut buf = vec![in alloc; 0u8; CHUNK]?;
-    let mut items = Vec::with_capacity(alloc, MOST_ITEMS)?;
-    loop {
+    let (mut live, mut buf, mut items) = begin(alloc, rules, gaps, bits)?;
+    'reads: loop {
         let room = room_before_end(bits, live.place());
         let count = read_once(reader, buf.as_mut_slice(), room)?;
         if count == 0 {
@@ -128,21 +126,27 @@ fn follow_bytes<'r, S: Source, K: Sink>(
     Ok(live)
 }
 
-/// A decoder that has heard nothing yet, of a stream that may have so many bits and these gaps.
+/// A decoder that has heard nothing yet, of a stream that may have so many bits and these gaps, with room for a read and for
+/// the items that are complete at once.
 fn begin<'r>(
     alloc: Global,
     rules: &'r Rules,
     gaps: &'r [(u64, u64)],
     bits: Option<u64>,
-) -> Result<Live<'r>, ToolError>
-    ensures live { IfOk result (λ live. live ≡ live_of (record { rules = rules.now; gaps = gaps.now }) []) }
+) -> Result<(Live<'r>, Vec<u8>, Vec<Item>), ToolError>
+    ensures live { IfOk result (λ begun. begun.0 ≡ live_of (record { rules = rules.now; gaps = gaps.now }) []) }
+    ensures room { IfOk result (λ begun. length begun.1.items ≡ 65536) }
+    ensures items { IfOk result (λ begun. 16 ≤ vec_capacity begun.2) }
     ensures claims { OnOk result (IsShortEnough bits) }
     ensures too_long { IsErrOf result ToolError.TooLong → IsLong bits }
     ensures bad_gaps { IsErrOf result ToolError.BadGaps → AreGaps (2 ^ 36) gaps.now → ⊥ }
     ensures kinds { IfErr result (λ error. (error ≡ ToolError.OutOfMemory) ⊎ ((error ≡ ToolError.TooLong) ⊎ (error ≡ ToolError.BadGaps))) }
 {
     check_claim(bits)?;
-    Ok(Live::with_gaps(alloc, rules, gaps)?)
+    let live = Live::with_gaps(alloc, rules, gaps)?;
+    let buf = vec![in alloc; 0u8; CHUNK]?;
+    let items = Vec::with_capacity(alloc, MOST_ITEMS)?;
+    Ok((live, buf, items))
 }
 
 /// Refuses more bits than a stream may have.

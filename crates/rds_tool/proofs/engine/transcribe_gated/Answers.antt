@@ -1,8 +1,8 @@
-use Rattle.std.proofs.Common.{Err, ◌≢◌, rules}
+use Rattle.std.proofs.Common.{Err, ◌≢◌, refl, rules}
 use Rattle.rds_tool.specs.Inside.Texts.{bytes_of}
 use Rattle.rds_tool.specs.Tasks.{MayStartThreads}
 use Rattle.rds_tool.specs.declared.error.ToolError.TheVariants.{NoWorker, Read, TooManyTurns, Write}
-use Rattle.rds_tool.proofs.Passing.{passed, passed_kind}
+use Rattle.rds_tool.proofs.Passing.{no_ok, passed, passed_kind, passes}
 use Rattle.rds_tool.proofs.Texts.{asked, no_failure, not_called, passed_inside, prefix_is, refused_inside, settings_inside, started}
 use Rattle.rds_tool.proofs.engine.transcribe_gated.Given.{Over}
 use Rattle.rds_tool.proofs.engine.transcribe_gated.Goals as goal
@@ -19,15 +19,15 @@ returns-in_err-task g c =
     let same = passed _ _ c.from_residual.ensures in
     let settings = settings_inside c.args.job.now c.in_err-task.field-0.0 c.in_err-task.ensures.refused in
     record {
-      end = search rules;
-      ok = search rules;
+      end = no_ok _ _ _ same;
+      ok = no_ok _ _ _ same;
       read = (λ p. absurd (inside.0 p), not_called _);
       write = (λ p. absurd (inside.1 p), not_called _);
       turns = λ p. absurd (inside.2 p);
       no_worker = λ p. absurd (settings.1 (passed_kind _ _ NoWorker same p));
       refused = search rules;
       settings = search rules;
-      untouched = search rules;
+      untouched = passes _ _ _ c.from_residual.ensures (λ other. refl);
       prefix = λ p. absurd (inside.1 p);
     }
 
@@ -46,15 +46,15 @@ returns-in_err-text g c =
     let task = c.in_ok-task.task in
     let kinds = started (MayStartThreads task) task c.in_ok-held.held.items c.in_err-text.field-0.0 c.in_err-text.ensures.refused in
     record {
-      end = search rules;
-      ok = search rules;
+      end = no_ok _ _ _ same;
+      ok = no_ok _ _ _ same;
       read = (λ p. absurd (inside.0 p), no_failure c.in_ok-held.held _ _ c.in_ok-held.ensures.read);
       write = (λ p. absurd (inside.1 p), not_called _);
       turns = λ p. absurd (inside.2 p);
       no_worker = λ p. asked c.args.job.now task c.in_ok-task.ensures.ok (kinds (passed_kind _ _ NoWorker same p));
       refused = search rules;
       settings = search rules;
-      untouched = search rules;
+      untouched = passes _ _ _ c.from_residual-in_err-text.ensures (λ other. refl);
       prefix = λ p. absurd (inside.1 p);
     }
 
