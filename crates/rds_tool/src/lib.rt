@@ -62,8 +62,6 @@ mod gap_text; // Gaps as a command line names them.
 mod job; // What is asked for.
 mod engine; // From a reader to a writer.
 mod devices; // The two ends of that.
-mod from_read; // The one over a reader of std.
-mod to_write; // The other over a writer.
 mod task; // A job whose settings were looked at, and what it writes.
 mod making; // From the one to the other.
 mod plan; // Rules, workers and pieces.
