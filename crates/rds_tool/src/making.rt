@@ -1,4 +1,4 @@
-//! What a task makes of the bytes that a reader held.
+//! From a job to its task, and on to what that makes of the bytes that a reader held.
 ghost use Rattle.std.specs.Prelude.{◌<◌, ◌≡◌, Err, IfErr, IfOk, Ok, true};
 ghost use Rattle.rds_tool.specs.Cuts.{cuts_any};
 ghost use Rattle.rds_tool.specs.Listing.{report_text, totals_text};

@@ -1,9 +1,21 @@
-use Rattle.std.proofs.Common.{◌+◌, ◌*◌, ◌≤◌, ◌++◌, [], arith, ap, refl, sym, subst, ◌∙◌, drop, length, take, ℕ}
+use Rattle.std.proofs.Common.{◌+◌, ◌*◌, ◌≡◌, ◌≤◌, ◌⊎◌, ◌++◌, [], inl, inr, arith, ap, refl, sym, subst, ◌∙◌, drop, length, take, ℕ}
 use Rattle.std.specs.Prelude.{IfSome}
+use Rattle.rds_tool.specs.Following.{MayBreakEarly}
 use Rattle.rds_tool.specs.Inside.Streams.{IsNearEnd, IsPlaceOf}
+use Rattle.rds_tool.specs.declared.error.ToolError.{ToolError}
+use Rattle.rds_tool.specs.declared.error.ToolError.TheVariants.{BadGaps, OutOfMemory, TooLong}
 use Rattle.rds_tool.proofs.Followed.{after_no_write, after_refusal, chunk_breaks, few_taken, fits_room, followed_end, followed_more, followed_none, front_is, is_place, lent_whole, near_end_by, no_gaps_told, nothing_done, of_call, read_not_told, smaller, some_taken, stops_behind, stops_here, stops_in_rows, stops_untouched, told_on, too_many}
 use Rattle.rds_tool.proofs.Passing.{passed, passed_kind, passes}
 use Rattle.rds_tool.proofs.following.follow_bytes.Goals as goal
+
+-- so may what is refused before anything is read
+begin_breaks : (e : ToolError) → (e ≡ OutOfMemory) ⊎ ((e ≡ TooLong) ⊎ (e ≡ BadGaps)) → MayBreakEarly e
+begin_breaks e (inl memory) = inl memory
+begin_breaks e (inr (inl long)) = inr (inr (inr (inl long)))
+begin_breaks e (inr (inr gaps)) = inr (inr (inr (inr gaps)))
+
+pub returns-in_err-live-clause-refused : goal.returns-in_err-live-clause-refused
+returns-in_err-live-clause-refused g c = passes _ _ _ c.from_residual.ensures (begin_breaks _ c.in_err-live.ensures.kinds)
 
 pub reads-init : goal.reads-init
 reads-init g c = record {
