@@ -8,7 +8,7 @@ use Rattle.rds_tool.proofs.Followed.{after_no_write, after_refusal, chunk_breaks
 use Rattle.rds_tool.proofs.Passing.{passed, passed_kind, passes}
 use Rattle.rds_tool.proofs.following.follow_bytes.Goals as goal
 
--- so may what is refused before anything is read
+-- what is refused before anything is read may break it off
 begin_breaks : (e : ToolError) → (e ≡ OutOfMemory) ⊎ ((e ≡ TooLong) ⊎ (e ≡ BadGaps)) → MayBreakEarly e
 begin_breaks e (inl memory) = inl memory
 begin_breaks e (inr (inl long)) = inr (inr (inr (inl long)))
