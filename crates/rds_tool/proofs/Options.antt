@@ -1,5 +1,5 @@
 -- A command with one option more.
-use Rattle.std.proofs.Common.{◌||◌, ◌∙◌, ◌≡◌, Err, Ok, Result, ap₂, false}
+use Rattle.std.proofs.Common.{◌||◌, ◌∙◌, ◌≡◌, Err, Ok, Result, ap, ap₂, false}
 use Rattle.std.specs.Prelude.{IfOk}
 use Rattle.clap.specs.Words.{AddsArg, App, Rule, rule_of, with_rule}
 use Rattle.clap.specs.declared.builder.arg.Arg.{Arg}
@@ -16,3 +16,8 @@ module _ (old : Command) (option : Arg) (rule : Rule) (local : option.global ≡
   pub made_with : {E : Type 0} (made : Result Command E) → IfOk made (λ new. AddsArg old option new) → (app : App) → ReadsAs old app → Makes made (with_rule app rule)
   made_with (Ok new) adds app reads = with_added new adds app reads
   made_with (Err e) adds app reads = tt
+
+-- the option's rule, by the name that it has
+pub ruled_by : {E : Type 0} (made : Result Command E) (app : App) (rule named : Rule) → rule ≡ named → Makes made (with_rule app rule) → Makes made (with_rule app named)
+ruled_by (Ok new) app rule named is reads = record { app = reads.app ∙ ap (λ (r : Rule). with_rule app r) is; local = reads.local }
+ruled_by (Err e) app rule named is makes = tt

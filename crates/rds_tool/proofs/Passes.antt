@@ -1,5 +1,5 @@
 -- A run that is gone over once, and what is written and counted of it.
-use Rattle.std.proofs.Common.{◌≡◌, ◌++◌, ◌-◌, ◌*◌, ◌^◌, ◌≤◌, ℕ, List, Option, Result, Ok, Err, ap, ap₂, arith, append_assoc, length, refl, subst, sym, ◌∙◌}
+use Rattle.std.proofs.Common.{◌≡◌, ◌++◌, ◌-◌, ◌*◌, ◌^◌, ◌<◌, ◌≤◌, ◌⊎◌, ◌∷◌, [], ℕ, List, Option, Result, Ok, Err, ap, ap₂, arith, append_assoc, inl, inr, length, length-append, append-nil, refl, subst, sym, ◌∙◌}
 use Rattle.std.specs.Prelude.{OnErr, OnOk}
 use Rattle.std.specs.List.{flat_map}
 use Rattle.std.specs.Io.KnownBytes.{Appends}
@@ -7,7 +7,7 @@ use Rattle.std.proofs.KnownBytes.{Appends-trans}
 use Rattle.std.proofs.lemmas.Grind.{flat_map-append}
 use Rattle.rds_rows.specs.Writes.{AppendsPrefix}
 use Rattle.rds_stream.specs.Recording.{Signal, length_of}
-use Rattle.rds_sync.specs.Counting.{TotalsJoin, plus}
+use Rattle.rds_sync.specs.Counting.{IsAtMost, TotalsJoin, plus}
 use Rattle.rds_sync.specs.Decoding.{DecoderOf, decoder_of}
 use Rattle.rds_sync.specs.Lawful.{IsLawful}
 use Rattle.rds_sync.specs.Laws.{RunsAreLawful, RunsAreReports, RunsGiveFewItems}
@@ -123,3 +123,36 @@ pub end_is : (totals u all : Totals) (slice last : List Item) → slice ≡ last
 end_is totals u all slice last same counted joined =
     ap₂ (λ (xs : List Item) (t : Totals). flat_map item_row xs ++ totals_text t) same
     (joined ∙ ap (λ (v : Totals). plus totals v) (counted ∙ ap (λ (xs : List Item). totals_of xs) same))
+
+-- ---- where no part is left
+
+-- what is done is all
+pub all_done : (all done left part rest : List Item) (room : ℕ) → all ≡ done ++ left → left ≡ part ++ rest → length part ≡ 0
+    → (rest ≡ []) ⊎ (length part ≡ room) → 0 < room → all ≡ done
+all_done all done left [] rest room first next none (inl ended) some =
+    first ∙ ap (λ (xs : List Item). done ++ xs) (next ∙ ended) ∙ append-nil done
+all_done all done left [] rest room first next none (inr full) some = absurd (omega (arith, full, some))
+all_done all done left (item ∷ part) rest room first next none full some = absurd (omega (arith, none))
+
+-- counts that are at most so many are at most more
+pub at_most_more : (m n : ℕ) (t : Totals) → m ≤ n → IsAtMost m t → IsAtMost n t
+at_most_more m n t more few = record {
+  valid = omega (arith, few.valid, more);
+  burst1 = omega (arith, few.burst1, more);
+  burst2 = omega (arith, few.burst2, more);
+  burst3 = omega (arith, few.burst3, more);
+  burst4 = omega (arith, few.burst4, more);
+  burst5 = omega (arith, few.burst5, more);
+  lost = omega (arith, few.lost, more);
+  bits = omega (arith, few.bits, more);
+  groups = omega (arith, few.groups, more);
+  complete = omega (arith, few.complete, more);
+  acquired = omega (arith, few.acquired, more);
+  losses = omega (arith, few.losses, more);
+}
+
+-- the items that are done are few
+pub few_done : (all done left : List Item) → all ≡ done ++ left → length all ≤ 2 ^ 37 → 2 ^ 10 * length done ≤ 2 ^ 47
+few_done all done left parted few =
+    let count : length all ≡ length (done ++ left) = ap (λ (xs : List Item). length xs) parted in
+    omega (arith, count, length-append done left, few)

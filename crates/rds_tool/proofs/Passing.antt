@@ -1,6 +1,6 @@
 -- A refusal that `?` passes on.
 use Rattle.std.proofs.Common.{◌≡◌, Err, Ok, Result, ap, subst, sym}
-use Rattle.std.specs.Prelude.{IfErr, OnErr}
+use Rattle.std.specs.Prelude.{IfErr, OnErr, OnOk}
 use Rattle.std.specs.Result.{IsErr, IsErrAnd}
 use Rattle.rds_tool.specs.declared.error.ToolError.{ToolError}
 
@@ -20,3 +20,8 @@ passes r e P h p = subst (λ x. IfErr x P) (sym (passed r e h)) p
 pub on_any_err : {T E P : Type 0} (r : Result T E) → P → OnErr r P
 on_any_err (Ok x) p = tt
 on_any_err (Err e) p = p
+
+-- where there is an error, nothing need hold of an answer
+pub no_ok : {T E : Type 0} (P : Type 0) (r : Result T E) (e : E) → r ≡ Err e → OnOk r P
+no_ok P (Ok x) e h = cc h
+no_ok P (Err x) e h = tt

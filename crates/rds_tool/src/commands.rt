@@ -72,7 +72,7 @@ fn follow_command<'a>(alloc: Global) -> Made<'a>
         help::FOLLOW_USAGE,
         help::FOLLOW_AFTER,
     );
-    with_sync_rules(alloc, part_command(alloc, command))
+    with_sync_rules(alloc, part_command(alloc, Ok(command)))
 }
 
 fn totals_command<'a>(alloc: Global) -> Made<'a>
@@ -122,16 +122,18 @@ fn named<'a>(
 fn recording_command<'a>(alloc: Global, command: Command<'a>) -> Made<'a>
     ensures { (app : App) → ReadsAs command.entry app → Makes result (with_input app) }
 {
-    let command = command.arg(flag_option(alloc, "hex", help::HEX_INPUT))?;
-    part_command(alloc, command)
+    part_command(
+        alloc,
+        command.arg(flag_option(alloc, "hex", help::HEX_INPUT)),
+    )
 }
 
 /// One that reads bits, with the options that say which of them mean something.
-fn part_command<'a>(alloc: Global, command: Command<'a>) -> Made<'a>
-    ensures { (app : App) → ReadsAs command.entry app → Makes result (with_part app) }
+fn part_command<'a>(alloc: Global, command: Made<'a>) -> Made<'a>
+    ensures { (app : App) → Makes command.entry app → Makes result (with_part app) }
 {
-    let command = command.arg(bits_option(alloc))?;
-    command.arg(gaps_option(alloc))
+    let command = with_option(command, bits_option(alloc));
+    with_option(command, gaps_option(alloc))
 }
 
 /// One that reads a recording, with the rules of the synchroniser, its pieces and its crew too.
@@ -157,8 +159,8 @@ fn with_sync_rules<'a>(alloc: Global, command: Made<'a>) -> Made<'a>
 fn with_workers<'a>(alloc: Global, command: Made<'a>) -> Made<'a>
     ensures { (app : App) → Makes command.entry app → Makes result (with_crew app) }
 {
-    let command = with_number(alloc, command, "workers", "4", help::WORKERS)?;
-    command.arg(flag_option(alloc, "progress", help::PROGRESS))
+    let command = with_number(alloc, command, "workers", "4", help::WORKERS);
+    with_option(command, flag_option(alloc, "progress", help::PROGRESS))
 }
 
 fn flag_option<'a>(alloc: Global, name: &'a str, help: &'a str) -> Arg<'a>
@@ -214,7 +216,6 @@ fn value_option<'a>(alloc: Global, name: &'a str, value: &'a str, help: &'a str)
         .help(help)
 }
 
-/// The option is made once the command is there, so that a refusal has no option to drop.
 fn with_number<'a>(
     alloc: Global,
     command: Made<'a>,
@@ -224,23 +225,39 @@ fn with_number<'a>(
 ) -> Made<'a>
     ensures { (app : App) → Makes command.entry app → Makes result (with_rule app (number_rule name.entry.now default.entry.now)) }
 {
-    let command = command?;
-    command.arg(number_option(alloc, name, default, help))
+    with_option(command, number_option(alloc, name, default, help))
 }
 
-/// The option without a default, made as late.
 fn with_share<'a>(alloc: Global, command: Made<'a>) -> Made<'a>
     ensures { (app : App) → Makes command.entry app → Makes result (with_rule app share_rule) }
 {
-    let command = command?;
-    command.arg(share_option(alloc))
+    with_option(command, share_option(alloc))
+}
+
+fn with_option<'a>(command: Made<'a>, option: Arg<'a>) -> Made<'a>
+    requires { option.global ≡ false }
+    ensures { (app : App) → Makes command.entry app → Makes result (with_rule app (rule_of option.entry)) }
+{
+    match command {
+        Ok(command) => command.arg(option),
+        Err(error) => Err(error),
+    }
 }
 
 fn with_command<'a>(top: Made<'a>, command: Made<'a>) -> Made<'a>
     ensures { (above below : App) → Makes top.entry above → Makes command.entry below → Makes result (with_subcommand above below.top) }
 {
-    match (top, command) {
-        (Ok(top), Ok(command)) => top.subcommand(command),
-        _ => Err(AllocError),
+    match command {
+        Ok(command) => with_made_command(top, command),
+        Err(error) => Err(error),
+    }
+}
+
+fn with_made_command<'a>(top: Made<'a>, command: Command<'a>) -> Made<'a>
+    ensures { (above below : App) → Makes top.entry above → ReadsAs command.entry below → Makes result (with_subcommand above below.top) }
+{
+    match top {
+        Ok(top) => top.subcommand(command),
+        Err(error) => Err(error),
     }
 }

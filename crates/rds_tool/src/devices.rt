@@ -64,7 +64,7 @@ impl<R: Read> Source for FromRead<R> {
         match self.reader.read(buf) {
             Ok(count) => Ok(count),
             Err(_) => {
-                self.failures += 1;
+                count_failure(&mut self.failures);
                 Err(Failed)
             }
         }
@@ -119,12 +119,12 @@ impl<W: Write> Sink for ToWrite<W> {
     fn write(&mut self, bytes: &[u8]) -> Result<usize, Failed> {
         match self.writer.write(bytes) {
             Ok(0) if !bytes.is_empty() => {
-                self.failures += 1;
+                count_failure(&mut self.failures);
                 Ok(0)
             }
             Ok(count) => Ok(count),
             Err(_) => {
-                self.failures += 1;
+                count_failure(&mut self.failures);
                 Err(Failed)
             }
         }
@@ -134,7 +134,7 @@ impl<W: Write> Sink for ToWrite<W> {
         match self.writer.flush() {
             Ok(()) => Ok(()),
             Err(_) => {
-                self.failures += 1;
+                count_failure(&mut self.failures);
                 Err(Failed)
             }
         }
@@ -143,4 +143,11 @@ impl<W: Write> Sink for ToWrite<W> {
     fn failures(&self) -> u64 {
         self.failures
     }
+}
+
+fn count_failure(failures: &mut u64)
+    requires { failures.old < 2 ^ 63 }
+    ensures { failures.new ≡ failures.old + 1 }
+{
+    *failures += 1;
 }

@@ -1,8 +1,8 @@
 //! From a reader to a writer, as the bytes come.
-ghost use Rattle.std.specs.Prelude.{◌+◌, ◌-◌, ◌*◌, ◌/◌, ◌++◌, ◌<◌, ◌^◌, ◌≡◌, ◌≢◌, ◌≤◌, ◌⊎◌, ◌↔◌, IfErr, IfOk, IsOkUnless, IfSome, IsErrOf, List, None, Ok, OnOk, Option, Some, length, take, vec_capacity, ℕ};
+ghost use Rattle.std.specs.Prelude.{◌+◌, ◌-◌, ◌*◌, ◌/◌, ◌++◌, ◌<◌, ◌^◌, ◌≡◌, ◌≢◌, ◌≤◌, ◌⊎◌, ◌↔◌, [], IfErr, IfOk, IsOkUnless, IfSome, IsErrOf, List, None, Ok, OnOk, Option, Some, length, take, vec_capacity, ℕ};
 ghost use Rattle.std.specs.Io.KnownBytes.{Consumes, IsAtEnd, Keeps, Appends};
 ghost use Rattle.std.specs.List.{flat_map};
-ghost use Rattle.rds_live.specs.Live.{HasHeard, report_at};
+ghost use Rattle.rds_live.specs.Live.{HasHeard, live_of, report_at};
 ghost use Rattle.rds_stream.specs.Recording.{AreGaps};
 ghost use Rattle.rds_sync.specs.Advance.{group_item};
 ghost use Rattle.rds_sync.specs.Totals.{totals_of};
@@ -114,11 +114,8 @@ fn follow_bytes<'r, S: Source, K: Sink>(
 {
     prove!(1 <= rules.reach());
     laws::runs_are_reports();
-    check_claim(bits)?;
-    let mut live = Live::with_gaps(alloc, rules, gaps)?;
-    let mut buf = vec![in alloc; 0u8; CHUNK]?;
-    let mut items = Vec::with_capacity(alloc, MOST_ITEMS)?;
-    loop {
+    let (mut live, mut buf, mut items) = begin(alloc, rules, gaps, bits)?;
+    'reads: loop {
         let room = room_before_end(bits, live.place());
         let count = read_once(reader, buf.as_mut_slice(), room)?;
         if count == 0 {
@@ -127,6 +124,29 @@ fn follow_bytes<'r, S: Source, K: Sink>(
         follow_chunk(alloc, writer, &mut live, &buf[..count], &mut items)?;
     }
     Ok(live)
+}
+
+/// A decoder that has heard nothing yet, of a stream that may have so many bits and these gaps, with room for a read and for
+/// the items that are complete at once.
+fn begin<'r>(
+    alloc: Global,
+    rules: &'r Rules,
+    gaps: &'r [(u64, u64)],
+    bits: Option<u64>,
+) -> Result<(Live<'r>, Vec<u8>, Vec<Item>), ToolError>
+    ensures live { IfOk result (λ begun. begun.0 ≡ live_of (record { rules = rules.now; gaps = gaps.now }) []) }
+    ensures room { IfOk result (λ begun. length begun.1.items ≡ 65536) }
+    ensures items { IfOk result (λ begun. 16 ≤ vec_capacity begun.2) }
+    ensures claims { OnOk result (IsShortEnough bits) }
+    ensures too_long { IsErrOf result ToolError.TooLong → IsLong bits }
+    ensures bad_gaps { IsErrOf result ToolError.BadGaps → AreGaps (2 ^ 36) gaps.now → ⊥ }
+    ensures kinds { IfErr result (λ error. (error ≡ ToolError.OutOfMemory) ⊎ ((error ≡ ToolError.TooLong) ⊎ (error ≡ ToolError.BadGaps))) }
+{
+    check_claim(bits)?;
+    let live = Live::with_gaps(alloc, rules, gaps)?;
+    let buf = vec![in alloc; 0u8; CHUNK]?;
+    let items = Vec::with_capacity(alloc, MOST_ITEMS)?;
+    Ok((live, buf, items))
 }
 
 /// Refuses more bits than a stream may have.
@@ -343,10 +363,21 @@ fn rows_of_end(alloc: Global, end: &StreamEnd) -> Result<Vec<u8>, ToolError>
     ensures refused { IsOkUnless result ToolError.OutOfMemory }
 {
     let mut rows = rows_in_room(alloc, 0)?;
-    if let Some(group) = end.group {
-        push_item(&mut rows, &Item::Group(group))?;
-    }
+    push_last_group(&mut rows, end)?;
     let mut text = text_of_rows(rows)?;
     text.extend_from_slice(totals_rows(alloc, &end.totals)?.as_slice())?;
     Ok(text)
+}
+
+/// The row of the group in progress, if there is one.
+fn push_last_group(rows: &mut CsvRows, end: &StreamEnd) -> Result<(), ToolError>
+    requires { IsBetween rows.old }
+    ensures between { OnOk result (IsBetween rows.new) }
+    ensures text { OnOk result (text_of rows.new ≡ text_of rows.old ++ flat_map item_row (group_item end.now.group)) }
+    ensures refused { IsOkUnless result ToolError.OutOfMemory }
+{
+    if let Some(group) = end.group {
+        push_item(rows, &Item::Group(group))?;
+    }
+    Ok(())
 }

@@ -62,7 +62,8 @@ mod gap_text; // Gaps as a command line names them.
 mod job; // What is asked for.
 mod engine; // From a reader to a writer.
 mod devices; // The two ends of that.
-mod task; // A job whose settings were looked at.
+mod task; // A job whose settings were looked at, and what it writes.
+mod making; // From a job to its task, and on to what that writes.
 mod plan; // Rules, workers and pieces.
 mod input; // From bytes to a recording.
 mod one_pass; // A list by one worker, written while it is decoded.

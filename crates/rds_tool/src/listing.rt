@@ -38,6 +38,19 @@ pub struct Heard<'a> {
     pub rules: &'a Rules,
 }
 
+impl<'a> Heard<'a> {
+    /// The items from one number up to another.
+    fn range(self, items: &IndexedItems<'a>, from: usize, to: usize) -> ItemIter<'a>
+        requires order { from ≤ to }
+        requires inside { to ≤ length items.now.list }
+        requires source { items.now.source ≡ self.recording.now }
+        requires rules { items.now.rules ≡ self.rules.now }
+        ensures { result ≡ take (to - from) (drop from items.now.list) }
+    {
+        items.range(self.recording, self.rules, from, to)
+    }
+}
+
 /// The rows of the items from one number up to another, in the memory of `spare`, or in more where that is too little.
 pub fn item_rows<'a>(
     alloc: Global,
@@ -58,7 +71,7 @@ pub fn item_rows<'a>(
 {
     let mut part = Vec::with_capacity(alloc, PART)?;
     let mut rows = rows_over(spare, (to - from).saturating_mul(USUAL_ROW))?;
-    let mut left = items.range(heard.recording, heard.rules, from, to);
+    let mut left = heard.range(items, from, to);
     push_left(&mut rows, &mut left, &mut part)?;
     text_of_rows(rows)
 }

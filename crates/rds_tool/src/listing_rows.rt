@@ -29,7 +29,7 @@ pub struct ListingRows<'a> {
 }
 
 impl<'a> ListingRows<'a> {
-    ghost use Rattle.rds_tool.specs.Inside.Rows.{listing_of, rows_of_report};
+    ghost use Rattle.rds_tool.specs.Inside.Rows.{rows_of_report};
 
     /// The rows of this report of what was heard. Takes memory for an index of its items. Refuses more rows than can be
     /// numbered, as want of memory.
@@ -40,7 +40,8 @@ impl<'a> ListingRows<'a> {
     ) -> Result<ListingRows<'a>, RowsError>
         requires source { report.now.items.source ≡ heard.recording.now }
         requires rules { report.now.items.rules ≡ heard.rules.now }
-        ensures rows { IfOk result (λ rows. listing_of rows ≡ rows_of_report report.now.items.list report.now.totals) }
+        ensures rows { IfOk result (λ rows. rows_of_report rows.items.list rows.totals.now
+            ≡ rows_of_report report.now.items.list report.now.totals) }
         ensures refused { IsOkUnless result RowsError.OutOfMemory }
     {
         let Some(len) = report.items.len().checked_add(TOTALS) else {
@@ -138,9 +139,9 @@ pub fn fill_named(totals: &[(&'static str, u64)], sheet: &mut Sheet)
 }
 
 impl Rows for ListingRows<'_> {
-    ghost use Rattle.rds_tool.specs.Inside.Rows.{listing_of};
+    ghost use Rattle.rds_tool.specs.Inside.Rows.{rows_of_report};
 
-    ghost rows = { λ rows. listing_of rows };
+    ghost rows = { λ rows. rows_of_report rows.items.list rows.totals.now };
 
     ghost longest = { λ rows. 168 };
 

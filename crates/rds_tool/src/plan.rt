@@ -9,30 +9,15 @@ ghost use Rattle.rds_tool.specs.Plans.{crew_of, cut_by};
 ghost use Rattle.rds_tool.specs.Refusals.{IsMemoryOrErrOf};
 ghost use Rattle.rds_tool.specs.Rules.{rules_of as the_rules_of};
 
+use crate::task::{Plan, Workers};
 use crate::{Cuts, Settings, ToolError};
 use rds_crew::{Gate, MOST_WORKERS, decode_crew};
 use rds_pieces::{Cutting, RecordingWork};
 use rds_stream::Recording;
 use rds_sync::{Report, RuleNumbers, Rules, Spans};
 use std::alloc::{AllocError, Global};
-use std::marker::Model;
 use std::sync::Wait;
 use std::thread::Threads;
-
-/// A number of workers in its range.
-#[derive(Drop)]
-pub struct Workers(u32);
-
-impl Model for Workers {
-    ghost use Rattle.std.specs.Prelude.{ℕ};
-    ghost use Rattle.rds_tool.specs.Plans.{AreWorkers};
-
-    ghost Value = { ℕ };
-
-    ghost view = { λ w. w.0 };
-
-    ghost invariant = { λ w. AreWorkers w.0 };
-}
 
 impl Workers {
     ghost use Rattle.rds_tool.specs.Plans.{workers_of};
@@ -55,24 +40,6 @@ impl Workers {
     {
         self.0
     }
-}
-
-/// Settings in their ranges, with the rules that they give.
-#[derive(Drop)]
-pub struct Plan<'a> {
-    rules: Rules,
-    workers: u32,
-    cuts: &'a Cuts,
-}
-
-impl<'a> Model for Plan<'a> {
-    ghost use Rattle.rds_tool.specs.Plans.{IsPlan, PlanOf};
-
-    ghost Value = { PlanOf };
-
-    ghost view = { λ p. record { rules = p.rules; workers = p.workers; cuts = p.cuts.now } };
-
-    ghost invariant = { λ p. IsPlan (record { rules = p.rules; workers = p.workers; cuts = p.cuts.now }) };
 }
 
 impl<'a> Plan<'a> {
@@ -127,28 +94,28 @@ impl<'a> Plan<'a> {
             Cuts::At(_) => false,
         }
     }
+}
 
-    /// The report of the recording, made by the crew piece by piece.
-    pub fn report<R: Threads + Wait, G: Gate + Sync>(
-        &self,
-        rt: &R,
-        alloc: Global,
-        recording: &Recording,
-        spans: Spans,
-        gate: &G,
-    ) -> Result<Report, ToolError>
-        ensures items { IfOk result (λ report. report.items
-            ≡ listed recording.now self.now.rules (report_items recording.now self.now.rules)) }
-        ensures totals { IfOk result (λ report. report.totals ≡ totals_of (report_items recording.now self.now.rules)) }
-        ensures fits { OnOk result (cut_by self.now.cuts recording.now ≡ Ok recording.now) }
-        ensures refused { IfErr result (λ error. (error ≡ ToolError.OutOfMemory) ⊎ ((error ≡ ToolError.NoWorker)
-            ⊎ (cut_by self.now.cuts recording.now ≡ Err error))) }
-        ensures no_worker { IsErrOf result ToolError.NoWorker → 1 < self.now.workers }
-    {
-        let cutting = cutting_of(alloc, self.cuts, recording.len())?;
-        let work = RecordingWork::new(recording, &self.rules, &cutting).cut_into(spans);
-        Ok(decode_crew(rt, alloc, &work, self.workers, gate)?)
-    }
+/// The report of the recording, made by the crew piece by piece.
+pub fn report_by<R: Threads + Wait, G: Gate + Sync>(
+    rt: &R,
+    alloc: Global,
+    plan: &Plan<'_>,
+    recording: &Recording,
+    spans: Spans,
+    gate: &G,
+) -> Result<Report, ToolError>
+    ensures items { IfOk result (λ report. report.items
+        ≡ listed recording.now plan.now.rules (report_items recording.now plan.now.rules)) }
+    ensures totals { IfOk result (λ report. report.totals ≡ totals_of (report_items recording.now plan.now.rules)) }
+    ensures fits { OnOk result (cut_by plan.now.cuts recording.now ≡ Ok recording.now) }
+    ensures refused { IfErr result (λ error. (error ≡ ToolError.OutOfMemory) ⊎ ((error ≡ ToolError.NoWorker)
+        ⊎ (cut_by plan.now.cuts recording.now ≡ Err error))) }
+    ensures no_worker { IsErrOf result ToolError.NoWorker → 1 < plan.now.workers }
+{
+    let cutting = cutting_of(alloc, plan.cuts, recording.len())?;
+    let work = RecordingWork::new(recording, &plan.rules, &cutting).cut_into(spans);
+    Ok(decode_crew(rt, alloc, &work, plan.workers, gate)?)
 }
 
 /// The rules of these settings.

@@ -2,6 +2,7 @@
 ghost use Rattle.std.specs.Prelude.{◌<◌, ◌≤◌, ◌^◌, ◌≡◌, ◌≢◌, ◌↔◌, ◌⊎◌, IfErr, IsErrOf, IsOkUnless, Ok, OnErr, OnOk};
 ghost use Rattle.std.specs.Io.KnownBytes.{Appends, Keeps};
 ghost use Rattle.rds_rows.specs.Writes.{AppendsPrefix};
+ghost use Rattle.rds_tool.specs.Inside.Texts.{bytes_of};
 ghost use Rattle.rds_tool.specs.Listing.{report_text, scan_text};
 ghost use Rattle.rds_tool.specs.Outcome.{WritesPrefix, list_text};
 
@@ -9,11 +10,10 @@ use crate::ToolError;
 use crate::listing::Heard;
 use crate::listing_rows::ListingRows;
 use crate::one_pass::write_in_one_pass;
-use crate::plan::{Plan, Workers};
+use crate::task::{Listing, Plan, Text};
 use crate::window_rows::WindowRows;
 use rds_rows::{Failed, RowsError, Sink, write_all, write_rows_in_parts};
 use rds_stream::Recording;
-use rds_sync::Report;
 use std::alloc::Global;
 use std::sync::Wait;
 use std::thread::Threads;
@@ -26,30 +26,7 @@ const PLACES: usize = 32_768;
 
 const ALL_PLACES: usize = 524_288;
 
-/// A text that is made, or what one is spelled from while it is written.
-#[derive(Drop)]
-pub enum Text<'a> {
-    Whole(Vec<u8>),
-    Listing(Listing<'a>),
-    /// A recording whose report is written while it is decoded.
-    OnePass(Recording, Plan<'a>),
-    /// A recording that is scanned, and by how many workers.
-    Windows(Recording, Workers),
-}
-
-/// A report and what its items are made from.
-#[derive(Drop)]
-pub struct Listing<'a> {
-    pub recording: Recording,
-    pub plan: Plan<'a>,
-    pub report: Report,
-    ghost source: { report.items.source ≡ recording },
-    ghost rules: { report.items.rules ≡ plan.rules },
-}
-
 impl Text<'_> {
-    ghost use Rattle.rds_tool.specs.Inside.Texts.{bytes_of};
-
     /// Writes the whole text and flushes. Where memory is refused, nothing was written.
     pub fn write_to<R: Threads + Wait + Sync, K: Sink>(
         &self,
@@ -65,64 +42,75 @@ impl Text<'_> {
         ensures prefix { IsErrOf result ToolError.Write
             → WritesPrefix (K.contents writer.old) (K.contents writer.new) (Ok (bytes_of self.now)) }
     {
-        match self.write_bytes(rt, alloc, writer) {
+        match write_bytes(rt, alloc, self, writer) {
             Ok(()) => flush(writer),
             Err(error) => Err(ToolError::from(error)),
         }
     }
+}
 
-    fn write_bytes<R: Threads + Wait + Sync, K: Sink>(
-        &self,
-        rt: &R,
-        alloc: Global,
-        writer: &mut K,
-    ) -> Result<(), RowsError>
-        requires { K.failed writer.old < 2 ^ 63 }
-        ensures ok { OnOk result (Appends (K.contents writer.old) (K.contents writer.new) (bytes_of self.now)) }
-        ensures count { OnOk result (K.failed writer.new ≡ K.failed writer.old) }
-        ensures write { IsErrOf result RowsError.Write ↔ (K.failed writer.old < K.failed writer.new) }
-        ensures untouched { IsErrOf result RowsError.OutOfMemory → writer.new ≡ writer.old }
-        ensures prefix { IsErrOf result RowsError.Write
-            → AppendsPrefix (K.contents writer.old) (K.contents writer.new) (bytes_of self.now) }
-    {
-        match self {
-            Text::Whole(text) => match write_all(writer, text.as_slice()) {
-                Ok(()) => Ok(()),
-                Err(Failed) => Err(RowsError::Write),
-            },
-            Text::Listing(listing) => listing.write_to(rt, alloc, writer),
-            Text::OnePass(recording, plan) => write_decoded(alloc, recording, plan, writer),
-            Text::Windows(recording, workers) => {
-                write_windows(rt, alloc, recording, workers.count(), writer)
-            }
+/// Writes the whole text, and does not flush.
+fn write_bytes<R: Threads + Wait + Sync, K: Sink>(
+    rt: &R,
+    alloc: Global,
+    text: &Text<'_>,
+    writer: &mut K,
+) -> Result<(), RowsError>
+    requires { K.failed writer.old < 2 ^ 63 }
+    ensures ok { OnOk result (Appends (K.contents writer.old) (K.contents writer.new) (bytes_of text.now)) }
+    ensures count { OnOk result (K.failed writer.new ≡ K.failed writer.old) }
+    ensures write { IsErrOf result RowsError.Write ↔ (K.failed writer.old < K.failed writer.new) }
+    ensures untouched { IsErrOf result RowsError.OutOfMemory → writer.new ≡ writer.old }
+    ensures prefix { IsErrOf result RowsError.Write
+        → AppendsPrefix (K.contents writer.old) (K.contents writer.new) (bytes_of text.now) }
+{
+    match text {
+        Text::Whole(bytes) => write_whole(writer, bytes.as_slice()),
+        Text::Listing(listing) => write_listing(rt, alloc, listing, writer),
+        Text::OnePass(recording, plan) => write_decoded(alloc, recording, plan, writer),
+        Text::Windows(recording, workers) => {
+            write_windows(rt, alloc, recording, workers.count(), writer)
         }
     }
 }
 
-impl Listing<'_> {
-    /// Writes the rows, spelled by as many threads as there are workers.
-    fn write_to<R: Threads + Wait + Sync, K: Sink>(
-        &self,
-        rt: &R,
-        alloc: Global,
-        writer: &mut K,
-    ) -> Result<(), RowsError>
-        requires { K.failed writer.old < 2 ^ 63 }
-        ensures ok { OnOk result (Appends (K.contents writer.old) (K.contents writer.new)
-            (report_text self.now.report.items.list self.now.report.totals)) }
-        ensures count { OnOk result (K.failed writer.new ≡ K.failed writer.old) }
-        ensures write { IsErrOf result RowsError.Write ↔ (K.failed writer.old < K.failed writer.new) }
-        ensures untouched { IsErrOf result RowsError.OutOfMemory → writer.new ≡ writer.old }
-        ensures prefix { IsErrOf result RowsError.Write → AppendsPrefix (K.contents writer.old) (K.contents writer.new)
-            (report_text self.now.report.items.list self.now.report.totals) }
-    {
-        let heard = Heard {
-            recording: &self.recording,
-            rules: self.plan.rules(),
-        };
-        let rows = ListingRows::new(alloc, heard, &self.report)?;
-        write_rows_in_parts(rt, alloc, &rows, self.plan.workers(), PART, writer)
+/// Writes a text that is made.
+fn write_whole<K: Sink>(writer: &mut K, bytes: &[u8]) -> Result<(), RowsError>
+    requires { K.failed writer.old < 2 ^ 63 }
+    ensures ok { OnOk result (Appends (K.contents writer.old) (K.contents writer.new) bytes.now) }
+    ensures count { OnOk result (K.failed writer.new ≡ K.failed writer.old) }
+    ensures write { IsErrOf result RowsError.Write ↔ (K.failed writer.old < K.failed writer.new) }
+    ensures untouched { IsErrOf result RowsError.OutOfMemory → writer.new ≡ writer.old }
+    ensures prefix { IsErrOf result RowsError.Write → AppendsPrefix (K.contents writer.old) (K.contents writer.new) bytes.now }
+{
+    match write_all(writer, bytes) {
+        Ok(()) => Ok(()),
+        Err(Failed) => Err(RowsError::Write),
     }
+}
+
+/// Writes the rows, spelled by as many threads as there are workers.
+fn write_listing<R: Threads + Wait + Sync, K: Sink>(
+    rt: &R,
+    alloc: Global,
+    listing: &Listing<'_>,
+    writer: &mut K,
+) -> Result<(), RowsError>
+    requires { K.failed writer.old < 2 ^ 63 }
+    ensures ok { OnOk result (Appends (K.contents writer.old) (K.contents writer.new)
+        (report_text listing.now.report.items.list listing.now.report.totals)) }
+    ensures count { OnOk result (K.failed writer.new ≡ K.failed writer.old) }
+    ensures write { IsErrOf result RowsError.Write ↔ (K.failed writer.old < K.failed writer.new) }
+    ensures untouched { IsErrOf result RowsError.OutOfMemory → writer.new ≡ writer.old }
+    ensures prefix { IsErrOf result RowsError.Write → AppendsPrefix (K.contents writer.old) (K.contents writer.new)
+        (report_text listing.now.report.items.list listing.now.report.totals) }
+{
+    let heard = Heard {
+        recording: &listing.recording,
+        rules: listing.plan.rules(),
+    };
+    let rows = ListingRows::new(alloc, heard, &listing.report)?;
+    write_rows_in_parts(rt, alloc, &rows, listing.plan.workers(), PART, writer)
 }
 
 /// Writes the listing of a recording while it is decoded.

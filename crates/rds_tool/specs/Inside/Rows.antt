@@ -7,15 +7,10 @@ use Rattle.rds_stream.specs.Recording.{Signal, length_of, valid_at}
 use Rattle.rds_sync.specs.declared.item.Item.{Item}
 use Rattle.rds_sync.specs.declared.totals.Totals.{Totals}
 use Rattle.rds_tool.specs.Listing.{item_row, named_totals, total_row, window_row}
-use Rattle.rds_tool.specs.declared.listing_rows.ListingRows.{ListingRows}
 
 -- those of the items in order, and then those of the totals
 abbrev pub rows_of_report : List Item → Totals → List (List ℕ)
 rows_of_report items totals = map item_row items ++ map total_row (named_totals totals)
-
--- what a list of them spells
-abbrev pub listing_of : ListingRows → List (List ℕ)
-listing_of rows = rows_of_report rows.items.list rows.totals.now
 
 -- the row of a window, where there is one
 abbrev pub row_where : Option (ℕ × Offset) → List ℕ

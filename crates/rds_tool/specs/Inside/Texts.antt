@@ -8,8 +8,8 @@ use Rattle.rds_sync.specs.declared.item.Item.{Item}
 use Rattle.rds_sync.specs.declared.totals.Totals.{Totals}
 use Rattle.rds_tool.specs.Listing.{item_row, report_text, scan_text, totals_text}
 use Rattle.rds_tool.specs.Outcome.{list_text}
-use Rattle.rds_tool.specs.declared.text.Text.{Text}
-use Rattle.rds_tool.specs.declared.text.Text.TheVariants.{Listing, OnePass, Whole, Windows}
+use Rattle.rds_tool.specs.declared.task.Text.{Text}
+use Rattle.rds_tool.specs.declared.task.Text.TheVariants.{Listing, OnePass, Whole, Windows}
 
 abbrev pub bytes_of : Text → List ℕ
 bytes_of (Whole text) = text.items

@@ -1,6 +1,5 @@
-use Rattle.rds_tool.proofs.Options.{made_with}
+use Rattle.rds_tool.proofs.Options.{ruled_by}
 use Rattle.rds_tool.proofs.commands.with_workers.Goals as goal
 
 pub returns : goal.returns
-returns c = λ app makes.
-    made_with _ _ _ c.flag_option.ensures.local c.flag_option.ensures.rule _ c.arg.ensures _ (c.in_ok-command.ensures app makes)
+returns c = λ app makes. ruled_by c.with_option.result _ _ _ c.flag_option.ensures.rule (c.with_option.ensures _ (c.with_number-command.ensures app makes))

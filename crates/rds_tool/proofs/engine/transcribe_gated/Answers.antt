@@ -1,11 +1,40 @@
-use Rattle.std.proofs.Common.{Err, ◌≢◌, rules}
+use Rattle.std.proofs.Common.{Err, List, None, Ok, Option, Result, Some, ap, inl, inr, refl, rules, sym, ◌≡◌, ◌≢◌, ◌⊎◌, ◌∙◌, ℕ}
+use Rattle.std.specs.Prelude.{IfErr, IfSome}
+use Rattle.rds_tool.specs.Input.{and_then}
 use Rattle.rds_tool.specs.Inside.Texts.{bytes_of}
-use Rattle.rds_tool.specs.Tasks.{MayStartThreads}
-use Rattle.rds_tool.specs.declared.error.ToolError.TheVariants.{NoWorker, Read, TooManyTurns, Write}
-use Rattle.rds_tool.proofs.Passing.{passed, passed_kind}
+use Rattle.rds_tool.specs.Outcome.{IsOutside, outcome, text_of_task}
+use Rattle.rds_tool.specs.Refusals.{IsMemoryOrErrOf, IsShortageOrErrOf}
+use Rattle.rds_tool.specs.Tasks.{MayStartThreads, task_of}
+use Rattle.rds_tool.specs.declared.error.ToolError.{ToolError}
+use Rattle.rds_tool.specs.declared.job.Job.{Job}
+use Rattle.rds_tool.specs.declared.task.Task.{Task}
+use Rattle.rds_tool.specs.declared.error.ToolError.TheVariants.{NoWorker, OutOfMemory, Read, TooManyTurns, Write}
+use Rattle.rds_tool.proofs.Passing.{no_ok, passed, passed_kind, passes}
 use Rattle.rds_tool.proofs.Texts.{asked, no_failure, not_called, passed_inside, prefix_is, refused_inside, settings_inside, started}
 use Rattle.rds_tool.proofs.engine.transcribe_gated.Given.{Over}
 use Rattle.rds_tool.proofs.engine.transcribe_gated.Goals as goal
+
+-- a refusal of settings is one of the job
+task_refused : (job : Job) (remaining : Option (List ℕ)) (e : ToolError) → IsMemoryOrErrOf (task_of job) e
+    → IsOutside e ⊎ IfSome remaining (λ held. outcome job held ≡ Err e)
+task_refused job remaining e (inl memory) = inl (inl memory)
+task_refused job None e (inr refused) = inr tt
+task_refused job (Some held) e (inr refused) = inr (ap (λ r. and_then r (λ task. text_of_task task held)) refused)
+
+-- so is one of the bytes, but for want of memory or of a thread
+text_refused : (X : Type 0) (job : Job) (task : Task) (remaining : Option (List ℕ)) (held : List ℕ) (e : ToolError) → task_of job ≡ Ok task
+    → IfSome remaining (λ bytes. held ≡ bytes) → IsShortageOrErrOf X (text_of_task task held) e → IsOutside e ⊎ IfSome remaining (λ bytes. outcome job bytes ≡ Err e)
+text_refused X job task remaining held e is same (inl memory) = inl (inl memory)
+text_refused X job task remaining held e is same (inr (inl threads)) = inl (inr (inl threads.0))
+text_refused X job task None held e is same (inr (inr refused)) = inr tt
+text_refused X job task (Some bytes) held e is same (inr (inr refused)) =
+    inr (ap (λ r. and_then r (λ (t : Task). text_of_task t bytes)) is ∙ (ap (λ b. text_of_task task b) (sym same) ∙ refused))
+
+-- and one of the writer is a device's
+write_refused : {T : Type 0} (P : ToolError → Type 0) (r : Result T ToolError) → IfErr r (λ e. (e ≡ OutOfMemory) ⊎ (e ≡ Write)) → IfErr r (λ e. IsOutside e ⊎ P e)
+write_refused P (Ok x) kinds = tt
+write_refused P (Err e) (inl memory) = inl (inl memory)
+write_refused P (Err e) (inr write) = inl (inr (inr (inr (inl write))))
 
 -- the refusal of a task is neither a device's nor a thread's
 task_inside : (g : Over) (c : goal.After-from_residual g)
@@ -19,15 +48,15 @@ returns-in_err-task g c =
     let same = passed _ _ c.from_residual.ensures in
     let settings = settings_inside c.args.job.now c.in_err-task.field-0.0 c.in_err-task.ensures.refused in
     record {
-      end = search rules;
-      ok = search rules;
+      end = no_ok _ _ _ same;
+      ok = no_ok _ _ _ same;
       read = (λ p. absurd (inside.0 p), not_called _);
       write = (λ p. absurd (inside.1 p), not_called _);
       turns = λ p. absurd (inside.2 p);
       no_worker = λ p. absurd (settings.1 (passed_kind _ _ NoWorker same p));
-      refused = search rules;
+      refused = passes _ _ _ c.from_residual.ensures (task_refused c.args.job.now (g.S.Source.remaining c.args.reader.now) _ c.in_err-task.ensures.refused);
       settings = search rules;
-      untouched = search rules;
+      untouched = passes _ _ _ c.from_residual.ensures (λ other. refl);
       prefix = λ p. absurd (inside.1 p);
     }
 
@@ -46,15 +75,15 @@ returns-in_err-text g c =
     let task = c.in_ok-task.task in
     let kinds = started (MayStartThreads task) task c.in_ok-held.held.items c.in_err-text.field-0.0 c.in_err-text.ensures.refused in
     record {
-      end = search rules;
-      ok = search rules;
+      end = no_ok _ _ _ same;
+      ok = no_ok _ _ _ same;
       read = (λ p. absurd (inside.0 p), no_failure c.in_ok-held.held _ _ c.in_ok-held.ensures.read);
       write = (λ p. absurd (inside.1 p), not_called _);
       turns = λ p. absurd (inside.2 p);
       no_worker = λ p. asked c.args.job.now task c.in_ok-task.ensures.ok (kinds (passed_kind _ _ NoWorker same p));
-      refused = search rules;
+      refused = passes _ _ _ c.from_residual-in_err-text.ensures (text_refused (MayStartThreads task) c.args.job.now task (g.S.Source.remaining c.args.reader.now) c.in_ok-held.held.items _ c.in_ok-task.ensures.ok c.in_ok-held.ensures.ok c.in_err-text.ensures.refused);
       settings = search rules;
-      untouched = search rules;
+      untouched = passes _ _ _ c.from_residual-in_err-text.ensures (λ other. refl);
       prefix = λ p. absurd (inside.1 p);
     }
 
@@ -66,7 +95,7 @@ returns g c = record {
   write = search rules;
   turns = search rules;
   no_worker = search rules;
-  refused = search rules;
+  refused = write_refused _ c.write_to.result c.write_to.ensures.kinds;
   settings = search rules;
   untouched = search rules;
   prefix =

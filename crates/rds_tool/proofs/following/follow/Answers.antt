@@ -1,13 +1,25 @@
-use Rattle.std.proofs.Common.{◌≡◌, ◌+◌, ◌^◌, ◌≤◌, ◌++◌, ◌∙◌, ℕ, List, ap, arith, inr, refl, subst, sym, take}
+use Rattle.std.proofs.Common.{◌≡◌, ◌+◌, ◌^◌, ◌≤◌, ◌++◌, ◌∙◌, ℕ, List, ap, arith, inl, inr, refl, subst, sym, take}
 use Rattle.std.specs.Prelude.{IfSome}
 use Rattle.rds_live.specs.Live.{LiveOf}
 use Rattle.rds_stream.specs.Recording.{AreGaps}
-use Rattle.rds_tool.specs.Following.{rows_so_far}
+use Rattle.rds_tool.specs.Following.{MayBreakEarly, MayBreakOff, rows_so_far}
 use Rattle.rds_tool.specs.Input.{claimed}
 use Rattle.rds_tool.specs.Inside.Streams.{bits_left}
+use Rattle.rds_tool.specs.declared.error.ToolError.{ToolError}
 use Rattle.rds_tool.proofs.Followed.{after_refusal, ends_short, few_last, is_place, no_such_gaps, of_call, of_err, on_any_ok, read_as_far, short_left, stops_at_end, stops_behind, stops_here, wrote_all}
-use Rattle.rds_tool.proofs.Passing.{passed}
+use Rattle.rds_tool.proofs.Passing.{passed, passes}
 use Rattle.rds_tool.proofs.following.follow.Goals as goal
+
+-- what may break it off before its last bits may break it off
+early_is_any : (e : ToolError) → MayBreakEarly e → MayBreakOff e
+early_is_any e (inl memory) = inl memory
+early_is_any e (inr (inl read)) = inr (inl read)
+early_is_any e (inr (inr (inl write))) = inr (inr (inl write))
+early_is_any e (inr (inr (inr (inl long)))) = inr (inr (inr (inl long)))
+early_is_any e (inr (inr (inr (inr gaps)))) = inr (inr (inr (inr (inr gaps))))
+
+pub returns-in_err-live-clause-refused : goal.returns-in_err-live-clause-refused
+returns-in_err-live-clause-refused g c = passes _ _ _ c.from_residual.ensures (early_is_any _ c.in_err-live.ensures.refused)
 
 pub returns-in_err-count-clause-past : goal.returns-in_err-count-clause-past
 returns-in_err-count-clause-past g c = λ p.

@@ -1,29 +1,41 @@
-use Rattle.std.proofs.Common.{◌+◌, ◌*◌, ◌≤◌, ◌++◌, [], arith, ap, refl, sym, subst, ◌∙◌, drop, length, take, ℕ}
+use Rattle.std.proofs.Common.{◌+◌, ◌*◌, ◌≡◌, ◌≤◌, ◌⊎◌, ◌++◌, [], inl, inr, arith, ap, refl, sym, subst, ◌∙◌, drop, length, take, ℕ}
 use Rattle.std.specs.Prelude.{IfSome}
+use Rattle.rds_tool.specs.Following.{MayBreakEarly}
 use Rattle.rds_tool.specs.Inside.Streams.{IsNearEnd, IsPlaceOf}
+use Rattle.rds_tool.specs.declared.error.ToolError.{ToolError}
+use Rattle.rds_tool.specs.declared.error.ToolError.TheVariants.{BadGaps, OutOfMemory, TooLong}
 use Rattle.rds_tool.proofs.Followed.{after_no_write, after_refusal, chunk_breaks, few_taken, fits_room, followed_end, followed_more, followed_none, front_is, is_place, lent_whole, near_end_by, no_gaps_told, nothing_done, of_call, read_not_told, smaller, some_taken, stops_behind, stops_here, stops_in_rows, stops_untouched, told_on, too_many}
 use Rattle.rds_tool.proofs.Passing.{passed, passed_kind, passes}
 use Rattle.rds_tool.proofs.following.follow_bytes.Goals as goal
 
-pub loop-items-init : goal.loop-items-init
-loop-items-init g c = record {
+-- what is refused before anything is read may break it off
+begin_breaks : (e : ToolError) → (e ≡ OutOfMemory) ⊎ ((e ≡ TooLong) ⊎ (e ≡ BadGaps)) → MayBreakEarly e
+begin_breaks e (inl memory) = inl memory
+begin_breaks e (inr (inl long)) = inr (inr (inr (inl long)))
+begin_breaks e (inr (inr gaps)) = inr (inr (inr (inr gaps)))
+
+pub returns-in_err-live-clause-refused : goal.returns-in_err-live-clause-refused
+returns-in_err-live-clause-refused g c = passes _ _ _ c.from_residual.ensures (begin_breaks _ c.in_err-live.ensures.kinds)
+
+pub reads-init : goal.reads-init
+reads-init g c = record {
   followed = ([], followed_none _ _ _ _ _ c.in_ok-live.ensures.live);
   reads = refl;
   writes = refl;
-  room = omega (arith, c.in_ok-buf.ensures.len, c.in_ok-buf.buf.ok.0);
-  items = omega (arith, c.in_ok-items.ensures.capacity);
+  room = c.in_ok-live.ensures.room;
+  items = c.in_ok-live.ensures.items;
 }
 
 pub returns-in_err-count-clause-between : goal.returns-in_err-count-clause-between
 returns-in_err-count-clause-between g c =
-    let (heard, f) = c.loop-items.invariant.followed in
+    let (heard, f) = c.reads.invariant.followed in
     after_refusal _ (stops_here _ _ _ _ _ _ _ heard f _ c.in_err-count.ensures.kept)
 
-pub loop-items-smaller : goal.loop-items-smaller
-loop-items-smaller g c =
-    let (heard, f) = c.loop-items.invariant.followed in
-    let bytes_are = front_is c.in_ok-count.count c.loop-items.buf.len c.deref.result.now c.read_once.new.buf (drop (length c.read_once.new.buf) c.loop-items.buf.items) (c.read_once.auto.buf ∙ c.as_mut_slice.ensures.len) c.deref.ensures.value in
-    let within : IfSome c.args.bits (λ (n : ℕ). c.loop-items.live.place + 8 * c.room_before_end-room.result ≤ n) =
+pub reads-smaller : goal.reads-smaller
+reads-smaller g c =
+    let (heard, f) = c.reads.invariant.followed in
+    let bytes_are = front_is c.in_ok-count.count c.reads.buf.len c.deref.result.now c.read_once.new.buf (drop (length c.read_once.new.buf) c.reads.buf.items) (c.read_once.auto.buf ∙ c.as_mut_slice.ensures.len) c.deref.ensures.value in
+    let within : IfSome c.args.bits (λ (n : ℕ). c.reads.live.place + 8 * c.room_before_end-room.result ≤ n) =
     subst (λ (p : ℕ). IfSome c.args.bits (λ (n : ℕ). p + 8 * c.room_before_end-room.result ≤ n)) c.place.ensures.value c.room_before_end-room.ensures.within in
     let fit = fits_room _ c.room_before_end-room.result _ _ bytes_are c.in_ok-count.ensures.within.1 in
     smaller _ _ _ _ _ _ _ heard f _ _ _ _
@@ -31,12 +43,12 @@ loop-items-smaller g c =
     c.in_ok-follow_chunk.ensures.fits)
     (some_taken _ _ _ bytes_are c.if-count-eq0.false c.in_ok-count.ensures.within.0)
 
-pub loop-items-preserved : goal.loop-items-preserved
-loop-items-preserved g c =
-    let (heard, f) = c.loop-items.invariant.followed in
+pub reads-preserved : goal.reads-preserved
+reads-preserved g c =
+    let (heard, f) = c.reads.invariant.followed in
     let long = c.read_once.auto.buf ∙ c.as_mut_slice.ensures.len in
-    let bytes_are = front_is c.in_ok-count.count c.loop-items.buf.len c.deref.result.now c.read_once.new.buf (drop (length c.read_once.new.buf) c.loop-items.buf.items) long c.deref.ensures.value in
-    let within : IfSome c.args.bits (λ (n : ℕ). c.loop-items.live.place + 8 * c.room_before_end-room.result ≤ n) =
+    let bytes_are = front_is c.in_ok-count.count c.reads.buf.len c.deref.result.now c.read_once.new.buf (drop (length c.read_once.new.buf) c.reads.buf.items) long c.deref.ensures.value in
+    let within : IfSome c.args.bits (λ (n : ℕ). c.reads.live.place + 8 * c.room_before_end-room.result ≤ n) =
     subst (λ (p : ℕ). IfSome c.args.bits (λ (n : ℕ). p + 8 * c.room_before_end-room.result ≤ n)) c.place.ensures.value c.room_before_end-room.ensures.within in
     let fit = fits_room _ c.room_before_end-room.result _ _ bytes_are c.in_ok-count.ensures.within.1 in
     record {
@@ -45,24 +57,24 @@ loop-items-preserved g c =
         followed_more _ _ _ _ _ _ _ heard f _ _ _ c.in_ok-count.ensures.taken _ bytes_are _ _ within fit _
             c.in_ok-follow_chunk.ensures.heard c.in_ok-follow_chunk.ensures.terms c.in_ok-follow_chunk.ensures.rows c.in_ok-follow_chunk.ensures.fits,
       );
-      reads = c.in_ok-count.ensures.count ∙ c.loop-items.invariant.reads;
-      writes = c.in_ok-follow_chunk.ensures.count ∙ c.loop-items.invariant.writes;
-      room = let same = ap (λ xs. length xs) (lent_whole c.loop-items.buf.len c.read_once.new.buf (drop (length c.read_once.new.buf) c.loop-items.buf.items) long) in omega (arith, same, long, c.loop-items.buf.ok.0, c.loop-items.invariant.room);
-      items = omega (arith, c.in_ok-follow_chunk.ensures.room, c.loop-items.invariant.items);
+      reads = c.in_ok-count.ensures.count ∙ c.reads.invariant.reads;
+      writes = c.in_ok-follow_chunk.ensures.count ∙ c.reads.invariant.writes;
+      room = let same = ap (λ xs. length xs) (lent_whole c.reads.buf.len c.read_once.new.buf (drop (length c.read_once.new.buf) c.reads.buf.items) long) in omega (arith, same, long, c.reads.buf.ok.0, c.reads.invariant.room);
+      items = omega (arith, c.in_ok-follow_chunk.ensures.room, c.reads.invariant.items);
     }
 
 pub returns-in_err-follow_chunk-clause-read : goal.returns-in_err-follow_chunk-clause-read
 returns-in_err-follow_chunk-clause-read g c =
-    read_not_told _ _ (passed _ _ c.from_residual-in_err-follow_chunk.ensures) c.in_err-follow_chunk.ensures.kinds _ _ _ c.loop-items.invariant.reads c.in_ok-count.ensures.count
+    read_not_told _ _ (passed _ _ c.from_residual-in_err-follow_chunk.ensures) c.in_err-follow_chunk.ensures.kinds _ _ _ c.reads.invariant.reads c.in_ok-count.ensures.count
 
 pub returns-in_err-follow_chunk-clause-write : goal.returns-in_err-follow_chunk-clause-write
 returns-in_err-follow_chunk-clause-write g c =
-    told_on _ _ (passed _ _ c.from_residual-in_err-follow_chunk.ensures) _ _ _ _ c.loop-items.invariant.writes c.in_err-follow_chunk.ensures.write
+    told_on _ _ (passed _ _ c.from_residual-in_err-follow_chunk.ensures) _ _ _ _ c.reads.invariant.writes c.in_err-follow_chunk.ensures.write
 
 pub returns-in_err-follow_chunk-clause-too_long : goal.returns-in_err-follow_chunk-clause-too_long
 returns-in_err-follow_chunk-clause-too_long g c = λ p.
-    let (heard, f) = c.loop-items.invariant.followed in
-    let bytes_are = front_is c.in_ok-count.count c.loop-items.buf.len c.deref.result.now c.read_once.new.buf (drop (length c.read_once.new.buf) c.loop-items.buf.items) (c.read_once.auto.buf ∙ c.as_mut_slice.ensures.len) c.deref.ensures.value in
+    let (heard, f) = c.reads.invariant.followed in
+    let bytes_are = front_is c.in_ok-count.count c.reads.buf.len c.deref.result.now c.read_once.new.buf (drop (length c.read_once.new.buf) c.reads.buf.items) (c.read_once.auto.buf ∙ c.as_mut_slice.ensures.len) c.deref.ensures.value in
     too_many _ _ _ _ _ _ _ heard f _ _ _ c.in_ok-count.ensures.taken _ bytes_are
     (c.in_err-follow_chunk.ensures.too_long (of_call _ _ (passed _ _ c.from_residual-in_err-follow_chunk.ensures) _ p))
 
@@ -71,46 +83,40 @@ returns-in_err-follow_chunk-clause-refused g c = passes _ _ _ c.from_residual-in
 
 pub returns-in_err-follow_chunk-clause-between : goal.returns-in_err-follow_chunk-clause-between
 returns-in_err-follow_chunk-clause-between g c =
-    let (heard, f) = c.loop-items.invariant.followed in
+    let (heard, f) = c.reads.invariant.followed in
     let long = c.read_once.auto.buf ∙ c.as_mut_slice.ensures.len in
-    let bytes_are = front_is c.in_ok-count.count c.loop-items.buf.len c.deref.result.now c.read_once.new.buf (drop (length c.read_once.new.buf) c.loop-items.buf.items) long c.deref.ensures.value in
-    let few = few_taken _ _ _ bytes_are (omega (arith, long, c.loop-items.buf.ok.0, c.loop-items.invariant.room)) in
+    let bytes_are = front_is c.in_ok-count.count c.reads.buf.len c.deref.result.now c.read_once.new.buf (drop (length c.read_once.new.buf) c.reads.buf.items) long c.deref.ensures.value in
+    let few = few_taken _ _ _ bytes_are (omega (arith, long, c.reads.buf.ok.0, c.reads.invariant.room)) in
     after_no_write _ c.in_err-follow_chunk.field-0.0 (passed _ _ c.from_residual-in_err-follow_chunk.ensures) (λ other.
     stops_untouched g.K.Sink.contents _ _ _ _ _ _ _ (c.in_err-follow_chunk.ensures.untouched other)
     (stops_behind _ _ _ _ _ _ _ heard f _ _ _ c.in_ok-count.ensures.taken _ bytes_are few))
 
 pub returns-in_err-follow_chunk-clause-within : goal.returns-in_err-follow_chunk-clause-within
 returns-in_err-follow_chunk-clause-within g c = λ p.
-    let (heard, f) = c.loop-items.invariant.followed in
+    let (heard, f) = c.reads.invariant.followed in
     let long = c.read_once.auto.buf ∙ c.as_mut_slice.ensures.len in
-    let bytes_are = front_is c.in_ok-count.count c.loop-items.buf.len c.deref.result.now c.read_once.new.buf (drop (length c.read_once.new.buf) c.loop-items.buf.items) long c.deref.ensures.value in
-    let within : IfSome c.args.bits (λ (n : ℕ). c.loop-items.live.place + 8 * c.room_before_end-room.result ≤ n) =
+    let bytes_are = front_is c.in_ok-count.count c.reads.buf.len c.deref.result.now c.read_once.new.buf (drop (length c.read_once.new.buf) c.reads.buf.items) long c.deref.ensures.value in
+    let within : IfSome c.args.bits (λ (n : ℕ). c.reads.live.place + 8 * c.room_before_end-room.result ≤ n) =
     subst (λ (p : ℕ). IfSome c.args.bits (λ (n : ℕ). p + 8 * c.room_before_end-room.result ≤ n)) c.place.ensures.value c.room_before_end-room.ensures.within in
     let fit = fits_room _ c.room_before_end-room.result _ _ bytes_are c.in_ok-count.ensures.within.1 in
-    let few = few_taken _ _ _ bytes_are (omega (arith, long, c.loop-items.buf.ok.0, c.loop-items.invariant.room)) in
+    let few = few_taken _ _ _ bytes_are (omega (arith, long, c.reads.buf.ok.0, c.reads.invariant.room)) in
     stops_in_rows _ _ _ _ _ _ _ heard f _ _ _ c.in_ok-count.ensures.taken _ bytes_are _ _ within fit c.runs_are_reports.ensures c.reach.ensures.range.some_loss few
     (c.in_err-follow_chunk.ensures.prefix (of_call _ _ (passed _ _ c.from_residual-in_err-follow_chunk.ensures) _ p))
 
 pub room_before_end-room-requires : goal.room_before_end-room-requires
 room_before_end-room-requires g c =
-    let (heard, f) = c.loop-items.invariant.followed in
+    let (heard, f) = c.reads.invariant.followed in
     subst (λ (p : ℕ). IsPlaceOf c.args.bits p) (sym c.place.ensures.value) (is_place _ _ _ _ _ _ _ heard f)
 
 pub returns-clause-followed : goal.returns-clause-followed
 returns-clause-followed g c =
-    let (heard, f) = c.loop-items.invariant.followed in
+    let (heard, f) = c.reads.invariant.followed in
     (heard, followed_end _ _ _ _ _ _ _ heard f _ _ _ c.in_ok-count.ensures.taken c.if-count-eq0.true)
 
 pub returns-clause-near_end : goal.returns-clause-near_end
 returns-clause-near_end g c =
     subst (λ (p : ℕ). IsNearEnd c.args.bits p (g.S.Source.remaining c.read_once.new.reader)) c.place.ensures.value
     (near_end_by c.args.bits c.place.result c.room_before_end-room.result _ c.room_before_end-room.ensures.none (c.in_ok-count.ensures.end c.if-count-eq0.true))
-
-pub returns-in_err-check_claim-clause-between : goal.returns-in_err-check_claim-clause-between
-returns-in_err-check_claim-clause-between g c = after_refusal _ (nothing_done _ _ _ _)
-
-pub returns-in_err-items-clause-between : goal.returns-in_err-items-clause-between
-returns-in_err-items-clause-between g c = after_refusal _ (nothing_done _ _ _ _)
 
 pub returns-in_err-live-clause-between : goal.returns-in_err-live-clause-between
 returns-in_err-live-clause-between g c = after_refusal _ (nothing_done _ _ _ _)

@@ -3,8 +3,8 @@ use Rattle.std.specs.Prelude.{vec_capacity}
 use Rattle.rds_tool.specs.Inside.Streams.{IsFollowed}
 use Rattle.rds_tool.proofs.following.follow_bytes.Given as goal
 
-abbrev pub invariant-loop-items : goal.invariant-loop-items
-invariant-loop-items g l = record {
+abbrev pub invariant-reads : goal.invariant-reads
+invariant-reads g l = record {
   followed : (heard : List ℕ) × IsFollowed (record { rules = l.fn.rules; gaps = l.fn.gaps }) l.fn.bits l.live
       (g.S.Source.remaining l.fn.reader) (g.S.Source.remaining l.reader) (g.K.Sink.contents l.fn.writer) (g.K.Sink.contents l.writer) heard;
   reads : g.S.Source.failed l.reader ≡ g.S.Source.failed l.fn.reader;
@@ -13,5 +13,5 @@ invariant-loop-items g l = record {
   items : 16 ≤ vec_capacity l.items;
 }
 
-abbrev pub decreases-loop-items : goal.decreases-loop-items
-decreases-loop-items g l = 2 ^ 36 - l.live.place
+abbrev pub decreases-reads : goal.decreases-reads
+decreases-reads g l = 2 ^ 36 - l.live.place

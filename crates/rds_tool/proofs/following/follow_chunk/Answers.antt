@@ -1,7 +1,18 @@
-use Rattle.std.proofs.Common.{◌++◌, ◌∙◌, ap, sym}
+use Rattle.std.proofs.Common.{◌++◌, ◌≡◌, ◌⊎◌, ◌∙◌, ap, inl, inr, sym}
 use Rattle.rds_tool.specs.Following.{rows_so_far}
+use Rattle.rds_tool.specs.declared.error.ToolError.{ToolError}
+use Rattle.rds_tool.specs.declared.error.ToolError.TheVariants.{OutOfMemory, TooLong, Write}
 use Rattle.rds_tool.proofs.Followed.{chunk_text, of_err}
+use Rattle.rds_tool.proofs.Passing.{passes}
 use Rattle.rds_tool.proofs.following.follow_chunk.Goals as goal
+
+-- what its rows are refused for, it is refused for
+rows_refuse : (e : ToolError) → (e ≡ OutOfMemory) ⊎ (e ≡ TooLong) → (e ≡ OutOfMemory) ⊎ ((e ≡ Write) ⊎ (e ≡ TooLong))
+rows_refuse e (inl memory) = inl memory
+rows_refuse e (inr long) = inr (inr long)
+
+pub returns-in_err-rows-clause-kinds : goal.returns-in_err-rows-clause-kinds
+returns-in_err-rows-clause-kinds g c = passes _ _ _ c.from_residual.ensures (rows_refuse _ c.in_err-rows.ensures.kinds)
 
 pub returns-clause-rows : goal.returns-clause-rows
 returns-clause-rows g c =

@@ -1,5 +1,6 @@
-use Rattle.std.proofs.Common.{◌+◌, ◌*◌, ◌^◌, ◌++◌, ◌∙◌, ◌≡◌, ℕ, List, ap, append_assoc, arith, length, length-append, subst, sym}
+use Rattle.std.proofs.Common.{◌<◌, ◌+◌, ◌*◌, ◌^◌, ◌++◌, ◌∙◌, ◌≡◌, ℕ, List, ap, append_assoc, arith, length, length-append, subst, sym}
 use Rattle.std.specs.List.{flat_map}
+use Rattle.std.specs.Prelude.{vec_capacity}
 use Rattle.std.specs.Io.KnownBytes.{Appends}
 use Rattle.std.proofs.KnownBytes.{Appends-trans}
 use Rattle.rds_rows.specs.Writes.{AppendsPrefix}
@@ -7,9 +8,31 @@ use Rattle.rds_sync.specs.declared.item.Item.{Item}
 use Rattle.rds_sync.specs.Counting.{IsAtMost}
 use Rattle.rds_sync.specs.Totals.{totals_of}
 use Rattle.rds_tool.specs.Listing.{item_row}
-use Rattle.rds_tool.proofs.Passes.{more_rows, parted_rows, prefix_between, two_parts}
+use Rattle.rds_tool.proofs.Passes.{all_done, at_most_more, few_done, more_rows, parted_rows, prefix_between, two_parts}
+use Rattle.std.proofs.lemmas.Bool.{eqb-true}
 use Rattle.rds_tool.proofs.Passing.{on_any_err}
+use Rattle.rds_tool.proofs.one_pass.write_items.Given.{Over}
 use Rattle.rds_tool.proofs.one_pass.write_items.Goals as goal
+
+-- nothing is left, so all is done
+whole : (g : Over) (c : goal.Then-is_empty g) → c.args.decoder.now.items ≡ c.parts.invariant.done.done
+whole g c =
+    let none : c.fill.new.part.len ≡ 0 = eqb-true _ _ (sym c.is_empty.ensures ∙ c.if-is_empty.true) in
+    all_done c.args.decoder.now.items c.parts.invariant.done.done c.parts.decoder.items c.fill.new.part.items c.fill.new.self.items (vec_capacity c.fill.new.part)
+    c.parts.invariant.done.parted c.fill.ensures.items (omega (arith, none, c.fill.new.part.ok.0)) c.fill.ensures.full
+    (subst (λ (n : ℕ). 0 < n) (sym (c.fill.ensures.room ∙ c.parts.invariant.room)) c.requires.some)
+
+pub returns-then-is_empty-clause-ok : goal.returns-then-is_empty-clause-ok
+returns-then-is_empty-clause-ok g c =
+    subst (λ (xs : List Item). Appends (g.K.Sink.contents c.args.writer.now) (g.K.Sink.contents c.parts.writer) (flat_map item_row xs)) (sym (whole g c)) c.parts.invariant.done.written
+
+pub returns-then-is_empty-clause-totals : goal.returns-then-is_empty-clause-totals
+returns-then-is_empty-clause-totals g c = c.parts.invariant.done.counted ∙ ap (λ (xs : List Item). totals_of xs) (sym (whole g c))
+
+pub returns-then-is_empty-clause-small : goal.returns-then-is_empty-clause-small
+returns-then-is_empty-clause-small g c =
+    let before = c.parts.invariant.done in
+    at_most_more (2 ^ 10 * length before.done) (2 ^ 47) _ (few_done _ before.done c.parts.decoder.items before.parted c.requires.few) before.small
 
 pub parts-preserved : goal.parts-preserved
 parts-preserved g c =

@@ -1,5 +1,5 @@
 use Rattle.rds_tool.proofs.Texts.{totals_made}
-use Rattle.rds_tool.proofs.task.totals_of.Goals as goal
+use Rattle.rds_tool.proofs.making.totals_of.Goals as goal
 
 pub returns-clause-totals : goal.returns-clause-totals
 returns-clause-totals g c =

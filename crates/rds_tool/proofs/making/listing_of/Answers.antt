@@ -1,5 +1,5 @@
 use Rattle.rds_tool.proofs.Texts.{list_made}
-use Rattle.rds_tool.proofs.task.listing_of.Goals as goal
+use Rattle.rds_tool.proofs.making.listing_of.Goals as goal
 
 pub returns-clause-list : goal.returns-clause-list
 returns-clause-list g c =

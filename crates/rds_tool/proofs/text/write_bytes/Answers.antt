@@ -3,7 +3,7 @@ use Rattle.std.specs.Prelude.{OnOk}
 use Rattle.std.specs.Io.KnownBytes.{Appends}
 use Rattle.rds_rows.specs.Writes.{AppendsPrefix}
 use Rattle.rds_tool.specs.Inside.Texts.{bytes_of}
-use Rattle.rds_tool.proofs.text.Text.write_bytes.Goals as goal
+use Rattle.rds_tool.proofs.text.write_bytes.Goals as goal
 
 pub returns-in-OnePass-clause-ok : goal.returns-in-OnePass-clause-ok
 returns-in-OnePass-clause-ok g c =

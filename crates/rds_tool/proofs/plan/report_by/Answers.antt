@@ -2,18 +2,18 @@ use Rattle.std.proofs.Common.{ap, ◌∙◌}
 use Rattle.rds_pieces.specs.WorkOf.{WorkOf}
 use Rattle.rds_tool.specs.Plans.{PlanOf}
 use Rattle.rds_tool.proofs.Texts.{items_heard, totals_counted}
-use Rattle.rds_tool.proofs.plan.Plan.report.Goals as goal
+use Rattle.rds_tool.proofs.plan.report_by.Goals as goal
 
 pub returns-clause-items : goal.returns-clause-items
 returns-clause-items g c =
     let recording = ap (λ (w : WorkOf). w.recording) (c.cut_into-work.ensures ∙ c.new.ensures) in
     let rules = ap (λ (w : WorkOf). w.rules) (c.cut_into-work.ensures ∙ c.new.ensures) in
-    let own = ap (λ (p : PlanOf). p.rules) c.self.view_is in
+    let own = ap (λ (p : PlanOf). p.rules) c.plan.view_is in
     items_heard _ _ _ _ _ c.in_ok-decode_crew.ensures.items recording (cc)
 
 pub returns-clause-totals : goal.returns-clause-totals
 returns-clause-totals g c =
     let recording = ap (λ (w : WorkOf). w.recording) (c.cut_into-work.ensures ∙ c.new.ensures) in
     let rules = ap (λ (w : WorkOf). w.rules) (c.cut_into-work.ensures ∙ c.new.ensures) in
-    let own = ap (λ (p : PlanOf). p.rules) c.self.view_is in
+    let own = ap (λ (p : PlanOf). p.rules) c.plan.view_is in
     totals_counted _ _ _ _ _ c.in_ok-decode_crew.ensures.totals recording (cc)

@@ -1,0 +1,195 @@
+//! From a job to its task, and on to what that makes of the bytes that a reader held.
+ghost use Rattle.std.specs.Prelude.{◌<◌, ◌≡◌, Err, IfErr, IfOk, Ok, true};
+ghost use Rattle.rds_tool.specs.Cuts.{cuts_any};
+ghost use Rattle.rds_tool.specs.Listing.{report_text, totals_text};
+ghost use Rattle.rds_tool.specs.Outcome.{cut_recording, text_of_task};
+ghost use Rattle.rds_tool.specs.Plans.{plan_of};
+ghost use Rattle.rds_tool.specs.Refusals.{IsMemoryOrErrOf, IsShortageOrErrOf};
+ghost use Rattle.rds_tool.specs.Inside.Texts.{bytes_of};
+ghost use Rattle.rds_tool.specs.declared.task.Task.TheVariants as task;
+
+use crate::encode::encode_lines;
+use crate::input::recording_of;
+use crate::listing::totals_rows;
+use crate::plan::report_by;
+use crate::task::{Listing, Plan, Task, Text, Workers};
+use crate::{Input, Job, Settings, ToolError};
+use rds_crew::Gate;
+use rds_sync::{Spans, Totals};
+use std::alloc::Global;
+use std::sync::Wait;
+use std::thread::Threads;
+
+impl<'a> Task<'a> {
+    ghost use Rattle.rds_tool.specs.Tasks.{MayStartThreads, task_of};
+
+    /// The task of a job. A setting out of its range is refused as such, whether or not there is memory.
+    pub fn of(alloc: Global, job: &'a Job) -> Result<Task<'a>, ToolError>
+        ensures ok { IfOk result (λ task. task_of job.now ≡ Ok task) }
+        ensures refused { IfErr result (IsMemoryOrErrOf (task_of job.now)) }
+        ensures settings { IfErr (task_of job.now) (λ error. result ≡ Err error) }
+    {
+        match job {
+            Job::Scan(input, workers) => {
+                let workers = Workers::of(*workers)?;
+                Ok(Task::Scan(input.copied(alloc)?, workers))
+            }
+            Job::List(input, settings) => {
+                let (input, plan) = planned(alloc, input, settings)?;
+                Ok(Task::List(input, plan))
+            }
+            Job::Totals(input, settings) => {
+                let (input, plan) = planned(alloc, input, settings)?;
+                Ok(Task::Totals(input, plan))
+            }
+            Job::Encode { hex } => Ok(Task::Encode { hex: *hex }),
+        }
+    }
+
+    /// What the task writes of the bytes that a reader held. A crew calls the gate.
+    pub fn text<R: Threads + Wait + Sync, G: Gate + Sync>(
+        self,
+        rt: &R,
+        alloc: Global,
+        held: Vec<u8>,
+        gate: &G,
+    ) -> Result<Text<'a>, ToolError>
+        ensures ok { IfOk result (λ text. text_of_task self.entry held.items ≡ Ok (bytes_of text)) }
+        ensures refused { IfErr result (IsShortageOrErrOf (MayStartThreads self.entry) (text_of_task self.entry held.items)) }
+    {
+        match self {
+            Task::Scan(input, workers) => windows_of(alloc, input, workers, held),
+            Task::List(input, plan) if plan.is_for_one() => one_pass_of(alloc, input, plan, held),
+            Task::List(input, plan) => report_of(rt, alloc, input, plan, held, gate),
+            Task::Totals(input, plan) => rows_of_totals(rt, alloc, input, &plan, held, gate),
+            Task::Encode { hex } => blocks_of(alloc, hex, held.as_slice()),
+        }
+    }
+}
+
+/// The input and the plan of a job over a recording. A setting out of its range is refused first.
+fn planned<'a>(
+    alloc: Global,
+    input: &Input,
+    settings: &'a Settings,
+) -> Result<(Input, Plan<'a>), ToolError>
+    ensures ok { IfOk result (λ planned. (planned.0 ≡ input.now) × (plan_of settings.entry.now ≡ Ok planned.1)) }
+    ensures refused { IfErr result (IsMemoryOrErrOf (plan_of settings.entry.now)) }
+    ensures settings { IfErr (plan_of settings.entry.now) (λ error. result ≡ Err error) }
+{
+    let plan = Plan::of(alloc, settings)?;
+    let input = input.copied(alloc)?;
+    Ok((input, plan))
+}
+
+/// The recording that the bytes give, whose valid windows are written.
+fn windows_of<'a>(
+    alloc: Global,
+    input: Input,
+    workers: Workers,
+    held: Vec<u8>,
+) -> Result<Text<'a>, ToolError>
+    ensures ok { IfOk result (λ text. text_of_task (task.Scan input workers) held.items ≡ Ok (bytes_of text)) }
+    ensures refused { IfErr result (IsMemoryOrErrOf (text_of_task (task.Scan input workers) held.items)) }
+{
+    let recording = recording_of(alloc, input, held)?;
+    Ok(Text::Windows(recording, workers))
+}
+
+/// The recording that the bytes give, whose report is written while it is decoded.
+fn one_pass_of<'a>(
+    alloc: Global,
+    input: Input,
+    plan: Plan<'a>,
+    held: Vec<u8>,
+) -> Result<Text<'a>, ToolError>
+    requires { cuts_any plan.cuts ≡ true }
+    ensures ok { IfOk result (λ text. text_of_task (task.List input plan.entry) held.items ≡ Ok (bytes_of text)) }
+    ensures refused { IfErr result (IsMemoryOrErrOf (text_of_task (task.List input plan.entry) held.items)) }
+{
+    let recording = recording_of(alloc, input, held)?;
+    Ok(Text::OnePass(recording, plan))
+}
+
+/// The report of the recording that the bytes give, as a text.
+fn report_of<'a, R: Threads + Wait, G: Gate + Sync>(
+    rt: &R,
+    alloc: Global,
+    input: Input,
+    plan: Plan<'a>,
+    held: Vec<u8>,
+    gate: &G,
+) -> Result<Text<'a>, ToolError>
+    ensures ok { IfOk result (λ text. text_of_task (task.List input plan.entry) held.items ≡ Ok (bytes_of text)) }
+    ensures refused { IfErr result (IsShortageOrErrOf (1 < plan.entry.workers) (text_of_task (task.List input plan.entry) held.items)) }
+{
+    let listing = listing_of(rt, alloc, input, plan, held, gate)?;
+    Ok(Text::Listing(listing))
+}
+
+/// The report of the recording that the bytes give. Its items are decoded again where their rows are made, so the
+/// recording goes with it.
+fn listing_of<'a, R: Threads + Wait, G: Gate + Sync>(
+    rt: &R,
+    alloc: Global,
+    input: Input,
+    plan: Plan<'a>,
+    held: Vec<u8>,
+    gate: &G,
+) -> Result<Listing<'a>, ToolError>
+    ensures list { IfOk result (λ listing. text_of_task (task.List input plan.entry) held.items
+        ≡ Ok (report_text listing.report.items.list listing.report.totals)) }
+    ensures refused { IfErr result (IsShortageOrErrOf (1 < plan.entry.workers) (cut_recording input plan.entry.cuts held.items)) }
+{
+    let recording = recording_of(alloc, input, held)?;
+    let report = report_by(rt, alloc, &plan, &recording, Spans::Short, gate)?;
+    Ok(Listing {
+        recording,
+        plan,
+        report,
+    })
+}
+
+/// The rows of the totals of the recording that the bytes give.
+fn rows_of_totals<'a, R: Threads + Wait, G: Gate + Sync>(
+    rt: &R,
+    alloc: Global,
+    input: Input,
+    plan: &Plan<'_>,
+    held: Vec<u8>,
+    gate: &G,
+) -> Result<Text<'a>, ToolError>
+    ensures ok { IfOk result (λ text. text_of_task (task.Totals input plan.now) held.items ≡ Ok (bytes_of text)) }
+    ensures refused { IfErr result (IsShortageOrErrOf (1 < plan.now.workers) (text_of_task (task.Totals input plan.now) held.items)) }
+{
+    let totals = totals_of(rt, alloc, input, plan, held, gate)?;
+    let rows = totals_rows(alloc, &totals)?;
+    Ok(Text::Whole(rows))
+}
+
+/// The totals of the recording that the bytes give, which is dropped before their text is made.
+fn totals_of<R: Threads + Wait, G: Gate + Sync>(
+    rt: &R,
+    alloc: Global,
+    input: Input,
+    plan: &Plan<'_>,
+    held: Vec<u8>,
+    gate: &G,
+) -> Result<Totals, ToolError>
+    ensures totals { IfOk result (λ totals. text_of_task (task.Totals input plan.now) held.items
+        ≡ Ok (totals_text totals)) }
+    ensures refused { IfErr result (IsShortageOrErrOf (1 < plan.now.workers) (cut_recording input plan.now.cuts held.items)) }
+{
+    let recording = recording_of(alloc, input, held)?;
+    let report = report_by(rt, alloc, plan, &recording, Spans::Whole, gate)?;
+    Ok(report.totals)
+}
+
+/// The blocks of the groups that the lines spell.
+fn blocks_of<'a>(alloc: Global, hex: bool, lines: &[u8]) -> Result<Text<'a>, ToolError>
+    ensures ok { IfOk result (λ text. text_of_task (task.Encode hex) lines.now ≡ Ok (bytes_of text)) }
+    ensures refused { IfErr result (IsMemoryOrErrOf (text_of_task (task.Encode hex) lines.now)) }
+{
+    let blocks = encode_lines(alloc, hex, lines)?;
+    Ok(Text::Whole(blocks))
+}
