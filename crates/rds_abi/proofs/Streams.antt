@@ -10,8 +10,8 @@ use Rattle.rds_abi.specs.Following.{AreClosed, AreLeft, AreTooMany, AreWritten, 
 use Rattle.rds_abi.specs.Asked.{IsFilled, rules_of}
 use Rattle.rds_abi.specs.Going.{state_of}
 use Rattle.rds_abi.specs.Layout.{item_in_c, totals_in_c}
-use Rattle.rds_abi.specs.declared.asked.RdsGap.{RdsGap}
-use Rattle.rds_abi.specs.declared.asked.RdsRules.{RdsRules}
+use Rattle.rds_abi.specs.declared.layout.RdsGap.{RdsGap}
+use Rattle.rds_abi.specs.declared.layout.RdsRules.{RdsRules}
 use Rattle.rds_abi.specs.declared.layout.RdsStream.{RdsStream}
 use Rattle.rds_abi.specs.declared.layout.RdsState.{RdsState}
 use Rattle.rds_abi.specs.declared.layout.RdsItem.{RdsItem}

@@ -11,8 +11,8 @@ use Rattle.rds_sync.specs.declared.loss.Loss.{Loss}
 use Rattle.rds_sync.specs.declared.loss.Loss.TheVariants.{InARow, Share}
 use Rattle.rds_abi.specs.Layout.{item_in_c, totals_in_c}
 use Rattle.rds_abi.specs.Refusals.{number_of}
-use Rattle.rds_abi.specs.declared.asked.RdsGap.{RdsGap}
-use Rattle.rds_abi.specs.declared.asked.RdsRules.{RdsRules}
+use Rattle.rds_abi.specs.declared.layout.RdsGap.{RdsGap}
+use Rattle.rds_abi.specs.declared.layout.RdsRules.{RdsRules}
 use Rattle.rds_abi.specs.declared.layout.RdsItem.{RdsItem}
 use Rattle.rds_abi.specs.declared.layout.RdsTotals.{RdsTotals}
 use Rattle.rds_abi.specs.declared.refusal.Refusal.{Refusal}

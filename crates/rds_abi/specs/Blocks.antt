@@ -5,8 +5,8 @@ use Rattle.std.specs.Int.{to_be_bytes, w128}
 use Rattle.rds_code.specs.Encoding.{encoded_group}
 use Rattle.rds_code.specs.declared.reading.Wanted.{Wanted}
 use Rattle.rds_code.specs.declared.reading.Wanted.TheVariants.{OnlyC, OnlyCx, Either}
-use Rattle.rds_abi.specs.declared.groups.RdsPacked.{RdsPacked}
-use Rattle.rds_abi.specs.declared.groups.RdsWords.{RdsWords}
+use Rattle.rds_abi.specs.declared.layout.RdsPacked.{RdsPacked}
+use Rattle.rds_abi.specs.declared.layout.RdsWords.{RdsWords}
 use Rattle.rds_abi.specs.declared.refusal.Refusal.{Refusal}
 use Rattle.rds_abi.specs.declared.refusal.Refusal.TheVariants.{BlockRange, BurstRange, OffsetRange, OutOfMemory}
 

@@ -9,8 +9,8 @@ use Rattle.rds_live.specs.Live.{HasHeard, IsLive, LiveOf, Terms, complete, most_
 use Rattle.rds_abi.specs.Asked.{IsFilled, IsTooMuch, RefusesRules, gaps_of, rules_of}
 use Rattle.rds_abi.specs.Going.{state_in_c, state_of}
 use Rattle.rds_abi.specs.Layout.{item_in_c, totals_in_c}
-use Rattle.rds_abi.specs.declared.asked.RdsGap.{RdsGap}
-use Rattle.rds_abi.specs.declared.asked.RdsRules.{RdsRules}
+use Rattle.rds_abi.specs.declared.layout.RdsGap.{RdsGap}
+use Rattle.rds_abi.specs.declared.layout.RdsRules.{RdsRules}
 use Rattle.rds_abi.specs.declared.layout.RdsStream.{RdsStream}
 use Rattle.rds_abi.specs.declared.layout.RdsItem.{RdsItem}
 use Rattle.rds_abi.specs.declared.layout.RdsTotals.{RdsTotals}

@@ -5,34 +5,11 @@ ghost use Rattle.rds_stream.specs.Recording.{length_of};
 ghost use Rattle.rds_sync.specs.Ranges.{IsInRange};
 ghost use Rattle.rds_abi.specs.Asked.{IsLawful, IsRecording, Refuses, RefusesRecording, RefusesRules, asked, gaps_of, loss_of as the_loss_of, recording_of as the_recording_of, rules_of as the_rules_of};
 
+use crate::layout::{RdsGap, RdsRules};
 use crate::refusal::Refusal;
 use rds_stream::{Recording, StreamError};
 use rds_sync::{Loss, RuleNumbers, Rules, SyncError};
 use std::alloc::{AllocError, Global};
-
-/// A gap in a recording, whose bits mean nothing: the places from `begin` to before `end`. 16 bytes.
-#[repr(C)]
-#[derive(Clone, Copy, Debug, PartialEq, Eq)]
-pub struct RdsGap {
-    /// The first place.
-    pub begin: u64,
-    /// The place behind the last.
-    pub end: u64,
-}
-
-/// The numbers of a decoder's rules: 16 bytes.
-#[repr(C)]
-#[derive(Clone, Copy, Debug, PartialEq, Eq)]
-pub struct RdsRules {
-    /// The longest burst that is corrected, in bits: 0 to 5.
-    pub burst: u32,
-    /// How many blocks back a partner is looked for while acquiring: 1 to 8.
-    pub reach: u32,
-    /// After how many bad blocks a lock is lost: 1 to 64.
-    pub loss: u32,
-    /// 0 where these are bad blocks in a row; else among how many of the last blocks they are: `loss` to 64.
-    pub of: u32,
-}
 
 /// The rule of loss that these numbers say.
 fn loss_of(asked: RdsRules) -> Loss
@@ -48,18 +25,24 @@ fn loss_of(asked: RdsRules) -> Loss
     }
 }
 
+/// The numbers of rules, as the decoder has them.
+fn numbers_of(asked: RdsRules) -> RuleNumbers
+    ensures { result ≡ the_rules_of asked }
+{
+    RuleNumbers {
+        burst: asked.burst,
+        reach: asked.reach,
+        loss: loss_of(asked),
+    }
+}
+
 /// The rules of these numbers.
 pub(crate) fn rules_of(alloc: Global, asked: RdsRules) -> Result<Rules, Refusal>
     ensures rules { IfOk result (λ rules. rules ≡ the_rules_of asked) }
     ensures range { IfOk result (λ _. IsInRange (the_rules_of asked)) }
     ensures refused { IfErr result (RefusesRules (the_rules_of asked)) }
 {
-    let numbers = RuleNumbers {
-        burst: asked.burst,
-        reach: asked.reach,
-        loss: loss_of(asked),
-    };
-    match Rules::of(alloc, numbers) {
+    match Rules::of(alloc, numbers_of(asked)) {
         Ok(rules) => {
             let _numbers = rules.numbers();
             Ok(rules)

@@ -7,7 +7,8 @@ ghost use Rattle.rds_abi.specs.Blocks.{RefusesCorrection, block_wanted as the_bl
 ghost use Rattle.rds_abi.specs.Layout.{reading_in_c};
 ghost use Rattle.rds_abi.specs.declared.refusal.Refusal.TheVariants.{BlockRange};
 
-use crate::layout::{RdsBlock, reading_in_c};
+use crate::in_c::reading_in_c;
+use crate::layout::RdsBlock;
 use crate::refusal::Refusal;
 use rds_code::{BlockNumber, BurstLimit, BurstTable, Wanted, is_block, read_block, rem26};
 use std::alloc::Global;

@@ -1,6 +1,7 @@
 //! A stream that is followed chunk by chunk, from what the caller keeps of it.
 
 ghost use Rattle.std.specs.Prelude.{◌≡◌, ◌++◌, ◌<◌, ◌≤◌, ◌⊎◌, ◌+◌, ◌-◌, ◌*◌, ◌^◌, ℕ, List, IfErr, IfOk, OnErr, OnOk, length, map, replicate, take, vec_capacity};
+ghost use Rattle.rds_stream.specs.Recording.{AreGaps};
 ghost use Rattle.rds_sync.specs.Advance.{group_item};
 ghost use Rattle.rds_sync.specs.Totals.{totals_of};
 ghost use Rattle.rds_live.specs.Live.{HasHeard, IsLive, complete, report_at, report_of};
@@ -8,11 +9,12 @@ ghost use Rattle.rds_sync.specs.Ranges.{IsInRange};
 ghost use Rattle.rds_abi.specs.Asked.{IsFilled, RefusesRules, rules_of as the_rules_of};
 ghost use Rattle.rds_abi.specs.Following.{AreClosed, AreCompleted, AreLast, AreLeft, AreTooMany, AreWritten, IsFollowed, RefusesEnd, RefusesFollowed, RefusesLast, RefusesPush, RefusesStream, place_after, stream_in_c as the_stream_in_c, stream_of as the_stream_of, terms_of, totals_from_c};
 ghost use Rattle.rds_abi.specs.Layout.{item_in_c, totals_in_c};
-ghost use Rattle.rds_abi.specs.declared.refusal.Refusal.TheVariants.{BitsPastBytes, OutOfMemory, SmallRoom, TooLong};
+ghost use Rattle.rds_abi.specs.declared.refusal.Refusal.TheVariants.{BadGaps, BitsPastBytes, OutOfMemory, SmallRoom, TooLong};
 
-use crate::asked::{RdsGap, RdsRules, gaps_in, rules_of};
+use crate::asked::{gaps_in, rules_of};
 use crate::going::{state_in_c, state_of, write_end};
-use crate::layout::{RdsItem, RdsStream, RdsTotals, item_in_c, totals_in_c};
+use crate::in_c::{item_in_c, totals_in_c};
+use crate::layout::{RdsGap, RdsItem, RdsRules, RdsStream, RdsTotals};
 use crate::refusal::Refusal;
 use rds_live::{Live, ResumeError};
 use rds_stream::StreamError;
@@ -75,13 +77,9 @@ fn live_of<'r>(alloc: Global, told: &'r Told, stream: &RdsStream) -> Result<Live
     ensures lawful { IfOk result (λ live. IsLive live) }
     ensures refused { IfErr result (RefusesStream told.now stream.now) }
 {
+    refuse_gaps(alloc, told)?;
     let rules = &told.rules;
     let gaps = told.gaps.as_slice();
-    match Live::with_gaps(alloc, rules, gaps) {
-        Ok(_) => {}
-        Err(StreamError::BadGaps) => return Err(Refusal::BadGaps),
-        Err(_) => return Err(Refusal::OutOfMemory),
-    }
     let Some(state) = state_of(rules, stream.state, stream.place) else {
         return Err(Refusal::UnlawfulState);
     };
@@ -92,6 +90,19 @@ fn live_of<'r>(alloc: Global, told: &'r Told, stream: &RdsStream) -> Result<Live
         Ok(live) => Ok(live),
         Err(ResumeError::OutOfMemory) => Err(Refusal::OutOfMemory),
         Err(_) => Err(Refusal::UnlawfulState),
+    }
+}
+
+/// Refuses gaps that no stream may have, or want of memory.
+fn refuse_gaps(alloc: Global, told: &Told) -> Result<(), Refusal>
+    ensures lawful { OnOk result (AreGaps (2 ^ 36) told.now.gaps) }
+    ensures refused { IfErr result (λ refusal.
+        ((refusal ≡ BadGaps) × (AreGaps (2 ^ 36) told.now.gaps → ⊥)) ⊎ (refusal ≡ OutOfMemory)) }
+{
+    match Live::with_gaps(alloc, &told.rules, told.gaps.as_slice()) {
+        Ok(_) => Ok(()),
+        Err(StreamError::BadGaps) => Err(Refusal::BadGaps),
+        Err(_) => Err(Refusal::OutOfMemory),
     }
 }
 

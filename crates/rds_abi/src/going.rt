@@ -11,8 +11,9 @@ ghost use Rattle.rds_abi.specs.declared.refusal.Refusal.TheVariants.{OutOfMemory
 ghost use Rattle.rds_abi.specs.Going.{IsRun, RefusesRun, items_at_end, items_of_run, run_asked, state_in_c as the_state_in_c, state_of as the_state_of};
 ghost use Rattle.rds_abi.specs.Layout.{item_in_c};
 
-use crate::asked::{Input, RdsGap, RdsRules, input_of};
-use crate::layout::{RdsItem, RdsState, item_in_c};
+use crate::asked::{Input, input_of};
+use crate::in_c::item_in_c;
+use crate::layout::{RdsGap, RdsItem, RdsRules, RdsState};
 use crate::refusal::Refusal;
 use rds_stream::Counted;
 use rds_sync::{Decoder, Group, Item, Lock, Rules, State, finish, laws, run_codes};

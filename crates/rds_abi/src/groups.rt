@@ -4,22 +4,9 @@ ghost use Rattle.std.specs.Prelude.{◌≡◌, ◌++◌, ◌<◌, ◌≤◌, IfE
 ghost use Rattle.rds_abi.specs.Blocks.{packed as the_packed};
 ghost use Rattle.rds_abi.specs.declared.refusal.Refusal.TheVariants.{SmallRoom};
 
+use crate::layout::{RdsPacked, RdsWords};
 use crate::refusal::Refusal;
 use rds_code::encode_group;
-
-/// The information words of a group's four blocks: 8 bytes.
-#[repr(C)]
-#[derive(Clone, Copy, Debug, PartialEq, Eq)]
-pub struct RdsWords {
-    pub words: [u16; 4],
-}
-
-/// The 104 bits of a group as it is sent, the first bit highest: 13 bytes.
-#[repr(C)]
-#[derive(Clone, Copy, Debug, PartialEq, Eq)]
-pub struct RdsPacked {
-    pub bytes: [u8; 13],
-}
 
 /// Writes the groups as they are sent to the beginning of `room`, 13 bytes each, or nothing where there is too little
 /// room. Block 3 has C' where bit 11 of the second word, the version bit, is set, and else C (EN 50067:1998, 2.1 and

@@ -1,10 +1,42 @@
 //! What crosses to C: numbers alone, in structs whose layout is C's.
 
-ghost use Rattle.std.specs.Prelude.{◌≡◌, [], ◌∷◌};
-ghost use Rattle.rds_abi.specs.Layout.{block_in_c, item_in_c, kind_in_c, no_block, offset_in_c, reading_in_c, totals_in_c, version_in_c};
+/// A gap in a recording, whose bits mean nothing: the places from `begin` to before `end`. 16 bytes.
+#[repr(C)]
+#[derive(Clone, Copy, Debug, PartialEq, Eq)]
+pub struct RdsGap {
+    /// The first place.
+    pub begin: u64,
+    /// The place behind the last.
+    pub end: u64,
+}
 
-use rds_code::{Offset, Reading};
-use rds_sync::{Block, Group, Item, Totals, Version};
+/// The numbers of a decoder's rules: 16 bytes.
+#[repr(C)]
+#[derive(Clone, Copy, Debug, PartialEq, Eq)]
+pub struct RdsRules {
+    /// The longest burst that is corrected, in bits: 0 to 5.
+    pub burst: u32,
+    /// How many blocks back a partner is looked for while acquiring: 1 to 8.
+    pub reach: u32,
+    /// After how many bad blocks a lock is lost: 1 to 64.
+    pub loss: u32,
+    /// 0 where these are bad blocks in a row; else among how many of the last blocks they are: `loss` to 64.
+    pub of: u32,
+}
+
+/// The information words of a group's four blocks: 8 bytes.
+#[repr(C)]
+#[derive(Clone, Copy, Debug, PartialEq, Eq)]
+pub struct RdsWords {
+    pub words: [u16; 4],
+}
+
+/// The 104 bits of a group as it is sent, the first bit highest: 13 bytes.
+#[repr(C)]
+#[derive(Clone, Copy, Debug, PartialEq, Eq)]
+pub struct RdsPacked {
+    pub bytes: [u8; 13],
+}
 
 /// The twelve totals of a report: 96 bytes.
 #[repr(C)]
@@ -133,147 +165,4 @@ impl RdsStream {
         totals: RdsTotals::NONE,
         tail: [0; 32],
     };
-}
-
-/// Totals, for C.
-pub(crate) fn totals_in_c(totals: Totals) -> RdsTotals
-    ensures { result ≡ totals_in_c totals }
-{
-    let bursts = totals.bursts;
-    RdsTotals {
-        valid: totals.valid,
-        bursts,
-        lost: totals.lost,
-        bits: totals.bits,
-        groups: totals.groups,
-        complete: totals.complete,
-        acquired: totals.acquired,
-        losses: totals.losses,
-    }
-}
-
-/// An offset, for C.
-fn offset_in_c(offset: Offset) -> u8
-    ensures { result ≡ offset_in_c offset }
-{
-    match offset {
-        Offset::A => 1,
-        Offset::B => 2,
-        Offset::C => 3,
-        Offset::Cx => 4,
-        Offset::D => 5,
-    }
-}
-
-/// A reading, for C.
-pub(crate) fn reading_in_c(reading: Reading) -> RdsBlock
-    ensures { result ≡ reading_in_c reading }
-{
-    match reading {
-        Reading::Lost => RdsBlock {
-            kind: 1,
-            ..RdsBlock::MISSING
-        },
-        Reading::Valid { offset, info } => RdsBlock {
-            burst: 0,
-            info,
-            kind: 2,
-            offset: offset_in_c(offset),
-        },
-        Reading::Corrected {
-            offset,
-            info,
-            burst,
-        } => RdsBlock {
-            burst: burst.pattern(),
-            info,
-            kind: 3,
-            offset: offset_in_c(offset),
-        },
-    }
-}
-
-/// A block, for C.
-fn block_in_c(block: Block) -> RdsBlock
-    ensures { result ≡ block_in_c block }
-{
-    match block {
-        Block::Missing => RdsBlock::MISSING,
-        Block::Read(reading) => reading_in_c(reading),
-    }
-}
-
-/// A version, for C.
-fn version_in_c(version: Version) -> u8
-    ensures { result ≡ version_in_c version }
-{
-    match version {
-        Version::A => 1,
-        Version::B => 2,
-        Version::Unknown => 3,
-    }
-}
-
-/// A group's type, for C.
-fn kind_in_c(kind: Option<u8>) -> u8
-    ensures { result ≡ kind_in_c kind }
-{
-    match kind {
-        Some(kind) => kind,
-        None => u8::MAX,
-    }
-}
-
-/// An item, for C.
-pub(crate) fn item_in_c(item: Item) -> RdsItem
-    ensures { result ≡ item_in_c item }
-{
-    match item {
-        Item::Acquired { place, number } => RdsItem {
-            what: 1,
-            number,
-            ..nothing_at(place)
-        },
-        Item::Group(group) => group_in_c(group),
-        Item::LostLock { place } => RdsItem {
-            what: 3,
-            ..nothing_at(place)
-        },
-    }
-}
-
-/// An item of no kind at this place.
-fn nothing_at(place: u64) -> RdsItem
-    ensures { result ≡ record { place = place; blocks = no_block ∷ no_block ∷ no_block ∷ no_block ∷ []; what = 0; number = 0; version = 0; conflict = 0; unused = 0 } }
-{
-    RdsItem {
-        place,
-        blocks: [RdsBlock::MISSING; 4],
-        what: 0,
-        number: 0,
-        version: 0,
-        conflict: 0,
-        unused: 0,
-    }
-}
-
-/// A group, for C.
-fn group_in_c(group: Group) -> RdsItem
-    ensures { result ≡ item_in_c (Item.Group group) }
-{
-    let [first, second, third, fourth] = group.blocks;
-    RdsItem {
-        place: group.place,
-        blocks: [
-            block_in_c(first),
-            block_in_c(second),
-            block_in_c(third),
-            block_in_c(fourth),
-        ],
-        what: 2,
-        number: kind_in_c(group.kind),
-        version: version_in_c(group.version),
-        conflict: u8::from(group.conflict),
-        unused: 0,
-    }
 }

@@ -21,7 +21,8 @@
 #![tactic(auto)]
 
 // In the order of reading: what crosses to C, what is asked for, and the calls.
-mod layout; // What is found, and what is known between two calls, as it lies in C.
+mod layout; // What crosses to C, as it lies there.
+mod in_c; // What is found, laid out so.
 mod asked; // What a caller asks for.
 mod whole; // A recording that is handed over whole.
 mod going; // A run from range to range.
@@ -31,12 +32,13 @@ mod groups; // Groups to bytes.
 mod names; // Names and the version.
 mod refusal; // Why a call is refused.
 
-pub use asked::{RdsGap, RdsRules};
 pub use blocks::{correct, remainder};
 pub use following::{finish, finish_with, push};
 pub use going::{finish_run, run};
-pub use groups::{RdsPacked, RdsWords, encode};
-pub use layout::{RdsBlock, RdsItem, RdsState, RdsStream, RdsTotals};
+pub use groups::encode;
+pub use layout::{
+    RdsBlock, RdsGap, RdsItem, RdsPacked, RdsRules, RdsState, RdsStream, RdsTotals, RdsWords,
+};
 pub use names::{VERSION, refusal_name};
 pub use refusal::Refusal;
 pub use whole::{items, totals};

@@ -4,8 +4,9 @@ ghost use Rattle.std.specs.Prelude.{◌≡◌, ◌++◌, ◌<◌, ◌≤◌, ◌
 ghost use Rattle.rds_abi.specs.Asked.{IsFilled, IsLawful, IsTooMuch, Refuses, asked, items_asked, totals_asked};
 ghost use Rattle.rds_abi.specs.Layout.{item_in_c};
 
-use crate::asked::{Input, RdsGap, RdsRules, input_of};
-use crate::layout::{RdsItem, RdsTotals, item_in_c, totals_in_c};
+use crate::asked::{Input, input_of};
+use crate::in_c::{item_in_c, totals_in_c};
+use crate::layout::{RdsGap, RdsItem, RdsRules, RdsTotals};
 use crate::refusal::Refusal;
 use rds_sync::{ItemIter, Items, decode_plain};
 use std::alloc::Global;

@@ -1,17 +1,18 @@
 //! A crew of workers that makes the report of a work.
-ghost use Rattle.std.specs.Prelude.{◌≡◌, ◌⊎◌, ◌↔◌, ◌<◌, length, IfOk, IsErrOf};
+ghost use Rattle.std.specs.Prelude.{◌≡◌, ◌⊎◌, ◌↔◌, ◌<◌, ◌≤◌, length, IfOk, IsErrOf, IsOkUnless, IsTrue};
 ghost use Rattle.rds_stream.specs.Recording.{length_of};
 ghost use Rattle.rds_sync.specs.Decoding.{listed};
 ghost use Rattle.rds_sync.specs.Report.{report_items};
 ghost use Rattle.rds_sync.specs.Totals.{totals_of};
 ghost use Rattle.rds_pieces.specs.Cutting.{IsCutting, pieces_of};
+ghost use Rattle.rds_pieces.specs.RunOf.{FollowEachOther};
 
 use crate::error::CrewError;
 use crate::gate::Gate;
 use crate::guesses::Guesses;
 use crate::team::make_all;
 use crate::tree::join_all;
-use rds_pieces::{Work, laws};
+use rds_pieces::{PieceRun, Work, laws};
 use rds_sync::Report;
 use std::alloc::Global;
 use std::sync::Wait;
@@ -55,7 +56,7 @@ pub fn decode_crew<R: Threads + Wait, W: Work + Sync, G: Gate + Sync>(
     ensures no_worker { IsErrOf result CrewError.NoWorker
         → (1 < workers) × (1 < pieces_of (W.places work.now)) }
 {
-    if workers == 0 || workers > MOST_WORKERS {
+    if !may_be_so_many(workers) {
         return Err(CrewError::CrewRange);
     }
     let runs = make_all(rt, alloc, &Guesses { work, gate }, workers)?;
@@ -63,8 +64,28 @@ pub fn decode_crew<R: Threads + Wait, W: Work + Sync, G: Gate + Sync>(
     // In order they follow each other from the first bit to the last, as a join and the report ask of them.
     laws::pieces_follow();
     let runs = join_all(rt, alloc, work, gate, workers, runs)?;
-    let Ok(report) = work.report(alloc, runs.as_slice()) else {
-        return Err(CrewError::OutOfMemory);
-    };
-    Ok(report)
+    report_of(alloc, work, runs.as_slice())
+}
+
+/// Whether a crew may have so many workers.
+fn may_be_so_many(workers: u32) -> bool
+    ensures { IsTrue result ↔ ((0 < workers) × (workers ≤ 256)) }
+{
+    workers != 0 && workers <= MOST_WORKERS
+}
+
+/// The report of a work, from runs in a row from its first bit to its last.
+fn report_of<W: Work>(alloc: Global, work: &W, runs: &[PieceRun]) -> Result<Report, CrewError>
+    requires in_a_row { FollowEachOther (W.recording work.now) (W.rule_set work.now)
+        0 (length_of (W.recording work.now)) runs.now }
+    ensures items { IfOk result (λ report. report.items ≡ listed (W.recording work.now) (W.rule_set work.now)
+        (report_items (W.recording work.now) (W.rule_set work.now))) }
+    ensures totals { IfOk result (λ report. report.totals
+        ≡ totals_of (report_items (W.recording work.now) (W.rule_set work.now))) }
+    ensures err { IsOkUnless result CrewError.OutOfMemory }
+{
+    match work.report(alloc, runs) {
+        Ok(report) => Ok(report),
+        Err(_) => Err(CrewError::OutOfMemory),
+    }
 }

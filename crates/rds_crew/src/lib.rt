@@ -69,6 +69,7 @@ mod joins; // The joins of one level, as parts.
 mod tree; // The levels of joins, up to one run.
 mod team; // All parts of a work, made by threads.
 mod drawing; // What one worker draws and makes.
+mod promise; // What its thread promises of that.
 mod slots; // What was made, in the order of its numbers.
 mod dealer; // Who deals the numbers.
 mod seat; // The right of a worker to draw.

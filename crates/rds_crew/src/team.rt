@@ -5,9 +5,10 @@ ghost use Rattle.rds_crew.specs.Seats.{IsFresh};
 ghost use Rattle.rds_crew.specs.Inside.Drawn.{IsDrawn, IsWorkerOf};
 
 use crate::dealer::Dealer;
-use crate::drawing::{DrawPromise, Drawn, Worker, draw_all};
+use crate::drawing::draw_all;
 use crate::error::CrewError;
 use crate::parts::Parts;
+use crate::promise::{DrawPromise, Drawn, Worker};
 use crate::seat::Seat;
 use crate::slots::{empty_slots, fill, values_of};
 use rds_pieces::PieceError;

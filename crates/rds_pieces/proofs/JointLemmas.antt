@@ -11,7 +11,7 @@ use Rattle.rds_sync.specs.Ranges.{IsInRange}
 use Rattle.rds_sync.specs.Rules.{RuleNumbers}
 use Rattle.rds_sync.specs.Step.{run}
 use Rattle.rds_sync.specs.Totals.{totals_of}
-use Rattle.rds_pieces.specs.declared.walk.Passed.{Passed}
+use Rattle.rds_pieces.specs.declared.passed.Passed.{Passed}
 use Rattle.rds_pieces.specs.Guess.{guess}
 use Rattle.rds_pieces.specs.JointOf.{JointOf}
 use Rattle.rds_pieces.specs.Inside.JointInside.{IsJoint, carried}

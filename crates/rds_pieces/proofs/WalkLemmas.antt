@@ -7,17 +7,18 @@ use Rattle.rds_sync.specs.declared.state.State.TheVariants.{Searching}
 use Rattle.rds_sync.specs.declared.item.Item.{Item}
 use Rattle.rds_sync.specs.declared.totals.Totals.{Totals}
 use Rattle.rds_sync.specs.Counting.{plus, FitTogether}
+use Rattle.rds_sync.specs.Decoding.{ItemsOf, listed}
 use Rattle.rds_sync.specs.Rules.{RuleNumbers}
 use Rattle.rds_sync.specs.Step.{run}
 use Rattle.rds_sync.specs.Totals.{totals_of}
-use Rattle.rds_pieces.specs.declared.walk.Passed.{Passed}
+use Rattle.rds_pieces.specs.declared.passed.Passed.{Passed}
 use Rattle.rds_sync.specs.declared.mark.Mark.{Mark}
 use Rattle.rds_pieces.specs.Guess.{guess}
 use Rattle.rds_sync.specs.Marks.{marks_on}
 use Rattle.rds_sync.specs.Codes.{KeptOf, kept_of, behind, kept_from}
 use Rattle.rds_pieces.specs.Meeting.{IsMeeting, distance}
 use Rattle.rds_pieces.specs.Inside.RunLaws.{RunLaws}
-use Rattle.rds_pieces.specs.Inside.Walk.{IsMet, IsUnmet, IsMetOrNot}
+use Rattle.rds_pieces.specs.Inside.Walk.{IsMet, IsUnmet, IsMetOrNot, IsWalk}
 use Rattle.rds_pieces.proofs.SmallTotals.{totals_of_two}
 use Rattle.rds_pieces.proofs.CodeLemmas.{kept-met}
 use Rattle.rds_pieces.proofs.MarkLaws.{run-met, marks-after}
@@ -35,6 +36,16 @@ pub meeting_of : (b : Signal) (rules : RuleNumbers) (s : State) (from to place :
     → (met : Option ℕ) × IsMeeting b rules s Searching from to met × (distance from to met ≡ place - from)
 meeting_of b rules s from to place None h = (None, h.never, ap (λ (p : ℕ). p - from) (sym h.ends))
 meeting_of b rules s from to place (Some passed) h = (Some place, h.first, refl)
+
+-- the items up to the place that a run came to, with those from there on, are those of the whole range
+pub items_joined : (b : Signal) (rules : RuleNumbers) → RunLaws → (s : State) (from to place : ℕ) (state : State) → IsWalk b rules s from to place state → (items all : ItemsOf)
+    → items ≡ listed b rules (run b rules s from (place - from)).1 → all ≡ listed items.source items.rules (items.list ++ (run items.source items.rules state place (to - place)).1)
+    → all ≡ listed b rules (run b rules s from (to - from)).1
+items_joined b rules laws s from to place state walk items all before is =
+    is
+    ∙ ap (λ (x : ItemsOf). listed x.source x.rules (x.list ++ (run x.source x.rules state place (to - place)).1)) before
+    ∙ ap (λ (t : State). listed b rules ((run b rules s from (place - from)).1 ++ (run b rules t place (to - place)).1)) walk.state_is
+    ∙ ap (λ (r : State × List Item). listed b rules r.1) (sym (laws.join b rules s from place to walk.inside.0 walk.inside.1))
 
 module _ (b : Signal) (rules : RuleNumbers) (laws : RunLaws) (s : State) (from to place : ℕ) (passed : Passed) (met : IsMet b rules s from to place passed) where
   -- the guess and the run from s, before place p

@@ -1,5 +1,5 @@
 //! The run of a piece.
-ghost use Rattle.std.specs.Prelude.{◌≡◌, ℕ, List, ◌+◌, ◌-◌, ◌<◌, ◌≤◌, ◌^◌, IfOk, IsOkUnless, length, drop};
+ghost use Rattle.std.specs.Prelude.{◌≡◌, ℕ, List, ◌+◌, ◌-◌, ◌<◌, ◌≤◌, ◌^◌, IfOk, IsOkUnless, length, drop, slice_index};
 ghost use Rattle.rds_stream.specs.Recording.{length_of};
 ghost use Rattle.rds_sync.specs.Codes.{behind, kept_from, kept_of};
 ghost use Rattle.rds_sync.specs.Ranges.{IsInRange};
@@ -173,6 +173,18 @@ fn put_together(before: Codes, own: Codes, right: Codes, passed: usize) -> Resul
     Ok(codes)
 }
 
+/// The places of piece `j` of a cutting of the recording: its first, and the one after its last.
+fn range_of(rec: &Recording, cutting: &Cutting, j: u64) -> (u64, u64)
+    requires fits { IsCutting (length_of rec.now) cutting.now }
+    requires piece { j < pieces_of cutting.now }
+    ensures first { result.0 ≡ slice_index cutting.now j }
+    ensures end { result.1 ≡ slice_index cutting.now (j + 1) }
+    ensures inside { (result.0 ≤ result.1) × (result.1 ≤ length_of rec.now) }
+{
+    let _ = rec;
+    (cutting.from(j), cutting.to(j))
+}
+
 /// Guesses piece `j` of a cutting: runs from Searching at its first place to its end, as if nothing stood before. Its
 /// windows may look before that place. Fails with `OutOfMemory` alone.
 ///
@@ -191,7 +203,7 @@ pub fn speculate(
     ensures err { IsOkUnless result OutOfMemory }
 {
     run_laws();
-    let (from, to) = (cutting.from(j), cutting.to(j));
+    let (from, to) = range_of(rec, cutting, j);
     let len = rec.len();
     prove!(to <= len);
     let Ok((end_state, codes)) = run_codes(alloc, rec, rules, State::Searching, from, to) else {

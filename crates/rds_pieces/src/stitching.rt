@@ -1,14 +1,15 @@
 //! The report of a recording from the runs of its pieces.
-ghost use Rattle.std.specs.Prelude.{◌≡◌, ℕ, ◌+◌, ◌-◌, ◌*◌, ◌++◌, ◌≤◌, ◌^◌, IfOk, IsOkUnless, length};
+ghost use Rattle.std.specs.Prelude.{◌≡◌, ℕ, Option, ◌+◌, ◌-◌, ◌*◌, ◌++◌, ◌≤◌, ◌^◌, IfOk, IsOkUnless, length};
 ghost use Rattle.rds_stream.specs.Recording.{length_of};
-ghost use Rattle.rds_sync.specs.Counting.{IsAtMost};
+ghost use Rattle.rds_sync.specs.Counting.{FitTogether, IsAtMost, plus};
 ghost use Rattle.rds_sync.specs.Decoding.{listed};
 ghost use Rattle.rds_sync.specs.Lawful.{IsLawful};
 ghost use Rattle.rds_sync.specs.Report.{report_items};
-ghost use Rattle.rds_sync.specs.Step.{items_of_end};
+ghost use Rattle.rds_sync.specs.Step.{items_of_end, run as run_of};
 ghost use Rattle.rds_sync.specs.Totals.{totals_of};
+ghost use Rattle.rds_pieces.specs.Meeting.{IsMeeting};
 ghost use Rattle.rds_pieces.specs.RunOf.{FollowEachOther};
-ghost use Rattle.rds_pieces.specs.Seams.{IsSumOfReads};
+ghost use Rattle.rds_pieces.specs.Seams.{IsSumOfReads, seam_reads};
 ghost use Rattle.rds_pieces.specs.declared.error.PieceError.TheVariants.{OutOfMemory};
 
 use crate::error::PieceError;
@@ -89,13 +90,54 @@ fn carry_over_all<T: Tape>(
     run_laws();
     let (len, reach) = (tape.len(), rules.reach());
     prove!(len <= 1 << 36 && 1 <= reach);
-    let (mut items, mut totals) = (Items::none(alloc, tape.source(), rules), Totals::NONE);
+    let mut report = Report {
+        items: Items::none(alloc, tape.source(), rules),
+        totals: Totals::NONE,
+    };
     let mut state = State::Searching;
     for run in runs {
-        let seam = seam(alloc, tape, rules, state, run, spans)?;
-        items.append(seam.items)?;
-        totals = totals.plus(seam.totals);
-        state = seam.end_state;
+        state = carry_over(alloc, tape, rules, state, run, spans, &mut report)?;
     }
-    Ok((state, Report { items, totals }))
+    Ok((state, report))
+}
+
+/// Carries the state over one run, and puts what its seam gives behind what those before it gave.
+fn carry_over<T: Tape>(
+    alloc: Global,
+    tape: &mut T,
+    rules: &Rules,
+    state: State,
+    run: &PieceRun,
+    spans: Spans,
+    report: &mut Report,
+) -> Result<State, PieceError>
+    requires lawful { IsLawful rules.now run.now.from state }
+    requires source { run.now.source ≡ T.signal tape.old }
+    requires rules { run.now.rules ≡ rules.now }
+    requires room { T.reads_made tape.old ≤ 2 ^ 62 }
+    requires same_source { report.old.items.source ≡ T.signal tape.old }
+    requires same_rules { report.old.items.rules ≡ rules.now }
+    requires fit { FitTogether report.old.totals
+        (totals_of (run_of (T.signal tape.old) rules.now state run.now.from (run.now.to - run.now.from)).1) }
+
+    ensures items { IfOk result (λ _. report.new.items ≡ listed (T.signal tape.old) rules.now
+        (report.old.items.list ++ (run_of (T.signal tape.old) rules.now state run.now.from (run.now.to - run.now.from)).1)) }
+    ensures totals { IfOk result (λ _. report.new.totals ≡ plus report.old.totals
+        (totals_of (run_of (T.signal tape.old) rules.now state run.now.from (run.now.to - run.now.from)).1)) }
+    ensures end { IfOk result (λ after. after
+        ≡ (run_of (T.signal tape.old) rules.now state run.now.from (run.now.to - run.now.from)).0) }
+    ensures reads { IfOk result (λ _. (met : Option ℕ)
+        × IsMeeting (T.signal tape.old) rules.now state State.Searching run.now.from run.now.to met
+        × (T.reads_made tape.new ≤ T.reads_made tape.old + seam_reads rules.now run.now.from run.now.to met)) }
+
+    ensures err { IsOkUnless result OutOfMemory }
+    ensures same { T.signal tape.new ≡ T.signal tape.old }
+    ensures reads_way { (met : Option ℕ)
+        → IsMeeting (T.signal tape.old) rules.now state State.Searching run.now.from run.now.to met
+        → T.reads_made tape.new ≤ T.reads_made tape.old + seam_reads rules.now run.now.from run.now.to met }
+{
+    let seam = seam(alloc, tape, rules, state, run, spans)?;
+    report.items.append(seam.items)?;
+    report.totals = report.totals.plus(seam.totals);
+    Ok(seam.end_state)
 }

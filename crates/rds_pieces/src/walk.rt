@@ -12,6 +12,7 @@ ghost use Rattle.rds_pieces.specs.declared.error.PieceError.TheVariants.{OutOfMe
 use crate::advance::advance_onto;
 use crate::error::PieceError;
 use crate::laws::run_laws;
+use crate::passed::Passed;
 use crate::run::PieceRun;
 use rds_stream::Tape;
 use rds_sync::{Codes, Mark, Marks, Rules, State};
@@ -27,15 +28,6 @@ pub(crate) struct Walk<'a> {
     pub codes: Codes,
     /// What it passed of the guess, if it met it.
     pub met: Option<Passed<'a>>,
-}
-
-/// How much of a guess stands up to the place where a run met it, and what is ahead.
-#[derive(Drop)]
-pub(crate) struct Passed<'a> {
-    /// How many of its items stand before that place.
-    pub items: usize,
-    /// Its marks behind that place.
-    pub ahead: Marks<'a>,
 }
 
 /// Goes on from `state`, step by step over the tape, until it meets the guess of the piece or is at its end.

@@ -15,7 +15,7 @@ use Rattle.rds_abi.specs.Blocks.{block_wanted}
 use Rattle.rds_abi.specs.Following.{stream_of}
 use Rattle.rds_abi.specs.Going.{state_of}
 use Rattle.rds_abi.specs.Layout.{item_in_c, no_block}
-use Rattle.rds_abi.specs.declared.asked.RdsRules.{RdsRules}
+use Rattle.rds_abi.specs.declared.layout.RdsRules.{RdsRules}
 use Rattle.rds_abi.specs.declared.layout.RdsStream.{RdsStream}
 
 -- a group with a block of each kind

@@ -3,7 +3,7 @@
 use Rattle.std.specs.Prelude.{◌≡◌, ℕ, ◌<◌, All, Vec, map}
 use Rattle.std.specs.Global.{Global}
 use Rattle.std.specs.declared.thread.PromisedHandle.{PromisedHandle}
-use Rattle.rds_crew.specs.declared.drawing.DrawPromise.{DrawPromise}
+use Rattle.rds_crew.specs.declared.promise.DrawPromise.{DrawPromise}
 use Rattle.rds_crew.specs.Seats.{DealerValue, SeatValue, IsOf, HasRested}
 
 -- a seat of this dealer that has rested, and the value of f beside each number that it drew, in the order of the draws

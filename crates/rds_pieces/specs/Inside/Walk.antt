@@ -7,7 +7,7 @@ use Rattle.rds_sync.specs.declared.state.State.TheVariants.{Searching}
 use Rattle.rds_sync.specs.Rules.{RuleNumbers}
 use Rattle.rds_sync.specs.Step.{run}
 use Rattle.rds_sync.specs.declared.mark.Mark.{Mark}
-use Rattle.rds_pieces.specs.declared.walk.Passed.{Passed}
+use Rattle.rds_pieces.specs.declared.passed.Passed.{Passed}
 use Rattle.rds_pieces.specs.Guess.{guess, marks}
 use Rattle.rds_pieces.specs.Meeting.{MeetAt, MeetFirstAt}
 

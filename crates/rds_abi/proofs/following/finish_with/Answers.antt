@@ -1,4 +1,4 @@
-use Rattle.std.proofs.Common.{inl, length, subst, sym}
+use Rattle.std.proofs.Common.{inl, length, refl, subst, sym}
 use Rattle.std.proofs.lemmas.Result.{err_from_is_err_and}
 use Rattle.rds_abi.specs.Following.{AreLeft, AreTooMany, terms_of}
 use Rattle.rds_abi.specs.declared.refusal.Refusal.{Refusal}
@@ -18,3 +18,8 @@ returns-in_err-write_items-clause-refused c =
       subst (λ (r : Refusal). AreTooMany wanted (length c.args.room.now) r c.write_items.new.count) (sym refused.0)
           (too_many wanted c.in_ok-items.items.items left.items _ told _ refused.1),
     ))
+
+pub returns-in_err-write_items-clause-untouched : goal.returns-in_err-write_items-clause-untouched
+returns-in_err-write_items-clause-untouched c =
+    let p = err_from_is_err_and c.from_residual-in_err-write_items.result c.from_residual-in_err-write_items.ensures.1 in
+    rw p.1 (c.in_err-write_items.ensures.untouched, refl)

@@ -1,4 +1,4 @@
-use Rattle.std.proofs.Common.{◌++◌, ap, subst, sym, ◌∙◌}
+use Rattle.std.proofs.Common.{◌++◌, ap, refl, subst, sym, ◌∙◌}
 use Rattle.std.proofs.lemmas.Result.{err_from_is_err_and}
 use Rattle.rds_live.specs.Live.{HasHeard, IsLive, LiveOf}
 use Rattle.rds_abi.specs.Following.{stream_in_c}
@@ -39,3 +39,8 @@ returns-clause-lawful c =
       is_live c.args.told.now c.args.stream.now c.in_ok-live.live is c.in_ok-live.ensures.lawful,
       fits c.args.told.now c.args.stream.now c.in_ok-live.live is _ c.in_ok-take_all.ensures.fits,
     )
+
+pub returns-in_err-take_all-clause-untouched : goal.returns-in_err-take_all-clause-untouched
+returns-in_err-take_all-clause-untouched c =
+    let p = err_from_is_err_and c.from_residual-in_err-take_all.result c.from_residual-in_err-take_all.ensures.1 in
+    rw p.1 (c.in_err-take_all.ensures.untouched, refl)

@@ -1,5 +1,5 @@
 use Rattle.std.proofs.Common.{ap, ◌∙◌}
-use Rattle.rds_crew.specs.declared.drawing.DrawPromise.{DrawPromise}
+use Rattle.rds_crew.specs.declared.promise.DrawPromise.{DrawPromise}
 use Rattle.rds_crew.proofs.team.start.Goals as goal
 
 pub returns-in-Ok : goal.returns-in-Ok

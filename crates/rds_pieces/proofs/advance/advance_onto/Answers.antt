@@ -15,3 +15,9 @@ push_items-requires g c =
     subst (λ (is : List Item). All IsKeepable is) (sym step.items)
     (c.run_laws.ensures.keepable (g.T.Tape.signal c.args.tape.now) c.args.rules.now range.some_loss range.burst c.args.state c.args.place (c.advance-step.result.place - c.args.place)
     c.requires.lawful (omega (arith, inside, l, v, moved)))
+
+pub returns-in_err-push_items-clause-reads : goal.returns-in_err-push_items-clause-reads
+returns-in_err-push_items-clause-reads g c = c.advance-step.ensures.reads
+
+pub returns-clause-reads : goal.returns-clause-reads
+returns-clause-reads g c = c.advance-step.ensures.reads

@@ -76,3 +76,22 @@ returns-clause-cost g c =
           subst (λ (rules : RuleNumbers). g.T.Tape.reads_made c.go_along.new.tape ≤ g.T.Tape.reads_made c.args.tape.now + (rules.reach + 2) * (r.to - r.from + 1)) sides.right_is.1
           c.in_ok-walk.ensures.reads_most;
     }
+
+pub returns-in_err-walk-clause-cost : goal.returns-in_err-walk-clause-cost
+returns-in_err-walk-clause-cost g c =
+    let l = c.args.left.now in
+    let r = c.args.right.now in
+    let sides = c.requires.neighbours in
+    record {
+      err = search rules;
+      soon = search rules;
+      reads = search rules;
+      reads_way = λ met first.
+          subst (λ (rules : RuleNumbers). g.T.Tape.reads_made c.go_along.new.tape ≤ g.T.Tape.reads_made c.args.tape.now + seam_reads rules r.from r.to met) sides.right_is.1
+          (c.go_along.ensures.reads_way met
+          (subst (λ (s : State). IsMeeting r.source r.rules s Searching r.from r.to met) (sym c.end_state.ensures)
+          (renamed (λ b rules. IsMeeting b rules (end_of l) Searching r.from r.to met) (g.T.Tape.signal c.args.tape.now) r.source c.args.rules.now r.rules (sym sides.right_is.0) (sym sides.right_is.1) first)));
+      reads_most =
+          subst (λ (rules : RuleNumbers). g.T.Tape.reads_made c.go_along.new.tape ≤ g.T.Tape.reads_made c.args.tape.now + (rules.reach + 2) * (r.to - r.from + 1)) sides.right_is.1
+          c.go_along.ensures.reads_most;
+    }

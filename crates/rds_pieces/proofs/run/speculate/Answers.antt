@@ -4,30 +4,29 @@ use Rattle.rds_stream.specs.Recording.{length_of}
 use Rattle.rds_sync.specs.Codes.{KeptOf, code_of, totals_of_codes}
 use Rattle.rds_sync.specs.Step.{run}
 use Rattle.rds_sync.specs.declared.state.State.TheVariants.{Searching}
-use Rattle.rds_pieces.proofs.CuttingLemmas.{range_inside}
 use Rattle.rds_pieces.proofs.run.speculate.Goals as goal
 
 pub prove-unreachable-requires : goal.prove-unreachable-requires
 prove-unreachable-requires c =
-    let r = range_inside (length_of c.args.rec.now) c.args.cutting.now c.requires.fits c.args.j c.from-from.result c.to-to.result c.requires.piece c.from-from.ensures c.to-to.ensures in
+    let r = c.range_of-from.ensures.inside in
     let below = c.if-prove.true in
     omega (arith, r.1, c.len-len.ensures.value, below)
 
 pub run_codes-requires-clause-order : goal.run_codes-requires-clause-order
 run_codes-requires-clause-order c =
-    let r = range_inside (length_of c.args.rec.now) c.args.cutting.now c.requires.fits c.args.j c.from-from.result c.to-to.result c.requires.piece c.from-from.ensures c.to-to.ensures in
+    let r = c.range_of-from.ensures.inside in
     omega (arith, r.0)
 
 pub run_codes-requires-clause-within : goal.run_codes-requires-clause-within
 run_codes-requires-clause-within c =
-    let r = range_inside (length_of c.args.rec.now) c.args.cutting.now c.requires.fits c.args.j c.from-from.result c.to-to.result c.requires.piece c.from-from.ensures c.to-to.ensures in
+    let r = c.range_of-from.ensures.inside in
     omega (arith, r.1)
 
 pub totals-counted-requires : goal.totals-counted-requires
 totals-counted-requires c =
-    let r = range_inside (length_of c.args.rec.now) c.args.cutting.now c.requires.fits c.args.j c.from-from.result c.to-to.result c.requires.piece c.from-from.ensures c.to-to.ensures in
-    let items = (run c.args.rec.now c.args.rules.now Searching c.from-from.result (c.to-to.result - c.from-from.result)).1 in
-    let few = c.run_laws.ensures.few_items c.args.rec.now c.args.rules.now Searching c.from-from.result c.to-to.result (omega (arith, r.0)) in
+    let r = c.range_of-from.ensures.inside in
+    let items = (run c.args.rec.now c.args.rules.now Searching c.range_of-from.result.0 (c.range_of-from.result.1 - c.range_of-from.result.0)).1 in
+    let few = c.run_laws.ensures.few_items c.args.rec.now c.args.rules.now Searching c.range_of-from.result.0 c.range_of-from.result.1 (omega (arith, r.0)) in
     let is = ap (λ (k : KeptOf). length k.codes) c.in-Ok.ensures.codes ∙ length-map items code_of in
     let l = c.len-len.ensures.limit in
     let v = c.len-len.ensures.value in
@@ -35,8 +34,8 @@ totals-counted-requires c =
 
 pub invariant_of-result : goal.invariant_of-result
 invariant_of-result c =
-    let r = range_inside (length_of c.args.rec.now) c.args.cutting.now c.requires.fits c.args.j c.from-from.result c.to-to.result c.requires.piece c.from-from.ensures c.to-to.ensures in
-    let items = (run c.args.rec.now c.args.rules.now Searching c.from-from.result (c.to-to.result - c.from-from.result)).1 in
+    let r = c.range_of-from.ensures.inside in
+    let items = (run c.args.rec.now c.args.rules.now Searching c.range_of-from.result.0 (c.range_of-from.result.1 - c.range_of-from.result.0)).1 in
     rw (c.of.ensures, c.numbers.ensures.value) (record {
       inside = (omega (arith, r.0), r.1);
       kept_is = c.in-Ok.ensures.codes;

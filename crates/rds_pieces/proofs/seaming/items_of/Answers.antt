@@ -1,15 +1,16 @@
-use Rattle.std.proofs.Common.{◌≡◌, ℕ, ◌+◌, ◌-◌, length, refl, sym, ap, ap₂, ◌∙◌, arith}
+use Rattle.std.proofs.Common.{◌≡◌, ℕ, ◌+◌, ◌-◌, ◌++◌, length, refl, sym, ap, ap₂, ◌∙◌, arith}
 use Rattle.std.proofs.lemmas.List.{length-map}
 use Rattle.rds_sync.specs.declared.state.State.TheVariants.{Searching}
 use Rattle.rds_sync.specs.Codes.{KeptOf, code_of}
-use Rattle.rds_sync.specs.Decoding.{ItemsOf}
+use Rattle.rds_sync.specs.Decoding.{ItemsOf, listed}
 use Rattle.rds_sync.specs.Marks.{marks_on}
 use Rattle.rds_sync.specs.declared.state.State.{State}
 use Rattle.rds_sync.specs.Step.{run}
 use Rattle.rds_pieces.specs.Guess.{guess}
 use Rattle.rds_pieces.proofs.CodeLemmas.{codes_few}
 use Rattle.rds_pieces.proofs.SeamLemmas.{renamed}
-use Rattle.rds_pieces.proofs.WalkLemmas.{met_from, count_taken, rest_marks}
+use Rattle.rds_pieces.specs.Inside.Walk.{IsWalk}
+use Rattle.rds_pieces.proofs.WalkLemmas.{met_from, count_taken, items_joined, rest_marks}
 use Rattle.rds_pieces.proofs.seaming.items_of.Goals as goal
 
 pub len-requires : goal.len-requires
@@ -46,3 +47,13 @@ push_run-requires-clause-count c =
     ∙ length-map (guess r.source r.rules r.from (r.to - r.from)).1 code_of
     ∙ count_taken r.source r.rules c.run_laws.ensures c.args.state r.from r.to w.place c.in-Some.passed met
     ∙ ap₂ (λ (s : State) (p : ℕ). c.in-Some.passed.items + length (run r.source r.rules s w.place (p - w.place)).1) (sym c.requires.walk.state_is) (sym c.range-to.ensures.end))
+
+pub returns-clause-ok : goal.returns-clause-ok
+returns-clause-ok c =
+    let r = c.args.run.now in
+    let w = c.args.walk in
+    let items = c.in_ok-items.items in
+    let walk = renamed (λ b rules. IsWalk b rules c.args.state r.from r.to w.place w.state) r.source c.args.source.value r.rules c.args.rules.now c.requires.source c.requires.rules c.requires.walk in
+    items_joined c.args.source.value c.args.rules.now c.run_laws.ensures c.args.state r.from r.to w.place w.state walk items c.push_run.new.self c.in_ok-items.ensures.ok
+    (c.in_ok-push_run.ensures.ok
+    ∙ ap (λ (p : ℕ). listed items.source items.rules (items.list ++ (run items.source items.rules w.state w.place (p - w.place)).1)) c.range-to.ensures.end)

@@ -1,0 +1,42 @@
+use Rattle.std.proofs.Common.{List, ◌++◌, sym, ap, ap₂, ◌∙◌, subst}
+use Rattle.rds_stream.specs.Recording.{Signal}
+use Rattle.rds_sync.specs.declared.item.Item.{Item}
+use Rattle.rds_sync.specs.declared.totals.Totals.{Totals}
+use Rattle.rds_sync.specs.Rules.{RuleNumbers}
+use Rattle.rds_sync.specs.Counting.{FitTogether, plus}
+use Rattle.rds_sync.specs.Decoding.{ItemsOf, listed}
+use Rattle.rds_pieces.proofs.stitching.carry_over.Goals as goal
+
+pub append-requires-clause-source : goal.append-requires-clause-source
+append-requires-clause-source g c = ap (λ (x : ItemsOf). x.source) c.in_ok-seam.ensures.items ∙ sym c.requires.same_source
+
+pub append-requires-clause-rules : goal.append-requires-clause-rules
+append-requires-clause-rules g c = ap (λ (x : ItemsOf). x.rules) c.in_ok-seam.ensures.items ∙ sym c.requires.same_rules
+
+pub plus-report-requires : goal.plus-report-requires
+plus-report-requires g c = subst (λ (t : Totals). FitTogether c.args.report.now.totals t) (sym c.in_ok-seam.ensures.totals) c.requires.fit
+
+pub returns-clause-items : goal.returns-clause-items
+returns-clause-items g c =
+    let before = c.args.report.now.items.list in
+    c.in_ok-append.ensures.ok
+    ∙ ap₂ (λ (b : Signal) (rules : RuleNumbers). listed b rules (before ++ c.in_ok-seam.seam.items.list)) c.requires.same_source c.requires.same_rules
+    ∙ ap (λ (is : List Item). listed (g.T.Tape.signal c.args.tape.now) c.args.rules.now (before ++ is)) (ap (λ (x : ItemsOf). x.list) c.in_ok-seam.ensures.items)
+
+pub returns-clause-totals : goal.returns-clause-totals
+returns-clause-totals g c = c.plus-report.ensures.value ∙ ap (λ (t : Totals). plus c.args.report.now.totals t) c.in_ok-seam.ensures.totals
+
+pub returns-clause-reads : goal.returns-clause-reads
+returns-clause-reads g c = (c.in_ok-seam.seam.met_at, c.in_ok-seam.ensures.met, c.in_ok-seam.ensures.reads)
+
+pub returns-clause-end : goal.returns-clause-end
+returns-clause-end g c = c.in_ok-seam.ensures.end
+
+pub returns-in_err-seam-clause-reads_way : goal.returns-in_err-seam-clause-reads_way
+returns-in_err-seam-clause-reads_way g c = c.seam.ensures.reads_way
+
+pub returns-in_err-append-clause-reads_way : goal.returns-in_err-append-clause-reads_way
+returns-in_err-append-clause-reads_way g c = c.seam.ensures.reads_way
+
+pub returns-clause-reads_way : goal.returns-clause-reads_way
+returns-clause-reads_way g c = c.seam.ensures.reads_way
