@@ -64,6 +64,16 @@ lawful-back rules d from place (Locked lock) t is h there early =
       in_order = l.in_order;
     }
 
+-- and moved on, at a place so much further
+pub lawful-on : (rules : RuleNumbers) (d from place : ℕ) (s t : State) → t ≡ moved_state d s → IsLawful rules from s → from + d ≡ place → IsLawful rules place t
+lawful-on rules d from place Searching t is h there = subst (λ (u : State). IsLawful rules place u) (sym is) tt
+lawful-on rules d from place (Locked lock) t is h there = subst (λ (u : State). IsLawful rules place u) (sym is) (record {
+  soon = (omega (arith, h.soon, there), omega (arith, h.soon, there));
+  few_bad = h.few_bad;
+  enough_bits = omega (arith, h.enough_bits);
+  in_order = h.in_order;
+})
+
 -- the part that is kept of a stream goes back to its first bit or behind any group in progress
 module _ (tail : List ℕ) (place from : ℕ) (kept : length tail ≡ min most_kept (place / 8)) (whole : place ≡ 8 * (place / 8)) (from_is : from ≡ 8 * length tail) where
   pub early-or-long : (place - from ≡ 0) ⊎ (most_behind ≤ from)

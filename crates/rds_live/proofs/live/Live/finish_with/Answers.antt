@@ -25,6 +25,12 @@ part-is : (part : Signal) (gaps : List (ℕ × ℕ)) (at n m : ℕ) (held bytes 
     → part ≡ signal_at (gaps_within gaps at m) bytes m
 part-is part gaps at n m held bytes is long bytes_are = is ∙ ap₂ (λ (k : ℕ) (xs : List ℕ). signal_at (gaps_within gaps at k) xs k) long bytes_are
 
+pub fill_from-end-requires-clause-lawful : goal.fill_from-end-requires-clause-lawful
+fill_from-end-requires-clause-lawful c =
+    let live = c.self.invariant.0 in
+    state-in-part c.self.inside.room.bytes c.self.inside.place (8 * length c.bytes.result.now) live.kept live.whole (ap (λ (xs : List ℕ). 8 * length xs) c.bytes.ensures.value)
+    c.self.inside.rules.now c.moved_back-state.result c.self.inside.state c.moved_back-state.ensures live.lawful
+
 pub fill_from-end-requires-clause-within : goal.fill_from-end-requires-clause-within
 fill_from-end-requires-clause-within c =
     omega (
