@@ -1,9 +1,7 @@
 ghost use Rattle.std.specs.Prelude.{◌≡◌, ◌==◌};
 ghost use Rattle.std.proofs.Common.{rules};
-ghost use Rattle.std.specs.Cmp.Rules.{comparing, hashing};
-ghost use Rattle.std.specs.Hash as fed;
+ghost use Rattle.std.specs.Cmp.Rules.{comparing};
 
-use std::hash::{Hash, Hasher};
 use std::marker::Model;
 
 /// A burst of errors in a block: a word of 26 bits, not 0, whose highest and lowest ones lie fewer than five places
@@ -90,7 +88,7 @@ impl Burst {
     }
 }
 
-// Equality and hashing go by the pattern, as clauses do.
+// Equality goes by the pattern, as clauses do.
 impl PartialEq for Burst {
     ghost eq = { ◌==◌ };
 
@@ -103,14 +101,4 @@ impl PartialEq for Burst {
 
 impl Eq for Burst {
     ghost laws = { Prim.search (comparing, rules) };
-}
-
-impl Hash for Burst {
-    ghost hash_input = { fed.u32 };
-
-    ghost respects_eq = { Prim.search (hashing, rules) };
-
-    fn hash<H: Hasher>(&self, state: &mut H) {
-        self.pattern().hash(state);
-    }
 }

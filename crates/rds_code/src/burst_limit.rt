@@ -6,7 +6,7 @@ use std::marker::Model;
 ///
 /// EN 50067:1998, Annex B: the code corrects any single burst of up to five bits. How many of them are corrected is this
 /// project's rule.
-#[derive(Clone, Copy, Debug, PartialEq, Eq, Hash)]
+#[derive(Clone, Copy, Debug, PartialEq, Eq)]
 pub struct BurstLimit {
     bits: u8,
 }

@@ -6,7 +6,7 @@ use crate::block_number::BlockNumber;
 /// The offset word that was added to a block's checkword, which tells the blocks of a group apart.
 ///
 /// EN 50067:1998, section 2.3 and Annex A. `Cx` stands for C'.
-#[derive(Clone, Copy, Debug, PartialEq, Eq, Hash)]
+#[derive(Clone, Copy, Debug, PartialEq, Eq)]
 pub enum Offset {
     /// Block 1.
     A,

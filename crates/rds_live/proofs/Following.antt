@@ -14,7 +14,7 @@ use Rattle.rds_sync.specs.Laws.{RunsJoin}
 use Rattle.rds_sync.specs.declared.totals.Totals.{Totals}
 use Rattle.rds_sync.specs.CodeLaws.{CodesTellTotals}
 use Rattle.rds_sync.specs.Codes.{Code, code_of, codes_of, totals_of_codes}
-use Rattle.rds_sync.specs.Counting.{TotalsJoin, plus}
+use Rattle.rds_sync.specs.Counting.{IsAtMost, TotalsJoin, plus}
 use Rattle.rds_sync.specs.Totals.{totals_of}
 use Rattle.rds_sync.specs.Step.{run}
 use Rattle.rds_live.specs.Moving.{RunsMove, IsPartHeard, moved_state, moved_item, moved_items, most_behind}
@@ -64,6 +64,16 @@ lawful-back rules d from place (Locked lock) t is h there early =
       in_order = l.in_order;
     }
 
+-- and moved on, at a place so much further
+pub lawful-on : (rules : RuleNumbers) (d from place : ℕ) (s t : State) → t ≡ moved_state d s → IsLawful rules from s → from + d ≡ place → IsLawful rules place t
+lawful-on rules d from place Searching t is h there = subst (λ (u : State). IsLawful rules place u) (sym is) tt
+lawful-on rules d from place (Locked lock) t is h there = subst (λ (u : State). IsLawful rules place u) (sym is) (record {
+  soon = (omega (arith, h.soon, there), omega (arith, h.soon, there));
+  few_bad = h.few_bad;
+  enough_bits = omega (arith, h.enough_bits);
+  in_order = h.in_order;
+})
+
 -- the part that is kept of a stream goes back to its first bit or behind any group in progress
 module _ (tail : List ℕ) (place from : ℕ) (kept : length tail ≡ min most_kept (place / 8)) (whole : place ≡ 8 * (place / 8)) (from_is : from ≡ 8 * length tail) where
   pub early-or-long : (place - from ≡ 0) ⊎ (most_behind ≤ from)
@@ -75,6 +85,23 @@ module _ (tail : List ℕ) (place from : ℕ) (kept : length tail ≡ min most_k
   -- and the state in it
   pub state-in-part : (rules : RuleNumbers) (local state : State) → moved_state (place - from) local ≡ state → IsLawful rules place state → IsLawful rules from local
   state-in-part rules local state is lawful = lawful-back rules (place - from) from place local state is lawful (omega (arith, whole, kept, from_is)) early-or-long
+
+-- counts that are at most so many are at most more
+pub at-most-more : (m n : ℕ) (totals : Totals) → m ≤ n → IsAtMost m totals → IsAtMost n totals
+at-most-more m n totals more few = record {
+  valid = omega (arith, few.valid, more);
+  burst1 = omega (arith, few.burst1, more);
+  burst2 = omega (arith, few.burst2, more);
+  burst3 = omega (arith, few.burst3, more);
+  burst4 = omega (arith, few.burst4, more);
+  burst5 = omega (arith, few.burst5, more);
+  lost = omega (arith, few.lost, more);
+  bits = omega (arith, few.bits, more);
+  groups = omega (arith, few.groups, more);
+  complete = omega (arith, few.complete, more);
+  acquired = omega (arith, few.acquired, more);
+  losses = omega (arith, few.losses, more);
+}
 
 -- the last bytes of all are the last of the last ones and those that follow
 pub last-bytes : (bytes more : List ℕ) → last_bytes (last_bytes bytes ++ more) ≡ last_bytes (bytes ++ more)

@@ -5,8 +5,11 @@ ghost use Rattle.rds_stream.specs.Recording.{AreGaps};
 ghost use Rattle.rds_sync.specs.Counting.{IsAtMost};
 ghost use Rattle.rds_live.specs.Live.{IsLive, live_with};
 
-use crate::room::MOST_KEPT;
 use rds_sync::{Rules, State, Totals};
+
+/// How many of the last bytes of a stream are kept. A run may hear 233 bits behind one: those of a partner's window,
+/// eight blocks back.
+pub(crate) const MOST_KEPT: usize = 30;
 
 /// The most bits that a stream may have.
 pub(crate) const MOST_BITS: u64 = 1 << 36;

@@ -15,10 +15,10 @@ ghost use Rattle.rds_live.specs.Keeping.{IsKept, live_kept};
 
 use crate::error::ResumeError;
 use crate::gaps::are_gaps;
-use crate::kept::{Kept, MOST_BITS, can_be_live};
+use crate::kept::{Kept, MOST_BITS, MOST_KEPT, can_be_live};
 use crate::laws::{ends_move, runs_move};
 use crate::moved::{move_on, moved_back, moved_group, moved_on};
-use crate::room::{AT_ONCE, MOST_KEPT, Room};
+use crate::room::{AT_ONCE, Room};
 use rds_stream::{Counted, Recording, StreamError};
 use rds_sync::{Decoder, Group, Item, Rules, State, Totals, finish, laws};
 use std::alloc::{AllocError, Global};

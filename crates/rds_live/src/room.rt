@@ -7,13 +7,10 @@ ghost use Rattle.rds_live.specs.Live.{last_bytes, signal_at};
 ghost use Rattle.rds_live.specs.Room.{IsHeardIn, slots_of};
 
 use crate::gaps::{fill_gaps, fill_up};
+use crate::kept::MOST_KEPT;
 use rds_stream::Recording;
 use std::alloc::{AllocError, Global};
 use std::marker::Model;
-
-/// How many of the last bytes of a stream are kept. A run may hear 233 bits behind one: those of a partner's window,
-/// eight blocks back.
-pub(crate) const MOST_KEPT: usize = 30;
 
 /// How many bytes are gone over at once, at most.
 pub(crate) const AT_ONCE: usize = 960;

@@ -50,16 +50,30 @@ impl Gathered {
     {
         let is_large = self.kept.is_empty() && text.len() >= self.large;
         if is_large || text.len() > self.room - self.kept.len() {
-            self.write_out(out)?;
-            return out.write(text);
+            return self.write_with(text, out);
         }
         let Ok(()) = self.kept.extend_from_slice(text) else {
             unreachable!()
         };
         if self.kept.len() >= self.large {
-            self.write_out(out)?;
+            return self.write_out(out);
         }
         Ok(())
+    }
+
+    /// Writes what is kept, and then a text.
+    fn write_with<W: Hand>(&mut self, text: &[u8], out: &mut W) -> Result<(), Failed>
+        requires { W.failed out.old < 2 ^ 63 }
+        ensures name { W.name out.new ≡ W.name out.old }
+        ensures ok { OnOk result (Appends (W.contents out.old) (W.contents out.new) (kept_in self.old ++ text.now)) }
+        ensures none { OnOk result (kept_in self.new ≡ []) }
+        ensures count { OnOk result (W.failed out.new ≡ W.failed out.old) }
+        ensures failed { OnErr result (W.failed out.old < W.failed out.new) }
+        ensures prefix { OnErr result (AppendsPrefix (W.contents out.old) (W.contents out.new)
+            (kept_in self.old ++ text.now)) }
+    {
+        self.write_out(out)?;
+        out.write(text)
     }
 
     /// Writes what is kept.

@@ -99,6 +99,33 @@ fn write_part<R: Wait, J: Named, T: Rows, W: Hand + Drop>(
     Ok(())
 }
 
+/// Puts all parts in order behind what is gathered, which is nothing yet.
+fn gather_parts<R: Wait, J: Named, T: Rows, W: Hand + Drop>(
+    rt: &R,
+    rows: &T,
+    seats: &[Seat<J>],
+    parts: usize,
+    is_alone: bool,
+    gathered: &mut Gathered,
+    out: &mut W,
+) -> Result<(), Failed>
+    requires named { IsNamed (T.rows rows.now) (T.longest rows.now) J.size J.part }
+    requires some { 0 < length seats.now }
+    requires none { kept_in gathered.old ≡ [] }
+    requires count { W.failed out.old < 2 ^ 63 }
+    ensures name { W.name out.new ≡ W.name out.old }
+    ensures ok { OnOk result (AppendsBut (W.contents out.old) (W.contents out.new)
+        (first_parts J.part parts) (kept_in gathered.new)) }
+    ensures count { OnOk result (W.failed out.new ≡ W.failed out.old) }
+    ensures failed { OnErr result (W.failed out.old < W.failed out.new) }
+    ensures prefix { OnErr result (AppendsPrefix (W.contents out.old) (W.contents out.new) (first_parts J.part parts)) }
+{
+    for k in 0..parts {
+        write_part(rt, rows, seats, k, is_alone, gathered, out)?;
+    }
+    Ok(())
+}
+
 /// Writes all parts in order, gathered to large writes. Nothing is gathered yet.
 fn write_parts<R: Wait, J: Named, T: Rows, W: Hand + Drop>(
     rt: &R,
@@ -120,9 +147,7 @@ fn write_parts<R: Wait, J: Named, T: Rows, W: Hand + Drop>(
     ensures prefix { OnErr result (AppendsPrefix (W.contents out.old) (W.contents out.new) (first_parts J.part parts)) }
 {
     let mut gathered = gathered;
-    for k in 0..parts {
-        write_part(rt, rows, seats, k, is_alone, &mut gathered, out)?;
-    }
+    gather_parts(rt, rows, seats, parts, is_alone, &mut gathered, out)?;
     gathered.write_out(out)
 }
 

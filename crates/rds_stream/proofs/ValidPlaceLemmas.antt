@@ -110,3 +110,18 @@ later_places b next ahead word place places low high =
           (λ h. subst (λ (i : ℕ). IsSome (off b i)) same (is.0 (sym (shr_bit word by k) ∙ h)), λ x. shr_bit word by k ∙ is.1 (subst (λ (i : ℕ). IsSome (off b i)) (sym same) x));
       past = λ k l. shr_bit word by k ∙ places.past (by + k) (omega arith);
     }
+
+-- the places behind one whose bit is a one
+pub places_behind : (b : Signal) (next ahead word bit rest : ℕ) → TellsValidPlaces b next ahead word → bit_at word bit ≡ 1 → ((k : ℕ) → bit_at rest k ≡ bit_at word (k + (bit + 1)))
+    → TellsValidPlaces b (next + bit + 1) ahead rest
+places_behind b next ahead word bit rest places one is =
+    let valid = one_valid b next ahead word bit places one in
+    record {
+      order = omega (arith, valid.0);
+      width = omega (arith, places.width);
+      told = λ k l.
+          let same : next + (k + (bit + 1)) ≡ next + bit + 1 + k = omega arith in
+          let was = places.told (k + (bit + 1)) (omega arith) in
+          (λ h. subst (λ (i : ℕ). IsSome (off b i)) same (was.0 (sym (is k) ∙ h)), λ x. is k ∙ was.1 (subst (λ (i : ℕ). IsSome (off b i)) (sym same) x));
+      past = λ k l. is k ∙ places.past (k + (bit + 1)) (omega arith);
+    }

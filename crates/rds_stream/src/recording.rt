@@ -36,6 +36,26 @@ impl Model for Recording {
     ghost invariant = { λ r. AreGaps (length r.packed) r.gaps.items };
 }
 
+/// Why the bytes and the gaps are not taken for so many bits, where they are not.
+fn refusal(bytes: &Vec<u8>, bits: u64, gaps: &[(u64, u64)]) -> Option<StreamError>
+    ensures taken { (result ≡ None) ↔ ((bits ≤ 2 ^ 36) × (bits ≤ 8 * vec_len bytes.now) × AreGaps bits gaps.now) }
+
+    // The bits are looked at before the gaps are.
+    ensures too_long { (result ≡ Some TooLong) ↔ (2 ^ 36 < bits) }
+    ensures past_bytes { (result ≡ Some BitsPastBytes) ↔ ((bits ≤ 2 ^ 36) × (8 * vec_len bytes.now < bits)) }
+    ensures bad_gaps { (result ≡ Some BadGaps)
+        ↔ ((bits ≤ 2 ^ 36) × (bits ≤ 8 * vec_len bytes.now) × (AreGaps bits gaps.now → ⊥)) }
+{
+    if let Some(error) = Packed::refusal(bytes, bits) {
+        return Some(error);
+    }
+    if are_gaps(gaps, bits) {
+        None
+    } else {
+        Some(StreamError::BadGaps)
+    }
+}
+
 impl Recording {
     /// The first `bits` bits of the bytes, the highest bit of a byte first, without gaps. Bits past them are no part of
     /// the recording. That bits come packed so is this project's rule.
@@ -83,11 +103,8 @@ impl Recording {
         ensures bad_gaps { (result ≡ Err (BadGaps, bytes, gaps))
             ↔ ((bits ≤ 2 ^ 36) × (bits ≤ 8 * vec_len bytes) × (AreGaps bits gaps.items → ⊥)) }
     {
-        if let Some(error) = Packed::refusal(&bytes, bits) {
+        if let Some(error) = refusal(&bytes, bits, &gaps) {
             return Err((error, bytes, gaps));
-        }
-        if !are_gaps(&gaps, bits) {
-            return Err((StreamError::BadGaps, bytes, gaps));
         }
         Ok(Recording {
             packed: Packed::new(bytes, bits),

@@ -1,4 +1,4 @@
-use Rattle.std.proofs.Common.{◌≡◌, ◌+◌, ◌-◌, ◌*◌, ◌≤◌, ◌++◌, List, ℕ, length, take, refl, sym, ap, ap₂, subst, ◌∙◌, arith}
+use Rattle.std.proofs.Common.{◌≡◌, ◌+◌, ◌-◌, ◌*◌, ◌^◌, ◌≤◌, ◌++◌, List, ℕ, length, take, refl, sym, ap, ap₂, subst, ◌∙◌, arith}
 use Rattle.std.proofs.lemmas.List.{length-append, length-map, length-take-le, with_items_is}
 use Rattle.std.specs.Vec.{with_items}
 use Rattle.rds_stream.specs.Recording.{Signal, length_of}
@@ -12,7 +12,7 @@ use Rattle.rds_live.specs.Gaps.{gaps_within}
 use Rattle.rds_live.specs.Live.{LiveOf, Terms, HasHeard, complete, report_at, signal_at}
 use Rattle.rds_live.specs.Moving.{moved_item, moved_items}
 use Rattle.rds_live.proofs.Parts.{length-at}
-use Rattle.rds_live.proofs.Following.{state-in-part}
+use Rattle.rds_live.proofs.Following.{at-most-more, state-in-part}
 use Rattle.rds_live.proofs.Ending.{IsLast, report-begin, report-to, totals-to}
 use Rattle.rds_live.proofs.live.Live.finish_with.Goals.{After-ended}
 use Rattle.rds_live.proofs.live.Live.finish_with.Goals as goal
@@ -25,6 +25,12 @@ part-is : (part : Signal) (gaps : List (ℕ × ℕ)) (at n m : ℕ) (held bytes 
     → part ≡ signal_at (gaps_within gaps at m) bytes m
 part-is part gaps at n m held bytes is long bytes_are = is ∙ ap₂ (λ (k : ℕ) (xs : List ℕ). signal_at (gaps_within gaps at k) xs k) long bytes_are
 
+pub fill_from-end-requires-clause-lawful : goal.fill_from-end-requires-clause-lawful
+fill_from-end-requires-clause-lawful c =
+    let live = c.self.invariant.0 in
+    state-in-part c.self.inside.room.bytes c.self.inside.place (8 * length c.bytes.result.now) live.kept live.whole (ap (λ (xs : List ℕ). 8 * length xs) c.bytes.ensures.value)
+    c.self.inside.rules.now c.moved_back-state.result c.self.inside.state c.moved_back-state.ensures live.lawful
+
 pub fill_from-end-requires-clause-within : goal.fill_from-end-requires-clause-within
 fill_from-end-requires-clause-within c =
     omega (
@@ -32,6 +38,23 @@ fill_from-end-requires-clause-within c =
       size-of c.into_recording-part.result (gaps_within c.self.inside.gaps.now (c.self.inside.place - 8 * length c.bytes.result.now) (8 * length c.bytes.result.now + c.args.bits))
           c.push.new.self.bytes (8 * length c.bytes.result.now + c.args.bits) c.into_recording-part.ensures,
     )
+
+pub plus-totals-requires : goal.plus-totals-requires
+plus-totals-requires c =
+    let live = c.self.invariant.0 in (
+      2 ^ 11 * c.self.inside.place,
+      2 ^ 10 * length c.deref.result.now,
+      omega (arith, ap length c.deref.ensures.value, c.fill_from-end.ensures.few, c.requires.few, live.limit),
+      live.small,
+      c.of_items.ensures.small,
+    )
+
+pub ended-requires : goal.ended-requires
+ended-requires c =
+    let live = c.self.invariant.0 in
+    at-most-more (2 ^ 11 * c.self.inside.place + 2 ^ 10 * length c.deref.result.now) (2 ^ 47) c.plus-totals.result
+    (omega (arith, ap length c.deref.ensures.value, c.fill_from-end.ensures.few, c.if-bits-self.false, live.limit))
+    (c.plus-totals.ensures.small (2 ^ 11 * c.self.inside.place) (2 ^ 10 * length c.deref.result.now) live.small c.of_items.ensures.small)
 
 pub moved_end-group-requires-clause-lawful : goal.moved_end-group-requires-clause-lawful
 moved_end-group-requires-clause-lawful c =

@@ -1,5 +1,5 @@
-use Rattle.std.proofs.Common.{◌≡◌, ◌+◌, ◌-◌, ◌*◌, ◌++◌, List, ℕ, length, take, refl, sym, ap, subst, ◌∙◌, arith}
-use Rattle.std.proofs.lemmas.List.{length-map, length-take-le, with_items_is}
+use Rattle.std.proofs.Common.{◌≡◌, ◌+◌, ◌-◌, ◌*◌, ◌^◌, ◌++◌, List, ℕ, length, take, refl, sym, ap, subst, ◌∙◌, arith}
+use Rattle.std.proofs.lemmas.List.{length-append, length-drop, length-map, length-take-le, with_items_is}
 use Rattle.std.specs.Vec.{with_items}
 use Rattle.rds_stream.specs.Recording.{Signal, length_of}
 use Rattle.rds_sync.specs.declared.item.Item.{Item}
@@ -7,12 +7,28 @@ use Rattle.rds_sync.specs.declared.state.State.{State}
 use Rattle.rds_sync.specs.Step.{run}
 use Rattle.rds_sync.specs.Totals.{totals_of}
 use Rattle.rds_live.specs.Gaps.{gaps_within}
-use Rattle.rds_live.specs.Live.{LiveOf, Terms, HasHeard, complete, last_bytes, live_of, signal_of}
+use Rattle.rds_live.specs.Live.{LiveOf, Terms, HasHeard, complete, last_bytes, live_of, most_kept, signal_of}
 use Rattle.rds_live.specs.Moving.{moved_item, moved_items}
-use Rattle.rds_live.proofs.Following.{IsPrepared, prepared, heard-after, complete-after, state-in-part}
+use Rattle.rds_live.proofs.Following.{IsPrepared, at-most-more, prepared, heard-after, complete-after, lawful-on, state-in-part}
 use Rattle.rds_live.proofs.Rooms.{heard-again, long-part, run-all}
 use Rattle.rds_live.proofs.live.Live.take.Goals.{After-moved_on-self-inside}
 use Rattle.rds_live.proofs.live.Live.take.Goals as goal
+
+pub fill_from-end-requires-clause-lawful : goal.fill_from-end-requires-clause-lawful
+fill_from-end-requires-clause-lawful c =
+    let live = c.self.invariant.0 in
+    state-in-part c.self.inside.room.bytes c.self.inside.place (8 * length c.bytes.result.now) live.kept live.whole (ap (λ (xs : List ℕ). 8 * length xs) c.bytes.ensures.value)
+    c.self.inside.rules.now c.moved_back-state.result c.self.inside.state c.moved_back-state.ensures live.lawful
+
+pub plus-self-inside-requires : goal.plus-self-inside-requires
+plus-self-inside-requires c =
+    let live = c.self.invariant.0 in (
+      2 ^ 11 * c.self.inside.place,
+      2 ^ 10 * length c.deref.result.now,
+      omega (arith, ap length c.deref.ensures.value, c.fill_from-end.ensures.few, c.min-count.ensures, live.limit),
+      live.small,
+      c.of_items.ensures.small,
+    )
 
 -- where the bytes that are taken were gone over, behind those that are kept of the bytes heard before
 module _ (c : After-moved_on-self-inside) (before : List ℕ) (h : HasHeard c.args.self.now before) where
@@ -94,3 +110,28 @@ returns-clause-heard c before h = heard_after (goal.at.returns-clause-heard c).A
 
 pub returns-clause-items : goal.returns-clause-items
 returns-clause-items c before h = complete_after (goal.at.returns-clause-items c).After-moved_on-self-inside before h
+
+pub invariant_of-self : goal.invariant_of-self
+invariant_of-self c =
+    let live = c.self.invariant.0 in
+    let tail = c.self.inside.room.bytes in
+    let count = c.min-count.result in
+    let from : ℕ = 8 * length c.bytes.result.now in
+    let from_is : from ≡ 8 * length tail = ap (λ (xs : List ℕ). 8 * length xs) c.bytes.ensures.value in
+    let few = length-take-le count c.args.bytes.now (omega (arith, c.min-count.ensures)) in
+    let long : length c.listen.new.self.bytes ≡ length tail + length (take count c.args.bytes.now) =
+    ap length (c.listen.ensures.bytes ∙ c.push.ensures.bytes) ∙ length-append tail (take count c.args.bytes.now) in
+    let kept = ap length c.keep_last.ensures.bytes ∙ length-drop (length c.listen.new.self.bytes - most_kept) c.listen.new.self.bytes in (
+      record {
+        whole = omega (arith, live.kept, live.whole, from_is);
+        limit = omega (arith, live.kept, live.whole, from_is, c.min-count.ensures);
+        kept = omega (arith, kept, long, few, live.kept, live.whole, from_is);
+        lawful = lawful-on c.self.inside.rules.now (c.self.inside.place - from) (from + 8 * count) (c.self.inside.place - from + (from + 8 * count)) c.fill_from-end.result c.moved_on-self-inside.result
+            c.moved_on-self-inside.ensures c.fill_from-end.ensures.lawful (omega arith);
+        small = at-most-more (2 ^ 11 * c.self.inside.place + 2 ^ 10 * length c.deref.result.now) (2 ^ 11 * (c.self.inside.place - from + (from + 8 * count))) c.plus-self-inside.result
+            (omega (arith, ap length c.deref.ensures.value, c.fill_from-end.ensures.few, live.kept, live.whole, from_is))
+            (c.plus-self-inside.ensures.small (2 ^ 11 * c.self.inside.place) (2 ^ 10 * length c.deref.result.now) live.small c.of_items.ensures.small);
+        gaps = live.gaps;
+      },
+      omega (arith, c.keep_last.ensures.slots, c.listen.ensures.slots, c.push.ensures.slots, c.self.invariant.1),
+    )

@@ -1,4 +1,4 @@
-use Rattle.std.proofs.Common.{ℕ, List, ap, sym, ◌∙◌, subst, length}
+use Rattle.std.proofs.Common.{ℕ, List, ap, refl, sym, ◌∙◌, subst, length}
 use Rattle.rds_stream.specs.Recording.{AreGaps}
 use Rattle.rds_stream.proofs.Places.{length-bits_of}
 use Rattle.rds_stream.proofs.recording.Recording.with_gaps.Goals as goal
@@ -8,4 +8,4 @@ invariant_of-result c =
     let bits = c.args.bits in
     let long = sym (ap length c.new.ensures ∙ length-bits_of c.args.bytes.items bits) in
     subst (λ (n : ℕ). AreGaps n c.args.gaps.items) long
-    (subst (λ (gaps : List (ℕ × ℕ)). AreGaps bits gaps) c.deref.ensures.value (c.are_gaps.ensures.0 c.if-not-are_gaps.false))
+    (subst (λ (gaps : List (ℕ × ℕ)). AreGaps bits gaps) c.deref.ensures.value (c.in_default.ensures.taken.0 refl).2)

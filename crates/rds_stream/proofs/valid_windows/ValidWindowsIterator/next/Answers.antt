@@ -1,7 +1,11 @@
-use Rattle.std.proofs.Common.{◌+◌, Some, None, refl, sym, ◌∙◌, subst, arith}
+use Rattle.std.proofs.Common.{◌≡◌, ◌+◌, ℕ, Option, Some, None, IsSome, refl, sym, ◌∙◌, subst, arith}
+use Rattle.rds_code.specs.declared.offset.Offset.{Offset}
+use Rattle.rds_code.specs.Offsets.{offset_of}
+use Rattle.rds_code.specs.Remainder.{rem}
+use Rattle.rds_stream.specs.Recording.{Signal, off, window}
 use Rattle.rds_stream.specs.ValidWindows.{WindowsLeft, GivesFirst}
 use Rattle.rds_stream.proofs.WindowLists.{off_stored}
-use Rattle.rds_stream.proofs.ValidPlaceLemmas.{never_some, none_ahead, none_below, join_none, one_valid, valid_late}
+use Rattle.rds_stream.proofs.ValidPlaceLemmas.{never_some, none_ahead, none_below, join_none, one_valid, places_behind, valid_late}
 use Rattle.rds_stream.proofs.valid_windows.ValidWindowsIterator.next.Goals as goal
 
 pub returns-then-places-eq0-clause-steps : goal.returns-then-places-eq0-clause-steps
@@ -24,13 +28,35 @@ stored_offset-requires-clause-first c =
     valid_late b (places.next + bit) (one_valid b places.next places.ahead places.word bit c.next_valid-places.ensures.places c.lowest-bit.ensures.set).1
 
 -- a valid place has an offset as it is stored
+has_stored : (b : Signal) (place : ℕ) (found : Option Offset) → IsSome (off b place) → found ≡ offset_of (rem (window b.bits place)) → found ≡ None → ⊥
+has_stored b place found valid is none = never_some b place (off_stored b place valid ∙ sym is ∙ none) valid
+
+pub invariant_of-self-in_err-offset : goal.invariant_of-self-in_err-offset
+invariant_of-self-in_err-offset c =
+    let b = c.self.inside.recording.now in
+    let places = c.next_valid-places.result in
+    let bit = c.lowest-bit.result in
+    let valid = (one_valid b places.next places.ahead places.word bit c.next_valid-places.ensures.places c.lowest-bit.ensures.set).1 in
+    absurd (has_stored b (places.next + bit) c.stored_offset.result valid c.stored_offset.ensures c.in_err-offset.was)
+
 pub returns-in_err-offset-clause-steps : goal.returns-in_err-offset-clause-steps
 returns-in_err-offset-clause-steps c =
     let b = c.self.inside.recording.now in
     let places = c.next_valid-places.result in
     let bit = c.lowest-bit.result in
     let valid = (one_valid b places.next places.ahead places.word bit c.next_valid-places.ensures.places c.lowest-bit.ensures.set).1 in
-    absurd (never_some b (places.next + bit) (off_stored b (places.next + bit) valid ∙ sym c.stored_offset.ensures ∙ c.in_err-offset.was) valid)
+    absurd (has_stored b (places.next + bit) c.stored_offset.result valid c.stored_offset.ensures c.in_err-offset.was)
+
+pub invariant_of-self-2 : goal.invariant_of-self-2
+invariant_of-self-2 c =
+    let found = c.next_valid-places in
+    let places = found.result in (
+      places_behind c.self.inside.recording.now places.next places.ahead places.word c.lowest-bit.result c.above.result found.ensures.places c.lowest-bit.ensures.set c.above.ensures,
+      found.ensures.first,
+      found.ensures.forward.1,
+      c.self.invariant.3,
+      found.ensures.section,
+    )
 
 pub returns-clause-steps : goal.returns-clause-steps
 returns-clause-steps c =

@@ -1,6 +1,6 @@
 use Rattle.std.proofs.Common.{◌^◌, ◌<◌, sym, subst, arith}
 use Rattle.std.proofs.lemmas.Nat.{xor_lt}
-use Rattle.rds_code.proofs.reading.without.Goals as goal
+use Rattle.rds_code.proofs.windows.without.Goals as goal
 
 pub overflow_cast-result : goal.overflow_cast-result
 overflow_cast-result c =

@@ -2,7 +2,7 @@ use Rattle.std.proofs.Common.{◌≡◌}
 use Rattle.rds_rows.specs.Gathered.{kept_in}
 use Rattle.rds_rows.specs.Writes.{AppendsBut}
 use Rattle.rds_rows.specs.Parts.{first_parts}
-use Rattle.rds_rows.proofs.pool.write_parts.Given as goal
+use Rattle.rds_rows.proofs.pool.gather_parts.Given as goal
 
 abbrev pub invariant-loop-k : goal.invariant-loop-k
 invariant-loop-k g l = record {

@@ -1,7 +1,7 @@
 use Rattle.std.proofs.Common.{◌∙◌, ap, refl, sym}
 use Rattle.rds_code.specs.Reading.{by_only}
 use Rattle.rds_code.proofs.ReadingLemmas.{asked-lt, none_by_table, one_by_table, corrections_none, corrections_one}
-use Rattle.rds_code.proofs.reading.corrected_to.Goals as goal
+use Rattle.rds_code.proofs.windows.corrected_to.Goals as goal
 
 pub find-requires : goal.find-requires
 find-requires c = asked-lt c.args.w c.args.remainder c.word.result c.args.offset c.requires.block c.requires.of_window c.word.ensures

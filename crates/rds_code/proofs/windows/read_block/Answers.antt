@@ -2,7 +2,7 @@ use Rattle.std.proofs.Common.{◌∙◌, ap, refl, sym, subst, arith}
 use Rattle.rds_code.specs.Offsets.{offset_of}
 use Rattle.rds_code.specs.Reading.{IsReading}
 use Rattle.rds_code.proofs.ReadingLemmas.{reads_corrected, reading_is}
-use Rattle.rds_code.proofs.reading.read_block.Goals as goal
+use Rattle.rds_code.proofs.windows.read_block.Goals as goal
 
 pub returns-clause-value : goal.returns-clause-value
 returns-clause-value c =

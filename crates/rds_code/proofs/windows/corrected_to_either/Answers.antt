@@ -2,7 +2,7 @@ use Rattle.std.proofs.Common.{[], ◌∷◌, ◌∙◌, ap, sym, subst}
 use Rattle.rds_code.specs.declared.offset.Offset.TheVariants.{C, Cx}
 use Rattle.rds_code.specs.Reading.{by_only}
 use Rattle.rds_code.proofs.ReadingLemmas.{asked-lt, TableSays, table_says, corrections_two}
-use Rattle.rds_code.proofs.reading.corrected_to_either.Goals as goal
+use Rattle.rds_code.proofs.windows.corrected_to_either.Goals as goal
 
 pub find-version_a-requires : goal.find-version_a-requires
 find-version_a-requires c = asked-lt c.args.w c.args.remainder c.word.result C c.requires.block c.requires.of_window c.word.ensures
@@ -50,4 +50,4 @@ returns-in-Some-Some c =
     let says_b = table_says limit w c.args.remainder c.word-2.result Cx c.find-version_b.result c.find-version_b.ensures.limit c.requires.of_window c.word-2.ensures c.find-version_b.ensures.burst c.find-version_b.ensures.fits c.find-version_b.ensures.none in
     let first = subst (TableSays limit w C) c.in-Some-Some.is-0 says_a in
     let second = subst (TableSays limit w Cx) c.in-Some-Some.is-1 says_b in
-    sym (ap (by_only w) (corrections_two limit w C Cx (c.in-Some-Some.field-0-0 ∷ []) (c.in-Some-Some.field-0-1 ∷ []) first.list second.list))
+    sym (ap (by_only w) (corrections_two limit w C Cx _ _ first.list second.list))
