@@ -1,9 +1,9 @@
 //! A writer that fails while all other parts that there is room for are made.
 ghost use Rattle.std.specs.Prelude.{◌<◌, ◌≡◌, ◌≤◌, Some, map};
 
-use crate::stored::Stored;
+use crate::stored::{Known, Stored};
 use rds_rows::{Failed, Rows, RowsError, Sheet, Sink, write_rows_in_parts};
-use std::alloc::Global;
+use std::alloc::{AllocError, Global};
 use std::sync::Wait;
 use std::sync::atomic::{AtomicUsize, Ordering};
 use std::test::Fail;
@@ -17,13 +17,13 @@ const PART: usize = 4;
 
 /// Rows that count how many parts were made of them.
 #[derive(Drop)]
-struct Counted {
-    rows: Stored,
+struct Counted<'a> {
+    rows: &'a Stored,
     made: AtomicUsize,
 }
 
-impl Rows for Counted {
-    ghost rows = { λ counted. map (λ row. row.items) counted.rows.rows.items };
+impl Rows for Counted<'_> {
+    ghost rows = { λ counted. map (λ row. row.items) counted.rows.now.rows.items };
 
     ghost longest = { λ counted. 6 };
 
@@ -45,7 +45,7 @@ impl Rows for Counted {
 #[derive(Drop)]
 struct Patient<'a> {
     held: Vec<u8>,
-    rows: &'a Counted,
+    rows: &'a Counted<'a>,
     parts: usize,
     after: usize,
     failures: u64,
@@ -60,6 +60,12 @@ impl Patient<'_> {
             }
         }
         false
+    }
+
+    /// Whether it failed once, and has so many bytes of this text.
+    fn has_failed_at(&self, after: usize, text: &[u8]) -> bool {
+        let held = self.held.as_slice();
+        self.failures == 1 && held.len() == after && text.starts_with(held)
     }
 }
 
@@ -95,42 +101,51 @@ impl Sink for Patient<'_> {
 fn leaves<R: Sync + Threads + Wait>(
     rt: &R,
     alloc: Global,
+    known: &Known,
     workers: u32,
     after: usize,
-) -> Result<bool, Fail>
+) -> bool
     requires some { 0 < workers }
     requires few { workers ≤ 256 }
 {
-    let parts = 2 * workers as usize;
-    let stored = Stored::new(alloc, 2 * parts * PART)?;
-    let text = stored.text(alloc)?;
     let rows = Counted {
-        rows: stored,
+        rows: &known.rows,
         made: AtomicUsize::new(0),
     };
     let mut writer = Patient {
         held: Vec::new(alloc),
         rows: &rows,
-        parts,
+        parts: 2 * workers as usize,
         after,
         failures: 0,
     };
     let result = write_rows_in_parts(rt, alloc, &rows, workers, PART, &mut writer);
-    Ok(
-        result == Err(RowsError::Write)
-            && writer.failures == 1
-            && writer.held.len() == after
-            && text.as_slice().starts_with(writer.held.as_slice()),
-    )
+    result == Err(RowsError::Write) && writer.has_failed_at(after, known.text.as_slice())
+}
+
+/// The first number of bytes below 13 of which that does not hold, or 13.
+fn first_wrong<R: Sync + Threads + Wait>(
+    rt: &R,
+    alloc: Global,
+    workers: u32,
+) -> Result<usize, AllocError>
+    requires some { 0 < workers }
+    requires few { workers ≤ 256 }
+{
+    let known = Known::new(alloc, 4 * workers as usize * PART)?;
+    for after in 0..13usize {
+        if !leaves(rt, alloc, &known, workers, after) {
+            return Ok(after);
+        }
+    }
+    Ok(13)
 }
 
 #[test]
 fn a_writer_may_fail_in_a_part_while_all_others_are_made(rt: HostRuntime) -> Result<(), Fail> {
     for workers in [2, 3, 8, 64, 256] {
-        for after in 0..13usize {
-            let leaves = leaves(&rt, rt.alloc(), workers, after)?;
-            assert!(rt; leaves, "{workers} workers, after {after} bytes");
-        }
+        let after = first_wrong(&rt, rt.alloc(), workers)?;
+        assert!(rt; after == 13, "{workers} workers, after {after} bytes");
     }
     Ok(())
 }

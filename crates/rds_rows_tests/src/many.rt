@@ -2,12 +2,11 @@
 //! shares its processors with many other programs waits long for each thread's turn.
 ghost use Rattle.std.specs.Prelude.{◌<◌, ◌≤◌};
 
-use crate::stored::Stored;
+use crate::stored::Known;
 use crate::writer::{Failure, SlowWriter};
 use rds_rows::{RowsError, write_rows_in_parts};
 use std::alloc::Global;
 use std::sync::Wait;
-use std::test::Fail;
 use std::thread::Threads;
 
 /// How many runs a test makes.
@@ -51,112 +50,101 @@ impl Drawn {
     }
 }
 
-/// Rows and their text.
-#[derive(Drop)]
-struct Known {
-    rows: Stored,
-    text: Vec<u8>,
+/// Whether so many workers write the rows as they are, or a beginning of them where the writer failed.
+fn are_written<R: Sync + Threads + Wait>(
+    rt: &R,
+    alloc: Global,
+    known: &Known,
+    workers: u32,
+    drawn: &mut Drawn,
+) -> bool
+    requires some { 0 < workers }
+    requires few { workers ≤ 256 }
+{
+    let failure = drawn.failure(2 * known.text.len() as u64 / 3 + 1);
+    let step = drawn.below(9) as usize + 1;
+    let most = drawn.below(4) as usize + 1;
+    let mut writer = SlowWriter::new(alloc, step, failure);
+    let result = write_rows_in_parts(rt, alloc, &known.rows, workers, most, &mut writer);
+    is_whole_or_cut_off(result, &writer, known.text.as_slice())
 }
 
-impl Known {
-    fn new(alloc: Global, count: usize) -> Result<Known, Fail> {
-        let rows = Stored::new(alloc, count)?;
-        let text = rows.text(alloc)?;
-        Ok(Known { rows, text })
-    }
-
-    /// Whether so many workers write the rows as they are, or a beginning of them where the writer failed.
-    fn are_written<R: Sync + Threads + Wait>(
-        &self,
-        rt: &R,
-        alloc: Global,
-        workers: u32,
-        drawn: &mut Drawn,
-    ) -> bool
-        requires some { 0 < workers }
-        requires few { workers ≤ 256 }
-    {
-        let failure = drawn.failure(2 * self.text.len() as u64 / 3 + 1);
-        let step = drawn.below(9) as usize + 1;
-        let most = drawn.below(4) as usize + 1;
-        let mut writer = SlowWriter::new(alloc, step, failure);
-        let result = write_rows_in_parts(rt, alloc, &self.rows, workers, most, &mut writer);
-        match result {
-            Ok(()) => writer.failures == 0 && writer.held == self.text,
-            Err(RowsError::Write) => {
-                writer.failures == 1 && self.text.as_slice().starts_with(writer.held.as_slice())
-            }
-            Err(RowsError::OutOfMemory) => false,
-        }
+/// Whether a writer has the whole text, or failed once and has a beginning of it, as its result says.
+fn is_whole_or_cut_off(answer: Result<(), RowsError>, writer: &SlowWriter, text: &[u8]) -> bool {
+    let held = writer.held.as_slice();
+    match answer {
+        Ok(()) => writer.failures == 0 && held == text,
+        Err(RowsError::Write) => writer.failures == 1 && text.starts_with(held),
+        Err(RowsError::OutOfMemory) => false,
     }
 }
 
-/// The first of the runs from this number drawn on that goes wrong.
-fn first_wrong<R: Sync + Threads + Wait>(
+/// Whether all runs from this number drawn on go well, over few rows and over many.
+fn all_are_written<R: Sync + Threads + Wait>(
     rt: &R,
     alloc: Global,
     seed: u64,
-) -> Result<Option<u64>, Fail> {
-    let few = Known::new(alloc, FEW_ROWS)?;
-    let many = Known::new(alloc, MANY_ROWS)?;
+    few: &Known,
+    many: &Known,
+) -> bool {
     let mut drawn = Drawn(seed);
-    for run in 0..RUNS {
-        let (rows, most_workers) = match drawn.below(FEW_OF) {
-            0 => (&many, 256),
-            _ => (&few, 4),
+    for _ in 0..RUNS {
+        let (known, most_workers) = match drawn.below(FEW_OF) {
+            0 => (many, 256),
+            _ => (few, 4),
         };
         let workers = drawn.below(most_workers) as u32 + 1;
-        if !rows.are_written(rt, alloc, workers, &mut drawn) {
-            return Ok(Some(run));
+        if !are_written(rt, alloc, known, workers, &mut drawn) {
+            return false;
         }
     }
-    Ok(None)
+    true
+}
+
+/// Whether there is memory for the rows, and all runs from this number drawn on go well.
+fn all_end<R: Sync + Threads + Wait>(rt: &R, alloc: Global, seed: u64) -> bool {
+    match (Known::new(alloc, FEW_ROWS), Known::new(alloc, MANY_ROWS)) {
+        (Ok(few), Ok(many)) => all_are_written(rt, alloc, seed, &few, &many),
+        _ => false,
+    }
 }
 
 #[test]
-fn no_run_of_the_first_waits_for_ever(rt: HostRuntime) -> Result<(), Fail> {
-    assert!(rt; first_wrong(&rt, rt.alloc(), 0x2545_f491_4f6c_dd1d)? == None);
-    Ok(())
+fn no_run_of_the_first_waits_for_ever(rt: HostRuntime) {
+    assert!(rt; all_end(&rt, rt.alloc(), 0x2545_f491_4f6c_dd1d));
 }
 
 #[test]
-fn no_run_of_the_second_waits_for_ever(rt: HostRuntime) -> Result<(), Fail> {
-    assert!(rt; first_wrong(&rt, rt.alloc(), 0x9e37_79b9_7f4a_7c15)? == None);
-    Ok(())
+fn no_run_of_the_second_waits_for_ever(rt: HostRuntime) {
+    assert!(rt; all_end(&rt, rt.alloc(), 0x9e37_79b9_7f4a_7c15));
 }
 
 #[test]
-fn no_run_of_the_third_waits_for_ever(rt: HostRuntime) -> Result<(), Fail> {
-    assert!(rt; first_wrong(&rt, rt.alloc(), 0xbf58_476d_1ce4_e5b9)? == None);
-    Ok(())
+fn no_run_of_the_third_waits_for_ever(rt: HostRuntime) {
+    assert!(rt; all_end(&rt, rt.alloc(), 0xbf58_476d_1ce4_e5b9));
 }
 
 #[test]
-fn no_run_of_the_fourth_waits_for_ever(rt: HostRuntime) -> Result<(), Fail> {
-    assert!(rt; first_wrong(&rt, rt.alloc(), 0x94d0_49bb_1331_11eb)? == None);
-    Ok(())
+fn no_run_of_the_fourth_waits_for_ever(rt: HostRuntime) {
+    assert!(rt; all_end(&rt, rt.alloc(), 0x94d0_49bb_1331_11eb));
 }
 
 #[test]
-fn no_run_of_the_fifth_waits_for_ever(rt: HostRuntime) -> Result<(), Fail> {
-    assert!(rt; first_wrong(&rt, rt.alloc(), 0x6a09_e667_f3bc_c908)? == None);
-    Ok(())
+fn no_run_of_the_fifth_waits_for_ever(rt: HostRuntime) {
+    assert!(rt; all_end(&rt, rt.alloc(), 0x6a09_e667_f3bc_c908));
 }
 
 #[test]
-fn no_run_of_the_sixth_waits_for_ever(rt: HostRuntime) -> Result<(), Fail> {
-    assert!(rt; first_wrong(&rt, rt.alloc(), 0xbb67_ae85_84ca_a73b)? == None);
-    Ok(())
+fn no_run_of_the_sixth_waits_for_ever(rt: HostRuntime) {
+    assert!(rt; all_end(&rt, rt.alloc(), 0xbb67_ae85_84ca_a73b));
 }
 
 #[test]
-fn no_run_of_the_seventh_waits_for_ever(rt: HostRuntime) -> Result<(), Fail> {
-    assert!(rt; first_wrong(&rt, rt.alloc(), 0x3c6e_f372_fe94_f82b)? == None);
-    Ok(())
+fn no_run_of_the_seventh_waits_for_ever(rt: HostRuntime) {
+    assert!(rt; all_end(&rt, rt.alloc(), 0x3c6e_f372_fe94_f82b));
 }
 
 #[test]
-fn no_run_of_the_eighth_waits_for_ever(rt: HostRuntime) -> Result<(), Fail> {
-    assert!(rt; first_wrong(&rt, rt.alloc(), 0xa54f_f53a_5f1d_36f1)? == None);
-    Ok(())
+fn no_run_of_the_eighth_waits_for_ever(rt: HostRuntime) {
+    assert!(rt; all_end(&rt, rt.alloc(), 0xa54f_f53a_5f1d_36f1));
 }

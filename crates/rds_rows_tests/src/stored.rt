@@ -34,6 +34,22 @@ impl Stored {
     }
 }
 
+/// Rows and their text.
+#[derive(Drop)]
+pub struct Known {
+    pub rows: Stored,
+    pub text: Vec<u8>,
+}
+
+impl Known {
+    /// So many rows, from row 0 on.
+    pub fn new(alloc: Global, count: usize) -> Result<Known, AllocError> {
+        let rows = Stored::new(alloc, count)?;
+        let text = rows.text(alloc)?;
+        Ok(Known { rows, text })
+    }
+}
+
 /// Row k: k modulo 7 letters, which k picks.
 fn row(alloc: Global, k: usize) -> Result<Vec<u8>, AllocError>
     ensures { IfOk result (λ row. vec_len row ≤ 6) }
