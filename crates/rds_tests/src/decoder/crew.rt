@@ -2,5 +2,4 @@
 mod dealing;
 mod gates;
 mod journal;
-mod refusals;
 mod tree;

@@ -47,22 +47,14 @@ fn are_dealt<R: Threads + Sync>(
     Ok(closed.drawn == all && closed.finished == all)
 }
 
-#[test]
-fn eight_threads_draw_a_thousand_pieces(rt: HostRuntime) -> Result<(), Fail> {
-    assert!(rt; are_dealt(&rt, rt.alloc(), 1000, 8)?);
-    Ok(())
-}
+/// Pieces and seats: many threads, as many as there may be, and one draw or two by each seat.
+static DEALT: [(u32, u32); 4] = [(1000, 8), (1000, 256), (2, 1), (2, 2)];
 
 #[test]
-fn a_dealer_may_have_256_seats(rt: HostRuntime) -> Result<(), Fail> {
-    assert!(rt; are_dealt(&rt, rt.alloc(), 1000, 256)?);
-    Ok(())
-}
-
-// By one seat or two.
-#[test]
-fn two_draws_that_were_finished_are_closed_as_two_of_each(rt: HostRuntime) -> Result<(), Fail> {
-    assert!(rt; are_dealt(&rt, rt.alloc(), 2, 1)? && are_dealt(&rt, rt.alloc(), 2, 2)?);
+fn many_threads_draw_all_pieces(rt: HostRuntime) -> Result<(), Fail> {
+    for &(pieces, seats) in &DEALT {
+        assert!(rt; are_dealt(&rt, rt.alloc(), pieces, seats)?, "{seats} seats");
+    }
     Ok(())
 }
 
@@ -102,21 +94,14 @@ fn ends(dealer: &Dealer, seat: Seat) -> bool
 
 #[test]
 fn a_seat_tells_what_it_holds_and_has_done(rt: HostRuntime) -> Result<(), Fail> {
-    assert!(rt; one_seat_does(rt.alloc(), 1)?);
+    assert!(rt; one_seat_does(rt.alloc())?);
     Ok(())
 }
 
-#[test]
-fn a_dealer_of_no_pieces_is_drawn_from_twice(rt: HostRuntime) -> Result<(), Fail> {
-    assert!(rt; one_seat_does(rt.alloc(), 0)?);
-    Ok(())
-}
-
-/// Whether the one seat of a dealer tells its steps over its one piece, or ends where it has none.
-fn one_seat_does(alloc: Global, pieces: u32) -> Result<bool, CrewError> {
-    let (dealer, mut seats) = Dealer::new(alloc, u64::from(pieces), 1)?;
+/// Whether the one seat of a dealer tells its steps over its one piece.
+fn one_seat_does(alloc: Global) -> Result<bool, CrewError> {
+    let (dealer, mut seats) = Dealer::new(alloc, 1, 1)?;
     match seats.pop() {
-        Some(seat) if pieces == 0 => Ok(ends(&dealer, seat)),
         Some(seat) => Ok(tells_its_steps(&dealer, seat)),
         None => Ok(false),
     }
