@@ -1,9 +1,11 @@
 //! Forms that several measurements time, over a whole recording. Each answers a number that hangs on what it finds.
 ghost use Rattle.std.specs.Prelude.{◌≤◌};
+ghost use Rattle.rds_stream.specs.Recording.{length_of};
+ghost use Rattle.rds_pieces.specs.Cutting.{IsCutting};
 
 use anyhow::Result;
-use rds_crew::{OpenGate, decode_crew};
-use rds_pieces::{Cutting, PieceError, RecordingWork, speculate};
+use rds_crew::{CrewError, Gate, OpenGate, decode_crew};
+use rds_pieces::{Cutting, PieceError, RecordingWork, Work, speculate};
 use rds_stream::{Recording, StreamError, ValidWindows, scan};
 use rds_sync::{Decoder, Rules, State, SyncError, Totals, decode_plain};
 use std::alloc::Global;
@@ -57,6 +59,22 @@ pub fn crew<T: Threads + Wait>(
 {
     let cutting = Cutting::even(alloc, recording.len(), pieces)?;
     let work = RecordingWork::new(recording, rules, &cutting);
-    let report = decode_crew(threads, alloc, &work, workers, &OpenGate)?;
-    Ok(report.totals.valid)
+    Ok(crew_of(threads, alloc, &work, workers, &OpenGate)?)
+}
+
+/// How many that of a work counts, where a gate hears of the workers.
+pub fn crew_of<T: Threads + Wait, W: Work + Sync, G: Gate + Sync>(
+    threads: &T,
+    alloc: Global,
+    work: &W,
+    workers: u32,
+    gate: &G,
+) -> Result<u64, CrewError>
+    requires { IsCutting (length_of (W.recording work.now)) (W.places work.now) }
+{
+    Ok(
+        decode_crew(threads, alloc, work, workers, gate)?
+            .totals
+            .valid,
+    )
 }

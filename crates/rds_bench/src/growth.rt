@@ -102,7 +102,14 @@ impl Call {
 
 /// How many codes a run over the recording keeps.
 fn codes(alloc: Global, recording: &Recording, rules: &Rules) -> Result<u64, SyncError> {
-    let (_end, codes) = run_codes(alloc, recording, rules, State::Searching, 0, recording.len())?;
+    let (_end, codes) = run_codes(
+        alloc,
+        recording,
+        rules,
+        State::Searching,
+        0,
+        recording.len(),
+    )?;
     Ok(codes.len() as u64)
 }
 

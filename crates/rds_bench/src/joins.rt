@@ -4,9 +4,10 @@ ghost use Rattle.rds_stream.specs.Recording.{length_of};
 ghost use Rattle.rds_pieces.specs.Cutting.{IsCutting};
 ghost use Rattle.rds_pieces.specs.RunOf.{FollowEachOther};
 
+use crate::forms;
 use crate::timing::{Form, Timing};
 use anyhow::{Context, Result, bail};
-use rds_crew::{Gate, decode_crew};
+use rds_crew::Gate;
 use rds_pieces::{Cutting, PieceError, PieceRun, RecordingWork, Work, laws};
 use rds_stream::Recording;
 use rds_sync::Rules;
@@ -159,8 +160,8 @@ fn time_tree<T: Sync + Threads + Wait, W: Work + Sync>(
         begun: Mutex::new(None),
     };
     let start = Instant::now(rt)?;
-    let report = decode_crew(threads, rt.alloc(), work, tree.workers, &gate)?;
+    let valid = forms::crew_of(threads, rt.alloc(), work, tree.workers, &gate)?;
     let begun = gate.begun.into_inner().context("no join was begun")?;
-    timing.show_since(rt, tree.joins, begun, report.totals.valid)?;
-    timing.show_since(rt, tree.all, start, report.totals.valid)
+    timing.show_since(rt, tree.joins, begun, valid)?;
+    timing.show_since(rt, tree.all, start, valid)
 }

@@ -1,5 +1,4 @@
 //! Dealers and their seats: what each call answers, to one thread and to many.
-ghost use Rattle.std.specs.Prelude.{◌≡◌, None};
 ghost use Rattle.rds_crew.specs.Seats.{IsFresh, IsOf, HasRested};
 
 use rds_crew::{CrewError, Dealer, Seat};
@@ -58,7 +57,7 @@ fn many_threads_draw_all_pieces(rt: HostRuntime) -> Result<(), Fail> {
     Ok(())
 }
 
-/// Whether the seat of a dealer of one piece tells what it holds, has finished and was told, and its end.
+/// Whether the seat of a dealer of one piece tells what it holds, has finished and was told.
 fn tells_its_steps(dealer: &Dealer, seat: Seat) -> bool
     requires { IsFresh dealer.now seat }
 {
@@ -67,7 +66,7 @@ fn tells_its_steps(dealer: &Dealer, seat: Seat) -> bool
     };
     let holds_it = holds(&seat, j);
     let (done, seat) = dealer.progress(dealer.finish(seat, j));
-    holds_it && has_done_one(&seat, done) && ends(dealer, seat)
+    holds_it && has_done_one(&seat, done)
 }
 
 /// Whether a seat holds that piece as its first.
@@ -78,18 +77,6 @@ fn holds(seat: &Seat, j: u64) -> bool {
 /// Whether a seat has finished one piece, and was told that so many are: one.
 fn has_done_one(seat: &Seat, done: u64) -> bool {
     done == 1 && seat.told() == 1 && seat.finished() == 1
-}
-
-/// Whether a seat that holds none gets none, and once more none.
-fn ends(dealer: &Dealer, seat: Seat) -> bool
-    requires own { IsOf dealer.now seat }
-    requires empty { seat.view.held ≡ None }
-{
-    let (None, seat) = dealer.draw(seat) else {
-        return false;
-    };
-    let (again, seat) = dealer.draw(seat);
-    again.is_none() && seat.ended() && seat.holding().is_none()
 }
 
 #[test]

@@ -26,7 +26,7 @@ returns-clause-items c =
     let at_end = (goal.at.returns-clause-items c).After-second_sitting in
     let at_first = subst (λ (q : Terms). complete q first ≡ complete q [] ++ c.in_ok-one.one.items) (terms_first at_end) (c.in_ok-one.ensures.items [] (start at_end)) in
     let at_second = subst (λ (q : Terms). complete q first ++ other ++ last ≡ report_of q (first ++ second))
-        (c.in_ok-one.ensures.terms ∙ terms_first at_end) (c.in_ok-other.ensures.items first (c.in_ok-one.ensures.heard [] (start at_end))) in
+    (c.in_ok-one.ensures.terms ∙ terms_first at_end) (c.in_ok-other.ensures.items first (c.in_ok-one.ensures.heard [] (start at_end))) in
     ap (λ (items : List Item). items ++ other ++ last) (sym at_first) ∙ at_second
 
 pub returns-clause-totals : goal.returns-clause-totals
