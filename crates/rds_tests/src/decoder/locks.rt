@@ -61,6 +61,17 @@ fn is_lost(loss: Loss, good: &[bool]) -> bool {
 fn turns_of(alloc: Global, rec: &Recording, rules: &RuleNumbers) -> Result<Vec<Turn>, AllocError> {
     let mut turns = Vec::new(alloc);
     let mut good = Vec::new(alloc);
+    push_turns(rec, rules, &mut good, &mut turns)?;
+    Ok(turns)
+}
+
+/// Puts these behind a list, with another of which blocks of the lock in progress are good.
+fn push_turns(
+    rec: &Recording,
+    rules: &RuleNumbers,
+    good: &mut Vec<bool>,
+    turns: &mut Vec<Turn>,
+) -> Result<(), AllocError> {
     let (mut due, mut number) = (0, 0u8);
     for place in 0..rec.len() {
         if number == 0 {
@@ -82,7 +93,7 @@ fn turns_of(alloc: Global, rec: &Recording, rules: &RuleNumbers) -> Result<Vec<T
             }
         }
     }
-    Ok(turns)
+    Ok(())
 }
 
 /// Whether these items have locks that begin and end there.
