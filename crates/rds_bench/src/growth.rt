@@ -100,17 +100,11 @@ impl Call {
     }
 }
 
-/// How many codes a run over the recording keeps.
+/// Keeps the codes of a run over the recording: 1 where it ends in a lawful state.
 fn codes(alloc: Global, recording: &Recording, rules: &Rules) -> Result<u64, SyncError> {
-    let (_end, codes) = run_codes(
-        alloc,
-        recording,
-        rules,
-        State::Searching,
-        0,
-        recording.len(),
-    )?;
-    Ok(codes.len() as u64)
+    let len = recording.len();
+    let (end, _codes) = run_codes(alloc, recording, rules, State::Searching, 0, len)?;
+    Ok(u64::from(end.is_lawful(rules, len)))
 }
 
 /// How many groups a stream of these bytes counts, in chunks that are each taken at once.
