@@ -29,30 +29,37 @@ fn main(rt: HostRuntime) -> ExitCode {
 
 /// What the command line asks for.
 fn asked_for(rt: &HostRuntime) -> Result<Asked, CliFault> {
-    let given = match env::args(rt) {
-        Ok(given) => given,
-        Err(error) if error.kind() == ErrorKind::InvalidData => {
-            return Err(fault(
-                rt,
-                FaultKind::Words,
-                "error: an argument is not valid UTF-8\n",
-            ));
-        }
-        Err(_) => return Err(fault(rt, FaultKind::Memory, "")),
-    };
-    let Ok(given): Result<Vec<String>, _> = given.collect(rt.alloc()) else {
-        return Err(fault(rt, FaultKind::Memory, ""));
-    };
+    match given_words(rt) {
+        Ok(given) => asked_by(rt, given.as_slice()),
+        Err(kind) => Err(fault(rt, kind)),
+    }
+}
+
+/// The words of the command line.
+fn given_words(rt: &HostRuntime) -> Result<Vec<String>, FaultKind> {
+    match env::args(rt) {
+        Ok(given) => given.collect(rt.alloc()).map_err(|_| FaultKind::Memory),
+        Err(error) if error.kind() == ErrorKind::InvalidData => Err(FaultKind::Words),
+        Err(_) => Err(FaultKind::Memory),
+    }
+}
+
+fn asked_by(rt: &HostRuntime, given: &[String]) -> Result<Asked, CliFault> {
     let mut words = Vec::new(rt.alloc());
-    for word in given.as_slice() {
+    for word in given {
         if words.push(word.as_str()).is_err() {
-            return Err(fault(rt, FaultKind::Memory, ""));
+            return Err(fault(rt, FaultKind::Memory));
         }
     }
     asked_of(rt.alloc(), words.as_slice())
 }
 
-fn fault(rt: &HostRuntime, kind: FaultKind, text: &str) -> CliFault {
+/// Why there are no words: some are not valid UTF-8, or there is no memory for them.
+fn fault(rt: &HostRuntime, kind: FaultKind) -> CliFault {
+    let text = match kind {
+        FaultKind::Words => "error: an argument is not valid UTF-8\n",
+        _ => "",
+    };
     match text.to_string(rt.alloc()) {
         Ok(text) => CliFault { kind, text },
         Err(_) => CliFault {
@@ -70,8 +77,6 @@ fn run<R: Threads + Wait + Sync>(
     job: &Job,
     progress: bool,
 ) -> Result<(), ToolError> {
-    let mut reader = FromRead::new(rt.stdin());
-    let mut writer = ToWrite::new(rt.stdout());
     let told = if progress {
         Progress::start(rt, job)
     } else {
@@ -79,21 +84,33 @@ fn run<R: Threads + Wait + Sync>(
     };
     match told {
         Some(progress) => {
-            let mut reader = Told::new(reader, &progress);
-            let mut writer = Told::new(writer, &progress);
-            let answer = transcribe_gated(
-                crew,
-                rt.alloc(),
-                &mut reader,
-                &mut writer,
-                job,
-                &progress,
-            );
+            let answer = run_told(rt, crew, job, &progress);
             progress.end();
             answer
         }
-        None => transcribe(crew, rt.alloc(), &mut reader, &mut writer, job),
+        None => run_untold(rt, crew, job),
     }
+}
+
+fn run_told<R: Threads + Wait + Sync>(
+    rt: &HostRuntime,
+    crew: &R,
+    job: &Job,
+    progress: &Progress<'_>,
+) -> Result<(), ToolError> {
+    let mut reader = Told::new(FromRead::new(rt.stdin()), progress);
+    let mut writer = Told::new(ToWrite::new(rt.stdout()), progress);
+    transcribe_gated(crew, rt.alloc(), &mut reader, &mut writer, job, progress)
+}
+
+fn run_untold<R: Threads + Wait + Sync>(
+    rt: &HostRuntime,
+    crew: &R,
+    job: &Job,
+) -> Result<(), ToolError> {
+    let mut reader = FromRead::new(rt.stdin());
+    let mut writer = ToWrite::new(rt.stdout());
+    transcribe(crew, rt.alloc(), &mut reader, &mut writer, job)
 }
 
 /// Lists the stream of standard input as it comes.

@@ -4,7 +4,6 @@ ghost use Rattle.rds_stream.specs.Recording.{length_of};
 ghost use Rattle.rds_pieces.specs.Cutting.{IsCutting, pieces_of};
 ghost use Rattle.rds_crew.specs.Seats.{IsFresh};
 
-use crate::sample::Sample;
 use crate::timing::{Form, Timing};
 use anyhow::Result;
 use rds_crew::{Dealer, Seat};
@@ -21,17 +20,6 @@ const WORKERS: u32 = 4;
 
 /// The guesses alone, with no report: what dealing gains where pieces differ in cost.
 pub fn measure<T: Threads + Sync>(
-    rt: &HostRuntime,
-    threads: &T,
-    bits: u64,
-    sample: Sample,
-) -> Result<()> {
-    let recording = sample.recording(rt.alloc(), bits)?;
-    let rules = Rules::new(rt.alloc(), 2, 3, 10)?;
-    time_pieces(rt, threads, &recording, &rules)
-}
-
-fn time_pieces<T: Threads + Sync>(
     rt: &HostRuntime,
     threads: &T,
     recording: &Recording,

@@ -1,9 +1,10 @@
 //! One decoder, and the valid windows, over a recording without gaps and over the same with many.
+use crate::forms;
 use crate::sample::Sample;
 use crate::timing::{Form, Timing};
 use anyhow::Result;
-use rds_stream::{Recording, StreamError, ValidWindows};
-use rds_sync::{Rules, decode_plain};
+use rds_stream::{Recording, StreamError};
+use rds_sync::Rules;
 use std::alloc::{AllocError, Global};
 
 /// There is a gap of one place in so many: 100,000 of them in a recording of 100,000,000 bits.
@@ -54,8 +55,8 @@ fn time_decoder(
     recording: &Recording,
     rules: &Rules,
 ) -> Result<()> {
-    let totals = decode_plain(rt.alloc(), recording, rules)?.totals;
-    timing.show(rt, form, totals.valid)
+    let valid = forms::one_decoder(rt.alloc(), recording, rules)?;
+    timing.show(rt, form, valid)
 }
 
 fn time_windows(
@@ -64,8 +65,7 @@ fn time_windows(
     form: Form,
     recording: &Recording,
 ) -> Result<()> {
-    let found = ValidWindows::new(recording, 0, recording.len()).count();
-    timing.show(rt, form, found as u64)
+    timing.show(rt, form, forms::windows(recording))
 }
 
 fn with_gaps(alloc: Global, bits: u64, sample: Sample) -> Result<Recording, StreamError> {

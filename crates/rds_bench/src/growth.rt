@@ -3,14 +3,13 @@
 //! Each size is four times the one before it. A call that goes over its recording some times takes four times as long;
 //! one that goes over it once more for each acquisition, or for each piece, takes sixteen times. No time is compared with
 //! a number of seconds, nor with that of another form, which the same fault may slow as well.
+use crate::forms;
 use crate::sample::Sample;
 use crate::timing::nanos_since;
 use anyhow::{Result, bail};
-use rds_crew::{OpenGate, decode_crew};
 use rds_live::{Live, MOST_ITEMS};
-use rds_pieces::{Cutting, RecordingWork, speculate};
-use rds_stream::{Recording, StreamError, ValidWindows, scan};
-use rds_sync::{Decoder, Rules, State, decode_plain, run_codes};
+use rds_stream::{Recording, StreamError};
+use rds_sync::{Rules, State, SyncError, run_codes};
 use std::alloc::Global;
 use std::sync::Wait;
 use std::thread::Threads;
@@ -85,53 +84,27 @@ impl Call {
         rules: &Rules,
     ) -> Result<u64> {
         let recording = &size.recording;
-        let len = recording.len();
         Ok(match self {
-            Call::Windows => ValidWindows::new(recording, 0, len).count() as u64,
-            Call::Scan => scan(alloc, recording, 0, len)?.len() as u64,
-            Call::OneDecoder => decode_plain(alloc, recording, rules)?.totals.groups,
-            Call::Items => items(recording, rules),
-            Call::Codes => {
-                let (end, _codes) = run_codes(alloc, recording, rules, State::Searching, 0, len)?;
-                u64::from(end.is_lawful(rules, len))
+            Call::Windows => forms::windows(recording),
+            Call::Scan => forms::listed_windows(alloc, recording)?,
+            Call::OneDecoder => forms::one_decoder(alloc, recording, rules)?,
+            Call::Items => forms::item_by_item(recording, rules),
+            Call::Codes => codes(alloc, recording, rules)?,
+            Call::Guess => forms::one_guess(alloc, recording, rules)?,
+            Call::Crew => {
+                let pieces = recording.len() / 50_000 + 1;
+                forms::crew(threads, alloc, recording, rules, pieces, 4)?
             }
-            Call::Guess => guess(alloc, recording, rules)?,
-            Call::Crew => by_crew(threads, alloc, recording, rules)?,
             Call::Stream => by_chunks(alloc, size.bytes.as_slice(), rules)?,
         })
     }
 }
 
-/// How many items the recording has.
-fn items(recording: &Recording, rules: &Rules) -> u64 {
-    let mut count = 0u64;
-    for _item in Decoder::new(recording, rules, State::Searching, 0, recording.len()) {
-        count = count.saturating_add(1);
-    }
-    count
-}
-
-/// How many groups the guess of the recording in one piece counts.
-fn guess(alloc: Global, recording: &Recording, rules: &Rules) -> Result<u64> {
-    let cutting = Cutting::even(alloc, recording.len(), 1)?;
-    if cutting.pieces() == 0 {
-        return Ok(0);
-    }
-    let run = speculate(alloc, recording, rules, &cutting, 0)?;
-    Ok(run.totals().groups)
-}
-
-/// How many groups the report of four workers counts, of pieces that grow in number as the recording does.
-fn by_crew<T: Threads + Wait>(
-    threads: &T,
-    alloc: Global,
-    recording: &Recording,
-    rules: &Rules,
-) -> Result<u64> {
-    let cutting = Cutting::even(alloc, recording.len(), recording.len() / 50_000 + 1)?;
-    let work = RecordingWork::new(recording, rules, &cutting);
-    let report = decode_crew(threads, alloc, &work, 4, &OpenGate)?;
-    Ok(report.totals.groups)
+/// Keeps the codes of a run over the recording: 1 where it ends in a lawful state.
+fn codes(alloc: Global, recording: &Recording, rules: &Rules) -> Result<u64, SyncError> {
+    let len = recording.len();
+    let (end, _codes) = run_codes(alloc, recording, rules, State::Searching, 0, len)?;
+    Ok(u64::from(end.is_lawful(rules, len)))
 }
 
 /// How many groups a stream of these bytes counts, in chunks that are each taken at once.

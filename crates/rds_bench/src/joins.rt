@@ -4,10 +4,10 @@ ghost use Rattle.rds_stream.specs.Recording.{length_of};
 ghost use Rattle.rds_pieces.specs.Cutting.{IsCutting};
 ghost use Rattle.rds_pieces.specs.RunOf.{FollowEachOther};
 
-use crate::sample::Sample;
+use crate::forms;
 use crate::timing::{Form, Timing};
 use anyhow::{Context, Result, bail};
-use rds_crew::{Gate, decode_crew};
+use rds_crew::Gate;
 use rds_pieces::{Cutting, PieceError, PieceRun, RecordingWork, Work, laws};
 use rds_stream::Recording;
 use rds_sync::Rules;
@@ -19,7 +19,7 @@ use std::time::Instant;
 const PIECES: u64 = 16;
 
 /// How many blocks back a guess may look for its partner: with four it locks on a false phase of zero groups.
-const REACH: u32 = 4;
+pub const REACH: u32 = 4;
 
 /// The bits of a group.
 const GROUP: u64 = 104;
@@ -52,17 +52,6 @@ fn trees() -> [Tree; 2] {
 }
 
 pub fn measure<T: Sync + Threads + Wait>(
-    rt: &HostRuntime,
-    threads: &T,
-    bits: u64,
-    sample: Sample,
-) -> Result<()> {
-    let recording = sample.recording(rt.alloc(), bits)?;
-    let rules = Rules::new(rt.alloc(), 2, REACH, 10)?;
-    time_pieces(rt, threads, &recording, &rules)
-}
-
-fn time_pieces<T: Sync + Threads + Wait>(
     rt: &HostRuntime,
     threads: &T,
     recording: &Recording,
@@ -171,8 +160,8 @@ fn time_tree<T: Sync + Threads + Wait, W: Work + Sync>(
         begun: Mutex::new(None),
     };
     let start = Instant::now(rt)?;
-    let report = decode_crew(threads, rt.alloc(), work, tree.workers, &gate)?;
+    let valid = forms::crew_of(threads, rt.alloc(), work, tree.workers, &gate)?;
     let begun = gate.begun.into_inner().context("no join was begun")?;
-    timing.show_since(rt, tree.joins, begun, report.totals.valid)?;
-    timing.show_since(rt, tree.all, start, report.totals.valid)
+    timing.show_since(rt, tree.joins, begun, valid)?;
+    timing.show_since(rt, tree.all, start, valid)
 }

@@ -6,6 +6,7 @@
 #![tactic(auto)]
 
 mod deals;
+mod forms;
 mod gaps;
 mod growth;
 mod guesses;
@@ -19,6 +20,8 @@ mod transcripts;
 mod windows;
 
 use anyhow::{Context, Result};
+use rds_stream::Recording;
+use rds_sync::Rules;
 use sample::Sample;
 use std::env;
 use std::sync::Wait;
@@ -94,15 +97,43 @@ fn measure<T: Threads + Wait + Sync>(
     match asked.measurement {
         "scan" => windows::measure(rt, bits),
         "remainder" => remainders::measure(rt, bits),
-        "run" => runs::measure(rt, threads, bits, sample),
-        "guess" => guesses::measure(rt, bits, sample),
         "gaps" => gaps::measure(rt, bits, sample),
-        "deal" => deals::measure(rt, threads, bits, sample),
-        "joins" => joins::measure(rt, threads, bits, sample),
         "totals" => transcripts::measure(rt, threads, bits, sample, false),
         "list" => transcripts::measure(rt, threads, bits, sample, true),
         "growth" => growth::measure(rt, threads, bits, sample),
+        "run" | "guess" | "deal" | "joins" => measure_decoding(rt, threads, asked),
         _ => show_usage(rt),
+    }
+}
+
+/// A measurement of what is decoded of one recording.
+fn measure_decoding<T: Threads + Wait + Sync>(
+    rt: &HostRuntime,
+    threads: &T,
+    asked: Asked<'_>,
+) -> Result<()> {
+    let recording = asked.sample.recording(rt.alloc(), asked.bits)?;
+    measure_over(rt, threads, asked, &recording)
+}
+
+/// That of this recording, by the rules of the measurement.
+fn measure_over<T: Threads + Wait + Sync>(
+    rt: &HostRuntime,
+    threads: &T,
+    asked: Asked<'_>,
+    recording: &Recording,
+) -> Result<()> {
+    let (reach, loss) = match asked.measurement {
+        "joins" => (joins::REACH, 10),
+        "deal" => (3, 10),
+        _ => (3, asked.sample.loss()),
+    };
+    let rules = Rules::new(rt.alloc(), 2, reach, loss)?;
+    match asked.measurement {
+        "joins" => joins::measure(rt, threads, recording, &rules),
+        "deal" => deals::measure(rt, threads, recording, &rules),
+        "guess" => guesses::measure(rt, recording, &rules, asked.sample),
+        _ => runs::measure(rt, threads, recording, &rules),
     }
 }
 

@@ -1,9 +1,10 @@
 //! The valid windows of a recording: by words of 64 places, place by place, and by long division of each window.
+use crate::forms;
 use crate::sample::Sample;
 use crate::timing::{Form, Timing};
 use anyhow::Result;
 use rds_code::{offset_of, plain};
-use rds_stream::{Recording, ValidWindows, scan};
+use rds_stream::Recording;
 
 pub fn measure(rt: &HostRuntime, bits: u64) -> Result<()> {
     let recording = Sample::Noise.recording(rt.alloc(), bits)?;
@@ -13,11 +14,11 @@ pub fn measure(rt: &HostRuntime, bits: u64) -> Result<()> {
 fn time_all(rt: &HostRuntime, recording: &Recording) -> Result<()> {
     let mut timing = Timing::new(rt, recording.len())?;
 
-    let found = scan(rt.alloc(), recording, 0, recording.len())?.len();
-    timing.show(rt, Form::free("the scan"), found as u64)?;
+    let found = forms::listed_windows(rt.alloc(), recording)?;
+    timing.show(rt, Form::free("the scan"), found)?;
 
-    let found = ValidWindows::new(recording, 0, recording.len()).count();
-    timing.show(rt, Form::free("one after the other"), found as u64)?;
+    let found = forms::windows(recording);
+    timing.show(rt, Form::free("one after the other"), found)?;
 
     let found = by_tables(recording);
     timing.show(rt, Form::free("place by place"), found)?;

@@ -56,7 +56,7 @@
 //! That memory and threads are there, that the calls of the work and of the gate return, and which
 //! thread draws what and ends first. That the workers run at the same time, at pieces and at joins,
 //! that neighbours are joined level by level, and that the report is made of their runs and of no
-//! others, no contract can say: the tests in `rds_decoder_tests` show it, by a [`Gate`] that holds
+//! others, no contract can say: the tests in `rds_tests` show it, by a [`Gate`] that holds
 //! one worker up until the other has begun, and one that notes what is made of which runs.
 #![tactic(auto)]
 

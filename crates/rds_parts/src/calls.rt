@@ -4,7 +4,7 @@ ghost use Rattle.rds_stream.specs.Recording.{length_of};
 ghost use Rattle.rds_pieces.specs.Cutting.{IsCutting, pieces_of};
 ghost use Rattle.rds_pieces.specs.Joining.{AreNeighbours};
 ghost use Rattle.rds_pieces.specs.JointOf.{joint_of as the_joint_of};
-ghost use Rattle.rds_pieces.specs.RunOf.{FollowEachOther};
+ghost use Rattle.rds_pieces.specs.RunOf.{FollowEachOther, run_at};
 
 use rds_pieces::{
     Cutting, Joint, PieceError, PieceRun, join_runs, joint_of, laws, speculate, stitch,
@@ -45,9 +45,38 @@ pub fn joined(
     requires fits { IsCutting (length_of recording.now) cutting.now }
     requires two { pieces_of cutting.now ≡ 2 }
 {
+    let (left, right) = two_guesses(alloc, recording, rules, cutting)?;
+    let made = join_again(alloc, recording, rules, &left, &right);
+    put_together(left, made, right)
+}
+
+/// The guesses of the two pieces.
+fn two_guesses(
+    alloc: Global,
+    recording: &Recording,
+    rules: &Rules,
+    cutting: &Cutting,
+) -> Result<(PieceRun, PieceRun), PieceError>
+    requires fits { IsCutting (length_of recording.now) cutting.now }
+    requires two { pieces_of cutting.now ≡ 2 }
+    ensures left { IfOk result (λ runs. runs.0 ≡ run_at recording.now rules.now cutting.now 0) }
+    ensures right { IfOk result (λ runs. runs.1 ≡ run_at recording.now rules.now cutting.now 1) }
+{
     let left = speculate(alloc, recording, rules, cutting, 0)?;
     let right = speculate(alloc, recording, rules, cutting, 1)?;
-    let (joint, reads) = join_again(alloc, recording, rules, &left, &right)?;
+    Ok((left, right))
+}
+
+/// What two guesses are together, where what joins them was made.
+fn put_together(
+    left: PieceRun,
+    made: Result<(Joint, u64), PieceError>,
+    right: PieceRun,
+) -> Result<Found, PieceError>
+    requires neighbours { AreNeighbours left.source left.rules left right }
+    requires joint { IfOk made (λ made. made.0 ≡ the_joint_of left right) }
+{
+    let (joint, reads) = made?;
     let totals = PieceRun::joined(left, joint, right)?.totals();
     Ok(Found::of_totals(&totals, reads))
 }
@@ -110,8 +139,7 @@ fn join_at_once(
     requires fits { IsCutting (length_of recording.now) cutting.now }
     requires two { pieces_of cutting.now ≡ 2 }
 {
-    let left = speculate(alloc, recording, rules, cutting, 0)?;
-    let right = speculate(alloc, recording, rules, cutting, 1)?;
+    let (left, right) = two_guesses(alloc, recording, rules, cutting)?;
     let mut tape = Counted::new(recording);
     let totals = join_runs(alloc, &mut tape, rules, left, right)?.totals();
     Ok(Found::of_totals(&totals, tape.reads()))
@@ -134,14 +162,26 @@ pub fn stitched(
     requires fits { IsCutting (length_of recording.now) cutting.now }
     requires two { pieces_of cutting.now ≡ 2 }
 {
-    laws::pieces_follow();
-    let mut runs = Vec::new(alloc);
-    runs.push(speculate(alloc, recording, rules, cutting, 0)?)?;
-    runs.push(speculate(alloc, recording, rules, cutting, 1)?)?;
+    let runs = guesses_in_order(alloc, recording, rules, cutting)?;
     match stitch_once(alloc, recording, rules, runs.as_slice()) {
         Ok(found) => Ok(found),
         Err(_) => stitch_once(alloc, recording, rules, runs.as_slice()),
     }
+}
+
+fn guesses_in_order(
+    alloc: Global,
+    recording: &Recording,
+    rules: &Rules,
+    cutting: &Cutting,
+) -> Result<Vec<PieceRun>, PieceError>
+    requires fits { IsCutting (length_of recording.now) cutting.now }
+    requires two { pieces_of cutting.now ≡ 2 }
+    ensures { IfOk result (λ runs. FollowEachOther recording.now rules.now 0 (length_of recording.now) runs.items) }
+{
+    laws::pieces_follow();
+    let (left, right) = two_guesses(alloc, recording, rules, cutting)?;
+    Ok(vec![in alloc; left, right]?)
 }
 
 fn stitch_once(

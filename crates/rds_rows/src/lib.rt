@@ -46,7 +46,7 @@
 //! # What it leaves to others
 //!
 //! That the threads run at the same time and that no call waits for ever, no contract can say: the
-//! tests in `rds_rows_tests` show it, by many runs with writers that fail.
+//! tests in `rds_tests` show it, by many runs with writers that fail.
 #![tactic(auto)]
 
 // In the order of reading: what is written and where, how it is written, and what its threads meet at.

@@ -28,7 +28,7 @@
 //! | | [`tool`] | what is written of the bytes that a reader holds, and each refusal by its cause |
 //! | each | [`refusals`] | numbers and names, which all crates share |
 //!
-//! `rds_rows` has its callers in `rds_rows_tests`.
+//! `rds_rows` has its callers in `rds_tests`.
 #![tactic(auto)]
 
 pub mod code;

@@ -1,5 +1,5 @@
 //! What a user gets of the decoder of a stream, and of following one from a reader to a writer.
-ghost use Rattle.std.specs.Prelude.{◌≡◌, ◌++◌, [], List, ℕ, IfOk, IsOkUnless};
+ghost use Rattle.std.specs.Prelude.{◌≡◌, ◌++◌, [], List, ℕ, IfOk, IsOkUnless, OnOk};
 ghost use Rattle.rds_sync.specs.Advance.{group_item};
 ghost use Rattle.rds_sync.specs.Totals.{totals_of};
 ghost use Rattle.rds_live.specs.Live.{HasHeard, by_rules, complete, live_of, report_of, signal_of};
@@ -53,11 +53,29 @@ pub fn in_two_sittings<'r>(
 {
     let mut live = Live::with_gaps(alloc, rules, gaps)?;
     let one = live.take_all(alloc, first)?;
-    let Ok(mut again) = anew(alloc, &live, rules, gaps) else {
+    let (other, end) = second_sitting(alloc, &live, rules, gaps, second)?;
+    Ok((one, other, end))
+}
+
+/// What the rest of a stream gives, and its end, by a decoder made anew of what this one tells.
+fn second_sitting(
+    alloc: Global,
+    live: &Live<'_>,
+    rules: &Rules,
+    gaps: &[(u64, u64)],
+    rest: &[u8],
+) -> Result<(Vec<Item>, StreamEnd), StreamError>
+    requires { live.now.terms ≡ record { rules = rules.now; gaps = gaps.now } }
+    ensures items { IfOk result (λ r. (before : List ℕ) → HasHeard live.now before
+        → complete live.now.terms before ++ r.0.items ++ group_item r.1.group ≡ report_of live.now.terms (before ++ rest.now)) }
+    ensures totals { IfOk result (λ r. (before : List ℕ) → HasHeard live.now before
+        → r.1.totals ≡ totals_of (report_of live.now.terms (before ++ rest.now))) }
+{
+    let Ok(mut again) = anew(alloc, live, rules, gaps) else {
         return Err(StreamError::OutOfMemory);
     };
-    let other = again.take_all(alloc, second)?;
-    Ok((one, other, again.finish()))
+    let items = again.take_all(alloc, rest)?;
+    Ok((items, again.finish()))
 }
 
 /// Bytes one by one are the whole: the decoder is what it is after all of them at once.
@@ -69,11 +87,20 @@ pub fn one_by_one<'r>(
     ensures { IfOk result (λ live. live ≡ live_of (by_rules rules.now) bytes.now) }
 {
     let mut live = Live::new(alloc, rules)?;
+    take_one_by_one(alloc, &mut live, bytes)?;
+    Ok(live)
+}
+
+/// Takes the bytes of a stream one by one.
+fn take_one_by_one(alloc: Global, live: &mut Live<'_>, bytes: &[u8]) -> Result<(), StreamError>
+    requires { HasHeard live.old [] }
+    ensures { OnOk result (live.new ≡ live_of live.old.terms bytes.now) }
+{
     let mut items = Vec::with_capacity(alloc, ITEMS_A_BYTE)?;
     for byte in bytes {
         live.take(&[*byte], &mut items)?;
     }
-    Ok(live)
+    Ok(())
 }
 
 /// Takes the next chunk of a stream, and puts the items that it completes behind those before.
@@ -116,15 +143,32 @@ pub fn cut_at(
 {
     let mut live = Live::new(alloc, rules)?;
     let mut items = Vec::new(alloc);
+    put_in_cuts(alloc, &mut live, &mut items, bytes, cuts)?;
+    close(live, &mut items)?;
+    Ok(items)
+}
+
+/// Takes a stream that is cut at these places, and puts its items into a list that has none.
+fn put_in_cuts(
+    alloc: Global,
+    live: &mut Live<'_>,
+    items: &mut Vec<Item>,
+    bytes: &[u8],
+    cuts: &[usize],
+) -> Result<(), StreamError>
+    requires new { HasHeard live.old [] }
+    requires none { items.old.items ≡ [] }
+    ensures heard { OnOk result (live.new ≡ live_of live.old.terms bytes.now) }
+    ensures items { OnOk result (items.new.items ≡ complete live.old.terms bytes.now) }
+{
     let mut at = 0;
     for &cut in cuts {
         let next = cut.max(at).min(bytes.len());
-        put_next(alloc, &mut live, &mut items, &bytes[at..next])?;
+        put_next(alloc, live, items, &bytes[at..next])?;
         at = next;
     }
-    put_next(alloc, &mut live, &mut items, &bytes[at..])?;
-    close(live, &mut items)?;
-    Ok(items)
+    put_next(alloc, live, items, &bytes[at..])?;
+    Ok(())
 }
 
 /// Any two cuttings of a stream give the same items.

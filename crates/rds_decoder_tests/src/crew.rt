@@ -1,6 +1,0 @@
-//! Tests of `rds_crew`.
-mod dealing;
-mod gates;
-mod journal;
-mod refusals;
-mod tree;

@@ -1,0 +1,95 @@
+//! Dealers and their seats: what each call answers, to one thread and to many.
+ghost use Rattle.rds_crew.specs.Seats.{IsFresh, IsOf, HasRested};
+
+use rds_crew::{CrewError, Dealer, Seat};
+use std::alloc::Global;
+use std::test::Fail;
+use std::thread;
+use std::thread::Threads;
+
+/// Draws and finishes until none is left.
+fn draw_up(dealer: &Dealer, seat: Seat) -> Seat
+    requires { IsFresh dealer.now seat }
+    ensures own { IsOf dealer.now result }
+    ensures rested { HasRested result }
+{
+    let mut seat = seat;
+    loop {
+        let (number, holder) = dealer.draw(seat);
+        let Some(j) = number else {
+            return holder;
+        };
+        seat = dealer.finish(holder, j);
+    }
+}
+
+/// Whether as many threads as seats draw up all pieces, each of which is then drawn and finished.
+fn are_dealt<R: Threads + Sync>(
+    rt: &R,
+    alloc: Global,
+    pieces: u32,
+    seats: u32,
+) -> Result<bool, CrewError> {
+    let (dealer, seats) = Dealer::new(alloc, u64::from(pieces), seats)?;
+    let lent = &dealer;
+    let rested = thread::map_vec(
+        rt,
+        seats,
+        &|seat| -> Seat
+            requires { IsFresh lent.now seat }
+            ensures own { IsOf lent.entry.now result }
+            ensures rested { HasRested result }
+        { draw_up(lent, seat) },
+    )?;
+    let closed = dealer.close(rested);
+    let all = u64::from(pieces);
+    Ok(closed.drawn == all && closed.finished == all)
+}
+
+/// Pieces and seats: many threads, as many as there may be, and one draw or two by each seat.
+static DEALT: [(u32, u32); 4] = [(1000, 8), (1000, 256), (2, 1), (2, 2)];
+
+#[test]
+fn many_threads_draw_all_pieces(rt: HostRuntime) -> Result<(), Fail> {
+    for &(pieces, seats) in &DEALT {
+        assert!(rt; are_dealt(&rt, rt.alloc(), pieces, seats)?, "{seats} seats");
+    }
+    Ok(())
+}
+
+/// Whether the seat of a dealer of one piece tells what it holds, has finished and was told.
+fn tells_its_steps(dealer: &Dealer, seat: Seat) -> bool
+    requires { IsFresh dealer.now seat }
+{
+    let (Some(j), seat) = dealer.draw(seat) else {
+        return false;
+    };
+    let holds_it = holds(&seat, j);
+    let (done, seat) = dealer.progress(dealer.finish(seat, j));
+    holds_it && has_done_one(&seat, done)
+}
+
+/// Whether a seat holds that piece as its first.
+fn holds(seat: &Seat, j: u64) -> bool {
+    seat.holding() == Some(j) && seat.finished() == 0 && !seat.ended()
+}
+
+/// Whether a seat has finished one piece, and was told that so many are: one.
+fn has_done_one(seat: &Seat, done: u64) -> bool {
+    done == 1 && seat.told() == 1 && seat.finished() == 1
+}
+
+#[test]
+fn a_seat_tells_what_it_holds_and_has_done(rt: HostRuntime) -> Result<(), Fail> {
+    assert!(rt; one_seat_does(rt.alloc())?);
+    Ok(())
+}
+
+/// Whether the one seat of a dealer tells its steps over its one piece.
+fn one_seat_does(alloc: Global) -> Result<bool, CrewError> {
+    let (dealer, mut seats) = Dealer::new(alloc, 1, 1)?;
+    match seats.pop() {
+        Some(seat) => Ok(tells_its_steps(&dealer, seat)),
+        None => Ok(false),
+    }
+}

@@ -1,0 +1,240 @@
+//! What gates and works see of a crew at its work. No contract says it: neither that workers run at the same time,
+//! nor when a gate is called, nor whose runs make the report.
+ghost use Rattle.rds_stream.specs.Recording.{length_of};
+ghost use Rattle.rds_pieces.specs.Cutting.{IsCutting};
+
+use crate::decoder::crew::journal::{Event, Journal, Noted};
+use crate::decoder::samples::Sample;
+use rds_crew::{CrewError, Gate, decode_crew};
+use rds_pieces::{Joint, PieceRun, RecordingWork, Work};
+use rds_sync::Loss;
+use std::alloc::Global;
+use std::sync::Wait;
+use std::sync::atomic::{AtomicU64, Ordering};
+use std::test::Fail;
+use std::thread::Threads;
+
+/// The turns after which a worker no longer waits for others.
+const MOST_TURNS: u64 = 1_000_000_000;
+
+/// What one worker waits for: that others come, so many of them.
+#[derive(Drop)]
+pub struct Meeting {
+    wanted: u64,
+    come: AtomicU64,
+    misses: AtomicU64,
+}
+
+impl Meeting {
+    pub fn of(wanted: u64) -> Meeting {
+        Meeting {
+            wanted,
+            come: AtomicU64::new(0),
+            misses: AtomicU64::new(0),
+        }
+    }
+
+    pub fn come(&self) {
+        self.come.fetch_add(1, Ordering::SeqCst);
+    }
+
+    /// Turns until the others have come, and notes a miss at the limit.
+    pub fn wait(&self) {
+        for _ in 0..MOST_TURNS {
+            if self.come.load(Ordering::SeqCst) == self.wanted {
+                return;
+            }
+        }
+        self.misses.fetch_add(1, Ordering::SeqCst);
+    }
+
+    pub fn was_missed(&self) -> bool {
+        self.misses.load(Ordering::SeqCst) != 0
+    }
+}
+
+/// A journal at which piece 0 waits until piece 1 is begun.
+#[derive(Drop)]
+struct Watch<'a, R> {
+    journal: &'a Journal<'a, R>,
+    second: Meeting,
+}
+
+impl<R: Wait> Gate for Watch<'_, R> {
+    fn begin(&self, j: u64) {
+        self.journal.begin(j);
+        if j == 0 {
+            self.second.wait();
+        } else {
+            self.second.come();
+        }
+    }
+
+    fn done(&self, j: u64, run: &PieceRun) {
+        self.journal.done(j, run);
+    }
+
+    fn join_begin(&self, level: u32, m: u64) {
+        self.journal.join_begin(level, m);
+    }
+
+    fn join_done(&self, level: u32, m: u64, joint: &Joint) {
+        self.journal.join_done(level, m, joint);
+    }
+}
+
+/// The cut between two zero groups.
+const HALVES: &[u64] = &[104];
+
+/// What one worker does with two pieces, in order.
+const EVENTS: [Event; 10] = [
+    Event::Begun(0),
+    Event::Guessed(0),
+    Event::Done(0),
+    Event::Begun(1),
+    Event::Guessed(1),
+    Event::Done(1),
+    Event::JoinBegun(1, 0),
+    Event::Joined(0, 208),
+    Event::JoinDone(1, 0),
+    Event::Reported,
+];
+
+/// Has a crew of so many workers make a work's report.
+fn decode<R: Threads + Wait, W: Work + Sync, G: Gate + Sync>(
+    rt: &R,
+    alloc: Global,
+    work: &W,
+    workers: u32,
+    gate: &G,
+) -> Result<(), CrewError>
+    requires { IsCutting (length_of (W.recording work.now)) (W.places work.now) }
+{
+    let _report = decode_crew(rt, alloc, work, workers, gate)?;
+    Ok(())
+}
+
+/// Has a crew decode a sample, cut so.
+fn decode_cut<R: Threads + Wait, G: Gate + Sync>(
+    rt: &R,
+    alloc: Global,
+    sample: &Sample,
+    cuts: &[u64],
+    workers: u32,
+    gate: &G,
+) -> Result<(), CrewError> {
+    let Ok(cutting) = sample.cut(alloc, cuts) else {
+        return Err(CrewError::OutOfMemory);
+    };
+    let work = RecordingWork::new(&sample.recording, &sample.rules, &cutting);
+    decode(rt, alloc, &work, workers, gate)
+}
+
+/// Has a crew decode so many zero groups, cut so.
+pub fn decode_groups<R: Threads + Wait, G: Gate + Sync>(
+    rt: &R,
+    alloc: Global,
+    groups: u8,
+    cuts: &[u64],
+    workers: u32,
+    gate: &G,
+) -> Result<(), CrewError> {
+    let sample = Sample::of_groups(alloc, groups, Loss::InARow(10))?;
+    decode_cut(rt, alloc, &sample, cuts, workers, gate)
+}
+
+fn note_cut<'a, R: Sync + Threads + Wait, G: Gate + Sync>(
+    alloc: Global,
+    sample: &'a Sample,
+    cuts: &[u64],
+    workers: u32,
+    journal: &'a Journal<'a, R>,
+    gate: &G,
+) -> Result<(), CrewError> {
+    let Ok(cutting) = sample.cut(alloc, cuts) else {
+        return Err(CrewError::OutOfMemory);
+    };
+    let work = Noted {
+        journal,
+        inner: RecordingWork::new(&sample.recording, &sample.rules, &cutting),
+    };
+    decode(journal.rt, alloc, &work, workers, gate)
+}
+
+/// Has a crew decode so many zero groups, cut so, by a work that notes its calls.
+pub fn note_groups<R: Sync + Threads + Wait, G: Gate + Sync>(
+    alloc: Global,
+    groups: u8,
+    cuts: &[u64],
+    workers: u32,
+    journal: &Journal<'_, R>,
+    gate: &G,
+) -> Result<(), CrewError> {
+    let sample = Sample::of_groups(alloc, groups, Loss::InARow(10))?;
+    note_cut(alloc, &sample, cuts, workers, journal, gate)
+}
+
+/// A gate at which piece 0 waits until the other three are done, each over the range that the cuts give it.
+#[derive(Drop)]
+struct HeldBack {
+    others: Meeting,
+}
+
+impl Gate for HeldBack {
+    fn begin(&self, j: u64) {
+        if j == 0 {
+            self.others.wait();
+        }
+    }
+
+    fn done(&self, j: u64, run: &PieceRun) {
+        let range = QUARTERS.get(j as usize).copied();
+        if j > 0 && range == Some((run.from(), run.to())) {
+            self.others.come();
+        }
+    }
+}
+
+/// The pieces of two zero groups that are cut at 52, 104 and 156.
+const QUARTERS: [(u64, u64); 4] = [(0, 52), (52, 104), (104, 156), (156, 208)];
+
+// Fixed shares would miss: there piece 2 waits behind piece 0.
+#[test]
+fn a_worker_makes_all_else_while_another_is_held_back(rt: HostRuntime) -> Result<(), Fail> {
+    let gate = HeldBack {
+        others: Meeting::of(3),
+    };
+    let cuts = [52, 104, 156];
+    decode_groups(&rt, rt.alloc(), 2, &cuts, 2, &gate)?;
+    assert!(rt; !gate.others.was_missed());
+    Ok(())
+}
+
+/// Whether each event happened once, over the range that it has to be, and the workers' runs make the report.
+fn shows_both_workers<R: Wait>(journal: &Journal<'_, R>) -> bool {
+    journal.has_each_once(&EVENTS)
+        && journal.is_over(Event::Done(0), (0, 104))
+        && journal.is_over(Event::Done(1), (104, 208))
+        && journal.has_runs_of(Event::Joined(0, 208), &[Event::Done(0), Event::Done(1)])
+        && journal.is_over(Event::Reported, (0, 208))
+}
+
+// One thread that makes both pieces in turn would miss, since piece 0 waits for piece 1. A crew that drops the runs of
+// its workers would guess or join again, or report of runs that are not joined.
+#[test]
+fn two_workers_run_at_the_same_time_and_their_runs_make_the_report(rt: HostRuntime) {
+    let journal = Journal::new(&rt, rt.alloc());
+    let watch = Watch {
+        journal: &journal,
+        second: Meeting::of(1),
+    };
+    let answer = note_groups(rt.alloc(), 2, HALVES, 2, &journal, &watch);
+    assert!(rt; answer.is_ok() && !watch.second.was_missed() && shows_both_workers(&journal));
+}
+
+#[test]
+fn the_gate_is_called_before_and_after_each_piece(rt: HostRuntime) {
+    let journal = Journal::new(&rt, rt.alloc());
+    let answer = note_groups(rt.alloc(), 2, HALVES, 1, &journal, &journal);
+    assert!(rt; answer.is_ok() && journal.has(0, &EVENTS));
+}

@@ -1,0 +1,84 @@
+//! How much a write of many rows has, by any number of workers.
+ghost use Rattle.std.specs.Prelude.{◌<◌, ◌≤◌};
+
+use crate::rows::stored::{Known, LONGEST};
+use crate::writer::{Failure, SlowWriter};
+use rds_rows::{write_rows, write_rows_in_parts};
+use std::alloc::Global;
+use std::sync::Wait;
+use std::test::Fail;
+use std::thread::Threads;
+
+/// Whether a writer has this text, and was handed so many bytes or more at a time but for the last.
+fn has_all(writer: &SlowWriter, text: &[u8], large: usize) -> bool
+    requires { 0 < large }
+{
+    let most = text.len() / large;
+    writer.held.as_slice() == text && writer.writes <= most as u64 + 1
+}
+
+/// Whether so many workers write the rows so.
+fn are_written<R: Sync + Threads + Wait>(
+    rt: &R,
+    alloc: Global,
+    known: &Known,
+    workers: u32,
+    large: usize,
+) -> bool
+    requires some { 0 < workers }
+    requires few { workers ≤ 256 }
+    requires large { 0 < large }
+{
+    let mut writer = SlowWriter::new(alloc, usize::MAX, Failure::Never);
+    let result = write_rows(rt, alloc, &known.rows, workers, &mut writer);
+    result.is_ok() && has_all(&writer, known.text.as_slice(), large)
+}
+
+// A write has 64 KiB, or the bytes of a part of the longest rows: of 4,096, or of 256 where there are 256 workers.
+#[test]
+fn many_rows_go_in_large_writes(rt: HostRuntime) -> Result<(), Fail> {
+    let known = Known::new(rt.alloc(), 200_000)?;
+    for &(workers, large) in &[
+        (1u32, 4_096 * LONGEST),
+        (4, 4_096 * LONGEST),
+        (16, 4_096 * LONGEST),
+        (256, 256 * LONGEST),
+    ] {
+        assert!(rt;
+            are_written(&rt, rt.alloc(), &known, workers, large),
+            "{workers} workers"
+        );
+    }
+    Ok(())
+}
+
+/// Whether so many workers write the rows in parts of so many, 64 KiB or more at a time but for the last.
+fn are_written_in_parts<R: Sync + Threads + Wait>(
+    rt: &R,
+    alloc: Global,
+    known: &Known,
+    workers: u32,
+    most: usize,
+) -> bool
+    requires some { 0 < workers }
+    requires few { workers ≤ 256 }
+    requires rows { 0 < most }
+{
+    let mut writer = SlowWriter::new(alloc, usize::MAX, Failure::Never);
+    let result = write_rows_in_parts(rt, alloc, &known.rows, workers, most, &mut writer);
+    result.is_ok() && has_all(&writer, known.text.as_slice(), 65_536)
+}
+
+// Parts of all sizes from a row to more than a write, which 64 KiB are.
+#[test]
+fn parts_of_any_size_go_in_large_writes(rt: HostRuntime) -> Result<(), Fail> {
+    let known = Known::new(rt.alloc(), 200_000)?;
+    for most in [10_923, 16_384, 20_000, 21_846, 30_000, 50_000, 200_000] {
+        assert!(rt;
+            are_written_in_parts(&rt, rt.alloc(), &known, 1, most)
+                && are_written_in_parts(&rt, rt.alloc(), &known, 3, most),
+            "parts of {most}"
+        );
+    }
+    Ok(())
+}

@@ -1,0 +1,154 @@
+//! A reader over memory that gives as little as it is told and fails on demand, a writer that withholds, and what a job gives.
+ghost use Rattle.std.specs.Prelude.{◌^◌, ◌<◌, ◌≡◌, Some};
+
+use rds_crew::Gate;
+use rds_tool::{
+    Failed, FromRead, Job, Sink, Source, ToWrite, ToolError, transcribe, transcribe_gated,
+};
+use std::alloc::{AllocError, Global};
+use std::io;
+use std::io::Write;
+use std::sync::Wait;
+use std::thread::Threads;
+
+/// Gives at most `step` bytes a read, and fails at read number `fails_at`, from 1; at 0 it never fails.
+#[derive(Drop)]
+pub struct SlowReader<'a> {
+    pub left: &'a [u8],
+    pub step: usize,
+    pub reads: u64,
+    pub fails_at: u64,
+    pub failures: u64,
+    /// The least length of a buffer that it was handed.
+    pub least_buffer: usize,
+}
+
+impl<'a> SlowReader<'a> {
+    pub fn new(bytes: &'a [u8], step: usize, fails_at: u64) -> SlowReader<'a>
+        ensures { result.failures ≡ 0 }
+    {
+        SlowReader {
+            left: bytes,
+            step,
+            reads: 0,
+            fails_at,
+            failures: 0,
+            least_buffer: usize::MAX,
+        }
+    }
+}
+
+impl Source for SlowReader<'_> {
+    ghost remaining = { λ reader. Some reader.left.now };
+
+    ghost failed = { λ reader. reader.failures };
+
+    fn read(&mut self, buf: &mut [u8]) -> Result<usize, Failed> {
+        self.reads = self.reads.wrapping_add(1);
+        self.least_buffer = self.least_buffer.min(buf.len());
+        if self.reads == self.fails_at {
+            self.failures += 1;
+            return Err(Failed);
+        }
+        let count = self.left.len().min(self.step.max(1)).min(buf.len());
+        let (front, rest) = self.left.split_at(count);
+        buf[..count].copy_from_slice(front);
+        self.left = rest;
+        Ok(count)
+    }
+
+    fn failures(&self) -> u64 {
+        self.failures
+    }
+}
+
+/// A writer of std that hands on what was written only where it is flushed.
+#[derive(Drop)]
+pub struct Withholding {
+    pub held: Vec<u8>,
+    /// How many of the bytes held were handed on.
+    pub handed_on: usize,
+    pub flush_fails: bool,
+}
+
+impl Withholding {
+    pub fn new(alloc: Global, flush_fails: bool) -> Withholding {
+        Withholding {
+            held: Vec::new(alloc),
+            handed_on: 0,
+            flush_fails,
+        }
+    }
+}
+
+impl Write for Withholding {
+    fn write(&mut self, bytes: &[u8]) -> io::Result<usize> {
+        self.held.extend_from_slice(bytes)?;
+        Ok(bytes.len())
+    }
+
+    fn flush(&mut self) -> io::Result<()> {
+        if self.flush_fails {
+            return Err(io::Error::from(AllocError));
+        }
+        self.handed_on = self.held.len();
+        Ok(())
+    }
+}
+
+/// Whether a job over this reader, at this gate, writes this text, or is refused so with nothing written.
+pub fn gives<R: Threads + Wait + Sync, S: Source, G: Gate + Sync>(
+    rt: &R,
+    alloc: Global,
+    job: &Job,
+    reader: &mut S,
+    gate: &G,
+    wanted: Result<&[u8], ToolError>,
+) -> bool
+    requires { S.failed reader.old < 2 ^ 63 }
+{
+    let mut writer = ToWrite::new(Vec::new(alloc));
+    let answer = transcribe_gated(rt, alloc, reader, &mut writer, job, gate);
+    let failures = writer.failures();
+    is_answer(answer, writer.into_inner().as_slice(), wanted) && failures == 0
+}
+
+/// Whether a job over an input in memory, at this gate, writes this text.
+pub fn gives_for<R: Threads + Wait + Sync, G: Gate + Sync>(
+    rt: &R,
+    alloc: Global,
+    job: &Job,
+    input: &[u8],
+    gate: &G,
+    wanted: &[u8],
+) -> bool {
+    let mut reader = FromRead::new(input);
+    gives(rt, alloc, job, &mut reader, gate, Ok(wanted))
+}
+
+/// What a job over an input in memory answers to this writer of std, how often that failed, and the writer.
+pub fn written_to<R: Threads + Wait + Sync, W: Write>(
+    rt: &R,
+    alloc: Global,
+    job: &Job,
+    input: &[u8],
+    under: W,
+) -> (Result<(), ToolError>, u64, W) {
+    let mut reader = FromRead::new(input);
+    let mut writer = ToWrite::new(under);
+    let answer = transcribe(rt, alloc, &mut reader, &mut writer, job);
+    let failures = writer.failures();
+    (answer, failures, writer.into_inner())
+}
+
+/// Whether this answer with this text is what was wanted.
+pub fn is_answer(
+    answer: Result<(), ToolError>,
+    text: &[u8],
+    wanted: Result<&[u8], ToolError>,
+) -> bool {
+    match wanted {
+        Ok(rows) => answer.is_ok() && text == rows,
+        Err(error) => answer == Err(error) && text.is_empty(),
+    }
+}

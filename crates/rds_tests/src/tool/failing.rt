@@ -1,0 +1,83 @@
+//! Devices that withhold what they are given, or have no end.
+ghost use Rattle.std.specs.Prelude.{◌≤◌, length};
+
+use crate::tool::devices::{SlowReader, Withholding, gives, written_to};
+use crate::tool::jobs::{scan_of_digits, scan_of_no_bits};
+use rds_crew::OpenGate;
+use rds_tool::ToolError;
+use std::alloc::Global;
+use std::sync::Wait;
+use std::test::Fail;
+use std::thread::Threads;
+
+const ZERO_GROUP: &[u8] = b"00003f000019800005a00001b4";
+
+const ROWS: &[u8] = b"25,A\n51,B\n77,C\n96,B\n103,D\n";
+
+// No contract of std says what a flush does, so none of ours can: a writer that waits for it tells.
+#[test]
+fn a_flush_reaches_the_writer_of_std(rt: HostRuntime) {
+    assert!(rt; hands_on(&rt, rt.alloc(), false, Ok(()), 26));
+    assert!(rt; hands_on(&rt, rt.alloc(), true, Err(ToolError::Write), 0));
+}
+
+/// Whether a scan to a writer of std that waits for its flush is answered so, and so many bytes are handed on.
+fn hands_on<R: Threads + Wait + Sync>(
+    rt: &R,
+    alloc: Global,
+    flush_fails: bool,
+    wanted: Result<(), ToolError>,
+    handed_on: usize,
+) -> bool {
+    let withholding = Withholding::new(alloc, flush_fails);
+    let (answer, failures, under) = written_to(
+        rt,
+        alloc,
+        &scan_of_digits(alloc),
+        ZERO_GROUP,
+        withholding,
+    );
+    answer == wanted
+        && failures == flush_fails as u64
+        && under.held.as_slice() == ROWS
+        && under.handed_on == handed_on
+}
+
+// A byte a read has to end within 16,777,216 reads; a read that gives all that it may takes 64 KiB.
+#[test]
+fn a_reader_without_an_end_is_left(rt: HostRuntime) -> Result<(), Fail> {
+    let zeros = vec![in rt.alloc(); 0u8; 16_777_216]?;
+    assert!(rt; is_left_in_time(&rt, rt.alloc(), zeros.as_slice()));
+    Ok(())
+}
+
+/// Whether that holds of a reader of these 16,777,216 bytes.
+fn is_left_in_time<R: Threads + Wait + Sync>(rt: &R, alloc: Global, bytes: &[u8]) -> bool
+    requires { 1 ≤ length bytes.now }
+{
+    is_read(rt, alloc, &bytes[1..], 1, Ok(b""), 16_777_216)
+        && is_read(
+            rt,
+            alloc,
+            bytes,
+            1,
+            Err(ToolError::TooManyTurns),
+            16_777_216,
+        )
+        && is_read(rt, alloc, bytes, usize::MAX, Ok(b""), 257)
+}
+
+/// Whether a reader that gives so many of these bytes a read is answered so, after so many reads of 64 KiB.
+fn is_read<R: Threads + Wait + Sync>(
+    rt: &R,
+    alloc: Global,
+    bytes: &[u8],
+    step: usize,
+    wanted: Result<&[u8], ToolError>,
+    reads: u64,
+) -> bool {
+    let mut reader = SlowReader::new(bytes, step, 0);
+    let job = scan_of_no_bits(alloc);
+    let is_given = gives(rt, alloc, &job, &mut reader, &OpenGate, wanted);
+    is_given && reader.reads == reads && reader.least_buffer == 65_536
+}

@@ -1,0 +1,52 @@
+//! A stream that is followed, whose rows come as soon as they are complete.
+use crate::tool::devices::SlowReader;
+use crate::writer::{Failure, SlowWriter};
+use rds_sync::Rules;
+use rds_tool::{ToolError, follow};
+use std::alloc::Global;
+use std::test::Fail;
+
+const NO_GAPS: &[(u64, u64)] = &[];
+
+/// The group of four zero words, twice.
+const GROUPS: [u8; 26] = [
+    0x00, 0x00, 0x3F, 0x00, 0x00, 0x19, 0x80, 0x00, 0x05, 0xA0, 0x00, 0x01, 0xB4, 0x00, 0x00, 0x3F,
+    0x00, 0x00, 0x19, 0x80, 0x00, 0x05, 0xA0, 0x00, 0x01, 0xB4,
+];
+
+/// The rows that so many of its first bytes complete.
+fn rows_of(bytes: u8) -> &'static str {
+    match bytes {
+        0..=6 => "",
+        7..=12 => "acquired,51,2,-,-,-,-,-\n",
+        13..=25 => {
+            "acquired,51,2,-,-,-,-,-\n\
+             group,26,0,A,none,B:0000,C:0000,D:0000\n"
+        }
+        _ => {
+            "acquired,51,2,-,-,-,-,-\n\
+             group,26,0,A,none,B:0000,C:0000,D:0000\n\
+             group,104,0,A,A:0000,B:0000,C:0000,D:0000\n"
+        }
+    }
+}
+
+/// Whether these rows stand where the read fails that comes after so many bytes, one a read.
+fn stand_after(alloc: Global, rules: &Rules, bytes: u8) -> bool {
+    let mut reader = SlowReader::new(&GROUPS, 1, u64::from(bytes) + 1);
+    let mut writer = SlowWriter::new(alloc, usize::MAX, Failure::Never);
+    let answer = follow(alloc, &mut reader, &mut writer, rules, None, NO_GAPS);
+    answer == Err(ToolError::Read) && writer.held.as_slice() == rows_of(bytes).as_bytes()
+}
+
+#[test]
+fn rows_come_with_the_read_that_completes_them(rt: HostRuntime) -> Result<(), Fail> {
+    let rules = Rules::new(rt.alloc(), 2, 3, 10)?;
+    for bytes in 0..27u8 {
+        assert!(rt;
+            stand_after(rt.alloc(), &rules, bytes),
+            "after {bytes} bytes"
+        );
+    }
+    Ok(())
+}
