@@ -1,4 +1,5 @@
 //! Dealers and their seats: what each call answers, to one thread and to many.
+ghost use Rattle.std.specs.Prelude.{◌≡◌, None};
 ghost use Rattle.rds_crew.specs.Seats.{IsFresh, IsOf, HasRested};
 
 use rds_crew::{CrewError, Dealer, Seat};
@@ -46,14 +47,21 @@ fn are_dealt<R: Threads + Sync>(
     Ok(closed.drawn == all && closed.finished == all)
 }
 
-/// Pieces and seats: many threads, as many as there may be, and one draw or two by each seat.
-static DEALT: [(u32, u32); 4] = [(1000, 8), (1000, 256), (2, 1), (2, 2)];
+/// Many seats, and as many as there may be.
+static SEATS: [u32; 2] = [8, 256];
 
 #[test]
-fn many_threads_draw_all_pieces(rt: HostRuntime) -> Result<(), Fail> {
-    for &(pieces, seats) in &DEALT {
-        assert!(rt; are_dealt(&rt, rt.alloc(), pieces, seats)?, "{seats} seats");
+fn many_threads_draw_a_thousand_pieces(rt: HostRuntime) -> Result<(), Fail> {
+    for &seats in &SEATS {
+        assert!(rt; are_dealt(&rt, rt.alloc(), 1000, seats)?, "{seats} seats");
     }
+    Ok(())
+}
+
+// By one seat or two.
+#[test]
+fn two_draws_that_were_finished_are_closed_as_two_of_each(rt: HostRuntime) -> Result<(), Fail> {
+    assert!(rt; are_dealt(&rt, rt.alloc(), 2, 1)? && are_dealt(&rt, rt.alloc(), 2, 2)?);
     Ok(())
 }
 
@@ -79,16 +87,35 @@ fn has_done_one(seat: &Seat, done: u64) -> bool {
     done == 1 && seat.told() == 1 && seat.finished() == 1
 }
 
+/// Whether a seat that holds none gets none, and once more none.
+fn ends(dealer: &Dealer, seat: Seat) -> bool
+    requires own { IsOf dealer.now seat }
+    requires empty { seat.view.held ≡ None }
+{
+    let (None, seat) = dealer.draw(seat) else {
+        return false;
+    };
+    let (again, seat) = dealer.draw(seat);
+    again.is_none() && seat.ended() && seat.holding().is_none()
+}
+
 #[test]
 fn a_seat_tells_what_it_holds_and_has_done(rt: HostRuntime) -> Result<(), Fail> {
-    assert!(rt; one_seat_does(rt.alloc())?);
+    assert!(rt; one_seat_does(rt.alloc(), 1)?);
     Ok(())
 }
 
-/// Whether the one seat of a dealer tells its steps over its one piece.
-fn one_seat_does(alloc: Global) -> Result<bool, CrewError> {
-    let (dealer, mut seats) = Dealer::new(alloc, 1, 1)?;
+#[test]
+fn a_dealer_of_no_pieces_is_drawn_from_twice(rt: HostRuntime) -> Result<(), Fail> {
+    assert!(rt; one_seat_does(rt.alloc(), 0)?);
+    Ok(())
+}
+
+/// Whether the one seat of a dealer tells its steps over its one piece, or ends where it has none.
+fn one_seat_does(alloc: Global, pieces: u32) -> Result<bool, CrewError> {
+    let (dealer, mut seats) = Dealer::new(alloc, u64::from(pieces), 1)?;
     match seats.pop() {
+        Some(seat) if pieces == 0 => Ok(ends(&dealer, seat)),
         Some(seat) => Ok(tells_its_steps(&dealer, seat)),
         None => Ok(false),
     }
