@@ -1,13 +1,14 @@
 -- Gaps that texts spell: each place, and one gap after the other.
-use Rattle.std.proofs.Common.{◌++◌, ◌<◌, ◌≤◌, ◌^◌, ◌&&◌, ◌∷◌, ◌≡◌, List, None, Result, Ok, Err, true, false, arith, Option, Some, [], ap, length, refl, ℕ}
+use Rattle.std.proofs.Common.{◌+◌, ◌++◌, ◌<◌, ◌≤◌, ◌^◌, ◌&&◌, ◌∙◌, ◌∷◌, ◌≡◌, Bor, List, None, Result, Ok, Err, true, false, arith, Option, Some, [], ap, append_assoc, drop, get_or, length, map, refl, sym, ℕ}
 use Rattle.std.specs.Char.{is_ascii_digit}
 use Rattle.std.specs.List.{list_all}
 use Rattle.std.specs.Result.{OkIff, result_ok}
 use Rattle.std.specs.Str.{all_ascii_digits}
 use Rattle.std.specs.Str.Parse.{ParsesUnsigned, digits_value}
 use Rattle.std.proofs.lemmas.Bool.Decides.{nat_tests}
+use Rattle.std.proofs.lemmas.List.{append-nil, drop_all, drop_more}
 use Rattle.std.proofs.lemmas.Str.Parse.{IsNumeralModel, digits_value_short, numerals_by_value, parse_digits, tells_all_ascii_digits}
-use Rattle.rds_tool.specs.GapText.{is_place, place_of}
+use Rattle.rds_tool.specs.GapText.{and_gaps, each_gap, gap_of, is_place, place_of}
 
 -- ---- places
 
@@ -42,3 +43,31 @@ module _ {E : Type 0} (text : List ℕ) (few : length text ≤ 12) (digits : all
 abbrev pub with_rest : List (ℕ × ℕ) → Option (List (ℕ × ℕ)) → Option (List (ℕ × ℕ))
 with_rest gaps None = None
 with_rest gaps (Some others) = Some (gaps ++ others)
+
+one_more : (gaps : List (ℕ × ℕ)) (gap : ℕ × ℕ) (rest : Option (List (ℕ × ℕ))) → with_rest gaps (and_gaps (Some gap) rest) ≡ with_rest (gaps ++ gap ∷ []) rest
+one_more gaps gap None = refl
+one_more gaps gap (Some others) = ap Some (sym (append_assoc gaps (gap ∷ []) others))
+
+module _ (texts : List (Bor (List ℕ))) (i : ℕ) (gaps : List (ℕ × ℕ))
+    (so_far : each_gap (map (λ text. text.now) texts) ≡ with_rest gaps (each_gap (map (λ text. text.now) (drop i texts)))) where
+  -- where no text is left, they are all
+  pub gaps_whole : length texts ≤ i → Some gaps ≡ each_gap (map (λ text. text.now) texts)
+  gaps_whole none =
+      sym (so_far ∙ ap (λ (rest : List (Bor (List ℕ))). with_rest gaps (each_gap (map (λ text. text.now) rest))) (drop_all i texts none)
+      ∙ ap Some (append-nil gaps))
+
+  next : (d : Bor (List ℕ)) → i < length texts
+      → each_gap (map (λ text. text.now) texts) ≡ with_rest gaps (and_gaps (gap_of (get_or texts i d).now) (each_gap (map (λ text. text.now) (drop (i + 1) texts))))
+  next d some = so_far ∙ ap (λ (rest : List (Bor (List ℕ))). with_rest gaps (each_gap (map (λ text. text.now) rest))) (drop_more texts i d some)
+
+  -- a text that spells none
+  pub gaps_none : (d : Bor (List ℕ)) → i < length texts → gap_of (get_or texts i d).now ≡ None → None ≡ each_gap (map (λ text. text.now) texts)
+  gaps_none d some none =
+      sym (next d some ∙ ap (λ (gap : Option (ℕ × ℕ)). with_rest gaps (and_gaps gap (each_gap (map (λ text. text.now) (drop (i + 1) texts))))) none)
+
+  -- a text that spells one more
+  pub gaps_more : (d : Bor (List ℕ)) (gap : ℕ × ℕ) → i < length texts → gap_of (get_or texts i d).now ≡ Some gap
+      → each_gap (map (λ text. text.now) texts) ≡ with_rest (gaps ++ gap ∷ []) (each_gap (map (λ text. text.now) (drop (i + 1) texts)))
+  gaps_more d gap some one =
+      let rest = each_gap (map (λ text. text.now) (drop (i + 1) texts)) in
+      next d some ∙ ap (λ (found : Option (ℕ × ℕ)). with_rest gaps (and_gaps found rest)) one ∙ one_more gaps gap rest

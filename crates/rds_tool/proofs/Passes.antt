@@ -1,5 +1,5 @@
 -- A run that is gone over once, and what is written and counted of it.
-use Rattle.std.proofs.Common.{◌≡◌, ◌++◌, ◌-◌, ◌*◌, ◌^◌, ◌<◌, ◌≤◌, ◌⊎◌, ◌∷◌, [], ℕ, List, Option, Result, Ok, Err, ap, ap₂, arith, append_assoc, inl, inr, length, length-append, append-nil, refl, subst, sym, ◌∙◌}
+use Rattle.std.proofs.Common.{◌≡◌, ◌+◌, ◌++◌, ◌-◌, ◌*◌, ◌^◌, ◌<◌, ◌≤◌, ◌⊎◌, ◌∷◌, [], ℕ, List, Option, Result, Ok, Err, ap, ap₂, arith, append_assoc, inl, inr, length, length-append, append-nil, refl, subst, sym, ◌∙◌}
 use Rattle.std.specs.Prelude.{OnErr, OnOk}
 use Rattle.std.specs.List.{flat_map}
 use Rattle.std.specs.Io.KnownBytes.{Appends}
@@ -156,3 +156,24 @@ pub few_done : (all done left : List Item) → all ≡ done ++ left → length a
 few_done all done left parted few =
     let count : length all ≡ length (done ++ left) = ap (λ (xs : List Item). length xs) parted in
     omega (arith, count, length-append done left, few)
+
+-- a part of the items is few, and its counts fit together with those of the items that are done
+module _ (all done left part shown rest : List Item) (first : all ≡ done ++ left) (next : left ≡ part ++ rest) (same : shown ≡ part) (few : length all ≤ 2 ^ 37) where
+  parted : length shown + length done ≤ length all
+  parted =
+      let a : length all ≡ length (done ++ left) = ap (λ (xs : List Item). length xs) first in
+      let b : length left ≡ length (part ++ rest) = ap (λ (xs : List Item). length xs) next in
+      let c : length shown ≡ length part = ap (λ (xs : List Item). length xs) same in
+      omega (arith, a, b, c, length-append done left, length-append part rest)
+
+  pub few_shown : length shown ≤ 2 ^ 37
+  few_shown = omega (arith, parted, few)
+
+  pub counts_fit : 2 ^ 10 * length done + 2 ^ 10 * length shown < 2 ^ 64
+  counts_fit = omega (arith, parted, few)
+
+-- fewer are left behind a part that has some
+pub fewer_left : (left part rest : List Item) → left ≡ part ++ rest → (length part ≡ 0 → ⊥) → length rest < length left
+fewer_left left part rest next some =
+    let count : length left ≡ length (part ++ rest) = ap (λ (xs : List Item). length xs) next in
+    omega (arith, count, length-append part rest, some)

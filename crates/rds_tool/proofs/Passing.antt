@@ -25,3 +25,12 @@ on_any_err (Err e) p = p
 pub no_ok : {T E : Type 0} (P : Type 0) (r : Result T E) (e : E) → r ≡ Err e → OnOk r P
 no_ok P (Ok x) e h = cc h
 no_ok P (Err x) e h = tt
+
+-- a success is no error
+pub ok_is_no_err : {T E X : Type 0} (x : T) (e : E) → let r : Result T E = Ok x in r ≡ Err e → X
+ok_is_no_err x e p = cc p
+
+-- where there is a success, nothing need hold of an error
+pub no_err : {T E : Type 0} (P : E → Type 0) (r : Result T E) (x : T) → r ≡ Ok x → IfErr r P
+no_err P (Ok y) x h = tt
+no_err P (Err e) x h = cc h

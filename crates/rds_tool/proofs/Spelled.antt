@@ -1,8 +1,9 @@
 -- Rows that are spelled from one number up to another.
-use Rattle.std.proofs.Common.{◌+◌, ◌++◌, ◌-◌, ◌∙◌, ◌∷◌, ◌≡◌, ◌<◌, ◌≤◌, Bor, List, [], ap, ap₂, append_assoc, arith, drop, get_or, length, map, min, refl, suc, sym, take, zero, ℕ}
-use Rattle.std.specs.List.{AllByRecursion, concat, flat_map, join_with_byte}
+use Rattle.std.proofs.Common.{◌+◌, ◌++◌, ◌-◌, ◌*◌, ◌∙◌, ◌∷◌, ◌≡◌, ◌<◌, ◌≤◌, Bor, List, [], ap, ap₂, append_assoc, arith, drop, get_or, length, map, min, refl, subst, suc, sym, take, zero, ℕ}
+use Rattle.std.specs.List.{All, AllByRecursion, concat, flat_map, join_with_byte}
 use Rattle.std.proofs.lemmas.Grind.{common_steps, flat_map-append}
-use Rattle.std.proofs.lemmas.List.{append-nil, drop-map, take_more}
+use Rattle.std.proofs.lemmas.List.{append-nil, drop-map, length-take, take_more}
+use Rattle.std.proofs.lemmas.List.Elements.{All-drop, All-take}
 use Rattle.std.proofs.lemmas.List.Folds.{concat-append}
 use Rattle.rds_tool.specs.Inside.RowWriter.{IsShort}
 
@@ -60,6 +61,17 @@ spelled f g xs ys from to a b order p q =
 pub some_changed : {X Y : Type 0} (f : X → Y) (all : List X) (changed : List Y) (from n : ℕ) → map f all ≡ changed → map f (take n (drop from all)) ≡ take n (drop from changed)
 some_changed f all changed from n e =
     sym (take-map f n (drop from all)) ∙ ap (take n) (sym (drop-map f from all)) ∙ ap (λ t. take n (drop from t)) e
+
+-- what holds of each holds of each of some
+pub each_of_some : {X : Type 0} (P : X → Type 0) (all : List X) (from n : ℕ) → All P all → All P (take n (drop from all))
+each_of_some P all from n each = All-take P n (drop from all) (All-drop P from all each)
+
+-- rows of some, none of which is longer than the longest, are no longer than so many of the longest
+pub rows_fit : {X : Type 0} (all : List X) (from n longest : ℕ) (text rows : List ℕ) → longest ≡ 168
+    → length rows ≤ length (take n (drop from all)) * 168 → text ≡ rows → length text ≤ n * longest
+rows_fit all from n longest text rows is short same =
+    let few = length-take n (drop from all) in
+    subst (λ (l : ℕ). length text ≤ n * l) (sym is) (subst (λ (t : List ℕ). length t ≤ n * 168) (sym same) (omega (arith, short, few)))
 
 -- the last field behind the others, each of which has a comma behind it
 pub joined_last : (fs : List (Bor (List ℕ))) (n : ℕ) (d : Bor (List ℕ)) → length fs ≡ suc n

@@ -1,4 +1,4 @@
-use Rattle.std.proofs.Common.{Err, List, None, Ok, Option, Result, Some, ap, inl, inr, refl, rules, sym, ◌≡◌, ◌≢◌, ◌⊎◌, ◌∙◌, ℕ}
+use Rattle.std.proofs.Common.{Err, List, None, Ok, Option, Result, Some, ap, inl, inr, refl, subst, sym, ◌≡◌, ◌≢◌, ◌⊎◌, ◌∙◌, ℕ}
 use Rattle.std.specs.Prelude.{IfErr, IfSome}
 use Rattle.rds_tool.specs.Input.{and_then}
 use Rattle.rds_tool.specs.Inside.Texts.{bytes_of}
@@ -9,8 +9,9 @@ use Rattle.rds_tool.specs.declared.error.ToolError.{ToolError}
 use Rattle.rds_tool.specs.declared.job.Job.{Job}
 use Rattle.rds_tool.specs.declared.task.Task.{Task}
 use Rattle.rds_tool.specs.declared.error.ToolError.TheVariants.{NoWorker, OutOfMemory, Read, TooManyTurns, Write}
-use Rattle.rds_tool.proofs.Passing.{no_ok, passed, passed_kind, passes}
-use Rattle.rds_tool.proofs.Texts.{asked, no_failure, not_called, passed_inside, prefix_is, refused_inside, settings_inside, started}
+use Rattle.rds_tool.proofs.Followed.{on_any_ok}
+use Rattle.rds_tool.proofs.Passing.{no_err, no_ok, passed, passed_kind, passes}
+use Rattle.rds_tool.proofs.Texts.{asked, no_failure, not_called, passed_inside, prefix_is, refused_inside, settings_inside, started, written_is}
 use Rattle.rds_tool.proofs.engine.transcribe_gated.Given.{Over}
 use Rattle.rds_tool.proofs.engine.transcribe_gated.Goals as goal
 
@@ -36,6 +37,15 @@ write_refused P (Ok x) kinds = tt
 write_refused P (Err e) (inl memory) = inl (inl memory)
 write_refused P (Err e) (inr write) = inl (inr (inr (inr (inl write))))
 
+-- settings that are refused are refused as such, before anything is read
+same_error : {T : Type 0} (e x : ToolError) → let r : Result T ToolError = Err e in r ≡ Err x → e ≡ x
+same_error e x p = cc
+
+settings_refused : {R : Type 0} (made task : Result Task ToolError) (r : Result (Unit {0}) ToolError) (e : ToolError) (reader : R) → r ≡ Err e → task ≡ Err e
+    → IfErr made (λ x. task ≡ Err x) → IfErr made (λ x. (r ≡ Err x) × (reader ≡ reader))
+settings_refused (Ok t) task r e reader same failed h = tt
+settings_refused (Err x) task r e reader same failed h = (same ∙ ap (λ k. Err k) (same_error e x (sym failed ∙ h)), refl)
+
 -- the refusal of a task is neither a device's nor a thread's
 task_inside : (g : Over) (c : goal.After-from_residual g)
     → (c.from_residual.result ≢ Err Read) × (c.from_residual.result ≢ Err Write) × (c.from_residual.result ≢ Err TooManyTurns)
@@ -55,7 +65,7 @@ returns-in_err-task g c =
       turns = λ p. absurd (inside.2 p);
       no_worker = λ p. absurd (settings.1 (passed_kind _ _ NoWorker same p));
       refused = passes _ _ _ c.from_residual.ensures (task_refused c.args.job.now (g.S.Source.remaining c.args.reader.now) _ c.in_err-task.ensures.refused);
-      settings = search rules;
+      settings = settings_refused _ (Err c.in_err-task.field-0.0) c.from_residual.result _ c.args.reader.now same refl c.in_err-task.ensures.settings;
       untouched = passes _ _ _ c.from_residual.ensures (λ other. refl);
       prefix = λ p. absurd (inside.1 p);
     }
@@ -82,22 +92,41 @@ returns-in_err-text g c =
       turns = λ p. absurd (inside.2 p);
       no_worker = λ p. asked c.args.job.now task c.in_ok-task.ensures.ok (kinds (passed_kind _ _ NoWorker same p));
       refused = passes _ _ _ c.from_residual-in_err-text.ensures (text_refused (MayStartThreads task) c.args.job.now task (g.S.Source.remaining c.args.reader.now) c.in_ok-held.held.items _ c.in_ok-task.ensures.ok c.in_ok-held.ensures.ok c.in_err-text.ensures.refused);
-      settings = search rules;
+      settings = no_err _ _ _ c.in_ok-task.ensures.ok;
       untouched = passes _ _ _ c.from_residual-in_err-text.ensures (λ other. refl);
       prefix = λ p. absurd (inside.1 p);
     }
 
+-- what the writer alone may refuse is refused for nothing else
+writer_alone : {T X : Type 0} (r : Result T ToolError) (k : ToolError) → ((k ≡ OutOfMemory) ⊎ (k ≡ Write) → X) → IfErr r (λ e. (e ≡ OutOfMemory) ⊎ (e ≡ Write)) → r ≡ Err k → X
+writer_alone {T} r k other kinds p = other (subst (λ (x : Result T ToolError). IfErr x (λ e. (e ≡ OutOfMemory) ⊎ (e ≡ Write))) p kinds)
+
+no_read : {X : Type 0} → (Read ≡ OutOfMemory) ⊎ (Read ≡ Write) → X
+no_read (inl p) = cc p
+no_read (inr p) = cc p
+
+no_turns : {X : Type 0} → (TooManyTurns ≡ OutOfMemory) ⊎ (TooManyTurns ≡ Write) → X
+no_turns (inl p) = cc p
+no_turns (inr p) = cc p
+
+no_thread : {X : Type 0} → (NoWorker ≡ OutOfMemory) ⊎ (NoWorker ≡ Write) → X
+no_thread (inl p) = cc p
+no_thread (inr p) = cc p
+
 pub returns : goal.returns
 returns g c = record {
-  end = search rules;
-  ok = search rules;
-  read = search rules;
-  write = search rules;
-  turns = search rules;
-  no_worker = search rules;
+  end = on_any_ok c.write_to.result c.in_ok-held.ensures.end;
+  ok =
+      written_is (g.S.Source.remaining c.args.reader.now) c.args.job.now c.in_ok-task.task c.in_ok-held.held.items (bytes_of c.in_ok-text.text) c.write_to.result
+      (g.K.Sink.contents c.args.writer.now) (g.K.Sink.contents c.write_to.new.writer)
+      c.in_ok-held.ensures.ok c.in_ok-task.ensures.ok c.in_ok-text.ensures.ok c.write_to.ensures.ok;
+  read = (writer_alone _ Read no_read c.write_to.ensures.kinds, no_failure c.in_ok-held.held _ _ c.in_ok-held.ensures.read);
+  write = c.write_to.ensures.write;
+  turns = writer_alone _ TooManyTurns no_turns c.write_to.ensures.kinds;
+  no_worker = writer_alone _ NoWorker no_thread c.write_to.ensures.kinds;
   refused = write_refused _ c.write_to.result c.write_to.ensures.kinds;
-  settings = search rules;
-  untouched = search rules;
+  settings = no_err _ _ _ c.in_ok-task.ensures.ok;
+  untouched = c.write_to.ensures.untouched;
   prefix =
       prefix_is (g.S.Source.remaining c.args.reader.now) c.args.job.now c.in_ok-task.task c.in_ok-held.held.items (bytes_of c.in_ok-text.text) c.write_to.result
       (g.K.Sink.contents c.args.writer.now) (g.K.Sink.contents c.write_to.new.writer)

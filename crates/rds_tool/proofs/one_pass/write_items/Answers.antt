@@ -8,8 +8,8 @@ use Rattle.rds_sync.specs.declared.item.Item.{Item}
 use Rattle.rds_sync.specs.Counting.{IsAtMost}
 use Rattle.rds_sync.specs.Totals.{totals_of}
 use Rattle.rds_tool.specs.Listing.{item_row}
-use Rattle.rds_tool.proofs.Passes.{all_done, at_most_more, few_done, more_rows, parted_rows, prefix_between, two_parts}
-use Rattle.std.proofs.lemmas.Bool.{eqb-true}
+use Rattle.rds_tool.proofs.Passes.{all_done, at_most_more, counts_fit, few_done, few_shown, fewer_left, more_rows, parted_rows, prefix_between, two_parts}
+use Rattle.std.proofs.lemmas.Bool.{eqb-false, eqb-true}
 use Rattle.rds_tool.proofs.Passing.{on_any_err}
 use Rattle.rds_tool.proofs.one_pass.write_items.Given.{Over}
 use Rattle.rds_tool.proofs.one_pass.write_items.Goals as goal
@@ -33,6 +33,24 @@ pub returns-then-is_empty-clause-small : goal.returns-then-is_empty-clause-small
 returns-then-is_empty-clause-small g c =
     let before = c.parts.invariant.done in
     at_most_more (2 ^ 10 * length before.done) (2 ^ 47) _ (few_done _ before.done c.parts.decoder.items before.parted c.requires.few) before.small
+
+pub of_items-requires : goal.of_items-requires
+of_items-requires g c =
+    few_shown c.args.decoder.now.items c.parts.invariant.done.done c.parts.decoder.items c.fill.new.part.items c.as_slice-part.result.now c.fill.new.self.items
+    c.parts.invariant.done.parted c.fill.ensures.items c.as_slice-part.ensures.value c.requires.few
+
+pub plus-totals-requires : goal.plus-totals-requires
+plus-totals-requires g c =
+    let before = c.parts.invariant.done in
+    let fit =
+    counts_fit c.args.decoder.now.items before.done c.parts.decoder.items c.fill.new.part.items c.as_slice-part.result.now c.fill.new.self.items
+    before.parted c.fill.ensures.items c.as_slice-part.ensures.value c.requires.few in
+    (2 ^ 10 * length before.done, 2 ^ 10 * length c.as_slice-part.result.now, fit, before.small, c.of_items.ensures.small)
+
+pub parts-smaller : goal.parts-smaller
+parts-smaller g c =
+    let some : c.fill.new.part.len ≡ 0 → ⊥ = eqb-false _ _ (sym c.is_empty.ensures ∙ c.if-is_empty.false) in
+    fewer_left c.parts.decoder.items c.fill.new.part.items c.fill.new.self.items c.fill.ensures.items (λ none. some (omega (arith, none, c.fill.new.part.ok.0)))
 
 pub parts-preserved : goal.parts-preserved
 parts-preserved g c =
