@@ -1,0 +1,43 @@
+use Rattle.std.proofs.Common.{◌∷◌, Bor, List, [], arith, refl, ℕ}
+use Rattle.std.specs.List.{All}
+use Rattle.std.specs.Prelude.{codes}
+use Rattle.std.proofs.lemmas.List.Elements.{All-from_recursion}
+use Rattle.rds_tool.specs.Inside.RowWriter.{IsPlain, IsShort}
+use Rattle.rds_tool.proofs.fields.named.Goals as goal
+
+-- what holds of each of twelve holds of all
+twelve : {X : Type 0} (P : X → Type 0) (a b d e f g h i j k l m : X) → P a → P b → P d → P e → P f → P g → P h → P i → P j → P k → P l → P m → All P (a ∷ b ∷ d ∷ e ∷ f ∷ g ∷ h ∷ i ∷ j ∷ k ∷ l ∷ m ∷ [])
+twelve P a b d e f g h i j k l m pa pb pd pe pf pg ph pi pj pk pl pm =
+    All-from_recursion P (a ∷ b ∷ d ∷ e ∷ f ∷ g ∷ h ∷ i ∷ j ∷ k ∷ l ∷ m ∷ []) (pa, (pb, (pd, (pe, (pf, (pg, (ph, (pi, (pj, (pk, (pl, (pm, tt))))))))))))
+
+pub returns-clause-plain : goal.returns-clause-plain
+returns-clause-plain c =
+    let valid : IsPlain (codes "valid") = refl in
+    let burst1 : IsPlain (codes "burst1") = refl in
+    let burst2 : IsPlain (codes "burst2") = refl in
+    let burst3 : IsPlain (codes "burst3") = refl in
+    let burst4 : IsPlain (codes "burst4") = refl in
+    let burst5 : IsPlain (codes "burst5") = refl in
+    let lost : IsPlain (codes "lost") = refl in
+    let bits : IsPlain (codes "bits") = refl in
+    let groups : IsPlain (codes "groups") = refl in
+    let complete : IsPlain (codes "complete") = refl in
+    let acquired : IsPlain (codes "acquired") = refl in
+    let losses : IsPlain (codes "losses") = refl in
+    twelve (λ (total : Bor (List ℕ) × ℕ). IsPlain total.0.now) _ _ _ _ _ _ _ _ _ _ _ _ valid burst1 burst2 burst3 burst4 burst5 lost bits groups complete acquired losses
+
+pub returns-clause-short : goal.returns-clause-short
+returns-clause-short c =
+    let valid : IsShort (codes "valid") = omega arith in
+    let burst1 : IsShort (codes "burst1") = omega arith in
+    let burst2 : IsShort (codes "burst2") = omega arith in
+    let burst3 : IsShort (codes "burst3") = omega arith in
+    let burst4 : IsShort (codes "burst4") = omega arith in
+    let burst5 : IsShort (codes "burst5") = omega arith in
+    let lost : IsShort (codes "lost") = omega arith in
+    let bits : IsShort (codes "bits") = omega arith in
+    let groups : IsShort (codes "groups") = omega arith in
+    let complete : IsShort (codes "complete") = omega arith in
+    let acquired : IsShort (codes "acquired") = omega arith in
+    let losses : IsShort (codes "losses") = omega arith in
+    twelve (λ (total : Bor (List ℕ) × ℕ). IsShort total.0.now) _ _ _ _ _ _ _ _ _ _ _ _ valid burst1 burst2 burst3 burst4 burst5 lost bits groups complete acquired losses
