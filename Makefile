@@ -58,10 +58,13 @@ test: toolchain
 # what `rt ci` says, for the wrong bodies that wait for it
 LOG := build/proofs.log
 
+# A proof that is alone gets all processors from `rt ci`, and then takes a fifth more of them. Where there are but two, the wrong
+# bodies have better use for the second, so each proof gets one.
 proofs:
 	@mkdir -p build
 	@echo $(RT) ci
-	@{ $(RT) ci; echo $$? > build/proofs.status; echo "proofs: ended"; } 2>&1 | tee $(LOG)
+	@[ $$(nproc) -gt 2 ] || export RT_JOBS=$$(nproc); \
+	  { $(RT) ci; echo $$? > build/proofs.status; echo "proofs: ended"; } 2>&1 | tee $(LOG)
 	@exit $$(cat build/proofs.status)
 
 # The library for C over what `proofs` has just built, so that `lib` has nothing left to do: it would prove all of that once more.
