@@ -77,18 +77,18 @@ fn scan(rt: &HostRuntime, words: &[String]) -> Result<Vec<u8>> {
 }
 
 fn push_windows(rt: &HostRuntime, text: &mut String, words: &[String]) -> Result<()> {
-    let gaps = gaps(rt.alloc(), words)?;
-    push_windows_outside(rt, text, words, gaps.as_slice())
+    let recording = recording(rt, words)?;
+    push_windows_of(rt.alloc(), text, &recording, words)
 }
 
-fn push_windows_outside(
-    rt: &HostRuntime,
+fn push_windows_of(
+    alloc: Global,
     text: &mut String,
+    recording: &Recording,
     words: &[String],
-    gaps: &[(u64, u64)],
 ) -> Result<()> {
-    let recording = recording(rt, words)?;
-    Ok(windows::push_rows(text, &recording, gaps)?)
+    let gaps = gaps(alloc, words)?;
+    Ok(windows::push_rows(text, recording, gaps.as_slice())?)
 }
 
 fn list(rt: &HostRuntime, words: &[String]) -> Result<Vec<u8>> {
