@@ -77,12 +77,10 @@ fn run<R: Threads + Wait + Sync>(
     job: &Job,
     progress: bool,
 ) -> Result<(), ToolError> {
-    let told = if progress {
-        Progress::start(rt, job)
-    } else {
-        None
-    };
-    match told {
+    if !progress {
+        return run_untold(rt, crew, job);
+    }
+    match Progress::start(rt, job) {
         Some(progress) => {
             let answer = run_told(rt, crew, job, &progress);
             progress.end();
@@ -115,14 +113,20 @@ fn run_untold<R: Threads + Wait + Sync>(
 
 /// Lists the stream of standard input as it comes.
 fn run_stream(rt: &HostRuntime, input: &Input, numbers: RuleNumbers) -> Result<(), ToolError> {
-    let rules = Rules::of(rt.alloc(), numbers)?;
+    match Rules::of(rt.alloc(), numbers) {
+        Ok(rules) => follow_by(rt, input, &rules),
+        Err(refused) => Err(refused.into()),
+    }
+}
+
+fn follow_by(rt: &HostRuntime, input: &Input, rules: &Rules) -> Result<(), ToolError> {
     let mut reader = FromRead::new(rt.stdin());
     let mut writer = ToWrite::new(rt.stdout());
     follow(
         rt.alloc(),
         &mut reader,
         &mut writer,
-        &rules,
+        rules,
         input.bits,
         input.gaps.as_slice(),
     )

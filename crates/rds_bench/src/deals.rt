@@ -40,10 +40,10 @@ fn time_both<T: Threads + Sync, W: Work + Sync>(
 {
     let mut timing = Timing::new(rt, bits)?;
 
-    let guessed = by_shares(threads, rt.alloc(), work)?;
+    let guessed = by_shares(threads, rt.alloc(), work);
     timing.show(rt, Form::free("shared out beforehand"), guessed)?;
 
-    let guessed = by_draws(threads, rt.alloc(), work)?;
+    let guessed = by_draws(threads, rt.alloc(), work);
     timing.show(rt, Form::free("drawn from a dealer"), guessed)
 }
 
@@ -59,7 +59,7 @@ fn by_shares<T: Threads + Sync, W: Work + Sync>(threads: &T, alloc: Global, work
             requires { IsCutting (length_of (W.recording work.now)) (W.places work.now) }
         { guess_share(alloc, work, worker as u64) },
     )?;
-    Ok(total(guessed)?)
+    total(guessed)
 }
 
 fn guess_share<W: Work>(alloc: Global, work: &W, worker: u64) -> Result<u64, PieceError>
@@ -90,7 +90,7 @@ fn by_draws<T: Threads + Sync, W: Work + Sync>(threads: &T, alloc: Global, work:
             requires new { IsFresh lent.now seat }
         { guess_draws(alloc, work, lent, seat) },
     )?;
-    Ok(total(guessed)?)
+    total(guessed)
 }
 
 fn guess_draws<W: Work>(
@@ -124,7 +124,7 @@ fn guess<W: Work>(alloc: Global, work: &W, j: u64) -> Result<u64, PieceError>
     Ok(run.to().saturating_sub(run.from()))
 }
 
-fn total(guessed: Vec<Result<u64, PieceError>>) -> Result<u64, PieceError> {
+fn total(guessed: Vec<Result<u64, PieceError>>) -> Result<u64> {
     let mut bits = 0u64;
     for share in guessed {
         bits = bits.saturating_add(share?);

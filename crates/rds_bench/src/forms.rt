@@ -4,10 +4,10 @@ ghost use Rattle.rds_stream.specs.Recording.{length_of};
 ghost use Rattle.rds_pieces.specs.Cutting.{IsCutting};
 
 use anyhow::Result;
-use rds_crew::{CrewError, Gate, OpenGate, decode_crew};
-use rds_pieces::{Cutting, PieceError, RecordingWork, Work, speculate};
-use rds_stream::{Recording, StreamError, ValidWindows, scan};
-use rds_sync::{Decoder, Rules, State, SyncError, Totals, decode_plain};
+use rds_crew::{Gate, OpenGate, decode_crew};
+use rds_pieces::{Cutting, RecordingWork, Work, speculate};
+use rds_stream::{Recording, ValidWindows, scan};
+use rds_sync::{Decoder, Rules, State, Totals, decode_plain};
 use std::alloc::Global;
 use std::sync::Wait;
 use std::thread::Threads;
@@ -18,12 +18,12 @@ pub fn windows(recording: &Recording) -> u64 {
 }
 
 /// How many the list of them has.
-pub fn listed_windows(alloc: Global, recording: &Recording) -> Result<u64, StreamError> {
+pub fn listed_windows(alloc: Global, recording: &Recording) -> Result<u64> {
     Ok(scan(alloc, recording, 0, recording.len())?.len() as u64)
 }
 
 /// How many valid blocks the report of one decoder counts.
-pub fn one_decoder(alloc: Global, recording: &Recording, rules: &Rules) -> Result<u64, SyncError> {
+pub fn one_decoder(alloc: Global, recording: &Recording, rules: &Rules) -> Result<u64> {
     Ok(decode_plain(alloc, recording, rules)?.totals.valid)
 }
 
@@ -37,13 +37,28 @@ pub fn item_by_item(recording: &Recording, rules: &Rules) -> u64 {
 }
 
 /// How many the guess of the recording in one piece counts.
-pub fn one_guess(alloc: Global, recording: &Recording, rules: &Rules) -> Result<u64, PieceError> {
+pub fn one_guess(alloc: Global, recording: &Recording, rules: &Rules) -> Result<u64> {
     let cutting = Cutting::even(alloc, recording.len(), 1)?;
+    first_guess(alloc, recording, rules, &cutting)
+}
+
+/// How many that of its first piece counts.
+fn first_guess(
+    alloc: Global,
+    recording: &Recording,
+    rules: &Rules,
+    cutting: &Cutting,
+) -> Result<u64>
+    requires { IsCutting (length_of recording.now) cutting.now }
+{
     if cutting.pieces() == 0 {
         return Ok(0);
     }
-    let run = speculate(alloc, recording, rules, &cutting, 0)?;
-    Ok(run.totals().valid)
+    Ok(
+        speculate(alloc, recording, rules, cutting, 0)?
+            .totals()
+            .valid,
+    )
 }
 
 /// How many the report of so many pieces counts that so many workers make.
@@ -59,7 +74,7 @@ pub fn crew<T: Threads + Wait>(
 {
     let cutting = Cutting::even(alloc, recording.len(), pieces)?;
     let work = RecordingWork::new(recording, rules, &cutting);
-    Ok(crew_of(threads, alloc, &work, workers, &OpenGate)?)
+    crew_of(threads, alloc, &work, workers, &OpenGate)
 }
 
 /// How many that of a work counts, where a gate hears of the workers.
@@ -69,7 +84,7 @@ pub fn crew_of<T: Threads + Wait, W: Work + Sync, G: Gate + Sync>(
     work: &W,
     workers: u32,
     gate: &G,
-) -> Result<u64, CrewError>
+) -> Result<u64>
     requires { IsCutting (length_of (W.recording work.now)) (W.places work.now) }
 {
     Ok(

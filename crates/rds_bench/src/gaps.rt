@@ -15,8 +15,13 @@ const MOST: u128 = 300;
 
 pub fn measure(rt: &HostRuntime, bits: u64, sample: Sample) -> Result<()> {
     let whole = sample.recording(rt.alloc(), bits)?;
+    time_beside(rt, bits, sample, &whole)
+}
+
+/// Times that recording, and the same with gaps.
+fn time_beside(rt: &HostRuntime, bits: u64, sample: Sample, whole: &Recording) -> Result<()> {
     let gapped = with_gaps(rt.alloc(), bits, sample)?;
-    time_both(rt, &whole, &gapped)
+    time_both(rt, whole, &gapped)
 }
 
 fn time_both(rt: &HostRuntime, whole: &Recording, gapped: &Recording) -> Result<()> {
@@ -26,14 +31,23 @@ fn time_both(rt: &HostRuntime, whole: &Recording, gapped: &Recording) -> Result<
 
 fn time_decoders(rt: &HostRuntime, whole: &Recording, gapped: &Recording) -> Result<()> {
     let rules = Rules::new(rt.alloc(), 2, 3, 10)?;
+    time_decoders_by(rt, whole, gapped, &rules)
+}
+
+fn time_decoders_by(
+    rt: &HostRuntime,
+    whole: &Recording,
+    gapped: &Recording,
+    rules: &Rules,
+) -> Result<()> {
     let mut timing = Timing::new(rt, whole.len())?;
-    time_decoder(rt, &mut timing, Form::free("one decoder"), whole, &rules)?;
+    time_decoder(rt, &mut timing, Form::free("one decoder"), whole, rules)?;
     time_decoder(
         rt,
         &mut timing,
         Form::at_most("over many gaps", MOST),
         gapped,
-        &rules,
+        rules,
     )
 }
 
@@ -55,7 +69,7 @@ fn time_decoder(
     recording: &Recording,
     rules: &Rules,
 ) -> Result<()> {
-    let valid = forms::one_decoder(rt.alloc(), recording, rules)?;
+    let valid = forms::one_decoder(rt.alloc(), recording, rules);
     timing.show(rt, form, valid)
 }
 
@@ -65,7 +79,7 @@ fn time_windows(
     form: Form,
     recording: &Recording,
 ) -> Result<()> {
-    timing.show(rt, form, forms::windows(recording))
+    timing.show(rt, form, Ok(forms::windows(recording)))
 }
 
 fn with_gaps(alloc: Global, bits: u64, sample: Sample) -> Result<Recording, StreamError> {

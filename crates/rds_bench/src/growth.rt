@@ -9,7 +9,7 @@ use crate::timing::nanos_since;
 use anyhow::{Result, bail};
 use rds_live::{Live, MOST_ITEMS};
 use rds_stream::{Recording, StreamError};
-use rds_sync::{Rules, State, SyncError, run_codes};
+use rds_sync::{Item, Rules, State, run_codes};
 use std::alloc::Global;
 use std::sync::Wait;
 use std::thread::Threads;
@@ -33,6 +33,25 @@ impl Size {
         Ok(Size {
             recording: sample.recording(alloc, bits)?,
             bytes: sample.bytes(alloc, bits)?,
+        })
+    }
+}
+
+/// The recordings of the three sizes.
+#[derive(Drop)]
+struct Sizes {
+    small: Size,
+    middle: Size,
+    large: Size,
+}
+
+impl Sizes {
+    /// A sixteenth of so many bits, a fourth, and all.
+    fn of(alloc: Global, bits: u64, sample: Sample) -> Result<Sizes> {
+        Ok(Sizes {
+            small: Size::of(alloc, bits / 16, sample)?,
+            middle: Size::of(alloc, bits / 4, sample)?,
+            large: Size::of(alloc, bits, sample)?,
         })
     }
 }
@@ -84,31 +103,31 @@ impl Call {
         rules: &Rules,
     ) -> Result<u64> {
         let recording = &size.recording;
-        Ok(match self {
-            Call::Windows => forms::windows(recording),
-            Call::Scan => forms::listed_windows(alloc, recording)?,
-            Call::OneDecoder => forms::one_decoder(alloc, recording, rules)?,
-            Call::Items => forms::item_by_item(recording, rules),
-            Call::Codes => codes(alloc, recording, rules)?,
-            Call::Guess => forms::one_guess(alloc, recording, rules)?,
+        match self {
+            Call::Windows => Ok(forms::windows(recording)),
+            Call::Scan => forms::listed_windows(alloc, recording),
+            Call::OneDecoder => forms::one_decoder(alloc, recording, rules),
+            Call::Items => Ok(forms::item_by_item(recording, rules)),
+            Call::Codes => codes(alloc, recording, rules),
+            Call::Guess => forms::one_guess(alloc, recording, rules),
             Call::Crew => {
                 let pieces = recording.len() / 50_000 + 1;
-                forms::crew(threads, alloc, recording, rules, pieces, 4)?
+                forms::crew(threads, alloc, recording, rules, pieces, 4)
             }
-            Call::Stream => by_chunks(alloc, size.bytes.as_slice(), rules)?,
-        })
+            Call::Stream => by_chunks(alloc, size.bytes.as_slice(), rules),
+        }
     }
 }
 
 /// Keeps the codes of a run over the recording: 1 where it ends in a lawful state.
-fn codes(alloc: Global, recording: &Recording, rules: &Rules) -> Result<u64, SyncError> {
+fn codes(alloc: Global, recording: &Recording, rules: &Rules) -> Result<u64> {
     let len = recording.len();
     let (end, _codes) = run_codes(alloc, recording, rules, State::Searching, 0, len)?;
     Ok(u64::from(end.is_lawful(rules, len)))
 }
 
 /// How many groups a stream of these bytes counts, in chunks that are each taken at once.
-fn by_chunks(alloc: Global, bytes: &[u8], rules: &Rules) -> Result<u64, StreamError> {
+fn by_chunks(alloc: Global, bytes: &[u8], rules: &Rules) -> Result<u64> {
     let mut live = Live::new(alloc, rules)?;
     take_all(alloc, &mut live, bytes)?;
     Ok(live.finish().totals.groups)
@@ -116,8 +135,16 @@ fn by_chunks(alloc: Global, bytes: &[u8], rules: &Rules) -> Result<u64, StreamEr
 
 fn take_all(alloc: Global, live: &mut Live<'_>, bytes: &[u8]) -> Result<(), StreamError> {
     let mut items = Vec::with_capacity(alloc, MOST_ITEMS)?;
+    take_chunks(live, bytes, &mut items)
+}
+
+fn take_chunks(
+    live: &mut Live<'_>,
+    bytes: &[u8],
+    items: &mut Vec<Item>,
+) -> Result<(), StreamError> {
     for chunk in bytes.chunks(960) {
-        live.take(chunk, &mut items)?;
+        live.take(chunk, items)?;
     }
     Ok(())
 }
@@ -130,37 +157,50 @@ pub fn measure<T: Threads + Wait>(
     sample: Sample,
 ) -> Result<()> {
     let rules = Rules::new(rt.alloc(), 2, 3, sample.loss())?;
-    let sizes = sizes_of(rt.alloc(), bits, sample)?;
+    measure_by(rt, threads, bits, sample, &rules)
+}
+
+fn measure_by<T: Threads + Wait>(
+    rt: &HostRuntime,
+    threads: &T,
+    bits: u64,
+    sample: Sample,
+    rules: &Rules,
+) -> Result<()> {
+    let sizes = Sizes::of(rt.alloc(), bits, sample)?;
+    time_calls(rt, threads, &sizes, rules)
+}
+
+fn time_calls<T: Threads + Wait>(
+    rt: &HostRuntime,
+    threads: &T,
+    sizes: &Sizes,
+    rules: &Rules,
+) -> Result<()> {
     for call in &CALLS {
-        grows(rt, threads, *call, sizes.as_slice(), &rules)?;
+        let times = least_times(rt, threads, *call, sizes, rules)?;
+        show(rt, call.name(), times)?;
     }
     Ok(())
 }
 
-/// The recordings of these sizes, the smallest first.
-fn sizes_of(alloc: Global, bits: u64, sample: Sample) -> Result<Vec<Size>> {
-    let mut sizes = Vec::new(alloc);
-    for part in [16, 4, 1] {
-        sizes.push(Size::of(alloc, bits / part, sample)?)?;
-    }
-    Ok(sizes)
-}
-
-/// Shows the call's times over the recordings: an error where one is too long for that before it.
-fn grows<T: Threads + Wait>(
+/// The least time of a call over each size, the smallest first.
+fn least_times<T: Threads + Wait>(
     rt: &HostRuntime,
     threads: &T,
     call: Call,
-    sizes: &[Size],
+    sizes: &Sizes,
     rules: &Rules,
-) -> Result<()> {
-    let [small, middle, large] = sizes else {
-        bail!("there are no three sizes")
-    };
-    let small = least_time(rt, threads, call, small, rules)?;
-    let middle = least_time(rt, threads, call, middle, rules)?;
-    let large = least_time(rt, threads, call, large, rules)?;
-    let name = call.name();
+) -> Result<[u64; 3]> {
+    let small = least_time(rt, threads, call, &sizes.small, rules)?;
+    let middle = least_time(rt, threads, call, &sizes.middle, rules)?;
+    let large = least_time(rt, threads, call, &sizes.large, rules)?;
+    Ok([small, middle, large])
+}
+
+/// Shows a call's times over the recordings: an error where one is too long for that before it.
+fn show(rt: &HostRuntime, name: &str, times: [u64; 3]) -> Result<()> {
+    let [small, middle, large] = times;
     println!(rt; "{name:<24} {small}, {middle} and {large} ns")?;
     if middle > small.saturating_mul(MOST) || large > middle.saturating_mul(MOST) {
         bail!("the time of '{name}' grows faster than its recording");

@@ -24,9 +24,9 @@ pub fn measure(
     let mut timing = Timing::new(rt, recording.len())?;
 
     let valid = forms::item_by_item(recording, rules);
-    timing.show(rt, Form::free("item by item"), valid)?;
+    timing.show(rt, Form::free("item by item"), Ok(valid))?;
 
     // A guess makes no items of its codes.
-    let valid = forms::one_guess(rt.alloc(), recording, rules)?;
+    let valid = forms::one_guess(rt.alloc(), recording, rules);
     timing.show(rt, Form::at_most("a guess", most_for(sample)), valid)
 }

@@ -124,8 +124,20 @@ fn time_stitching<W: Work>(rt: &HostRuntime, work: &W, timing: &mut Timing) -> R
     requires { IsCutting (length_of (W.recording work.now)) (W.places work.now) }
 {
     let runs = guesses(rt.alloc(), work)?;
+    time_report(rt, work, timing, runs.as_slice())
+}
+
+fn time_report<W: Work>(
+    rt: &HostRuntime,
+    work: &W,
+    timing: &mut Timing,
+    runs: &[PieceRun],
+) -> Result<()>
+    requires { FollowEachOther (W.recording work.now) (W.rule_set work.now) 0
+        (length_of (W.recording work.now)) runs.now }
+{
     let start = Instant::now(rt)?;
-    let valid = work.report(rt.alloc(), runs.as_slice())?.totals.valid;
+    let valid = work.report(rt.alloc(), runs)?.totals.valid;
     timing.show_since(rt, Form::free("left to right"), start, valid)
 }
 
@@ -162,6 +174,18 @@ fn time_tree<T: Sync + Threads + Wait, W: Work + Sync>(
     let start = Instant::now(rt)?;
     let valid = forms::crew_of(threads, rt.alloc(), work, tree.workers, &gate)?;
     let begun = gate.begun.into_inner().context("no join was begun")?;
-    timing.show_since(rt, tree.joins, begun, valid)?;
-    timing.show_since(rt, tree.all, start, valid)
+    show_both(rt, timing, tree, [begun, start], valid)
+}
+
+/// Shows the times since the first join was begun, and since the first guess was.
+fn show_both(
+    rt: &HostRuntime,
+    timing: &mut Timing,
+    tree: &Tree,
+    starts: [Instant; 2],
+    valid: u64,
+) -> Result<()> {
+    let [joins, all] = starts;
+    timing.show_since(rt, tree.joins, joins, valid)?;
+    timing.show_since(rt, tree.all, all, valid)
 }

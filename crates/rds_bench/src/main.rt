@@ -61,10 +61,15 @@ struct Asked<'a> {
 
 fn main(rt: HostRuntime) -> Result<()> {
     let words: Vec<String> = env::args(&rt)?.skip(1).collect(rt.alloc())?;
-    match asked_by(words.as_slice())? {
-        Some(asked) if asked.measurement == "--check" => standards::check(&rt, &rt),
-        Some(asked) => measure(&rt, &rt, asked),
-        None => show_usage(&rt),
+    run(&rt, &rt, words.as_slice())
+}
+
+/// Does what these words ask for.
+fn run<T: Threads + Wait + Sync>(rt: &HostRuntime, threads: &T, words: &[String]) -> Result<()> {
+    match asked_by(words)? {
+        Some(asked) if asked.measurement == "--check" => standards::check(rt, threads),
+        Some(asked) => measure(rt, threads, asked),
+        None => show_usage(rt),
     }
 }
 
@@ -73,19 +78,25 @@ fn asked_by(words: &[String]) -> Result<Option<Asked<'_>>> {
     let Some(measurement) = words.first() else {
         return Ok(None);
     };
-    let bits = match words.get(1) {
-        Some(text) => text.parse::<u64>().context("BITS is no number")?,
-        None => BITS,
-    };
-    let sample = match words.get(2) {
-        Some(name) => Sample::named(name).context("SAMPLE is no sample")?,
-        None => Sample::Station,
-    };
     Ok(Some(Asked {
         measurement: measurement.as_str(),
-        bits,
-        sample,
+        bits: bits_in(words.get(1))?,
+        sample: sample_in(words.get(2))?,
     }))
+}
+
+fn bits_in(word: Option<&String>) -> Result<u64> {
+    match word {
+        Some(text) => text.parse::<u64>().context("BITS is no number"),
+        None => Ok(BITS),
+    }
+}
+
+fn sample_in(word: Option<&String>) -> Result<Sample> {
+    match word {
+        Some(name) => Sample::named(name).context("SAMPLE is no sample"),
+        None => Ok(Sample::Station),
+    }
 }
 
 fn measure<T: Threads + Wait + Sync>(
@@ -129,11 +140,21 @@ fn measure_over<T: Threads + Wait + Sync>(
         _ => (3, asked.sample.loss()),
     };
     let rules = Rules::new(rt.alloc(), 2, reach, loss)?;
+    measure_by(rt, threads, asked, recording, &rules)
+}
+
+fn measure_by<T: Threads + Wait + Sync>(
+    rt: &HostRuntime,
+    threads: &T,
+    asked: Asked<'_>,
+    recording: &Recording,
+    rules: &Rules,
+) -> Result<()> {
     match asked.measurement {
-        "joins" => joins::measure(rt, threads, recording, &rules),
-        "deal" => deals::measure(rt, threads, recording, &rules),
-        "guess" => guesses::measure(rt, recording, &rules, asked.sample),
-        _ => runs::measure(rt, threads, recording, &rules),
+        "joins" => joins::measure(rt, threads, recording, rules),
+        "deal" => deals::measure(rt, threads, recording, rules),
+        "guess" => guesses::measure(rt, recording, rules, asked.sample),
+        _ => runs::measure(rt, threads, recording, rules),
     }
 }
 

@@ -8,10 +8,10 @@ pub fn measure(rt: &HostRuntime, blocks: u64) -> Result<()> {
     let mut timing = Timing::new(rt, blocks)?;
 
     let found = by_tables(blocks);
-    timing.show(rt, Form::free("by tables"), found)?;
+    timing.show(rt, Form::free("by tables"), Ok(found))?;
 
     let found = by_division(blocks);
-    timing.show(rt, Form::at_least("by dividing each block", 400), found)
+    timing.show(rt, Form::at_least("by dividing each block", 400), Ok(found))
 }
 
 /// The sum of the remainders, which all have to be found for it.

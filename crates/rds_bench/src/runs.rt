@@ -16,14 +16,14 @@ pub fn measure<T: Threads + Wait>(
 ) -> Result<()> {
     let mut timing = Timing::new(rt, recording.len())?;
 
-    let valid = forms::one_decoder(rt.alloc(), recording, rules)?;
+    let valid = forms::one_decoder(rt.alloc(), recording, rules);
     timing.show(rt, Form::free("one decoder"), valid)?;
 
     // Each piece is guessed once, and little of it is read again.
-    let valid = forms::crew(threads, rt.alloc(), recording, rules, 16, 1)?;
+    let valid = forms::crew(threads, rt.alloc(), recording, rules, 16, 1);
     timing.show(rt, Form::at_most("sixteen pieces", 340), valid)?;
 
     // What a search has to do, whatever it finds.
     let found = forms::windows(recording);
-    timing.show(rt, Form::free("valid windows alone"), found)
+    timing.show(rt, Form::free("valid windows alone"), Ok(found))
 }

@@ -58,7 +58,7 @@ impl Form {
 }
 
 /// The times of one task's forms over so many bits, each shown as it comes.
-#[derive(Drop)]
+#[derive(Clone, Copy)]
 pub struct Timing {
     bits: u64,
     first: Option<u64>,
@@ -76,10 +76,10 @@ impl Timing {
         })
     }
 
-    /// Shows the time of a form and what it counted, which is the same for all forms that do the task: an error where the
-    /// time is past the form's bound. The next form begins behind that.
-    pub fn show(&mut self, rt: &HostRuntime, form: Form, found: u64) -> Result<()> {
-        self.show_since(rt, form, self.start, found)?;
+    /// Shows the time of a form and what it counted, which is the same for all forms that do the task: an error where it
+    /// failed, or the time is past the form's bound. The next form begins behind that.
+    pub fn show(&mut self, rt: &HostRuntime, form: Form, found: Result<u64>) -> Result<()> {
+        self.show_since(rt, form, self.start, found?)?;
         self.start = Instant::now(rt)?;
         Ok(())
     }

@@ -56,26 +56,31 @@ fn time_crews<T: Threads + Wait + Sync>(
 ) -> Result<()> {
     let mut timing = Timing::new(rt, (bytes.len() as u64).saturating_mul(8))?;
     for crew in &crews() {
-        let job = job_of(rt.alloc(), crew.workers, loss, listing);
-        time_job(rt, threads, &mut timing, bytes, crew.form, &job)?;
+        let written = written_by(threads, rt.alloc(), bytes, crew.workers, loss, listing);
+        timing.show(rt, crew.form, written)?;
     }
     Ok(())
 }
 
-fn time_job<T: Threads + Wait + Sync>(
-    rt: &HostRuntime,
+/// How many bytes so many workers write of these.
+fn written_by<T: Threads + Wait + Sync>(
     threads: &T,
-    timing: &mut Timing,
+    alloc: Global,
     bytes: &[u8],
-    form: Form,
-    job: &Job,
-) -> Result<()> {
-    let written = written_by(threads, rt.alloc(), bytes, job)?;
-    timing.show(rt, form, written)
+    workers: u32,
+    loss: u32,
+    listing: bool,
+) -> Result<u64> {
+    written_of(
+        threads,
+        alloc,
+        bytes,
+        &job_of(alloc, workers, loss, listing),
+    )
 }
 
-/// How many bytes the job writes of these.
-fn written_by<T: Threads + Wait + Sync>(
+/// How many the job writes.
+fn written_of<T: Threads + Wait + Sync>(
     threads: &T,
     alloc: Global,
     bytes: &[u8],

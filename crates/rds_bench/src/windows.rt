@@ -14,18 +14,18 @@ pub fn measure(rt: &HostRuntime, bits: u64) -> Result<()> {
 fn time_all(rt: &HostRuntime, recording: &Recording) -> Result<()> {
     let mut timing = Timing::new(rt, recording.len())?;
 
-    let found = forms::listed_windows(rt.alloc(), recording)?;
+    let found = forms::listed_windows(rt.alloc(), recording);
     timing.show(rt, Form::free("the scan"), found)?;
 
     let found = forms::windows(recording);
-    timing.show(rt, Form::free("one after the other"), found)?;
+    timing.show(rt, Form::free("one after the other"), Ok(found))?;
 
     let found = by_tables(recording);
-    timing.show(rt, Form::free("place by place"), found)?;
+    timing.show(rt, Form::free("place by place"), Ok(found))?;
 
     // The scan goes by planes, and not place by place.
     let found = by_division(recording);
-    timing.show(rt, Form::at_least("by long division", 1000), found)
+    timing.show(rt, Form::at_least("by long division", 1000), Ok(found))
 }
 
 /// How many windows are valid, each remainder taken by tables.

@@ -45,16 +45,27 @@ fn answers(alloc: Global) -> Result<String, AllocError> {
 
 fn push_answers(alloc: Global, text: &mut String) -> Result<(), AllocError> {
     let recording = eight_groups(alloc)?;
-    push_found(alloc, text, &recording, 3)?;
-    push_found(alloc, text, &recording, 4)?;
+    push_found_by_both(alloc, text, &recording)?;
     push_made(alloc, text)
+}
+
+fn push_found_by_both(
+    alloc: Global,
+    text: &mut String,
+    recording: &Recording,
+) -> Result<(), AllocError> {
+    push_found(alloc, text, recording, 3)?;
+    push_found(alloc, text, recording, 4)
 }
 
 /// What is made of no recording: seats, and a code that is kept. What is refused is made once more.
 fn push_made(alloc: Global, text: &mut String) -> Result<(), AllocError> {
     let seats = match seats(alloc) {
         Ok(seats) => seats,
-        Err(_) => seats(alloc).map_err(|_| AllocError)?,
+        Err(_) => match seats(alloc) {
+            Ok(seats) => seats,
+            Err(_) => return Err(AllocError),
+        },
     };
     let kept = match calls::kept_in_room(alloc) {
         Ok(kept) => kept,
@@ -68,7 +79,10 @@ fn eight_groups(alloc: Global) -> Result<Recording, AllocError> {
     for _ in 0..8u32 {
         bytes.extend_from_slice(&ZERO_GROUP)?;
     }
-    Recording::from_bytes(bytes, 832).map_err(|_| AllocError)
+    match Recording::from_bytes(bytes, 832) {
+        Ok(recording) => Ok(recording),
+        Err(_) => Err(AllocError),
+    }
 }
 
 /// The rows of what joins and a report find by this reach.
@@ -78,9 +92,23 @@ fn push_found(
     recording: &Recording,
     reach: u32,
 ) -> Result<(), AllocError> {
-    let rules = Rules::new(alloc, 2, reach, 10).map_err(|_| AllocError)?;
+    let Ok(rules) = Rules::new(alloc, 2, reach, 10) else {
+        return Err(AllocError);
+    };
+    push_found_by(alloc, text, recording, &rules)
+}
+
+fn push_found_by(
+    alloc: Global,
+    text: &mut String,
+    recording: &Recording,
+    rules: &Rules,
+) -> Result<(), AllocError> {
     let cutting = cut(alloc, recording)?;
-    push_calls(alloc, text, recording, &rules, &cutting).map_err(|_| AllocError)
+    match push_calls(alloc, text, recording, rules, &cutting) {
+        Ok(()) => Ok(()),
+        Err(_) => Err(AllocError),
+    }
 }
 
 fn push_calls(
@@ -120,7 +148,10 @@ fn cut(alloc: Global, recording: &Recording) -> Result<Cutting, AllocError>
     ensures two { IfOk result (λ cutting. pieces_of cutting ≡ 2) }
 {
     let places = vec![in alloc; 0, 190, recording.len()]?;
-    Cutting::new(places, recording.len()).map_err(|_| AllocError)
+    match Cutting::new(places, recording.len()) {
+        Ok(cutting) => Ok(cutting),
+        Err(_) => Err(AllocError),
+    }
 }
 
 /// How many seats a dealer of eight numbers has, made for three.

@@ -13,17 +13,21 @@ const OFFSETS: [[u16; 4]; 2] = [
 
 /// Lines of digits from a seed: groups, blanks, empty lines, and now and then a line that is no group.
 pub fn lines(alloc: Global, seed: u64) -> Result<String, AllocError> {
-    let mut dice = Dice::new(seed);
     let mut text = String::new(alloc);
+    push_lines(&mut text, &mut Dice::new(seed))?;
+    Ok(text)
+}
+
+fn push_lines(text: &mut String, dice: &mut Dice) -> Result<(), AllocError> {
     let faulty = dice.one_in(4);
     for _ in 0..dice.below(60) {
-        push_line(&mut text, &mut dice)?;
+        push_line(text, dice)?;
     }
-    if faulty {
-        let digits = 1 + dice.below(15);
-        push_digits(&mut text, &mut dice, digits)?;
+    if !faulty {
+        return Ok(());
     }
-    Ok(text)
+    let digits = 1 + dice.below(15);
+    push_digits(text, dice, digits)
 }
 
 fn push_line(text: &mut String, dice: &mut Dice) -> Result<(), AllocError> {
@@ -55,19 +59,24 @@ fn push_digits(text: &mut String, dice: &mut Dice, count: u32) -> Result<(), All
 /// The groups of some lines, block by block; nothing, where a line is no group.
 pub fn encoded(alloc: Global, lines: &[u8]) -> Result<Option<Vec<u8>>, AllocError> {
     let mut bits = Bits::new(alloc);
+    if !push_encoded(&mut bits, lines)? {
+        return Ok(None);
+    }
+    Ok(Some(bits.bytes(alloc)?))
+}
+
+/// Whether each line is a group or empty; up to one that is neither, their bits are put behind those there.
+fn push_encoded(bits: &mut Bits, lines: &[u8]) -> Result<bool, AllocError> {
     let mut line = Line {
         digits: 0,
         words: 0,
     };
     for byte in lines {
-        if !line.take(*byte, &mut bits)? {
-            return Ok(None);
+        if !line.take(*byte, bits)? {
+            return Ok(false);
         }
     }
-    if !line.take(b'\n', &mut bits)? {
-        return Ok(None);
-    }
-    Ok(Some(bits.bytes(alloc)?))
+    line.take(b'\n', bits)
 }
 
 /// What was read of a line.

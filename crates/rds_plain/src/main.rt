@@ -28,14 +28,18 @@ mod windows;
 
 use anyhow::{Context, Result, bail};
 use rds_stream::Recording;
-use rds_sync::{Item, Rules, decode_plain};
+use rds_sync::{Item, Loss, RuleNumbers, Rules, decode_plain};
 use std::alloc::{AllocError, Global};
 use std::env;
 use std::io::{Read, Write};
 
 fn main(rt: HostRuntime) -> Result<()> {
     let words: Vec<String> = env::args(&rt)?.skip(1).collect(rt.alloc())?;
-    let text = text_of(&rt, words.as_slice())?;
+    run(&rt, words.as_slice())
+}
+
+fn run(rt: &HostRuntime, words: &[String]) -> Result<()> {
+    let text = text_of(rt, words)?;
     rt.stdout().write_all(text.as_slice())?;
     Ok(())
 }
@@ -74,8 +78,17 @@ fn scan(rt: &HostRuntime, words: &[String]) -> Result<Vec<u8>> {
 
 fn push_windows(rt: &HostRuntime, text: &mut String, words: &[String]) -> Result<()> {
     let recording = recording(rt, words)?;
-    let gaps = gaps(rt.alloc(), words)?;
-    Ok(windows::push_rows(text, &recording, gaps.as_slice())?)
+    push_windows_of(rt.alloc(), text, &recording, words)
+}
+
+fn push_windows_of(
+    alloc: Global,
+    text: &mut String,
+    recording: &Recording,
+    words: &[String],
+) -> Result<()> {
+    let gaps = gaps(alloc, words)?;
+    Ok(windows::push_rows(text, recording, gaps.as_slice())?)
 }
 
 fn list(rt: &HostRuntime, words: &[String]) -> Result<Vec<u8>> {
@@ -116,7 +129,14 @@ fn input(rt: &HostRuntime) -> Result<Vec<u8>> {
 fn recording(rt: &HostRuntime, words: &[String]) -> Result<Recording> {
     let bits = number(words, 0)?;
     let gaps = gaps(rt.alloc(), words)?;
-    Ok(Recording::with_gaps(input(rt)?, bits, gaps).map_err(|refused| refused.0)?)
+    recorded(rt, bits, gaps)
+}
+
+fn recorded(rt: &HostRuntime, bits: u64, gaps: Vec<(u64, u64)>) -> Result<Recording> {
+    match Recording::with_gaps(input(rt)?, bits, gaps) {
+        Ok(recording) => Ok(recording),
+        Err((refused, _, _)) => Err(refused.into()),
+    }
 }
 
 fn gaps(alloc: Global, words: &[String]) -> Result<Vec<(u64, u64)>> {
@@ -143,7 +163,12 @@ fn gap(pair: &str) -> Result<(u64, u64)> {
 /// The items of that recording's report, by the rules that the words after it spell.
 fn items(rt: &HostRuntime, words: &[String]) -> Result<Vec<Item>> {
     let rules = rules(rt.alloc(), words)?;
-    reported(rt.alloc(), &recording(rt, words)?, &rules)
+    read_by(rt, words, &rules)
+}
+
+fn read_by(rt: &HostRuntime, words: &[String], rules: &Rules) -> Result<Vec<Item>> {
+    let recording = recording(rt, words)?;
+    reported(rt.alloc(), &recording, rules)
 }
 
 fn reported(alloc: Global, recording: &Recording, rules: &Rules) -> Result<Vec<Item>> {
@@ -157,12 +182,19 @@ fn setting(words: &[String], before: usize) -> Result<u32> {
 }
 
 fn rules(alloc: Global, words: &[String]) -> Result<Rules> {
-    let burst = setting(words, 2)?;
-    let reach = setting(words, 3)?;
-    let loss = setting(words, 4)?;
+    let numbers = RuleNumbers {
+        burst: setting(words, 2)?,
+        reach: setting(words, 3)?,
+        loss: loss(words)?,
+    };
+    Ok(Rules::of(alloc, numbers)?)
+}
+
+fn loss(words: &[String]) -> Result<Loss> {
+    let bad = setting(words, 4)?;
     if words.len() < 6 {
-        return Ok(Rules::new(alloc, burst, reach, loss)?);
+        return Ok(Loss::InARow(bad));
     }
     let of = setting(words, 5)?;
-    Ok(Rules::with_share(alloc, burst, reach, loss, of)?)
+    Ok(Loss::Share { bad, of })
 }

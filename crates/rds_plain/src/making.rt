@@ -39,14 +39,18 @@ impl Heard {
 
 /// The bytes of the recording of this seed.
 pub fn recording(alloc: Global, seed: u64) -> Result<Vec<u8>, AllocError> {
-    let mut dice = Dice::new(seed);
     let mut bits = Bits::new(alloc);
+    push_all(&mut bits, &mut Dice::new(seed))?;
+    bits.bytes(alloc)
+}
+
+fn push_all(bits: &mut Bits, dice: &mut Dice) -> Result<(), AllocError> {
     // Rows are made by several threads in a long one alone.
     let parts = if dice.one_in(16) { 600 } else { 16 };
     for _ in 0..1 + dice.below(parts) {
-        push_heard(&mut bits, &mut dice)?;
+        push_heard(bits, dice)?;
     }
-    bits.bytes(alloc)
+    Ok(())
 }
 
 /// What is heard next.

@@ -14,6 +14,6 @@ mod crew;
 mod front_pages;
 mod locks;
 mod meetings;
-mod samples;
+pub mod samples;
 mod single_calls;
 mod sizes;

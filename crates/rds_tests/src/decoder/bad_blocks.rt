@@ -2,9 +2,8 @@
 ghost use Rattle.std.specs.Prelude.{◌<◌};
 
 use crate::decoder::samples::{Sample, zero_bytes};
-use rds_sync::{Loss, SyncError, decode_plain};
+use rds_sync::{Loss, decode_plain};
 use std::alloc::{AllocError, Global};
-use std::test::Fail;
 
 /// Inverts the last bit of a block and the one five before it, which no correction takes for a burst of five bits.
 fn spoil(bytes: &mut [u8], block: usize)
@@ -31,37 +30,34 @@ fn with_bad_blocks(
     Sample::of(bytes, 832, 5, loss)
 }
 
-/// How often a sample's lock is lost.
-fn losses_of(alloc: Global, sample: &Sample) -> Result<u64, SyncError> {
-    let report = decode_plain(alloc, &sample.recording, &sample.rules)?;
-    Ok(report.totals.losses)
-}
-
-/// How often a lock that is lost so is lost over so many bad blocks in a row.
-fn losses(alloc: Global, loss: Loss, first: usize, count: usize) -> Result<u64, SyncError> {
-    let sample = with_bad_blocks(alloc, first, count, loss)?;
-    losses_of(alloc, &sample)
-}
-
-/// Whether three bad blocks from that one on are outlived, and four are not, by either rule.
-fn are_outlived_up_to_three(alloc: Global, first: usize) -> Result<bool, SyncError> {
-    for &loss in &[Loss::InARow(4), Loss::Share { bad: 4, of: 4 }] {
-        if losses(alloc, loss, first, 3)? != 0 || losses(alloc, loss, first, 4)? != 1 {
-            return Ok(false);
-        }
+/// Whether a sample's lock is lost so many times.
+fn is_lost(alloc: Global, sample: &Sample, times: u64) -> bool {
+    match decode_plain(alloc, &sample.recording, &sample.rules) {
+        Ok(report) => report.totals.losses == times,
+        Err(_) => false,
     }
-    Ok(true)
+}
+
+/// Whether a lock that is lost so is lost so many times over so many bad blocks in a row.
+fn is_lost_over(alloc: Global, loss: Loss, first: usize, count: usize, times: u64) -> bool {
+    match with_bad_blocks(alloc, first, count, loss) {
+        Ok(sample) => is_lost(alloc, &sample, times),
+        Err(_) => false,
+    }
+}
+
+/// Whether three bad blocks from that one on are outlived, and four are not, by this rule.
+fn are_outlived_up_to_three(alloc: Global, loss: Loss, first: usize) -> bool {
+    is_lost_over(alloc, loss, first, 3, 0) && is_lost_over(alloc, loss, first, 4, 1)
 }
 
 #[test]
-fn three_bad_blocks_are_outlived_and_four_are_not_whichever_is_the_first(
-    rt: HostRuntime,
-) -> Result<(), Fail> {
+fn three_bad_blocks_are_outlived_and_four_are_not_whichever_is_the_first(rt: HostRuntime) {
     for first in 8..12usize {
         assert!(rt;
-            are_outlived_up_to_three(rt.alloc(), first)?,
+            are_outlived_up_to_three(rt.alloc(), Loss::InARow(4), first)
+                && are_outlived_up_to_three(rt.alloc(), Loss::Share { bad: 4, of: 4 }, first),
             "from {first} on"
         );
     }
-    Ok(())
 }

@@ -6,7 +6,6 @@ use rds_code::{
 };
 use rds_stream::{Reader, Recording, StreamError, read_heard, scan};
 use std::alloc::Global;
-use std::test::Fail;
 
 /// Whether block 4 is corrected that was sent and has two bits inverted.
 fn is_corrected(table: &BurstTable) -> bool {
@@ -40,21 +39,25 @@ fn with_a_gap(alloc: Global) -> Result<Recording, StreamError> {
 }
 
 /// Its valid windows.
-const WINDOWS: [(u64, Offset); 4] = [
+static WINDOWS: [(u64, Offset); 4] = [
     (25, Offset::A),
     (51, Offset::B),
     (96, Offset::B),
     (103, Offset::D),
 ];
 
-/// Whether they are found, and block 3 is lost, of which the gap has a bit.
-fn loses_block_3(
-    alloc: Global,
-    recording: &Recording,
-    table: &BurstTable,
-) -> Result<bool, StreamError> {
+/// Whether they are found.
+fn has_the_windows(alloc: Global, recording: &Recording) -> bool {
+    match scan(alloc, recording, 0, recording.len()) {
+        Ok(found) => found.as_slice() == WINDOWS.as_slice(),
+        Err(_) => false,
+    }
+}
+
+/// Whether block 3 is lost, of which the gap has a bit.
+fn loses_block_3(recording: &Recording, table: &BurstTable) -> bool {
     if recording.len() <= 77 {
-        return Ok(false);
+        return false;
     }
     let heard = Reader::new(recording).window(77);
     let reading = read_heard(
@@ -64,19 +67,26 @@ fn loses_block_3(
         Wanted::Either,
         BurstLimit::LONGEST,
     );
-    let found = scan(alloc, recording, 0, recording.len())?;
-    Ok(heard.is_none() && reading == Reading::Lost && found.as_slice() == WINDOWS.as_slice())
+    heard.is_none() && matches!(reading, Reading::Lost)
 }
 
-/// Whether that holds of the group with its gap.
-fn is_lost_in_a_gap(alloc: Global, table: &BurstTable) -> Result<bool, StreamError> {
-    let recording = with_a_gap(alloc)?;
-    loses_block_3(alloc, &recording, table)
+/// Whether both hold of the group with its gap.
+fn is_lost_in_a_gap(alloc: Global, table: &BurstTable) -> bool {
+    match with_a_gap(alloc) {
+        Ok(recording) => has_the_windows(alloc, &recording) && loses_block_3(&recording, table),
+        Err(_) => false,
+    }
+}
+
+/// Whether the examples come out as the pages say.
+fn are_as_said(alloc: Global) -> bool {
+    match BurstTable::new(alloc) {
+        Ok(table) => is_corrected(&table) && is_lost_in_a_gap(alloc, &table),
+        Err(_) => false,
+    }
 }
 
 #[test]
-fn of_the_block_code_and_of_recordings(rt: HostRuntime) -> Result<(), Fail> {
-    let table = BurstTable::new(rt.alloc())?;
-    assert!(rt; is_corrected(&table) && is_lost_in_a_gap(rt.alloc(), &table)?);
-    Ok(())
+fn of_the_block_code_and_of_recordings(rt: HostRuntime) {
+    assert!(rt; are_as_said(rt.alloc()));
 }

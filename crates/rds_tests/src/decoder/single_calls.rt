@@ -3,9 +3,8 @@ ghost use Rattle.std.specs.Prelude.{◌≡◌};
 
 use crate::decoder::samples::Sample;
 use rds_stream::{FIRST_WINDOW, Recording, planes};
-use rds_sync::{Item, Items, Loss, SyncError, decode_plain};
+use rds_sync::{Item, Items, Loss, decode_plain};
 use std::alloc::Global;
-use std::test::Fail;
 
 /// Whether the first plane of two zero groups has the lowest bits of the remainders of their first 64 windows.
 fn has_lowest_bits(twice: &Recording) -> bool {
@@ -26,19 +25,24 @@ fn end_at_the_third(sample: &Sample, items: &Items) -> bool
 }
 
 /// Whether those of a sample's report do, and its planes have those bits.
-fn has_bits_and_items(alloc: Global, sample: &Sample) -> Result<bool, SyncError> {
-    let report = decode_plain(alloc, &sample.recording, &sample.rules)?;
-    Ok(has_lowest_bits(&sample.recording) && end_at_the_third(sample, &report.items))
+fn has_bits_and_items(alloc: Global, sample: &Sample) -> bool {
+    match decode_plain(alloc, &sample.recording, &sample.rules) {
+        Ok(report) => {
+            has_lowest_bits(&sample.recording) && end_at_the_third(sample, &report.items)
+        }
+        Err(_) => false,
+    }
 }
 
 /// Whether that holds of two zero groups.
-fn two_groups_have(alloc: Global) -> Result<bool, SyncError> {
-    let twice = Sample::of_groups(alloc, 2, Loss::InARow(10))?;
-    has_bits_and_items(alloc, &twice)
+fn two_groups_have(alloc: Global) -> bool {
+    match Sample::of_groups(alloc, 2, Loss::InARow(10)) {
+        Ok(twice) => has_bits_and_items(alloc, &twice),
+        Err(_) => false,
+    }
 }
 
 #[test]
-fn planes_and_items_by_number_of_two_zero_groups(rt: HostRuntime) -> Result<(), Fail> {
-    assert!(rt; two_groups_have(rt.alloc())?);
-    Ok(())
+fn planes_and_items_by_number_of_two_zero_groups(rt: HostRuntime) {
+    assert!(rt; two_groups_have(rt.alloc()));
 }

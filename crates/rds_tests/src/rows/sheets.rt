@@ -2,8 +2,7 @@
 ghost use Rattle.rds_rows.specs.Sheets.{IsBlank};
 
 use rds_rows::Sheet;
-use std::alloc::{AllocError, Global};
-use std::test::Fail;
+use std::alloc::Global;
 
 /// How much fits into the memory that a sheet gives back.
 fn spare_room(alloc: Global, sheet: &mut Sheet) -> usize {
@@ -11,21 +10,29 @@ fn spare_room(alloc: Global, sheet: &mut Sheet) -> usize {
 }
 
 /// Whether a sheet gives back the memory in which two rows come, once and only after they are taken off.
-fn comes_back(alloc: Global, sheet: &mut Sheet) -> Result<bool, AllocError>
+fn comes_back(alloc: Global, sheet: &mut Sheet) -> bool
     requires { IsBlank (2, 3) sheet.old }
 {
-    let rows = b"aabb".to_vec(alloc)?;
+    let Ok(rows) = b"aabb".to_vec(alloc) else {
+        return false;
+    };
     let room = rows.capacity();
     sheet.give_all(2, rows);
     let is_kept = spare_room(alloc, sheet) == 0;
     sheet.clear();
-    Ok(is_kept && spare_room(alloc, sheet) == room && spare_room(alloc, sheet) == 0)
+    is_kept && spare_room(alloc, sheet) == room && spare_room(alloc, sheet) == 0
+}
+
+/// Whether a new one does.
+fn comes_back_from_new(alloc: Global) -> bool {
+    match Sheet::new(alloc, 2, 3) {
+        Ok(mut sheet) => comes_back(alloc, &mut sheet),
+        Err(_) => false,
+    }
 }
 
 // No contract says it: without it each part takes memory anew.
 #[test]
-fn the_memory_of_given_rows_comes_back(rt: HostRuntime) -> Result<(), Fail> {
-    let mut sheet = Sheet::new(rt.alloc(), 2, 3)?;
-    assert!(rt; comes_back(rt.alloc(), &mut sheet)?);
-    Ok(())
+fn the_memory_of_given_rows_comes_back(rt: HostRuntime) {
+    assert!(rt; comes_back_from_new(rt.alloc()));
 }

@@ -6,7 +6,6 @@ use crate::writer::{Failure, SlowWriter};
 use rds_rows::{write_rows, write_rows_in_parts};
 use std::alloc::Global;
 use std::sync::Wait;
-use std::test::Fail;
 use std::thread::Threads;
 
 /// Whether a writer has this text, and was handed so many bytes or more at a time but for the last.
@@ -16,6 +15,9 @@ fn has_all(writer: &SlowWriter, text: &[u8], large: usize) -> bool
     let most = text.len() / large;
     writer.held.as_slice() == text && writer.writes <= most as u64 + 1
 }
+
+/// How many rows there are.
+const ROWS: usize = 200_000;
 
 /// Whether so many workers write the rows so.
 fn are_written<R: Sync + Threads + Wait>(
@@ -34,22 +36,26 @@ fn are_written<R: Sync + Threads + Wait>(
     result.is_ok() && has_all(&writer, known.text.as_slice(), large)
 }
 
+/// Whether one, 4, 16 and 256 workers write the rows so.
+fn are_written_by_all<R: Sync + Threads + Wait>(rt: &R, alloc: Global, known: &Known) -> bool {
+    are_written(rt, alloc, known, 1, 4_096 * LONGEST)
+        && are_written(rt, alloc, known, 4, 4_096 * LONGEST)
+        && are_written(rt, alloc, known, 16, 4_096 * LONGEST)
+        && are_written(rt, alloc, known, 256, 256 * LONGEST)
+}
+
+/// Whether there is memory for the rows, and they are.
+fn many_are_written<R: Sync + Threads + Wait>(rt: &R, alloc: Global) -> bool {
+    match Known::new(alloc, ROWS) {
+        Ok(known) => are_written_by_all(rt, alloc, &known),
+        Err(_) => false,
+    }
+}
+
 // A write has 64 KiB, or the bytes of a part of the longest rows: of 4,096, or of 256 where there are 256 workers.
 #[test]
-fn many_rows_go_in_large_writes(rt: HostRuntime) -> Result<(), Fail> {
-    let known = Known::new(rt.alloc(), 200_000)?;
-    for &(workers, large) in &[
-        (1u32, 4_096 * LONGEST),
-        (4, 4_096 * LONGEST),
-        (16, 4_096 * LONGEST),
-        (256, 256 * LONGEST),
-    ] {
-        assert!(rt;
-            are_written(&rt, rt.alloc(), &known, workers, large),
-            "{workers} workers"
-        );
-    }
-    Ok(())
+fn many_rows_go_in_large_writes(rt: HostRuntime) {
+    assert!(rt; many_are_written(&rt, rt.alloc()));
 }
 
 /// Whether so many workers write the rows in parts of so many, 64 KiB or more at a time but for the last.
@@ -69,16 +75,29 @@ fn are_written_in_parts<R: Sync + Threads + Wait>(
     result.is_ok() && has_all(&writer, known.text.as_slice(), 65_536)
 }
 
+/// The first of these sizes in parts of which one worker or three do not write the rows so, or 0 where all do.
+fn first_small<R: Sync + Threads + Wait>(rt: &R, alloc: Global, known: &Known) -> usize {
+    for most in [10_923, 16_384, 20_000, 21_846, 30_000, 50_000, ROWS] {
+        if !are_written_in_parts(rt, alloc, known, 1, most)
+            || !are_written_in_parts(rt, alloc, known, 3, most)
+        {
+            return most;
+        }
+    }
+    0
+}
+
+/// That of many rows. Where there is no memory for them it is the first.
+fn first_small_of_many<R: Sync + Threads + Wait>(rt: &R, alloc: Global) -> usize {
+    match Known::new(alloc, ROWS) {
+        Ok(known) => first_small(rt, alloc, &known),
+        Err(_) => 10_923,
+    }
+}
+
 // Parts of all sizes from a row to more than a write, which 64 KiB are.
 #[test]
-fn parts_of_any_size_go_in_large_writes(rt: HostRuntime) -> Result<(), Fail> {
-    let known = Known::new(rt.alloc(), 200_000)?;
-    for most in [10_923, 16_384, 20_000, 21_846, 30_000, 50_000, 200_000] {
-        assert!(rt;
-            are_written_in_parts(&rt, rt.alloc(), &known, 1, most)
-                && are_written_in_parts(&rt, rt.alloc(), &known, 3, most),
-            "parts of {most}"
-        );
-    }
-    Ok(())
+fn parts_of_any_size_go_in_large_writes(rt: HostRuntime) {
+    let most = first_small_of_many(&rt, rt.alloc());
+    assert!(rt; most == 0, "parts of {most}");
 }

@@ -1,7 +1,8 @@
 //! A reader over memory that gives as little as it is told and fails on demand, a writer that withholds, and what a job gives.
 ghost use Rattle.std.specs.Prelude.{◌^◌, ◌<◌, ◌≡◌, Some};
 
-use rds_crew::Gate;
+use crate::tool::jobs::Scan;
+use rds_crew::{Gate, OpenGate};
 use rds_tool::{
     Failed, FromRead, Job, Sink, Source, ToWrite, ToolError, transcribe, transcribe_gated,
 };
@@ -113,6 +114,19 @@ pub fn gives<R: Threads + Wait + Sync, S: Source, G: Gate + Sync>(
     is_answer(answer, writer.into_inner().as_slice(), wanted) && failures == 0
 }
 
+/// Whether a scan over this reader writes this text, or is refused so with nothing written.
+pub fn scan_gives<R: Threads + Wait + Sync, S: Source>(
+    rt: &R,
+    alloc: Global,
+    scan: Scan,
+    reader: &mut S,
+    wanted: Result<&[u8], ToolError>,
+) -> bool
+    requires { S.failed reader.old < 2 ^ 63 }
+{
+    gives(rt, alloc, &scan.job(alloc), reader, &OpenGate, wanted)
+}
+
 /// Whether a job over an input in memory, at this gate, writes this text.
 pub fn gives_for<R: Threads + Wait + Sync, G: Gate + Sync>(
     rt: &R,
@@ -126,17 +140,17 @@ pub fn gives_for<R: Threads + Wait + Sync, G: Gate + Sync>(
     gives(rt, alloc, job, &mut reader, gate, Ok(wanted))
 }
 
-/// What a job over an input in memory answers to this writer of std, how often that failed, and the writer.
+/// What a scan of an input in memory answers to this writer of std, how often that failed, and the writer.
 pub fn written_to<R: Threads + Wait + Sync, W: Write>(
     rt: &R,
     alloc: Global,
-    job: &Job,
+    scan: Scan,
     input: &[u8],
     under: W,
 ) -> (Result<(), ToolError>, u64, W) {
     let mut reader = FromRead::new(input);
     let mut writer = ToWrite::new(under);
-    let answer = transcribe(rt, alloc, &mut reader, &mut writer, job);
+    let answer = transcribe(rt, alloc, &mut reader, &mut writer, &scan.job(alloc));
     let failures = writer.failures();
     (answer, failures, writer.into_inner())
 }

@@ -1,14 +1,12 @@
 //! What readers and writers of std are handed. No contract says it: one that gives or takes a byte a call has all
 //! clauses too, but would end at 16,777,216 bytes, and go through a call of the system for each.
-use crate::tool::devices::{SlowReader, gives, written_to};
-use crate::tool::jobs::{scan_of_bytes, scan_of_digits, scan_of_no_bits};
-use rds_crew::OpenGate;
+use crate::tool::devices::{SlowReader, scan_gives, written_to};
+use crate::tool::jobs::Scan;
 use rds_tool::{FromRead, ToolError};
 use std::alloc::{AllocError, Global};
 use std::io;
 use std::io::{Read, Write};
 use std::sync::Wait;
-use std::test::Fail;
 use std::thread::Threads;
 
 /// What a reader notes: how often it was read, and the sizes of the buffers that it was handed.
@@ -113,30 +111,35 @@ impl Write for Notes {
 
 // 260 reads give 65,536 bytes or the rest, and one more is the end.
 #[test]
-fn a_reader_of_std_is_asked_for_65536_bytes_at_once(rt: HostRuntime) -> Result<(), Fail> {
-    let bytes = long_input(rt.alloc())?;
+fn a_reader_of_std_is_asked_for_65536_bytes_at_once(rt: HostRuntime) {
+    assert!(rt; long_input_is_asked_for(&rt, rt.alloc()));
+}
+
+/// Whether there is memory for the long input, and it is.
+fn long_input_is_asked_for<R: Sync + Threads + Wait>(rt: &R, alloc: Global) -> bool {
+    match long_input(alloc) {
+        Ok(bytes) => is_asked_for(rt, alloc, bytes.as_slice()),
+        Err(_) => false,
+    }
+}
+
+/// Whether these bytes are asked for in 261 reads of 65,536 bytes each, and the whole text is written.
+fn is_asked_for<R: Sync + Threads + Wait>(rt: &R, alloc: Global, bytes: &[u8]) -> bool {
     let mut reads = Reads::new();
     let noted = Noted {
-        left: bytes.as_slice(),
+        left: bytes,
         reads: &mut reads,
     };
-    assert!(rt; is_scanned(&rt, rt.alloc(), noted));
-    assert!(rt; reads.count == 261);
-    assert!(rt; reads.least_buffer == 65_536 && reads.most_buffer == 65_536);
-    Ok(())
+    is_scanned(rt, alloc, noted)
+        && reads.count == 261
+        && reads.least_buffer == 65_536
+        && reads.most_buffer == 65_536
 }
 
 /// Whether all of these bytes are read, and the whole text is written.
 fn is_scanned<R: Sync + Threads + Wait>(rt: &R, alloc: Global, noted: Noted<'_>) -> bool {
     let mut reader = FromRead::new(noted);
-    gives(
-        rt,
-        alloc,
-        &scan_of_bytes(alloc),
-        &mut reader,
-        &OpenGate,
-        Ok(ROWS),
-    )
+    scan_gives(rt, alloc, Scan::Bytes, &mut reader, Ok(ROWS))
 }
 
 /// Whether a reader that gives so many of these bytes a read is answered so.
@@ -148,26 +151,27 @@ fn is_read_by<R: Sync + Threads + Wait>(
     wanted: Result<&[u8], ToolError>,
 ) -> bool {
     let mut reader = SlowReader::new(bytes, step, 0);
-    gives(
-        rt,
-        alloc,
-        &scan_of_bytes(alloc),
-        &mut reader,
-        &OpenGate,
-        wanted,
-    )
+    scan_gives(rt, alloc, Scan::Bytes, &mut reader, wanted)
+}
+
+/// Whether these bytes are too many by a byte a read, and read by two and by all at once.
+fn is_read_but_by_one<R: Sync + Threads + Wait>(rt: &R, alloc: Global, bytes: &[u8]) -> bool {
+    is_read_by(rt, alloc, bytes, 1, Err(ToolError::TooManyTurns))
+        && is_read_by(rt, alloc, bytes, 2, Ok(ROWS))
+        && is_read_by(rt, alloc, bytes, usize::MAX, Ok(ROWS))
+}
+
+/// Whether there is memory for the long input, and it is read so.
+fn long_input_is_read<R: Sync + Threads + Wait>(rt: &R, alloc: Global) -> bool {
+    match long_input(alloc) {
+        Ok(bytes) => is_read_but_by_one(rt, alloc, bytes.as_slice()),
+        Err(_) => false,
+    }
 }
 
 #[test]
-fn of_17000000_bytes_the_whole_text_is_written_but_for_a_byte_a_read(
-    rt: HostRuntime,
-) -> Result<(), Fail> {
-    let bytes = long_input(rt.alloc())?;
-    let bytes = bytes.as_slice();
-    assert!(rt; is_read_by(&rt, rt.alloc(), bytes, 1, Err(ToolError::TooManyTurns)));
-    assert!(rt; is_read_by(&rt, rt.alloc(), bytes, 2, Ok(ROWS)));
-    assert!(rt; is_read_by(&rt, rt.alloc(), bytes, usize::MAX, Ok(ROWS)));
-    Ok(())
+fn of_17000000_bytes_the_whole_text_is_written_but_for_a_byte_a_read(rt: HostRuntime) {
+    assert!(rt; long_input_is_read(&rt, rt.alloc()));
 }
 
 // The text has 26 bytes, of which the writer takes 10 a call.
@@ -183,13 +187,17 @@ fn a_writer_of_std_is_handed_all_that_is_left(rt: HostRuntime) {
 fn written<R: Sync + Threads + Wait>(rt: &R, alloc: Global, step: usize) -> Notes {
     let notes = Notes::new(alloc, step, false);
     let digits = b"00003f000019800005a00001b4";
-    written_to(rt, alloc, &scan_of_digits(alloc), digits, notes).2
+    written_to(rt, alloc, Scan::Digits, digits, notes).2
 }
 
 #[test]
 fn a_failing_flush_is_a_refusal_of_an_empty_text_too(rt: HostRuntime) {
-    let notes = Notes::new(rt.alloc(), 1, true);
-    let job = scan_of_no_bits(rt.alloc());
-    let (answer, _failures, under) = written_to(&rt, rt.alloc(), &job, b"", notes);
-    assert!(rt; answer == Err(ToolError::Write) && under.writes == 0 && under.flushes == 1);
+    assert!(rt; is_refused_unflushed(&rt, rt.alloc()));
+}
+
+/// Whether a scan that writes nothing is refused where the flush fails, which is asked for once.
+fn is_refused_unflushed<R: Sync + Threads + Wait>(rt: &R, alloc: Global) -> bool {
+    let notes = Notes::new(alloc, 1, true);
+    let (answer, _failures, under) = written_to(rt, alloc, Scan::Nothing, b"", notes);
+    matches!(answer, Err(ToolError::Write)) && under.writes == 0 && under.flushes == 1
 }

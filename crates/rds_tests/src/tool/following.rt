@@ -4,12 +4,11 @@ use crate::writer::{Failure, SlowWriter};
 use rds_sync::Rules;
 use rds_tool::{ToolError, follow};
 use std::alloc::Global;
-use std::test::Fail;
 
 const NO_GAPS: &[(u64, u64)] = &[];
 
 /// The group of four zero words, twice.
-const GROUPS: [u8; 26] = [
+static GROUPS: [u8; 26] = [
     0x00, 0x00, 0x3F, 0x00, 0x00, 0x19, 0x80, 0x00, 0x05, 0xA0, 0x00, 0x01, 0xB4, 0x00, 0x00, 0x3F,
     0x00, 0x00, 0x19, 0x80, 0x00, 0x05, 0xA0, 0x00, 0x01, 0xB4,
 ];
@@ -40,13 +39,16 @@ fn stand_after(alloc: Global, rules: &Rules, bytes: u8) -> bool {
 }
 
 #[test]
-fn rows_come_with_the_read_that_completes_them(rt: HostRuntime) -> Result<(), Fail> {
-    let rules = Rules::new(rt.alloc(), 2, 3, 10)?;
+fn rows_come_with_the_read_that_completes_them(rt: HostRuntime) {
     for bytes in 0..27u8 {
-        assert!(rt;
-            stand_after(rt.alloc(), &rules, bytes),
-            "after {bytes} bytes"
-        );
+        assert!(rt; come_after(rt.alloc(), bytes), "after {bytes} bytes");
     }
-    Ok(())
+}
+
+/// Whether there is memory for the rules, and by them these rows stand there.
+fn come_after(alloc: Global, bytes: u8) -> bool {
+    match Rules::new(alloc, 2, 3, 10) {
+        Ok(rules) => stand_after(alloc, &rules, bytes),
+        Err(_) => false,
+    }
 }

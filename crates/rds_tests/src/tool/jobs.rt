@@ -11,17 +11,24 @@ pub fn ungapped(alloc: Global, hex: bool, bits: Option<u64>) -> Input {
     }
 }
 
-/// A scan of all bits of hexadecimal text.
-pub fn scan_of_digits(alloc: Global) -> Job {
-    Job::Scan(ungapped(alloc, true, None), 4)
+/// What a scan reads.
+#[derive(Clone, Copy)]
+pub enum Scan {
+    /// All bits of hexadecimal text.
+    Digits,
+    /// All bits of bytes.
+    Bytes,
+    /// No bits: it reads its whole input and writes nothing.
+    Nothing,
 }
 
-/// A scan of all bits of bytes.
-pub fn scan_of_bytes(alloc: Global) -> Job {
-    Job::Scan(ungapped(alloc, false, None), 4)
-}
-
-/// A scan of no bits, which reads its whole input and writes nothing.
-pub fn scan_of_no_bits(alloc: Global) -> Job {
-    Job::Scan(ungapped(alloc, false, Some(0)), 4)
+impl Scan {
+    pub fn job(self, alloc: Global) -> Job {
+        let (hex, bits) = match self {
+            Scan::Digits => (true, None),
+            Scan::Bytes => (false, None),
+            Scan::Nothing => (false, Some(0)),
+        };
+        Job::Scan(ungapped(alloc, hex, bits), 4)
+    }
 }

@@ -1,18 +1,15 @@
 //! Texts longer than a reader or a writer takes at once, whose rows workers make part by part.
 ghost use Rattle.std.specs.Prelude.{◌<◌, ◌^◌};
 
+use crate::decoder::samples::zero_bytes;
 use crate::tool::jobs::ungapped;
 use crate::writer::{Failure, SlowWriter};
 use rds_tool::{Cuts, FromRead, Job, Loss, Settings, transcribe};
 use std::alloc::{AllocError, Global};
 use std::sync::Wait;
-use std::test::Fail;
 use std::thread::Threads;
 
-/// The group of four zero words.
-const ZERO_GROUP: [u8; 13] = [0, 0, 0x3F, 0, 0, 0x19, 0x80, 0, 5, 0xA0, 0, 1, 0xB4];
-
-/// How many of them there are: the rows of their list are four parts, and those of their scan 26.
+/// How many zero groups there are: the rows of their list are four parts, and those of their scan 26.
 const GROUPS: u64 = 8_000;
 
 /// Their totals.
@@ -22,14 +19,6 @@ const TOTALS: &str =
     total,lost,0,-,-,-,-,-\ntotal,bits,0,-,-,-,-,-\ntotal,groups,8000,-,-,-,-,-\n\
     total,complete,7999,-,-,-,-,-\ntotal,acquired,1,-,-,-,-,-\ntotal,losses,0,-,-,-,-,-\n";
 
-fn zero_groups(alloc: Global) -> Result<Vec<u8>, AllocError> {
-    let mut bytes = Vec::new(alloc);
-    for _ in 0..GROUPS {
-        bytes.extend_from_slice(&ZERO_GROUP)?;
-    }
-    Ok(bytes)
-}
-
 /// Puts their list behind a text: block 2 of the first acquires, and each group is whole from then on.
 fn push_list(text: &mut String) -> Result<(), AllocError> {
     text.push_str("acquired,51,2,-,-,-,-,-\ngroup,26,0,A,none,B:0000,C:0000,D:0000\n")?;
@@ -37,7 +26,7 @@ fn push_list(text: &mut String) -> Result<(), AllocError> {
         let place = 104 * group;
         writeln!(text, "group,{place},0,A,A:0000,B:0000,C:0000,D:0000")?;
     }
-    Ok(text.push_str(TOTALS)?)
+    text.push_str(TOTALS)
 }
 
 /// Puts their scan behind a text: the four blocks, a window within the last two, and between two groups one more.
@@ -49,18 +38,21 @@ fn push_scan(text: &mut String) -> Result<(), AllocError> {
     Ok(())
 }
 
+/// The window before the blocks of a group that comes behind another, and its own: how far behind its first bit they end.
+static WINDOWS: [(u8, &'static str); 6] = [
+    (19, "B"),
+    (25, "A"),
+    (51, "B"),
+    (77, "C"),
+    (96, "B"),
+    (103, "D"),
+];
+
 /// Puts the windows of a group that begins there behind a text, and the one before it.
 fn push_windows(text: &mut String, from: u64) -> Result<(), AllocError>
     requires { from < 2 ^ 32 }
 {
-    for (behind, offset) in [
-        (19u8, "B"),
-        (25, "A"),
-        (51, "B"),
-        (77, "C"),
-        (96, "B"),
-        (103, "D"),
-    ] {
+    for &(behind, offset) in &WINDOWS {
         let place = from + u64::from(behind);
         writeln!(text, "{place},{offset}")?;
     }
@@ -102,39 +94,50 @@ impl Long {
         }
     }
 
-    /// Whether the job writes this text of these bytes, 64 KiB or more at a time but for the last.
-    fn writes<R: Threads + Wait + Sync>(
+    /// Whether the job writes this text of the groups.
+    fn writes<R: Threads + Wait + Sync>(self, rt: &R, alloc: Global, text: &[u8]) -> bool {
+        match zero_bytes(alloc, 104 * GROUPS) {
+            Ok(bytes) => self.writes_of(rt, alloc, bytes.as_slice(), text),
+            Err(_) => false,
+        }
+    }
+
+    fn writes_of<R: Threads + Wait + Sync>(
         self,
         rt: &R,
         alloc: Global,
         bytes: &[u8],
         text: &[u8],
     ) -> bool {
-        let mut reader = FromRead::new(bytes);
-        let mut writer = SlowWriter::new(alloc, usize::MAX, Failure::Never);
-        let answer = transcribe(rt, alloc, &mut reader, &mut writer, &self.job(alloc));
-        let most = text.len() as u64 / 65_536 + 1;
-        answer.is_ok() && writer.held.as_slice() == text && writer.writes <= most
+        writes_large(rt, alloc, &self.job(alloc), bytes, text)
     }
 
-    /// Whether it writes its text of the groups so.
-    fn writes_its_text<R: Threads + Wait + Sync>(
-        self,
-        rt: &R,
-        alloc: Global,
-    ) -> Result<bool, AllocError> {
+    /// Whether it writes its text of them so.
+    fn writes_its_text<R: Threads + Wait + Sync>(self, rt: &R, alloc: Global) -> bool {
         let mut text = String::new(alloc);
-        self.push_text(&mut text)?;
-        let bytes = zero_groups(alloc)?;
-        Ok(self.writes(rt, alloc, bytes.as_slice(), text.as_bytes()))
+        self.push_text(&mut text).is_ok() && self.writes(rt, alloc, text.as_bytes())
     }
+}
+
+/// Whether a job writes this text of these bytes, 64 KiB or more at a time but for the last.
+fn writes_large<R: Threads + Wait + Sync>(
+    rt: &R,
+    alloc: Global,
+    job: &Job,
+    bytes: &[u8],
+    text: &[u8],
+) -> bool {
+    let mut reader = FromRead::new(bytes);
+    let mut writer = SlowWriter::new(alloc, usize::MAX, Failure::Never);
+    let answer = transcribe(rt, alloc, &mut reader, &mut writer, job);
+    let most = text.len() as u64 / 65_536 + 1;
+    answer.is_ok() && writer.held.as_slice() == text && writer.writes <= most
 }
 
 // A write has 64 KiB or more, but for the last. One that hands on 512 bytes a call, or a row, has all clauses too.
 #[test]
-fn a_long_text_goes_in_large_writes(rt: HostRuntime) -> Result<(), Fail> {
+fn a_long_text_goes_in_large_writes(rt: HostRuntime) {
     for (k, long) in JOBS.iter().enumerate() {
-        assert!(rt; long.writes_its_text(&rt, rt.alloc())?, "job {k}");
+        assert!(rt; long.writes_its_text(&rt, rt.alloc()), "job {k}");
     }
-    Ok(())
 }

@@ -2,9 +2,8 @@
 ghost use Rattle.std.specs.Prelude.{◌≡◌, None};
 ghost use Rattle.rds_crew.specs.Seats.{IsFresh, IsOf, HasRested};
 
-use rds_crew::{CrewError, Dealer, Seat};
+use rds_crew::{Dealer, Seat};
 use std::alloc::Global;
-use std::test::Fail;
 use std::thread;
 use std::thread::Threads;
 
@@ -25,15 +24,12 @@ fn draw_up(dealer: &Dealer, seat: Seat) -> Seat
 }
 
 /// Whether as many threads as seats draw up all pieces, each of which is then drawn and finished.
-fn are_dealt<R: Threads + Sync>(
-    rt: &R,
-    alloc: Global,
-    pieces: u32,
-    seats: u32,
-) -> Result<bool, CrewError> {
-    let (dealer, seats) = Dealer::new(alloc, u64::from(pieces), seats)?;
+fn are_dealt<R: Threads + Sync>(rt: &R, alloc: Global, pieces: u32, seats: u32) -> bool {
+    let Ok((dealer, seats)) = Dealer::new(alloc, u64::from(pieces), seats) else {
+        return false;
+    };
     let lent = &dealer;
-    let rested = thread::map_vec(
+    let Ok(rested) = thread::map_vec(
         rt,
         seats,
         &|seat| -> Seat
@@ -41,28 +37,28 @@ fn are_dealt<R: Threads + Sync>(
             ensures own { IsOf lent.entry.now result }
             ensures rested { HasRested result }
         { draw_up(lent, seat) },
-    )?;
+    ) else {
+        return false;
+    };
     let closed = dealer.close(rested);
     let all = u64::from(pieces);
-    Ok(closed.drawn == all && closed.finished == all)
+    closed.drawn == all && closed.finished == all
 }
 
 /// Many seats, and as many as there may be.
 static SEATS: [u32; 2] = [8, 256];
 
 #[test]
-fn many_threads_draw_a_thousand_pieces(rt: HostRuntime) -> Result<(), Fail> {
+fn many_threads_draw_a_thousand_pieces(rt: HostRuntime) {
     for &seats in &SEATS {
-        assert!(rt; are_dealt(&rt, rt.alloc(), 1000, seats)?, "{seats} seats");
+        assert!(rt; are_dealt(&rt, rt.alloc(), 1000, seats), "{seats} seats");
     }
-    Ok(())
 }
 
 // By one seat or two.
 #[test]
-fn two_draws_that_were_finished_are_closed_as_two_of_each(rt: HostRuntime) -> Result<(), Fail> {
-    assert!(rt; are_dealt(&rt, rt.alloc(), 2, 1)? && are_dealt(&rt, rt.alloc(), 2, 2)?);
-    Ok(())
+fn two_draws_that_were_finished_are_closed_as_two_of_each(rt: HostRuntime) {
+    assert!(rt; are_dealt(&rt, rt.alloc(), 2, 1) && are_dealt(&rt, rt.alloc(), 2, 2));
 }
 
 /// Whether the seat of a dealer of one piece tells what it holds, has finished and was told.
@@ -100,23 +96,23 @@ fn ends(dealer: &Dealer, seat: Seat) -> bool
 }
 
 #[test]
-fn a_seat_tells_what_it_holds_and_has_done(rt: HostRuntime) -> Result<(), Fail> {
-    assert!(rt; one_seat_does(rt.alloc(), 1)?);
-    Ok(())
+fn a_seat_tells_what_it_holds_and_has_done(rt: HostRuntime) {
+    assert!(rt; one_seat_does(rt.alloc(), 1));
 }
 
 #[test]
-fn a_dealer_of_no_pieces_is_drawn_from_twice(rt: HostRuntime) -> Result<(), Fail> {
-    assert!(rt; one_seat_does(rt.alloc(), 0)?);
-    Ok(())
+fn a_dealer_of_no_pieces_is_drawn_from_twice(rt: HostRuntime) {
+    assert!(rt; one_seat_does(rt.alloc(), 0));
 }
 
 /// Whether the one seat of a dealer tells its steps over its one piece, or ends where it has none.
-fn one_seat_does(alloc: Global, pieces: u32) -> Result<bool, CrewError> {
-    let (dealer, mut seats) = Dealer::new(alloc, u64::from(pieces), 1)?;
+fn one_seat_does(alloc: Global, pieces: u32) -> bool {
+    let Ok((dealer, mut seats)) = Dealer::new(alloc, u64::from(pieces), 1) else {
+        return false;
+    };
     match seats.pop() {
-        Some(seat) if pieces == 0 => Ok(ends(&dealer, seat)),
-        Some(seat) => Ok(tells_its_steps(&dealer, seat)),
-        None => Ok(false),
+        Some(seat) if pieces == 0 => ends(&dealer, seat),
+        Some(seat) => tells_its_steps(&dealer, seat),
+        None => false,
     }
 }

@@ -5,13 +5,12 @@ ghost use Rattle.rds_pieces.specs.Cutting.{IsCutting};
 
 use crate::decoder::crew::journal::{Event, Journal, Noted};
 use crate::decoder::samples::Sample;
-use rds_crew::{CrewError, Gate, decode_crew};
+use rds_crew::{Gate, decode_crew};
 use rds_pieces::{Joint, PieceRun, RecordingWork, Work};
 use rds_sync::Loss;
 use std::alloc::Global;
 use std::sync::Wait;
 use std::sync::atomic::{AtomicU64, Ordering};
-use std::test::Fail;
 use std::thread::Threads;
 
 /// The turns after which a worker no longer waits for others.
@@ -87,7 +86,7 @@ impl<R: Wait> Gate for Watch<'_, R> {
 const HALVES: &[u64] = &[104];
 
 /// What one worker does with two pieces, in order.
-const EVENTS: [Event; 10] = [
+static EVENTS: [Event; 10] = [
     Event::Begun(0),
     Event::Guessed(0),
     Event::Done(0),
@@ -100,49 +99,20 @@ const EVENTS: [Event; 10] = [
     Event::Reported,
 ];
 
-/// Has a crew of so many workers make a work's report.
+/// Has a crew of so many workers make a work's report: whether it did.
 fn decode<R: Threads + Wait, W: Work + Sync, G: Gate + Sync>(
     rt: &R,
     alloc: Global,
     work: &W,
     workers: u32,
     gate: &G,
-) -> Result<(), CrewError>
+) -> bool
     requires { IsCutting (length_of (W.recording work.now)) (W.places work.now) }
 {
-    let _report = decode_crew(rt, alloc, work, workers, gate)?;
-    Ok(())
+    decode_crew(rt, alloc, work, workers, gate).is_ok()
 }
 
-/// Has a crew decode a sample, cut so.
-fn decode_cut<R: Threads + Wait, G: Gate + Sync>(
-    rt: &R,
-    alloc: Global,
-    sample: &Sample,
-    cuts: &[u64],
-    workers: u32,
-    gate: &G,
-) -> Result<(), CrewError> {
-    let Ok(cutting) = sample.cut(alloc, cuts) else {
-        return Err(CrewError::OutOfMemory);
-    };
-    let work = RecordingWork::new(&sample.recording, &sample.rules, &cutting);
-    decode(rt, alloc, &work, workers, gate)
-}
-
-/// Has a crew decode so many zero groups, cut so.
-pub fn decode_groups<R: Threads + Wait, G: Gate + Sync>(
-    rt: &R,
-    alloc: Global,
-    groups: u8,
-    cuts: &[u64],
-    workers: u32,
-    gate: &G,
-) -> Result<(), CrewError> {
-    let sample = Sample::of_groups(alloc, groups, Loss::InARow(10))?;
-    decode_cut(rt, alloc, &sample, cuts, workers, gate)
-}
-
+/// Has a crew decode a sample, cut so, by a work that notes its calls.
 fn note_cut<'a, R: Sync + Threads + Wait, G: Gate + Sync>(
     alloc: Global,
     sample: &'a Sample,
@@ -150,9 +120,9 @@ fn note_cut<'a, R: Sync + Threads + Wait, G: Gate + Sync>(
     workers: u32,
     journal: &'a Journal<'a, R>,
     gate: &G,
-) -> Result<(), CrewError> {
+) -> bool {
     let Ok(cutting) = sample.cut(alloc, cuts) else {
-        return Err(CrewError::OutOfMemory);
+        return false;
     };
     let work = Noted {
         journal,
@@ -161,7 +131,7 @@ fn note_cut<'a, R: Sync + Threads + Wait, G: Gate + Sync>(
     decode(journal.rt, alloc, &work, workers, gate)
 }
 
-/// Has a crew decode so many zero groups, cut so, by a work that notes its calls.
+/// Has a crew decode so many zero groups, cut so, by such a work.
 pub fn note_groups<R: Sync + Threads + Wait, G: Gate + Sync>(
     alloc: Global,
     groups: u8,
@@ -169,9 +139,11 @@ pub fn note_groups<R: Sync + Threads + Wait, G: Gate + Sync>(
     workers: u32,
     journal: &Journal<'_, R>,
     gate: &G,
-) -> Result<(), CrewError> {
-    let sample = Sample::of_groups(alloc, groups, Loss::InARow(10))?;
-    note_cut(alloc, &sample, cuts, workers, journal, gate)
+) -> bool {
+    match Sample::of_groups(alloc, groups, Loss::InARow(10)) {
+        Ok(sample) => note_cut(alloc, &sample, cuts, workers, journal, gate),
+        Err(_) => false,
+    }
 }
 
 /// A gate at which piece 0 waits until the other three are done, each over the range that the cuts give it.
@@ -198,16 +170,19 @@ impl Gate for HeldBack {
 /// The pieces of two zero groups that are cut at 52, 104 and 156.
 const QUARTERS: [(u64, u64); 4] = [(0, 52), (52, 104), (104, 156), (156, 208)];
 
-// Fixed shares would miss: there piece 2 waits behind piece 0.
-#[test]
-fn a_worker_makes_all_else_while_another_is_held_back(rt: HostRuntime) -> Result<(), Fail> {
+/// Whether of two workers one makes all others while one is held back at piece 0.
+fn others_come<R: Sync + Threads + Wait>(rt: &R, alloc: Global) -> bool {
+    let journal = Journal::new(rt, alloc);
     let gate = HeldBack {
         others: Meeting::of(3),
     };
-    let cuts = [52, 104, 156];
-    decode_groups(&rt, rt.alloc(), 2, &cuts, 2, &gate)?;
-    assert!(rt; !gate.others.was_missed());
-    Ok(())
+    note_groups(alloc, 2, &[52, 104, 156], 2, &journal, &gate) && !gate.others.was_missed()
+}
+
+// Fixed shares would miss: there piece 2 waits behind piece 0.
+#[test]
+fn a_worker_makes_all_else_while_another_is_held_back(rt: HostRuntime) {
+    assert!(rt; others_come(&rt, rt.alloc()));
 }
 
 /// Whether each event happened once, over the range that it has to be, and the workers' runs make the report.
@@ -219,22 +194,32 @@ fn shows_both_workers<R: Wait>(journal: &Journal<'_, R>) -> bool {
         && journal.is_over(Event::Reported, (0, 208))
 }
 
-// One thread that makes both pieces in turn would miss, since piece 0 waits for piece 1. A crew that drops the runs of
-// its workers would guess or join again, or report of runs that are not joined.
-#[test]
-fn two_workers_run_at_the_same_time_and_their_runs_make_the_report(rt: HostRuntime) {
-    let journal = Journal::new(&rt, rt.alloc());
+/// Whether two workers meet at two pieces, and the journal shows both.
+fn two_workers_meet<R: Sync + Threads + Wait>(rt: &R, alloc: Global) -> bool {
+    let journal = Journal::new(rt, alloc);
     let watch = Watch {
         journal: &journal,
         second: Meeting::of(1),
     };
-    let answer = note_groups(rt.alloc(), 2, HALVES, 2, &journal, &watch);
-    assert!(rt; answer.is_ok() && !watch.second.was_missed() && shows_both_workers(&journal));
+    note_groups(alloc, 2, HALVES, 2, &journal, &watch)
+        && !watch.second.was_missed()
+        && shows_both_workers(&journal)
+}
+
+// One thread that makes both pieces in turn would miss, since piece 0 waits for piece 1. A crew that drops the runs of
+// its workers would guess or join again, or report of runs that are not joined.
+#[test]
+fn two_workers_run_at_the_same_time_and_their_runs_make_the_report(rt: HostRuntime) {
+    assert!(rt; two_workers_meet(&rt, rt.alloc()));
+}
+
+/// Whether one worker does in order what it has to with two pieces.
+fn one_worker_is_seen<R: Sync + Threads + Wait>(rt: &R, alloc: Global) -> bool {
+    let journal = Journal::new(rt, alloc);
+    note_groups(alloc, 2, HALVES, 1, &journal, &journal) && journal.has(0, &EVENTS)
 }
 
 #[test]
 fn the_gate_is_called_before_and_after_each_piece(rt: HostRuntime) {
-    let journal = Journal::new(&rt, rt.alloc());
-    let answer = note_groups(rt.alloc(), 2, HALVES, 1, &journal, &journal);
-    assert!(rt; answer.is_ok() && journal.has(0, &EVENTS));
+    assert!(rt; one_worker_is_seen(&rt, rt.alloc()));
 }

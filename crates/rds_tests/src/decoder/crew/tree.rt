@@ -1,11 +1,10 @@
 //! The tree of joins, as gates and works see it: which runs are joined, in which order, and side by side.
-use crate::decoder::crew::gates::{Meeting, decode_groups, note_groups};
+use crate::decoder::crew::gates::{Meeting, note_groups};
 use crate::decoder::crew::journal::{Event, Journal};
 use rds_crew::Gate;
 use rds_pieces::PieceRun;
 use std::alloc::Global;
 use std::sync::Wait;
-use std::test::Fail;
 use std::thread::Threads;
 
 /// A gate at which join 0 of level 1 waits until join 1 of that level is begun.
@@ -28,22 +27,26 @@ impl Gate for BesideEachOther {
     }
 }
 
-// Joins that are made one after the other would miss.
-#[test]
-fn the_joins_of_a_level_are_made_at_the_same_time(rt: HostRuntime) -> Result<(), Fail> {
+/// Whether two workers meet at the two joins of four pieces.
+fn joins_meet<R: Sync + Threads + Wait>(rt: &R, alloc: Global) -> bool {
+    let journal = Journal::new(rt, alloc);
     let gate = BesideEachOther {
         second: Meeting::of(1),
     };
-    decode_groups(&rt, rt.alloc(), 4, &[104, 208, 312], 2, &gate)?;
-    assert!(rt; !gate.second.was_missed());
-    Ok(())
+    note_groups(alloc, 4, &[104, 208, 312], 2, &journal, &gate) && !gate.second.was_missed()
+}
+
+// Joins that are made one after the other would miss.
+#[test]
+fn the_joins_of_a_level_are_made_at_the_same_time(rt: HostRuntime) {
+    assert!(rt; joins_meet(&rt, rt.alloc()));
 }
 
 /// The cuts between five zero groups.
 const BETWEEN: &[u64] = &[104, 208, 312, 416];
 
 /// What comes after the 15 events of the guesses of five pieces of a group each, by one worker.
-const LEVELS: [Event; 13] = [
+static LEVELS: [Event; 13] = [
     Event::JoinBegun(1, 0),
     Event::Joined(0, 208),
     Event::JoinDone(1, 0),
@@ -61,7 +64,7 @@ const LEVELS: [Event; 13] = [
 
 /// Of which ranges the runs are that are joined or reported there. Each guess and each join is made once, so that there
 /// is one run over each of them.
-const LENT: [(Event, &[(u64, u64)]); 5] = [
+static LENT: [(Event, &'static [(u64, u64)]); 5] = [
     (Event::Joined(0, 208), &[(0, 104), (104, 208)]),
     (Event::Joined(208, 416), &[(208, 312), (312, 416)]),
     (Event::Joined(0, 416), &[(0, 208), (208, 416)]),
@@ -81,9 +84,13 @@ fn shows_all_joins<R: Wait>(journal: &Journal<'_, R>) -> bool {
         && journal.has_runs_of(Event::Joined(208, 416), &[Event::Done(2), Event::Done(3)])
 }
 
+/// Whether one worker makes all joins of five pieces so.
+fn all_joins_are_seen<R: Sync + Threads + Wait>(rt: &R, alloc: Global) -> bool {
+    let journal = Journal::new(rt, alloc);
+    note_groups(alloc, 5, BETWEEN, 1, &journal, &journal) && shows_all_joins(&journal)
+}
+
 #[test]
 fn neighbours_are_joined_level_by_level_and_the_last_goes_up_as_it_is(rt: HostRuntime) {
-    let journal = Journal::new(&rt, rt.alloc());
-    let answer = note_groups(rt.alloc(), 5, BETWEEN, 1, &journal, &journal);
-    assert!(rt; answer.is_ok() && shows_all_joins(&journal));
+    assert!(rt; all_joins_are_seen(&rt, rt.alloc()));
 }
