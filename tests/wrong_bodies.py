@@ -46,10 +46,10 @@ TOLD = "tests/wrong_bodies.answers"
 ENDED = re.compile(r"^proofs: ended$", re.M)
 # What stands before a body that says more than its contract: a constant is worked out of it, and a type.
 KEEPS_BODY = r"\bconst fn\b|->\s*impl\b"
-# What a check says of an answer that names what an edit took away.
-GONE = "has no field|is not in scope|has no `|was not admitted"
-# An answer to a goal that no function has. Where one is refused, the check writes no answers to start from for what is left
-# open, which takes it 5 to 10 s a crate. What it says of this one is of a name that is gone.
+# What a check says of an answer that names what an edit took away, and of the answer to no goal below.
+GONE = "has no field|is not in scope|has no `|was not admitted|^`no-such-goal`"
+# An answer to a goal that no function has. Where an answer is refused, the check writes no answers to start from for what is
+# left open, which takes it 5 to 10 s a crate. So it is put behind the right ones, and what is said of it is passed over.
 NO_GOAL = """
 pub no-such-goal : goal.no-such-goal
 no-such-goal c = tt
