@@ -12,10 +12,14 @@ KIT = os.path.dirname(os.path.dirname(os.path.realpath(RT)))
 LIBRARIES = ["rds_code", "rds_stream", "rds_sync", "rds_live", "rds_abi", "rds_pieces", "rds_crew", "rds_rows", "rds_tool"]
 # What C calls: a library that no crate stands on.
 EXPORTED = "rds_c"
+# The hole is of any type: its goal is printed, and the statement of a function takes long to print.
 HOLE = """use Rattle.{crate}.proofs.{path}.Statement.{{statement}}
 
+hole : {{A : Type 2}} → A
+hole = ?
+
 pub {name}_spec : {{M : Type 1}} → statement M
-{name}_spec 𝓤 𝓛 𝓜 𝓡 w = ?
+{name}_spec = hole
 """
 
 

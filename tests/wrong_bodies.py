@@ -46,8 +46,14 @@ TOLD = "tests/wrong_bodies.answers"
 ENDED = re.compile(r"^proofs: ended$", re.M)
 # What stands before a body that says more than its contract: a constant is worked out of it, and a type.
 KEEPS_BODY = r"\bconst fn\b|->\s*impl\b"
-# What a check says of an answer that names what an edit took away.
-GONE = "has no field|is not in scope|has no `|was not admitted"
+# What a check says of an answer that names what an edit took away, and of the answer to no goal below.
+GONE = "has no field|is not in scope|has no `|was not admitted|^`no-such-goal`"
+# An answer to a goal that no function has. Where an answer is refused, the check writes no answers to start from for what is
+# left open, which takes it 5 to 10 s a crate. So it is put behind the right ones, and what is said of it is passed over.
+NO_GOAL = """
+pub no-such-goal : goal.no-such-goal
+no-such-goal c = tt
+"""
 
 
 @dataclass(eq=False)
@@ -137,11 +143,16 @@ def put_twin(folder, body, number):
 def put_proof(folder, f, twin):
     """Puts the right proof of a function into the copy, for it or a twin of it."""
     shutil.rmtree(twin.proof(folder), ignore_errors=True)
+    os.makedirs(twin.proof(folder))
     for at, _, names in os.walk(f.proof(CRATES)):
         to = at.replace(f.proof(CRATES), twin.proof(folder), 1)
-        os.makedirs(to)
+        os.makedirs(to, exist_ok=True)
         for it in names:
             write(f"{to}/{it}", re.sub(rf"\bproofs\.{f.path}\b", f"proofs.{twin.path}", read(f"{at}/{it}")))
+    if not os.path.isfile(f"{twin.proof(folder)}/Proof.antt"):
+        path = f"{twin.proof(folder)}/Answers.antt"
+        said = read(path) if os.path.isfile(path) else f"use Rattle.{f.crate}.proofs.{twin.path}.Goals as goal\n"
+        write(path, said + NO_GOAL)
 
 
 def put_loops(folder, crate, edited):

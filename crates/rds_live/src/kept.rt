@@ -1,9 +1,9 @@
 //! The numbers that a decoder of a stream is kept as, and whether numbers are such.
 
-ghost use Rattle.std.specs.Prelude.{◌≡◌, ◌↔◌, ◌≤◌, ◌^◌, ℕ, List, true};
+ghost use Rattle.std.specs.Prelude.{◌≡◌, ◌↔◌, ◌≤◌, ◌*◌, ◌/◌, ◌^◌, ℕ, List, length, min, true};
 ghost use Rattle.rds_stream.specs.Recording.{AreGaps};
 ghost use Rattle.rds_sync.specs.Counting.{IsAtMost};
-ghost use Rattle.rds_live.specs.Live.{IsLive, live_with};
+ghost use Rattle.rds_live.specs.Live.{IsLive, live_with, most_kept};
 
 use rds_sync::{Rules, State, Totals};
 
@@ -40,11 +40,16 @@ pub(crate) fn can_be_live(
     ensures { (gaps : List (ℕ × ℕ)) → AreGaps (2 ^ 36) gaps
         → ((result ≡ true) ↔ IsLive (live_with rules.now gaps tail.now place state totals.now)) }
 {
-    place % 8 == 0
-        && place <= MOST_BITS
-        && tail.len() as u64 == (place / 8).min(MOST_KEPT as u64)
+    is_heard_to(tail, place)
         && state.is_lawful(rules, place)
         && are_at_most(totals, MOST_COUNTED * place)
+}
+
+/// Whether this can be the tail at this place: whole bytes were heard, and it has as many of them as are kept.
+fn is_heard_to(tail: &[u8], place: u64) -> bool
+    ensures { (result ≡ true) ↔ (place ≡ 8 * (place / 8)) × (place ≤ 2 ^ 36) × (length tail.now ≡ min most_kept (place / 8)) }
+{
+    place % 8 == 0 && place <= MOST_BITS && tail.len() as u64 == (place / 8).min(MOST_KEPT as u64)
 }
 
 /// Whether no count is above `most`.
