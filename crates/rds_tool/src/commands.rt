@@ -2,7 +2,7 @@
 ghost use Rattle.std.specs.Prelude.{◌+◌, ◌<◌, ◌≡◌, ◌≤◌, OnOk, codes, false, vec_capacity, vec_len};
 ghost use Rattle.clap.specs.Words.{App, new_app, rule_of, with_rule};
 ghost use Rattle.rds_tool.specs.CommandLine.{Makes, ReadsAs, bare_app, bits_rule, encode_app, flag_rule, follow_app, gaps_rule, number_rule, rds_app, ruled_app, scan_app, share_rule, value_rule, with_crew, with_input, with_part, with_rules, with_settings};
-ghost use Rattle.rds_tool.specs.Inside.Commands.{AddOptions, AddsCommand, AddsOptions};
+ghost use Rattle.rds_tool.specs.Inside.Commands.{AddCommands, AddOptions, AddsCommand, AddsOptions};
 
 use crate::help;
 use clap::{Arg, ArgAction, Command};
@@ -22,26 +22,33 @@ pub fn rds_command<'a>(alloc: Global) -> Result<Command<'a>, AllocError>
     ensures { Makes result rds_app }
 {
     let mut commands = Vec::with_capacity(alloc, COMMANDS)?;
-    push_scan(alloc, &mut commands)?;
+    push_commands(alloc, &mut commands)?;
+    bare_command(alloc).subcommands(commands)
+}
+
+fn push_commands<'a>(alloc: Global, commands: &mut Vec<Command<'a>>) -> Result<(), AllocError>
+    requires { vec_len commands.old + 5 ≤ vec_capacity commands.old }
+    ensures { OnOk result (AddCommands commands.old.items bare_app bare_app → AddCommands commands.new.items bare_app rds_app) }
+{
+    push_scan(alloc, commands)?;
     push_ruled(
         alloc,
-        &mut commands,
+        commands,
         "list",
         help::LIST,
         help::LIST_USAGE,
         help::LIST_AFTER,
     )?;
-    push_follow(alloc, &mut commands)?;
+    push_follow(alloc, commands)?;
     push_ruled(
         alloc,
-        &mut commands,
+        commands,
         "totals",
         help::TOTALS,
         help::TOTALS_USAGE,
         help::TOTALS_AFTER,
     )?;
-    push_encode(alloc, &mut commands)?;
-    bare_command(alloc).subcommands(commands)
+    push_encode(alloc, commands)
 }
 
 fn bare_command<'a>(alloc: Global) -> Command<'a>
