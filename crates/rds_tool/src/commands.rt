@@ -1,6 +1,6 @@
 //! The commands of the program, their options and their help.
-ghost use Rattle.std.specs.Prelude.{◌+◌, ◌<◌, ◌≡◌, ◌≤◌, OnOk, codes, false, vec_capacity, vec_len};
-ghost use Rattle.clap.specs.Words.{App, new_app, rule_of, with_rule};
+ghost use Rattle.std.specs.Prelude.{◌+◌, ◌<◌, ◌≡◌, ◌≤◌, OnOk, false, vec_capacity, vec_len};
+ghost use Rattle.clap.specs.Words.{App, new_app, rule_of};
 ghost use Rattle.rds_tool.specs.CommandLine.{Makes, ReadsAs, bare_app, bits_rule, encode_app, flag_rule, follow_app, gaps_rule, number_rule, rds_app, ruled_app, scan_app, share_rule, value_rule, with_crew, with_input, with_part, with_rules, with_settings};
 ghost use Rattle.rds_tool.specs.Inside.Commands.{AddCommands, AddOptions, AddsCommand, AddsOptions};
 

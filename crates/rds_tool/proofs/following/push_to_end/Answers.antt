@@ -1,4 +1,4 @@
-use Rattle.std.proofs.Common.{◌++◌, ◌∙◌, ◌≡◌, List, append_assoc, ap, sym, ℕ}
+use Rattle.std.proofs.Common.{◌++◌, ◌∙◌, ◌≡◌, List, append_assoc, ap, ℕ}
 use Rattle.std.specs.List.{flat_map}
 use Rattle.rds_tool.specs.Inside.RowWriter.{text_of}
 use Rattle.rds_tool.specs.Listing.{total_row}
