@@ -25,7 +25,7 @@ use Rattle.rds_tool.specs.Inside.Streams.{IsFollowed, IsNearEnd, IsPlaceOf, IsSh
 use Rattle.rds_tool.specs.Listing.{item_row, report_text, totals_text}
 use Rattle.rds_tool.specs.Outcome.{Writes, WritesPrefix, list_text}
 use Rattle.rds_tool.specs.declared.error.ToolError.{ToolError}
-use Rattle.rds_tool.specs.declared.error.ToolError.TheVariants.{BadGaps, OutOfMemory, Read, TooLong, Write}
+use Rattle.rds_tool.specs.declared.error.ToolError.TheVariants.{BadGaps, BitsPastBytes, OutOfMemory, Read, TooLong, Write}
 use Rattle.rds_tool.proofs.GapLists.{pass_as_gaps}
 use Rattle.rds_tool.proofs.Passing.{passed_kind}
 
@@ -481,6 +481,11 @@ pub write_alone : {T : Type 0} (X : Type 0) (r : Result T ToolError) → IfErr r
 write_alone X (Ok x) h = tt
 write_alone X (Err e) h = λ other. absurd (other h)
 
+-- so nothing else is told of it
+pub only_write : {T X : Type 0} (r : Result T ToolError) (k : ToolError) → Write ≢ k → IfErr r (λ e. e ≡ Write) → r ≡ Err k → X
+only_write {T} r k other kinds p =
+    let is : k ≡ Write = subst (λ (x : Result T ToolError). IfErr x (λ e. e ≡ Write)) p kinds in absurd (other (sym is))
+
 -- what holds of a refusal, where there is one
 pub of_err : {T E : Type 0} {P : Type 0} (r : Result T E) (e : E) → r ≡ Err e → OnErr r P → P
 of_err {P = P} r e is p = subst (λ x. OnErr x P) is p
@@ -504,10 +509,30 @@ no_gaps_told e (inl m) p = let bad : OutOfMemory ≡ BadGaps = sym m ∙ p in cc
 no_gaps_told e (inr (inl w)) p = let bad : Write ≡ BadGaps = sym w ∙ p in cc bad
 no_gaps_told e (inr (inr t)) p = let bad : TooLong ≡ BadGaps = sym t ∙ p in cc bad
 
+-- what may break it off before its last bits is no want of bytes
+pub early_has_bytes : (e : ToolError) → MayBreakEarly e → e ≢ BitsPastBytes
+early_has_bytes e (inl m) p = let bad : OutOfMemory ≡ BitsPastBytes = sym m ∙ p in cc bad
+early_has_bytes e (inr (inl d)) p = let bad : Read ≡ BitsPastBytes = sym d ∙ p in cc bad
+early_has_bytes e (inr (inr (inl w))) p = let bad : Write ≡ BitsPastBytes = sym w ∙ p in cc bad
+early_has_bytes e (inr (inr (inr (inl t)))) p = let bad : TooLong ≡ BitsPastBytes = sym t ∙ p in cc bad
+early_has_bytes e (inr (inr (inr (inr g)))) p = let bad : BadGaps ≡ BitsPastBytes = sym g ∙ p in cc bad
+
+-- an answer is of neither kind but these
+pub of_neither : (e a b k : ToolError) → (e ≡ a) ⊎ (e ≡ b) → a ≢ k → b ≢ k → e ≢ k
+of_neither e a b k (inl is) other _ p = other (sym is ∙ p)
+of_neither e a b k (inr is) _ other p = other (sym is ∙ p)
+
 module _ {T : Type 0} (r : Result T ToolError) (e : ToolError) (same : r ≡ Err e) where
+  -- what is not of this kind is no device's refusal, and the device did not fail
+  pub not_told : (k : ToolError) → e ≢ k → (start before after : ℕ) → before ≡ start → after ≡ before → (r ≡ Err k) ↔ (start < after)
+  not_told k other start before after kept still = (λ p. absurd (other (passed_kind r e k same p)), λ q. absurd (omega (arith, kept, still, q)))
+
+  pub no_such : {X : Type 0} (k : ToolError) → e ≢ k → r ≡ Err k → X
+  no_such k other p = absurd (other (passed_kind r e k same p))
+
   -- a chunk is not refused for the reader's sake
   pub read_not_told : RefusesChunk e → (start before after : ℕ) → before ≡ start → after ≡ before → (r ≡ Err Read) ↔ (start < after)
-  read_not_told kind start before after kept still = (λ p. absurd (no_read e kind (passed_kind r e Read same p)), λ q. absurd (omega (arith, kept, still, q)))
+  read_not_told kind start before after kept still = not_told Read (no_read e kind) start before after kept still
 
   -- what is told of a kind of refusal is told of the answer
   pub told_on : {U : Type 0} (k : ToolError) (start before after : ℕ) → before ≡ start → (let x : Result U ToolError = Err e in (x ≡ Err k) ↔ (before < after))

@@ -1,4 +1,5 @@
 -- What the bodies of this crate cite, and no contract of a public function.
+pub mod Commands
 pub mod RowWriter
 pub mod Rows
 pub mod Streams

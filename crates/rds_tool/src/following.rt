@@ -13,8 +13,8 @@ ghost use Rattle.rds_tool.specs.Inside.Streams.{IsFollowed, IsNearEnd, IsPlaceOf
 ghost use Rattle.rds_tool.specs.Listing.{item_row, report_text, totals_text};
 ghost use Rattle.rds_tool.specs.Outcome.{Writes, WritesPrefix};
 
-use crate::fields::push_item;
-use crate::listing::{push_items, rows_of_items, totals_rows};
+use crate::fields::{named, push_item};
+use crate::listing::{push_items, push_named};
 use crate::rows::{CsvRows, rows_in_room, text_of_rows};
 use crate::text::write_flushed;
 use crate::{Failed, Sink, Source, ToolError};
@@ -352,21 +352,22 @@ fn rows_to_end(alloc: Global, items: &[Item], end: &StreamEnd) -> Result<Vec<u8>
         ≡ flat_map item_row items.now ++ (flat_map item_row (group_item end.now.group) ++ totals_text end.now.totals)) }
     ensures refused { IsOkUnless result ToolError.OutOfMemory }
 {
-    let mut text = rows_of_items(alloc, items)?;
-    text.extend_from_slice(rows_of_end(alloc, end)?.as_slice())?;
-    Ok(text)
+    let mut rows = rows_in_room(alloc, 0)?;
+    push_to_end(&mut rows, items, end)?;
+    text_of_rows(rows)
 }
 
-/// The last rows of a listing: of the group in progress, if there is one, and of the totals.
-fn rows_of_end(alloc: Global, end: &StreamEnd) -> Result<Vec<u8>, ToolError>
-    ensures rows { IfOk result (λ text. text.items ≡ flat_map item_row (group_item end.now.group) ++ totals_text end.now.totals) }
+/// The same, behind the rows that stand: at the end are the row of the group in progress, if there is one, and those of the totals.
+fn push_to_end(rows: &mut CsvRows, items: &[Item], end: &StreamEnd) -> Result<(), ToolError>
+    requires { IsBetween rows.old }
+    ensures between { OnOk result (IsBetween rows.new) }
+    ensures text { OnOk result (text_of rows.new ≡ text_of rows.old
+        ++ (flat_map item_row items.now ++ (flat_map item_row (group_item end.now.group) ++ totals_text end.now.totals))) }
     ensures refused { IsOkUnless result ToolError.OutOfMemory }
 {
-    let mut rows = rows_in_room(alloc, 0)?;
-    push_last_group(&mut rows, end)?;
-    let mut text = text_of_rows(rows)?;
-    text.extend_from_slice(totals_rows(alloc, &end.totals)?.as_slice())?;
-    Ok(text)
+    push_items(rows, items)?;
+    push_last_group(rows, end)?;
+    push_named(rows, &named(&end.totals))
 }
 
 /// The row of the group in progress, if there is one.

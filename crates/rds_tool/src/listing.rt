@@ -140,8 +140,23 @@ pub fn named_rows(alloc: Global, totals: &[(&'static str, u64)]) -> Result<Vec<u
     ensures refused { IsOkUnless result ToolError.OutOfMemory }
 {
     let mut rows = rows_in_room(alloc, 0)?;
-    for (name, value) in totals {
-        push_total(&mut rows, name, *value)?;
-    }
+    push_named(&mut rows, totals)?;
     text_of_rows(rows)
+}
+
+/// A row for each of these totals, behind those that stand.
+pub fn push_named(rows: &mut CsvRows, totals: &[(&'static str, u64)]) -> Result<(), ToolError>
+    requires between { IsBetween rows.old }
+    requires plain { All (λ total. IsPlain total.0.now) totals.now }
+    requires short { All (λ total. IsShort total.0.now) totals.now }
+    ensures between { OnOk result (IsBetween rows.new) }
+    ensures text { OnOk result (text_of rows.new
+        ≡ text_of rows.old ++ flat_map total_row (map (λ total. (total.0.now, total.1)) totals.now)) }
+    ensures short { OnOk result (length (text_of rows.new) ≤ length (text_of rows.old) + length totals.now * 168) }
+    ensures refused { IsOkUnless result ToolError.OutOfMemory }
+{
+    for (name, value) in totals {
+        push_total(rows, name, *value)?;
+    }
+    Ok(())
 }

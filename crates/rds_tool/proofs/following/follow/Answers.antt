@@ -1,4 +1,4 @@
-use Rattle.std.proofs.Common.{◌≡◌, ◌+◌, ◌^◌, ◌≤◌, ◌++◌, ◌∙◌, ℕ, List, ap, arith, inl, inr, refl, subst, sym, take}
+use Rattle.std.proofs.Common.{◌≡◌, ◌⊎◌, ◌↔◌, Err, ◌+◌, ◌^◌, ◌<◌, ◌≤◌, ◌++◌, ◌∙◌, ℕ, List, ap, arith, inl, inr, refl, subst, sym, take}
 use Rattle.std.specs.Prelude.{IfSome}
 use Rattle.rds_live.specs.Live.{LiveOf}
 use Rattle.rds_stream.specs.Recording.{AreGaps}
@@ -6,7 +6,8 @@ use Rattle.rds_tool.specs.Following.{MayBreakEarly, MayBreakOff, rows_so_far}
 use Rattle.rds_tool.specs.Input.{claimed}
 use Rattle.rds_tool.specs.Inside.Streams.{bits_left}
 use Rattle.rds_tool.specs.declared.error.ToolError.{ToolError}
-use Rattle.rds_tool.proofs.Followed.{after_refusal, ends_short, few_last, is_place, no_such_gaps, of_call, of_err, on_any_ok, read_as_far, short_left, stops_at_end, stops_behind, stops_here, wrote_all}
+use Rattle.rds_tool.specs.declared.error.ToolError.TheVariants.{BadGaps, BitsPastBytes, OutOfMemory, Read, TooLong, Write}
+use Rattle.rds_tool.proofs.Followed.{after_no_write, after_refusal, early_has_bytes, ends_short, few_last, is_place, no_such, no_such_gaps, not_told, of_call, of_err, of_neither, on_any_ok, only_write, read_as_far, short_left, stops_at_end, stops_behind, stops_here, told_on, write_alone, write_breaks, wrote_all}
 use Rattle.rds_tool.proofs.Passing.{passed, passes}
 use Rattle.rds_tool.proofs.following.follow.Goals as goal
 
@@ -18,8 +19,56 @@ early_is_any e (inr (inr (inl write))) = inr (inr (inl write))
 early_is_any e (inr (inr (inr (inl long)))) = inr (inr (inr (inl long)))
 early_is_any e (inr (inr (inr (inr gaps)))) = inr (inr (inr (inr (inr gaps))))
 
+-- want of the last bits, and of memory for the last rows, may break it off too
+last_is_any : (e : ToolError) → (e ≡ Read) ⊎ (e ≡ BitsPastBytes) → MayBreakOff e
+last_is_any e (inl read) = inr (inl read)
+last_is_any e (inr short) = inr (inr (inr (inr (inl short))))
+
+rest_is_any : (e : ToolError) → (e ≡ OutOfMemory) ⊎ (e ≡ BadGaps) → MayBreakOff e
+rest_is_any e (inl memory) = inl memory
+rest_is_any e (inr gaps) = inr (inr (inr (inr (inr gaps))))
+
+pub returns-in_err-live-clause-read : goal.returns-in_err-live-clause-read
+returns-in_err-live-clause-read g c = told_on _ _ (passed _ _ c.from_residual.ensures) _ _ _ _ refl c.in_err-live.ensures.read
+
+pub returns-in_err-live-clause-write : goal.returns-in_err-live-clause-write
+returns-in_err-live-clause-write g c = told_on _ _ (passed _ _ c.from_residual.ensures) _ _ _ _ refl c.in_err-live.ensures.write
+
+pub returns-in_err-live-clause-too_long : goal.returns-in_err-live-clause-too_long
+returns-in_err-live-clause-too_long g c = λ p. c.in_err-live.ensures.too_long (of_call _ _ (passed _ _ c.from_residual.ensures) _ p)
+
+pub returns-in_err-live-clause-past : goal.returns-in_err-live-clause-past
+returns-in_err-live-clause-past g c = no_such _ _ (passed _ _ c.from_residual.ensures) _ (early_has_bytes _ c.in_err-live.ensures.refused)
+
+pub returns-in_err-live-clause-bad_gaps : goal.returns-in_err-live-clause-bad_gaps
+returns-in_err-live-clause-bad_gaps g c = λ p. inl (c.in_err-live.ensures.bad_gaps (of_call _ _ (passed _ _ c.from_residual.ensures) _ p))
+
+pub returns-in_err-live-clause-between : goal.returns-in_err-live-clause-between
+returns-in_err-live-clause-between g c = after_no_write _ _ (passed _ _ c.from_residual.ensures) c.in_err-live.ensures.between
+
+pub returns-in_err-live-clause-within : goal.returns-in_err-live-clause-within
+returns-in_err-live-clause-within g c = λ p. c.in_err-live.ensures.within (of_call _ _ (passed _ _ c.from_residual.ensures) _ p)
+
 pub returns-in_err-live-clause-refused : goal.returns-in_err-live-clause-refused
 returns-in_err-live-clause-refused g c = passes _ _ _ c.from_residual.ensures (early_is_any _ c.in_err-live.ensures.refused)
+
+pub returns-in_err-count-clause-read : goal.returns-in_err-count-clause-read
+returns-in_err-count-clause-read g c = told_on _ _ (passed _ _ c.from_residual-in_err-count.ensures) _ _ _ _ c.in_ok-live.ensures.reads c.in_err-count.ensures.read
+
+pub returns-in_err-count-clause-write : goal.returns-in_err-count-clause-write
+returns-in_err-count-clause-write g c = not_told _ _ (passed _ _ c.from_residual-in_err-count.ensures) Write (of_neither _ Read BitsPastBytes Write c.in_err-count.ensures.kinds (λ p. cc p) (λ p. cc p)) _ _ _ c.in_ok-live.ensures.writes refl
+
+pub returns-in_err-count-clause-too_long : goal.returns-in_err-count-clause-too_long
+returns-in_err-count-clause-too_long g c = no_such _ _ (passed _ _ c.from_residual-in_err-count.ensures) TooLong (of_neither _ Read BitsPastBytes TooLong c.in_err-count.ensures.kinds (λ p. cc p) (λ p. cc p))
+
+pub returns-in_err-count-clause-bad_gaps : goal.returns-in_err-count-clause-bad_gaps
+returns-in_err-count-clause-bad_gaps g c = no_such _ _ (passed _ _ c.from_residual-in_err-count.ensures) BadGaps (of_neither _ Read BitsPastBytes BadGaps c.in_err-count.ensures.kinds (λ p. cc p) (λ p. cc p))
+
+pub returns-in_err-count-clause-refused : goal.returns-in_err-count-clause-refused
+returns-in_err-count-clause-refused g c = passes _ _ _ c.from_residual-in_err-count.ensures (last_is_any _ c.in_err-count.ensures.kinds)
+
+pub returns-in_err-count-clause-within : goal.returns-in_err-count-clause-within
+returns-in_err-count-clause-within g c = no_such _ _ (passed _ _ c.from_residual-in_err-count.ensures) Write (of_neither _ Read BitsPastBytes Write c.in_err-count.ensures.kinds (λ p. cc p) (λ p. cc p))
 
 pub returns-in_err-count-clause-past : goal.returns-in_err-count-clause-past
 returns-in_err-count-clause-past g c = λ p.
@@ -32,6 +81,24 @@ pub returns-in_err-count-clause-between : goal.returns-in_err-count-clause-betwe
 returns-in_err-count-clause-between g c =
     let (heard, f) = c.in_ok-live.ensures.followed in
     after_refusal _ (stops_here _ _ _ _ _ _ _ heard f _ c.in_err-count.ensures.kept)
+
+pub returns-in_err-rows-clause-read : goal.returns-in_err-rows-clause-read
+returns-in_err-rows-clause-read g c = not_told _ _ (passed _ _ c.from_residual-in_err-rows.ensures) Read (of_neither _ OutOfMemory BadGaps Read c.in_err-rows.ensures.kinds (λ p. cc p) (λ p. cc p)) _ _ _ c.in_ok-live.ensures.reads c.in_ok-count.ensures.count
+
+pub returns-in_err-rows-clause-write : goal.returns-in_err-rows-clause-write
+returns-in_err-rows-clause-write g c = not_told _ _ (passed _ _ c.from_residual-in_err-rows.ensures) Write (of_neither _ OutOfMemory BadGaps Write c.in_err-rows.ensures.kinds (λ p. cc p) (λ p. cc p)) _ _ _ c.in_ok-live.ensures.writes refl
+
+pub returns-in_err-rows-clause-too_long : goal.returns-in_err-rows-clause-too_long
+returns-in_err-rows-clause-too_long g c = no_such _ _ (passed _ _ c.from_residual-in_err-rows.ensures) TooLong (of_neither _ OutOfMemory BadGaps TooLong c.in_err-rows.ensures.kinds (λ p. cc p) (λ p. cc p))
+
+pub returns-in_err-rows-clause-past : goal.returns-in_err-rows-clause-past
+returns-in_err-rows-clause-past g c = no_such _ _ (passed _ _ c.from_residual-in_err-rows.ensures) BitsPastBytes (of_neither _ OutOfMemory BadGaps BitsPastBytes c.in_err-rows.ensures.kinds (λ p. cc p) (λ p. cc p))
+
+pub returns-in_err-rows-clause-refused : goal.returns-in_err-rows-clause-refused
+returns-in_err-rows-clause-refused g c = passes _ _ _ c.from_residual-in_err-rows.ensures (rest_is_any _ c.in_err-rows.ensures.kinds)
+
+pub returns-in_err-rows-clause-within : goal.returns-in_err-rows-clause-within
+returns-in_err-rows-clause-within g c = no_such _ _ (passed _ _ c.from_residual-in_err-rows.ensures) Write (of_neither _ OutOfMemory BadGaps Write c.in_err-rows.ensures.kinds (λ p. cc p) (λ p. cc p))
 
 pub returns-in_err-rows-clause-bad_gaps : goal.returns-in_err-rows-clause-bad_gaps
 returns-in_err-rows-clause-bad_gaps g c = λ p.
@@ -66,6 +133,28 @@ returns-clause-ok g c =
     c.bits_left-left.result c.place.result c.bits_left-left.ensures c.place.ensures.value c.in_ok-count.ensures.within c.in_ok-count.ensures.still _
     (λ before h. c.in_ok-rows.ensures.rows before h ∙ ap (λ (ys : List ℕ). rows_so_far c.in_ok-live.live.terms before ++ ys) (sym c.as_slice.ensures.value)) _
     c.write_flushed.result short (subst (λ (gs : List (ℕ × ℕ)). AreGaps (c.in_ok-live.live.place + c.bits_left-left.result) gs) gaps_are c.in_ok-rows.ensures.gaps) c.write_flushed.ensures.ok
+
+pub returns-clause-read : goal.returns-clause-read
+returns-clause-read g c = (only_write _ Read (λ p. cc p) c.write_flushed.ensures.kinds, λ q. absurd (omega (arith, c.in_ok-live.ensures.reads, c.in_ok-count.ensures.count, q)))
+
+pub returns-clause-write : goal.returns-clause-write
+returns-clause-write g c =
+    subst (λ (n : ℕ). (c.write_flushed.result ≡ Err Write) ↔ (n < g.K.Sink.failed c.write_flushed.new.writer)) c.in_ok-live.ensures.writes c.write_flushed.ensures.write
+
+pub returns-clause-too_long : goal.returns-clause-too_long
+returns-clause-too_long g c = only_write _ TooLong (λ p. cc p) c.write_flushed.ensures.kinds
+
+pub returns-clause-past : goal.returns-clause-past
+returns-clause-past g c = only_write _ BitsPastBytes (λ p. cc p) c.write_flushed.ensures.kinds
+
+pub returns-clause-bad_gaps : goal.returns-clause-bad_gaps
+returns-clause-bad_gaps g c = only_write _ BadGaps (λ p. cc p) c.write_flushed.ensures.kinds
+
+pub returns-clause-refused : goal.returns-clause-refused
+returns-clause-refused g c = write_breaks _ c.write_flushed.ensures.kinds
+
+pub returns-clause-between : goal.returns-clause-between
+returns-clause-between g c = write_alone _ _ c.write_flushed.ensures.kinds
 
 pub returns-clause-within : goal.returns-clause-within
 returns-clause-within g c = λ p.

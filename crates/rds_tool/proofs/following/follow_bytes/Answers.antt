@@ -1,10 +1,10 @@
-use Rattle.std.proofs.Common.{◌+◌, ◌*◌, ◌≡◌, ◌≤◌, ◌⊎◌, ◌++◌, [], inl, inr, arith, ap, refl, sym, subst, ◌∙◌, drop, length, take, ℕ}
+use Rattle.std.proofs.Common.{◌+◌, ◌*◌, ◌≡◌, ◌≢◌, ◌≤◌, Err, ◌⊎◌, ◌++◌, [], inl, inr, arith, ap, refl, sym, subst, ◌∙◌, drop, length, take, ℕ}
 use Rattle.std.specs.Prelude.{IfSome}
 use Rattle.rds_tool.specs.Following.{MayBreakEarly}
 use Rattle.rds_tool.specs.Inside.Streams.{IsNearEnd, IsPlaceOf}
 use Rattle.rds_tool.specs.declared.error.ToolError.{ToolError}
-use Rattle.rds_tool.specs.declared.error.ToolError.TheVariants.{BadGaps, OutOfMemory, TooLong}
-use Rattle.rds_tool.proofs.Followed.{after_no_write, after_refusal, chunk_breaks, few_taken, fits_room, followed_end, followed_more, followed_none, front_is, is_place, lent_whole, near_end_by, no_gaps_told, nothing_done, of_call, read_not_told, smaller, some_taken, stops_behind, stops_here, stops_in_rows, stops_untouched, told_on, too_many}
+use Rattle.rds_tool.specs.declared.error.ToolError.TheVariants.{BadGaps, OutOfMemory, Read, TooLong, Write}
+use Rattle.rds_tool.proofs.Followed.{after_no_write, after_refusal, chunk_breaks, few_taken, fits_room, followed_end, followed_more, followed_none, front_is, is_place, lent_whole, near_end_by, no_gaps_told, no_such, not_told, nothing_done, of_call, of_neither, read_not_told, smaller, some_taken, stops_behind, stops_here, stops_in_rows, stops_untouched, told_on, too_many}
 use Rattle.rds_tool.proofs.Passing.{passed, passed_kind, passes}
 use Rattle.rds_tool.proofs.following.follow_bytes.Goals as goal
 
@@ -13,6 +13,26 @@ begin_breaks : (e : ToolError) → (e ≡ OutOfMemory) ⊎ ((e ≡ TooLong) ⊎ 
 begin_breaks e (inl memory) = inl memory
 begin_breaks e (inr (inl long)) = inr (inr (inr (inl long)))
 begin_breaks e (inr (inr gaps)) = inr (inr (inr (inr gaps)))
+
+begun_not : (e k : ToolError) → (e ≡ OutOfMemory) ⊎ ((e ≡ TooLong) ⊎ (e ≡ BadGaps)) → OutOfMemory ≢ k → TooLong ≢ k → BadGaps ≢ k → e ≢ k
+begun_not e k (inl is) other _ _ p = other (sym is ∙ p)
+begun_not e k (inr (inl is)) _ other _ p = other (sym is ∙ p)
+begun_not e k (inr (inr is)) _ _ other p = other (sym is ∙ p)
+
+pub returns-in_err-live-clause-read : goal.returns-in_err-live-clause-read
+returns-in_err-live-clause-read g c = not_told _ _ (passed _ _ c.from_residual.ensures) Read (begun_not _ Read c.in_err-live.ensures.kinds (λ p. cc p) (λ p. cc p) (λ p. cc p)) _ _ _ refl refl
+
+pub returns-in_err-live-clause-write : goal.returns-in_err-live-clause-write
+returns-in_err-live-clause-write g c = not_told _ _ (passed _ _ c.from_residual.ensures) Write (begun_not _ Write c.in_err-live.ensures.kinds (λ p. cc p) (λ p. cc p) (λ p. cc p)) _ _ _ refl refl
+
+pub returns-in_err-live-clause-too_long : goal.returns-in_err-live-clause-too_long
+returns-in_err-live-clause-too_long g c = λ p. inl (c.in_err-live.ensures.too_long (of_call _ _ (passed _ _ c.from_residual.ensures) _ p))
+
+pub returns-in_err-live-clause-bad_gaps : goal.returns-in_err-live-clause-bad_gaps
+returns-in_err-live-clause-bad_gaps g c = λ p. c.in_err-live.ensures.bad_gaps (of_call _ _ (passed _ _ c.from_residual.ensures) _ p)
+
+pub returns-in_err-live-clause-within : goal.returns-in_err-live-clause-within
+returns-in_err-live-clause-within g c = no_such _ _ (passed _ _ c.from_residual.ensures) Write (begun_not _ Write c.in_err-live.ensures.kinds (λ p. cc p) (λ p. cc p) (λ p. cc p))
 
 pub returns-in_err-live-clause-refused : goal.returns-in_err-live-clause-refused
 returns-in_err-live-clause-refused g c = passes _ _ _ c.from_residual.ensures (begin_breaks _ c.in_err-live.ensures.kinds)
@@ -25,6 +45,25 @@ reads-init g c = record {
   room = c.in_ok-live.ensures.room;
   items = c.in_ok-live.ensures.items;
 }
+
+pub returns-in_err-count-clause-read : goal.returns-in_err-count-clause-read
+returns-in_err-count-clause-read g c =
+    (λ _. omega (arith, c.reads.invariant.reads, c.in_err-count.ensures.failed), λ _. passed _ _ c.from_residual-in_err-count.ensures ∙ ap (λ e. Err e) c.in_err-count.ensures.kinds)
+
+pub returns-in_err-count-clause-write : goal.returns-in_err-count-clause-write
+returns-in_err-count-clause-write g c = not_told _ _ (passed _ _ c.from_residual-in_err-count.ensures) Write (of_neither _ Read Read Write (inl c.in_err-count.ensures.kinds) (λ p. cc p) (λ p. cc p)) _ _ _ c.reads.invariant.writes refl
+
+pub returns-in_err-count-clause-too_long : goal.returns-in_err-count-clause-too_long
+returns-in_err-count-clause-too_long g c = no_such _ _ (passed _ _ c.from_residual-in_err-count.ensures) TooLong (of_neither _ Read Read TooLong (inl c.in_err-count.ensures.kinds) (λ p. cc p) (λ p. cc p))
+
+pub returns-in_err-count-clause-bad_gaps : goal.returns-in_err-count-clause-bad_gaps
+returns-in_err-count-clause-bad_gaps g c = no_such _ _ (passed _ _ c.from_residual-in_err-count.ensures) BadGaps (of_neither _ Read Read BadGaps (inl c.in_err-count.ensures.kinds) (λ p. cc p) (λ p. cc p))
+
+pub returns-in_err-count-clause-refused : goal.returns-in_err-count-clause-refused
+returns-in_err-count-clause-refused g c = passes _ _ MayBreakEarly c.from_residual-in_err-count.ensures (inr (inl c.in_err-count.ensures.kinds))
+
+pub returns-in_err-count-clause-within : goal.returns-in_err-count-clause-within
+returns-in_err-count-clause-within g c = no_such _ _ (passed _ _ c.from_residual-in_err-count.ensures) Write (of_neither _ Read Read Write (inl c.in_err-count.ensures.kinds) (λ p. cc p) (λ p. cc p))
 
 pub returns-in_err-count-clause-between : goal.returns-in_err-count-clause-between
 returns-in_err-count-clause-between g c =
