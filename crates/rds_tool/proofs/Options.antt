@@ -1,70 +1,23 @@
--- A command with one option more, or with one command more below it.
-use Rattle.std.proofs.Common.{◌+◌, ◌||◌, ◌++◌, ◌∙◌, ◌≡◌, List, Vec, [], ◌∷◌, Err, Ok, Result, ap, ap₂, arith, false, refl, subst, vec_capacity, vec_len, ℕ}
-use Rattle.std.specs.Prelude.{OnOk}
-use Rattle.std.specs.Global.{Global}
-use Rattle.clap.specs.Words.{AddsArg, AddsInTurn, AddsSubcommand, App, Rule, rule_of, with_rule, with_subcommand}
+-- A command with one option more.
+use Rattle.std.proofs.Common.{◌||◌, ◌∙◌, ◌≡◌, Err, Ok, Result, ap, ap₂, false}
+use Rattle.std.specs.Prelude.{IfOk}
+use Rattle.clap.specs.Words.{AddsArg, App, Rule, rule_of, with_rule}
 use Rattle.clap.specs.declared.builder.arg.Arg.{Arg}
 use Rattle.clap.specs.declared.builder.command.Command.{Command}
-use Rattle.rds_tool.specs.CommandLine.{ReadsAs}
-use Rattle.rds_tool.specs.Inside.Commands.{AddCommands, AddOptions, AddsCommand, AddsOptions}
+use Rattle.rds_tool.specs.CommandLine.{Makes, ReadsAs}
 
--- the last of them is added to what the others made
-last_added : {X : Type 0} (step : Command → X → Command → Type 0) (old : Command) (xs : List X) (x : X) (new : Command)
-    → AddsInTurn step old (xs ++ x ∷ []) new → (made : Command) × AddsInTurn step old xs made × step made x new
-last_added step old [] x new (made, adds, is) = (old, refl, subst (λ (c : Command). step old x c) is adds)
-last_added step old (y ∷ ys) x new (next, adds, rest) =
-    let (made, before, last) = last_added step next ys x new rest in (made, (next, adds, before), last)
+module _ (old : Command) (option : Arg) (rule : Rule) (local : option.global ≡ false) (is : rule_of option ≡ rule) where
+  pub with_added : (new : Command) → AddsArg old option new → (app : App) → ReadsAs old app → ReadsAs new (with_rule app rule)
+  with_added new adds app reads = record {
+    app = adds.shape local ∙ ap₂ with_rule reads.app is;
+    local = adds.globals ∙ ap₂ (λ a b. a || b) reads.local local;
+  }
 
--- one option more in a list
-pub one_option : (old new : Vec Arg Global) (option : Arg) (rule : Rule) → option.global ≡ false → rule_of option ≡ rule
-    → new.items ≡ old.items ++ option ∷ [] → vec_len new ≡ vec_len old + 1 → vec_capacity new ≡ vec_capacity old
-    → AddsOptions old new 1 (λ app. with_rule app rule)
-one_option old new option rule local is items len room = record {
-  adds = λ from to adds first last turns reads.
-      let (made, before, step) = last_added AddsArg first old.items option last (subst (λ (xs : List Arg). AddsInTurn AddsArg first xs last) items turns) in
-      let known : ReadsAs made to = adds first made before reads in
-      record {
-        app = step.shape local ∙ ap₂ with_rule known.app is;
-        local = step.globals ∙ ap₂ (λ a b. a || b) known.local local;
-      };
-  len = len;
-  room = room;
-}
+  pub made_with : {E : Type 0} (made : Result Command E) → IfOk made (λ new. AddsArg old option new) → (app : App) → ReadsAs old app → Makes made (with_rule app rule)
+  made_with (Ok new) adds app reads = with_added new adds app reads
+  made_with (Err e) adds app reads = tt
 
--- those that come later act on what those before them made
-pub both : (old mid new : Vec Arg Global) (m n : ℕ) (first second : App → App) → AddsOptions old mid m first → AddsOptions mid new n second
-    → AddsOptions old new (m + n) (λ app. second (first app))
-both old mid new m n first second before after = record {
-  adds = λ from to adds. after.adds from (first to) (before.adds from to adds);
-  len = omega arith;
-  room = after.room ∙ before.room;
-}
-
--- an empty list adds nothing
-pub no_option : (options : List Arg) → options ≡ [] → (app : App) → AddOptions options app app
-no_option options none app = λ old new turns reads.
-    subst (λ (c : Command). ReadsAs c app) (subst (λ (xs : List Arg). AddsInTurn AddsArg old xs new) none turns) reads
-
-pub no_command : (commands : List Command) → commands ≡ [] → (app : App) → AddCommands commands app app
-no_command commands none app = λ old new turns reads.
-    subst (λ (c : Command). ReadsAs c app) (subst (λ (xs : List Command). AddsInTurn AddsSubcommand old xs new) none turns) reads
-
--- one command more in a list
-pub one_command : (old new : Vec Command Global) (command : Command) (app : App) → ReadsAs command app → new.items ≡ old.items ++ command ∷ []
-    → vec_len new ≡ vec_len old + 1 → vec_capacity new ≡ vec_capacity old → AddsCommand old new app
-one_command old new command app is items len room = record {
-  adds = λ from to adds first last turns reads.
-      let (made, before, step) = last_added AddsSubcommand first old.items command last (subst (λ (xs : List Command). AddsInTurn AddsSubcommand first xs last) items turns) in
-      let known : ReadsAs made to = adds first made before reads in
-      record {
-        app = step.shape is.local ∙ ap₂ with_subcommand known.app (ap (λ (a : App). a.top) is.app);
-        local = step.globals ∙ ap₂ (λ a b. a || b) known.local is.local;
-      };
-  len = len;
-  room = room;
-}
-
--- what follows of a step that came to its end
-pub on_ok : {E : Type 0} (r : Result (Unit {0}) E) (P Q : Type 0) → (P → Q) → OnOk r P → OnOk r Q
-on_ok (Ok x) P Q more h = more h
-on_ok (Err e) P Q more h = tt
+-- the option's rule, by the name that it has
+pub ruled_by : {E : Type 0} (made : Result Command E) (app : App) (rule named : Rule) → rule ≡ named → Makes made (with_rule app rule) → Makes made (with_rule app named)
+ruled_by (Ok new) app rule named is reads = record { app = reads.app ∙ ap (λ (r : Rule). with_rule app r) is; local = reads.local }
+ruled_by (Err e) app rule named is makes = tt

@@ -1,54 +1,26 @@
 //! The commands of the program, their options and their help.
-ghost use Rattle.std.specs.Prelude.{◌+◌, ◌<◌, ◌≡◌, ◌≤◌, OnOk, false, vec_capacity, vec_len};
-ghost use Rattle.clap.specs.Words.{App, new_app, rule_of};
+ghost use Rattle.std.specs.Prelude.{◌≡◌, codes, false};
+ghost use Rattle.clap.specs.Words.{App, new_app, rule_of, with_rule, with_subcommand};
 ghost use Rattle.rds_tool.specs.CommandLine.{Makes, ReadsAs, bare_app, bits_rule, encode_app, flag_rule, follow_app, gaps_rule, number_rule, rds_app, ruled_app, scan_app, share_rule, value_rule, with_crew, with_input, with_part, with_rules, with_settings};
-ghost use Rattle.rds_tool.specs.Inside.Commands.{AddCommands, AddOptions, AddsCommand, AddsOptions};
 
 use crate::help;
 use clap::{Arg, ArgAction, Command};
 use std::alloc::{AllocError, Global};
 
-// A command is a large value, and what moves one takes long to prove. So it is lists of options and of commands that go
-// from call to call, with room for all that come.
-
-/// How many commands there are.
-const COMMANDS: usize = 5;
-
-/// The most options that a command has: three of its input, five rules, its pieces and two of its crew.
-const MOST_OPTIONS: usize = 11;
+/// A command, or the refusal of memory for it. The functions below pass a refusal on, so that none of their callers has
+/// to look for one.
+type Made<'a> = Result<Command<'a>, AllocError>;
 
 /// The whole command line.
-pub fn rds_command<'a>(alloc: Global) -> Result<Command<'a>, AllocError>
+pub fn rds_command<'a>(alloc: Global) -> Made<'a>
     ensures { Makes result rds_app }
 {
-    let mut commands = Vec::with_capacity(alloc, COMMANDS)?;
-    push_commands(alloc, &mut commands)?;
-    bare_command(alloc).subcommands(commands)
-}
-
-fn push_commands<'a>(alloc: Global, commands: &mut Vec<Command<'a>>) -> Result<(), AllocError>
-    requires { vec_len commands.old + 5 ≤ vec_capacity commands.old }
-    ensures { OnOk result (AddCommands commands.old.items bare_app bare_app → AddCommands commands.new.items bare_app rds_app) }
-{
-    push_scan(alloc, commands)?;
-    push_ruled(
-        alloc,
-        commands,
-        "list",
-        help::LIST,
-        help::LIST_USAGE,
-        help::LIST_AFTER,
-    )?;
-    push_follow(alloc, commands)?;
-    push_ruled(
-        alloc,
-        commands,
-        "totals",
-        help::TOTALS,
-        help::TOTALS_USAGE,
-        help::TOTALS_AFTER,
-    )?;
-    push_encode(alloc, commands)
+    let top = Ok(bare_command(alloc));
+    let top = with_command(top, scan_command(alloc));
+    let top = with_command(top, list_command(alloc));
+    let top = with_command(top, follow_command(alloc));
+    let top = with_command(top, totals_command(alloc));
+    with_command(top, encode_command(alloc))
 }
 
 fn bare_command<'a>(alloc: Global) -> Command<'a>
@@ -59,47 +31,40 @@ fn bare_command<'a>(alloc: Global) -> Command<'a>
         .subcommand_required(true)
 }
 
-fn push_scan<'a>(alloc: Global, commands: &mut Vec<Command<'a>>) -> Result<(), AllocError>
-    requires { vec_len commands.old < vec_capacity commands.old }
-    ensures { OnOk result (AddsCommand commands.old commands.new scan_app) }
+fn scan_command<'a>(alloc: Global) -> Made<'a>
+    ensures { Makes result scan_app }
 {
-    let mut options = Vec::with_capacity(alloc, MOST_OPTIONS)?;
-    push_input(alloc, &mut options);
-    push_crew(alloc, &mut options);
-    let command = named(
+    let command = recording_command(
         alloc,
-        "scan",
-        help::SCAN,
-        help::SCAN_USAGE,
-        help::SCAN_AFTER,
+        named(
+            alloc,
+            "scan",
+            help::SCAN,
+            help::SCAN_USAGE,
+            help::SCAN_AFTER,
+        ),
     );
-    push_command(commands, command, options)
+    with_workers(alloc, command)
 }
 
-/// A command that reads a recording by rules, piece by piece.
-fn push_ruled<'a>(
-    alloc: Global,
-    commands: &mut Vec<Command<'a>>,
-    name: &'a str,
-    about: &'a str,
-    usage: &'a str,
-    after: &'a str,
-) -> Result<(), AllocError>
-    requires { vec_len commands.old < vec_capacity commands.old }
-    ensures { OnOk result (AddsCommand commands.old commands.new (ruled_app name.entry.now)) }
+fn list_command<'a>(alloc: Global) -> Made<'a>
+    ensures { Makes result (ruled_app (codes "list")) }
 {
-    let mut options = Vec::with_capacity(alloc, MOST_OPTIONS)?;
-    push_settings(alloc, &mut options);
-    push_command(commands, named(alloc, name, about, usage, after), options)
+    ruled_command(
+        alloc,
+        named(
+            alloc,
+            "list",
+            help::LIST,
+            help::LIST_USAGE,
+            help::LIST_AFTER,
+        ),
+    )
 }
 
-fn push_follow<'a>(alloc: Global, commands: &mut Vec<Command<'a>>) -> Result<(), AllocError>
-    requires { vec_len commands.old < vec_capacity commands.old }
-    ensures { OnOk result (AddsCommand commands.old commands.new follow_app) }
+fn follow_command<'a>(alloc: Global) -> Made<'a>
+    ensures { Makes result follow_app }
 {
-    let mut options = Vec::with_capacity(alloc, MOST_OPTIONS)?;
-    push_part(alloc, &mut options);
-    push_sync_rules(alloc, &mut options);
     let command = named(
         alloc,
         "follow",
@@ -107,15 +72,27 @@ fn push_follow<'a>(alloc: Global, commands: &mut Vec<Command<'a>>) -> Result<(),
         help::FOLLOW_USAGE,
         help::FOLLOW_AFTER,
     );
-    push_command(commands, command, options)
+    with_sync_rules(alloc, part_command(alloc, Ok(command)))
 }
 
-fn push_encode<'a>(alloc: Global, commands: &mut Vec<Command<'a>>) -> Result<(), AllocError>
-    requires { vec_len commands.old < vec_capacity commands.old }
-    ensures { OnOk result (AddsCommand commands.old commands.new encode_app) }
+fn totals_command<'a>(alloc: Global) -> Made<'a>
+    ensures { Makes result (ruled_app (codes "totals")) }
 {
-    let mut options = Vec::with_capacity(alloc, MOST_OPTIONS)?;
-    options.push_reserved(flag_option(alloc, "hex", help::HEX_OUTPUT));
+    ruled_command(
+        alloc,
+        named(
+            alloc,
+            "totals",
+            help::TOTALS,
+            help::TOTALS_USAGE,
+            help::TOTALS_AFTER,
+        ),
+    )
+}
+
+fn encode_command<'a>(alloc: Global) -> Made<'a>
+    ensures { Makes result encode_app }
+{
     let command = named(
         alloc,
         "encode",
@@ -123,26 +100,7 @@ fn push_encode<'a>(alloc: Global, commands: &mut Vec<Command<'a>>) -> Result<(),
         help::ENCODE_USAGE,
         help::ENCODE_AFTER,
     );
-    push_command(commands, command, options)
-}
-
-/// The command with these options.
-fn push_command<'a>(
-    commands: &mut Vec<Command<'a>>,
-    command: Command<'a>,
-    options: Vec<Arg<'a>>,
-) -> Result<(), AllocError>
-    requires { vec_len commands.old < vec_capacity commands.old }
-    ensures { OnOk result ((bare app : App) → ReadsAs command.entry bare → AddOptions options.entry.items bare app
-        → AddsCommand commands.old commands.new app) }
-{
-    match command.args(options) {
-        Ok(command) => {
-            commands.push_reserved(command);
-            Ok(())
-        }
-        Err(error) => Err(error),
-    }
+    command.arg(flag_option(alloc, "hex", help::HEX_OUTPUT))
 }
 
 fn named<'a>(
@@ -160,54 +118,49 @@ fn named<'a>(
         .after_help(after)
 }
 
-/// The options of a command that reads a recording by rules, piece by piece.
-fn push_settings<'a>(alloc: Global, options: &mut Vec<Arg<'a>>)
-    requires { vec_len options.old + 11 ≤ vec_capacity options.old }
-    ensures { AddsOptions options.old options.new 11 (λ app. with_settings (with_input app)) }
+/// A command that reads a recording, with the options that say how.
+fn recording_command<'a>(alloc: Global, command: Command<'a>) -> Made<'a>
+    ensures { (app : App) → ReadsAs command.entry app → Makes result (with_input app) }
 {
-    push_input(alloc, options);
-    push_sync_rules(alloc, options);
-    options.push_reserved(number_option(alloc, "pieces", "16", help::PIECES));
-    push_crew(alloc, options);
+    part_command(
+        alloc,
+        command.arg(flag_option(alloc, "hex", help::HEX_INPUT)),
+    )
 }
 
-/// Those that say how a recording is read.
-fn push_input<'a>(alloc: Global, options: &mut Vec<Arg<'a>>)
-    requires { vec_len options.old + 3 ≤ vec_capacity options.old }
-    ensures { AddsOptions options.old options.new 3 with_input }
+/// One that reads bits, with the options that say which of them mean something.
+fn part_command<'a>(alloc: Global, command: Made<'a>) -> Made<'a>
+    ensures { (app : App) → Makes command.entry app → Makes result (with_part app) }
 {
-    options.push_reserved(flag_option(alloc, "hex", help::HEX_INPUT));
-    push_part(alloc, options);
+    let command = with_option(command, bits_option(alloc));
+    with_option(command, gaps_option(alloc))
 }
 
-/// Those that say which bits mean something.
-fn push_part<'a>(alloc: Global, options: &mut Vec<Arg<'a>>)
-    requires { vec_len options.old + 2 ≤ vec_capacity options.old }
-    ensures { AddsOptions options.old options.new 2 with_part }
+/// One that reads a recording, with the rules of the synchroniser, its pieces and its crew too.
+fn ruled_command<'a>(alloc: Global, command: Command<'a>) -> Made<'a>
+    ensures { (app : App) → ReadsAs command.entry app → Makes result (with_settings (with_input app)) }
 {
-    options.push_reserved(bits_option(alloc));
-    options.push_reserved(gaps_option(alloc));
+    let command = with_sync_rules(alloc, recording_command(alloc, command));
+    let command = with_number(alloc, command, "pieces", "16", help::PIECES);
+    with_workers(alloc, command)
 }
 
-/// The rules of the synchroniser.
-fn push_sync_rules<'a>(alloc: Global, options: &mut Vec<Arg<'a>>)
-    requires { vec_len options.old + 5 ≤ vec_capacity options.old }
-    ensures { AddsOptions options.old options.new 5 with_rules }
+fn with_sync_rules<'a>(alloc: Global, command: Made<'a>) -> Made<'a>
+    ensures { (app : App) → Makes command.entry app → Makes result (with_rules app) }
 {
-    options.push_reserved(number_option(alloc, "burst", "2", help::BURST));
-    options.push_reserved(number_option(alloc, "reach", "3", help::REACH));
-    options.push_reserved(number_option(alloc, "loss", "10", help::LOSS));
-    options.push_reserved(share_option(alloc));
-    options.push_reserved(number_option(alloc, "of", "64", help::OF));
+    let command = with_number(alloc, command, "burst", "2", help::BURST);
+    let command = with_number(alloc, command, "reach", "3", help::REACH);
+    let command = with_number(alloc, command, "loss", "10", help::LOSS);
+    let command = with_share(alloc, command);
+    with_number(alloc, command, "of", "64", help::OF)
 }
 
 /// How many work, and whether they tell how far they are.
-fn push_crew<'a>(alloc: Global, options: &mut Vec<Arg<'a>>)
-    requires { vec_len options.old + 2 ≤ vec_capacity options.old }
-    ensures { AddsOptions options.old options.new 2 with_crew }
+fn with_workers<'a>(alloc: Global, command: Made<'a>) -> Made<'a>
+    ensures { (app : App) → Makes command.entry app → Makes result (with_crew app) }
 {
-    options.push_reserved(number_option(alloc, "workers", "4", help::WORKERS));
-    options.push_reserved(flag_option(alloc, "progress", help::PROGRESS));
+    let command = with_number(alloc, command, "workers", "4", help::WORKERS);
+    with_option(command, flag_option(alloc, "progress", help::PROGRESS))
 }
 
 fn flag_option<'a>(alloc: Global, name: &'a str, help: &'a str) -> Arg<'a>
@@ -261,4 +214,50 @@ fn value_option<'a>(alloc: Global, name: &'a str, value: &'a str, help: &'a str)
         .value_name(value)
         .action(ArgAction::Set)
         .help(help)
+}
+
+fn with_number<'a>(
+    alloc: Global,
+    command: Made<'a>,
+    name: &'a str,
+    default: &'a str,
+    help: &'a str,
+) -> Made<'a>
+    ensures { (app : App) → Makes command.entry app → Makes result (with_rule app (number_rule name.entry.now default.entry.now)) }
+{
+    with_option(command, number_option(alloc, name, default, help))
+}
+
+fn with_share<'a>(alloc: Global, command: Made<'a>) -> Made<'a>
+    ensures { (app : App) → Makes command.entry app → Makes result (with_rule app share_rule) }
+{
+    with_option(command, share_option(alloc))
+}
+
+fn with_option<'a>(command: Made<'a>, option: Arg<'a>) -> Made<'a>
+    requires { option.global ≡ false }
+    ensures { (app : App) → Makes command.entry app → Makes result (with_rule app (rule_of option.entry)) }
+{
+    match command {
+        Ok(command) => command.arg(option),
+        Err(error) => Err(error),
+    }
+}
+
+fn with_command<'a>(top: Made<'a>, command: Made<'a>) -> Made<'a>
+    ensures { (above below : App) → Makes top.entry above → Makes command.entry below → Makes result (with_subcommand above below.top) }
+{
+    match command {
+        Ok(command) => with_made_command(top, command),
+        Err(error) => Err(error),
+    }
+}
+
+fn with_made_command<'a>(top: Made<'a>, command: Command<'a>) -> Made<'a>
+    ensures { (above below : App) → Makes top.entry above → ReadsAs command.entry below → Makes result (with_subcommand above below.top) }
+{
+    match top {
+        Ok(top) => top.subcommand(command),
+        Err(error) => Err(error),
+    }
 }

@@ -1,8 +1,0 @@
-use Rattle.rds_tool.proofs.Options.{no_option, on_ok}
-use Rattle.rds_tool.proofs.commands.push_scan.Goals as goal
-
-pub returns : goal.returns
-returns c =
-    on_ok c.push_command.result _ _
-    (λ more. more _ _ c.named-command.ensures (c.push_crew.ensures.adds _ _ (c.push_input.ensures.adds _ _ (no_option _ c.in_ok-options.ensures.items _))))
-    c.push_command.ensures
