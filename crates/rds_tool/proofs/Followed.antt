@@ -472,6 +472,11 @@ pub on_any_ok : {T E P : Type 0} (r : Result T E) → P → OnOk r P
 on_any_ok (Ok x) p = p
 on_any_ok (Err e) p = tt
 
+-- what follows of a step that came to its end
+pub on_ok : {E : Type 0} (r : Result (Unit {0}) E) (P Q : Type 0) → (P → Q) → OnOk r P → OnOk r Q
+on_ok (Ok x) P Q more h = more h
+on_ok (Err e) P Q more h = tt
+
 -- the last write alone may be refused
 pub write_breaks : {T : Type 0} (r : Result T ToolError) → IfErr r (λ e. e ≡ Write) → IfErr r MayBreakOff
 write_breaks (Ok x) h = tt

@@ -2,7 +2,7 @@ use Rattle.std.proofs.Common.{◌++◌, ◌∙◌, ◌≡◌, List, append_assoc
 use Rattle.std.specs.List.{flat_map}
 use Rattle.rds_tool.specs.Inside.RowWriter.{text_of}
 use Rattle.rds_tool.specs.Listing.{total_row}
-use Rattle.rds_tool.proofs.Options.{on_ok}
+use Rattle.rds_tool.proofs.Followed.{on_ok}
 use Rattle.rds_tool.proofs.following.push_to_end.Goals as goal
 
 -- what was appended one after another was appended together
