@@ -10,7 +10,8 @@ export RT
 
 SOURCES := crates.txt $(shell find crates -name out -prune -o \( -name '*.rt' -o -name '*.antt' \) -print)
 
-.PHONY: all run quick lib test proofs built archive wrong-bodies install install-lib deb clean toolchain
+.PHONY: all run quick lib test proofs built archives wrong-bodies install install-program install-monitor install-python \
+  install-lib deb wheel clean toolchain
 all: build/rds
 
 toolchain:
@@ -25,13 +26,22 @@ build/rds: $(SOURCES)
 	@mkdir -p build
 	cp crates/rds/out/rds $@
 
-# The library for C: build/lib/librds.a, librds.so.0 and rds.h, of what the toolchain proves and builds of crates/rds_c.
-lib: build/lib/librds.so.0
+# The library for C: librds.a, librds.so.0 and rds.h, of what the toolchain proves and builds of crates/rds_c. `make lib` makes
+# them in build/lib, for any x86-64; `make lib ARCH=arm64` in build/lib-arm64, by Debian's gcc-aarch64-linux-gnu.
+ARCH ?= amd64
+FOLDER_amd64 := build/lib
+FOLDER_arm64 := build/lib-arm64
+TOOLS_arm64  := aarch64-linux-gnu-
+lib: $(FOLDER_$(ARCH))/librds.so.0
 
-build/lib/librds.so.0: $(SOURCES) $(wildcard lib/*)
+$(FOLDER_amd64)/librds.so.0 $(FOLDER_arm64)/librds.so.0: $(SOURCES) $(wildcard lib/*)
 	@$(MAKE) --no-print-directory toolchain
-	cd crates/rds_c && $(RT) lib
-	lib/make_library.sh crates/rds_c/out/librds_c.a build/lib
+	@$(MAKE) --no-print-directory archive-$(if $(filter $(FOLDER_arm64)/%,$@),arm64,amd64)
+
+# over what is proved already, as in the gate
+archive-%:
+	lib/archive.py $* build/librds-$*.a
+	lib/make_library.sh build/librds-$*.a $(FOLDER_$*) $(TOOLS_$*)
 
 # The sample alone may go by an unproved build, which is slow, but there in a minute.
 run: toolchain
@@ -68,28 +78,27 @@ proofs:
 	@exit $$(cat build/proofs.status)
 
 # The library for C over what `proofs` has just built, so that `lib` has nothing left to do: it would prove all of that once more.
-archive:
-	tests/archive.py
-	lib/make_library.sh crates/rds_c/out/librds_c.a build/lib
+# That for arm64 is made where there is a compiler for it.
+archives: archive-amd64 $(if $(shell command -v $(TOOLS_arm64)gcc),archive-arm64)
 
 wrong-bodies:
 	nice tests/wrong_bodies.py $(WHEN)
 
 # Those of the flags that make hands on say how many lanes there are: the scripts have lanes of their own.
 built: proofs
-	+$(MAKE) --no-print-directory archive
+	+$(MAKE) --no-print-directory archives
 	MAKEFLAGS= make --no-print-directory -j $$(nproc) -O $(SCRIPTS)
 
 # The scripts over what is built; those that take longest come first.
-SCRIPTS := $(addprefix tests/,recipes.sh refusals.sh differential.sh library.sh scripts.sh docs.sh package.sh work.sh program.sh \
-  streams.py listings.sh)
+SCRIPTS := $(addprefix tests/,library.sh monitor.sh refusals.sh differential.py scripts.sh docs.sh package.sh work.sh program.sh \
+  recipes.sh streams.py progress.py listings.sh)
 RDS := crates/rds/out/rds
 OVER = $(RDS)
-tests/differential.sh: OVER = $(RDS) crates/rds_plain/out/rds_plain
 tests/refusals.sh: OVER = $(RDS) crates/rds_parts/out/rds_parts
-tests/library.sh: OVER = build/lib $(RDS)
-tests/package.sh: OVER = $(RDS) build/lib
-tests/library.sh tests/package.sh: lib
+tests/library.sh: OVER = build/lib $(RDS) $(FOLDER_arm64)
+tests/package.sh: OVER = $(RDS) build/lib $(FOLDER_arm64)
+tests/monitor.sh tests/scripts.sh tests/growth.sh: OVER = $(RDS) build/lib
+tests/library.sh tests/package.sh tests/monitor.sh tests/scripts.sh tests/growth.sh: lib
 
 # A script that hangs is ended, and named: all of them take a few minutes together. `timeout` puts it out of the terminal's
 # reach, so an interrupt is handed on.
@@ -99,19 +108,41 @@ $(SCRIPTS) tests/growth.sh:
 	@trap 'kill $$!' INT TERM; timeout 1200 $@ $(OVER) & wait $$! || { status=$$?; \
 	  [ $$status != 124 ] || echo "$@: ended, since it ran for more than 1200 seconds" >&2; exit $$status; }
 
-# The program, its manual page, the scripts of the recipes, and completion for bash and zsh.
+# The program, with its manual page, completion for bash and zsh and the examples; and rds-monitor with the Python module librds.
 SHARE = $(DESTDIR)$(PREFIX)/share
-install: $(PROGRAM)
+install: install-program install-monitor
+
+install-program: $(PROGRAM)
 	install -d $(DESTDIR)$(PREFIX)/bin $(SHARE)/man/man1 $(SHARE)/rds/examples $(SHARE)/bash-completion/completions
 	install -d $(DESTDIR)$(ZSH_COMPLETIONS)
 	install -m 755 $(PROGRAM) $(DESTDIR)$(PREFIX)/bin/rds
 	install -m 644 rds.1 $(SHARE)/man/man1/rds.1
-	install -m 755 examples/*.sh examples/*.py $(SHARE)/rds/examples
-	install -m 644 $(filter-out %.sh %.py,$(wildcard examples/*.*)) $(SHARE)/rds/examples
+	install -m 755 examples/*.sh $(SHARE)/rds/examples
+	install -m 644 $(filter-out %.sh,$(wildcard examples/*.*)) $(SHARE)/rds/examples
 	install -m 644 completions/rds.bash $(SHARE)/bash-completion/completions/rds
 	install -m 644 completions/_rds $(DESTDIR)$(ZSH_COMPLETIONS)/_rds
 
-# The library for C, its header, and what pkg-config says of it.
+# `rds-monitor` finds its package, and librds if no system package has it, in share/rds-monitor.
+MONITOR_DIR := $(PREFIX)/share/rds-monitor
+PYTHON_TOO  ?= install-python
+install-monitor: $(PYTHON_TOO)
+	install -d $(DESTDIR)$(PREFIX)/bin $(DESTDIR)$(MONITOR_DIR)/rds_monitor $(SHARE)/man/man1 $(SHARE)/bash-completion/completions
+	install -d $(DESTDIR)$(ZSH_COMPLETIONS)
+	install -m 644 monitor/rds_monitor/*.py $(DESTDIR)$(MONITOR_DIR)/rds_monitor
+	install -d $(DESTDIR)$(MONITOR_DIR)/rds_monitor/page
+	install -m 644 monitor/rds_monitor/page/* $(DESTDIR)$(MONITOR_DIR)/rds_monitor/page
+	install -m 755 monitor/rds-monitor $(DESTDIR)$(PREFIX)/bin/rds-monitor
+	install -m 644 monitor/rds-monitor.1 $(SHARE)/man/man1/rds-monitor.1
+	install -m 644 monitor/completions/rds-monitor.bash $(SHARE)/bash-completion/completions/rds-monitor
+	install -m 644 monitor/completions/_rds-monitor $(DESTDIR)$(ZSH_COMPLETIONS)/_rds-monitor
+
+# The Python module, which loads librds.so.0.
+PYTHON_DIR ?= $(MONITOR_DIR)
+install-python:
+	install -d $(DESTDIR)$(PYTHON_DIR)/librds
+	install -m 644 bindings/python/librds/*.py bindings/python/librds/py.typed $(DESTDIR)$(PYTHON_DIR)/librds
+
+# The library for C, its header, and the files for pkg-config and CMake.
 LIBDIR ?= $(PREFIX)/lib
 # the folder of the library that is installed
 LIBRARY ?= build/lib
@@ -122,11 +153,18 @@ install-lib: $(LIBRARY)/librds.so.0
 	ln -sf librds.so.0 $(DESTDIR)$(LIBDIR)/librds.so
 	install -m 644 lib/rds.h $(DESTDIR)$(PREFIX)/include/rds.h
 	sed 's|@prefix@|$(PREFIX)|; s|@libdir@|$(LIBDIR)|' lib/rds.pc.in > $(DESTDIR)$(LIBDIR)/pkgconfig/rds.pc
+	install -d $(DESTDIR)$(LIBDIR)/cmake/rds
+	install -m 644 lib/rds-config-version.cmake $(DESTDIR)$(LIBDIR)/cmake/rds/rds-config-version.cmake
+	sed 's|@libdir@|$(LIBDIR)|; s|@includedir@|$(PREFIX)/include|' lib/rds-config.cmake.in > $(DESTDIR)$(LIBDIR)/cmake/rds/rds-config.cmake
 
-# All of that as a Debian package below build.
+# All of that as Debian packages below build: those for arm64 too where `make lib ARCH=arm64` was run.
 deb: $(PROGRAM) $(LIBRARY)/librds.so.0
 	@mkdir -p build
-	@packaging/make_deb.sh $(PROGRAM) $(LIBRARY) build
+	@packaging/make_deb.sh $(PROGRAM) $(LIBRARY) build $(patsubst %/librds.so.0,%,$(wildcard $(FOLDER_arm64)/librds.so.0))
+
+# A wheel of the Python module with the library in it, below build.
+wheel: $(FOLDER_$(ARCH))/librds.so.0
+	bindings/python/make_wheel.py $(FOLDER_$(ARCH))/librds.so.0 build
 
 clean:
 	rm -rf build tests/__pycache__

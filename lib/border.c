@@ -2,7 +2,7 @@
  *
  * Each function has the name and the arguments that rds.h declares, and refuses what the proved function of that name requires of
  * its caller and cannot see: lib/make_library.sh renames that one to proved_*. So this page is no part of the proof;
- * tests/library/pointers.c tries each pointer of each function. */
+ * tests/library/border.py tries each pointer of each function. */
 #include "rds.h"
 
 #include <stdbool.h>

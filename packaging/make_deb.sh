@@ -1,10 +1,11 @@
 #!/usr/bin/env bash
-# Builds the Debian package of a program and a library that stand: packaging/make_deb.sh PROGRAM LIBRARY FOLDER
+# Builds the Debian packages of a program and a library that are built: packaging/make_deb.sh PROGRAM LIBRARY FOLDER [ARM64]
 #
-# LIBRARY is the folder that `make lib` fills. Writes FOLDER/rds_VERSION_ARCHITECTURE.deb, of what `make install` and
-# `make install-lib` install, and prints its name. The version is the program's own; the date is SOURCE_DATE_EPOCH, or else
-# that of the last commit, so that the same tree, program and library make the same package.
-# Needs dpkg-dev, strip and make.
+# LIBRARY is the folder that `make lib` fills, ARM64 that of `make lib ARCH=arm64`. FOLDER gets, of what the install targets of the
+# Makefile install: rds, librds0, librds0-dbgsym, librds-dev, python3-librds and rds-monitor, and with ARM64 the three of the library
+# for arm64 too. The names are printed, a line each. The version is the program's own; the date is SOURCE_DATE_EPOCH, or else that
+# of the last commit, so that the same tree, program and library make the same packages.
+# Needs dpkg-dev, strip and make; for arm64 Debian's binutils-aarch64-linux-gnu.
 set -euo pipefail
 export LC_ALL=C
 umask 022
@@ -14,95 +15,142 @@ complain() {
   exit 1
 }
 
-[[ $# == 3 ]] || { echo 'usage: packaging/make_deb.sh PROGRAM LIBRARY FOLDER' >&2; exit 2; }
+[[ $# == 3 || $# == 4 ]] || { echo 'usage: packaging/make_deb.sh PROGRAM LIBRARY FOLDER [ARM64]' >&2; exit 2; }
 [[ -f $1 && -x $1 ]] || complain "$1 is no program"
-[[ -f $2/librds.so.0 && -f $2/librds.a ]] || complain "there is no library in $2"
+for it in "$2" "${@:4}"; do [[ -f $it/librds.so.0 && -f $it/librds.a ]] || complain "there is no library in $it"; done
 [[ -d $3 ]] || complain "there is no folder $3"
-for tool in dpkg dpkg-architecture dpkg-deb dpkg-shlibdeps strip gzip make; do
+for tool in dpkg dpkg-architecture dpkg-deb dpkg-shlibdeps strip objcopy gzip make; do
   command -v "$tool" >/dev/null || complain "there is no $tool here"
 done
 program=$(realpath "$1")
 library=$(realpath "$2")
 folder=$(realpath "$3")
+for_arm64=${4:+$(realpath "$4")}
 cd "$(dirname "$0")/.."
 
 maintainer='Paxolidu maintainers <maintainers@users.noreply.paxolidu.example>'
 version=$("$program" --version) && version=${version#rds }-1
-architecture=$(dpkg --print-architecture)
-libdir=/usr/lib/$(dpkg-architecture -qDEB_HOST_MULTIARCH 2>/dev/null)
 SOURCE_DATE_EPOCH=${SOURCE_DATE_EPOCH:-$(git log -1 --format=%ct 2>/dev/null || date +%s)}
 # dpkg-deb takes the times of the files from it, too
 export SOURCE_DATE_EPOCH
 work=$(mktemp -d)
 trap 'rm -rf "$work"' EXIT
-root=$work/root
-share=$root/usr/share
 
-# libraries: what the program and the library need, as dpkg-shlibdeps names it
-libraries() {
+# installed TARGET NAME VARIABLE..: the Makefile's target into the folder of a package, by paths without blanks
+installed() { env -u MAKEFLAGS -u MAKELEVEL make -s "$1" DESTDIR="$work/$2" PREFIX=/usr "${@:3}"; }
+
+# needed FILE..: what these files need, as dpkg-shlibdeps names it
+needed() {
   mkdir -p "$work/debian"
   printf 'Source: rds\n\nPackage: rds\nArchitecture: any\n' > "$work/debian/control"
-  (cd "$work" && dpkg-shlibdeps -O "$program" "$library/librds.so.0" 2>/dev/null) | sed -n 's/^shlibs:Depends=//p'
+  (cd "$work" && dpkg-shlibdeps -O "$@" 2>/dev/null) | sed -n 's/^shlibs:Depends=//p'
 }
 
-install_files() {
-  # by a path without blanks, and not as a part of the make that calls this script
-  mkdir "$work/lib"
-  strip -o "$work/rds" "$program"
-  strip --strip-unneeded -o "$work/lib/librds.so.0" "$library/librds.so.0"
-  strip --strip-debug --enable-deterministic-archives -o "$work/lib/librds.a" "$library/librds.a"
-  env -u MAKEFLAGS -u MAKELEVEL make -s install install-lib PROGRAM="$work/rds" LIBRARY="$work/lib" DESTDIR="$root" \
-    PREFIX=/usr LIBDIR="$libdir" ZSH_COMPLETIONS=/usr/share/zsh/vendor-completions
-  # as Debian has libraries
-  chmod 644 "$root$libdir/librds.so.0"
-  gzip -9n "$share/man/man1/rds.1"
-}
-
-install_documents() {
-  install -D -m 644 -t "$share/doc/rds" README.md packaging/copyright
-  install -D -m 644 -t "$share/doc/rds/docs" docs/USING.md docs/RECIPES.md
-  gzip -9n < CHANGELOG.md > "$share/doc/rds/changelog.gz"
-  gzip -9n > "$share/doc/rds/changelog.Debian.gz" <<ENTRY
+# documents NAME FILE..: what each package has below share/doc
+documents() {
+  local doc=$work/$1/usr/share/doc/$1
+  install -D -m 644 -t "$doc" packaging/copyright "${@:2}"
+  gzip -9n < CHANGELOG.md > "$doc/changelog.gz"
+  gzip -9n > "$doc/changelog.Debian.gz" <<ENTRY
 rds ($version) unstable; urgency=medium
 
-  * What is new stands in changelog.gz.
+  * See changelog.gz.
 
  -- $maintainer  $(date -u -R -d "@$SOURCE_DATE_EPOCH")
 ENTRY
 }
 
-control() {
+# package NAME ARCHITECTURE SECTION FIELDS DESCRIPTION: builds it of its folder, and prints its name
+package() {
+  local root=$work/$1 file=$folder/$1_${version}_$2.deb
   install -d "$root/DEBIAN"
-  cat > "$root/DEBIAN/control" <<FIELDS
-Package: rds
-Version: $version
-Section: hamradio
-Priority: optional
-Architecture: $architecture
-Maintainer: $maintainer
-Installed-Size: $(du -ks --apparent-size "$root/usr" | cut -f 1)
-Depends: $1
-Recommends: perl, python3, python3-numpy
-Suggests: gnuplot-nox, parallel, rtl-sdr, sqlite3, xxd
-Description: decoder of Radio Data System recordings
- Decodes recordings of demodulated Radio Data System bits (IEC 62106
- baseband coding) offline: acquisitions of synchronism, groups with their
- corrected and lost blocks, losses and totals. It encodes the other way, too.
- .
- Scripts make its input from what a receiver gives, and tables, pictures and
- databases from what it writes. The same decoder is there as a library for C.
-FIELDS
-  echo 'librds 0 rds' > "$root/DEBIAN/shlibs"
-  echo 'activate-noawait ldconfig' > "$root/DEBIAN/triggers"
+  { printf 'Package: %s\nSource: rds\nVersion: %s\nSection: %s\nPriority: optional\nArchitecture: %s\n' "$1" "$version" "$3" "$2"
+    printf 'Maintainer: %s\nInstalled-Size: %s\n' "$maintainer" "$(du -ks --apparent-size "$root/usr" | cut -f 1)"
+    printf '%s\nDescription: %s\n' "$4" "$5"; } > "$root/DEBIAN/control"
   (cd "$root" && find usr -type f -exec md5sum {} + | sort -k 2) > "$root/DEBIAN/md5sums"
+  find "$root" -exec touch -h -d "@$SOURCE_DATE_EPOCH" {} +
+  dpkg-deb --root-owner-group -Zxz --build "$root" "$file" >/dev/null
+  rm -rf "$root"
+  echo "$file"
 }
 
-needed=$(libraries)
-[[ $needed ]] || complain "dpkg-shlibdeps does not say what $1 needs"
-install_files
-install_documents
-control "$needed"
-find "$root" -exec touch -h -d "@$SOURCE_DATE_EPOCH" {} +
-package=$folder/rds_${version}_$architecture.deb
-dpkg-deb --root-owner-group -Zxz --build "$root" "$package" >/dev/null
-echo "$package"
+about='Radio Data System (RDS, IEC 62106) recordings'
+
+# ---- the library: library ARCHITECTURE FOLDER TRIPLET TOOLS
+
+library() {
+  local lib=$work/lib name=librds0 libdir=/usr/lib/$3 id
+  rm -rf "$lib" && mkdir "$lib"
+  "$4"strip --strip-unneeded -o "$lib/librds.so.0" "$2/librds.so.0"
+  "$4"strip --strip-debug --enable-deterministic-archives -o "$lib/librds.a" "$2/librds.a"
+  installed install-lib librds-dev LIBRARY="$lib" LIBDIR="$libdir"
+  install -d "$work/$name$libdir"
+  mv "$work/librds-dev$libdir/librds.so.0" "$work/$name$libdir/"
+  # as Debian has libraries
+  chmod 644 "$work/$name$libdir/librds.so.0"
+
+  id=$("$4"readelf -n "$2/librds.so.0" | sed -n 's/^ *Build ID: //p')
+  install -d "$work/$name-dbgsym/usr/lib/debug/.build-id/${id:0:2}"
+  "$4"objcopy --only-keep-debug "$2/librds.so.0" "$work/$name-dbgsym/usr/lib/debug/.build-id/${id:0:2}/${id:2}.debug"
+  chmod 644 "$work/$name-dbgsym/usr/lib/debug/.build-id/${id:0:2}/${id:2}.debug"
+  mkdir -p "$work/$name-dbgsym/usr/share/doc"
+  ln -s "$name" "$work/$name-dbgsym/usr/share/doc/$name-dbgsym"
+  package "$name-dbgsym" "$1" debug "Depends: $name (= $version)
+Build-Ids: $id" "debug symbols for librds0"
+
+  documents "$name"
+  install -d "$work/$name/DEBIAN"
+  echo 'librds 0 librds0' > "$work/$name/DEBIAN/shlibs"
+  echo 'activate-noawait ldconfig' > "$work/$name/DEBIAN/triggers"
+  package "$name" "$1" libs "Multi-Arch: same
+Depends: libc6 (>= 2.14)" "decoder of $about, shared library
+ Decodes demodulated RDS bits into sync acquisitions, groups with their
+ corrected and uncorrectable blocks, and sync losses. It encodes groups, too.
+ The decoder's code is proved to meet its definitions."
+
+  documents librds-dev lib/rds.h
+  rm "$work/librds-dev/usr/share/doc/librds-dev/rds.h"
+  package librds-dev "$1" libdevel "Multi-Arch: same
+Depends: $name (= $version)" "decoder of $about, development files
+ The header, the static library, and the files for pkg-config and CMake, for
+ programs in C and C++."
+}
+
+triplet() { dpkg-architecture -a"$1" -qDEB_HOST_MULTIARCH 2>/dev/null; }
+library amd64 "$library" "$(triplet amd64)" ''
+[[ -z $for_arm64 ]] || library arm64 "$for_arm64" "$(triplet arm64)" aarch64-linux-gnu-
+
+# ---- Python
+
+installed install-python python3-librds PYTHON_DIR=/usr/lib/python3/dist-packages
+documents python3-librds
+package python3-librds all python "Depends: python3 (>= 3.9), librds0 (>= $version)
+Recommends: python3-numpy" "decoder of $about, Python module
+ The module librds decodes recordings and live streams of RDS bits, into
+ Python values or numpy arrays."
+
+installed install-monitor rds-monitor ZSH_COMPLETIONS=/usr/share/zsh/vendor-completions PYTHON_TOO=
+gzip -9n "$work"/rds-monitor/usr/share/man/man1/*.1
+documents rds-monitor
+package rds-monitor all hamradio "Depends: python3 (>= 3.9), python3-numpy, python3-librds (= $version)
+Recommends: rds, libjs-d3, python3-jinja2
+Suggests: parallel, python3-pandas, python3-soundfile, rtl-sdr" "tables, databases and alarms from $about
+ Says what a station sent and how well it was received: block errors,
+ outages, contents, SQLite, JSON, a check for monitoring systems. It turns an
+ FM multiplex or IQ samples into RDS bits."
+
+# ---- the program
+
+mkdir "$work/bin"
+strip -o "$work/bin/rds" "$program"
+installed install-program rds PROGRAM="$work/bin/rds" ZSH_COMPLETIONS=/usr/share/zsh/vendor-completions
+gzip -9n "$work/rds/usr/share/man/man1/rds.1"
+documents rds README.md
+install -D -m 644 -t "$work/rds/usr/share/doc/rds/docs" docs/USING.md docs/RECIPES.md
+package rds amd64 hamradio "Depends: $(needed "$program")
+Recommends: rds-monitor" "decoder of $about
+ Decodes demodulated RDS bits into a listing: sync acquisitions, groups with
+ their corrected and uncorrectable blocks, sync losses and totals, from files
+ or live. It encodes groups, too.
+ .
+ The program needs a processor with SSE4.2 and POPCNT (x86-64-v2)."

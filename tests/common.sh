@@ -1,7 +1,8 @@
 # shellcheck shell=bash
 # What the scripts of this folder have in common. Each sources it, and says before in $usage how it is called.
 #
-# It makes a folder $work that goes when the script ends, and counts what passes and fails.
+# It makes a folder $work that goes when the script ends, and counts what passes and fails. If UNTIL_FAILURE is set, a script ends at
+# its first failure.
 
 set -uo pipefail
 export LC_ALL=C
@@ -28,7 +29,7 @@ failed=0
 needs() {
     local tool at
     mkdir "$work/tools" || exit 1
-    for tool in dirname realpath mktemp rm mkdir tail awk "$@"; do
+    for tool in dirname realpath mktemp rm mkdir tail awk chmod timeout "$@"; do
         at=$(type -P "$tool") || command_not_found_handle "$tool"
         ln -sf "$at" "$work/tools/$tool" || exit 1
     done
@@ -50,12 +51,27 @@ check_programs() {
     done
 }
 
+# The seconds that one call of a program may take. None takes more than three or four. refuse.c and the scripts in Python know it too.
+export LIMIT=${LIMIT:-60}
+
+# limit_time PATH: makes a program of the same name that runs that one, and ends it after so many seconds; its path goes into $limited
+limit_time() {
+    mkdir -p "$work/limited"
+    limited=$work/limited/${1##*/}
+    printf '#!/bin/sh\nexec "%s" --foreground %s "%s" "$@"\n' "$(type -P timeout)" "$LIMIT" "$1" >"$limited"
+    chmod +x "$limited" || exit 1
+}
+
 pass() { passed=$((passed + 1)); }
 
 # fail TEXT..: counts a failure, and says what it is
 fail() {
     failed=$((failed + 1))
     echo "FAILED: $*"
+    if [ -n "${UNTIL_FAILURE:-}" ]; then
+        finish
+        exit
+    fi
 }
 
 # finish: the last line, and whether all passed; nothing tried is no success

@@ -11,7 +11,7 @@ usage='usage: tests/docs.sh PATH-TO-RDS'
 . "$(dirname "$0")/common.sh" || exit
 check_programs "${1:-}"
 rds=$(realpath "$1")
-needs cat cmp cp grep python3 sed
+needs cat cmp cp find grep python3 sed sort
 cd "$here/.." || exit 1
 
 # pages [FOLDER]: compares the pages, of the folder or of this one; python may need more tools
@@ -24,6 +24,18 @@ if pages; then
 else
     fail 'the pages differ'
     cat "$work/said"
+fi
+
+# ---- whole proofs by hand
+
+# A proof by hand could set a history to anything, so there are two: of how a history begins, and of how it grows.
+find crates -name Proof.antt -not -path '*/out/*' | sort > "$work/by_hand"
+printf 'crates/rds_trace/proofs/trace/Trace/%s/Proof.antt\n' new note > "$work/wanted"
+if cmp -s "$work/wanted" "$work/by_hand"; then
+    pass
+else
+    fail 'whole proofs by hand are not those of rds_trace'
+    cat "$work/by_hand"
 fi
 
 # ---- planted differences
@@ -85,12 +97,28 @@ planted examples/README.md 's/^| `gaps.sh` |/| `gap.sh` |/' 'examples/README.md,
 planted docs/MODEL.md 's/^| lock | /| run | /' 'docs/MODEL.md, words that the glossary has twice'
 planted docs/MODEL.md '/^| lock | /s/.*/& \n| a | \n| b | \n| c | \n| d | \n| e | /' 'docs/MODEL.md, words of the glossary past forty'
 planted docs/TESTING.md '/^| `\{0,1\}rds_code`\{0,1\} |.*edits/s/\([0-9]*\) edits/1\1 edits/' 'docs/TESTING.md, edits of rds_code'
+testing=docs/TESTING.md
+planted Makefile 's/ progress\.py / /' "$testing, scripts of the gate"
+planted $testing '/^| 8 | `tests.refusals.sh`/d' "$testing, scripts of the gate"
+planted tests/README.md '/^| `work.sh`, /d' 'tests/README.md, scripts of the gate'
+planted Makefile 's/timeout 1200 /timeout 120 /' "$testing, minutes of a script"
+planted tests/differential.py 's/^SEEDS = 120$/SEEDS = 12/' 'as in tests/differential.py'
+planted tests/differential.py 's/^RUNS = 11$/RUNS = 1/' "$testing, runs of differential.py"
+planted tests/streams.py 's/^SEEDS = 2000$/SEEDS = 20/' 'as in tests/streams.py'
+planted tests/library.sh 's/RECORDINGS:-2000/RECORDINGS:-20/' 'as in tests/library.sh'
+planted tests/library/states.c 's/k < 200000/k < 2000/' 'as in tests/library/states.c'
+planted tests/library/threads.c 's/THREADS = 8/THREADS = 2/' 'as in tests/library/threads.c'
+planted tests/growth.sh 's/^most=8$/most=80/' 'as in tests/growth.sh'
+planted tests/work.sh 's/ spare=10 kept/ spare=1 kept/' 'as in tests/work.sh'
+planted tests/work.sh 's/65536 + 4/65536 + 400/' 'as in tests/work.sh'
+planted tests/listings.sums '1d' "$testing, sums of listings.sh"
+planted tests/refusals.sh '/^job .*--burst 5/d' "$testing, jobs of refusals.sh"
 planted README.md 's|(docs/USING.md)|(docs/USAGE.md)|' 'README.md: the link docs/USAGE.md leads nowhere'
 planted README.md 's|USING.md#a-stream|USING.md#a-river|' 'README.md: the link docs/USING.md#a-river names no heading'
 planted README.md 's|\[docs/MODEL.md\](docs/MODEL.md)|docs/MODEL.md|' 'docs/MODEL.md: no link from README.md or docs/ARCHITECTURE.md'
-planted docs/RECIPES.md 's|examples/off_air.sh|examples/on_air.sh|' 'docs/RECIPES.md: there is no examples/on_air.sh'
+planted docs/RECIPES.md 's|examples/gaps.sh|examples/holes.sh|' 'docs/RECIPES.md: there is no examples/holes.sh'
 planted README.md 's/make install  /make instal   /' 'README.md: there is no target instal'
-planted docs/RECIPES.md 's/rds list --bits/rds list --bit/' 'docs/RECIPES.md: rds list has no option --bit'
-planted docs/RECIPES.md 's/rds totals </rds total </' 'docs/RECIPES.md: rds has no command total'
+planted docs/RECIPES.md 's/rds list --gaps/rds list --gap/' 'docs/RECIPES.md: rds list has no option --gap'
+planted docs/RECIPES.md 's/rds list </rds lists </' 'docs/RECIPES.md: rds has no command lists'
 
 finish

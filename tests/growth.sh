@@ -1,19 +1,26 @@
 #!/usr/bin/env bash
-# Time that grows as the input does: tests/growth.sh PATH-TO-RDS
+# Time that grows as the input does: tests/growth.sh PATH-TO-RDS [LIBRARY-FOLDER [--gaps]]
 #
 # Runs jobs over inputs of three sizes, each four times the one before, and compares the processor time that they take: it
 # may grow eightfold from one size to the next. A job that goes over its input some times takes four times as long; one
 # that goes over it once more for each acquisition, gap, piece or row takes sixteen times. No time is compared with a number
 # of seconds. Other programs disturb a measurement: the least time of a size counts, and a job has failed where it grows
 # so in fifteen attempts.
+# Then it compares jobs that do the same in two ways: a stream and a list, many workers and one, a reader that is slow and a file, calls
+# of the library for C and a list. With --gaps it compares those with ten thousand gaps too, which are no part of the gate: today
+# `follow` and rds_push go over all gaps for each 960 bytes, and take some three times as long as a list.
 # The last line is 'N passed, M failed', and the exit status says whether all passed.
 
-usage='usage: tests/growth.sh PATH-TO-RDS'
+usage='usage: tests/growth.sh PATH-TO-RDS [LIBRARY-FOLDER [--gaps]]'
 # shellcheck source-path=SCRIPTDIR source=common.sh
 . "$(dirname "$0")/common.sh" || exit
 check_programs "${1:-}"
+if [ $# -gt 1 ] && [ ! -f "$2/librds.a" ]; then misused; fi
+case ${3:-} in '' | --gaps) ;; *) misused ;; esac
 rds=$(realpath "$1")
-needs basenc cat seq timeout tr
+library=${2:+$(realpath "$2")}
+limit_time "$rds"
+needs basenc cat head seq sleep tr
 cd "$work" || exit 1
 
 # How many times the time of a size the next may take, and how often a job is measured.
@@ -25,7 +32,7 @@ attempts=15
 # noise SEED COUNT: so many lines of 26 digits
 noise() { words "$1" "$2" | awk '{ print $0 substr($0, 1, 10) }'; }
 
-words 23 12000 | "$rds" encode --hex >sent || exit 1
+words 23 12000 | "$limited" encode --hex >sent || exit 1
 as_bytes <sent >station || exit 1
 noise 29 12000 | as_bytes >hiss || exit 1
 # Two groups of a station and four of noise, by turns: each time a lock is acquired, and lost.
@@ -42,17 +49,26 @@ for input in station hiss losing damaged worst lines; do
     done
 done
 
-# gaps COUNT: the text of so many gaps, one of a place in each 500
-gaps() { awk -v n="$1" 'BEGIN { for (; k < n; k++) printf "%s%d-%d", k ? "," : "", k * 500, k * 500 + 1; print "" }'; }
+# gaps COUNT [EACH [FROM]]: the text of so many gaps, one of a place in each 500, or in EACH, the first one there
+gaps() {
+    awk -v n="$1" -v each="${2:-500}" -v from="${3:-0}" \
+        'BEGIN { for (; k < n; k++) printf "%s%d-%d", k ? "," : "", k * each + from, k * each + from + 1; print "" }'
+}
 
 # ---- times
 
-# spend MOST INPUT WORDS..: the milliseconds of a processor that the job takes, into $spent; it is ended where it has not
+# What reads the output of a job.
+reader='cat'
+
+# slowly: what it reads, 64 KiB at a time, and waits after each
+slowly() { while head -c 65536 >piece && [ -s piece ]; do cat piece && sleep 0.005; done; }
+
+# spend MOST INPUT COMMAND..: the milliseconds of a processor that the job takes, into $spent; it is ended where it has not
 # done in ten seconds and four times as much, since others may have the processor meanwhile, and counts as longer than MOST
 spend() {
     local most=$1 limit=$(($1 * 4 / 1000 + 10)) input=$2 TIMEFORMAT='%U %S' times
     shift 2
-    if times=$({ time timeout "$limit" "$rds" "$@" <"$input" >out 2>err; } 2>&1) && [ -s out ]; then
+    if times=$({ { time timeout "$limit" "$@" <"$input" 2>err; } 2>&3 | "$reader" >out; } 3>&1) && [ -s out ]; then
         spent=$(awk '{ printf "%d", ($1 + $2) * 1000 + 1 }' <<<"$times")
     else
         spent=$((most + 1000))
@@ -62,7 +78,7 @@ spend() {
 # measure SIZE WORDS..: the least time of the job of this size so far, into least[SIZE]
 measure() {
     local size=$1 before=${least[$1 / 4]:-60000}
-    spend $((most * before)) "$input.$size" "${@:2}"
+    spend $((most * before)) "$input.$size" "$rds" "${@:2}"
     ((spent > ${least[size]:-spent})) || least[size]=$spent
 }
 
@@ -116,5 +132,59 @@ job losing totals --gaps GAPS --pieces PIECES --workers 1
 job lines encode
 job lines encode --hex
 job lines list --hex --workers 1
+
+# ---- jobs that do the same in two ways
+
+# beside TIMES READER INPUT COMMAND.. beside COMMAND..: whether the first job, whose output goes to that reader, takes at most so many
+# times as long as the second, whose goes to cat; the least of at least three times each counts
+beside() {
+    local times=$1 reader_of_these=$2 input=$3 these=() attempt least_of_these=60000 least_of_those=60000 reader text
+    shift 3
+    while [ "$1" != beside ]; do
+        these+=("$1")
+        shift
+    done
+    shift
+    for attempt in $(seq $attempts); do
+        reader='cat'
+        spend 60000 "$input" "$@"
+        ((spent > least_of_those)) || least_of_those=$spent
+        reader=$reader_of_these
+        spend 60000 "$input" "${these[@]}"
+        ((spent > least_of_these)) || least_of_these=$spent
+        ((attempt < 3 || least_of_these > times * least_of_those)) || break
+    done
+    if ((least_of_these > times * least_of_those)); then
+        text="${these[*]} of $input into $reader"
+        fail "${text:0:200}: $least_of_these ms of a processor, and not $times times $least_of_those ($attempt attempts)"
+    else
+        pass
+    fi
+}
+
+one=("$rds" list --workers 1)
+beside 2 cat station.16 "$rds" follow beside "${one[@]}"
+beside 2 cat losing.16 "$rds" follow beside "${one[@]}"
+beside 2 cat station.16 "$rds" follow --bits 19000001 beside "${one[@]}" --bits 19000001
+for workers in 8 32; do
+    beside 4 cat station.16 "$rds" scan --workers $workers beside "$rds" scan --workers 1
+    beside 4 cat station.16 "$rds" list --workers $workers beside "${one[@]}"
+done
+beside 2 cat station.16 "$rds" list --progress beside "$rds" list
+beside 2 slowly station.16 "$rds" list beside "$rds" list
+# a recording whose rows are one part
+beside 3 cat station.1 "$rds" list --workers 4 beside "${one[@]}"
+if [ -n "$library" ]; then
+    PATH=$all_tools ${CC:-cc} -O2 -I"$library" -o push "$here/push.c" "$library/librds.a" || exit 1
+    beside 2 cat station.16 ./push 65536 0 beside "${one[@]}"
+    beside 2 cat station.16 ./push 1024 0 beside "${one[@]}"
+else
+    echo 'skipped: calls of the library, which is not given'
+fi
+if [ -n "${3:-}" ]; then
+    many=$(gaps 10000 9 5)
+    beside 2 cat station.16 "$rds" follow --gaps "$many" beside "${one[@]}" --gaps "$many"
+    beside 2 cat station.16 ./push 65536 10000 beside "${one[@]}" --gaps "$many"
+fi
 
 finish

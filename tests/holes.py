@@ -9,9 +9,11 @@ from dataclasses import dataclass
 TOP = os.path.dirname(os.path.dirname(os.path.abspath(__file__)))
 RT = shutil.which(os.environ.get("RT", "rt")) or sys.exit("there is no Rattle toolchain (rt) on the PATH")
 KIT = os.path.dirname(os.path.dirname(os.path.realpath(RT)))
-LIBRARIES = ["rds_code", "rds_stream", "rds_sync", "rds_live", "rds_abi", "rds_pieces", "rds_crew", "rds_rows", "rds_tool"]
+LIBRARIES = ["rds_code", "rds_stream", "rds_sync", "rds_live", "rds_abi", "rds_pieces", "rds_crew", "rds_trace", "rds_rows", "rds_tool"]
 # What C calls: a library that no crate stands on.
 EXPORTED = "rds_c"
+# The callers of the libraries, proved from contracts alone.
+CALLERS = "rds_uses"
 # The hole is of any type: its goal is printed, and the statement of a function takes long to print.
 HOLE = """use Rattle.{crate}.proofs.{path}.Statement.{{statement}}
 
@@ -112,8 +114,8 @@ def functions_of(folder):
             )
 
 
-def copied(folder, crates):
-    """Copies crates to `folder`, with holes for the proofs of the libraries; gives the libraries' functions.
+def copied(folder, crates, with_holes=(*LIBRARIES, EXPORTED)):
+    """Copies crates to `folder`, with holes for the proofs of those that are named; gives the functions of these.
 
     What a copying that was broken off left there is written over.
     """
@@ -121,7 +123,7 @@ def copied(folder, crates):
     for crate in crates:
         here, there = f"{TOP}/crates/{crate}", f"{folder}/{crate}"
         shutil.copytree(here, there, ignore=shutil.ignore_patterns("out"), dirs_exist_ok=True)
-        functions += functions_of(f"{folder}/{crate}") if crate in [*LIBRARIES, EXPORTED] else []
+        functions += functions_of(f"{folder}/{crate}") if crate in with_holes else []
     for f in functions:
         f.put_hole(folder)
     return functions

@@ -1,18 +1,20 @@
 #!/usr/bin/env bash
-# The library for C, Rust and Python: tests/library.sh FOLDER PATH-TO-RDS
+# The library for C, Rust and Python: tests/library.sh FOLDER PATH-TO-RDS [FOLDER-FOR-ARM64]
 #
 # FOLDER holds what lib/make_library.sh laid out. What rds.h declares is compared with the sources and with the bindings, and
 # with what both libraries show; programs in C, Rust and Python decode random recordings as the program does; each
-# allocation is refused; eight threads call at once; random states and streams, and pointers to nothing, are handed over. What a
+# allocation is refused; eight threads call at once; random states and streams, and bad pointers, are handed over. What a
 # tool is missing for is skipped, by name. The last line is 'N passed, M failed', and the exit status says whether all passed.
 
-usage='usage: tests/library.sh FOLDER PATH-TO-RDS'
+usage='usage: tests/library.sh FOLDER PATH-TO-RDS [FOLDER-FOR-ARM64]'
 # shellcheck source-path=SCRIPTDIR source=common.sh
 . "$(dirname "$0")/common.sh" || exit
 check_programs "${2:-}"
 [ -f "$1/librds.so.0" ] || misused
 library=$(realpath "$1")
-program=$(realpath "$2")
+limit_time "$(realpath "$2")"
+program=$limited
+for_arm64=$(realpath -m "${3:-none}")
 cd "$here/.." || exit 1
 sample=examples/station.bin
 strict=(-Wall -Wextra -Wpedantic -Werror -O2 "-I$library")
@@ -30,7 +32,7 @@ has() {
 tried() {
   local name=$1
   shift
-  if "$@" >"$work/said" 2>&1; then pass; else
+  if timeout 600 "$@" >"$work/said" 2>&1; then pass; else
     fail "$name"
     sed 's/^/  /' "$work/said" | tail -20
   fi
@@ -58,6 +60,10 @@ same 'what librds.so.0 shows' "$declared" "$(nm -D --defined-only "$library/libr
 same 'what librds.a shows' "$declared" "$(nm --defined-only -g "$library/librds.a" | awk 'NF == 3 {print $3}' | sort)"
 same 'what librds.a needs' 'free malloc memcpy memmove memset realloc' "$(nm -u "$library/librds.a" | awk 'NF == 2 {print $2}' | sort | tr '\n' ' ' | sed 's/ $//')"
 
+tried 'every number of the header' tests/library/header.py "$library" "$program"
+mkdir "$work/border"
+tried 'every pointer of every function' tests/library/border.py "$library" "$work/border"
+
 # A wrong declaration is found: a result of another type, fields that changed places, a constant pointer.
 for wrong in 's/^uint8_t rds_items/uint32_t rds_items/' 's/uint64_t lost; /uint64_t lots; /' \
   's/const rds_state_t \*state/rds_state_t *state/'; do
@@ -70,16 +76,29 @@ done
 make_program() {
   tried "making $1" "${CC:-cc}" -std=c11 -D_DEFAULT_SOURCE "${strict[@]}" -o "$work/$1" "tests/library/$1.c" "$library/librds.a" -lpthread
 }
-for it in rows refused threads states streams pointers; do make_program "$it"; done
+for it in rows refused threads states streams cases; do make_program "$it"; done
+
+# One table of calls with their answers, for C, Python, Rust and the second decoder.
+table=tests/library/cases.txt
+answered() { timeout 60 "$@" <"$table"; }
+same 'the calls of the table by C' "$(cat "$table")" "$(sed 's/ = .*//' "$table" | timeout 60 "$work/cases")"
 rows=("$work/rows")
 if has cargo; then
   export RDS_LIB_DIR=$library CARGO_TARGET_DIR=$work/cargo
   tried 'the crate for Rust, and its tests' cargo test --quiet --offline --manifest-path bindings/rust/Cargo.toml
-  tried 'rows in Rust' cargo build --quiet --offline --release --example rows --manifest-path bindings/rust/Cargo.toml
+  tried 'programs in Rust' cargo build --quiet --offline --release --examples --manifest-path bindings/rust/Cargo.toml
+  same 'the calls of the table by Rust' "$(grep -v '^name ' "$table")" \
+    "$(grep -v '^name ' "$table" | timeout 60 "$work/cargo/release/examples/cases")"
   rows+=("$work/cargo/release/examples/rows")
 fi
 if has python3; then
   export RDS_LIBRARY=$library/librds.so.0
+  if /usr/bin/python3 -c 'import numpy' 2>/dev/null; then
+    same 'the calls of the table by Python' "$(cat "$table")" "$(answered /usr/bin/python3 -B tests/library/cases.py)"
+    same 'the calls of the table by the second decoder' "$(cat "$table")" "$(answered /usr/bin/python3 -B tests/library/cases.py --plain)"
+  else
+    echo 'skipped: the tests that need numpy'
+  fi
   TMPDIR=$work tried "$count random recordings" python3 -B tests/library/compare.py "$count" "$program" "${rows[@]}"
 fi
 # ---- what is shown to users
@@ -124,7 +143,6 @@ fi
 # ---- what may go wrong
 
 tried 'allocations refused' "$work/refused" "$sample"
-tried 'pointers' "$work/pointers" "$sample"
 tried 'eight threads' "$work/threads" "$sample"
 tried 'random states' "$work/states" "$sample"
 tried 'random streams' "$work/streams" "$sample"
@@ -133,9 +151,38 @@ if has valgrind; then
   checked=(valgrind -q --error-exitcode=99 --leak-check=full)
   tried 'rows under valgrind' "${checked[@]}" "$work/rows" "$sample" "$bits" 5 8 1 0 1000 2000
   tried 'a share under valgrind' "${checked[@]}" "$work/rows" "$sample" "$bits" 2 3 5 20
-  tried 'random states under valgrind' "${checked[@]}" "$work/states" "$sample"
-  tried 'pointers under valgrind' "${checked[@]}" "$work/pointers" "$sample"
-  tried 'random streams under valgrind' "${checked[@]}" "$work/streams" "$sample"
+  tried 'random states under valgrind' "${checked[@]}" "$work/states" "$sample" 10
+  tried 'random streams under valgrind' "${checked[@]}" "$work/streams" "$sample" 10
+fi
+
+# ---- other processors: the oldest x86-64, and arm64, which an emulator runs
+
+# emulated NAME LIBRARY COMPILER EMULATOR..: the programs in C print there as they do here
+emulated() {
+  local name=$1 folder=$2 compiler=$3 it words
+  local emulator=("${@:4}")
+  for it in rows refused threads states streams cases; do
+    words=("$sample")
+    case $it in
+      rows) words+=($((8 * $(wc -c <"$sample"))) 5 8 1 0 1000 2000) ;;
+      # a tenth of them: an emulator is slow
+      states | streams) words+=(10) ;;
+      cases) words=() ;;
+    esac
+    tried "$it for $name" "$compiler" -std=c11 -D_DEFAULT_SOURCE -O2 "-I$folder" -o "$work/$it-$name" "tests/library/$it.c" \
+      "$folder/librds.a" -lpthread
+    same "$it on $name" "$(called "$work/$it")" "$(called "${emulator[@]}" "$work/$it-$name")"
+  done
+}
+# called PROGRAM..: what it prints of the words
+called() { sed 's/ = .*//' "$table" | timeout 300 "$@" "${words[@]}" 2>&1; }
+if has qemu-x86_64; then emulated core2 "$library" "${CC:-cc}" qemu-x86_64 -cpu core2duo; fi
+if has qemu-aarch64 aarch64-linux-gnu-gcc; then
+  if [ -f "$for_arm64/librds.a" ]; then
+    emulated arm64 "$for_arm64" aarch64-linux-gnu-gcc qemu-aarch64 -L /usr/aarch64-linux-gnu
+  else
+    fail "there is no library for arm64 in $for_arm64"
+  fi
 fi
 
 finish

@@ -23,7 +23,7 @@ import subprocess
 import sys
 import time
 
-import rds
+import librds
 
 program, path = sys.argv[1:]
 
@@ -46,6 +46,6 @@ def by_program():
 print(f"rds totals --workers 1 of the same: {least(by_program):.4f} s")
 with open(path, "rb") as recording:
     data = recording.read()
-count = len(rds.items_array(data))
-print(f"rds.items_array: {count / least(lambda: rds.items_array(data)) / 1e6:.2f} million items a second, of {count}")
+count = len(librds.items_array(data))
+print(f"librds.items_array: {count / least(lambda: librds.items_array(data)) / 1e6:.2f} million items a second, of {count}")
 CODE

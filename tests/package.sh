@@ -1,17 +1,23 @@
 #!/usr/bin/env bash
-# Completion and the Debian package: tests/package.sh PATH-TO-RDS LIBRARY-FOLDER
+# Completion and the Debian packages: tests/package.sh PATH-TO-RDS LIBRARY-FOLDER [FOLDER-FOR-ARM64]
 #
-# What completion offers is compared with the program's help (tests/docs.sh compares that with the pages). The package is built, checked by
-# lintian, installed in a root folder of its own, tried and removed: a program of README.md is linked with the installed
-# library, by both of its forms, and run. What a tool is missing for is skipped, by name.
+# What completion offers is compared with the program's help (tests/docs.sh compares that with the pages). The packages are built, checked
+# by lintian, installed in a root folder of their own, tried and removed: a program of README.md is linked with the installed library, by
+# both of its forms, by pkg-config and by CMake, and run. What a tool is missing for is skipped, by name.
 
-usage='usage: tests/package.sh PATH-TO-RDS LIBRARY-FOLDER'
+usage='usage: tests/package.sh PATH-TO-RDS LIBRARY-FOLDER [FOLDER-FOR-ARM64]'
 # shellcheck source-path=SCRIPTDIR source=common.sh
 . "$(dirname "$0")/common.sh"
 check_programs "${1:-}"
-program=$(realpath "$1")
+built=$(realpath "$1")
+limit_time "$built"
+program=$limited
 [[ -f ${2:-}/librds.so.0 ]] || misused
 library=$(realpath "$2")
+for_arm64=()
+[[ ! -f ${3:-}/librds.so.0 ]] || for_arm64=("$(realpath "$3")")
+# an upload to Debian closes a bug, and its symbols files are made there
+left_to_the_archive=initial-upload-closes-no-bugs,no-symbols-control-file
 # dpkg looks for its helpers there
 PATH=$PATH:/usr/local/sbin:/usr/sbin:/sbin
 cd "$here/.." || exit 1
@@ -82,7 +88,7 @@ if has zsh; then
   done
 fi
 
-# ---- the package
+# ---- the packages
 
 # Installing gives files to root, or seems to.
 as_root=()
@@ -94,51 +100,55 @@ dpkg_there() {
     > "$work/said" 2>&1 || { cat "$work/said"; return 1; }
 }
 
-# files_there: what stands in the root folder but for dpkg's own
+# files_there: the files in the root folder but for dpkg's own
 files_there() { (cd "$root" && find . -path ./var/lib/dpkg -prune -o ! -type d -print | sed 's/^\.//' | sort); }
+
+# files_of NAME: the files that a package holds
+files_of() { dpkg-deb --contents "$1" | awk '!/^d/ { sub(/.* \.\//, "/"); sub(/ -> .*/, ""); print }'; }
 
 station() { "$program" list < examples/station.bin; }
 
 if has dpkg dpkg-architecture dpkg-deb dpkg-shlibdeps readelf strip lintian "${as_root[@]}"; then
   export SOURCE_DATE_EPOCH=1700000000
   mkdir "$work/a folder"
-  package=$(packaging/make_deb.sh "$program" "$library" "$work/a folder")
-  same 'its name' "$work/a folder/rds_$("$program" --version | sed 's/^rds //')-1_$(dpkg --print-architecture).deb" "$package"
-  same 'errors of lintian' '' "$(lintian --allow-root --fail-on error --tag-display-limit 0 "$package" 2>&1 | grep '^E:')"
-  same 'its status' 0 "$(lintian --allow-root --fail-on error "$package" >/dev/null 2>&1; echo $?)"
-  cp "$package" "$work/first.deb"
-  packaging/make_deb.sh "$program" "$library" "$work/a folder" >/dev/null
-  same 'the same again' "$(cksum < "$work/first.deb")" "$(cksum < "$package")"
+  version=$("$program" --version | sed 's/^rds //')-1
+  mapfile -t packages < <(packaging/make_deb.sh "$built" "$library" "$work/a folder" "${for_arm64[@]}")
+  expected=(librds0-dbgsym:amd64 librds0:amd64 librds-dev:amd64)
+  ((!${#for_arm64[@]})) || expected+=(librds0-dbgsym:arm64 librds0:arm64 librds-dev:arm64)
+  expected+=(python3-librds:all rds-monitor:all rds:amd64)
+  same 'their names' "$(for it in "${expected[@]}"; do echo "$work/a folder/${it%:*}_${version}_${it#*:}.deb"; done)" \
+    "$(printf '%s\n' "${packages[@]}")"
+  same 'errors and warnings of lintian' '' \
+    "$(lintian --allow-root --suppress-tags "$left_to_the_archive" --tag-display-limit 0 "${packages[@]}" 2>&1 | grep '^[EW]:')"
+  cksum "${packages[@]}" > "$work/first"
+  packaging/make_deb.sh "$built" "$library" "$work/a folder" "${for_arm64[@]}" > /dev/null
+  same 'the same again' "$(cat "$work/first")" "$(cksum "${packages[@]}")"
 
-  # an empty system on which what the package depends on is installed
+  # an empty system on which what the packages depend on is installed
   root=$work/root
   mkdir -p "$root"/var/lib/dpkg/{info,updates,triggers}
-  dpkg-query --status libc6 > "$root/var/lib/dpkg/status"
-  dpkg_there --install "$package" || fail 'it is not installed'
-  same 'what is installed' "$(dpkg-deb --contents "$package" | awk '!/^d/ { sub(/.* \.\//, "/"); sub(/ -> .*/, ""); print }' | sort)" "$(files_there)"
-  same 'nothing is missing or other than it was' '' "$(dpkg --root="$root" --verify rds)"
+  for it in libc6 python3 python3-numpy; do dpkg-query --status "$it"; echo; done > "$root/var/lib/dpkg/status" 2> /dev/null
+  mapfile -t here_installed < <(printf '%s\n' "${packages[@]}" | grep -v '_arm64\.deb$')
+  dpkg_there --force-depends --install "${here_installed[@]}" 2> /dev/null || fail 'they are not installed'
+  same 'the installed files' "$(for it in "${here_installed[@]}"; do files_of "$it"; done | sort)" "$(files_there)"
+  same 'nothing is missing or other than it was' '' "$(dpkg --root="$root" --verify 2> /dev/null)"
   same 'the installed program' "$(station | cksum)" \
     "$("$root/usr/bin/rds" list < "$root/usr/share/rds/examples/station.bin" | cksum)"
   same 'the installed manual page' "$(cksum < rds.1)" "$(gzip -dc "$root/usr/share/man/man1/rds.1.gz" | cksum)"
-  same 'the installed examples' "$(find examples -maxdepth 1 -type f | sed 's/^/\/usr\/share\/rds\//' | sort)" \
-    "$(files_there | grep /examples/)"
-  same 'an installed script' "$(station | examples/hex_groups.sh | cksum)" \
-    "$(station | "$root/usr/share/rds/examples/hex_groups.sh" | cksum)"
-  same 'completion and documents' "/usr/share/bash-completion/completions/rds
-/usr/share/doc/rds/README.md
-/usr/share/doc/rds/changelog.Debian.gz
-/usr/share/doc/rds/changelog.gz
-/usr/share/doc/rds/copyright
-/usr/share/doc/rds/docs/RECIPES.md
-/usr/share/doc/rds/docs/USING.md
-/usr/share/zsh/vendor-completions/_rds" "$(files_there | grep -E 'completions|/doc/')"
+  same 'an installed script' "$(examples/gaps.sh <<< '104 1')" "$("$root/usr/share/rds/examples/gaps.sh" <<< '104 1')"
   libdir=/usr/lib/$(dpkg-architecture -qDEB_HOST_MULTIARCH)
   same 'the library' "/usr/include/rds.h
+$libdir/cmake/rds/rds-config-version.cmake
+$libdir/cmake/rds/rds-config.cmake
 $libdir/librds.a
 $libdir/librds.so
 $libdir/librds.so.0
-$libdir/pkgconfig/rds.pc" "$(files_there | grep -E '/(lib|include)/')"
-  same 'what the shared library has for debugging' '' "$(readelf -S "$root$libdir/librds.so.0" | grep -o '\.debug_[a-z]*')"
+$libdir/pkgconfig/rds.pc" "$(files_there | grep -E "^($libdir|/usr/include)/")"
+  same 'the debug symbols are in their own package' '' "$(readelf -S "$root$libdir/librds.so.0" | grep -o '\.debug_[a-z]*')"
+  same 'they belong to the library' "$(readelf -n "$root$libdir/librds.so.0" | sed -n 's/^ *Build ID: \(..\)\(.*\)/\1\/\2.debug/p')" \
+    "$(cd "$root/usr/lib/debug/.build-id" && find . -name '*.debug' | sed 's/^\.\///')"
+  same 'the library is bound when it is loaded' 'BIND_NOW NOW' "$(readelf -d "$root$libdir/librds.so.0" | grep -o 'BIND_NOW\|Flags: NOW' |
+    sed 's/Flags: //' | tr '\n' ' ' | sed 's/ $//')"
   readme_program c > "$work/readme.c"
   ${CC:-cc} -o "$work/by_archive" "$work/readme.c" "-I$root/usr/include" "$root$libdir/librds.a" || fail 'it does not link with librds.a'
   same 'a program with librds.a' '7691 valid, 1923 groups' "$("$work/by_archive" < examples/station.bin)"
@@ -151,14 +161,30 @@ $libdir/pkgconfig/rds.pc" "$(files_there | grep -E '/(lib|include)/')"
     same 'a program with librds.so' '7691 valid, 1923 groups' \
       "$(LD_LIBRARY_PATH=$root$libdir "$work/by_name" < examples/station.bin)"
   fi
-  dpkg_there --purge rds || fail 'it is not removed'
-  same 'what is left of it' '' "$(files_there)$(find "$root/usr" 2>/dev/null)"
+  if /usr/bin/python3 -c 'import numpy' 2> /dev/null; then
+    there=(env "LD_LIBRARY_PATH=$root$libdir" "PYTHONPATH=$root/usr/lib/python3/dist-packages" PYTHONDONTWRITEBYTECODE=1)
+    readme_program python > "$work/readme.py"
+    same 'a program in Python' '7691 valid, 1923 groups' "$("${there[@]}" /usr/bin/python3 "$work/readme.py" < examples/station.bin)"
+    same 'the installed rds-monitor' 0 "$("${there[@]}" "$root/usr/bin/rds-monitor" errors examples/station.bin > /dev/null; echo $?)"
+  fi
+  if has cmake; then
+    mkdir "$work/cmake" && cp "$work/readme.c" "$work/cmake/readme.c"
+    printf 'cmake_minimum_required(VERSION 3.16)\nproject(readme C)\nfind_package(rds 0.2 REQUIRED)\nadd_executable(readme readme.c)\n%s\n' \
+      'target_link_libraries(readme rds::static)' > "$work/cmake/CMakeLists.txt"
+    # the files name where the library is once it is installed
+    sed -i "s|\"/usr|\"$root/usr|" "$root$libdir/cmake/rds/rds-config.cmake"
+    { cmake -S "$work/cmake" -B "$work/cmake/made" "-Drds_DIR=$root$libdir/cmake/rds" &&
+      cmake --build "$work/cmake/made"; } > "$work/said" 2>&1 || cat "$work/said"
+    same 'a program by CMake' '7691 valid, 1923 groups' "$("$work/cmake/made/readme" < examples/station.bin)"
+  fi
+  dpkg_there --force-depends --purge rds rds-monitor python3-librds librds-dev librds0-dbgsym librds0 || fail 'they are not removed'
+  same 'what is left of them' '' "$(files_there)$(find "$root/usr" 2>/dev/null)"
 
   same 'a package of no program' 'make_deb: examples is no program' "$(packaging/make_deb.sh examples "$library" "$work" 2>&1)"
   same 'a package of no library' 'make_deb: there is no library in examples' \
-    "$(packaging/make_deb.sh "$program" examples "$work" 2>&1)"
+    "$(packaging/make_deb.sh "$built" examples "$work" 2>&1)"
   same 'a package into no folder' "make_deb: there is no folder $work/none" \
-    "$(packaging/make_deb.sh "$program" "$library" "$work/none" 2>&1)"
+    "$(packaging/make_deb.sh "$built" "$library" "$work/none" 2>&1)"
   same 'the status without words' 2 "$(packaging/make_deb.sh 2>/dev/null; echo $?)"
 fi
 

@@ -64,7 +64,8 @@ class Program:
         self.totals = set(re.findall(r"^total,(\w+),", self.says("totals"), re.M))
 
     def says(self, *words):
-        return subprocess.run([self.rds, *words], capture_output=True, text=True, check=True, stdin=subprocess.DEVNULL).stdout
+        asked = {"capture_output": True, "text": True, "check": True, "stdin": subprocess.DEVNULL, "timeout": int(os.environ.get("LIMIT", 60))}
+        return subprocess.run([self.rds, *words], **asked).stdout
 
     @staticmethod
     def options_in(text):
@@ -150,6 +151,57 @@ def compare_numbers():
     for crate, count in re.findall(r"^\| `?(rds_\w+)`? \|.*\| (\d+) edits", read("docs/TESTING.md"), re.M):
         folders = (f"crates/{crate}/{kind}" for kind in ("wrong", "must-fail"))
         same(f"docs/TESTING.md, edits of {crate}", sum(len(os.listdir(it)) for it in folders if os.path.isdir(it)), int(count))
+
+
+# Numbers as words.
+COUNTED = {"four": 4, "eight": 8, "tenth": 10, "hundredth": 100}
+
+# What docs/TESTING.md says of a test, and where the test says it.
+TOLD = (
+    (r"a recording for each of ([\d,]+) seeds", "tests/differential.py", r"^SEEDS = (\d+)"),
+    (r"compares ([\d,]+) streams", "tests/streams.py", r"^SEEDS = (\d+)"),
+    (r"\| ([\d,]+) random recordings through a pipe", "tests/streams.py", r"^SEEDS = (\d+)"),
+    (r"`rds list` over ([\d,]+) random recordings", "tests/library.sh", r"RDS_LIBRARY_RECORDINGS:-(\d+)"),
+    (r"([\d,]+) states are random", "tests/library/states.c", r"int k = 0; k < (\d+)"),
+    (r"(\w+) threads call at once", "tests/library/threads.c", r"\bTHREADS = (\d+)"),
+    (r"A size is (\w+) times the one before", "tests/growth.sh", r"for size in 1 (\d+) "),
+    (r"may take (\w+) times its processor time", "tests/growth.sh", r"^most=(\d+)$"),
+    (r"may take (\w+) times its processor time", "crates/rds_bench/src/growth.rt", r"^const MOST: u64 = (\d+);"),
+    (r"past its bound (\w+) times in a row", "crates/rds_bench/src/standards.rt", r"^const ATTEMPTS: \w+ = (\d+);"),
+    (r"what was measured, and a (\w+) to spare", "tests/work.sh", r"\bspare=(\d+) kept$"),
+    (r"it is a (\w+), so that one more table shows", "tests/work.sh", r"\|\| spare=(\d+)$"),
+    (r"64 KiB is allowed, and (\w+) more", "tests/work.sh", r"\$1 / 65536 \+ (\d+)\)"),
+)
+
+
+def count_in(pattern, text):
+    """The number that a text says where the pattern first fits."""
+    found = re.search(pattern, text, re.M)
+    said = found and found[1].replace(",", "").lower()
+    return said and COUNTED.get(said, said)
+
+
+def compare_tests():
+    """What docs/TESTING.md says of the gate: its scripts, and numbers of the tests."""
+    page, makefile = read("docs/TESTING.md"), read("Makefile")
+    gate = between(page, "\n| No | What |", "\n\n")
+    named = {name for row in gate.splitlines() for name in re.findall(r"`tests/([\w.]+)`", row.split("|")[2] if "|" in row else "")}
+    made = set(re.findall(r"[\w]+\.(?:sh|py)", between(makefile, "SCRIPTS := $(addprefix tests/,", ")")))
+    called = set(re.findall(r"tests/(\w+\.(?:sh|py))", "".join(re.findall(r"^\t.*", makefile, re.M)))) - {"quick.sh"}
+    same("docs/TESTING.md, scripts of the gate", made | called, named)
+    map_of_tests = between(read("tests/README.md"), "## The scripts of the gate", "\n## ")
+    cells = " ".join(re.findall(r"^\|([^|]*)\|", map_of_tests, re.M))
+    same("tests/README.md, scripts of the gate", named, set(re.findall(r"`([\w.]+\.(?:sh|py))`", cells)) - {"pages.py"})
+    for pattern, path, source in TOLD:
+        same(f"docs/TESTING.md, '{pattern}' as in {path}", str(count_in(source, read(path))), str(count_in(pattern, page)))
+    seeds, runs = (int(count_in(rf"^{name} = (\d+)", read("tests/differential.py")) or 0) for name in ("SEEDS", "RUNS"))
+    same("docs/TESTING.md, runs of differential.py", str(seeds * runs), str(count_in(r"All ([\d,]+) runs", page)))
+    minutes = int(count_in(r"after (\d+) minutes", page) or 0)
+    same("docs/TESTING.md, minutes of a script", count_in(r"timeout (\d+) \$@", makefile), str(60 * minutes))
+    sums = len(read("tests/listings.sums").splitlines())
+    same("docs/TESTING.md, sums of listings.sh", str(sums), str(count_in(r"compares the sums of ([\d,]+) texts", page)))
+    jobs = len(re.findall(r"^(?:job|all_of) ", read("tests/refusals.sh"), re.M))
+    same("docs/TESTING.md, jobs of refusals.sh", str(jobs), str(count_in(r"start of a thread of (\d+) jobs", page)))
 
 
 # A path in backquotes, or the name of a file; and names of functions, types or constants in a row.
@@ -316,6 +368,7 @@ def main():
     compare_options(program, manual, using)
     compare_rows(program, manual, using)
     compare_numbers()
+    compare_tests()
     compare_places("docs/ARCHITECTURE.md")
     compare_claims()
     compare_maps()

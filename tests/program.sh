@@ -8,8 +8,9 @@ usage='usage: tests/program.sh PATH-TO-RDS'
 # shellcheck source-path=SCRIPTDIR source=common.sh
 . "$(dirname "$0")/common.sh" || exit
 check_programs "${1:-}"
-rds=$(realpath "$1")
-needs cat cmp cp env grep head mkfifo python3 sed seq sleep tee timeout tr wc
+limit_time "$(realpath "$1")"
+rds=$limited
+needs cat cmp cp env grep head mkfifo python3 sed seq sleep tee tr wc
 
 # check NAME STATUS STDOUT STDERR INPUT WORDS..
 #
@@ -158,7 +159,7 @@ check 'bits for encode' 2 '' '*--bits' '' encode --bits 104
 check 'gaps for encode' 2 '' '*--gaps' '' encode --gaps 1-2
 check 'progress for encode' 2 '' '*--progress' '' encode --progress
 # None of these spells gaps: the words are no command line, though the parser takes them.
-for gaps in '' 5 a-b 5- 1-2, ,1-2 1-2,,3-4 1-2-3 +1-2 '1-2, 3-4' '1-2;3-4' 0-1000000000000 0000000000000-1; do
+for gaps in '' 5 a-b 5- '1-2,' ',1-2' 1-2,,3-4 1-2-3 +1-2 '1-2, 3-4' '1-2;3-4' 0-1000000000000 0000000000000-1; do
     check "gaps '$gaps'" 2 '' 'bad --gaps\n' '' scan --gaps "$gaps"
     check "gaps '$gaps' of a list" 2 '' 'bad --gaps\n' '' list --hex --gaps="$gaps" --burst 6
     check "gaps '$gaps' of a stream" 2 '' 'bad --gaps\n' '' follow --gaps="$gaps" --of 3

@@ -32,8 +32,7 @@ for script in program listings work growth; do
     echo "tests/$script.sh build/rds"
     "tests/$script.sh" build/rds
 done
-plain=crates/rds_plain/out/rds_plain
-if [ -x "$plain" ]; then
-    echo "tests/differential.sh build/rds $plain 1 20"
-    tests/differential.sh build/rds "$plain" 1 20
-fi
+for script in differential streams; do
+    echo "tests/$script.py build/rds 1 20"
+    "tests/$script.py" build/rds 1 20
+done

@@ -14,6 +14,7 @@ usage='usage: tests/refusals.sh PATH-TO-RDS PATH-TO-RDS_PARTS'
 check_programs "${1:-}" "${2:-}"
 program=$(realpath "$1")
 parts=$(realpath "$2")
+limit_time "$program"
 needs cat cmp grep od sed seq stat
 rows=0
 streams=
@@ -98,7 +99,7 @@ job() {
 
 # all_of WORDS..: refuses each call of this job on the input in the work folder
 all_of() {
-    "$program" "$@" <"$work/in" >"$work/wanted" || exit 1
+    "$limited" "$@" <"$work/in" >"$work/wanted" || exit 1
     # the crew of totals is that of a list, and totals have no rows to be made by threads
     crew=$(calls_of thread "${@/#list/totals}") || exit 1
     # and a scan has no crew
@@ -151,7 +152,7 @@ job '\x00\x00\x3f\x00\x00\x19\x80\x00\x05\xa0\x00\x01\xb4' follow --bits 101 --g
 
 streams=
 program=$parts
-"$program" >"$work/wanted" || exit 1
+timeout "$LIMIT" "$program" >"$work/wanted" || exit 1
 each alloc
 
 for call in "${!tried[@]}"; do

@@ -4,7 +4,8 @@
  * (0 refuses none); where REFUSE_ON is set, all after it are refused too. REFUSE_COUNT names a file to which is written,
  * when the program ends, a line for each of these four with the number of such calls, and the lines bytes and peak: the
  * bytes that allocations asked for, and the most that were held at a time. tests/work.sh looks at all of them. Reads are
- * those of standard input, writes those of standard output.
+ * those of standard input, writes those of standard output. A program that takes more seconds than LIMIT says
+ * (60) is ended by SIGALRM.
  */
 #define _GNU_SOURCE
 #include <dlfcn.h>
@@ -40,7 +41,8 @@ static int is_refused(enum call call)
 
 __attribute__((constructor)) static void start(void)
 {
-    const char *call = getenv("REFUSE_CALL"), *at = getenv("REFUSE_AT");
+    const char *call = getenv("REFUSE_CALL"), *at = getenv("REFUSE_AT"), *limit = getenv("LIMIT");
+    alarm(limit ? (unsigned)atoi(limit) : 60);
     refused_at = at ? atol(at) : 0;
     refused_on = getenv("REFUSE_ON") != NULL;
     for (enum call it = ALLOC; it < CALLS; it++)

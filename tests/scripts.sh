@@ -1,20 +1,24 @@
 #!/usr/bin/env bash
-# The test scripts themselves: tests/scripts.sh PATH-TO-RDS
+# The test scripts themselves: tests/scripts.sh PATH-TO-RDS LIBRARY-FOLDER
 #
 # A script whose tool or table is missing must not pass. Each script of this folder that says what it needs is called with
 # each of these tools away in turn, and has to end in another status than 0, with the tool's name on standard error; it finds
 # no others (`needs` of common.sh), so that its row is whole where it passes. The others are called with the fewest tools. And each
 # is called without a program, and those that read a table with an empty one, and with one whose last line is cut off, missing,
 # or there twice. So is wrong_bodies.py.
+# Each script is called over programs that are wrong, up to its first failure, and has to count that; wrong_bodies.py over an edit
+# that nothing refuses; and `make proofs` over a toolchain that fails.
 # The last line is 'N passed, M failed', and the exit status says whether all passed.
 
-usage='usage: tests/scripts.sh PATH-TO-RDS'
+usage='usage: tests/scripts.sh PATH-TO-RDS LIBRARY-FOLDER'
 # shellcheck source-path=SCRIPTDIR source=common.sh
 . "$(dirname "$0")/common.sh" || exit
 check_programs "${1:-}"
+[ -f "${2:-}/librds.so.0" ] || misused
 rds=$(realpath "$1")
-needs bash cat cp grep head ln sed sort
-scripts=(docs program listings differential refusals work growth)
+library=$(realpath "$2")
+needs bash cat cp grep head ln make sed sort
+scripts=(docs program listings refusals work growth)
 
 # refused NAME TEXT PATH COMMAND..: the command by that PATH ends in another status than 0, with TEXT on standard error
 refused() {
@@ -56,7 +60,7 @@ for script in "${scripts[@]}"; do
     done
     mapfile -t tools < <(printf '%s\n' "${tools[@]}" | sort -u)
     programs=("$rds")
-    case $script in differential | refusals) programs+=("$rds") ;; esac
+    [ "$script" != refusals ] || programs+=("$rds")
     for tool in "${tools[@]}"; do
         folder=$work/without/$script-$tool
         mkdir -p "$work/without"
@@ -67,6 +71,12 @@ for script in "${scripts[@]}"; do
     refused "$script.sh without a program" 'usage: tests/' "$all_tools" bash "$here/$script.sh"
     refused "$script.sh of a program that is not there" 'usage: tests/' "$all_tools" bash "$here/$script.sh" "$work/none"
 done
+for script in differential streams progress; do
+    refused "$script.py without a program" "tests/$script.py PATH-TO-RDS" "$all_tools" "$here/$script.py"
+    refused "$script.py of a program that is not there" "tests/$script.py PATH-TO-RDS" "$all_tools" "$here/$script.py" "$work/none"
+    [ $script = progress ] ||
+        refused "$script.py without numpy" 'numpy' "$all_tools" /usr/bin/python3 -S "$here/$script.py" "$rds"
+done
 RT=none refused 'wrong_bodies.py without rt' 'no Rattle toolchain' "$all_tools" python3 "$here/wrong_bodies.py"
 printf '%s\n' 'rt: rds_code NOT PROVED' 'proofs: ended' >"$work/proofs.log"
 RT=true refused 'wrong_bodies.py beside proofs that fail' 'rds_code is not proved' "$all_tools" \
@@ -76,7 +86,7 @@ RT=true refused 'wrong_bodies.py beside proofs that fail' 'rds_code is not prove
 read -ra tools <<<"$common"
 put_links "$work/few" "${tools[@]}"
 : >"$work/librds.so.0"
-for words in "recipes $rds" "library $work $rds" "package $rds $work"; do
+for words in "recipes $rds" "library $work $rds" "package $rds $work" "scripts $rds $work"; do
     read -ra words <<<"$words"
     refused "${words[0]}.sh without a tool of all" "${words[0]}.sh: there is no '" "$work/few" \
         "$bash" "$here/${words[0]}.sh" "${words[@]:1}"
@@ -123,5 +133,133 @@ answers 'two lines of' < <(cat "$told"; tail -n 1 "$told")
 answers 'says nothing of an edit' < <(sed '$s/:.*//' "$told")
 answers 'edits that are not there' < <(cat "$told"; echo 'rds_code/no_such_edit: nothing')
 answers 'edits that are not there' < <(sed '$s|^[^/]*/|rds_code/|' "$told")
+
+# ---- programs that are wrong
+
+# wrong NAME: a program of that name, of the text on standard input, in which $rds is the right one
+wrong() {
+    { printf '#!%s\nPATH=%q rds=%q\n' "$bash" "$all_tools" "$rds"; cat; } >"$work/$1"
+    chmod +x "$work/$1" || exit 1
+}
+
+wrong silent <<<'cat >/dev/null'
+wrong one_byte_short <<<'"$rds" "$@" | head -c -1; exit "${PIPESTATUS[0]}"'
+wrong content <<<'"$rds" "$@"; exit 0'
+wrong hanging <<<'exec sleep 1000'
+wrong misprinting <<<'"$rds" "$@" | sed "s/default: 3/default: 4/"; exit "${PIPESTATUS[0]}"'
+# the bursts of the next limit, one worker more, and a time that grows with the square of the input
+wrong other_rules <<'END'
+is_told=
+for ((k = 1; k < $#; k++)); do
+    [ "${!k}" != --burst ] || { is_told=1 && set -- "${@:1:k}" $(((${@:k+1:1} + 1) % 6)) "${@:k+2}"; }
+done
+case ${1:-}$is_told in list | totals | follow) set -- "$@" --burst 3 ;; esac
+exec "$rds" "$@"
+END
+wrong one_worker_more <<'END'
+for ((k = 1; k < $#; k++)); do
+    [ "${!k}" != --workers ] || set -- "${@:1:k}" $((${@:k+1:1} + 1)) "${@:k+2}"
+done
+exec "$rds" "$@"
+END
+wrong squared <<'END'
+size=$(($(stat -L -c %s /dev/stdin) / 1500))
+for ((k = 0; k < size * size; k++)); do :; done
+exec "$rds" "$@"
+END
+
+declare -A noticed=()
+
+# notices SCRIPT PROGRAM COMMAND..: the command, which is called over this wrong program, counts a failure
+notices() {
+    local name="$1 over the program that is $2"
+    noticed[$1]=1
+    if PATH=$all_tools UNTIL_FAILURE=1 timeout 300 "${@:3}" </dev/null >"$work/out" 2>"$work/err"; then
+        fail "$name: status 0"
+    elif tail -n 1 "$work/out" | grep -qxE '[0-9]+ passed, [1-9][0-9]* failed'; then
+        pass
+    else
+        fail "$name: it counts no failure"
+        sed 's/^/    /' "$work/out" "$work/err" | tail -n 5
+    fi
+}
+
+for row in 'docs silent misprinting' 'program silent one_byte_short content other_rules' 'listings silent one_byte_short other_rules' \
+    'work silent one_worker_more' 'growth silent squared' 'recipes silent'; do
+    for program in ${row#* }; do
+        notices "${row%% *}.sh" "$program" bash "$here/${row%% *}.sh" "$work/$program"
+    done
+done
+# gives_up SCRIPT WORDS..: it ends in another status than 0, though each call of the program hangs
+gives_up() {
+    local status
+    LIMIT=1 UNTIL_FAILURE=1 PATH=$all_tools timeout 120 "$here/$1" "${@:2}" </dev/null >"$work/out" 2>"$work/err"
+    status=$?
+    if [ $status != 0 ] && [ $status != 124 ]; then pass; else fail "$1 over a program that hangs: status $status"; fi
+}
+
+for script in docs program listings work recipes; do
+    gives_up $script.sh "$work/hanging"
+done
+gives_up refusals.sh "$work/hanging" "$rds"
+gives_up package.sh "$work/hanging" "$library"
+gives_up progress.py "$work/hanging"
+gives_up differential.py "$work/hanging" 1 1
+gives_up streams.py "$work/hanging" 1 4
+for program in silent one_byte_short other_rules; do
+    notices differential.py $program "$here/differential.py" "$work/$program" 1 3
+    notices streams.py $program "$here/streams.py" "$work/$program" 1 30
+done
+wrong no_progress <<<'"$rds" "$@" 2>/dev/null'
+notices progress.py no_progress "$here/progress.py" "$work/no_progress"
+notices progress.py silent "$here/progress.py" "$work/silent"
+notices refusals.sh silent bash "$here/refusals.sh" "$work/silent" "$rds"
+# another refusal, of each kind of calls in turn
+PATH=$all_tools ${CC:-cc} -O1 -static -o "$work/misnaming" "$here/misname.c" || exit 1
+export MISNAME=$rds KIND
+for KIND in alloc read write thread; do
+    notices refusals.sh misnaming bash "$here/refusals.sh" "$work/misnaming" "$rds"
+    grep -q ": $KIND [0-9]* of" "$work/out" || fail "refusals.sh over the program that is misnaming, $KIND: another failure"
+done
+PYTEST_ADDOPTS=-x notices monitor.sh silent bash "$here/monitor.sh" "$work/silent" "$library"
+notices package.sh silent bash "$here/package.sh" "$work/silent" "$library"
+RDS_LIBRARY_RECORDINGS=20 notices library.sh other_rules bash "$here/library.sh" "$library" "$work/other_rules"
+
+mapfile -t scripts < <(sed -n '/^SCRIPTS := /,/)$/p' "$here/../Makefile" | grep -oE '[a-z]+\.(sh|py)')
+for script in "${scripts[@]}" growth.sh; do
+    [ "$script" = scripts.sh ] || [ -n "${noticed[$script]:-}" ] || fail "$script is called over no program that is wrong"
+done
+[ ${#scripts[@]} -gt 5 ] || fail 'the scripts of the Makefile are not to be found'
+
+# ---- edits that nothing refuses, and a toolchain that fails
+
+cp "$here/../crates.txt" "$here/../Makefile" "$work/copy" || exit 1
+for part in src specs proofs; do
+    cp -r "$here/../crates/rds_code/$part" "$work/copy/crates/rds_code" || exit 1
+done
+rm "$work"/copy/crates/rds_code/wrong/*
+cat >"$work/copy/crates/rds_code/wrong/nothing_is_changed.edit" <<'END'
+file: src/remainder.rt
+old:     low ^ of_middle(middle) ^ of_high(high)
+new:     low ^ of_middle(middle) ^ of_high(high) // the same
+END
+sed '/^rds_code/d' "$told" >"$work/copy/tests/wrong_bodies.answers"
+# failing NAME TEXT COMMAND..: the command ends in another status than 0, with TEXT in what it writes
+failing() {
+    if PATH=$all_tools timeout 600 "${@:3}" </dev/null >"$work/out" 2>&1; then
+        fail "$1: status 0"
+    elif grep -qF -e "$2" "$work/out"; then
+        pass
+    else
+        fail "$1: without the words '$2'"
+        tail -n 5 "$work/out"
+    fi
+}
+failing 'wrong_bodies.py over an edit that changes nothing' 'rds_code/nothing_is_changed.edit: NOT REFUSED' \
+    python3 "$work/copy/tests/wrong_bodies.py" rds_code
+wrong failing_rt <<<'echo "rt: rds_code NOT PROVED"; exit 1'
+failing 'make proofs over a toolchain that fails' 'rt: rds_code NOT PROVED' \
+    make -C "$work/copy" "RT=$work/failing_rt" proofs
+if grep -qx 'proofs: ended' "$work/copy/build/proofs.log"; then pass; else fail 'the log of proofs that fail has no end'; fi
 
 finish

@@ -1,5 +1,5 @@
-#!/usr/bin/env python3
-"""What `rds follow` writes of streams, beside what `rds list` writes of the same recordings.
+#!/usr/bin/python3
+"""What `rds follow` writes of streams, beside what tests/plain.py lists of the same recordings.
 
     tests/streams.py PATH-TO-RDS [FIRST [LAST]]
 
@@ -16,15 +16,23 @@ import sys
 import time
 from concurrent.futures import ThreadPoolExecutor
 
+import making
+import plain
+
+# How many seeds there are.
+SEEDS = 2000
+
 # How many groups there are to take recordings of.
 GROUPS = 4000
 
+# The seconds that a run may take; it takes some thousandths of one.
+LIMIT = int(os.environ.get("LIMIT", 60))
 
-def station(rds):
+
+def station():
     """The bytes of a station whose words are random, and whose groups have one programme."""
     chance = random.Random(0)
-    lines = "".join(f"d393{chance.getrandbits(48):012x}\n" for _ in range(GROUPS))
-    return subprocess.run([rds, "encode"], input=lines.encode(), stdout=subprocess.PIPE, check=True).stdout
+    return b"".join(plain.packed([0xD393, *(chance.getrandbits(16) for _ in range(3))]) for _ in range(GROUPS))
 
 
 def recording(sent, chance):
@@ -43,20 +51,20 @@ def recording(sent, chance):
     return bytes(held)
 
 
-def rules(chance):
-    """The words of rules of either kind."""
-    words = ["--burst", str(chance.randint(0, 5)), "--reach", str(chance.randint(1, 8))]
-    if chance.random() < 0.5:
-        return words + ["--loss", str(chance.choice([chance.randint(1, 6), chance.randint(1, 64)]))]
-    of = chance.randint(1, 64)
-    return words + ["--share", str(chance.randint(1, of)), "--of", str(of)]
-
-
 def gaps(chance, bits):
     """The words of some gaps within so many bits, or none."""
     places = sorted(chance.sample(range(bits + 1), 2 * chance.choice([0, 0, 0, 1, 3, 12]))) if bits > 30 else []
     pairs = zip(places[::2], places[1::2])
     return ["--gaps", ",".join(f"{start}-{end}" for start, end in pairs)] if places else []
+
+
+def ran(rds, words, held):
+    """How a run on this input ends, and what it writes."""
+    try:
+        given = subprocess.run([rds, *words], input=held, stdout=subprocess.PIPE, stderr=subprocess.PIPE, timeout=LIMIT)
+    except subprocess.TimeoutExpired:
+        return None, b"", b"it came to no end"
+    return given.returncode, given.stdout, given.stderr
 
 
 def hand_on(pipe, held, most, pause, chance):
@@ -75,13 +83,17 @@ def hand_on(pipe, held, most, pause, chance):
 
 
 def followed(rds, words, held, most, pause, chance):
-    """What a stream of these bytes gives, and how it ends."""
+    """How a stream of these bytes ends, and what it gives."""
     read_end, write_end = os.pipe()
     with subprocess.Popen([rds, "follow", *words], stdin=read_end, stdout=subprocess.PIPE, stderr=subprocess.PIPE) as child:
         os.close(read_end)
         with ThreadPoolExecutor(1) as hand:
             hand.submit(hand_on, write_end, held, most, pause, chance)
-            text, said = child.communicate()
+            try:
+                text, said = child.communicate(timeout=LIMIT)
+            except subprocess.TimeoutExpired:
+                child.kill()
+                return None, b"", b"it came to no end"
     return child.returncode, text, said
 
 
@@ -90,17 +102,16 @@ def difference(rds, sent, seed):
     chance = random.Random(seed)
     held = recording(sent, chance)
     bits = max(0, 8 * len(held) - chance.choice([0, 0, chance.randrange(8), chance.randrange(100)]))
-    words = rules(chance) + gaps(chance, bits) + (["--bits", str(bits)] if bits < 8 * len(held) else [])
+    words = making.rules(chance) + gaps(chance, bits) + (["--bits", str(bits)] if bits < 8 * len(held) else [])
     most = 1 if len(held) < 300 and chance.random() < 0.5 else chance.randint(2, 10_000)
-    wanted = subprocess.run([rds, "list", *words], input=held, stdout=subprocess.PIPE, stderr=subprocess.PIPE)
+    wanted = 0, plain.text_of(plain.arguments().parse_args(["list", *words]), held), b""
     given = followed(rds, words, held, most, 0.001 if seed % 10 == 0 else 0, chance)
-    same = given == (wanted.returncode, wanted.stdout, wanted.stderr) and wanted.returncode == 0
-    return "" if same else f"seed {seed}: rds follow {' '.join(words)}, chunks of up to {most} bytes"
+    return "" if given == wanted else f"seed {seed}: rds follow {' '.join(words)}, chunks of up to {most} bytes"
 
 
 def main(rds, first="1", last=None):
-    first, last = int(first), int(last or max(int(first), 2000))
-    sent = station(rds)
+    first, last = int(first), int(last or max(int(first), SEEDS))
+    sent = station()
     with ThreadPoolExecutor(2) as pool:
         told = [it for it in pool.map(lambda seed: difference(rds, sent, seed), range(first, last + 1)) if it]
     for it in told:

@@ -36,12 +36,14 @@ from dataclasses import dataclass, replace
 from threading import Semaphore
 
 from holes import (
-    EXPORTED, LIBRARIES, RT, TOP, below, built, checked, copied, functions_of, is_built, over, read, words, write
+    CALLERS, EXPORTED, LIBRARIES, RT, TOP, below, built, checked, copied, functions_of, is_built, over, read, words, write
 )
 
 CRATES = f"{TOP}/crates"
 # The table that says what is false of an edit that is refused by lines of answers alone.
 TOLD = "tests/wrong_bodies.answers"
+# The seconds that one check may take; beside other proofs one takes some minutes.
+LIMIT = 1800
 # The line behind all that `rt ci` says.
 ENDED = re.compile(r"^proofs: ended$", re.M)
 # What stands before a body that says more than its contract: a constant is worked out of it, and a type.
@@ -212,7 +214,7 @@ def is_as_wanted(body, told, are_right):
 
 def try_all(room, crate, where, told, are_right):
     """Tries the wrong bodies of a crate over the libraries there, all in one run, or the right ones in their places."""
-    functions = copied(room, [crate])
+    functions = copied(room, [crate], [crate])
     files = sorted(it for it in os.listdir(f"{CRATES}/{crate}/wrong") if it.endswith(".edit"))
     bodies = [wrong_body(crate, it, functions) for it in files]
     for body in bodies if are_right else []:
@@ -224,6 +226,7 @@ def try_all(room, crate, where, told, are_right):
         stdout=subprocess.PIPE,
         stderr=subprocess.STDOUT,
         encoding="utf-8",
+        timeout=LIMIT,
     )
     if not re.search(r"^only=\d+ ", ran.stdout, re.M):
         sys.exit(f"{crate}: the run came to no end:\n{ran.stdout[-3000:]}")
@@ -239,7 +242,7 @@ def try_all(room, crate, where, told, are_right):
 def build(crates):
     """Builds the libraries that these crates stand on, where they are not built."""
     for it in (it for it in LIBRARIES if any(it in below(crate) for crate in crates) and not is_built(it)):
-        if subprocess.run([RT, "lib"], cwd=f"{CRATES}/{it}", stdout=subprocess.DEVNULL).returncode:
+        if subprocess.run([RT, "lib"], cwd=f"{CRATES}/{it}", stdout=subprocess.DEVNULL, timeout=LIMIT).returncode:
             sys.exit(f"{it} is not proved: no wrong body is tried above it")
 
 
@@ -261,7 +264,12 @@ def is_cut_proved(crate):
         shutil.copytree(f"{CRATES}/{crate}", f"{room}/{crate}", ignore=shutil.ignore_patterns("out"))
         cut(room, crate)
         ran = subprocess.run(
-            [*checked(crate), *over(crate)], cwd=f"{room}/{crate}", stdout=subprocess.PIPE, stderr=subprocess.STDOUT, encoding="utf-8"
+            [*checked(crate), *over(crate)],
+            cwd=f"{room}/{crate}",
+            stdout=subprocess.PIPE,
+            stderr=subprocess.STDOUT,
+            encoding="utf-8",
+            timeout=LIMIT,
         )
     is_proved = "\nlogic=proved" in ran.stdout
     print(f"{crate}, as it is cut: {'proved' if is_proved else f'NOT PROVED:{chr(10)}{ran.stdout[-2000:]}'}", flush=True)
@@ -346,7 +354,7 @@ def tried(crates, are_right, log):
 
 def main(names, are_right, log):
     told = told_of()
-    crates = [it for it in [*LIBRARIES, EXPORTED] if os.path.isdir(f"{CRATES}/{it}/wrong")]
+    crates = [it for it in [*LIBRARIES, EXPORTED, CALLERS] if os.path.isdir(f"{CRATES}/{it}/wrong")]
     if unknown := [it for it in names if it not in crates]:
         sys.exit(f"there are no wrong bodies of {', '.join(unknown)}")
     bodies = tried([it for it in crates if it in (names or crates)], are_right, log)

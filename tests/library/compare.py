@@ -2,8 +2,8 @@
 """Random recordings by the library and by the program: tests/library/compare.py COUNT RDS ROWS..
 
 COUNT recordings are made of a sample, damaged, shortened, or of noise, with every option that a recording and rules have.
-The rows of each that the program lists are compared with those that each ROWS prints, and with those of rds of Python, whose
-totals are compared too; and with both what rds of Python gives of a stream of them, in chunks of up to 1000 bytes.
+The rows of each that the program lists are compared with those that each ROWS prints, and with those of librds of Python, whose
+totals are compared too; and with both what librds of Python gives of a stream of them, in chunks of up to 1000 bytes.
 """
 
 import os
@@ -15,7 +15,7 @@ from concurrent.futures import ThreadPoolExecutor
 TOP = os.path.dirname(os.path.dirname(os.path.dirname(os.path.abspath(__file__))))
 sys.path.insert(0, f"{TOP}/bindings/python")
 
-import rds  # noqa: E402
+import librds  # noqa: E402
 
 
 def recording(r, sample):
@@ -30,7 +30,7 @@ def recording(r, sample):
     places = sorted(r.sample(range(bits), 2 * r.randrange(0, 4))) if bits > 10 and r.random() < 0.4 else []
     gaps = list(zip(places[::2], places[1::2]))
     of = r.choice([0, 0, r.randrange(1, 65)])
-    rules = rds.Rules(r.randrange(6), r.randrange(1, 9), r.randrange(1, (of or 64) + 1), of)
+    rules = librds.Rules(r.randrange(6), r.randrange(1, 9), r.randrange(1, (of or 64) + 1), of)
     return bytes(data), bits, gaps, rules
 
 
@@ -38,20 +38,20 @@ def listed(program, data, bits, gaps, rules):
     words = [program, "list", "--bits", bits, "--burst", rules.burst, "--reach", rules.reach]
     words += ["--share", rules.loss, "--of", rules.of] if rules.of else ["--loss", rules.loss]
     words += ["--gaps", ",".join(f"{begin}-{end}" for begin, end in gaps)] if gaps else []
-    return subprocess.run([str(it) for it in words], input=data, capture_output=True, check=True).stdout.decode()
+    return subprocess.run([str(it) for it in words], input=data, capture_output=True, check=True, timeout=60).stdout.decode()
 
 
 def block_text(block):
-    if block.kind < rds.Kind.VALID:
+    if block.kind < librds.Kind.VALID:
         return ("none", "lost")[block.kind]
     text = f"{block.offset.replace(chr(39), 'x')}:{block.info:04X}"
-    return text + f"~{block.burst:07X}" * (block.kind == rds.Kind.CORRECTED)
+    return text + f"~{block.burst:07X}" * (block.kind == librds.Kind.CORRECTED)
 
 
 def row(item):
-    if isinstance(item, rds.Acquired):
+    if isinstance(item, librds.Acquired):
         return f"acquired,{item.place},{item.number},-,-,-,-,-\n"
-    if isinstance(item, rds.Loss):
+    if isinstance(item, librds.Loss):
         return f"lost,{item.place},-,-,-,-,-,-\n"
     kind = "-" if item.type is None else item.type
     blocks = ",".join(map(block_text, item.blocks))
@@ -59,11 +59,11 @@ def row(item):
 
 
 def by_python(asked):
-    t = rds.totals(*asked)
+    t = librds.totals(*asked)
     numbers = [t.valid, *t.bursts, t.lost, t.bits, t.groups, t.complete, t.acquired, t.losses]
     names = "valid burst1 burst2 burst3 burst4 burst5 lost bits groups complete acquired losses".split()
     totals = "".join(f"total,{name},{number},-,-,-,-,-\n" for name, number in zip(names, numbers))
-    return "".join(map(row, rds.decode(*asked))) + totals
+    return "".join(map(row, librds.decode(*asked))) + totals
 
 
 def by_stream(r, data, bits, gaps, rules):
@@ -71,10 +71,10 @@ def by_stream(r, data, bits, gaps, rules):
     items, stream, rest = [], bytes(160), data[: bits // 8]
     while rest:
         size = r.randrange(1001)
-        follower = rds.Follower(rules, gaps, stream)
+        follower = librds.Follower(rules, gaps, stream)
         items += follower.push(rest[:size])
         stream, rest = follower.stream, rest[size:]
-    follower, at_once = rds.Follower(rules, gaps, stream), rds.Follower(rules, gaps)
+    follower, at_once = librds.Follower(rules, gaps, stream), librds.Follower(rules, gaps)
     at_once.push(data[: bits // 8])
     last, totals = follower.finish_with(data[bits // 8 :], bits % 8)
     group, ended = follower.finish()
@@ -96,11 +96,11 @@ def main():
         with open(path, "wb") as it:
             it.write(data)
         numbers = [bits, rules.burst, rules.reach, rules.loss, rules.of, *(place for gap in gaps for place in gap)]
-        wrong = [] if by_python(asked) == wanted else ["rds of Python"]
-        if by_stream(random.Random(seed), *asked) != (list(rds.decode(*asked)), rds.totals(*asked), True):
-            wrong.append("a stream by rds of Python")
+        wrong = [] if by_python(asked) == wanted else ["librds of Python"]
+        if by_stream(random.Random(seed), *asked) != (list(librds.decode(*asked)), librds.totals(*asked), True):
+            wrong.append("a stream by librds of Python")
         for other in others:
-            got = subprocess.run([other, path, *map(str, numbers)], capture_output=True)
+            got = subprocess.run([other, path, *map(str, numbers)], capture_output=True, timeout=60)
             if got.returncode or got.stdout.decode() not in (wanted, wanted[: -len(totals_in(wanted))]):
                 wrong.append(f"{other} ({got.returncode})")
         os.remove(path)

@@ -8,6 +8,7 @@ give.
 """
 
 import ctypes
+import functools
 import os
 import re
 import sys
@@ -58,7 +59,11 @@ def argument_of_c(text):
 
 
 def of_header(path):
-    text = without_comments(text_of(path))
+    return of_header_text(text_of(path))
+
+
+def of_header_text(text):
+    text = without_comments(text)
     structs = {
         of_c(name): [field_of_c(words(it)) for it in body.split(";") if it.strip()]
         for body, name in re.findall(r"typedef struct \w+ \{(.*?)\} (\w+);", text, re.S)
@@ -101,6 +106,7 @@ def arguments_of_rattle(text):
     return found
 
 
+@functools.cache
 def of_crates():
     read = lambda crate: "\n".join(without_comments(text_of(it)) for it in sorted(glob(f"{TOP}/crates/{crate}/src/*.rt")))
     exported = re.findall(r'pub extern "C" fn (\w+)\((.*?)\)(?: -> (\w+))?', read("rds_c"), re.S)
@@ -132,7 +138,7 @@ def of_ctypes(kind):
 
 
 def of_python():
-    sys.path.insert(0, f"{TOP}/bindings/python/rds")
+    sys.path.insert(0, f"{TOP}/bindings/python/librds")
     import _ffi
 
     structs = {it.__name__: [(name, of_ctypes(kind)) for name, kind in it._fields_] for it in _ffi.STRUCTS}
@@ -147,6 +153,7 @@ def as_python_has_them(functions):
 
 # ---- refusals
 
+@functools.cache
 def refusals_of_crate():
     """The number of each, its name and what is said of it."""
     text = text_of(f"{TOP}/crates/rds_abi/src/refusal.rt")
@@ -162,7 +169,7 @@ def wrong_refusals(header):
     if {name: int(number) for name, number in re.findall(r"(\w+) = (\d+)", enum)} != named:
         yield f"{header}: the numbers of refusals"
     reasons = {number: said for number, (_, said) in mine.items()}
-    for path, row in (("rust/src/lib.rs", r'^    \((\d+), "(.*?)"\),$'), ("python/rds/__init__.py", r'^    (\d+): "(.*?)",$')):
+    for path, row in (("rust/src/lib.rs", r'^    \((\d+), "(.*?)"\),$'), ("python/librds/__init__.py", r'^    (\d+): "(.*?)",$')):
         if {int(number): said for number, said in re.findall(row, text_of(f"{TOP}/bindings/{path}"), re.M)} != reasons:
             yield f"bindings/{path}: what is said of refusals"
 

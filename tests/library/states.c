@@ -1,8 +1,9 @@
 /* Random bytes as a state, and places that are no range: refused, or a lawful state that is gone on from, and never a crash:
- * states FILE */
+ * states FILE [SHARE], which tries one of SHARE states. */
 #include "rds.h"
 
 #include <stdio.h>
+#include <stdlib.h>
 #include <string.h>
 
 static uint8_t bytes[1 << 12];
@@ -10,13 +11,14 @@ static rds_item_t room[1 << 10];
 
 int main(int count, char **words)
 {
-    FILE *file = count == 2 ? fopen(words[1], "rb") : NULL;
+    FILE *file = count >= 2 ? fopen(words[1], "rb") : NULL;
+    const int share = count > 2 ? atoi(words[2]) : 1;
     uint64_t x = 88172645463325252u, refused = 0, lawful = 0, number;
     static const rds_gap_t none = {0, 0};
     if (!file)
         return 2;
     size_t len = fread(bytes, 1, sizeof bytes, file);
-    for (int k = 0; k < 200000; k++) {
+    for (int k = 0; k < 200000 / share; k++) {
         uint64_t random[6];
         for (int j = 0; j < 6; j++) {
             x ^= x << 13;

@@ -1,8 +1,9 @@
 /* Random bytes as what is known of a stream: refused, and then left as they were, or lawful numbers that are gone on from, and
- * never a crash: streams FILE */
+ * never a crash: streams FILE [SHARE], which tries one of SHARE streams. */
 #include "rds.h"
 
 #include <stdio.h>
+#include <stdlib.h>
 #include <string.h>
 
 static uint8_t bytes[1 << 12];
@@ -39,12 +40,13 @@ static rds_stream_t random_stream(int k)
 
 int main(int count, char **words)
 {
-    FILE *file = count == 2 ? fopen(words[1], "rb") : NULL;
+    FILE *file = count >= 2 ? fopen(words[1], "rb") : NULL;
+    const int share = count > 2 ? atoi(words[2]) : 1;
     uint64_t refused = 0, lawful = 0, locks = 0, number;
     if (!file)
         return 2;
     size_t len = fread(bytes, 1, sizeof bytes, file);
-    for (int k = 0; k < 60000; k++) {
+    for (int k = 0; k < 60000 / share; k++) {
         rds_stream_t stream = random_stream(k), before = stream;
         uint64_t r = next_random();
         rds_rules_t rules = {(uint32_t)(r % 6), 1 + (uint32_t)(r >> 8) % 8, 1 + (uint32_t)(r >> 16) % 64, k % 2 ? 0 : 64};

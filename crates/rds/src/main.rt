@@ -5,14 +5,15 @@
 //! standard error names.
 #![tactic(auto)]
 
-mod progress;
+ghost use Rattle.std.specs.Prelude.{◌≡◌};
+ghost use Rattle.std.specs.Process.{exit_status};
+ghost use Rattle.rds.specs.Session.{Answers, status_of};
 
-use crate::progress::{Progress, Told};
-use rds_sync::Rules;
-use rds_tool::{
-    Asked, CliFault, FaultKind, FromRead, Input, Job, RuleNumbers, ToWrite, ToolError, asked_of,
-    follow, transcribe, transcribe_gated,
-};
+mod progress; // How far a job is.
+mod session; // What is asked for, from standard input to standard output.
+
+use crate::session::{Session, do_asked};
+use rds_tool::{Asked, CliFault, FaultKind, ToolError, asked_of};
 use std::env;
 use std::io::ErrorKind;
 use std::process::ExitCode;
@@ -20,10 +21,40 @@ use std::sync::Wait;
 use std::thread::Threads;
 
 fn main(rt: HostRuntime) -> ExitCode {
-    match asked_for(&rt) {
-        Ok(Asked::Job { job, progress }) => exit(&rt, run(&rt, &rt, &job, progress)),
-        Ok(Asked::Follow(input, rules)) => exit(&rt, run_stream(&rt, &input, rules)),
-        Err(fault) => show(&rt, &fault),
+    let Ended { code, .. } = do_as_asked(&rt, &rt);
+    code
+}
+
+/// What the words asked for, the session in which that was done, and the exit status.
+#[derive(Drop)]
+struct Ended {
+    asked: Result<Asked, CliFault>,
+    session: Option<Session>,
+    code: ExitCode,
+}
+
+/// Does what the words ask for, and tells on standard error why it is refused.
+fn do_as_asked<R: Threads + Wait + Sync>(rt: &HostRuntime, crew: &R) -> Ended
+    ensures { Answers result.asked result.session (exit_status result.code) }
+{
+    match asked_for(rt) {
+        Ok(asked) => {
+            let session = do_asked(rt, crew, &asked);
+            let code = exit(rt, &session.answer);
+            Ended {
+                asked: Ok(asked),
+                session: Some(session),
+                code,
+            }
+        }
+        Err(fault) => {
+            let code = show(rt, &fault);
+            Ended {
+                asked: Err(fault),
+                session: None,
+                code,
+            }
+        }
     }
 }
 
@@ -69,73 +100,12 @@ fn fault(rt: &HostRuntime, kind: FaultKind) -> CliFault {
     }
 }
 
-/// Does the job from standard input to standard output, with the threads of its crew. Its progress is told where that was
-/// asked for and there is a clock.
-fn run<R: Threads + Wait + Sync>(
-    rt: &HostRuntime,
-    crew: &R,
-    job: &Job,
-    progress: bool,
-) -> Result<(), ToolError> {
-    if !progress {
-        return run_untold(rt, crew, job);
-    }
-    match Progress::start(rt, job) {
-        Some(progress) => {
-            let answer = run_told(rt, crew, job, &progress);
-            progress.end();
-            answer
-        }
-        None => run_untold(rt, crew, job),
-    }
-}
-
-fn run_told<R: Threads + Wait + Sync>(
-    rt: &HostRuntime,
-    crew: &R,
-    job: &Job,
-    progress: &Progress<'_>,
-) -> Result<(), ToolError> {
-    let mut reader = Told::new(FromRead::new(rt.stdin()), progress);
-    let mut writer = Told::new(ToWrite::new(rt.stdout()), progress);
-    transcribe_gated(crew, rt.alloc(), &mut reader, &mut writer, job, progress)
-}
-
-fn run_untold<R: Threads + Wait + Sync>(
-    rt: &HostRuntime,
-    crew: &R,
-    job: &Job,
-) -> Result<(), ToolError> {
-    let mut reader = FromRead::new(rt.stdin());
-    let mut writer = ToWrite::new(rt.stdout());
-    transcribe(crew, rt.alloc(), &mut reader, &mut writer, job)
-}
-
-/// Lists the stream of standard input as it comes.
-fn run_stream(rt: &HostRuntime, input: &Input, numbers: RuleNumbers) -> Result<(), ToolError> {
-    match Rules::of(rt.alloc(), numbers) {
-        Ok(rules) => follow_by(rt, input, &rules),
-        Err(refused) => Err(refused.into()),
-    }
-}
-
-fn follow_by(rt: &HostRuntime, input: &Input, rules: &Rules) -> Result<(), ToolError> {
-    let mut reader = FromRead::new(rt.stdin());
-    let mut writer = ToWrite::new(rt.stdout());
-    follow(
-        rt.alloc(),
-        &mut reader,
-        &mut writer,
-        rules,
-        input.bits,
-        input.gaps.as_slice(),
-    )
-}
-
-fn exit(rt: &HostRuntime, answer: Result<(), ToolError>) -> ExitCode {
+fn exit(rt: &HostRuntime, answer: &Result<(), ToolError>) -> ExitCode
+    ensures { exit_status result ≡ status_of answer.now }
+{
     match answer {
         Ok(()) => ExitCode::SUCCESS,
-        Err(error) => refuse(rt, error),
+        Err(error) => refuse(rt, *error),
     }
 }
 
@@ -156,7 +126,9 @@ fn show(rt: &HostRuntime, fault: &CliFault) -> ExitCode {
     }
 }
 
-fn refuse(rt: &HostRuntime, error: ToolError) -> ExitCode {
+fn refuse(rt: &HostRuntime, error: ToolError) -> ExitCode
+    ensures { exit_status result ≡ 1 }
+{
     let number = error.number();
     let name = error.name();
     let _ = eprintln!(rt; "refused {number} {name}");

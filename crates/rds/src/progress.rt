@@ -167,10 +167,25 @@ impl<'a, D> Told<'a, D> {
     {
         Told { device, progress }
     }
+
+    /// The device alone.
+    pub fn into_inner(self) -> D
+        ensures { result ≡ self.entry.device }
+    {
+        let Told {
+            device,
+            progress: _,
+        } = self;
+        device
+    }
 }
 
 impl<S: Source> Source for Told<'_, S> {
     ghost remaining = { λ told. S.remaining told.device };
+
+    ghost given = { λ told. S.given told.device };
+
+    ghost has_ended = { λ told. S.has_ended told.device };
 
     ghost failed = { λ told. S.failed told.device };
 
@@ -187,6 +202,8 @@ impl<S: Source> Source for Told<'_, S> {
 
 impl<K: Sink> Sink for Told<'_, K> {
     ghost contents = { λ told. K.contents told.device };
+
+    ghost is_flushed = { λ told. K.is_flushed told.device };
 
     ghost failed = { λ told. K.failed told.device };
 

@@ -16,7 +16,7 @@ use crate::in_c::item_in_c;
 use crate::layout::{RdsGap, RdsItem, RdsRules, RdsState};
 use crate::refusal::Refusal;
 use rds_stream::Counted;
-use rds_sync::{Decoder, Group, Item, Lock, Rules, State, finish, laws, run_codes};
+use rds_sync::{Decoder, Group, Item, Lock, Rules, Spans, State, finish, laws, run_report};
 use std::alloc::Global;
 
 /// The lock that these numbers say, of a block that is known, or none where it is not lawful before `place`.
@@ -125,8 +125,7 @@ fn start_of(
 /// Runs in a row, each from the state of the one before, are one run: so a list of any length needs room for few items.
 ///
 /// Refuses as [`totals`](crate::totals) does, then `PlaceRange` and `UnlawfulState`, and then `SmallRoom`, where `count`
-/// tells how many items there are, and nothing else was written. It takes memory for a copy of the bytes, and for 16 bits
-/// an item.
+/// tells how many items there are, and nothing else was written. It takes memory for a copy of the bytes.
 pub fn run(
     alloc: Global,
     bytes: &[u8],
@@ -209,8 +208,9 @@ fn counted(alloc: Global, start: &Start, from: u64, to: u64) -> Result<(State, u
     let input = &start.input;
     laws::runs_give_few_items();
     prove!(to <= input.recording.len());
-    match run_codes(alloc, &input.recording, &input.rules, start.state, from, to) {
-        Ok((end, codes)) => Ok((end, codes.len())),
+    let Input { recording, rules } = input;
+    match run_report(alloc, recording, rules, start.state, from, to, Spans::Whole) {
+        Ok((end, report)) => Ok((end, report.items.len())),
         Err(_) => Err(Refusal::OutOfMemory),
     }
 }

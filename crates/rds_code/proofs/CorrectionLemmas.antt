@@ -18,7 +18,7 @@ use Rattle.rds_code.proofs.BurstLemmas.{burst_is_one, rem-burst, longer}
 use Rattle.rds_code.proofs.ReadingLemmas.{one_fits, corrections_one, reads_valid, reads_corrected, only_A, only_B, only_D, third, wanted_1, wanted_2, wanted_4}
 
 -- damage done twice is undone
-undone : (w e : ℕ) → bit_xor (bit_xor w e) e ≡ w
+pub undone : (w e : ℕ) → bit_xor (bit_xor w e) e ≡ w
 undone w e = xor_assoc w e e ∙ ap (bit_xor w) (xor_self e) ∙ xor_zero_r w
 
 found_word : (os : List Offset) (r : ℕ) (p : Offset) → find (λ o. eqb (word o) r) os ≡ Some p → word p ≡ r
@@ -50,11 +50,11 @@ reads_as_sent w info o wanted limit h =
     reads_valid w (number o) wanted limit o record { offset = ap offset_of h.remainder ∙ word_offset o; own = refl } ∙ ap (Valid o) h.above
 
 -- what damage leaves of the remainder
-damaged : (w info e : ℕ) (o : Offset) → IsBlockOf w info o → rem (bit_xor w e) ≡ bit_xor (word o) (rem e)
+pub damaged : (w info e : ℕ) (o : Offset) → IsBlockOf w info o → rem (bit_xor w e) ≡ bit_xor (word o) (rem e)
 damaged w info e o h = rem-xor w e ∙ ap (λ (n : ℕ). bit_xor n (rem e)) h.remainder
 
 -- a damaged block that has an offset p after all: the burst has the sum of the words as its remainder
-became : (w info e x : ℕ) (o p : Offset) → IsBlockOf w info o → IsValid (bit_xor w e) x p → rem e ≡ bit_xor (word o) (word p)
+pub became : (w info e x : ℕ) (o p : Offset) → IsBlockOf w info o → IsValid (bit_xor w e) x p → rem e ≡ bit_xor (word o) (word p)
 became w info e x o p h valid =
     sym (twice (word o) (rem e)) ∙ ap (bit_xor (word o)) (sym (damaged w info e o h) ∙ sym (valid_word (rem (bit_xor w e)) p valid.offset))
 
@@ -103,14 +103,14 @@ takes_over e A third burst same = absurd (omega (arith, third))
 takes_over e B third burst same = absurd (omega (arith, third))
 takes_over e D third burst same = absurd (omega (arith, third))
 
-taken_over : (o : Offset) → number o ≡ 3 → rem version_burst ≡ bit_xor (word o) (word (other_version o))
+pub taken_over : (o : Offset) → number o ≡ 3 → rem version_burst ≡ bit_xor (word o) (word (other_version o))
 taken_over C third = version_remainder
 taken_over Cx third = version_remainder_back
 taken_over A third = absurd (omega (arith, third))
 taken_over B third = absurd (omega (arith, third))
 taken_over D third = absurd (omega (arith, third))
 
-other_number : (o : Offset) → number (other_version o) ≡ 3
+pub other_number : (o : Offset) → number (other_version o) ≡ 3
 other_number A = refl
 other_number B = refl
 other_number C = refl
@@ -127,7 +127,7 @@ takes_other_version w info o e h own burst = (
 )
 
 -- a valid block 3 has its own offset or the other
-own_or_other : (o p : Offset) → number o ≡ 3 → number p ≡ 3 → (p ≡ o) ⊎ (p ≡ other_version o)
+pub own_or_other : (o p : Offset) → number o ≡ 3 → number p ≡ 3 → (p ≡ o) ⊎ (p ≡ other_version o)
 own_or_other C p ho hp = third p hp
 own_or_other Cx p ho hp = elim (third p hp) [ inl c ↦ inr c | inr cx ↦ inl cx ]
 own_or_other A p ho hp = absurd (omega (arith, ho))
@@ -140,7 +140,7 @@ third_not_valid w info o e h own burst apart p valid = elim (own_or_other o p ow
   | inr other ↦ apart (takes_over e o own burst (became w info e 3 o (other_version o) h (subst (IsValid (bit_xor w e) 3) other valid)))
 ]
 
-alone_wanted : (o : Offset) → number o ≡ 3 → wanted_offsets 3 (alone o) ≡ o ∷ []
+pub alone_wanted : (o : Offset) → number o ≡ 3 → wanted_offsets 3 (alone o) ≡ o ∷ []
 alone_wanted C h = refl
 alone_wanted Cx h = refl
 alone_wanted A h = absurd (omega (arith, h))

@@ -1,7 +1,7 @@
 -- Lists of numbers, by a test of membership that computes.
-use Rattle.std.proofs.Common.{◌≡◌, ℕ, zero, suc, ◌<◌, List, [], ◌∷◌, Bool, true, false, cond, map, refl, sym, ap, ◌∙◌, arith, inl, inr, eqb}
-use Rattle.std.specs.List.{filter, Contains}
-use Rattle.std.proofs.lemmas.List.Elements.{Contains-append_right}
+use Rattle.std.proofs.Common.{◌≡◌, ◌≢◌, ◌⊎◌, ℕ, zero, suc, ◌<◌, List, [], ◌∷◌, ◌++◌, length, get_or, Bool, true, false, cond, map, refl, sym, ap, ◌∙◌, arith, inl, inr, eqb}
+use Rattle.std.specs.List.{filter, Contains, AllPairs}
+use Rattle.std.proofs.lemmas.List.Elements.{Contains-append_left, Contains-append_right, Contains-append_cases}
 use Rattle.std.proofs.lemmas.Bool.{cases_Bool, eq-eqb, cases_eq, ne_eqb}
 
 -- whether x is among the numbers
@@ -172,3 +172,75 @@ pub contains_among : (x : ℕ) (xs : List ℕ) → Contains xs x → is_among x 
 contains_among x [] h = absurd (omega (arith, h.1))
 contains_among x (y ∷ ys) (zero, within, here) = among_head x y ys (sym here)
 contains_among x (y ∷ ys) (suc k, within, here) = among_more x y ys (contains_among x ys (k, omega arith, here))
+
+-- an element of a mapped list comes from the list
+pub from_map : (f : ℕ → ℕ) (x : ℕ) (xs : List ℕ) → is_among x (map f xs) ≡ true → (y : ℕ) × (is_among y xs ≡ true) × (f y ≡ x)
+from_map f x [] h = let no : false ≡ true = h in absurd (cc no)
+from_map f x (y ∷ ys) h = elim (cases_eq x (f y)) [
+  | inl here ↦ (y, among_head y y ys refl, sym here)
+  | inr other ↦ let rest = from_map f x ys (sym (among_tail x (f y) (map f ys) other) ∙ h) in (rest.0, among_more rest.0 y ys rest.1, rest.2)
+]
+
+-- an injective map keeps the numbers different
+pub differ_map : (f : ℕ → ℕ) (xs : List ℕ) → all_differ xs ≡ true → ((x y : ℕ) → is_among x xs ≡ true → is_among y xs ≡ true → f x ≡ f y → x ≡ y) → all_differ (map f xs) ≡ true
+differ_map f [] h told = refl
+differ_map f (x ∷ xs) h told =
+    let apart = differ_tail x xs h in
+    let rest = differ_map f xs apart.1 (λ y z hy hz same. told y z (among_more y x xs hy) (among_more z x xs hz) same) in
+    elim (cases_Bool (is_among (f x) (map f xs))) [
+      | inl found ↦
+          let from = from_map f (f x) xs found in
+          let same : from.0 ≡ x = told from.0 x (among_more from.0 x xs from.1) (among_head x x xs refl) from.2 in
+          let no : false ≡ true = sym apart.0 ∙ ap (λ (n : ℕ). is_among n xs) (sym same) ∙ from.1 in
+          cc no
+      | inr none ↦ ap (λ (b : Bool). cond b false (all_differ (map f xs))) none ∙ rest
+    ]
+
+pub among_get : (xs : List ℕ) (i d : ℕ) → i < length xs → is_among (get_or xs i d) xs ≡ true
+among_get [] i d inside = absurd (omega (arith, inside))
+among_get (x ∷ xs) zero d inside = among_head x x xs refl
+among_get (x ∷ xs) (suc i) d inside = among_more (get_or xs i d) x xs (among_get xs i d (omega (arith, inside)))
+
+pub differ_pairs : (xs : List ℕ) → all_differ xs ≡ true → AllPairs (λ (x y : ℕ). x ≢ y) xs
+differ_pairs [] h i j d order inside = absurd (omega (arith, inside))
+differ_pairs (x ∷ xs) h zero zero d order inside = absurd (omega arith)
+differ_pairs (x ∷ xs) h zero (suc j) d order inside = λ same.
+    let no : false ≡ true = sym (differ_tail x xs h).0 ∙ ap (λ (n : ℕ). is_among n xs) same ∙ among_get xs j d (omega (arith, inside)) in
+    cc no
+differ_pairs (x ∷ xs) h (suc i) zero d order inside = absurd (omega arith)
+differ_pairs (x ∷ xs) h (suc i) (suc j) d order inside = differ_pairs xs (differ_tail x xs h).1 i j d (omega arith) (omega (arith, inside))
+
+-- an element of either list is one of both together
+pub among_left : (x : ℕ) (xs ys : List ℕ) → is_among x xs ≡ true → is_among x (xs ++ ys) ≡ true
+among_left x xs ys h = contains_among x (xs ++ ys) (Contains-append_left xs ys x (among_contains x xs h))
+
+pub among_right : (x : ℕ) (xs ys : List ℕ) → is_among x ys ≡ true → is_among x (xs ++ ys) ≡ true
+among_right x xs ys h = contains_among x (xs ++ ys) (Contains-append_right xs ys x (among_contains x ys h))
+
+pub among_either : (x : ℕ) (xs ys : List ℕ) → is_among x (xs ++ ys) ≡ true → (is_among x xs ≡ true) ⊎ (is_among x ys ≡ true)
+among_either x xs ys h = elim (Contains-append_cases xs ys x (among_contains x (xs ++ ys) h)) [ inl left ↦ inl (contains_among x xs left) | inr right ↦ inr (contains_among x ys right) ]
+
+-- two lists of different numbers with none in common
+pub differ_append : (xs ys : List ℕ) → all_differ xs ≡ true → all_differ ys ≡ true → ((x : ℕ) → is_among x xs ≡ true → is_among x ys ≡ true → ⊥) → all_differ (xs ++ ys) ≡ true
+differ_append [] ys hx hy apart = hy
+differ_append (x ∷ xs) ys hx hy apart =
+    let first = differ_tail x xs hx in
+    let rest = differ_append xs ys first.1 hy (λ z left right. apart z (among_more z x xs left) right) in
+    elim (cases_Bool (is_among x (xs ++ ys))) [
+      | inl found ↦ elim (among_either x xs ys found) [
+        | inl left ↦ let no : false ≡ true = sym first.0 ∙ left in absurd (cc no)
+        | inr right ↦ absurd (apart x (among_head x x xs refl) right)
+      ]
+      | inr none ↦ ap (λ (b : Bool). cond b false (all_differ (xs ++ ys))) none ∙ rest
+    ]
+
+-- tests that agree on each element keep as many
+pub filter_agree : (p q : ℕ → Bool) (xs : List ℕ) → ((x : ℕ) → is_among x xs ≡ true → p x ≡ q x) → length (filter p xs) ≡ length (filter q xs)
+filter_agree p q [] same = refl
+filter_agree p q (x ∷ xs) same =
+    let rest = filter_agree p q xs (λ y h. same y (among_more y x xs h)) in
+    let here = same x (among_head x x xs refl) in
+    elim (cases_Bool (q x)) [
+      | inl kept ↦ ap length (filter_keeps p x xs (here ∙ kept)) ∙ ap suc rest ∙ sym (ap length (filter_keeps q x xs kept))
+      | inr dropped ↦ ap length (filter_drops p x xs (here ∙ dropped)) ∙ rest ∙ sym (ap length (filter_drops q x xs dropped))
+    ]

@@ -1,6 +1,14 @@
 //! Laws of the block code. Each call does nothing: its contract is a law of the definitions, whoever reads or writes.
 ghost use Rattle.rds_code.specs.Laws.{HasRemainder, HasOneRemainder, IsLinear, ListsBursts, TellsBursts, DetectsBursts, ReadsByRule, HasOneBlock};
 ghost use Rattle.rds_code.specs.Correction.{ReadsAsSent, CorrectsBurst, CorrectsThird, TakesOtherVersion};
+ghost use Rattle.rds_code.specs.Detection.{
+  DetectsBitErrors,
+  DetectsErrorBursts,
+  SharesRemainders,
+  CorrectsShares,
+  ListsAllErrorMasks,
+  CountsAllMiscorrections,
+};
 
 /// Each block has one remainder, the one that is computed.
 pub fn blocks_have_one_remainder()
@@ -41,4 +49,22 @@ pub fn damaged_blocks_are_corrected()
     ensures corrected { CorrectsBurst }
     ensures third { CorrectsThird }
     ensures but_one { TakesOtherVersion }
+{}
+
+/// One or two bit errors, and any burst of up to ten bits, are detected: EN 50067:1998, 2.3.
+pub fn damage_is_detected()
+    ensures bits { DetectsBitErrors 2 }
+    ensures bursts { DetectsErrorBursts 10 }
+{}
+
+/// If one offset is wanted, 26, 51, 99, 191 and 367 of each 1,024 words of 26 bits are corrected, by limits of 1 to 5 bits.
+pub fn corrected_words_are_few()
+    ensures alike { SharesRemainders }
+    ensures shares { CorrectsShares }
+{}
+
+/// How many error masks of two, three and four bit errors miscorrect a block, by limit. The tables are in `Detection`.
+pub fn miscorrections_are_counted()
+    ensures masks { ListsAllErrorMasks }
+    ensures counts { CountsAllMiscorrections }
 {}

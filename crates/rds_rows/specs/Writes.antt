@@ -1,6 +1,6 @@
 -- What writes do to a writer: how failures are counted, and what was added to what it held. `Sink`, `write_all`, `write_rows`
 -- and `write_rows_in_parts` cite it, and `IsWritten`.
-use Rattle.std.specs.Prelude.{◌==◌, ◌&&◌, ◌++◌, ◌≡◌, ℕ, Err, List, Ok, Option, Result, if◌then◌else◌, length, not}
+use Rattle.std.specs.Prelude.{◌==◌, ◌&&◌, ◌++◌, ◌≡◌, ℕ, Bool, true, false, Err, List, Ok, Option, Result, if◌then◌else◌, length, not}
 use Rattle.std.specs.Io.KnownBytes.{Appends}
 
 -- a write fails where it answers an error, or takes no byte of some
@@ -12,6 +12,11 @@ failures_of_write (Err e) bytes = 1
 abbrev pub failures_of_flush : {T E : Type 0} → Result T E → ℕ
 failures_of_flush (Ok done) = 0
 failures_of_flush (Err e) = 1
+
+-- a call went well
+abbrev pub is_done : {T E : Type 0} → Result T E → Bool
+is_done (Ok done) = true
+is_done (Err e) = false
 
 -- a beginning of the text was added to what the writer held
 abbrev pub AppendsPrefix : Option (List ℕ) → Option (List ℕ) → List ℕ → Type 0

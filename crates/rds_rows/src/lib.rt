@@ -26,7 +26,7 @@
 //! # What there is
 //!
 //! - [`write_rows`]: writes all rows of a list, by up to [`MOST_WORKERS`] threads.
-//!   [`write_rows_in_parts`] is the same in parts of so many rows.
+//!   [`write_rows_in_parts`] is the same in parts of so many rows. [`write_rows_alone`] starts no thread and waits for none.
 //! - [`Rows`]: a list of rows, which can spell those from one number up to another.
 //! - [`Sheet`]: room for so many rows, into which they are spelled. It takes no memory after it is made, and keeps rows in
 //!   the memory that they come in where they are given with it ([`Sheet::give_all`]).
@@ -54,6 +54,7 @@ mod rows; // A list of rows that can be spelled.
 mod sheet; // Room for some of them.
 mod sink; // Where the bytes go.
 mod write; // All rows of a list, written.
+mod alone; // The same by the caller, without waiting for a thread.
 mod pool; // The threads that make the parts, and the writer of what they make.
 mod seat; // Where they meet.
 mod slot; // What lies under the lock of a seat.
@@ -61,6 +62,7 @@ mod gathered; // Parts that are gathered to larger writes.
 mod hand; // A writer that is handed in and back.
 mod error; // Why rows are not written.
 
+pub use alone::write_rows_alone;
 pub use error::RowsError;
 pub use rows::Rows;
 pub use sheet::Sheet;

@@ -1,7 +1,7 @@
 //! Where the rows go.
-ghost use Rattle.std.specs.Prelude.{◌+◌, ◌<◌, ◌^◌, ◌≡◌, ◌≤◌, ℕ, IfOk, List, OnErr, OnOk, Option, length};
+ghost use Rattle.std.specs.Prelude.{◌+◌, ◌<◌, ◌^◌, ◌≡◌, ◌≤◌, ℕ, Bool, false, IfOk, List, OnErr, OnOk, Option, length};
 ghost use Rattle.std.specs.Io.KnownBytes.{Appends, Keeps, WriteAppends};
-ghost use Rattle.rds_rows.specs.Writes.{AppendsPrefix, failures_of_flush, failures_of_write};
+ghost use Rattle.rds_rows.specs.Writes.{AppendsPrefix, is_done, failures_of_flush, failures_of_write};
 
 /// A call of a writer that went wrong. Why it did is the writer's to say.
 #[derive(Clone, Copy, Debug, PartialEq, Eq)]
@@ -14,6 +14,9 @@ pub trait Sink {
     /// The bytes that were written, where they are known.
     ghost contents: { Self → Option (List ℕ) };
 
+    /// Its last call was a flush that went well.
+    ghost is_flushed: { Self → Bool };
+
     /// How many calls have failed.
     ghost failed: { Self → ℕ };
 
@@ -24,12 +27,14 @@ pub trait Sink {
         requires { failed self.old < 2 ^ 63 }
         ensures within { IfOk result (λ count. count ≤ length bytes.now) }
         ensures bytes { WriteAppends (contents self.old) (contents self.new) result bytes.now }
+        ensures flushed { is_flushed self.new ≡ false }
         ensures counts { failed self.new ≡ failed self.old + failures_of_write result bytes.now };
 
     /// Hands on what a buffer may still hold.
     fn flush(&mut self) -> Result<(), Failed>
         requires { failed self.old < 2 ^ 63 }
         ensures bytes { Keeps (contents self.old) (contents self.new) }
+        ensures flushed { is_flushed self.new ≡ is_done result }
         ensures counts { failed self.new ≡ failed self.old + failures_of_flush result };
 
     /// How many writes and flushes have failed.

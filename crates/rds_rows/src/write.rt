@@ -130,7 +130,7 @@ fn sheets_of(
 }
 
 /// Ends a loan: what the lender has then is what lies behind the reference that came back.
-fn take_back<K>(lent: &mut K)
+pub(crate) fn take_back<K>(lent: &mut K)
     ensures { lent.new ≡ lent.old }
 {
     let _ = lent;

@@ -26,9 +26,11 @@ use Rattle.rds_sync.specs.Loss.{bad_after, are_too_many}
 use Rattle.rds_sync.specs.Rules.{RuleNumbers}
 use Rattle.rds_sync.specs.Step.{items_at, run, bad_with, lock_after, lock_of}
 use Rattle.rds_sync.specs.Totals.{is_valid}
-use Rattle.rds_sync.specs.Words.{nibble, word_of_blocks}
+use Rattle.rds_sync.specs.Inside.Counts.{CountOf, joined, group_count, loss_count, added}
+use Rattle.rds_sync.specs.Words.{nibble, word_of_blocks, blocks_in}
 use Rattle.rds_sync.proofs.CleanGroups.{valid-only}
 use Rattle.rds_sync.proofs.CodePartLemmas.{behind-assoc}
+use Rattle.rds_sync.proofs.CountLemmas.{lost-added}
 use Rattle.rds_sync.proofs.GroupBlocks.{block_at-read, block_at-missing}
 use Rattle.rds_sync.proofs.GroupOutcomes.{good_block}
 use Rattle.rds_sync.proofs.HeardBlocks.{kind-nibble}
@@ -165,3 +167,10 @@ module _ (b : Signal) (rules : RuleNumbers) (here x to word : ℕ) (acquires : a
       ∙ behind-assoc before (kept_as (word ∷ []) []) (kept_as (65535 ∷ []) [])
       ∙ ap (λ (code : Code). behind before (record { codes = code ∷ ended ∷ []; locks = [] })) (not_group word lost.few ∙ ap (λ (os : List Outcome). blocks os) lost.blocks)
       ∙ ap (λ (is : List Item). behind before (kept_of is)) (sym last-items)
+
+  -- and what is counted of it after its acquisition
+  pub short-counts : (before mid after : CountOf) → mid ≡ joined before (group_count (blocks_in word)) → after ≡ joined mid loss_count
+      → after ≡ added before (items_at b rules (here + 26) lock)
+  short-counts before mid after first second =
+      lost-added before mid after (group b rules (first_behind x) (x % 4 + 1) (here + 26)) (blocks_in word) (here + 26) lost.blocks first second
+      ∙ ap (λ (is : List Item). added before is) (sym last-items)

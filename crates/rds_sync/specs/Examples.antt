@@ -18,6 +18,8 @@ pub mod Stretches
 pub mod StepsOfADecoder
 pub mod LostAndFound
 pub mod TwoZeroGroups
+pub mod SentGroups
+pub mod LongerRecordings
 pub mod EightZeroGroups
 pub mod GuessesThatDiffer
 pub mod Shares

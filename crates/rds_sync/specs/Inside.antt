@@ -4,10 +4,13 @@ pub mod CodeParts
 pub mod CodeRuns
 pub mod CodeSpots
 pub mod CodeTotals
+pub mod CountRuns
+pub mod Counts
 pub mod Due
 pub mod GroupParts
 pub mod Locks
 pub mod ShortLocks
 pub mod Spans
 pub mod Tallies
+pub mod Tally
 pub mod WholeGroups

@@ -64,7 +64,7 @@ fn totals_of_group(one: u16, two: u16, three: u16, four: u16) -> Totals
 }
 
 /// Whether these four bits are of a block that is valid or corrected.
-fn has_info(nibble: u16) -> bool
+pub(crate) fn has_info(nibble: u16) -> bool
     requires { nibble < 16 }
     ensures { result ≡ has_info (outcome_at nibble) }
 {

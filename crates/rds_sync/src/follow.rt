@@ -24,7 +24,7 @@ use rds_code::{BlockNumber, Reading, Wanted};
 use rds_stream::{FIRST_WINDOW, Reader};
 
 /// The blocks of a group of which none was read.
-const NO_BLOCKS: [Block; 4] = [Block::Missing; 4];
+pub(crate) const NO_BLOCKS: [Block; 4] = [Block::Missing; 4];
 
 /// The blocks of the group in progress that were read before.
 pub(crate) fn blocks_before(reader: &mut Reader<'_>, rules: &Rules, lock: Lock) -> [Block; 4]
@@ -80,7 +80,7 @@ pub(crate) fn read_due(
 }
 
 /// Whether a block was read as it was sent.
-fn is_valid(reading: &Reading) -> bool
+pub(crate) fn is_valid(reading: &Reading) -> bool
     ensures { result ≡ is_valid (Read reading.now) }
 {
     matches!(reading, Reading::Valid { .. })

@@ -93,6 +93,11 @@ impl Items {
         Items { cut, ..self }
     }
 
+    /// With how many items a run that is appended has one span.
+    pub(crate) fn most_in_one(&self) -> u64 {
+        self.cut.most_in_one()
+    }
+
     /// How many items there are.
     pub fn len(&self) -> usize
         ensures { result ≡ length self.now.list }

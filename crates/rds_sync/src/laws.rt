@@ -5,7 +5,9 @@ ghost use Rattle.rds_sync.specs.Convergence.{SoundRangesHaveFours, RunsConverge}
 ghost use Rattle.rds_sync.specs.CodeLaws.{CodesTellTotals, CodesTellRanges};
 ghost use Rattle.rds_sync.specs.Counting.{TotalsJoin};
 ghost use Rattle.rds_sync.specs.GroupLaws.{GroupsAreRead};
+ghost use Rattle.rds_sync.specs.Longer.{BeginningsBegin, LongerRecordingsAddItems, TotalsOnlyGrow};
 ghost use Rattle.rds_sync.specs.MarkLaws.{CodesTellMarks, MarksGoOn, WholeGroups};
+ghost use Rattle.rds_sync.specs.Sent.{GroupsAreCorrected, SentGroupsAreListed, EncodedGroupsAreHeard, EncodedGroupsAreListed, PackedGroupsAreSent, LockedGroupsAreListed, DamagedGroupsAreListed, DamagedGroupsAreHeard, DamagedBitsAreDecoded, DamageTellsTotals, DamagedBitsTellTotals, SoundSignalIsDecoded};
 ghost use Rattle.rds_sync.specs.Words.{WordsTellCodes, RunsHaveWords, RunsAreKeepable};
 ghost use Rattle.rds_sync.specs.Laws.{RunsAreReports, RunsJoin, StepsAreLawful, RunsAreLawful, RunsMerge, OneBitRuns, LocksWait, SearchesGoOn, ItemsMarkChanges, RunsGiveFewItems, AcquisitionsAreLate, MasksTellBlocks, BadBlocksLose, RunsAreShares};
 
@@ -143,4 +145,83 @@ pub fn marks_go_on()
 /// Four blocks of a lock at once.
 pub fn whole_groups()
     ensures { WholeGroups }
+{}
+
+/// A group is read as it was sent, if no block has more than one burst of errors within the limit. With a limit of 5 bits,
+/// the burst in block 3 is not the one that makes of it a valid block of the other version.
+pub fn damaged_groups_are_corrected()
+    ensures { GroupsAreCorrected }
+{
+    code_laws::blocks_are_read_as_sent();
+    code_laws::damaged_blocks_are_corrected();
+}
+
+/// A recording of groups as they were sent, from its first bit to its last, is decoded to these groups, by all rules.
+pub fn sent_groups_are_listed()
+    ensures { SentGroupsAreListed }
+{
+    code_laws::blocks_are_read_as_sent();
+    code_laws::damaged_blocks_are_corrected();
+}
+
+/// The bits of encoded groups are heard as they were sent, at any place of a recording. A recording of these bits only is
+/// decoded to the groups.
+pub fn encoded_groups_are_listed()
+    ensures heard { EncodedGroupsAreHeard }
+    ensures listed { EncodedGroupsAreListed }
+{
+    code_laws::blocks_are_read_as_sent();
+    code_laws::damaged_blocks_are_corrected();
+}
+
+/// The bytes that groups are packed in hold the bits of the groups.
+pub fn packed_groups_are_sent()
+    ensures { PackedGroupsAreSent }
+{
+    code_laws::blocks_are_read_as_sent();
+}
+
+/// A locked decoder gives each group that is heard with the words that were sent, if the damage does not lose sync. So does
+/// a recording from its first bit on, if the two blocks that acquire sync have no bit error.
+pub fn damaged_groups_are_listed()
+    ensures locked { LockedGroupsAreListed }
+    ensures recorded { DamagedGroupsAreListed }
+{
+    code_laws::blocks_are_read_as_sent();
+    code_laws::damaged_blocks_are_corrected();
+}
+
+/// The bits of groups that were encoded and then damaged are decoded to the words that were sent.
+pub fn damaged_bits_are_decoded()
+    ensures heard { DamagedGroupsAreHeard }
+    ensures decoded { DamagedBitsAreDecoded }
+{
+    code_laws::blocks_are_read_as_sent();
+    code_laws::damaged_blocks_are_corrected();
+}
+
+/// The totals of a recording of damaged groups follow from the damage alone, if each block has at most one burst of errors
+/// within the limit and the damage does not lose sync.
+pub fn damage_tells_totals()
+    ensures recorded { DamageTellsTotals }
+    ensures decoded { DamagedBitsTellTotals }
+{
+    code_laws::blocks_are_read_as_sent();
+    code_laws::damaged_blocks_are_corrected();
+}
+
+/// After a sound range each group is decoded as it was sent, from whatever lawful state the run comes.
+pub fn sound_signal_is_decoded()
+    ensures { SoundSignalIsDecoded }
+{
+    code_laws::blocks_are_read_as_sent();
+    code_laws::damaged_blocks_are_corrected();
+}
+
+/// A longer recording only adds rows: its report begins with the items of the shorter one, but for the group at the end, which
+/// goes on; and no total is less. Gaps within the shorter recording are those of the longer one there.
+pub fn longer_recordings_add_rows()
+    ensures beginnings { BeginningsBegin }
+    ensures items { LongerRecordingsAddItems }
+    ensures totals { TotalsOnlyGrow }
 {}

@@ -1,25 +1,22 @@
 //! The report of a recording, by one thread.
 
-ghost use Rattle.std.specs.Prelude.{◌≡◌, IfOk, IsOkUnless};
+ghost use Rattle.std.specs.Prelude.{◌≡◌, ◌≤◌, ◌-◌, ◌^◌, IfOk, IsOkUnless};
 ghost use Rattle.rds_stream.specs.Recording.{length_of};
-ghost use Rattle.rds_sync.specs.Codes.{kept_of};
+ghost use Rattle.rds_sync.specs.Counting.{IsAtMost};
 ghost use Rattle.rds_sync.specs.Decoding.{listed};
 ghost use Rattle.rds_sync.specs.Lawful.{IsLawful};
 ghost use Rattle.rds_sync.specs.Report.{report_items};
 ghost use Rattle.rds_sync.specs.Step.{run};
 ghost use Rattle.rds_sync.specs.Totals.{totals_of};
-ghost use Rattle.rds_sync.specs.declared.state.State.TheVariants.{Searching};
 
-use crate::code_run::run_codes;
-use crate::codes::Codes;
 use crate::error::SyncError;
-use crate::items::Items;
-use crate::mark::Mark;
+use crate::items::{Items, Spans};
 use crate::rules::Rules;
 use crate::state::State;
 use crate::steps::finish;
+use crate::tally::Tally;
 use crate::totals::Totals;
-use rds_stream::{Counted, Recording};
+use rds_stream::{Counted, Reader, Recording};
 use std::alloc::Global;
 use std::snapshot::Snapshot;
 
@@ -32,11 +29,48 @@ pub struct Report {
     pub totals: Totals,
 }
 
+/// The run from `state` over the bits at `from` to `to` - 1: the state after them, and what it gave. Windows may begin
+/// before `from`. Runs are this project's rule, after EN 50067:1998, annex C.
+///
+/// The item of the recording's end is not among them: see [`finish`]. Fails with `OutOfMemory` alone.
+///
+/// Its cost: a search goes over 64 places at once, and looks up to `reach` windows back from each valid one; a lock
+/// reads a window every 26 bits, and those of a group in which it may be lost three times at most. It takes memory for
+/// the spans of the list alone.
+pub fn run_report(
+    alloc: Global,
+    rec: &Recording,
+    rules: &Rules,
+    state: State,
+    from: u64,
+    to: u64,
+    cut: Spans,
+) -> Result<(State, Report), SyncError>
+    requires lawful { IsLawful rules.now from state }
+    requires order { from ≤ to }
+    requires within { to ≤ length_of rec.now }
+    ensures state { IfOk result (λ end. end.0 ≡ (run rec.now rules.now state from (to - from)).0) }
+    ensures items { IfOk result (λ end. end.1.items
+        ≡ listed rec.now rules.now (run rec.now rules.now state from (to - from)).1) }
+    ensures totals { IfOk result (λ end. end.1.totals ≡ totals_of (run rec.now rules.now state from (to - from)).1) }
+    ensures small { IfOk result (λ end. IsAtMost (2 ^ 47) end.1.totals) }
+    ensures lawful { IfOk result (λ end. IsLawful rules.now to end.0) }
+    ensures only_memory { IsOkUnless result SyncError.OutOfMemory }
+{
+    prove!(to <= rec.len());
+    let mut reader = Reader::new(rec);
+    let mut tally = Tally::new(alloc, Snapshot::of(rec), rules, state, from, cut);
+    while tally.place() < to {
+        tally.go_on(&mut reader, rules, to)?;
+    }
+    let end = tally.state();
+    Ok((end, tally.report()?))
+}
+
 /// The report of a recording, this project's rule: the items of its locks, in order, with that of
 /// its end, and their totals. Fails with `OutOfMemory` alone.
 ///
-/// Its cost: the recording is gone over once, as by [`run_codes`], and what that keeps twice more. It takes memory for
-/// that and for the spans of the list.
+/// Its cost: the recording is gone over once, as by [`run_report`]. It takes memory for the spans of the list.
 pub fn decode_plain(alloc: Global, rec: &Recording, rules: &Rules) -> Result<Report, SyncError>
     ensures items { IfOk result (λ report. report.items ≡ listed rec.now rules.now (report_items rec.now rules.now)) }
     ensures totals { IfOk result (λ report. report.totals
@@ -45,40 +79,12 @@ pub fn decode_plain(alloc: Global, rec: &Recording, rules: &Rules) -> Result<Rep
 {
     prove!(1 <= rules.reach());
     let len = rec.len();
-    let (end, codes) = run_codes(alloc, rec, rules, State::Searching, 0, len)?;
+    let (end, report) = run_report(alloc, rec, rules, State::Searching, 0, len, Spans::Short)?;
     let group = finish(&mut Counted::new(rec), rules, end);
-    let items = list_of(alloc, rec, rules, &codes, end)?;
+    let Report { mut items, totals } = report;
+    items.close(end)?;
     Ok(Report {
         items,
-        totals: codes.totals().plus(Totals::of_end(group)),
+        totals: totals.plus(Totals::of_end(group)),
     })
-}
-
-/// The list of a recording's items, over all of which a run kept these codes and ended in this state.
-fn list_of(
-    alloc: Global,
-    rec: &Recording,
-    rules: &Rules,
-    codes: &Codes,
-    end: State,
-) -> Result<Items, SyncError>
-    requires codes { codes.now ≡ kept_of (run rec.now rules.now Searching 0 (length_of rec.now)).1 }
-    requires end { end ≡ (run rec.now rules.now Searching 0 (length_of rec.now)).0 }
-    requires lawful { IsLawful rules.now (length_of rec.now) end }
-    ensures items { IfOk result (λ items. items ≡ listed rec.now rules.now (report_items rec.now rules.now)) }
-    ensures only_memory { IsOkUnless result SyncError.OutOfMemory }
-{
-    prove!(1 <= rules.reach());
-    let len = rec.len();
-    let mut items = Items::none(alloc, Snapshot::of(rec), rules);
-    let first = Mark {
-        place: 0,
-        state: State::Searching,
-        items: 0,
-    };
-    let mut marks = codes.marks_from(rules, 0, State::Searching);
-    let _first = marks.next();
-    items.push_run(first, marks, len, codes.len() as u64)?;
-    items.close(end)?;
-    Ok(items)
 }

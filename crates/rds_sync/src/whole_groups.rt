@@ -8,6 +8,7 @@ ghost use Rattle.rds_sync.specs.Acquiring.{is_numbered};
 ghost use Rattle.rds_sync.specs.Codes.{outcome_of};
 ghost use Rattle.rds_sync.specs.Groups.{blocks_at, group};
 ghost use Rattle.rds_sync.specs.Inside.CodeRuns.{AreValid, HasPassed};
+ghost use Rattle.rds_sync.specs.Inside.CountRuns.{HasCountedOn};
 ghost use Rattle.rds_sync.specs.Lawful.{IsLawfulLock};
 ghost use Rattle.rds_sync.specs.Loss.{IsLawfulBad, bad_after, are_too_many};
 ghost use Rattle.rds_sync.specs.Marks.{bad_over};
@@ -16,6 +17,7 @@ ghost use Rattle.rds_sync.specs.Stretch.{IsStretch};
 ghost use Rattle.rds_sync.specs.Words.{blocks_in};
 ghost use Rattle.rds_sync.specs.declared.state.State.TheVariants.{Locked};
 
+use crate::counts::Counts;
 use crate::error::SyncError;
 use crate::item::{Block, Item};
 use crate::kept::CodePart;
@@ -60,6 +62,44 @@ pub(crate) fn pass_whole_groups(
         now.due += 4 * BLOCK_PLACES;
     }
     Ok(now)
+}
+
+/// The lock behind the whole groups that come next, none of whose blocks loses it, of which the last ends before `to`:
+/// as many as are counted until there are `most` items.
+pub(crate) fn count_whole_groups(
+    reader: &mut Reader<'_>,
+    rules: &Rules,
+    lock: Lock,
+    to: u64,
+    most: u64,
+    counts: &mut Counts,
+) -> Lock
+    requires between { (lock.number ≡ 1) × (lock.first ≡ 1) }
+    requires few_bad { IsLawfulBad rules.now.loss lock.bad }
+    requires start { 25 ≤ lock.due }
+    requires near { lock.due < 2 ^ 37 }
+    requires within { to ≤ length_of reader.old }
+    requires most { most ≤ 3000 }
+    ensures passed { HasCountedOn reader.old rules.now lock to counts.old result counts.new }
+    ensures stays { result.due ≤ lock.due → counts.new ≡ counts.old }
+    ensures same { reader.new ≡ reader.old }
+{
+    prove!(to <= reader.recording().len());
+    let loss = rules.loss();
+    let mut now = lock;
+    while now.due + 3 * BLOCK_PLACES < to {
+        if counts.items() >= most {
+            break;
+        }
+        let word = whole_word(reader, rules, now.due);
+        let Some(bad) = bad_after_four(loss, word, now.bad) else {
+            break;
+        };
+        counts.add_group(word);
+        now.bad = bad;
+        now.due += 4 * BLOCK_PLACES;
+    }
+    now
 }
 
 /// The whole group that comes next, whose block 1 begins at `place`: none where a block of it loses the lock or ends at

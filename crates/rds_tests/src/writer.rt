@@ -23,6 +23,7 @@ pub struct SlowWriter {
     pub failure: Failure,
     pub writes: u64,
     pub failures: u64,
+    pub flushed: bool,
 }
 
 impl SlowWriter {
@@ -35,6 +36,7 @@ impl SlowWriter {
             failure,
             writes: 0,
             failures: 0,
+            flushed: false,
         }
     }
 }
@@ -42,10 +44,13 @@ impl SlowWriter {
 impl Sink for SlowWriter {
     ghost contents = { λ writer. Some writer.held.items };
 
+    ghost is_flushed = { λ writer. writer.flushed };
+
     ghost failed = { λ writer. writer.failures };
 
     fn write(&mut self, bytes: &[u8]) -> Result<usize, Failed> {
         self.writes = self.writes.wrapping_add(1);
+        self.flushed = false;
         if bytes.is_empty() {
             return Ok(0);
         }
@@ -69,6 +74,7 @@ impl Sink for SlowWriter {
     }
 
     fn flush(&mut self) -> Result<(), Failed> {
+        self.flushed = true;
         Ok(())
     }
 

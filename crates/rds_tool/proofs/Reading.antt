@@ -1,5 +1,5 @@
 -- Reads in turn, and what the refusals of a read tell.
-use Rattle.std.proofs.Common.{◌++◌, ◌<◌, ◌≡◌, ◌↔◌, ◌∙◌, ◌⊎◌, Err, List, Ok, Option, Result, ap, arith, inl, inr, refl, subst, sym, ℕ}
+use Rattle.std.proofs.Common.{◌++◌, append_assoc, ◌<◌, ◌≡◌, ◌↔◌, ◌∙◌, ◌⊎◌, Err, List, Ok, Option, Result, ap, arith, inl, inr, refl, subst, sym, ℕ}
 use Rattle.std.specs.Io.KnownBytes.{Consumes, IsAtEnd}
 use Rattle.std.specs.Prelude.{IfSome}
 use Rattle.std.proofs.KnownBytes.{Consumes-trans, Consumes-whole}
@@ -10,6 +10,10 @@ use Rattle.rds_tool.proofs.Passing.{passed_kind}
 -- bytes read so far, and then a read
 pub read_more : (a b c : Option (List ℕ)) (xs more ys : List ℕ) → Consumes a b xs → Consumes b c more → ys ≡ xs ++ more → Consumes a c ys
 read_more a b c xs more ys p q e = subst (λ zs. Consumes a c zs) (sym e) (Consumes-trans a b c xs more p q)
+
+-- bytes given so far, and then by a read
+pub given_more : (a b c xs more ys : List ℕ) → b ≡ a ++ xs → c ≡ b ++ more → ys ≡ xs ++ more → c ≡ a ++ ys
+given_more a b c xs more ys p q e = q ∙ (ap (λ w. w ++ more) p ∙ (append_assoc a xs more ∙ ap (λ w. a ++ w) (sym e)))
 
 -- at the end all was read
 pub read_whole : (a b : Option (List ℕ)) (xs : List ℕ) → Consumes a b xs → IsAtEnd b → IfSome a (λ held. xs ≡ held)

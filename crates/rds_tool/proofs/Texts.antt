@@ -54,10 +54,13 @@ module _ (input : Input) (plan : PlanOf) (held : List ℕ) (bits : Signal) where
       ∙ ap (λ x. Ok x) (ap₂ report_text (sym (ap (λ (items : ItemsOf). items.list) i)) (sym o))
 
   -- the listing that is written while the recording is decoded
+  pub listed_whole : recording_of input held ≡ Ok bits → cut_by plan.cuts bits ≡ Ok bits → text_of_task (task.List input plan) held ≡ Ok (list_text plan.rules bits)
+  listed_whole recorded fits = ap (λ r. and_then r (λ b. Ok (list_text plan.rules b))) (cut recorded fits)
+
   pub once_made : recording_of input held ≡ Ok bits → cuts_any plan.cuts ≡ true → text_of_task (task.List input plan) held ≡ Ok (list_text plan.rules bits)
   once_made recorded any =
       let fits : cut_by plan.cuts bits ≡ Ok bits = ap (λ (t : Bool). if t then Ok bits else Err BadCutting) (any_fits plan.cuts any (length_of bits)) in
-      ap (λ r. and_then r (λ b. Ok (list_text plan.rules b))) (cut recorded fits)
+      listed_whole recorded fits
 
   -- the text of its totals alone
   pub totals_made : (totals : TotalsOf) → recording_of input held ≡ Ok bits → cut_by plan.cuts bits ≡ Ok bits → totals ≡ totals_of (report_items bits plan.rules)

@@ -13,3 +13,4 @@ pub mod Outside
 pub mod ThreadsAskedFor
 pub mod CommandLines
 pub mod JobsAskedFor
+pub mod SentListings

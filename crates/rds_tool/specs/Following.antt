@@ -1,9 +1,10 @@
 -- Following a stream: the rows that are written as its bytes come, and what stands where it breaks off; this project's rule.
 -- `follow` promises it.
-use Rattle.std.specs.Prelude.{◌++◌, ◌≡◌, ◌≤◌, ◌<◌, ◌+◌, ◌*◌, ◌^◌, ◌⊎◌, ⊤, ℕ, List, None, Ok, Option, Result, Some, length, min}
+use Rattle.std.specs.Prelude.{◌++◌, ◌≡◌, ◌≢◌, ◌≤◌, ◌<◌, ◌+◌, ◌*◌, ◌^◌, ◌⊎◌, [], ⊤, ℕ, Bool, List, None, Ok, Option, Result, Some, length, min, true}
 use Rattle.std.specs.List.{flat_map}
 use Rattle.std.specs.Io.KnownBytes.{Appends, Consumes, IsAtEnd}
 use Rattle.rds_live.specs.Live.{Terms, complete, signal_at}
+use Rattle.rds_stream.specs.Recording.{AreGaps}
 use Rattle.rds_tool.specs.Input.{and_then, claimed, first_bits}
 use Rattle.rds_tool.specs.Listing.{item_row}
 use Rattle.rds_tool.specs.Outcome.{list_text}
@@ -86,3 +87,28 @@ module _ (terms : Terms) (bits : Option ℕ) (from to old new : Option (List ℕ
       × (written : List ℕ) × (rest : List ℕ)
       × (stream_text terms bits (heard ++ last) ≡ rows_so_far terms heard ++ (written ++ rest))
       × Appends old new (rows_so_far terms heard ++ written)
+
+-- ---- at every device
+
+-- the reader gave all bits that count: it answered its end, or just the bytes of the bits that count were read
+abbrev pub IsHeardOut : Option ℕ → Bool → List ℕ → Type 0
+IsHeardOut None ended bytes = ended ≡ true
+IsHeardOut (Some n) ended bytes = (n ≤ 8 * length bytes) × (8 * length bytes < n + 8)
+
+-- the last call was a flush that succeeded, if these bytes are any
+abbrev pub IsFlushedAfter : List ℕ → Bool → Type 0
+IsFlushedAfter bytes flushed = (bytes ≡ []) ⊎ (flushed ≡ true)
+
+-- where following breaks off by this error: the reader gave these bytes, and what is told above of a reader that held them and
+-- no others is so
+pub record BreaksOff (terms : Terms) (bits : Option ℕ) (given given' : List ℕ) (ended : Bool) (old new : Option (List ℕ)) (flushed : Bool) (e : ToolError) : Type 0 where
+  pub bytes : List ℕ
+  pub gave : given' ≡ given ++ bytes
+  -- where a read fails, the rows that are complete were taken and flushed before it; since any read may fail, and no write
+  -- follows one that did, so they are before each read
+  pub prompt : e ≡ Read → Appends old new (rows_so_far terms bytes) × IsFlushedAfter bytes flushed
+  pub between : e ≢ Write → StopsBetweenRows terms bits (Some bytes) (Some []) old new
+  pub within : e ≡ Write → StopsInRows terms bits (Some bytes) (Some []) old new
+  pub too_long : e ≡ TooLong → IsTooLong bits (Some bytes) (Some [])
+  pub past : e ≡ BitsPastBytes → EndsShort bits (Some bytes) (Some []) × (ended ≡ true)
+  pub bad_gaps : e ≡ BadGaps → (AreGaps (2 ^ 36) terms.gaps → ⊥) ⊎ (AreGaps (claimed bits bytes) terms.gaps → ⊥)

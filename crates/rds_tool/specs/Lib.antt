@@ -1,5 +1,6 @@
 pub mod Refusals
 pub mod Devices
+pub mod History
 pub mod GapText
 pub mod CommandLine
 pub mod InputOf
@@ -14,5 +15,6 @@ pub mod Tasks
 pub mod Transcribed
 pub mod Ends
 pub mod Following
+pub mod Laws
 pub mod Inside
 pub mod Examples

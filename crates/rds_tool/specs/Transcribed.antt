@@ -1,8 +1,9 @@
 -- What a transcription promises of its reader, its writer and its answer. `transcribe` and `transcribe_gated` cite it, and a
 -- caller relies on its fields as on clauses.
-use Rattle.std.specs.Prelude.{◌<◌, ◌≡◌, ◌≢◌, ◌≤◌, ◌⊎◌, ◌↔◌, ℕ, Err, IfErr, IfSome, IsErrOf, List, OnOk, Result, length}
+use Rattle.std.specs.Prelude.{◌<◌, ◌≡◌, ◌≢◌, ◌≤◌, ◌⊎◌, ◌↔◌, ℕ, Err, IfErr, IfSome, IsErrOf, List, OnOk, Result, length, true}
 use Rattle.std.specs.Io.KnownBytes.{Consumes, IsAtEnd}
 use Rattle.rds_rows.specs.declared.sink.Sink.{Ghosts as Sink}
+use Rattle.rds_tool.specs.History.{Gave}
 use Rattle.rds_tool.specs.Outcome.{IsOutside, Writes, WritesPrefix, outcome}
 use Rattle.rds_tool.specs.Tasks.{AsksForThreads, task_of}
 use Rattle.rds_tool.specs.declared.devices.Source.{Ghosts as Source}
@@ -16,6 +17,12 @@ pub record IsTranscribed {R W : Type 0} (source : Source R) (sink : Sink W) (job
   -- where it is Ok, the whole input was read, and the text that the job makes of it was written
   pub end : OnOk result (IsAtEnd (source.remaining reader'))
   pub ok : OnOk result (IfSome (source.remaining reader) (λ held. Writes (sink.contents writer) (sink.contents writer') (outcome job held)))
+  -- at every device: the writer took the text of the bytes that the reader gave, the reader had answered its end, and the
+  -- writer's last call was a flush that succeeded
+  pub heard : OnOk result (Gave (source.given reader) (source.given reader')
+      (λ bytes. Writes (sink.contents writer) (sink.contents writer') (outcome job bytes)))
+  pub ended : OnOk result (source.has_ended reader' ≡ true)
+  pub flushed : OnOk result (sink.is_flushed writer' ≡ true)
   -- a refusal for a device's sake comes exactly where one failed, one for the number of reads only where as many bytes
   -- were read, one for a thread's only where there may be some, and another is that of the job
   pub read : IsErrOf result Read ↔ (source.failed reader < source.failed reader')
@@ -24,9 +31,17 @@ pub record IsTranscribed {R W : Type 0} (source : Source R) (sink : Sink W) (job
       → (more : List ℕ) × Consumes (source.remaining reader) (source.remaining reader') more × (16777216 ≤ length more)
   pub no_worker : IsErrOf result NoWorker → AsksForThreads job
   pub refused : IfErr result (λ error. IsOutside error ⊎ IfSome (source.remaining reader) (λ held. outcome job held ≡ Err error))
+  -- at every device: as many bytes were given, or the refusal is that of the job and the bytes given, to the reader's end
+  -- unless it is for the settings' sake
+  pub turned : IsErrOf result TooManyTurns → Gave (source.given reader) (source.given reader') (λ bytes. 16777216 ≤ length bytes)
+  pub refused_by : IfErr result (λ error. IsOutside error ⊎ Gave (source.given reader) (source.given reader')
+      (λ bytes. (outcome job bytes ≡ Err error) × ((task_of job ≡ Err error) ⊎ (source.has_ended reader' ≡ true))))
   -- settings out of their range are refused as such before anything is read
   pub settings : IfErr (task_of job) (λ error. (result ≡ Err error) × (reader' ≡ reader))
   -- what the writer has after a refusal
   pub untouched : IfErr result (λ error. error ≢ Write → writer' ≡ writer)
   pub prefix : IsErrOf result Write
       → IfSome (source.remaining reader) (λ held. WritesPrefix (sink.contents writer) (sink.contents writer') (outcome job held))
+  -- at every device
+  pub broke_off : IsErrOf result Write → Gave (source.given reader) (source.given reader')
+      (λ bytes. WritesPrefix (sink.contents writer) (sink.contents writer') (outcome job bytes))

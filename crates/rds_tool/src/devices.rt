@@ -1,18 +1,26 @@
 //! The two ends of a transcription: where bytes come from, and where they go.
-ghost use Rattle.std.specs.Prelude.{◌≡◌, ℕ, ◌+◌, ◌^◌, ◌<◌, ◌≤◌, List, Option, length, IfOk};
-ghost use Rattle.std.specs.Io.KnownBytes.{ReadConsumes};
-ghost use Rattle.rds_tool.specs.Devices.{failures_of_read};
+ghost use Rattle.std.specs.Prelude.{◌≡◌, ℕ, ◌+◌, ◌++◌, ◌^◌, ◌<◌, ◌≤◌, [], Bool, false, List, Option, Some, length, IfOk};
+ghost use Rattle.std.specs.Io.KnownBytes.{Appends, ReadConsumes};
+ghost use Rattle.rds_tool.specs.Devices.{answers_end, failures_of_read, known_or_none, moved};
 
 use rds_rows::{Failed, Sink};
+use rds_trace::Trace;
 use std::io::{Read, Write};
+use std::snapshot::Snapshot;
 
-/// A reader that counts its failures.
+/// A reader that counts its failures and tells its history.
 ///
-/// An implementor says by `remaining` which bytes are still to come, or `None` where no contract can
-/// name them, as for a file or a pipe.
+/// An implementor says by `given` which bytes it gave, and by `remaining` which are still to come, or `None` where no
+/// contract can name them, as for a file or a pipe.
 pub trait Source {
     /// The bytes that reads will give from here on, where they are known.
     ghost remaining: { Self → Option (List ℕ) };
+
+    /// The bytes that reads have given so far.
+    ghost given: { Self → List ℕ };
+
+    /// Its last read answered the end.
+    ghost has_ended: { Self → Bool };
 
     /// How many calls have failed.
     ghost failed: { Self → ℕ };
@@ -24,6 +32,8 @@ pub trait Source {
         requires { failed self.old < 2 ^ 63 }
         ensures within { IfOk result (λ count. count ≤ length buf.new) }
         ensures bytes { ReadConsumes (remaining self.old) (remaining self.new) result buf.new }
+        ensures given { given self.new ≡ given self.old ++ moved result buf.new }
+        ensures end { has_ended self.new ≡ answers_end result buf.new }
         ensures counts { failed self.new ≡ failed self.old + failures_of_read result };
 
     /// How many reads have failed.
@@ -31,26 +41,32 @@ pub trait Source {
         ensures { result ≡ failed self.now };
 }
 
-/// A source over a reader of std, which knows the bytes to come where that reader does.
+/// A source over a reader of std, which knows the bytes to come where that reader does, and those that came at any reader.
 ///
 /// Each error of the reader is a failure, an interruption too.
 #[derive(Drop)]
 pub struct FromRead<R> {
     reader: R,
     failures: u64,
+    history: Trace,
+    ended: bool,
 }
 
 impl<R: Read> FromRead<R> {
-    ghost use Rattle.rds_tool.specs.Ends.{read_failures, reader_under};
+    ghost use Rattle.rds_tool.specs.Ends.{given_by, has_ended, read_failures, reader_under};
 
     /// The source over this reader, which has not failed yet.
     pub fn new(reader: R) -> FromRead<R>
         ensures reader { reader_under result ≡ reader }
         ensures failures { read_failures result ≡ 0 }
+        ensures given { given_by result ≡ [] }
+        ensures end { has_ended result ≡ false }
     {
         FromRead {
             reader,
             failures: 0,
+            history: Trace::new(),
+            ended: false,
         }
     }
 }
@@ -58,12 +74,21 @@ impl<R: Read> FromRead<R> {
 impl<R: Read> Source for FromRead<R> {
     ghost remaining = { λ source. R.remaining source.reader };
 
+    ghost given = { λ source. source.history.bytes };
+
+    ghost has_ended = { λ source. source.ended };
+
     ghost failed = { λ source. source.failures };
 
     fn read(&mut self, buf: &mut [u8]) -> Result<usize, Failed> {
         match self.reader.read(buf) {
-            Ok(count) => Ok(count),
+            Ok(count) => {
+                self.history.note(&buf[..count]);
+                self.ended = count == 0 && !buf.is_empty();
+                Ok(count)
+            }
             Err(_) => {
+                self.ended = false;
                 count_failure(&mut self.failures);
                 Err(Failed)
             }
@@ -75,54 +100,76 @@ impl<R: Read> Source for FromRead<R> {
     }
 }
 
-/// A sink over a writer of std, which knows the bytes written where that writer does.
+/// A sink over a writer of std. Its contents are the bytes that the writer held at first, where that writer knows them, and
+/// then those that it took since. They are the writer's own bytes where it knows them.
 ///
 /// Each error of the writer is a failure, an interruption too, and so is a write that takes no byte of
 /// some.
 #[derive(Drop)]
-pub struct ToWrite<W> {
+pub struct ToWrite<W: Write> {
     writer: W,
     failures: u64,
+    flushed: bool,
+    /// The writer at first.
+    begun: Snapshot<W>,
+    history: Trace,
+    ghost tied: { ∥ Appends (W.contents begun.value) (W.contents writer) history.bytes ∥₁ },
 }
 
 impl<W: Write> ToWrite<W> {
-    ghost use Rattle.rds_tool.specs.Ends.{write_failures, writer_under};
+    ghost use Rattle.rds_tool.specs.Ends.{begun_by, is_flushed, taken_by, write_failures, writer_under};
 
     /// The sink over this writer, which has not failed yet.
     pub fn new(writer: W) -> ToWrite<W>
         ensures writer { writer_under result ≡ writer }
         ensures failures { write_failures result ≡ 0 }
+        ensures taken { taken_by result ≡ [] }
+        ensures begun { begun_by result ≡ writer }
+        ensures flushed { is_flushed result ≡ false }
     {
+        let begun = Snapshot::of(&writer);
         ToWrite {
             writer,
             failures: 0,
+            flushed: false,
+            begun,
+            history: Trace::new(),
         }
     }
 
     /// The writer underneath.
     pub fn into_inner(self) -> W
-        ensures { result ≡ writer_under self }
+        ensures under { result ≡ writer_under self }
+        ensures tied { Appends (W.contents (begun_by self)) (W.contents result) (taken_by self) }
     {
         let ToWrite {
             writer,
             failures: _,
+            flushed: _,
+            begun: _,
+            history: _,
         } = self;
         writer
     }
 }
 
 impl<W: Write> Sink for ToWrite<W> {
-    ghost contents = { λ sink. W.contents sink.writer };
+    ghost contents = { λ sink. Some (known_or_none (W.contents sink.begun.value) ++ sink.history.bytes) };
+
+    ghost is_flushed = { λ sink. sink.flushed };
 
     ghost failed = { λ sink. sink.failures };
 
     fn write(&mut self, bytes: &[u8]) -> Result<usize, Failed> {
+        self.flushed = false;
         match self.writer.write(bytes) {
-            Ok(0) if !bytes.is_empty() => {
-                count_failure(&mut self.failures);
-                Ok(0)
+            Ok(count) => {
+                self.history.note(&bytes[..count]);
+                if count == 0 && !bytes.is_empty() {
+                    count_failure(&mut self.failures);
+                }
+                Ok(count)
             }
-            Ok(count) => Ok(count),
             Err(_) => {
                 count_failure(&mut self.failures);
                 Err(Failed)
@@ -132,8 +179,12 @@ impl<W: Write> Sink for ToWrite<W> {
 
     fn flush(&mut self) -> Result<(), Failed> {
         match self.writer.flush() {
-            Ok(()) => Ok(()),
+            Ok(()) => {
+                self.flushed = true;
+                Ok(())
+            }
             Err(_) => {
+                self.flushed = false;
                 count_failure(&mut self.failures);
                 Err(Failed)
             }

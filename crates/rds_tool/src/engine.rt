@@ -1,10 +1,12 @@
 //! From a reader to a writer.
 ghost use Rattle.std.specs.Prelude.{◌+◌, ◌++◌, ◌<◌, ◌^◌, ◌≡◌, ◌≤◌, ◌⊎◌, ◌↔◌, IfErr, IfOk, IfSome, IsErrOf, List, OnOk, Option, false, length, true, ℕ};
 ghost use Rattle.std.specs.Io.KnownBytes.{Consumes, IsAtEnd};
+ghost use Rattle.rds_tool.specs.History.{Gave};
 ghost use Rattle.rds_tool.specs.Transcribed.{IsTranscribed};
 
+use crate::alone::transcribe_alone;
 use crate::task::Task;
-use crate::{Failed, Job, Sink, Source, ToolError};
+use crate::{Cuts, Failed, Job, Sink, Source, ToolError};
 use rds_crew::{Gate, OpenGate};
 use std::alloc::{AllocError, Global};
 use std::sync::Wait;
@@ -20,8 +22,8 @@ const CHUNK: usize = 65_536;
 ///
 /// Where a list is asked for and the answer is `Ok`, the bytes written are the listing of the report that one decoder
 /// gives, reading bit by bit from the first: for every recording, all rules, every cutting and 1 to 256 workers, in
-/// whatever order their threads ended. The premise is that reader and writer tell their bytes, as those over memory do.
-/// The listing and the report are defined over whole locks, with no word of pieces or workers.
+/// whatever order their threads ended. The bytes are those that the reader gave and that the writer took, at every
+/// device. The listing and the report are defined over whole locks, with no word of pieces or workers.
 ///
 /// Refusals come in this order: those of the settings (`BurstRange`, `ReachRange`, `LossRange` or by the share
 /// `ShareRange`, `CrewRange`, and `BadCutting` for no piece), before anything is read, those of the reader (`Read`,
@@ -44,7 +46,22 @@ pub fn transcribe<R: Threads + Wait + Sync, S: Source, K: Sink>(
     requires writes { K.failed writer.old < 2 ^ 63 }
     ensures { IsTranscribed S.Source K.Sink job.now reader.old reader.new writer.old writer.new result }
 {
+    if is_for_one(job) {
+        return transcribe_alone(alloc, reader, writer, job);
+    }
     transcribe_gated(rt, alloc, reader, writer, job, &OpenGate)
+}
+
+/// Whether one worker does the whole job by itself: no more are asked for, and no cut is asked for by its place.
+fn is_for_one(job: &Job) -> bool {
+    match job {
+        Job::Scan(_, workers) => *workers == 1,
+        Job::List(_, settings) | Job::Totals(_, settings) => match settings.cuts {
+            Cuts::Even(_) => settings.workers == 1,
+            Cuts::At(_) => false,
+        },
+        Job::Encode { .. } => true,
+    }
 }
 
 /// [`transcribe`] with a gate, which the crew of a list or of totals calls round each piece and each join. A list by one
@@ -68,15 +85,19 @@ pub fn transcribe_gated<R: Threads + Wait + Sync, S: Source, K: Sink, G: Gate + 
 }
 
 /// All bytes of the reader, to its end.
-fn read_all<S: Source>(alloc: Global, reader: &mut S) -> Result<Vec<u8>, ToolError>
+pub fn read_all<S: Source>(alloc: Global, reader: &mut S) -> Result<Vec<u8>, ToolError>
     requires { S.failed reader.old < 2 ^ 63 }
     ensures ok { IfOk result (λ bytes. IfSome (S.remaining reader.old) (λ held. bytes.items ≡ held)) }
     ensures end { OnOk result (IsAtEnd (S.remaining reader.new)) }
+    ensures given { IfOk result (λ bytes. S.given reader.new ≡ S.given reader.old ++ bytes.items) }
+    ensures ended { OnOk result (S.has_ended reader.new ≡ true) }
     ensures read { IsErrOf result ToolError.Read ↔ (S.failed reader.old < S.failed reader.new) }
     ensures kinds { IfErr result (λ error. (error ≡ ToolError.OutOfMemory)
         ⊎ ((error ≡ ToolError.Read) ⊎ (error ≡ ToolError.TooManyTurns))) }
     ensures turns { IsErrOf result ToolError.TooManyTurns → (more : List ℕ)
         × Consumes (S.remaining reader.old) (S.remaining reader.new) more × (16777216 ≤ length more) }
+    ensures turned { IsErrOf result ToolError.TooManyTurns
+        → Gave (S.given reader.old) (S.given reader.new) (λ bytes. 16777216 ≤ length bytes) }
 {
     let mut bytes = Vec::new(alloc);
     let mut buf = zeros(alloc, CHUNK)?;
@@ -100,7 +121,9 @@ fn read_some<S: Source>(
     ensures taken { OnOk result ((more : List ℕ)
         × Consumes (S.remaining reader.old) (S.remaining reader.new) more
         × (bytes.new.items ≡ bytes.old.items ++ more)) }
+    ensures given { OnOk result (Gave (S.given reader.old) (S.given reader.new) (λ more. bytes.new.items ≡ bytes.old.items ++ more)) }
     ensures end { IfOk result (λ is_at_end. is_at_end ≡ true → IsAtEnd (S.remaining reader.new)) }
+    ensures ended { IfOk result (λ is_at_end. is_at_end ≡ true → S.has_ended reader.new ≡ true) }
     ensures grows { IfOk result (λ is_at_end. is_at_end ≡ false → length bytes.old.items < length bytes.new.items) }
     ensures count { OnOk result (S.failed reader.new ≡ S.failed reader.old) }
     ensures refused { IfErr result (λ error. ((error ≡ ToolError.OutOfMemory) × (S.failed reader.new ≡ S.failed reader.old))

@@ -1,15 +1,16 @@
 //! From a reader to a writer, as the bytes come.
-ghost use Rattle.std.specs.Prelude.{◌+◌, ◌-◌, ◌*◌, ◌/◌, ◌++◌, ◌<◌, ◌^◌, ◌≡◌, ◌≢◌, ◌≤◌, ◌⊎◌, ◌↔◌, [], IfErr, IfOk, IsOkUnless, IfSome, IsErrOf, List, None, Ok, OnOk, Option, Some, length, take, vec_capacity, ℕ};
+ghost use Rattle.std.specs.Prelude.{◌+◌, ◌-◌, ◌*◌, ◌/◌, ◌++◌, ◌<◌, ◌^◌, ◌≡◌, ◌≢◌, ◌≤◌, ◌⊎◌, ◌↔◌, [], IfErr, IfOk, IsOkUnless, IfSome, IsErrOf, List, None, Ok, OnOk, Option, Some, length, take, true, vec_capacity, ℕ};
 ghost use Rattle.std.specs.Io.KnownBytes.{Consumes, IsAtEnd, Keeps, Appends};
 ghost use Rattle.std.specs.List.{flat_map};
 ghost use Rattle.rds_live.specs.Live.{HasHeard, live_of, report_at};
 ghost use Rattle.rds_stream.specs.Recording.{AreGaps};
 ghost use Rattle.rds_sync.specs.Advance.{group_item};
 ghost use Rattle.rds_sync.specs.Totals.{totals_of};
-ghost use Rattle.rds_tool.specs.Following.{AllCount, EndsShort, IsLong, IsReadAsFar, IsTooLong, MayBreakEarly, MayBreakOff, StopsBetweenRows, StopsInRows, listed, rows_so_far};
+ghost use Rattle.rds_tool.specs.Following.{AllCount, EndsShort, IsLong, IsReadAsFar, IsTooLong, MayBreakEarly, MayBreakOff, StopsBetweenRows, StopsInRows, BreaksOff, IsFlushedAfter, IsHeardOut, listed, rows_so_far};
+ghost use Rattle.rds_tool.specs.History.{Gave};
 ghost use Rattle.rds_tool.specs.Input.{claimed};
 ghost use Rattle.rds_tool.specs.Inside.RowWriter.{IsBetween, text_of};
-ghost use Rattle.rds_tool.specs.Inside.Streams.{IsFollowed, IsNearEnd, IsPlaceOf, IsShortEnough, bits_left as the_bits_left};
+ghost use Rattle.rds_tool.specs.Inside.Streams.{IsFollowed, IsNearAnswer, IsNearEnd, IsPlaceOf, IsShortEnough, bits_left as the_bits_left};
 ghost use Rattle.rds_tool.specs.Listing.{item_row, report_text, totals_text};
 ghost use Rattle.rds_tool.specs.Outcome.{Writes, WritesPrefix};
 
@@ -76,6 +77,15 @@ pub fn follow<S: Source, K: Sink>(
         (S.remaining reader.old) (S.remaining reader.new) (K.contents writer.old) (K.contents writer.new)) }
     ensures within { IsErrOf result ToolError.Write → StopsInRows (record { rules = rules.now; gaps = gaps.now }) bits
         (S.remaining reader.old) (S.remaining reader.new) (K.contents writer.old) (K.contents writer.new) }
+
+    // The same at every device, of the bytes that the reader gave.
+    ensures heard { OnOk result (Gave (S.given reader.old) (S.given reader.new) (λ bytes.
+        IsHeardOut bits (S.has_ended reader.new) bytes
+        × Writes (K.contents writer.old) (K.contents writer.new) (listed (record { rules = rules.now; gaps = gaps.now }) bits bytes))) }
+    ensures flushed { OnOk result (K.is_flushed writer.new ≡ true) }
+    ensures broke_off { IfErr result (BreaksOff (record { rules = rules.now; gaps = gaps.now }) bits
+        (S.given reader.old) (S.given reader.new) (S.has_ended reader.new)
+        (K.contents writer.old) (K.contents writer.new) (K.is_flushed writer.new)) }
 {
     let live = follow_bytes(alloc, reader, writer, rules, gaps, bits)?;
     let left = bits_left(bits, live.place());
@@ -97,8 +107,10 @@ fn follow_bytes<'r, S: Source, K: Sink>(
     requires reads { S.failed reader.old < 2 ^ 63 }
     requires writes { K.failed writer.old < 2 ^ 63 }
     ensures followed { IfOk result (λ live. (heard : List ℕ) × IsFollowed (record { rules = rules.now; gaps = gaps.now }) bits live
-        (S.remaining reader.old) (S.remaining reader.new) (K.contents writer.old) (K.contents writer.new) heard) }
+        (S.remaining reader.old) (S.remaining reader.new) (K.contents writer.old) (K.contents writer.new) heard
+        × (S.given reader.new ≡ S.given reader.old ++ heard) × IsFlushedAfter heard (K.is_flushed writer.new)) }
     ensures near_end { IfOk result (λ live. IsNearEnd bits live.place (S.remaining reader.new)) }
+    ensures near_answer { IfOk result (λ live. IsNearAnswer bits live.place (S.has_ended reader.new)) }
     ensures claims { OnOk result (IsShortEnough bits) }
     ensures reads { OnOk result (S.failed reader.new ≡ S.failed reader.old) }
     ensures writes { OnOk result (K.failed writer.new ≡ K.failed writer.old) }
@@ -111,6 +123,9 @@ fn follow_bytes<'r, S: Source, K: Sink>(
         (S.remaining reader.old) (S.remaining reader.new) (K.contents writer.old) (K.contents writer.new)) }
     ensures within { IsErrOf result ToolError.Write → StopsInRows (record { rules = rules.now; gaps = gaps.now }) bits
         (S.remaining reader.old) (S.remaining reader.new) (K.contents writer.old) (K.contents writer.new) }
+    ensures broke_off { IfErr result (BreaksOff (record { rules = rules.now; gaps = gaps.now }) bits
+        (S.given reader.old) (S.given reader.new) (S.has_ended reader.new)
+        (K.contents writer.old) (K.contents writer.new) (K.is_flushed writer.new)) }
 {
     prove!(1 <= rules.reach());
     laws::runs_are_reports();
@@ -191,7 +206,10 @@ fn read_once<S: Source>(reader: &mut S, buf: &mut [u8], room: usize) -> Result<u
     ensures within { IfOk result (λ count. (count ≤ length buf.new) × (count ≤ room)) }
     ensures taken { IfOk result (λ count. Consumes (S.remaining reader.old) (S.remaining reader.new) (take count buf.new)) }
     ensures end { IfOk result (λ count. count ≡ 0 → (room ≡ 0) ⊎ IsAtEnd (S.remaining reader.new)) }
+    ensures given { IfOk result (λ count. S.given reader.new ≡ S.given reader.old ++ take count buf.new) }
+    ensures answer { IfOk result (λ count. count ≡ 0 → (room ≡ 0) ⊎ (S.has_ended reader.new ≡ true)) }
     ensures kept { IfErr result (λ error. Keeps (S.remaining reader.old) (S.remaining reader.new)) }
+    ensures none_given { IfErr result (λ error. S.given reader.new ≡ S.given reader.old) }
     ensures count { OnOk result (S.failed reader.new ≡ S.failed reader.old) }
     ensures failed { IfErr result (λ error. S.failed reader.old < S.failed reader.new) }
     ensures kinds { IsOkUnless result ToolError.Read }
@@ -212,13 +230,19 @@ fn read_last<S: Source>(reader: &mut S, last: &mut [u8], left: u64) -> Result<us
     requires room { length last.old ≡ 1 }
     ensures within { IfOk result (λ count. (count ≤ length last.new) × (left ≤ 8 * count) × (8 * count < left + 8)) }
     ensures few { IfOk result (λ count. count ≤ 1) }
+    ensures short { OnOk result (left < 8) }
     ensures taken { IfOk result (λ count. Consumes (S.remaining reader.old) (S.remaining reader.new) (take count last.new)) }
+    ensures given { IfOk result (λ count. S.given reader.new ≡ S.given reader.old ++ take count last.new) }
     ensures still { IfOk result (λ count. left ≡ 0 → S.remaining reader.new ≡ S.remaining reader.old) }
+    ensures same_answer { IfOk result (λ count. left ≡ 0 → S.has_ended reader.new ≡ S.has_ended reader.old) }
+    ensures none_given { IfErr result (λ error. S.given reader.new ≡ S.given reader.old) }
     ensures kept { IfErr result (λ error. Keeps (S.remaining reader.old) (S.remaining reader.new)) }
     ensures count { OnOk result (S.failed reader.new ≡ S.failed reader.old) }
     ensures read { IsErrOf result ToolError.Read ↔ (S.failed reader.old < S.failed reader.new) }
     ensures past { IsErrOf result ToolError.BitsPastBytes → (0 < left)
         × (((8 ≤ left) × (S.remaining reader.new ≡ S.remaining reader.old)) ⊎ IsAtEnd (S.remaining reader.new)) }
+    ensures past_answer { IsErrOf result ToolError.BitsPastBytes → (0 < left)
+        × (((8 ≤ left) × (S.has_ended reader.new ≡ S.has_ended reader.old)) ⊎ (S.has_ended reader.new ≡ true)) }
     ensures kinds { IfErr result (λ error. (error ≡ ToolError.Read) ⊎ (error ≡ ToolError.BitsPastBytes)) }
 {
     if left == 0 {
@@ -251,6 +275,7 @@ fn follow_chunk<K: Sink>(
     ensures count { OnOk result (K.failed writer.new ≡ K.failed writer.old) }
     ensures room { vec_capacity items.new ≡ vec_capacity items.old }
     ensures fits { OnOk result (live.old.place + 8 * length bytes.now ≤ 2 ^ 36) }
+    ensures flushed { OnOk result (K.is_flushed writer.new ≡ true) }
     ensures write { IsErrOf result ToolError.Write ↔ (K.failed writer.old < K.failed writer.new) }
     ensures too_long { IsErrOf result ToolError.TooLong → 2 ^ 36 < live.old.place + 8 * length bytes.now }
     ensures kinds { IfErr result (λ error. (error ≡ ToolError.OutOfMemory) ⊎ ((error ≡ ToolError.Write) ⊎ (error ≡ ToolError.TooLong))) }

@@ -20,26 +20,27 @@
 //! - [`Job`], of [`Input`], [`Settings`], [`Cuts`] and [`Loss`]: what is asked for.
 //! - [`transcribe`]: reads all bytes of a [`Source`], works, by threads where there are pieces and workers for them,
 //!   and writes the whole text to a [`Sink`]. [`transcribe_gated`] is the same with a gate, by which a caller hears of
-//!   the workers.
+//!   the workers. [`transcribe_alone`] starts no thread and waits for none.
 //! - [`follow`]: the same listing of a stream, row by row as its bytes come.
 //! - [`FromRead`] and [`ToWrite`]: a source and a sink of a reader and a writer of std.
 //! - [`ToolError`]: the refusals 1 to 16.
 //!
 //! # What callers may rely on
 //!
-//! - Where `transcribe` answers `Ok`, the reader is at its end, and what was written is the text that the job makes of
-//!   all bytes that the reader held, if reader and writer tell their bytes. Of a `List` that is the listing of the
-//!   report of the recording, lock by lock, for every cutting and any number of workers; `specs/Outcome.antt` says it
-//!   for each job.
+//! - Where `transcribe` answers `Ok`, the bytes that the writer took are the text that the job makes of the bytes that the
+//!   reader gave, the reader had answered its end, and the last call of the writer was a flush that succeeded. That holds
+//!   at every reader and writer. If the reader tells the bytes to come, as one over memory does, they are those. Of a `List`
+//!   the text is the listing of the report of the recording, lock by lock, for every cutting and any number of workers;
+//!   `specs/Outcome.antt` says it for each job.
 //! - Each refusal is a [`ToolError`] and comes where it should: `Read` and `Write` exactly where a call of the device
 //!   failed, settings out of their range before anything is read, `NoWorker` only where more than one worker is asked
-//!   for. If the reader tells its bytes, `TooManyTurns` comes only after 16,777,216 of them, and any other but
-//!   `OutOfMemory` exactly where the job and the bytes call for it: `BadGaps`, for gaps that are empty, out of order or
-//!   past the bits, after `TooLong` and `BitsPastBytes`, and before `BadCutting`.
-//! - After any refusal but `Write` the writer is as it was; after `Write`, if reader and writer tell their bytes, what
-//!   was written is a prefix of the text.
-//! - Where `follow` answers `Ok`, what was written is the listing of all that the reader held; whenever it is refused,
-//!   the rows of all that was read but the last read stand, each once.
+//!   for. `TooManyTurns` comes only after 16,777,216 bytes were given, and any other but `OutOfMemory` exactly where the
+//!   job and the bytes given call for it: `BadGaps`, for gaps that are empty, out of order or past the bits, after
+//!   `TooLong` and `BitsPastBytes`, and before `BadCutting`.
+//! - After any refusal but `Write` the writer is as it was; after `Write` it took a prefix of the text.
+//! - Where `follow` answers `Ok`, the bytes that the writer took are the listing of those that the reader gave, and the last
+//!   call was a flush that succeeded. Whenever it is refused, the rows of all that was given but the last read were taken,
+//!   each once. Where a read fails, the rows of all bytes before it were taken and flushed.
 //! - Where `asked_of` answers `Ok`, what is asked for holds the entries that `clap` read, defaults too, and its gaps are
 //!   the pairs that `--gaps` spells. Where it answers a fault, it is help or the version that was asked for, or `clap`
 //!   finds a fault in the words, or neither a job nor a stream has their entries, or memory was refused.
@@ -61,6 +62,7 @@ mod fault; // Why it asks for nothing.
 mod gap_text; // Gaps as a command line names them.
 mod job; // What is asked for.
 mod engine; // From a reader to a writer.
+mod alone; // The same by the caller alone.
 mod devices; // The two ends of that.
 mod task; // A job whose settings were looked at, and what it writes.
 mod making; // From a job to its task, and on to what that writes.
@@ -79,7 +81,9 @@ mod line; // A row on the stack.
 mod encode; // Groups from lines of digits.
 mod following; // From a reader to a writer, as the bytes come.
 mod error; // Why a transcription is refused.
+pub mod laws; // What holds of jobs and what they write.
 
+pub use alone::transcribe_alone;
 pub use cli::asked_of;
 pub use devices::{FromRead, Source, ToWrite};
 pub use engine::{transcribe, transcribe_gated};

@@ -143,6 +143,30 @@ fn check_crew(settings: &Settings) -> Result<(), ToolError>
     }
 }
 
+/// Refuses cuts that the recording can't have.
+pub fn check_cuts(alloc: Global, plan: &Plan<'_>, recording: &Recording) -> Result<(), ToolError>
+    ensures fits { OnOk result (cut_by plan.now.cuts recording.now ≡ Ok recording.now) }
+    ensures refused { IfErr result (λ error. (error ≡ ToolError.OutOfMemory)
+        ⊎ (cut_by plan.now.cuts recording.now ≡ Err error)) }
+{
+    check_places(alloc, plan.cuts, recording.len())
+}
+
+/// Refuses cuts at places that so many bits don't have. Cuts into pieces of one length fit any number of bits.
+fn check_places(alloc: Global, cuts: &Cuts, len: u64) -> Result<(), ToolError>
+    ensures fits { OnOk result (cuts_bits cuts.now len ≡ true) }
+    ensures refused { IfErr result (λ error. (error ≡ ToolError.OutOfMemory)
+        ⊎ ((error ≡ ToolError.BadCutting) × (cuts_bits cuts.now len ≡ false))) }
+{
+    match cuts {
+        Cuts::Even(_) => Ok(()),
+        Cuts::At(cuts) => match cutting_at(alloc, cuts.as_slice(), len) {
+            Ok(_) => Ok(()),
+            Err(error) => Err(error),
+        },
+    }
+}
+
 /// The cutting of so many bits.
 fn cutting_of(alloc: Global, cuts: &Cuts, len: u64) -> Result<Cutting, ToolError>
     requires { has_pieces cuts.now ≡ true }

@@ -1,5 +1,5 @@
 //! What a task writes.
-ghost use Rattle.std.specs.Prelude.{◌<◌, ◌≤◌, ◌^◌, ◌≡◌, ◌≢◌, ◌↔◌, ◌⊎◌, IfErr, IsErrOf, IsOkUnless, Ok, OnErr, OnOk};
+ghost use Rattle.std.specs.Prelude.{◌<◌, ◌≤◌, ◌^◌, ◌≡◌, ◌≢◌, ◌↔◌, ◌⊎◌, IfErr, IsErrOf, IsOkUnless, Ok, OnErr, OnOk, true};
 ghost use Rattle.std.specs.Io.KnownBytes.{Appends, Keeps};
 ghost use Rattle.rds_rows.specs.Writes.{AppendsPrefix};
 ghost use Rattle.rds_tool.specs.Inside.Texts.{bytes_of};
@@ -22,7 +22,7 @@ use std::thread::Threads;
 const PART: usize = 2048;
 
 /// How many places are scanned at once, and how many at most by all workers together: each has room for a row.
-const PLACES: usize = 32_768;
+pub const PLACES: usize = 32_768;
 
 const ALL_PLACES: usize = 524_288;
 
@@ -36,6 +36,7 @@ impl Text<'_> {
     ) -> Result<(), ToolError>
         requires { K.failed writer.old < 2 ^ 63 }
         ensures ok { OnOk result (Appends (K.contents writer.old) (K.contents writer.new) (bytes_of self.now)) }
+        ensures flushed { OnOk result (K.is_flushed writer.new ≡ true) }
         ensures write { IsErrOf result ToolError.Write ↔ (K.failed writer.old < K.failed writer.new) }
         ensures kinds { IfErr result (λ error. (error ≡ ToolError.OutOfMemory) ⊎ (error ≡ ToolError.Write)) }
         ensures untouched { IfErr result (λ error. error ≢ ToolError.Write → writer.new ≡ writer.old) }
@@ -75,7 +76,7 @@ fn write_bytes<R: Threads + Wait + Sync, K: Sink>(
 }
 
 /// Writes a text that is made.
-fn write_whole<K: Sink>(writer: &mut K, bytes: &[u8]) -> Result<(), RowsError>
+pub fn write_whole<K: Sink>(writer: &mut K, bytes: &[u8]) -> Result<(), RowsError>
     requires { K.failed writer.old < 2 ^ 63 }
     ensures ok { OnOk result (Appends (K.contents writer.old) (K.contents writer.new) bytes.now) }
     ensures count { OnOk result (K.failed writer.new ≡ K.failed writer.old) }
@@ -114,7 +115,7 @@ fn write_listing<R: Threads + Wait + Sync, K: Sink>(
 }
 
 /// Writes the listing of a recording while it is decoded.
-fn write_decoded<K: Sink>(
+pub fn write_decoded<K: Sink>(
     alloc: Global,
     recording: &Recording,
     plan: &Plan<'_>,
@@ -159,6 +160,7 @@ fn write_windows<R: Threads + Wait + Sync, K: Sink>(
 pub fn write_flushed<K: Sink>(writer: &mut K, text: &[u8]) -> Result<(), ToolError>
     requires { K.failed writer.old < 2 ^ 63 }
     ensures ok { OnOk result (Appends (K.contents writer.old) (K.contents writer.new) text.now) }
+    ensures flushed { OnOk result (K.is_flushed writer.new ≡ true) }
     ensures count { OnOk result (K.failed writer.new ≡ K.failed writer.old) }
     ensures write { IsErrOf result ToolError.Write ↔ (K.failed writer.old < K.failed writer.new) }
     ensures kinds { IsOkUnless result ToolError.Write }
@@ -170,9 +172,11 @@ pub fn write_flushed<K: Sink>(writer: &mut K, text: &[u8]) -> Result<(), ToolErr
     }
 }
 
-fn flush<K: Sink>(writer: &mut K) -> Result<(), ToolError>
+/// Flushes.
+pub fn flush<K: Sink>(writer: &mut K) -> Result<(), ToolError>
     requires { K.failed writer.old < 2 ^ 63 }
     ensures bytes { Keeps (K.contents writer.old) (K.contents writer.new) }
+    ensures flushed { OnOk result (K.is_flushed writer.new ≡ true) }
     ensures count { OnOk result (K.failed writer.new ≡ K.failed writer.old) }
     ensures write { IsErrOf result ToolError.Write ↔ (K.failed writer.old < K.failed writer.new) }
     ensures kinds { IsOkUnless result ToolError.Write }

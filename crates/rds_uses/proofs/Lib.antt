@@ -7,3 +7,4 @@ pub mod SoundSignal
 pub mod GapFacts
 pub mod Wholes
 pub mod NumberedStreams
+pub mod SentAndHeard

@@ -1,22 +1,30 @@
 -- What jobs make of the bits of bytes.
-use Rattle.std.proofs.Common.{◌≡◌, ℕ, ◌*◌, ◌^◌, ◌≤◌, List, [], Bool, true, false, Option, IfSome, OnOk, None, Some, Result, Ok, Err, cond, length, refl, sym, ap, arith, ◌++◌}
+use Rattle.std.proofs.Common.{◌≡◌, ℕ, ◌*◌, ◌^◌, ◌≤◌, List, [], Bool, true, false, Option, IfOk, IfSome, OnOk, None, Some, Result, Ok, Err, cond, length, refl, sym, ap, ap₂, arith, subst, ◌++◌, ◌∷◌, ◌∙◌}
 use Rattle.std.proofs.lemmas.Bool.Decides.{nat_tests}
+use Rattle.std.proofs.lemmas.List.{append-nil}
+use Rattle.std.specs.Result.{result_err, result_unwrap_or}
 use Rattle.rds_stream.specs.Recording.{Signal, bits_of, length_of}
 use Rattle.rds_sync.specs.Rules.{RuleNumbers}
-use Rattle.rds_tool.specs.Cuts.{cuts_bits}
+use Rattle.rds_tool.specs.Cuts.{cuts_any, cuts_bits}
 use Rattle.rds_tool.specs.Input.{and_then, may_be_gaps, recording_of}
+use Rattle.rds_tool.specs.Laws.{EncodedGroupsAreListed, ListsEndWithTotals, groups_in, sent_listing, whole_input}
 use Rattle.rds_tool.specs.Listing.{scan_text}
-use Rattle.rds_tool.specs.Outcome.{outcome, list_text, totals_list, text_of_task, Writes}
+use Rattle.rds_tool.specs.Outcome.{outcome, list_text, totals_list, text_of_task, Writes, WritesPrefix}
 use Rattle.rds_tool.specs.Plans.{crew_of, workers_of}
 use Rattle.rds_tool.specs.Rules.{rules_of}
 use Rattle.rds_tool.specs.declared.error.ToolError.{ToolError}
 use Rattle.rds_tool.specs.declared.error.ToolError.TheVariants.{BadCutting}
+use Rattle.rds_tool.specs.declared.job.Cuts.{Cuts}
+use Rattle.rds_tool.specs.declared.job.Cuts.TheVariants.{At, Even}
 use Rattle.rds_tool.specs.declared.job.Input.{Input}
 use Rattle.rds_tool.specs.declared.job.Job.{Job}
 use Rattle.rds_tool.specs.declared.job.Job.TheVariants as job
 use Rattle.rds_tool.specs.declared.job.Settings.{Settings}
 use Rattle.rds_tool.specs.declared.task.Task.TheVariants as task
 use Rattle.rds_uses.specs.Jobs.{all_bits, plain, IsListBy, IsScan, IsTotalsBy}
+
+abbrev is_text : List ℕ → Result (List ℕ) ToolError
+is_text text = Ok text
 
 pub all_bits-few : (bytes : List ℕ) → 8 * length bytes ≤ 2 ^ 36 → recording_of plain bytes ≡ Ok (all_bits bytes)
 all_bits-few bytes few = grind (arith, nat_tests)
@@ -40,6 +48,30 @@ on-ok (Err e) also is = is
 pub written : (outcome : Result (List ℕ) ToolError) (new : List ℕ) → Writes (Some []) (Some new) outcome → outcome ≡ Ok new
 written (Ok text) new is = ap Ok (sym is)
 written (Err e) new is = absurd is
+
+-- a vector that a sink gives back: what it held before the sink was made, and then what the sink took
+module _ (out : List ℕ → Result (List ℕ) ToolError) (given bytes first begun taken last taken' text : List ℕ) (all : given ≡ bytes) (same : begun ≡ first)
+    (none : taken ≡ []) (tied : text ≡ last ++ taken') where
+  before : begun ++ taken ≡ first
+  before = ap₂ (λ x y. x ++ y) same none ∙ append-nil first
+
+  pub given_back : Writes (Some (begun ++ taken)) (Some (last ++ taken')) (out given) → Writes (Some first) (Some text) (out bytes)
+  given_back w =
+      subst (λ x. Writes (Some first) (Some x) (out bytes)) (sym tied)
+      (subst (λ x. Writes (Some x) (Some (last ++ taken')) (out bytes)) before
+      (subst (λ x. Writes (Some (begun ++ taken)) (Some (last ++ taken')) (out x)) all w))
+
+  pub prefix_back : WritesPrefix (Some (begun ++ taken)) (Some (last ++ taken')) (out given)
+      → (more : List ℕ) × (rest : List ℕ) × (out bytes ≡ Ok (more ++ rest)) × (text ≡ first ++ more)
+  prefix_back w =
+      parted (out bytes)
+      (subst (λ x. WritesPrefix (Some first) (Some x) (out bytes)) (sym tied)
+      (subst (λ x. WritesPrefix (Some x) (Some (last ++ taken')) (out bytes)) before
+      (subst (λ x. WritesPrefix (Some (begun ++ taken)) (Some (last ++ taken')) (out x)) all w)))
+    where
+      parted : (r : Result (List ℕ) ToolError) → WritesPrefix (Some first) (Some text) r → (more : List ℕ) × (rest : List ℕ) × (r ≡ Ok (more ++ rest)) × (text ≡ first ++ more)
+      parted (Ok whole) (more, rest, split, wrote) = (more, rest, ap Ok split, wrote)
+      parted (Err e) wrote = absurd wrote
 
 module _ (make : Signal → List ℕ) (bits : Signal) (text : List ℕ) where
   if_cut : (fits : Bool) → and_then (cond fits (Ok bits) (Err BadCutting)) (λ bits. Ok (make bits)) ≡ Ok text → text ≡ make bits
@@ -118,3 +150,51 @@ module _ (bytes : List ℕ) (few : 8 * length bytes ≤ 2 ^ 36) (gaps : List (�
       → outcome (job.Scan gapped 4) bytes ≡ Ok new → new ≡ scan_text recorded
   scanned_with_gaps new lawful is =
       scan-text gapped recorded bytes new (few_with_gaps lawful) (workers_of 4) is
+
+-- where something was written there is a text
+pub has_text : (out : Result (List ℕ) ToolError) (old new : Option (List ℕ)) → Writes old new out → (text : List ℕ) × (out ≡ Ok text)
+has_text (Ok text) old new is = (text, refl)
+has_text (Err e) old new is = absurd is
+
+-- where nothing was refused, what follows of that is so
+pub unless_refused : {P : Type 0} (result : Result (Unit {0}) ToolError) → result_err result ≡ None → OnOk result P → P
+unless_refused (Ok done) none is = is
+unless_refused (Err e) none is = cc none
+
+-- ---- laws of jobs
+
+pub same-text : (text other : List ℕ) → is_text text ≡ is_text other → text ≡ other
+same-text text other same = ap (λ (r : Result (List ℕ) ToolError). result_unwrap_or r text) same
+
+-- pieces of one length can cut any recording
+any-fits : (cuts : Cuts) → cuts_any cuts ≡ true → (bits : ℕ) → cuts_bits cuts bits ≡ true
+any-fits (Even pieces) any bits = refl
+any-fits (At cuts) any bits = cc any
+
+pub all-fit : (cuts : Cuts) → cuts_any cuts ≡ true → (read : Result Signal ToolError) → IfOk read (λ recording. cuts_bits cuts (length_of recording) ≡ true)
+all-fit cuts any (Ok recording) = any-fits cuts any (length_of recording)
+all-fit cuts any (Err e) = tt
+
+-- a list of what was encoded
+pub sent-text : EncodedGroupsAreListed → (hex : Bool) (settings : Settings) (encode list : Job) (lines bytes held listing : List ℕ)
+    → encode ≡ job.Encode hex → list ≡ job.List (whole_input hex) settings → held ≡ bytes
+    → outcome encode lines ≡ Ok bytes → outcome list held ≡ Ok listing
+    → (words : List ℕ) (groups : List (List ℕ)) → groups_in lines ≡ Ok (words ∷ groups) → listing ≡ sent_listing words groups
+sent-text law hex settings encode list lines bytes held listing first next same encoded listed words groups spelled =
+    law hex settings lines words groups listing spelled
+    (ap (λ (made : Result (List ℕ) ToolError). and_then made (outcome (job.List (whole_input hex) settings)))
+    (sym (ap (λ (asked : Job). outcome asked lines) first) ∙ encoded)
+    ∙ sym (ap (λ (asked : Job). outcome asked bytes) next) ∙ ap (outcome list) (sym same) ∙ listed)
+
+-- a list and the totals of the same bytes
+pub before-totals : ListsEndWithTotals → (input : Input) (settings : Settings) (list totals : Job) (held listing counts : List ℕ)
+    → list ≡ job.List input settings → totals ≡ job.Totals input settings → outcome list held ≡ Ok listing → outcome totals held ≡ Ok counts
+    → (rows : List ℕ) × (listing ≡ rows ++ counts)
+before-totals law input settings list totals held listing counts first next listed counted =
+    let ends = law input settings held in (
+      ends.0,
+      same-text listing (ends.0 ++ counts)
+          (sym listed ∙ ap (λ (asked : Job). outcome asked held) first ∙ ends.1
+          ∙ ap (λ (made : Result (List ℕ) ToolError). and_then made (λ text. Ok (ends.0 ++ text)))
+          (sym (ap (λ (asked : Job). outcome asked held) next) ∙ counted)),
+    )

@@ -1,11 +1,15 @@
 -- The jobs that the callers ask for: of the bytes of a recording, all their bits.
-use Rattle.std.specs.Prelude.{◌≡◌, ℕ, ◌*◌, List, [], None, Ok, false, length}
+use Rattle.std.specs.Prelude.{◌≡◌, ℕ, ◌*◌, List, [], None, Ok, Option, false, length, true}
 use Rattle.rds_stream.specs.Recording.{Signal, bits_of, ungapped}
 use Rattle.rds_sync.specs.Rules.{RuleNumbers}
+use Rattle.rds_tool.specs.Cuts.{cuts_any}
+use Rattle.rds_tool.specs.Laws.{stream_input}
+use Rattle.rds_tool.specs.Plans.{PlanOf, plan_of}
 use Rattle.rds_tool.specs.Rules.{rules_of}
 use Rattle.rds_tool.specs.declared.job.Input.{Input}
 use Rattle.rds_tool.specs.declared.job.Job.{Job}
 use Rattle.rds_tool.specs.declared.job.Job.TheVariants as job
+use Rattle.rds_tool.specs.declared.job.Settings.{Settings}
 
 -- all bits of the bytes, without gaps
 abbrev pub all_bits : List ℕ → Signal
@@ -29,3 +33,12 @@ IsScan other = ⊥
 abbrev pub IsTotalsBy : Job → RuleNumbers → Type 0
 IsTotalsBy (job.Totals input settings) rules = (input ≡ plain) × (rules_of settings ≡ Ok rules)
 IsTotalsBy other rules = ⊥
+
+-- it asks for the listing of a stream, of so many bits and with these gaps, by a plan with these rules and pieces of one length
+pub record IsListOfStream (asked : Job) (rules : RuleNumbers) (bits : Option ℕ) (gaps : List (ℕ × ℕ)) : Type 0 where
+  pub settings : Settings
+  pub plan : PlanOf
+  pub list : asked ≡ job.List (stream_input bits gaps) settings
+  pub planned : plan_of settings ≡ Ok plan
+  pub by : plan.rules ≡ rules
+  pub even : cuts_any plan.cuts ≡ true

@@ -73,7 +73,7 @@ pub fn remainder_of_damaged(sent: u32, damage: u32) -> bool
 }
 
 /// A block with some of its bits inverted: a block still.
-fn damaged(sent: u32, damage: u32) -> u32
+pub(crate) fn damaged(sent: u32, damage: u32) -> u32
     requires sent { sent < 2 ^ 26 }
     requires damage { damage < 2 ^ 26 }
     ensures value { result ≡ bit_xor sent damage }

@@ -26,6 +26,8 @@
 //! | `rds_tool` | [`commands`] | the command line as a job |
 //! | | [`devices`] | sources and sinks, whatever is behind them |
 //! | | [`tool`] | what is written of the bytes that a reader holds, and each refusal by its cause |
+//! | | [`history`] | the same of the bytes that a reader gave and a writer took, standard input and output too |
+//! | several | [`sent`] | laws of groups that were sent: encoded, damaged, decoded, listed |
 //! | each | [`refusals`] | numbers and names, which all crates share |
 //!
 //! `rds_rows` has its callers in `rds_tests`.
@@ -39,12 +41,14 @@ pub mod dealer;
 pub mod decoder;
 pub mod devices;
 pub mod gaps;
+pub mod history;
 pub mod items;
 pub mod library;
 pub mod live;
 pub mod loss;
 pub mod pieces;
 pub mod refusals;
+pub mod sent;
 pub mod stream;
 pub mod sync;
 pub mod tool;

@@ -22,8 +22,8 @@ ghost use Rattle.rds_sync.specs.Totals.{totals_of};
 
 use rds_stream::{Counted, Reader, Recording, Tape};
 use rds_sync::{
-    Block, Decoder, Group, Item, Lock, Loss, Report, RuleNumbers, Rules, State, Step, SyncError,
-    advance, decode_plain, finish, laws, run_codes, stretch,
+    Block, Decoder, Group, Item, Lock, Loss, Report, RuleNumbers, Rules, Spans, State, Step,
+    SyncError, Totals, advance, decode_plain, finish, laws, run, run_codes, run_report, stretch,
 };
 use std::alloc::Global;
 
@@ -505,6 +505,42 @@ pub fn item_of_change(recording: &Recording, rules: &Rules, state: State, place:
     ensures { items_at recording.now rules.now place state ≢ [] }
 {
     laws::items_mark_changes();
+}
+
+/// The items of a recording's first bits, collected.
+pub fn collected_items(
+    alloc: Global,
+    recording: &Recording,
+    rules: &Rules,
+    bits: u64,
+) -> Result<Vec<Item>, SyncError>
+    requires { bits ≤ length_of recording.now }
+    ensures items { IfOk result (λ items. items.items ≡ (run_of recording.now rules.now Searching 0 bits).1) }
+    ensures refused { IsOkUnless result OutOfMemory }
+{
+    let (_end, items) = run(alloc, recording, rules, State::Searching, 0, bits)?;
+    Ok(items)
+}
+
+/// The totals of what a run from a state that a caller has tested gives, and the state that it ends in.
+pub fn totals_of_run(
+    alloc: Global,
+    recording: &Recording,
+    rules: &Rules,
+    state: State,
+    from: u64,
+) -> Result<(State, Totals), SyncError>
+    requires lawful { IsLawful rules.now from state }
+    requires within { from ≤ length_of recording.now }
+    ensures state { IfOk result (λ end. end.0
+        ≡ (run_of recording.now rules.now state from (length_of recording.now - from)).0) }
+    ensures totals { IfOk result (λ end. end.1
+        ≡ totals_of (run_of recording.now rules.now state from (length_of recording.now - from)).1) }
+    ensures lawful { IfOk result (λ end. IsLawful rules.now (length_of recording.now) end.0) }
+{
+    let to = recording.len();
+    let (end, report) = run_report(alloc, recording, rules, state, from, to, Spans::Whole)?;
+    Ok((end, report.totals))
 }
 
 /// The items of a run need room for two a bit at most.

@@ -106,7 +106,7 @@ pub fn encoded<R: Threads + Wait + Sync>(
 }
 
 /// What a job writes of bytes, where nothing is refused: its outcome.
-fn written<R: Threads + Wait + Sync>(
+pub(crate) fn written<R: Threads + Wait + Sync>(
     rt: &R,
     alloc: Global,
     bytes: &[u8],

@@ -48,6 +48,7 @@ struct Patient<'a> {
     parts: usize,
     after: usize,
     failures: u64,
+    flushed: bool,
 }
 
 impl Patient<'_> {
@@ -71,9 +72,12 @@ impl Patient<'_> {
 impl Sink for Patient<'_> {
     ghost contents = { λ writer. Some writer.held.items };
 
+    ghost is_flushed = { λ writer. writer.flushed };
+
     ghost failed = { λ writer. writer.failures };
 
     fn write(&mut self, bytes: &[u8]) -> Result<usize, Failed> {
+        self.flushed = false;
         let is_taken = self.waited() && self.held.len() != self.after;
         if !is_taken
             || self
@@ -88,6 +92,7 @@ impl Sink for Patient<'_> {
     }
 
     fn flush(&mut self) -> Result<(), Failed> {
+        self.flushed = true;
         Ok(())
     }
 
@@ -117,6 +122,7 @@ fn leaves<R: Sync + Threads + Wait>(
         parts: 2 * workers as usize,
         after,
         failures: 0,
+        flushed: false,
     };
     let result = write_rows_in_parts(rt, alloc, &rows, workers, PART, &mut writer);
     result == Err(RowsError::Write) && writer.has_failed_at(after, known.text.as_slice())

@@ -6,6 +6,7 @@ use rds_crew::{Gate, OpenGate};
 use rds_tool::{
     Failed, FromRead, Job, Sink, Source, ToWrite, ToolError, transcribe, transcribe_gated,
 };
+use rds_trace::Trace;
 use std::alloc::{AllocError, Global};
 use std::io;
 use std::io::Write;
@@ -22,6 +23,8 @@ pub struct SlowReader<'a> {
     pub failures: u64,
     /// The least length of a buffer that it was handed.
     pub least_buffer: usize,
+    pub history: Trace,
+    pub ended: bool,
 }
 
 impl<'a> SlowReader<'a> {
@@ -35,12 +38,18 @@ impl<'a> SlowReader<'a> {
             fails_at,
             failures: 0,
             least_buffer: usize::MAX,
+            history: Trace::new(),
+            ended: false,
         }
     }
 }
 
 impl Source for SlowReader<'_> {
     ghost remaining = { λ reader. Some reader.left.now };
+
+    ghost given = { λ reader. reader.history.bytes };
+
+    ghost has_ended = { λ reader. reader.ended };
 
     ghost failed = { λ reader. reader.failures };
 
@@ -49,12 +58,15 @@ impl Source for SlowReader<'_> {
         self.least_buffer = self.least_buffer.min(buf.len());
         if self.reads == self.fails_at {
             self.failures += 1;
+            self.ended = false;
             return Err(Failed);
         }
         let count = self.left.len().min(self.step.max(1)).min(buf.len());
         let (front, rest) = self.left.split_at(count);
         buf[..count].copy_from_slice(front);
         self.left = rest;
+        self.history.note(&buf[..count]);
+        self.ended = count == 0 && !buf.is_empty();
         Ok(count)
     }
 

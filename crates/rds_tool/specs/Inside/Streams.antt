@@ -1,5 +1,5 @@
 -- How far a stream was followed: this project's rule. The steps of `follow` cite it, and no public call.
-use Rattle.std.specs.Prelude.{◌≡◌, ◌≤◌, ◌<◌, ◌+◌, ◌*◌, ◌^◌, ◌-◌, ◌⊎◌, ⊤, ℕ, List, None, Option, Some, length}
+use Rattle.std.specs.Prelude.{◌≡◌, ◌≤◌, ◌<◌, ◌+◌, ◌*◌, ◌^◌, ◌-◌, ◌⊎◌, ⊤, ℕ, Bool, List, None, Option, Some, length, true}
 use Rattle.std.specs.Io.KnownBytes.{Appends, Consumes, IsAtEnd}
 use Rattle.rds_live.specs.Live.{LiveOf, Terms, live_of}
 use Rattle.rds_tool.specs.Following.{AllCount, rows_so_far}
@@ -21,6 +21,11 @@ bits_left (Some bits) place = bits - place
 abbrev pub IsNearEnd : Option ℕ → ℕ → Option (List ℕ) → Type 0
 IsNearEnd None place to = IsAtEnd to
 IsNearEnd (Some bits) place to = (bits < place + 8) ⊎ IsAtEnd to
+
+-- the same, where the reader's last answer tells the end
+abbrev pub IsNearAnswer : Option ℕ → ℕ → Bool → Type 0
+IsNearAnswer None place ended = ended ≡ true
+IsNearAnswer (Some bits) place ended = (bits < place + 8) ⊎ (ended ≡ true)
 
 -- no more bits are claimed than a recording may have
 abbrev pub IsShortEnough : Option ℕ → Type 0

@@ -1,7 +1,7 @@
 use Rattle.std.proofs.Common.{arith, ◌∙◌}
 use Rattle.std.proofs.lemmas.Grind.{common_steps}
 use Rattle.rds_tool.proofs.Passing.{passed, passes}
-use Rattle.rds_tool.proofs.Reading.{end_told, kind_told, ok_told, read_more, read_told, read_whole, turns_not_told}
+use Rattle.rds_tool.proofs.Reading.{end_told, given_more, kind_told, ok_told, read_more, read_told, read_whole, turns_not_told}
 use Rattle.rds_tool.proofs.engine.read_all.Goals as goal
 
 pub returns-then-is_at_end-clause-ok : goal.returns-then-is_at_end-clause-ok
@@ -9,18 +9,29 @@ returns-then-is_at_end-clause-ok g c =
     let read = c.in_ok-is_at_end.ensures in
     read_whole _ _ _ (read_more _ _ _ _ _ _ c.turns.invariant.taken read.taken.1 read.taken.2) (read.end c.if-is_at_end.true)
 
+pub returns-then-is_at_end-clause-given : goal.returns-then-is_at_end-clause-given
+returns-then-is_at_end-clause-given g c =
+    let read = c.in_ok-is_at_end.ensures in given_more _ _ _ _ _ _ c.turns.invariant.given read.given.1 read.given.2
+
 pub turns-preserved : goal.turns-preserved
 turns-preserved g c =
     let read = c.in_ok-is_at_end.ensures in
     record {
       count = read.count ∙ c.turns.invariant.count;
       taken = read_more _ _ _ _ _ _ c.turns.invariant.taken read.taken.1 read.taken.2;
+      given = given_more _ _ _ _ _ _ c.turns.invariant.given read.given.1 read.given.2;
       turns = omega (arith, read.grows c.if-is_at_end.false);
       room = grind (arith, common_steps);
     }
 
 pub returns-clause-turns : goal.returns-clause-turns
 returns-clause-turns g c = λ _. (c.turns.bytes.items, c.turns.invariant.taken, omega arith)
+
+pub returns-clause-turned : goal.returns-clause-turned
+returns-clause-turned g c = λ _. (c.turns.bytes.items, c.turns.invariant.given, omega arith)
+
+pub returns-in_err-is_at_end-clause-turned : goal.returns-in_err-is_at_end-clause-turned
+returns-in_err-is_at_end-clause-turned g c = turns_not_told _ _ (passed _ _ c.from_residual-in_err-is_at_end.ensures) _ _ c.in_err-is_at_end.ensures.refused
 
 pub returns-in_err-is_at_end-clause-read : goal.returns-in_err-is_at_end-clause-read
 returns-in_err-is_at_end-clause-read g c =

@@ -1,10 +1,12 @@
-use Rattle.std.proofs.Common.{◌+◌, ◌*◌, ◌≡◌, ◌≢◌, ◌≤◌, Err, ◌⊎◌, ◌++◌, [], inl, inr, arith, ap, refl, sym, subst, ◌∙◌, drop, length, take, ℕ}
+use Rattle.std.proofs.Common.{◌+◌, ◌*◌, ◌≡◌, ◌≢◌, ◌≤◌, Err, List, Option, Some, ◌⊎◌, ◌++◌, [], inl, inr, arith, ap, refl, sym, subst, ◌∙◌, drop, length, take, ℕ}
 use Rattle.std.specs.Prelude.{IfSome}
+use Rattle.std.proofs.lemmas.List.{append-nil}
 use Rattle.rds_tool.specs.Following.{MayBreakEarly}
-use Rattle.rds_tool.specs.Inside.Streams.{IsNearEnd, IsPlaceOf}
+use Rattle.rds_tool.specs.Inside.Streams.{IsNearAnswer, IsNearEnd, IsPlaceOf}
 use Rattle.rds_tool.specs.declared.error.ToolError.{ToolError}
-use Rattle.rds_tool.specs.declared.error.ToolError.TheVariants.{BadGaps, OutOfMemory, Read, TooLong, Write}
+use Rattle.rds_tool.specs.declared.error.ToolError.TheVariants.{BadGaps, BitsPastBytes, OutOfMemory, Read, TooLong, Write}
 use Rattle.rds_tool.proofs.Followed.{after_no_write, after_refusal, chunk_breaks, few_taken, fits_room, followed_end, followed_more, followed_none, front_is, is_place, lent_whole, near_end_by, no_gaps_told, no_such, not_told, nothing_done, of_call, of_neither, read_not_told, smaller, some_taken, stops_behind, stops_here, stops_in_rows, stops_untouched, told_on, too_many}
+use Rattle.rds_tool.proofs.Histories.{broke_after, broke_at_once, broke_at_read, gave_more, gave_none, held, near_answer_by, of_none, stops_all, took_rest}
 use Rattle.rds_tool.proofs.Passing.{passed, passed_kind, passes}
 use Rattle.rds_tool.proofs.following.follow_bytes.Goals as goal
 
@@ -14,16 +16,11 @@ begin_breaks e (inl memory) = inl memory
 begin_breaks e (inr (inl long)) = inr (inr (inr (inl long)))
 begin_breaks e (inr (inr gaps)) = inr (inr (inr (inr gaps)))
 
-begun_not : (e k : ToolError) → (e ≡ OutOfMemory) ⊎ ((e ≡ TooLong) ⊎ (e ≡ BadGaps)) → OutOfMemory ≢ k → TooLong ≢ k → BadGaps ≢ k → e ≢ k
-begun_not e k (inl is) other _ _ p = other (sym is ∙ p)
-begun_not e k (inr (inl is)) _ other _ p = other (sym is ∙ p)
-begun_not e k (inr (inr is)) _ _ other p = other (sym is ∙ p)
-
 pub returns-in_err-live-clause-read : goal.returns-in_err-live-clause-read
-returns-in_err-live-clause-read g c = not_told _ _ (passed _ _ c.from_residual.ensures) Read (begun_not _ Read c.in_err-live.ensures.kinds (λ p. cc p) (λ p. cc p) (λ p. cc p)) _ _ _ refl refl
+returns-in_err-live-clause-read g c = not_told _ _ (passed _ _ c.from_residual.ensures) Read (of_none _ OutOfMemory TooLong BadGaps Read c.in_err-live.ensures.kinds (λ p. cc p) (λ p. cc p) (λ p. cc p)) _ _ _ refl refl
 
 pub returns-in_err-live-clause-write : goal.returns-in_err-live-clause-write
-returns-in_err-live-clause-write g c = not_told _ _ (passed _ _ c.from_residual.ensures) Write (begun_not _ Write c.in_err-live.ensures.kinds (λ p. cc p) (λ p. cc p) (λ p. cc p)) _ _ _ refl refl
+returns-in_err-live-clause-write g c = not_told _ _ (passed _ _ c.from_residual.ensures) Write (of_none _ OutOfMemory TooLong BadGaps Write c.in_err-live.ensures.kinds (λ p. cc p) (λ p. cc p) (λ p. cc p)) _ _ _ refl refl
 
 pub returns-in_err-live-clause-too_long : goal.returns-in_err-live-clause-too_long
 returns-in_err-live-clause-too_long g c = λ p. inl (c.in_err-live.ensures.too_long (of_call _ _ (passed _ _ c.from_residual.ensures) _ p))
@@ -32,14 +29,14 @@ pub returns-in_err-live-clause-bad_gaps : goal.returns-in_err-live-clause-bad_ga
 returns-in_err-live-clause-bad_gaps g c = λ p. c.in_err-live.ensures.bad_gaps (of_call _ _ (passed _ _ c.from_residual.ensures) _ p)
 
 pub returns-in_err-live-clause-within : goal.returns-in_err-live-clause-within
-returns-in_err-live-clause-within g c = no_such _ _ (passed _ _ c.from_residual.ensures) Write (begun_not _ Write c.in_err-live.ensures.kinds (λ p. cc p) (λ p. cc p) (λ p. cc p))
+returns-in_err-live-clause-within g c = no_such _ _ (passed _ _ c.from_residual.ensures) Write (of_none _ OutOfMemory TooLong BadGaps Write c.in_err-live.ensures.kinds (λ p. cc p) (λ p. cc p) (λ p. cc p))
 
 pub returns-in_err-live-clause-refused : goal.returns-in_err-live-clause-refused
 returns-in_err-live-clause-refused g c = passes _ _ _ c.from_residual.ensures (begin_breaks _ c.in_err-live.ensures.kinds)
 
 pub reads-init : goal.reads-init
 reads-init g c = record {
-  followed = ([], followed_none _ _ _ _ _ c.in_ok-live.ensures.live);
+  followed = ([], followed_none _ _ _ _ _ c.in_ok-live.ensures.live, sym (append-nil _), inl refl);
   reads = refl;
   writes = refl;
   room = c.in_ok-live.ensures.room;
@@ -67,12 +64,12 @@ returns-in_err-count-clause-within g c = no_such _ _ (passed _ _ c.from_residual
 
 pub returns-in_err-count-clause-between : goal.returns-in_err-count-clause-between
 returns-in_err-count-clause-between g c =
-    let (heard, f) = c.reads.invariant.followed in
+    let (heard, f, gave, flush) = c.reads.invariant.followed in
     after_refusal _ (stops_here _ _ _ _ _ _ _ heard f _ c.in_err-count.ensures.kept)
 
 pub reads-smaller : goal.reads-smaller
 reads-smaller g c =
-    let (heard, f) = c.reads.invariant.followed in
+    let (heard, f, gave, flush) = c.reads.invariant.followed in
     let bytes_are = front_is c.in_ok-count.count c.reads.buf.len c.deref.result.now c.read_once.new.buf (drop (length c.read_once.new.buf) c.reads.buf.items) (c.read_once.auto.buf ∙ c.as_mut_slice.ensures.len) c.deref.ensures.value in
     let within : IfSome c.args.bits (λ (n : ℕ). c.reads.live.place + 8 * c.room_before_end-room.result ≤ n) =
     subst (λ (p : ℕ). IfSome c.args.bits (λ (n : ℕ). p + 8 * c.room_before_end-room.result ≤ n)) c.place.ensures.value c.room_before_end-room.ensures.within in
@@ -84,7 +81,7 @@ reads-smaller g c =
 
 pub reads-preserved : goal.reads-preserved
 reads-preserved g c =
-    let (heard, f) = c.reads.invariant.followed in
+    let (heard, f, gave, flush) = c.reads.invariant.followed in
     let long = c.read_once.auto.buf ∙ c.as_mut_slice.ensures.len in
     let bytes_are = front_is c.in_ok-count.count c.reads.buf.len c.deref.result.now c.read_once.new.buf (drop (length c.read_once.new.buf) c.reads.buf.items) long c.deref.ensures.value in
     let within : IfSome c.args.bits (λ (n : ℕ). c.reads.live.place + 8 * c.room_before_end-room.result ≤ n) =
@@ -95,6 +92,8 @@ reads-preserved g c =
         heard ++ take c.in_ok-count.count c.deref.result.now,
         followed_more _ _ _ _ _ _ _ heard f _ _ _ c.in_ok-count.ensures.taken _ bytes_are _ _ within fit _
             c.in_ok-follow_chunk.ensures.heard c.in_ok-follow_chunk.ensures.terms c.in_ok-follow_chunk.ensures.rows c.in_ok-follow_chunk.ensures.fits,
+        gave_more _ _ _ heard _ gave (c.in_ok-count.ensures.given ∙ ap (λ xs. g.S.Source.given c.reads.reader ++ xs) (sym bytes_are)),
+        inr c.in_ok-follow_chunk.ensures.flushed,
       );
       reads = c.in_ok-count.ensures.count ∙ c.reads.invariant.reads;
       writes = c.in_ok-follow_chunk.ensures.count ∙ c.reads.invariant.writes;
@@ -112,7 +111,7 @@ returns-in_err-follow_chunk-clause-write g c =
 
 pub returns-in_err-follow_chunk-clause-too_long : goal.returns-in_err-follow_chunk-clause-too_long
 returns-in_err-follow_chunk-clause-too_long g c = λ p.
-    let (heard, f) = c.reads.invariant.followed in
+    let (heard, f, gave, flush) = c.reads.invariant.followed in
     let bytes_are = front_is c.in_ok-count.count c.reads.buf.len c.deref.result.now c.read_once.new.buf (drop (length c.read_once.new.buf) c.reads.buf.items) (c.read_once.auto.buf ∙ c.as_mut_slice.ensures.len) c.deref.ensures.value in
     too_many _ _ _ _ _ _ _ heard f _ _ _ c.in_ok-count.ensures.taken _ bytes_are
     (c.in_err-follow_chunk.ensures.too_long (of_call _ _ (passed _ _ c.from_residual-in_err-follow_chunk.ensures) _ p))
@@ -122,7 +121,7 @@ returns-in_err-follow_chunk-clause-refused g c = passes _ _ _ c.from_residual-in
 
 pub returns-in_err-follow_chunk-clause-between : goal.returns-in_err-follow_chunk-clause-between
 returns-in_err-follow_chunk-clause-between g c =
-    let (heard, f) = c.reads.invariant.followed in
+    let (heard, f, gave, flush) = c.reads.invariant.followed in
     let long = c.read_once.auto.buf ∙ c.as_mut_slice.ensures.len in
     let bytes_are = front_is c.in_ok-count.count c.reads.buf.len c.deref.result.now c.read_once.new.buf (drop (length c.read_once.new.buf) c.reads.buf.items) long c.deref.ensures.value in
     let few = few_taken _ _ _ bytes_are (omega (arith, long, c.reads.buf.ok.0, c.reads.invariant.room)) in
@@ -132,7 +131,7 @@ returns-in_err-follow_chunk-clause-between g c =
 
 pub returns-in_err-follow_chunk-clause-within : goal.returns-in_err-follow_chunk-clause-within
 returns-in_err-follow_chunk-clause-within g c = λ p.
-    let (heard, f) = c.reads.invariant.followed in
+    let (heard, f, gave, flush) = c.reads.invariant.followed in
     let long = c.read_once.auto.buf ∙ c.as_mut_slice.ensures.len in
     let bytes_are = front_is c.in_ok-count.count c.reads.buf.len c.deref.result.now c.read_once.new.buf (drop (length c.read_once.new.buf) c.reads.buf.items) long c.deref.ensures.value in
     let within : IfSome c.args.bits (λ (n : ℕ). c.reads.live.place + 8 * c.room_before_end-room.result ≤ n) =
@@ -144,13 +143,22 @@ returns-in_err-follow_chunk-clause-within g c = λ p.
 
 pub room_before_end-room-requires : goal.room_before_end-room-requires
 room_before_end-room-requires g c =
-    let (heard, f) = c.reads.invariant.followed in
+    let (heard, f, gave, flush) = c.reads.invariant.followed in
     subst (λ (p : ℕ). IsPlaceOf c.args.bits p) (sym c.place.ensures.value) (is_place _ _ _ _ _ _ _ heard f)
 
 pub returns-clause-followed : goal.returns-clause-followed
 returns-clause-followed g c =
-    let (heard, f) = c.reads.invariant.followed in
-    (heard, followed_end _ _ _ _ _ _ _ heard f _ _ _ c.in_ok-count.ensures.taken c.if-count-eq0.true)
+    let (heard, f, gave, flush) = c.reads.invariant.followed in (
+      heard,
+      followed_end _ _ _ _ _ _ _ heard f _ _ _ c.in_ok-count.ensures.taken c.if-count-eq0.true,
+      gave_none _ _ _ heard _ _ gave c.in_ok-count.ensures.given c.if-count-eq0.true,
+      flush,
+    )
+
+pub returns-clause-near_answer : goal.returns-clause-near_answer
+returns-clause-near_answer g c =
+    subst (λ (p : ℕ). IsNearAnswer c.args.bits p (g.S.Source.has_ended c.read_once.new.reader)) c.place.ensures.value
+    (near_answer_by c.args.bits c.place.result c.room_before_end-room.result _ c.room_before_end-room.ensures.none (c.in_ok-count.ensures.answer c.if-count-eq0.true))
 
 pub returns-clause-near_end : goal.returns-clause-near_end
 returns-clause-near_end g c =
@@ -163,3 +171,43 @@ returns-in_err-live-clause-between g c = after_refusal _ (nothing_done _ _ _ _)
 pub returns-in_err-follow_chunk-clause-bad_gaps : goal.returns-in_err-follow_chunk-clause-bad_gaps
 returns-in_err-follow_chunk-clause-bad_gaps g c = λ p.
     absurd (no_gaps_told _ c.in_err-follow_chunk.ensures.kinds (passed_kind _ _ _ (passed _ _ c.from_residual-in_err-follow_chunk.ensures) p))
+
+pub returns-in_err-live-clause-broke_off : goal.returns-in_err-live-clause-broke_off
+returns-in_err-live-clause-broke_off g c =
+    let not : (k : ToolError) → OutOfMemory ≢ k → TooLong ≢ k → BadGaps ≢ k → c.in_err-live.field-0.0 ≢ k = λ k. of_none _ OutOfMemory TooLong BadGaps k c.in_err-live.ensures.kinds in
+    passes _ _ _ c.from_residual.ensures
+    (broke_at_once _ _ _ _ _ _ _ _ _ refl refl
+    (not Read (λ p. cc p) (λ p. cc p) (λ p. cc p), not Write (λ p. cc p) (λ p. cc p) (λ p. cc p), not BitsPastBytes (λ p. cc p) (λ p. cc p) (λ p. cc p))
+    (λ p. inl (c.in_err-live.ensures.too_long (ap (λ x. Err x) p))) (λ p. c.in_err-live.ensures.bad_gaps (ap (λ x. Err x) p)))
+
+pub returns-in_err-count-clause-broke_off : goal.returns-in_err-count-clause-broke_off
+returns-in_err-count-clause-broke_off g c =
+    let (heard, f, gave, flush) = c.reads.invariant.followed in
+    let not : (k : ToolError) → Read ≢ k → c.in_err-count.field-0.0 ≢ k = λ k other. of_neither _ Read Read k (inl c.in_err-count.ensures.kinds) other other in
+    passes _ _ _ c.from_residual-in_err-count.ensures
+    (broke_at_read _ _ _ _ _ _ _ _ _ heard (c.in_err-count.ensures.none_given ∙ gave) f.written flush (stops_all _ _ _ _ _ _ _ heard f)
+    (not Write (λ p. cc p), not TooLong (λ p. cc p), not BadGaps (λ p. cc p)) (λ p. absurd (not BitsPastBytes (λ q. cc q) p)))
+
+pub returns-in_err-follow_chunk-clause-broke_off : goal.returns-in_err-follow_chunk-clause-broke_off
+returns-in_err-follow_chunk-clause-broke_off g c =
+    let (heard, f, gave, flush) = c.reads.invariant.followed in
+    let bytes = take c.in_ok-count.count c.deref.result.now in
+    let long = c.read_once.auto.buf ∙ c.as_mut_slice.ensures.len in
+    let bytes_are = front_is c.in_ok-count.count c.reads.buf.len c.deref.result.now c.read_once.new.buf (drop (length c.read_once.new.buf) c.reads.buf.items) long c.deref.ensures.value in
+    let within : IfSome c.args.bits (λ (n : ℕ). c.reads.live.place + 8 * c.room_before_end-room.result ≤ n) =
+    subst (λ (p : ℕ). IfSome c.args.bits (λ (n : ℕ). p + 8 * c.room_before_end-room.result ≤ n)) c.place.ensures.value c.room_before_end-room.ensures.within in
+    let fit = fits_room _ c.room_before_end-room.result _ _ bytes_are c.in_ok-count.ensures.within.1 in
+    let few = few_taken _ _ _ bytes_are (omega (arith, long, c.reads.buf.ok.0, c.reads.invariant.room)) in
+    let kinds = c.in_err-follow_chunk.ensures.kinds in
+    let f' = held _ _ _ _ _ _ _ heard f bytes in
+    let all : Option (List ℕ) = Some (heard ++ bytes) in
+    let none : Option (List ℕ) = Some [] in
+    let took = took_rest _ bytes _ bytes_are in
+    passes _ _ _ c.from_residual-in_err-follow_chunk.ensures
+    (broke_after _ _ _ _ _ _ _ _ _ (heard ++ bytes)
+    (gave_more _ _ _ heard bytes gave (c.in_ok-count.ensures.given ∙ ap (λ xs. g.S.Source.given c.reads.reader ++ xs) (sym bytes_are)))
+    (of_none _ OutOfMemory Write TooLong Read kinds (λ p. cc p) (λ p. cc p) (λ p. cc p), of_none _ OutOfMemory Write TooLong BitsPastBytes kinds (λ p. cc p) (λ p. cc p) (λ p. cc p))
+    (λ other. stops_untouched g.K.Sink.contents _ _ all none _ _ _ (c.in_err-follow_chunk.ensures.untouched other) (stops_behind _ _ _ _ _ _ _ heard f' none _ _ took bytes bytes_are few))
+    (λ p. stops_in_rows _ _ _ _ _ _ _ heard f' none _ _ took bytes bytes_are _ _ within fit c.runs_are_reports.ensures c.reach.ensures.range.some_loss few (c.in_err-follow_chunk.ensures.prefix (ap (λ x. Err x) p)))
+    (λ p. too_many _ _ _ _ _ _ _ heard f' none _ _ took bytes bytes_are (c.in_err-follow_chunk.ensures.too_long (ap (λ x. Err x) p)))
+    (λ p. absurd (no_gaps_told _ kinds p)))

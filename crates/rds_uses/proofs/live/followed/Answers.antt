@@ -1,4 +1,4 @@
-use Rattle.std.proofs.Common.{◌≡◌, ◌*◌, ◌^◌, [], ℕ, List, Bool, true, false, Result, Ok, Err, None, Some, length, ◌∙◌}
+use Rattle.std.proofs.Common.{◌≡◌, ◌*◌, ◌^◌, [], ℕ, List, Bool, true, false, Result, Ok, Err, None, Some, length}
 use Rattle.std.specs.Prelude.{if◌then◌else◌, nat_lt}
 use Rattle.rds_stream.specs.Recording.{Signal}
 use Rattle.rds_sync.specs.Rules.{RuleNumbers}
@@ -8,6 +8,7 @@ use Rattle.rds_tool.specs.declared.error.ToolError.TheVariants.{BitsPastBytes, T
 use Rattle.rds_tool.specs.Following.{listed}
 use Rattle.rds_tool.specs.Input.{and_then}
 use Rattle.rds_tool.specs.Outcome.{Writes, list_text}
+use Rattle.rds_uses.proofs.Outcomes.{given_back}
 use Rattle.rds_uses.proofs.live.followed.Goals as goal
 
 -- where something was written, this was not refused
@@ -25,8 +26,10 @@ written text rules bytes h =
 
 pub returns : goal.returns
 returns c =
-    let ok = c.in_ok-follow.ensures.ok in
     let held : c.new-2.result.reader.now ≡ c.args.bytes.now = cc in
-    let empty : c.new-writer.result.writer.items ≡ [] = cc in
-    let text : c.into_inner.result.items ≡ c.follow.new.writer.writer.items = cc in
-    text ∙ written c.follow.new.writer.writer.items c.args.rules.now c.args.bytes.now (rw (held, empty) at ok)
+    let sink = c.new-writer.result in
+    let after = c.follow.new.writer in
+    let same : c.new-writer.result.begun.value.items ≡ [] = cc in
+    written _ c.args.rules.now c.args.bytes.now
+    (given_back (listed (by_rules c.args.rules.now) None) c.new-2.result.reader.now c.args.bytes.now [] sink.begun.value.items sink.history.bytes after.begun.value.items after.history.bytes c.into_inner.result.items
+    held same c.new-writer.ensures.taken c.into_inner.ensures.tied c.in_ok-follow.ensures.ok)

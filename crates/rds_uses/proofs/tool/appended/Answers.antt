@@ -1,10 +1,24 @@
 use Rattle.std.proofs.Common.{◌≡◌}
-use Rattle.rds_uses.proofs.Outcomes.{added, on-ok}
+use Rattle.rds_tool.specs.Outcome.{outcome}
+use Rattle.rds_uses.proofs.Outcomes.{added, given_back, on-ok, prefix_back}
 use Rattle.rds_uses.proofs.tool.appended.Goals as goal
 
 pub returns-clause-whole : goal.returns-clause-whole
 returns-clause-whole g c =
     let held : c.new.result.reader.now ≡ c.args.bytes.now = cc in
-    let before : c.new-writer.result.writer.items ≡ c.args.text.items = cc in
-    let text : c.into_inner.result.items ≡ c.transcribe-done.new.writer.writer.items = cc in
-    on-ok c.transcribe-done.result (λ is. rw text (added _ _ _ (rw (held, before) at is))) c.transcribe-done.ensures.ok
+    let sink = c.new-writer.result in
+    let after = c.transcribe-done.new.writer in
+    let same : c.new-writer.result.begun.value.items ≡ c.args.text.items = cc in
+    on-ok c.transcribe-done.result
+    (λ is. added _ _ _ (given_back (outcome c.args.job.now) c.new.result.reader.now c.args.bytes.now c.args.text.items sink.begun.value.items sink.history.bytes after.begun.value.items after.history.bytes c.into_inner.result.items
+    held same c.new-writer.ensures.taken c.into_inner.ensures.tied is))
+    c.transcribe-done.ensures.ok
+
+pub returns-clause-part : goal.returns-clause-part
+returns-clause-part g c = λ p.
+    let held : c.new.result.reader.now ≡ c.args.bytes.now = cc in
+    let sink = c.new-writer.result in
+    let after = c.transcribe-done.new.writer in
+    let same : c.new-writer.result.begun.value.items ≡ c.args.text.items = cc in
+    prefix_back (outcome c.args.job.now) c.new.result.reader.now c.args.bytes.now c.args.text.items sink.begun.value.items sink.history.bytes after.begun.value.items after.history.bytes c.into_inner.result.items
+    held same c.new-writer.ensures.taken c.into_inner.ensures.tied (c.transcribe-done.ensures.prefix p)

@@ -1,11 +1,13 @@
-use Rattle.std.proofs.Common.{◌≡◌, [], Ok, ap, sym, ◌∙◌}
-use Rattle.rds_uses.proofs.Outcomes.{written}
+use Rattle.std.proofs.Common.{◌≡◌, []}
+use Rattle.rds_tool.specs.Outcome.{outcome}
+use Rattle.rds_uses.proofs.Outcomes.{given_back, written}
 use Rattle.rds_uses.proofs.tool.written.Goals as goal
 
 pub returns-in-Ok : goal.returns-in-Ok
 returns-in-Ok g c =
-    let ok = c.in-Ok.ensures.ok in
     let held : c.new-2.result.reader.now ≡ c.args.bytes.now = cc in
-    let empty : c.new-writer.result.writer.items ≡ [] = cc in
-    let text : c.into_inner.result.items ≡ c.transcribe.new.writer.writer.items = cc in
-    let is = rw (held, empty) at ok in written _ _ is ∙ ap Ok (sym text)
+    let sink = c.new-writer.result in
+    let after = c.transcribe.new.writer in
+    let same : c.new-writer.result.begun.value.items ≡ [] = cc in
+    written _ _ (given_back (outcome c.args.job.now) c.new-2.result.reader.now c.args.bytes.now [] sink.begun.value.items sink.history.bytes after.begun.value.items after.history.bytes c.into_inner.result.items
+    held same c.new-writer.ensures.taken c.into_inner.ensures.tied c.in-Ok.ensures.ok)

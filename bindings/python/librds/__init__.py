@@ -1,0 +1,469 @@
+"""The proved decoder of Radio Data System bits, through librds.
+
+    for item in librds.decode(open("station.bin", "rb").read()):
+        print(item)
+
+Bits are packed into bytes, most significant bit first; a place is the number of a bit, from 0. A `Follower` decodes a
+stream. `items_array` and `Follower.push_array` give rows of a numpy array in place of objects. An error of the library
+is a `Refused`, with the number and name that the program prints too. Calls of several threads run at the same time.
+"""
+
+from __future__ import annotations
+
+import ctypes
+import operator
+import sys
+import threading
+from dataclasses import dataclass
+from enum import IntEnum
+from typing import TYPE_CHECKING, Any, Callable, Iterable, Iterator, Optional, Sequence, Tuple, Union, cast
+
+from . import _ffi
+from ._ffi import RdsBlock, RdsGap, RdsItem, RdsPacked, RdsRules, RdsStream, RdsTotals, RdsWords
+
+if TYPE_CHECKING:
+    import numpy
+    from numpy.typing import NDArray
+
+    ITEM: numpy.dtype[Any]
+
+__all__ = [
+    "Refused",
+    "Rules",
+    "Totals",
+    "Kind",
+    "Block",
+    "Acquired",
+    "Group",
+    "Loss",
+    "Follower",
+    "totals",
+    "decode",
+    "ITEM",
+    "items_array",
+    "remainder",
+    "correct",
+    "encode",
+    "version",
+]
+
+Buffer = Union[bytes, bytearray, memoryview, "NDArray[Any]"]
+Gaps = Iterable[Sequence[int]]
+
+_library = _ffi.load()
+_OFFSETS = (None, "A", "B", "C", "C'", "D")
+_NUMBERS = {"A": 1, "B": 2, "C": 3, "C'": 4, "D": 5, "C or C'": 6}
+_SMALL_ROOM = 64
+
+
+# tests/library/layout.py compares these with what the proved code says.
+_REASONS = {
+    1: "the burst limit is above 5",
+    2: "the reach is not 1 to 8",
+    3: "the loss is not 1 to 64",
+    4: "more bits than the bytes hold",
+    5: "more than 2^36 bits",
+    8: "out of memory",
+    15: "the share is not 1 to 64 bad blocks of as many or more, up to 64",
+    16: "gaps that are empty, out of order or past the bits",
+    64: "too little room for the items",
+    65: "a state that no call left",
+    66: "places that are no range of the recording",
+    67: "a word of more than 26 bits",
+    68: "a number that is none of an offset",
+    69: "a number that is none of a refusal",
+}
+
+
+class Refused(ValueError):
+    """An error of the library: its `number`, which never changes its meaning, its `name`, such as "TooLong", and the
+    `reason`."""
+
+    def __init__(self, number: int):
+        room = (ctypes.c_uint8 * 16)()
+        _library.rds_refusal_name(_within(number, 255), room, len(room))
+        self.number, self.name = number, bytes(room).split(b"\0")[0].decode()
+        self.reason = _REASONS.get(number, "")
+        super().__init__(f"refused {number} {self.name}: {self.reason}")
+
+    def __reduce__(self) -> tuple[type[Refused], tuple[int]]:
+        return Refused, (self.number,)
+
+
+@dataclass(frozen=True)
+class Rules:
+    """A decoder's rules: correct bursts of up to `burst` bits, 0 to 5; acquire sync by two valid blocks at most `reach`
+    blocks apart, 1 to 8; drop it after `loss` bad blocks in a row, 1 to 64, or, with `of`, after `loss` bad ones among
+    the last `of`.
+    """
+
+    burst: int = 2
+    reach: int = 3
+    loss: int = 10
+    of: int = 0
+
+
+@dataclass(frozen=True)
+class Totals:
+    """The twelve totals of a listing: blocks that are valid, corrected by the length of their burst, 1 to 5 bits, or
+    uncorrectable; bits corrected; groups, and those of which all four blocks are known; acquisitions and losses of
+    block sync."""
+
+    valid: int
+    bursts: Tuple[int, ...]
+    lost: int
+    bits: int
+    groups: int
+    complete: int
+    acquired: int
+    losses: int
+
+
+class Kind(IntEnum):
+    """The outcome of a block: not read, uncorrectable, valid or corrected."""
+
+    MISSING = 0
+    LOST = 1
+    VALID = 2
+    CORRECTED = 3
+
+
+@dataclass(frozen=True)
+class Block:
+    """A block: its offset ("A", "B", "C", "C'" or "D") and its information word, if valid or corrected, and the error
+    mask."""
+
+    kind: Kind
+    offset: Optional[str] = None
+    info: Optional[int] = None
+    burst: int = 0
+
+
+@dataclass(frozen=True)
+class Acquired:
+    """Block sync was acquired by the block of this number, 1 to 4, whose last bit is at `place`."""
+
+    place: int
+    number: int
+
+
+@dataclass(frozen=True)
+class Group:
+    """A group: the place of its first bit that was read, its four blocks, its type, 0 to 15, and version, "A" or "B",
+    if they are known, and whether blocks 2 and 3 name different versions."""
+
+    place: int
+    blocks: Tuple[Block, ...]
+    type: Optional[int]
+    version: Optional[str]
+    conflict: bool
+
+
+@dataclass(frozen=True)
+class Loss:
+    """Block sync was lost by the block whose last bit is at `place`."""
+
+    place: int
+
+
+Item = Union[Acquired, Group, Loss]
+
+
+# ---- arguments
+
+
+def _within(number: int, top: int) -> int:
+    """An integer as an argument of C. One that is not 0 to `top` becomes `top`, which the library refuses: nothing is
+    wrapped."""
+    number = operator.index(number)
+    return number if 0 <= number <= top else top
+
+
+def _place(number: int) -> int:
+    number = operator.index(number)
+    if not 0 <= number < 2**64:
+        raise OverflowError(f"{number} is no place")
+    return number
+
+
+def _bytes(data: Buffer) -> bytes:
+    """The bytes of a buffer. An integer, a text, and an array of anything but bytes are none."""
+    if type(data) is bytes:
+        return data
+    view = memoryview(cast(bytes, data))
+    if view.format not in ("B", "b", "c"):
+        raise TypeError(f"a buffer of bytes is needed, not one of format {view.format!r}")
+    return view.tobytes()
+
+
+class _Asked:
+    """The arguments that most calls share, as ctypes takes them. They keep the memory that they lend."""
+
+    def __init__(self, data: Buffer, bits: Optional[int], gaps: Gaps, rules: Rules):
+        self._kept = _bytes(data)
+        self.length = len(self._kept)
+        self.bits = self.length * 8 if bits is None else _place(bits)
+        places = [RdsGap(*map(_place, gap)) for gap in _pairs(gaps)]
+        numbers = (_within(it, 2**32 - 1) for it in (rules.burst, rules.reach, rules.loss, rules.of))
+        lent = ctypes.cast(ctypes.c_char_p(self._kept), ctypes.POINTER(ctypes.c_uint8))
+        self.bytes: tuple[Any, ...] = (lent, self.length)
+        self.terms: tuple[Any, ...] = ((RdsGap * max(1, len(places)))(*places), len(places), RdsRules(*numbers))
+
+    def recording(self) -> tuple[Any, ...]:
+        return (*self.bytes, self.bits, *self.terms)
+
+
+def _pairs(gaps: Gaps) -> Iterator[Sequence[int]]:
+    for gap in gaps:
+        if len(gap) != 2:
+            raise ValueError(f"a gap is two places, not {gap!r}")
+        yield gap
+
+
+def _check(number: int) -> None:
+    if number:
+        raise Refused(number)
+
+
+# ---- items
+
+
+def _item_dtype() -> numpy.dtype[Any]:
+    import numpy
+
+    names, formats, offsets = ["place"], ["<u8"], [0]
+    for block in range(4):
+        names += [f"{field}{block + 1}" for field in ("burst", "info", "kind", "offset")]
+        formats += ["<u4", "<u2", "u1", "u1"]
+        offsets += [8 + 8 * block, 12 + 8 * block, 14 + 8 * block, 15 + 8 * block]
+    names += ["what", "number", "version", "conflict"]
+    formats += ["u1"] * 4
+    offsets += [40, 41, 42, 43]
+    return numpy.dtype({"names": names, "formats": formats, "offsets": offsets, "itemsize": 48})
+
+
+def __getattr__(name: str) -> Any:
+    # numpy is needed only by those who ask for arrays.
+    if name != "ITEM":
+        raise AttributeError(f"module {__name__!r} has no attribute {name!r}")
+    globals()["ITEM"] = _item_dtype()
+    return globals()["ITEM"]
+
+
+def _array_room(count: int) -> tuple[NDArray[Any], Any]:
+    import numpy
+
+    room = numpy.empty(max(1, count), sys.modules[__name__].ITEM)
+    return room, room.ctypes.data_as(ctypes.POINTER(RdsItem))
+
+
+def _object_room(count: int) -> tuple[Any, Any]:
+    room = (RdsItem * max(1, count))()
+    return room, room
+
+
+def _fill(rooms: Callable[[int], tuple[Any, Any]], first: int, call: Callable[[Any, int, Any], int]) -> Any:
+    """The items that a call writes: a second call has the room that the first one asked for."""
+    count = ctypes.c_uint64(first)
+    while True:
+        size = count.value
+        room, lent = rooms(size)
+        number = call(lent, size, count)
+        if number != _SMALL_ROOM:
+            _check(number)
+            return room[: count.value]
+
+
+def _item(it: RdsItem) -> Item:
+    if it.what == 1:
+        return Acquired(it.place, it.number)
+    if it.what == 3:
+        return Loss(it.place)
+    blocks = tuple(_block(block) for block in it.blocks)
+    return Group(
+        it.place, blocks, None if it.number == 255 else it.number, (None, "A", "B", None)[it.version], bool(it.conflict)
+    )
+
+
+def _block(it: RdsBlock) -> Block:
+    known = it.kind >= Kind.VALID
+    return Block(Kind(it.kind), _OFFSETS[it.offset], it.info if known else None, it.burst)
+
+
+def _totals(found: RdsTotals) -> Totals:
+    return Totals(
+        found.valid,
+        tuple(found.bursts),
+        found.lost,
+        found.bits,
+        found.groups,
+        found.complete,
+        found.acquired,
+        found.losses,
+    )
+
+
+# ---- recordings
+
+
+def totals(data: Buffer, bits: Optional[int] = None, gaps: Gaps = (), rules: Rules = Rules()) -> Totals:
+    """The totals of a recording: of its first `bits` bits, by default all. The bits at the places `gaps`, each (begin,
+    end), mean nothing."""
+    found = RdsTotals()
+    _check(_library.rds_totals(*_Asked(data, bits, gaps, rules).recording(), found))
+    return _totals(found)
+
+
+def _items(rooms: Callable[[int], tuple[Any, Any]], asked: _Asked) -> Any:
+    """The room is by the bytes: a claim of more bits than they hold is refused, and must not take memory first."""
+    given = asked.recording()
+    return _fill(
+        rooms, max(64, asked.length // 10), lambda room, size, count: int(_library.rds_items(*given, room, size, count))
+    )
+
+
+def decode(data: Buffer, bits: Optional[int] = None, gaps: Gaps = (), rules: Rules = Rules()) -> Iterator[Item]:
+    """The items of a recording, in order of place: `Acquired`, `Group` and `Loss`."""
+    return map(_item, _items(_object_room, _Asked(data, bits, gaps, rules)))
+
+
+def items_array(data: Buffer, bits: Optional[int] = None, gaps: Gaps = (), rules: Rules = Rules()) -> NDArray[Any]:
+    """The same as a numpy array of the dtype `ITEM`, a row per item, which pandas.DataFrame takes.
+
+    `what` is 1 for an acquisition, 2 for a group and 3 for a loss. `number` is the number of the block that acquired,
+    or the group type, 255 if it is not known. `version` is 1 for A, 2 for B and 3 if it is not known. For block N of a
+    group, `kindN` is its `Kind`, `offsetN` is 1 to 5 for A, B, C, C' and D, `infoN` its information word and `burstN`
+    the error mask.
+    """
+    rows: NDArray[Any] = _items(_array_room, _Asked(data, bits, gaps, rules))
+    return rows
+
+
+# ---- streams
+
+
+class Follower:
+    """A stream that is decoded chunk by chunk. However it is cut, the items of all chunks and the group at the end are
+    those that `decode` gives of the whole.
+
+        follower = librds.Follower()
+        for chunk in chunks:
+            for item in follower.push(chunk):
+                print(item)
+        group, totals = follower.finish()
+
+    Gaps are places in the stream, and may lie ahead. `stream` continues a stream from the bytes that another Follower
+    with the same rules and gaps gave of it. Threads may share a Follower: each call is made whole before the next one
+    begins.
+    """
+
+    def __init__(self, rules: Rules = Rules(), gaps: Gaps = (), stream: bytes = bytes(160)):
+        if len(_bytes(stream)) != ctypes.sizeof(RdsStream):
+            raise ValueError("a stream is 160 bytes")
+        self._rules, self._gaps, self._stream = rules, list(gaps), RdsStream.from_buffer_copy(stream)
+        self._lock = threading.Lock()
+        self.finish()
+
+    def __reduce__(self) -> tuple[type[Follower], tuple[Rules, Gaps, bytes]]:
+        return Follower, (self._rules, self._gaps, self.stream)
+
+    def push(self, data: Buffer) -> list[Item]:
+        """The items that the next bytes complete. After an error the stream is unchanged."""
+        return [_item(it) for it in self._push(_object_room, data)]
+
+    def push_array(self, data: Buffer) -> NDArray[Any]:
+        """The same as rows of the dtype `ITEM`, as `items_array` gives them."""
+        rows: NDArray[Any] = self._push(_array_room, data)
+        return rows
+
+    def finish(self) -> tuple[Optional[Group], Totals]:
+        """The group in progress, as far as it was read, and the totals of everything heard, if the stream ended here.
+        The stream can go on."""
+        items, found = self._finish(_object_room, b"", None)
+        group = _item(items[0]) if items else None
+        assert group is None or isinstance(group, Group)
+        return group, found
+
+    def finish_with(self, data: Buffer, bits: Optional[int] = None) -> tuple[list[Item], Totals]:
+        """The items that the first `bits` bits of these bytes complete, by default all, then the group in progress, and
+        the totals of everything heard and of these bits, if the stream ended with them: inside a byte, for example. The
+        stream can go on.
+        """
+        items, found = self._finish(_object_room, data, bits)
+        return [_item(it) for it in items], found
+
+    def finish_array(self, data: Buffer = b"", bits: Optional[int] = None) -> tuple[NDArray[Any], Totals]:
+        """The same with the items as rows of the dtype `ITEM`."""
+        rows, found = self._finish(_array_room, data, bits)
+        return rows, found
+
+    def _push(self, rooms: Callable[[int], tuple[Any, Any]], data: Buffer) -> Any:
+        asked = _Asked(data, None, self._gaps, self._rules)
+        given = (*asked.bytes, *asked.terms, self._stream)
+        with self._lock:
+            return _fill(
+                rooms,
+                8 + asked.length // 4,
+                lambda room, size, count: int(_library.rds_push(*given, room, size, count)),
+            )
+
+    def _finish(self, rooms: Callable[[int], tuple[Any, Any]], data: Buffer, bits: Optional[int]) -> tuple[Any, Totals]:
+        asked, found = _Asked(data, bits, self._gaps, self._rules), RdsTotals()
+        given = (*asked.recording(), self._stream)
+        with self._lock:
+            items = _fill(
+                rooms,
+                8 + asked.length // 4,
+                lambda room, size, count: int(_library.rds_finish_with(*given, room, size, count, found)),
+            )
+        return items, _totals(found)
+
+    @property
+    def place(self) -> int:
+        """How many bits were heard."""
+        with self._lock:
+            return int(self._stream.place)
+
+    @property
+    def stream(self) -> bytes:
+        """What is known of the stream: numbers, which may be stored, and are equal if the same bytes were heard."""
+        with self._lock:
+            return bytes(self._stream)
+
+
+# ---- single blocks and groups
+
+
+def remainder(word: int) -> int:
+    """The remainder of a 26-bit word by the generator of the block code, below 1024."""
+    found = ctypes.c_uint16()
+    _check(_library.rds_remainder(_within(word, 2**32 - 1), found))
+    return found.value
+
+
+def correct(word: int, offset: str, limit: int = 2) -> Block:
+    """A 26-bit word read as the block with this offset, "A" to "D" or "C or C'", with a burst of up to `limit` bits
+    corrected."""
+    found = RdsBlock()
+    _check(_library.rds_correct(_within(word, 2**32 - 1), _NUMBERS.get(offset, 0), _within(limit, 255), found))
+    return _block(found)
+
+
+def _words(group: Sequence[int]) -> RdsWords:
+    words = [operator.index(it) for it in group]
+    if len(words) != 4 or not all(0 <= it < 2**16 for it in words):
+        raise ValueError(f"a group is four 16-bit words, not {group!r}")
+    return RdsWords((ctypes.c_uint16 * 4)(*words))
+
+
+def encode(groups: Iterable[Sequence[int]]) -> bytes:
+    """The bits of groups as they are sent, from the information words of their four blocks: 13 bytes per group."""
+    words = [_words(group) for group in groups]
+    room = (RdsPacked * max(1, len(words)))()
+    _check(_library.rds_encode((RdsWords * max(1, len(words)))(*words), len(words), room, len(words)))
+    return bytes(room)[: 13 * len(words)]
+
+
+def version() -> tuple[int, int, int]:
+    """The version of the library."""
+    return _ffi.version_of(_library)

@@ -1,0 +1,166 @@
+-- From devices with no history to those that a run leaves.
+use Rattle.std.proofs.Common.{◌++◌, ◌*◌, ◌≤◌, ◌≡◌, ◌≢◌, ◌⊎◌, ◌∙◌, [], ℕ, ap, arith, Bool, Err, false, inl, inr, List, None, Ok, Option, refl, Result, Some, subst, sym, true}
+use Rattle.std.specs.Prelude.{IfErr, OnOk}
+use Rattle.rds_live.specs.Live.{Terms}
+use Rattle.rds_rows.specs.declared.sink.Sink.{Ghosts as Sink}
+use Rattle.rds_sync.specs.declared.error.SyncError.{SyncError}
+use Rattle.rds_sync.specs.declared.error.SyncError.TheVariants as sync
+use Rattle.rds_tool.specs.Refusals.{of_sync}
+use Rattle.rds_tool.specs.Following.{AllCount, BreaksOff, IsHeardOut, listed}
+use Rattle.rds_tool.specs.History.{Gave}
+use Rattle.rds_tool.specs.Outcome.{IsOutside, Writes, WritesPrefix, outcome}
+use Rattle.rds_tool.specs.Tasks.{task_of}
+use Rattle.rds_tool.specs.Transcribed.{IsTranscribed}
+use Rattle.rds_tool.specs.declared.devices.Source.{Ghosts as Source}
+use Rattle.rds_tool.specs.declared.error.ToolError.{ToolError}
+use Rattle.rds_tool.specs.declared.error.ToolError.TheVariants.{BadGaps, BitsPastBytes, BurstRange, LossRange, OutOfMemory, ReachRange, Read, ShareRange, TooLong, Write}
+use Rattle.rds_tool.specs.declared.job.Job.{Job}
+use Rattle.rds.specs.Session.{IsDone, IsFollowed}
+
+-- what was given is all that was given since the reader was made
+gave_all : (given' : List ℕ) (P : List ℕ → Type 0) → Gave [] given' P → P given'
+gave_all given' P (bytes, gave, p) = subst P (sym gave) p
+
+text_of : (r : Result (List ℕ) ToolError) (taken : List ℕ) → Writes (Some []) (Some taken) r → r ≡ Ok taken
+text_of (Ok text) taken wrote = ap (λ t. Ok t) (sym wrote)
+text_of (Err e) taken wrote = absurd wrote
+
+prefix_of : (r : Result (List ℕ) ToolError) (taken : List ℕ) → WritesPrefix (Some []) (Some taken) r → (rest : List ℕ) × (r ≡ Ok (taken ++ rest))
+prefix_of (Ok text) taken (prefix, rest, split, wrote) = (rest, ap (λ t. Ok t) (split ∙ ap (λ p. p ++ rest) (sym wrote)))
+prefix_of (Err e) taken wrote = absurd wrote
+
+wrote_all : (answer : Result (Unit {0}) ToolError) (job : Job) (given' taken : List ℕ)
+    → OnOk answer (Gave [] given' (λ bytes. Writes (Some []) (Some taken) (outcome job bytes))) → OnOk answer (outcome job given' ≡ Ok taken)
+wrote_all (Ok x) job given' taken h = text_of (outcome job given') taken (gave_all given' (λ bytes. Writes (Some []) (Some taken) (outcome job bytes)) h)
+wrote_all (Err e) job given' taken h = tt
+
+refused_by : (answer : Result (Unit {0}) ToolError) (job : Job) (given' : List ℕ) (ended : Bool)
+    → IfErr answer (λ error. IsOutside error ⊎ Gave [] given' (λ bytes. (outcome job bytes ≡ Err error) × ((task_of job ≡ Err error) ⊎ (ended ≡ true))))
+    → IfErr answer (λ error. IsOutside error ⊎ ((outcome job given' ≡ Err error) × ((task_of job ≡ Err error) ⊎ (ended ≡ true))))
+refused_by (Ok x) job given' ended h = tt
+refused_by (Err e) job given' ended (inl outside) = inl outside
+refused_by (Err e) job given' ended (inr gave) = inr (gave_all given' (λ bytes. (outcome job bytes ≡ Err e) × ((task_of job ≡ Err e) ⊎ (ended ≡ true))) gave)
+
+module _ {R W : Type 0} (source : Source R) (sink : Sink W) (job : Job) (reader reader' : R) (writer writer' : W) (answer : Result (Unit {0}) ToolError) where
+  untouched_is : (taken : List ℕ) → sink.contents writer ≡ Some [] → sink.contents writer' ≡ Some taken → writer' ≡ writer → taken ≡ []
+  untouched_is taken none took same =
+      let both : Some taken ≡ Some [] = sym took ∙ (ap (λ w. sink.contents w) same ∙ none) in cc both
+
+  untouched_of : (r : Result (Unit {0}) ToolError) (taken : List ℕ) → sink.contents writer ≡ Some [] → sink.contents writer' ≡ Some taken
+      → IfErr r (λ error. error ≢ Write → writer' ≡ writer) → IfErr r (λ error. error ≢ Write → taken ≡ [])
+  untouched_of (Ok x) taken none took h = tt
+  untouched_of (Err e) taken none took h = λ other. untouched_is taken none took (h other)
+
+  -- a transcription between devices that were just made
+  job_done_at : IsTranscribed source sink job reader reader' writer writer' answer → source.given reader ≡ [] → sink.contents writer ≡ Some []
+      → (given' taken : List ℕ) → source.given reader' ≡ given' → sink.contents writer' ≡ Some taken → IsDone given' (source.has_ended reader') taken (sink.is_flushed writer') answer job
+  job_done_at t fresh none given' taken gave took =
+      let heard : OnOk answer (Gave [] given' (λ bytes. Writes (Some []) (Some taken) (outcome job bytes))) =
+      subst (λ o. OnOk answer (Gave [] given' (λ bytes. Writes o (Some taken) (outcome job bytes)))) none
+      (subst (λ n. OnOk answer (Gave [] given' (λ bytes. Writes (sink.contents writer) n (outcome job bytes)))) took
+      (subst (λ g. OnOk answer (Gave [] g (λ bytes. Writes (sink.contents writer) (sink.contents writer') (outcome job bytes)))) gave
+      (subst (λ g. OnOk answer (Gave g (source.given reader') (λ bytes. Writes (sink.contents writer) (sink.contents writer') (outcome job bytes)))) fresh t.heard))) in
+      let kinds =
+      subst (λ g. IfErr answer (λ error. IsOutside error ⊎ Gave [] g (λ bytes. (outcome job bytes ≡ Err error) × ((task_of job ≡ Err error) ⊎ (source.has_ended reader' ≡ true))))) gave
+      (subst (λ g. IfErr answer (λ error. IsOutside error ⊎ Gave g (source.given reader') (λ bytes. (outcome job bytes ≡ Err error) × ((task_of job ≡ Err error) ⊎ (source.has_ended reader' ≡ true))))) fresh t.refused_by) in
+      record {
+        text = wrote_all answer job given' taken heard;
+        end = t.ended;
+        flush = t.flushed;
+        refused = refused_by answer job given' (source.has_ended reader') kinds;
+        untouched = untouched_of answer taken none took t.untouched;
+        prefix = λ p.
+            let broke : Gave [] given' (λ bytes. WritesPrefix (Some []) (Some taken) (outcome job bytes)) =
+            subst (λ o. Gave [] given' (λ bytes. WritesPrefix o (Some taken) (outcome job bytes))) none
+            (subst (λ n. Gave [] given' (λ bytes. WritesPrefix (sink.contents writer) n (outcome job bytes))) took
+            (subst (λ g. Gave [] g (λ bytes. WritesPrefix (sink.contents writer) (sink.contents writer') (outcome job bytes))) gave
+            (subst (λ g. Gave g (source.given reader') (λ bytes. WritesPrefix (sink.contents writer) (sink.contents writer') (outcome job bytes))) fresh (t.broke_off p)))) in
+            prefix_of (outcome job given') taken (gave_all given' (λ bytes. WritesPrefix (Some []) (Some taken) (outcome job bytes)) broke);
+      }
+
+  -- and left as these
+  pub job_done : IsTranscribed source sink job reader reader' writer writer' answer → source.given reader ≡ [] → sink.contents writer ≡ Some []
+      → (given' : List ℕ) (ended : Bool) (taken : List ℕ) (flushed : Bool)
+      → source.given reader' ≡ given' → source.has_ended reader' ≡ ended → sink.contents writer' ≡ Some taken → sink.is_flushed writer' ≡ flushed
+      → IsDone given' ended taken flushed answer job
+  job_done t fresh none given' ended taken flushed gave done took flush =
+      subst (λ x. IsDone given' x taken flushed answer job) done
+      (subst (λ x. IsDone given' (source.has_ended reader') taken x answer job) flush (job_done_at t fresh none given' taken gave took))
+
+-- a stream that was followed between devices that were just made
+module _ (terms : Terms) (bits : Option ℕ) (given' taken : List ℕ) (ended flushed : Bool) where
+  followed_text : (answer : Result (Unit {0}) ToolError)
+      → OnOk answer (Gave [] given' (λ bytes. IsHeardOut bits ended bytes × Writes (Some []) (Some taken) (listed terms bits bytes)))
+      → OnOk answer (listed terms bits given' ≡ Ok taken)
+  followed_text (Ok x) h =
+      text_of (listed terms bits given') taken (gave_all given' (λ bytes. IsHeardOut bits ended bytes × Writes (Some []) (Some taken) (listed terms bits bytes)) h).1
+  followed_text (Err e) h = tt
+
+  followed_end : (answer : Result (Unit {0}) ToolError)
+      → OnOk answer (Gave [] given' (λ bytes. IsHeardOut bits ended bytes × Writes (Some []) (Some taken) (listed terms bits bytes))) → OnOk answer (IsHeardOut bits ended given')
+  followed_end (Ok x) h = (gave_all given' (λ bytes. IsHeardOut bits ended bytes × Writes (Some []) (Some taken) (listed terms bits bytes)) h).0
+  followed_end (Err e) h = tt
+
+  pub stream_followed : (given : List ℕ) (old : Option (List ℕ)) (answer : Result (Unit {0}) ToolError) → given ≡ [] → old ≡ Some []
+      → OnOk answer (Gave given given' (λ bytes. IsHeardOut bits ended bytes × Writes old (Some taken) (listed terms bits bytes)))
+      → OnOk answer (flushed ≡ true) → IfErr answer (BreaksOff terms bits given given' ended old (Some taken) flushed)
+      → IsFollowed given' ended taken flushed answer terms bits
+  stream_followed given old answer fresh none heard flush broke =
+      let all : OnOk answer (Gave [] given' (λ bytes. IsHeardOut bits ended bytes × Writes (Some []) (Some taken) (listed terms bits bytes))) =
+      subst (λ o. OnOk answer (Gave [] given' (λ bytes. IsHeardOut bits ended bytes × Writes o (Some taken) (listed terms bits bytes)))) none
+      (subst (λ g. OnOk answer (Gave g given' (λ bytes. IsHeardOut bits ended bytes × Writes old (Some taken) (listed terms bits bytes)))) fresh heard) in
+      record {
+        text = followed_text answer all;
+        end = followed_end answer all;
+        flush = flush;
+        broke_off = subst (λ o. IfErr answer (BreaksOff terms bits [] given' ended o (Some taken) flushed)) none
+            (subst (λ g. IfErr answer (BreaksOff terms bits g given' ended old (Some taken) flushed)) fresh broke);
+      }
+
+-- rules that are refused, before anything is read
+all_none : (bits : Option ℕ) → AllCount bits []
+all_none None = tt
+all_none (Some n) = let e : 8 * 0 ≤ n = omega arith in e
+
+none_of : (e k : ToolError) → k ≡ e → ((k ≡ Read) ⊎ ((k ≡ Write) ⊎ ((k ≡ TooLong) ⊎ ((k ≡ BitsPastBytes) ⊎ (k ≡ BadGaps)))))
+    → e ≢ Read → e ≢ Write → e ≢ TooLong → e ≢ BitsPastBytes → e ≢ BadGaps → ⊥
+none_of e k is (inl p) a b c d f = a (sym is ∙ p)
+none_of e k is (inr (inl p)) a b c d f = b (sym is ∙ p)
+none_of e k is (inr (inr (inl p))) a b c d f = c (sym is ∙ p)
+none_of e k is (inr (inr (inr (inl p)))) a b c d f = d (sym is ∙ p)
+none_of e k is (inr (inr (inr (inr p)))) a b c d f = f (sym is ∙ p)
+
+is_of_rules : (x : SyncError) (k : ToolError) → (let r : ToolError = of_sync x in r ≡ k) → ((k ≡ Read) ⊎ ((k ≡ Write) ⊎ ((k ≡ TooLong) ⊎ ((k ≡ BitsPastBytes) ⊎ (k ≡ BadGaps))))) → ⊥
+is_of_rules sync.BurstRange k is among = none_of BurstRange k (sym is) among (λ p. cc p) (λ p. cc p) (λ p. cc p) (λ p. cc p) (λ p. cc p)
+is_of_rules sync.ReachRange k is among = none_of ReachRange k (sym is) among (λ p. cc p) (λ p. cc p) (λ p. cc p) (λ p. cc p) (λ p. cc p)
+is_of_rules sync.LossRange k is among = none_of LossRange k (sym is) among (λ p. cc p) (λ p. cc p) (λ p. cc p) (λ p. cc p) (λ p. cc p)
+is_of_rules sync.OutOfMemory k is among = none_of OutOfMemory k (sym is) among (λ p. cc p) (λ p. cc p) (λ p. cc p) (λ p. cc p) (λ p. cc p)
+is_of_rules sync.ShareRange k is among = none_of ShareRange k (sym is) among (λ p. cc p) (λ p. cc p) (λ p. cc p) (λ p. cc p) (λ p. cc p)
+
+pub stream_refused : (terms : Terms) (bits : Option ℕ) (x : SyncError) → IsFollowed [] false [] false (Err (of_sync x)) terms bits
+stream_refused terms bits x =
+    let not : (k : ToolError) → ((k ≡ Read) ⊎ ((k ≡ Write) ⊎ ((k ≡ TooLong) ⊎ ((k ≡ BitsPastBytes) ⊎ (k ≡ BadGaps))))) → (let r : ToolError = of_sync x in r ≡ k) → ⊥ = λ k among is. is_of_rules x k is among in
+    record {
+      text = tt;
+      end = tt;
+      flush = tt;
+      broke_off = record {
+        bytes = [];
+        gave = refl;
+        prompt = λ p. absurd (not Read (inl refl) p);
+        between = λ _. ([], [], omega arith, all_none bits, refl, refl);
+        within = λ p. absurd (not Write (inr (inl refl)) p);
+        too_long = λ p. absurd (not TooLong (inr (inr (inl refl))) p);
+        past = λ p. absurd (not BitsPastBytes (inr (inr (inr (inl refl)))) p);
+        bad_gaps = λ p. absurd (not BadGaps (inr (inr (inr (inr refl)))) p);
+      };
+    }
+
+pub stream_refused_by : (terms : Terms) (bits : Option ℕ) (x : SyncError) (given : List ℕ) (ended : Bool) (taken : List ℕ) (flushed : Bool) (answer : Result (Unit {0}) ToolError)
+    → answer ≡ Err (of_sync x) → given ≡ [] → ended ≡ false → taken ≡ [] → flushed ≡ false → IsFollowed given ended taken flushed answer terms bits
+stream_refused_by terms bits x given ended taken flushed answer a g e t f =
+    subst (λ y. IsFollowed y ended taken flushed answer terms bits) (sym g)
+    (subst (λ y. IsFollowed [] y taken flushed answer terms bits) (sym e)
+    (subst (λ y. IsFollowed [] false y flushed answer terms bits) (sym t)
+    (subst (λ y. IsFollowed [] false [] y answer terms bits) (sym f)
+    (subst (λ y. IsFollowed [] false [] false y terms bits) (sym a) (stream_refused terms bits x)))))

@@ -1,0 +1,578 @@
+-- How many error masks of two, three and four bit errors miscorrect a block: the remainder and the span of the mask decide. The counts are
+-- computed, mask by mask.
+use Rattle.std.proofs.Common.{◌≡◌, ◌≢◌, ◌⊎◌, ℕ, zero, suc, ◌+◌, ◌-◌, ◌^◌, ◌<◌, ◌≤◌, List, [], ◌∷◌, ◌++◌, length, get_or, map, Bool, true, false, cond, not, ◌&&◌, refl, sym, ap, ap₂, ◌∙◌, arith, inl, inr, eqb, leb, subst, bit_xor, lit<}
+use Rattle.std.specs.Int.{bit_at}
+use Rattle.std.specs.List.{filter}
+use Rattle.std.specs.Int.Bits.{xor_assoc, xor_self, xor_zero_r}
+use Rattle.std.specs.Int.Count.{count_leading_zeros, count_trailing_zeros, ones, ones-le}
+use Rattle.std.proofs.lemmas.List.{get_or_append_left}
+use Rattle.std.proofs.lemmas.Nat.{xor_comm, xor_lt}
+use Rattle.std.proofs.lemmas.Bool.{cases_Bool, cases_eq, cases_lt, eq-eqb, ne_eqb, le-leb, leb-true}
+use Rattle.rds_code.specs.declared.offset.Offset.{Offset}
+use Rattle.rds_code.specs.declared.offset.Offset.TheVariants.{A, B, C, Cx, D}
+use Rattle.rds_code.specs.declared.reading.Wanted.{Wanted}
+use Rattle.rds_code.specs.declared.reading.Wanted.TheVariants.{Either}
+use Rattle.rds_code.specs.declared.reading.Reading.{Reading}
+use Rattle.rds_code.specs.declared.reading.Reading.TheVariants.{Corrected}
+use Rattle.rds_code.specs.Remainder.{rem}
+use Rattle.rds_code.specs.Offsets.{word, number, offset_of}
+use Rattle.rds_code.specs.Bursts.{span, IsBurst, bursts}
+use Rattle.rds_code.specs.Reading.{information, IsValid, wanted_offsets, corrections, by_only, reading}
+use Rattle.rds_code.specs.Encoding.{IsBlockOf}
+use Rattle.rds_code.specs.Correction.{alone, other_version}
+use Rattle.rds_code.specs.Detection.{error_masks, is_miscorrection, miscorrections, miscorrected, miscorrected_third, miscorrected_either, CountsAllMiscorrections}
+use Rattle.rds_code.proofs.RemainderLemmas.{twice}
+use Rattle.rds_code.proofs.Membership.{is_among, all_below, passes_below, among_map, from_map, filter_agree}
+use Rattle.rds_code.proofs.BurstLemmas.{burst_is_one, longer, limit_is_among, among_limit_is}
+use Rattle.rds_code.proofs.CorrectionLemmas.{undone, damaged, became, word_offset, alone_wanted, own_or_other, other_number}
+use Rattle.rds_code.proofs.ReadingLemmas.{NoneFits, OneFits, fitting, fits_or_not, corrections_none, corrections_one, corrections_two, fits_by_remainder, wanted_remainder, wanted_remainder-lt, reads_valid, reads_corrected, valid_or_not, only_A, only_B, only_D, wanted_1, wanted_2, wanted_4}
+use Rattle.rds_code.proofs.EncodingLemmas.{encoded_only}
+use Rattle.rds_code.proofs.ErrorMasks.{masks_are}
+
+-- ---- the remainders of the bursts, as the ones of a number
+
+-- digit r is set if r is the remainder of a burst within the limit
+near : ℕ → ℕ
+near zero = 0
+near (suc zero) = 0x800080000000000000050000220000000000000000000808000000800000008000000000000000000000000000000000000000000000000100000000000000000300000000000000000000000000000000000000000000010000000010000000000000000000000100804000000000010080000100010116
+near (suc (suc zero)) = 0x82008000000000000005000022000000000000000000080900010080000009800000000000010000000000000000000000000000000000010000000000000000030000000000000101000010000001000000000000000001000000001000000110040010000000010080400142040001008182010101115e
+near (suc (suc (suc zero))) = 0x20000002010000008200900000000101000500002200000000001004000008090001009200000980020002004001000108000000000000080000000000100001000010000040001103000000004200010104001000008101800000000000040100400805100008011204001100000021088340014205000101818301111155fe
+near (suc (suc (suc (suc zero)))) = 0x2000004201124805820090000041016110050000220000010210100440000809000100920000098106280240462100010c2400000000100d22109020081200010008148300400919430000010c428001010400112008a101a200004304400401006108159009280112050011000928210987410143050101139193115555fffe
+near (suc (suc (suc (suc (suc zero))))) = 0x662408d301d26905820090090851056192052409261009810690d24540022809820501930000498506684241566380010ea694416118386d6310922d08b60441a20d1c9300410f39432124112ccb8001031520932889e901a269944b9443062903650935912d290117050191096969231b9753117315199157d5d775fffffffe
+near (suc (suc (suc (suc (suc (suc limit)))))) = 0
+
+is_near : ℕ → ℕ → Bool
+unfolding near
+is_near limit r = eqb (bit_at (near limit) r) 1
+
+same : Bool → Bool → Bool
+same a b = cond a b (not b)
+
+same_is : (a b : Bool) → same a b ≡ true → a ≡ b
+unfolding same
+same_is true b h = sym h
+same_is false true h = h
+same_is false false h = refl
+
+agrees : ℕ → List ℕ → ℕ → Bool
+agrees limit rs r = same (is_near limit r) (is_among r rs)
+
+all_agree : all_below (λ limit. all_below (agrees limit (map rem (bursts limit))) 1024) 6 ≡ true
+unfolding agrees is_near near same rem
+all_agree = refl
+
+near_is : (limit r : ℕ) → limit ≤ 5 → r < 1024 → is_near limit r ≡ is_among r (map rem (bursts limit))
+unfolding agrees
+near_is limit r few small =
+    let row = passes_below (λ n. all_below (agrees n (map rem (bursts n))) 1024) 6 limit all_agree (omega (arith, few)) in
+    same_is (is_near limit r) (is_among r (map rem (bursts limit))) (passes_below (agrees limit (map rem (bursts limit))) 1024 r row small)
+
+-- the damaged block v needs this remainder of a burst that makes of it one with offset o
+near_none : (limit v : ℕ) (o : Offset) → limit ≤ 5 → bit_xor (rem v) (word o) < 1024 → NoneFits limit v o → is_near limit (bit_xor (rem v) (word o)) ≡ false
+near_none limit v o few small h =
+    let r : ℕ = bit_xor (rem v) (word o) in
+    elim (cases_Bool (is_among r (map rem (bursts limit)))) [
+      | inl found ↦
+          let from = from_map rem r (bursts limit) found in
+          absurd (h.none from.0 (among_limit_is limit from.0 few from.1) (fits_by_remainder v from.0 o from.2))
+      | inr none ↦ near_is limit r few small ∙ none
+    ]
+
+near_one : (limit v : ℕ) (o : Offset) (d : ℕ) → limit ≤ 5 → bit_xor (rem v) (word o) < 1024 → OneFits limit v o d → is_near limit (bit_xor (rem v) (word o)) ≡ true
+near_one limit v o d few small h =
+    near_is limit (bit_xor (rem v) (word o)) few small
+    ∙ ap (λ (r : ℕ). is_among r (map rem (bursts limit))) (sym (wanted_remainder v d o h.fits))
+    ∙ among_map rem d (bursts limit) (limit_is_among limit d few h.burst)
+
+-- ---- the tests of a mask, by its remainder and its span
+
+-- one offset is wanted: the mask makes no valid block, its remainder is that of a burst, and it is no such burst itself. s is the remainder
+-- that makes of block 3 a valid one of the other version, and 0 for the other blocks
+own_test : ℕ → ℕ → ℕ → ℕ → Bool
+own_test s limit r n = cond (eqb r s) false (cond (is_near limit r) (not (leb n limit)) false)
+
+one_of : Bool → Bool → Bool → Bool
+one_of true true another = false
+one_of true false another = another
+one_of false b another = b
+
+-- C and C' are wanted: a burst fits one of them alone
+either_test : ℕ → ℕ → ℕ → Bool
+either_test limit r n = cond (eqb r 0) false (cond (eqb r 0x238) false (one_of (is_near limit r) (is_near limit (bit_xor r 0x238)) (not (leb n limit))))
+
+near_zero : (limit : ℕ) → is_near limit 0 ≡ false
+unfolding is_near near
+near_zero zero = refl
+near_zero (suc zero) = refl
+near_zero (suc (suc zero)) = refl
+near_zero (suc (suc (suc zero))) = refl
+near_zero (suc (suc (suc (suc zero)))) = refl
+near_zero (suc (suc (suc (suc (suc zero))))) = refl
+near_zero (suc (suc (suc (suc (suc (suc limit)))))) = refl
+
+-- ---- the reading of a damaged block
+
+mis_own : (o : Offset) (info j d : ℕ) → is_miscorrection o info (Corrected o j d) ≡ not (eqb j info)
+mis_own o info j d = ap (λ (b : Bool). not (b && eqb j info)) (eq-eqb (word o) (word o) refl)
+
+module _ (w info e limit : ℕ) (o : Offset) (h : IsBlockOf w info o) (inside : e < 2 ^ 26) (few : limit ≤ 5) where
+  abbrev v : ℕ
+  v = bit_xor w e
+
+  v-lt : v < 2 ^ 26
+  v-lt = xor_lt 26 w e h.is_block inside
+
+  -- the remainder of a burst that makes of it a block with its own offset again
+  own_remainder : bit_xor (rem v) (word o) ≡ rem e
+  own_remainder = xor_comm (rem v) (word o) ∙ ap (bit_xor (word o)) (damaged w info e o h) ∙ twice (word o) (rem e)
+
+  -- such a burst gives the information word that was sent if it is the mask
+  told : (d : ℕ) → IsBurst limit d → rem (bit_xor v d) ≡ word o → 0 < e → eqb (information (bit_xor v d)) info ≡ leb (span e) limit
+  told d burst fits pos =
+      let same_rem : rem d ≡ rem e = wanted_remainder v d o fits ∙ own_remainder in
+      elim (cases_Bool (leb (span e) limit)) [
+        | inl short ↦
+            let mask : IsBurst limit e = record { is_block = inside; not_zero = pos; short = leb-true (span e) limit short } in
+            let is : d ≡ e = burst_is_one d e (longer limit d few burst) (longer limit e few mask) same_rem in
+            eq-eqb (information (bit_xor v d)) info (ap (λ (x : ℕ). information (bit_xor v x)) is ∙ ap information (undone w e) ∙ h.above) ∙ sym short
+        | inr long ↦
+            ne_eqb (information (bit_xor v d)) info (λ above.
+            let block : IsBlockOf (bit_xor v d) info o = record { is_block = xor_lt 26 v d v-lt burst.is_block; above = above; remainder = fits } in
+            let whole : bit_xor v d ≡ w = encoded_only (bit_xor v d) info o block ∙ sym (encoded_only w info o h) in
+            let is : d ≡ e = sym (twice v d) ∙ ap (bit_xor v) whole ∙ xor_comm v w ∙ twice w e in
+            let no : false ≡ true = sym long ∙ ap (λ (x : ℕ). leb (span x) limit) (sym is) ∙ le-leb (span d) limit burst.short in
+            cc no)
+            ∙ sym long
+      ]
+
+  -- one offset is wanted
+  by_own : (x : ℕ) (wanted : Wanted) → wanted_offsets x wanted ≡ o ∷ [] → ((p : Offset) → IsValid v x p → ⊥) → 0 < e
+      → is_miscorrection o info (reading v x wanted limit) ≡ cond (is_near limit (rem e)) (not (leb (span e) limit)) false
+  by_own x wanted list not_valid pos =
+      let small : bit_xor (rem v) (word o) < 1024 = wanted_remainder-lt v o v-lt in
+      let read : reading v x wanted limit ≡ by_only v (corrections (o ∷ []) limit v) = reads_corrected v x wanted limit not_valid ∙ ap (λ (os : List Offset). by_only v (corrections os limit v)) list in
+      elim (fits_or_not limit v o few) [
+        | inl none ↦
+            let far : is_near limit (rem e) ≡ false = ap (is_near limit) (sym own_remainder) ∙ near_none limit v o few small none in
+            ap (is_miscorrection o info) (read ∙ ap (by_only v) (corrections_none limit v o none)) ∙ sym (ap (λ (b : Bool). cond b (not (leb (span e) limit)) false) far)
+        | inr some ↦
+            let d : ℕ = some.0 in
+            let one = some.1 in
+            let close : is_near limit (rem e) ≡ true = ap (is_near limit) (sym own_remainder) ∙ near_one limit v o d few small one in
+            ap (is_miscorrection o info) (read ∙ ap (by_only v) (corrections_one limit v o d one))
+            ∙ mis_own o info (information (bit_xor v d)) d
+            ∙ ap not (told d one.burst one.fits pos)
+            ∙ sym (ap (λ (b : Bool). cond b (not (leb (span e) limit)) false) close)
+      ]
+
+  own_is : (x : ℕ) (wanted : Wanted) (s : ℕ) → wanted_offsets x wanted ≡ o ∷ [] → ((p : Offset) → IsValid v x p → (rem e ≡ 0) ⊎ (rem e ≡ s))
+      → (rem e ≡ s → (p : Offset) × IsValid v x p) → 0 < e → is_miscorrection o info (reading v x wanted limit) ≡ own_test s limit (rem e) (span e)
+  unfolding own_test
+  own_is x wanted s list leaves makes pos = elim (valid_or_not v x) [
+    | inl some ↦
+        let read = ap (is_miscorrection o info) (reads_valid v x wanted limit some.0 some.1) in
+        elim (cases_eq (rem e) s) [
+          | inl here ↦ read ∙ sym (ap (λ (b : Bool). cond b false (cond (is_near limit (rem e)) (not (leb (span e) limit)) false)) (eq-eqb (rem e) s here))
+          | inr other ↦ elim (leaves some.0 some.1) [
+            | inl zero_left ↦
+                let far : is_near limit (rem e) ≡ false = ap (is_near limit) zero_left ∙ near_zero limit in
+                read
+                ∙ sym (ap (λ (b : Bool). cond b false (cond (is_near limit (rem e)) (not (leb (span e) limit)) false)) (ne_eqb (rem e) s other)
+                ∙ ap (λ (b : Bool). cond b (not (leb (span e) limit)) false) far)
+            | inr here ↦ absurd (other here)
+          ]
+        ]
+    | inr none ↦
+        by_own x wanted list none pos
+        ∙ sym (ap (λ (b : Bool). cond b false (cond (is_near limit (rem e)) (not (leb (span e) limit)) false)) (ne_eqb (rem e) s (λ here. let made = makes here in none made.0 made.1)))
+  ]
+
+-- ---- block 3, if C and C' are wanted
+
+-- a reading by the pairs of two offsets, of each of which no burst fits or one
+by_pairs : ℕ → Offset → Offset → List ℕ → List ℕ → Reading
+by_pairs v o p es ds = by_only v (map {B = Offset × ℕ} (λ e. (o, e)) es ++ (map {B = Offset × ℕ} (λ e. (p, e)) ds ++ []))
+
+-- the bursts that fit, none or one
+record Fitting (limit v : ℕ) (o : Offset) (es : List ℕ) : Type 0 where
+  list : fitting limit v o ≡ es
+  is : ((es ≡ []) × (is_near limit (bit_xor (rem v) (word o)) ≡ false)) ⊎ ((d : ℕ) × (es ≡ d ∷ []) × OneFits limit v o d × (is_near limit (bit_xor (rem v) (word o)) ≡ true))
+
+fitting_is : (limit v : ℕ) (o : Offset) → limit ≤ 5 → v < 2 ^ 26 → (es : List ℕ) × Fitting limit v o es
+fitting_is limit v o few inside =
+    let small = wanted_remainder-lt v o inside in
+    elim (fits_or_not limit v o few) [
+      | inl none ↦ ([], record { list = none.list; is = inl (refl, near_none limit v o few small none) })
+      | inr some ↦ (some.0 ∷ [], record { list = some.1.list; is = inr (some.0, refl, some.1, near_one limit v o some.0 few small some.1) })
+    ]
+
+module _ (w info e limit : ℕ) (o p : Offset) (h : IsBlockOf w info o) (inside : e < 2 ^ 26) (few : limit ≤ 5) (pos : 0 < e)
+    (other : (j d : ℕ) → is_miscorrection o info (Corrected p j d) ≡ true) (sum : bit_xor (word o) (word p) ≡ 0x238) where
+  other_remainder : bit_xor (rem (bit_xor w e)) (word p) ≡ bit_xor (rem e) 0x238
+  other_remainder =
+      ap (λ (n : ℕ). bit_xor n (word p)) (damaged w info e o h ∙ xor_comm (word o) (rem e)) ∙ xor_assoc (rem e) (word o) (word p) ∙ ap (bit_xor (rem e)) sum
+
+  abbrev is_e : Bool
+  is_e = not (leb (span e) limit)
+
+  abbrev near_both : Bool
+  near_both = one_of (is_near limit (rem e)) (is_near limit (bit_xor (rem e) 0x238)) is_e
+
+  both_near : (a b : Bool) → is_near limit (rem e) ≡ a → is_near limit (bit_xor (rem e) 0x238) ≡ b → near_both ≡ one_of a b is_e
+  both_near a b ha hb = ap₂ (λ (x y : Bool). one_of x y is_e) ha hb
+
+  -- the reading by the pairs, the own offset's first or the other's
+  pairs_are : (es ds : List ℕ) → Fitting limit (bit_xor w e) o es → Fitting limit (bit_xor w e) p ds
+      → (is_miscorrection o info (by_pairs (bit_xor w e) o p es ds) ≡ near_both) × (is_miscorrection o info (by_pairs (bit_xor w e) p o ds es) ≡ near_both)
+  unfolding by_pairs one_of
+  pairs_are es ds own another = elim own.is [
+    | inl none ↦ elim another.is [
+      | inl none2 ↦
+          let test = both_near false false (ap (is_near limit) (sym (own_remainder w info e limit o h inside few)) ∙ none.1) (ap (is_near limit) (sym other_remainder) ∙ none2.1) in (
+            ap₂ (λ (x y : List ℕ). is_miscorrection o info (by_pairs (bit_xor w e) o p x y)) none.0 none2.0 ∙ sym test,
+            ap₂ (λ (x y : List ℕ). is_miscorrection o info (by_pairs (bit_xor w e) p o y x)) none.0 none2.0 ∙ sym test,
+          )
+      | inr some2 ↦
+          let test = both_near false true (ap (is_near limit) (sym (own_remainder w info e limit o h inside few)) ∙ none.1) (ap (is_near limit) (sym other_remainder) ∙ some2.3) in (
+            ap₂ (λ (x y : List ℕ). is_miscorrection o info (by_pairs (bit_xor w e) o p x y)) none.0 some2.1 ∙ other (information (bit_xor (bit_xor w e) some2.0)) some2.0 ∙ sym test,
+            ap₂ (λ (x y : List ℕ). is_miscorrection o info (by_pairs (bit_xor w e) p o y x)) none.0 some2.1 ∙ other (information (bit_xor (bit_xor w e) some2.0)) some2.0 ∙ sym test,
+          )
+    ]
+    | inr some ↦
+        let mine : is_miscorrection o info (Corrected o (information (bit_xor (bit_xor w e) some.0)) some.0) ≡ is_e =
+        mis_own o info (information (bit_xor (bit_xor w e) some.0)) some.0 ∙ ap not (told w info e limit o h inside few some.0 some.2.burst some.2.fits pos) in
+        elim another.is [
+          | inl none2 ↦
+              let test = both_near true false (ap (is_near limit) (sym (own_remainder w info e limit o h inside few)) ∙ some.3) (ap (is_near limit) (sym other_remainder) ∙ none2.1) in (
+                ap₂ (λ (x y : List ℕ). is_miscorrection o info (by_pairs (bit_xor w e) o p x y)) some.1 none2.0 ∙ mine ∙ sym test,
+                ap₂ (λ (x y : List ℕ). is_miscorrection o info (by_pairs (bit_xor w e) p o y x)) some.1 none2.0 ∙ mine ∙ sym test,
+              )
+          | inr some2 ↦
+              let test = both_near true true (ap (is_near limit) (sym (own_remainder w info e limit o h inside few)) ∙ some.3) (ap (is_near limit) (sym other_remainder) ∙ some2.3) in (
+                ap₂ (λ (x y : List ℕ). is_miscorrection o info (by_pairs (bit_xor w e) o p x y)) some.1 some2.1 ∙ sym test,
+                ap₂ (λ (x y : List ℕ). is_miscorrection o info (by_pairs (bit_xor w e) p o y x)) some.1 some2.1 ∙ sym test,
+              )
+        ]
+  ]
+
+  both_is : ((q : Offset) → IsValid (bit_xor w e) 3 q → (rem e ≡ 0) ⊎ (rem e ≡ 0x238)) → (rem e ≡ 0 → (q : Offset) × IsValid (bit_xor w e) 3 q) → (rem e ≡ 0x238 → (q : Offset) × IsValid (bit_xor w e) 3 q)
+      → (((q : Offset) → IsValid (bit_xor w e) 3 q → ⊥) → is_miscorrection o info (reading (bit_xor w e) 3 Either limit) ≡ near_both)
+      → is_miscorrection o info (reading (bit_xor w e) 3 Either limit) ≡ either_test limit (rem e) (span e)
+  unfolding either_test
+  both_is leaves makes takes damaged_is =
+      let second : Bool = cond (eqb (rem e) 0x238) false near_both in
+      elim (cases_eq (rem e) 0) [
+        | inl none ↦ let some = makes none in ap (is_miscorrection o info) (reads_valid (bit_xor w e) 3 Either limit some.0 some.1) ∙ sym (ap (λ (b : Bool). cond b false second) (eq-eqb (rem e) 0 none))
+        | inr not_none ↦ elim (cases_eq (rem e) 0x238) [
+          | inl here ↦
+              let some = takes here in
+              ap (is_miscorrection o info) (reads_valid (bit_xor w e) 3 Either limit some.0 some.1)
+              ∙ sym (ap (λ (b : Bool). cond b false second) (ne_eqb (rem e) 0 not_none) ∙ ap (λ (b : Bool). cond b false near_both) (eq-eqb (rem e) 0x238 here))
+          | inr not_here ↦
+              damaged_is (λ q valid. elim (leaves q valid) [ inl none ↦ not_none none | inr here ↦ not_here here ])
+              ∙ sym (ap (λ (b : Bool). cond b false second) (ne_eqb (rem e) 0 not_none) ∙ ap (λ (b : Bool). cond b false near_both) (ne_eqb (rem e) 0x238 not_here))
+        ]
+      ]
+
+-- ---- by offset
+
+-- the mask makes a valid block: one with its own offset if its remainder is 0
+own_again : (w info e : ℕ) (o : Offset) → IsBlockOf w info o → rem e ≡ 0 → IsValid (bit_xor w e) (number o) o
+own_again w info e o h none =
+    let left : rem (bit_xor w e) ≡ word o = damaged w info e o h ∙ ap (bit_xor (word o)) none ∙ xor_zero_r (word o) in
+    record { offset = ap offset_of left ∙ word_offset o; own = refl }
+
+own_only : (w info e : ℕ) (o : Offset) → IsBlockOf w info o → ((p : Offset) → number p ≡ number o → p ≡ o) → (p : Offset) → IsValid (bit_xor w e) (number o) p → (rem e ≡ 0) ⊎ (rem e ≡ 0)
+own_only w info e o h only p valid = inl (became w info e (number o) o p h valid ∙ ap (λ (q : Offset). bit_xor (word o) (word q)) (only p valid.own) ∙ xor_self (word o))
+
+others_are : (w info e limit : ℕ) (o : Offset) (wanted : Wanted) → IsBlockOf w info o → e < 2 ^ 26 → limit ≤ 5 → 0 < e → number o ≢ 3
+    → is_miscorrection o info (reading (bit_xor w e) (number o) wanted limit) ≡ own_test 0 limit (rem e) (span e)
+others_are w info e limit A wanted h inside few pos apart = own_is w info e limit A h inside few 1 wanted 0 (wanted_1 wanted).0 (own_only w info e A h only_A) (λ none. (A, own_again w info e A h none)) pos
+others_are w info e limit B wanted h inside few pos apart = own_is w info e limit B h inside few 2 wanted 0 (wanted_2 wanted).0 (own_only w info e B h only_B) (λ none. (B, own_again w info e B h none)) pos
+others_are w info e limit D wanted h inside few pos apart = own_is w info e limit D h inside few 4 wanted 0 (wanted_4 wanted).0 (own_only w info e D h only_D) (λ none. (D, own_again w info e D h none)) pos
+others_are w info e limit C wanted h inside few pos apart = absurd (apart refl)
+others_are w info e limit Cx wanted h inside few pos apart = absurd (apart refl)
+
+sum_of : (o : Offset) → number o ≡ 3 → bit_xor (word o) (word (other_version o)) ≡ 0x238
+sum_of C own = refl
+sum_of Cx own = refl
+sum_of A own = absurd (omega (arith, own))
+sum_of B own = absurd (omega (arith, own))
+sum_of D own = absurd (omega (arith, own))
+
+-- a block 3 is valid by either version
+third_leaves : (w info e : ℕ) (o : Offset) → IsBlockOf w info o → number o ≡ 3 → (p : Offset) → IsValid (bit_xor w e) 3 p → (rem e ≡ 0) ⊎ (rem e ≡ 0x238)
+third_leaves w info e o h own p valid =
+    let left : rem e ≡ bit_xor (word o) (word p) = became w info e 3 o p h valid in
+    elim (own_or_other o p own valid.own) [
+      | inl same ↦ inl (left ∙ ap (λ (q : Offset). bit_xor (word o) (word q)) same ∙ xor_self (word o))
+      | inr other ↦ inr (left ∙ ap (λ (q : Offset). bit_xor (word o) (word q)) other ∙ sum_of o own)
+    ]
+
+third_makes : (w info e : ℕ) (o : Offset) → IsBlockOf w info o → number o ≡ 3 → rem e ≡ 0 → (p : Offset) × IsValid (bit_xor w e) 3 p
+third_makes w info e o h own none = (o, subst (λ (x : ℕ). IsValid (bit_xor w e) x o) own (own_again w info e o h none))
+
+third_takes : (w info e : ℕ) (o : Offset) → IsBlockOf w info o → number o ≡ 3 → rem e ≡ 0x238 → (p : Offset) × IsValid (bit_xor w e) 3 p
+third_takes w info e o h own here =
+    let left : rem (bit_xor w e) ≡ word (other_version o) =
+    damaged w info e o h ∙ ap (bit_xor (word o)) (here ∙ sym (sum_of o own)) ∙ twice (word o) (word (other_version o)) in
+    (other_version o, record { offset = ap offset_of left ∙ word_offset (other_version o); own = other_number o })
+
+third_is : (w info e limit : ℕ) (o : Offset) → IsBlockOf w info o → e < 2 ^ 26 → limit ≤ 5 → 0 < e → number o ≡ 3
+    → is_miscorrection o info (reading (bit_xor w e) (number o) (alone o) limit) ≡ own_test 0x238 limit (rem e) (span e)
+third_is w info e limit o h inside few pos own =
+    ap (λ (x : ℕ). is_miscorrection o info (reading (bit_xor w e) x (alone o) limit)) own
+    ∙ own_is w info e limit o h inside few 3 (alone o) 0x238 (alone_wanted o own) (third_leaves w info e o h own) (third_takes w info e o h own) pos
+
+either_is : (w info e limit : ℕ) (o : Offset) → IsBlockOf w info o → e < 2 ^ 26 → limit ≤ 5 → 0 < e → number o ≡ 3
+    → is_miscorrection o info (reading (bit_xor w e) (number o) Either limit) ≡ either_test limit (rem e) (span e)
+unfolding by_pairs
+either_is w info e limit C h inside few pos own =
+    let v : ℕ = bit_xor w e in
+    let c = fitting_is limit v C few (xor_lt 26 w e h.is_block inside) in
+    let cx = fitting_is limit v Cx few (xor_lt 26 w e h.is_block inside) in
+    both_is w info e limit C Cx h inside few pos (λ j d. refl) refl (third_leaves w info e C h refl) (third_makes w info e C h refl) (third_takes w info e C h refl)
+    (λ none.
+    ap (is_miscorrection C info) (reads_corrected v 3 Either limit none ∙ ap (by_only v) (corrections_two limit v C Cx c.0 cx.0 c.1.list cx.1.list))
+    ∙ (pairs_are w info e limit C Cx h inside few pos (λ j d. refl) refl c.0 cx.0 c.1 cx.1).0)
+either_is w info e limit Cx h inside few pos own =
+    let v : ℕ = bit_xor w e in
+    let c = fitting_is limit v C few (xor_lt 26 w e h.is_block inside) in
+    let cx = fitting_is limit v Cx few (xor_lt 26 w e h.is_block inside) in
+    both_is w info e limit Cx C h inside few pos (λ j d. refl) refl (third_leaves w info e Cx h refl) (third_makes w info e Cx h refl) (third_takes w info e Cx h refl)
+    (λ none.
+    ap (is_miscorrection Cx info) (reads_corrected v 3 Either limit none ∙ ap (by_only v) (corrections_two limit v C Cx c.0 cx.0 c.1.list cx.1.list))
+    ∙ (pairs_are w info e limit Cx C h inside few pos (λ j d. refl) refl cx.0 c.0 cx.1 c.1).1)
+either_is w info e limit A h inside few pos own = absurd (omega (arith, own))
+either_is w info e limit B h inside few pos own = absurd (omega (arith, own))
+either_is w info e limit D h inside few pos own = absurd (omega (arith, own))
+
+-- ---- the counts
+
+abbrev Test : Type 0
+Test = ℕ → ℕ → Bool
+
+-- the elements of two lists, added one by one
+add : List ℕ → List ℕ → List ℕ
+add [] ys = []
+add (x ∷ xs) [] = []
+add (x ∷ xs) (y ∷ ys) = (x + y) ∷ add xs ys
+
+-- how many of the masks each test passes: each mask is divided once for all tests
+counts : List Test → List ℕ → List ℕ
+counts ts [] = map (λ (t : Test). 0) ts
+counts ts (e ∷ es) = add (map (λ (t : Test). cond (t (rem e) (span e)) 1 0) ts) (counts ts es)
+
+add-maps : (f g h : Test → ℕ) (ts : List Test) → ((t : Test) → f t + g t ≡ h t) → add (map f ts) (map g ts) ≡ map h ts
+unfolding add
+add-maps f g h [] each = refl
+add-maps f g h (t ∷ ts) each = ap₂ (λ (x : ℕ) (xs : List ℕ). x ∷ xs) (each t) (add-maps f g h ts each)
+
+one_more : (p : ℕ → Bool) (e : ℕ) (es : List ℕ) → cond (p e) 1 0 + length (filter p es) ≡ length (filter p (e ∷ es))
+one_more p e es = elim (cases_Bool (p e)) [
+  | inl kept ↦ ap (λ (b : Bool). cond b 1 0 + length (filter p es)) kept ∙ omega arith ∙ sym (ap (λ (b : Bool). length (cond b (e ∷ filter p es) (filter p es))) kept)
+  | inr dropped ↦ ap (λ (b : Bool). cond b 1 0 + length (filter p es)) dropped ∙ omega arith ∙ sym (ap (λ (b : Bool). length (cond b (e ∷ filter p es) (filter p es))) dropped)
+]
+
+passed : List ℕ → Test → ℕ
+passed es t = length (filter (λ e. t (rem e) (span e)) es)
+
+counts_are : (ts : List Test) (es : List ℕ) → counts ts es ≡ map (passed es) ts
+unfolding counts passed
+counts_are ts [] = refl
+counts_are ts (e ∷ es) =
+    ap (add (map (λ (t : Test). cond (t (rem e) (span e)) 1 0) ts)) (counts_are ts es)
+    ∙ add-maps (λ (t : Test). cond (t (rem e) (span e)) 1 0) (passed es) (passed (e ∷ es)) ts (λ t. one_more (λ d. t (rem d) (span d)) e es)
+
+all_limits : List ℕ
+all_limits = 0 ∷ 1 ∷ 2 ∷ 3 ∷ 4 ∷ 5 ∷ []
+
+-- block 3 differs from the others at limit 5 alone
+own_tests : List Test
+own_tests = map (own_test 0) all_limits ++ own_test 0x238 5 ∷ []
+
+either_tests : List Test
+either_tests = map either_test all_limits
+
+-- a row of the others' table, and the last count of block 3
+own_row : ℕ → List ℕ
+own_row k = get_or miscorrected k [] ++ get_or (get_or miscorrected_third k []) 5 0 ∷ []
+
+own_two : counts own_tests (error_masks 2 26) ≡ own_row 0
+unfolding own_row own_tests all_limits counts add own_test is_near near rem count_leading_zeros count_trailing_zeros
+own_two = refl
+
+own_three : counts own_tests (error_masks 3 26) ≡ own_row 1
+unfolding own_row own_tests all_limits counts add own_test is_near near rem count_leading_zeros count_trailing_zeros
+own_three = refl
+
+own_four : counts own_tests (error_masks 4 26) ≡ own_row 2
+unfolding own_row own_tests all_limits counts add own_test is_near near rem count_leading_zeros count_trailing_zeros
+own_four = refl
+
+either_two : counts either_tests (error_masks 2 26) ≡ get_or miscorrected_either 0 []
+unfolding either_tests all_limits counts add either_test one_of is_near near rem count_leading_zeros count_trailing_zeros
+either_two = refl
+
+either_three : counts either_tests (error_masks 3 26) ≡ get_or miscorrected_either 1 []
+unfolding either_tests all_limits counts add either_test one_of is_near near rem count_leading_zeros count_trailing_zeros
+either_three = refl
+
+either_four : counts either_tests (error_masks 4 26) ≡ get_or miscorrected_either 2 []
+unfolding either_tests all_limits counts add either_test one_of is_near near rem count_leading_zeros count_trailing_zeros
+either_four = refl
+
+own_counts : (n : ℕ) → 2 ≤ n → n ≤ 4 → counts own_tests (error_masks n 26) ≡ own_row (n - 2)
+own_counts zero least most = absurd (omega arith)
+own_counts (suc zero) least most = absurd (omega arith)
+own_counts (suc (suc zero)) least most = own_two
+own_counts (suc (suc (suc zero))) least most = own_three
+own_counts (suc (suc (suc (suc zero)))) least most = own_four
+own_counts (suc (suc (suc (suc (suc n))))) least most = absurd (omega arith)
+
+either_counts : (n : ℕ) → 2 ≤ n → n ≤ 4 → counts either_tests (error_masks n 26) ≡ get_or miscorrected_either (n - 2) []
+either_counts zero least most = absurd (omega arith)
+either_counts (suc zero) least most = absurd (omega arith)
+either_counts (suc (suc zero)) least most = either_two
+either_counts (suc (suc (suc zero))) least most = either_three
+either_counts (suc (suc (suc (suc zero)))) least most = either_four
+either_counts (suc (suc (suc (suc (suc n))))) least most = absurd (omega arith)
+
+-- the count of one test is its own of all of them
+own_passed : (es : List ℕ) (limit : ℕ) → limit ≤ 5 → passed es (own_test 0 limit) ≡ get_or (counts own_tests es) limit 0
+unfolding own_tests all_limits
+own_passed es zero few = sym (ap (λ (xs : List ℕ). get_or xs 0 0) (counts_are own_tests es))
+own_passed es (suc zero) few = sym (ap (λ (xs : List ℕ). get_or xs 1 0) (counts_are own_tests es))
+own_passed es (suc (suc zero)) few = sym (ap (λ (xs : List ℕ). get_or xs 2 0) (counts_are own_tests es))
+own_passed es (suc (suc (suc zero))) few = sym (ap (λ (xs : List ℕ). get_or xs 3 0) (counts_are own_tests es))
+own_passed es (suc (suc (suc (suc zero)))) few = sym (ap (λ (xs : List ℕ). get_or xs 4 0) (counts_are own_tests es))
+own_passed es (suc (suc (suc (suc (suc zero))))) few = sym (ap (λ (xs : List ℕ). get_or xs 5 0) (counts_are own_tests es))
+own_passed es (suc (suc (suc (suc (suc (suc limit)))))) few = absurd (omega arith)
+
+third_passed : (es : List ℕ) → passed es (own_test 0x238 5) ≡ get_or (counts own_tests es) 6 0
+unfolding own_tests all_limits
+third_passed es = sym (ap (λ (xs : List ℕ). get_or xs 6 0) (counts_are own_tests es))
+
+either_passed : (es : List ℕ) (limit : ℕ) → limit ≤ 5 → passed es (either_test limit) ≡ get_or (counts either_tests es) limit 0
+unfolding either_tests all_limits
+either_passed es zero few = sym (ap (λ (xs : List ℕ). get_or xs 0 0) (counts_are either_tests es))
+either_passed es (suc zero) few = sym (ap (λ (xs : List ℕ). get_or xs 1 0) (counts_are either_tests es))
+either_passed es (suc (suc zero)) few = sym (ap (λ (xs : List ℕ). get_or xs 2 0) (counts_are either_tests es))
+either_passed es (suc (suc (suc zero))) few = sym (ap (λ (xs : List ℕ). get_or xs 3 0) (counts_are either_tests es))
+either_passed es (suc (suc (suc (suc zero)))) few = sym (ap (λ (xs : List ℕ). get_or xs 4 0) (counts_are either_tests es))
+either_passed es (suc (suc (suc (suc (suc zero))))) few = sym (ap (λ (xs : List ℕ). get_or xs 5 0) (counts_are either_tests es))
+either_passed es (suc (suc (suc (suc (suc (suc limit)))))) few = absurd (omega arith)
+
+-- up to four bits no burst takes block 3 over to the other version
+other_far : (limit : ℕ) → limit ≤ 4 → is_near limit 0x238 ≡ false
+unfolding is_near near
+other_far zero few = refl
+other_far (suc zero) few = refl
+other_far (suc (suc zero)) few = refl
+other_far (suc (suc (suc zero))) few = refl
+other_far (suc (suc (suc (suc zero)))) few = refl
+other_far (suc (suc (suc (suc (suc limit))))) few = absurd (omega arith)
+
+third_alike : (limit r n : ℕ) → limit ≤ 4 → own_test 0x238 limit r n ≡ own_test 0 limit r n
+unfolding own_test
+third_alike limit r n few =
+    let rest : Bool = cond (is_near limit r) (not (leb n limit)) false in
+    let far : (s : ℕ) → r ≡ s → is_near limit s ≡ false → rest ≡ false = λ s here none. ap (λ (b : Bool). cond b (not (leb n limit)) false) (ap (is_near limit) here ∙ none) in
+    elim (cases_eq r 0x238) [
+      | inl here ↦
+          let apart : r ≡ 0 → ⊥ = λ none. absurd (omega (arith, here, none)) in
+          ap (λ (b : Bool). cond b false rest) (eq-eqb r 0x238 here) ∙ sym (ap (λ (b : Bool). cond b false rest) (ne_eqb r 0 apart) ∙ far 0x238 here (other_far limit few))
+      | inr other ↦ elim (cases_eq r 0) [
+        | inl none ↦ ap (λ (b : Bool). cond b false rest) (ne_eqb r 0x238 other) ∙ far 0 none (near_zero limit) ∙ sym (ap (λ (b : Bool). cond b false rest) (eq-eqb r 0 none))
+        | inr some ↦ ap (λ (b : Bool). cond b false rest) (ne_eqb r 0x238 other ∙ sym (ne_eqb r 0 some))
+      ]
+    ]
+
+six : (k : ℕ) → k ≤ 2 → length (get_or miscorrected k []) ≡ 6
+six zero few = refl
+six (suc zero) few = refl
+six (suc (suc zero)) few = refl
+six (suc (suc (suc k))) few = absurd (omega arith)
+
+own_place : (k limit : ℕ) → k ≤ 2 → limit ≤ 5 → get_or (own_row k) limit 0 ≡ get_or (get_or miscorrected k []) limit 0
+unfolding own_row
+own_place k limit few short = get_or_append_left (get_or miscorrected k []) (get_or (get_or miscorrected_third k []) 5 0 ∷ []) 0 limit (omega (arith, six k few))
+
+third_place : (k : ℕ) → k ≤ 2 → get_or (own_row k) 6 0 ≡ get_or (get_or miscorrected_third k []) 5 0
+unfolding own_row
+third_place zero few = refl
+third_place (suc zero) few = refl
+third_place (suc (suc zero)) few = refl
+third_place (suc (suc (suc k))) few = absurd (omega arith)
+
+-- the rows agree below the last limit
+rows_agree : (k limit : ℕ) → k ≤ 2 → limit ≤ 4 → get_or (get_or miscorrected k []) limit 0 ≡ get_or (get_or miscorrected_third k []) limit 0
+rows_agree zero limit few short = agree_0 limit short
+  where
+    agree_0 : (limit : ℕ) → limit ≤ 4 → get_or (get_or miscorrected 0 []) limit 0 ≡ get_or (get_or miscorrected_third 0 []) limit 0
+    agree_0 limit short = refl
+rows_agree (suc zero) limit few short = agree_1 limit short
+  where
+    agree_1 : (limit : ℕ) → limit ≤ 4 → get_or (get_or miscorrected 1 []) limit 0 ≡ get_or (get_or miscorrected_third 1 []) limit 0
+    agree_1 zero short = refl
+    agree_1 (suc zero) short = refl
+    agree_1 (suc (suc zero)) short = refl
+    agree_1 (suc (suc (suc zero))) short = refl
+    agree_1 (suc (suc (suc (suc zero)))) short = refl
+    agree_1 (suc (suc (suc (suc (suc limit))))) short = absurd (omega arith)
+rows_agree (suc (suc zero)) limit few short = agree_2 limit short
+  where
+    agree_2 : (limit : ℕ) → limit ≤ 4 → get_or (get_or miscorrected 2 []) limit 0 ≡ get_or (get_or miscorrected_third 2 []) limit 0
+    agree_2 zero short = refl
+    agree_2 (suc zero) short = refl
+    agree_2 (suc (suc zero)) short = refl
+    agree_2 (suc (suc (suc zero))) short = refl
+    agree_2 (suc (suc (suc (suc zero)))) short = refl
+    agree_2 (suc (suc (suc (suc (suc limit))))) short = absurd (omega arith)
+rows_agree (suc (suc (suc k))) limit few short = absurd (omega arith)
+
+-- ---- the law
+
+-- a mask with bit errors is not 0
+mask_pos : (n e : ℕ) → 2 ≤ n → is_among e (error_masks n 26) ≡ true → 0 < e
+mask_pos n e least listed = elim (cases_eq e 0) [
+  | inl none ↦ absurd (omega (arith, least, (masks_are n 26 e listed).1, ap ones none, ones-le 0 0 (lit< tt)))
+  | inr some ↦ omega (arith, some)
+]
+
+-- the masks that miscorrect a block are those that pass the test of its kind
+by_test : (w info limit n : ℕ) (o : Offset) (wanted : Wanted) (t : Test) → IsBlockOf w info o → limit ≤ 5 → 2 ≤ n
+    → ((e : ℕ) → e < 2 ^ 26 → 0 < e → is_miscorrection o info (reading (bit_xor w e) (number o) wanted limit) ≡ t (rem e) (span e))
+    → miscorrections w info o wanted limit n ≡ passed (error_masks n 26) t
+unfolding passed
+by_test w info limit n o wanted t h few least is =
+    filter_agree (λ e. is_miscorrection o info (reading (bit_xor w e) (number o) wanted limit)) (λ e. t (rem e) (span e)) (error_masks n 26)
+    (λ e listed. is e (masks_are n 26 e listed).0 (mask_pos n e least listed))
+
+pub counts_all_miscorrections : CountsAllMiscorrections
+counts_all_miscorrections w info o limit n h few least most = record {
+  others = λ wanted apart.
+      by_test w info limit n o wanted (own_test 0 limit) h few least (λ e inside pos. others_are w info e limit o wanted h inside few pos apart) ∙ own_at limit few;
+  third = λ own. elim (cases_lt limit 5) [
+    | inl less ↦
+        by_test w info limit n o (alone o) (own_test 0 limit) h few least (λ e inside pos. third_is w info e limit o h inside few pos own ∙ third_alike limit (rem e) (span e) (omega (arith, less)))
+        ∙ own_at limit few
+        ∙ rows_agree (n - 2) limit (omega (arith, most)) (omega (arith, less))
+    | inr more ↦
+        let five : limit ≡ 5 = omega (arith, more, few) in
+        ap (λ (l : ℕ). miscorrections w info o (alone o) l n) five
+        ∙ by_test w info 5 n o (alone o) (own_test 0x238 5) h (omega arith) least (λ e inside pos. third_is w info e 5 o h inside (omega arith) pos own)
+        ∙ third_passed (error_masks n 26)
+        ∙ ap (λ (xs : List ℕ). get_or xs 6 0) (own_counts n least most)
+        ∙ third_place (n - 2) (omega (arith, most))
+        ∙ ap (λ (l : ℕ). get_or (get_or miscorrected_third (n - 2) []) l 0) (sym five)
+  ];
+  either = λ own.
+      by_test w info limit n o Either (either_test limit) h few least (λ e inside pos. either_is w info e limit o h inside few pos own)
+      ∙ either_passed (error_masks n 26) limit few
+      ∙ ap (λ (xs : List ℕ). get_or xs limit 0) (either_counts n least most);
+}
+  where
+    own_at : (limit : ℕ) → limit ≤ 5 → passed (error_masks n 26) (own_test 0 limit) ≡ get_or (get_or miscorrected (n - 2) []) limit 0
+    own_at limit few =
+        own_passed (error_masks n 26) limit few ∙ ap (λ (xs : List ℕ). get_or xs limit 0) (own_counts n least most) ∙ own_place (n - 2) limit (omega (arith, most)) few

@@ -1,0 +1,55 @@
+-- Items counted one after the other.
+use Rattle.std.proofs.Common.{◌≡◌, ℕ, ◌+◌, List, [], ◌∷◌, ◌++◌, map, refl, sym, ap, ap₂, ◌∙◌, arith, append_assoc, append-nil, length-append}
+use Rattle.rds_sync.specs.declared.item.Group.{Group as GroupRecord}
+use Rattle.rds_sync.specs.declared.item.Item.{Item}
+use Rattle.rds_sync.specs.declared.item.Item.TheVariants.{Group, LostLock}
+use Rattle.rds_sync.specs.declared.totals.Totals.{Totals}
+use Rattle.rds_sync.specs.Codes.{Outcome, outcome_of}
+use Rattle.rds_sync.specs.Counting.{plus}
+use Rattle.rds_sync.specs.Inside.Counts.{CountOf, no_count, count_of, joined, group_count, loss_count, added}
+use Rattle.rds_sync.specs.Totals.{totals_of}
+use Rattle.rds_sync.proofs.CodeTotals.{codes_tell_totals}
+use Rattle.rds_sync.proofs.TotalsLemmas.{same_counts, totals_of-append}
+
+pub added-append : (before : CountOf) (xs ys : List Item) → added before (xs ++ ys) ≡ added (added before xs) ys
+added-append before [] ys = refl
+added-append before (x ∷ xs) ys = added-append (joined before (count_of (x ∷ []))) xs ys
+
+-- of more items after those before
+pub added-further : (before now after : CountOf) (xs ys : List Item) → now ≡ added before xs → after ≡ added now ys → after ≡ added before (xs ++ ys)
+added-further before now after xs ys first more = more ∙ ap (λ (k : CountOf). added k ys) first ∙ sym (added-append before xs ys)
+
+-- and of none
+pub added-nothing : (before : CountOf) (xs : List Item) → xs ≡ [] → before ≡ added before xs
+added-nothing before xs none = ap (λ (is : List Item). added before is) (sym none)
+
+-- a group, by how its blocks came out
+pub group-added : (before : CountOf) (g : GroupRecord) (os : List Outcome) → os ≡ map outcome_of g.blocks → joined before (group_count os) ≡ added before (Group g ∷ [])
+group-added before g os is =
+    ap (λ (outcomes : List Outcome). joined before (group_count outcomes)) is
+    ∙ ap (λ (t : Totals). joined before (record { totals = t; items = 1 })) (sym (codes_tell_totals (Group g ∷ [])))
+
+-- and the loss that it closes with
+pub lost-added : (before mid after : CountOf) (g : GroupRecord) (os : List Outcome) (place : ℕ) → os ≡ map outcome_of g.blocks
+    → mid ≡ joined before (group_count os) → after ≡ joined mid loss_count → after ≡ added before (Group g ∷ LostLock place ∷ [])
+lost-added before mid after g os place is first second =
+    second ∙ ap (λ (k : CountOf). joined k loss_count) (first ∙ group-added before g os is)
+
+count-append : (xs ys : List Item) → joined (count_of xs) (count_of ys) ≡ count_of (xs ++ ys)
+count-append xs ys = ap₂ (λ (t : Totals) (n : ℕ). record { totals = t; items = n }) (sym (totals_of-append xs ys)) (sym (length-append xs ys))
+
+plus-assoc : (t u w : Totals) → plus t (plus u w) ≡ plus (plus t u) w
+plus-assoc t u w =
+    same_counts (omega arith) (omega arith) (omega arith) (omega arith) (omega arith) (omega arith)
+    (omega arith) (omega arith) (omega arith) (omega arith) (omega arith) (omega arith)
+
+joined-assoc : (a k m : CountOf) → joined a (joined k m) ≡ joined (joined a k) m
+joined-assoc a k m = ap₂ (λ (t : Totals) (n : ℕ). record { totals = t; items = n }) (plus-assoc a.totals k.totals m.totals) (omega arith)
+
+-- what was counted after some items are counted together with these
+pub counted-together : (first now : CountOf) (xs ys : List Item) → joined first now ≡ count_of xs → joined first (added now ys) ≡ count_of (xs ++ ys)
+counted-together first now xs [] is = is ∙ ap (λ (is : List Item). count_of is) (sym (append-nil xs))
+counted-together first now xs (y ∷ ys) is =
+    counted-together first (joined now (count_of (y ∷ []))) (xs ++ y ∷ []) ys
+    (joined-assoc first now (count_of (y ∷ [])) ∙ ap (λ (k : CountOf). joined k (count_of (y ∷ []))) is ∙ count-append xs (y ∷ []))
+    ∙ ap (λ (is : List Item). count_of is) (append_assoc xs (y ∷ []) ys)

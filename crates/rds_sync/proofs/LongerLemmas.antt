@@ -1,0 +1,461 @@
+-- A longer recording that begins with another one: the run over the bits of both is one, and the group at the end goes on.
+use Rattle.std.proofs.Common.{◌≡◌, ◌≢◌, ℕ, zero, suc, ◌+◌, ◌-◌, ◌*◌, ◌%◌, ◌<◌, ◌≤◌, ◌⊎◌, List, [], ◌∷◌, ◌++◌, length, take, drop, map, Bool, true, false, cond, Option, Some, None, refl, sym, ap, ap₂, subst, ◌∙◌, arith, inl, inr, append_assoc, length-append}
+use Rattle.std.specs.Prelude.{◌||◌, ◌&&◌, ◌==◌, nat_le, nat_lt, if◌then◌else◌, min, filter, slice_get, slice_index, sum_by, is_some}
+use Rattle.std.specs.List.{list_any, range_with_len}
+use Rattle.std.specs.Int.Digits.{number_from_digits}
+use Rattle.std.proofs.lemmas.Bool.{cases_Bool, cases_eq, cases_lt, lt-ltb, le-ltb, lt-leb, eq-eqb, ne_eqb}
+use Rattle.std.proofs.lemmas.List.{drop-append-le, take-append-le, take-append-drop, length-take, length-drop}
+use Rattle.std.proofs.lemmas.List.Folds.{list_all_at}
+use Rattle.std.proofs.lemmas.List.Sums.{sum_by-append, sum_by-cons}
+use Rattle.std.proofs.lemmas.Option.{slice_get_within, get_or_from_slice_get}
+use Rattle.rds_code.specs.declared.offset.Offset.{Offset}
+use Rattle.rds_code.specs.declared.reading.Wanted.{Wanted}
+use Rattle.rds_code.specs.declared.reading.Wanted.TheVariants.{Either}
+use Rattle.rds_code.specs.Offsets.{number}
+use Rattle.rds_stream.specs.Recording.{Signal, length_of, window, is_touched_by, touched, heard, offset_heard, reading_heard, reading_at, off}
+use Rattle.rds_sync.specs.declared.item.Block.{Block}
+use Rattle.rds_sync.specs.declared.item.Block.TheVariants.{Missing, Read}
+use Rattle.rds_sync.specs.declared.item.Group.{Group as GroupOf}
+use Rattle.rds_sync.specs.declared.item.Item.{Item}
+use Rattle.rds_sync.specs.declared.item.Item.TheVariants.{Acquired, Group, LostLock}
+use Rattle.rds_sync.specs.declared.lock.Lock.{Lock}
+use Rattle.rds_sync.specs.declared.state.State.{State}
+use Rattle.rds_sync.specs.declared.state.State.TheVariants.{Searching, Locked}
+use Rattle.rds_sync.specs.Acquiring.{acquired, has_number, has_partner, with_partner, is_in_step, is_numbered}
+use Rattle.rds_sync.specs.Groups.{block_at, blocks_at, group, group_of, info_of, wanted_beside}
+use Rattle.rds_sync.specs.Lawful.{IsLawful, IsLawfulLock}
+use Rattle.rds_sync.specs.Longer.{BeginsWith, BeginningsBegin, GoesOn, EndGoesOn, OnlyAddsItems, LongerRecordingsAddItems, AreNoLess, TotalsOnlyGrow}
+use Rattle.rds_sync.specs.Loss.{IsLoss, bad_after, are_too_many}
+use Rattle.rds_sync.specs.Report.{report_items}
+use Rattle.rds_sync.specs.Rules.{RuleNumbers}
+use Rattle.rds_sync.specs.Step.{run, step, items_at, after_bit, items_of_end, bad_with, group_after, lock_after, lock_of}
+use Rattle.rds_sync.specs.Totals.{totals_of, sum_blocks, count_blocks, is_valid, is_lost, is_corrected_by, bits_corrected, is_group, is_complete, is_acquired, is_loss}
+use Rattle.rds_sync.proofs.GroupBlocks.{block_at-read, block_at-missing}
+use Rattle.rds_sync.proofs.LawfulLemmas.{lawful-run, lawful-due, lawful-numbers}
+use Rattle.rds_sync.proofs.RunIsReport.{run_is_report}
+use Rattle.rds_sync.proofs.RunLemmas.{run-append, run-waiting, run-reading, step-keeping, items-keeping, items-losing}
+
+-- ---- what is heard
+
+window-begin : (bits more : List ℕ) (i : ℕ) → i < length bits → window (bits ++ more) i ≡ window bits i
+unfolding window
+window-begin bits more i within =
+    let from : drop (i - 25) (bits ++ more) ≡ drop (i - 25) bits ++ more = drop-append-le (i - 25) bits more (omega arith) in
+    ap (number_from_digits 2)
+    (ap (take (i + 1 - (i - 25))) from ∙ take-append-le (i + 1 - (i - 25)) (drop (i - 25) bits) more (omega (arith, within, length-drop (i - 25) bits)))
+
+-- a test of each number of a range, by another that says the same there
+any-alike : (p q : ℕ → Bool) (k n : ℕ) → ((j : ℕ) → p j ≡ q j) → list_any p (range_with_len k n) ≡ list_any q (range_with_len k n)
+any-alike p q k zero same = refl
+any-alike p q k (suc n) same = ap₂ ◌||◌ (same k) (any-alike p q (k + 1) n same)
+
+module _ (longer shorter : Signal) (begins : BeginsWith longer shorter) where
+  heard-alike : (i : ℕ) → i < length_of shorter → heard longer i ≡ heard shorter i
+  unfolding heard
+  heard-alike i within =
+      ap₂ (λ (t : Bool) (w : ℕ). elim t as (λ _. Option ℕ) [ true ↦ None | false ↦ Some w ]) (begins.gaps i within)
+      (ap (λ (bits : List ℕ). window bits i) begins.bits ∙ window-begin shorter.bits begins.more i within)
+
+  off-alike : (i : ℕ) → i < length_of shorter → off longer i ≡ off shorter i
+  unfolding off
+  off-alike i within = ap (λ (h : Option ℕ). elim (nat_lt i 25) as (λ _. Option Offset) [ true ↦ None | false ↦ offset_heard h ]) (heard-alike i within)
+
+  number-alike : (i x : ℕ) → i < length_of shorter → has_number longer i x ≡ has_number shorter i x
+  unfolding has_number
+  number-alike i x within = ap (λ (o : Option Offset). is_numbered o x) (off-alike i within)
+
+  module _ (rules : RuleNumbers) where
+    acquired-alike : (i : ℕ) → i < length_of shorter → acquired longer rules i ≡ acquired shorter rules i
+    unfolding acquired
+    acquired-alike i within =
+        let partners : (x : ℕ) → list_any (has_partner longer i x) (range_with_len 1 rules.reach) ≡ list_any (has_partner shorter i x) (range_with_len 1 rules.reach) =
+        λ x. any-alike (has_partner longer i x) (has_partner shorter i x) 1 rules.reach (λ k. ap (λ (o : Option Offset). is_in_step o x k) (off-alike (i - 26 * k) (omega (arith, within)))) in
+        let by_number : (o : Option Offset) → elim o as (λ _. Option ℕ) [ None ↦ None | Some p ↦ with_partner longer rules i (number p) ]
+        ≡ elim o as (λ _. Option ℕ) [ None ↦ None | Some p ↦ with_partner shorter rules i (number p) ] =
+        λ o. elim o as (λ w. elim w as (λ _. Option ℕ) [ None ↦ None | Some p ↦ with_partner longer rules i (number p) ]
+        ≡ elim w as (λ _. Option ℕ) [ None ↦ None | Some p ↦ with_partner shorter rules i (number p) ]) [
+          | None ↦ refl
+          | Some p ↦ ap (λ (t : Bool). elim t as (λ _. Option ℕ) [ true ↦ Some (number p) | false ↦ None ]) (partners (number p))
+        ] in
+        by_number (off longer i) ∙ ap (λ (o : Option Offset). elim o as (λ _. Option ℕ) [ None ↦ None | Some p ↦ with_partner shorter rules i (number p) ]) (off-alike i within)
+
+    -- ---- a group
+
+    block-alike : (f x p : ℕ) (wanted : Wanted) (y : ℕ) → p < length_of shorter → block_at longer rules f x p wanted y ≡ block_at shorter rules f x p wanted y
+    block-alike f x p wanted y within =
+        ap (λ (h : Option ℕ). if nat_le f y && nat_le y x then Read (reading_heard h y wanted rules.burst) else Missing) (heard-alike (p - 26 * (x - y)) (omega (arith, within)))
+
+    group-alike : (f x p : ℕ) → p < length_of shorter → group longer rules f x p ≡ group shorter rules f x p
+    unfolding group
+    group-alike f x p within =
+        let third : block_at longer rules f x p (wanted_beside (block_at longer rules f x p Either 2)) 3 ≡ block_at shorter rules f x p (wanted_beside (block_at shorter rules f x p Either 2)) 3 =
+        ap (λ (second : Block). block_at longer rules f x p (wanted_beside second) 3) (block-alike f x p Either 2 within)
+        ∙ block-alike f x p (wanted_beside (block_at shorter rules f x p Either 2)) 3 within in
+        ap (λ (blocks : List Block). group_of (p - 26 * (x - f) - 25) blocks)
+        (ap₂ (λ (a : Block) (rest : List Block). a ∷ rest) (block-alike f x p Either 1 within)
+        (ap₂ (λ (a : Block) (rest : List Block). a ∷ rest) (block-alike f x p Either 2 within)
+        (ap₂ (λ (a c : Block). a ∷ c ∷ []) third (block-alike f x p Either 4 within))))
+
+    after-alike : (f x i : ℕ) → i < length_of shorter → group_after longer rules f x i ≡ group_after shorter rules f x i
+    after-alike f x i within = ap (λ (g : GroupOf). elim (x == 4) as (λ _. List Item) [ true ↦ Group g ∷ [] | false ↦ [] ]) (group-alike f x i within)
+
+    -- ---- the run
+
+    bit-alike : (i : ℕ) (s : State) → i < length_of shorter → after_bit longer rules i s ≡ after_bit shorter rules i s
+    bit-alike i Searching within =
+        let by_case : (w : Option ℕ) → elim w as (λ _. State × List Item) [ None ↦ (Searching, []) | Some x ↦ (Locked (lock_after i x 0 x), Acquired i x ∷ group_after longer rules x x i) ]
+        ≡ elim w as (λ _. State × List Item) [ None ↦ (Searching, []) | Some x ↦ (Locked (lock_after i x 0 x), Acquired i x ∷ group_after shorter rules x x i) ] =
+        λ w. elim w as (λ w. elim w as (λ _. State × List Item) [ None ↦ (Searching, []) | Some x ↦ (Locked (lock_after i x 0 x), Acquired i x ∷ group_after longer rules x x i) ]
+        ≡ elim w as (λ _. State × List Item) [ None ↦ (Searching, []) | Some x ↦ (Locked (lock_after i x 0 x), Acquired i x ∷ group_after shorter rules x x i) ]) [
+          | None ↦ refl
+          | Some x ↦ ap (λ (is : List Item). (Locked (lock_after i x 0 x), Acquired i x ∷ is)) (after-alike x x i within)
+        ] in
+        by_case (acquired longer rules i)
+        ∙ ap (λ (w : Option ℕ). elim w as (λ _. State × List Item) [ None ↦ (Searching, []) | Some x ↦ (Locked (lock_after i x 0 x), Acquired i x ∷ group_after shorter rules x x i) ]) (acquired-alike i within)
+    bit-alike i (Locked lock) within =
+        let x : ℕ = lock.number in
+        let f : ℕ = lock.first in
+        let bad : bad_with longer rules i x lock.bad ≡ bad_with shorter rules i x lock.bad = ap (λ (good : Bool). bad_after rules.loss good lock.bad) (number-alike i x within) in
+        ap (λ (d : ℕ). elim (lock.due == i) as (λ _. State × List Item) [
+          | false ↦ (Locked lock, [])
+          | true ↦ elim (are_too_many rules.loss d) as (λ _. State × List Item) [
+            | false ↦ (Locked (lock_after i x d f), group_after longer rules f x i)
+            | true ↦ (Searching, Group (group longer rules f x i) ∷ LostLock i ∷ [])
+          ]
+        ]) bad
+        ∙ ap₂ (λ (g : GroupOf) (is : List Item). elim (lock.due == i) as (λ _. State × List Item) [
+          | false ↦ (Locked lock, [])
+          | true ↦ elim (are_too_many rules.loss (bad_with shorter rules i x lock.bad)) as (λ _. State × List Item) [
+            | false ↦ (Locked (lock_after i x (bad_with shorter rules i x lock.bad) f), is)
+            | true ↦ (Searching, Group g ∷ LostLock i ∷ [])
+          ]
+        ]) (group-alike f x i within) (after-alike f x i within)
+
+    pub run-alike : (s : State) (a m : ℕ) → a + m ≤ length_of shorter → run longer rules s a m ≡ run shorter rules s a m
+    run-alike s a zero fits = refl
+    run-alike s a (suc m) fits =
+        ap (λ (r : State × List Item). ((run longer rules r.0 (a + 1) m).0, r.1 ++ (run longer rules r.0 (a + 1) m).1)) (bit-alike a s (omega (arith, fits)))
+        ∙ ap (λ (r : State × List Item). (r.0, items_at shorter rules a s ++ r.1)) (run-alike (step shorter rules a s) (a + 1) m (omega (arith, fits)))
+
+-- ---- the group in progress
+
+module _ (b : Signal) (rules : RuleNumbers) where
+  -- the items begin with a group of these first blocks, of which the last ends at place p, and perhaps more
+  record Opens (f x p : ℕ) (items : List Item) : Type 0 where
+    y : ℕ
+    rest : List Item
+    order : (x ≤ y) × (y ≤ 4)
+    is : items ≡ Group (group b rules f y (p + 26 * (y - x))) ∷ rest
+
+  -- what a lock gives from inside a group on, to the end of the recording
+  abbrev to_end : State → ℕ → ℕ → List Item
+  to_end s place m = (run b rules s place m).1 ++ items_of_end b rules (run b rules s place m).0
+
+  -- after the block that is due
+  to_end-due : (lock : Lock) (place m : ℕ) → place ≤ lock.due → lock.due < place + m
+      → to_end (Locked lock) place m ≡ items_at b rules lock.due (Locked lock) ++ to_end (step b rules lock.due (Locked lock)) (lock.due + 1) (place + m - (lock.due + 1))
+  to_end-due lock place m soon within =
+      let n : ℕ = lock.due - place in
+      let k : ℕ = place + m - (lock.due + 1) in
+      let bits : m ≡ (n + 1) + k = omega (arith, soon, within) in
+      let next : place + (n + 1) ≡ lock.due + 1 = omega (arith, soon) in
+      let first = run-reading b rules lock place n (omega (arith, soon)) in
+      let whole : run b rules (Locked lock) place m
+      ≡ ((run b rules (step b rules lock.due (Locked lock)) (lock.due + 1) k).0, items_at b rules lock.due (Locked lock) ++ (run b rules (step b rules lock.due (Locked lock)) (lock.due + 1) k).1) =
+      ap (λ (l : ℕ). run b rules (Locked lock) place l) bits
+      ∙ run-append b rules (Locked lock) place (n + 1) k
+      ∙ ap₂ (λ (r : State × List Item) (q : ℕ). ((run b rules r.0 q k).0, r.1 ++ (run b rules r.0 q k).1)) first next in
+      ap (λ (r : State × List Item). r.1 ++ items_of_end b rules r.0) whole
+      ∙ append_assoc (items_at b rules lock.due (Locked lock)) (run b rules (step b rules lock.due (Locked lock)) (lock.due + 1) k).1 _
+
+  -- one block more
+  one_on : (f x p : ℕ) (items : List Item) → 1 ≤ x → Opens f x p items → (q : ℕ) → q + 26 ≡ p → Opens f (x - 1) q items
+  one_on f x p items some o q at = record {
+    y = o.y;
+    rest = o.rest;
+    order = (omega (arith, o.order), o.order.1);
+    is = o.is ∙ ap (λ (r : ℕ). Group (group b rules f o.y r) ∷ o.rest) (omega (arith, o.order, at, some));
+  }
+
+  module _ (loss : IsLoss rules.loss) where
+    opens : (k : ℕ) (lock : Lock) (place m : ℕ) → IsLawfulLock rules place lock → lock.number ≢ 1 → 4 < lock.number + k
+        → Opens lock.first (lock.number - 1) (lock.due - 26) (to_end (Locked lock) place m)
+    opens zero lock place m lawful inside fuel = absurd (omega (arith, fuel, (lawful-numbers rules place lock lawful).2))
+    opens (suc k) lock place m lawful inside fuel =
+        let x : ℕ = lock.number in
+        let numbers = lawful-numbers rules place lock lawful in
+        let second : 2 ≤ x = omega (arith, numbers, inside) in
+        let p : ℕ = lock.due - 26 in
+        let late : 26 ≤ lock.due = by_order lock.first x lock.due lawful.in_order inside lawful.enough_bits in
+        let here : lock.due ≡ p + 26 * (x - (x - 1)) = omega (arith, late, second) in
+        let later : List Item = to_end (step b rules lock.due (Locked lock)) (lock.due + 1) (place + m - (lock.due + 1)) in
+        elim (cases_lt lock.due (place + m)) [
+          | inr early ↦
+              let at : p ≡ p + 26 * (x - 1 - (x - 1)) = omega arith in
+              record {
+                y = x - 1;
+                rest = [];
+                order = (omega arith, omega (arith, numbers.2));
+                is = ap (λ (r : State × List Item). r.1 ++ items_of_end b rules r.0) (run-waiting b rules lock place m early)
+                    ∙ ap (λ (t : Bool). elim t as (λ _. List Item) [ true ↦ [] | false ↦ Group (group b rules lock.first (x - 1) p) ∷ [] ]) (ne_eqb x 1 inside)
+                    ∙ ap (λ (q : ℕ). Group (group b rules lock.first (x - 1) q) ∷ []) at;
+              }
+          | inl reached ↦
+              let due : to_end (Locked lock) place m ≡ items_at b rules lock.due (Locked lock) ++ later = to_end-due lock place m lawful.soon.0 reached in
+              elim (cases_Bool (are_too_many rules.loss (bad_with b rules lock.due x lock.bad))) [
+                | inl many ↦ record {
+                  y = x;
+                  rest = LostLock lock.due ∷ later;
+                  order = (omega arith, numbers.2);
+                  is = due ∙ ap (λ (is : List Item). is ++ later) (items-losing b rules lock many ∙ ap (λ (q : ℕ). Group (group b rules lock.first x q) ∷ LostLock lock.due ∷ []) here);
+                }
+                | inr kept ↦ elim (cases_eq x 4) [
+                  | inl four ↦ record {
+                    y = x;
+                    rest = later;
+                    order = (omega arith, numbers.2);
+                    is = due ∙ ap (λ (is : List Item). is ++ later)
+                        (items-keeping b rules lock kept
+                        ∙ ap (λ (t : Bool). elim t as (λ _. List Item) [ true ↦ Group (group b rules lock.first x lock.due) ∷ [] | false ↦ [] ]) (eq-eqb x 4 four)
+                        ∙ ap (λ (q : ℕ). Group (group b rules lock.first x q) ∷ []) here);
+                  }
+                  | inr fewer ↦
+                      let bad : ℕ = bad_with b rules lock.due x lock.bad in
+                      let n : x % 4 + 1 ≡ x + 1 = omega (arith, numbers, fewer) in
+                      let after : Locked (lock_after lock.due x bad lock.first) ≡ Locked (lock_of (lock.due + 26) (x + 1) bad lock.first) =
+                      ap₂ (λ (y f : ℕ). Locked (lock_of (lock.due + 26) y bad f)) n (ap (λ (t : Bool). if t then 1 else lock.first) (ne_eqb x 4 fewer)) in
+                      let state : step b rules lock.due (Locked lock) ≡ Locked (lock_of (lock.due + 26) (x + 1) bad lock.first) = step-keeping b rules lock kept ∙ after in
+                      let none : items_at b rules lock.due (Locked lock) ≡ [] =
+                      items-keeping b rules lock kept ∙ ap (λ (t : Bool). elim t as (λ _. List Item) [ true ↦ Group (group b rules lock.first x lock.due) ∷ [] | false ↦ [] ]) (ne_eqb x 4 fewer) in
+                      let next : ℕ = place + m - (lock.due + 1) in
+                      let rest = opens k (lock_of (lock.due + 26) (x + 1) bad lock.first) (lock.due + 1) next
+                      (subst (IsLawful rules (lock.due + 1)) state (lawful-due b rules place lock loss lawful)) (λ e. absurd (omega (arith, e, second))) (omega (arith, fuel)) in
+                      let there : List Item = to_end (Locked (lock_of (lock.due + 26) (x + 1) bad lock.first)) (lock.due + 1) next in
+                      let all : there ≡ to_end (Locked lock) place m = ap (λ (t : State). to_end t (lock.due + 1) next) (sym state) ∙ sym (due ∙ ap (λ (is : List Item). is ++ later) none) in
+                      let back : x + 1 - 1 ≡ x = omega arith in
+                      let at : lock.due + 26 - 26 ≡ lock.due = omega arith in
+                      one_on lock.first x lock.due (to_end (Locked lock) place m) (omega (arith, second))
+                      (subst (λ (is : List Item). Opens lock.first x lock.due is) all
+                      (subst (λ (y : ℕ). Opens lock.first y lock.due there) back (subst (λ (q : ℕ). Opens lock.first (x + 1 - 1) q there) at rest)))
+                      p (omega (arith, late))
+                ]
+              ]
+        ]
+      where
+        by_order : (f x due : ℕ) → ((x ≡ 1) × (f ≡ 1)) ⊎ ((1 ≤ f) × (f < x) × (x ≤ 4)) → x ≢ 1 → 26 * (x - f) + 25 ≤ due → 26 ≤ due
+        by_order f x due (inl one) inside room = absurd (inside one.0)
+        by_order f x due (inr more) inside room = omega (arith, more, room)
+
+-- ---- what it goes on from
+
+module _ (b : Signal) (rules : RuleNumbers) (f x y p : ℕ) (low : 1 ≤ f) (order : f ≤ x) (more : x ≤ y) (room : 26 * (x - f) + 25 ≤ p) where
+  abbrev later_place : ℕ
+  later_place = p + 26 * (y - x)
+
+  same_block : (wanted : Wanted) (q : ℕ) → q ≤ x → block_at b rules f y later_place wanted q ≡ block_at b rules f x p wanted q
+  same_block wanted q within = elim (cases_lt q f) [
+    | inl early ↦ block_at-missing b rules f y later_place wanted q (inl early) ∙ sym (block_at-missing b rules f x p wanted q (inl early))
+    | inr late ↦
+        let at : later_place - 26 * (y - q) ≡ p - 26 * (x - q) = omega (arith, more, within) in
+        block_at-read b rules f y later_place wanted q late (omega (arith, within, more))
+        ∙ ap (λ (i : ℕ). Read (reading_at b i q wanted rules.burst)) at
+        ∙ sym (block_at-read b rules f x p wanted q late within)
+  ]
+
+  block_goes_on : (one two : Wanted) (q : ℕ) → (q ≤ x → one ≡ two)
+      → (Some (block_at b rules f x p one q) ≡ Some Missing) ⊎ (Some (block_at b rules f y later_place two q) ≡ Some (block_at b rules f x p one q))
+  block_goes_on one two q same = elim (cases_lt x q) [
+    | inl late ↦ inl (ap (λ (block : Block). Some block) (block_at-missing b rules f x p one q (inr late)))
+    | inr within ↦ inr (ap (λ (block : Block). Some block) (ap (λ (w : Wanted). block_at b rules f y later_place w q) (sym (same within)) ∙ same_block one q within))
+  ]
+
+  group_goes_on : x < 4 → GoesOn (group b rules f x p) (group b rules f y later_place)
+  unfolding group
+  group_goes_on few = record {
+    unfinished = ap (λ (block : Block). Some block) (block_at-missing b rules f x p Either 4 (inr few));
+    place = omega (arith, order, more, room);
+    blocks = blocks;
+  }
+    where
+      blocks : (z : ℕ) → (slice_get (blocks_at b rules f x p) z ≡ Some Missing) ⊎ (slice_get (blocks_at b rules f y later_place) z ≡ slice_get (blocks_at b rules f x p) z)
+      blocks zero = block_goes_on Either Either 1 (λ h. refl)
+      blocks (suc zero) = block_goes_on Either Either 2 (λ h. refl)
+      blocks (suc (suc zero)) = block_goes_on (wanted_beside (block_at b rules f x p Either 2)) (wanted_beside (block_at b rules f y later_place Either 2)) 3
+          (λ h. ap wanted_beside (sym (same_block Either 2 (omega (arith, h)))))
+      blocks (suc (suc (suc zero))) = block_goes_on Either Either 4 (λ h. refl)
+      blocks (suc (suc (suc (suc z)))) = inr refl
+
+-- ---- the reports
+
+module _ (longer shorter : Signal) (rules : RuleNumbers) (loss : IsLoss rules.loss) (begins : BeginsWith longer shorter) where
+  abbrev n : ℕ
+  n = length_of shorter
+
+  abbrev m : ℕ
+  m = length begins.more
+
+  long : length_of longer ≡ n + m
+  long = ap (λ (bits : List ℕ). length bits) begins.bits ∙ length-append shorter.bits begins.more
+
+  ends : (t : State) → IsLawful rules n t → EndGoesOn (items_of_end shorter rules t) (to_end longer rules t n m)
+  ends Searching lawful = tt
+  ends (Locked lock) lawful = elim (cases_eq lock.number 1) [
+    | inl one ↦
+        let none : items_of_end shorter rules (Locked lock) ≡ [] =
+        ap (λ (t : Bool). elim t as (λ _. List Item) [ true ↦ [] | false ↦ Group (group shorter rules lock.first (lock.number - 1) (lock.due - 26)) ∷ [] ]) (eq-eqb lock.number 1 one) in
+        subst (λ (is : List Item). EndGoesOn is (to_end longer rules (Locked lock) n m)) (sym none) tt
+    | inr inside ↦
+        let x : ℕ = lock.number - 1 in
+        let p : ℕ = lock.due - 26 in
+        let numbers = lawful-numbers rules n lock lawful in
+        let order : (1 ≤ lock.first) × (lock.first ≤ x) × (x < 4) = in_order lock.first lock.number lawful.in_order inside in
+        let some : items_of_end shorter rules (Locked lock) ≡ Group (group shorter rules lock.first x p) ∷ [] =
+        ap (λ (t : Bool). elim t as (λ _. List Item) [ true ↦ [] | false ↦ Group (group shorter rules lock.first x p) ∷ [] ]) (ne_eqb lock.number 1 inside) in
+        let one : group longer rules lock.first x p ≡ group shorter rules lock.first x p =
+        group-alike longer shorter begins rules lock.first x p (omega (arith, lawful.soon, order, lawful.enough_bits)) in
+        let next = opens longer rules loss 4 lock n m lawful inside (omega (arith, numbers)) in
+        let goes = group_goes_on longer rules lock.first x next.y p order.0 order.1 next.order.0 (omega (arith, lawful.enough_bits, order)) order.2 in
+        subst (λ (is : List Item). EndGoesOn is (to_end longer rules (Locked lock) n m)) (sym (some ∙ ap (λ (g : GroupOf). Group g ∷ []) (sym one)))
+        (subst (λ (is : List Item). EndGoesOn (Group (group longer rules lock.first x p) ∷ []) is) (sym next.is) goes)
+  ]
+    where
+      in_order : (f x : ℕ) → ((x ≡ 1) × (f ≡ 1)) ⊎ ((1 ≤ f) × (f < x) × (x ≤ 4)) → x ≢ 1 → (1 ≤ f) × (f ≤ x - 1) × (x - 1 < 4)
+      in_order f x (inl one) inside = absurd (inside one.0)
+      in_order f x (inr more) inside = (more.0, omega (arith, more), omega (arith, more))
+
+  adds_items : OnlyAddsItems (report_items shorter rules) (report_items longer rules)
+  adds_items =
+      let run_shorter : State × List Item = run shorter rules Searching 0 n in
+      let t : State = run_shorter.0 in
+      let start : 0 + n ≡ n = omega arith in
+      let lawful : IsLawful rules n t = subst (λ (q : ℕ). IsLawful rules q t) start (lawful-run shorter rules loss Searching 0 n tt) in
+      let whole : run longer rules Searching 0 (length_of longer) ≡ ((run longer rules t n m).0, run_shorter.1 ++ (run longer rules t n m).1) =
+      ap (λ (l : ℕ). run longer rules Searching 0 l) long
+      ∙ run-append longer rules Searching 0 n m
+      ∙ ap₂ (λ (r : State × List Item) (q : ℕ). ((run longer rules r.0 q m).0, r.1 ++ (run longer rules r.0 q m).1)) (run-alike longer shorter begins rules Searching 0 n (omega arith)) start in
+      record {
+        common = run_shorter.1;
+        end = items_of_end shorter rules t;
+        later = to_end longer rules t n m;
+        shorter_is = sym (run_is_report shorter rules loss);
+        longer_is = sym (run_is_report longer rules loss)
+            ∙ ap (λ (r : State × List Item). r.1 ++ items_of_end longer rules r.0) whole
+            ∙ append_assoc run_shorter.1 (run longer rules t n m).1 (items_of_end longer rules (run longer rules t n m).0);
+        goes_on = ends t lawful;
+      }
+
+pub longer_recordings_add_items : LongerRecordingsAddItems
+longer_recordings_add_items longer shorter rules loss begins = adds_items longer shorter rules loss begins
+
+-- ---- a beginning
+
+clipped_touch : (n i : ℕ) (gap : ℕ × ℕ) → i < n → is_touched_by i (gap.0, min gap.1 n) ≡ is_touched_by i gap
+clipped_touch n i gap within = ap (λ (t : Bool). nat_le gap.0 i && t) (elim (cases_lt (i - 25) gap.1) [
+  | inl some ↦ lt-ltb (i - 25) (min gap.1 n) (omega (arith, some, within)) ∙ sym (lt-ltb (i - 25) gap.1 some)
+  | inr none ↦ le-ltb (i - 25) (min gap.1 n) (omega (arith, none)) ∙ sym (le-ltb (i - 25) gap.1 none)
+])
+
+clipped_all : (n i : ℕ) (gaps : List (ℕ × ℕ)) → i < n
+    → list_any (is_touched_by i) gaps ≡ list_any (is_touched_by i) (map (λ (gap : ℕ × ℕ). (gap.0, min gap.1 n)) (filter (λ (gap : ℕ × ℕ). nat_lt gap.0 n) gaps))
+clipped_all n i [] within = refl
+clipped_all n i (gap ∷ gaps) within =
+    let rest = clipped_all n i gaps within in
+    let all : Bool → Bool = λ t. list_any (is_touched_by i) (map (λ (g : ℕ × ℕ). (g.0, min g.1 n)) (cond t (gap ∷ filter (λ (g : ℕ × ℕ). nat_lt g.0 n) gaps) (filter (λ (g : ℕ × ℕ). nat_lt g.0 n) gaps))) in
+    elim (cases_lt gap.0 n) [
+      | inl kept ↦ ap₂ ◌||◌ (sym (clipped_touch n i gap within)) rest ∙ sym (ap all (lt-ltb gap.0 n kept))
+      | inr dropped ↦
+          let none : is_touched_by i gap ≡ false = ap (λ (t : Bool). t && nat_lt (i - 25) gap.1) (lt-leb gap.0 i (omega (arith, within, dropped))) in
+          ap₂ ◌||◌ none rest ∙ sym (ap all (le-ltb gap.0 n dropped))
+    ]
+
+pub beginnings_begin : BeginningsBegin
+unfolding touched
+beginnings_begin b n few = record {
+  more = drop n b.bits;
+  bits = sym (take-append-drop n b.bits);
+  gaps = λ i within. clipped_all n i b.gaps (omega (arith, within, length-take n b.bits));
+}
+
+-- ---- the totals
+
+-- a sum over blocks of which those that were read are the same
+sum_goes_on : (f : Block → ℕ) → f Missing ≡ 0 → (xs ys : List Block)
+    → ((y : ℕ) → (slice_get xs y ≡ Some Missing) ⊎ (slice_get ys y ≡ slice_get xs y)) → sum_by f xs ≤ sum_by f ys
+sum_goes_on f none [] ys goes = omega arith
+sum_goes_on f none (a ∷ xs) [] goes = elim (goes 0) [
+  | inl missing ↦
+      let is : a ≡ Missing = cc missing in
+      omega (arith, sum_by-cons f a xs, ap f is, none, sum_goes_on f none xs [] (λ y. goes (suc y)))
+  | inr same ↦ cc same
+]
+sum_goes_on f none (a ∷ xs) (b ∷ ys) goes =
+    let rest = sum_goes_on f none xs ys (λ y. goes (suc y)) in
+    elim (goes 0) [
+      | inl missing ↦
+          let is : a ≡ Missing = cc missing in
+          omega (arith, sum_by-cons f a xs, sum_by-cons f b ys, ap f is, none, rest)
+      | inr same ↦
+          let is : b ≡ a = cc same in
+          omega (arith, sum_by-cons f a xs, sum_by-cons f b ys, ap f is, rest)
+    ]
+
+-- a sum over items of which the last may go on
+ends_grow : (w : Item → ℕ) → ((g h : GroupOf) → GoesOn g h → w (Group g) ≤ w (Group h)) → (end later : List Item) → EndGoesOn end later → sum_by w end ≤ sum_by w later
+ends_grow w more [] later goes = omega arith
+ends_grow w more (Group g ∷ []) [] goes = absurd goes
+ends_grow w more (Group g ∷ []) (Group h ∷ later) goes = omega (arith, sum_by-cons w (Group g) [], sum_by-cons w (Group h) later, more g h goes)
+ends_grow w more (Group g ∷ []) (Acquired a x ∷ later) goes = absurd goes
+ends_grow w more (Group g ∷ []) (LostLock a ∷ later) goes = absurd goes
+ends_grow w more (Group g ∷ item ∷ end) later goes = absurd goes
+ends_grow w more (Acquired a x ∷ end) later goes = absurd goes
+ends_grow w more (LostLock a ∷ end) later goes = absurd goes
+
+module _ (shorter longer : List Item) (adds : OnlyAddsItems shorter longer) where
+  grows : (w : Item → ℕ) → ((g h : GroupOf) → GoesOn g h → w (Group g) ≤ w (Group h)) → sum_by w shorter ≤ sum_by w longer
+  grows w more =
+      omega (
+        arith,
+        ap (λ (is : List Item). sum_by w is) adds.shorter_is,
+        ap (λ (is : List Item). sum_by w is) adds.longer_is,
+        sum_by-append w adds.common adds.end,
+        sum_by-append w adds.common adds.later,
+        ends_grow w more adds.end adds.later adds.goes_on,
+      )
+
+  blocks_grow : (f : Block → ℕ) → f Missing ≡ 0 → sum_blocks f shorter ≤ sum_blocks f longer
+  blocks_grow f none = grows (λ (item : Item). elim item as (λ _. ℕ) [ Acquired a x ↦ 0 | Group g ↦ sum_by f g.blocks | LostLock a ↦ 0 ]) (λ g h goes. sum_goes_on f none g.blocks h.blocks goes.blocks)
+
+  -- a group that goes on is not complete
+  not_complete : (g h : GroupOf) → GoesOn g h → is_complete (Group g) ≡ false
+  not_complete g h goes =
+      list_all_at (λ (block : Block). is_some (info_of block)) g.blocks 3 Missing (slice_get_within g.blocks 3 Missing goes.unfinished)
+      (ap (λ (block : Block). is_some (info_of block)) (get_or_from_slice_get g.blocks 3 Missing Missing goes.unfinished))
+
+  no_less : AreNoLess (totals_of shorter) (totals_of longer)
+  no_less = record {
+    valid = blocks_grow (λ block. if is_valid block then 1 else 0) refl;
+    bursts = bursts;
+    lost = blocks_grow (λ block. if is_lost block then 1 else 0) refl;
+    bits = blocks_grow bits_corrected refl;
+    groups = grows (λ item. cond (is_group item) 1 0) (λ g h goes. omega arith);
+    complete = grows (λ item. cond (is_complete item) 1 0) (λ g h goes. omega (arith, ap (λ (t : Bool). number_of t) (not_complete g h goes)));
+    acquired = grows (λ item. cond (is_acquired item) 1 0) (λ g h goes. omega arith);
+    losses = grows (λ item. cond (is_loss item) 1 0) (λ g h goes. omega arith);
+  }
+    where
+      number_of : Bool → ℕ
+      number_of t = cond t 1 0
+
+      by_span : (s : ℕ) → count_blocks (is_corrected_by s) shorter ≤ count_blocks (is_corrected_by s) longer
+      by_span s = blocks_grow (λ block. if is_corrected_by s block then 1 else 0) refl
+
+      bursts : (y : ℕ) → slice_index (totals_of shorter).bursts y ≤ slice_index (totals_of longer).bursts y
+      bursts zero = by_span 1
+      bursts (suc zero) = by_span 2
+      bursts (suc (suc zero)) = by_span 3
+      bursts (suc (suc (suc zero))) = by_span 4
+      bursts (suc (suc (suc (suc zero)))) = by_span 5
+      bursts (suc (suc (suc (suc (suc y))))) = omega arith
+
+pub totals_only_grow : TotalsOnlyGrow
+totals_only_grow longer shorter rules loss begins = no_less (report_items shorter rules) (report_items longer rules) (adds_items longer shorter rules loss begins)

@@ -1,0 +1,364 @@
+-- What a run gives of groups that were sent: in a lock, and from the first bit of a recording on.
+use Rattle.std.proofs.Common.{◌≡◌, ℕ, zero, suc, ◌+◌, ◌-◌, ◌*◌, ◌<◌, ◌≤◌, List, [], ◌∷◌, ◌++◌, length, Option, Some, None, Bool, true, false, refl, sym, ap, ap₂, subst, ◌∙◌, arith, inl, append-nil, bit_xor, get_or, flat_map}
+use Rattle.std.specs.Int.Bits.{xor_zero_r}
+use Rattle.std.specs.Prelude.{◌||◌, ◌==◌}
+use Rattle.std.specs.List.{list_any, range_with_len}
+use Rattle.std.proofs.lemmas.Bool.{eq-eqb, ne_eqb}
+use Rattle.rds_code.specs.declared.offset.Offset.{Offset}
+use Rattle.rds_code.specs.declared.offset.Offset.TheVariants.{A, B, C, Cx, D}
+use Rattle.rds_code.specs.Encoding.{third_offset}
+use Rattle.rds_code.specs.Offsets.{number, word, offset_of}
+use Rattle.rds_code.specs.Remainder.{rem}
+use Rattle.rds_stream.specs.Recording.{Signal, length_of, offset_heard, off}
+use Rattle.rds_sync.specs.declared.item.Block.{Block}
+use Rattle.rds_sync.specs.declared.item.Group.{Group as GroupOf}
+use Rattle.rds_sync.specs.declared.item.Item.{Item}
+use Rattle.rds_sync.specs.declared.item.Item.TheVariants.{Acquired, Group}
+use Rattle.rds_sync.specs.declared.state.State.{State}
+use Rattle.rds_sync.specs.declared.state.State.TheVariants.{Searching, Locked}
+use Rattle.rds_sync.specs.declared.totals.Totals.{Totals}
+use Rattle.rds_sync.specs.Acquiring.{acquired, has_number, has_partner, is_in_step, is_numbered}
+use Rattle.rds_sync.specs.Codes.{Outcome, outcome_of, was_valid}
+use Rattle.rds_sync.specs.Counting.{plus}
+use Rattle.rds_sync.specs.Groups.{group}
+use Rattle.rds_sync.specs.Inside.CodeRuns.{AreValid}
+use Rattle.rds_sync.specs.Loss.{IsLoss, are_too_many, bad_after}
+use Rattle.rds_sync.specs.Marks.{bad_over, good_at}
+use Rattle.rds_sync.specs.Report.{report_items}
+use Rattle.rds_sync.specs.Rules.{RuleNumbers}
+use Rattle.rds_sync.specs.Sent.{IsHeardFrom, GroupIsHeard, AreHeard, block_sent, group_sent, items_sent, SentGroup, four_damages, AreHeardDamaged, items_damaged, bad_after_blocks, KeepLock, SentGroupsAreListed, LockedGroupsAreListed, DamagedGroupsAreListed, SoundSignalIsDecoded}
+use Rattle.rds_sync.specs.Step.{run, items_of_end, lock_of}
+use Rattle.rds_sync.specs.Totals.{totals_of, is_valid}
+use Rattle.rds_sync.proofs.BadRows.{good_keeps}
+use Rattle.rds_sync.proofs.CleanGroups.{all_valid, clean-outcomes}
+use Rattle.rds_sync.proofs.CodeMarks.{none-kept}
+use Rattle.rds_sync.proofs.CodeTotals.{valid_is}
+use Rattle.rds_sync.proofs.Converge.{runs_converge}
+use Rattle.rds_sync.proofs.GroupOutcomes.{outcomes, good-at}
+use Rattle.rds_sync.proofs.HeardGroups.{each-of-four, all-four, kept-each}
+use Rattle.rds_sync.proofs.HeardLemmas.{off-heard, good-heard}
+use Rattle.rds_sync.proofs.LawfulLemmas.{acquired-place, acquired-some}
+use Rattle.rds_sync.proofs.LossLemmas.{lawful_none}
+use Rattle.rds_sync.proofs.RunIsReport.{run_is_report}
+use Rattle.rds_sync.proofs.RunLemmas.{run-append, run-found, run-places, step-acquiring, items-acquiring}
+use Rattle.rds_sync.proofs.SentGroups.{CodeLaws, groups_are_corrected, third_number}
+use Rattle.rds_sync.proofs.TotalsLemmas.{totals_of-append, same_counts}
+use Rattle.rds_sync.proofs.WholeGroupLemmas.{block-then, whole_group}
+
+-- ---- blocks as they were sent
+
+word_offset : (o : Offset) → offset_of (word o) ≡ Some o
+word_offset A = refl
+word_offset B = refl
+word_offset C = refl
+word_offset Cx = refl
+word_offset D = refl
+
+module _ (b : Signal) where
+  heard_offset : (limit place info : ℕ) (o : Offset) (h : IsHeardFrom b limit place info o 0) → offset_of (rem (bit_xor h.sent 0)) ≡ Some o
+  heard_offset limit place info o h = ap (λ (w : ℕ). offset_of (rem w)) (xor_zero_r h.sent) ∙ ap offset_of h.block.remainder ∙ word_offset o
+
+  sent_off : (limit place info : ℕ) (o : Offset) → 25 ≤ place → IsHeardFrom b limit place info o 0 → off b place ≡ Some o
+  sent_off limit place info o late h = off-heard b place late ∙ ap offset_heard h.heard_is ∙ heard_offset limit place info o h
+
+  sent_number : (limit place info x : ℕ) (o : Offset) → 25 ≤ place → number o ≡ x → IsHeardFrom b limit place info o 0 → has_number b place x ≡ true
+  sent_number limit place info x o late own h =
+      sym (good-heard b place x (Some (bit_xor h.sent 0)) true late (sym h.heard_is)
+      (sym (ap (λ (w : Option Offset). is_numbered w x) (heard_offset limit place info o h) ∙ eq-eqb (number o) x own)))
+
+  widened : (limit place info : ℕ) (o : Offset) → IsHeardFrom b 0 place info o 0 → IsHeardFrom b limit place info o 0
+  widened limit place info o h = record { sent = h.sent; block = h.block; heard_is = h.heard_is; damage = inl refl }
+
+  -- a group without damage is one within each limit
+  wider : (limit first p : ℕ) (words : List ℕ) → 1 ≤ first → GroupIsHeard b 0 1 p words [] → GroupIsHeard b limit first p words []
+  wider limit first p words low h = record {
+    one = λ early. widened limit _ _ A (h.one (omega arith));
+    two = widened limit _ _ B h.two;
+    three = widened limit _ _ (third_offset _) h.three;
+    four = widened limit _ _ D h.four;
+    no_version_burst = λ five same. absurd (omega (arith, same));
+  }
+
+-- ---- the run
+
+module _ (b : Signal) (rules : RuleNumbers) where
+  -- a run over m bits and then n, each as a state and items
+  pub run-then : (s t u : State) (is js : List Item) (a m n : ℕ) → run b rules s a m ≡ (t, is) → run b rules t (a + m) n ≡ (u, js) → run b rules s a (m + n) ≡ (u, is ++ js)
+  run-then s t u is js a m n first rest =
+      run-append b rules s a m n
+      ∙ ap (λ (r : State × List Item). ((run b rules r.0 (a + m) n).0, r.1 ++ (run b rules r.0 (a + m) n).1)) first
+      ∙ ap (λ (r : State × List Item). (r.0, is ++ r.1)) rest
+
+  any_first : (p : ℕ → Bool) (n : ℕ) → 1 ≤ n → p 1 ≡ true → list_any p (range_with_len 1 n) ≡ true
+  any_first p zero some h = absurd (omega arith)
+  any_first p (suc n) some h = ap (λ (t : Bool). t || list_any p (range_with_len 2 n)) h
+
+  -- block 2 acquires, as block 1 is its partner
+  acquires : (words : List ℕ) → 1 ≤ rules.reach → GroupIsHeard b 0 1 103 words [] → acquired b rules 51 ≡ Some 2
+  acquires words reach h =
+      let partner : has_partner b 51 2 1 ≡ true = ap (λ (w : Option Offset). is_in_step w 2 1) (sent_off b 0 25 _ A (omega arith) (h.one (omega arith))) in
+      acquired-some b rules 51 B (sent_off b 0 51 _ B (omega arith) h.two)
+      ∙ ap (λ (t : Bool). elim t as (λ _. Option ℕ) [ true ↦ Some 2 | false ↦ None ]) (any_first (has_partner b 51 2) rules.reach reach partner)
+
+  -- and nothing before it
+  quiet : (i : ℕ) → 0 ≤ i → i < 51 → acquired b rules i ≡ None
+  quiet i low early = at_case (acquired b rules i) refl where
+    at_case : (w : Option ℕ) → acquired b rules i ≡ w → w ≡ None
+    at_case None e = refl
+    at_case (Some x) e = absurd (omega (arith, acquired-place b rules i x e))
+
+  module _ (laws : CodeLaws) (loss : IsLoss rules.loss) (few : rules.burst ≤ 5) where
+    abbrev L : ℕ → ℕ
+    L bad = bad_after rules.loss true bad
+
+    none : L 0 ≡ 0
+    none = none-kept rules.loss
+
+    none2 : L (L 0) ≡ 0
+    none2 = ap L none ∙ none
+
+    none3 : L (L (L 0)) ≡ 0
+    none3 = ap L none2 ∙ none
+
+    none4 : L (L (L (L 0))) ≡ 0
+    none4 = ap L none3 ∙ none
+
+    kept : (bad : ℕ) → bad ≡ 0 → are_too_many rules.loss bad ≡ false
+    kept bad e = ap (are_too_many rules.loss) (e ∙ sym none) ∙ good_keeps rules.loss 0 (lawful_none rules.loss loss)
+
+    sent_group : (first p place : ℕ) (words : List ℕ) → 1 ≤ first → first ≤ 2 → p - 26 * (4 - first) - 25 ≡ place → GroupIsHeard b 0 1 p words []
+        → group b rules first 4 p ≡ group_sent first place words []
+    sent_group first p place words low high at h =
+        groups_are_corrected laws b rules first p words [] low high few (wider b rules.burst first p words low h)
+        ∙ ap (λ (q : ℕ). group_sent first q words []) at
+
+    -- one whole group
+    one_group : (place : ℕ) (words : List ℕ) → GroupIsHeard b 0 1 (place + 103) words []
+        → run b rules (Locked (lock_of (place + 25) 1 0 1)) place 104 ≡ (Locked (lock_of (place + 104 + 25) 1 0 1), Group (group_sent 1 place words []) ∷ [])
+    one_group place words h =
+        let due : ℕ = place + 25 in
+        let late : 25 ≤ due = omega arith in
+        let at1 : place + 103 - 78 ≡ due = omega arith in
+        let at2 : place + 103 - 52 ≡ due + 26 = omega arith in
+        let at3 : place + 103 - 26 ≡ due + 52 = omega arith in
+        let at4 : place + 103 ≡ due + 78 = omega arith in
+        let valid : AreValid b due = record {
+          one = subst (λ (q : ℕ). has_number b q 1 ≡ true) at1 (sent_number b 0 (place + 103 - 78) _ 1 A (omega arith) refl (h.one (omega arith)));
+          two = subst (λ (q : ℕ). has_number b q 2 ≡ true) at2 (sent_number b 0 (place + 103 - 52) _ 2 B (omega arith) refl h.two);
+          three = subst (λ (q : ℕ). has_number b q 3 ≡ true) at3 (sent_number b 0 (place + 103 - 26) _ 3 (third_offset _) (omega arith) (third_number _) h.three);
+          four = subst (λ (q : ℕ). has_number b q 4 ≡ true) at4 (sent_number b 0 (place + 103) _ 4 D (omega arith) refl h.four);
+        } in
+        let os : List Outcome = outcomes (group b rules 1 4 (due + 78)) in
+        let clean : os ≡ all_valid = clean-outcomes b rules due late valid in
+        let fewer : (k : ℕ) → k < 4 → are_too_many rules.loss (bad_over rules.loss os 0 1 (k + 1)) ≡ false =
+        subst (λ (o : List Outcome). (k : ℕ) → k < 4 → are_too_many rules.loss (bad_over rules.loss o 0 1 (k + 1)) ≡ false) (sym clean)
+        (each-of-four (λ (k : ℕ). are_too_many rules.loss (bad_over rules.loss all_valid 0 1 (k + 1)) ≡ false) (kept (L 0) none) (kept (L (L 0)) none2) (kept (L (L (L 0))) none3) (kept (L (L (L (L 0)))) none4)) in
+        let bad : bad_over rules.loss os 0 1 4 ≡ 0 = ap (λ (o : List Outcome). bad_over rules.loss o 0 1 4) clean ∙ none4 in
+        let back : due - 25 ≡ place = omega arith in
+        let next : due + 104 ≡ place + 104 + 25 = omega arith in
+        let own : group b rules 1 4 (due + 78) ≡ group_sent 1 place words [] = ap (λ (q : ℕ). group b rules 1 4 q) (sym at4) ∙ sent_group 1 (place + 103) place words (omega arith) (omega arith) (omega arith) h in
+        ap (λ (q : ℕ). run b rules (Locked (lock_of due 1 0 1)) q 104) (sym back)
+        ∙ whole_group b rules due 0 late fewer
+        ∙ ap₂ (λ (q d : ℕ). (Locked (lock_of q 1 d 1), Group (group b rules 1 4 (due + 78)) ∷ [])) next bad
+        ∙ ap (λ (g : _). (Locked (lock_of (place + 104 + 25) 1 0 1), Group g ∷ [])) own
+
+    -- and so many
+    pub groups_listed : (place : ℕ) (groups : List (List ℕ)) → AreHeard b place groups
+        → run b rules (Locked (lock_of (place + 25) 1 0 1)) place (104 * length groups) ≡ (Locked (lock_of (place + 104 * length groups + 25) 1 0 1), items_sent place groups)
+    groups_listed place [] h =
+        let end : place + 25 ≡ place + 104 * 0 + 25 = omega arith in
+        ap (λ (q : ℕ). (Locked (lock_of q 1 0 1), [])) end
+    groups_listed place (words ∷ groups) h =
+        let n : ℕ = length groups in
+        let bits : 104 * suc n ≡ 104 + 104 * n = omega arith in
+        let end : place + 104 + 104 * n + 25 ≡ place + 104 * suc n + 25 = omega arith in
+        ap (λ (m : ℕ). run b rules (Locked (lock_of (place + 25) 1 0 1)) place m) bits
+        ∙ run-then (Locked (lock_of (place + 25) 1 0 1)) _ _ _ _ place 104 (104 * n) (one_group place words h.0) (groups_listed (place + 104) groups h.1)
+        ∙ ap (λ (q : ℕ). (Locked (lock_of q 1 0 1), items_sent place (words ∷ groups))) end
+
+    -- the first group of a recording
+    first_group : (words : List ℕ) → 1 ≤ rules.reach → GroupIsHeard b 0 1 103 words []
+        → run b rules Searching 0 104 ≡ (Locked (lock_of 129 1 0 1), Acquired 51 2 ∷ Group (group_sent 2 26 words []) ∷ [])
+    first_group words reach h =
+        let here = acquires words reach h in
+        let search : run b rules Searching 0 52 ≡ (Locked (lock_of 77 3 0 2), Acquired 51 2 ∷ []) =
+        run-found b rules 0 51 (omega arith) quiet ∙ ap₂ (λ (t : State) (is : List Item). (t, is)) (step-acquiring b rules 51 2 here) (items-acquiring b rules 51 2 here) in
+        let third = block-then b rules 77 3 0 2 true 26 (omega arith) (sent_number b 0 77 _ 3 (third_offset _) (omega arith) (third_number _) h.three) (kept (L 0) none) in
+        let fourth = block-then b rules 103 4 (L 0) 2 true 0 (omega arith) (sent_number b 0 103 _ 4 D (omega arith) refl h.four) (kept (L (L 0)) none2) in
+        let two : run b rules (Locked (lock_of 77 3 0 2)) 52 52 ≡ (Locked (lock_of 129 1 0 1), Group (group_sent 2 26 words []) ∷ []) =
+        third ∙ fourth
+        ∙ ap₂ (λ (d : ℕ) (g : _). (Locked (lock_of 129 1 d 1), Group g ∷ [])) none2 (sent_group 2 103 26 words (omega arith) (omega arith) refl h) in
+        run-then Searching _ _ _ _ 0 52 52 search two
+
+-- ---- the report
+
+-- the totals of whole groups
+totals_whole : ℕ → Totals
+totals_whole n = record { valid = 4 * n; bursts = 0 ∷ 0 ∷ 0 ∷ 0 ∷ 0 ∷ []; lost = 0; bits = 0; groups = n; complete = n; acquired = 0; losses = 0 }
+
+totals_listed : (place : ℕ) (groups : List (List ℕ)) → totals_of (items_sent place groups) ≡ totals_whole (length groups)
+unfolding totals_whole
+totals_listed place [] = refl
+totals_listed place (words ∷ groups) =
+    totals_of-append (Group (group_sent 1 place words []) ∷ []) (items_sent (place + 104) groups)
+    ∙ ap (plus (totals_of (Group (group_sent 1 place words []) ∷ []))) (totals_listed (place + 104) groups)
+    ∙ same_counts (omega arith) refl refl refl refl refl refl refl (omega arith) (omega arith) refl refl
+
+pub sent_groups_are_listed : CodeLaws → SentGroupsAreListed
+unfolding totals_whole
+sent_groups_are_listed laws b rules words groups loss reach few long h =
+    let n : ℕ = length groups in
+    let items : List Item = Acquired 51 2 ∷ Group (group_sent 2 26 words []) ∷ items_sent 104 groups in
+    let first = first_group b rules laws loss few words reach h.0 in
+    let rest = groups_listed b rules laws loss few 104 groups h.1 in
+    let bits : 104 + 104 * n ≡ length_of b = omega (arith, long) in
+    let whole : run b rules Searching 0 (length_of b) ≡ (Locked (lock_of (104 + 104 * n + 25) 1 0 1), items) =
+    ap (λ (m : ℕ). run b rules Searching 0 m) (sym bits) ∙ run-then b rules Searching _ _ _ _ 0 104 (104 * n) first rest in
+    let report : report_items b rules ≡ items =
+    sym (run_is_report b rules loss) ∙ ap (λ (r : State × List Item). r.1 ++ items_of_end b rules r.0) whole ∙ append-nil items in (
+      report,
+      ap totals_of report
+          ∙ totals_of-append (Acquired 51 2 ∷ Group (group_sent 2 26 words []) ∷ []) (items_sent 104 groups)
+          ∙ ap (plus (totals_of (Acquired 51 2 ∷ Group (group_sent 2 26 words []) ∷ []))) (totals_listed 104 groups)
+          ∙ same_counts (omega arith) refl refl refl refl refl refl refl (omega arith) (omega arith) refl refl,
+    )
+
+-- ---- with damage
+
+-- a block without a bit error is valid
+pub good_sent : (o : Offset) (info e : ℕ) → is_valid (block_sent o info e) ≡ (e == 0)
+good_sent o info zero = refl
+good_sent o info (suc e) = sym (ne_eqb (suc e) 0 (λ no. absurd (omega (arith, no))))
+
+good_outcome : (o : Offset) (info e : ℕ) → was_valid (outcome_of (block_sent o info e)) ≡ (e == 0)
+good_outcome o info e = sym (valid_is (block_sent o info e)) ∙ good_sent o info e
+
+module _ (laws : CodeLaws) (b : Signal) (rules : RuleNumbers) (few : rules.burst ≤ 5) where
+  abbrev After : ℕ → ℕ → ℕ
+  After e bad = bad_after rules.loss (e == 0) bad
+
+  -- one whole group
+  damaged_group : (place bad : ℕ) (words : List ℕ) (damages : List ℕ) → GroupIsHeard b rules.burst 1 (place + 103) words damages
+      → (keep : KeepLock rules.loss bad (get_or damages 0 0 ∷ get_or damages 1 0 ∷ get_or damages 2 0 ∷ get_or damages 3 0 ∷ []))
+      → run b rules (Locked (lock_of (place + 25) 1 bad 1)) place 104
+      ≡ (
+        Locked (lock_of (place + 104 + 25) 1 (After (get_or damages 3 0) (After (get_or damages 2 0) (After (get_or damages 1 0) (After (get_or damages 0 0) bad)))) 1),
+        Group (group_sent 1 place words damages) ∷ [],
+      )
+  damaged_group place bad words damages h keep =
+      let due : ℕ = place + 25 in
+      let e0 : ℕ = get_or damages 0 0 in
+      let e1 : ℕ = get_or damages 1 0 in
+      let e2 : ℕ = get_or damages 2 0 in
+      let e3 : ℕ = get_or damages 3 0 in
+      let w1 : ℕ = get_or words 1 0 in
+      let one : ℕ = After e0 bad in
+      let two : ℕ = After e1 one in
+      let three : ℕ = After e2 two in
+      let four : ℕ = After e3 three in
+      let at4 : place + 103 ≡ due + 78 = omega arith in
+      let at : place + 103 - 26 * (4 - 1) - 25 ≡ place = omega arith in
+      let own : group b rules 1 4 (due + 78) ≡ group_sent 1 place words damages =
+      ap (λ (q : ℕ). group b rules 1 4 q) (sym at4)
+      ∙ groups_are_corrected laws b rules 1 (place + 103) words damages (omega arith) (omega arith) few h
+      ∙ ap (λ (q : ℕ). group_sent 1 q words damages) at in
+      let bs : List Block = (group b rules 1 4 (due + 78)).blocks in
+      let are : bs ≡ block_sent A (get_or words 0 0) e0 ∷ block_sent B w1 e1 ∷ block_sent (third_offset w1) (get_or words 2 0) e2 ∷ block_sent D (get_or words 3 0) e3 ∷ [] =
+      ap (λ (g : GroupOf). g.blocks) own in
+      let fewer = kept-each rules.loss bs _ _ _ _ are (e0 == 0) (e1 == 0) (e2 == 0) (e3 == 0) bad one two three four
+      (sym (good_sent _ _ e0)) (sym (good_sent _ _ e1)) (sym (good_sent _ _ e2)) (sym (good_sent _ _ e3)) refl refl refl refl keep.0 keep.1.0 keep.1.1.0 keep.1.1.1.0 in
+      let total = all-four rules.loss bs _ _ _ _ are (e0 == 0) (e1 == 0) (e2 == 0) (e3 == 0) bad one two three four
+      (sym (good_sent _ _ e0)) (sym (good_sent _ _ e1)) (sym (good_sent _ _ e2)) (sym (good_sent _ _ e3)) refl refl refl refl in
+      let back : due - 25 ≡ place = omega arith in
+      let next : due + 104 ≡ place + 104 + 25 = omega arith in
+      ap (λ (q : ℕ). run b rules (Locked (lock_of due 1 bad 1)) q 104) (sym back)
+      ∙ whole_group b rules due bad (omega arith) fewer
+      ∙ ap₂ (λ (q d : ℕ). (Locked (lock_of q 1 d 1), Group (group b rules 1 4 (due + 78)) ∷ [])) next (sym total)
+      ∙ ap (λ (g : GroupOf). (Locked (lock_of (place + 104 + 25) 1 four 1), Group g ∷ [])) own
+
+  -- and so many
+  pub damaged_listed : (place bad : ℕ) (groups : List SentGroup) → AreHeardDamaged b rules.burst place groups → KeepLock rules.loss bad (flat_map four_damages groups)
+      → run b rules (Locked (lock_of (place + 25) 1 bad 1)) place (104 * length groups)
+      ≡ (Locked (lock_of (place + 104 * length groups + 25) 1 (bad_after_blocks rules.loss bad (flat_map four_damages groups)) 1), items_damaged place groups)
+  damaged_listed place bad [] h keep =
+      let end : place + 25 ≡ place + 104 * 0 + 25 = omega arith in
+      ap (λ (q : ℕ). (Locked (lock_of q 1 bad 1), [])) end
+  damaged_listed place bad (g ∷ groups) h keep =
+      let n : ℕ = length groups in
+      let bits : 104 * suc n ≡ 104 + 104 * n = omega arith in
+      let end : place + 104 + 104 * n + 25 ≡ place + 104 * suc n + 25 = omega arith in
+      ap (λ (m : ℕ). run b rules (Locked (lock_of (place + 25) 1 bad 1)) place m) bits
+      ∙ run-then b rules (Locked (lock_of (place + 25) 1 bad 1)) _ _ _ _ place 104 (104 * n)
+      (damaged_group place bad g.words g.damages h.0 (keep.0, (keep.1.0, (keep.1.1.0, (keep.1.1.1.0, tt)))))
+      (damaged_listed (place + 104) _ groups h.1 keep.1.1.1.1)
+      ∙ ap (λ (q : ℕ). (Locked (lock_of q 1 (bad_after_blocks rules.loss bad (flat_map four_damages (g ∷ groups))) 1), items_damaged place (g ∷ groups))) end
+
+pub locked_groups_are_listed : CodeLaws → LockedGroupsAreListed
+locked_groups_are_listed laws b rules few place bad groups h keep = damaged_listed laws b rules few place bad groups h keep
+
+pub sound_signal_is_decoded : CodeLaws → SoundSignalIsDecoded
+sound_signal_is_decoded laws b rules loss reach few s t lawful j p c last sound four groups h keep =
+    let start : ℕ = p + 26 * last + 1 in
+    let n : ℕ = length groups in
+    let inside = sound.sequence.first in
+    let state : (run b rules t s (start - s)).0 ≡ Locked (lock_of (start + 25) 1 0 1) =
+    runs_converge b rules loss reach s start t lawful j p c last sound four refl ∙ ap (λ (q : ℕ). Locked (lock_of q 1 0 1)) (next p last) in
+    let rest = damaged_listed laws b rules few start 0 groups h keep in
+    let bits : start + 104 * n - start ≡ 104 * n = omega arith in
+    run-places b rules t s start (start + 104 * n) (omega (arith, inside)) (omega arith)
+    ∙ ap₂ (λ (u : State) (m : ℕ). ((run b rules u start m).0, (run b rules t s (start - s)).1 ++ (run b rules u start m).1)) state bits
+    ∙ ap (λ (r : State × List Item). (r.0, (run b rules t s (start - s)).1 ++ r.1)) rest
+  where
+    next : (p last : ℕ) → p + 26 * last + 26 ≡ p + 26 * last + 1 + 25
+    next p last = omega arith
+
+-- the first group of a recording, whose blocks 1 and 2 have no damage
+module _ (laws : CodeLaws) (b : Signal) (rules : RuleNumbers) (few : rules.burst ≤ 5) (reach : 1 ≤ rules.reach) (words damages : List ℕ)
+    (h : GroupIsHeard b rules.burst 1 103 words damages) (whole1 : get_or damages 0 0 ≡ 0) (whole2 : get_or damages 1 0 ≡ 0) where
+  abbrev limit : ℕ
+  limit = rules.burst
+
+  acquires_damaged : acquired b rules 51 ≡ Some 2
+  acquires_damaged =
+      let first : IsHeardFrom b limit 25 (get_or words 0 0) A 0 = subst (λ (e : ℕ). IsHeardFrom b limit 25 (get_or words 0 0) A e) whole1 (h.one (omega arith)) in
+      let second : IsHeardFrom b limit 51 (get_or words 1 0) B 0 = subst (λ (e : ℕ). IsHeardFrom b limit 51 (get_or words 1 0) B e) whole2 h.two in
+      let partner : has_partner b 51 2 1 ≡ true = ap (λ (w : Option Offset). is_in_step w 2 1) (sent_off b limit 25 _ A (omega arith) first) in
+      acquired-some b rules 51 B (sent_off b limit 51 _ B (omega arith) second)
+      ∙ ap (λ (t : Bool). elim t as (λ _. Option ℕ) [ true ↦ Some 2 | false ↦ None ]) (any_first b rules (has_partner b 51 2) rules.reach reach partner)
+
+  own_first : group b rules 2 4 103 ≡ group_sent 2 26 words damages
+  own_first = groups_are_corrected laws b rules 2 103 words damages (omega arith) (omega arith) few record { one = λ no. absurd (omega (arith, no)); two = h.two; three = h.three; four = h.four; no_version_burst = h.no_version_burst }
+
+  third_good : has_number b 77 3 ≡ (get_or damages 2 0 == 0)
+  third_good = sym (good-at b rules 2 4 103 3 (omega arith) (omega arith) (omega arith) (omega arith) (omega arith)) ∙ ap (λ (g : GroupOf). good_at (outcomes g) 3) own_first ∙ good_outcome _ _ (get_or damages 2 0)
+
+  fourth_good : has_number b 103 4 ≡ (get_or damages 3 0 == 0)
+  fourth_good = sym (good-at b rules 2 4 103 4 (omega arith) (omega arith) (omega arith) (omega arith) (omega arith)) ∙ ap (λ (g : GroupOf). good_at (outcomes g) 4) own_first ∙ good_outcome _ _ (get_or damages 3 0)
+
+  abbrev bad3 : ℕ
+  bad3 = bad_after rules.loss (get_or damages 2 0 == 0) 0
+
+  abbrev bad4 : ℕ
+  bad4 = bad_after rules.loss (get_or damages 3 0 == 0) bad3
+
+  first_damaged : are_too_many rules.loss bad3 ≡ false → are_too_many rules.loss bad4 ≡ false
+      → run b rules Searching 0 104 ≡ (Locked (lock_of 129 1 bad4 1), Acquired 51 2 ∷ Group (group_sent 2 26 words damages) ∷ [])
+  first_damaged keep3 keep4 =
+      let here = acquires_damaged in
+      let search : run b rules Searching 0 52 ≡ (Locked (lock_of 77 3 0 2), Acquired 51 2 ∷ []) =
+      run-found b rules 0 51 (omega arith) (quiet b rules) ∙ ap₂ (λ (t : State) (is : List Item). (t, is)) (step-acquiring b rules 51 2 here) (items-acquiring b rules 51 2 here) in
+      let third = block-then b rules 77 3 0 2 (get_or damages 2 0 == 0) 26 (omega arith) third_good keep3 in
+      let fourth = block-then b rules 103 4 bad3 2 (get_or damages 3 0 == 0) 0 (omega arith) fourth_good keep4 in
+      let two : run b rules (Locked (lock_of 77 3 0 2)) 52 52 ≡ (Locked (lock_of 129 1 bad4 1), Group (group_sent 2 26 words damages) ∷ []) =
+      third ∙ fourth ∙ ap (λ (g : GroupOf). (Locked (lock_of 129 1 bad4 1), Group g ∷ [])) own_first in
+      run-then b rules Searching _ _ _ _ 0 52 52 search two
+
+pub damaged_groups_are_listed : CodeLaws → DamagedGroupsAreListed
+damaged_groups_are_listed laws b rules g groups loss reach few long h whole1 whole2 keep =
+    let n : ℕ = length groups in
+    let items : List Item = Acquired 51 2 ∷ Group (group_sent 2 26 g.words g.damages) ∷ items_damaged 104 groups in
+    let first = first_damaged laws b rules few reach g.words g.damages h.0 whole1 whole2 keep.0 keep.1.0 in
+    let rest = damaged_listed laws b rules few 104 _ groups h.1 keep.1.1 in
+    let bits : 104 + 104 * n ≡ length_of b = omega (arith, long) in
+    let whole = ap (λ (m : ℕ). run b rules Searching 0 m) (sym bits) ∙ run-then b rules Searching _ _ _ _ 0 104 (104 * n) first rest in
+    sym (run_is_report b rules loss) ∙ ap (λ (r : State × List Item). r.1 ++ items_of_end b rules r.0) whole ∙ append-nil items

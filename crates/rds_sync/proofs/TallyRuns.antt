@@ -1,0 +1,92 @@
+-- A run that goes on, as it is kept.
+use Rattle.std.proofs.Common.{◌≡◌, ℕ, ◌+◌, ◌-◌, ◌*◌, ◌^◌, ◌≤◌, List, [], ◌++◌, length, refl, sym, ap, ap₂, subst, ◌∙◌, arith, append_assoc, append-nil, length-append}
+use Rattle.rds_stream.specs.Recording.{Signal, length_of}
+use Rattle.rds_sync.specs.declared.item.Item.{Item}
+use Rattle.rds_sync.specs.declared.state.State.{State}
+use Rattle.rds_sync.specs.Counting.{IsAtMost}
+use Rattle.rds_sync.specs.Inside.CountRuns.{IsCountStretch}
+use Rattle.rds_sync.specs.Inside.Counts.{CountOf, count_of, joined, added}
+use Rattle.rds_sync.specs.Inside.Tally.{IsTally}
+use Rattle.rds_sync.specs.Rules.{RuleNumbers}
+use Rattle.rds_sync.specs.Step.{run}
+use Rattle.rds_sync.specs.Tally.{TallyOf, gone_on}
+use Rattle.rds_sync.proofs.CountLemmas.{counted-together}
+use Rattle.rds_sync.proofs.ItemLemmas.{run_items-few}
+use Rattle.rds_sync.proofs.RunLemmas.{run-further, run-places}
+
+module _ (b : Signal) (rules : RuleNumbers) (list : List Item) (a : ℕ) (s : State) (place : ℕ) (t : State) (first counts : CountOf)
+    (is : IsTally b rules list a s place t first counts) where
+  abbrev so_far : State × List Item
+  so_far = run b rules s a (place - a)
+
+  -- a span of what came since the last one
+  pub tally-cut : (longer : List Item) → longer ≡ list ++ so_far.1 → IsTally b rules longer place t place t first counts
+  tally-cut longer longer_is =
+      let none : place - place ≡ 0 = omega arith in
+      let nothing : longer ++ (run b rules t place (place - place)).1 ≡ list ++ so_far.1 =
+      ap (λ (n : ℕ). longer ++ (run b rules t place n).1) none ∙ append-nil longer ∙ longer_is in
+      record {
+        start = is.lawful;
+        order = omega arith;
+        within = is.within;
+        near = is.near;
+        state = sym (ap (λ (n : ℕ). (run b rules t place n).0) none);
+        lawful = is.lawful;
+        count = is.count ∙ ap (λ (is : List Item). count_of is) (sym nothing);
+        few = subst (λ (is : List Item). length is ≤ 2 * place) (sym nothing) is.few;
+        counted = is.counted;
+        small = is.small;
+      }
+
+  -- the run at a later place
+  module _ (to next : ℕ) (u : State) (after : CountOf) (low : place ≤ next) (gone_is : u ≡ (run b rules t place (next - place)).0) where
+    abbrev more : List Item
+    more = (run b rules t place (next - place)).1
+
+    all-is : run b rules s a (next - a) ≡ (u, so_far.1 ++ more)
+    all-is = run-further b rules s t u so_far.1 more a place next is.order low (ap (λ (v : State). (v, so_far.1)) (sym is.state)) gone_is refl
+
+    pub list-gone : list ++ (run b rules s a (next - a)).1 ≡ (list ++ so_far.1) ++ more
+    list-gone = ap (λ (r : State × List Item). list ++ r.1) all-is ∙ sym (append_assoc list so_far.1 more)
+
+    pub tally-gone : IsCountStretch b rules t place to counts (next, u) after → to ≤ length_of b → to ≤ 2 ^ 36
+        → (first2 counts2 : CountOf) → joined first2 counts2 ≡ joined first after → counts2.items ≤ 3000 → IsAtMost (2 ^ 10 * first2.items) first2.totals
+        → IsTally b rules list a s next u first2 counts2
+    tally-gone came within near first2 counts2 joined_is few small = record {
+      start = is.start;
+      order = omega (arith, is.order, low);
+      within = omega (arith, came.limit, within);
+      near = omega (arith, came.limit, near);
+      state = sym (ap (λ (r : State × List Item). r.0) all-is);
+      lawful = came.lawful;
+      count = joined_is ∙ ap (λ (k : CountOf). joined first k) came.counts
+          ∙ counted-together first counts (list ++ so_far.1) more is.count
+          ∙ ap (λ (is : List Item). count_of is) (sym list-gone);
+      few = subst (λ (is : List Item). length is ≤ 2 * next) (sym list-gone)
+          (omega (arith, length-append (list ++ so_far.1) more, is.few, run_items-few b rules t place (next - place), low));
+      counted = few;
+      small = small;
+    }
+
+-- the state of a run that went on
+pub gone-is : (old new : TallyOf) (place : ℕ) (u : State) (list : List Item) → new ≡ record old { place = place; state = u; list = list }
+    → u ≡ (run old.source old.rules old.state old.place (place - old.place)).0 → list ≡ old.list ++ (run old.source old.rules old.state old.place (place - old.place)).1
+    → new ≡ gone_on old new.place
+gone-is old new place u list new_is state_is list_is =
+    new_is ∙ ap₂ (λ (v : State) (is : List Item). record old { place = place; state = v; list = is }) state_is list_is
+    ∙ ap (λ (p : ℕ). gone_on old p) (sym (ap (λ (t : TallyOf). t.place) new_is))
+
+-- a run that has not gone on
+pub gone-none : (t : TallyOf) → gone_on t t.place ≡ t
+gone-none t =
+    let none : t.place - t.place ≡ 0 = omega arith in
+    ap (λ (n : ℕ). record t { state = (run t.source t.rules t.state t.place n).0; list = t.list ++ (run t.source t.rules t.state t.place n).1 }) none
+    ∙ ap (λ (is : List Item). record t { list = is }) (append-nil t.list)
+
+-- one that has gone on twice
+pub gone-again : (t : TallyOf) (middle to : ℕ) → t.place ≤ middle → middle ≤ to → gone_on (gone_on t middle) to ≡ gone_on t to
+gone-again t middle to low high =
+    let first : State × List Item = run t.source t.rules t.state t.place (middle - t.place) in
+    let more : State × List Item = run t.source t.rules first.0 middle (to - middle) in
+    ap (λ (is : List Item). record t { place = to; state = more.0; list = is }) (append_assoc t.list first.1 more.1)
+    ∙ ap (λ (r : State × List Item). record t { place = to; state = r.0; list = t.list ++ r.1 }) (sym (run-places t.source t.rules t.state t.place middle to low high))

@@ -1,0 +1,153 @@
+use Rattle.std.proofs.Common.{◌≡◌, ◌≤◌, ◌+◌, ◌-◌, ℕ, List, [], refl, ap, ap₂, sym, subst, ◌∙◌, arith}
+use Rattle.rds_stream.specs.Recording.{Signal}
+use Rattle.rds_sync.specs.declared.item.Block.{Block}
+use Rattle.rds_sync.specs.declared.item.Item.{Item}
+use Rattle.rds_sync.specs.declared.due.Due.{Due}
+use Rattle.rds_sync.specs.declared.due.Due.TheVariants.{Inside}
+use Rattle.rds_sync.specs.declared.lock.Lock.{Lock}
+use Rattle.rds_sync.specs.declared.state.State.{State}
+use Rattle.rds_sync.specs.declared.state.State.TheVariants.{Locked}
+use Rattle.rds_sync.specs.Lawful.{IsLawful}
+use Rattle.rds_sync.specs.Inside.Due.{state_of}
+use Rattle.rds_sync.specs.Inside.Locks.{IsFollowed}
+use Rattle.rds_sync.specs.Loss.{IsLoss}
+use Rattle.rds_sync.specs.Rules.{RuleNumbers}
+use Rattle.rds_sync.specs.Step.{step, items_at, run}
+use Rattle.rds_sync.specs.Inside.Counts.{CountOf, added}
+use Rattle.rds_sync.proofs.CountLemmas.{added-nothing}
+use Rattle.rds_sync.proofs.LawfulLemmas.{lawful-due, lawful-waiting}
+use Rattle.rds_sync.proofs.RunLemmas.{run-further, run-due, run-early}
+use Rattle.rds_sync.proofs.count_run.keep_group.Invariants.{HasFollowedOn}
+use Rattle.rds_sync.proofs.count_run.keep_group.Goals as goal
+
+module _ (b read : Signal) (rules : RuleNumbers) (s : State) (place to : ℕ) (now : Lock) (before counts : CountOf) (blocks : List Block)
+    (loss : IsLoss rules.loss) (followed : HasFollowedOn b read rules s place to before now blocks counts) where
+  abbrev lock : State
+  lock = Locked now
+
+  -- the run up to and including the block that is due
+  one_more : run b rules s place (now.due + 1 - place) ≡ (step b rules now.due lock, items_at b rules now.due lock)
+  one_more =
+      let soon = followed.lawful.soon in
+      let next_run = run-due b rules lock followed.next (now.due + 1) now refl soon.0 refl in
+      run-further b rules s lock _ [] _ place followed.next (now.due + 1) followed.from_on (omega (arith, soon.0))
+      followed.so_far (sym (ap (λ (r : State × List Item). r.0) next_run)) (sym (ap (λ (r : State × List Item). r.1) next_run))
+
+  lawful_after : IsLawful rules (now.due + 1) (step b rules now.due lock)
+  lawful_after = lawful-due b rules followed.next now loss followed.lawful
+
+  -- the run up to a place before the block that is due
+  waited : (later : ℕ) → followed.next ≤ later → later ≤ now.due → run b rules s place (later - place) ≡ (lock, [])
+  waited later low high =
+      let wait = run-early b rules lock followed.next later now refl low high in
+      run-further b rules s lock _ [] [] place followed.next later followed.from_on low followed.so_far
+      (sym (ap (λ (r : State × List Item). r.0) wait)) (sym (ap (λ (r : State × List Item). r.1) wait))
+
+-- what the block that is due does over what was read, it does over the recording
+module _ (b read : Signal) (rules : RuleNumbers) (lock : Lock) (same : read ≡ b) where
+  state_over : (t : State) → t ≡ step read rules lock.due (Locked lock) → t ≡ step b rules lock.due (Locked lock)
+  state_over t is = is ∙ ap (λ (signal : Signal). step signal rules lock.due (Locked lock)) same
+
+  counts_over : (before after : CountOf) → after ≡ added before ((items_at read rules lock.due (Locked lock))) → after ≡ added before ((items_at b rules lock.due (Locked lock)))
+  counts_over before after is = is ∙ ap (λ (signal : Signal). added before ((items_at signal rules lock.due (Locked lock)))) same
+
+pub loop-now-preserved : goal.loop-now-preserved
+loop-now-preserved c =
+    let b = c.args.reader.now in
+    let rules = c.args.rules.now in
+    let a = c.args.lock in
+    let s : State = Locked a in
+    let loss = c.reach.ensures.range.some_loss in
+    let l = c.loop-now in
+    let now = l.now in
+    let followed = l.invariant in
+    let soon = followed.lawful.soon in
+    let more = one_more b c.loop-now.reader rules s c.args.place c.args.to now c.args.counts.now l.counts l.blocks loss followed in
+    let state_is = ap (λ (o : Due). state_of o) (sym c.in-Inside.is) ∙ state_over b c.loop-now.reader rules now followed.same _ c.follow_on.ensures.state in
+    let goes = subst (λ (signal : Signal). IsFollowed signal rules now c.follow_on.new.blocks (Inside c.in-Inside.next)) followed.same
+    (subst (λ (o : Due). IsFollowed c.loop-now.reader rules now c.follow_on.new.blocks o) c.in-Inside.is c.follow_on.ensures.followed) in
+    record {
+      same = c.follow_on.ensures.same ∙ followed.same;
+      next = now.due + 1;
+      from_on = omega (arith, followed.from_on, soon.0);
+      limit = omega (arith, c.loop-now-test.true);
+      lawful = subst (λ (t : State). IsLawful rules (now.due + 1) t) (sym state_is)
+          (lawful_after b c.loop-now.reader rules s c.args.place c.args.to now c.args.counts.now l.counts l.blocks loss followed);
+      in_progress = goes.in_progress;
+      so_far = more ∙ ap₂ (λ (t : State) (is : List Item). (t, is)) (sym state_is) goes.nothing;
+      counts_are = counts_over b c.loop-now.reader rules now followed.same _ _ c.follow_on.ensures.counts ∙ ap₂ (λ (kept : CountOf) (js : List Item). added kept (js)) followed.counts_are goes.nothing;
+    }
+
+pub loop-now-smaller : goal.loop-now-smaller
+loop-now-smaller c =
+    let b = c.args.reader.now in
+    let rules = c.args.rules.now in
+    let now = c.loop-now.now in
+    let followed = c.loop-now.invariant in
+    let goes = subst (λ (signal : Signal). IsFollowed signal rules now c.follow_on.new.blocks (Inside c.in-Inside.next)) followed.same
+    (subst (λ (o : Due). IsFollowed c.loop-now.reader rules now c.follow_on.new.blocks o) c.in-Inside.is c.follow_on.ensures.followed) in
+    omega (arith, goes.due, c.loop-now-test.true)
+
+pub returns-in-Closed-clause-reached : goal.returns-in-Closed-clause-reached
+returns-in-Closed-clause-reached c =
+    let b = c.args.reader.now in
+    let rules = c.args.rules.now in
+    let a = c.args.lock in
+    let s : State = Locked a in
+    let loss = c.reach.ensures.range.some_loss in
+    let l = c.loop-now in
+    let now = l.now in
+    let followed = l.invariant in
+    let soon = followed.lawful.soon in
+    let more = one_more b c.loop-now.reader rules s c.args.place c.args.to now c.args.counts.now l.counts l.blocks loss followed in
+    let state_is = ap (λ (o : Due). state_of o) (sym c.in-Closed.is) ∙ state_over b c.loop-now.reader rules now followed.same _ c.follow_on.ensures.state in
+    record {
+      forward = omega (arith, followed.from_on, soon.0);
+      limit = omega (arith, c.loop-now-test.true);
+      state = state_is ∙ sym (ap (λ (r : State × List Item). r.0) more);
+      lawful = subst (λ (t : State). IsLawful rules (now.due + 1) t) (sym state_is)
+          (lawful_after b c.loop-now.reader rules s c.args.place c.args.to now c.args.counts.now l.counts l.blocks loss followed);
+      counts = counts_over b c.loop-now.reader rules now followed.same _ _ c.follow_on.ensures.counts ∙ ap₂ (λ (kept : CountOf) (js : List Item). added kept (js)) followed.counts_are (sym (ap (λ (r : State × List Item). r.1) more));
+    }
+
+pub returns-in-Lost-clause-reached : goal.returns-in-Lost-clause-reached
+returns-in-Lost-clause-reached c =
+    let b = c.args.reader.now in
+    let rules = c.args.rules.now in
+    let a = c.args.lock in
+    let s : State = Locked a in
+    let loss = c.reach.ensures.range.some_loss in
+    let l = c.loop-now in
+    let now = l.now in
+    let followed = l.invariant in
+    let soon = followed.lawful.soon in
+    let more = one_more b c.loop-now.reader rules s c.args.place c.args.to now c.args.counts.now l.counts l.blocks loss followed in
+    let state_is = ap (λ (o : Due). state_of o) (sym c.in-Lost.is) ∙ state_over b c.loop-now.reader rules now followed.same _ c.follow_on.ensures.state in
+    record {
+      forward = omega (arith, followed.from_on, soon.0);
+      limit = omega (arith, c.loop-now-test.true);
+      state = state_is ∙ sym (ap (λ (r : State × List Item). r.0) more);
+      lawful = subst (λ (t : State). IsLawful rules (now.due + 1) t) (sym state_is)
+          (lawful_after b c.loop-now.reader rules s c.args.place c.args.to now c.args.counts.now l.counts l.blocks loss followed);
+      counts = counts_over b c.loop-now.reader rules now followed.same _ _ c.follow_on.ensures.counts ∙ ap₂ (λ (kept : CountOf) (js : List Item). added kept (js)) followed.counts_are (sym (ap (λ (r : State × List Item). r.1) more));
+    }
+
+pub returns-clause-reached : goal.returns-clause-reached
+returns-clause-reached c =
+    let b = c.args.reader.now in
+    let rules = c.args.rules.now in
+    let a = c.args.lock in
+    let s : State = Locked a in
+    let loss = c.reach.ensures.range.some_loss in
+    let l = c.loop-now in
+    let now = l.now in
+    let followed = l.invariant in
+    let wait = waited b c.loop-now.reader rules s c.args.place c.args.to now c.args.counts.now l.counts l.blocks loss followed c.args.to followed.limit c.loop-now-test.false in
+    let nothing = ap (λ (r : State × List Item). r.1) wait in
+    record {
+      forward = c.requires.order;
+      limit = omega arith;
+      state = sym (ap (λ (r : State × List Item). r.0) wait);
+      lawful = lawful-waiting rules followed.next c.args.to now followed.lawful followed.limit c.loop-now-test.false;
+      counts = followed.counts_are ∙ added-nothing c.args.counts.now _ nothing;
+    }

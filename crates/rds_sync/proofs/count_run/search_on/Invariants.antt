@@ -1,0 +1,26 @@
+use Rattle.std.proofs.Common.{◌≡◌, ◌≤◌, ◌-◌, ℕ, List}
+use Rattle.rds_stream.specs.Recording.{Signal}
+use Rattle.rds_stream.specs.ValidWindows.{WindowsLeft}
+use Rattle.rds_sync.specs.declared.item.Item.{Item}
+use Rattle.rds_sync.specs.declared.state.State.TheVariants.{Searching}
+use Rattle.rds_sync.specs.Inside.Counts.{CountOf, added}
+use Rattle.rds_sync.specs.Rules.{RuleNumbers}
+use Rattle.rds_sync.specs.Step.{run}
+use Rattle.rds_sync.proofs.count_run.search_on.Given as goal
+
+-- the run up to the windows that are left searches again, and what it gave is kept; what is read is the recording
+pub record HasSearchedOn (b read : Signal) (rules : RuleNumbers) (place to : ℕ) (left : WindowsLeft) (before counts : CountOf) : Type 0 where
+  pub same : read ≡ b
+  pub signal : left.signal ≡ b
+  pub end : left.end ≡ to
+  pub from_on : place ≤ left.next
+  pub limit : left.next ≤ to
+  pub found : List Item
+  pub so_far : run b rules Searching place (left.next - place) ≡ (Searching, found)
+  pub few : counts.items ≤ 3000
+  pub counts_are : counts ≡ added before found
+
+abbrev pub invariant-loop-here : goal.invariant-loop-here
+invariant-loop-here l =
+    (goal.iterator-loop-here).can_next l.windows × (goal.iterator-loop-here).is_finite l.windows
+    × HasSearchedOn l.fn.reader l.reader l.rules l.place l.to l.windows l.initial.counts l.counts

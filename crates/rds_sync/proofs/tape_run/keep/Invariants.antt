@@ -1,0 +1,33 @@
+use Rattle.std.proofs.Common.{◌≡◌, ◌≤◌, ◌<◌, ◌+◌, ◌-◌, ◌*◌, ℕ, List, []}
+use Rattle.rds_stream.specs.Recording.{Signal}
+use Rattle.rds_sync.specs.declared.item.Block.{Block}
+use Rattle.rds_sync.specs.declared.lock.Lock.{Lock}
+use Rattle.rds_sync.specs.declared.state.State.TheVariants.{Locked}
+use Rattle.rds_sync.specs.Inside.Locks.{IsInProgress}
+use Rattle.rds_sync.specs.Lawful.{IsLawfulLock}
+use Rattle.rds_sync.specs.Rules.{RuleNumbers}
+use Rattle.rds_sync.specs.Step.{run}
+use Rattle.rds_sync.proofs.tape_run.keep.Given as goal
+
+-- after so many blocks of a group, with what they were read as
+pub record HasKept (b : Signal) (rules : RuleNumbers) (lock : Lock) (place to : ℕ) (now : Lock) (blocks : List Block) (reads : ℕ) : Type 0 where
+  pub next : ℕ
+  pub from_on : place ≤ next
+  pub limit : next ≤ to
+  pub lawful : IsLawfulLock rules next now
+  pub in_progress : IsInProgress b rules now blocks
+  pub so_far : run b rules (Locked lock) place (next - place) ≡ (Locked now, [])
+  pub more : ℕ
+  pub due_is : now.due ≡ lock.due + 26 * more
+  pub number_is : now.number ≡ lock.number + more
+  pub cost : reads ≤ (lock.number - lock.first) + more
+
+abbrev pub invariant-loop-now : goal.invariant-loop-now
+invariant-loop-now g l = record {
+  kept : HasKept (g.T.Tape.signal l.fn.tape) l.rules l.fn.lock l.place l.to l.now l.blocks (g.T.Tape.reads_made l.tape - g.T.Tape.reads_made l.fn.tape);
+  same : g.T.Tape.signal l.tape ≡ g.T.Tape.signal l.fn.tape;
+  counts : l.counts ≡ l.fn.counts;
+}
+
+abbrev pub decreases-loop-now : goal.decreases-loop-now
+decreases-loop-now g l = l.to - l.now.due

@@ -1,0 +1,53 @@
+use Rattle.std.proofs.Common.{◌≡◌, ◌≤◌, ◌<◌, ◌+◌, ◌-◌, ℕ, List, [], Option, Some, None, ap, sym, subst, ◌∙◌, arith}
+use Rattle.rds_stream.specs.Recording.{Signal}
+use Rattle.rds_sync.specs.Acquiring.{acquired}
+use Rattle.rds_sync.specs.Inside.Counts.{CountOf, added}
+use Rattle.rds_sync.specs.Lawful.{IsLawful}
+use Rattle.rds_sync.specs.Step.{step, items_at, lock_after}
+use Rattle.rds_sync.specs.declared.item.Item.{Item}
+use Rattle.rds_sync.specs.declared.lock.Lock.{Lock}
+use Rattle.rds_sync.specs.declared.state.State.{State}
+use Rattle.rds_sync.specs.declared.state.State.TheVariants.{Searching, Locked}
+use Rattle.rds_sync.proofs.CountLemmas.{added-nothing}
+use Rattle.rds_sync.proofs.LawfulLemmas.{lawful-step}
+use Rattle.rds_sync.proofs.RunLemmas.{run-found, run-searching, step-acquiring}
+use Rattle.rds_sync.proofs.tape_run.seek.Goals as goal
+
+pub returns-in-Some-clause-came : goal.returns-in-Some-clause-came
+returns-in-Some-clause-came g c =
+    let b = g.T.Tape.signal c.args.tape.now in
+    let rules = c.args.rules.now in
+    let l = c.loop-here in
+    let found = c.in-Some.found in
+    let low : c.args.place ≤ l.here = omega (arith, l.auto.here) in
+    let gives : acquired b rules l.here ≡ Some found.number =
+    ap (λ (signal : Signal). acquired signal rules l.here) (sym l.invariant.same) ∙ sym c.in-Some.ensures.number in
+    let there : Locked c.lock.result ≡ Locked (lock_after l.here found.number 0 found.number) =
+    ap (λ (k : Lock). Locked k) c.lock.ensures ∙ ap (λ (p : ℕ). Locked (lock_after p found.number 0 found.number)) c.in-Some.ensures.place in
+    let run_is = run-found b rules c.args.place l.here low l.invariant.silent in
+    let state_is : Locked c.lock.result ≡ step b rules l.here Searching = there ∙ sym (step-acquiring b rules l.here found.number gives) in
+    record {
+      forward = omega (arith, low);
+      limit = omega (arith, c.loop-here-test.true);
+      state = state_is ∙ sym (ap (λ (r : State × List Item). r.0) run_is);
+      counts = c.add_found.ensures.given b rules gives ∙ ap (λ (k : CountOf). added k (items_at b rules l.here Searching)) l.invariant.counts
+          ∙ ap (λ (r : State × List Item). added c.args.counts.now r.1) (sym run_is);
+      lawful = subst (λ (t : State). IsLawful rules (l.here + 1) t) (sym state_is)
+          (lawful-step b rules c.reach.ensures.range.some_loss l.here Searching tt);
+    }
+
+pub returns-clause-came : goal.returns-clause-came
+returns-clause-came g c =
+    let b = g.T.Tape.signal c.args.tape.now in
+    let rules = c.args.rules.now in
+    let l = c.loop-here in
+    let h = c.requires.ahead in
+    let e = c.loop-here-test.false in
+    let run_is = run-searching b rules c.args.place (c.args.to - c.args.place) (λ i low high. l.invariant.silent i low (omega (arith, high, h, e))) in
+    record {
+      forward = h;
+      limit = omega arith;
+      state = sym (ap (λ (r : State × List Item). r.0) run_is);
+      counts = l.invariant.counts ∙ added-nothing c.args.counts.now _ (ap (λ (r : State × List Item). r.1) run_is);
+      lawful = tt;
+    }

@@ -1,0 +1,91 @@
+use Rattle.std.proofs.Common.{◌≡◌, ℕ, ◌+◌, ◌-◌, ◌<◌, ◌≤◌, List, [], ◌∷◌, ◌++◌, false, sym, ap, ap₂, subst, ◌∙◌, arith}
+use Rattle.rds_stream.specs.Recording.{Signal}
+use Rattle.rds_sync.specs.declared.lock.Lock.{Lock}
+use Rattle.rds_sync.specs.declared.item.Item.{Item}
+use Rattle.rds_sync.specs.declared.item.Item.TheVariants.{Group}
+use Rattle.rds_sync.specs.declared.loss.Loss.{Loss}
+use Rattle.rds_sync.specs.declared.state.State.{State}
+use Rattle.rds_sync.specs.declared.state.State.TheVariants.{Locked}
+use Rattle.rds_sync.specs.Codes.{Outcome}
+use Rattle.rds_sync.specs.Groups.{group}
+use Rattle.rds_sync.specs.Inside.CountRuns.{HasCountedOn}
+use Rattle.rds_sync.specs.Inside.Counts.{CountOf, added, joined, group_count}
+use Rattle.rds_sync.specs.Loss.{IsLawfulBad, are_too_many}
+use Rattle.rds_sync.specs.Marks.{bad_over}
+use Rattle.rds_sync.specs.Rules.{RuleNumbers}
+use Rattle.rds_sync.specs.Step.{run, lock_of}
+use Rattle.rds_sync.specs.Words.{blocks_in}
+use Rattle.rds_sync.proofs.CountLemmas.{added-further, group-added}
+use Rattle.rds_sync.proofs.GroupOutcomes.{outcomes}
+use Rattle.rds_sync.proofs.RunLemmas.{run-append}
+use Rattle.rds_sync.proofs.WholeGroupLemmas.{whole_group}
+use Rattle.rds_sync.proofs.whole_groups.count_whole_groups.Goals as goal
+
+-- one whole group more
+module _ (b : Signal) (rules : RuleNumbers) (lock now : Lock) (to : ℕ) (before counts after : CountOf) (passed : HasCountedOn b rules lock to before now counts)
+    (start : 25 ≤ lock.due) (room : now.due + 78 < to) (word bad : ℕ)
+    (word_is : blocks_in word ≡ outcomes (group b rules 1 4 (now.due + 78)))
+    (bad_is : bad ≡ bad_over rules.loss (blocks_in word) now.bad 1 4) (lawful : IsLawfulBad rules.loss bad)
+    (few : (k : ℕ) → k < 4 → are_too_many rules.loss (bad_over rules.loss (blocks_in word) now.bad 1 (k + 1)) ≡ false)
+    (pushed : after ≡ joined counts (group_count (blocks_in word))) where
+  abbrev so_far : State × List Item
+  so_far = run b rules (Locked lock) (lock.due - 25) (now.due - lock.due)
+
+  abbrev the_group : Item
+  the_group = Group (group b rules 1 4 (now.due + 78))
+
+  late : 25 ≤ now.due
+  late = omega (arith, start, passed.from_on)
+
+  here : run b rules (Locked (lock_of now.due 1 now.bad 1)) (now.due - 25) 104 ≡ (Locked (lock_of (now.due + 104) 1 bad 1), the_group ∷ [])
+  here =
+      whole_group b rules now.due now.bad late
+      (subst (λ (os : List Outcome). (k : ℕ) → k < 4 → are_too_many rules.loss (bad_over rules.loss os now.bad 1 (k + 1)) ≡ false) word_is few)
+      ∙ ap (λ (c : ℕ). (Locked (lock_of (now.due + 104) 1 c 1), the_group ∷ []))
+      (ap (λ (os : List Outcome). bad_over rules.loss os now.bad 1 4) (sym word_is) ∙ sym bad_is)
+
+  total : run b rules (Locked lock) (lock.due - 25) (now.due + 104 - lock.due) ≡ (Locked (lock_of (now.due + 104) 1 bad 1), so_far.1 ++ the_group ∷ [])
+  total =
+      let count : now.due + 104 - lock.due ≡ now.due - lock.due + 104 = omega (arith, passed.from_on) in
+      let place : lock.due - 25 + (now.due - lock.due) ≡ now.due - 25 = omega (arith, start, passed.from_on) in
+      let state : so_far.0 ≡ Locked (lock_of now.due 1 now.bad 1) = passed.state ∙ ap₂ (λ (x f : ℕ). Locked (lock_of now.due x now.bad f)) passed.between.0 passed.between.1 in
+      ap (λ (n : ℕ). run b rules (Locked lock) (lock.due - 25) n) count
+      ∙ run-append b rules (Locked lock) (lock.due - 25) (now.due - lock.due) 104
+      ∙ ap₂ (λ (t : State) (p : ℕ). ((run b rules t p 104).0, so_far.1 ++ (run b rules t p 104).1)) state place
+      ∙ ap (λ (r : State × List Item). (r.0, so_far.1 ++ r.1)) here
+
+  pub further : HasCountedOn b rules lock to before (record { due = now.due + 104; number = now.number; bad = bad; first = now.first }) after
+  further = record {
+    between = passed.between;
+    few_bad = lawful;
+    from_on = omega (arith, passed.from_on);
+    limit = λ more. omega (arith, room);
+    far = λ more. omega (arith, passed.from_on);
+    state = ap (λ (r : State × List Item). r.0) total ∙ sym (ap₂ (λ (x f : ℕ). Locked (lock_of (now.due + 104) x bad f)) passed.between.0 passed.between.1);
+    counts = added-further before counts after so_far.1 (the_group ∷ []) passed.counts
+        (pushed ∙ group-added counts (group b rules 1 4 (now.due + 78)) (blocks_in word) word_is)
+        ∙ ap (λ (r : State × List Item). added before r.1) (sym total);
+  }
+
+pub loop-now-preserved : goal.loop-now-preserved
+loop-now-preserved c =
+    let b = c.args.reader.now in
+    let rules = c.args.rules.now in
+    let l = c.loop-now in
+    let now = l.now in
+    let same = l.invariant.same in
+    let w = c.whole_word-word.result in
+    let word_is : blocks_in w ≡ outcomes (group b rules 1 4 (now.due + 78)) = c.whole_word-word.ensures.blocks ∙ ap (λ (s : Signal). outcomes (group s rules 1 4 (now.due + 78))) same in
+    let loss_is = c.loss-loss.ensures.value in
+    let bad = c.in-Some.bad in
+    let bad_is : bad ≡ bad_over rules.loss (blocks_in w) now.bad 1 4 = c.in-Some.ensures.bad ∙ ap (λ (loss : Loss). bad_over loss (blocks_in w) now.bad 1 4) loss_is in
+    let more = further b rules c.args.lock now c.args.to c.args.counts.now l.counts c.add_group.new.self l.invariant.passed c.requires.start c.loop-now-test.true w bad word_is
+    bad_is (subst (λ (loss : Loss). IsLawfulBad loss bad) loss_is c.in-Some.ensures.lawful)
+    (subst (λ (loss : Loss). (k : ℕ) → k < 4 → are_too_many loss (bad_over loss (blocks_in w) now.bad 1 (k + 1)) ≡ false) loss_is c.in-Some.ensures.kept)
+    c.add_group.ensures in
+    record {
+      same = c.whole_word-word.ensures.same ∙ same;
+      near = omega (arith, c.loop-now-test.true, c.if-prove.false, c.len.ensures.limit);
+      passed = more;
+      stays = λ same. absurd (omega (arith, same, l.invariant.passed.from_on));
+    }

@@ -1,0 +1,51 @@
+//! A run whose items are collected.
+
+ghost use Rattle.std.specs.Prelude.{◌≡◌, ◌≤◌, ◌-◌, IfOk, IsOkUnless};
+ghost use Rattle.rds_stream.specs.Recording.{length_of};
+ghost use Rattle.rds_sync.specs.Lawful.{IsLawful};
+ghost use Rattle.rds_sync.specs.Step.{run as the_run};
+
+use crate::decoder::Decoder;
+use crate::error::SyncError;
+use crate::item::Item;
+use crate::laws::runs_are_lawful;
+use crate::push::push_one;
+use crate::rules::Rules;
+use crate::state::State;
+use rds_stream::Recording;
+use std::alloc::Global;
+
+/// The run from `state` over the bits at `from` to `to` - 1: the state after them, and the items that they gave, in order
+/// of place. Windows may begin before `from`. Runs are this project's rule, after EN 50067:1998, annex C.
+///
+/// The item of the recording's end is not among them: see [`finish`](crate::finish). Fails with `OutOfMemory` alone. Over
+/// a sound range the runs from all lawful states end in one state: [`runs_converge`](crate::laws::runs_converge).
+///
+/// Its cost is that of a [`Decoder`]. It takes memory for the items: a list that is to be gone over once takes none by a
+/// `Decoder`, and one that is to be kept takes little by [`run_report`](crate::run_report).
+pub fn run(
+    alloc: Global,
+    rec: &Recording,
+    rules: &Rules,
+    state: State,
+    from: u64,
+    to: u64,
+) -> Result<(State, Vec<Item>), SyncError>
+    requires lawful { IsLawful rules.now from state }
+    requires order { from ≤ to }
+    requires within { to ≤ length_of rec.now }
+    ensures state { IfOk result (λ end. end.0 ≡ (the_run rec.now rules.now state from (to - from)).0) }
+    ensures items { IfOk result (λ end. end.1.items ≡ (the_run rec.now rules.now state from (to - from)).1) }
+    ensures lawful { IfOk result (λ end. IsLawful rules.now to end.0) }
+    ensures only_memory { IsOkUnless result SyncError.OutOfMemory }
+{
+    runs_are_lawful();
+    let mut decoder = Decoder::new(rec, rules, state, from, to);
+    let mut items = Vec::new(alloc);
+    while let Some(item) = decoder.next() {
+        items.reserve(1)?;
+        push_one(&mut items, &item);
+    }
+    prove!(1 <= rules.reach());
+    Ok((decoder.end_state(), items))
+}

@@ -1,0 +1,210 @@
+//! A run that counts its items, and makes none of them.
+
+ghost use Rattle.std.specs.Prelude.{◌≡◌, ◌≤◌, ◌<◌, ◌-◌, ◌^◌, Some};
+ghost use Rattle.rds_stream.specs.Recording.{Signal, length_of};
+ghost use Rattle.rds_sync.specs.Acquiring.{acquired};
+ghost use Rattle.rds_sync.specs.Inside.CountRuns.{IsCountStretch};
+ghost use Rattle.rds_sync.specs.Inside.Counts.{added};
+ghost use Rattle.rds_sync.specs.Inside.Due.{state_of};
+ghost use Rattle.rds_sync.specs.Inside.Locks.{IsReadable, IsInProgress, IsFollowed};
+ghost use Rattle.rds_sync.specs.Lawful.{IsLawful, IsLawfulLock};
+ghost use Rattle.rds_sync.specs.Rules.{RuleNumbers};
+ghost use Rattle.rds_sync.specs.Step.{step, items_at};
+ghost use Rattle.rds_sync.specs.declared.state.State.TheVariants.{Locked, Searching};
+
+use crate::acquiring::has_partner_in;
+use crate::counts::Counts;
+use crate::due::Due;
+use crate::follow::{blocks_before, read_due};
+use crate::item::Block;
+use crate::lock::{BLOCK_PLACES, Lock};
+use crate::loss::NONE_BAD;
+use crate::rules::Rules;
+use crate::short_lock::word_if_lost;
+use crate::state::State;
+use crate::whole_groups::count_whole_groups;
+use crate::words::word_of_blocks;
+use rds_code::BlockNumber;
+use rds_code::laws::{bursts_are_listed, readings_follow_the_rule};
+use rds_stream::{FIRST_WINDOW, Reader, ValidWindows};
+
+/// A part of a run: how far it came, and the state there. It ends soon after `most` items were counted.
+pub(crate) fn count_stretch(
+    reader: &mut Reader<'_>,
+    rules: &Rules,
+    state: State,
+    place: u64,
+    to: u64,
+    most: u64,
+    counts: &mut Counts,
+) -> (u64, State)
+    requires lawful { IsLawful rules.now place state }
+    requires order { place < to }
+    requires within { to ≤ length_of reader.old }
+    requires few { counts.old.items ≤ 3000 }
+    requires most { most ≤ 3000 }
+    ensures reached { IsCountStretch reader.old rules.now state place to counts.old result counts.new }
+    ensures same { reader.new ≡ reader.old }
+{
+    match state {
+        State::Searching => search_on(reader, rules, place, to, most, counts),
+        State::Locked(lock) => keep_on(reader, rules, lock, place, to, most, counts),
+    }
+}
+
+/// How many places a lock takes that its second block loses, from that of its first on.
+const PASSED: u64 = BLOCK_PLACES + 1;
+
+/// Searches up to and including the first place that acquires, or up to `to`; on over locks that their second block loses,
+/// until `most` items were counted.
+fn search_on(
+    reader: &mut Reader<'_>,
+    rules: &Rules,
+    place: u64,
+    to: u64,
+    most: u64,
+    counts: &mut Counts,
+) -> (u64, State)
+    requires order { place < to }
+    requires within { to ≤ length_of reader.old }
+    requires few { counts.old.items ≤ 3000 }
+    requires most { most ≤ 3000 }
+    ensures reached { IsCountStretch reader.old rules.now Searching place to counts.old result counts.new }
+    ensures same { reader.new ≡ reader.old }
+{
+    let rec = reader.recording();
+    prove!(to <= rec.len());
+    prove!(1 <= rules.reach());
+    let mut windows = ValidWindows::new(rec, place, to);
+    while let Some((here, offset)) = windows.next() {
+        let number = offset.number();
+        if has_partner_in(rec, rules, here, number) {
+            add_found(counts, here, number);
+            let Some(word) = word_if_lost(reader, rules, here, number, to) else {
+                let number = number.get();
+                let lock = Lock::after_block(here, number, NONE_BAD, number);
+                return (here + 1, State::Locked(lock));
+            };
+            counts.add_group(word);
+            counts.add_loss();
+            if counts.items() >= most {
+                return (here + PASSED, State::Searching);
+            }
+            windows.pass(here + PASSED);
+        }
+    }
+    (to, State::Searching)
+}
+
+/// The word of a group of a valid block 4 alone.
+const LAST_BLOCK: u16 = 0x1000;
+
+/// Counts what a block of this number that acquires gives: itself, and as block 4 the group that it closes alone.
+pub(crate) fn add_found(counts: &mut Counts, place: u64, number: BlockNumber)
+    requires late { 25 ≤ place }
+    requires few { counts.old.items ≤ 3000 }
+    ensures given { (b : Signal) (rules : RuleNumbers) → acquired b rules place ≡ Some number
+        → counts.new ≡ added counts.old (items_at b rules place Searching) }
+    ensures few { counts.new.items ≤ 3002 }
+{
+    let _place = place;
+    counts.add_acquired();
+    if number.get() == 4 {
+        counts.add_group(LAST_BLOCK);
+    }
+}
+
+/// Follows a lock over the whole groups that come next, until `most` items were counted, or where there is none up to and
+/// including the block that closes its group, or up to `to` where none is due before it.
+fn keep_on(
+    reader: &mut Reader<'_>,
+    rules: &Rules,
+    lock: Lock,
+    place: u64,
+    to: u64,
+    most: u64,
+    counts: &mut Counts,
+) -> (u64, State)
+    requires lawful { IsLawfulLock rules.now place lock }
+    requires order { place < to }
+    requires within { to ≤ length_of reader.old }
+    requires few { counts.old.items ≤ 3000 }
+    requires most { most ≤ 3000 }
+    ensures reached { IsCountStretch reader.old rules.now (Locked lock) place to counts.old result counts.new }
+    ensures same { reader.new ≡ reader.old }
+{
+    prove!(to <= reader.recording().len());
+    if lock.number == 1 {
+        let next = count_whole_groups(reader, rules, lock, to, most, counts);
+        if next.due > lock.due {
+            return (next.due - FIRST_WINDOW, State::Locked(next));
+        }
+    }
+    keep_group(reader, rules, lock, place, to, counts)
+}
+
+/// Follows a lock from block to block, up to and including the block that closes its group, or up to `to` where none
+/// is due before it.
+fn keep_group(
+    reader: &mut Reader<'_>,
+    rules: &Rules,
+    lock: Lock,
+    place: u64,
+    to: u64,
+    counts: &mut Counts,
+) -> (u64, State)
+    requires lawful { IsLawfulLock rules.now place lock }
+    requires order { place < to }
+    requires within { to ≤ length_of reader.old }
+    requires few { counts.old.items ≤ 3000 }
+    ensures reached { IsCountStretch reader.old rules.now (Locked lock) place to counts.old result counts.new }
+    ensures same { reader.new ≡ reader.old }
+{
+    prove!(1 <= rules.reach());
+    let mut blocks = blocks_before(reader, rules, lock);
+    let mut now = lock;
+    while now.due < to {
+        let past = now.due + 1;
+        match follow_on(reader, rules, now, &mut blocks, counts) {
+            Due::Inside(next) => now = next,
+            Due::Closed(next) => return (past, State::Locked(next)),
+            Due::Lost => return (past, State::Searching),
+        }
+    }
+    (to, State::Locked(now))
+}
+
+/// Follows a lock by the block that is due.
+fn follow_on(
+    reader: &mut Reader<'_>,
+    rules: &Rules,
+    lock: Lock,
+    blocks: &mut [Block; 4],
+    counts: &mut Counts,
+) -> Due
+    requires readable { IsReadable reader.old rules.now lock }
+    requires within { lock.due < length_of reader.old }
+    requires in_progress { IsInProgress reader.old rules.now lock blocks.old }
+    requires few { counts.old.items ≤ 3000 }
+    ensures state { state_of result ≡ step reader.old rules.now lock.due (Locked lock) }
+    ensures counts { counts.new ≡ added counts.old (items_at reader.old rules.now lock.due (Locked lock)) }
+    ensures followed { IsFollowed reader.old rules.now lock blocks.new result }
+    ensures same { reader.new ≡ reader.old }
+{
+    // The outcome of each reading has a word.
+    bursts_are_listed();
+    readings_follow_the_rule();
+    prove!(lock.due < reader.recording().len());
+    let loss = rules.loss();
+    let good = read_due(reader, rules, lock, blocks);
+    let due = lock.after(loss, good);
+    match due {
+        Due::Inside(_) => {}
+        Due::Closed(_) => counts.add_group(word_of_blocks(blocks)),
+        Due::Lost => {
+            counts.add_group(word_of_blocks(blocks));
+            counts.add_loss();
+        }
+    }
+    due
+}

@@ -1,0 +1,189 @@
+//! Parts of a run over a tape that counts its items: a search, or a group of a lock.
+
+ghost use Rattle.std.specs.Prelude.{◌≡◌, ◌≤◌, ◌<◌, ◌+◌, ◌-◌, ◌*◌, ◌^◌, ◌⊎◌, [], ℕ, None};
+ghost use Rattle.rds_stream.specs.Recording.{length_of};
+ghost use Rattle.rds_sync.specs.Acquiring.{acquired, has_number};
+ghost use Rattle.rds_sync.specs.Groups.{blocks_at};
+ghost use Rattle.rds_sync.specs.Hop.{IsHop, mark};
+ghost use Rattle.rds_sync.specs.Inside.CountRuns.{IsCountStretch};
+ghost use Rattle.rds_sync.specs.Inside.Locks.{IsInProgress};
+ghost use Rattle.rds_sync.specs.Lawful.{HaveRoom, IsLawful, IsLawfulLock};
+ghost use Rattle.rds_sync.specs.Step.{run};
+ghost use Rattle.rds_sync.specs.declared.state.State.TheVariants.{Locked, Searching};
+
+use crate::acquiring::acquire;
+use crate::count_run::add_found;
+use crate::counts::Counts;
+use crate::due::Due;
+use crate::follow::{NO_BLOCKS, is_valid};
+use crate::item::Block;
+use crate::laws::items_mark_changes;
+use crate::lock::{BLOCK_PLACES, Lock};
+use crate::rules::Rules;
+use crate::state::State;
+use crate::words::word_of_blocks;
+use rds_code::laws::{bursts_are_listed, readings_follow_the_rule};
+use rds_code::{BlockNumber, Wanted};
+use rds_stream::Tape;
+
+/// A part of a run: a search up to and including the first place that acquires, or up to `near`; a lock up to and including
+/// the block that closes its group, or up to `to`.
+pub(crate) fn hop<T: Tape>(
+    tape: &mut T,
+    rules: &Rules,
+    state: State,
+    place: u64,
+    near: u64,
+    to: u64,
+    counts: &mut Counts,
+) -> (u64, State)
+    requires lawful { IsLawful rules.now place state }
+    requires ahead { place < to }
+    requires near { near ≤ to }
+    requires behind { (state ≡ Searching) → place < near }
+    requires within { to ≤ length_of (T.signal tape.old) }
+    requires counted { T.reads_made tape.old ≤ 2 ^ 62 + 2 ^ 60 }
+    requires few { counts.old.items ≤ 3000 }
+    ensures came { IsCountStretch (T.signal tape.old) rules.now state place to counts.old result counts.new }
+    ensures hop { IsHop (T.signal tape.old) rules.now state place near to result.0 result.1
+        (T.reads_made tape.new - T.reads_made tape.old) }
+    ensures same { T.signal tape.new ≡ T.signal tape.old }
+{
+    items_mark_changes();
+    prove!(1 <= rules.reach());
+    match state {
+        State::Searching => seek(tape, rules, place, near, counts),
+        State::Locked(lock) => keep(tape, rules, lock, place, to, counts),
+    }
+}
+
+/// Searches up to and including the first place that acquires, or up to `to`.
+pub(crate) fn seek<T: Tape>(
+    tape: &mut T,
+    rules: &Rules,
+    place: u64,
+    to: u64,
+    counts: &mut Counts,
+) -> (u64, State)
+    requires ahead { place < to }
+    requires within { to ≤ length_of (T.signal tape.old) }
+    requires counted { T.reads_made tape.old ≤ 2 ^ 62 + 2 ^ 60 }
+    requires few { counts.old.items ≤ 3000 }
+    ensures came { IsCountStretch (T.signal tape.old) rules.now Searching place to counts.old result counts.new }
+    ensures silent { (i : ℕ) → place ≤ i → i + 1 < result.0 → acquired (T.signal tape.old) rules.now i ≡ None }
+    ensures reads { T.reads_made tape.new ≤ T.reads_made tape.old + (rules.now.reach + 1) * (result.0 - place) }
+    ensures same { T.signal tape.new ≡ T.signal tape.old }
+{
+    prove!(1 <= rules.reach());
+    prove!(to <= tape.len());
+    for here in place..to {
+        if let Some(found) = acquire(tape, rules, here) {
+            add_found(counts, here, found.number);
+            return (here + 1, State::Locked(found.lock()));
+        }
+    }
+    (to, State::Searching)
+}
+
+/// Follows a lock up to and including the block that closes its group, or up to `to`.
+pub(crate) fn keep<T: Tape>(
+    tape: &mut T,
+    rules: &Rules,
+    lock: Lock,
+    place: u64,
+    to: u64,
+    counts: &mut Counts,
+) -> (u64, State)
+    requires lawful { IsLawfulLock rules.now place lock }
+    requires ahead { place < to }
+    requires within { to ≤ length_of (T.signal tape.old) }
+    requires counted { T.reads_made tape.old + 16 ≤ 2 ^ 63 }
+    requires few { counts.old.items ≤ 3000 }
+    ensures came { IsCountStretch (T.signal tape.old) rules.now (Locked lock) place to counts.old result counts.new }
+    ensures quiet { (run (T.signal tape.old) rules.now (Locked lock) place (result.0 - 1 - place)).1 ≡ [] }
+    ensures cost { ((T.reads_made tape.new ≤ T.reads_made tape.old) × (result.1 ≡ Locked lock))
+        ⊎ ((T.reads_made tape.new ≤ T.reads_made tape.old + 4) × (lock.due + 26 ≤ mark result.0 result.1)) }
+    ensures same { T.signal tape.new ≡ T.signal tape.old }
+{
+    // The outcome of each reading has a word.
+    bursts_are_listed();
+    readings_follow_the_rule();
+    prove!(1 <= rules.reach());
+    prove!(to <= tape.len());
+    if to <= lock.due {
+        return (to, State::Locked(lock));
+    }
+    let loss = rules.loss();
+    let mut blocks = blocks_before(tape, rules, lock);
+    let mut now = lock;
+    while now.due < to {
+        let past = now.due + 1;
+        let good = read_due(tape, rules, now, &mut blocks);
+        match now.after(loss, good) {
+            Due::Inside(next) => now = next,
+            Due::Closed(next) => {
+                counts.add_group(word_of_blocks(&blocks));
+                return (past, State::Locked(next));
+            }
+            Due::Lost => {
+                counts.add_group(word_of_blocks(&blocks));
+                counts.add_loss();
+                return (past, State::Searching);
+            }
+        }
+    }
+    (to, State::Locked(now))
+}
+
+/// The blocks of the group in progress that were read before.
+fn blocks_before<T: Tape>(tape: &mut T, rules: &Rules, lock: Lock) -> [Block; 4]
+    requires numbers { (1 ≤ lock.first) × (lock.first ≤ lock.number) × (lock.number ≤ 4) }
+    requires start { HaveRoom lock.first lock.number lock.due }
+    requires within { lock.due < length_of (T.signal tape.old) }
+    requires counted { T.reads_made tape.old + 8 ≤ 2 ^ 63 }
+    ensures blocks { IsInProgress (T.signal tape.old) rules.now lock result }
+    ensures reads { T.reads_made tape.new ≤ T.reads_made tape.old + (lock.number - lock.first) }
+    ensures same { T.signal tape.new ≡ T.signal tape.old }
+{
+    let mut blocks = NO_BLOCKS;
+    for number in lock.first..lock.number {
+        let due = lock.due - BLOCK_PLACES * u64::from(lock.number - number);
+        let _ = read_due(
+            tape,
+            rules,
+            Lock {
+                due,
+                number,
+                ..lock
+            },
+            &mut blocks,
+        );
+    }
+    blocks
+}
+
+/// Reads the block that is due into its group, and tells whether it is valid.
+fn read_due<T: Tape>(tape: &mut T, rules: &Rules, lock: Lock, blocks: &mut [Block; 4]) -> bool
+    requires order { (1 ≤ lock.first) × (lock.first ≤ lock.number) × (lock.number ≤ 4) }
+    requires start { HaveRoom lock.first lock.number lock.due }
+    requires within { lock.due < length_of (T.signal tape.old) }
+    requires in_progress { IsInProgress (T.signal tape.old) rules.now lock blocks.old }
+    requires counted { T.reads_made tape.old < 2 ^ 63 }
+    ensures valid { result ≡ has_number (T.signal tape.old) lock.due lock.number }
+    ensures blocks { blocks.new ≡ blocks_at (T.signal tape.old) rules.now lock.first lock.number lock.due }
+    ensures reads { T.reads_made tape.new ≤ T.reads_made tape.old + 1 }
+    ensures same { T.signal tape.new ≡ T.signal tape.old }
+{
+    let wanted = if lock.number == 3 {
+        blocks[1].wanted_beside()
+    } else {
+        Wanted::Either
+    };
+    let Some(number) = BlockNumber::new(lock.number) else {
+        unreachable!()
+    };
+    let reading = rules.read(tape.window(lock.due), number, wanted);
+    let valid = is_valid(&reading);
+    blocks[(lock.number - 1) as usize] = Block::Read(reading);
+    valid
+}

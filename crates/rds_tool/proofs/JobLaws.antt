@@ -1,0 +1,308 @@
+-- What is listed of groups that were encoded, and which texts are that of a list, or a part of it.
+use Rattle.std.proofs.Common.{◌≡◌, ℕ, zero, suc, ◌+◌, ◌*◌, ◌/◌, ◌%◌, ◌^◌, ◌<◌, ◌≤◌, List, [], ◌∷◌, ◌++◌, Bool, true, false, cond, Some, Result, Ok, Err, length, flat_map, get_or, refl, sym, subst, ap, ap₂, ◌∙◌, arith, append-nil}
+use Rattle.std.specs.Prelude.{IfOk, not, nat_lt, ◌||◌, if◌then◌else◌}
+use Rattle.std.specs.Int.{byte_at, bytes_high_first}
+use Rattle.std.specs.List.{filter}
+use Rattle.std.specs.Result.{result_unwrap_or}
+use Rattle.std.proofs.lemmas.Bool.Decides.{nat_tests}
+use Rattle.std.proofs.lemmas.List.Elements.{filter-append}
+use Rattle.std.proofs.lemmas.List.FromFn.{length-map-range_with_len}
+use Rattle.hex.specs.Hex.{IsBytes, decode_of, decode_sized, encode_lower, encode_with, hex_digit_value, lower_digits}
+use Rattle.hex.specs.declared.error.FromHexError.{FromHexError}
+use Rattle.hex.proofs.HexLemmas.{IsDigits-lower_digits, decode_of-encode_lower, decode_of-ok, decode_sized-ok, decode_sized-twice}
+use Rattle.rds_stream.specs.Recording.{Signal, bits_of, length_of, packed_bit, ungapped}
+use Rattle.rds_sync.specs.Loss.{IsLoss}
+use Rattle.rds_sync.specs.Report.{report_items}
+use Rattle.rds_sync.specs.Rules.{RuleNumbers}
+use Rattle.rds_sync.specs.Sent.{AreWords, EncodedGroupsAreListed as SentGroupsAreListed, PackedGroupsAreSent, bits_sent, packed_group, packed_groups}
+use Rattle.rds_sync.specs.declared.loss.Loss.{Loss}
+use Rattle.rds_sync.specs.declared.loss.Loss.TheVariants.{InARow, Share}
+use Rattle.rds_tool.specs.Cuts.{cuts_bits}
+use Rattle.rds_tool.specs.Following.{listed}
+use Rattle.rds_tool.specs.GroupText.{group_text, lines_of, lines_text, words_of, words_or_refusal}
+use Rattle.rds_tool.specs.Input.{and_then, bytes_of, first_bits, is_blank, or_hex_text, recording_of}
+use Rattle.rds_tool.specs.Laws.{EncodedGroupsAreListed, EncodedGroupsAreTaken, ListsEndWithTotals, StreamsAreListed, groups_of_lines, stream_input, whole_input}
+use Rattle.rds_tool.specs.Listing.{item_row, report_text}
+use Rattle.rds_tool.specs.Outcome.{cut_recording, list_text, outcome, text_of_task, totals_list}
+use Rattle.rds_tool.specs.Plans.{PlanOf, crew_of, cut_by, plan_of}
+use Rattle.rds_tool.specs.Rules.{loss_of, rules_of}
+use Rattle.rds_tool.specs.Tasks.{task_of}
+use Rattle.rds_tool.specs.declared.error.ToolError.{ToolError}
+use Rattle.rds_tool.specs.declared.error.ToolError.TheVariants.{BadCutting, BadGaps, BitsPastBytes, BurstRange, LossRange, ReachRange, ShareRange, TooLong}
+use Rattle.rds_tool.specs.declared.job.Cuts.{Cuts}
+use Rattle.rds_tool.specs.declared.job.Input.{Input}
+use Rattle.rds_tool.specs.declared.job.Job.TheVariants as job
+use Rattle.rds_tool.specs.declared.job.Settings.{Settings}
+use Rattle.rds_tool.specs.declared.task.Task.TheVariants as task
+
+-- ---- steps that were not refused
+
+abbrev taken : {A : Type 0} → A → Result A ToolError
+taken a = Ok a
+
+same-ok : {A : Type 0} (a b : A) → taken a ≡ taken b → a ≡ b
+same-ok {A = A} a b is = ap (λ (r : Result A ToolError). result_unwrap_or r a) is
+
+-- both steps were taken
+both : {A B : Type 0} (first : Result A ToolError) (step : A → Result B ToolError) (made : B) → and_then first step ≡ Ok made
+    → (a : A) × (first ≡ Ok a) × (step a ≡ Ok made)
+both (Ok a) step made is = (a, refl, is)
+both (Err e) step made is = cc is
+
+-- ---- words of sixteen bits
+
+four_small : (a b c d : ℕ) → a < 2 ^ 16 → b < 2 ^ 16 → c < 2 ^ 16 → d < 2 ^ 16 → (y : ℕ) → get_or (a ∷ b ∷ c ∷ d ∷ []) y 0 < 2 ^ 16
+four_small a b c d ha hb hc hd zero = ha
+four_small a b c d ha hb hc hd (suc zero) = hb
+four_small a b c d ha hb hc hd (suc (suc zero)) = hc
+four_small a b c d ha hb hc hd (suc (suc (suc zero))) = hd
+four_small a b c d ha hb hc hd (suc (suc (suc (suc y)))) = omega arith
+
+-- the words of sixteen digits
+words_small : (digits : List ℕ) (read : Result (List ℕ) FromHexError) (words : List ℕ) → decode_sized digits 8 ≡ read
+    → words_or_refusal read ≡ Ok words → (y : ℕ) → get_or words y 0 < 2 ^ 16
+words_small digits (Ok bytes) words is spelled =
+    let long = decode_sized-ok digits 8 bytes is in
+    let small = (decode_of-ok digits bytes (sym (decode_sized-twice digits 8 long) ∙ is)).3 in
+    let two : (i : ℕ) → 256 * get_or bytes i 0 + get_or bytes (i + 1) 0 < 2 ^ 16 = λ i. omega (arith, small i, small (i + 1)) in
+    rw (← same-ok _ words spelled) (four_small _ _ _ _ (two 0) (two 2) (two 4) (two 6))
+words_small digits (Err e) words is spelled = cc spelled
+
+more_small : (words : List ℕ) (groups : List (List ℕ)) → ((y : ℕ) → get_or words y 0 < 2 ^ 16) → AreWords groups → AreWords (words ∷ groups)
+more_small words groups first others zero = first
+more_small words groups first others (suc k) = others k
+
+-- ---- what is written for lines
+
+line_spelled : (hex : Bool) (digit : ℕ) (digits : List ℕ) (lines : List (List ℕ)) (words : List ℕ) (groups : List (List ℕ))
+    → words_of (digit ∷ digits) ≡ Ok words → lines_text hex lines ≡ Ok (flat_map (group_text hex) groups)
+    → lines_text hex ((digit ∷ digits) ∷ lines) ≡ Ok (flat_map (group_text hex) (words ∷ groups))
+line_spelled hex digit digits lines words groups first others = rw (first, others) refl
+
+-- the groups of lines: their words are small, and this is written for them
+abbrev AreSpelled : List (List ℕ) → List (List ℕ) → Type 0
+AreSpelled lines groups = AreWords groups × ((hex : Bool) → lines_text hex lines ≡ Ok (flat_map (group_text hex) groups))
+
+groups_spelled : (lines groups : List (List ℕ)) → groups_of_lines lines ≡ Ok groups → AreSpelled lines groups
+groups_spelled [] groups is = subst (AreSpelled []) (same-ok [] groups is) (λ k y. omega arith, λ hex. refl)
+groups_spelled ([] ∷ lines) groups is =
+    let others = groups_spelled lines groups is in
+    (others.0, λ hex. rw (others.1 hex) refl)
+groups_spelled ((digit ∷ digits) ∷ lines) groups is =
+    let first = both (words_of (digit ∷ digits)) _ groups is in
+    let next = both (groups_of_lines lines) _ groups first.2 in
+    let others = groups_spelled lines next.0 next.1 in
+    let small = words_small (digit ∷ digits) (decode_sized (digit ∷ digits) 8) first.0 refl first.1 in
+    subst (AreSpelled ((digit ∷ digits) ∷ lines)) (same-ok (first.0 ∷ next.0) groups next.2)
+    (more_small first.0 next.0 small others.0, λ hex. line_spelled hex digit digits lines first.0 next.0 first.1 (others.1 hex))
+
+-- ---- the bytes of it
+
+byte_small : (k n : ℕ) → byte_at k n < 256
+byte_small zero n = omega arith
+byte_small (suc k) n = omega arith
+
+bytes_small : (k n : ℕ) → IsBytes (bytes_high_first k n)
+bytes_small zero n i = omega arith
+bytes_small (suc k) n zero = byte_small k n
+bytes_small (suc k) n (suc i) = bytes_small k n i
+
+small-append : (xs ys : List ℕ) → IsBytes xs → IsBytes ys → IsBytes (xs ++ ys)
+small-append [] ys hx hy i = hy i
+small-append (x ∷ xs) ys hx hy zero = hx 0
+small-append (x ∷ xs) ys hx hy (suc i) = small-append xs ys (λ k. hx (suc k)) hy i
+
+packed_small : (groups : List (List ℕ)) → IsBytes (packed_groups groups)
+packed_small [] i = omega arith
+packed_small (words ∷ groups) i = small-append (packed_group words) (packed_groups groups) (bytes_small 13 _) (packed_small groups) i
+
+-- a digit is no blank
+digit_kept : (c d : ℕ) → hex_digit_value c ≡ Some d → not (is_blank c) ≡ true
+digit_kept c d is = grind (arith, nat_tests)
+
+digits_kept : (bytes : List ℕ) → IsBytes bytes → filter (λ b. not (is_blank b)) (encode_lower bytes) ≡ encode_lower bytes
+unfolding encode_with
+digits_kept [] small = refl
+digits_kept (b ∷ bytes) small =
+    let fits : b < 256 = small 0 in
+    let high = digit_kept (get_or lower_digits (b / 16) 0) (b / 16) (IsDigits-lower_digits (b / 16) (omega arith)) in
+    let low = digit_kept (get_or lower_digits (b % 16) 0) (b % 16) (IsDigits-lower_digits (b % 16) (omega arith)) in
+    rw (high, low, digits_kept bytes (λ k. small (suc k))) refl
+
+encode-append : (xs ys : List ℕ) → encode_lower (xs ++ ys) ≡ encode_lower xs ++ encode_lower ys
+unfolding encode_with
+encode-append [] ys = refl
+encode-append (x ∷ xs) ys = rw (encode-append xs ys) refl
+
+lines_kept : (groups : List (List ℕ)) → filter (λ b. not (is_blank b)) (flat_map (group_text true) groups) ≡ encode_lower (packed_groups groups)
+unfolding encode_with
+lines_kept [] = refl
+lines_kept (words ∷ groups) =
+    let bytes : List ℕ = packed_group words in
+    let test : ℕ → Bool = λ b. not (is_blank b) in
+    filter-append test (encode_lower bytes ++ 10 ∷ []) (flat_map (group_text true) groups)
+    ∙ ap₂ (λ (xs ys : List ℕ). xs ++ ys)
+    (filter-append test (encode_lower bytes) (10 ∷ []) ∙ append-nil (filter test (encode_lower bytes)) ∙ digits_kept bytes (bytes_small 13 _))
+    (lines_kept groups)
+    ∙ sym (encode-append bytes (packed_groups groups))
+
+-- the bytes that a list makes of what was written for groups
+bytes_again : (hex : Bool) (groups : List (List ℕ)) → bytes_of (whole_input hex) (flat_map (group_text hex) groups) ≡ Ok (packed_groups groups)
+bytes_again false groups = refl
+bytes_again true groups =
+    ap (λ (text : List ℕ). or_hex_text (decode_of text)) (lines_kept groups)
+    ∙ ap or_hex_text (decode_of-encode_lower (packed_groups groups) (packed_small groups))
+
+-- ---- rules in their ranges
+
+-- a test that refused nothing
+untested : {A : Type 0} (test : Bool) (error : ToolError) (rest : Result A ToolError) (made : A) → (if test then Err error else rest) ≡ Ok made
+    → (test ≡ false) × (rest ≡ Ok made)
+untested true error rest made is = cc is
+untested false error rest made is = (refl, is)
+
+record AreLawful (rules : RuleNumbers) : Type 0 where
+  loss : IsLoss rules.loss
+  reach : 1 ≤ rules.reach
+  burst : rules.burst ≤ 5
+
+loss_lawful : (asked loss : Loss) → loss_of asked ≡ Ok loss → IsLoss loss
+loss_lawful (InARow n) loss is =
+    let inside = untested (nat_lt n 1 || nat_lt 64 n) LossRange _ loss is in
+    rw (← same-ok (InARow n) loss inside.1) (grind (arith, nat_tests, inside.0))
+loss_lawful (Share bad of) loss is =
+    let inside = untested (nat_lt bad 1 || nat_lt of bad || nat_lt 64 of) ShareRange _ loss is in
+    rw (← same-ok (Share bad of) loss inside.1) (grind (arith, nat_tests, inside.0), grind (arith, nat_tests, inside.0))
+
+rules_lawful : (settings : Settings) (rules : RuleNumbers) → rules_of settings ≡ Ok rules → AreLawful rules
+rules_lawful settings rules is =
+    let burst = untested (nat_lt 5 settings.burst) BurstRange _ rules is in
+    let reach = untested (nat_lt settings.reach 1 || nat_lt 8 settings.reach) ReachRange _ rules burst.1 in
+    let loss = both (loss_of settings.loss) _ rules reach.1 in
+    rw (← same-ok _ rules loss.2) (record {
+      loss = loss_lawful settings.loss loss.0 loss.1;
+      reach = grind (arith, nat_tests, reach.0);
+      burst = grind (arith, nat_tests, burst.0);
+    })
+
+plan_lawful : (settings : Settings) (plan : PlanOf) → plan_of settings ≡ Ok plan → AreLawful plan.rules
+plan_lawful settings plan is =
+    let ruled = both (rules_of settings) _ plan is in
+    let made = both (crew_of settings) _ plan ruled.2 in
+    rules_lawful settings plan.rules (ruled.1 ∙ ap (λ (p : PlanOf). Ok p.rules) (same-ok _ plan made.2))
+
+-- ---- lists that were not refused
+
+first_are : (bits : ℕ) (gaps : List (ℕ × ℕ)) (bytes : List ℕ) (recording : Signal) → first_bits bits gaps bytes ≡ Ok recording
+    → record { bits = bits_of bytes bits; gaps = gaps } ≡ recording
+first_are bits gaps bytes recording is =
+    let short = untested _ TooLong _ recording is in
+    let held = untested _ BitsPastBytes _ recording short.1 in
+    let lawful = untested _ BadGaps _ recording held.1 in
+    same-ok _ recording lawful.1
+
+bits_of-length : (bytes : List ℕ) (bits : ℕ) → length (bits_of bytes bits) ≡ bits
+bits_of-length bytes bits = length-map-range_with_len (packed_bit bytes) 0 bits
+
+-- all bits of few enough bytes
+all_taken : (bytes : List ℕ) → 8 * length bytes ≤ 2 ^ 36 → first_bits (8 * length bytes) [] bytes ≡ Ok (ungapped (bits_of bytes (8 * length bytes)))
+all_taken bytes few = grind (arith, nat_tests)
+
+cut_same : (cuts : Cuts) (recording cut : Signal) (fits : Bool) → cond fits (Ok recording) (Err BadCutting) ≡ Ok cut → recording ≡ cut
+cut_same cuts recording cut true is = same-ok recording cut is
+cut_same cuts recording cut false is = cc is
+
+record IsListOf (input : Input) (settings : Settings) (held listing : List ℕ) : Type 0 where
+  plan : PlanOf
+  recording : Signal
+  planned : plan_of settings ≡ Ok plan
+  recorded : recording_of input held ≡ Ok recording
+  is_listing : listing ≡ list_text plan.rules recording
+
+list_of : (input : Input) (settings : Settings) (held listing : List ℕ) → outcome (job.List input settings) held ≡ Ok listing
+    → IsListOf input settings held listing
+list_of input settings held listing is =
+    let asked = both (task_of (job.List input settings)) (λ task. text_of_task task held) listing is in
+    let planned = both (plan_of settings) (λ plan. Ok (task.List input plan)) asked.0 asked.1 in
+    let made = rw (← same-ok (task.List input planned.0) asked.0 planned.2) at asked.2 in
+    let listed = both (cut_recording input planned.0.cuts held) (λ recording. Ok (list_text planned.0.rules recording)) listing made in
+    let read = both (recording_of input held) (cut_by planned.0.cuts) listed.0 listed.1 in
+    let same = cut_same planned.0.cuts read.0 listed.0 (cuts_bits planned.0.cuts (length_of read.0)) read.2 in
+    record {
+      plan = planned.0;
+      recording = read.0;
+      planned = planned.1;
+      recorded = read.1;
+      is_listing = sym (same-ok _ listing listed.2) ∙ ap (list_text planned.0.rules) (sym same);
+    }
+
+-- ---- groups that are encoded and then listed
+
+module _ (sent : SentGroupsAreListed) (packed : PackedGroupsAreSent) where
+  recorded_again : (hex : Bool) (groups : List (List ℕ)) (recording : Signal) → AreWords groups
+      → recording_of (whole_input hex) (flat_map (group_text hex) groups) ≡ Ok recording → recording ≡ ungapped (bits_sent groups)
+  recorded_again hex groups recording small is =
+      let read = both (bytes_of (whole_input hex) (flat_map (group_text hex) groups)) _ recording is in
+      let same = same-ok read.0 (packed_groups groups) (sym read.1 ∙ bytes_again hex groups) in
+      sym (first_are (8 * length read.0) [] read.0 recording read.2)
+      ∙ ap (λ (bytes : List ℕ). ungapped (bits_of bytes (8 * length bytes))) same
+      ∙ ap ungapped (packed groups small).1
+
+  pub encoded_groups_are_listed : EncodedGroupsAreListed
+  encoded_groups_are_listed hex settings lines words groups listing spelled listed =
+      let all : List (List ℕ) = words ∷ groups in
+      let made = groups_spelled (lines_of lines) all spelled in
+      let again = ap (λ (text : Result (List ℕ) ToolError). and_then text (outcome (job.List (whole_input hex) settings))) (sym (made.1 hex)) ∙ listed in
+      let is = list_of (whole_input hex) settings (flat_map (group_text hex) all) listing again in
+      let by = plan_lawful settings is.plan is.planned in
+      let report = sent is.plan.rules words groups by.loss by.reach by.burst made.0 in
+      is.is_listing ∙ ap (list_text is.plan.rules) (recorded_again hex all is.recording made.0 is.recorded) ∙ ap₂ report_text report.0 report.1
+
+  -- as many bits as the groups have
+  bits_sent-length : (groups : List (List ℕ)) → AreWords groups → length (bits_sent groups) ≡ 104 * length groups
+  bits_sent-length groups small =
+      let bytes : List ℕ = packed_groups groups in
+      let long = (packed groups small).0 in
+      ap length (sym (packed groups small).1) ∙ bits_of-length bytes (8 * length bytes) ∙ omega (arith, long)
+
+  pub encoded_groups_are_taken : EncodedGroupsAreTaken
+  encoded_groups_are_taken hex settings plan lines groups planned spelled short fits =
+      let made = groups_spelled (lines_of lines) groups spelled in
+      let bytes : List ℕ = packed_groups groups in
+      let long = (packed groups made.0).0 in
+      let held : 8 * length bytes ≤ 2 ^ 36 = omega (arith, long, short) in
+      let recorded : recording_of (whole_input hex) (flat_map (group_text hex) groups) ≡ Ok (ungapped (bits_sent groups)) =
+      ap (λ (read : Result (List ℕ) ToolError). and_then read (λ all. first_bits (8 * length all) [] all)) (bytes_again hex groups)
+      ∙ all_taken bytes held ∙ ap (λ (bits : List ℕ). Ok (ungapped bits)) (packed groups made.0).1 in
+      let cut : cuts_bits plan.cuts (length (bits_sent groups)) ≡ true = rw (bits_sent-length groups made.0) fits in
+      (list_text plan.rules (ungapped (bits_sent groups)), rw (made.1 hex, planned, recorded, cut) refl)
+
+-- ---- lists, streams and totals
+
+cut_alike : (made : Result Signal ToolError) (cuts : Cuts) (rules : RuleNumbers) → IfOk made (λ recording. cuts_bits cuts (length_of recording) ≡ true)
+    → and_then made (λ recording. Ok (list_text rules recording)) ≡ and_then (and_then made (cut_by cuts)) (λ recording. Ok (list_text rules recording))
+cut_alike (Ok recording) cuts rules fits = rw fits refl
+cut_alike (Err e) cuts rules fits = refl
+
+pub streams_are_listed : StreamsAreListed
+streams_are_listed settings plan bits gaps held planned fits =
+    let input : Input = stream_input bits gaps in
+    cut_alike (recording_of input held) plan.cuts plan.rules fits
+    ∙ sym (ap (λ (made : Result PlanOf ToolError). and_then (and_then made (λ plan. Ok (task.List input plan))) (λ task. text_of_task task held)) planned)
+
+module _ (input : Input) (held : List ℕ) where
+  -- the rows of items come before the totals
+  rows_before : (rules : RuleNumbers) (made : Result Signal ToolError)
+      → (rows : List ℕ) × (and_then made (λ recording. Ok (list_text rules recording))
+      ≡ and_then (and_then made (λ recording. Ok (totals_list rules recording))) (λ totals. Ok (rows ++ totals)))
+  rows_before rules (Ok recording) = (flat_map item_row (report_items recording rules), refl)
+  rows_before rules (Err e) = ([], refl)
+
+  of_plan : (planned : Result PlanOf ToolError)
+      → (rows : List ℕ) × (and_then (and_then planned (λ plan. Ok (task.List input plan))) (λ task. text_of_task task held)
+      ≡ and_then (and_then (and_then planned (λ plan. Ok (task.Totals input plan))) (λ task. text_of_task task held)) (λ totals. Ok (rows ++ totals)))
+  of_plan (Ok plan) = rows_before plan.rules (cut_recording input plan.cuts held)
+  of_plan (Err e) = ([], refl)
+
+pub lists_end_with_totals : ListsEndWithTotals
+lists_end_with_totals input settings held = of_plan input held (plan_of settings)

@@ -1,0 +1,175 @@
+-- How a transcription ends: its settings are refused, or its bytes, or its writer's turn has come.
+use Rattle.std.proofs.Common.{Bool, Err, List, None, Ok, Option, Result, Some, [], true, ◌++◌, ap, inl, inr, refl, subst, sym, ◌<◌, ◌≡◌, ◌≢◌, ◌⊎◌, ◌↔◌, ◌∙◌, ℕ}
+use Rattle.std.specs.Prelude.{IfErr, IfSome, OnOk}
+use Rattle.std.specs.Io.KnownBytes.{Appends, IsAtEnd}
+use Rattle.std.proofs.lemmas.List.{append-nil}
+use Rattle.rds_rows.specs.declared.sink.Sink.{Ghosts as Sink}
+use Rattle.rds_tool.specs.History.{Gave}
+use Rattle.rds_tool.specs.Input.{and_then}
+use Rattle.rds_tool.specs.Outcome.{IsOutside, Writes, WritesPrefix, outcome, text_of_task}
+use Rattle.rds_tool.specs.Refusals.{IsMemoryOrErrOf, IsShortageOrErrOf}
+use Rattle.rds_tool.specs.Tasks.{MayStartThreads, task_of}
+use Rattle.rds_tool.specs.Transcribed.{IsTranscribed}
+use Rattle.rds_tool.specs.declared.devices.Source.{Ghosts as Source}
+use Rattle.rds_tool.specs.declared.error.ToolError.{ToolError}
+use Rattle.rds_tool.specs.declared.error.ToolError.TheVariants.{NoWorker, OutOfMemory, Read, TooManyTurns, Write}
+use Rattle.rds_tool.specs.declared.job.Job.{Job}
+use Rattle.rds_tool.specs.declared.task.Task.{Task}
+use Rattle.rds_tool.proofs.Followed.{on_any_ok}
+use Rattle.rds_tool.proofs.Passing.{no_err, no_ok, passed_kind}
+use Rattle.rds_tool.proofs.Texts.{asked, not_called, passed_inside, prefix_is, refused_inside, settings_inside, started, written_is}
+
+-- a refusal of settings is one of the job
+task_refused : (job : Job) (remaining : Option (List ℕ)) (e : ToolError) → IsMemoryOrErrOf (task_of job) e
+    → IsOutside e ⊎ IfSome remaining (λ held. outcome job held ≡ Err e)
+task_refused job remaining e (inl memory) = inl (inl memory)
+task_refused job None e (inr refused) = inr tt
+task_refused job (Some held) e (inr refused) = inr (ap (λ r. and_then r (λ task. text_of_task task held)) refused)
+
+-- so is one of the bytes, but for want of memory or of a thread
+text_refused : (X : Type 0) (job : Job) (task : Task) (remaining : Option (List ℕ)) (held : List ℕ) (e : ToolError) → task_of job ≡ Ok task
+    → IfSome remaining (λ bytes. held ≡ bytes) → IsShortageOrErrOf X (text_of_task task held) e → IsOutside e ⊎ IfSome remaining (λ bytes. outcome job bytes ≡ Err e)
+text_refused X job task remaining held e is same (inl memory) = inl (inl memory)
+text_refused X job task remaining held e is same (inr (inl threads)) = inl (inr (inl threads.0))
+text_refused X job task None held e is same (inr (inr refused)) = inr tt
+text_refused X job task (Some bytes) held e is same (inr (inr refused)) =
+    inr (ap (λ r. and_then r (λ (t : Task). text_of_task t bytes)) is ∙ (ap (λ b. text_of_task task b) (sym same) ∙ refused))
+
+-- the same of the bytes that were given, of which there are none before the settings are looked at
+abbrev Refused : Job → List ℕ → List ℕ → Bool → ToolError → Type 0
+Refused job given given' ended e = IsOutside e ⊎ Gave given given' (λ bytes. (outcome job bytes ≡ Err e) × ((task_of job ≡ Err e) ⊎ (ended ≡ true)))
+
+task_refused_by : (job : Job) (given : List ℕ) (ended : Bool) (e : ToolError) → IsMemoryOrErrOf (task_of job) e → Refused job given given ended e
+task_refused_by job given ended e (inl memory) = inl (inl memory)
+task_refused_by job given ended e (inr refused) = inr ([], sym (append-nil given), (ap (λ r. and_then r (λ task. text_of_task task [])) refused, inl refused))
+
+text_refused_by : (X : Type 0) (job : Job) (task : Task) (given given' held : List ℕ) (ended : Bool) (e : ToolError) → task_of job ≡ Ok task → given' ≡ given ++ held
+    → ended ≡ true → IsShortageOrErrOf X (text_of_task task held) e → Refused job given given' ended e
+text_refused_by X job task given given' held ended e is gave done (inl memory) = inl (inl memory)
+text_refused_by X job task given given' held ended e is gave done (inr (inl threads)) = inl (inr (inl threads.0))
+text_refused_by X job task given given' held ended e is gave done (inr (inr refused)) =
+    inr (held, gave, (ap (λ r. and_then r (λ (t : Task). text_of_task t held)) is ∙ refused, inr done))
+
+-- and one of the writer is a device's
+write_refused : {T : Type 0} (P : ToolError → Type 0) (r : Result T ToolError) → IfErr r (λ e. (e ≡ OutOfMemory) ⊎ (e ≡ Write)) → IfErr r (λ e. IsOutside e ⊎ P e)
+write_refused P (Ok x) kinds = tt
+write_refused P (Err e) (inl memory) = inl (inl memory)
+write_refused P (Err e) (inr write) = inl (inr (inr (inr (inl write))))
+
+-- what the writer alone may refuse is refused for nothing else
+pub writer_alone : {T X : Type 0} (r : Result T ToolError) (k : ToolError) → ((k ≡ OutOfMemory) ⊎ (k ≡ Write) → X) → IfErr r (λ e. (e ≡ OutOfMemory) ⊎ (e ≡ Write)) → r ≡ Err k → X
+writer_alone {T} r k other kinds p = other (subst (λ (x : Result T ToolError). IfErr x (λ e. (e ≡ OutOfMemory) ⊎ (e ≡ Write))) p kinds)
+
+no_read : {X : Type 0} → (Read ≡ OutOfMemory) ⊎ (Read ≡ Write) → X
+no_read (inl p) = cc p
+no_read (inr p) = cc p
+
+no_turns : {X : Type 0} → (TooManyTurns ≡ OutOfMemory) ⊎ (TooManyTurns ≡ Write) → X
+no_turns (inl p) = cc p
+no_turns (inr p) = cc p
+
+pub no_thread : {X : Type 0} → (NoWorker ≡ OutOfMemory) ⊎ (NoWorker ≡ Write) → X
+no_thread (inl p) = cc p
+no_thread (inr p) = cc p
+
+-- settings that are refused are refused as such, before anything is read
+same_error : {T : Type 0} (e x : ToolError) → let r : Result T ToolError = Err e in r ≡ Err x → e ≡ x
+same_error e x p = cc
+
+settings_refused : {R : Type 0} (task : Result Task ToolError) (r : Result (Unit {0}) ToolError) (e : ToolError) (reader : R) → r ≡ Err e
+    → IfErr task (λ x. let made : Result Task ToolError = Err e in made ≡ Err x) → IfErr task (λ x. (r ≡ Err x) × (reader ≡ reader))
+settings_refused (Ok t) r e reader same h = tt
+settings_refused (Err x) r e reader same h = (same ∙ ap (λ k. Err k) (same_error e x h), refl)
+
+-- what was written of the bytes that were given
+heard_is : (held given given' : List ℕ) (job : Job) (r : Result (Unit {0}) ToolError) (old new : Option (List ℕ)) → given' ≡ given ++ held
+    → OnOk r (Writes old new (outcome job held)) → OnOk r (Gave given given' (λ bytes. Writes old new (outcome job bytes)))
+heard_is held given given' job (Ok x) old new p w = (held, p, w)
+heard_is held given given' job (Err e) old new p w = tt
+
+-- what is refused of a call is refused of its caller
+on_err : {T : Type 0} (P : ToolError → Type 0) (r : Result T ToolError) (e : ToolError) → r ≡ Err e → P e → IfErr r P
+on_err P r e same p = subst (λ x. IfErr x P) (sym same) p
+
+module _ {R W : Type 0} (source : Source R) (sink : Sink W) (job : Job) (reader : R) (writer : W) (r : Result (Unit {0}) ToolError) where
+  -- the settings are refused
+  pub at_settings : (e : ToolError) → r ≡ Err e → IsMemoryOrErrOf (task_of job) e → IfErr (task_of job) (λ x. let made : Result Task ToolError = Err e in made ≡ Err x)
+      → IsTranscribed source sink job reader reader writer writer r
+  at_settings e same refused settings =
+      let both = settings_inside job e refused in
+      let inside = passed_inside r e same both.0 in
+      record {
+        end = no_ok _ _ _ same;
+        ok = no_ok _ _ _ same;
+        heard = no_ok _ _ _ same;
+        ended = no_ok _ _ _ same;
+        flushed = no_ok _ _ _ same;
+        read = (λ p. absurd (inside.0 p), not_called _);
+        write = (λ p. absurd (inside.1 p), not_called _);
+        turns = λ p. absurd (inside.2 p);
+        no_worker = λ p. absurd (both.1 (passed_kind r e NoWorker same p));
+        refused = on_err _ r e same (task_refused job (source.remaining reader) e refused);
+        turned = λ p. absurd (inside.2 p);
+        refused_by = on_err _ r e same (task_refused_by job (source.given reader) (source.has_ended reader) e refused);
+        settings = settings_refused (task_of job) r e reader same settings;
+        untouched = on_err _ r e same (λ other. refl);
+        prefix = λ p. absurd (inside.1 p);
+        broke_off = λ p. absurd (inside.1 p);
+      }
+
+  -- all was read
+  module _ (reader' : R) (task : Task) (held : List ℕ) (is : task_of job ≡ Ok task) (all : IfSome (source.remaining reader) (λ bytes. held ≡ bytes))
+      (gave : source.given reader' ≡ source.given reader ++ held) (done : source.has_ended reader' ≡ true)
+      (fine : source.failed reader < source.failed reader' → ⊥) where
+    -- its bytes are refused
+    pub at_bytes : (e : ToolError) → r ≡ Err e → IsShortageOrErrOf (MayStartThreads task) (text_of_task task held) e → IsTranscribed source sink job reader reader' writer writer r
+    at_bytes e same refused =
+        let inside = passed_inside r e same (refused_inside (MayStartThreads task) task held e refused) in
+        record {
+          end = no_ok _ _ _ same;
+          ok = no_ok _ _ _ same;
+          heard = no_ok _ _ _ same;
+          ended = no_ok _ _ _ same;
+          flushed = no_ok _ _ _ same;
+          read = (λ p. absurd (inside.0 p), λ q. absurd (fine q));
+          write = (λ p. absurd (inside.1 p), not_called _);
+          turns = λ p. absurd (inside.2 p);
+          no_worker = λ p. asked job task is (started (MayStartThreads task) task held e refused (passed_kind r e NoWorker same p));
+          refused = on_err _ r e same (text_refused (MayStartThreads task) job task (source.remaining reader) held e is all refused);
+          turned = λ p. absurd (inside.2 p);
+          refused_by = on_err _ r e same (text_refused_by (MayStartThreads task) job task _ _ held _ e is gave done refused);
+          settings = no_err _ _ _ is;
+          untouched = on_err _ r e same (λ other. refl);
+          prefix = λ p. absurd (inside.1 p);
+          broke_off = λ p. absurd (inside.1 p);
+        }
+
+    -- the text is made
+    module _ (writer' : W) (text : List ℕ) (made : text_of_task task held ≡ Ok text) (end : IsAtEnd (source.remaining reader')) where
+      abbrev old : Option (List ℕ)
+      old = sink.contents writer
+
+      abbrev new : Option (List ℕ)
+      new = sink.contents writer'
+
+      pub at_writer : OnOk r (Appends old new text) → OnOk r (sink.is_flushed writer' ≡ true) → (r ≡ Err Write ↔ (sink.failed writer < sink.failed writer'))
+          → IfErr r (λ e. (e ≡ OutOfMemory) ⊎ (e ≡ Write)) → IfErr r (λ e. e ≢ Write → writer' ≡ writer) → (r ≡ Err Write → WritesPrefix old new (Ok text))
+          → IsTranscribed source sink job reader reader' writer writer' r
+      at_writer wrote flushed failed kinds untouched prefix = record {
+        end = on_any_ok r end;
+        ok = written_is (source.remaining reader) job task held text r old new all is made wrote;
+        heard = heard_is held _ _ job r old new gave (written_is (Some held) job task held text r old new refl is made wrote);
+        ended = on_any_ok r done;
+        flushed = flushed;
+        read = (writer_alone r Read no_read kinds, λ q. absurd (fine q));
+        write = failed;
+        turns = writer_alone r TooManyTurns no_turns kinds;
+        no_worker = writer_alone r NoWorker no_thread kinds;
+        refused = write_refused _ r kinds;
+        turned = writer_alone r TooManyTurns no_turns kinds;
+        refused_by = write_refused _ r kinds;
+        settings = no_err _ _ _ is;
+        untouched = untouched;
+        prefix = prefix_is (source.remaining reader) job task held text r old new all is made prefix;
+        broke_off = λ p. (held, gave, prefix_is (Some held) job task held text r old new refl is made prefix p);
+      }

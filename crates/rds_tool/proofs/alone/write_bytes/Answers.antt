@@ -1,0 +1,16 @@
+use Rattle.std.proofs.Common.{ℕ, List, ap, subst, sym}
+use Rattle.std.specs.Prelude.{OnOk}
+use Rattle.std.specs.Io.KnownBytes.{Appends}
+use Rattle.rds_rows.specs.Writes.{AppendsPrefix}
+use Rattle.rds_tool.specs.Inside.Texts.{bytes_of_single}
+use Rattle.rds_tool.proofs.alone.write_bytes.Goals as goal
+
+pub returns-in-OnePass-clause-ok : goal.returns-in-OnePass-clause-ok
+returns-in-OnePass-clause-ok g c =
+    subst (λ (text : List ℕ). OnOk c.write_decoded.result (Appends (g.K.Sink.contents c.args.writer.now) (g.K.Sink.contents c.write_decoded.new.writer) text))
+    (sym (ap bytes_of_single c.in-OnePass.is)) c.write_decoded.ensures.ok
+
+pub returns-in-OnePass-clause-prefix : goal.returns-in-OnePass-clause-prefix
+returns-in-OnePass-clause-prefix g c =
+    λ e. subst (λ (text : List ℕ). AppendsPrefix (g.K.Sink.contents c.args.writer.now) (g.K.Sink.contents c.write_decoded.new.writer) text)
+    (sym (ap bytes_of_single c.in-OnePass.is)) (c.write_decoded.ensures.prefix e)

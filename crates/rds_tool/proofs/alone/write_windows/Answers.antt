@@ -1,0 +1,16 @@
+use Rattle.std.proofs.Common.{subst}
+use Rattle.std.specs.Prelude.{OnOk}
+use Rattle.std.specs.Io.KnownBytes.{Appends}
+use Rattle.rds_rows.specs.Writes.{AppendsPrefix}
+use Rattle.rds_tool.proofs.ScanRows.{scan_spelled}
+use Rattle.rds_tool.proofs.alone.write_windows.Goals as goal
+
+pub returns-clause-ok : goal.returns-clause-ok
+returns-clause-ok g c =
+    subst (λ t. OnOk c.write_rows_alone.result (Appends (g.K.Sink.contents c.args.writer.now) (g.K.Sink.contents c.write_rows_alone.new.writer) t))
+    (scan_spelled c.args.recording.now) c.write_rows_alone.ensures.ok
+
+pub returns-clause-prefix : goal.returns-clause-prefix
+returns-clause-prefix g c =
+    λ e. subst (AppendsPrefix (g.K.Sink.contents c.args.writer.now) (g.K.Sink.contents c.write_rows_alone.new.writer)) (scan_spelled c.args.recording.now)
+    (c.write_rows_alone.ensures.prefix e)

@@ -1,0 +1,7 @@
+-- The bytes that a reader gave from one moment to another: this project's rule. `transcribe` and `follow` promise by it what
+-- holds at every reader, standard input too.
+use Rattle.std.specs.Prelude.{◌++◌, ◌≡◌, List, ℕ}
+
+-- bytes were given since then, of which this holds
+abbrev pub Gave : List ℕ → List ℕ → (List ℕ → Type 0) → Type 0
+Gave before after P = (bytes : List ℕ) × (after ≡ before ++ bytes) × P bytes

@@ -1,0 +1,79 @@
+-- Short lemmas for the callers of `sent`.
+use Rattle.std.proofs.Common.{arith, inl, inr, get_or, slice_index, length, List, [], ◌∷◌, ◌<◌, ◌^◌, ◌≡◌, Bool, true, false, None, ℕ, zero, suc, Result, Ok, Err, IfOk, Some, ◌≤◌, ◌∙◌, ap, refl}
+use Rattle.rds_code.specs.declared.offset.Offset.{Offset}
+use Rattle.rds_code.specs.declared.offset.Offset.TheVariants.{A, B, C, Cx, D}
+use Rattle.std.specs.Prelude.{nat_lt}
+use Rattle.std.proofs.lemmas.Bool.{cases_lt, le-ltb}
+use Rattle.std.proofs.lemmas.List.{get_or_past}
+use Rattle.rds_code.specs.Encoding.{IsGroupOf}
+use Rattle.rds_code.specs.Offsets.{number, offset_of, word}
+use Rattle.rds_code.specs.Remainder.{rem}
+use Rattle.rds_stream.specs.Recording.{Signal, heard, off, offset_heard, ungapped}
+use Rattle.rds_sync.specs.Groups.{info_of}
+use Rattle.rds_sync.specs.Ranges.{IsInRange}
+use Rattle.rds_sync.specs.Report.{report_items}
+use Rattle.rds_sync.specs.Rules.{RuleNumbers}
+use Rattle.rds_sync.specs.Sent.{AreWords, EncodedGroupsAreListed, bits_sent, block_sent, totals_sent}
+use Rattle.rds_sync.specs.Totals.{totals_of}
+use Rattle.rds_uses.specs.Received.{report_sent}
+
+pub if-ok : {A E : Type 0} {P Q : A → Type 0} (result : Result A E) → ((a : A) → P a → Q a) → IfOk result P → IfOk result Q
+if-ok (Ok a) also is = also a is
+if-ok (Err e) also is = is
+
+-- a block 1 has the offset A
+pub first-offset : (o : Offset) → number o ≡ 1 → o ≡ A
+first-offset A is = refl
+first-offset B is = cc is
+first-offset C is = cc is
+first-offset Cx is = cc is
+first-offset D is = cc is
+
+-- a block that was sent says its word, whole or damaged
+pub word-sent : (o : Offset) (info e : ℕ) → info_of (block_sent o info e) ≡ Some info
+word-sent o info zero = refl
+word-sent o info (suc e) = refl
+
+-- a block that is heard has its offset
+own-word : (o : Offset) → offset_of (word o) ≡ Some o
+own-word A = refl
+own-word B = refl
+own-word C = refl
+own-word Cx = refl
+own-word D = refl
+
+off-heard : (b : Signal) (i w : ℕ) → nat_lt i 25 ≡ false → heard b i ≡ Some w → off b i ≡ offset_of (rem w)
+unfolding off
+off-heard b i w far is =
+    ap (λ (early : Bool). elim early [ true ↦ None | false ↦ offset_heard (heard b i) ]) far ∙ ap offset_heard is
+
+pub offset-heard : (b : Signal) (i w : ℕ) (o : Offset) → 25 ≤ i → heard b i ≡ Some w → rem w ≡ word o → off b i ≡ Some o
+offset-heard b i w o far is own = off-heard b i w (le-ltb i 25 far) is ∙ ap offset_of own ∙ own-word o
+
+-- the words of a group that was encoded
+pub words-small : (blocks words : List ℕ) → IsGroupOf blocks words → (y : ℕ) → y < 4 → slice_index words y < 2 ^ 16
+words-small blocks words is zero within = omega (arith, is.first.is_block, is.first.above)
+words-small blocks words is (suc zero) within = omega (arith, is.second.is_block, is.second.above)
+words-small blocks words is (suc (suc zero)) within = omega (arith, is.third.is_block, is.third.above)
+words-small blocks words is (suc (suc (suc zero))) within = omega (arith, is.fourth.is_block, is.fourth.above)
+words-small blocks words is (suc (suc (suc (suc y)))) within = absurd (omega (arith, within))
+
+pub four-small : (words : List ℕ) → length words ≡ 4 → ((y : ℕ) → y < 4 → slice_index words y < 2 ^ 16) → (y : ℕ) → slice_index words y < 2 ^ 16
+four-small words four small y = elim (cases_lt y 4) [
+  | inl within ↦ small y within
+  | inr past ↦ rw (get_or_past words y 0 (omega (arith, four, past))) (omega arith)
+]
+
+-- groups whose words were all looked at
+pub all-small : (groups : List (List ℕ)) (n : ℕ) → length groups ≤ n → ((k y : ℕ) → k < n → slice_index (get_or groups k []) y < 2 ^ 16) → AreWords groups
+all-small groups n all small k y = elim (cases_lt k n) [
+  | inl below ↦ small k y below
+  | inr past ↦ rw (get_or_past groups k [] (omega (arith, all, past))) (omega arith)
+]
+
+-- groups that were encoded are reported
+pub sent-report : EncodedGroupsAreListed → (rules : RuleNumbers) (groups : List (List ℕ)) → 0 < length groups → IsInRange rules → AreWords groups
+    → (report_items (ungapped (bits_sent groups)) rules ≡ report_sent groups)
+    × (totals_of (report_items (ungapped (bits_sent groups)) rules) ≡ totals_sent (length groups))
+sent-report law rules [] some range small = absurd (omega (arith, some))
+sent-report law rules (words ∷ groups) some range small = law rules words groups range.some_loss range.some_reach range.burst small

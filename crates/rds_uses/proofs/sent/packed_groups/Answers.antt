@@ -1,0 +1,24 @@
+use Rattle.std.proofs.Common.{◌≡◌, ℕ, [], List, ◌++◌, ap, ap₂, sym, ◌∙◌, arith, inl, inr, flat_map, take, get_or}
+use Rattle.std.proofs.lemmas.Bool.{cases_lt}
+use Rattle.std.proofs.lemmas.List.{flat_map_more, take_more}
+use Rattle.rds_sync.specs.Sent.{packed_group}
+use Rattle.rds_uses.proofs.SentAndHeard.{all-small, four-small}
+use Rattle.rds_uses.proofs.sent.packed_groups.Goals as goal
+
+pub loop-group-preserved : goal.loop-group-preserved
+loop-group-preserved c =
+    let groups = c.args.groups.now in
+    let i = c.loop-group.group-index in
+    record {
+      bytes = c.in_ok-extend_from_slice.ensures.items
+          ∙ ap₂ (λ (xs ys : List ℕ). xs ++ ys) c.loop-group.invariant.bytes c.packed.ensures.bytes
+          ∙ flat_map_more packed_group [] (take i groups) (get_or groups i [])
+          ∙ ap (flat_map packed_group) (sym (take_more groups i [] c.loop-group-test.true));
+      words = λ k y below. elim (cases_lt k i) [
+        | inl before ↦ c.loop-group.invariant.words k y before
+        | inr last ↦ let now : k ≡ i = omega (arith, below, last) in rw now (four-small (get_or groups i []) (c.told-groups i c.loop-group-test.true) c.packed.ensures.words y)
+      ];
+    }
+
+pub returns-clause-words : goal.returns-clause-words
+returns-clause-words c = all-small c.args.groups.now c.loop-group.group-index (omega arith) c.loop-group.invariant.words

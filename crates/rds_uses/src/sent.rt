@@ -1,0 +1,451 @@
+//! Tests that the maker of a receiver would write: encode groups, damage them, decode them. They come out as they were sent.
+ghost use Rattle.std.specs.Prelude.{◌≡◌, ◌≢◌, ◌↔◌, ℕ, ◌+◌, ◌-◌, ◌*◌, ◌<◌, ◌≤◌, ◌^◌, ◌∷◌, ◌++◌, [], Bool, Contains, IfOk, IfSome, IsTrue, List, Ok, OnOk, Some, flat_map, length, slice_index, true};
+ghost use Rattle.std.specs.Int.Count.{ones};
+ghost use Rattle.rds_code.specs.declared.offset.Offset.{Offset as AnOffset};
+ghost use Rattle.rds_code.specs.declared.offset.Offset.TheVariants.{A, D};
+ghost use Rattle.rds_code.specs.Bursts.{IsBurst};
+ghost use Rattle.rds_code.specs.Detection.{error_masks, miscorrections, remainders_near};
+ghost use Rattle.rds_code.specs.Encoding.{encoded};
+ghost use Rattle.rds_code.specs.Offsets.{number};
+ghost use Rattle.rds_code.specs.Reading.{information};
+ghost use Rattle.rds_code.specs.Remainder.{rem};
+ghost use Rattle.rds_stream.specs.Recording.{length_of, ungapped};
+ghost use Rattle.rds_sync.specs.Codes.{kept_of};
+ghost use Rattle.rds_sync.specs.Groups.{group as group_at};
+ghost use Rattle.rds_sync.specs.Lawful.{IsLawful};
+ghost use Rattle.rds_sync.specs.Longer.{AreNoLess, BeginsWith, OnlyAddsItems, beginning};
+ghost use Rattle.rds_sync.specs.Sent.{AreHeard, AreWords, GroupIsHeard, IsCorrectable, SentGroup, bits_sent, bits_with_damage, items_damaged, packed_group, packed_groups as the_packed_groups, totals_sent};
+ghost use Rattle.rds_sync.specs.Step.{lock_of, run as run_of};
+ghost use Rattle.rds_sync.specs.declared.state.State.TheVariants.{Locked};
+ghost use Rattle.rds_tool.specs.Following.{listed};
+ghost use Rattle.rds_tool.specs.Laws.{groups_in, sent_listing, whole_input};
+ghost use Rattle.rds_tool.specs.declared.job.Input.{Input as AnInput};
+ghost use Rattle.rds_tool.specs.declared.job.Settings.{Settings as SomeSettings};
+ghost use Rattle.rds_uses.specs.Jobs.{IsListOfStream};
+ghost use Rattle.rds_uses.specs.Received.{AreAllHeard, AreBitsOf, AreHeardBetween, IsSoundUpTo, four_words, report_damaged, report_sent, totals_received};
+
+use crate::code::damaged;
+use crate::tool::written;
+use rds_code::{
+    BlockNumber, BurstLimit, BurstTable, Offset, Reading, Wanted, encode_block, encode_group,
+    is_block, laws as code_laws, offset_of, read_block, rem26,
+};
+use rds_stream::Recording;
+use rds_sync::{Codes, Group, Report, Rules, State, SyncError, decode_plain, laws, run_codes};
+use rds_tool::{FromRead, Job, ToWrite, follow, laws as tool_laws};
+use std::alloc::{AllocError, Global};
+use std::sync::Wait;
+use std::thread::Threads;
+
+// ---- a block, damaged
+
+/// A block with one or two bit errors is not valid with its own number.
+pub fn shows_two_bits(info: u16, offset: Offset, damage: u32) -> bool
+    requires block { damage < 2 ^ 26 }
+    requires some { 1 ≤ ones damage }
+    requires few { ones damage ≤ 2 }
+    ensures { result ≡ true }
+{
+    code_laws::damage_is_detected();
+    let heard = damaged(encode_block(info, offset), damage);
+    match offset_of(rem26(heard)) {
+        Some(other) => other.number().get() != offset.number().get(),
+        None => true,
+    }
+}
+
+/// A block is not valid with its own offset if its bit errors span up to ten bits.
+pub fn shows_ten_bits(info: u16, offset: Offset, damage: u32) -> bool
+    requires { IsBurst 10 damage }
+    ensures { result ≡ true }
+{
+    code_laws::damage_is_detected();
+    let heard = damaged(encode_block(info, offset), damage);
+    match offset_of(rem26(heard)) {
+        Some(other) => other != offset,
+        None => true,
+    }
+}
+
+// ---- noise, and miscorrection
+
+/// One word of 26 bits has this information word and this remainder. So each remainder is that of one word in 1,024.
+pub fn has_one_word(info: u16, remainder: u16)
+    requires { remainder < 1024 }
+    ensures { (w : ℕ) × (w < 2 ^ 26) × (information w ≡ info) × (rem w ≡ remainder)
+        × ((v : ℕ) → information v ≡ info → rem v ≡ remainder → v ≡ w) }
+{
+    code_laws::corrected_words_are_few();
+}
+
+/// A window that is corrected to a block 1 has one of these remainders.
+pub fn corrected_near(table: &BurstTable, w: u32, limit: BurstLimit) -> bool
+    requires { w < 2 ^ 26 }
+    ensures { result ≡ true → Contains (remainders_near A limit) (rem w) }
+{
+    prove!(limit.bits() <= 5);
+    code_laws::corrected_words_are_few();
+    matches!(
+        read_block(table, w, BlockNumber::ONE, Wanted::Either, limit),
+        Reading::Corrected { .. }
+    )
+}
+
+/// The number of such remainders, of 1,024, is the same for each offset.
+pub fn corrected_remainders(limit: BurstLimit) -> usize
+    ensures { (o : AnOffset) → length (remainders_near o limit) ≡ result }
+{
+    code_laws::corrected_words_are_few();
+    let remainders = [0, 26, 51, 99, 191, 367];
+    remainders[limit.bits() as usize]
+}
+
+/// Whether this is an error mask of two bit errors.
+pub fn has_two_errors(mask: u32) -> bool
+    ensures { IsTrue result ↔ Contains (error_masks 2 26) mask }
+{
+    code_laws::miscorrections_are_counted();
+    is_block(mask) && mask.count_ones() == 2
+}
+
+/// How many of the 325 masks of two bit errors miscorrect a block 1, 2 or 4, by limits of 0 to 5 bits.
+pub fn miscorrected_of_two(info: u16, offset: Offset, wanted: Wanted, limit: BurstLimit) -> usize
+    requires { number offset ≢ 3 }
+    ensures { miscorrections (encoded info offset) info offset wanted limit 2 ≡ result }
+{
+    code_laws::miscorrections_are_counted();
+    let _sent = encode_block(info, offset);
+    let counts = [0, 21, 21, 21, 21, 43];
+    counts[limit.bits() as usize]
+}
+
+// ---- a group, damaged
+
+/// A group whose blocks each have one burst within the limit at most has the four words that were sent.
+pub fn words_of_damaged(
+    recording: &Recording,
+    rules: &Rules,
+    place: u64,
+    group: &Group,
+) -> [Option<u16>; 4]
+    requires { group.now ≡ group_at recording.now rules.now 1 4 place }
+    ensures { (words damages : List ℕ) → GroupIsHeard recording.now rules.now.burst 1 place words damages
+        → result ≡ four_words words }
+{
+    prove!(rules.burst() <= 5);
+    laws::damaged_groups_are_corrected();
+    let [one, two, three, four] = group.blocks;
+    [one.info(), two.info(), three.info(), four.info()]
+}
+
+/// So has a group whose bits are anywhere in a recording.
+pub fn words_of_damaged_bits(
+    recording: &Recording,
+    rules: &Rules,
+    place: u64,
+    group: &Group,
+) -> [Option<u16>; 4]
+    requires { group.now ≡ group_at recording.now rules.now 1 4 place }
+    ensures { (before after : List ℕ) (g : SentGroup) → IsCorrectable rules.now.burst g
+        → place ≡ length before + 103
+        → recording.now ≡ ungapped (before ++ (flat_map bits_with_damage (g ∷ []) ++ after))
+        → result ≡ four_words g.words }
+{
+    laws::damaged_bits_are_decoded();
+    words_of_damaged(recording, rules, place, group)
+}
+
+// ---- a recording of groups
+
+/// The 13 bytes of a group, the first bit highest.
+fn packed(words: [u16; 4]) -> [u8; 13]
+    ensures bytes { result ≡ packed_group words }
+    ensures words { (y : ℕ) → y < 4 → slice_index words y < 2 ^ 16 }
+{
+    const BLOCK: u128 = 1 << 26;
+    let [one, two, three, four] = encode_group(words);
+    let bits = ((u128::from(one) * BLOCK + u128::from(two)) * BLOCK + u128::from(three)) * BLOCK
+        + u128::from(four);
+    let mut bytes = [0; 13];
+    bytes.copy_from_slice(&bits.to_be_bytes()[3..]);
+    bytes
+}
+
+/// The bytes of groups that are sent one after the other.
+fn packed_groups(alloc: Global, groups: &[[u16; 4]]) -> Result<Vec<u8>, AllocError>
+    ensures bytes { IfOk result (λ bytes. bytes.items ≡ the_packed_groups groups.now) }
+    ensures words { OnOk result (AreWords groups.now) }
+{
+    let mut bytes = Vec::new(alloc);
+    for group in groups {
+        bytes.extend_from_slice(&packed(*group))?;
+    }
+    Ok(bytes)
+}
+
+/// A recording of packed groups has the bits of these groups.
+pub fn recorded(alloc: Global, groups: &[[u16; 4]]) -> Option<Recording>
+    requires { 104 * length groups.now ≤ 2 ^ 36 }
+    ensures bits { IfSome result (λ recording. recording ≡ ungapped (bits_sent groups.now)) }
+    ensures words { IfSome result (λ _. AreWords groups.now) }
+{
+    laws::packed_groups_are_sent();
+    let Ok(bytes) = packed_groups(alloc, groups) else {
+        return None;
+    };
+    let bits = 8 * bytes.len() as u64;
+    match Recording::from_bytes(bytes, bits) {
+        Ok(recording) => Some(recording),
+        Err(_) => None,
+    }
+}
+
+/// Groups that are encoded and decoded are listed as they were sent, and counted, by all rules.
+pub fn encoded_and_decoded(alloc: Global, groups: &[[u16; 4]], rules: &Rules) -> Option<Report>
+    requires some { 0 < length groups.now }
+    requires few { 104 * length groups.now ≤ 2 ^ 36 }
+    ensures items { IfSome result (λ report. report.items.list ≡ report_sent groups.now) }
+    ensures totals { IfSome result (λ report. report.totals ≡ totals_sent (length groups.now)) }
+{
+    let _loss = rules.loss();
+    laws::encoded_groups_are_listed();
+    let Some(recording) = recorded(alloc, groups) else {
+        return None;
+    };
+    match decode_plain(alloc, &recording, rules) {
+        Ok(report) => Some(report),
+        Err(_) => None,
+    }
+}
+
+/// So are groups that are heard from the first bit of a recording to its last, whoever encoded them.
+pub fn heard_and_decoded(
+    alloc: Global,
+    recording: &Recording,
+    rules: &Rules,
+) -> Result<Report, SyncError>
+    ensures { IfOk result (λ report. (words : List ℕ) (groups : List (List ℕ))
+        → length_of recording.now ≡ 104 * length (words ∷ groups)
+        → AreHeard recording.now 0 (words ∷ groups)
+        → report.totals ≡ totals_sent (length (words ∷ groups))) }
+{
+    let _loss = rules.loss();
+    laws::sent_groups_are_listed();
+    decode_plain(alloc, recording, rules)
+}
+
+/// The last block of a group has offset D wherever the bits of the group are in a recording.
+pub fn offset_of_last_block(recording: &Recording, place: u64) -> Option<Offset>
+    requires first { 25 ≤ place }
+    requires last { place < length_of recording.now }
+    ensures { (before after words : List ℕ) (groups : List (List ℕ)) → AreWords (words ∷ groups)
+        → length before + 103 ≡ place
+        → recording.now ≡ ungapped (before ++ (bits_sent (words ∷ groups) ++ after))
+        → result ≡ Some D }
+{
+    laws::encoded_groups_are_listed();
+    recording.offset(place)
+}
+
+// ---- a recording of groups, damaged
+
+/// Damaged bits are decoded to the groups that were sent. The totals follow from the damage.
+pub fn damaged_and_decoded(alloc: Global, recording: &Recording, rules: &Rules) -> Option<Report>
+    ensures items { IfSome result (λ report. (groups : List SentGroup)
+        → AreBitsOf recording.now rules.now groups → report.items.list ≡ report_damaged groups) }
+    ensures totals { IfSome result (λ report. (groups : List SentGroup)
+        → AreBitsOf recording.now rules.now groups → report.totals ≡ totals_received groups) }
+{
+    let _loss = rules.loss();
+    laws::damaged_bits_are_decoded();
+    laws::damage_tells_totals();
+    decode_plain(alloc, recording, rules).ok()
+}
+
+/// The same holds of damaged blocks that are heard, whatever the bits are.
+pub fn heard_damaged_and_decoded(
+    alloc: Global,
+    recording: &Recording,
+    rules: &Rules,
+) -> Option<Report>
+    ensures items { IfSome result (λ report. (groups : List SentGroup)
+        → AreAllHeard recording.now rules.now groups → report.items.list ≡ report_damaged groups) }
+    ensures totals { IfSome result (λ report. (groups : List SentGroup)
+        → AreAllHeard recording.now rules.now groups → report.totals ≡ totals_received groups) }
+{
+    let _loss = rules.loss();
+    laws::damaged_groups_are_listed();
+    laws::damage_tells_totals();
+    decode_plain(alloc, recording, rules).ok()
+}
+
+/// A decoder that is locked at the first bit of a group gives the groups that come with the words that were sent.
+pub fn decoded_in_lock(
+    alloc: Global,
+    recording: &Recording,
+    rules: &Rules,
+    state: State,
+    from: u64,
+    to: u64,
+) -> Result<(State, Codes), SyncError>
+    requires lawful { IsLawful rules.now from state }
+    requires order { from ≤ to }
+    requires within { to ≤ length_of recording.now }
+    ensures { IfOk result (λ run. (bad : ℕ) (groups : List SentGroup)
+        → state ≡ Locked (lock_of (from + 25) 1 bad 1)
+        → AreHeardBetween recording.now rules.now from to bad groups
+        → run.1 ≡ kept_of (items_damaged from groups)) }
+{
+    prove!(rules.burst() <= 5);
+    laws::damaged_groups_are_listed();
+    run_codes(alloc, recording, rules, state, from, to)
+}
+
+/// After a sound range a decoder gives the groups that come with the words that were sent, whatever state it began in.
+pub fn decoded_after_sound_range(
+    alloc: Global,
+    recording: &Recording,
+    rules: &Rules,
+    state: State,
+    from: u64,
+    to: u64,
+) -> Result<(State, Codes), SyncError>
+    requires lawful { IsLawful rules.now from state }
+    requires order { from ≤ to }
+    requires within { to ≤ length_of recording.now }
+    ensures { IfOk result (λ run. (start : ℕ) (groups : List SentGroup)
+        → IsSoundUpTo recording.now rules.now from start
+        → AreHeardBetween recording.now rules.now start to 0 groups
+        → let before = (run_of recording.now rules.now state from (start - from)).1 in
+        run.1 ≡ kept_of (before ++ items_damaged start groups)) }
+{
+    let _loss = rules.loss();
+    laws::sound_signal_is_decoded();
+    run_codes(alloc, recording, rules, state, from, to)
+}
+
+// ---- a longer recording
+
+/// A longer recording has all items of the recording that it begins with, but for the group at its end, and then more. No total
+/// is less.
+pub fn decoded_before_and_after(
+    alloc: Global,
+    shorter: &Recording,
+    longer: &Recording,
+    rules: &Rules,
+) -> Option<(Report, Report)>
+    requires { BeginsWith longer.now shorter.now }
+    ensures items { IfSome result (λ both. OnlyAddsItems both.0.items.list both.1.items.list) }
+    ensures totals { IfSome result (λ both. AreNoLess both.0.totals both.1.totals) }
+{
+    let _loss = rules.loss();
+    laws::longer_recordings_add_rows();
+    match (
+        decode_plain(alloc, shorter, rules),
+        decode_plain(alloc, longer, rules),
+    ) {
+        (Ok(before), Ok(after)) => Some((before, after)),
+        _ => None,
+    }
+}
+
+/// A recording begins with any number of its first bits, and with the gaps in them.
+pub fn begins_with_first_bits(recording: &Recording, bits: u64)
+    requires { bits ≤ length_of recording.now }
+    ensures { BeginsWith recording.now (beginning bits recording.now) }
+{
+    laws::longer_recordings_add_rows();
+}
+
+// ---- by the program
+
+/// Lines of words are encoded by one job and listed by another, as bytes or as digits. The listing is that of their groups, for all
+/// rules, cuttings and numbers of workers.
+pub fn encoded_and_listed<R: Threads + Wait + Sync>(
+    rt: &R,
+    alloc: Global,
+    lines: &[u8],
+    encode: &Job,
+    list: &Job,
+) -> Option<Vec<u8>>
+    requires { (hex : Bool) × (settings : SomeSettings)
+        × (encode.now ≡ Job.Encode hex) × (list.now ≡ Job.List (whole_input hex) settings) }
+    ensures { IfSome result (λ listing. (words : List ℕ) (groups : List (List ℕ))
+        → groups_in lines.now ≡ Ok (words ∷ groups) → listing.items ≡ sent_listing words groups) }
+{
+    tool_laws::encoded_groups_are_listed();
+    let Some(bytes) = written(rt, alloc, lines, encode) else {
+        return None;
+    };
+    written(rt, alloc, bytes.as_slice(), list)
+}
+
+/// Following a stream writes the same text as listing its bytes by the same rules.
+pub fn followed_and_listed<R: Threads + Wait + Sync>(
+    rt: &R,
+    alloc: Global,
+    bytes: &[u8],
+    rules: &Rules,
+    gaps: &[(u64, u64)],
+    bits: Option<u64>,
+    list: &Job,
+) -> Option<(Vec<u8>, Vec<u8>)>
+    requires { IsListOfStream list.now rules.now bits gaps.now }
+    ensures { IfSome result (λ both. both.0.items ≡ both.1.items) }
+{
+    tool_laws::streams_are_listed();
+    let Some(rows) = followed(alloc, bytes, rules, gaps, bits) else {
+        return None;
+    };
+    let Some(listing) = written(rt, alloc, bytes, list) else {
+        return None;
+    };
+    Some((rows, listing))
+}
+
+/// The text that following a stream writes.
+fn followed(
+    alloc: Global,
+    bytes: &[u8],
+    rules: &Rules,
+    gaps: &[(u64, u64)],
+    bits: Option<u64>,
+) -> Option<Vec<u8>>
+    ensures { IfSome result (λ text.
+        listed (record { rules = rules.now; gaps = gaps.now }) bits bytes.now ≡ Ok text.items) }
+{
+    let mut writer = ToWrite::new(Vec::new(alloc));
+    match follow(
+        alloc,
+        &mut FromRead::new(bytes),
+        &mut writer,
+        rules,
+        bits,
+        gaps,
+    ) {
+        Ok(()) => Some(writer.into_inner()),
+        Err(_) => None,
+    }
+}
+
+/// A list of some bytes ends with their totals.
+pub fn listed_and_counted<R: Threads + Wait + Sync>(
+    rt: &R,
+    alloc: Global,
+    bytes: &[u8],
+    list: &Job,
+    totals: &Job,
+) -> Option<(Vec<u8>, Vec<u8>)>
+    requires { (input : AnInput) × (settings : SomeSettings)
+        × (list.now ≡ Job.List input settings) × (totals.now ≡ Job.Totals input settings) }
+    ensures { IfSome result (λ both. (rows : List ℕ) × (both.0.items ≡ rows ++ both.1.items)) }
+{
+    tool_laws::lists_end_with_totals();
+    let Some(listing) = written(rt, alloc, bytes, list) else {
+        return None;
+    };
+    let Some(counts) = written(rt, alloc, bytes, totals) else {
+        return None;
+    };
+    Some((listing, counts))
+}

@@ -1,0 +1,37 @@
+/* How the proved code asks for memory: by malloc, for every processor. The toolchain's own page of C is for x86-64 alone. Like
+ * border.c it is no part of the proof. */
+#include <stdint.h>
+#include <stdlib.h>
+
+/* In two registers: 1 and where the memory is, or 0 where there is none. */
+struct answer {
+    uint64_t ok;
+    void *at;
+};
+
+/* A place that is not NULL. */
+static char nowhere;
+
+static struct answer answer(void *at)
+{
+    return (struct answer){at != NULL, at ? at : &nowhere};
+}
+
+/* A size of 0 asks for memory too, which is given back like any other. Nothing is aligned to more than malloc aligns. */
+struct answer rattle_alloc(uint64_t size, uint64_t alignment)
+{
+    return answer(malloc(size ? size : alignment));
+}
+
+struct answer rattle_realloc(void *at, uint64_t old, uint64_t size, uint64_t alignment)
+{
+    (void)old;
+    return answer(realloc(at, size ? size : alignment));
+}
+
+void rattle_dealloc(void *at, uint64_t size, uint64_t alignment)
+{
+    (void)size;
+    (void)alignment;
+    free(at);
+}

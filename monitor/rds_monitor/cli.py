@@ -1,0 +1,162 @@
+"""The command `rds-monitor`: its sub-commands, their common options, exit statuses and errors.
+
+A sub-command NAME of a module has two functions there: `options_NAME(parser)` adds its options, and
+`run_NAME(arguments)` returns its exit status. Its line in `COMMANDS` is all that this file says of it.
+"""
+
+from __future__ import annotations
+
+import argparse
+import ctypes
+import importlib
+import os
+import signal
+import sys
+from typing import Any, Callable, NamedTuple, NoReturn, Optional, Sequence
+
+from . import __version__
+from .items import Fault, Misuse
+
+
+class Command(NamedTuple):
+    name: str
+    module: str
+    summary: str
+
+    def options(self, parser: argparse.ArgumentParser) -> None:
+        getattr(self._module(), f"options_{self.name}")(parser)
+
+    def run(self, arguments: argparse.Namespace) -> int:
+        return int(getattr(self._module(), f"run_{self.name}")(arguments))
+
+    def _module(self) -> Any:
+        return importlib.import_module(f"rds_monitor.{self.module}")
+
+
+COMMANDS = (
+    Command("errors", "measure", "block errors by interval"),
+    Command("outages", "measure", "when no RDS was received"),
+    Command("programmes", "measure", "which PI codes were received, and when"),
+    Command("types", "measure", "which group types were received, and how many"),
+    Command("corrected", "measure", "which blocks were corrected, and how"),
+    Command("clock", "clock", "the sampler's clock by that of the station"),
+    Command("info", "info", "what the station says of itself"),
+    Command("json", "jsonl", "a line of JSON per event, row, or group as redsea does"),
+    Command("groups", "hexgroups", "the groups as lines of hexadecimal words"),
+    Command("table", "table", "the rows with times, as CSV or Parquet"),
+    Command("db", "store", "add recordings to an SQLite database"),
+    Command("report", "report", "a page to look at, of HTML"),
+    Command("why", "why", "why rds refused an input"),
+    Command("check", "check", "judge the reception, as a plugin of Nagios or Icinga"),
+    Command("form", "form", "identify the format of a file, and how to convert it to packed bits"),
+    Command("pack", "pack", "convert bits and samples to packed bits"),
+    Command("demod", "demod", "demodulate MPX or IQ to packed bits"),
+    Command("batch", "batch", "decode a folder of recordings"),
+)
+
+
+class Parser(argparse.ArgumentParser):
+    """Errors are lines `rds-monitor NAME: the fault`, then the usage, with status 2; a command may have a way of its
+    own."""
+
+    on_error: Optional[Callable[[str], NoReturn]] = None
+
+    def error(self, message: str) -> NoReturn:
+        if self.on_error:
+            self.on_error(message)
+        self.exit(2, f"{self.prog}: {message}\n{self.format_usage()}")
+
+
+def parser_of(command: Command) -> Parser:
+    parser = Parser(
+        prog=f"rds-monitor {command.name}",
+        description=command.summary[0].upper() + command.summary[1:] + ".",
+        formatter_class=argparse.RawDescriptionHelpFormatter,
+        allow_abbrev=False,
+    )
+    command.options(parser)
+    return parser
+
+
+def overview() -> str:
+    width = max(len(it.name) for it in COMMANDS)
+    lines = [f"  {it.name:{width}}  {it.summary}" for it in COMMANDS]
+    return (
+        "\n".join(
+            [
+                "usage: rds-monitor COMMAND [options] [INPUT]",
+                "",
+                (__import__("rds_monitor").__doc__ or ""),
+                "",
+                "An input is a recording of packed bits or a listing of `rds list` or `rds follow`, told apart by "
+                "content;",
+                "without one, standard input is read.",
+                "",
+                "commands:",
+                *lines,
+                "",
+                "rds-monitor COMMAND --help describes a command, with an example.",
+            ]
+        )
+        + "\n"
+    )
+
+
+def chosen(words: Sequence[str]) -> Optional[Command]:
+    """The command that the first word names; help and the version are printed here."""
+    if not words or words[0] in ("-h", "--help", "help"):
+        sys.stdout.write(overview())
+        return None
+    if words[0] in ("-V", "--version"):
+        print(f"rds-monitor {__version__}")
+        return None
+    found = next((it for it in COMMANDS if it.name == words[0]), None)
+    if not found:
+        raise Misuse(f"there is no command {words[0]!r}: rds-monitor --help lists them")
+    return found
+
+
+def main(words: Optional[Sequence[str]] = None) -> int:
+    tune_memory()
+    # A reader that leaves early, such as head, ends the command without a word.
+    signal.signal(signal.SIGPIPE, signal.SIG_DFL)
+    words = sys.argv[1:] if words is None else words
+    name = "rds-monitor"
+    try:
+        command = chosen(words)
+        if not command:
+            return 0
+        name = f"rds-monitor {command.name}"
+        status = command.run(parser_of(command).parse_args(words[1:]))
+        sys.stdout.flush()
+        return status
+    except Misuse as error:
+        return _say(name, str(error), 2)
+    except Fault as error:
+        return _say(name, str(error), 1)
+    except OSError as error:
+        # The output may be the fault: what Python still holds of it is not tried again.
+        os.dup2(os.open(os.devnull, os.O_WRONLY), 1)
+        return _say(name, f"{error.filename or 'writing'}: {error.strerror or error}", 1)
+    except KeyboardInterrupt:
+        return 130
+
+
+def tune_memory() -> None:
+    """Keeps memory that was given back, since each chunk asks for as much again: a tenth of the time goes into new
+    pages else."""
+    try:
+        library = ctypes.CDLL(None)
+        for name in (-1, -3):
+            library.mallopt(name, 1 << 26)
+    except (OSError, AttributeError):
+        return
+
+
+def _say(name: str, text: str, status: int) -> int:
+    try:
+        sys.stdout.flush()
+    except OSError:
+        os.dup2(os.open(os.devnull, os.O_WRONLY), 1)
+    print(f"{name}: {text}", file=sys.stderr)
+    return status

@@ -1,0 +1,95 @@
+"""Events, the values that hold, and how both are told."""
+from __future__ import annotations
+
+from typing import Any, Dict, Iterable, List, NamedTuple, Optional, Sequence
+
+Value = Any
+
+# All items. After a colon comes which of several.
+ITEMS = """\
+pi  tp  pty  ta  ms  di_stereo  di_artificial_head  di_compressed  di_dynamic_pty  ps  rt_ab  rt  ptyn  ct
+af (method A)  af:89.3 (method B, by the tuned frequency)
+rt_plus:item.title  rt_plus_running  rt_plus_toggle  ert  lps
+pin  linkage  ecc  country  language  tmc_id  paging_id  broadcaster_bits  ews_channel
+oda:CD46  tmc  tmc_service  tmc_provider  tdc:3  ih  rp  erp  ews  dab:220.352  dab_service:D310
+eon:D312.ps  .af  .mapped:98.1  .tp  .ta  .pty  .pin  .linkage
+"""
+
+
+class Event(NamedTuple):
+    """A value that changed in the group whose first bit is at this place, of this PI.
+
+    Values are such as JSON has; `text` is the same for a reader. `before` is None for the first value of an item, and
+    `value` is None for an item that is no longer sent.
+    """
+
+    place: int
+    pi: int
+    item: str
+    value: Value
+    before: Value
+    text: str
+
+
+class Held(NamedTuple):
+    """A value that holds since the group at this place."""
+
+    value: Value
+    text: str
+    place: int
+
+
+class Teller:
+    """Collects the events of the programme that is received."""
+
+    def __init__(self) -> None:
+        self.pi, self.place = -1, 0
+        self.held: Dict[str, Held] = {}
+        self._events: List[Event] = []
+
+    def begin(self, pi: int, place: int) -> None:
+        """Another programme: nothing of it is known."""
+        before = self.held["pi"].value if self.held else None
+        self.pi, self.place = pi, place
+        self.held = {"pi": Held(f"{pi:04X}", f"{pi:04X}", place)}
+        self._events.append(Event(place, pi, "pi", f"{pi:04X}", before, f"{pi:04X}"))
+
+    def tell(self, item: str, value: Value, text: Optional[str] = None) -> None:
+        """A value that counts: an event if it is another one."""
+        before = self.held.get(item)
+        if value == (before.value if before else None):
+            return
+        shown = text if text is not None else _text(value)
+        if value is None:
+            del self.held[item]
+        else:
+            self.held[item] = Held(value, shown, self.place)
+        self._events.append(Event(self.place, self.pi, item, value, before.value if before else None, shown))
+
+    def drop(self, items: Iterable[str]) -> None:
+        """Items that are no longer sent."""
+        for item in list(items):
+            self.tell(item, None)
+
+    def taken(self) -> List[Event]:
+        events, self._events = self._events, []
+        return events
+
+
+def _text(value: Value) -> str:
+    if value is None:
+        return "none"
+    return ("no", "yes")[value] if isinstance(value, bool) else str(value)
+
+
+class Taker:
+    """Takes the news of some kinds: the message among those of its kind, the position in it, and the value."""
+
+    kinds: Sequence[int] = ()
+
+    def __init__(self, teller: Teller) -> None:
+        self._teller = teller
+        self._tell = teller.tell
+
+    def take(self, kind: int, message: int, position: int, value: int) -> None:
+        raise NotImplementedError

@@ -1,0 +1,98 @@
+"""The tables and views of a database, as the scripts that make them: one per version."""
+
+from __future__ import annotations
+
+# The mark of a database of this program, in the header of its file: "RDSm".
+MARK = 0x5244536D
+
+TABLES = """
+CREATE TABLE recordings(
+  id INTEGER PRIMARY KEY, name TEXT NOT NULL UNIQUE, station TEXT);
+-- A stream that was restarted in one file has several. start: the UTC of the first bit in seconds since 1970, if known.
+CREATE TABLE sessions(
+  id INTEGER PRIMARY KEY, recording INTEGER NOT NULL REFERENCES recordings ON DELETE CASCADE, number INTEGER NOT NULL,
+  start REAL, rate REAL NOT NULL, minute_bits REAL NOT NULL, begin_place INTEGER NOT NULL, end_place INTEGER NOT NULL,
+  finished INTEGER NOT NULL, UNIQUE(recording, number));
+CREATE TABLE totals(
+  session INTEGER NOT NULL REFERENCES sessions ON DELETE CASCADE, name TEXT NOT NULL, value INTEGER NOT NULL,
+  PRIMARY KEY(session, name)) WITHOUT ROWID;
+-- Each value that an item of the contents had, as text.
+CREATE TABLE facts(
+  id INTEGER PRIMARY KEY, item TEXT NOT NULL, value TEXT, UNIQUE(item, value));
+-- Blocks by the clock; mix: groups by type, as JSON; the facts that held at the end of the minute; clock_s: the clock
+-- of the station less that of the recording; more: events that were left out, since an item changed too often.
+CREATE TABLE minute_rows(
+  session INTEGER NOT NULL REFERENCES sessions ON DELETE CASCADE, minute INTEGER NOT NULL,
+  sent INTEGER NOT NULL, valid INTEGER NOT NULL, corrected INTEGER NOT NULL, lost INTEGER NOT NULL,
+  missing INTEGER NOT NULL,
+  mix TEXT, pi INTEGER REFERENCES facts, ps INTEGER REFERENCES facts, rt INTEGER REFERENCES facts,
+  pty INTEGER REFERENCES facts, tp INTEGER REFERENCES facts, ta INTEGER REFERENCES facts, ms INTEGER REFERENCES facts,
+  clock_s REAL, more INTEGER NOT NULL,
+  PRIMARY KEY(session, minute)) WITHOUT ROWID;
+CREATE TABLE event_rows(
+  session INTEGER NOT NULL REFERENCES sessions ON DELETE CASCADE, place INTEGER NOT NULL, number INTEGER NOT NULL,
+  fact INTEGER NOT NULL REFERENCES facts, PRIMARY KEY(session, place, number)) WITHOUT ROWID;
+CREATE TABLE outage_rows(
+  session INTEGER NOT NULL REFERENCES sessions ON DELETE CASCADE, begin_place INTEGER NOT NULL,
+  end_place INTEGER NOT NULL,
+  PRIMARY KEY(session, begin_place)) WITHOUT ROWID;
+CREATE TABLE group_rows(
+  session INTEGER NOT NULL REFERENCES sessions ON DELETE CASCADE, place INTEGER NOT NULL, type INTEGER,
+  version TEXT NOT NULL,
+  valid INTEGER NOT NULL, block1 TEXT NOT NULL, block2 TEXT NOT NULL, block3 TEXT NOT NULL, block4 TEXT NOT NULL,
+  PRIMARY KEY(session, place)) WITHOUT ROWID;
+"""
+
+
+def _utc(seconds: str) -> str:
+    return f"strftime('%Y-%m-%dT%H:%M:%fZ', {seconds}, 'unixepoch')"
+
+
+OF = "recordings.name AS recording, station, session"
+JOIN = "JOIN sessions ON sessions.id = session JOIN recordings ON recordings.id = recording"
+# The contents that a minute names; all others are found in the events.
+HELD = ("pi", "ps", "rt", "pty", "tp", "ta", "ms")
+
+VIEWS = f"""
+CREATE VIEW minutes AS
+  SELECT {OF}, minute, {_utc('start + minute * minute_bits / rate')} AS begin_utc,
+    minute * minute_bits / rate AS begin_s, sent, valid, corrected, lost, missing,
+    ROUND(100.0 * (sent - valid) / sent, 2) AS bad_percent, mix,
+    {', '.join(f'(SELECT value FROM facts WHERE facts.id = minute_rows.{it}) AS {it}' for it in HELD)}, clock_s, more
+  FROM minute_rows {JOIN};
+CREATE VIEW events AS
+  SELECT {OF}, place, {_utc('start + place / rate')} AS utc, place / rate AS time_s, item, value
+  FROM event_rows {JOIN} JOIN facts ON facts.id = fact;
+CREATE VIEW groups AS
+  SELECT {OF}, place, {_utc('start + place / rate')} AS utc, place / rate AS time_s, type, version, valid,
+    block1, block2, block3, block4
+  FROM group_rows {JOIN};
+CREATE VIEW outages AS
+  SELECT {OF}, outage_rows.begin_place, outage_rows.end_place,
+    {_utc('start + outage_rows.begin_place / rate')} AS begin_utc,
+    {_utc('start + outage_rows.end_place / rate')} AS end_utc,
+    (outage_rows.end_place - outage_rows.begin_place) / rate AS length_s
+  FROM outage_rows {JOIN};
+-- Valid blocks by day of UTC, of the sessions whose start is known. A minute belongs to the day in which it begins.
+CREATE VIEW days AS
+  SELECT station, date(start + minute * minute_bits / rate, 'unixepoch') AS day,
+    ROUND(SUM(sent) * 26 / rate / 3600, 2) AS hours, SUM(sent) AS sent, SUM(valid) AS valid,
+    ROUND(100.0 * SUM(valid) / SUM(sent), 2) AS valid_percent
+  FROM minute_rows {JOIN} WHERE start IS NOT NULL GROUP BY station, day;
+-- Outages by station and time. Those on both sides of a cut between two sessions are one.
+CREATE VIEW station_outages AS
+  WITH told AS (
+    SELECT station, start + outage_rows.begin_place / rate AS begin, start + outage_rows.end_place / rate AS end
+    FROM outage_rows {JOIN} WHERE start IS NOT NULL),
+  apart AS (
+    SELECT *, begin > 0.1 + MAX(end) OVER (
+      PARTITION BY station ORDER BY begin ROWS BETWEEN UNBOUNDED PRECEDING AND 1 PRECEDING) AS new
+    FROM told),
+  numbered AS (SELECT *, SUM(COALESCE(new, 1)) OVER (PARTITION BY station ORDER BY begin) AS number FROM apart)
+  SELECT station, {_utc('MIN(begin)')} AS begin_utc, {_utc('MAX(end)')} AS end_utc,
+    ROUND(MAX(end) - MIN(begin), 3) AS length_s
+  FROM numbered GROUP BY station, number;
+"""
+
+# The script of each version, which makes it of the one before: a database is brought up to date when it is opened.
+MIGRATIONS = (TABLES + VIEWS,)

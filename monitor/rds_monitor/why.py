@@ -1,0 +1,97 @@
+"""Why `rds` refused an input: the line, byte or gap that is at fault."""
+
+from __future__ import annotations
+
+import argparse
+import os
+import re
+import subprocess
+import sys
+from typing import Callable, Dict, List, Optional, Sequence
+
+from .items import Fault
+
+HEX_TEXT = re.compile(rb"[0-9A-Fa-f \t\r\n]*")
+DIGITS = b"0123456789ABCDEFabcdef"
+
+
+def options_why(parser: argparse.ArgumentParser) -> None:
+    parser.description = (
+        "Runs rds with the same words and the same input, and tells where the fault is: for 12 GroupText each line that is no group, for "
+        "11 HexText the first byte that is no digit, for 16 BadGaps the gap, for 4 BitsPastBytes how many bits there are. The exit status "
+        "is that of rds. RDS names the program (rds).")
+    parser.epilog = ("example:\n  rds-monitor why encode < groups.txt\n"
+                     "  rds-monitor why list --hex --gaps=104-105,100-130 < recording.hex")
+    parser.add_argument("words", metavar="WORD", nargs=argparse.REMAINDER, help="the words that rds was called with")
+
+
+def run_why(arguments: argparse.Namespace) -> int:
+    words, held = [*arguments.words], sys.stdin.buffer.read()
+    program = os.environ.get("RDS", "rds")
+    try:
+        ran = subprocess.run([program, *words], input=held, stdout=subprocess.DEVNULL, stderr=subprocess.PIPE, check=False)
+    except OSError as error:
+        raise Fault(f"{program}: {error.strerror}") from None
+    said = ran.stderr.decode("utf-8", "replace")
+    sys.stdout.write(said)
+    refusal = re.search(r"^refused (\d+) ", said, re.M)
+    tell = TELLERS.get(int(refusal[1])) if refusal else None
+    if tell:
+        sys.stdout.write("".join(f"{it}\n" for it in tell(words, held)))
+    return ran.returncode
+
+
+def option(words: Sequence[str], name: str) -> Optional[str]:
+    """The value of an option among the words of a command line."""
+    for word, after in zip(words, [*words[1:], None]):
+        if word == f"--{name}":
+            return after
+        if word.startswith(f"--{name}="):
+            return word.partition("=")[2]
+    return None
+
+
+def bits_held(words: Sequence[str], held: bytes) -> int:
+    if "--hex" in words:
+        return 4 * sum(held.count(digit) for digit in DIGITS)
+    return 8 * len(held)
+
+
+def bits_of_input(words: Sequence[str], held: bytes) -> List[str]:
+    return [f"the input holds {bits_held(words, held)} bits"]
+
+
+def hex_text(_words: Sequence[str], held: bytes) -> List[str]:
+    found = HEX_TEXT.match(held)
+    at = found.end() if found else 0
+    if at < len(held):
+        line, column = held.count(b"\n", 0, at) + 1, at - (held.rfind(b"\n", 0, at) + 1) + 1
+        return [f"byte {at + 1} (line {line}, column {column}) is 0x{held[at]:02X}, neither a digit nor blank"]
+    return [f"there are {bits_held(['--hex'], held) // 4} digits, an odd number"]
+
+
+def group_text(_words: Sequence[str], held: bytes) -> List[str]:
+    lines = []
+    for number, line in enumerate(held.split(b"\n"), 1):
+        digits = line.translate(None, b" \t\r")
+        if digits and not (len(digits) == 16 and digits.translate(None, DIGITS) == b""):
+            shown = (line[:-1] if line.endswith(b"\r") else line).decode("ascii", "backslashreplace")
+            lines.append(f"line {number}: {shown.encode('unicode_escape').decode('ascii')}")
+    return lines
+
+
+def bad_gaps(words: Sequence[str], held: bytes) -> List[str]:
+    bits, end = int(option(words, "bits") or bits_held(words, held)), 0
+    for number, gap in enumerate((option(words, "gaps") or "").split(","), 1):
+        begin, _, after = gap.partition("-")
+        start, stop = int(begin), int(after)
+        faults = [(start >= stop, "is empty"), (stop > bits, f"goes past the end of the recording, {bits} bits"),
+                  (start < end, f"begins before {end}, the end of the one before it")]
+        for is_bad, fault in faults:
+            if is_bad:
+                return [f"gap {number}, {gap}, {fault}"]
+        end = stop
+    return []
+
+
+TELLERS: Dict[int, Callable[[Sequence[str], bytes], List[str]]] = {4: bits_of_input, 11: hex_text, 12: group_text, 16: bad_gaps}

@@ -1,0 +1,63 @@
+"""What the tests share: the built program and library, and recordings made by it."""
+
+from __future__ import annotations
+
+import os
+import subprocess
+import sys
+from pathlib import Path
+from typing import Any, Callable, Iterable, Sequence
+
+import pytest
+from hypothesis import settings
+
+# The same examples each time: a gate that fails by chance is none.
+settings.register_profile("gate", derandomize=True, database=None)
+settings.load_profile("gate")
+
+TOP = Path(__file__).resolve().parents[2]
+PROGRAM = os.environ.get("RDS", str(TOP / "build" / "rds"))
+os.environ.setdefault("RDS_LIBRARY", str(TOP / "build" / "lib" / "librds.so.0"))
+sys.path[:0] = [str(TOP / "monitor"), str(TOP / "bindings" / "python")]
+os.environ["PYTHONPATH"] = os.pathsep.join(sys.path[:2])
+
+STATION = TOP / "examples" / "station.bin"
+
+
+def rds(*words: Any, data: bytes = b"") -> bytes:
+    """What the program writes."""
+    return subprocess.run([PROGRAM, *map(str, words)], input=data, capture_output=True, check=True).stdout
+
+
+def encode(groups: Iterable[Sequence[int]]) -> bytes:
+    """The bits of groups, given by their four information words."""
+    return rds("encode", data="".join("%04X%04X%04X%04X\n" % tuple(group) for group in groups).encode())
+
+
+def monitor(*words: Any, data: bytes = b"", **options: Any) -> "subprocess.CompletedProcess[bytes]":
+    """The command, in a process of its own."""
+    return subprocess.run(
+        [sys.executable, "-m", "rds_monitor", *map(str, words)], input=data, capture_output=True, **options
+    )
+
+
+@pytest.fixture(scope="session")
+def station() -> bytes:
+    return STATION.read_bytes()
+
+
+@pytest.fixture(scope="session")
+def station_listing(station: bytes) -> bytes:
+    return rds("list", data=station)
+
+
+@pytest.fixture
+def said() -> Callable[..., str]:
+    """Standard output of a command that must end well."""
+
+    def run(*words: Any, data: bytes = b"") -> str:
+        done = monitor(*words, data=data)
+        assert done.returncode == 0, done.stderr.decode()
+        return done.stdout.decode()
+
+    return run

@@ -1,0 +1,97 @@
+"""Listings that are made for tests, and the command in this process."""
+
+from __future__ import annotations
+
+import io
+import sys
+from typing import Any, Iterator, List, NamedTuple, Optional, Sequence
+from unittest import mock
+
+import numpy
+
+from rds_monitor import cli
+from rds_monitor.items import ACQUIRED, CORRECTED, GROUP, ITEM, LOSS, LOST, VALID, Rows, totals_of
+from rds_monitor.listing import Listing, text_of, totals_text
+from rds_monitor.parse import _set_types
+
+BLOCK_OFFSETS = (1, 2, 3, 5)
+
+
+def block(row: Any, number: int, word: Optional[int], burst: int = 0) -> None:
+    """Sets a block of a row: valid, corrected with a burst, or without a word uncorrectable."""
+    row[f"kind{number}"] = LOST if word is None else CORRECTED if burst else VALID
+    if word is not None:
+        row[f"info{number}"], row[f"burst{number}"], row[f"offset{number}"] = word, burst, BLOCK_OFFSETS[number - 1]
+
+
+def group_row(place: int, words: Sequence[Optional[int]], first: int = 1, prime: bool = False) -> Rows:
+    """A group whose blocks from `first` on were read; with `prime` block 3 has offset C'."""
+    rows = numpy.zeros(1, ITEM)
+    rows["what"], rows["place"] = GROUP, place
+    for number, word in enumerate(words, first):
+        block(rows[0], number, word)
+    if prime and rows["kind3"][0] >= VALID:
+        rows["offset3"] = 4
+    _set_types(rows)
+    return rows
+
+
+def acquired_row(place: int, number: int) -> Rows:
+    rows = numpy.zeros(1, ITEM)
+    rows["what"], rows["place"], rows["number"] = ACQUIRED, place, number
+    return rows
+
+
+def loss_row(place: int) -> Rows:
+    rows = numpy.zeros(1, ITEM)
+    rows["what"], rows["place"] = LOSS, place
+    return rows
+
+
+def lock(begin: int, groups: Sequence[Sequence[Optional[int]]], lost: bool = True) -> List[Rows]:
+    """Sync from the position of a first bit on: whole groups of four words each, and the loss."""
+    rows = [acquired_row(begin + 25, 1)]
+    rows += [group_row(begin + 104 * n, words) for n, words in enumerate(groups)]
+    return rows + ([loss_row(begin + 104 * len(groups) - 1)] if lost else [])
+
+
+def listing(rows: Sequence[Rows], totals: bool = True) -> bytes:
+    """The text of rows, with their totals."""
+    whole = numpy.concatenate([numpy.zeros(0, ITEM), *rows])
+    return text_of(whole) + (totals_text(totals_of(whole)) if totals else b"")
+
+
+def read(text: bytes, **options: Any) -> Rows:
+    """The rows of a listing."""
+    source = Listing(io.BytesIO(text), b"", **options)
+    return numpy.concatenate([numpy.zeros(0, ITEM), *source.chunks()])
+
+
+class Done(NamedTuple):
+    status: int
+    out: str
+    err: str
+
+
+def run(*words: Any, data: bytes = b"") -> Done:
+    """A command, in this process."""
+    streams = [io.TextIOWrapper(io.BytesIO(given), "utf-8", write_through=True) for given in (data, b"", b"")]
+    with mock.patch.multiple(sys, stdin=streams[0], stdout=streams[1], stderr=streams[2]), mock.patch("signal.signal"):
+        try:
+            status = cli.main([str(it) for it in words])
+        except SystemExit as end:
+            status = end.code if isinstance(end.code, int) else 1
+    out, err = (it.detach().getvalue().decode() for it in streams[1:])  # type: ignore[attr-defined]
+    return Done(status, out, err)
+
+
+def said(*words: Any, data: bytes = b"") -> List[str]:
+    """The lines of a command that ends well."""
+    done = run(*words, data=data)
+    assert done.status == 0, done.err
+    return done.out.splitlines()
+
+
+def chunks_of(data: bytes, size: int) -> Iterator[bytes]:
+    for begin in range(0, len(data), size):
+        yield data[begin : begin + size]

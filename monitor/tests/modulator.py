@@ -1,0 +1,171 @@
+"""MPX and IQ of an FM station with RDS, for tests of the receiver, of which it knows nothing.
+
+The shape of a symbol is that of IEC 62106, taken at each sample's own time, so that any sample rate and any error of
+the clocks can be had. The MPX, by deviation, 75 kHz being 1: left and right channel (noise up to 15 kHz, some of it
+in both), pilot 0.09 at 19 kHz, their difference at 38 kHz, RDS with the power of a carrier of 0.03 at 57 kHz, and
+white noise. The ratio of signal to noise is that in the channel of RDS: the mean power of RDS by the power of the
+noise in 4.8 kHz, between 54.6 and 59.4 kHz.
+"""
+
+from __future__ import annotations
+
+import struct
+import sys
+from typing import Any, Optional, Sequence, Tuple
+
+import numpy
+from numpy.typing import NDArray
+
+Array = NDArray[Any]
+
+BIT_RATE = 1187.5
+CHIP_RATE = 2 * BIT_RATE  # a biphase symbol is two impulses of opposite sign, here named chips
+CARRIER_HZ, PILOT_HZ, CHANNEL_HZ = 57000, 19000, 4800
+AUDIO_LEVEL, PILOT_LEVEL, RDS_LEVEL = 0.8, 0.09, 0.03
+DEVIATION_HZ = 75000
+REACH = 8  # chips on each side beyond which an impulse is left out: its shape has fallen to a thousandth
+
+
+def chips_of(bits: Array) -> Array:
+    """Differential encoding, then biphase: a 1 is an impulse and its negative half a bit later, a 0 the reverse."""
+    signs = 2.0 * numpy.bitwise_xor.accumulate(bits) - 1
+    return numpy.column_stack([signs, -signs]).ravel()
+
+
+def shape(x: Array) -> Array:
+    """The impulse response of cos(pi f td / 4), |f| < 2 / td, at x chips from its middle; 1 in the middle."""
+    pole = numpy.abs(numpy.abs(x) - 0.25) < 1e-9
+    x = numpy.where(pole, 0, x)
+    return numpy.where(pole, numpy.pi / 4, numpy.cos(2 * numpy.pi * x) / (1 - 16 * x * x))
+
+
+def baseband(chips: Array, times: Array) -> Array:
+    """The shaped chips at times in chips, by power 1."""
+    first = numpy.floor(times).astype(int)
+    padded = numpy.concatenate([numpy.zeros(REACH), chips, numpy.zeros(REACH + 1)])
+    signal = numpy.zeros(times.size)
+    for k in range(-REACH + 1, REACH + 1):
+        signal += padded[first + k + REACH] * shape(times - first - k)
+    result: Array = signal / numpy.sqrt(numpy.mean(signal**2))
+    return result
+
+
+def low_noise(random: numpy.random.Generator, size: int, rate: int) -> Array:
+    """Noise up to 15 kHz, cut out of more than is asked for: the lengths that transform fast are powers of two."""
+    longer = 1 << size.bit_length()
+    spectrum = numpy.fft.rfft(random.standard_normal(longer))
+    spectrum[numpy.fft.rfftfreq(longer, 1 / rate) > 15000] = 0
+    return numpy.fft.irfft(spectrum, longer)[:size]
+
+
+def audio(random: numpy.random.Generator, times: Array, rate: int) -> Array:
+    """A stereo programme: the sum of both channels, and their difference at 38 kHz, within -1 and 1 but for rare
+    peaks."""
+    both, left, right = (low_noise(random, times.size, rate) for _ in range(3))
+    programme = both + (left + right) / 2 + (left - right) / 2 * numpy.sin(4 * numpy.pi * PILOT_HZ * times)
+    result: Array = programme / (4 * numpy.std(programme))
+    return result
+
+
+def mpx(data: bytes, rate: int = 192000, snr: float = 30, carrier_offset: float = 0, clock_offset: float = 0,
+        phase: float = 0, flip: Optional[float] = None, stereo: bool = True, seed: int = 1) -> Array:
+    """The MPX of packed bits. Offsets are in Hz of the 57 kHz and in parts in a million of the bits, `phase` is in
+    degrees, and from second `flip` on it is inverted."""
+    random = numpy.random.default_rng(seed)
+    chips_a_second = CHIP_RATE * (1 + clock_offset * 1e-6)
+    chips = chips_of(numpy.unpackbits(numpy.frombuffer(data, "u1")))
+    times = numpy.arange(int(chips.size / chips_a_second * rate)) / rate
+    carrier = numpy.sin(2 * numpy.pi * (CARRIER_HZ + carrier_offset) * times + numpy.radians(phase))
+    rds = baseband(chips, times * chips_a_second) * carrier * RDS_LEVEL
+    # White noise has its power spread evenly up to half of the sample rate.
+    noise = numpy.mean(rds**2) / 10 ** (snr / 10) * (rate / 2) / CHANNEL_HZ
+    signal = rds + random.standard_normal(times.size) * numpy.sqrt(noise) + AUDIO_LEVEL * audio(random, times, rate)
+    if stereo:
+        signal += PILOT_LEVEL * numpy.sin(2 * numpy.pi * PILOT_HZ * times)
+    result: Array = signal if flip is None else numpy.where(times < flip, signal, -signal)
+    return result
+
+
+Path = Tuple[float, float, float, float]
+
+
+def delayed(signal: Array, samples: float) -> Array:
+    """By a number of samples that need not be whole."""
+    frequencies = numpy.fft.fftfreq(signal.size)
+    result: Array = numpy.fft.ifft(numpy.fft.fft(signal) * numpy.exp(-2j * numpy.pi * frequencies * samples))
+    return result
+
+
+def iq(multiplex: Array, rate: int, paths: Sequence[Path] = (), cnr: Optional[float] = None, offset: float = 0,
+       seed: int = 1) -> Array:
+    """FM by MPX of the same rate. Each path beside the first has a delay in microseconds, a gain, a phase in degrees
+    and a Doppler shift in Hz. `cnr` is the ratio of carrier to noise in 200 kHz in dB, `offset` the station's from
+    the centre in Hz."""
+    sent = numpy.exp(2j * numpy.pi * DEVIATION_HZ / rate * numpy.cumsum(multiplex))
+    times = numpy.arange(sent.size) / rate
+    received = sent.copy()
+    for delay, gain, phase, doppler in paths:
+        turning = gain * numpy.exp(1j * (numpy.radians(phase) + 2 * numpy.pi * doppler * times))
+        received += turning * delayed(sent, delay * 1e-6 * rate)
+    if cnr is not None:
+        random = numpy.random.default_rng(seed + 100)
+        power = numpy.mean(numpy.abs(received) ** 2) / 10 ** (cnr / 10) * rate / 200e3
+        received += numpy.sqrt(power / 2) * (random.standard_normal(sent.size) + 1j * random.standard_normal(sent.size))
+    result: Array = received * numpy.exp(2j * numpy.pi * offset * times)
+    return result
+
+
+# ---- samples as files
+
+
+def stored(values: Array, form: str, peak: float = 3.0) -> bytes:
+    """Real or complex samples in a form, `peak` at full scale."""
+    flat = values.view("f8") if numpy.iscomplexobj(values) else values
+    if form in ("f32", "f64"):
+        return flat.astype("<f4" if form == "f32" else "<f8").tobytes()
+    bits = {"u8": 8, "s16": 16, "s24": 24, "s32": 32}[form]
+    whole = numpy.clip(numpy.rint(flat / peak * (2 ** (bits - 1) - 1)), -(2 ** (bits - 1)), 2 ** (bits - 1) - 1)
+    if form == "u8":
+        return (whole + 128).astype("u1").tobytes()
+    if form == "s24":
+        return whole.astype("<i4").view("u1").reshape(-1, 4)[:, :3].tobytes()
+    return whole.astype("<i2" if bits == 16 else "<i4").tobytes()
+
+
+def _chunk(name: bytes, body: bytes) -> bytes:
+    return name + struct.pack("<I", len(body)) + body
+
+
+def wav(data: bytes, form: str, rate: int, channels: int = 1, long_form: bool = False, more: bytes = b"") -> bytes:
+    """A WAV file of samples; the long form is RF64, whose lengths are in a chunk of their own. `more` is a chunk
+    before them."""
+    code, width = (3 if form[0] == "f" else 1), int(form[1:]) // 8
+    block = width * channels
+    described = struct.pack("<HHIIHH", code, channels, rate, rate * block, block, 8 * width)
+    if not long_form:
+        body = b"WAVE" + _chunk(b"fmt ", described) + more + _chunk(b"data", data)
+        return b"RIFF" + struct.pack("<I", len(body)) + body
+    # The format is extensible, with its code in the first bytes of a GUID.
+    guid = struct.pack("<H", code) + bytes.fromhex("000000001000800000aa00389b71")
+    extensible = struct.pack("<H", 0xFFFE) + described[2:] + struct.pack("<HHI", 22, 8 * width, 0) + guid
+    rest = _chunk(b"fmt ", extensible) + b"data" + struct.pack("<I", 0xFFFFFFFF)
+    lengths = struct.pack("<QQQI", 4 + 36 + len(rest) + len(data), len(data), len(data) // block, 0)
+    return b"RF64" + struct.pack("<I", 0xFFFFFFFF) + b"WAVE" + _chunk(b"ds64", lengths) + rest + data
+
+
+def words(seed: int, count: int) -> "list[tuple[int, int, int, int]]":
+    """Groups of pseudo-random words."""
+    random = numpy.random.default_rng(seed)
+    return [tuple(int(word) for word in row) for row in random.integers(0, 65536, (count, 4))]  # type: ignore[misc]
+
+
+def make_minute(path: str) -> None:
+    """A minute of MPX in a WAV file of 192,000 samples per second."""
+    from conftest import encode
+
+    with open(path, "wb") as file:
+        file.write(wav(stored(mpx(encode(words(4, 685)), 192000), "s16"), "s16", 192000))
+
+
+if __name__ == "__main__":
+    make_minute(sys.argv[1])

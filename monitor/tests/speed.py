@@ -1,0 +1,129 @@
+#!/usr/bin/env python3
+"""Processor seconds of the commands over a day, beside those of `rds list --workers 1`: monitor/tests/speed.py [RUNS]
+
+The day is 985,000 groups of the sample, 12.8 MB, with one bit in 100 wrong, always the same. Of RUNS runs (3) the least
+counts. Prints a row per command: seconds and peak memory from the recording and from its listing, and how many times
+those of the list they are. The exit status says whether all are within their limits. RDS names the program, RDS_LIBRARY
+the library.
+"""
+
+from __future__ import annotations
+
+import os
+import subprocess
+import sys
+import tempfile
+from pathlib import Path
+from typing import List, NamedTuple, Optional, Sequence, Tuple
+
+from conftest import PROGRAM, STATION
+
+GROUPS = 985000
+# Of all commands but report.
+MEMORY_MB = 100
+
+
+class Limit(NamedTuple):
+    """A command, and how many times the seconds of the list it may take from a recording and from a listing."""
+
+    words: Sequence[str]
+    recording: float
+    listing: float
+
+
+LIMITS = (
+    Limit(("errors",), 1, 8),
+    Limit(("outages",), 1, 8),
+    Limit(("groups",), 1, 8),
+    Limit(("programmes",), 1, 8),
+    Limit(("types",), 1, 8),
+    Limit(("info",), 10, 20),
+    Limit(("db", "--name", "day", "{folder}/day.db"), 10, 20),
+)
+
+
+def make_day(path: Path) -> None:
+    import librds
+    import numpy
+
+    rows = librds.items_array(STATION.read_bytes())
+    rows = rows[rows["what"] == 2][1:-1]
+    words = numpy.stack([rows[f"info{block}"] for block in (1, 2, 3, 4)], 1)
+    sent = librds.encode(words[numpy.arange(GROUPS) % len(words)].tolist())
+    random, size = numpy.random.default_rng(1), 1 << 20
+    with open(path, "wb") as it:
+        for begin in range(0, len(sent), size):
+            part = numpy.frombuffer(sent[begin : begin + size], "u1")
+            it.write(part ^ numpy.packbits(random.random(8 * len(part)) < 0.01))
+
+
+def measured(words: Sequence[str], given: Optional[Path], into: Path, runs: int) -> Tuple[float, float]:
+    """The least processor seconds of some runs, and the most memory in MB."""
+    times, most = [], 0
+    for _ in range(runs):
+        with open(given or os.devnull, "rb") as stdin, open(into, "wb") as stdout:
+            process = subprocess.Popen(words, stdin=stdin, stdout=stdout)
+            _, status, used = os.wait4(process.pid, 0)
+        if status:
+            sys.exit(f"{' '.join(words)}: status {status}")
+        times.append(used.ru_utime + used.ru_stime)
+        most = max(most, used.ru_maxrss)
+    return min(times), most / 1024
+
+
+def main(runs: int) -> int:
+    failed = 0
+    with tempfile.TemporaryDirectory() as name:
+        folder = Path(name)
+        day, listing = folder / "day.bin", folder / "day.csv"
+        # In a process of its own: the memory of this one would count for those it starts.
+        subprocess.run([sys.executable, __file__, "--make", str(day)], check=True)
+        unit, _ = measured([PROGRAM, "list", "--workers", "1"], day, listing, runs)
+        print(f"rds list --workers 1: {unit:.2f} s")
+        print(
+            f"{'command':12} {'recording':>9} {'times':>6} {'limit':>5} {'MB':>4}   "
+            f"{'listing':>9} {'times':>6} "
+            f"{'limit':>5} {'MB':>4}"
+        )
+        for limit in LIMITS:
+            row = [f"{limit.words[0]:12}"]
+            for path, most in ((day, limit.recording), (listing, limit.listing)):
+                words = [
+                    sys.executable,
+                    "-m",
+                    "rds_monitor",
+                    *(it.format(folder=folder) for it in limit.words),
+                    str(path),
+                ]
+                seconds, memory = measured(words, None, folder / "out", runs)
+                within = seconds <= most * unit and memory < MEMORY_MB
+                failed += not within
+                row.append(f"{seconds:9.2f} {seconds / unit:6.1f} {most:5.0f} {memory:4.0f} {' ' if within else '!'}")
+            print(" ".join(row), flush=True)
+        failed += not demod_within_its_limit(folder, runs)
+    return min(failed, 1)
+
+
+# Seconds of a processor for a minute of 192 kHz MPX.
+DEMOD_SECONDS = 1.0
+
+
+def demod_within_its_limit(folder: Path, runs: int) -> bool:
+    from modulator import make_minute
+
+    subprocess.run([sys.executable, make_minute.__code__.co_filename, str(folder / "mpx.wav")], check=True)
+    words = [sys.executable, "-m", "rds_monitor", "demod", str(folder / "mpx.wav")]
+    seconds, memory = measured(words, None, folder / "out", runs)
+    within = seconds <= DEMOD_SECONDS and memory < MEMORY_MB
+    print(f"demod of a minute of 192 kHz MPX: {seconds:.2f} s, limit {DEMOD_SECONDS}, {memory:.0f} MB {' ' if within else '!'}")
+    return within
+
+
+if __name__ == "__main__":
+    # As installed: modules are compiled once, and the output has a buffer.
+    for variable in ("PYTHONDONTWRITEBYTECODE", "PYTHONUNBUFFERED"):
+        os.environ.pop(variable, None)
+    arguments: List[str] = sys.argv[1:]
+    if arguments[:1] == ["--make"]:
+        sys.exit(make_day(Path(arguments[1])))
+    sys.exit(main(int(arguments[0]) if arguments else 3))

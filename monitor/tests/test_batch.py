@@ -1,0 +1,249 @@
+"""A folder of recordings into a folder of listings."""
+
+from __future__ import annotations
+
+import fcntl
+import getpass
+import os
+import shutil
+import signal
+import socket
+import subprocess
+import sys
+import time
+from pathlib import Path
+from typing import Any, Iterator, List
+
+import numpy
+import pytest
+from conftest import PROGRAM, STATION, encode, monitor, rds
+from modulator import mpx, stored, wav, words
+
+from rds_monitor.batch import WORK
+
+pytestmark = pytest.mark.skipif(not shutil.which("parallel"), reason="GNU parallel is not installed")
+
+NOISE = numpy.random.default_rng(1).bytes(20000)
+NAMES = ["a.bin", "it's.bin", 'a "b" $(c) `d`; e & f.bin', "line\nfeed.bin", "-n.bin", "{} {#} ü.bin", " .bin"]
+
+
+@pytest.fixture
+def folders(tmp_path: Path) -> "tuple[Path, Path]":
+    (tmp_path / "recordings").mkdir()
+    return tmp_path / "recordings", tmp_path / "listings"
+
+
+def fill(folder: Path, names: List[str] = NAMES) -> None:
+    for name in names:
+        (folder / name).write_bytes(STATION.read_bytes())
+
+
+def listings(folder: Path) -> "dict[str, bytes]":
+    return {path.name: path.read_bytes() for path in folder.iterdir() if path.suffix == ".csv"}
+
+
+def left_over(folder: Path) -> List[str]:
+    return [path.name for path in folder.iterdir() if path.name.startswith(WORK) and path.is_dir()]
+
+
+def test_listings_of_whatever_name(folders: Any, station_listing: bytes) -> None:
+    fill(folders[0])
+    (folders[0] / "not one.txt").write_bytes(b"x")
+    (folders[0] / "a folder.bin").mkdir()
+    done = monitor("batch", *folders)
+    assert (done.returncode, done.stdout, done.stderr) == (0, b"", b"")
+    assert listings(folders[1]) == {name[:-4] + ".csv": station_listing for name in NAMES}
+    assert not left_over(folders[1])
+    # Those that are there are left as they are.
+    (folders[1] / "a.csv").write_bytes(b"mine\n" + station_listing[-400:])
+    (folders[1] / "-n.csv").unlink()
+    assert monitor("batch", *folders).returncode == 0
+    assert listings(folders[1])["-n.csv"] == station_listing and listings(folders[1])["a.csv"].startswith(b"mine\n")
+
+
+def test_no_station_is_named_each_time(folders: Any) -> None:
+    fill(folders[0], ["a.bin"])
+    (folders[0] / "noise\x1b[31m.bin").write_bytes(NOISE)
+    for _ in range(2):
+        done = monitor("batch", *folders)
+        assert done.returncode == 1 and done.stderr.count(b"\n") == 1
+        assert b"noise\\x1b[31m.bin': no station" in done.stderr
+    assert len(listings(folders[1])) == 2
+
+
+def test_what_failed_is_named_and_the_others_are_decoded(folders: Any, station_listing: bytes) -> None:
+    (folders[0] / "bad.hex [1]").write_bytes(b"xyz")
+    (folders[0] / "good.hex [1]").write_text(STATION.read_bytes().hex())
+    done = monitor("batch", "--suffix", ".hex [1]", "--options", "--hex --burst 2", *folders)
+    assert done.returncode == 1 and b"bad.hex [1]: failed: refused 11 HexText" in done.stderr
+    assert listings(folders[1]) == {"good.csv": station_listing}
+
+
+@pytest.mark.parametrize("words_,status,said", [
+    (("none such", "listings"), 1, b"there is no folder"), (("x",), 2, b"usage"),
+    (("--suffix", "/", ".", "listings"), 2, b"suffix"),
+    (("--options", "'", ".", "listings"), 2, b"--options: No closing quotation")])
+def test_folders_that_are_not_there(words_: Any, status: int, said: bytes, tmp_path: Path) -> None:
+    done = monitor("batch", *words_, cwd=tmp_path)
+    assert done.returncode == status and said in done.stderr
+
+
+def test_signals_are_demodulated(folders: Any) -> None:
+    groups = words(8, 24)
+    (folders[0] / "mpx.wav").write_bytes(wav(stored(mpx(encode(groups), 171000), "s16"), "s16", 171000))
+    (folders[0] / "cut.wav").write_bytes(b"RIFF")
+    done = monitor("batch", "--suffix", ".wav", "--demod", "", *folders)
+    assert done.returncode == 1
+    assert b"cut.wav: failed: rds-monitor demod: the WAV file ends within its header" in done.stderr
+    assert listings(folders[1])["mpx.csv"].count(b"\ngroup,") >= 23
+
+
+# ---- two at once, and killed ones
+
+
+def slow_rds(folder: Path, seconds: float) -> str:
+    """A program that takes its time within a listing."""
+    path = folder / "slow rds"
+    path.write_text(f"""#!/bin/sh
+'{PROGRAM}' "$@" > "$0.$$" || exit
+head -c 5000 "$0.$$"
+sleep {seconds}
+tail -c +5001 "$0.$$"
+rm "$0.$$"
+""")
+    path.chmod(0o755)
+    return str(path)
+
+
+def started(folders: Any, program: str, *options: str) -> "subprocess.Popen[bytes]":
+    return subprocess.Popen([sys.executable, "-m", "rds_monitor", "batch", *options, *map(str, folders)],
+                            stderr=subprocess.PIPE, env={**os.environ, "RDS": program}, start_new_session=True)
+
+
+def wait_for(condition: Any) -> None:
+    end = time.monotonic() + 30
+    while not condition():
+        assert time.monotonic() < end
+        time.sleep(0.02)
+
+
+def is_locked(folder: Path) -> bool:
+    try:
+        with open(folder / ".batch.lock", "rb") as file:
+            fcntl.flock(file, fcntl.LOCK_EX | fcntl.LOCK_NB)
+    except BlockingIOError:
+        return True
+    except FileNotFoundError:
+        pass
+    return False
+
+
+def test_two_at_once(folders: Any, tmp_path: Path, station_listing: bytes) -> None:
+    fill(folders[0], NAMES[:3])
+    first = started(folders, slow_rds(tmp_path, 1))
+    wait_for(lambda: is_locked(folders[1]))
+    refused = monitor("batch", *folders)
+    assert refused.returncode == 1 and b"another batch is running" in refused.stderr
+    second = started(folders, PROGRAM, "--wait")
+    assert (first.wait(60), second.wait(60)) == (0, 0)
+    assert set(listings(folders[1]).values()) == {station_listing} and len(listings(folders[1])) == 3
+
+
+@pytest.mark.parametrize("whole_session", [False, True])
+def test_one_that_is_killed(whole_session: bool, folders: Any, tmp_path: Path, station_listing: bytes) -> None:
+    fill(folders[0])
+    first = started(folders, slow_rds(tmp_path, 1))
+    wait_for(lambda: folders[1].exists() and any(path.glob("*.csv") for path in folders[1].glob(WORK + "*")))
+    time.sleep(0.4)
+    (os.killpg if whole_session else os.kill)(first.pid, signal.SIGKILL)
+    first.wait()
+    # The jobs that were at work hold the lock until they end.
+    assert whole_session or is_locked(folders[1])
+    assert set(listings(folders[1]).values()) <= {station_listing}
+    assert monitor("batch", "--wait", *folders).returncode == 0
+    assert listings(folders[1]) == {name[:-4] + ".csv": station_listing for name in NAMES}
+    assert not left_over(folders[1])
+
+
+def test_a_full_disk(folders: Any) -> None:
+    """A file system of its own, of 64 KiB, where mounting is allowed."""
+    fill(folders[0], ["a.bin", "b.bin"])
+    folders[1].mkdir()
+    mount = 'mount -t tmpfs -o size=64k none "$0"'
+    words_ = ["unshare", "--mount", "sh", "-c", mount + ' && "$@"; s=$?; ls -A "$0" >&2; exit $s', str(folders[1]),
+              sys.executable, "-m", "rds_monitor", "batch", *map(str, folders)]
+    if subprocess.run([*words_[:4], mount, str(folders[1])], capture_output=True).returncode:
+        pytest.skip("no file system can be mounted here")
+    done = subprocess.run(words_, capture_output=True)
+    assert done.returncode == 1
+    assert b"a.bin: failed: " in done.stderr and b"b.bin: failed: " in done.stderr
+    assert b".csv" not in done.stderr
+
+
+# ---- other machines
+
+
+def free_port() -> int:
+    with socket.socket() as it:
+        it.bind(("127.0.0.1", 0))
+        return int(it.getsockname()[1])
+
+
+@pytest.fixture
+def machines(tmp_path: Path) -> Iterator[List[str]]:
+    """Two sshd on the loopback, with keys of their own, as words of --sshlogin."""
+    sshd = shutil.which("sshd") or "/usr/sbin/sshd"
+    if not os.path.exists(sshd) or not shutil.which("ssh"):
+        pytest.skip("openssh is not installed")
+    # sshd wants this empty folder, which Debian makes when the service starts.
+    separation = Path("/run/sshd")
+    made = os.geteuid() == 0 and not separation.exists()
+    if made:
+        separation.mkdir()
+    folder = tmp_path / "ssh"
+    folder.mkdir(mode=0o700)
+    for key in ("host", "user"):
+        subprocess.run(["ssh-keygen", "-q", "-t", "ed25519", "-N", "", "-f", str(folder / key)], check=True)
+    shutil.copy(folder / "user.pub", folder / "authorized")
+    servers, logins = [], []
+    for _ in range(2):
+        port = free_port()
+        options = ["ListenAddress=127.0.0.1", f"Port={port}", f"HostKey={folder}/host",
+                   f"AuthorizedKeysFile={folder}/authorized", "StrictModes=no", "UsePAM=no", "PidFile=none",
+                   "PermitRootLogin=yes", "PasswordAuthentication=no"]
+        servers.append(subprocess.Popen([sshd, "-D", "-e", "-f", "/dev/null", *(f"-o{it}" for it in options)],
+                                        stderr=subprocess.DEVNULL))
+        logins.append(f"ssh -p {port} -i {folder}/user -o StrictHostKeyChecking=no -o UserKnownHostsFile=/dev/null "
+                      f"-o LogLevel=ERROR {getpass.getuser()}@127.0.0.1")
+    try:
+        for login in logins:
+            end = time.monotonic() + 5
+            while subprocess.run([*login.split(), "true"], capture_output=True).returncode:
+                if time.monotonic() > end:
+                    pytest.skip("no sshd can be started here")
+                time.sleep(0.1)
+        yield logins
+    finally:
+        for server in servers:
+            server.terminate()
+            server.wait()
+        if made:
+            separation.rmdir()
+
+
+@pytest.mark.parametrize("shared", [True, False])
+def test_two_machines(shared: bool, machines: List[str], folders: Any, station_listing: bytes) -> None:
+    if not shared and not shutil.which("rsync"):
+        pytest.skip("rsync is not installed")
+    names = NAMES if shared else NAMES[1:4:2]
+    fill(folders[0], names)
+    (folders[0] / "noise.bin").write_bytes(NOISE)
+    words_ = [*(["--shared"] if shared else []), *map(str, folders), "--jobs", "2"]
+    for login in machines:
+        words_ += ["--sshlogin", login]
+    done = monitor("batch", *words_)
+    said = [line for line in done.stderr.splitlines() if line.startswith(b"rds-monitor")]
+    assert done.returncode == 1 and len(said) == 1 and said[0].endswith(b"noise.bin: no station"), done.stderr
+    found = listings(folders[1])
+    assert found.pop("noise.csv") == rds("list", data=NOISE)
+    assert found == {name[:-4] + ".csv": station_listing for name in names}

@@ -1,0 +1,230 @@
+"""The command: help, errors, streams that fail, names of files, progress, the manual page and the completions."""
+
+from __future__ import annotations
+
+import os
+import pty
+import shutil
+import subprocess
+import sys
+
+import pytest
+
+from conftest import TOP, monitor
+from made import run, said
+from rds_monitor import cli, items, manual
+
+MONITOR = TOP / "monitor"
+
+
+def test_help_has_an_example() -> None:
+    text = run("--help").out
+    for command in cli.COMMANDS:
+        assert f"  {command.name} " in text and command.summary in text
+        shown = run(command.name, "--help")
+        assert shown.status == 0 and "example" in shown.out and f"rds-monitor {command.name}" in shown.out
+    assert run().out == text and run("--version").out == f"rds-monitor {cli.__version__}\n"
+
+
+def test_command_lines_that_are_none() -> None:
+    assert run("nothing").err == "rds-monitor: there is no command 'nothing': rds-monitor --help lists them\n"
+    for words, fault in (
+        (["errors", "--every", "0.5"], "an interval has a second or more"),
+        (["errors", "a", "b"], "unrecognized arguments: b"),
+        (["errors", "--gaps", "5"], "'5' is no pair FROM-TO"),
+        (["errors", "--bits", "-1"], "--bits"),
+        (["errors", "--loss", "3", "--share", "3"], "contradict each other"),
+        (["errors", "--of", "3"], "--of needs --share"),
+        (["programmes", "--least", "x"], "'x' is no number of groups"),
+        (["errors", "--ever", "5"], "unrecognized"),
+    ):
+        done = run(*words)
+        assert done.status == 2 and fault in done.err and done.out == "", done
+
+
+def test_rules_are_those_of_rds(station: bytes) -> None:
+    for words, fault in (
+        (["--burst", 6], "refused 1 BurstRange"),
+        (["--reach", 0], "refused 2"),
+        (["--loss", 65], "refused 3"),
+        (["--share", 5, "--of", 4], "refused 15"),
+        (["--bits", 300000], "refused 4"),
+        (["--gaps", "9-9"], "refused 16"),
+    ):
+        done = run("errors", *words, data=station)
+        assert done.status == 1 and fault in done.err and done.out == ""
+
+
+def test_no_library_for_a_recording(station: bytes, station_listing: bytes) -> None:
+    """A listing needs none."""
+    environment = {**os.environ, "RDS_LIBRARY": "/none"}
+    done = monitor("errors", data=station, env=environment)
+    assert done.returncode == 1 and b"RDS_LIBRARY" in done.stderr and b"Traceback" not in done.stderr
+    assert monitor("errors", data=station_listing, env=environment).returncode == 0
+    done = monitor("errors", data=station, env={**environment, "PYTHONPATH": str(MONITOR)})
+    assert done.returncode == 1 and b"python3-librds" in done.stderr
+
+
+# ---- streams
+
+
+@pytest.mark.parametrize("command", ["errors", "table", "types"])
+def test_a_full_device(command: str, station: bytes) -> None:
+    with open("/dev/full", "wb") as full:
+        done = subprocess.run(
+            [sys.executable, "-m", "rds_monitor", command], input=station, stdout=full, stderr=subprocess.PIPE
+        )
+    assert done.returncode == 1 and done.stderr == f"rds-monitor {command}: writing: No space left on device\n".encode()
+
+
+def test_a_reader_that_leaves(station_listing: bytes, tmp_path) -> None:
+    (tmp_path / "it").write_bytes(station_listing)
+    done = subprocess.run(
+        f"'{sys.executable}' -m rds_monitor table it | head -n 1", shell=True, cwd=tmp_path, capture_output=True
+    )
+    assert done.stdout.startswith(b"kind,") and done.stderr == b""
+
+
+def test_a_pipe_that_gives_little_at_a_time(station: bytes) -> None:
+    process = subprocess.Popen(
+        [sys.executable, "-m", "rds_monitor", "errors"], stdin=subprocess.PIPE, stdout=subprocess.PIPE
+    )
+    assert process.stdin and process.stdout
+    for begin in range(0, len(station), 997):
+        process.stdin.write(station[begin : begin + 997])
+        process.stdin.flush()
+    process.stdin.close()
+    assert process.stdout.read().decode().splitlines() == said("errors", data=station)
+    assert process.wait() == 0
+
+
+@pytest.mark.parametrize("name", ["it's", 'a "b"', "line\nfeed", "$(touch x)", "-v", "a b;c", "\x1b[31mred"])
+def test_names_of_files(name: str, station: bytes, station_listing: bytes, tmp_path, monkeypatch) -> None:
+    monkeypatch.chdir(tmp_path)
+    (tmp_path / name).write_bytes(station)
+    wanted = said("errors", data=station)
+    assert said("errors", "--", name) == wanted and said("errors", f"./{name}") == wanted
+    assert said("errors", f"--length=./{name}", data=station_listing) == wanted
+    gone = run("errors", "--", name + "!")
+    assert gone.status == 1 and gone.err.count("\n") == 1 and gone.err[:-1].isprintable()
+    assert os.listdir(tmp_path) == [name]
+
+
+def test_text_of_strangers_is_escaped_in_errors() -> None:
+    done = run("errors", data=b"group,1,\x1b[31m\xff,\n" * 3)
+    assert done.status == 1 and done.err[:-1].isprintable() and "\\x1b[31m" in done.err
+
+
+# ---- long work
+
+
+def on_a_terminal(*words: str) -> bytes:
+    """Standard error of a command, where that is a terminal."""
+    ours, theirs = pty.openpty()
+    process = subprocess.Popen([sys.executable, *words], stdout=subprocess.DEVNULL, stderr=theirs)
+    os.close(theirs)
+    said = b""
+    try:
+        while True:
+            said += os.read(ours, 65536)
+    except OSError:
+        pass
+    os.close(ours)
+    assert process.wait() == 0
+    return said
+
+
+def test_progress_is_for_a_terminal(tmp_path, station: bytes) -> None:
+    (tmp_path / "it").write_bytes(station * 40)
+    slow = (
+        "import sys, time; from rds_monitor import cli, items\n"
+        "items.CHUNK = 1 << 16; read = items.Recording._read\n"
+        "def slowly(it):\n    for data in read(it): time.sleep(0.15); yield data\n"
+        "items.Recording._read = slowly; sys.exit(cli.main(['errors', sys.argv[1]]))"
+    )
+    shown = on_a_terminal("-c", slow, str(tmp_path / "it"))
+    assert b" %" in shown and shown.endswith(b"\r" + b" " * 4 + b"\r") or shown.rstrip(b"\r ").endswith(b"%")
+    assert on_a_terminal("-m", "rds_monitor", "errors", str(tmp_path / "it")) == b""
+    assert monitor("errors", str(tmp_path / "it")).stderr == b""
+    progress = items.Progress(None)
+    progress.at(5)
+    progress.close()
+
+
+def test_memory_does_not_grow(tmp_path, station: bytes) -> None:
+    """Two hours and four times as much take the same memory, below 100 MB."""
+    most = []
+    for times in (40, 160):
+        (tmp_path / "it.bin").write_bytes(station * times)
+        ask = ["/usr/bin/time", "-f", "%M", sys.executable, "-m", "rds_monitor"]
+        if not os.path.exists(ask[0]):
+            pytest.skip("no time")
+        most.append(
+            [
+                int(
+                    subprocess.run(
+                        [*ask, command, str(tmp_path / "it.bin")], stdout=subprocess.DEVNULL, stderr=subprocess.PIPE
+                    ).stderr
+                )
+                for command in ("errors", "outages")
+            ]
+        )
+    for before, after in zip(*most):
+        assert after < before + 12000 and after < 100000
+
+
+# ---- the manual page and the completions
+
+
+@pytest.mark.parametrize(
+    "form, path",
+    [("man", "rds-monitor.1"), ("bash", "completions/rds-monitor.bash"), ("zsh", "completions/_rds-monitor")],
+)
+def test_pages_are_made_of_the_help(form: str, path: str, monkeypatch) -> None:
+    monkeypatch.setenv("COLUMNS", "80")
+    assert (MONITOR / path).read_text() == manual.FORMS[form](), "monitor/make_pages.sh makes it anew"
+
+
+def test_the_manual_page_is_right() -> None:
+    if shutil.which("mandoc"):
+        done = subprocess.run(
+            ["mandoc", "-T", "lint", "-W", "error", MONITOR / "rds-monitor.1"], capture_output=True, text=True
+        )
+        assert done.stdout == "" and done.returncode == 0
+    text = (MONITOR / "rds-monitor.1").read_text()
+    for command in cli.COMMANDS:
+        assert f".SS {command.name}\n" in text
+
+
+def completed(*words: str) -> list:
+    ask = (
+        f"source '{MONITOR}/completions/rds-monitor.bash'; COMP_WORDS=(rds-monitor \"$@\");"
+        " COMP_CWORD=$#; _rds_monitor;"
+        " printf '%s\\n' \"${COMPREPLY[@]}\""
+    )
+    return subprocess.run(["bash", "-c", ask, "-", *words], capture_output=True, text=True, check=True).stdout.split()
+
+
+def test_completion_in_bash() -> None:
+    assert set(completed("")) == {it.name for it in cli.COMMANDS} | {"--help", "--version"}
+    assert (
+        completed("out") == ["outages"]
+        and "--shortest" in completed("outages", "--s")
+        and completed("outages", "st") == []
+    )
+
+
+def test_completion_in_zsh() -> None:
+    if not shutil.which("zsh"):
+        pytest.skip("no zsh")
+    assert subprocess.run(["zsh", "-n", MONITOR / "completions" / "_rds-monitor"], capture_output=True).stderr == b""
+
+
+def test_the_code_is_checked() -> None:
+    for words in (
+        ["-m", "mypy", "--strict", "--cache-dir", str(TOP / "build" / "mypy"), "monitor/rds_monitor"],
+        ["-m", "pyflakes", "monitor", "bindings/python"],
+    ):
+        if subprocess.run([sys.executable, "-c", f"import {words[1]}"], capture_output=True).returncode == 0:
+            done = subprocess.run([sys.executable, *words], cwd=TOP, capture_output=True, text=True)
+            assert done.returncode == 0, done.stdout

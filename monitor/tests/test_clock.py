@@ -1,0 +1,135 @@
+"""Times: UTC by a start and a rate, and both by the station's clock."""
+
+from __future__ import annotations
+
+import datetime
+
+import numpy
+import pytest
+from hypothesis import given, settings, strategies as st
+
+from made import group_row, listing, run, said
+from rds_monitor.clock import Clock, Tick, fit, start_of, ticks_of, utc_text, utc_texts
+from rds_monitor.items import Fault
+
+STARTS = (
+    "1970-01-01T00:00:00Z",
+    "1999-12-31T23:59:59Z",
+    "2000-02-28T23:59:59Z",
+    "2024-02-29T12:00:00Z",
+    "2026-03-29T00:30:00Z",
+    "2026-12-31T23:59:59Z",
+    "2100-02-28T23:30:00Z",
+)
+
+
+@pytest.mark.parametrize("start", STARTS)
+def test_utc(start: str) -> None:
+    for place in (0, 1188, 5937500, 68719476700):
+        clock = Clock(start_of(start))
+        whole = datetime.datetime.strptime(start, "%Y-%m-%dT%H:%M:%SZ") + datetime.timedelta(
+            seconds=place / 1187.5 + 0.0005
+        )
+        assert clock.utc(place) == [whole.isoformat(timespec="milliseconds")[:23] + "Z"]
+        assert utc_texts(numpy.array([(clock.start or 0) + place / 1187.5])) == clock.utc(place)
+
+
+@pytest.mark.parametrize(
+    "start",
+    [
+        "2026-03-29",
+        "2026-02-29T00:00:00Z",
+        "2026-13-01T00:00:00Z",
+        "2026-03-29T24:00:00Z",
+        "2026-03-29 00:30:00Z",
+        "1969-12-31T00:00:00Z",
+        "2026-03-29T00:30:00",
+        "",
+    ],
+)
+def test_starts_that_are_none(start: str) -> None:
+    done = run("errors", "--start", start)
+    assert done.status == 2 and "is no time in UTC, such as 2026-03-29T00:30:00Z" in done.err
+
+
+@pytest.mark.parametrize("rate", ["37", "9999", "1187,5", "-1187.5", "1.1.8", "ppm", "nan", "inf"])
+def test_rates_that_are_none(rate: str) -> None:
+    done = run("errors", f"--rate={rate}")
+    assert done.status == 2 and "1187.5 within a tenth" in done.err
+
+
+# ---- the station's clock
+
+
+def minute_group(place: int, time: int) -> numpy.ndarray:
+    """A group of clock time that ends at this place, and says this many seconds since 1970."""
+    day, second = 40587 + time // 86400, time % 86400
+    hour, minute = second // 3600, second // 60 % 60
+    words = (0xD393, 0x4540 | day >> 15, (day & 0x7FFF) << 1 | hour >> 4, (hour & 15) << 12 | minute << 6 | 2)
+    return group_row(place - 104, words)
+
+
+def clock_times(hours: int, ppm: float, dropped: int = 0, wrong: int = 97) -> bytes:
+    """The clock times of some hours from 2026-03-29T00:31Z on, which begin 17.25 s after half past, by a clock that is
+    off by so many parts per million; each within a tenth of a second, one in `wrong` says another minute, and half way
+    bits are absent.
+    """
+    random, rows = numpy.random.default_rng(5), []
+    first = start_of("2026-03-29T00:30:00Z")
+    for n in range(1, hours * 60):
+        end = 1187.5 * (1 + ppm / 1e6) * (n * 60 - 17.25 + random.uniform(-0.1, 0.1)) - (
+            dropped if n > hours * 30 else 0
+        )
+        rows.append(minute_group(int(end), int(first) + 60 * n + (420 if n % wrong == 50 else 0)))
+    return listing(rows, totals=False)
+
+
+@pytest.mark.parametrize("ppm, dropped", [(0, 0), (37, 0), (-120, 11875)])
+def test_the_samplers_clock(ppm: float, dropped: int) -> None:
+    text = clock_times(24, ppm, dropped)
+    head, row = said("clock", "--unfinished", data=text)
+    assert head == "groups,stretches,hours,rate,ppm,within_ppm,start_utc"
+    found = dict(zip(head.split(","), row.split(",")))
+    assert abs(float(found["ppm"]) - ppm) < 0.5 and float(found["within_ppm"]) < 1
+    assert (
+        found["start_utc"].startswith("2026-03-29T00:30:17") and found["groups"] == "1439" and found["hours"] == "23.97"
+    )
+    options = said("clock", "--unfinished", "--options", data=text)[0].split()
+    assert options[::2] == ["--start", "--rate"]
+    steps = said("clock", "--unfinished", "--steps", data=text)[1:]
+    assert [round(float(it.split(",")[2]), 0) for it in steps] == ([10] if dropped else [])
+    # By these options a minute begins as it should.
+    place = int(1187.5 * (1 + ppm / 1e6) * 42.75)
+    rows = said("types", "--unfinished", *options, data=listing([group_row(place, (1, 2, 3, 4))], False))
+    assert rows[1].split(",")[-1][:19] in ("2026-03-29T00:31:00", "2026-03-29T00:30:59")
+
+
+def test_a_recording_that_is_too_short(station_listing: bytes) -> None:
+    done = run("clock", data=station_listing)
+    assert (done.status, done.err) == (
+        1,
+        "rds-monitor clock: no three of the 74 valid groups of clock time go together over ten minutes\n",
+    )
+    with pytest.raises(Fault):
+        fit([])
+
+
+def test_clock_times_that_are_none() -> None:
+    good = minute_group(1000, int(start_of("2026-03-29T00:31:00Z")))
+    assert ticks_of(good) == [Tick(1000, int(start_of("2026-03-29T00:31:00Z")))]
+    for field, value in (("info4", 0x7F02), ("kind1", 3), ("kind4", 1), ("version", 2), ("number", 3)):
+        bad = good.copy()
+        bad[field] = value
+        assert ticks_of(bad) == []
+    hour = good.copy()
+    hour["info3"], hour["info4"] = hour["info3"] | 1, 0xF000
+    assert ticks_of(hour) == []
+
+
+@settings(max_examples=60, deadline=None)
+@given(st.floats(0, 4e9), st.floats(1069, 1306), st.integers(0, 2**36))
+def test_places_and_times(start: float, rate: float, place: int) -> None:
+    clock = Clock(start, rate)
+    text = clock.utc(place)[0]
+    assert abs(start_of(text) - start - clock.seconds(place)) < 0.002
+    assert utc_text(start_of(text)) == text

@@ -1,0 +1,352 @@
+"""From MPX and IQ to groups: signals of modulator.py, received by `rds-monitor demod`."""
+
+from __future__ import annotations
+
+import json
+import os
+import struct
+import subprocess
+import sys
+from typing import Any, List, Tuple
+
+import numpy
+import pytest
+from conftest import PROGRAM, encode, monitor, rds
+from hypothesis import given, settings
+from hypothesis import strategies as st
+from modulator import Array, iq, mpx, stored, wav, words
+
+from rds_monitor.receiver import Receiver
+
+GROUPS = words(3, 24)  # 2.1 seconds
+SENT = encode(GROUPS)
+RATE = 171000
+
+
+def whole_groups(bits: bytes) -> List[Tuple[int, ...]]:
+    """The words of the complete groups that rds finds."""
+    found = []
+    for line in rds("list", data=bits).decode().splitlines():
+        fields = line.split(",")
+        if fields[0] == "group" and not {"none", "lost"} & set(fields[4:]):
+            found.append(tuple(int(block.split(":")[1][:4], 16) for block in fields[4:]))
+    return found
+
+
+def received(signal: Array, rate: int = RATE, block: int = 65536,
+             **options: Any) -> Tuple[List[Tuple[int, ...]], Receiver]:
+    """The groups of a signal, handed over a block at a time, and the receiver."""
+    receiver = Receiver(rate, numpy.iscomplexobj(signal), **options)
+    parts = [receiver.push(signal[at : at + block]) for at in range(0, signal.size, block)]
+    return whole_groups(numpy.packbits(numpy.concatenate([*parts, receiver.finish()])).tobytes()), receiver
+
+
+# ---- the receiver
+
+
+@pytest.mark.parametrize("options", [
+    {"snr": 30}, {"snr": 10}, {"snr": 20, "carrier_offset": 12}, {"snr": 20, "carrier_offset": -25},
+    {"snr": 20, "phase": 90}, {"snr": 20, "clock_offset": 100}, {"snr": 20, "clock_offset": -100},
+    {"snr": 20, "clock_offset": 1000}, {"snr": 20, "stereo": False},
+    # The bit at the flip is wrong, and corrected.
+    {"snr": 20, "flip": 1.0}], ids=str)
+def test_all_groups_but_the_first(options: Any) -> None:
+    assert received(mpx(SENT, RATE, **options))[0] == GROUPS[1:]
+
+
+@pytest.mark.parametrize("snr,least", [(1, 21), (-2, 10)])
+def test_weak_signals(snr: float, least: int) -> None:
+    assert len(set(received(mpx(SENT, RATE, snr=snr))[0]) & set(GROUPS)) >= least
+
+
+@pytest.mark.parametrize("rate", [128000, 192000, 250001])
+def test_rates(rate: int) -> None:
+    assert received(mpx(SENT, rate), rate)[0] == GROUPS[1:]
+
+
+@pytest.mark.parametrize("rate", [171000, 192000, 250001])
+def test_no_bit_is_wrong_without_noise(rate: int) -> None:
+    sent = numpy.unpackbits(numpy.frombuffer(SENT, "u1"))
+    receiver = Receiver(rate)
+    bits = numpy.concatenate([receiver.push(mpx(SENT, rate, snr=40)), receiver.finish()])
+    # The first bit has none before it; the last ones may be cut.
+    assert min(int((bits[at : at + 2400] != sent[10 : 2410]).sum()) for at in range(4, 16)) == 0
+
+
+def test_blocks_of_any_length() -> None:
+    signal = mpx(SENT, RATE, snr=3)
+    whole = received(signal, block=signal.size)[0]
+    assert received(signal, block=4001)[0] == whole == received(signal, block=100000)[0]
+
+
+def test_groups_on_both_sides_of_silence_and_of_noise() -> None:
+    signal = mpx(SENT, RATE)
+    noise = numpy.random.default_rng(1).standard_normal(3 * RATE)
+    for between in (numpy.zeros(RATE // 2), noise):
+        found = received(numpy.concatenate([signal, between, signal]))[0]
+        assert [group for group in found if group in GROUPS] == GROUPS[1:-1] + found[22:-23] + GROUPS[1:]
+        assert len(found) <= 2 * len(GROUPS) + 1
+
+
+def test_nearly_as_many_bits_as_were_sent_and_they_keep_time() -> None:
+    signal = mpx(SENT, RATE)
+    for gap in (numpy.zeros(10 * RATE), numpy.random.default_rng(2).standard_normal(10 * RATE)):
+        receiver = Receiver(RATE)
+        whole = numpy.concatenate([signal, gap, signal])
+        bits = numpy.concatenate([receiver.push(whole), receiver.finish()])
+        assert abs(bits.size - whole.size / RATE * 1187.5) < 5
+        lines = rds("list", data=numpy.packbits(bits).tobytes()).decode().splitlines()
+        places = [int(line.split(",")[1]) for line in lines if line.startswith("group,")]
+        # The clock goes on through what is no signal.
+        assert abs(places[-1] - (whole.size / RATE * 1187.5 - 104)) < 110
+
+
+# ---- what is said of the signal
+
+
+@pytest.mark.parametrize("snr", [20, 3, -2])
+def test_report(snr: float) -> None:
+    told = received(mpx(encode(words(4, 60)), RATE, snr=snr, carrier_offset=5, clock_offset=50))[1].quality.report()
+    assert abs(told["snr_db"] - snr) < 0.7
+    assert abs(told["carrier_offset_hz"] - 5) < 0.3
+    assert abs(told["clock_offset_ppm"] - 50) < 25
+    assert told["locked"] > 0.95 and told["first_lock_s"] < 0.2
+    # The modulator has RDS at 0.03, and the pilot at 0.09.
+    assert abs(told["rds_dbfs"] + 30.5) < 0.3
+    assert abs(told["rds_to_pilot_db"] + 9.5) < 0.5
+    assert told["rds_khz"] is None
+
+
+@pytest.mark.parametrize("name,signal", [
+    ("noise", numpy.random.default_rng(3).standard_normal(4 * RATE)), ("silence", numpy.zeros(2 * RATE)),
+    ("a tone", numpy.sin(2 * numpy.pi * 57005 / RATE * numpy.arange(4 * RATE)))])
+def test_what_is_no_rds_is_never_locked(name: str, signal: Array) -> None:
+    told = received(signal)[1].quality.report()
+    assert told["locked"] == 0 and told["snr_db"] is None and told["first_lock_s"] is None
+
+
+def test_lock_of_a_part() -> None:
+    noise = numpy.random.default_rng(3).standard_normal(6 * RATE)
+    told = received(numpy.concatenate([noise, mpx(SENT, RATE)]))[1].quality.report()
+    assert abs(told["first_lock_s"] - 6) < 0.5 and abs(told["locked"] - 2.1 / 8.1) < 0.05
+
+
+# ---- IQ
+
+
+@pytest.mark.parametrize("rate,offset", [(240000, 0.0), (250000, 20000.0), (1024000, 0.0), (1200000, 250000.0)])
+def test_iq(rate: int, offset: float) -> None:
+    groups = GROUPS[:12]
+    signal = iq(mpx(encode(groups), rate, snr=40), rate, cnr=40, offset=offset)
+    found, receiver = received(signal, rate, offset=offset)
+    assert found == groups[1:]
+    # 0.03 of 75 kHz
+    assert abs(receiver.quality.report()["rds_khz"] - 2.25) < 0.3
+
+
+def test_multipath_is_undone() -> None:
+    groups, rate = words(5, 30), 256000
+    signal = iq(mpx(encode(groups), rate, snr=40), rate, paths=[(30, 0.7, 90, 0)], cnr=30)
+    plain = received(signal, rate)
+    equalised = received(signal, rate, equalise=True)
+    assert len(set(equalised[0]) & set(groups)) >= 24 > 10 >= len(set(plain[0]) & set(groups))
+
+
+def test_the_equaliser_does_not_harm_a_weak_iq_signal() -> None:
+    groups, rate = words(5, 40), 256000
+    signal = iq(mpx(encode(groups), rate, snr=40), rate, cnr=13)
+    plain, equalised = (len(set(received(signal, rate, equalise=it)[0]) & set(groups)) for it in (False, True))
+    assert plain >= 20 and equalised >= 0.8 * plain
+
+
+def test_a_station_after_silence_in_iq() -> None:
+    rate = 256000
+    signal = iq(mpx(SENT, rate, snr=40), rate, cnr=40)
+    for silence in (numpy.zeros(rate // 4, complex), 1e-6 * signal[: rate // 4]):
+        found, _ = received(numpy.concatenate([signal, silence, signal]), rate, equalise=True)
+        assert found[:22] == GROUPS[1:23] and found[-20:] == GROUPS[-20:]
+
+
+@given(kind=st.sampled_from(["zeros", "noise", "huge", "square", "steps"]), is_iq=st.booleans(),
+       seconds=st.floats(0, 0.7), block=st.integers(1, 100000), seed=st.integers(0, 99))
+@settings(max_examples=25, deadline=None)
+def test_any_samples_give_bits_in_time(kind: str, is_iq: bool, seconds: float, block: int, seed: int) -> None:
+    random, size = numpy.random.default_rng(seed), int(seconds * RATE)
+    signal = {"zeros": numpy.zeros(size), "noise": random.standard_normal(size),
+              "huge": 9e11 * random.standard_normal(size), "square": numpy.sign(random.standard_normal(size)),
+              "steps": numpy.arange(size) % 1000.0}[kind]
+    given_ = signal + 1j * signal[::-1] if is_iq else signal
+    receiver = Receiver(RATE, is_iq, equalise=is_iq)
+    parts = [receiver.push(given_[at : at + block]) for at in range(0, size, max(block, 1000))] + [receiver.finish()]
+    bits = numpy.concatenate(parts)
+    assert set(bits.tolist()) <= {0, 1}
+    if block >= 1000:
+        assert abs(bits.size - seconds * 1187.5) < 8
+
+
+# ---- the command
+
+
+def demodulated(*arguments: Any, data: bytes = b"") -> List[Tuple[int, ...]]:
+    done = monitor("demod", *arguments, data=data)
+    assert done.returncode == 0, done.stderr
+    return whole_groups(done.stdout)
+
+
+@pytest.fixture(scope="module")
+def signal() -> Array:
+    return mpx(SENT, 192000)
+
+
+@pytest.fixture
+def file(tmp_path: Any) -> Any:
+    def write(data: bytes, name: str = "mpx") -> str:
+        (tmp_path / name).write_bytes(data)
+        return str(tmp_path / name)
+
+    return write
+
+
+@pytest.mark.parametrize("form", ["s16", "s24", "s32", "f32", "f64"])
+def test_wav(form: str, signal: Array, file: Any) -> None:
+    assert demodulated(file(wav(stored(signal, form), form, 192000))) == GROUPS[1:]
+
+
+@pytest.mark.parametrize("form", ["s16", "f32", "u8"])
+def test_raw_samples_from_a_pipe(form: str, signal: Array) -> None:
+    assert demodulated("--raw", form, "--rate", 192000, data=stored(signal, form)) == GROUPS[1:]
+
+
+@pytest.mark.parametrize("form", ["u8", "s16", "f32"])
+def test_raw_iq(form: str) -> None:
+    data = stored(iq(mpx(encode(GROUPS[:12]), 256000, snr=40), 256000, cnr=40), form)
+    assert demodulated("--raw", form, "--iq", "--rate", 256000, data=data) == GROUPS[1:12]
+
+
+def test_iq_in_wav(file: Any) -> None:
+    values = iq(mpx(encode(GROUPS[:12]), 256000, snr=40), 256000, cnr=40)
+    path = file(wav(stored(values, "s16"), "s16", 256000, channels=2))
+    assert demodulated("--iq", path) == GROUPS[1:12]
+    assert b"2 channels" in monitor("demod", path).stderr
+
+
+def test_flac(signal: Array, tmp_path: Any) -> None:
+    soundfile = pytest.importorskip("soundfile")
+    soundfile.write(tmp_path / "mpx.flac", signal / 3, 192000)
+    assert demodulated(tmp_path / "mpx.flac") == GROUPS[1:]
+
+
+def test_the_long_form_of_wav_and_what_follows_its_samples(signal: Array, file: Any) -> None:
+    # Half a sample more would be a fault.
+    assert demodulated(file(wav(stored(signal, "s16"), "s16", 192000, long_form=True) + b"LIST.")) == GROUPS[1:]
+
+
+def test_wav_from_a_pipe_does_not_say_how_long_it_is(signal: Array) -> None:
+    data = wav(stored(signal, "s16"), "s16", 192000)
+    assert demodulated(data=data[:40] + b"\xff" * 4 + data[44:]) == GROUPS[1:]
+
+
+def test_a_chunk_of_any_length_before_the_samples(signal: Array, file: Any) -> None:
+    chunk = b"LIST" + struct.pack("<I", 300001) + bytes(300002)
+    assert demodulated(file(wav(stored(signal, "s16"), "s16", 192000, more=chunk))) == GROUPS[1:]
+    done = monitor("demod", data=wav(b"", "s16", 192000, more=b"LIST\xff\xff\xff\xff" + bytes(100)))
+    assert done.returncode == 1 and b"ends within its header" in done.stderr
+
+
+def test_flac_from_a_pipe_is_told() -> None:
+    assert b"FLAC is read from a file only" in monitor("demod", data=b"fLaC" + bytes(100)).stderr
+
+
+def test_memory_does_not_grow() -> None:
+    code = ("import sys; from rds_monitor.cli import main; main(sys.argv[1:]); "
+            "print([line.split()[1] for line in open('/proc/self/status') if line.startswith('VmHWM')][0])")
+    peaks = []
+    for seconds in (20, 100):
+        words_ = [sys.executable, "-c", code, "demod", "--raw", "s16", "--rate", str(RATE), "--output", "/dev/null"]
+        peaks.append(int(subprocess.run(words_, input=bytes(2 * RATE * seconds), capture_output=True).stdout))
+    assert peaks[1] < peaks[0] + 4000 and peaks[1] < 100000
+
+
+def test_one_of_two_channels(signal: Array, file: Any) -> None:
+    both = numpy.column_stack([numpy.zeros(signal.size), signal]).ravel()
+    path = file(wav(stored(both, "s16"), "s16", 192000, channels=2))
+    assert demodulated("--channel", 2, path) == GROUPS[1:]
+    assert b"there is no channel 3 of 2" in monitor("demod", "--channel", 3, path).stderr
+
+
+def test_unpacked_bits_are_the_same(signal: Array, file: Any) -> None:
+    path = file(stored(signal, "s16"))
+    packed = monitor("demod", "--raw", "s16", "--rate", 192000, path)
+    unpacked = monitor("demod", "--raw", "s16", "--rate", 192000, "--unpacked", path).stdout
+    assert numpy.packbits(numpy.frombuffer(unpacked, "u1")).tobytes() == packed.stdout
+    assert 24 * 104 - 5 < len(unpacked) <= 24 * 104
+    assert b"RDS for 100.0 %" in packed.stderr
+
+
+def test_json_at_times_and_at_the_end(signal: Array) -> None:
+    done = monitor("demod", "--raw", "s16", "--rate", 192000, "--json", "--every", 0.2, data=stored(signal, "s16"))
+    told = [json.loads(line) for line in done.stderr.splitlines()]
+    assert len(told) >= 3 and told[0]["seconds"] < told[-1]["seconds"]
+    assert abs(told[-1]["snr_db"] - 30) < 1 and told[-1]["bits"] >= 24 * 104 - 5 and told[-1]["locked"] == 1
+
+
+@pytest.mark.parametrize("rate,said", [(192000, 171000), (171000, 250000), (228500, 240000)])
+def test_a_wrong_rate_is_told(rate: int, said: int) -> None:
+    data = stored(mpx(encode(words(6, 60)), rate), "s16")
+    done = monitor("demod", "--raw", "s16", "--rate", said, data=data)
+    assert done.returncode == 1
+    assert f"no RDS at {said} samples per second, but at {rate}: use --rate {rate}" in done.stderr.decode()
+
+
+def test_a_wrong_rate_in_a_header(signal: Array, file: Any) -> None:
+    path = file(wav(stored(signal, "s16"), "s16", 250000))
+    assert b"use --rate 192000" in monitor("demod", path).stderr
+    assert demodulated("--rate", 192000, path) == GROUPS[1:]
+
+
+def test_no_rds() -> None:
+    noise = stored(numpy.random.default_rng(3).standard_normal(3 * RATE), "s16")
+    done = monitor("demod", "--raw", "s16", "--rate", RATE, data=noise)
+    assert done.returncode == 1 and b"no RDS was found" in done.stderr
+
+
+def test_a_file_that_is_cut_off_gives_the_bits_up_to_there(signal: Array, file: Any) -> None:
+    data = wav(stored(signal, "s16"), "s16", 192000)
+    whole = monitor("demod", file(data)).stdout
+    done = monitor("demod", file(data[:500000]))
+    assert done.returncode == 1
+    assert f"the file is cut off: it has 499956 of the {len(data) - 44} bytes of samples" in done.stderr.decode()
+    assert done.stdout[:180] == whole[:180] and len(done.stdout) > 190
+
+
+@pytest.mark.parametrize("words_,data,said", [
+    (("--raw", "s16", "--rate", RATE), bytes(1001), "ends within a sample, 1 bytes after the last whole one"),
+    (("--raw", "s16", "--rate", RATE), b"", "there is no sample in the input"),
+    (("--raw", "s16", "--rate", RATE), bytes(100), "the input is too short for a bit"),
+    (("--raw", "s16", "--rate", 127999), bytes(100), "a sample rate of 127999 is not 128000 to 3200000"),
+    (("--raw", "f32", "--rate", RATE), bytes(400) + b"\0\0\xc0\x7f", "sample 101 is nan: no signal has it"),
+    ((), bytes(100), "the input is neither WAV nor FLAC: name its samples with --raw and --rate"),
+    ((), wav(b"", "s16", 192000), "there is no sample in the input"),
+    ((), wav(bytes(100), "s16", 192000)[:30], "the WAV file ends within its header"),
+    ((), wav(bytes(100), "s16", 192000).replace(struct.pack("<HH", 1, 1), struct.pack("<HH", 7, 1), 1),
+     "WAV samples of format 7 with 16 bits are not read"),
+    (("none such",), b"", "'none such' cannot be read: No such file or directory")])
+def test_inputs_that_cannot_be_read(words_: Any, data: bytes, said: str) -> None:
+    done = monitor("demod", *words_, data=data)
+    assert done.returncode == 1 and said in done.stderr.decode()
+
+
+@pytest.mark.parametrize("words_", ["--raw s16", "--rate fast --raw s16", "--raw s16 --rate 171000 --channel 1",
+                                    "--offset 5", "--raw s16 --rate 171000 --every 0", "--raw s8 --rate 171000"])
+def test_usage_errors(words_: str) -> None:
+    assert monitor("demod", *words_.split()).returncode == 2
+
+
+@pytest.mark.skipif(not os.path.exists("/dev/full"), reason="there is no /dev/full")
+def test_a_full_disk(signal: Array) -> None:
+    done = monitor("demod", "--raw", "s16", "--rate", 192000, "--output", "/dev/full", data=stored(signal, "s16"))
+    assert done.returncode == 1 and b"No space left on device" in done.stderr
+
+
+def test_the_program_is_there() -> None:
+    assert os.access(PROGRAM, os.X_OK)

@@ -1,0 +1,197 @@
+"""Groups as lines of hexadecimal words, out and in."""
+
+from __future__ import annotations
+
+import io
+import json
+from typing import Any, List
+
+import numpy
+import pytest
+from hypothesis import given, settings, strategies as st
+
+from conftest import STATION, encode, monitor, rds
+from rds_monitor.hexgroups import GroupLines, is_groups, text_of
+from rds_monitor.items import GROUP, LOST, VALID, Fault
+from inside import said
+from sent import group, name, text
+
+
+def read(data: bytes) -> Any:
+    """The source of lines, and its rows."""
+    source = GroupLines(io.BytesIO(data), b"")
+    return source, numpy.concatenate(list(source.chunks()))
+
+
+# ---- out
+
+
+def test_lines_are_the_words_of_the_listing(station_listing: bytes) -> None:
+    rows = [row.split(",")[4:] for row in station_listing.decode().splitlines() if row.startswith("group,")]
+    lines = [" ".join(it.partition(":")[2][:4] or "----" for it in row) for row in rows]
+    assert said("groups", STATION).splitlines() == lines
+    assert said("groups", data=station_listing).splitlines() == lines
+    assert said("groups", "--whole", STATION).splitlines() == [it for it in lines if "-" not in it]
+
+
+def test_partial_groups_are_kept() -> None:
+    listing = b"group,0,-,?,A:D318,lost,lost,none\n"
+    assert said("groups", "--unfinished", data=listing) == "D318 ---- ---- ----\n"
+    assert said("groups", "--unfinished", "--whole", data=listing) == ""
+
+
+def test_corrected_blocks_are_words() -> None:
+    assert (
+        said("groups", "--unfinished", data=b"group,0,0,A,A:D318~0000001,B:0548,C:E0CD,D:5041\n")
+        == "D318 0548 E0CD 5041\n"
+    )
+
+
+def test_whole_groups_go_back_into_the_encoder() -> None:
+    lines = said("groups", "--whole", STATION)
+    assert rds("encode", data=lines.encode()) in STATION.read_bytes() or rds(
+        "list", data=rds("encode", data=lines.encode())
+    )
+
+
+def test_times() -> None:
+    listing = b"group,104,0,A,A:D318,B:0548,C:E0CD,D:5041\n"
+    assert said("groups", "--unfinished", "--times", data=listing) == "D318 0548 E0CD 5041 0.088\n"
+    assert (
+        said("groups", "--unfinished", "--times", "--start", "2026-03-29T00:30:00Z", data=listing)
+        == "D318 0548 E0CD 5041 2026-03-29T00:30:00.088Z\n"
+    )
+    assert (
+        said("groups", "--unfinished", "--spy", "--start", "2026-03-29T23:59:59.95Z", data=listing)
+        == "D318 0548 E0CD 5041 @2026/03/30 00:00:00.03\n"
+    )
+
+
+def test_spy_needs_a_start() -> None:
+    done = monitor("groups", "--spy", STATION)
+    assert done.returncode == 2 and b"--start" in done.stderr and done.stdout == b""
+
+
+# ---- in
+
+SPY = b"""<recorder="RDS Spy" date="2026-03-29">\r
+D318 0548 E0CD 5041 @2026/03/29 00:30:00.09\r
+D318 0549 ---- 584F @2026/03/29 00:30:00.17\r
+---- ---- E0CD ---- @2026/03/29 00:30:00.26\r
+\r
+D318 054B E0CD 3138 @2026/03/29 00:31:40.00\r
+"""
+
+
+def test_a_log_of_rds_spy() -> None:
+    source, rows = read(SPY)
+    groups = rows[rows["what"] == GROUP]
+    assert [[groups[f"kind{k}"][n] for k in (1, 2, 3, 4)] for n in range(4)] == [
+        [VALID] * 4,
+        [VALID, VALID, LOST, VALID],
+        [LOST, LOST, VALID, LOST],
+        [VALID] * 4,
+    ]
+    assert groups["info1"].tolist() == [0xD318, 0xD318, 0, 0xD318] and groups["number"].tolist() == [0, 0, 255, 0]
+    assert groups["place"].tolist() == [0, 104, 208, round(99.91 * 1187.5)]
+    assert source.start == 1774744200.09
+    assert rows["what"].tolist() == [1, 2, 2, 2, 3, 1, 2] and source.length == groups["place"][-1] + 104
+    assert (
+        source.totals.groups == 4
+        and source.totals.complete == 2
+        and source.totals.valid == 12
+        and source.totals.lost == 4
+    )
+    assert source.totals.acquired == 2 and source.totals.losses == 1
+
+
+def test_a_log_gives_times() -> None:
+    found = [json.loads(line) for line in said("json", data=SPY).splitlines()]
+    assert found[0]["item"] == "pi" and found[0]["time_utc"] == "2026-03-29T00:30:00.090Z"
+    assert found[-1]["time_utc"][:19] == "2026-03-29T00:31:40"
+
+
+@pytest.mark.parametrize(
+    "line",
+    [
+        "D318 0548 E0CD 5041",
+        "d318 0548 e0cd 5041",
+        "D3180548E0CD5041",
+        "D318 0548 E0CD 5041 @2026/03/29 00:30:00",
+        " D318\t0548 E0CD  5041 ",
+        "D318 0548 E0CD 5041 2026-03-29T00:30:00",
+        "G:\nD3180548E0CD5041",
+    ],
+)
+def test_forms_of_a_line(line: str) -> None:
+    _, rows = read(line.encode() + b"\n")
+    assert text_of(rows[rows["what"] == GROUP]).tobytes()[:19] == b"D318 0548 E0CD 5041"
+
+
+@pytest.mark.parametrize(
+    "line",
+    [
+        "D318 0548 E0CD",
+        "D318 0548 E0CD 504",
+        "D318 0548 E0CD 50411",
+        "D318 0548 E0CD 50G1",
+        "D318 0548 E0CD --41",
+        "D318 0548 E0CD 5041 @yesterday",
+        "group,0,0,A,A:D318,B:0548,C:E0CD,D:5041",
+        "D318 0548 E0CD 5041x",
+        "D318 0548 E0CD 5041 @2026/13/29 00:30:00",
+    ],
+)
+def test_other_lines_are_refused_by_their_number(line: str) -> None:
+    with pytest.raises(Fault, match="^line 3"):
+        read(b"D318 0548 E0CD 5041\n\n" + line.encode() + b"\n")
+
+
+def test_version_b_repeats_the_pi() -> None:
+    _, rows = read(b"D318 0D48 D318 5041\nD318 ---- D318 5041\nD318 0D48 ---- 5041\n")
+    groups = rows[rows["what"] == GROUP]
+    assert groups["offset3"].tolist() == [4, 4, 0] and groups["version"].tolist() == [2, 2, 2]
+
+
+def test_told_apart_from_recordings_and_listings(station_listing: bytes) -> None:
+    assert not is_groups(STATION.read_bytes()[:4096]) and not is_groups(station_listing[:4096])
+    assert is_groups(SPY) and is_groups(b"D318 0548 E0CD 5041\n") and is_groups(b"D318 0548 E0CD 5041")
+    assert not is_groups(b"") and not is_groups(b"\n\n") and not is_groups(b"D3180548E0CD5041\n")
+
+
+def test_every_command_reads_lines() -> None:
+    groups = name(b"PAXO 318") + text(b"A text\r")
+    lines = "".join("%04X %04X %04X %04X\n" % it for it in groups)
+    assert "PAXO 318" in said("info", data=lines.encode()) and "A text" in said("info", data=lines.encode())
+    assert said("groups", data=lines.encode()) == lines
+    recorded: List[Any] = [json.loads(it) for it in said("json", data=encode([group("6A", 0), *groups])).splitlines()]
+    logged = [json.loads(it) for it in said("json", data=lines.encode()).splitlines()]
+
+    def contents(found: List[Any]) -> Any:
+        return [(it["item"], it["value"]) for it in found if it["kind"] == "content" and it["item"] != "ih"]
+
+    assert contents(recorded) == contents(logged)
+
+
+WORD = st.one_of(st.none(), st.integers(0, 0xFFFF))
+
+
+@settings(max_examples=100, deadline=None)
+@given(st.lists(st.tuples(WORD, WORD, WORD, WORD), max_size=20))
+def test_lines_that_are_read_are_written_the_same(words: List[Any]) -> None:
+    lines = "".join(" ".join("----" if it is None else f"{it:04X}" for it in one) + "\n" for one in words).encode()
+    source, rows = read(lines)
+    groups = rows[rows["what"] == GROUP]
+    text = text_of(groups)
+    text["blank4"] = ord("\n")
+    assert text.tobytes() == lines
+    assert source.length == 104 * len(words) and source.totals.groups == len(words)
+
+
+@settings(max_examples=100, deadline=None)
+@given(st.binary(max_size=80))
+def test_any_bytes_are_read_or_refused(data: bytes) -> None:
+    try:
+        read(data)
+    except Fault as fault:
+        assert str(fault).startswith("line ")

@@ -1,0 +1,240 @@
+"""The Python module librds: arguments are checked, nothing is wrapped or padded, and arrays are flat."""
+
+from __future__ import annotations
+
+import importlib
+import os
+import pickle
+import subprocess
+import sys
+import threading
+
+import numpy
+import pytest
+
+from conftest import TOP
+
+librds = (
+    pytest.importorskip("librds")
+    if os.path.exists(os.environ["RDS_LIBRARY"])
+    else pytest.skip("no library", allow_module_level=True)
+)
+
+GROUP = (0xD393, 0x0548, 0xE0CD, 0x5041)
+
+
+def test_a_buffer_of_bytes_is_needed(station: bytes) -> None:
+    wanted = librds.totals(station)
+    for data in (
+        bytearray(station),
+        memoryview(station),
+        numpy.frombuffer(station, "u1"),
+        memoryview(station + b"x")[:-1],
+    ):
+        assert librds.totals(data) == wanted
+    doubled = numpy.repeat(numpy.frombuffer(station, "u1"), 2)
+    assert librds.totals(doubled[::2]) == wanted
+    for data in (25000, "text", [1, 2], None, numpy.zeros(8, "i8"), numpy.zeros(8, bool)):
+        with pytest.raises(TypeError):
+            librds.totals(data)
+        with pytest.raises(TypeError):
+            librds.Follower().push(data)
+
+
+def test_a_group_is_four_words_of_16_bits() -> None:
+    assert len(librds.encode([GROUP, list(GROUP)])) == 26
+    for group in ((1, 2, 3), (1, 2, 3, 4, 5), (1, 2, 3, 65536), (1, 2, 3, -1)):
+        with pytest.raises(ValueError):
+            librds.encode([group])
+    with pytest.raises(TypeError):
+        librds.encode([(1, 2, 3, 4.0)])
+
+
+@pytest.mark.parametrize(
+    "rules, number",
+    [
+        ((6,), 1),
+        ((-1,), 1),
+        ((2**32 + 2,), 1),
+        ((2, 0), 2),
+        ((2, 2**32 + 3), 2),
+        ((2, 3, 0), 3),
+        ((2, 3, 2**64 + 10), 3),
+        ((2, 3, 5, 65), 15),
+        ((2, 3, 5, -1), 15),
+    ],
+)
+def test_limits_are_ranges(rules: tuple, number: int) -> None:
+    with pytest.raises(librds.Refused) as error:
+        librds.totals(b"", rules=librds.Rules(*rules))
+    assert error.value.number == number
+    with pytest.raises(TypeError):
+        librds.totals(b"", rules=librds.Rules(burst=2.0))
+
+
+def test_words_and_their_limits() -> None:
+    packed = int.from_bytes(librds.encode([GROUP]), "big")
+    assert librds.correct(packed >> 78, "A") == librds.Block(librds.Kind.VALID, "A", 0xD393)
+    assert librds.remainder(packed >> 78) == 0xFC
+    for call, number in (
+        (lambda: librds.remainder(2**64), 67),
+        (lambda: librds.remainder(-1), 67),
+        (lambda: librds.remainder(2**26), 67),
+        (lambda: librds.correct(1, "E"), 68),
+        (lambda: librds.correct(1, "A", 6), 1),
+        (lambda: librds.correct(1, "A", -1), 1),
+        (lambda: librds.correct(1, "A", 256), 1),
+        (lambda: librds.correct(1, "A", 2**64), 1),
+    ):
+        with pytest.raises(librds.Refused) as error:
+            call()
+        assert error.value.number == number
+
+
+def test_places_and_gaps(station: bytes) -> None:
+    for bits, number in ((200001, 4), (2**64 - 1, 5)):
+        for call in (librds.totals, librds.items_array, lambda *it: list(librds.decode(*it))):
+            with pytest.raises(librds.Refused) as error:
+                call(station, bits)
+            assert error.value.number == number
+    for bits in (-1, 2**64):
+        with pytest.raises(OverflowError):
+            librds.totals(station, bits)
+    with pytest.raises(ValueError, match="two places"):
+        librds.totals(station, gaps=[(1, 2, 3)])
+    with pytest.raises(OverflowError):
+        librds.totals(station, gaps=[(-1, 2)])
+    with pytest.raises(librds.Refused, match="16 BadGaps"):
+        librds.totals(station, gaps=[(5, 5)])
+
+
+def test_memory_is_by_the_bytes() -> None:
+    code = (
+        "import resource, librds; resource.setrlimit(resource.RLIMIT_AS, (1 << 30,) * 2)\n"
+        "try: librds.items_array(b'x', 2**36)\nexcept librds.Refused as it: print(it.number)\n"
+        "try: list(librds.decode(b'x', 2**36))\nexcept librds.Refused as it: print(it.number)"
+    )
+    done = subprocess.run([sys.executable, "-c", code], capture_output=True, text=True)
+    assert done.stdout == "4\n4\n", done.stderr
+
+
+def test_errors_can_be_pickled() -> None:
+    again = pickle.loads(pickle.dumps(librds.Refused(5)))
+    assert (again.number, again.name, str(again)) == (5, "TooLong", "refused 5 TooLong: more than 2^36 bits")
+    assert librds.Refused(300).name == ""
+
+
+def test_rows_are_flat_and_typed(station: bytes) -> None:
+    rows = librds.items_array(station)
+    assert rows.dtype == librds.ITEM and rows.dtype.itemsize == 48 and len(rows) == 1924
+    assert (rows["what"] == [1, *[2] * 1923]).all() and rows["place"][1] == 26
+    assert tuple(rows[2][f"info{n}"] for n in (1, 2, 3, 4)) == (0xD393, 0x0549, 0xE100, 0x584F)
+    assert [rows[1][f"kind{n}"] for n in (1, 2, 3, 4)] == [0, 2, 2, 2] and rows[2]["offset3"] == 3
+    assert (rows[2]["number"], rows[2]["version"], rows[2]["conflict"]) == (0, 1, 0)
+    from rds_monitor.items import ITEM
+
+    assert ITEM == librds.ITEM
+
+
+def test_pandas_takes_them(station: bytes) -> None:
+    pandas = pytest.importorskip("pandas")
+    frame = pandas.DataFrame(librds.items_array(station))
+    assert list(frame.columns) == list(librds.ITEM.names) and (frame.number[frame.what == 2] == 2).sum() == 1184
+
+
+def test_a_stream_in_arrays(station: bytes) -> None:
+    whole, bits = librds.items_array(station, 100003), 100003
+    follower, rows = librds.Follower(), []
+    for begin in range(0, bits // 8, 777):
+        rows.append(follower.push_array(station[begin : min(begin + 777, bits // 8)]))
+    last, totals = follower.finish_array(station[bits // 8 :][:1], bits % 8)
+    assert (numpy.concatenate([*rows, last]) == whole).all() and totals == librds.totals(station, bits)
+    again = pickle.loads(pickle.dumps(follower))
+    assert again.stream == follower.stream and again.place == bits // 8 * 8
+
+
+def test_threads_may_share_a_follower(station: bytes) -> None:
+    follower, counts = librds.Follower(), []
+
+    def work() -> None:
+        counts.append(sum(len(follower.push_array(station)) for _ in range(40)))
+
+    threads = [threading.Thread(target=work) for _ in range(4)]
+    for it in threads:
+        it.start()
+    for it in threads:
+        it.join()
+    alone = librds.Follower()
+    assert sum(counts) == len(alone.push_array(station * 160)) and follower.stream == alone.stream
+
+
+def test_the_library_that_is_loaded(tmp_path) -> None:
+    """The one that is named, or librds.so.0; another library, or an older one, is refused."""
+    path = os.path.realpath(os.environ["RDS_LIBRARY"])
+    environment = {key: value for key, value in os.environ.items() if key != "RDS_LIBRARY"}
+    (tmp_path / "librds.so.0").symlink_to(path)
+    ask = [sys.executable, "-c", "import librds; print(librds.version())"]
+    found = subprocess.run(ask, env={**environment, "LD_LIBRARY_PATH": str(tmp_path)}, capture_output=True, text=True)
+    assert found.stdout == f"{librds.version()}\n", found.stderr
+    other = subprocess.run(ask, env={**environment, "RDS_LIBRARY": "libc.so.6"}, capture_output=True, text=True)
+    assert "libc.so.6: this is not librds, or an older one: it has no rds_totals" in other.stderr
+    none = subprocess.run(
+        ask, env={**environment, "RDS_LIBRARY": str(tmp_path / "none")}, capture_output=True, text=True
+    )
+    assert "install librds (make install-lib), or name its librds.so.0 in RDS_LIBRARY" in none.stderr
+    ffi = importlib.import_module("librds._ffi")
+    assert ffi.VERSION <= librds.version()
+    late = "import librds._ffi as it; it.VERSION = (0, 99, 0); it.load()"
+    older = subprocess.run([sys.executable, "-c", late], capture_output=True, text=True)
+    assert "but this module needs 0.99.0 or later" in older.stderr
+
+
+def installed(python: str, inside: "os.PathLike[str]", wheel: str, environment: dict) -> bool:
+    """Whether a fresh environment was made, and has the wheel."""
+    folder = os.path.dirname(os.path.dirname(inside))
+    commands = (
+        [python, "-m", "venv", "--without-pip", folder],
+        [python, "-m", "pip", "--python", inside, "install", "-q", "--no-index", "--disable-pip-version-check", wheel],
+    )
+    return all(subprocess.run(it, env=environment, capture_output=True).returncode == 0 for it in commands)
+
+
+def test_a_wheel_with_the_library(tmp_path, station: bytes) -> None:
+    """It is installed into a fresh environment, where nothing else knows of the library."""
+    make = [sys.executable, TOP / "bindings" / "python" / "make_wheel.py"]
+    library = os.path.realpath(os.environ["RDS_LIBRARY"])
+    made = [
+        subprocess.run([*make, library, tmp_path], capture_output=True, text=True, check=True).stdout.strip()
+        for _ in range(2)
+    ]
+    assert made[0] == made[1] and "-py3-none-manylinux_2_17_" in made[0]
+    inside = tmp_path / "venv" / "bin" / "python"
+    environment = {key: value for key, value in os.environ.items() if key not in ("RDS_LIBRARY", "PYTHONPATH")}
+    python = next((it for it in ("python3", sys.executable) if installed(it, inside, made[0], environment)), None)
+    if python is None:
+        pytest.skip("no pip of 22.3 or later, or no venv")
+    code = "import sys, librds; print(librds.__file__); print(librds.totals(sys.stdin.buffer.read()).groups)"
+    done = subprocess.run(
+        [inside, "-c", code], input=station, capture_output=True, env=environment, check=True, cwd=tmp_path
+    )
+    assert done.stdout.decode().split() == [
+        str(next((tmp_path / "venv").glob("lib/*/site-packages/librds")) / "__init__.py"),
+        "1923",
+    ]
+    other = subprocess.run(
+        [*make, next(it for it in ("/bin/bash", "/bin/ls") if os.path.exists(it)), tmp_path],
+        capture_output=True,
+        text=True,
+    )
+    assert other.returncode == 1 and "a wheel cannot need" in other.stderr
+
+
+def test_types_are_checked() -> None:
+    pytest.importorskip("mypy")
+    done = subprocess.run(
+        [sys.executable, "-m", "mypy", "--strict", "--cache-dir", os.devnull, "bindings/python/librds"],
+        cwd=TOP,
+        capture_output=True,
+        text=True,
+    )
+    assert done.returncode == 0, done.stdout

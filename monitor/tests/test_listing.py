@@ -1,0 +1,394 @@
+"""The reader of listings: what it accepts it would write again in the same bytes, and all else it refuses with the
+row."""
+
+from __future__ import annotations
+
+import io
+from typing import List, Optional
+
+import numpy
+import pytest
+from hypothesis import HealthCheck, given, settings, strategies as st
+
+from conftest import encode, rds
+from made import acquired_row, block, group_row, listing, lock, loss_row, read
+from rds_monitor import listing as of_listing
+from rds_monitor.items import GROUP, ITEM, VALID, Fault, Rows, Rules, open_source, totals_of
+from rds_monitor.listing import HEADER, Listing, text_of, totals_text
+from rds_monitor.parse import _set_types, parse
+
+WORDS = (0xD393, 0x0548, 0xE0CD, 0x5041)
+
+
+def written(source: Listing) -> bytes:
+    rows = numpy.concatenate([numpy.zeros(0, ITEM), *source.chunks()])
+    assert source.totals is not None
+    return text_of(rows) + totals_text(source.totals)
+
+
+def refused(text: bytes, **options: object) -> str:
+    with pytest.raises(Fault) as error:
+        read(text, **options)
+    return str(error.value)
+
+
+# ---- what rds writes
+
+
+@pytest.fixture(scope="module")
+def noisy(station: bytes) -> bytes:
+    """The station, damaged, noise, and the station again."""
+    random = numpy.random.default_rng(1)
+    damage = numpy.packbits(random.random(8 * len(station)) < 0.02)
+    noise = random.integers(0, 256, 20000, "u1")
+    return bytes(numpy.frombuffer(station, "u1") ^ damage) + noise.tobytes() + station
+
+
+@pytest.mark.parametrize(
+    "options",
+    [
+        [],
+        ["--burst", 5, "--reach", 8, "--loss", 1],
+        ["--burst", 5, "--reach", 8, "--loss", 64],
+        ["--burst", 0, "--share", 3, "--of", 5],
+    ],
+)
+def test_a_listing_is_read_and_written_again(noisy: bytes, options: list) -> None:
+    text = rds("list", *options, data=noisy)
+    assert written(Listing(io.BytesIO(text), b"")) == text
+
+
+def test_a_recording_and_its_listing_are_the_same_rows(noisy: bytes, tmp_path) -> None:
+    path = tmp_path / "noisy.bin"
+    path.write_bytes(noisy)
+    source = open_source(str(path), rules=Rules(5, 8, 64))
+    rows = numpy.concatenate(list(source.chunks()))
+    text = rds("list", "--burst", 5, "--reach", 8, "--loss", 64, data=noisy)
+    assert text_of(rows) + totals_text(source.totals) == text
+    assert (read(text) == rows).all()
+    assert source.length == 8 * len(noisy) and source.totals == totals_of(rows)
+
+
+@pytest.mark.parametrize("size", [1, 7, 1000])
+def test_the_cut_of_reads_changes_nothing(station_listing: bytes, size: int, monkeypatch) -> None:
+    monkeypatch.setattr(of_listing, "LINES", size)
+    text = station_listing[:3000] if size == 1 else station_listing
+    whole = read(text, unfinished_ok=True)
+    monkeypatch.undo()
+    assert (whole == read(text, unfinished_ok=True)).all()
+
+
+def test_bits_gaps_and_hexadecimal_text(station: bytes, tmp_path) -> None:
+    (tmp_path / "it.hex").write_text(station.hex(" ", 7) + "\n")
+    source = open_source(str(tmp_path / "it.hex"), hex=True, bits=100003, gaps=[(104, 105), (50000, 50300)])
+    rows = numpy.concatenate(list(source.chunks()))
+    wanted = rds("list", "--bits", 100003, "--gaps", "104-105,50000-50300", data=station)
+    assert text_of(rows) + totals_text(source.totals) == wanted
+    for options, fault in (
+        ({"bits": 300000}, "BitsPastBytes"),
+        ({"gaps": [(0, 300000)]}, "BadGaps"),
+        ({"rules": Rules(6)}, "BurstRange"),
+    ):
+        with pytest.raises(Fault, match=fault):
+            list(open_source(str(tmp_path / "it.hex"), hex=True, **options).chunks())
+    (tmp_path / "odd.hex").write_text("123")
+    (tmp_path / "none.hex").write_text("12 3x")
+    for name in ("odd", "none"):
+        with pytest.raises(Fault, match="refused 11 HexText"):
+            list(open_source(str(tmp_path / f"{name}.hex"), hex=True).chunks())
+
+
+# ---- other hands
+
+
+def test_windows_lines_a_mark_and_names_of_columns_are_read_right(station_listing: bytes) -> None:
+    whole = read(station_listing)
+    for text in (
+        station_listing.replace(b"\n", b"\r\n"),
+        b"\xef\xbb\xbf" + station_listing,
+        HEADER + b"\n" + station_listing,
+        b"\xef\xbb\xbf" + (HEADER + b"\n" + station_listing).replace(b"\n", b"\r\n"),
+        station_listing[:-1],
+        station_listing.replace(b"\n", b"\r\n")[:-1],
+    ):
+        assert (read(text) == whole).all()
+
+
+def test_windows_lines_are_the_same_table(station_listing: bytes, tmp_path, said) -> None:
+    (tmp_path / "it.csv").write_bytes(station_listing.replace(b"\n", b"\r\n"))
+    assert said("errors", tmp_path / "it.csv") == said("errors", data=station_listing)
+
+
+@pytest.mark.parametrize(
+    "text, reason",
+    [
+        (b"group,x,0,A,A:D393,B:0548,C:E0CD,D:5041\n", "row 1: its second field is no place: 'group,x,"),
+        (b"group,007,0,A,A:D393,B:0548,C:E0CD,D:5041\n", "no place"),
+        (b"group,-1,0,A,A:D393,B:0548,C:E0CD,D:5041\n", "no place"),
+        (b"group,68719476736,0,A,A:D393,B:0548,C:E0CD,D:5041\n", "no place"),
+        (b"group,,0,A,A:D393,B:0548,C:E0CD,D:5041\n", "no place"),
+        (b"group,26,0,A,A:D39G,B:0548,C:E0CD,D:5041\n", "its block 1 is no block"),
+        (b"group,26,0,A,A:d393,B:0548,C:E0CD,D:5041\n", "its block 1 is no block"),
+        (b"group,26,0,A,A:D393,A:0548,C:E0CD,D:5041\n", "its block 2 is no block"),
+        (b"group,26,0,A,A:D393,B:0548,C:E0CD~0000000,D:5041\n", "its block 3 is no block"),
+        (b"group,26,0,A,A:D393,B:0548,C:E0CD~0000041,D:5041\n", "its block 3 is no block"),
+        (b"group,26,0,A,A:D393,B:0548,C:E0CD~8000000,D:5041\n", "its block 3 is no block"),
+        (b"group,26,0,A,A:D393,B:0548,none,D:5041\n", "not in a row"),
+        (b"group,26,-,?,none,none,none,none\n", "not in a row"),
+        (b"group,26,1,A,A:D393,B:0548,C:E0CD,D:5041\n", "type and version"),
+        (b"group,26,0,B,A:D393,B:0548,C:E0CD,D:5041\n", "type and version"),
+        (b"group,26,0,A!,A:D393,B:0548,C:E0CD,D:5041\n", "type and version"),
+        (b"group,26,0,A,A:D393,B:0548,C:E0CD\n", "it has 7 fields in place of 8"),
+        (b"group,26,0,A,A:D393,B:0548,C:E0CD,D:5041,\n", "it has 9 fields in place of 8"),
+        (b"group,26,0,A,A:D393,B:0548,C:E0CD,D:5041 \n", "its block 4 is no block"),
+        (b"group;26;0;A;A:D393;B:0548;C:E0CD;D:5041\n", "it has 1 fields"),
+        (b'"group","26","0","A","A:D393","B:0548","C:E0CD","D:5041"\n', "it begins with none"),
+        (b"acquired,26,5,-,-,-,-,-\n", "no row of an acquisition"),
+        (b"acquired,24,1,-,-,-,-,-\n", "no row of an acquisition"),
+        (b"acquired,26,1,-,-,-,-,x\n", "no row of an acquisition"),
+        (b"lost,26,-,-,-,-,-,1\n", "no row of a loss"),
+        (b"total,valid,07,-,-,-,-,-\n", "no row of a total"),
+        (b"total,groups,0,-,-,-,-,-\n", "the total 'valid' is missing before it"),
+        (b"\n", "it has 1 fields"),
+        (b"begin_s,end_s,sent,valid,corrected,lost,missing,bad_percent\n", "begins with none"),
+        (b"acquired,51,1,-,-,-,-,-\r\r\n", "no row of an acquisition"),
+    ],
+)
+def test_rows_that_are_none(text: bytes, reason: str) -> None:
+    assert reason in refused(text, unfinished_ok=True)
+    rows = listing(lock(26, [WORDS] * 40, lost=False), totals=False)
+    said = refused(rows + text.replace(b",26,", b",4186,"), unfinished_ok=True)
+    assert said.startswith("row 42: ")
+
+
+def test_the_first_bad_row_is_told(station_listing: bytes) -> None:
+    lines = station_listing.split(b"\n")
+    lines[500] = lines[500].replace(b",A:", b",A;")
+    lines[900] = b"lost"
+    assert refused(b"\n".join(lines)).startswith("row 501: its block 1")
+
+
+@pytest.mark.parametrize(
+    "head, reason",
+    [
+        ("group,1".encode("utf-16"), "UTF-16"),
+        (b"begin_s,end_s,sent,valid\n0,60,1,1\n", "row 1: 'begin_s,end_s,sent,valid' is no row"),
+        (b"12345678 9ABCDEF0\n", "hexadecimal text: use --hex"),
+        (b"", "the input is empty"),
+    ],
+)
+def test_inputs_that_are_none(head: bytes, reason: str, tmp_path) -> None:
+    (tmp_path / "it").write_bytes(head)
+    with pytest.raises(Fault, match=reason):
+        open_source(str(tmp_path / "it"))
+
+
+def test_a_row_without_an_end() -> None:
+    assert "a row has no end within 4096 bytes" in refused(b"group," + b"0" * 10**6, unfinished_ok=True)
+
+
+def test_a_file_that_cannot_be_read(tmp_path) -> None:
+    for path in (tmp_path / "none", tmp_path):
+        with pytest.raises(Fault, match="cannot be read"):
+            list(open_source(str(path)).chunks())
+
+
+# ---- what follows what
+
+
+def test_a_second_listing_is_named(station_listing: bytes) -> None:
+    number = station_listing.count(b"\n") + 1
+    assert refused(station_listing * 2).startswith(f"row {number}: a second listing begins here")
+    rows = station_listing[: station_listing.index(b"total,")]
+    assert refused(rows + station_listing, unfinished_ok=True).startswith(
+        f"row {number - 12}: a second listing begins here"
+    )
+    assert "a second listing begins here" in refused(station_listing + HEADER + b"\n" + station_listing)
+    empty = listing([])
+    assert "a second listing" in refused(empty * 2)
+    # A restart whose places are above those before.
+    assert "a second listing" in refused(listing(lock(26, [WORDS], False) + lock(500, [WORDS])), unfinished_ok=True)
+
+
+def test_sessions_are_told_apart(station_listing: bytes) -> None:
+    rows = station_listing[: station_listing.index(b"total,")]
+    for text, count in ((station_listing * 3, 3), (rows + rows + station_listing, 3), (rows * 2, 2)):
+        source = Listing(io.BytesIO(text), b"", sessions=True, unfinished_ok=True)
+        found: dict = {}
+        for chunk in source.chunks():
+            found.setdefault(source.session, []).append(chunk)
+        assert sorted(found) == list(range(count))
+        for chunks in found.values():
+            assert (numpy.concatenate(chunks) == read(station_listing)).all()
+    source = Listing(io.BytesIO(rows * 2), b"", sessions=True)
+    with pytest.raises(Fault, match="does not end in its totals"):
+        list(source.chunks())
+
+
+def test_places_that_go_back() -> None:
+    rows = [group_row(104 * n, WORDS) for n in (0, 1, 2, 1)]
+    assert refused(listing(rows, False), unfinished_ok=True).startswith("row 4: its place goes back")
+    overlapping = [group_row(0, WORDS), group_row(103, WORDS)]
+    assert refused(listing(overlapping, False), unfinished_ok=True).startswith("row 2: its place goes back")
+
+
+@pytest.mark.parametrize("gone", [0, 1, 2, 60, -2, -1])
+def test_a_row_that_is_missing(gone: int) -> None:
+    rows = lock(26, [WORDS] * 50) + lock(8000, [WORDS] * 50)
+    whole = listing(rows)
+    del rows[gone]
+    text = text_of(numpy.concatenate(rows)) + whole[whole.index(b"total,") :]
+    assert "rows are missing" in refused(text)
+    # In a part rows may be missing, and it goes on.
+    assert len(read(text, unfinished_ok=True)) == len(rows)
+
+
+def test_a_row_too_many() -> None:
+    text = listing([*lock(26, [WORDS] * 5, lost=False)])
+    other = listing([*lock(26, [WORDS] * 4, lost=False)])
+    assert "rows are missing or too many" in refused(
+        text[: text.index(b"total,")] + other[other.index(b"total,") :], unfinished_ok=True
+    )
+
+
+def test_a_listing_without_totals(station_listing: bytes) -> None:
+    for end in (1, 20, 5000, station_listing.index(b"total,"), len(station_listing) - 4):
+        text = station_listing[:end]
+        assert "cut off" in refused(text)
+        kept = text[: text.rfind(b"\n") + 1]
+        assert (read(text, unfinished_ok=True) == read(kept, unfinished_ok=True)).all()
+
+
+def test_the_length_of_the_recording(station_listing: bytes) -> None:
+    assert len(read(station_listing, length=200000)) == 1924
+    assert "past the 199888 bits" in refused(station_listing, length=199888)
+    assert "the length is wrong" in refused(station_listing, length=1600000)
+    assert len(read(station_listing, length=1600000, trust_length=True)) == 1924
+
+
+# ---- random listings
+
+
+@st.composite
+def locks(draw) -> List[Rows]:
+    """Rows of random locks: any blocks, corrected, uncorrectable or not read."""
+    rows, place = [], draw(st.integers(0, 2**35))
+    for _ in range(draw(st.integers(0, 4))):
+        place += draw(st.integers(0, 300))
+        first = draw(st.integers(1, 4))
+        rows.append(acquired_row(place + 25, first))
+        for _ in range(draw(st.integers(1, 5))):
+            last = draw(st.sampled_from([4, 4, 4, 4, first]))
+            rows.append(random_group(draw, place, first, max(first, last)))
+            place += 26 * (max(first, last) - first + 1)
+            first = 1
+            if last != 4:
+                break
+        if draw(st.booleans()) or True:
+            rows.append(loss_row(place - 1))
+    return rows
+
+
+def random_group(draw, place: int, first: int, last: int) -> Rows:
+    rows = numpy.zeros(1, ITEM)
+    rows["what"], rows["place"] = GROUP, place
+    for number in range(first, last + 1):
+        word: Optional[int] = draw(st.one_of(st.none(), st.integers(0, 65535)))
+        length = draw(st.integers(0, 5))
+        burst = 0 if not length else (1 if length == 1 else 1 << length - 1 | 1) << draw(st.integers(0, 26 - length))
+        block(rows[0], number, word, burst)
+    if rows["kind3"][0] >= VALID and draw(st.booleans()):
+        rows["offset3"] = 4
+    _set_types(rows)
+    return rows
+
+
+@settings(max_examples=120, deadline=None)
+@given(locks())
+def test_random_listings_are_read_as_they_were_written(rows: List[Rows]) -> None:
+    whole = numpy.concatenate([numpy.zeros(0, ITEM), *rows])
+    text = listing(rows)
+    assert (read(text) == whole).all()
+    source = Listing(io.BytesIO(text), b"")
+    assert written(source) == text
+    assert sum(source.totals.bursts) + source.totals.valid + source.totals.lost == sum(
+        int((whole[f"kind{number}"] > 0).sum()) for number in (1, 2, 3, 4)
+    )
+
+
+BYTES = st.sampled_from(b"0123456789ABCDEFabx:~,-!?\r\n gl\0\xff")
+
+
+@settings(max_examples=400, deadline=None, suppress_health_check=[HealthCheck.filter_too_much])
+@given(st.data())
+def test_damage_is_refused_or_read_as_it_stands(data) -> None:
+    text = bytearray(data.draw(st.sampled_from(DAMAGED)))
+    for _ in range(data.draw(st.integers(1, 3))):
+        at = data.draw(st.integers(0, len(text) - 1))
+        way = data.draw(st.sampled_from("change insert delete line swap double".split()))
+        damage(text, at, way, data.draw(BYTES))
+    for part in (False, True):
+        source = Listing(io.BytesIO(bytes(text)), b"", unfinished_ok=part)
+        try:
+            rows = numpy.concatenate([numpy.zeros(0, ITEM), *source.chunks()])
+        except Fault:
+            continue
+        again = text_of(rows) + (totals_text(source.totals) if source.totals else b"")
+        plain = bytes(text).removeprefix(HEADER + b"\n").replace(b"\r\n", b"\n")
+        if part:
+            # What is cut off is no row, and totals may be cut off too.
+            assert plain.startswith(again) or again.startswith(plain)
+            assert b"\n" not in plain[len(again) :].replace(b"total,", b"", 12) or plain[len(again) :].startswith(
+                b"total,"
+            )
+        else:
+            assert again == plain or again == plain + b"\n"
+
+
+def damage(text: bytearray, at: int, way: str, byte: int) -> None:
+    line = text.rfind(b"\n", 0, at) + 1
+    end = text.find(b"\n", at) + 1 or len(text)
+    if way == "change":
+        text[at] = byte
+    elif way == "insert":
+        text.insert(at, byte)
+    elif way == "delete":
+        del text[at]
+    elif way == "line":
+        del text[line:end]
+    elif way == "double":
+        text[line:line] = text[line:end]
+    else:
+        following = text.find(b"\n", end) + 1 or len(text)
+        text[line:following] = text[end:following] + text[line:end]
+    if not text:
+        text += b"\n"
+
+
+def _damaged() -> List[bytes]:
+    random = numpy.random.default_rng(2)
+    rows: List[Rows] = []
+    place = 26
+    for count in (3, 1, 6):
+        rows += lock(place, [[int(it) for it in random.integers(0, 65536, 4)] for _ in range(count)])
+        place += 104 * count + 700
+    text = listing(rows)
+    groups = encode([[int(it) for it in random.integers(0, 65536, 4)] for _ in range(12)])
+    flipped = numpy.frombuffer(groups, "u1") ^ numpy.packbits(random.random(8 * len(groups)) < 0.02)
+    return [text, rds("list", "--burst", 5, data=flipped.tobytes())]
+
+
+DAMAGED = _damaged()
+
+
+def test_a_long_listing_is_read_in_chunks(station: bytes) -> None:
+    text = rds("list", data=station)
+    rows, _ = parse(text)
+    groups = [it for it in rows if it["what"] == GROUP]
+    many = numpy.tile(numpy.array(groups[1:1001], ITEM), 40)
+    many["place"] = 104 * numpy.arange(len(many)) + 104
+    for number in (1, 2, 3, 4):
+        assert (many[f"kind{number}"] == VALID).all()
+    whole = listing([acquired_row(129, 1), many])
+    sizes = [len(chunk) for chunk in Listing(io.BytesIO(whole), b"").chunks()]
+    assert max(sizes) <= 65536 and sum(sizes) == 40001 and len(sizes) > 2

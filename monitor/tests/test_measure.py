@@ -1,0 +1,361 @@
+"""Tables: what was sent and received by interval, outages, PI codes, group types and corrected blocks."""
+
+from __future__ import annotations
+
+import math
+from typing import Dict, Iterator, List, Tuple
+
+import numpy
+import pytest
+from hypothesis import given, settings, strategies as st
+
+from conftest import rds
+from made import BLOCK_OFFSETS, block, group_row, listing, run, said
+from rds_monitor.items import CORRECTED, GROUP, ITEM, LOST, VALID, Rows
+from rds_monitor.measure import Errors, Outages, Programmes
+from rds_monitor.parse import _set_types
+
+WORDS = (0xD393, 0x0548, 0xE0CD, 0x5041)
+START = ("--start", "2026-03-29T00:30:00Z")
+
+
+def corrected_group(place: int) -> Rows:
+    rows = group_row(place, WORDS)
+    block(rows[0], 4, 0x5041, 1)
+    return rows
+
+
+@pytest.fixture(scope="module")
+def two() -> bytes:
+    return listing([corrected_group(104), group_row(208, (0xD393, 0x0549, 0xE0CD, 0x584F))], totals=False)
+
+
+@pytest.fixture(scope="module")
+def outages() -> bytes:
+    """Valid groups, but for these that are left out, and one alone in the longest gap."""
+    gone = {*range(100, 105), *range(300, 320), *range(900, 1200), *range(1201, 1500), *range(1990, 2000)}
+    return listing([group_row(104 * n, WORDS) for n in range(2000) if n not in gone], totals=False)
+
+
+# ---- tables with their times
+
+
+def test_block_errors_of_the_sample(station: bytes, station_listing: bytes, tmp_path) -> None:
+    wanted = [
+        "begin_s,end_s,sent,valid,corrected,lost,missing,bad_percent",
+        "0,60,2741,2740,0,0,1,0.04",
+        "60,120,2740,2740,0,0,0,0.00",
+        "120,168,2211,2211,0,0,0,0.00",
+    ]
+    assert said("errors", data=station) == wanted
+    (tmp_path / "-a station's.bin").write_bytes(station)
+    for length in (200000, tmp_path / "-a station's.bin"):
+        assert said("errors", "--length", length, data=station_listing) == wanted
+
+
+def test_block_errors_with_their_times(two: bytes) -> None:
+    assert said("errors", "--unfinished", *START, "--every", 1, "--length", 2375, data=two) == [
+        "begin_s,end_s,sent,valid,corrected,lost,missing,bad_percent,begin_utc,end_utc",
+        "0,1,41,7,1,0,33,82.93,2026-03-29T00:30:00.088Z,2026-03-29T00:30:01.000Z",
+        "1,2,46,0,0,0,46,100.00,2026-03-29T00:30:01.000Z,2026-03-29T00:30:02.000Z",
+    ]
+
+
+def test_a_correction_with_its_times(two: bytes) -> None:
+    assert said("corrected", "--unfinished", *START, "--rate", 1187.5, data=two) == [
+        "place,type,version,block,offset,word,burst,span,time_s,time_utc",
+        "104,0,A,4,D,5041,0000001,1,0.153,2026-03-29T00:30:00.153Z",
+    ]
+
+
+def test_programmes_by_a_clock_that_is_off(two: bytes) -> None:
+    assert said(
+        "programmes", "--unfinished", "--rate", 1200, "--start", "2026-03-29T00:30:00.5Z", "--least", 2, data=two
+    ) == [
+        "begin_s,end_s,programme,groups,begin_place,end_place,begin_utc,end_utc",
+        "0.087,0.260,D393,2,104,312,2026-03-29T00:30:00.587Z,2026-03-29T00:30:00.760Z",
+    ]
+
+
+def test_outages_with_their_times(two: bytes) -> None:
+    assert said("outages", "--unfinished", *START, "--rate", 1200, "--shortest", 0.5, "--length", 1200, data=two)[
+        1:
+    ] == ["0.260,1.000,0.740,312,1200,2026-03-29T00:30:00.260Z,2026-03-29T00:30:01.000Z"]
+
+
+def test_outages_by_their_places(outages: bytes) -> None:
+    ask = ("outages", "--unfinished", "--length", 208000)
+    assert said(*ask, data=outages) == [
+        "begin_s,end_s,length_s,begin_place,end_place",
+        "26.274,28.025,1.752,31200,33280",
+        "78.821,131.368,52.547,93600,156000",
+    ]
+    places = [tuple(it.split(",")[3:]) for it in said(*ask, "--shortest", 0.4, data=outages)[1:]]
+    assert places == [("10400", "10920"), ("31200", "33280"), ("93600", "156000"), ("206960", "208000")]
+    places = [tuple(it.split(",")[3:]) for it in said(*ask, "--density", 5, data=outages)[1:]]
+    assert places == [("31200", "33280"), ("93600", "124800"), ("124904", "156000")]
+    assert run(*ask, "--density", 101, data=outages).status == 2
+
+
+def test_a_longer_pause_makes_one_programme(outages: bytes) -> None:
+    assert said("programmes", "--unfinished", "--pause", 60, data=outages)[1:] == ["0.000,174.282,D393,1366,0,206960"]
+
+
+def test_group_types(station: bytes) -> None:
+    assert said("types", data=station) == [
+        "type,version,groups,corrected,first_s,last_s",
+        "0,A,296,0,0.022,166.488",
+        "1,A,74,0,0.350,166.575",
+        "2,A,1184,0,0.438,167.976",
+        "3,A,148,0,1.839,168.152",
+        "4,A,74,0,2.014,168.239",
+        "8,A,74,0,2.102,168.327",
+        "11,A,73,0,2.189,166.137",
+    ]
+    mix = [it.split(",") for it in said("types", "--every", 60, *START, data=station)[1:]]
+    assert sum(int(it[4]) for it in mix) == 1923 and mix[0][:5] == ["0", "60", "0", "A", "108"]
+    assert mix[-1][:3] == ["120", "180", "11"] and mix[-1][6] == "2026-03-29T00:32:00.000Z"
+
+
+def test_types_of_corrected_blocks_by_themselves() -> None:
+    rows = [
+        group_row(0, WORDS),
+        group_row(104, (0xD393, 0x0549, 0xE0CD, 0x5041)),
+        group_row(208, (0xD393, None, None, 0x5041)),
+        group_row(312, (0xD393, 0x2D49, 0xD393, 0x5041), prime=True),
+        group_row(416, (0xD393, 0x0D49, 0xD393, 0x5041)),
+    ]
+    for at in (1, 3, 4):
+        block(rows[at][0], 2, int(rows[at]["info2"][0]), 1)
+    assert said("types", "--unfinished", data=listing(rows, False)) == [
+        "type,version,groups,corrected,first_s,last_s",
+        "0,A,1,1,0.000,0.088",
+        "0,A!,0,1,0.350,0.350",
+        "2,B,0,1,0.263,0.263",
+        "-,?,1,0,0.175,0.175",
+    ]
+
+
+def test_the_rows_as_a_table(station: bytes, station_listing: bytes) -> None:
+    table = said("table", *START, data=station)
+    assert table[:2] == [
+        "kind,place,type,version,block1,block2,block3,block4,time_s,time_utc",
+        "acquired,51,2,-,-,-,-,-,0.043,2026-03-29T00:30:00.043Z",
+    ]
+    plain = [it.rsplit(",", 2)[0] for it in table[1:]]
+    assert plain == station_listing.decode().splitlines()[:-12]
+    assert said("table", data=station)[2] == "group,26,0,A,none,B:0548,C:E100,D:5041,0.022"
+
+
+def test_parquet(station: bytes, tmp_path) -> None:
+    done = run("table", "--parquet", tmp_path / "it.parquet", *START, data=station)
+    try:
+        import pandas
+
+        frame = pandas.read_parquet(tmp_path / "it.parquet")
+    except (ImportError, FileNotFoundError):
+        assert done.status == 1 and "Parquet needs pyarrow" in done.err
+        return
+    assert len(frame) == 1924 and frame.info1[2] == 0xD393
+
+
+# ---- other tables, and parts
+
+
+@pytest.mark.parametrize("command", ["errors", "outages", "programmes", "types", "corrected", "table", "clock"])
+def test_inputs_that_are_no_listing(command: str, station_listing: bytes) -> None:
+    table = "\n".join(said("errors", data=station_listing)).encode()
+    done = run(command, data=table)
+    assert (done.status, done.err.split(": ")[1]) == (1, "row 1")
+    cut = station_listing[:30000]
+    done = run(command, data=cut)
+    assert done.status == 1 and "does not end in its totals" in done.err
+    done = run(command, data=station_listing * 2)
+    assert done.status == 1 and "a second listing begins here" in done.err
+
+
+def test_a_part_of_a_listing(station_listing: bytes) -> None:
+    lines = station_listing.splitlines(keepends=True)
+    part = b"".join(lines[500:1500])
+    rows = [it.split(",") for it in said("errors", "--unfinished", data=part)[1:]]
+    assert sum(int(it[2]) for it in rows) == 4000 == sum(int(it[3]) for it in rows)
+    assert said("outages", "--unfinished", data=part)[1:] == []
+    assert run("errors", data=part).status == 1
+
+
+def test_a_recording_longer_than_its_rows(station_listing: bytes) -> None:
+    done = run("errors", "--length", 1600000, data=station_listing)
+    assert done.status == 1 and "--trust-length" in done.err
+    done = run("outages", "--length", 199888, data=station_listing)
+    assert done.status == 1 and "past the 199888 bits of the recording" in done.err
+    assert said("outages", "--trust-length", "--length", 1600000, data=station_listing)[1:] == [
+        "168.414,1347.368,1178.954,199992,1600000"
+    ]
+    assert run("errors", "--length", "none", data=station_listing).err == (
+        "rds-monitor errors: --length 'none': No such file or directory\n"
+    )
+    done = run("errors", "--length", 5, data=b"\0" * 100)
+    assert done.status == 2 and "--length is for a listing" in done.err
+
+
+def test_dropped_bits_and_gaps(station: bytes) -> None:
+    """2,400 bits from bit 80,000 on are absent: as with a bit slip, sync is lost and acquired again, and gaps take good
+    bits away."""
+    absent = station[:10000] + station[10300:]
+    whole = [[it for it in said("types", *gaps, data=absent)] for gaps in ((), ("--gaps", "80000-82400"))]
+    counts = [sum(int(row.split(",")[2]) for row in rows[1:]) for rows in whole]
+    assert counts[0] > counts[1]
+
+
+# ---- against plain loops, on random rows
+
+
+def noise(seed: int) -> Rows:
+    """Groups of any blocks, some of which follow on one another, and some not."""
+    random = numpy.random.default_rng(seed)
+    count = int(random.integers(1, 60))
+    first, rows = random.integers(0, 4, count), numpy.zeros(count, ITEM)
+    first[random.random(count) < 0.6] = 0
+    last = first + (random.random(count) * (4 - first)).astype(int)
+    last[random.random(count) < 0.6] = 3
+    for number in range(4):
+        read = (first <= number) & (number <= last)
+        kinds = random.choice([LOST, VALID, VALID, VALID, CORRECTED], count)
+        rows[f"kind{number + 1}"] = kinds * read
+        known = read & (kinds >= VALID)
+        rows[f"info{number + 1}"], rows[f"offset{number + 1}"] = (
+            random.integers(1, 3, count) * known,
+            BLOCK_OFFSETS[number] * known,
+        )
+        rows[f"burst{number + 1}"] = 3 * (read & (kinds == CORRECTED))
+    rows["what"] = GROUP
+    _set_types(rows)
+    pauses = random.choice([0, 0, 0, 0, 0, 1, 40, 700, 3000], count)
+    lengths = 26 * (last - first + 1)
+    rows["place"] = numpy.cumsum(pauses) + numpy.cumsum(lengths) - lengths
+    return rows
+
+
+SEEDS = st.integers(0, 2**32 - 1).map(noise)
+
+
+def blocks_in(rows: Rows) -> Iterator[Tuple[int, int]]:
+    """The position of each block's first bit, and its outcome."""
+    for row in rows:
+        if row["what"] == GROUP:
+            kinds = [int(row[f"kind{number}"]) for number in (1, 2, 3, 4)]
+            first = next(n for n, kind in enumerate(kinds) if kind)
+            for n, kind in enumerate(kinds):
+                if kind:
+                    yield int(row["place"]) + 26 * (n - first), kind
+
+
+def in_chunks(rows: Rows, cuts: List[int]) -> Iterator[Rows]:
+    edges = [0, *sorted(it % (len(rows) + 1) for it in cuts), len(rows)]
+    return (rows[begin:end] for begin, end in zip(edges, edges[1:]))
+
+
+@settings(max_examples=150, deadline=None)
+@given(
+    SEEDS,
+    st.lists(st.integers(0, 60), max_size=3),
+    st.sampled_from([26.0, 77.5, 104.0, 1187.5, 5000.3]),
+    st.integers(0, 900),
+)
+def test_intervals_against_a_loop(rows: Rows, cuts: List[int], bits: float, tail: int) -> None:
+    errors = Errors(bits)
+    for chunk in in_chunks(rows, cuts):
+        errors.add(chunk)
+    places = list(blocks_in(rows))
+    end = places[-1][0] + 26 + tail
+    found = list(errors.intervals(0, end))
+    counts: Dict[int, Dict[int, int]] = {}
+    for place, kind in places:
+        counts.setdefault(int(place / bits), {}).setdefault(kind, 0)
+        counts[int(place / bits)][kind] += 1
+    for at, it in enumerate(found):
+        wanted = counts.get(at, {})
+        assert (it.valid, it.corrected, it.lost) == (
+            wanted.get(VALID, 0),
+            wanted.get(CORRECTED, 0),
+            wanted.get(LOST, 0),
+        )
+        assert it.sent == it.valid + it.corrected + it.lost + it.missing
+    # All of it adds up to what was sent.
+    assert len(found) == math.ceil(end / bits)
+    assert sum(it.sent for it in found) in (end // 26, end // 26 + 1)
+    assert sum(it.sent - it.missing for it in found) == len(places)
+
+
+@settings(max_examples=150, deadline=None)
+@given(
+    SEEDS, st.lists(st.integers(0, 60), max_size=3), st.sampled_from([1, 10, 40, 100]), st.sampled_from([0.0, 0.1, 1.0])
+)
+def test_outages_against_a_loop(rows: Rows, cuts: List[int], share: float, shortest: float) -> None:
+    outages = Outages(1187.5, share, shortest)
+    outages.begin(0)
+    end = max(place for place, _ in blocks_in(rows)) + 500
+    found = [it for chunk in in_chunks(rows, cuts) for it in outages.add(chunk)] + outages.close(end)
+    valid = [place for place, kind in blocks_in(rows) if kind == VALID]
+    needed = max(1, math.ceil(share / 100 * 1187.5 / 26))
+    counting = [
+        place
+        for n, place in enumerate(valid)
+        if any(
+            last < len(valid) and valid[last] + 26 - valid[last - needed + 1] <= 1187.5
+            for last in range(max(n, needed - 1), n + needed)
+        )
+    ]
+    wanted, last_end = [], 0
+    for place in [*counting, end]:
+        if place - last_end >= shortest * 1187.5 and place > last_end:
+            wanted.append((last_end, place))
+        last_end = place + 26
+    assert found == wanted
+
+
+@settings(max_examples=100, deadline=None)
+@given(SEEDS, st.lists(st.integers(0, 60), max_size=3), st.integers(1, 3))
+def test_programmes_against_a_loop(rows: Rows, cuts: List[int], least: int) -> None:
+    programmes = Programmes(least, 1000)
+    found = [it for chunk in in_chunks(rows, cuts) for it in programmes.add(chunk)] + programmes.close()
+    stretches: List[List[int]] = []
+    for row in rows:
+        if row["kind1"] != VALID:
+            continue
+        place, last = int(row["place"]), max(place for place, _ in blocks_in(numpy.array([row], ITEM)))
+        pi = int(row["info1"])
+        if stretches and stretches[-1][0] == pi and place <= stretches[-1][3] + 1000:
+            stretches[-1][1] += 1
+            stretches[-1][3] = last + 26
+        else:
+            stretches.append([pi, 1, place, last + 26])
+    assert [list(it) for it in found] == [it for it in stretches if it[1] >= least]
+
+
+def test_counts_are_those_of_the_totals(station: bytes) -> None:
+    """Damaged as it may be, what the tables count is what rds counts."""
+    random = numpy.random.default_rng(3)
+    for rate in (0.001, 0.02, 0.08, 0.5):
+        damage = numpy.packbits(random.random(8 * len(station)) < rate)
+        data = (numpy.frombuffer(station, "u1") ^ damage).tobytes()
+        totals = dict(line.split(",")[1:3] for line in rds("totals", "--loss", 20, data=data).decode().splitlines())
+        rows = [
+            [int(it) for it in line.split(",")[2:7]]
+            for line in said("errors", "--loss", 20, "--every", 7, data=data)[1:]
+        ]
+        sums = numpy.sum(rows, axis=0).tolist()
+        corrected = sum(int(totals[f"burst{n}"]) for n in range(1, 6))
+        assert sums[1:4] == [int(totals["valid"]), corrected, int(totals["lost"])] and sums[0] == sum(sums[1:])
+        # A block that begins before the end and is cut there was not sent whole.
+        assert sums[0] in (8 * len(data) // 26, 8 * len(data) // 26 + 1)
+        assert len(said("corrected", "--loss", 20, data=data)) == corrected + 1
+        mix = [line.split(",") for line in said("types", "--loss", 20, data=data)[1:]]
+        assert sum(int(it[2]) + int(it[3]) for it in mix) == int(totals["groups"])
+
+
+def test_the_output_is_awks_too(station: bytes) -> None:
+    """Fields have no quotes and no blanks."""
+    for command in ("errors", "outages", "programmes", "types"):
+        for line in said(command, *START, data=station):
+            assert '"' not in line and " " not in line

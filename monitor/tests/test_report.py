@@ -1,0 +1,99 @@
+"""The command report: its page holds the counts, needs nothing else, and shows texts of strangers as text."""
+
+from __future__ import annotations
+
+import base64
+import hashlib
+import json
+import os
+import re
+from pathlib import Path
+from typing import Any, Dict, List
+
+import pytest
+from conftest import encode, monitor
+
+pytest.importorskip("jinja2")
+D3 = os.environ.get("RDS_D3", "/usr/share/javascript/d3/d3.min.js")
+needs_d3 = pytest.mark.skipif(not os.path.exists(D3), reason="needs libjs-d3")
+
+EVIL = '<script>alert("1")</script> &amp; \'q\' x'
+
+
+def station(pi: int = 0xD393, text: str = "hello", rounds: int = 40) -> bytes:
+    """Groups 0A and 2A of a station whose RT is the text."""
+    text = (text + " " * 64)[:64]
+    groups: List[List[int]] = []
+    for n in range(rounds):
+        k = n % 16
+        groups.append([pi, 0x0408 | n % 4, 0xE0E0, [0x5041, 0x584F, 0x4C49, 0x4455][n % 4]])
+        signs = [ord(it) for it in text[4 * k : 4 * k + 4]]
+        groups.append([pi, 0x2400 | k, signs[0] << 8 | signs[1], signs[2] << 8 | signs[3]])
+    return encode(groups)
+
+
+def page(*words: Any, data: bytes = b"") -> str:
+    done = monitor("report", *words, data=data)
+    assert done.returncode == 0, done.stderr.decode()
+    return done.stdout.decode()
+
+
+def data_of(text: str) -> List[Dict[str, Any]]:
+    found = re.search(r'<script type="application/json" id="data">(.*?)</script>', text, re.S)
+    assert found
+    return list(json.loads(found[1]))
+
+
+@needs_d3
+def test_counts_are_those_of_errors(station: bytes) -> None:
+    told = data_of(page(data=station))[0]["sessions"][0]
+    rows = [it.split(",") for it in monitor("errors", "--every", "1", data=station).stdout.decode().splitlines()[1:]]
+    for name, column in (("sent", 2), ("corrected", 4), ("lost", 5), ("missing", 6)):
+        assert list(base64.b64decode(told["blocks"][name])) == [int(it[column]) for it in rows]
+    assert told["totals"]["sent"] == sum(int(it[2]) for it in rows)
+
+
+@needs_d3
+def test_scripts_and_style_are_those_of_the_policy() -> None:
+    text = page(data=station())
+    policy = re.search(r'http-equiv="Content-Security-Policy" content="([^"]*)"', text)
+    assert policy and "default-src &#39;none&#39;" in policy[1]
+    allowed = re.findall(r"sha256-[A-Za-z0-9+/=]+", policy[1].replace("&#43;", "+"))
+    parts = re.findall(r"<style>(.*?)</style>|<script>(.*?)</script>", text, re.S)
+    hashes = ["sha256-" + base64.b64encode(hashlib.sha256((it[0] or it[1]).encode()).digest()).decode() for it in parts]
+    assert len(hashes) == 3 and sorted(hashes) == sorted(allowed)
+    assert not re.search(r"""\son[a-z]+\s*=\s*["']|(?:src|href)="(?!#)""", re.sub(r"<script>.*?</script>", "", text, flags=re.S))
+
+
+@needs_d3
+def test_texts_of_a_station_are_shown_as_text() -> None:
+    text = page(data=station(text=EVIL))
+    told = data_of(text)[0]["sessions"][0]
+    assert any(it[3].startswith("<script>alert") for it in told["events"])
+    rest = re.sub(r"<script>.*?</script>", "", text, flags=re.S)
+    assert "<script>alert" not in text and "&lt;script&gt;alert(&#34;1&#34;)" in rest
+
+
+@needs_d3
+def test_several_stations_the_worst_first(tmp_path: Path) -> None:
+    good, bad = tmp_path / "good's <b>.bin", tmp_path / "bad.bin"
+    good.write_bytes(station())
+    damaged = bytearray(station(0xD312))
+    damaged[400:700] = bytes(300)
+    bad.write_bytes(bytes(damaged))
+    text = page(good, bad)
+    assert [it["name"] for it in data_of(text)] == ["bad.bin", "good's <b>.bin"]
+    assert "<h2>Overview</h2>" in text and "good&#39;s &lt;b&gt;.bin" in text
+
+
+@needs_d3
+def test_a_day_is_below_a_megabyte(tmp_path: Path) -> None:
+    path = tmp_path / "day.bin"
+    path.write_bytes(station(rounds=2000) * 31)
+    assert len(page(path)) < 1_000_000
+
+
+def test_without_d3(monkeypatch: pytest.MonkeyPatch) -> None:
+    monkeypatch.setenv("RDS_D3", "/nowhere/d3.js")
+    done = monitor("report", data=station())
+    assert done.returncode == 1 and b"install libjs-d3" in done.stderr and not done.stdout

@@ -1,0 +1,240 @@
+#!/usr/bin/env python3
+"""Every number in lib/rds.h against its source: tests/library/header.py LIBRARY-FOLDER PATH-TO-RDS
+
+Enumerators are compared with the definitions of rds_abi, the default rules with the program's help, sizes in comments with the structs,
+and every other number in a comment with the place that it comes from. A number that no line below names is a fault. The versions of
+the header, the library, pkg-config, the bindings and the program are one, and each function has the symbol version of rds.map.
+Then each number of the header is changed in turn, which has to be noticed.
+"""
+
+import ctypes
+import functools
+import os
+import re
+import subprocess
+import sys
+
+sys.path.insert(0, os.path.dirname(os.path.abspath(__file__)))
+
+from layout import TOP, layout_of, of_crates, of_header_text, refusals_of_crate, text_of  # noqa: E402
+
+SAID = {}
+
+
+def says(*words):
+    """The standard output of a command, which runs once."""
+    if words not in SAID:
+        SAID[words] = subprocess.run(words, capture_output=True, encoding="utf-8", timeout=60, check=True).stdout
+    return SAID[words]
+
+
+class Faults(list):
+    """What is wrong, a line each."""
+
+    def same(self, what, wanted, got):
+        if wanted != got:
+            self.append(f"{what}: {got}, and not {wanted}")
+
+
+@functools.cache
+def number_in(path, pattern):
+    """The number that a source has there."""
+    found = re.search(pattern, text_of(f"{TOP}/{path}"))
+    if not found:
+        sys.exit(f"header.py: {path} has no {pattern}")
+    return int(found[1])
+
+
+# ---- enumerators
+
+
+@functools.cache
+def definitions():
+    """The numbers that rds_abi's definitions give, by the header's names."""
+    text = text_of(f"{TOP}/crates/rds_abi/specs/Layout.antt")
+    numbers = {f"RDS_{name.upper()}": int(it) for name, it in re.findall(r"^offset_in_c offset\.(\w+) = (\d+)$", text, re.M)}
+    kinds = {"RDS_MISSING": "^no_block = ", "RDS_LOST": r"^reading_in_c Lost = ", "RDS_VALID": r"^reading_in_c \(Valid ",
+             "RDS_CORRECTED": r"^reading_in_c \(Corrected "}
+    numbers |= {name: int(re.search(rf"{start}.*?\bkind = (\d+)", text, re.M | re.S)[1]) for name, start in kinds.items()}
+    versions = re.findall(r"^version_in_c (\w+) = (\d+)$", text, re.M)
+    numbers |= {f"RDS_VERSION_{name.upper()}": int(it) for name, it in versions}
+    items = {"RDS_ACQUIRED": "Acquired", "RDS_GROUP": "Group", "RDS_LOSS": "LostLock"}
+    for name, item in items.items():
+        numbers[name] = int(re.search(rf"^item_in_c \({item} .*?\bwhat = (\d+)", text, re.M | re.S)[1])
+    asked = text_of(f"{TOP}/crates/rds_abi/src/blocks.rt")
+    numbers["RDS_C_OR_CX"] = int(re.search(r"(\d+) => Some\(\(BlockNumber::THREE, Wanted::Either\)\)", asked)[1])
+    upper = lambda name: re.sub(r"(?<!^)(?=[A-Z])", "_", name).upper()
+    numbers |= {f"RDS_{upper(name)}": number for number, (name, _) in refusals_of_crate().items()}
+    return numbers | {"RDS_BAD_POINTER": 70}
+
+
+def compare_enumerators(faults, text):
+    declared = [(name, int(number)) for body in re.findall(r"enum \{(.*?)\}", text, re.S) for name, number in re.findall(r"(\w+) = (\d+)", body)]
+    faults.same("names of enumerators that are there twice", len(declared), len(dict(declared)))
+    wanted, got = definitions(), dict(declared)
+    for name in sorted({*wanted, *got}):
+        faults.same(name, wanted.get(name), got.get(name))
+
+
+# ---- macros
+
+
+def compare_macros(faults, text, program):
+    help_of_list = says(program, "list", "--help")
+    usual = [int(re.search(rf"--{name} .*?\[default: (\d+)\]", help_of_list, re.S)[1]) for name in ("burst", "reach", "loss")]
+    rules = re.search(r"#define RDS_RULES \{(.*?)\}", text)
+    faults.same("RDS_RULES", [*usual, 0], [int(it) for it in rules[1].split(",")])
+    longest = max(len(name) for name, _ in refusals_of_crate().values())
+    room = int(re.search(r"#define RDS_NAME_ROOM (\d+)", text)[1])
+    if not longest < room <= 16:
+        faults.append(f"RDS_NAME_ROOM: {room}, for a name of {longest} characters and its 0, where names.rt says 16")
+
+
+# ---- versions
+
+
+def three_of(version):
+    """The three numbers of a version, of which the last may be left out."""
+    return ([int(it) for it in version.split(".")] + [0])[:3]
+
+
+def compare_versions(faults, text, library, program):
+    parts = three_of(says(program, "--version").split()[1])
+    packed = parts[0] << 16 | parts[1] << 8 | parts[2]
+    faults.same("RDS_VERSION", packed, int(re.search(r"#define RDS_VERSION (0x\d+)", text)[1], 16))
+    faults.same("rds_version", packed, ctypes.CDLL(f"{library}/librds.so.0").rds_version())
+    for path, pattern in (("lib/rds.pc.in", r"^Version: (.*)$"), ("bindings/rust/Cargo.toml", r'^version = "(.*)"$'),
+                          ("bindings/python/pyproject.toml", r'^version = "(.*)"$')):
+        faults.same(f"{path}, version", parts, three_of(re.search(pattern, text_of(f"{TOP}/{path}"), re.M)[1]))
+    node = re.search(r"^(\w+) \{", text_of(f"{TOP}/lib/rds.map"), re.M)[1]
+    names = dict(re.findall(r" T (\w+)@@(\w+)$", says("nm", "-D", "--defined-only", f"{library}/librds.so.0"), re.M))
+    functions = re.findall(r"^\w+ (rds_\w+)\(", text, re.M)
+    faults.same("symbol versions of librds.so.0", dict.fromkeys(functions, node), names)
+    faults.same("the node of rds.map", "RDS_0", node)
+
+
+# ---- numbers in comments
+
+
+def facts(structs, reasons):
+    """Patterns of the comments with the numbers that they must have, each from its source."""
+    sizes = {name: layout_of(name, structs)[0] for name in structs}
+    at_once = number_in("crates/rds_live/src/room.rt", r"AT_ONCE: usize = (\d+);")
+    kept = number_in("crates/rds_abi/src/following.rt", r"MOST_KEPT: u64 = (\d+);")
+    most_bits = number_in("crates/rds_abi/src/following.rt", r"MOST_BITS: u64 = 1 << (\d+);")
+    ranges = {number: [int(it) for it in re.findall(r"\d+", said)] for number, said in reasons.items()}
+    burst, reach, loss, word = ranges[1][-1], ranges[2], ranges[3], ranges[67][0]
+    # two items a bit at most, which the law runs_give_few_items says
+    per_byte = 2 * 8
+    group_bits = 4 * word
+    yield from ((rf"{text}: (\d+) bytes", [sizes[name]]) for text, name in (
+        ("The twelve totals of a report", "RdsTotals"), ("A block", "RdsBlock"), ("An item of a report", "RdsItem"),
+        ("The numbers of a decoder's rules", "RdsRules"), ("What a run knows between two bits", "RdsState"),
+        ("What is known of a stream between two chunks", "RdsStream"), ("The information words of a group's four blocks", "RdsWords")))
+    yield r"A gap in a recording.*?before end\. (\d+) bytes", [sizes["RdsGap"]]
+    yield r"The (\d+) bits of a group as it is sent, the first bit highest: (\d+) bytes", [group_bits, sizes["RdsPacked"]]
+    yield r"the same (\d+) bytes are left", [sizes["RdsStream"]]
+    yield r"the last (\d+) bytes that were heard", [kept]
+    yield r"items\[(\d+) \* CHUNK\]", [per_byte]
+    yield r"items, (\d+) \* CHUNK, &count", [per_byte]
+    yield r"Room for (\d+) items a byte", [per_byte]
+    yield r"as many as (\d+) bytes may", [at_once]
+    yield r"(\d+)\^(\d+) bits", [2, most_bits]
+    yield r"hears up to (\d+) bits before", [word * reach[1] + word - 1]
+    yield r"word of (?:more than )?(\d+) bits", [word]
+    yield r"code, below (\d+)\.", [1 << 10]
+    yield r"burst is above (\d+)", [burst]
+    yield r"is corrected, in bits: (\d+) to (\d+)", [0, burst]
+    yield r"up to limit bits, (\d+) to (\d+)", [0, burst]
+    yield r"the span of their burst: (\d+) to (\d+) bits", [1, burst]
+    yield r"reach is not (\d+) to (\d+)", reach
+    yield r"partner is looked for while acquiring: (\d+) to (\d+)", reach
+    yield r"loss is not (\d+) to (\d+)", loss
+    yield r"bad blocks a lock is lost: (\d+) to (\d+)", loss
+    yield r"loss is (\d+) or above of, or of above (\d+)", [0, ranges[15][1]]
+    yield r"last blocks: loss to (\d+)", [ranges[15][1]]
+    yield r"the number of the next block, (\d+) to (\d+), or (\d+) where", [1, 4, 0]
+    yield r"its block, (\d+) to (\d+); of a group its type, (\d+) to (\d+), or (\d+) where unknown", [1, 4, 0, 15, 255]
+    yield r"RDS_VERSION_UNKNOWN; else (\d+)", [0]
+    yield r"(\d+) for a group whose blocks (\d+) and (\d+) name", [1, 2, 3]
+    yield r"(\d+) times the first number, (\d+) times", [1 << 16, 1 << 8]
+    yield r"the library's own from (\d+) on", [min(number for number in reasons if number > 60)]
+    yield r"too little room \((\d+)\)", [64]
+    yield r"can have left are refused \((\d+)\)", [65]
+    yield r"whether there is one, (\d+)(?: \*)? or (\d+)", [1, 0]
+
+
+def refusal_lists():
+    """The order of refusals at each function, as rds_abi's docs have it too."""
+    yield "rds_totals", [1, 2, 3, 15, 5, 4, 16, 8]
+    yield "rds_items", [64]
+    yield "rds_run", [66, 65, 64]
+    yield "rds_push", [1, 2, 3, 15, 16, 65, 5, 36, 64, 8]
+    yield "rds_finish", [5]
+    yield "rds_finish_with", [4, 5]
+    yield "rds_remainder", [67]
+    yield "rds_correct", [67, 68, 1, 8]
+    yield "rds_encode", [64]
+    yield "rds_refusal_name", [69, 64]
+
+
+# Numbers that say what they are by themselves, such as a place from 0, or an array of 16 * CHUNK.
+PLAIN = [r"from 0\b", r"stream = \{0\}", r"fread\(bytes, 1, CHUNK, stdin\)\) > 0\)", r"return 1;", r"NULL, 0, &rules", r"k = 0;", r"items, 1, &count", r"returns 0, or", r"all 0 where",
+         r", or 0\b", r"\b0 none", r"always 0\b", r"at place 0\b", r"with a 0 behind it", r"the 0 behind it", r"^ \* 0 where", r"\b0 where these"]
+
+
+def compare_comments(faults, text, structs):
+    reasons = {number: said for number, (_, said) in refusals_of_crate().items()}
+    comments = re.findall(r"/\*(.*?)\*/", text, re.S)
+    page = "\n\n".join(re.sub(r"\s*\n \* ?", " ", it) for it in comments)
+    functions = re.findall(r"/\*((?:(?!\*/).)*)\*/\s*\w+ (rds_\w+)\(", text, re.S)
+    lists = {name: re.sub(r"\s*\n \* ?", " ", comment).partition("Refusals: ")[2].replace("2^", "") for comment, name in functions}
+    got = {name: [int(it) for it in re.findall(r"\d+", text)] for name, text in lists.items()}
+    wanted = dict(refusal_lists())
+    for name, numbers in wanted.items():
+        faults.same(f"refusals of {name}", numbers, got.get(name))
+    page = re.sub(r"(?<=[.] )Refusals: .*", "", page)
+    for pattern, numbers in facts(structs, reasons):
+        found = re.findall(pattern, page)
+        if not found:
+            faults.append(f"no comment has: {pattern}")
+        for it in found:
+            faults.same(f"'{pattern}'", numbers, [int(number) for number in ([it] if isinstance(it, str) else it)])
+        page = re.sub(pattern, "", page)
+    for pattern in PLAIN:
+        page = re.sub(pattern, "", page, flags=re.M)
+    for left in re.findall(r".{0,30}(?<![\w])\d+.{0,20}", page):
+        faults.append(f"a number that nothing here names: {left}")
+
+
+def faults_of(text, library, program):
+    """What is wrong with a header of this text."""
+    faults = Faults()
+    structs, functions = of_header_text(text)
+    faults.same("structs and functions", of_crates(), (structs, functions))
+    if not faults:
+        compare_enumerators(faults, text)
+        compare_macros(faults, text, program)
+        compare_versions(faults, text, library, program)
+        compare_comments(faults, text, structs)
+    return faults
+
+
+def main():
+    library, program = sys.argv[1:]
+    text = text_of(f"{TOP}/lib/rds.h")
+    faults = faults_of(text, library, program)
+    print("\n".join(faults) or f"{len(definitions())} enumerators, as they are defined")
+    numbers = list(re.finditer(r"(?<![\w])(?:0x)?\d+\b", text))
+    changed = (f"{text[: it.start()]}{it[0]}1{text[it.end() :]}" for it in numbers)
+    unseen = [it for it, other in zip(numbers, changed) if not faults_of(other, library, program)]
+    print(f"{len(numbers)} numbers changed, {len(unseen)} not noticed")
+    for it in unseen:
+        print(f"  {text[max(0, it.start() - 40) : it.end() + 20]!r}")
+    return bool(faults or unseen) or len(numbers) < 150
+
+
+if __name__ == "__main__":
+    if len(sys.argv) != 3:
+        sys.exit(__doc__)
+    sys.exit(main())
