@@ -9,6 +9,7 @@ from __future__ import annotations
 import argparse
 import os
 import sqlite3
+import time
 from typing import Any, Iterable, List, Optional, Sequence
 
 from .clock import Clock, clock_of_options, clock_options
@@ -36,18 +37,26 @@ class Store:
     def __init__(self, path: str):
         try:
             self._database = sqlite3.connect(os.path.abspath(path), timeout=WAIT, isolation_level=None)
-            self._prepare(path)
+            self._prepare_patiently(path)
         except sqlite3.Error as error:
             raise Fault(f"{path!r}: {error}") from None
+
+    def _prepare_patiently(self, path: str) -> None:
+        """SQLite's own timeout doesn't hold for a change to WAL while other processes open the same new database."""
+        end = time.monotonic() + WAIT
+        while True:
+            try:
+                return self._prepare(path)
+            except sqlite3.OperationalError as error:
+                if "locked" not in str(error) or time.monotonic() > end:
+                    raise
+            self._roll_back()
+            time.sleep(0.02)
 
     def _prepare(self, path: str) -> None:
         it = self._database
         it.execute("PRAGMA foreign_keys = ON")
-        try:
-            mark, count = self._value("PRAGMA application_id"), self._value("SELECT COUNT(*) FROM sqlite_master")
-        except sqlite3.DatabaseError:
-            mark, count = 0, 1
-        if mark != MARK and count:
+        if not self._is_ours_or_new():
             raise Fault(f"{path!r} is no database of rds-monitor")
         it.execute("PRAGMA journal_mode = WAL")
         it.execute("PRAGMA synchronous = NORMAL")
@@ -57,6 +66,19 @@ class Store:
         if version > len(MIGRATIONS):
             raise Fault(f"{path!r} has version {version}: it is of a later rds-monitor")
         it.executescript(READ)
+
+    def _is_ours_or_new(self) -> bool:
+        """One transaction, since another process may be making the tables."""
+        it = self._database
+        try:
+            it.execute("BEGIN")
+            count, mark = self._value("SELECT COUNT(*) FROM sqlite_master"), self._value("PRAGMA application_id")
+            it.execute("COMMIT")
+        except sqlite3.OperationalError:
+            raise
+        except sqlite3.DatabaseError:
+            return False
+        return mark == MARK or not count
 
     def _migrate(self) -> None:
         """Another process may be as far at the same time."""
@@ -73,6 +95,10 @@ class Store:
         row = self._database.execute(query, given).fetchone()
         return None if row is None else row[0]
 
+    def _roll_back(self) -> None:
+        if self._database.in_transaction:
+            self._database.execute("ROLLBACK")
+
     def close(self) -> None:
         self._database.close()
 
@@ -85,8 +111,7 @@ class Store:
                 self._write(name, station, sessions)
                 self._database.execute("COMMIT")
             except BaseException:
-                if self._database.in_transaction:
-                    self._database.execute("ROLLBACK")
+                self._roll_back()
                 raise
         except sqlite3.Error as error:
             raise Fault(f"the database: {error}") from None

@@ -272,6 +272,27 @@ def test_migrations(database, station: bytes, monkeypatch) -> None:
     assert done.status == 1 and "already exists" in done.err and asked(database, "PRAGMA user_version") == [2]
 
 
+def test_a_database_that_several_processes_make_at_once(tmp_path) -> None:
+    """They spin until the file named first is gone, so that all of them find no database."""
+    code = (
+        "import os, sys\nfrom rds_monitor.store import Store\nprint(flush=True)\n"
+        "while os.path.exists(sys.argv[1]): pass\nStore(sys.argv[2]).close()"
+    )
+    for turn in range(5):
+        barrier, path = tmp_path / f"barrier{turn}", tmp_path / f"{turn}.db"
+        barrier.touch()
+        makers = [
+            subprocess.Popen(
+                [sys.executable, "-c", code, str(barrier), str(path)], stdout=subprocess.PIPE, stderr=subprocess.PIPE
+            )
+            for _ in range(6)
+        ]
+        for maker in makers:
+            assert maker.stdout is not None and maker.stdout.readline() == b"\n"
+        barrier.unlink()
+        assert [(maker.communicate(timeout=300)[1], maker.returncode) for maker in makers] == [(b"", 0)] * 6
+
+
 def test_four_writers_at_once_and_a_reader(database, station: bytes, tmp_path) -> None:
     (tmp_path / "it.bin").write_bytes(station)
     writers = [
