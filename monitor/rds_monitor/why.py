@@ -7,6 +7,7 @@ import os
 import re
 import subprocess
 import sys
+import tempfile
 from typing import Callable, Dict, List, Optional, Sequence
 
 from .items import Fault
@@ -28,10 +29,14 @@ def options_why(parser: argparse.ArgumentParser) -> None:
 def run_why(arguments: argparse.Namespace) -> int:
     words, held = [*arguments.words], sys.stdin.buffer.read()
     program = os.environ.get("RDS", "rds")
-    try:
-        ran = subprocess.run([program, *words], input=held, stdout=subprocess.DEVNULL, stderr=subprocess.PIPE, check=False)
-    except OSError as error:
-        raise Fault(f"{program}: {error.strerror}") from None
+    # A file, since rds may end before it has read all of a pipe.
+    with tempfile.TemporaryFile() as copy:
+        copy.write(held)
+        copy.seek(0)
+        try:
+            ran = subprocess.run([program, *words], stdin=copy, stdout=subprocess.DEVNULL, stderr=subprocess.PIPE, check=False)
+        except OSError as error:
+            raise Fault(f"{program}: {error.strerror}") from None
     said = ran.stderr.decode("utf-8", "replace")
     sys.stdout.write(said)
     refusal = re.search(r"^refused (\d+) ", said, re.M)
