@@ -14,7 +14,8 @@ from conftest import encode, rds
 from made import acquired_row, block, group_row, listing, lock, loss_row, read
 from rds_monitor import listing as of_listing
 from rds_monitor.items import GROUP, ITEM, VALID, Fault, Rows, Rules, open_source, totals_of
-from rds_monitor.listing import HEADER, Listing, text_of, totals_text
+from rds_monitor.heads import HEADER
+from rds_monitor.listing import Listing, text_of, totals_text
 from rds_monitor.parse import _set_types, parse
 
 WORDS = (0xD393, 0x0548, 0xE0CD, 0x5041)
