@@ -5,9 +5,9 @@ from __future__ import annotations
 import argparse
 import os
 import re
+import signal
 import subprocess
 import sys
-import tempfile
 from typing import Callable, Dict, List, Optional, Sequence
 
 from .items import Fault
@@ -29,14 +29,12 @@ def options_why(parser: argparse.ArgumentParser) -> None:
 def run_why(arguments: argparse.Namespace) -> int:
     words, held = [*arguments.words], sys.stdin.buffer.read()
     program = os.environ.get("RDS", "rds")
-    # A file, since rds may end before it has read all of a pipe.
-    with tempfile.TemporaryFile() as copy:
-        copy.write(held)
-        copy.seek(0)
-        try:
-            ran = subprocess.run([program, *words], stdin=copy, stdout=subprocess.DEVNULL, stderr=subprocess.PIPE, check=False)
-        except OSError as error:
-            raise Fault(f"{program}: {error.strerror}") from None
+    # rds may refuse before it has read all: then the pipe is closed, which is no end of this command.
+    signal.signal(signal.SIGPIPE, signal.SIG_IGN)
+    try:
+        ran = subprocess.run([program, *words], input=held, stdout=subprocess.DEVNULL, stderr=subprocess.PIPE, check=False)
+    except OSError as error:
+        raise Fault(f"{program}: {error.strerror}") from None
     said = ran.stderr.decode("utf-8", "replace")
     sys.stdout.write(said)
     refusal = re.search(r"^refused (\d+) ", said, re.M)
