@@ -129,7 +129,8 @@ install-monitor: $(PYTHON_TOO)
 	install -d $(DESTDIR)$(PREFIX)/bin $(DESTDIR)$(MONITOR_DIR)/rds_monitor $(SHARE)/man/man1 $(SHARE)/bash-completion/completions
 	install -d $(DESTDIR)$(ZSH_COMPLETIONS)
 	install -m 644 monitor/rds_monitor/*.py $(DESTDIR)$(MONITOR_DIR)/rds_monitor
-	install -d $(DESTDIR)$(MONITOR_DIR)/rds_monitor/page
+	install -d $(DESTDIR)$(MONITOR_DIR)/rds_monitor/page $(DESTDIR)$(MONITOR_DIR)/rds_monitor/watch
+	install -m 644 monitor/rds_monitor/watch/*.py $(DESTDIR)$(MONITOR_DIR)/rds_monitor/watch
 	install -m 644 monitor/rds_monitor/page/* $(DESTDIR)$(MONITOR_DIR)/rds_monitor/page
 	install -m 755 monitor/rds-monitor $(DESTDIR)$(PREFIX)/bin/rds-monitor
 	install -m 644 monitor/rds-monitor.1 $(SHARE)/man/man1/rds-monitor.1
