@@ -132,9 +132,10 @@ class Arrivals:
         drift = (delay - self._before) / lasted if lasted > 600 else 0.0
         slow = (1 + drift + delay / self.HORIZON) * RATE / self.timing.rate
         rate = round(RATE / min(max(slow, 1 - self.MOST), 1 + self.MOST), 4)
-        start = _up(self.timing.utc(place) - place / rate)
         self._delays.clear()
-        self.timing, self._before, self._since = Timing(start, rate), delay, utc
+        self._before, self._since = delay, utc
+        if rate != self.timing.rate:
+            self.timing = Timing(_up(self.timing.utc(place) - place / rate), rate)
 
 
 def _up(seconds: float) -> float:
