@@ -119,6 +119,8 @@ def received(source: Source, reception: Reception, last: Optional[float], rate: 
         if not len(rows):
             continue
         if last is None:
+            if not reception.end and isinstance(source, Listing) and source.is_part:
+                reception.begin = int(begins_of(rows[:1])[0])
             reception.add(rows)
             continue
         kept.append(rows)

@@ -21,7 +21,7 @@ from rds_monitor.watch.writer import Batch, Writer
 
 sys.path.insert(0, str(TOP / "monitor" / "demo"))
 
-from station import GROUP_BYTES, GROUPS_PER_SECOND, RATE, Programme, number_of  # noqa: E402
+from station import GROUPS_PER_SECOND, RATE, Periodic, Programme, number_of  # noqa: E402
 
 # Half a minute before an hour of UTC, on 2026-11-27.
 START = 1795748370.0
@@ -81,6 +81,7 @@ class Simulated:
         self._began = times.steady
         self._at = air.at(times.steady - true_begin)
         self._killed = False
+        self.given = b""
 
     def _lasted(self) -> float:
         lasted = self._times.steady - self._began
@@ -92,6 +93,7 @@ class Simulated:
             return None
         upto = self._air.at(self._began - self._zero + self._lasted() - self._plan.late)
         data, self._at = self._air.bytes(self._at, upto), max(self._at, upto)
+        self.given += data
         if not data and self._plan.dies is not None and self._lasted() >= self._plan.dies:
             return None
         return data
@@ -141,6 +143,7 @@ class Network:
         self.zero = self.times.steady
         self.said: List[str] = []
         self.runs: List[Tuple[str, float]] = []
+        self.given: List[Tuple[str, Simulated]] = []
         self.begin()
 
     def begin(self) -> None:
@@ -159,7 +162,9 @@ class Network:
         plans = self.plans.get(words[0], [])
         plan = plans.pop(0) if plans else Plan()
         self.runs.append((words[0], self.times.steady - self.zero))
-        return Simulated(self.airs[words[0]], self.times, self.zero, plan)
+        run = Simulated(self.airs[words[0]], self.times, self.zero, plan)
+        self.given.append((words[0], run))
+        return run
 
     def run(self, seconds: float, tick: float = 0.5, each: Callable[[], None] = lambda: None) -> None:
         for _ in range(round(seconds / tick)):
@@ -174,6 +179,7 @@ class Network:
         self.records.close()
 
     def end(self) -> None:
+        """SIGTERM."""
         self.watch.stop()
         while not self.watch.has_left:
             self.times.pass_by(0.5)
@@ -195,6 +201,18 @@ class Network:
             return data.execute(query, given).fetchall()
         finally:
             data.close()
+
+    def texts(self, station: str) -> List[bytes]:
+        """The hours' files, joined by session."""
+        query = (
+            "SELECT name, path FROM hour_files JOIN sessions ON sessions.id = session JOIN recordings ON recordings.id = recording"
+            " WHERE station = ? ORDER BY recordings.id, number"
+        )
+        found: Dict[str, bytes] = {}
+        for name, path in self.asked(query, station):
+            whole = self.folder / path
+            found[name] = found.get(name, b"") + (whole.read_bytes() if whole.exists() else b"")
+        return list(found.values())
 
     def hours(self, station: str) -> "List[Tuple[Hour, Rows]]":
         return hours_in(self.folder, station)

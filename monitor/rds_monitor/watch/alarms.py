@@ -196,7 +196,8 @@ class Alarms:
         since = self._since.setdefault(name, self._now)
         shown = "none" if text is None else printable(str(text).strip())
         expected = " or ".join(getattr(self._table, name))
-        self._judge(found, name, Fault(since, f"{name.upper()} {shown} in place of {expected}") if since < self._now else None)
+        late = self._now - since >= (getattr(self._table.alarms, name) or 0)
+        self._judge(found, name, Fault(since, f"{name.upper()} {shown} in place of {expected}") if late and since < self._now else None)
 
     def _fitting(self, name: str, text: str) -> bool:
         return any(it.fullmatch(text.strip()) for it in self._fits[name])
