@@ -11,7 +11,7 @@ export RT
 SOURCES := crates.txt $(shell find crates -name out -prune -o \( -name '*.rt' -o -name '*.antt' \) -print)
 
 .PHONY: all run quick lib test proofs built archives wrong-bodies install install-program install-monitor install-python \
-  install-lib deb wheel clean toolchain
+  install-lib deb wheel monitor-demo clean toolchain
 all: build/rds
 
 toolchain:
@@ -166,6 +166,11 @@ deb: $(PROGRAM) $(LIBRARY)/librds.so.0
 # A wheel of the Python module with the library in it, below build.
 wheel: $(FOLDER_$(ARCH))/librds.so.0
 	bindings/python/make_wheel.py $(FOLDER_$(ARCH))/librds.so.0 build
+
+# Three simulated stations on a page, by the library of `make lib` or the system's.
+PYTHON ?= /usr/bin/python3
+monitor-demo:
+	$(PYTHON) monitor/demo/run.py $(DEMO)
 
 clean:
 	rm -rf build tests/__pycache__

@@ -21,7 +21,7 @@ from rds_monitor.watch.writer import Batch, Writer
 
 sys.path.insert(0, str(TOP / "monitor" / "demo"))
 
-from station import GROUPS_PER_SECOND, RATE, Periodic, Programme, number_of  # noqa: E402
+from station import GROUPS_PER_SECOND, RATE, Programme, number_of  # noqa: E402
 
 # Half a minute before an hour of UTC, on 2026-11-27.
 START = 1795748370.0

@@ -11,7 +11,8 @@ import pytest
 
 from conftest import rds
 from made import run, said
-from network import GROUPS_PER_SECOND, START, Air, Network, Periodic, Plan, Programme, numbers_in, stations
+from network import GROUPS_PER_SECOND, START, Air, Network, Plan, Programme, numbers_in, stations
+from station import Periodic
 from rds_monitor.clock import start_of
 
 ALPHA = Programme(0xD318, "ALPHA", "Now: nothing much")

@@ -79,8 +79,8 @@ class Watched(NamedTuple):
 class Alarms:
     """The alarms of one station."""
 
-    def __init__(self, it: StationTable, now: float):
-        self._now, self._held = now, 0.0
+    def __init__(self, it: StationTable, now: float, speed: float = 1.0):
+        self._now, self._pause = now, PAUSE * speed
         self._values: Dict[str, Any] = {}
         self._minutes: Deque[float] = deque(maxlen=60)
         self._offsets: Deque[float] = deque(maxlen=60)
@@ -122,7 +122,7 @@ class Alarms:
         """The alarms that begin or end."""
         passed, self._now, self._values = now - self._now, now, it.held
         age = it.valid_age
-        silent, dead = now - it.last_byte > PAUSE, age is None or age > PAUSE
+        silent, dead = now - it.last_byte > self._pause, age is None or age > self._pause
         found: List[Change] = []
         self._judge(found, "silent", Fault(it.last_byte, f"no byte for {now - it.last_byte:.0f} s") if silent else None)
         no_rds = Fault(now - age, f"no valid block for {age:.0f} s") if dead and age is not None else None

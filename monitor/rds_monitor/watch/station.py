@@ -28,7 +28,7 @@ class Station:
     def __init__(self, it: StationTable, launch: Launch, speed: float, now: float, say: Say):
         self.table, self._speed, self._say = it, speed, say
         self.keeper = Keeper(it.command, it.patience * max(1.0, speed / 10), launch, now)
-        self.alarms = Alarms(it, now)
+        self.alarms = Alarms(it, now, speed)
         self._session: Optional[LiveSession] = None
         self._bits: Optional[BitSource] = None
         self._waiting: List[bytes] = []
