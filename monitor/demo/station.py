@@ -14,7 +14,7 @@ import argparse
 import os
 import sys
 import time
-from typing import Iterator, List, NamedTuple, Optional, Sequence, Tuple
+from typing import Any, Iterator, List, NamedTuple, Optional, Sequence, Tuple
 
 RATE, GROUP_BITS, GROUP_BYTES = 1187.5, 104, 13
 GROUPS_PER_SECOND = RATE / GROUP_BITS
@@ -85,16 +85,25 @@ class Air:
 
     def __init__(self, it: argparse.Namespace):
         import librds
-        import numpy
 
-        self._encode, self._numpy = librds.encode, numpy
-        self._random = numpy.random.default_rng(int(it.pi, 16))
+        self._encode = librds.encode
+        self._random: Any = None
+        if it.errors or it.outage:
+            # Its import takes ten times as long as all else here.
+            import numpy
+
+            self._numpy: Any = numpy
+            self._random = numpy.random.default_rng(int(it.pi, 16))
         self._programme = Programme(int(it.pi, 16), it.ps, it.rt, it.pty, wrong_pi=it.wrong_pi)
         self._errors, self._outage = it.errors, it.outage
 
     def groups(self, numbers: range) -> bytes:
+        data: bytes = self._encode([self._programme.group(it) for it in numbers])
+        return self._damaged(data, numbers) if self._random else data
+
+    def _damaged(self, data: bytes, numbers: range) -> bytes:
         numpy = self._numpy
-        sent = numpy.frombuffer(self._encode([self._programme.group(it) for it in numbers]), "u1").reshape(-1, GROUP_BYTES)
+        sent = numpy.frombuffer(data, "u1").reshape(-1, GROUP_BYTES)
         if self._errors:
             sent = sent ^ numpy.packbits(self._random.random((len(sent), GROUP_BITS)) < self._errors, axis=1)
         if self._outage:

@@ -161,30 +161,66 @@ def test_one_watch_per_folder(tmp_path: Path) -> None:
 # ---- killed
 
 
+# Starts watches in processes of their own without importing all of it each time. A line of input starts one.
+FORKER = """
+import os, signal, sys
+from rds_monitor import cli
+from rds_monitor.watch import journal, loop, receiver, records, recover, table, times, writer
+signal.signal(signal.SIGCHLD, signal.SIG_IGN)
+for line in sys.stdin:
+    pid = os.fork()
+    if not pid:
+        signal.signal(signal.SIGCHLD, signal.SIG_DFL)
+        os._exit(cli.main(["watch", line.rstrip()]))
+    print(pid, flush=True)
+"""
+
+
+class Forker:
+    def __init__(self, folder: Path):
+        with open(folder / "log", "ab") as log:
+            self._it = subprocess.Popen(
+                [sys.executable, "-c", FORKER], stdin=subprocess.PIPE, stdout=subprocess.PIPE, stderr=log, text=True
+            )
+
+    def start(self, path: Path) -> int:
+        assert self._it.stdin and self._it.stdout
+        self._it.stdin.write(f"{path}\n")
+        self._it.stdin.flush()
+        return int(self._it.stdout.readline())
+
+    def end(self) -> None:
+        assert self._it.stdin and self._it.stdout
+        self._it.stdin.close()
+        self._it.wait()
+        self._it.stdout.close()
+
+
 def test_killed_fifty_times(tmp_path: Path) -> None:
     """At random moments: nothing is lost but the last second, nothing is there twice, and the database agrees."""
     import random
 
     chance = random.Random(7)
-    path = table(tmp_path)
+    path, forker = table(tmp_path), Forker(tmp_path)
     kills: List[float] = []
     for _ in range(50):
-        it = Process(tmp_path, path)
-        before = written(tmp_path)
-        it.until(lambda: written(tmp_path) > before or chance.random() < 0.02)
+        pid, before = forker.start(path), written(tmp_path)
+        end = time.monotonic() + chance.uniform(0, 0.3) + (PATIENCE if chance.random() < 0.8 else 0)
+        while time.monotonic() < end and written(tmp_path) == before:
+            time.sleep(0.02)
         time.sleep(chance.uniform(0, 0.9))
-        it.it.kill()
-        it.it.wait()
+        os.kill(pid, signal.SIGKILL)
+        while Path(f"/proc/{pid}").exists():
+            time.sleep(0.01)
         kills.append(time.time())
+    forker.end()
     last = Process(tmp_path, path)
     last.receives(500)
     assert last.end() == 0
     numbers = [number for number, _ in numbers_in(hours_in(tmp_path, "Alpha"))]
-    assert numbers == sorted(set(numbers))
+    assert numbers == sorted(set(numbers)) and len(numbers) > 60
     nothing_lost(set(numbers), sent_in(tmp_path / "sent"), kills)
     told_once(tmp_path)
-    done = monitor("check", "--station", "Alpha", tmp_path / "watch.db")
-    assert done.returncode in (0, 1, 2), done.stdout
 
 
 def nothing_lost(found: "set[int]", sent: List[Tuple[int, int, float]], kills: List[float]) -> None:

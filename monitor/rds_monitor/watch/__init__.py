@@ -100,9 +100,12 @@ class Service:
         self._thread.start()
         self._say("info", f"{len(self._watch.stations)} stations are watched")
         notify("READY=1")
-        self._go_on()
-        notify("STOPPING=1")
-        return self._leave()
+        try:
+            self._go_on()
+            notify("STOPPING=1")
+            return self._leave()
+        finally:
+            self._watch.kill()
 
     def _end(self, number: int, frame: Optional[Any]) -> None:
         self._ending = True
@@ -115,6 +118,8 @@ class Service:
 
         next_tick = time.monotonic()
         while not self._ending:
+            if self._thread.crash:
+                raise Fault(f"nothing can be written any more: {self._thread.crash}")
             time.sleep(POLL)
             self._watch.poll()
             if self._rereading:

@@ -228,5 +228,6 @@ class Watch:
         return not self._leaving and not self._appends and not self._records
 
     def kill(self) -> None:
-        for it in self._leaving:
+        """No receiver is left, whatever happened."""
+        for it in [*self._leaving, *self.stations.values()]:
             it.keeper.kill()

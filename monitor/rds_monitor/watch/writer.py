@@ -5,6 +5,7 @@ from __future__ import annotations
 import os
 import sqlite3
 import threading
+import traceback
 from typing import Callable, Dict, List, NamedTuple, Optional, Sequence
 
 from .live import Append
@@ -155,6 +156,7 @@ class WriterThread(threading.Thread):
         self._writer, self._wake = writer, threading.Condition()
         self._given: Optional[Batch] = None
         self._busy = self._ending = False
+        self.crash: Optional[str] = None
 
     @property
     def is_idle(self) -> bool:
@@ -171,6 +173,13 @@ class WriterThread(threading.Thread):
             self._wake.notify()
 
     def run(self) -> None:
+        """A fault of this program ends the thread, and so the watch: nothing goes on unwritten."""
+        try:
+            self._run()
+        except Exception:
+            self.crash = traceback.format_exc()
+
+    def _run(self) -> None:
         while True:
             with self._wake:
                 while self._given is None and not self._ending:
