@@ -11,7 +11,7 @@ export RT
 SOURCES := crates.txt $(shell find crates -name out -prune -o \( -name '*.rt' -o -name '*.antt' \) -print)
 
 .PHONY: all run quick lib test proofs built archives wrong-bodies install install-program install-monitor install-python \
-  install-lib deb wheel clean toolchain
+  install-lib deb wheel monitor-demo clean toolchain
 all: build/rds
 
 toolchain:
@@ -129,7 +129,8 @@ install-monitor: $(PYTHON_TOO)
 	install -d $(DESTDIR)$(PREFIX)/bin $(DESTDIR)$(MONITOR_DIR)/rds_monitor $(SHARE)/man/man1 $(SHARE)/bash-completion/completions
 	install -d $(DESTDIR)$(ZSH_COMPLETIONS)
 	install -m 644 monitor/rds_monitor/*.py $(DESTDIR)$(MONITOR_DIR)/rds_monitor
-	install -d $(DESTDIR)$(MONITOR_DIR)/rds_monitor/page
+	install -d $(DESTDIR)$(MONITOR_DIR)/rds_monitor/page $(DESTDIR)$(MONITOR_DIR)/rds_monitor/watch
+	install -m 644 monitor/rds_monitor/watch/*.py $(DESTDIR)$(MONITOR_DIR)/rds_monitor/watch
 	install -m 644 monitor/rds_monitor/page/* $(DESTDIR)$(MONITOR_DIR)/rds_monitor/page
 	install -m 755 monitor/rds-monitor $(DESTDIR)$(PREFIX)/bin/rds-monitor
 	install -m 644 monitor/rds-monitor.1 $(SHARE)/man/man1/rds-monitor.1
@@ -165,6 +166,11 @@ deb: $(PROGRAM) $(LIBRARY)/librds.so.0
 # A wheel of the Python module with the library in it, below build.
 wheel: $(FOLDER_$(ARCH))/librds.so.0
 	bindings/python/make_wheel.py $(FOLDER_$(ARCH))/librds.so.0 build
+
+# Three simulated stations on a page, by the library of `make lib` or the system's.
+PYTHON ?= /usr/bin/python3
+monitor-demo:
+	$(PYTHON) monitor/demo/run.py $(DEMO)
 
 clean:
 	rm -rf build tests/__pycache__

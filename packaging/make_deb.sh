@@ -132,9 +132,15 @@ Recommends: python3-numpy" "decoder of $about, Python module
 installed install-monitor rds-monitor ZSH_COMPLETIONS=/usr/share/zsh/vendor-completions PYTHON_TOO=
 gzip -9n "$work"/rds-monitor/usr/share/man/man1/*.1
 documents rds-monitor
+# The service is off until it is enabled.
+install -D -m 644 -t "$work/rds-monitor/usr/lib/systemd/system" packaging/rds-monitor-watch.service
+install -D -m 644 packaging/rds-monitor.sysusers "$work/rds-monitor/usr/lib/sysusers.d/rds-monitor.conf"
+install -D -m 644 -t "$work/rds-monitor/usr/share/doc/rds-monitor/examples" packaging/stations.toml packaging/alerts.yml
+gzip -9n < monitor/WATCHING.md > "$work/rds-monitor/usr/share/doc/rds-monitor/WATCHING.md.gz"
+for it in postinst prerm; do install -D -m 755 "packaging/rds-monitor.$it" "$work/rds-monitor/DEBIAN/$it"; done
 package rds-monitor all hamradio "Depends: python3 (>= 3.9), python3-numpy, python3-librds (= $version)
 Recommends: rds, libjs-d3, python3-jinja2
-Suggests: parallel, python3-pandas, python3-soundfile, rtl-sdr" "tables, databases and alarms from $about
+Suggests: parallel, python3-pandas, python3-soundfile, python3-tomli, rtl-sdr" "tables, databases and alarms from $about
  Says what a station sent and how well it was received: block errors,
  outages, contents, SQLite, JSON, a check for monitoring systems. It turns an
  FM multiplex or IQ samples into RDS bits."

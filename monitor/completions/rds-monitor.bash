@@ -15,12 +15,13 @@ _rds_monitor_options() {
     db) echo '-h --help --burst --reach --loss --share --of --hex --bits --gaps --length --trust-length --unfinished --name --station --groups --start --rate' ;;
     report) echo '-h --help --burst --reach --loss --share --of --hex --bits --gaps --length --trust-length --unfinished --start --rate --title' ;;
     why) echo '-h --help' ;;
-    check) echo '-h --help --last -w -c -W -C --pi --name --burst --reach --loss --share --of --length --rate' ;;
+    check) echo '-h --help --last --station -w -c -W -C --pi --name --burst --reach --loss --share --of --length --rate' ;;
     form) echo '-h --help' ;;
     pack) echo '-h --help --from --lsb-first --invert --differential --output' ;;
     demod) echo '-h --help --raw --rate --iq --offset --no-equaliser --channel --unpacked --output --json --every' ;;
     batch) echo '-h --help --suffix --options --demod --shared --wait' ;;
-    '') echo 'errors outages programmes types corrected clock info json groups table db report why check form pack demod batch --help --version' ;;
+    watch) echo '-h --help --folder --check --speed' ;;
+    '') echo 'errors outages programmes types corrected clock info json groups table db report why check form pack demod batch watch --help --version' ;;
   esac
 }
 

@@ -22,6 +22,7 @@ from .items import CORRECTED, GROUP_BITS, VALID, Fault, Readable, Recording, Row
 from .heads import is_listing
 from .listing import Listing, ends_of
 from .measure import Programmes, begins_of, groups_in, kinds_of
+from .watch.hours import hour_of
 
 OK, WARNING, CRITICAL, UNKNOWN = 0, 1, 2, 3
 WORDS = ("OK", "WARNING", "CRITICAL", "UNKNOWN")
@@ -119,6 +120,8 @@ def received(source: Source, reception: Reception, last: Optional[float], rate: 
         if not len(rows):
             continue
         if last is None:
+            if not reception.end and isinstance(source, Listing) and source.is_part:
+                reception.begin = int(begins_of(rows[:1])[0])
             reception.add(rows)
             continue
         kept.append(rows)
@@ -173,7 +176,8 @@ def open_end(paths: Sequence[str], last: Optional[float], arguments: argparse.Na
         raise Fault("of several inputs each must be a file")
     if listed:
         length = None if arguments.length is None else length_of(arguments.length)
-        return Listing(data, head, unfinished_ok=last is not None, length=length, trust_length=True, sessions=True)
+        part = last is not None or all(map(hour_of, paths))
+        return Listing(data, head, unfinished_ok=part, length=length, trust_length=True, sessions=True)
     library()
     return Recording(data, head, None, rules_of(arguments), (), None, False)
 
@@ -317,7 +321,8 @@ def options_check(parser: argparse.ArgumentParser) -> None:
     parser.epilog = (
         "examples:\n  rds-monitor check --pi D393 --name 'PAXO*' recording.bin\n"
         "  rds-monitor check --last 300 -w 95 -c 80 growing.csv\n"
-        "  rds-monitor check --last 300 last-hour.csv this-hour.csv"
+        "  rds-monitor check --last 300 last-hour.csv this-hour.csv\n"
+        "  rds-monitor check --station Alpha /var/lib/rds-monitor/watch.db"
     )
     setattr(parser, "on_error", misused)
     parser.add_argument(
@@ -326,6 +331,7 @@ def options_check(parser: argparse.ArgumentParser) -> None:
     parser.add_argument(
         "--last", type=number_of, metavar="SECONDS", help="judge the last seconds of a file that is being written"
     )
+    parser.add_argument("--station", metavar="NAME", help="judge this station by the database of `rds-monitor watch`")
     limits = parser.add_argument_group("limits")
     limits.add_argument(
         "-w", type=percent_of, metavar="PERCENT", help="warning: fewer blocks are valid (90, or -c above)"
@@ -387,6 +393,11 @@ def limits_of(arguments: argparse.Namespace) -> Limits:
 
 def _run(arguments: argparse.Namespace) -> int:
     limits = limits_of(arguments)
+    if arguments.station is not None:
+        from .watch.asked import judge_station
+
+        verdict, data = judge_station(arguments.input, arguments.station, limits, arguments.pi, arguments.name)
+        return report(verdict.status, ", ".join(verdict.said), data)
     if arguments.last is not None and arguments.length is not None:
         raise Fault("a listing that is being written has no --length")
     if arguments.last == 0:

@@ -16,6 +16,7 @@ from typing import Any, Callable, NamedTuple, NoReturn, Optional, Sequence
 
 from . import __version__
 from .items import Fault, Misuse
+from .watch.hours import take_hour
 
 
 class Command(NamedTuple):
@@ -52,6 +53,7 @@ COMMANDS = (
     Command("pack", "pack", "convert bits and samples to packed bits"),
     Command("demod", "demod", "demodulate MPX or IQ to packed bits"),
     Command("batch", "batch", "decode a folder of recordings"),
+    Command("watch", "watch", "watch stations day and night: listings, database, pages, alarms"),
 )
 
 
@@ -142,7 +144,9 @@ def main(words: Optional[Sequence[str]] = None) -> int:
         if not command:
             return 0
         name = f"rds-monitor {command.name}"
-        status = command.run(parser_of(command).parse_args(words[1:]))
+        arguments = parser_of(command).parse_args(words[1:])
+        take_hour(arguments)
+        status = command.run(arguments)
         sys.stdout.flush()
         return status
     except Misuse as error:

@@ -56,6 +56,8 @@ class Message:
         called at the first group of each, with how many bytes the turn before had."""
         known, before = self.known(), self._reached
         self._reached = len(known)
+        if END_OF_TEXT in known:
+            return None
         return (
             known if len(known) == before and len(known) >= reach and self._have == (1 << len(known) // 2) - 1 else None
         )

@@ -94,5 +94,31 @@ CREATE VIEW station_outages AS
   FROM numbered GROUP BY station, number;
 """
 
+# What `watch` writes besides. hour_files: up to which byte the rows of an hour's file are in the tables above, and whether
+# it is being written. station_rows: when a station was last looked at, and its state, as JSON.
+WATCH = f"""
+CREATE TABLE hour_files(
+  session INTEGER PRIMARY KEY REFERENCES sessions ON DELETE CASCADE, path TEXT NOT NULL, bytes INTEGER NOT NULL,
+  is_open INTEGER NOT NULL);
+CREATE TABLE alarm_rows(
+  id INTEGER PRIMARY KEY, station TEXT NOT NULL, alarm TEXT NOT NULL, begin_at REAL NOT NULL, end_at REAL,
+  text TEXT NOT NULL);
+CREATE INDEX alarm_rows_by_station ON alarm_rows(station, begin_at);
+CREATE TABLE run_rows(
+  id INTEGER PRIMARY KEY, station TEXT NOT NULL, begin_at REAL NOT NULL, end_at REAL, reason TEXT NOT NULL);
+CREATE INDEX run_rows_by_station ON run_rows(station, begin_at);
+CREATE TABLE station_rows(station TEXT PRIMARY KEY, looked_at REAL NOT NULL, state TEXT NOT NULL) WITHOUT ROWID;
+CREATE INDEX sessions_by_recording ON sessions(recording, start);
+CREATE INDEX recordings_by_station ON recordings(station);
+CREATE VIEW alarms AS
+  SELECT station, alarm, {_utc('begin_at')} AS begin_utc, {_utc('end_at')} AS end_utc,
+    ROUND(end_at - begin_at, 1) AS length_s, text
+  FROM alarm_rows;
+CREATE VIEW runs AS
+  SELECT station, {_utc('begin_at')} AS begin_utc, {_utc('end_at')} AS end_utc, reason FROM run_rows;
+CREATE VIEW stations AS
+  SELECT station, {_utc('looked_at')} AS looked_utc, state FROM station_rows;
+"""
+
 # The script of each version, which makes it of the one before: a database is brought up to date when it is opened.
-MIGRATIONS = (TABLES + VIEWS,)
+MIGRATIONS = (TABLES + VIEWS, WATCH)

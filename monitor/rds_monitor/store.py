@@ -12,13 +12,14 @@ import sqlite3
 import time
 from typing import Any, Iterable, List, Optional, Sequence
 
-from .clock import Clock, clock_of_options, clock_options
+from .clock import Clock, clock_options
 from .inputs import input_options, open_input
 from .items import GROUP, VALID, Fault, Misuse, Rows, Source
 from .listing import TOTAL_NAMES, VERSION_NAMES, block_texts, flat
 from .measure import BLOCKS, kinds_of
 from .schema import HELD, MARK, MIGRATIONS
 from .sessions import Session, sessions_of
+from .watch.hours import clock_of_hour, hour_of
 
 WAIT = 600.0
 
@@ -283,7 +284,12 @@ def run_db(arguments: argparse.Namespace) -> int:
         source = open_input(arguments, path, sessions=True)
         store = store or Store(arguments.database)
         name = os.path.basename(path) if arguments.name is None else arguments.name
-        store.add(name, arguments.station, source, clock_of_options(arguments), arguments.groups)
+        station = arguments.station
+        if hour_of(path):
+            # Hours of several stations have the same names, in a folder of the station's name.
+            folder = os.path.basename(os.path.dirname(os.path.abspath(path)))
+            name, station = name if arguments.name else f"{folder}/{name}", station or folder
+        store.add(name, station, source, clock_of_hour(arguments, path), arguments.groups)
     if store:
         store.close()
     return 0

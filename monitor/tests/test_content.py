@@ -12,7 +12,7 @@ from conftest import encode
 from rds_monitor.content import ITEMS, Decoder, Event
 from rds_monitor.content_networks import FrequencyList
 from rds_monitor.items import open_source
-from sent import PI, Words, clock, group, label, name, oda, pairs, tags, text
+from sent import PI, Words, clock, events_of, group, label, name, oda, pairs, tags, text, told
 
 LONG = b"The first text, of the standard's length for once, all 64 of it."
 
@@ -467,3 +467,8 @@ def test_another_method_replaces_the_list() -> None:
 def test_a_wrong_pair_does_not_stay() -> None:
     wrong = [0xE50A, 0x1E32, 0x9999, 0x465A]
     assert lists(*4 * [A], wrong, *6 * [A])[-1] == [88500, 90500, 92500, 94500, 96500]
+
+
+def test_a_text_with_an_end_is_told_once() -> None:
+    """However often it is sent: what comes after its end is no part of it."""
+    assert told(events_of(text(b"Hello\r  ") * 6), "rt") == ["Hello"]

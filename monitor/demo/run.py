@@ -1,0 +1,88 @@
+#!/usr/bin/python3
+"""Three simulated stations, watched at sixty times real time: monitor/demo/run.py [--seconds N] [--folder FOLDER]
+
+Beta has noise for two minutes of each twenty, and one wrong bit in 200. Gamma's receiver dies after each quarter of an hour, and another PI
+comes in its place for five minutes of each thirty. The address of the page is printed once it shows all three; the page goes on until this
+is interrupted, or for N seconds.
+"""
+
+from __future__ import annotations
+
+import argparse
+import json
+import os
+import signal
+import subprocess
+import sys
+import tempfile
+import time
+from pathlib import Path
+
+HERE = Path(__file__).resolve().parent
+TOP = HERE.parents[1]
+SPEED = 60
+LONGEST_START = 100.0
+
+STATIONS = (
+    ("Alpha", 98.1, "D318", "ALPHA", "Now: Harbour Lights, by the Night Shift", []),
+    ("Beta", 100.3, "D319", "BETA FM", "Traffic: all roads are clear", ["--errors", "0.005", "--outage", "1200:120"]),
+    ("Gamma", 103.7, "D31A", "GAMMA", "News at the hour", ["--dies", "900", "--wrong-pi", "1800:300"]),
+)
+
+
+def table(folder: Path) -> str:
+    lines = [f"folder = {json.dumps(str(folder))}"]
+    for name, frequency, pi, ps, rt, more in STATIONS:
+        command = [sys.executable, str(HERE / "station.py"), "--pi", pi, "--ps", ps, "--rt", rt, "--speed", str(SPEED), *more]
+        lines += ["[[station]]", f'name = "{name}"', f"frequency = {frequency}", f'pi = "{pi}"', f'ps = "{ps}"']
+        lines.append(f"command = {json.dumps(command)}")
+    return "\n".join(lines) + "\n"
+
+
+def environment() -> "dict[str, str]":
+    """The library of this checkout, if it is built, or else the system's."""
+    paths = [str(TOP / "monitor"), str(TOP / "bindings" / "python")]
+    found = {**os.environ, "PYTHONPATH": os.pathsep.join(paths)}
+    built = TOP / "build" / "lib" / "librds.so.0"
+    if built.exists():
+        found.setdefault("RDS_LIBRARY", str(built))
+    return found
+
+
+def shows_all(page: Path) -> bool:
+    text = page.read_text() if page.exists() else ""
+    return all(f">{ps}<" in text for _, _, _, ps, _, _ in STATIONS)
+
+
+def main() -> int:
+    parser = argparse.ArgumentParser(description=(__doc__ or "").split("\n")[0])
+    parser.add_argument("--seconds", type=float, default=0.0, help="end after so long (default: when interrupted)")
+    parser.add_argument("--folder", help="where to write (default: a new folder)")
+    it = parser.parse_args()
+    known = environment()
+    if subprocess.run([sys.executable, "-c", "import librds, numpy"], env=known, stderr=subprocess.DEVNULL).returncode:
+        sys.exit("the demonstration needs numpy and librds: install python3-numpy and python3-librds, or run `make lib`")
+    folder = Path(it.folder or tempfile.mkdtemp(prefix="rds-monitor-demo-")).resolve()
+    folder.mkdir(parents=True, exist_ok=True)
+    (folder / "stations.toml").write_text(table(folder))
+    page = folder / "pages" / "index.html"
+    words = [sys.executable, "-m", "rds_monitor", "watch", "--speed", str(SPEED), str(folder / "stations.toml")]
+    watch = subprocess.Popen(words, env=known)
+    try:
+        end = time.monotonic() + LONGEST_START
+        while not shows_all(page):
+            if watch.poll() is not None or time.monotonic() > end:
+                sys.exit("the watch did not begin")
+            time.sleep(0.2)
+        print(f"{page.as_uri()}", flush=True)
+        watch.wait(it.seconds or None)
+    except (KeyboardInterrupt, subprocess.TimeoutExpired):
+        pass
+    finally:
+        watch.send_signal(signal.SIGTERM)
+        watch.wait(30)
+    return 0
+
+
+if __name__ == "__main__":
+    sys.exit(main())

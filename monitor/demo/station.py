@@ -1,0 +1,169 @@
+#!/usr/bin/env python3
+"""A simulated receiver, for demonstrations and tests: packed bits of a station that is on the air all the time.
+
+    station.py --pi D318 --ps ALPHA --rt 'Now: nothing' [--speed N] [--errors RATE] [--outage EVERY:SECONDS] > bits
+
+Group N of a station is the same whoever receives it: it begins N / 11.418 seconds after 1970. Each sixth group has its number (6A).
+--errors is the rate of wrong bits. --outage is noise for some seconds at the end of every so many. --dies ends the program after some
+seconds of the station, --hangs lets it go on without output, --wrong-pi is another PI for some seconds, like an outage.
+"""
+
+from __future__ import annotations
+
+import argparse
+import os
+import sys
+import time
+from typing import Any, Iterator, List, NamedTuple, Optional, Sequence, Tuple
+
+RATE, GROUP_BITS, GROUP_BYTES = 1187.5, 104, 13
+GROUPS_PER_SECOND = RATE / GROUP_BITS
+Words = Tuple[int, int, int, int]
+
+
+class Periodic(NamedTuple):
+    """The last `seconds` of every so many."""
+
+    every: float
+    seconds: float
+
+    def holds(self, utc: float) -> bool:
+        return utc % self.every >= self.every - self.seconds
+
+
+class Programme(NamedTuple):
+    """What a station sends."""
+
+    pi: int
+    ps: str
+    rt: str
+    pty: int = 10
+    tp: bool = True
+    wrong_pi: Optional[Periodic] = None
+
+    def group(self, number: int) -> Words:
+        begin, end = number / GROUPS_PER_SECOND, (number + 1) / GROUPS_PER_SECOND
+        pi = self.pi ^ 0x0101 if self.wrong_pi and self.wrong_pi.holds(begin) else self.pi
+        common = self.tp << 10 | self.pty << 5
+        if int(end / 60) > int(begin / 60):
+            return (pi, *clock_words(int(end / 60), common))
+        turn = number % 6
+        if turn == 5:
+            return pi, 6 << 12 | common, number >> 16 & 0xFFFF, number & 0xFFFF
+        if turn % 2:
+            return (pi, *text_words(self.rt, number // 2, common))
+        segment = number // 2 % 4
+        return pi, common | 8 | segment, 0xE0CD, pair(self.ps.ljust(8), segment)
+
+
+def pair(text: str, at: int) -> int:
+    return int.from_bytes(text.encode("ascii", "replace")[2 * at : 2 * at + 2], "big")
+
+
+def text_words(text: str, number: int, common: int) -> Tuple[int, int, int]:
+    text = (text + "\r")[:64].ljust(-(-(len(text) + 1) // 4) * 4)[:64]
+    segment = number % (len(text) // 4)
+    return 2 << 12 | common | segment, pair(text, 2 * segment), pair(text, 2 * segment + 1)
+
+
+def clock_words(minutes: int, common: int) -> Tuple[int, int, int]:
+    """Group 4A: the minute that begins where it ends."""
+    day, hour, minute = 40587 + minutes // 1440, minutes // 60 % 24, minutes % 60
+    return 4 << 12 | common | day >> 15, (day & 0x7FFF) << 1 | hour >> 4, (hour & 15) << 12 | minute << 6
+
+
+def number_of(words: Sequence[int]) -> Optional[int]:
+    """The number of a group that has it."""
+    return words[2] << 16 | words[3] if words[1] >> 12 == 6 else None
+
+
+# ---- the program
+
+
+class Air:
+    """Bytes as they are sent, group by group, from the one that is on the air."""
+
+    def __init__(self, it: argparse.Namespace):
+        import librds
+
+        self._encode = librds.encode
+        self._random: Any = None
+        if it.errors or it.outage:
+            # Its import takes ten times as long as all else here.
+            import numpy
+
+            self._numpy: Any = numpy
+            self._random = numpy.random.default_rng(int(it.pi, 16))
+        self._programme = Programme(int(it.pi, 16), it.ps, it.rt, it.pty, wrong_pi=it.wrong_pi)
+        self._errors, self._outage = it.errors, it.outage
+
+    def groups(self, numbers: range) -> bytes:
+        data: bytes = self._encode([self._programme.group(it) for it in numbers])
+        return self._damaged(data, numbers) if self._random else data
+
+    def _damaged(self, data: bytes, numbers: range) -> bytes:
+        numpy = self._numpy
+        sent = numpy.frombuffer(data, "u1").reshape(-1, GROUP_BYTES)
+        if self._errors:
+            sent = sent ^ numpy.packbits(self._random.random((len(sent), GROUP_BITS)) < self._errors, axis=1)
+        if self._outage:
+            noise = numpy.array([self._outage.holds(it / GROUPS_PER_SECOND) for it in numbers])[:, None]
+            sent = numpy.where(noise, self._random.integers(0, 256, sent.shape, "u1"), sent)
+        return bytes(sent.tobytes())
+
+
+def moments(speed: float) -> Iterator[float]:
+    """UTC of the station, ten times a second."""
+    begin, steady = time.time(), time.monotonic()
+    while True:
+        yield begin + (time.monotonic() - steady) * speed
+        time.sleep(0.1)
+
+
+def periodic(text: str) -> Periodic:
+    every, _, seconds = text.partition(":")
+    return Periodic(float(every), float(seconds))
+
+
+def options() -> argparse.Namespace:
+    parser = argparse.ArgumentParser(description=(__doc__ or "").split("\n")[0])
+    parser.add_argument("--pi", required=True)
+    parser.add_argument("--ps", required=True)
+    parser.add_argument("--rt", default="")
+    parser.add_argument("--pty", type=int, default=10)
+    parser.add_argument("--speed", type=float, default=1.0)
+    parser.add_argument("--errors", type=float, default=0.0)
+    for name in ("--outage", "--wrong-pi"):
+        parser.add_argument(name, type=periodic)
+    for name in ("--dies", "--hangs"):
+        parser.add_argument(name, type=float)
+    parser.add_argument("--sent", help="a file that gets the number of the last group after each write")
+    return parser.parse_args()
+
+
+def main() -> int:
+    it = options()
+    air, first, sent = Air(it), None, 0
+    log: List[int] = [os.open(it.sent, os.O_WRONLY | os.O_APPEND | os.O_CREAT)] if it.sent else []
+    for utc in moments(it.speed):
+        number = int(utc * GROUPS_PER_SECOND)
+        if first is None:
+            first, sent, begin = number, number, utc
+        if it.hangs is not None and utc - begin >= it.hangs:
+            time.sleep(3600)
+        if number > sent:
+            os.write(1, air.groups(range(sent, number)))
+            for file in log:
+                os.write(file, f"{sent} {number} {time.time():.6f}\n".encode())
+            sent = number
+        if it.dies is not None and utc - begin >= it.dies:
+            print("the dongle was unplugged", file=sys.stderr)
+            return 1
+    return 0
+
+
+if __name__ == "__main__":
+    try:
+        sys.exit(main())
+    except (BrokenPipeError, KeyboardInterrupt):
+        sys.exit(1)

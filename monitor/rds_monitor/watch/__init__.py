@@ -1,0 +1,159 @@
+"""The command `watch`: receivers of a network, day and night."""
+
+from __future__ import annotations
+
+import argparse
+import fcntl
+import os
+import signal
+import time
+from typing import Any, List, Optional
+
+from ..clock import number_of
+from ..items import Fault, library
+
+# How often receivers are read, and how often what they gave is decoded and written.
+POLL, TICK = 0.1, 0.5
+# At the end, for the receivers and for the disk.
+LEAVING = 5.0
+
+
+def options_watch(parser: argparse.ArgumentParser) -> None:
+    parser.description = (
+        "Watch stations day and night: run a receiver for each, decode what it gives, and write listings by the hour, a database, "
+        "pages, metrics and alarms. It opens no network socket. SIGHUP reads the table again, SIGTERM ends it."
+    )
+    parser.epilog = (
+        "example:\n  rds-monitor watch --folder /var/lib/rds-monitor stations.toml\n"
+        "monitor/WATCHING.md describes the table, what is written, and the alarms."
+    )
+    parser.add_argument("table", metavar="TABLE", help="the table of stations, TOML")
+    parser.add_argument(
+        "--folder", metavar="FOLDER", help="where to write (default: the table's folder, or STATE_DIRECTORY of systemd)"
+    )
+    parser.add_argument("--check", action="store_true", help="check the table, list its stations, and end")
+    parser.add_argument(
+        "--speed", type=number_of, default=1.0, metavar="N", help="let the clock go N times as fast, for tests and demonstrations"
+    )
+
+
+def run_watch(arguments: argparse.Namespace) -> int:
+    from .table import read_table
+
+    table = read_table(arguments.table)
+    if arguments.check:
+        for it in table.stations:
+            print(f"{it.name}: {it.form}, {' '.join(it.command)}")
+        return 0
+    if arguments.speed < 0.01:
+        raise Fault("--speed is a number above 0")
+    folder = arguments.folder or table.folder or os.environ.get("STATE_DIRECTORY", "").split(":")[0]
+    if not folder:
+        raise Fault("there is no folder to write to: name it by --folder, or 'folder' in the table")
+    library()
+    return Service(arguments.table, table, os.path.abspath(folder), arguments.speed).run()
+
+
+class Service:
+    """The watch as a process: its signals, its pace, and what it tells systemd."""
+
+    def __init__(self, path: str, table: Any, folder: str, speed: float):
+        from .journal import say
+        from .loop import Watch
+        from .receiver import Process
+        from .records import Records
+        from .recover import recover
+        from .times import RealTimes
+        from .writer import Writer, WriterThread
+
+        self._path, self._say = path, say
+        self._ending = self._rereading = False
+        os.makedirs(folder, exist_ok=True)
+        self._lock = self._only_one(folder)
+        self._records = Records(os.path.join(folder, "watch.db"))
+        times = RealTimes(speed)
+        names = [it.name for it in table.stations]
+        for it in recover(folder, names, self._records):
+            say("notice", f"{it}: the last watch was killed; the hour is whole again")
+        self._records.end_runs(times.now().utc)
+        self._writer = Writer(folder, self._records, say)
+        self._thread = WriterThread(self._writer)
+        self._watch = Watch(table, folder, times, Process, self._thread, self._records, say)
+
+    @staticmethod
+    def _only_one(folder: str) -> int:
+        lock = os.open(os.path.join(folder, "watch.lock"), os.O_RDWR | os.O_CREAT | os.O_CLOEXEC, 0o644)
+        try:
+            fcntl.flock(lock, fcntl.LOCK_EX | fcntl.LOCK_NB)
+        except OSError:
+            raise Fault(f"another watch writes to {folder!r}") from None
+        return lock
+
+    def run(self) -> int:
+        from .journal import notify
+
+        for number in (signal.SIGTERM, signal.SIGINT):
+            signal.signal(number, self._end)
+        signal.signal(signal.SIGHUP, self._reread)
+        # A reader of standard error that leaves must not end the watch.
+        signal.signal(signal.SIGPIPE, signal.SIG_IGN)
+        self._thread.start()
+        self._say("info", f"{len(self._watch.stations)} stations are watched")
+        notify("READY=1")
+        try:
+            self._go_on()
+            notify("STOPPING=1")
+            return self._leave()
+        finally:
+            self._watch.kill()
+
+    def _end(self, number: int, frame: Optional[Any]) -> None:
+        self._ending = True
+
+    def _reread(self, number: int, frame: Optional[Any]) -> None:
+        self._rereading = True
+
+    def _go_on(self) -> None:
+        from .journal import notify
+
+        next_tick = time.monotonic()
+        while not self._ending:
+            if self._thread.crash:
+                raise Fault(f"nothing can be written any more: {self._thread.crash}")
+            time.sleep(POLL)
+            self._watch.poll()
+            if self._rereading:
+                self._rereading = False
+                self._read_table()
+            if time.monotonic() >= next_tick:
+                self._watch.tick()
+                notify("WATCHDOG=1")
+                next_tick = max(next_tick + TICK, time.monotonic())
+
+    def _read_table(self) -> None:
+        from .journal import notify
+        from .table import read_table
+
+        notify(f"RELOADING=1\nMONOTONIC_USEC={time.monotonic_ns() // 1000}")
+        try:
+            self._watch.reload(read_table(self._path))
+            self._say("notice", f"the table is read again: {len(self._watch.stations)} stations")
+        except Fault as error:
+            self._say("error", f"the old table holds: {error}")
+        notify("READY=1")
+
+    def _leave(self) -> int:
+        """Ends the sessions and writes them. What does not end or cannot be written within some seconds is left."""
+        self._watch.stop()
+        end = time.monotonic() + LEAVING
+        while not self._watch.has_left and time.monotonic() < end:
+            time.sleep(0.05)
+        self._watch.kill()
+        self._thread.end(LEAVING)
+        lost: List[str] = [self._thread.fault] if self._thread.fault else []
+        self._writer.close()
+        self._records.close()
+        os.close(self._lock)
+        for it in lost:
+            self._say("error", f"rows were not written: {it}")
+        return 1 if lost else 0

@@ -1,0 +1,188 @@
+"""A session that goes on: bits to rows, rows to hours' files and records."""
+
+from __future__ import annotations
+
+import os
+from typing import Any, List, NamedTuple, Optional, Tuple
+
+import numpy
+
+from ..clock import utc_text
+from ..items import ACQUIRED, BLOCK_BITS, GROUP, GROUP_BITS, ITEM, LOSS, VALID, Rows, Totals, library
+from ..listing import ends_of, text_of, totals_text
+from ..measure import groups_in, kinds_of
+from .hours import HOUR, Hour
+from .records import PartGrew, PartKey, PartOpened, PartTold, Record
+from .session import Contents, Part, Told
+from .times import Arrivals, Timing
+
+# Seconds after which the database learns how far a session is, if there is nothing else to say.
+NEWS = 10.0
+
+
+class Append(NamedTuple):
+    """Rows for a file below the folder; `closes` if they are its last ones."""
+
+    path: str
+    data: bytes
+    closes: bool = False
+
+
+class LiveSession:
+    """A session of one station. What it made waits in `appends`, `records` and `told`."""
+
+    def __init__(self, station: str, speed: float):
+        librds = library()
+        self._station, self._speed = station, speed
+        self._follower: Any = librds.Follower()
+        self.arrivals = Arrivals(speed)
+        self.contents = Contents(1187.5)
+        self.part: Optional[Part] = None
+        self._key = PartKey("", 0)
+        self._path, self._size = "", 0
+        self._cut = 0
+        self._early: List[Rows] = []
+        # Where the last row ended, while there is sync.
+        self._row_end: Optional[int] = None
+        # Where the last whole group ended.
+        self.whole_end: Optional[int] = None
+        self._news = 0.0
+        self.appends: List[Append] = []
+        self.records: List[Record] = []
+        self.told: List[Tuple[Told, Timing]] = []
+
+    @property
+    def place(self) -> int:
+        """How many bits were heard."""
+        return int(self._follower.place)
+
+    @property
+    def timing(self) -> Optional[Timing]:
+        return self.part.timing if self.part else self.arrivals.timing
+
+    def take(self, data: bytes) -> None:
+        """The next bits, of whose arrival `arrivals` was told."""
+        self._early.append(self._follower.push_array(data))
+
+    def tick(self, utc: float) -> None:
+        """Makes of the bits what can be made by now."""
+        timing = self.arrivals.timing
+        if timing is None:
+            return
+        if self.part is None:
+            if utc - timing.start < Arrivals.SETTLING * self._speed:
+                return
+            self._key = PartKey(f"{self._station} {utc_text(timing.start)}", 0)
+            self._open(0, 0)
+        elif self.arrivals.is_late():
+            self.jump(self.arrivals.delay())
+        self._advance(self._taken(), self.place, utc)
+        self._tell(utc)
+
+    def _taken(self) -> Rows:
+        rows: Rows = numpy.concatenate([numpy.zeros(0, ITEM), *self._early])
+        self._early = []
+        return rows
+
+    def jump(self, seconds: float) -> None:
+        """The time jumps forward by so much: the machine's clock was set, or bits were dropped."""
+        begin = self._end_part(self.place) if self.part else 0
+        if self.arrivals.timing is not None:
+            self.arrivals.jump(seconds)
+        if self.part:
+            self._open(begin, self.place)
+
+    # ---- parts
+
+    def _open(self, begin: int, at: int) -> None:
+        """A part from the position `begin` on, in the hour of the position `at`: a group may have begun in the one before."""
+        timing = self.arrivals.timing
+        assert timing is not None
+        hour = timing.utc(at) // HOUR * HOUR
+        self._cut = timing.place(hour + HOUR)
+        self.part = Part(timing, begin, self.contents)
+        name = Hour(hour, timing.start, timing.rate).name
+        self._path, self._size = os.path.join("listings", self._station, name), 0
+        self.records.append(PartOpened(self._key, self._station, timing, begin, self._path))
+
+    def _end_part(self, place: int) -> int:
+        """Ends the part, with its last row if there is sync and else at this position, where the next one begins."""
+        assert self.part is not None
+        end = max(self.part.begin, self._row_end if self._row_end is not None else place)
+        self._close_part(end, last=False)
+        self._key = PartKey(self._key.recording, self._key.number + 1)
+        return end
+
+    def _close_part(self, end: int, last: bool, totals: Optional[Totals] = None) -> None:
+        assert self.part is not None
+        self.part.close(end, last)
+        self._collect()
+        self.records.append(PartGrew(self._key, end, self._size, True, totals))
+        self.appends.append(Append(self._path, b"", closes=True))
+
+    def _advance(self, rows: Rows, place: int, utc: float) -> None:
+        """Rows up to the decoder's position, an hour at a time."""
+        assert self.part is not None
+        ends = ends_of(rows)
+        while place >= self._cut:
+            cut = self._cut
+            count = int(numpy.searchsorted(ends, cut, "right"))
+            self._write(rows[:count])
+            rows, ends = rows[count:], ends[count:]
+            begin = self._end_part(cut)
+            self.arrivals.cut(cut, utc)
+            self._open(begin, cut)
+        self._write(rows)
+        self.part.pass_to(place)
+
+    def _write(self, rows: Rows) -> None:
+        if not len(rows):
+            return
+        assert self.part is not None
+        self.part.add(rows)
+        text = text_of(rows)
+        self._size += len(text)
+        self.appends.append(Append(self._path, text))
+        self._note_whole(rows)
+        last = rows[-1:]
+        end, what = int(ends_of(last)[0]), last["what"][0]
+        self._row_end = None if what == LOSS else end - BLOCK_BITS if what == ACQUIRED else end
+
+    def _note_whole(self, rows: Rows) -> None:
+        whole = rows["place"][rows["what"] == GROUP][(kinds_of(groups_in(rows)) == VALID).all(axis=1)]
+        if len(whole):
+            self.whole_end = int(whole[-1]) + GROUP_BITS
+
+    def _collect(self) -> bool:
+        """Hands over what the part has to tell, if anything."""
+        assert self.part is not None
+        told = self.part.taken()
+        if told.changes or told.minutes or told.ticks:
+            self.told.append((told, self.part.timing))
+        if told.minutes or told.events or told.outages:
+            self.records.append(PartTold(self._key, told))
+            return True
+        return False
+
+    def _tell(self, utc: float) -> None:
+        assert self.part is not None
+        if self._collect() or utc >= self._news:
+            self._news = utc + NEWS * self._speed
+            self.records.append(PartGrew(self._key, self.part.end, self._size))
+
+    def close(self, utc: float) -> None:
+        """The session has ended: the group in progress and the totals."""
+        if self.arrivals.timing is None:
+            return
+        rows, found = self._follower.finish_array()
+        self._early.append(rows)
+        if self.part is None:
+            self._key = PartKey(f"{self._station} {utc_text(self.arrivals.timing.start)}", 0)
+            self._open(0, 0)
+        self._advance(self._taken(), self.place, utc)
+        totals = Totals(found.valid, tuple(found.bursts), *(getattr(found, it) for it in Totals._fields[2:]))
+        if totals.groups or totals.acquired:
+            text = totals_text(totals)
+            self._size += len(text)
+            self.appends.append(Append(self._path, text))
+        self._close_part(self.place, True, totals)

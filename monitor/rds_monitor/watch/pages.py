@@ -1,0 +1,214 @@
+"""Pages of the network as it is: an overview with a tile per station, and a page per station. They have no script, and texts
+of stations are escaped. `rds-monitor report` draws a recording with zoom."""
+
+from __future__ import annotations
+
+import base64
+import hashlib
+import os
+import sqlite3
+from html import escape
+from typing import Any, Dict, List, NamedTuple, Optional, Sequence, Tuple
+from urllib.parse import quote
+
+from ..charset import printable
+from ..clock import utc_text
+from ..info import label
+from .metrics import bad_ratio
+
+DAY, MINUTE = 86400.0, 60.0
+# A picture has a point per so many minutes of the last day.
+STEP_MINUTES = 4
+STYLE = """\
+:root{color-scheme:light dark;--ink:#1b1f24;--paper:#fff;--soft:#667;--line:#d5d9e0;--bad:#b3261e;--warn:#9a6700;--good:#1a7f37}
+@media(prefers-color-scheme:dark){:root{--ink:#e6e9ee;--paper:#14171b;--soft:#9aa3ad;--line:#333a44;--bad:#ff8a80;--warn:#e3b341;--good:#56d364}}
+body{margin:1.5rem;font:16px/1.45 system-ui,sans-serif;color:var(--ink);background:var(--paper)}
+h1{font-size:1.4rem}h2{font-size:1.1rem;margin-top:1.6rem}
+a{color:inherit}.soft{color:var(--soft)}
+ul.tiles{display:grid;grid-template-columns:repeat(auto-fill,minmax(19rem,1fr));gap:1rem;padding:0;list-style:none}
+.tile{border:1px solid var(--line);border-left:.5rem solid var(--good);border-radius:.4rem;padding:.8rem;overflow-wrap:anywhere}
+.tile.warning{border-left-color:var(--warn)}.tile.critical{border-left-color:var(--bad)}
+.tile h2{margin:0}.tile p{margin:.2rem 0}.ps{font:600 1.2rem ui-monospace,monospace;white-space:pre}
+.alarm{color:var(--bad);font-weight:600}
+svg{width:100%;height:auto;display:block}.bad{fill:var(--bad)}.fixed{fill:var(--warn)}.fine{fill:var(--good)}.axis{stroke:var(--line)}
+svg text{fill:var(--soft);font-size:11px}
+table{border-collapse:collapse}td,th{text-align:left;padding:.15rem .8rem .15rem 0;border-bottom:1px solid var(--line);vertical-align:top}
+td.text{white-space:pre-wrap;overflow-wrap:anywhere}"""
+HASH = base64.b64encode(hashlib.sha256(STYLE.encode()).digest()).decode()
+POLICY = f"default-src 'none'; style-src 'sha256-{HASH}'; base-uri 'none'; form-action 'none'"
+
+CRITICAL = ("silent", "no_rds", "pi")
+
+
+class Bar(NamedTuple):
+    """Some minutes of a station: blocks sent, valid, corrected. Without a session none was sent."""
+
+    sent: int
+    valid: int
+    corrected: int
+
+
+def severity(state: Dict[str, Any]) -> str:
+    lasting = state["alarms"]
+    return "critical" if any(it in lasting for it in CRITICAL) else "warning" if lasting else "fine"
+
+
+def worst_first(states: Dict[str, Dict[str, Any]]) -> List[str]:
+    """The names of stations: by alarms, then by bad blocks."""
+    order = ("critical", "warning", "fine")
+    return sorted(states, key=lambda name: (order.index(severity(states[name])), -(bad_ratio(states[name]) or 0), name))
+
+
+def write_pages(folder: str, states: Dict[str, Dict[str, Any]], utc: float, data: sqlite3.Connection, refresh: int) -> None:
+    """Writes all pages, each by renaming a new file."""
+    os.makedirs(folder, exist_ok=True)
+    bars = {name: bars_of(data, name, utc) for name in states}
+    replace(os.path.join(folder, "index.html"), overview(states, bars, utc, refresh))
+    for name, state in states.items():
+        page = station_page(name, state, bars[name], _alarms_of(data, name), _events_of(data, name), utc, refresh)
+        replace(os.path.join(folder, f"{name}.html"), page)
+
+
+def replace(path: str, text: str) -> None:
+    """Writes a file anew: a reader sees the old one or the new one."""
+    new = f"{path}.new"
+    with open(new, "w", encoding="utf-8", errors="backslashreplace") as it:
+        it.write(text)
+    os.replace(new, path)
+
+
+# ---- from the database
+
+
+def bars_of(data: sqlite3.Connection, station: str, utc: float) -> List[Bar]:
+    """The blocks of the last day by `STEP_MINUTES`."""
+    seconds = STEP_MINUTES * MINUTE
+    count = int(DAY / seconds)
+    first = int(utc / seconds) - count + 1
+    found = {
+        int(slot): Bar(*blocks)
+        for slot, *blocks in data.execute(
+            "SELECT CAST((start + minute * minute_bits / rate) / ? AS INTEGER) AS slot, SUM(sent), SUM(valid), SUM(corrected)"
+            " FROM recordings JOIN sessions ON recording = recordings.id JOIN minute_rows ON session = sessions.id"
+            " WHERE station = ? AND start + end_place / rate > ? GROUP BY slot HAVING slot >= ?",
+            (seconds, station, first * seconds, first),
+        )
+    }
+    return [found.get(first + at, Bar(0, 0, 0)) for at in range(count)]
+
+
+def _alarms_of(data: sqlite3.Connection, station: str) -> List[Tuple[Any, ...]]:
+    query = "SELECT alarm, begin_at, end_at, text FROM alarm_rows WHERE station = ? ORDER BY begin_at DESC LIMIT 30"
+    return data.execute(query, (station,)).fetchall()
+
+
+def _events_of(data: sqlite3.Connection, station: str) -> List[Tuple[Any, ...]]:
+    query = (
+        "SELECT start + place / rate AS at, item, value FROM recordings JOIN sessions ON recording = recordings.id"
+        " JOIN event_rows ON session = sessions.id JOIN facts ON facts.id = fact"
+        " WHERE sessions.id IN (SELECT sessions.id FROM recordings JOIN sessions ON recording = recordings.id"
+        "   WHERE station = ? ORDER BY start + end_place / rate DESC LIMIT 4)"
+        " ORDER BY at DESC LIMIT 40"
+    )
+    return data.execute(query, (station,)).fetchall()
+
+
+# ---- parts of pages
+
+
+def _page(title: str, body: str, refresh: int) -> str:
+    return (
+        f'<!DOCTYPE html>\n<html lang="en"><head><meta charset="utf-8"><title>{escape(title)}</title>\n'
+        f'<meta http-equiv="Content-Security-Policy" content="{POLICY}">\n'
+        f'<meta http-equiv="refresh" content="{refresh}"><meta name="viewport" content="width=device-width">\n'
+        f"<style>{STYLE}</style></head>\n<body>\n{body}\n</body></html>\n"
+    )
+
+
+def _time(utc: Optional[float]) -> str:
+    if utc is None:
+        return "–"
+    text = utc_text(utc)
+    return f'<time datetime="{text}">{text[:10]} {text[11:19]} UTC</time>'
+
+
+def _text(text: Any) -> str:
+    """A text of a stranger, in an element of its own so that its direction does not turn the rest."""
+    return f"<bdi>{escape(printable(str(text)))}</bdi>"
+
+
+def picture(bars: Sequence[Bar], height: int, name: str) -> str:
+    """Bars of bad blocks from the top, corrected ones in another colour; a gap has no session."""
+    width, parts = len(bars), []
+    for at, it in enumerate(bars):
+        if not it.sent:
+            continue
+        bad = height * (it.sent - it.valid - it.corrected) / it.sent
+        fixed = height * it.corrected / it.sent
+        for kind, top, high in (("fine", bad + fixed, height - bad - fixed), ("fixed", bad, fixed), ("bad", 0.0, bad)):
+            if high > 0:
+                # An outage of a second is seen, too.
+                parts.append(f'<rect class="{kind}" x="{at}" y="{top:.1f}" width="1" height="{max(high, 1.0):.1f}"/>')
+    text = f"Blocks of the last 24 hours of {escape(name)}: valid, corrected, bad"
+    axis = f'<line class="axis" x1="0" x2="{width}" y1="{height}" y2="{height}"/>'
+    return f'<svg viewBox="0 0 {width} {height}" preserveAspectRatio="none" role="img" aria-label="{text}">{"".join(parts)}{axis}</svg>'
+
+
+def _percent(state: Dict[str, Any]) -> str:
+    ratio = bad_ratio(state)
+    return "no minute yet" if ratio is None else f"{100 * ratio:.1f} % of the last minute bad"
+
+
+def overview(states: Dict[str, Dict[str, Any]], bars: Dict[str, List[Bar]], utc: float, refresh: int) -> str:
+    tiles = "\n".join(_tile(name, states[name], bars[name], utc) for name in worst_first(states))
+    lasting = sum(bool(it["alarms"]) for it in states.values())
+    head = f"<h1>RDS network</h1>\n<p>{len(states)} stations, {lasting} with an alarm. {_time(utc)}</p>"
+    return _page("RDS network", f'{head}\n<ul class="tiles">\n{tiles}\n</ul>', refresh)
+
+
+def _tile(name: str, it: Dict[str, Any], bars: Sequence[Bar], utc: float) -> str:
+    held, frequency = it["held"], it["frequency"]
+    alarms = "".join(f'<p class="alarm">{escape(alarm)}: {_text(text)}</p>' for alarm, text in it["alarms"].items())
+    last = it["last_group_utc"]
+    age = "no whole group yet" if last is None else f"last whole group {max(0.0, utc - last):.0f} s ago"
+    return (
+        f'<li class="tile {severity(it)}"><h2><a href="{quote(name)}.html">{escape(name)}</a>'
+        + (f' <span class="soft">{frequency:g} MHz</span>' if frequency else "")
+        + f'</h2><p class="ps">{_text(held.get("ps", ""))}&#8203;</p><p>{_text(held.get("rt", "no RT"))}</p>'
+        f'<p class="soft">PI {_text(held.get("pi", "none"))}, PTY {_text(held.get("pty", "none"))}</p>'
+        f"{alarms}<p>{_percent(it)}; {age}</p>{picture(bars, 40, name)}</li>"
+    )
+
+
+def station_page(
+    name: str,
+    it: Dict[str, Any],
+    bars: Sequence[Bar],
+    alarms: Sequence[Tuple[Any, ...]],
+    events: Sequence[Tuple[Any, ...]],
+    utc: float,
+    refresh: int,
+) -> str:
+    session = f"session since {_time(it['session_utc'])}" if it["session_utc"] else f"no session: the receiver {_text(it['reason'] or 'starts')}"
+    parts = [
+        f'<p><a href="index.html">RDS network</a></p><h1>{escape(name)}</h1>',
+        f"<p>{_percent(it)}; {session}; {it['starts']} starts of the receiver. {_time(utc)}</p>",
+        "".join(f'<p class="alarm">{escape(alarm)}: {_text(text)}</p>' for alarm, text in it["alarms"].items()),
+        f"<h2>The last 24 hours</h2>{picture(bars, 60, name)}",
+        "<h2>Contents</h2>" + _table(("Item", "Value"), [(label(item), text) for item, text in it["held"].items()]),
+        "<h2>Alarms</h2>" + _table(("Alarm", "Begin", "End", ""), [(a, _at(b), _at(e), text) for a, b, e, text in alarms]),
+        "<h2>Changes</h2>" + _table(("Time", "Item", "Value"), [(_at(at), label(item), "none" if v is None else v) for at, item, v in events]),
+    ]
+    return _page(name, "\n".join(parts), refresh)
+
+
+def _at(utc: Optional[float]) -> str:
+    return "" if utc is None else utc_text(utc)[:19].replace("T", " ")
+
+
+def _table(head: Sequence[str], rows: Sequence[Sequence[Any]]) -> str:
+    if not rows:
+        return '<p class="soft">none</p>'
+    top = "".join(f'<th scope="col">{escape(it)}</th>' for it in head)
+    body = "".join("<tr>" + "".join(f'<td class="text">{_text(it)}</td>' for it in row) + "</tr>" for row in rows)
+    return f"<table><thead><tr>{top}</tr></thead><tbody>{body}</tbody></table>"

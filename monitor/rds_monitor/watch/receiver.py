@@ -1,0 +1,197 @@
+"""A receiver's command as a process: started, read, restarted after growing pauses, stopped."""
+
+from __future__ import annotations
+
+import fcntl
+import os
+import signal
+import subprocess
+from typing import Callable, List, Optional, Protocol, Sequence
+
+# Linux: a pipe of a megabyte holds a second of any signal while the disk is busy.
+F_SETPIPE_SZ, PIPE_BYTES = 1031, 1 << 20
+# Bytes that are read at once, so that one receiver cannot hold up the others.
+MOST = 1 << 22
+FIRST_PAUSE, LONGEST_PAUSE, GOOD_RUN = 1.0, 60.0, 60.0
+# Between SIGTERM and SIGKILL.
+GRACE = 2.0
+
+
+class Running(Protocol):
+    """A command that runs. `read` gives what is there, and None after the end of the output; `ended` says how the process
+    ended, or None while it runs."""
+
+    def read(self) -> Optional[bytes]: ...
+
+    def ended(self) -> Optional[str]: ...
+
+    def terminate(self) -> None: ...
+
+    def kill(self) -> None: ...
+
+    def close(self) -> None: ...
+
+
+class Process:
+    """A command in a process group of its own."""
+
+    def __init__(self, words: Sequence[str]):
+        pipe = subprocess.PIPE
+        self._it = subprocess.Popen(list(words), stdin=subprocess.DEVNULL, stdout=pipe, stderr=pipe, start_new_session=True, bufsize=0)
+        assert self._it.stdout and self._it.stderr
+        self._out, self._error = self._it.stdout, self._it.stderr
+        self._said = b""
+        for stream in (self._out, self._error):
+            os.set_blocking(stream.fileno(), False)
+        try:
+            fcntl.fcntl(self._out.fileno(), F_SETPIPE_SZ, PIPE_BYTES)
+        except OSError:
+            # Over the limit of a user, or another system.
+            pass
+
+    def read(self) -> Optional[bytes]:
+        self._listen()
+        parts: List[bytes] = []
+        size = 0
+        while size < MOST:
+            part = self._out.read(1 << 18)
+            if part is None:
+                break
+            if not part:
+                return b"".join(parts) if parts else None
+            parts.append(part)
+            size += len(part)
+        return b"".join(parts)
+
+    def _listen(self) -> None:
+        """Keeps the end of what it says on standard error."""
+        for _ in range(16):
+            part = self._error.read(1 << 14)
+            if not part:
+                return
+            self._said = (self._said + part)[-400:]
+
+    def ended(self) -> Optional[str]:
+        status = self._it.poll()
+        if status is None:
+            return None
+        how = f"ended with status {status}" if status >= 0 else f"was ended by {_signal_name(-status)}"
+        lines = self._said.decode("utf-8", "backslashreplace").split("\n")
+        last = next((line.strip() for line in reversed(lines) if line.strip()), "")
+        return how + (f": {last}" if last else "")
+
+    def terminate(self) -> None:
+        self._signal(signal.SIGTERM)
+
+    def kill(self) -> None:
+        self._signal(signal.SIGKILL)
+
+    def _signal(self, number: int) -> None:
+        """To the whole group, also if the process that began it has ended."""
+        try:
+            os.killpg(self._it.pid, number)
+        except (ProcessLookupError, PermissionError):
+            pass
+
+    def close(self) -> None:
+        self._out.close()
+        self._error.close()
+        self._it.poll()
+
+
+def _signal_name(number: int) -> str:
+    try:
+        return signal.Signals(number).name
+    except ValueError:
+        return f"signal {number}"
+
+
+Launch = Callable[[Sequence[str]], Running]
+
+
+class Keeper:
+    """Keeps a command running. Times are of the monotonic clock."""
+
+    def __init__(self, words: Sequence[str], patience: float, launch: Launch, now: float):
+        self._words, self.patience, self._launch = words, patience, launch
+        self._it: Optional[Running] = None
+        self._pause, self._again = FIRST_PAUSE, now
+        self._began = self.last_byte = now
+        self._killing: Optional[float] = None
+        self._stopped = False
+        self.starts = 0
+        # How the last run ended, once it has.
+        self.reason = ""
+
+    @property
+    def is_running(self) -> bool:
+        return self._it is not None
+
+    def read(self, now: float) -> Optional[bytes]:
+        """What came since the last call; None once, when a run has ended. It starts the command if it is time."""
+        if self._it is None:
+            if not self._stopped and now >= self._again:
+                return self._start(now)
+            return b""
+        data = self._it.read()
+        if data:
+            self.last_byte = now
+            return data
+        return self._look(now, data is None)
+
+    def _start(self, now: float) -> Optional[bytes]:
+        self.starts += 1
+        self._began, self._killing, self.reason = now, None, ""
+        try:
+            self._it = self._launch(self._words)
+        except OSError as error:
+            self._end(now, f"cannot be started: {error.strerror or error}")
+            return None
+        return b""
+
+    def _look(self, now: float, no_output: bool) -> Optional[bytes]:
+        """Whether a run without bytes has ended, hangs, or is to be killed. It may go on without its output."""
+        assert self._it is not None
+        ended = self._it.ended()
+        if ended is not None:
+            last = self._it.read()
+            if last:
+                return last
+            # What is left of its group, such as a pipeline's other programs.
+            self._it.kill()
+            self._end(now, self.reason if self._killing is not None and self.reason else ended)
+            return None
+        if self._killing is not None:
+            if now - self._killing > GRACE:
+                self._it.kill()
+        elif no_output and now - max(self.last_byte, self._began) > min(GRACE, self.patience):
+            self.stop_run(now, "closed its output")
+        elif now - max(self.last_byte, self._began) > self.patience:
+            self.stop_run(now, f"gave no byte for {self.patience:g} s")
+        return b""
+
+    def stop_run(self, now: float, reason: str) -> None:
+        """Ends the run, which is followed by another one."""
+        if self._it and self._killing is None:
+            self._killing, self.reason = now, reason
+            self._it.terminate()
+
+    def _end(self, now: float, reason: str) -> None:
+        if self._it:
+            self._it.close()
+        self._it, self.reason = None, reason
+        if now - self._began >= GOOD_RUN and self.last_byte >= self._began:
+            self._pause = FIRST_PAUSE
+        self._again = now + self._pause
+        self._pause = min(2 * self._pause, LONGEST_PAUSE)
+
+    def stop(self, now: float, reason: str) -> None:
+        """For good."""
+        self._stopped = True
+        self.stop_run(now, reason)
+
+    def kill(self) -> None:
+        if self._it:
+            self._it.kill()
+            self._it.close()
+            self._it = None

@@ -1,0 +1,73 @@
+"""Removes what is older, or more, than the table wants to keep."""
+
+from __future__ import annotations
+
+import os
+from typing import Iterator, List, NamedTuple, Set
+
+from ..schema import HELD
+from .hours import HOUR, hour_of
+from .records import Records
+from .table import Keep
+
+DAY = 86400.0
+GB = 1e9
+
+
+class Listed(NamedTuple):
+    begin: float
+    path: str
+    size: int
+
+
+def tidy(folder: str, keep: Keep, utc: float, records: Records) -> List[str]:
+    """Removes old hours' files and old rows of the database, and gives the paths of the files. Hours that are being written,
+    and all of the last hour, are kept."""
+    busy = {it.path for it in records.open_parts()}
+    removed = [it.path for it in _too_old(sorted(_hours(folder)), keep, utc, busy)]
+    for path in removed:
+        os.unlink(os.path.join(folder, path))
+    if keep.database_days:
+        _forget(records, utc - keep.database_days * DAY)
+    return removed
+
+
+def _hours(folder: str) -> Iterator[Listed]:
+    top = os.path.join(folder, "listings")
+    for station in os.listdir(top) if os.path.isdir(top) else ():
+        for name in os.listdir(os.path.join(top, station)):
+            hour = hour_of(name)
+            if hour:
+                path = os.path.join("listings", station, name)
+                yield Listed(hour.begin, path, os.stat(os.path.join(folder, path)).st_size)
+
+
+def _too_old(hours: List[Listed], keep: Keep, utc: float, busy: Set[str]) -> Iterator[Listed]:
+    total = sum(it.size for it in hours)
+    oldest = utc - keep.listings_days * DAY if keep.listings_days else 0.0
+    for it in hours:
+        if it.path in busy or it.begin > utc - 2 * HOUR:
+            continue
+        if it.begin + HOUR <= oldest or keep.listings_gb and total > keep.listings_gb * GB:
+            total -= it.size
+            yield it
+
+
+def _forget(records: Records, oldest: float) -> None:
+    """Parts, alarms and runs that ended before, recordings without a part, and facts that nothing names."""
+    data = records.database
+    data.execute("BEGIN IMMEDIATE")
+    try:
+        gone = data.execute("DELETE FROM sessions WHERE start + end_place / rate < ?", (oldest,)).rowcount
+        data.execute("DELETE FROM alarm_rows WHERE end_at < ?", (oldest,))
+        data.execute("DELETE FROM run_rows WHERE end_at < ?", (oldest,))
+        if gone:
+            data.execute("DELETE FROM recordings WHERE NOT EXISTS (SELECT 1 FROM sessions WHERE recording = recordings.id)")
+            named = " UNION ".join(f"SELECT {it} FROM minute_rows WHERE {it} NOT NULL" for it in HELD)
+            data.execute(f"DELETE FROM facts WHERE id NOT IN (SELECT fact FROM event_rows UNION {named})")
+        data.execute("COMMIT")
+    except BaseException:
+        data.execute("ROLLBACK")
+        raise
+    finally:
+        records.forget()

@@ -1,0 +1,143 @@
+"""Times: UTC counted by the monotonic clock, and when bits were sent, by when they came."""
+
+from __future__ import annotations
+
+import math
+import time
+from collections import deque
+from typing import Deque, NamedTuple, Optional, Protocol, Tuple
+
+from ..clock import RATE
+
+# A step of the machine's clock, in seconds, that is not just its being kept right.
+STEP = 1.0
+
+
+class Now(NamedTuple):
+    """A moment: seconds of the monotonic clock, and UTC since 1970 by the machine's clock."""
+
+    steady: float
+    utc: float
+
+
+class Times(Protocol):
+    """A clock. `speed` is how many times as fast as real time it goes."""
+
+    speed: float
+
+    def now(self) -> Now: ...
+
+
+class RealTimes:
+    """The machine's clocks, or faster ones that begin with them."""
+
+    def __init__(self, speed: float = 1.0):
+        self.speed = speed
+        self._steady, self._utc = time.monotonic(), time.time()
+
+    def now(self) -> Now:
+        steady, utc = time.monotonic(), time.time()
+        return Now(self._steady + (steady - self._steady) * self.speed, self._utc + (utc - self._utc) * self.speed)
+
+
+class SteadyUtc:
+    """UTC by the monotonic clock, and the steps of the machine's clock against it."""
+
+    def __init__(self, now: Now, speed: float = 1.0):
+        self._ahead, self._least = now.utc - now.steady, STEP * speed
+
+    def step(self, now: Now) -> float:
+        """How far the machine's clock was set since the last call, if it was. The new time counts from now on."""
+        ahead = now.utc - now.steady
+        moved, self._ahead = ahead - self._ahead, ahead
+        return moved if abs(moved) > self._least else 0.0
+
+    def utc(self, now: Now) -> float:
+        return now.steady + self._ahead
+
+
+class Timing(NamedTuple):
+    """Positions as UTC: that of bit 0, and bits per second."""
+
+    start: float
+    rate: float = RATE
+
+    def utc(self, place: float) -> float:
+        return self.start + place / self.rate
+
+    def place(self, utc: float) -> int:
+        """The first position that is not before this time."""
+        return math.ceil((utc - self.start) * self.rate)
+
+
+class Arrivals:
+    """The timing of a session by when its bits come.
+
+    A bit cannot come before it was sent, so the read that came with the least delay counts: of the first second for the
+    start, of the last ten for its corrections. At a cut the timing goes on without a jump, at a rate that makes up for
+    the difference within an hour; only bits that come later for good make the time jump, and then forward.
+    """
+
+    SETTLING, WINDOW, LATE, NOISE, HORIZON = 1.0, 10.0, 0.5, 0.05, 3600.0
+    MOST = 1e-3  # by which a rate is off
+
+    def __init__(self, speed: float = 1.0):
+        self.timing: Optional[Timing] = None
+        self._speed = speed
+        self._first = self._since = 0.0
+        self._before = 0.0
+        self._delays: Deque[Tuple[int, float]] = deque()
+
+    def take(self, place: int, utc: float) -> None:
+        """The bits up to this position had come at this time."""
+        if self.timing is None:
+            self.timing = Timing(utc - place / RATE)
+            self._first, self._since = self.timing.start, utc
+        delay = utc - self.timing.utc(place)
+        settling = utc - self._since < self.SETTLING * self._speed and self.timing.rate == RATE
+        if delay < 0 and settling:
+            start = max(self.timing.start + delay, self._first - self.SETTLING * self._speed)
+            self.timing = Timing(start)
+            delay = utc - self.timing.utc(place)
+        self._note(int(utc / self._speed), delay)
+
+    def _note(self, second: int, delay: float) -> None:
+        if self._delays and self._delays[-1][0] == second:
+            delay = min(delay, self._delays.pop()[1])
+        self._delays.append((second, delay))
+        while self._delays[0][0] <= second - self.WINDOW:
+            self._delays.popleft()
+
+    def delay(self) -> float:
+        """The least delay of the last seconds: 0 while there are too few of them, or if it is only noise."""
+        if len(self._delays) < self.WINDOW - 1:
+            return 0.0
+        least = min(delay for _, delay in self._delays)
+        return least if abs(least) > self.NOISE * self._speed else 0.0
+
+    def is_late(self) -> bool:
+        return self.delay() > self.LATE * self._speed
+
+    def jump(self, seconds: float) -> None:
+        """The time jumps forward: bits were dropped, or the machine's clock was set."""
+        assert self.timing is not None and seconds >= 0
+        self.timing = Timing(_up(self.timing.start + seconds), self.timing.rate)
+        self._delays.clear()
+        self._before = 0.0
+
+    def cut(self, place: int, utc: float) -> None:
+        """From this position on the rate is the one by which the bits came."""
+        assert self.timing is not None
+        delay, lasted = self.delay(), utc - self._since
+        drift = (delay - self._before) / lasted if lasted > 600 else 0.0
+        slow = (1 + drift + delay / self.HORIZON) * RATE / self.timing.rate
+        rate = round(RATE / min(max(slow, 1 - self.MOST), 1 + self.MOST), 4)
+        self._delays.clear()
+        self._before, self._since = delay, utc
+        if rate != self.timing.rate:
+            self.timing = Timing(_up(self.timing.utc(place) - place / rate), rate)
+
+
+def _up(seconds: float) -> float:
+    """To the next millisecond, as names of files have it, so that no time goes back."""
+    return math.ceil(seconds * 1000) / 1000

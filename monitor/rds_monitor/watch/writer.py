@@ -1,0 +1,208 @@
+"""What goes to disk: rows of hours, the database, pages and metrics, by a thread of its own. What cannot be written waits."""
+
+from __future__ import annotations
+
+import os
+import sqlite3
+import threading
+import traceback
+from typing import Callable, Dict, List, NamedTuple, Optional, Sequence
+
+from .live import Append
+from .records import Record, Records, StateSeen
+
+RETRY = 1.0
+# Of records that wait for the database; the oldest are given up first.
+MOST_RECORDS = 500000
+
+Say = Callable[[str, str], None]
+
+
+class Batch(NamedTuple):
+    """What some ticks made. `after` is done once that is on disk: pages, and the removal of what is too old."""
+
+    appends: Sequence[Append]
+    records: Sequence[Record]
+    after: Sequence[Callable[[Records], None]]
+
+
+class HourWriter:
+    """Appends to files below a folder. A write that was cut short goes on with the rest."""
+
+    def __init__(self, folder: str):
+        self._folder = folder
+        self._open: Dict[str, int] = {}
+
+    def append(self, path: str, data: memoryview) -> int:
+        """Writes as much as there is room for, at least a byte, and says how much."""
+        return os.write(self._file(path), data)
+
+    def sync(self, path: str) -> None:
+        os.fdatasync(self._file(path))
+
+    def _file(self, path: str) -> int:
+        if path not in self._open:
+            whole = os.path.join(self._folder, path)
+            parent = os.path.dirname(whole)
+            is_new = not os.path.exists(whole)
+            os.makedirs(parent, exist_ok=True)
+            self._open[path] = os.open(whole, os.O_WRONLY | os.O_APPEND | os.O_CREAT | os.O_CLOEXEC, 0o644)
+            if is_new:
+                # The names last through a power failure, too.
+                _sync_folder(parent)
+                _sync_folder(os.path.dirname(parent))
+        return self._open[path]
+
+    def close(self, path: str) -> None:
+        if path in self._open:
+            os.close(self._open.pop(path))
+
+    def close_all(self) -> None:
+        for path in list(self._open):
+            self.close(path)
+
+
+def _sync_folder(path: str) -> None:
+    it = os.open(path, os.O_RDONLY | os.O_DIRECTORY)
+    try:
+        os.fsync(it)
+    finally:
+        os.close(it)
+
+
+class Writer:
+    """Takes a batch at a time. `work` writes it, or what is left of it, and says whether all is written."""
+
+    def __init__(self, folder: str, records: Records, say: Say):
+        self._hours, self._records, self._say = HourWriter(folder), records, say
+        self._rows: List[Append] = []
+        self._written = 0
+        self._unsynced: List[str] = []
+        self._waiting: List[Record] = []
+        self._after: List[Callable[[Records], None]] = []
+        self.fault: Optional[str] = None
+
+    @property
+    def is_idle(self) -> bool:
+        """Whether it takes a batch: all rows before it are in their files."""
+        return not self._rows and not self._unsynced
+
+    def give(self, batch: Batch) -> None:
+        self._rows += batch.appends
+        self._waiting += batch.records
+        self._after += batch.after
+        if len(self._waiting) > MOST_RECORDS:
+            del self._waiting[: len(self._waiting) - MOST_RECORDS]
+
+    def work(self) -> bool:
+        try:
+            self._write_rows()
+            self._write_records()
+        except (OSError, sqlite3.Error) as error:
+            text = (error.strerror or str(error)) if isinstance(error, OSError) else f"the database: {error}"
+            if self.fault is None:
+                self._say("error", f"rows cannot be written: {text}; they wait")
+            self.fault = text
+            return False
+        if self.fault is not None:
+            self._say("notice", "rows are written again")
+            self.fault = None
+        return True
+
+    def _write_rows(self) -> None:
+        while self._rows:
+            it = self._rows[0]
+            data = memoryview(it.data)[self._written :]
+            if data:
+                if it.path not in self._unsynced:
+                    self._unsynced.append(it.path)
+                self._written += self._hours.append(it.path, data)
+                continue
+            if it.closes:
+                self._sync()
+                self._hours.close(it.path)
+            self._rows.pop(0)
+            self._written = 0
+        self._sync()
+
+    def _sync(self) -> None:
+        while self._unsynced:
+            self._hours.sync(self._unsynced[0])
+            self._unsynced.pop(0)
+
+    def _write_records(self) -> None:
+        if self._waiting:
+            self._records.write(_last_states(self._waiting))
+            self._waiting = []
+        while self._after:
+            self._after[0](self._records)
+            self._after.pop(0)
+
+    def close(self) -> None:
+        self._hours.close_all()
+
+
+def _last_states(records: Sequence[Record]) -> List[Record]:
+    """Without the states of stations that a later one replaces."""
+    last = {it.station: it for it in records if isinstance(it, StateSeen)}
+    return [it for it in records if not isinstance(it, StateSeen) or last[it.station] is it]
+
+
+class WriterThread(threading.Thread):
+    """A writer that never holds up who gives it batches."""
+
+    def __init__(self, writer: Writer):
+        super().__init__(name="writer", daemon=True)
+        self._writer, self._wake = writer, threading.Condition()
+        self._given: Optional[Batch] = None
+        self._busy = self._ending = False
+        self.crash: Optional[str] = None
+
+    @property
+    def is_idle(self) -> bool:
+        with self._wake:
+            return not self._busy and self._given is None
+
+    @property
+    def fault(self) -> Optional[str]:
+        return self._writer.fault
+
+    def give(self, batch: Batch) -> None:
+        with self._wake:
+            self._given = batch
+            self._wake.notify()
+
+    def run(self) -> None:
+        """A fault of this program ends the thread, and so the watch: nothing goes on unwritten."""
+        try:
+            self._run()
+        except Exception:
+            self.crash = traceback.format_exc()
+
+    def _run(self) -> None:
+        while True:
+            with self._wake:
+                while self._given is None and not self._ending:
+                    if not self._wake.wait(RETRY) and self._writer.fault is not None:
+                        break
+                if self._given is None and self._ending:
+                    return
+                batch, self._given, self._busy = self._given, None, True
+            if batch:
+                self._writer.give(batch)
+            self._work()
+            with self._wake:
+                self._busy = False
+
+    def _work(self) -> None:
+        """Until all rows are in their files. Records may wait longer, so that a database that is locked delays no row."""
+        pause = threading.Event()
+        while not self._writer.work() and not self._writer.is_idle and not self._ending:
+            pause.wait(RETRY)
+
+    def end(self, seconds: float) -> None:
+        """Writes what was given, for at most so long."""
+        with self._wake:
+            self._ending = True
+            self._wake.notify()
+        self.join(seconds)

@@ -1,0 +1,180 @@
+#!/usr/bin/env python3
+"""What a watch of 30 stations takes: monitor/tests/load.py [bits|live|mpx|week ..], by default all but week
+
+bits  packed bits at 100 times real time, in ticks of 50 seconds: processor seconds
+live  the command with 30 simulated receivers in real time: processor share, memory and descriptors
+mpx   MPX of 192,000 samples per second in real time, in ticks of half a second: processor share, memory
+week  two stations over a week, in ticks of 50 seconds: memory and the size of the folder, day by day
+
+The signals are made before the clock runs. RDS names the program, RDS_LIBRARY the library. The exit status says whether all is within its
+limit: a processor's whole time for `bits`, nine tenths of two processors' for `mpx`, 50 MB and 30 descriptors per station.
+"""
+
+from __future__ import annotations
+
+import os
+import resource
+import signal
+import subprocess
+import sys
+import tempfile
+import time
+from pathlib import Path
+from typing import Dict, List
+
+import conftest  # noqa: F401 - it names the library
+from network import START, Air, Network, Plan, Programme, SimulatedTimes
+from station import GROUPS_PER_SECOND, RATE
+
+COUNT, SPEED = 30, 100
+STATION = conftest.TOP / "monitor" / "demo" / "station.py"
+MEMORY_MB, DESCRIPTORS = 50, 30
+
+
+def cpu_seconds() -> float:
+    used = resource.getrusage(resource.RUSAGE_SELF)
+    return used.ru_utime + used.ru_stime
+
+
+def memory_mb() -> float:
+    return int(Path("/proc/self/statm").read_text().split()[1]) * resource.getpagesize() / 1e6
+
+
+def names(count: int) -> List[str]:
+    return [f"S{n:02}" for n in range(count)]
+
+
+def table(count: int, *lines: str) -> str:
+    return "\n".join("\n".join(["[[station]]", f'name = "{name}"', f'command = ["{name}"]', *lines]) for name in names(count)) + "\n"
+
+
+def said(text: str, within: bool) -> int:
+    print(f"{text} {'' if within else '!'}", flush=True)
+    return not within
+
+
+def bits(folder: Path) -> int:
+    """Ten minutes first, in which all that is sent becomes known."""
+    seconds, tick = 3600.0, 50.0
+    air = Air(Programme(0xD318, "ALPHA", "Now: nothing much", wrong_pi=None), START, seconds + 700)
+    it = Network(folder, table(COUNT), {name: air for name in names(COUNT)})
+    it.run(600, tick)
+    begin = cpu_seconds()
+    it.run(seconds, tick)
+    used = cpu_seconds() - begin
+    it.end()
+    speed = seconds / used
+    return said(f"bits: {COUNT} stations, {seconds:.0f} s in {used:.1f} s of a processor, {speed:.0f} times real time, limit {SPEED}; {memory_mb():.0f} MB", speed >= SPEED)
+
+
+def live(folder: Path) -> int:
+    lines = [f'folder = "{folder}"']
+    for n, name in enumerate(names(COUNT)):
+        command = f'["{sys.executable}", "{STATION}", "--pi", "{0xD300 + n:04X}", "--ps", "{name}", "--rt", "Now: nothing", "--errors", "0.001"]'
+        lines += ["[[station]]", f'name = "{name}"', f"command = {command}"]
+    (folder / "stations.toml").write_text("\n".join(lines))
+    it = subprocess.Popen([sys.executable, "-m", "rds_monitor", "watch", str(folder / "stations.toml")], stderr=subprocess.DEVNULL)
+    time.sleep(30)
+    proc, hertz = Path(f"/proc/{it.pid}"), os.sysconf("SC_CLK_TCK")
+    before = sum(map(int, (proc / "stat").read_text().rpartition(")")[2].split()[11:13])) / hertz
+    time.sleep(60)
+    used = sum(map(int, (proc / "stat").read_text().rpartition(")")[2].split()[11:13])) / hertz - before
+    memory = int((proc / "statm").read_text().split()[1]) * resource.getpagesize() / 1e6
+    count = len(list((proc / "fd").iterdir()))
+    it.send_signal(signal.SIGTERM)
+    it.wait()
+    within = memory <= MEMORY_MB * COUNT and count <= DESCRIPTORS * COUNT
+    return said(f"live: {COUNT} stations, {100 * used / 60:.0f} % of a processor, {memory:.0f} MB, {count} descriptors", within)
+
+
+class MpxAir:
+    """Seconds of MPX, over and over."""
+
+    RATE = 192000
+
+    def __init__(self) -> None:
+        from modulator import mpx, stored
+
+        programme = Programme(0xD318, "ALPHA", "Now: nothing")
+        data = conftest.encode([programme.group(n) for n in range(120)])
+        self._data = stored(mpx(data, self.RATE), "s16")
+        self.begin = START
+
+    def at(self, seconds: float) -> int:
+        return int(seconds * self.RATE) * 2
+
+    def bytes(self, first: int, after: int) -> bytes:
+        size = len(self._data)
+        return b"".join(self._data[max(first, n * size) - n * size : after - n * size] for n in range(first // size, after // size + 1))
+
+
+def mpx(folder: Path) -> int:
+    air, seconds = MpxAir(), 30
+    text = table(COUNT, 'form = "mpx"', 'raw = "s16"', f"rate = {MpxAir.RATE}")
+    it = Network(folder, text, {name: air for name in names(COUNT)})  # type: ignore[misc]
+    it.run(5)
+    begin = cpu_seconds()
+    it.run(seconds)
+    used = (cpu_seconds() - begin) / seconds
+    it.end()
+    within = used <= 1.8 and memory_mb() <= MEMORY_MB * COUNT
+    return said(f"mpx: {COUNT} stations, {100 * used:.0f} % of a processor, limit 180 %; {memory_mb():.0f} MB", within)
+
+
+class Endless:
+    """A station on the air, an hour at a time."""
+
+    def __init__(self, programme: Programme) -> None:
+        self._programme, self._hours = programme, {}  # type: Programme, Dict[int, bytes]
+        self.first = int(START * GROUPS_PER_SECOND)
+
+    def at(self, seconds: float) -> int:
+        return int(seconds * RATE / 8)
+
+    def _hour(self, number: int) -> bytes:
+        """So many groups."""
+        count = 41100
+        if number not in self._hours:
+            text = self._programme._replace(rt=f"Song number {number}")
+            self._hours = {number - 1: self._hours.get(number - 1, b""), number: b""}
+            self._hours[number] = conftest.encode([text.group(self.first + number * count + n) for n in range(count)])
+        return self._hours[number]
+
+    def bytes(self, first: int, after: int) -> bytes:
+        size = 41100 * 13
+        return b"".join(self._hour(n)[max(first, n * size) - n * size : after - n * size] for n in range(first // size, after // size + 1))
+
+
+def week(folder: Path) -> int:
+    """A receiver dies each five hours. Listings are kept for a day and the database for two."""
+    keep = "[keep]\nlistings_days = 1\ndatabase_days = 2\n"
+    airs = {name: Endless(Programme(0xD318 + n, "ALPHA", "")) for n, name in enumerate(names(2))}
+    plans = {name: [Plan(dies=18000.0) for _ in range(60)] for name in airs}
+    it = Network(folder, keep + table(2), airs, plans)  # type: ignore[arg-type]
+    it.times = SimulatedTimes()
+    it.begin()
+    seen = []
+    for day in range(1, 8):
+        begin = cpu_seconds()
+        it.run(86400, 50)
+        size = sum(path.stat().st_size for path in folder.rglob("*") if path.is_file()) / 1e6
+        seen.append((memory_mb(), size))
+        print(f"week: day {day}, {cpu_seconds() - begin:.0f} s, {seen[-1][0]:.0f} MB of memory, {size:.1f} MB in the folder", flush=True)
+    it.end()
+    (memory3, size3), (memory7, size7) = seen[2], seen[6]
+    return said("week: no growth from the third day on", memory7 < 1.05 * memory3 + 5 and size7 < 1.1 * size3)
+
+
+KINDS = {"bits": bits, "live": live, "mpx": mpx, "week": week}
+
+
+def main(words: List[str]) -> int:
+    failed = 0
+    for name in words or ["bits", "live", "mpx"]:
+        with tempfile.TemporaryDirectory() as folder:
+            failed += KINDS[name](Path(folder))
+    return min(failed, 1)
+
+
+if __name__ == "__main__":
+    sys.exit(main(sys.argv[1:]))

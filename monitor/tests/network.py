@@ -1,0 +1,246 @@
+"""A simulated network in this process: a clock, stations that are on the air, and receivers that fail as they are told."""
+
+from __future__ import annotations
+
+import os
+import sys
+from pathlib import Path
+from typing import Any, Callable, Dict, List, NamedTuple, Optional, Sequence, Tuple
+
+import numpy
+
+from conftest import TOP, encode
+from rds_monitor.items import Rows
+from rds_monitor.watch.hours import Hour, hour_of
+from rds_monitor.watch.loop import Watch
+from rds_monitor.watch.records import Records
+from rds_monitor.watch.recover import recover, rows_of
+from rds_monitor.watch.table import Table, table_of
+from rds_monitor.watch.times import Now
+from rds_monitor.watch.writer import Batch, Writer
+
+sys.path.insert(0, str(TOP / "monitor" / "demo"))
+
+from station import GROUPS_PER_SECOND, RATE, Programme, number_of  # noqa: E402
+
+# Half a minute before an hour of UTC, on 2026-11-27.
+START = 1795748370.0
+
+
+class SimulatedTimes:
+    """A clock that stands still between two calls of `pass_by`."""
+
+    speed = 1.0
+
+    def __init__(self, utc: float = START):
+        self.steady, self.utc = 1000.0, utc
+
+    def now(self) -> Now:
+        return Now(self.steady, self.utc)
+
+    def pass_by(self, seconds: float) -> None:
+        self.steady += seconds
+        self.utc += seconds
+
+
+class Air:
+    """A station on the air from `begin` on: its bytes by the true time, which steps of the machine's clock do not change."""
+
+    def __init__(self, programme: Programme, begin: float, seconds: float):
+        self.begin, self.first = begin, int(begin * GROUPS_PER_SECOND)
+        groups = [programme.group(self.first + n) for n in range(int(seconds * GROUPS_PER_SECOND) + 2)]
+        self._data = numpy.frombuffer(encode(groups), "u1").copy()
+        # The first group may have begun before.
+        self._shift = (begin - self.first / GROUPS_PER_SECOND) * RATE / 8
+
+    def at(self, seconds: float) -> int:
+        """The byte that is on the air, by seconds since the begin."""
+        return int(seconds * RATE / 8 + self._shift)
+
+    def noise(self, begin: float, end: float, seed: int = 1) -> None:
+        first, after = self.at(begin), self.at(end)
+        self._data[first:after] = numpy.random.default_rng(seed).integers(0, 256, after - first, "u1")
+
+    def bytes(self, first: int, after: int) -> bytes:
+        return bytes(self._data[first:after].tobytes())
+
+
+class Plan(NamedTuple):
+    """What a run of a receiver does, in seconds of the run: it dies or hangs, or is so slow to tell that bytes come late."""
+
+    dies: Optional[float] = None
+    hangs: Optional[float] = None
+    late: float = 0.0
+
+
+class Simulated:
+    """A run of a receiver."""
+
+    def __init__(self, air: Air, times: SimulatedTimes, true_begin: float, plan: Plan):
+        self._air, self._times, self._plan, self._zero = air, times, plan, true_begin
+        self._began = times.steady
+        self._at = air.at(times.steady - true_begin)
+        self._killed = False
+        self.given = b""
+
+    def _lasted(self) -> float:
+        lasted = self._times.steady - self._began
+        ends = [it for it in (self._plan.dies, self._plan.hangs) if it is not None]
+        return min([lasted, *ends])
+
+    def read(self) -> Optional[bytes]:
+        if self._killed:
+            return None
+        upto = self._air.at(self._began - self._zero + self._lasted() - self._plan.late)
+        data, self._at = self._air.bytes(self._at, upto), max(self._at, upto)
+        self.given += data
+        if not data and self._plan.dies is not None and self._lasted() >= self._plan.dies:
+            return None
+        return data
+
+    def ended(self) -> Optional[str]:
+        if self._killed:
+            return "was ended by SIGTERM"
+        if self._plan.dies is not None and self._times.steady - self._began >= self._plan.dies:
+            return "ended with status 1: unplugged"
+        return None
+
+    def terminate(self) -> None:
+        self._killed = True
+
+    def kill(self) -> None:
+        self._killed = True
+
+    def close(self) -> None:
+        pass
+
+
+class InTurn:
+    """A writer without a thread: it tries again at each look."""
+
+    def __init__(self, writer: Writer):
+        self.writer = writer
+
+    @property
+    def is_idle(self) -> bool:
+        return self.writer.is_idle or (self.writer.work() and self.writer.is_idle)
+
+    @property
+    def fault(self) -> Optional[str]:
+        return self.writer.fault
+
+    def give(self, batch: Batch) -> None:
+        self.writer.give(batch)
+        self.writer.work()
+
+
+class Network:
+    """A watch over simulated stations. The first word of a station's command is the name of its receiver."""
+
+    def __init__(self, folder: Path, table: str, airs: Dict[str, Air], plans: Optional[Dict[str, List[Plan]]] = None):
+        self.folder, self.text = folder, table
+        self.times, self.airs, self.plans = SimulatedTimes(), airs, plans or {}
+        self.zero = self.times.steady
+        self.said: List[str] = []
+        self.runs: List[Tuple[str, float]] = []
+        self.given: List[Tuple[str, Simulated]] = []
+        self.begin()
+
+    def begin(self) -> None:
+        """A watch begins, perhaps after one that was killed."""
+        self.records = Records(str(self.folder / "watch.db"))
+        table = table_of(self.text)
+        self.recovered = recover(str(self.folder), [it.name for it in table.stations], self.records)
+        self.records.end_runs(self.times.utc)
+        self.writer = InTurn(Writer(str(self.folder), self.records, self._say))
+        self.watch = Watch(table, str(self.folder), self.times, self._launch, self.writer, self.records, self._say)
+
+    def _say(self, priority: str, text: str) -> None:
+        self.said.append(text)
+
+    def _launch(self, words: Sequence[str]) -> Simulated:
+        plans = self.plans.get(words[0], [])
+        plan = plans.pop(0) if plans else Plan()
+        self.runs.append((words[0], self.times.steady - self.zero))
+        run = Simulated(self.airs[words[0]], self.times, self.zero, plan)
+        self.given.append((words[0], run))
+        return run
+
+    def run(self, seconds: float, tick: float = 0.5, each: Callable[[], None] = lambda: None) -> None:
+        for _ in range(round(seconds / tick)):
+            self.times.pass_by(tick)
+            each()
+            self.watch.poll()
+            self.watch.tick()
+
+    def kill(self) -> None:
+        """What SIGKILL leaves: nothing is closed in order, and the part of a batch that was not written is gone."""
+        self.writer.writer.close()
+        self.records.close()
+
+    def end(self) -> None:
+        """SIGTERM."""
+        self.watch.stop()
+        while not self.watch.has_left:
+            self.times.pass_by(0.5)
+        assert self.writer.is_idle
+        self.kill()
+
+    # ---- what is there afterwards
+
+    def reload(self, text: str) -> None:
+        self.text = text
+        table: Table = table_of(text)
+        self.watch.reload(table)
+
+    def asked(self, query: str, *given: Any) -> List[Tuple[Any, ...]]:
+        import sqlite3
+
+        data = sqlite3.connect(self.folder / "watch.db")
+        try:
+            return data.execute(query, given).fetchall()
+        finally:
+            data.close()
+
+    def texts(self, station: str) -> List[bytes]:
+        """The hours' files, joined by session."""
+        query = (
+            "SELECT name, path FROM hour_files JOIN sessions ON sessions.id = session JOIN recordings ON recordings.id = recording"
+            " WHERE station = ? ORDER BY recordings.id, number"
+        )
+        found: Dict[str, bytes] = {}
+        for name, path in self.asked(query, station):
+            whole = self.folder / path
+            found[name] = found.get(name, b"") + (whole.read_bytes() if whole.exists() else b"")
+        return list(found.values())
+
+    def hours(self, station: str) -> "List[Tuple[Hour, Rows]]":
+        return hours_in(self.folder, station)
+
+
+def hours_in(folder: Path, station: str) -> "List[Tuple[Hour, Rows]]":
+    """The hours' files of a station in the order of their names."""
+    found = []
+    top = folder / "listings" / station
+    for name in sorted(os.listdir(top)) if top.is_dir() else ():
+        hour = hour_of(name)
+        assert hour is not None, name
+        found.append((hour, rows_of(str(top / name))[0]))
+    return found
+
+
+def numbers_in(hours: "List[Tuple[Hour, Rows]]") -> List[Tuple[int, float]]:
+    """The numbers of groups that were received whole, and when each began by the name of its file."""
+    found = []
+    for hour, rows in hours:
+        for row in rows[(rows["what"] == 2) & (rows["number"] == 6) & (rows["version"] == 1)]:
+            if all(row[f"kind{block}"] == 2 for block in (1, 2, 3, 4)):
+                number = number_of([int(row[f"info{block}"]) for block in (1, 2, 3, 4)])
+                assert number is not None
+                found.append((number, hour.start + float(row["place"]) / hour.rate))
+    return found
+
+
+def stations(*lines: str) -> str:
+    """A table of a station, from its lines, or of several, parted by '--'."""
+    return "[[station]]\n" + "\n".join("[[station]]" if it == "--" else it for it in lines) + "\n"

@@ -1,0 +1,103 @@
+"""Hours' files: their names, what is left of one after a crash, and what is removed."""
+
+from __future__ import annotations
+
+import os
+from pathlib import Path
+
+import pytest
+from hypothesis import given
+from hypothesis import strategies as st
+
+from made import run
+from rds_monitor.watch.hours import Hour, hour_of, make_whole
+from rds_monitor.watch.records import PartKey, PartOpened, Records
+from rds_monitor.watch.retention import tidy
+from rds_monitor.watch.table import Keep
+from rds_monitor.watch.times import Timing
+
+HOUR = 1795748400.0
+
+
+@given(st.integers(0, 4 * 10**5), st.integers(0, 4 * 10**12), st.integers(11_000_000, 12_900_000))
+def test_names(hour: int, start: int, rate: int) -> None:
+    it = Hour(hour * 3600.0, start / 1000, rate / 1e4)
+    assert hour_of("/some/folder/" + it.name) == it
+
+
+def test_names_are_in_order() -> None:
+    early = Hour(HOUR, HOUR - 86400.5).name
+    assert early == "2026-11-27T03Z_20261126T025959.500Z.csv"
+    assert early < Hour(HOUR, HOUR - 3).name < Hour(HOUR, HOUR + 7).name < Hour(HOUR + 3600, HOUR - 86400, 1187.6).name
+
+
+@pytest.mark.parametrize("name", ["monday.csv", "2026-11-27T03Z.csv", "2026-13-27T03Z_20261126T025959.500Z.csv", "x.bin"])
+def test_other_names(name: str) -> None:
+    assert hour_of(name) is None
+
+
+def test_every_end_of_a_file(station_listing: bytes, tmp_path: Path) -> None:
+    """Wherever it is cut, and whatever a power failure left there, the whole rows are kept."""
+    text = station_listing[: station_listing.index(b"total,")][:3000]
+    path = tmp_path / "hour.csv"
+    for end in range(len(text) - 130, len(text)):
+        for rest in (b"", b"\0" * 40, b"\0" * 10 + b"\n", b"xyz\n"):
+            path.write_bytes(text[:end] + rest)
+            whole = text[: text[:end].rfind(b"\n") + 1]
+            assert make_whole(str(path)) == len(whole) and path.read_bytes() == whole
+
+
+def test_a_whole_file_is_left_alone(station_listing: bytes, tmp_path: Path) -> None:
+    path = tmp_path / "hour.csv"
+    for text in (station_listing, b""):
+        path.write_bytes(text)
+        assert make_whole(str(path)) == len(text) and path.read_bytes() == text
+
+
+def test_options_say_more_than_a_name(station_listing: bytes, tmp_path: Path) -> None:
+    path = tmp_path / Hour(HOUR, HOUR + 12.5).name
+    path.write_bytes(station_listing[: station_listing.rindex(b"group,")])
+    assert "2026-11-27T03:01:12.500Z" in run("errors", path).out
+    assert "2026-01-01T00:01:00.000Z" in run("errors", "--start", "2026-01-01T00:00:00Z", path).out
+    other = tmp_path / "monday.csv"
+    os.rename(path, other)
+    assert run("errors", other).status == 1
+
+
+# ---- what is too old
+
+
+def kept(folder: Path, keep: Keep, *sizes: int, busy: int = -1) -> "list[int]":
+    """Which of some hours are left; the last one is the hour of now."""
+    top = folder / "listings" / "Alpha"
+    top.mkdir(parents=True)
+    paths = [top / Hour(HOUR - 3600 * (len(sizes) - 1 - n), HOUR - 1e6).name for n in range(len(sizes))]
+    for path, size in zip(paths, sizes):
+        path.write_bytes(b"x" * size)
+    (top / "notes.txt").write_text("mine")
+    records = Records(str(folder / "watch.db"))
+    if busy >= 0:
+        name = os.path.join("listings", "Alpha", paths[busy].name)
+        records.write([PartOpened(PartKey("Alpha 1", 0), "Alpha", Timing(HOUR), 0, name)])
+    removed = tidy(str(folder), keep, HOUR + 60, records)
+    records.close()
+    assert (top / "notes.txt").exists() and removed == [os.path.join("listings", "Alpha", it.name) for it in paths if not it.exists()]
+    return [n for n, path in enumerate(paths) if path.exists()]
+
+
+def test_all_is_kept(tmp_path: Path) -> None:
+    assert kept(tmp_path, Keep(), 10, 10, 10) == [0, 1, 2]
+
+
+def test_by_age(tmp_path: Path) -> None:
+    assert kept(tmp_path, Keep(listings_days=3 / 24), 10, 10, 10, 10, 10, 10) == [2, 3, 4, 5]
+
+
+def test_by_size(tmp_path: Path) -> None:
+    """The oldest go first; the last hours stay, however large."""
+    assert kept(tmp_path, Keep(listings_gb=250e-9), 100, 100, 100, 100, 100) == [3, 4]
+    assert len(list((tmp_path / "listings" / "Alpha").glob("*.csv"))) == 2
+
+
+def test_one_that_is_being_written(tmp_path: Path) -> None:
+    assert kept(tmp_path, Keep(listings_days=1 / 24), 10, 10, 10, 10, 10, busy=1) == [1, 3, 4]

@@ -1,0 +1,389 @@
+"""The command `watch` as a process: signals, SIGKILL, a full disk, systemd's socket, commands of the user's, and asking."""
+
+from __future__ import annotations
+
+import json
+import os
+import resource
+import signal
+import socket
+import sqlite3
+import subprocess
+import sys
+import time
+from pathlib import Path
+from typing import Any, Callable, Dict, List, Tuple
+
+import pytest
+
+from conftest import TOP, encode, monitor
+from network import GROUPS_PER_SECOND, hours_in, numbers_in
+from rds_monitor.items import library
+
+STATION = TOP / "monitor" / "demo" / "station.py"
+# For a machine that is loaded; nothing waits for so long else.
+PATIENCE = 60.0
+
+
+@pytest.fixture(autouse=True)
+def the_library() -> None:
+    library()
+
+
+def receiver(folder: Path, *words: str, name: str = "sent") -> List[str]:
+    return [sys.executable, str(STATION), "--pi", "D318", "--ps", "ALPHA", "--rt", "Now: nothing", "--sent", str(folder / name), *words]
+
+
+def table(folder: Path, *lines: str, command: "List[str] | None" = None) -> Path:
+    path = folder / "stations.toml"
+    words = json.dumps(command or receiver(folder))
+    path.write_text("\n".join([f'folder = "{folder}"', "[[station]]", 'name = "Alpha"', f"command = {words}", *lines]) + "\n")
+    return path
+
+
+class Process:
+    """A watch, with its lines on standard error in a file."""
+
+    def __init__(self, folder: Path, path: Path, **environment: str):
+        self.folder, self.log = folder, folder / "log"
+        with open(self.log, "ab") as log:
+            self.it = subprocess.Popen(
+                [sys.executable, "-m", "rds_monitor", "watch", str(path)], stderr=log, env={**os.environ, **environment}
+            )
+
+    def until(self, holds: Callable[[], bool]) -> None:
+        end = time.monotonic() + PATIENCE
+        while not holds():
+            assert time.monotonic() < end and self.it.poll() is None, self.log.read_text()
+            time.sleep(0.05)
+
+    def says(self, text: str) -> None:
+        self.until(lambda: text in self.log.read_text())
+
+    def receives(self, more: int = 0) -> None:
+        """Rows are written, and then some more bytes of them."""
+        begin = written(self.folder)
+        self.until(lambda: written(self.folder) > begin + more)
+
+    def receiver(self) -> int:
+        """The process of its only receiver."""
+        (found,) = Path(f"/proc/{self.it.pid}/task/{self.it.pid}/children").read_text().split()
+        return int(found)
+
+    def end(self, number: int = signal.SIGTERM) -> int:
+        self.it.send_signal(number)
+        return self.it.wait(PATIENCE)
+
+
+def written(folder: Path) -> int:
+    return sum(it.stat().st_size for it in (folder / "listings").glob("*/*.csv"))
+
+
+def asked(folder: Path, query: str) -> List[Tuple[Any, ...]]:
+    data = sqlite3.connect(folder / "watch.db", timeout=PATIENCE)
+    try:
+        return data.execute(query).fetchall()
+    finally:
+        data.close()
+
+
+def sent_in(path: Path) -> List[Tuple[int, int, float]]:
+    """What receivers wrote: first group, the one after the last, and when."""
+    lines = [line.split() for line in path.read_text().splitlines()]
+    return [(int(first), int(after), float(utc)) for first, after, utc in lines]
+
+
+# ---- signals
+
+
+@pytest.mark.parametrize("number", [signal.SIGTERM, signal.SIGINT])
+def test_a_watch_that_is_ended(tmp_path: Path, number: int) -> None:
+    """Its sessions have their totals, its receivers are gone, and all that they sent is there."""
+    it = Process(tmp_path, table(tmp_path))
+    it.receives(1000)
+    process = it.receiver()
+    assert it.end(number) == 0 and not Path(f"/proc/{process}").exists()
+    (hour,) = (tmp_path / "listings" / "Alpha").iterdir()
+    assert hour.read_bytes().endswith(b"-,-,-,-,-\n") and b"total,losses," in hour.read_bytes()
+    assert monitor("info", hour).returncode == 0
+    assert asked(tmp_path, "SELECT reason FROM runs") == [("the watch ended",)]
+    everything = {number for number, _ in numbers_in(hours_in(tmp_path, "Alpha"))}
+    sent = sent_in(tmp_path / "sent")
+    wanted = {n & 0xFFFFFFFF for n in range(sent[0][0] + 6, sent[-2][1]) if n % 6 == 5 and not crosses_minute(n)}
+    assert wanted <= everything
+
+
+def crosses_minute(number: int) -> bool:
+    """Whether the group is one of clock time in place of its number."""
+    return int((number + 1) / GROUPS_PER_SECOND / 60) > int(number / GROUPS_PER_SECOND / 60)
+
+
+def test_pages_and_metrics(tmp_path: Path) -> None:
+    it = Process(tmp_path, table(tmp_path, 'pi = "D319"', "frequency = 98.1"))
+    it.says("alarm pi begins: PI D318 in place of D319")
+    it.until(lambda: 'rds_alarm{station="Alpha",alarm="pi"} 1' in (tmp_path / "metrics.prom").read_text())
+    page = (tmp_path / "pages" / "index.html").read_text()
+    assert "PI D318 in place of D319" in page and 'class="tile critical"' in page and "<script" not in page
+    assert "Alpha" in (tmp_path / "pages" / "Alpha.html").read_text()
+    done = monitor("check", "--station", "Alpha", tmp_path / "watch.db")
+    assert done.returncode == 2 and b"RDS CRITICAL - pi: PI D318 in place of D319" in done.stdout
+    assert it.end() == 0
+    # The alarm lasts: nobody saw it end.
+    assert asked(tmp_path, "SELECT alarm, end_utc FROM alarms") == [("pi", None)]
+
+
+def test_a_table_that_is_read_again(tmp_path: Path) -> None:
+    """After an error the old one holds. The receiver is not restarted for other limits."""
+    path = table(tmp_path)
+    it = Process(tmp_path, path)
+    it.receives(500)
+    good = path.read_text()
+    path.write_text("[[station")
+    it.it.send_signal(signal.SIGHUP)
+    it.says("the old table holds")
+    path.write_text(good + 'pi = "D319"\n')
+    it.it.send_signal(signal.SIGHUP)
+    it.says("the table is read again: 1 stations")
+    it.says("alarm pi begins")
+    assert it.end() == 0
+    assert asked(tmp_path, "SELECT COUNT(*) FROM runs") == [(1,)]
+
+
+def test_one_watch_per_folder(tmp_path: Path) -> None:
+    path = table(tmp_path)
+    it = Process(tmp_path, path)
+    it.receives()
+    other = monitor("watch", path)
+    assert other.returncode == 1 and b"another watch writes to" in other.stderr
+    assert it.end() == 0
+
+
+# ---- killed
+
+
+# Starts watches in processes of their own without importing all of it each time. A line of input starts one.
+FORKER = """
+import os, signal, sys
+from rds_monitor import cli
+from rds_monitor.watch import journal, loop, receiver, records, recover, table, times, writer
+signal.signal(signal.SIGCHLD, signal.SIG_IGN)
+for line in sys.stdin:
+    pid = os.fork()
+    if not pid:
+        signal.signal(signal.SIGCHLD, signal.SIG_DFL)
+        os._exit(cli.main(["watch", line.rstrip()]))
+    print(pid, flush=True)
+"""
+
+
+class Forker:
+    def __init__(self, folder: Path):
+        with open(folder / "log", "ab") as log:
+            self._it = subprocess.Popen(
+                [sys.executable, "-c", FORKER], stdin=subprocess.PIPE, stdout=subprocess.PIPE, stderr=log, text=True
+            )
+
+    def start(self, path: Path) -> int:
+        assert self._it.stdin and self._it.stdout
+        self._it.stdin.write(f"{path}\n")
+        self._it.stdin.flush()
+        return int(self._it.stdout.readline())
+
+    def end(self) -> None:
+        assert self._it.stdin and self._it.stdout
+        self._it.stdin.close()
+        self._it.wait()
+        self._it.stdout.close()
+
+
+def test_killed_fifty_times(tmp_path: Path) -> None:
+    """At random moments: nothing is lost but the last second, nothing is there twice, and the database agrees."""
+    import random
+
+    chance = random.Random(7)
+    path, forker = table(tmp_path), Forker(tmp_path)
+    kills: List[float] = []
+    for _ in range(50):
+        pid, before = forker.start(path), written(tmp_path)
+        end = time.monotonic() + chance.uniform(0, 0.3) + (PATIENCE if chance.random() < 0.8 else 0)
+        while time.monotonic() < end and written(tmp_path) == before:
+            time.sleep(0.02)
+        time.sleep(chance.uniform(0, 0.9))
+        os.kill(pid, signal.SIGKILL)
+        while Path(f"/proc/{pid}").exists():
+            time.sleep(0.01)
+        kills.append(time.time())
+    forker.end()
+    last = Process(tmp_path, path)
+    last.receives(500)
+    assert last.end() == 0
+    numbers = [number for number, _ in numbers_in(hours_in(tmp_path, "Alpha"))]
+    assert numbers == sorted(set(numbers)) and len(numbers) > 60
+    nothing_lost(set(numbers), sent_in(tmp_path / "sent"), kills)
+    told_once(tmp_path)
+
+
+def nothing_lost(found: "set[int]", sent: List[Tuple[int, int, float]], kills: List[float]) -> None:
+    """Between the first group of a session that is there and the last second before a kill, each is there."""
+    for begin, end in zip([0.0, *kills], [*kills, 1e12]):
+        mine = [it for it in sent if begin < it[2] <= end - 2]
+        numbers = [n & 0xFFFFFFFF for first, after, _ in mine for n in range(first, after) if n % 6 == 5 and not crosses_minute(n)]
+        there = [n for n in numbers if n in found]
+        if there:
+            # The first groups may have come before the decoder had sync.
+            wanted = numbers[1:]
+            assert [n for n in wanted if n not in found] == []
+
+
+def told_once(folder: Path) -> None:
+    rows = [rows for _, rows in hours_in(folder, "Alpha")]
+    valid = sum(int(sum((part[f"kind{block}"] == 2).sum() for block in (1, 2, 3, 4))) for part in rows)
+    assert asked(folder, "SELECT SUM(valid) FROM minute_rows") == [(valid,)]
+    assert asked(folder, "SELECT COUNT(*) FROM hour_files WHERE is_open") == [(0,)]
+    assert asked(folder, "SELECT COUNT(*) FROM event_rows JOIN facts ON facts.id = fact WHERE item = 'ps'")[0][0] <= len(rows)
+
+
+# ---- receivers
+
+
+def test_a_receiver_that_is_killed(tmp_path: Path) -> None:
+    it = Process(tmp_path, table(tmp_path))
+    it.receives(500)
+    os.kill(it.receiver(), signal.SIGKILL)
+    it.says("Alpha: the receiver was ended by SIGKILL")
+    it.receives(500)
+    assert it.end() == 0
+    assert len({number for number, _ in numbers_in(hours_in(tmp_path, "Alpha"))}) > 3
+    assert len(list((tmp_path / "listings" / "Alpha").iterdir())) == 2
+
+
+def test_receivers_that_are_none(tmp_path: Path) -> None:
+    it = Process(tmp_path, table(tmp_path, "[[station]]", 'name = "None"', 'command = ["/none/receiver", "-x"]',
+                                 "[[station]]", 'name = "Fails"', 'command = ["sh", "-c", "echo no such device >&2; exit 3"]'))
+    it.says("None: the receiver cannot be started: No such file or directory")
+    it.says("Fails: the receiver ended with status 3: no such device")
+    assert it.end() == 0
+
+
+def test_mpx_is_demodulated(tmp_path: Path) -> None:
+    """The tests' modulator makes six seconds, which a receiver repeats."""
+    from modulator import mpx, stored
+
+    sys.path.insert(0, str(STATION.parent))
+    from station import Programme
+
+    programme = Programme(0xD318, "ALPHA", "Now: nothing")
+    data = encode([programme.group(n) for n in range(6, 6 + 12 * 12)])
+    (tmp_path / "mpx").write_bytes(stored(mpx(data, 192000), "s16"))
+    words = ["sh", "-c", f"while cat {tmp_path}/mpx; do sleep 1; done"]
+    it = Process(tmp_path, table(tmp_path, 'form = "mpx"', 'raw = "s16"', "rate = 192000", command=words))
+    it.receives(2000)
+    assert it.end() == 0
+    assert asked(tmp_path, "SELECT DISTINCT value FROM events WHERE item IN ('pi', 'ps') ORDER BY 1") == [("ALPHA",), ("D318",)]
+
+
+def test_a_command_for_alarms(tmp_path: Path) -> None:
+    """Its words are words: no shell reads what a station sent."""
+    odd = "$(touch x); `touch x` 'a"
+    words = receiver(tmp_path)
+    words[words.index("ALPHA")] = odd[:8]
+    page = f'alarm_command = ["sh", "-c", "printf \'%s|\' \\"$@\\" >> {tmp_path}/pages.log", "-", "{{station}}", "{{alarm}}", "{{state}}", "{{text}}"]'
+    it = Process(tmp_path, table(tmp_path, page, 'ps = "BETA"', "[station.alarms]", "ps = 2", command=words))
+    it.until(lambda: (tmp_path / "pages.log").exists() and (tmp_path / "pages.log").read_text().count("|") == 4)
+    text = (tmp_path / "pages.log").read_text()
+    assert text.startswith("Alpha|ps|begin|PS $(touch ") and text.endswith("in place of BETA|")
+    assert it.end() == 0 and not (tmp_path / "x").exists() and not Path("x").exists()
+
+
+# ---- the disk, and systemd
+
+
+def test_no_room_for_a_while(tmp_path: Path) -> None:
+    """Files may not grow: rows wait, an alarm tells of it, and then all of them are there."""
+    it = Process(tmp_path, table(tmp_path, "[station.alarms]", "disk = 1"))
+    it.receives(500)
+    size = max(path.stat().st_size for path in tmp_path.rglob("*") if path.is_file())
+    resource.prlimit(it.it.pid, resource.RLIMIT_FSIZE, (min(size, 4096), resource.RLIM_INFINITY))
+    it.says("rows cannot be written")
+    time.sleep(3)
+    resource.prlimit(it.it.pid, resource.RLIMIT_FSIZE, (resource.RLIM_INFINITY, resource.RLIM_INFINITY))
+    it.says("rows are written again")
+    it.receives(500)
+    assert it.end() == 0
+    (hour,) = (tmp_path / "listings" / "Alpha").iterdir()
+    numbers = [number for number, _ in numbers_in(hours_in(tmp_path, "Alpha"))]
+    sent = sent_in(tmp_path / "sent")
+    wanted = {n & 0xFFFFFFFF for n in range(sent[0][0] + 6, sent[-2][1]) if n % 6 == 5 and not crosses_minute(n)}
+    assert numbers == sorted(set(numbers)) and wanted <= set(numbers)
+    assert b"total,losses," in hour.read_bytes()
+    assert asked(tmp_path, "SELECT alarm FROM alarms") == [("disk",)]
+
+
+def test_what_systemd_hears(tmp_path: Path) -> None:
+    address = str(tmp_path / "notify")
+    with socket.socket(socket.AF_UNIX, socket.SOCK_DGRAM) as heard:
+        heard.bind(address)
+        heard.settimeout(PATIENCE)
+        it = Process(tmp_path, table(tmp_path), NOTIFY_SOCKET=address)
+        said = [heard.recv(100).decode() for _ in range(3)]
+        assert said == ["READY=1", "WATCHDOG=1", "WATCHDOG=1"]
+        it.it.send_signal(signal.SIGTERM)
+        while said[-1] != "STOPPING=1":
+            said.append(heard.recv(100).decode())
+        assert it.it.wait(PATIENCE) == 0
+
+
+def test_it_opens_no_socket(tmp_path: Path) -> None:
+    """Without systemd it has none at all."""
+    it = Process(tmp_path, table(tmp_path))
+    it.receives()
+    links = [os.readlink(path) for path in Path(f"/proc/{it.it.pid}/fd").iterdir() if path.is_symlink()]
+    assert not [link for link in links if link.startswith("socket:")] and len(links) < 30
+    assert it.end() == 0
+
+
+# ---- asking
+
+
+def state(**changes: Any) -> Dict[str, Any]:
+    known: Dict[str, Any] = {
+        "utc": time.time(), "minute": {"sent": 2740, "valid": 2700, "corrected": 20}, "last_group_utc": time.time() - 0.5, "alarms": {},
+        "held": {"pi": "D318", "ps": "ALPHA"},
+    }
+    return {**known, **changes}
+
+
+def asked_of(folder: Path, known: Dict[str, Any], *words: str, ago: float = 3) -> Tuple[int, str]:
+    from made import run
+    from rds_monitor.watch.records import Records, StateSeen
+
+    records = Records(str(folder / "watch.db"))
+    records.write([StateSeen("Alpha", time.time() - ago, known)])
+    records.close()
+    done = run("check", "--station", "Alpha", *words, folder / "watch.db")
+    return done.status, done.out
+
+
+def test_check_asks_the_database(tmp_path: Path) -> None:
+    status, line = asked_of(tmp_path, state())
+    assert status == 0 and line.startswith("RDS OK - 98.54 % of the blocks of the last minute valid, last valid group 0.5")
+    assert "programme D318, name ALPHA | valid=98.54%;90:;50:;0;100 corrected=0.73%;;;0;100 age=0.5" in line
+    assert asked_of(tmp_path, state(alarms={"ta": "TA is on"}))[0] == 1
+    assert asked_of(tmp_path, state(alarms={"no_rds": "no valid block for 20 s", "ta": "TA is on"}))[0] == 2
+    assert asked_of(tmp_path, state(minute={"sent": 2740, "valid": 2000, "corrected": 20}))[0] == 1
+    assert asked_of(tmp_path, state(minute={"sent": 2740, "valid": 900, "corrected": 20}))[0] == 2
+    assert asked_of(tmp_path, state(), "-w", "99")[0] == 1
+    assert asked_of(tmp_path, state(), "--pi", "D319")[0] == 2 and asked_of(tmp_path, state(), "--pi", "D318")[0] == 0
+    assert asked_of(tmp_path, state(), "--name", "BETA")[0] == 2 and asked_of(tmp_path, state(held={}), "--name", "BETA")[0] == 1
+    assert asked_of(tmp_path, state(last_group_utc=time.time() - 30))[0] == 1
+    assert asked_of(tmp_path, state(last_group_utc=None, minute=None))[0] == 2
+
+
+def test_check_without_an_answer(tmp_path: Path) -> None:
+    from made import run
+
+    status, line = asked_of(tmp_path, state(), ago=100)
+    assert status == 3 and "Alpha was last looked at 100 s ago: rds-monitor watch does not run" in line
+    assert "has no station Beta: there are Alpha" in run("check", "--station", "Beta", tmp_path / "watch.db").out
+    assert run("check", "--station", "Beta", tmp_path / "none.db").status == 3 and not (tmp_path / "none.db").exists()
+    assert run("check", "--station", "Beta", "a", "b").status == 3

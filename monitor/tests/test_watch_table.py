@@ -1,0 +1,115 @@
+"""The table of stations, its errors, and the command line of `watch`."""
+
+from __future__ import annotations
+
+import importlib
+from pathlib import Path
+from typing import Any
+
+import pytest
+
+from conftest import TOP
+from made import run
+from network import stations
+from rds_monitor.items import Fault
+from rds_monitor.watch import table
+from rds_monitor.watch.table import Keep, Limits, table_of
+
+ALPHA = ('name = "Alpha"', 'command = ["receiver", "-f", "98.1M"]')
+
+
+def test_defaults() -> None:
+    found = table_of(stations(*ALPHA))
+    (it,) = found.stations
+    assert found.folder is None and found.keep == Keep() and it.command == ("receiver", "-f", "98.1M")
+    assert it.form == "bits" and it.patience == 10 and it.alarms == Limits() and it.pi is None and it.ps == ()
+
+
+def test_all_of_it() -> None:
+    found = table_of(
+        'folder = "/tmp/a"\n[keep]\nlistings_days = 60\nlistings_gb = 0.5\n[defaults]\nform = "mpx"\nraw = "s16"\nrate = 171000\n'
+        '[defaults.alarms]\nsilent = 20\nta = false\n'
+        + stations(*ALPHA, 'pi = "d318"', 'ps = ["ALPHA*", "NEWS"]', 'rt = "*"', "frequency = 98.1",
+                   'alarm_command = ["page", "{text}"]', "[station.alarms]", "silent = 30", "errors_percent = 5",
+                   "--", 'name = "Beta"', 'command = ["b"]', 'form = "iq"', "offset = -1e5"))
+    one, other = found.stations
+    assert found.keep == Keep(60, 0.5, 0) and one.pi == "D318" and one.ps == ("ALPHA*", "NEWS")
+    assert one.alarms.silent == 30 and one.alarms.ta is None and one.alarms.errors_percent == 5 and other.alarms.silent == 20
+    assert other.form == "iq" and other.rate == 171000 and other.offset == -1e5 and one.rt == ("*",)
+    assert one.same_receiver(one) and not one.same_receiver(other)
+
+
+@pytest.mark.parametrize(
+    ("text", "fault"),
+    [
+        ("", "there is no [[station]]"),
+        ("[[station]", "this is no TOML"),
+        ("speed = 3\n" + stations(*ALPHA), "the table has an unknown key 'speed'"),
+        (stations('name = "Alpha"'), "station 'Alpha' has no 'command'"),
+        (stations('command = ["a"]'), "the station number 1 has no 'name'"),
+        (stations('name = "Alpha"', 'command = "rtl_fm -f 98.1M"'), "a list of words is needed"),
+        (stations('name = "../etc"', 'command = ["a"]'), "cannot be the name of a folder"),
+        (stations('name = "a/b"', 'command = ["a"]'), "cannot be the name of a folder"),
+        (stations('name = "a\\nb"', 'command = ["a"]'), "cannot be the name of a folder"),
+        (stations(*ALPHA, "--", 'name = "ALPHA"', 'command = ["a"]'), "there are two stations"),
+        (stations(*ALPHA, 'pi = "D31"'), "four hexadecimal digits"),
+        (stations(*ALPHA, "pi = 0xD318"), "four hexadecimal digits"),
+        (stations(*ALPHA, 'form = "wav"'), "one of bits, mpx, iq"),
+        (stations(*ALPHA, 'form = "mpx"'), "needs 'raw' and 'rate'"),
+        (stations(*ALPHA, "rate = 171000"), "are for the forms mpx and iq"),
+        (stations(*ALPHA, 'form = "mpx"', 'raw = "s16"', "rate = 48000"), "128000 to 3200000 samples"),
+        (stations(*ALPHA, "patience = -1"), "a number that is not below 0"),
+        (stations(*ALPHA, "patience = true"), "a number that is not below 0"),
+        (stations(*ALPHA, "[station.alarms]", "loud = 3"), "unknown key 'loud'"),
+        (stations(*ALPHA, "[station.alarms]", 'silent = "15"'), "alarm silent of station 'Alpha'"),
+        (stations(*ALPHA, "[station.alarms]", "errors_percent = false"), "a number that is not below 0"),
+        (stations(*ALPHA, 'ps = ""'), "a pattern or a list of patterns"),
+        ("[keep]\nlistings_days = \"60\"\n" + stations(*ALPHA), "keep.listings_days"),
+        ("[defaults]\nname = \"a\"\n" + stations(*ALPHA), "[defaults]"),
+    ],
+)
+def test_errors(text: str, fault: str) -> None:
+    with pytest.raises(Fault) as caught:
+        table_of(text)
+    assert fault in str(caught.value)
+
+
+def test_no_reader_of_toml(monkeypatch: pytest.MonkeyPatch) -> None:
+    """Of Python 3.9 and 3.10 without tomli; with it, that one reads the table."""
+    real = importlib.import_module
+
+    def missing(name: str, *rest: Any) -> Any:
+        if name == "tomllib":
+            raise ImportError(name)
+        return real("tomllib") if name == "tomli" and has_tomli else missing_too(name)
+
+    def missing_too(name: str) -> Any:
+        raise ImportError(name)
+
+    has_tomli = False
+    monkeypatch.setattr(table.importlib, "import_module", missing)
+    with pytest.raises(Fault, match="python3-tomli"):
+        table_of(stations(*ALPHA))
+    has_tomli = True
+    assert len(table_of(stations(*ALPHA)).stations) == 1
+
+
+def test_the_command_line(tmp_path: Path) -> None:
+    path = tmp_path / "stations.toml"
+    path.write_text(stations(*ALPHA))
+    assert run("watch", "--check", path).out == "Alpha: bits, receiver -f 98.1M\n"
+    done = run("watch", path)
+    assert done.status == 1 and "there is no folder to write to" in done.err
+    done = run("watch", tmp_path / "none.toml")
+    assert done.status == 1 and "No such file" in done.err
+    path.write_bytes(b"\xff")
+    assert "not in UTF-8" in run("watch", path).err
+    assert run("watch").status == 2
+
+
+def test_the_tables_that_are_shown() -> None:
+    """The example of the package, and that of the page, are tables."""
+    text = (TOP / "monitor" / "WATCHING.md").read_text().split("## The table of stations")[1].split("##")[0]
+    shown = "\n".join(line[4:] for line in text.splitlines() if line.startswith("    "))
+    assert table_of(shown).stations[0].name == "Alpha"
+    assert len(table_of((TOP / "packaging" / "stations.toml").read_text()).stations) >= 1

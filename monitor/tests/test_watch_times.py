@@ -1,0 +1,112 @@
+"""The times of bits by when they come: drifting clocks, late reads, dropped samples, and a machine's clock that is set."""
+
+from __future__ import annotations
+
+import random
+from typing import Iterator, List, Tuple
+
+import pytest
+from hypothesis import given
+from hypothesis import strategies as st
+
+from rds_monitor.watch.times import RATE, Arrivals, Now, RealTimes, SteadyUtc, Timing
+
+BEGIN = 1795748400.0
+
+
+def reads(seconds: float, ppm: float, delays: "Iterator[float]", every: float = 1.0) -> Iterator[Tuple[int, float, float]]:
+    """Position, the UTC at which it was on the air, and when it came."""
+    for n in range(1, int(seconds / every) + 1):
+        place = int(n * every * RATE)
+        sent = BEGIN + place / (RATE * (1 + ppm * 1e-6))
+        yield place, sent, sent + next(delays)
+
+
+def jitter(seed: int, most: float) -> Iterator[float]:
+    chance = random.Random(seed)
+    while True:
+        yield chance.uniform(0.02, most)
+
+
+@pytest.mark.parametrize("ppm", [-120, -20, 0, 20, 120])
+def test_a_day_of_a_clock_that_drifts(ppm: float) -> None:
+    """Cut each hour: no time is off by more than a second, and none goes back."""
+    arrivals = Arrivals()
+    last, cuts = 0.0, 0
+    for place, sent, came in reads(86400, ppm, jitter(1, 0.3)):
+        arrivals.take(place, came)
+        assert arrivals.timing is not None and not arrivals.is_late()
+        told = arrivals.timing.utc(place)
+        assert told >= last and abs(told - sent) < 1
+        last = told
+        if (came - BEGIN) // 3600 > cuts:
+            cuts += 1
+            arrivals.cut(place, came)
+    assert cuts in (23, 24) and abs(arrivals.timing.rate / RATE - 1 - ppm * 1e-6) < 60e-6
+
+
+def test_the_first_second_corrects_the_start() -> None:
+    """The first read was held up by 0.4 s, and those that follow were not."""
+    arrivals = Arrivals()
+    arrivals.take(1187, BEGIN + 1187 / RATE + 0.4)
+    assert arrivals.timing == Timing(pytest.approx(BEGIN + 0.4))
+    arrivals.take(1306, BEGIN + 1306 / RATE + 0.01)
+    assert arrivals.timing is not None and abs(arrivals.timing.start - BEGIN - 0.01) < 1e-3
+
+
+def test_dropped_samples_make_the_time_jump_forward() -> None:
+    """Bits that come two seconds late for good. A read that is late once changes nothing."""
+    arrivals = Arrivals()
+    delays: List[float] = [0.05] * 60 + [3.0] + [0.05] * 30 + [2.05] * 30
+    seen = []
+    for place, _, came in reads(len(delays), 0, iter(delays)):
+        arrivals.take(place, came)
+        seen.append(arrivals.is_late())
+        if seen[-1]:
+            arrivals.jump(arrivals.delay())
+    assert seen.index(True) in range(99, 102) and seen.count(True) == 1
+    assert arrivals.timing is not None and abs(arrivals.timing.start - BEGIN - 2.05) < 0.02
+
+
+@given(st.lists(st.floats(0, 5), min_size=30, max_size=200), st.floats(-200, 200))
+def test_no_time_goes_back(delays: List[float], ppm: float) -> None:
+    """However reads are held up, and wherever parts are cut."""
+    arrivals = Arrivals()
+    last, settled = 0.0, 0
+    for n, (place, _, came) in enumerate(reads(len(delays), ppm, iter(delays))):
+        arrivals.take(place, came)
+        assert arrivals.timing is not None
+        if n < 3:
+            continue
+        if arrivals.is_late():
+            arrivals.jump(arrivals.delay())
+        if n % 25 == 24:
+            arrivals.cut(place, came)
+        assert arrivals.timing.utc(place) >= last - 1e-6
+        last, settled = arrivals.timing.utc(place), settled + 1
+    assert settled
+
+
+def test_positions_and_times() -> None:
+    timing = Timing(BEGIN, 1187.5)
+    for utc in (BEGIN, BEGIN + 0.0001, BEGIN + 3600, BEGIN + 86400.123):
+        place = timing.place(utc)
+        assert timing.utc(place) >= utc > timing.utc(place - 1)
+
+
+def test_steps_of_the_machines_clock() -> None:
+    clock = SteadyUtc(Now(100, BEGIN))
+    assert clock.step(Now(101, BEGIN + 1)) == 0 and clock.utc(Now(101, 0)) == BEGIN + 1
+    assert clock.step(Now(102, BEGIN + 2.9)) == 0 and clock.utc(Now(102, 0)) == BEGIN + 2.9
+    assert clock.step(Now(103, BEGIN + 3600)) == pytest.approx(3596.1)
+    assert clock.step(Now(104, BEGIN - 86400)) == pytest.approx(-90001)
+    assert clock.utc(Now(105, 0)) == BEGIN - 86399
+
+
+def test_a_fast_clock() -> None:
+    times = RealTimes(100)
+    first = times.now()
+    while times.now().steady - first.steady < 2:
+        pass
+    later = times.now()
+    assert abs((later.utc - first.utc) - (later.steady - first.steady)) < 5
