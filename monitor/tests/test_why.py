@@ -26,8 +26,6 @@ def why(data: bytes, *words: str) -> Tuple[int, str]:
     (b"0000", "list --bits 7 --gaps 1-8", "refused 16 BadGaps\ngap 1, 1-8, goes past the end of the recording, 7 bits\n"),
     (b"0000", "list --bits 33", "refused 4 BitsPastBytes\nthe input holds 32 bits\n"),
     (b"0000", "list --burst 6", "refused 1 BurstRange\n"),
-    # more than a pipe holds, of which rds reads nothing
-    (bytes(1_000_000), "list --burst 6", "refused 1 BurstRange\n"),
 ])
 def test_tells_where(data: bytes, words: str, told: str) -> None:
     assert why(data, *words.split()) == (1, told)
