@@ -94,7 +94,7 @@ SCRIPTS := $(addprefix tests/,library.sh monitor.sh refusals.sh differential.py 
   recipes.sh streams.py progress.py listings.sh)
 RDS := crates/rds/out/rds
 OVER = $(RDS)
-tests/refusals.sh: OVER = $(RDS) crates/rds_parts/out/rds_parts
+tests/refusals.sh: OVER = $(RDS) crates/rds_bench/out/rds_bench
 tests/library.sh: OVER = build/lib $(RDS) $(FOLDER_arm64)
 tests/package.sh: OVER = $(RDS) build/lib $(FOLDER_arm64)
 tests/monitor.sh tests/scripts.sh tests/growth.sh: OVER = $(RDS) build/lib

@@ -1,19 +1,19 @@
 #!/usr/bin/env bash
-# Refused calls: tests/refusals.sh PATH-TO-RDS PATH-TO-RDS_PARTS
+# Refused calls: tests/refusals.sh PATH-TO-RDS PATH-TO-RDS_BENCH
 #
 # Each allocation, read, write and start of a thread of some jobs is refused in turn, and then that one and all after
 # it. The answer has to be the job's own, or the refusal's with nothing written (with a prefix of the text, where a write
 # is refused, and with whole rows of a beginning, where a stream is followed), and never another. Where a thread for rows is not started, the rows are made without it, and the answer is
-# the job's own. Each allocation of rds_parts is refused too, which makes calls of the libraries by themselves, and those
+# the job's own. Each allocation of `rds_bench --calls` is refused too, which makes calls of the libraries by themselves, and those
 # that are refused once more. The calls are refused by a small library, which the C compiler makes of tests/refuse.c.
 # The last line is 'N passed, M failed', and the exit status says whether all passed.
 
-usage='usage: tests/refusals.sh PATH-TO-RDS PATH-TO-RDS_PARTS'
+usage='usage: tests/refusals.sh PATH-TO-RDS PATH-TO-RDS_BENCH'
 # shellcheck source-path=SCRIPTDIR source=common.sh
 . "$(dirname "$0")/common.sh" || exit
 check_programs "${1:-}" "${2:-}"
 program=$(realpath "$1")
-parts=$(realpath "$2")
+bench=$(realpath "$2")
 limit_time "$program"
 needs cat cmp grep od sed seq stat
 rows=0
@@ -151,9 +151,12 @@ job '\x00\x00\x3f\x00\x00\x19\x80\x00\x05\xa0' follow --burst 0
 job '\x00\x00\x3f\x00\x00\x19\x80\x00\x05\xa0\x00\x01\xb4' follow --bits 101 --gaps 1-2,99-101
 
 streams=
-program=$parts
-timeout "$LIMIT" "$program" >"$work/wanted" || exit 1
-each alloc
+program=$bench
+# rds_bench says in words of its own that memory is refused
+is_refusal() { [ "$1" = 1 ] && [ -s "$work/err" ]; }
+timeout "$LIMIT" "$program" --calls >"$work/wanted" || exit 1
+[ -s "$work/wanted" ] || fail 'rds_bench --calls prints nothing'
+each alloc --calls
 
 for call in "${!tried[@]}"; do
     if [ "${tried[$call]}" = 0 ]; then

@@ -5,6 +5,7 @@
 //! `--check` runs those that have a bound in a second, and fails where a ratio is lost.
 #![tactic(auto)]
 
+mod calls;
 mod deals;
 mod forms;
 mod gaps;
@@ -17,6 +18,7 @@ mod sample;
 mod standards;
 mod timing;
 mod transcripts;
+mod two_guesses;
 mod windows;
 
 use anyhow::{Context, Result};
@@ -29,6 +31,7 @@ use std::thread::Threads;
 
 const USAGE: &str = "usage: rds_bench MEASUREMENT [BITS [SAMPLE]]
        rds_bench --check    those that have a bound, over short recordings: an error where a ratio is lost
+       rds_bench --calls    calls that a crew is made of, each by itself, and once more where it is refused
 
   scan       the valid windows: a list, one after the other, place by place, by long division
   remainder  the remainder by tables, and by long division
@@ -68,6 +71,7 @@ fn main(rt: HostRuntime) -> Result<()> {
 fn run<T: Threads + Wait + Sync>(rt: &HostRuntime, threads: &T, words: &[String]) -> Result<()> {
     match asked_by(words)? {
         Some(asked) if asked.measurement == "--check" => standards::check(rt, threads),
+        Some(asked) if asked.measurement == "--calls" => calls::show(rt),
         Some(asked) => measure(rt, threads, asked),
         None => show_usage(rt),
     }

@@ -92,6 +92,15 @@ impl Withholding {
             flush_fails,
         }
     }
+
+    /// The bytes that were handed on.
+    pub fn flushed(&self) -> &[u8] {
+        let (flushed, _) = self
+            .held
+            .as_slice()
+            .split_at(self.handed_on.min(self.held.len()));
+        flushed
+    }
 }
 
 impl Write for Withholding {

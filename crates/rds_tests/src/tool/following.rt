@@ -1,8 +1,7 @@
 //! A stream that is followed, whose rows come as soon as they are complete.
-use crate::tool::devices::SlowReader;
-use crate::writer::{Failure, SlowWriter};
+use crate::tool::devices::{SlowReader, Withholding};
 use rds_sync::Rules;
-use rds_tool::{ToolError, follow};
+use rds_tool::{ToWrite, ToolError, follow};
 use std::alloc::Global;
 
 const NO_GAPS: &[(u64, u64)] = &[];
@@ -13,7 +12,7 @@ static GROUPS: [u8; 26] = [
     0x00, 0x00, 0x19, 0x80, 0x00, 0x05, 0xA0, 0x00, 0x01, 0xB4,
 ];
 
-/// The rows that so many of its first bytes complete.
+/// The rows that the first `bytes` bytes complete.
 fn rows_of(bytes: u8) -> &'static str {
     match bytes {
         0..=6 => "",
@@ -30,12 +29,12 @@ fn rows_of(bytes: u8) -> &'static str {
     }
 }
 
-/// Whether these rows stand where the read fails that comes after so many bytes, one a read.
-fn stand_after(alloc: Global, rules: &Rules, bytes: u8) -> bool {
+/// Whether the rows that the first `bytes` bytes complete, one a read, are flushed before the next read, which fails.
+fn are_flushed_after(alloc: Global, rules: &Rules, bytes: u8) -> bool {
     let mut reader = SlowReader::new(&GROUPS, 1, u64::from(bytes) + 1);
-    let mut writer = SlowWriter::new(alloc, usize::MAX, Failure::Never);
+    let mut writer = ToWrite::new(Withholding::new(alloc, false));
     let answer = follow(alloc, &mut reader, &mut writer, rules, None, NO_GAPS);
-    answer == Err(ToolError::Read) && writer.held.as_slice() == rows_of(bytes).as_bytes()
+    answer == Err(ToolError::Read) && writer.into_inner().flushed() == rows_of(bytes).as_bytes()
 }
 
 #[test]
@@ -45,10 +44,10 @@ fn rows_come_with_the_read_that_completes_them(rt: HostRuntime) {
     }
 }
 
-/// Whether there is memory for the rules, and by them these rows stand there.
+/// Whether there is memory for the rules, and by them these rows are flushed in time.
 fn come_after(alloc: Global, bytes: u8) -> bool {
     match Rules::new(alloc, 2, 3, 10) {
-        Ok(rules) => stand_after(alloc, &rules, bytes),
+        Ok(rules) => are_flushed_after(alloc, &rules, bytes),
         Err(_) => false,
     }
 }

@@ -1,39 +1,27 @@
-//! `rds_parts`: calls that a crew is made of, each by itself: joins, a report stitched of two guesses, codes,
-//! a dealer.
+//! Calls that a crew is made of, each by itself: joins, a report stitched of two guesses, codes, a dealer.
 //!
-//! tests/refusals.sh refuses memory to it, allocation by allocation. A call that was refused is made once more of the
+//! tests/refusals.sh refuses memory to them, allocation by allocation. A call that was refused is made once more of the
 //! same recording, rules and runs, which have to be as they were: a refused allocation changes no answer of these calls.
-#![tactic(auto)]
-
 ghost use Rattle.std.specs.Prelude.{◌≡◌, IfOk};
 ghost use Rattle.rds_stream.specs.Recording.{length_of};
 ghost use Rattle.rds_pieces.specs.Cutting.{IsCutting, pieces_of};
 
-mod calls;
-
-use calls::Found;
+use crate::two_guesses::{self, Found};
+use anyhow::Result;
 use rds_crew::{CrewError, Dealer};
 use rds_pieces::{Cutting, PieceError};
 use rds_stream::Recording;
 use rds_sync::Rules;
 use std::alloc::{AllocError, Global};
-use std::process::ExitCode;
 
 /// The bits of the group of four zero words.
 const ZERO_GROUP: [u8; 13] = [0, 0, 0x3F, 0, 0, 0x19, 0x80, 0, 0x05, 0xA0, 0, 0x01, 0xB4];
 
-fn main(rt: HostRuntime) -> ExitCode {
-    match answers(rt.alloc()) {
-        Ok(text) => {
-            let _ = print!(rt; "{text}");
-            ExitCode::SUCCESS
-        }
-        // Nothing else can be refused here.
-        Err(AllocError) => {
-            let _ = eprintln!(rt; "refused 8 OutOfMemory");
-            ExitCode::from(1)
-        }
-    }
+/// Prints what the calls answer.
+pub fn show(rt: &HostRuntime) -> Result<()> {
+    let text = answers(rt.alloc())?;
+    print!(rt; "{text}")?;
+    Ok(())
 }
 
 /// What the calls answer over eight zero groups cut at place 190: by reach 3 the runs meet soon, by reach 4 never.
@@ -67,9 +55,9 @@ fn push_made(alloc: Global, text: &mut String) -> Result<(), AllocError> {
             Err(_) => return Err(AllocError),
         },
     };
-    let kept = match calls::kept_in_room(alloc) {
+    let kept = match two_guesses::kept_in_room(alloc) {
         Ok(kept) => kept,
-        Err(_) => calls::kept_in_room(alloc)?,
+        Err(_) => two_guesses::kept_in_room(alloc)?,
     };
     writeln!(text, "{seats} seats\n{kept} code")
 }
@@ -121,11 +109,11 @@ fn push_calls(
     requires fits { IsCutting (length_of recording.now) cutting.now }
     requires two { pieces_of cutting.now ≡ 2 }
 {
-    let joined = calls::joined(alloc, recording, rules, cutting)?;
+    let joined = two_guesses::joined(alloc, recording, rules, cutting)?;
     push_row(text, "joined", joined)?;
-    let at_once = calls::joined_at_once(alloc, recording, rules, cutting)?;
+    let at_once = two_guesses::joined_at_once(alloc, recording, rules, cutting)?;
     push_row(text, "joined at once", at_once)?;
-    let stitched = calls::stitched(alloc, recording, rules, cutting)?;
+    let stitched = two_guesses::stitched(alloc, recording, rules, cutting)?;
     push_row(text, "stitched", stitched)?;
     Ok(())
 }
