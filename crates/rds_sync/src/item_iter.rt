@@ -1,8 +1,11 @@
 //! A walk over items, in order.
 
-ghost use Rattle.std.specs.Prelude.{◌≡◌, ◌≤◌, ◌<◌, ◌+◌, ◌++◌, ◌⊎◌, [], ◌∷◌, All, MatchOption, length, drop, take, false, true, vec_capacity};
+ghost use Rattle.std.specs.Prelude.{◌≡◌, ◌≤◌, ◌<◌, ◌+◌, ◌-◌, ◌++◌, ◌⊎◌, [], ◌∷◌, All, MatchOption, length, drop, take, false, true, vec_capacity};
 ghost use Rattle.std.specs.Iterator.{YieldsFirst, item_count};
+ghost use Rattle.rds_stream.specs.Recording.{length_of};
 ghost use Rattle.rds_sync.specs.Inside.Spans.{IsSpan, items_in, items_of};
+ghost use Rattle.rds_sync.specs.Lawful.{IsLawful};
+ghost use Rattle.rds_sync.specs.Step.{run};
 
 use crate::decoder::Decoder;
 use crate::item::Item;
@@ -145,6 +148,27 @@ fn next_in<'a>(
     (None, rest)
 }
 
+/// The items of the run from `state` over the places from `from` to before `to`, but for the first `passed`.
+fn decoder_past<'a>(
+    recording: &'a Recording,
+    rules: &'a Rules,
+    state: State,
+    from: u64,
+    to: u64,
+    passed: usize,
+) -> Decoder<'a>
+    requires lawful { IsLawful rules.now from state }
+    requires order { from ≤ to }
+    requires within { to ≤ length_of recording.now }
+    ensures { result.items ≡ drop passed (run recording.now rules.now state from (to - from)).1 }
+{
+    let mut decoder = Decoder::new(recording, rules, state, from, to);
+    for _number in 0..passed {
+        let _item = decoder.next();
+    }
+    decoder
+}
+
 /// The first item of a span, whose others the decoder then gives.
 fn first_of<'a>(
     recording: &'a Recording,
@@ -161,9 +185,10 @@ fn first_of<'a>(
             place,
             state,
             to,
+            passed,
             ..
         } => {
-            *decoder = Decoder::new(recording, rules, state, place, to);
+            *decoder = decoder_past(recording, rules, state, place, to, passed);
             decoder.next()
         }
         Span::End { state } => match finish(&mut Counted::new(recording), rules, state) {
@@ -228,9 +253,10 @@ fn push_span<'a>(
             place,
             state,
             to,
+            passed,
             ..
         } => {
-            let mut run = Decoder::new(recording, rules, state, place, to);
+            let mut run = decoder_past(recording, rules, state, place, to, passed);
             run.push_until(part, most);
             *decoder = run;
         }
