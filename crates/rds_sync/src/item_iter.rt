@@ -131,7 +131,8 @@ fn next_in<'a>(
 ) -> (Option<Item>, &'a [Span])
     requires { All (IsSpan recording.now rules.now) spans.now }
     ensures spans { All (IsSpan recording.now rules.now) result.1.now }
-    ensures first { MatchOption result.0 (decoder.old.items ++ items_in recording.now rules.now spans.now ≡ [])
+    ensures first { MatchOption result.0
+        (decoder.old.items ++ items_in recording.now rules.now spans.now ≡ [])
         (λ item. decoder.old.items ++ items_in recording.now rules.now spans.now
         ≡ item ∷ (decoder.new.items ++ items_in recording.now rules.now result.1.now)) }
 {
@@ -214,7 +215,8 @@ fn push_from<'a>(
     ensures spans { All (IsSpan recording.now rules.now) result.now }
     ensures items { part.old.items ++ (decoder.old.items ++ items_in recording.now rules.now spans.now)
         ≡ part.new.items ++ (decoder.new.items ++ items_in recording.now rules.now result.now) }
-    ensures full { (decoder.new.items ++ items_in recording.now rules.now result.now ≡ []) ⊎ (length part.new.items ≡ most) }
+    ensures full { (decoder.new.items ++ items_in recording.now rules.now result.now ≡ [])
+        ⊎ (length part.new.items ≡ most) }
     ensures most { length part.new.items ≤ most }
     ensures room { vec_capacity part.new ≡ vec_capacity part.old }
 {
@@ -243,7 +245,8 @@ fn push_span<'a>(
     requires done { decoder.old.items ≡ [] }
     requires order { length part.old.items < most }
     requires room { most ≤ vec_capacity part.old }
-    ensures items { part.old.items ++ items_of recording.now rules.now span ≡ part.new.items ++ decoder.new.items }
+    ensures items { part.old.items ++ items_of recording.now rules.now span
+        ≡ part.new.items ++ decoder.new.items }
     ensures full { (decoder.new.items ≡ []) ⊎ (length part.new.items ≡ most) }
     ensures most { length part.new.items ≤ most }
     ensures room { vec_capacity part.new ≡ vec_capacity part.old }

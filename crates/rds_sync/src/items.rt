@@ -186,11 +186,14 @@ impl Items {
         requires lawful { IsLawful self.old.rules first.place first.state }
         requires order { first.place ≤ to }
         requires within { to ≤ length_of self.old.source }
-        requires marks { marks ≡ marks_on self.old.source self.old.rules first.state first.place first.items (to - first.place) }
+        requires marks { marks ≡ marks_on self.old.source self.old.rules
+            first.state first.place first.items (to - first.place) }
         requires count { items
-            ≡ first.items + length (run self.old.source self.old.rules first.state first.place (to - first.place)).1 }
+            ≡ first.items
+            + length (run self.old.source self.old.rules first.state first.place (to - first.place)).1 }
         ensures ok { OnOk result (self.new ≡ listed self.old.source self.old.rules
-            (self.old.list ++ (run self.old.source self.old.rules first.state first.place (to - first.place)).1)) }
+            (self.old.list
+            ++ (run self.old.source self.old.rules first.state first.place (to - first.place)).1)) }
         ensures refused { OnErr result (self.new ≡ self.old) }
     {
         let count = items - first.items;
@@ -274,7 +277,8 @@ impl Items {
     pub fn append(&mut self, other: Items) -> Result<(), AllocError>
         requires source { other.source ≡ self.old.source }
         requires rules { other.rules ≡ self.old.rules }
-        ensures ok { OnOk result (self.new ≡ listed self.old.source self.old.rules (self.old.list ++ other.list)) }
+        ensures ok { OnOk result (self.new
+            ≡ listed self.old.source self.old.rules (self.old.list ++ other.list)) }
         ensures refused { OnErr result (self.new ≡ self.old) }
     {
         let Some(len) = self.len.checked_add(other.len) else {
@@ -363,8 +367,10 @@ fn push_spans(
     requires lawful { IsLawful rules first.place first.state }
     requires order { first.place ≤ to }
     requires within { to ≤ length_of source.now.value }
-    requires marks { marks ≡ marks_on source.now.value rules first.state first.place first.items (to - first.place) }
-    requires count { items ≡ first.items + length (run source.now.value rules first.state first.place (to - first.place)).1 }
+    requires marks { marks ≡ marks_on source.now.value rules
+        first.state first.place first.items (to - first.place) }
+    requires count { items ≡ first.items
+        + length (run source.now.value rules first.state first.place (to - first.place)).1 }
     ensures ok { OnOk result (AreBehind source.now.value rules spans.old.items spans.new.items
         (run source.now.value rules first.state first.place (to - first.place)).1) }
     ensures refused { OnErr result (take (length spans.old.items) spans.new.items ≡ spans.old.items) }

@@ -28,7 +28,8 @@ pub(crate) enum Span {
 impl Span {
     /// How many items they are.
     pub fn len(&self) -> usize
-        ensures { (b : Signal) (rules : RuleNumbers) → IsSpan b rules self.now → result ≡ length (items_of b rules self.now) }
+        ensures { (b : Signal) (rules : RuleNumbers) → IsSpan b rules self.now
+            → result ≡ length (items_of b rules self.now) }
     {
         match self {
             Span::Run { items, .. } => *items,
