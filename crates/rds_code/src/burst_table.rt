@@ -92,7 +92,8 @@ fn enter_shifts(patterns: &mut [u32], pattern: u32)
     requires short { pattern < 32 }
     requires sound { IsSound patterns.old }
     ensures sound { IsSound patterns.new }
-    ensures entered { (shift : ℕ) → shift < 26 → pattern * 2 ^ shift < 2 ^ 26 → HasBurst patterns.new (pattern * 2 ^ shift) }
+    ensures entered { (shift : ℕ) → shift < 26 → pattern * 2 ^ shift < 2 ^ 26
+        → HasBurst patterns.new (pattern * 2 ^ shift) }
     ensures kept { (e : ℕ) → IsBurst 5 e → HasBurst patterns.old e → HasBurst patterns.new e }
 {
     for shift in 0..BLOCK_BITS {

@@ -45,7 +45,8 @@ pub fn read_block(
 fn own_offset(remainder: u16, number: BlockNumber) -> Option<Offset>
     ensures offset { IfSome result (λ o. the_offset_of remainder ≡ Some o) }
     ensures own { IfSome result (λ o. number_of o ≡ number) }
-    ensures none { result ≡ None → (o : Offset) → the_offset_of remainder ≡ Some o → number_of o ≡ number → ⊥ }
+    ensures none { result ≡ None → (o : Offset) → the_offset_of remainder ≡ Some o
+        → number_of o ≡ number → ⊥ }
 {
     match offset_of(remainder) {
         Some(offset) if offset.number() == number => Some(offset),

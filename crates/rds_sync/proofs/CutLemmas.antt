@@ -96,17 +96,17 @@ module _ (b : Signal) (rules : RuleNumbers) (loss : IsLoss rules.loss) (to : ℕ
     pub cut-more : (start : Mark) (spans after : List Span) (place n : ℕ) (state : State) → IsCutUpTo start spans → start.place ≤ place → place ≤ to
         → state ≡ (run b rules start.state start.place (place - start.place)).0
         → n ≡ length (run b rules start.state start.place (place - start.place)).1
-        → after ≡ spans ++ Run start.place start.state place n ∷ []
+        → after ≡ spans ++ Run start.place start.state place 0 n ∷ []
         → IsCutUpTo (record { place = place; state = state; items = start.items + n }) after
     cut-more start spans after place n state cut order inside state_is n_is after_is =
-        let span : Span = Run start.place start.state place n in
+        let span : Span = Run start.place start.state place 0 n in
         let found : List Item = (run b rules start.state start.place (place - start.place)).1 in
         let further = run-further b rules first.state start.state state (items_in b rules cut.more) found first.place start.place place cut.place.0 order
         cut.so_far state_is refl in
         record {
           more = cut.more ++ span ∷ [];
           same = after_is ∙ ap (λ (ss : List Span). ss ++ span ∷ []) cut.same ∙ append_assoc before cut.more (span ∷ []);
-          all = All-push (IsSpan b rules) cut.more span cut.all (lawful-at start spans cut, order, omega (arith, inside, within), n_is);
+          all = All-push (IsSpan b rules) cut.more span cut.all (lawful-at start spans cut, order, omega (arith, inside, within), omega (arith, n_is));
           place = (omega (arith, cut.place, order), inside);
           so_far = further ∙ ap (λ (is : List Item). (state, is)) (sym (items_in-push b rules cut.more span));
           count = omega (

@@ -40,7 +40,8 @@ impl Acquisition {
     pub fn items(&self, rules: &Rules) -> [Option<Item>; 2]
         requires block { (25 ≤ self.now.place) × IfSome self.now.heard (λ window. window < 2 ^ 26) }
         ensures { (b : Signal) → self.now.heard ≡ heard b self.now.place → items_in result
-            ≡ Acquired self.now.place self.now.number ∷ group_after b rules.now self.now.number self.now.number self.now.place }
+            ≡ Acquired self.now.place self.now.number
+            ∷ group_after b rules.now self.now.number self.now.number self.now.place }
     {
         let number = self.number.get();
         let acquired = Item::Acquired {
@@ -57,7 +58,8 @@ impl Acquisition {
     /// The group of this block alone, as its block 4.
     fn group(&self, rules: &Rules) -> Group
         requires block { (25 ≤ self.now.place) × IfSome self.now.heard (λ window. window < 2 ^ 26) }
-        ensures { (b : Signal) → self.now.heard ≡ heard b self.now.place → result ≡ group b rules.now 4 4 self.now.place }
+        ensures { (b : Signal) → self.now.heard ≡ heard b self.now.place
+            → result ≡ group b rules.now 4 4 self.now.place }
     {
         let last = Block::Read(rules.read(self.heard, BlockNumber::FOUR, Wanted::Either));
         let blocks = [Block::Missing, Block::Missing, Block::Missing, last];

@@ -29,7 +29,8 @@ impl<'a> Cursor<'a> {
         requires locks { AreLocks (kept_here self) }
         requires done { length self.words.now ≡ 0 }
         ensures locks { IfSome result (λ next. AreLocks (kept_here next)) }
-        ensures same { MatchOption result (kept_ahead self.entry ≡ no_codes) (λ next. kept_ahead next ≡ kept_ahead self.entry) }
+        ensures same { MatchOption result (kept_ahead self.entry ≡ no_codes)
+            (λ next. kept_ahead next ≡ kept_ahead self.entry) }
         ensures fewer { IfSome result (λ next. parts_left next < parts_left self.entry) }
     {
         if let Some((part, parts)) = self.parts.split_first() {
@@ -55,7 +56,8 @@ impl<'a> Cursor<'a> {
     #[inline(always)]
     pub fn next_whole(self) -> Option<(u16, Cursor<'a>)>
         requires { IsSound self }
-        ensures word { IfSome result (λ next. (next.0 < 65520) × (is_read (outcome_at (next.0 / 4096)) ≡ true)) }
+        ensures word { IfSome result (λ next. (next.0 < 65520)
+            × (is_read (outcome_at (next.0 / 4096)) ≡ true)) }
         ensures ahead { IfSome result (λ next. kept_ahead self.entry
             ≡ behind (kept_as (next.0 ∷ []) []) (kept_ahead next.1)) }
         ensures sound { IfSome result (λ next. IsSound next.1) }
@@ -105,7 +107,8 @@ fn settled(cursor: Cursor<'_>) -> Cursor<'_>
 pub(crate) fn next_code(cursor: Cursor<'_>) -> Option<(u16, u64, Cursor<'_>)>
     requires { IsSound cursor }
     ensures ahead { MatchOption result (kept_ahead cursor.entry ≡ no_codes) (λ next. kept_ahead cursor.entry
-        ≡ behind (kept_as (next.0 ∷ []) (if is_locked (code_in next.0) then next.1 ∷ [] else [])) (kept_ahead next.2)) }
+        ≡ behind (kept_as (next.0 ∷ []) (if is_locked (code_in next.0) then next.1 ∷ [] else []))
+        (kept_ahead next.2)) }
     ensures sound { IfSome result (λ next. IsSound next.2) }
     ensures place { IfSome result (λ next. next.1 < 2 ^ 36) }
 {

@@ -106,7 +106,8 @@ impl CodePart {
     #[inline(always)]
     pub fn push_lost(&mut self, word: u16) -> Result<(), AllocError>
         requires { is_locked (code_in word) ≡ false }
-        ensures { OnOk result (self.new ≡ behind (behind self.old (kept_as (word ∷ []) [])) (kept_as (65535 ∷ []) [])) }
+        ensures { OnOk result (self.new
+            ≡ behind (behind self.old (kept_as (word ∷ []) [])) (kept_as (65535 ∷ []) [])) }
     {
         self.push_word(word)?;
         self.push_word(ENDED)

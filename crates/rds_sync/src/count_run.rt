@@ -130,7 +130,8 @@ fn keep_on(
     requires within { to ≤ length_of reader.old }
     requires few { counts.old.items ≤ 3000 }
     requires most { most ≤ 3000 }
-    ensures reached { IsCountStretch reader.old rules.now (Locked lock) place to counts.old result counts.new }
+    ensures reached { IsCountStretch reader.old rules.now (Locked lock) place to
+        counts.old result counts.new }
     ensures same { reader.new ≡ reader.old }
 {
     prove!(to <= reader.recording().len());
@@ -157,7 +158,8 @@ fn keep_group(
     requires order { place < to }
     requires within { to ≤ length_of reader.old }
     requires few { counts.old.items ≤ 3000 }
-    ensures reached { IsCountStretch reader.old rules.now (Locked lock) place to counts.old result counts.new }
+    ensures reached { IsCountStretch reader.old rules.now (Locked lock) place to
+        counts.old result counts.new }
     ensures same { reader.new ≡ reader.old }
 {
     prove!(1 <= rules.reach());

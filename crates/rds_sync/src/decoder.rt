@@ -50,7 +50,8 @@ impl<'a> Model for Decoder<'a> {
       end = (run d.reader d.rules.now d.state d.place (d.to - d.place)).0;
     } };
 
-    ghost invariant = { λ d. IsLawful d.rules.now d.place d.state × (d.place ≤ d.to) × (d.to ≤ length_of d.reader) };
+    ghost invariant = { λ d. IsLawful d.rules.now d.place d.state × (d.place ≤ d.to)
+        × (d.to ≤ length_of d.reader) };
 }
 
 impl<'a> Decoder<'a> {

@@ -107,7 +107,8 @@ pub(crate) fn follow(
     requires within { lock.due < length_of reader.old }
     requires in_progress { IsInProgress reader.old rules.now lock blocks.old }
     ensures state { state_of result ≡ step reader.old rules.now lock.due (Locked lock) }
-    ensures items { items_of_due lock blocks.new result ≡ items_at reader.old rules.now lock.due (Locked lock) }
+    ensures items { items_of_due lock blocks.new result
+        ≡ items_at reader.old rules.now lock.due (Locked lock) }
     ensures followed { IsFollowed reader.old rules.now lock blocks.new result }
     ensures same { reader.new ≡ reader.old }
 {

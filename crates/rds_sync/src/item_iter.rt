@@ -1,8 +1,11 @@
 //! A walk over items, in order.
 
-ghost use Rattle.std.specs.Prelude.{◌≡◌, ◌≤◌, ◌<◌, ◌+◌, ◌++◌, ◌⊎◌, [], ◌∷◌, All, MatchOption, length, drop, take, false, true, vec_capacity};
+ghost use Rattle.std.specs.Prelude.{◌≡◌, ◌≤◌, ◌<◌, ◌+◌, ◌-◌, ◌++◌, ◌⊎◌, [], ◌∷◌, All, MatchOption, length, drop, take, false, true, vec_capacity};
 ghost use Rattle.std.specs.Iterator.{YieldsFirst, item_count};
+ghost use Rattle.rds_stream.specs.Recording.{length_of};
 ghost use Rattle.rds_sync.specs.Inside.Spans.{IsSpan, items_in, items_of};
+ghost use Rattle.rds_sync.specs.Lawful.{IsLawful};
+ghost use Rattle.rds_sync.specs.Step.{run};
 
 use crate::decoder::Decoder;
 use crate::item::Item;
@@ -128,7 +131,8 @@ fn next_in<'a>(
 ) -> (Option<Item>, &'a [Span])
     requires { All (IsSpan recording.now rules.now) spans.now }
     ensures spans { All (IsSpan recording.now rules.now) result.1.now }
-    ensures first { MatchOption result.0 (decoder.old.items ++ items_in recording.now rules.now spans.now ≡ [])
+    ensures first { MatchOption result.0
+        (decoder.old.items ++ items_in recording.now rules.now spans.now ≡ [])
         (λ item. decoder.old.items ++ items_in recording.now rules.now spans.now
         ≡ item ∷ (decoder.new.items ++ items_in recording.now rules.now result.1.now)) }
 {
@@ -143,6 +147,27 @@ fn next_in<'a>(
         }
     }
     (None, rest)
+}
+
+/// The items of the run from `state` over the places from `from` to before `to`, but for the first `passed`.
+fn decoder_past<'a>(
+    recording: &'a Recording,
+    rules: &'a Rules,
+    state: State,
+    from: u64,
+    to: u64,
+    passed: usize,
+) -> Decoder<'a>
+    requires lawful { IsLawful rules.now from state }
+    requires order { from ≤ to }
+    requires within { to ≤ length_of recording.now }
+    ensures { result.items ≡ drop passed (run recording.now rules.now state from (to - from)).1 }
+{
+    let mut decoder = Decoder::new(recording, rules, state, from, to);
+    for _number in 0..passed {
+        let _item = decoder.next();
+    }
+    decoder
 }
 
 /// The first item of a span, whose others the decoder then gives.
@@ -161,9 +186,10 @@ fn first_of<'a>(
             place,
             state,
             to,
+            passed,
             ..
         } => {
-            *decoder = Decoder::new(recording, rules, state, place, to);
+            *decoder = decoder_past(recording, rules, state, place, to, passed);
             decoder.next()
         }
         Span::End { state } => match finish(&mut Counted::new(recording), rules, state) {
@@ -189,7 +215,8 @@ fn push_from<'a>(
     ensures spans { All (IsSpan recording.now rules.now) result.now }
     ensures items { part.old.items ++ (decoder.old.items ++ items_in recording.now rules.now spans.now)
         ≡ part.new.items ++ (decoder.new.items ++ items_in recording.now rules.now result.now) }
-    ensures full { (decoder.new.items ++ items_in recording.now rules.now result.now ≡ []) ⊎ (length part.new.items ≡ most) }
+    ensures full { (decoder.new.items ++ items_in recording.now rules.now result.now ≡ [])
+        ⊎ (length part.new.items ≡ most) }
     ensures most { length part.new.items ≤ most }
     ensures room { vec_capacity part.new ≡ vec_capacity part.old }
 {
@@ -218,7 +245,8 @@ fn push_span<'a>(
     requires done { decoder.old.items ≡ [] }
     requires order { length part.old.items < most }
     requires room { most ≤ vec_capacity part.old }
-    ensures items { part.old.items ++ items_of recording.now rules.now span ≡ part.new.items ++ decoder.new.items }
+    ensures items { part.old.items ++ items_of recording.now rules.now span
+        ≡ part.new.items ++ decoder.new.items }
     ensures full { (decoder.new.items ≡ []) ⊎ (length part.new.items ≡ most) }
     ensures most { length part.new.items ≤ most }
     ensures room { vec_capacity part.new ≡ vec_capacity part.old }
@@ -228,9 +256,10 @@ fn push_span<'a>(
             place,
             state,
             to,
+            passed,
             ..
         } => {
-            let mut run = Decoder::new(recording, rules, state, place, to);
+            let mut run = decoder_past(recording, rules, state, place, to, passed);
             run.push_until(part, most);
             *decoder = run;
         }

@@ -1,9 +1,9 @@
 //! The items of a report.
 
-ghost use Rattle.std.specs.Prelude.{◌≡◌, ◌==◌, ◌+◌, ◌-◌, ◌<◌, ◌≤◌, ◌++◌, [], All, length, take, slice_get, slice_range, IfOk, OnOk, OnErr};
+ghost use Rattle.std.specs.Prelude.{◌≡◌, ◌==◌, ◌+◌, ◌-◌, ◌<◌, ◌≤◌, ◌++◌, [], All, drop, length, take, slice_get, slice_range, IfOk, OnOk, OnErr};
 ghost use Rattle.rds_stream.specs.Recording.{length_of};
 ghost use Rattle.rds_sync.specs.Decoding.{listed};
-ghost use Rattle.rds_sync.specs.Inside.Spans.{AreBehind, IsAt, IsSpan};
+ghost use Rattle.rds_sync.specs.Inside.Spans.{AreBehind, IsAt, IsInFirst, IsSpan, items_in};
 ghost use Rattle.rds_sync.specs.Lawful.{IsLawful};
 ghost use Rattle.rds_sync.specs.Marks.{marks_on};
 ghost use Rattle.rds_sync.specs.Ranges.{IsInRange};
@@ -186,11 +186,14 @@ impl Items {
         requires lawful { IsLawful self.old.rules first.place first.state }
         requires order { first.place ≤ to }
         requires within { to ≤ length_of self.old.source }
-        requires marks { marks ≡ marks_on self.old.source self.old.rules first.state first.place first.items (to - first.place) }
+        requires marks { marks ≡ marks_on self.old.source self.old.rules
+            first.state first.place first.items (to - first.place) }
         requires count { items
-            ≡ first.items + length (run self.old.source self.old.rules first.state first.place (to - first.place)).1 }
+            ≡ first.items
+            + length (run self.old.source self.old.rules first.state first.place (to - first.place)).1 }
         ensures ok { OnOk result (self.new ≡ listed self.old.source self.old.rules
-            (self.old.list ++ (run self.old.source self.old.rules first.state first.place (to - first.place)).1)) }
+            (self.old.list
+            ++ (run self.old.source self.old.rules first.state first.place (to - first.place)).1)) }
         ensures refused { OnErr result (self.new ≡ self.old) }
     {
         let count = items - first.items;
@@ -245,6 +248,7 @@ impl Items {
             place: from,
             state,
             to,
+            passed: 0,
             items,
         })?;
         self.len = len;
@@ -273,7 +277,8 @@ impl Items {
     pub fn append(&mut self, other: Items) -> Result<(), AllocError>
         requires source { other.source ≡ self.old.source }
         requires rules { other.rules ≡ self.old.rules }
-        ensures ok { OnOk result (self.new ≡ listed self.old.source self.old.rules (self.old.list ++ other.list)) }
+        ensures ok { OnOk result (self.new
+            ≡ listed self.old.source self.old.rules (self.old.list ++ other.list)) }
         ensures refused { OnErr result (self.new ≡ self.old) }
     {
         let Some(len) = self.len.checked_add(other.len) else {
@@ -283,19 +288,64 @@ impl Items {
         self.len = len;
         Ok(())
     }
+
+    /// Appends the items of `other` from number `first` on; it is of the same recording by the same rules. Its spans are
+    /// copied. Refused memory, it leaves the list as it was.
+    pub fn append_from(&mut self, other: &Items, first: usize) -> Result<(), AllocError>
+        requires source { other.now.source ≡ self.old.source }
+        requires rules { other.now.rules ≡ self.old.rules }
+        ensures ok { OnOk result (self.new ≡ listed self.old.source self.old.rules
+            (self.old.list ++ drop first other.now.list)) }
+        ensures refused { OnErr result (self.new ≡ self.old) }
+    {
+        let Some(len) = self.len.checked_add(other.len.saturating_sub(first)) else {
+            return Err(AllocError);
+        };
+        let (spans, left) = spans_from(&other.spans, first);
+        push_past(&mut self.spans, spans, left)?;
+        self.len = len;
+        Ok(())
+    }
+}
+
+/// Appends copies of these spans, of the first of which `left` items are passed over. Refused memory, it appends none.
+fn push_past(spans: &mut Vec<Span>, more: &[Span], left: usize) -> Result<(), AllocError>
+    ensures ok { OnOk result ((b : Signal) (rules : RuleNumbers) → All (IsSpan b rules) more.now
+        → IsInFirst b rules more.now left
+        → AreBehind b rules spans.old.items spans.new.items (drop left (items_in b rules more.now))) }
+    ensures refused { OnErr result (spans.new.items ≡ spans.old.items) }
+{
+    let Some((span, others)) = more.split_first() else {
+        return Ok(());
+    };
+    let Some(first) = span.past(left) else {
+        return Err(AllocError);
+    };
+    let before = spans.len();
+    spans.push(first)?;
+    match spans.extend_from_slice(others) {
+        Ok(()) => Ok(()),
+        Err(error) => {
+            spans.truncate(before);
+            Err(error)
+        }
+    }
 }
 
 /// The spans from that on which holds item number `from`, and its number in that span; no spans,
 /// where there is no such item.
 pub(crate) fn spans_from(spans: &[Span], from: usize) -> (&[Span], usize)
-    ensures { (b : Signal) (rules : RuleNumbers) → All (IsSpan b rules) spans.now → IsAt b rules spans.now from result.0.now result.1 }
+    ensures at { (b : Signal) (rules : RuleNumbers) → All (IsSpan b rules) spans.now
+        → IsAt b rules spans.now from result.0.now result.1 }
+    ensures first { (b : Signal) (rules : RuleNumbers) → All (IsSpan b rules) spans.now
+        → IsInFirst b rules result.0.now result.1 }
 {
     let mut rest = spans;
     let mut left = from;
     while let Some((span, others)) = rest.split_first() {
         let len = span.len();
         if left < len {
-            break;
+            return (rest, left);
         }
         left -= len;
         rest = others;
@@ -317,8 +367,10 @@ fn push_spans(
     requires lawful { IsLawful rules first.place first.state }
     requires order { first.place ≤ to }
     requires within { to ≤ length_of source.now.value }
-    requires marks { marks ≡ marks_on source.now.value rules first.state first.place first.items (to - first.place) }
-    requires count { items ≡ first.items + length (run source.now.value rules first.state first.place (to - first.place)).1 }
+    requires marks { marks ≡ marks_on source.now.value rules
+        first.state first.place first.items (to - first.place) }
+    requires count { items ≡ first.items
+        + length (run source.now.value rules first.state first.place (to - first.place)).1 }
     ensures ok { OnOk result (AreBehind source.now.value rules spans.old.items spans.new.items
         (run source.now.value rules first.state first.place (to - first.place)).1) }
     ensures refused { OnErr result (take (length spans.old.items) spans.new.items ≡ spans.old.items) }
@@ -335,6 +387,7 @@ fn push_spans(
                 place: start.place,
                 state: start.state,
                 to: mark.place,
+                passed: 0,
                 items: (mark.items - start.items) as usize,
             })?;
             start = mark;
@@ -344,6 +397,7 @@ fn push_spans(
         place: start.place,
         state: start.state,
         to,
+        passed: 0,
         items: (items - start.items) as usize,
     })?;
     Ok(())

@@ -21,7 +21,8 @@ impl Model for CodePart {
 
     ghost view = { λ p. kept_as (drop p.words_passed p.words.items) (drop p.places_passed p.places.items) };
 
-    ghost invariant = { λ p. (p.words_passed ≤ length p.words.items) × (p.places_passed ≤ length p.places.items)
+    ghost invariant = { λ p. (p.words_passed ≤ length p.words.items)
+        × (p.places_passed ≤ length p.places.items)
         × AreLocks (kept_as (drop p.words_passed p.words.items) (drop p.places_passed p.places.items)) };
 }
 

@@ -128,7 +128,8 @@ fn pass_groups<'a>(loss: Loss, cursor: Cursor<'a>, mark: Mark, items: u64) -> (M
     requires range { IsLossInRange loss }
     requires sound { IsSound cursor }
     requires before { IsBefore mark (length (kept_ahead cursor).codes) }
-    ensures passed { IsPassed (mark ∷ marks_ahead loss cursor.entry mark) (result.0 ∷ marks_ahead loss result.1 result.0) }
+    ensures passed { IsPassed (mark ∷ marks_ahead loss cursor.entry mark)
+        (result.0 ∷ marks_ahead loss result.1 result.0) }
     ensures sound { IsSound result.1 }
     ensures before { IsBefore result.0 (length (kept_ahead result.1).codes) }
 {

@@ -52,7 +52,8 @@ pub fn run_report(
     ensures state { IfOk result (λ end. end.0 ≡ (run rec.now rules.now state from (to - from)).0) }
     ensures items { IfOk result (λ end. end.1.items
         ≡ listed rec.now rules.now (run rec.now rules.now state from (to - from)).1) }
-    ensures totals { IfOk result (λ end. end.1.totals ≡ totals_of (run rec.now rules.now state from (to - from)).1) }
+    ensures totals { IfOk result (λ end. end.1.totals
+        ≡ totals_of (run rec.now rules.now state from (to - from)).1) }
     ensures small { IfOk result (λ end. IsAtMost (2 ^ 47) end.1.totals) }
     ensures lawful { IfOk result (λ end. IsLawful rules.now to end.0) }
     ensures only_memory { IsOkUnless result SyncError.OutOfMemory }
@@ -72,7 +73,8 @@ pub fn run_report(
 ///
 /// Its cost: the recording is gone over once, as by [`run_report`]. It takes memory for the spans of the list.
 pub fn decode_plain(alloc: Global, rec: &Recording, rules: &Rules) -> Result<Report, SyncError>
-    ensures items { IfOk result (λ report. report.items ≡ listed rec.now rules.now (report_items rec.now rules.now)) }
+    ensures items { IfOk result (λ report. report.items
+        ≡ listed rec.now rules.now (report_items rec.now rules.now)) }
     ensures totals { IfOk result (λ report. report.totals
         ≡ totals_of (report_items rec.now rules.now)) }
     ensures only_memory { IsOkUnless result SyncError.OutOfMemory }

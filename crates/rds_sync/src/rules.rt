@@ -59,9 +59,11 @@ impl Rules {
         ensures reach_range { IsErrOf result SyncError.ReachRange
             ↔ ((numbers.burst ≤ longest_burst) × ((numbers.reach < 1) ⊎ (farthest_reach < numbers.reach))) }
         ensures loss_range { IsErrOf result SyncError.LossRange
-            ↔ ((numbers.burst ≤ longest_burst) × (1 ≤ numbers.reach) × (numbers.reach ≤ farthest_reach) × IsRunOutside numbers.loss) }
+            ↔ ((numbers.burst ≤ longest_burst) × (1 ≤ numbers.reach) × (numbers.reach ≤ farthest_reach)
+            × IsRunOutside numbers.loss) }
         ensures share_range { IsErrOf result SyncError.ShareRange
-            ↔ ((numbers.burst ≤ longest_burst) × (1 ≤ numbers.reach) × (numbers.reach ≤ farthest_reach) × IsShareOutside numbers.loss) }
+            ↔ ((numbers.burst ≤ longest_burst) × (1 ≤ numbers.reach) × (numbers.reach ≤ farthest_reach)
+            × IsShareOutside numbers.loss) }
     {
         let limit = limit_of(numbers)?;
         let table = BurstTable::new(alloc)?;
@@ -80,13 +82,15 @@ impl Rules {
     /// Refuses a burst, then a reach, then a loss out of its range, and otherwise only want of
     /// memory.
     pub fn new(alloc: Global, burst: u32, reach: u32, loss: u32) -> Result<Rules, SyncError>
-        ensures numbers { IfOk result (λ rules. (rules.burst ≡ burst) × (rules.reach ≡ reach) × (rules.loss ≡ InARow loss)) }
+        ensures numbers { IfOk result (λ rules. (rules.burst ≡ burst) × (rules.reach ≡ reach)
+            × (rules.loss ≡ InARow loss)) }
 
         ensures burst_range { IsErrOf result SyncError.BurstRange ↔ (longest_burst < burst) }
         ensures reach_range { IsErrOf result SyncError.ReachRange
             ↔ ((burst ≤ longest_burst) × ((reach < 1) ⊎ (farthest_reach < reach))) }
         ensures loss_range { IsErrOf result SyncError.LossRange
-            ↔ ((burst ≤ longest_burst) × (1 ≤ reach) × (reach ≤ farthest_reach) × ((loss < 1) ⊎ (most_blocks < loss))) }
+            ↔ ((burst ≤ longest_burst) × (1 ≤ reach) × (reach ≤ farthest_reach)
+            × ((loss < 1) ⊎ (most_blocks < loss))) }
         ensures no_share_range { IfErr result (λ e. e ≢ SyncError.ShareRange) }
     {
         Rules::of(
@@ -111,13 +115,15 @@ impl Rules {
         bad: u32,
         of: u32,
     ) -> Result<Rules, SyncError>
-        ensures numbers { IfOk result (λ rules. (rules.burst ≡ burst) × (rules.reach ≡ reach) × (rules.loss ≡ Share bad of)) }
+        ensures numbers { IfOk result (λ rules. (rules.burst ≡ burst) × (rules.reach ≡ reach)
+            × (rules.loss ≡ Share bad of)) }
 
         ensures burst_range { IsErrOf result SyncError.BurstRange ↔ (longest_burst < burst) }
         ensures reach_range { IsErrOf result SyncError.ReachRange
             ↔ ((burst ≤ longest_burst) × ((reach < 1) ⊎ (farthest_reach < reach))) }
         ensures share_range { IsErrOf result SyncError.ShareRange
-            ↔ ((burst ≤ longest_burst) × (1 ≤ reach) × (reach ≤ farthest_reach) × ((bad < 1) ⊎ (of < bad) ⊎ (most_blocks < of))) }
+            ↔ ((burst ≤ longest_burst) × (1 ≤ reach) × (reach ≤ farthest_reach)
+            × ((bad < 1) ⊎ (of < bad) ⊎ (most_blocks < of))) }
         ensures no_loss_range { IfErr result (λ e. e ≢ SyncError.LossRange) }
     {
         Rules::of(
@@ -195,9 +201,11 @@ fn limit_of(numbers: RuleNumbers) -> Result<BurstLimit, SyncError>
     ensures reach_range { IsErrOf result SyncError.ReachRange
         ↔ ((numbers.burst ≤ longest_burst) × ((numbers.reach < 1) ⊎ (farthest_reach < numbers.reach))) }
     ensures loss_range { IsErrOf result SyncError.LossRange
-        ↔ ((numbers.burst ≤ longest_burst) × (1 ≤ numbers.reach) × (numbers.reach ≤ farthest_reach) × IsRunOutside numbers.loss) }
+        ↔ ((numbers.burst ≤ longest_burst) × (1 ≤ numbers.reach) × (numbers.reach ≤ farthest_reach)
+        × IsRunOutside numbers.loss) }
     ensures share_range { IsErrOf result SyncError.ShareRange
-        ↔ ((numbers.burst ≤ longest_burst) × (1 ≤ numbers.reach) × (numbers.reach ≤ farthest_reach) × IsShareOutside numbers.loss) }
+        ↔ ((numbers.burst ≤ longest_burst) × (1 ≤ numbers.reach) × (numbers.reach ≤ farthest_reach)
+        × IsShareOutside numbers.loss) }
 {
     let Some(limit) = BurstLimit::new(numbers.burst) else {
         return Err(SyncError::BurstRange);

@@ -69,7 +69,8 @@ fn kind_behind(reader: &mut Reader<'_>, rules: &Rules, place: u64, number: Block
     requires within { place + 26 < length_of reader.old }
     requires near { place < 2 ^ 36 }
     ensures value { result ≡ kind_of
-        (reading_at reader.old (place + 26) (number % 4 + 1) (wanted_behind reader.old rules.now place number) rules.now.burst) }
+        (reading_at reader.old (place + 26) (number % 4 + 1)
+        (wanted_behind reader.old rules.now place number) rules.now.burst) }
     ensures most { result ≤ 13 }
     ensures same { reader.new ≡ reader.old }
 {

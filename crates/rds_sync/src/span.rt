@@ -1,8 +1,8 @@
 //! A part of a list of items: what a run over some places gives.
 
-ghost use Rattle.std.specs.Prelude.{◌≡◌, length};
+ghost use Rattle.std.specs.Prelude.{◌≡◌, ◌<◌, IfSome, length};
 ghost use Rattle.rds_stream.specs.Recording.{Signal};
-ghost use Rattle.rds_sync.specs.Inside.Spans.{items_of, IsSpan};
+ghost use Rattle.rds_sync.specs.Inside.Spans.{items_of, IsPast, IsSpan};
 ghost use Rattle.rds_sync.specs.Rules.{RuleNumbers};
 
 use crate::state::State;
@@ -10,11 +10,13 @@ use crate::state::State;
 /// Items in a row, named by what gives them.
 #[derive(Clone, Copy)]
 pub(crate) enum Span {
-    /// The items of the run from `state` over the places from `place` to before `to`: so many.
+    /// The items of the run from `state` over the places from `place` to before `to`, but for the first `passed`: `items`
+    /// items.
     Run {
         place: u64,
         state: State,
         to: u64,
+        passed: usize,
         items: usize,
     },
     /// The item of the recording's end after a run that ended in `state`: one, or none.
@@ -26,7 +28,8 @@ pub(crate) enum Span {
 impl Span {
     /// How many items they are.
     pub fn len(&self) -> usize
-        ensures { (b : Signal) (rules : RuleNumbers) → IsSpan b rules self.now → result ≡ length (items_of b rules self.now) }
+        ensures { (b : Signal) (rules : RuleNumbers) → IsSpan b rules self.now
+            → result ≡ length (items_of b rules self.now) }
     {
         match self {
             Span::Run { items, .. } => *items,
@@ -34,6 +37,29 @@ impl Span {
                 state: State::Locked(lock),
             } if lock.number != 1 => 1,
             Span::End { .. } => 0,
+        }
+    }
+
+    /// The same items, but for the first `n`, if there are more than these.
+    pub fn past(self, n: usize) -> Option<Span>
+        ensures { IfSome result (λ rest. (b : Signal) (rules : RuleNumbers) → IsSpan b rules self
+            → n < length (items_of b rules self) → IsPast b rules self n rest) }
+    {
+        match self {
+            Span::Run {
+                place,
+                state,
+                to,
+                passed,
+                items,
+            } => Some(Span::Run {
+                place,
+                state,
+                to,
+                passed: passed.checked_add(n)?,
+                items: items.saturating_sub(n),
+            }),
+            Span::End { .. } => Some(self),
         }
     }
 }

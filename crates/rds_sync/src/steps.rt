@@ -116,7 +116,8 @@ fn read_due<T: Tape>(tape: &mut T, rules: &Rules, lock: Lock) -> Step
     requires counted { T.reads_made tape.old + 16 ≤ 2 ^ 63 }
     ensures place { result.place ≡ lock.due + 1 }
     ensures state { result.state ≡ step (T.signal tape.old) rules.now lock.due (State.Locked lock) }
-    ensures items { items_in result.items ≡ items_at (T.signal tape.old) rules.now lock.due (State.Locked lock) }
+    ensures items { items_in result.items
+        ≡ items_at (T.signal tape.old) rules.now lock.due (State.Locked lock) }
     ensures same { T.signal tape.new ≡ T.signal tape.old }
     ensures reads { T.reads_made tape.new ≤ T.reads_made tape.old + 4 }
 {

@@ -54,10 +54,12 @@ impl Model for Tally {
       rules = t.items.rules;
       place = t.place;
       state = t.state;
-      list = t.items.list ++ (run t.items.source t.items.rules t.start_state t.start_place (t.place - t.start_place)).1;
+      list = t.items.list
+          ++ (run t.items.source t.items.rules t.start_state t.start_place (t.place - t.start_place)).1;
     } };
 
-    ghost invariant = { λ t. IsTally t.items.source t.items.rules t.items.list t.start_place t.start_state t.place t.state
+    ghost invariant = { λ t. IsTally t.items.source t.items.rules t.items.list
+        t.start_place t.start_state t.place t.state
         (record { totals = t.totals; items = t.added }) t.counts };
 }
 

@@ -69,9 +69,12 @@ pub(crate) fn seek<T: Tape>(
     requires within { to ≤ length_of (T.signal tape.old) }
     requires counted { T.reads_made tape.old ≤ 2 ^ 62 + 2 ^ 60 }
     requires few { counts.old.items ≤ 3000 }
-    ensures came { IsCountStretch (T.signal tape.old) rules.now Searching place to counts.old result counts.new }
-    ensures silent { (i : ℕ) → place ≤ i → i + 1 < result.0 → acquired (T.signal tape.old) rules.now i ≡ None }
-    ensures reads { T.reads_made tape.new ≤ T.reads_made tape.old + (rules.now.reach + 1) * (result.0 - place) }
+    ensures came { IsCountStretch (T.signal tape.old) rules.now Searching place to
+        counts.old result counts.new }
+    ensures silent { (i : ℕ) → place ≤ i → i + 1 < result.0
+        → acquired (T.signal tape.old) rules.now i ≡ None }
+    ensures reads { T.reads_made tape.new
+        ≤ T.reads_made tape.old + (rules.now.reach + 1) * (result.0 - place) }
     ensures same { T.signal tape.new ≡ T.signal tape.old }
 {
     prove!(1 <= rules.reach());
@@ -99,7 +102,8 @@ pub(crate) fn keep<T: Tape>(
     requires within { to ≤ length_of (T.signal tape.old) }
     requires counted { T.reads_made tape.old + 16 ≤ 2 ^ 63 }
     requires few { counts.old.items ≤ 3000 }
-    ensures came { IsCountStretch (T.signal tape.old) rules.now (Locked lock) place to counts.old result counts.new }
+    ensures came { IsCountStretch (T.signal tape.old) rules.now (Locked lock) place to
+        counts.old result counts.new }
     ensures quiet { (run (T.signal tape.old) rules.now (Locked lock) place (result.0 - 1 - place)).1 ≡ [] }
     ensures cost { ((T.reads_made tape.new ≤ T.reads_made tape.old) × (result.1 ≡ Locked lock))
         ⊎ ((T.reads_made tape.new ≤ T.reads_made tape.old + 4) × (lock.due + 26 ≤ mark result.0 result.1)) }

@@ -213,7 +213,8 @@ fn damaged_word(rules: &Rules, heard: [Option<u32>; 4]) -> u16
 #[inline(always)]
 pub(crate) fn blocks_of(rules: &Rules, heard: [Option<u32>; 4]) -> [Block; 4]
     requires { All (λ heard. IfSome heard (λ window. window < 2 ^ 26)) heard }
-    ensures { (b : Signal) (due : ℕ) → heard ≡ four_heard b due → result ≡ blocks_at b rules.now 1 4 (due + 78) }
+    ensures { (b : Signal) (due : ℕ) → heard ≡ four_heard b due
+        → result ≡ blocks_at b rules.now 1 4 (due + 78) }
 {
     let [one, two, three, four] = heard;
     let first = Block::Read(rules.read(one, BlockNumber::ONE, Wanted::Either));

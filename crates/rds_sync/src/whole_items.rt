@@ -78,7 +78,8 @@ pub(crate) fn whole_heard(
     requires loss { loss ≡ rules.now.loss }
     requires range { IsLossInRange loss }
     requires lawful { IsLawfulBad loss bad }
-    ensures { IfSome result (λ whole. (b : Signal) (due : ℕ) → 25 ≤ due → place ≡ due - 25 → heard ≡ four_heard b due
+    ensures { IfSome result (λ whole. (b : Signal) (due : ℕ) → 25 ≤ due → place ≡ due - 25
+        → heard ≡ four_heard b due
         → IsWhole b rules.now due bad whole.0 whole.1) }
 {
     match valid_blocks(heard) {
@@ -103,7 +104,8 @@ fn damaged_heard(
     requires loss { loss ≡ rules.now.loss }
     requires range { IsLossInRange loss }
     requires lawful { IsLawfulBad loss bad }
-    ensures { IfSome result (λ whole. (b : Signal) (due : ℕ) → 25 ≤ due → place ≡ due - 25 → heard ≡ four_heard b due
+    ensures { IfSome result (λ whole. (b : Signal) (due : ℕ) → 25 ≤ due → place ≡ due - 25
+        → heard ≡ four_heard b due
         → IsWhole b rules.now due bad whole.0 whole.1) }
 {
     let blocks = blocks_of(rules, heard);
@@ -131,7 +133,8 @@ fn bad_after_clean(loss: Loss, bad: u64) -> Option<u64>
 #[inline(always)]
 fn valid_blocks(heard: [Option<u32>; 4]) -> Option<[Block; 4]>
     requires { All (λ heard. IfSome heard (λ window. window < 2 ^ 26)) heard }
-    ensures blocks { IfSome result (λ blocks. (b : Signal) (rules : RuleNumbers) (due : ℕ) → heard ≡ four_heard b due
+    ensures blocks { IfSome result (λ blocks. (b : Signal) (rules : RuleNumbers) (due : ℕ)
+        → heard ≡ four_heard b due
         → blocks ≡ blocks_at b rules 1 4 (due + 78)) }
     ensures valid { IfSome result (λ blocks. map outcome_of blocks ≡ valid ∷ valid ∷ valid ∷ valid ∷ []) }
 {
@@ -152,7 +155,8 @@ fn valid_blocks(heard: [Option<u32>; 4]) -> Option<[Block; 4]>
 #[inline(always)]
 fn valid_third(heard: Option<u32>) -> Option<Reading>
     requires { IfSome heard (λ window. window < 2 ^ 26) }
-    ensures reading { IfSome result (λ reading. (wanted : TheWanted) (limit : ℕ) → reading ≡ reading_heard heard 3 wanted limit) }
+    ensures reading { IfSome result (λ reading. (wanted : TheWanted) (limit : ℕ)
+        → reading ≡ reading_heard heard 3 wanted limit) }
     ensures valid { IfSome result (λ reading. outcome_of (Read reading) ≡ valid) }
 {
     match valid_reading(heard, Offset::C) {
@@ -165,7 +169,8 @@ fn valid_third(heard: Option<u32>) -> Option<Reading>
 #[inline(always)]
 fn valid_reading(heard: Option<u32>, offset: Offset) -> Option<Reading>
     requires { IfSome heard (λ window. window < 2 ^ 26) }
-    ensures reading { IfSome result (λ reading. (wanted : TheWanted) (limit : ℕ) → reading ≡ reading_heard heard (number offset) wanted limit) }
+    ensures reading { IfSome result (λ reading. (wanted : TheWanted) (limit : ℕ)
+        → reading ≡ reading_heard heard (number offset) wanted limit) }
     ensures valid { IfSome result (λ reading. outcome_of (Read reading) ≡ valid) }
 {
     match heard {

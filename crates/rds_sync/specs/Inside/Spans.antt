@@ -1,6 +1,6 @@
 -- Items as they are kept, by the spans of their runs: which items spans give, and where among them one is found. Cited by the bodies below
 -- `Items`, `IndexedItems` and `ItemIter`, and by no public call.
-use Rattle.std.specs.Prelude.{◌≡◌, ℕ, ◌+◌, ◌-◌, ◌≤◌, List, [], ◌∷◌, ◌++◌, All, drop, length, take}
+use Rattle.std.specs.Prelude.{◌≡◌, ℕ, ◌+◌, ◌-◌, ◌<◌, ◌≤◌, List, [], ◌∷◌, ◌++◌, All, drop, length, take}
 use Rattle.rds_stream.specs.Recording.{Signal, length_of}
 use Rattle.rds_sync.specs.declared.span.Start.{Start}
 use Rattle.rds_sync.specs.declared.item.Item.{Item}
@@ -15,7 +15,7 @@ use Rattle.rds_sync.specs.Step.{run, items_of_end}
 module _ (b : Signal) (rules : RuleNumbers) where
   -- the items of a span
   abbrev pub items_of : Span → List Item
-  items_of (Run place state to items) = (run b rules state place (to - place)).1
+  items_of (Run place state to passed items) = drop passed (run b rules state place (to - place)).1
   items_of (End state) = items_of_end b rules state
 
   -- the items of the spans, one after the other
@@ -25,9 +25,15 @@ module _ (b : Signal) (rules : RuleNumbers) where
 
   -- it is of a run that can be made, and says how many items that gives
   abbrev pub IsSpan : Span → Type 0
-  IsSpan (Run place state to items) =
-      IsLawful rules place state × (place ≤ to) × (to ≤ length_of b) × (items ≡ length (run b rules state place (to - place)).1)
+  IsSpan (Run place state to passed items) =
+      IsLawful rules place state × (place ≤ to) × (to ≤ length_of b)
+      × (passed + items ≡ length (run b rules state place (to - place)).1)
   IsSpan (End state) = IsLawful rules (length_of b) state
+
+  -- a span of the items of another but for the first n
+  pub record IsPast (span : Span) (n : ℕ) (rest : Span) : Type 0 where
+    pub is_span : IsSpan rest
+    pub items : items_of rest ≡ drop n (items_of span)
 
   -- the spans and the number of their items
   pub record AreSpans (spans : List Span) (len : ℕ) : Type 0 where
@@ -40,6 +46,10 @@ module _ (b : Signal) (rules : RuleNumbers) where
     pub same : drop left (items_in rest) ≡ drop from (items_in spans)
     pub passed : length (items_in rest) + from ≡ length (items_in spans) + left
     pub all : All IsSpan rest
+
+  -- an item's number in the first of these spans, if there is one
+  abbrev pub IsInFirst : List Span → ℕ → Type 0
+  IsInFirst spans left = (span : Span) (others : List Span) → spans ≡ span ∷ others → left < length (items_of span)
 
   -- a span that stands among these, or would be the next, and how many items stand before it
   pub record IsStart (spans : List Span) (start : Start) : Type 0 where

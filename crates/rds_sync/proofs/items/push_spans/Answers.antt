@@ -22,7 +22,7 @@ module _ (b : Signal) (rules : RuleNumbers) (to : ℕ) (first start m : Mark) (r
 
   -- the run is cut there
   cut_there : (after : List Span) (n : ℕ) → n ≡ m.items - start.items
-      → after ≡ spans ++ Run start.place start.state m.place n ∷ []
+      → after ≡ spans ++ Run start.place start.state m.place 0 n ∷ []
       → HasCut b rules to first m rest before after
   cut_there after n n_is after_is =
       let came = next_mark in

@@ -1,4 +1,4 @@
-use Rattle.std.proofs.Common.{◌-◌, List, drop, length, ap, sym, subst, All, ◌∙◌, arith, length-append}
+use Rattle.std.proofs.Common.{◌≡◌, ◌-◌, List, ◌∷◌, drop, length, ap, sym, subst, All, ◌∙◌, arith, length-append}
 use Rattle.std.proofs.lemmas.List.Elements.{All-head, All-tail}
 use Rattle.rds_sync.specs.declared.span.Span.{Span}
 use Rattle.rds_sync.specs.Inside.Spans.{items_in, items_of, IsSpan}
@@ -29,3 +29,13 @@ loop-span-preserved c b rules all =
       );
       all = All-tail (IsSpan b rules) span after all_left;
     }
+
+pub returns-then-left-len-clause-first : goal.returns-then-left-len-clause-first
+returns-then-left-len-clause-first c b rules all span others is =
+    let own = c.in-Some.ensures.cases.0 in
+    let both : c.in-Some.span.now ∷ c.in-Some.others.now ≡ span ∷ others = sym own ∙ is in
+    let same : c.in-Some.span.now ≡ span = cc both in
+    let at = c.loop-span.invariant b rules all in
+    let all_left = subst (λ (spans : List Span). All (IsSpan b rules) spans) own at.all in
+    let len = c.len-len.ensures b rules (All-head (IsSpan b rules) c.in-Some.span.now c.in-Some.others.now all_left) in
+    omega (arith, c.if-left-len.true, len, ap (λ (s : Span). length (items_of b rules s)) same)

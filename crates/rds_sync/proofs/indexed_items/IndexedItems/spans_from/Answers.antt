@@ -18,4 +18,4 @@ returns c =
     let start = c.last_start-start.ensures.start s.source.now.value s.rules s.spans.now starts in
     found_at c.args.self.now s.source.now.value s.rules s.spans.now c.spans_from.result.0.now c.last_start-start.result.span c.last_start-start.result.before
     c.args.from c.spans_from.result.1 c.self.view_is c.self.invariant.0.all start.before c.last_start-start.ensures.before
-    (c.spans_from.ensures s.source.now.value s.rules)
+    (c.spans_from.ensures.at s.source.now.value s.rules)
