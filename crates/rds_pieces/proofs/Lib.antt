@@ -16,3 +16,8 @@ mod WayLemmas
 mod SmallTotals
 mod StitchLemmas
 mod RowLemmas
+mod HopFacts
+mod Apart
+mod Paid
+mod GoneRuns
+mod Walks

@@ -59,6 +59,9 @@ module _ (b : Signal) (rules : RuleNumbers) where
   pub items-searching : (i : ℕ) → acquired b rules i ≡ None → items_at b rules i Searching ≡ []
   items-searching i e = rw (e, items_at, after_bit) refl
 
+  pub step-waiting : (lock : Lock) (i : ℕ) → lock.due ≢ i → step b rules i (Locked lock) ≡ Locked lock
+  step-waiting lock i ne = rw (ne_eqb lock.due i ne, step, after_bit) refl
+
   pub items-waiting : (lock : Lock) (i : ℕ) → lock.due ≢ i → items_at b rules i (Locked lock) ≡ []
   items-waiting lock i ne = rw (ne_eqb lock.due i ne, items_at, after_bit) refl
 

@@ -76,6 +76,7 @@ mod run; // The guess of a range of places, and how a piece is guessed.
 mod advance; // One step of a run over a tape, with the codes of what it gives.
 mod passed; // What such a run passes of a guess that it meets.
 mod walk; // A run along a guess, until they meet.
+mod beside; // A run and its guess, side by side.
 mod seams; // What a piece gives from the state before it.
 mod seaming; // That state carried over the piece, along a walk.
 mod joint; // What joins two runs, made of a walk.

@@ -1,0 +1,77 @@
+-- How many windows both runs asked for: 26 times that many are paid for by 26 (reach + 1) a place of a search, and 4 a place that the marks of
+-- the two went on.
+use Rattle.std.proofs.Common.{◌≡◌, ℕ, ◌+◌, ◌-◌, ◌*◌, ◌≤◌, ap, arith, inl, inr}
+use Rattle.std.proofs.lemmas.Nat.{mul-le}
+use Rattle.rds_stream.specs.Recording.{Signal}
+use Rattle.rds_sync.specs.declared.state.State.{State}
+use Rattle.rds_sync.specs.declared.state.State.TheVariants.{Searching, Locked}
+use Rattle.rds_sync.specs.Rules.{RuleNumbers}
+use Rattle.rds_sync.specs.Lawful.{IsLawful}
+use Rattle.rds_sync.specs.Hop.{mark}
+use Rattle.rds_sync.specs.Hop.{IsHop}
+use Rattle.rds_pieces.proofs.HopFacts.{lawful-mark}
+
+mul_more : (r n k : ℕ) → r * (n + k) ≡ r * n + r * k
+mul_more r n k = grind arith
+
+pub record IsPaid (rules : RuleNumbers) (from a : ℕ) (x : State) (c : ℕ) (y : State) (reads : ℕ) : Type 0 where
+  pub searched : ℕ
+  pub within : (from + searched ≤ a) × (from + searched ≤ c)
+  pub paid : 26 * reads + 8 * from + 100 ≤ 26 * ((rules.reach + 1) * searched) + 4 * mark a x + 4 * mark c y
+
+pub paid_swap : (rules : RuleNumbers) (from a : ℕ) (x : State) (c : ℕ) (y : State) (reads : ℕ) → IsPaid rules from a x c y reads → IsPaid rules from c y a x reads
+paid_swap rules from a x c y reads h = let p = h.paid in record {
+  searched = h.searched;
+  within = (h.within.1, h.within.0);
+  paid = omega (arith, p);
+}
+
+-- a guess begins with a search
+pub paid_start : (rules : RuleNumbers) (from : ℕ) (s : State) → IsLawful rules from s → IsPaid rules from from s from Searching 0
+paid_start rules from s lawful = let m = lawful-mark rules from s lawful in let none : (rules.reach + 1) * 0 ≡ 0 = grind arith in record {
+  searched = 0;
+  within = (omega arith, omega arith);
+  paid = omega (arith, m, none);
+}
+
+pub paid_hop : (b : Signal) (rules : RuleNumbers) (from to a : ℕ) (x : State) (c : ℕ) (y : State) (next : ℕ) (after : State) (reads cost : ℕ) → IsPaid rules from a x c y reads
+    → IsHop b rules x a c to next after cost → IsPaid rules from next after c y (reads + cost)
+paid_hop b rules from to a Searching c y next after reads cost h hop =
+    let m = hop.moved in
+    let f = hop.paid in
+    let w = h.within in
+    let p = h.paid in
+    let more = mul_more (rules.reach + 1) h.searched (next - a) in
+    record {
+      searched = h.searched + (next - a);
+      within = (omega (arith, w, m), omega (arith, w, m, f.0));
+      paid = omega (arith, p, more, f.1, f.2);
+    }
+paid_hop b rules from to a (Locked lock) c y next after reads cost h hop =
+    let m = hop.moved in
+    let w = h.within in
+    let p = h.paid in
+    record {
+      searched = h.searched;
+      within = (omega (arith, w, m), w.1);
+      paid = elim hop.paid [
+        | inl none ↦ let same : mark next after ≡ lock.due = ap (λ (u : State). mark next u) none.1 in omega (arith, p, none.0, same)
+        | inr read ↦ omega (arith, p, read)
+      ];
+    }
+
+-- so both asked for few, wherever the two places are d behind the first at most
+pub paid_most : (rules : RuleNumbers) (from d a : ℕ) (x : State) (c : ℕ) (y : State) (reads : ℕ) → 1 ≤ rules.reach → IsLawful rules a x → IsLawful rules c y
+    → a ≤ from + d → c ≤ from + d → IsPaid rules from a x c y reads → reads ≤ (rules.reach + 2) * (d + 1)
+paid_most rules from d a x c y reads some one two near_a near_c h =
+    let m1 = (lawful-mark rules a x one).1 in
+    let m2 = (lawful-mark rules c y two).1 in
+    let p = h.paid in
+    let w = h.within in
+    let grows = mul-le (rules.reach + 1) h.searched (rules.reach + 1) d (omega arith) (omega (arith, w, near_a)) in
+    let all : (rules.reach + 2) * (d + 1) ≡ (rules.reach + 1) * d + d + rules.reach + 2 = grind arith in
+    omega (arith, m1, m2, p, grows, all, some, near_a, near_c)
+
+-- fewer are paid for too
+pub paid_less : (rules : RuleNumbers) (from a : ℕ) (x : State) (c : ℕ) (y : State) (reads fewer : ℕ) → fewer ≤ reads → IsPaid rules from a x c y reads → IsPaid rules from a x c y fewer
+paid_less rules from a x c y reads fewer less h = let p = h.paid in record { searched = h.searched; within = h.within; paid = omega (arith, p, less) }

@@ -1,0 +1,176 @@
+use Rattle.std.proofs.Common.{◌≡◌, ◌≤◌, ℕ, ◌-◌, refl, sym, ap, ◌∙◌, subst, arith}
+use Rattle.rds_stream.specs.Recording.{Signal, length_of}
+use Rattle.rds_sync.specs.declared.state.State.TheVariants.{Searching}
+use Rattle.rds_sync.specs.Tally.{TallyOf, tally_at, gone_on}
+use Rattle.rds_pieces.specs.Inside.Beside.{IsStep, Meet}
+use Rattle.rds_pieces.specs.Meeting.{MeetFirstAt}
+use Rattle.rds_pieces.proofs.Walks.{IsBeside, beside_start, hops_first, few_in_range, few_to_meeting, room_for, met_least, never_met, step_moves}
+use Rattle.rds_pieces.proofs.beside.go_beside.Goals as goal
+
+pub along-init : goal.along-init
+along-init g c =
+    let b = g.T.Tape.signal c.args.tape.now in
+    let rules = c.args.rules.now in
+    let from : ℕ = c.args.from in
+    let base : ℕ = g.T.Tape.reads_made c.args.tape.now in
+    let start = beside_start c.run_laws.ensures b rules c.reach.ensures.range c.args.state from c.args.to c.requires.lawful c.requires.order in
+    let none : base - base ≡ 0 = omega arith in
+    let own_is : c.new-own.result ≡ tally_at b rules from c.args.state = c.new-own.ensures ∙ ap (λ (x : Signal). tally_at x rules from c.args.state) c.source.ensures in
+    let guess_is : c.new-guess.result ≡ tally_at b rules from Searching = c.new-guess.ensures ∙ ap (λ (x : Signal). tally_at x rules from Searching) c.source-2.ensures in
+    record {
+      beside = subst (λ (t : TallyOf). IsBeside b rules c.args.state from c.args.to t c.new-guess.result (base - base)) (sym own_is)
+          (subst (λ (t : TallyOf). IsBeside b rules c.args.state from c.args.to (tally_at b rules from c.args.state) t (base - base)) (sym guess_is)
+          (subst (λ (n : ℕ). IsBeside b rules c.args.state from c.args.to (tally_at b rules from c.args.state) (tally_at b rules from Searching) n) (sym none) start));
+      same = refl;
+    }
+
+pub hop_first-requires-clause-sources : goal.hop_first-requires-clause-sources
+hop_first-requires-clause-sources g c =
+    let i = c.along.invariant in (
+      ap (λ (t : TallyOf). t.source) i.beside.own_is ∙ sym i.same,
+      ap (λ (t : TallyOf). t.source) i.beside.guess_is ∙ sym i.same,
+    )
+
+pub hop_first-requires-clause-rule_sets : goal.hop_first-requires-clause-rule_sets
+hop_first-requires-clause-rule_sets g c =
+    let i = c.along.invariant in (ap (λ (t : TallyOf). t.rules) i.beside.own_is, ap (λ (t : TallyOf). t.rules) i.beside.guess_is)
+
+pub hop_first-requires-clause-inside : goal.hop_first-requires-clause-inside
+hop_first-requires-clause-inside g c = let i = c.along.invariant.beside.apart.inside in (i.1, i.3)
+
+pub hop_first-requires-clause-apart : goal.hop_first-requires-clause-apart
+hop_first-requires-clause-apart g c = λ m. (let t = c.meet.ensures.1 m in let f = c.if-meet.false in cc)
+
+pub hop_first-requires-clause-ahead : goal.hop_first-requires-clause-ahead
+hop_first-requires-clause-ahead g c = λ end. (let t = c.are_at_end.ensures.1 end in let f = c.if-are_at_end.false in cc)
+
+pub hop_first-requires-clause-within : goal.hop_first-requires-clause-within
+hop_first-requires-clause-within g c = subst (λ (x : Signal). c.args.to ≤ length_of x) (sym c.along.invariant.same) c.requires.within
+
+pub hop_first-requires-clause-counted : goal.hop_first-requires-clause-counted
+hop_first-requires-clause-counted g c =
+    let l = c.along in
+    let high = c.len.ensures in
+    let within = c.requires.within in
+    room_for c.run_laws.ensures (g.T.Tape.signal c.args.tape.now) c.args.rules.now c.reach.ensures.range c.args.state c.args.from c.args.to c.requires.lawful l.own l.guess
+    (g.T.Tape.reads_made l.tape - g.T.Tape.reads_made c.args.tape.now) l.invariant.beside (g.T.Tape.reads_made l.tape) (g.T.Tape.reads_made c.args.tape.now) refl
+    (omega (arith, high.value, high.limit, within)) c.requires.room
+
+pub along-preserved : goal.along-preserved
+along-preserved g c =
+    let b = g.T.Tape.signal c.args.tape.now in
+    let rules = c.args.rules.now in
+    let l = c.along in
+    let new = c.hop_first.new in
+    let base : ℕ = g.T.Tape.reads_made c.args.tape.now in
+    let before : ℕ = g.T.Tape.reads_made l.tape in
+    let now : ℕ = g.T.Tape.reads_made new.tape in
+    let other : ¬ Meet l.own l.guess = λ m. (let t = c.meet.ensures.1 m in let f = c.if-meet.false in cc) in
+    record {
+      beside = hops_first c.run_laws.ensures b rules c.reach.ensures.range c.args.state c.args.from c.args.to c.requires.lawful l.own l.guess new.own new.guess
+          (before - base) (now - before) (now - base) l.invariant.beside other
+          (subst (λ (x : Signal). IsStep x rules c.args.to l.own l.guess new.own new.guess (now - before)) l.invariant.same c.hop_first.ensures.step) (omega arith);
+      same = c.hop_first.ensures.same ∙ l.invariant.same;
+    }
+
+pub along-smaller : goal.along-smaller
+along-smaller g c =
+    let l = c.along in
+    let i = l.invariant.beside.apart.inside in
+    let new = c.hop_first.new in
+    step_moves (g.T.Tape.signal l.tape) c.args.rules.now c.args.to l.own l.guess new.own new.guess (g.T.Tape.reads_made new.tape - g.T.Tape.reads_made l.tape) c.hop_first.ensures.step i.1 i.3
+
+pub returns-then-meet-clause-met : goal.returns-then-meet-clause-met
+returns-then-meet-clause-met g c =
+    let b = g.T.Tape.signal c.args.tape.now in
+    let l = c.along in
+    subst (λ (p : ℕ). MeetFirstAt b c.args.rules.now c.args.state Searching c.args.from c.args.to p) (sym c.place.ensures)
+    (met_least c.run_laws.ensures b c.args.rules.now c.reach.ensures.range c.args.state c.args.from c.args.to c.requires.lawful l.own l.guess
+    (g.T.Tape.reads_made l.tape - g.T.Tape.reads_made c.args.tape.now) l.invariant.beside (c.meet.ensures.0 c.if-meet.true))
+
+pub returns-then-meet-clause-own : goal.returns-then-meet-clause-own
+returns-then-meet-clause-own g c =
+    let start = tally_at (g.T.Tape.signal c.args.tape.now) c.args.rules.now c.args.from c.args.state in
+    c.along.invariant.beside.own_is ∙ ap (λ (p : ℕ). gone_on start p) (sym c.place.ensures)
+
+pub returns-then-meet-clause-guess : goal.returns-then-meet-clause-guess
+returns-then-meet-clause-guess g c =
+    let start = tally_at (g.T.Tape.signal c.args.tape.now) c.args.rules.now c.args.from Searching in
+    c.along.invariant.beside.guess_is ∙ ap (λ (p : ℕ). gone_on start p) (sym (c.place.ensures ∙ (c.meet.ensures.0 c.if-meet.true).0))
+
+pub returns-then-meet-clause-reads_way : goal.returns-then-meet-clause-reads_way
+returns-then-meet-clause-reads_way g c = λ met meeting. (
+    let l = c.along in
+    let few = few_to_meeting c.run_laws.ensures (g.T.Tape.signal c.args.tape.now) c.args.rules.now c.reach.ensures.range c.args.state c.args.from c.args.to c.requires.lawful l.own l.guess
+    (g.T.Tape.reads_made l.tape - g.T.Tape.reads_made c.args.tape.now) l.invariant.beside met meeting in
+    omega (arith, few))
+
+pub returns-then-meet-clause-reads_most : goal.returns-then-meet-clause-reads_most
+returns-then-meet-clause-reads_most g c =
+    let l = c.along in
+    let few = few_in_range c.run_laws.ensures (g.T.Tape.signal c.args.tape.now) c.args.rules.now c.reach.ensures.range c.args.state c.args.from c.args.to c.requires.lawful l.own l.guess
+    (g.T.Tape.reads_made l.tape - g.T.Tape.reads_made c.args.tape.now) l.invariant.beside in
+    omega (arith, few)
+
+pub returns-then-are_at_end-clause-met : goal.returns-then-are_at_end-clause-met
+returns-then-are_at_end-clause-met g c =
+    let l = c.along in
+    let end = c.are_at_end.ensures.0 c.if-are_at_end.true in
+    never_met c.run_laws.ensures (g.T.Tape.signal c.args.tape.now) c.args.rules.now c.reach.ensures.range c.args.state c.args.from c.args.to c.requires.lawful l.own l.guess
+    (g.T.Tape.reads_made l.tape - g.T.Tape.reads_made c.args.tape.now) l.invariant.beside (λ m. (let t = c.meet.ensures.1 m in let f = c.if-meet.false in cc)) end.0 end.1
+
+pub returns-then-are_at_end-clause-own : goal.returns-then-are_at_end-clause-own
+returns-then-are_at_end-clause-own g c =
+    let start = tally_at (g.T.Tape.signal c.args.tape.now) c.args.rules.now c.args.from c.args.state in
+    c.along.invariant.beside.own_is ∙ ap (λ (p : ℕ). gone_on start p) (c.are_at_end.ensures.0 c.if-are_at_end.true).0
+
+pub returns-then-are_at_end-clause-guess : goal.returns-then-are_at_end-clause-guess
+returns-then-are_at_end-clause-guess g c =
+    let start = tally_at (g.T.Tape.signal c.args.tape.now) c.args.rules.now c.args.from Searching in
+    c.along.invariant.beside.guess_is ∙ ap (λ (p : ℕ). gone_on start p) (c.are_at_end.ensures.0 c.if-are_at_end.true).1
+
+pub returns-then-are_at_end-clause-reads_way : goal.returns-then-are_at_end-clause-reads_way
+returns-then-are_at_end-clause-reads_way g c = λ met meeting. (
+    let l = c.along in
+    let few = few_to_meeting c.run_laws.ensures (g.T.Tape.signal c.args.tape.now) c.args.rules.now c.reach.ensures.range c.args.state c.args.from c.args.to c.requires.lawful l.own l.guess
+    (g.T.Tape.reads_made l.tape - g.T.Tape.reads_made c.args.tape.now) l.invariant.beside met meeting in
+    omega (arith, few))
+
+pub returns-then-are_at_end-clause-reads_most : goal.returns-then-are_at_end-clause-reads_most
+returns-then-are_at_end-clause-reads_most g c =
+    let l = c.along in
+    let few = few_in_range c.run_laws.ensures (g.T.Tape.signal c.args.tape.now) c.args.rules.now c.reach.ensures.range c.args.state c.args.from c.args.to c.requires.lawful l.own l.guess
+    (g.T.Tape.reads_made l.tape - g.T.Tape.reads_made c.args.tape.now) l.invariant.beside in
+    omega (arith, few)
+
+pub returns-in_err-hop_first-clause-reads_way : goal.returns-in_err-hop_first-clause-reads_way
+returns-in_err-hop_first-clause-reads_way g c = λ met meeting. (
+    let b = g.T.Tape.signal c.args.tape.now in
+    let rules = c.args.rules.now in
+    let l = c.along in
+    let new = c.hop_first.new in
+    let base : ℕ = g.T.Tape.reads_made c.args.tape.now in
+    let before : ℕ = g.T.Tape.reads_made l.tape in
+    let now : ℕ = g.T.Tape.reads_made new.tape in
+    let other : ¬ Meet l.own l.guess = λ m. (let t = c.meet.ensures.1 m in let f = c.if-meet.false in cc) in
+    let beside = hops_first c.run_laws.ensures b rules c.reach.ensures.range c.args.state c.args.from c.args.to c.requires.lawful l.own l.guess new.own new.guess
+    (before - base) (now - before) (now - base) l.invariant.beside other
+    (subst (λ (x : Signal). IsStep x rules c.args.to l.own l.guess new.own new.guess (now - before)) l.invariant.same c.hop_first.ensures.step) (omega arith) in
+    let few = few_to_meeting c.run_laws.ensures b rules c.reach.ensures.range c.args.state c.args.from c.args.to c.requires.lawful new.own new.guess (now - base) beside met meeting in
+    omega (arith, few))
+
+pub returns-in_err-hop_first-clause-reads_most : goal.returns-in_err-hop_first-clause-reads_most
+returns-in_err-hop_first-clause-reads_most g c =
+    let b = g.T.Tape.signal c.args.tape.now in
+    let rules = c.args.rules.now in
+    let l = c.along in
+    let new = c.hop_first.new in
+    let base : ℕ = g.T.Tape.reads_made c.args.tape.now in
+    let before : ℕ = g.T.Tape.reads_made l.tape in
+    let now : ℕ = g.T.Tape.reads_made new.tape in
+    let other : ¬ Meet l.own l.guess = λ m. (let t = c.meet.ensures.1 m in let f = c.if-meet.false in cc) in
+    let beside = hops_first c.run_laws.ensures b rules c.reach.ensures.range c.args.state c.args.from c.args.to c.requires.lawful l.own l.guess new.own new.guess
+    (before - base) (now - before) (now - base) l.invariant.beside other
+    (subst (λ (x : Signal). IsStep x rules c.args.to l.own l.guess new.own new.guess (now - before)) l.invariant.same c.hop_first.ensures.step) (omega arith) in
+    let few = few_in_range c.run_laws.ensures b rules c.reach.ensures.range c.args.state c.args.from c.args.to c.requires.lawful new.own new.guess (now - base) beside in
+    omega (arith, few)
