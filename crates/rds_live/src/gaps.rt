@@ -38,11 +38,24 @@ pub(crate) fn fill_gaps(found: &mut Vec<(u64, u64)>, gaps: &[(u64, u64)], before
     ensures room { vec_capacity found.new ≡ vec_capacity found.old }
 {
     found.clear();
-    for &gap in gaps {
+    let near = near(gaps, before, len);
+    for &gap in near {
         if let Some(part) = part_of_gap(before, len, gap) {
             found.push_reserved(part);
         }
     }
+}
+
+/// Leaves out the gaps that end before the part of a stream that begins at `before` and has `len` places, and those that begin
+/// after it. Two binary searches.
+fn near(gaps: &[(u64, u64)], before: u64, len: u64) -> &[(u64, u64)]
+    requires are { AreGaps (2 ^ 36) gaps.now }
+    ensures gaps { gaps_within result.now before len ≡ gaps_within gaps.now before len }
+{
+    let first = gaps.partition_point(|gap| gap.1 <= before);
+    let rest = &gaps[first..];
+    let count = rest.partition_point(|gap| gap.0.saturating_sub(before) < len);
+    &rest[..count]
 }
 
 /// Appends gaps behind the bytes that are heard, until there are so many.

@@ -9,6 +9,7 @@ ghost use Rattle.rds_sync.specs.Step.{run, items_of_end};
 ghost use Rattle.rds_sync.specs.Totals.{totals_of};
 ghost use Rattle.rds_live.specs.Moving.{moved_items};
 ghost use Rattle.rds_live.specs.Live.{HasHeard, IsLive, Terms, by_rules, complete, last_bytes, live_of, live_with, most_counted, most_kept, report_at, report_of, signal_of};
+ghost use Rattle.rds_live.specs.Next.{completed, group_next, items_next, live_next};
 ghost use Rattle.rds_live.specs.Places.{place_of};
 ghost use Rattle.rds_live.specs.Room.{slots_of};
 ghost use Rattle.rds_live.specs.Keeping.{IsKept, live_kept};
@@ -246,6 +247,10 @@ impl<'r> Live<'r> {
         ensures room { vec_capacity items.new ≡ vec_capacity items.old }
         ensures refused { OnErr result ((self.new ≡ self.old) × (items.new ≡ items.old)) }
         ensures too_long { IsErrOf result StreamError.TooLong ↔ (2 ^ 36 < self.old.place + 8 * length bytes.now) }
+
+        // The same of numbers that are lawful and of no stream.
+        ensures next { IfOk result (λ count. self.new ≡ live_next self.old (take count bytes.now)) }
+        ensures completed { IfOk result (λ count. items.new.items ≡ completed self.old (take count bytes.now)) }
         ensures only { IsOkUnless result StreamError.TooLong }
     {
         if bytes.len() as u64 > (MOST_BITS - self.place) / 8 {
@@ -287,6 +292,10 @@ impl<'r> Live<'r> {
         ensures fits { OnOk result (self.old.place + 8 * length bytes.now ≤ 2 ^ 36) }
         ensures refused { OnErr result (self.new ≡ self.old) }
         ensures too_long { IsErrOf result StreamError.TooLong ↔ (2 ^ 36 < self.old.place + 8 * length bytes.now) }
+
+        // The same of numbers that are lawful and of no stream.
+        ensures next { OnOk result (self.new ≡ live_next self.old bytes.now) }
+        ensures completed { IfOk result (λ items. items.items ≡ completed self.old bytes.now) }
         ensures only { IfErr result (λ e. (e ≡ StreamError.TooLong) ⊎ (e ≡ StreamError.OutOfMemory)) }
     {
         if bytes.len() as u64 > (MOST_BITS - self.place) / 8 {
@@ -337,6 +346,10 @@ impl<'r> Live<'r> {
             → complete self.entry.terms bytes ++ group_item result.group ≡ report_of self.entry.terms bytes }
         ensures totals { (bytes : List ℕ) → HasHeard self.entry bytes
             → result.totals ≡ totals_of (report_of self.entry.terms bytes) }
+
+        // The same of numbers that are lawful and of no stream.
+        ensures closed { group_item result.group ≡ group_next self.entry [] 0 }
+        ensures counted { result.totals ≡ plus self.entry.totals (totals_of (group_next self.entry [] 0)) }
     {
         prove!(1 <= self.rules.reach());
         laws::runs_are_reports();
@@ -375,6 +388,12 @@ impl<'r> Live<'r> {
         ensures refused { OnErr result (items.new ≡ items.old) }
         ensures too_long { IsErrOf result StreamError.TooLong ↔ (2 ^ 36 < self.entry.place + bits) }
         ensures only { IsOkUnless result StreamError.TooLong }
+
+        // The same of numbers that are lawful and of no stream.
+        ensures completed { OnOk result (items.new.items ≡ items_next self.entry bytes.now bits) }
+        ensures closed { IfOk result (λ end. group_item end.group ≡ group_next self.entry bytes.now bits) }
+        ensures counted { IfOk result (λ end. end.totals
+            ≡ plus (plus self.entry.totals (totals_of (items_next self.entry bytes.now bits))) (totals_of (group_next self.entry bytes.now bits))) }
     {
         if bits > MOST_BITS - self.place {
             return Err(StreamError::TooLong);

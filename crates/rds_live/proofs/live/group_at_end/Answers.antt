@@ -56,7 +56,7 @@ lawful-at-end rules gaps tail heard place part local state same is kept whole mo
 pub moved_end-requires-clause-lawful : goal.moved_end-requires-clause-lawful
 moved_end-requires-clause-lawful c =
     lawful-at-end c.args.rules.now c.args.gaps.now c.args.room.bytes c.bytes.result.now c.args.place c.into_recording-part.result c.moved_back.result c.args.state c.bytes.ensures.value
-    c.into_recording-part.ensures c.requires.kept c.requires.whole c.moved_back.ensures c.requires.lawful
+    c.into_recording-part.ensures c.requires.kept c.requires.whole c.moved_back.ensures.back c.requires.lawful
 
 pub returns : goal.returns
 returns c bytes tail_is place_is =
@@ -65,9 +65,9 @@ returns c bytes tail_is place_is =
     let from_is : 8 * length c.bytes.result.now ≡ 8 * length tail = ap (λ (xs : List ℕ). 8 * length xs) c.bytes.ensures.value in
     let part_is = part-is gaps tail c.bytes.result.now c.args.place c.into_recording-part.result c.bytes.ensures.value c.into_recording-part.ensures in
     let lawful = lawful-at-end c.args.rules.now gaps tail c.bytes.result.now c.args.place c.into_recording-part.result c.moved_back.result c.args.state c.bytes.ensures.value
-    c.into_recording-part.ensures c.requires.kept c.requires.whole c.moved_back.ensures c.requires.lawful in
+    c.into_recording-part.ensures c.requires.kept c.requires.whole c.moved_back.ensures.back c.requires.lawful in
     c.moved_end.ensures
     ∙ sym (c.ends_move.ensures (signal_of gaps bytes) c.into_recording-part.result c.args.rules.now (c.args.place - 8 * length c.bytes.result.now) c.moved_back.result lawful
     (heard-in-part tail c.args.place (8 * length c.bytes.result.now) c.requires.kept c.requires.whole from_is gaps
     (gaps_within gaps (c.args.place - 8 * length tail) (8 * length tail)) bytes c.into_recording-part.result c.requires.are refl part_is tail_is place_is))
-    ∙ ap (λ (s : State). items_of_end (signal_of gaps bytes) c.args.rules.now s) c.moved_back.ensures
+    ∙ ap (λ (s : State). items_of_end (signal_of gaps bytes) c.args.rules.now s) c.moved_back.ensures.back

@@ -29,7 +29,7 @@ pub fill_from-end-requires-clause-lawful : goal.fill_from-end-requires-clause-la
 fill_from-end-requires-clause-lawful c =
     let live = c.self.invariant.0 in
     state-in-part c.self.inside.room.bytes c.self.inside.place (8 * length c.bytes.result.now) live.kept live.whole (ap (λ (xs : List ℕ). 8 * length xs) c.bytes.ensures.value)
-    c.self.inside.rules.now c.moved_back-state.result c.self.inside.state c.moved_back-state.ensures live.lawful
+    c.self.inside.rules.now c.moved_back-state.result c.self.inside.state c.moved_back-state.ensures.back live.lawful
 
 pub fill_from-end-requires-clause-within : goal.fill_from-end-requires-clause-within
 fill_from-end-requires-clause-within c =
@@ -112,8 +112,8 @@ module _ (c : After-ended) (before : List ℕ) (h : HasHeard c.args.self before)
             (omega (arith, from_is)) c.push.ensures.bytes;
         from_is = from_is;
         before_is = refl;
-        local_is = c.moved_back-state.ensures ∙ ap (λ (l : LiveOf). l.state) heard;
-        lawful = state-in-part tail c.self.inside.place from live.kept live.whole from_is terms.rules local c.self.inside.state c.moved_back-state.ensures live.lawful;
+        local_is = c.moved_back-state.ensures.back ∙ ap (λ (l : LiveOf). l.state) heard;
+        lawful = state-in-part tail c.self.inside.place from live.kept live.whole from_is terms.rules local c.self.inside.state c.moved_back-state.ensures.back live.lawful;
       }
 
   left : from + c.args.bits - from ≡ length_of part - from

@@ -18,7 +18,7 @@ pub fill_from-end-requires-clause-lawful : goal.fill_from-end-requires-clause-la
 fill_from-end-requires-clause-lawful c =
     let live = c.self.invariant.0 in
     state-in-part c.self.inside.room.bytes c.self.inside.place (8 * length c.bytes.result.now) live.kept live.whole (ap (λ (xs : List ℕ). 8 * length xs) c.bytes.ensures.value)
-    c.self.inside.rules.now c.moved_back-state.result c.self.inside.state c.moved_back-state.ensures live.lawful
+    c.self.inside.rules.now c.moved_back-state.result c.self.inside.state c.moved_back-state.ensures.back live.lawful
 
 pub plus-self-inside-requires : goal.plus-self-inside-requires
 plus-self-inside-requires c =
@@ -74,8 +74,8 @@ module _ (c : After-moved_on-self-inside) (before : List ℕ) (h : HasHeard c.ar
   ready =
       let live = c.self.invariant.0 in
       prepared terms c.reach.ensures.range live.gaps c.runs_join.ensures c.runs_move.ensures before more tail c.self.inside.place from at local part c.self.inside.state c.self.inside.totals heard refl from_is refl
-      c.moved_back-state.ensures
-      (state-in-part tail c.self.inside.place from live.kept live.whole from_is terms.rules local c.self.inside.state c.moved_back-state.ensures live.lawful)
+      c.moved_back-state.ensures.back
+      (state-in-part tail c.self.inside.place from live.kept live.whole from_is terms.rules local c.self.inside.state c.moved_back-state.ensures.back live.lawful)
 
   run_is : run c.recording.result.now terms.rules local from (from + 8 * c.min-count.result - from) ≡ found
   run_is =
