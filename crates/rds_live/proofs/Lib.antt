@@ -6,6 +6,9 @@ pub mod NearGaps
 pub mod Parts
 pub mod Following
 pub mod Ending
+pub mod Nexts
+pub mod NextHeard
+pub mod Pieces
 pub mod SpareGaps
 pub mod Rooms
 pub mod Moves

@@ -5,7 +5,18 @@ ghost use Rattle.rds_stream.specs.Recording.{AreGaps};
 ghost use Rattle.rds_live.specs.Room.{filled_up};
 ghost use Rattle.rds_live.specs.Gaps.{gaps_within, part_of_gap as the_part_of_gap};
 
+use crate::kept::MOST_BITS;
 use crate::room::HELD_BITS;
+
+/// Whether a stream may have these gaps: each has a place and ends by 2^36 bits, and each begins at or after the end of the one
+/// before it.
+///
+/// Its cost: the gaps are gone over twice. It takes no memory.
+pub fn may_have_gaps(gaps: &[(u64, u64)]) -> bool
+    ensures { (result ≡ true) ↔ AreGaps (2 ^ 36) gaps.now }
+{
+    are_gaps(gaps, MOST_BITS)
+}
 
 /// Whether these are gaps that so many bits may have: each has a place and lies within the bits, and each begins at or
 /// after the end of the one before it.

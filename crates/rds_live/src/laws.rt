@@ -27,7 +27,6 @@ pub fn pieces_join()
     laws::runs_join();
     laws::runs_are_lawful();
     laws::totals_join();
-    laws::codes_tell_totals();
     runs_move();
 }
 

@@ -1,11 +1,12 @@
-use Rattle.std.proofs.Common.{◌≡◌, ◌≤◌, ◌*◌, ◌^◌, ◌++◌, ◌∙◌, ℕ, List, ap, ap₂, arith, drop, length, length-drop, min, subst, sym}
+use Rattle.std.proofs.Common.{◌≡◌, ◌≤◌, ◌-◌, ◌*◌, ◌^◌, ◌++◌, ◌∙◌, ℕ, List, ap, ap₂, arith, drop, length, length-drop, map, min, subst, sym}
+use Rattle.std.specs.List.{range_with_len}
 use Rattle.std.proofs.lemmas.List.{length-append}
 use Rattle.std.proofs.lemmas.List.FromFn.{length-map-range_with_len}
 use Rattle.rds_stream.specs.Recording.{AreGaps, Signal, bits_of, length_of, packed_bit}
 use Rattle.rds_live.specs.Gaps.{gaps_within}
 use Rattle.rds_live.specs.Live.{signal_of}
 use Rattle.rds_live.specs.Moving.{IsPartHeard}
-use Rattle.rds_live.specs.Room.{AreSpareFrom, filled_up, slots_of}
+use Rattle.rds_live.specs.Room.{AreSpareFrom, filled_up, slots_of, spare}
 use Rattle.rds_live.proofs.GapParts.{few-of-part, gaps-of-part, gaps-filled-up, length-filled-up}
 use Rattle.rds_live.proofs.Rooms.{heard-filled}
 use Rattle.rds_live.proofs.SpareGaps.{filled-on, spare-behind}
@@ -55,3 +56,59 @@ module _ (before slots used : ℕ) (gaps old given found put : List (ℕ × ℕ)
   spare-then now is =
       subst (λ (k : ℕ). AreSpareFrom k now) (sym (ap length found_is)) (spare-behind now near slots (fits before slots gaps are room) (is ∙ filled))
 
+pub refill-requires-clause-as_many : goal.refill-requires-clause-as_many
+refill-requires-clause-as_many c =
+    let s = c.self.inside in
+    let inv = c.self.invariant in
+    fewer c.args.before s.slots s.used c.args.gaps.now s.recording.gaps c.fill_up.new.gaps.items c.fill_gaps.new.found.items c.deref-2.result.now c.requires.are
+    (omega (arith, c.requires.room, ap slots_of c.self.view_is, inv.3)) inv.3 inv.6 inv.7 c.fill_gaps.ensures.gaps c.fill_up.ensures.gaps c.deref-2.ensures.value
+
+pub refill-requires-clause-gaps : goal.refill-requires-clause-gaps
+refill-requires-clause-gaps c =
+    let s = c.self.inside in
+    let inv = c.self.invariant in
+    let put = c.deref-2.result.now in
+    subst (λ (n : ℕ). AreGaps n (put ++ drop (length put) s.recording.gaps)) (sym inv.2)
+    (filled-are c.args.before s.slots s.used c.args.gaps.now s.recording.gaps c.fill_up.new.gaps.items c.fill_gaps.new.found.items put c.requires.are
+    (omega (arith, c.requires.room, ap slots_of c.self.view_is, inv.3)) inv.3 inv.6 inv.7 c.fill_gaps.ensures.gaps c.fill_up.ensures.gaps c.deref-2.ensures.value inv.4)
+
+pub invariant_of-self : goal.invariant_of-self
+invariant_of-self c =
+    let s = c.self.inside in
+    let inv = c.self.invariant in
+    let put = c.deref-2.result.now in
+    let now_are = ap (λ (b : Signal). b.gaps) c.refill.ensures in
+    let room : min (length c.args.gaps.now) 7920 ≤ s.slots = omega (arith, c.requires.room, ap slots_of c.self.view_is, inv.3) in
+    let long = as-long c.deref.result.now s.recording.bits (put ++ drop (length put) s.recording.gaps) c.refill.new.self c.refill.ensures (omega (arith, inv.0, ap length c.deref.ensures.value)) inv.2 in
+    let many = as-many c.args.before s.slots s.used c.args.gaps.now s.recording.gaps c.fill_up.new.gaps.items c.fill_gaps.new.found.items put c.requires.are room inv.3 inv.6 inv.7
+    c.fill_gaps.ensures.gaps c.fill_up.ensures.gaps c.deref-2.ensures.value c.refill.new.self.gaps now_are in
+    let count : length c.fill_gaps.new.found.items ≡ c.len-used.result = omega (arith, c.fill_gaps.new.found.ok.0, c.len-used.ensures) in
+    let spare = subst (λ (k : ℕ). AreSpareFrom k c.refill.new.self.gaps) count
+    (spare-then c.args.before s.slots s.used c.args.gaps.now s.recording.gaps c.fill_up.new.gaps.items c.fill_gaps.new.found.items put c.requires.are room inv.3 inv.6 inv.7
+    c.fill_gaps.ensures.gaps c.fill_up.ensures.gaps c.deref-2.ensures.value c.refill.new.self.gaps now_are) in
+    let used : c.len-used.result ≤ s.slots = omega (arith, count, ap length c.fill_gaps.ensures.gaps, fits c.args.before s.slots c.args.gaps.now c.requires.are room) in
+    (inv.0, inv.1, long, many, inv.4, omega (arith, inv.5, c.fill_up.ensures.room, c.fill_gaps.ensures.room), used, spare)
+
+pub returns-clause-slots : goal.returns-clause-slots
+returns-clause-slots c =
+    let s = c.self.inside in
+    let inv = c.self.invariant in
+    as-many c.args.before s.slots s.used c.args.gaps.now s.recording.gaps c.fill_up.new.gaps.items c.fill_gaps.new.found.items c.deref-2.result.now c.requires.are
+    (omega (arith, c.requires.room, ap slots_of c.self.view_is, inv.3)) inv.3 inv.6 inv.7 c.fill_gaps.ensures.gaps c.fill_up.ensures.gaps c.deref-2.ensures.value
+    c.refill.new.self.gaps (ap (λ (b : Signal). b.gaps) c.refill.ensures)
+    ∙ sym inv.3 ∙ ap slots_of c.self.view_is
+
+pub returns-clause-heard : goal.returns-clause-heard
+returns-clause-heard c =
+    let s = c.self.inside in
+    let inv = c.self.invariant in
+    let gaps = c.args.gaps.now in
+    let before = c.args.before in
+    let put = c.deref-2.result.now in
+    let bytes = s.bytes.items in
+    let gaps_are = filled before s.slots s.used gaps s.recording.gaps c.fill_up.new.gaps.items c.fill_gaps.new.found.items put c.requires.are
+    (omega (arith, c.requires.room, ap slots_of c.self.view_is, inv.3)) inv.3 inv.6 inv.7 c.fill_gaps.ensures.gaps c.fill_up.ensures.gaps c.deref-2.ensures.value in
+    let filled_is = c.refill.ensures
+    ∙ ap₂ (λ (xs : List ℕ) (gs : List (ℕ × ℕ)). record { bits = bits_of xs (8 * length xs) ++ drop (8 * length xs) s.recording.bits; gaps = gs }) c.deref.ensures.value gaps_are in
+    subst (λ (b : Signal). IsPartHeard b (signal_of (gaps_within gaps before (8 * length bytes)) bytes) 0 0) (sym filled_is)
+    (heard-filled (2 ^ 36) before s.slots gaps c.requires.are bytes s.recording.bits inv.0)
