@@ -1,3 +1,5 @@
 pub mod Steps
 pub mod Parts
 mod Promises
+mod PoolRule
+mod PoolRuns

@@ -3,3 +3,7 @@ pub mod Parts
 pub mod Writes
 pub mod Written
 pub mod Gathered
+pub mod Pool
+pub mod PoolLaws
+pub mod Slots
+pub mod Examples

@@ -45,8 +45,9 @@
 //!
 //! # What it leaves to others
 //!
-//! That the threads run at the same time and that no call waits for ever, no contract can say: the
-//! tests in `rds_tests` show it, by many runs with writers that fail.
+//! No contract can say that the threads run at the same time, or that a call which waits returns. The
+//! tests in `rds_tests` show both, by many runs with writers that fail. [`laws`] prove of a machine of
+//! the pool, whose steps are the calls of its slots, that it never deadlocks and that it ends.
 #![tactic(auto)]
 
 // In the order of reading: what is written and where, how it is written, and what its threads meet at.
@@ -61,6 +62,7 @@ mod slot; // What lies under the lock of a seat.
 mod gathered; // Parts that are gathered to larger writes.
 mod hand; // A writer that is handed in and back.
 mod error; // Why rows are not written.
+pub mod laws; // What holds of the pool itself.
 
 pub use alone::write_rows_alone;
 pub use error::RowsError;

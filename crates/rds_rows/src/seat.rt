@@ -3,7 +3,7 @@ ghost use Rattle.std.specs.Prelude.{◌≡◌, IfSome};
 ghost use Rattle.rds_rows.specs.Sheets.{size_of, text_of};
 
 use crate::sheet::Sheet;
-use crate::slot::{Named, Slot};
+use crate::slot::{Found, Named, Slot};
 use std::sync::{Condvar, Mutex, Wait};
 
 /// A seat for the parts whose numbers leave the same rest by the number of seats. They go through it one by one.
@@ -32,13 +32,11 @@ impl<J: Named> Seat<J> {
     {
         let mut slot = self.slot.lock(rt);
         for _ in rt.forever() {
-            if slot.is_closed() {
-                return None;
+            match slot.take_blank(k) {
+                Found::Blank(sheet) => return Some(sheet),
+                Found::Closed => return None,
+                Found::Nothing => slot = self.emptied.wait(rt, slot),
             }
-            if let Some(sheet) = slot.take_blank(k) {
-                return Some(sheet);
-            }
-            slot = self.emptied.wait(rt, slot);
         }
         unreachable!()
     }
@@ -63,21 +61,21 @@ impl<J: Named> Seat<J> {
         requires size { size_of sheet ≡ J.size }
         requires part { text_of sheet ≡ J.part k }
     {
-        self.slot.lock(rt).put_part(k, sheet);
-        self.filled.notify_one();
+        let made = self.slot.lock(rt).put_part(k, sheet);
+        made.wake(&self.filled);
     }
 
     /// Gives the sheet back, for part `k` to be made on it.
     pub(crate) fn give_back<R: Wait>(&self, rt: &R, k: usize, sheet: Sheet)
         requires { size_of sheet ≡ J.size }
     {
-        self.slot.lock(rt).put_blank(k, sheet);
-        self.emptied.notify_all();
+        let returned = self.slot.lock(rt).put_blank(k, sheet);
+        returned.wake(&self.emptied);
     }
 
     /// No part is to be made here any more: who waits for a sheet goes away without.
     pub(crate) fn close<R: Wait>(&self, rt: &R) {
-        self.slot.lock(rt).close();
-        self.emptied.notify_all();
+        let closed = self.slot.lock(rt).close();
+        closed.wake(&self.emptied);
     }
 }
