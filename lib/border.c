@@ -153,6 +153,64 @@ uint8_t rds_refusal_name(uint8_t number, uint8_t *room, size_t room_len)
     return 0;
 }
 
+/* The names are those that the proved rds_refusal_name writes: tests/library/texts.c compares them. */
+static const struct {
+    uint8_t number;
+    const char *name, *reason;
+} refusals[] = {
+    {RDS_BURST_RANGE, "BurstRange", "the burst limit is above 5"},
+    {RDS_REACH_RANGE, "ReachRange", "the reach is not 1 to 8"},
+    {RDS_LOSS_RANGE, "LossRange", "the loss is not 1 to 64"},
+    {RDS_BITS_PAST_BYTES, "BitsPastBytes", "more bits than the bytes hold"},
+    {RDS_TOO_LONG, "TooLong", "more than 2^36 bits"},
+    {RDS_OUT_OF_MEMORY, "OutOfMemory", "out of memory"},
+    {RDS_SHARE_RANGE, "ShareRange", "the share is not 1 to 64 bad blocks of as many or more, up to 64"},
+    {RDS_BAD_GAPS, "BadGaps", "gaps that are empty, out of order or past the bits"},
+    {RDS_SMALL_ROOM, "SmallRoom", "too little room for the items"},
+    {RDS_UNLAWFUL_STATE, "UnlawfulState", "a state that no call left"},
+    {RDS_PLACE_RANGE, "PlaceRange", "places that are no range of the recording"},
+    {RDS_BLOCK_RANGE, "BlockRange", "a word of more than 26 bits"},
+    {RDS_OFFSET_RANGE, "OffsetRange", "a number that is none of an offset"},
+    {RDS_NO_REFUSAL, "NoRefusal", "a number that is none of a refusal"},
+    {RDS_BAD_POINTER, "BadPointer", "a pointer that is not as required"},
+};
+
+static const char unknown[] = "unknown";
+
+const char *rds_refusal_text(uint8_t number)
+{
+    for (size_t k = 0; k < sizeof refusals / sizeof *refusals; k++)
+        if (refusals[k].number == number)
+            return refusals[k].name;
+    return unknown;
+}
+
+const char *rds_refusal_reason(uint8_t number)
+{
+    for (size_t k = 0; k < sizeof refusals / sizeof *refusals; k++)
+        if (refusals[k].number == number)
+            return refusals[k].reason;
+    return unknown;
+}
+
+const char *rds_offset_text(uint8_t offset)
+{
+    switch (offset) {
+    case RDS_A: return "A";
+    case RDS_B: return "B";
+    case RDS_C: return "C";
+    case RDS_CX: return "C'";
+    case RDS_D: return "D";
+    case RDS_C_OR_CX: return "C or C'";
+    default: return unknown;
+    }
+}
+
+const char *rds_version_text(void)
+{
+    return "0.2.0";
+}
+
 PROVED(rds_version);
 uint32_t rds_version(void)
 {

@@ -12,10 +12,10 @@
  *         if (rds_push(bytes, len, NULL, 0, &rules, &stream, items, 16 * CHUNK, &count)) return 1;
  *         for (uint64_t k = 0; k < count; k++) {}    // items[k] is complete: no later bit changes it
  *     }
- *     rds_finish(NULL, 0, &rules, &stream, items, 1, &count, &totals);
+ *     if (rds_finish(NULL, 0, &rules, &stream, items, 1, &count, &totals)) return 1;
  *
- * Every function but rds_version returns 0, or the number of a refusal (rds_refusal_name spells it). After a refusal nothing that
- * was lent has changed, but for the count that RDS_SMALL_ROOM tells. Where several reasons hold, the one that comes first in the
+ * Every function that returns uint8_t returns 0, or the number of a refusal (rds_refusal_text and rds_refusal_reason say it in words).
+ * After a refusal nothing that was lent has changed, but for the count that RDS_SMALL_ROOM tells. Where several reasons hold, the one that comes first in the
  * order that is told at the function is answered; want of memory, at any time.
  *
  * What is required of a pointer, by its declaration:
@@ -41,6 +41,13 @@
 
 #ifdef __cplusplus
 extern "C" {
+#endif
+
+/* Compilers that know it warn where the result of such a function is not used. */
+#if defined(__GNUC__)
+#define RDS_MUST_USE __attribute__((warn_unused_result))
+#else
+#define RDS_MUST_USE
 #endif
 
 /* Refusals: those of the program, by its numbers, and the library's own from 64 on. No number ever changes its meaning. */
@@ -150,12 +157,14 @@ typedef struct rds_packed_t {
 
 /* The totals of the first bits bits of the bytes, the highest bit of a byte first, with these gaps, by these rules.
  * Refusals: 1, 2, 3, 15, then 5, 4, 16, and 8. */
+RDS_MUST_USE
 uint8_t rds_totals(const uint8_t *bytes, size_t bytes_len, uint64_t bits, const rds_gap_t *gaps, size_t gaps_len,
                                const rds_rules_t *rules, rds_totals_t *found);
 
 /* The items of the same, in order of place, to the beginning of room, and how many they are to count. Where there is too
  * little room (64), count tells how many there are, and nothing else is written: so a first call with room for none asks,
  * and takes as long as a second. Refusals: those of rds_totals, and 64. */
+RDS_MUST_USE
 uint8_t rds_items(const uint8_t *bytes, size_t bytes_len, uint64_t bits, const rds_gap_t *gaps, size_t gaps_len,
                               const rds_rules_t *rules, rds_item_t *room, size_t room_len, uint64_t *count);
 
@@ -163,14 +172,17 @@ uint8_t rds_items(const uint8_t *bytes, size_t bytes_len, uint64_t bits, const r
  * the beginning of room, how many they are to count, and the state after them to state. Runs in a row, each from the state of
  * the one before, are one run; from a state of zeros at place 0 to the last, with rds_finish_run behind it, they give the items of
  * rds_items: so a list of any length needs room for few. A run hears up to 233 bits before from. Where there is too little room
- * (64), count tells how many items there are, and nothing else is written. Each call copies the bytes. Refusals: those of
- * rds_totals, then 66, 65, and 64. */
+ * (64), count tells how many items there are, and nothing else is written. The cost of a call depends on the range and on the
+ * number of gaps, not on the length of the recording: it copies the bytes and gaps of the range and of the 233 bits before it.
+ * Refusals: those of rds_totals, then 66, 65, and 64. */
+RDS_MUST_USE
 uint8_t rds_run(const uint8_t *bytes, size_t bytes_len, uint64_t bits, const rds_gap_t *gaps, size_t gaps_len,
                             const rds_rules_t *rules, uint64_t from, uint64_t to, rds_state_t *state, rds_item_t *room,
                             size_t room_len, uint64_t *count);
 
 /* The group in progress at the end of the recording, as far as it was read, where a run over it ended in this state: to the
  * beginning of room, and to count whether there is one, 1 or 0. Refusals: those of rds_run. */
+RDS_MUST_USE
 uint8_t rds_finish_run(const uint8_t *bytes, size_t bytes_len, uint64_t bits, const rds_gap_t *gaps, size_t gaps_len,
                                    const rds_rules_t *rules, const rds_state_t *state, rds_item_t *room, size_t room_len,
                                    uint64_t *count);
@@ -183,12 +195,14 @@ uint8_t rds_finish_run(const uint8_t *bytes, size_t bytes_len, uint64_t bits, co
  * same bytes can be offered again. Numbers that no call can have left are refused (65); others are gone on with, whoever wrote
  * them. It asks for memory for the tables of the rules, the gaps, and the items: those that these bytes complete, and as many as
  * 960 bytes may. The bytes themselves take none. Refusals: 1, 2, 3, 15, then 16, 65, 5 (past 2^36 bits in all), 64, and 8. */
+RDS_MUST_USE
 uint8_t rds_push(const uint8_t *bytes, size_t bytes_len, const rds_gap_t *gaps, size_t gaps_len, const rds_rules_t *rules,
                              rds_stream_t *stream, rds_item_t *room, size_t room_len, uint64_t *count);
 
 /* Ends a stream: writes the group in progress, as far as it was read, to the beginning of room, to count whether there is one, 1
  * or 0, and to totals those of all that was heard, with that group. The stream is only read, and can be gone on with. Refusals:
  * those of rds_push, but for 5. */
+RDS_MUST_USE
 uint8_t rds_finish(const rds_gap_t *gaps, size_t gaps_len, const rds_rules_t *rules, const rds_stream_t *stream,
                                rds_item_t *room, size_t room_len, uint64_t *count, rds_totals_t *totals);
 
@@ -196,19 +210,31 @@ uint8_t rds_finish(const rds_gap_t *gaps, size_t gaps_len, const rds_rules_t *ru
  * of room, and behind them the group in progress, to count how many these are, and to totals those of all that was heard and of
  * these bits. So the items of all chunks and these are those of rds_items of the whole. The stream is only read. Refusals: those of
  * rds_push, with 4 behind 5. */
+RDS_MUST_USE
 uint8_t rds_finish_with(const uint8_t *bytes, size_t bytes_len, uint64_t bits, const rds_gap_t *gaps, size_t gaps_len,
                                     const rds_rules_t *rules, const rds_stream_t *stream, rds_item_t *room, size_t room_len,
                                     uint64_t *count, rds_totals_t *totals);
 
 /* The remainder of a word of 26 bits by the generator of the block code, below 1024. Refusals: 67. */
+RDS_MUST_USE
 uint8_t rds_remainder(uint32_t word, uint16_t *found);
 
 /* A word of 26 bits read as the block with this offset, RDS_A to RDS_C_OR_CX; a burst of up to limit bits, 0 to 5, is taken
  * off where one alone fits. Refusals: 67, 68, 1, and 8. */
+RDS_MUST_USE
 uint8_t rds_correct(uint32_t word, uint8_t offset, uint8_t limit, rds_block_t *found);
 
 /* Groups as they are sent, to the beginning of room, which has to have as many values. Refusals: 64. */
+RDS_MUST_USE
 uint8_t rds_encode(const rds_words_t *groups, size_t groups_len, rds_packed_t *room, size_t room_len);
+
+/* Texts that last as long as the program: the name of a refusal, such as "TooLong", and its reason, such as "more than 2^36 bits"; the
+ * name of an offset, RDS_A to RDS_C_OR_CX, such as "C'"; and the version of the library, such as "0.2.0". A number that is none has
+ * the text "unknown". */
+const char *rds_refusal_text(uint8_t number);
+const char *rds_refusal_reason(uint8_t number);
+const char *rds_offset_text(uint8_t offset);
+const char *rds_version_text(void);
 
 /* The name of the refusal of this number, as "TooLong", with a 0 behind it, to the beginning of room: RDS_NAME_ROOM bytes are
  * enough for any. Print it as (const char *)room. Refusals: 69, 64. */

@@ -178,6 +178,10 @@ if [ -n "$library" ]; then
     PATH=$all_tools ${CC:-cc} -O2 -I"$library" -o push "$here/push.c" "$library/librds.a" || exit 1
     beside 2 cat station.16 ./push 65536 0 beside "${one[@]}"
     beside 2 cat station.16 ./push 1024 0 beside "${one[@]}"
+    PATH=$all_tools ${CC:-cc} -O2 -I"$library" -o run "$here/run.c" "$library/librds.a" || exit 1
+    # ranges of 16,384 bits, and of 4,096
+    beside 4 cat station.16 ./run 16384 beside "${one[@]}"
+    beside 8 cat station.16 ./run 4096 beside "${one[@]}"
 else
     echo 'skipped: calls of the library, which is not given'
 fi

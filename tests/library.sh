@@ -55,7 +55,7 @@ if has c++; then
   tried 'C++ with the shared library' c++ -o "$work/layout" "$work/layout.o" "-L$library" -lrds "-Wl,-rpath,$library"
   tried 'a call from C++' "$work/layout"
 fi
-declared=$(sed -n 's/^[a-z0-9_]* \(rds_[a-z_]*\)(.*/\1/p' lib/rds.h | sort)
+declared=$(sed -n -e '/^static/d' -e 's/^[a-z0-9_ ]*[ *]\(rds_[a-z_]*\)(.*/\1/p' lib/rds.h | sort)
 same 'what librds.so.0 shows' "$declared" "$(nm -D --defined-only "$library/librds.so.0" | awk '$2 == "T" {sub("@.*", "", $3); print $3}' | sort)"
 same 'what librds.a shows' "$declared" "$(nm --defined-only -g "$library/librds.a" | awk 'NF == 3 {print $3}' | sort)"
 same 'what librds.a needs' 'free malloc memcpy memmove memset realloc' "$(nm -u "$library/librds.a" | awk 'NF == 2 {print $2}' | sort | tr '\n' ' ' | sed 's/ $//')"
@@ -76,7 +76,8 @@ done
 make_program() {
   tried "making $1" "${CC:-cc}" -std=c11 -D_DEFAULT_SOURCE "${strict[@]}" -o "$work/$1" "tests/library/$1.c" "$library/librds.a" -lpthread
 }
-for it in rows refused threads states streams cases; do make_program "$it"; done
+for it in rows refused threads states streams cases texts; do make_program "$it"; done
+tried 'texts' "$work/texts"
 
 # One table of calls with their answers, for C, Python, Rust and the second decoder.
 table=tests/library/cases.txt

@@ -121,7 +121,7 @@ MISTAKES = [
     ("room_len < sizeof name", "room_len <= sizeof name"),
     ("room_len < sizeof name", "room_len + 1 < sizeof name"),
     ("k < sizeof name; k++", "k + 1 < sizeof name; k++"),
-    ('"BadPointer"', '"BadPointers"'),
+    ('name[] = "BadPointer"', 'name[] = "BadPointers"'),
     ("number != RDS_BAD_POINTER", "number != RDS_NO_REFUSAL"),
     ("for (size_t k = 0; k < count; k++)\n        if (is_nowhere", "for (size_t k = 1; k < count; k++)\n        if (is_nowhere"),
 ]

@@ -106,11 +106,16 @@ def compare_versions(faults, text, library, program):
     for path, pattern in (("lib/rds.pc.in", r"^Version: (.*)$"), ("bindings/rust/Cargo.toml", r'^version = "(.*)"$'),
                           ("bindings/python/pyproject.toml", r'^version = "(.*)"$')):
         faults.same(f"{path}, version", parts, three_of(re.search(pattern, text_of(f"{TOP}/{path}"), re.M)[1]))
-    node = re.search(r"^(\w+) \{", text_of(f"{TOP}/lib/rds.map"), re.M)[1]
-    names = dict(re.findall(r" T (\w+)@@(\w+)$", says("nm", "-D", "--defined-only", f"{library}/librds.so.0"), re.M))
-    functions = re.findall(r"^\w+ (rds_\w+)\(", text, re.M)
-    faults.same("symbol versions of librds.so.0", dict.fromkeys(functions, node), names)
-    faults.same("the node of rds.map", "RDS_0", node)
+    nodes = dict(re.findall(r"^RDS_([\d.]+) \{\s*global:(.*?)(?:local:|\})", text_of(f"{TOP}/lib/rds.map"), re.M | re.S))
+    shown = {name: f"RDS_{node}" for node, names in nodes.items() for name in re.findall(r"(\w+);", names)}
+    names = dict(re.findall(r" T (\w+)@@([\w.]+)$", says("nm", "-D", "--defined-only", f"{library}/librds.so.0"), re.M))
+    functions = re.findall(r"^(?:const char \*|\w+ )(rds_\w+)\(", text, re.M)
+    faults.same("functions of rds.map", sorted(functions), sorted(shown))
+    faults.same("symbol versions of librds.so.0", shown, names)
+    faults.same("the newest node of rds.map", parts[:2], [int(it) for it in [*nodes][-1].split(".")])
+    version_text = ctypes.CDLL(f"{library}/librds.so.0").rds_version_text
+    version_text.restype = ctypes.c_char_p
+    faults.same("rds_version_text", ".".join(map(str, parts)), version_text().decode())
 
 
 # ---- numbers in comments
@@ -121,7 +126,7 @@ def facts(structs, reasons):
     sizes = {name: layout_of(name, structs)[0] for name in structs}
     at_once = number_in("crates/rds_live/src/room.rt", r"AT_ONCE: usize = (\d+);")
     kept = number_in("crates/rds_abi/src/following.rt", r"MOST_KEPT: u64 = (\d+);")
-    most_bits = number_in("crates/rds_abi/src/following.rt", r"MOST_BITS: u64 = 1 << (\d+);")
+    most_bits = number_in("crates/rds_abi/src/asked.rt", r"MOST_BITS: u64 = 1 << (\d+);")
     ranges = {number: [int(it) for it in re.findall(r"\d+", said)] for number, said in reasons.items()}
     burst, reach, loss, word = ranges[1][-1], ranges[2], ranges[3], ranges[67][0]
     # two items a bit at most, which the law runs_give_few_items says
@@ -140,7 +145,9 @@ def facts(structs, reasons):
     yield r"Room for (\d+) items a byte", [per_byte]
     yield r"as many as (\d+) bytes may", [at_once]
     yield r"(\d+)\^(\d+) bits", [2, most_bits]
+    yield r'such as "(\d+)\.(\d+)\.(\d+)"', three_of(re.search(r"^Version: (.*)$", text_of(f"{TOP}/lib/rds.pc.in"), re.M)[1])
     yield r"hears up to (\d+) bits before", [word * reach[1] + word - 1]
+    yield r"gaps of the range and of the (\d+) bits before it", [number_in("crates/rds_abi/src/part.rt", r"HEARD_BEFORE: u64 = (\d+);")]
     yield r"word of (?:more than )?(\d+) bits", [word]
     yield r"code, below (\d+)\.", [1 << 10]
     yield r"burst is above (\d+)", [burst]
@@ -187,7 +194,7 @@ def compare_comments(faults, text, structs):
     reasons = {number: said for number, (_, said) in refusals_of_crate().items()}
     comments = re.findall(r"/\*(.*?)\*/", text, re.S)
     page = "\n\n".join(re.sub(r"\s*\n \* ?", " ", it) for it in comments)
-    functions = re.findall(r"/\*((?:(?!\*/).)*)\*/\s*\w+ (rds_\w+)\(", text, re.S)
+    functions = re.findall(r"/\*((?:(?!\*/).)*)\*/\s*(?:RDS_MUST_USE\s+)?\w+ (rds_\w+)\(", text, re.S)
     lists = {name: re.sub(r"\s*\n \* ?", " ", comment).partition("Refusals: ")[2].replace("2^", "") for comment, name in functions}
     got = {name: [int(it) for it in re.findall(r"\d+", text)] for name, text in lists.items()}
     wanted = dict(refusal_lists())

@@ -15,6 +15,8 @@ import sys
 from glob import glob
 
 TOP = os.path.dirname(os.path.dirname(os.path.dirname(os.path.abspath(__file__))))
+# Only lib/border.c refuses a pointer.
+BAD_POINTER = "a pointer that is not as required"
 SIZES = {"u8": 1, "u16": 2, "u32": 4, "u64": 8, "usize": 8}
 
 
@@ -70,7 +72,7 @@ def of_header_text(text):
     }
     functions = {
         name: (of_c(result), [argument_of_c(it) for it in listed(given) if it != "void"])
-        for result, name, given in re.findall(r"^(\w+) (rds_\w+)\((.*?)\);", text, re.S | re.M)
+        for result, name, given in re.findall(r"^(\w+) (rds_\w+)\(([^;]*?)\);", text, re.S | re.M)
     }
     return structs, functions
 
@@ -168,10 +170,13 @@ def wrong_refusals(header):
     enum = re.search(r"enum \{([^{}]*RDS_BAD_POINTER.*?)\};", without_comments(text_of(header)), re.S)[1]
     if {name: int(number) for name, number in re.findall(r"(\w+) = (\d+)", enum)} != named:
         yield f"{header}: the numbers of refusals"
-    reasons = {number: said for number, (_, said) in mine.items()}
+    said_of = {number: said for number, (_, said) in mine.items()} | {70: BAD_POINTER}
     for path, row in (("rust/src/lib.rs", r'^    \((\d+), "(.*?)"\),$'), ("python/librds/__init__.py", r'^    (\d+): "(.*?)",$')):
-        if {int(number): said for number, said in re.findall(row, text_of(f"{TOP}/bindings/{path}"), re.M)} != reasons:
+        if {int(number): said for number, said in re.findall(row, text_of(f"{TOP}/bindings/{path}"), re.M)} != said_of:
             yield f"bindings/{path}: what is said of refusals"
+    in_c = re.findall(r'^    \{RDS_(\w+), "(\w+)", "(.*?)"\},$', text_of(f"{TOP}/lib/border.c"), re.M)
+    if [(upper(name), name, said) for name, said in [*mine.values(), ("BadPointer", BAD_POINTER)]] != in_c:
+        yield "lib/border.c: names and reasons of refusals"
 
 
 # ---- offsets

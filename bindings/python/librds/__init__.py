@@ -56,7 +56,7 @@ _NUMBERS = {"A": 1, "B": 2, "C": 3, "C'": 4, "D": 5, "C or C'": 6}
 _SMALL_ROOM = 64
 
 
-# tests/library/layout.py compares these with what the proved code says.
+# tests/library/layout.py compares these with the proved code, and the last with lib/border.c.
 _REASONS = {
     1: "the burst limit is above 5",
     2: "the reach is not 1 to 8",
@@ -72,6 +72,7 @@ _REASONS = {
     67: "a word of more than 26 bits",
     68: "a number that is none of an offset",
     69: "a number that is none of a refusal",
+    70: "a pointer that is not as required",
 }
 
 

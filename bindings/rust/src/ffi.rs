@@ -1,4 +1,5 @@
-//! What `rds.h` declares. `tests/library/layout.py` compares each line with it.
+//! The declarations of `rds.h`, which says what each name means. `tests/library/layout.py` compares each line with it.
+#![allow(missing_docs)]
 
 /// The twelve totals of a report.
 #[repr(C)]
@@ -23,7 +24,7 @@ pub struct RdsTotals {
 }
 
 #[repr(C)]
-#[derive(Clone, Copy, Debug, Default, PartialEq, Eq)]
+#[derive(Clone, Copy, Debug, Default, PartialEq, Eq, Hash)]
 pub struct RdsBlock {
     pub burst: u32,
     pub info: u16,
@@ -32,7 +33,7 @@ pub struct RdsBlock {
 }
 
 #[repr(C)]
-#[derive(Clone, Copy, Debug, Default, PartialEq, Eq)]
+#[derive(Clone, Copy, Debug, Default, PartialEq, Eq, Hash)]
 pub struct RdsItem {
     pub place: u64,
     pub blocks: [RdsBlock; 4],
@@ -44,14 +45,14 @@ pub struct RdsItem {
 }
 
 #[repr(C)]
-#[derive(Clone, Copy, Debug, PartialEq, Eq)]
+#[derive(Clone, Copy, Debug, PartialEq, Eq, Hash)]
 pub struct RdsGap {
     pub begin: u64,
     pub end: u64,
 }
 
 #[repr(C)]
-#[derive(Clone, Copy, Debug, PartialEq, Eq)]
+#[derive(Clone, Copy, Debug, PartialEq, Eq, Hash)]
 pub struct RdsRules {
     pub burst: u32,
     pub reach: u32,
@@ -81,13 +82,13 @@ pub struct RdsStream {
 }
 
 #[repr(C)]
-#[derive(Clone, Copy, Debug, PartialEq, Eq)]
+#[derive(Clone, Copy, Debug, PartialEq, Eq, Hash)]
 pub struct RdsWords {
     pub words: [u16; 4],
 }
 
 #[repr(C)]
-#[derive(Clone, Copy, Debug, PartialEq, Eq)]
+#[derive(Clone, Copy, Debug, PartialEq, Eq, Hash)]
 pub struct RdsPacked {
     pub bytes: [u8; 13],
 }

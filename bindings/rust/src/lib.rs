@@ -15,9 +15,15 @@
 //! # Ok::<(), rds::Refused>(())
 //! ```
 //!
-//! A stream is followed by a [`Follower`]. What is refused is a [`Refused`], by the number and name that the program gives it too.
+//! A stream is followed by a [`Follower`], or [`read`] from a reader. What is refused is a [`Refused`], by the number and name that the
+//! program gives it too.
+
+#![deny(missing_docs)]
 
 pub mod ffi;
+mod stream;
+
+pub use stream::{read, ReadError, ReadItems};
 
 use ffi::{RdsBlock, RdsGap, RdsItem, RdsPacked, RdsRules, RdsStream, RdsTotals, RdsWords};
 use std::fmt;
@@ -29,7 +35,7 @@ pub use ffi::RdsTotals as Totals;
 const SMALL_ROOM: u8 = 64;
 
 /// A refusal.
-#[derive(Clone, Debug, PartialEq, Eq)]
+#[derive(Clone, Debug, PartialEq, Eq, Hash)]
 pub struct Refused {
     /// Its number, which never changes its meaning.
     pub number: u8,
@@ -44,8 +50,8 @@ impl Refused {
     }
 }
 
-/// `tests/library/layout.py` compares these with what the proved code says.
-const REASONS: [(u8, &str); 14] = [
+/// `tests/library/layout.py` compares these with the proved code, and the last with `lib/border.c`.
+const REASONS: [(u8, &str); 15] = [
     (1, "the burst limit is above 5"),
     (2, "the reach is not 1 to 8"),
     (3, "the loss is not 1 to 64"),
@@ -60,6 +66,7 @@ const REASONS: [(u8, &str); 14] = [
     (67, "a word of more than 26 bits"),
     (68, "a number that is none of an offset"),
     (69, "a number that is none of a refusal"),
+    (70, "a pointer that is not as required"),
 ];
 
 impl fmt::Display for Refused {
@@ -92,7 +99,7 @@ fn check(number: u8) -> Result<(), Refused> {
 /// # let bytes = [0u8; 100];
 /// let part = rds::Recording { bits: 797, gaps: vec![104..130], ..rds::Recording::of(&bytes) };
 /// ```
-#[derive(Clone, Debug)]
+#[derive(Clone, Debug, PartialEq, Eq, Hash)]
 pub struct Recording<'a> {
     /// The bytes, the first bit of each highest.
     pub bytes: &'a [u8],
@@ -118,16 +125,21 @@ fn gaps_of(gaps: &[Range<u64>]) -> Vec<RdsGap> {
 }
 
 /// When a lock is lost.
-#[derive(Clone, Copy, Debug, PartialEq, Eq)]
+#[derive(Clone, Copy, Debug, PartialEq, Eq, Hash)]
 pub enum LossRule {
     /// After so many bad blocks in a row: 1 to 64.
     Run(u32),
-    /// Where `bad` of the last `of` blocks are bad: 1 ≤ bad ≤ of ≤ 64.
-    Share { bad: u32, of: u32 },
+    /// If `bad` of the last `of` blocks are bad: 1 ≤ bad ≤ of ≤ 64.
+    Share {
+        /// How many bad blocks lose the lock.
+        bad: u32,
+        /// Among how many of the last blocks.
+        of: u32,
+    },
 }
 
 /// The numbers of a decoder's rules. The default is the program's, where no option says otherwise.
-#[derive(Clone, Copy, Debug, PartialEq, Eq)]
+#[derive(Clone, Copy, Debug, PartialEq, Eq, Hash)]
 pub struct Rules {
     /// The longest burst that is corrected, in bits: 0 to 5.
     pub burst: u32,
@@ -156,16 +168,28 @@ impl Rules {
 }
 
 /// A block of a group.
-#[derive(Clone, Copy, Debug, PartialEq, Eq)]
+#[derive(Clone, Copy, Debug, PartialEq, Eq, Hash)]
 pub enum Block {
     /// It was not read: the group was cut off by an acquisition, a loss or the end.
     Missing,
     /// It was read, and is neither valid nor corrected.
     Lost,
-    /// It has the remainder of its offset; `info` is its information word.
-    Valid { offset: Offset, info: u16 },
-    /// A burst was taken off, the ones of a word of 26 bits; `info` is its information word behind that.
-    Corrected { offset: Offset, info: u16, burst: u32 },
+    /// It has the remainder of its offset.
+    Valid {
+        /// The offset.
+        offset: Offset,
+        /// The information word.
+        info: u16,
+    },
+    /// A burst of bit errors was corrected.
+    Corrected {
+        /// The offset.
+        offset: Offset,
+        /// The information word, corrected.
+        info: u16,
+        /// The error mask: 26 bits, of which the ones were corrected.
+        burst: u32,
+    },
 }
 
 impl Block {
@@ -179,31 +203,55 @@ impl Block {
 }
 
 /// An offset word.
-#[derive(Clone, Copy, Debug, PartialEq, Eq)]
+#[derive(Clone, Copy, Debug, PartialEq, Eq, PartialOrd, Ord, Hash)]
 pub enum Offset {
+    /// A, of block 1.
     A,
+    /// B, of block 2.
     B,
+    /// C, of block 3 of a version A group.
     C,
-    /// C'.
+    /// C', of block 3 of a version B group.
     Cx,
+    /// D, of block 4.
     D,
 }
 
 /// An entry of a report, in order of place.
-#[derive(Clone, Copy, Debug, PartialEq, Eq)]
+#[derive(Clone, Copy, Debug, PartialEq, Eq, Hash)]
 pub enum Item {
-    /// Block synchronism was acquired by the block of this number, 1 to 4, whose last bit is at `place`.
-    Acquired { place: u64, number: u8 },
+    /// Block sync was acquired.
+    Acquired {
+        /// The place of the block's last bit.
+        place: u64,
+        /// The number of the block, 1 to 4.
+        number: u8,
+    },
+    /// A group.
     Group(Group),
-    /// It was lost by the block whose last bit is at `place`.
-    Loss { place: u64 },
+    /// Block sync was lost.
+    Loss {
+        /// The place of the last bit of the block that lost it.
+        place: u64,
+    },
+}
+
+impl Item {
+    /// The place of the item: of a group its first bit that was read, else the last bit of the block that acquired or lost sync.
+    pub fn place(&self) -> u64 {
+        match *self {
+            Item::Acquired { place, .. } | Item::Loss { place } => place,
+            Item::Group(group) => group.place,
+        }
+    }
 }
 
 /// A group.
-#[derive(Clone, Copy, Debug, PartialEq, Eq)]
+#[derive(Clone, Copy, Debug, PartialEq, Eq, Hash)]
 pub struct Group {
-    /// Of its first bit that was read.
+    /// The place of its first bit that was read.
     pub place: u64,
+    /// Its four blocks.
     pub blocks: [Block; 4],
     /// The group type, 0 to 15, where it is known.
     pub kind: Option<u8>,
@@ -213,10 +261,19 @@ pub struct Group {
     pub conflict: bool,
 }
 
+impl Group {
+    /// The information words of the four blocks, if they are known.
+    pub fn words(&self) -> [Option<u16>; 4] {
+        self.blocks.map(|block| block.info())
+    }
+}
+
 /// The version of a group.
-#[derive(Clone, Copy, Debug, PartialEq, Eq)]
+#[derive(Clone, Copy, Debug, PartialEq, Eq, PartialOrd, Ord, Hash)]
 pub enum Version {
+    /// Version A.
     A,
+    /// Version B.
     B,
 }
 

@@ -1,2 +1,4 @@
 pub mod Rooms
 pub mod Streams
+pub mod GapLists
+pub mod PartRuns

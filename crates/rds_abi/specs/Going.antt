@@ -1,5 +1,8 @@
 -- A run that goes on from a state which the caller keeps as plain numbers. `run` and `finish_run` cite it. This project's rules.
 use Rattle.std.specs.Prelude.{ℕ, ◌-◌, ◌<◌, ◌≤◌, ◌⊎◌, ◌==◌, List, map, if◌then◌else◌}
+use Rattle.rds_stream.specs.Recording.{Signal}
+use Rattle.rds_live.specs.Moving.{moved_items, moved_state}
+use Rattle.rds_sync.specs.Rules.{RuleNumbers}
 use Rattle.rds_sync.specs.Lawful.{IsLawful as IsLawfulState}
 use Rattle.rds_sync.specs.Step.{items_of_end, run, lock_of}
 use Rattle.rds_sync.specs.declared.item.Item.{Item}
@@ -44,6 +47,11 @@ pub record IsRun (a : Asked) (from to : ℕ) (s : RdsState) : Type 0 where
 abbrev pub run_asked : Asked → ℕ → ℕ → RdsState → State × List Item
 run_asked a from to s =
     run (recording_of a.bytes a.bits a.gaps) (rules_of a.rules) (state_of s) from (to - from)
+
+-- the same by a run over a part of the recording that begins at place `before`, from a state there
+abbrev pub run_in_part : Signal → RuleNumbers → State → ℕ → ℕ → ℕ → State × List Item
+run_in_part part rules s before from to =
+    let there = run part rules s (from - before) (to - before - (from - before)) in (moved_state before there.0, moved_items before there.1)
 
 abbrev pub items_of_run : Asked → ℕ → ℕ → RdsState → List RdsItem
 items_of_run a from to s = map item_in_c (run_asked a from to s).1

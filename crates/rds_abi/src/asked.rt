@@ -1,7 +1,8 @@
 //! What a caller asks for, and what is made of it.
 
-ghost use Rattle.std.specs.Prelude.{◌≡◌, IfErr, IfOk};
-ghost use Rattle.rds_stream.specs.Recording.{length_of};
+ghost use Rattle.std.specs.Prelude.{◌≡◌, ◌*◌, ◌<◌, ◌≤◌, ◌↔◌, IfErr, IfOk, OnOk, length, true};
+ghost use Rattle.std.specs.List.{All, AllAdjacentBelow};
+ghost use Rattle.rds_stream.specs.Recording.{AreGaps, length_of};
 ghost use Rattle.rds_sync.specs.Ranges.{IsInRange};
 ghost use Rattle.rds_abi.specs.Asked.{IsLawful, IsRecording, Refuses, RefusesRecording, RefusesRules, asked, gaps_of, loss_of as the_loss_of, recording_of as the_recording_of, rules_of as the_rules_of};
 
@@ -10,6 +11,9 @@ use crate::refusal::Refusal;
 use rds_stream::{Recording, StreamError};
 use rds_sync::{Loss, RuleNumbers, Rules, SyncError};
 use std::alloc::{AllocError, Global};
+
+/// The most bits that a recording or a stream may have.
+pub(crate) const MOST_BITS: u64 = 1 << 36;
 
 /// The rule of loss that these numbers say.
 fn loss_of(asked: RdsRules) -> Loss
@@ -62,7 +66,16 @@ pub(crate) fn gaps_in(alloc: Global, gaps: &[RdsGap]) -> Result<Vec<(u64, u64)>,
     gaps.iter().map(|gap| (gap.begin, gap.end)).collect(alloc)
 }
 
-/// The recording of these bytes, which are copied.
+/// How many of the bytes hold these bits: all, if they have fewer.
+fn held_bytes(bytes: &[u8], bits: u64) -> usize
+    ensures within { result ≤ length bytes.now }
+    ensures enough { bits ≤ 8 * length bytes.now → bits ≤ 8 * result }
+{
+    let len = bytes.len() as u64;
+    bits.div_ceil(8).min(len) as usize
+}
+
+/// The recording of these bits. Only the bytes that hold them are copied.
 fn recording_of(
     alloc: Global,
     bytes: &[u8],
@@ -74,7 +87,7 @@ fn recording_of(
     ensures lawful { IfOk result (λ _. IsRecording bytes.now bits gaps.now) }
     ensures refused { IfErr result (RefusesRecording bytes.now bits gaps.now) }
 {
-    let copy = Vec::from_slice(alloc, bytes)?;
+    let copy = Vec::from_slice(alloc, &bytes[..held_bytes(bytes, bits)])?;
     let places = gaps_in(alloc, gaps)?;
     match Recording::with_gaps(copy, bits, places) {
         Ok(recording) => Ok(recording),
@@ -83,6 +96,46 @@ fn recording_of(
         Err((StreamError::BadGaps, _, _)) => Err(Refusal::BadGaps),
         Err((StreamError::OutOfMemory, _, _)) => Err(Refusal::OutOfMemory),
     }
+}
+
+/// Whether these are gaps that so many bits may have: each has a place and lies within the bits, and each begins at or
+/// after the end of the one before it.
+fn are_gaps(gaps: &[RdsGap], bits: u64) -> bool
+    ensures { (result ≡ true) ↔ AreGaps bits (gaps_of gaps.now) }
+{
+    are_within(gaps, bits) && are_apart(gaps)
+}
+
+/// Whether each has a place and lies within so many bits.
+fn are_within(gaps: &[RdsGap], bits: u64) -> bool
+    ensures { (result ≡ true) ↔ All (λ gap. (gap.begin < gap.end) × (gap.end ≤ bits)) gaps.now }
+{
+    gaps.iter()
+        .all(|gap| gap.begin < gap.end && gap.end <= bits)
+}
+
+/// Whether each begins at or after the end of the one before it.
+fn are_apart(gaps: &[RdsGap]) -> bool
+    ensures { (result ≡ true) ↔ AllAdjacentBelow (λ gap next. gap.end ≤ next.begin) gaps.now (length gaps.now) }
+{
+    gaps.is_sorted_by(|gap, next| gap.end <= next.begin)
+}
+
+/// Refuses bits and gaps that are no recording of these bytes. Takes no memory.
+pub(crate) fn refuse_recording(bytes: &[u8], bits: u64, gaps: &[RdsGap]) -> Result<(), Refusal>
+    ensures lawful { OnOk result (IsRecording bytes.now bits gaps.now) }
+    ensures refused { IfErr result (RefusesRecording bytes.now bits gaps.now) }
+{
+    if bits > MOST_BITS {
+        return Err(Refusal::TooLong);
+    }
+    if bits.div_ceil(8) > bytes.len() as u64 {
+        return Err(Refusal::BitsPastBytes);
+    }
+    if !are_gaps(gaps, bits) {
+        return Err(Refusal::BadGaps);
+    }
+    Ok(())
 }
 
 /// A recording, and the rules that it is decoded by.

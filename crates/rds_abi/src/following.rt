@@ -11,7 +11,7 @@ ghost use Rattle.rds_abi.specs.Following.{AreClosed, AreCompleted, AreLast, AreL
 ghost use Rattle.rds_abi.specs.Layout.{item_in_c, totals_in_c};
 ghost use Rattle.rds_abi.specs.declared.refusal.Refusal.TheVariants.{BadGaps, BitsPastBytes, OutOfMemory, SmallRoom, TooLong};
 
-use crate::asked::{gaps_in, rules_of};
+use crate::asked::{MOST_BITS, gaps_in, rules_of};
 use crate::going::{state_in_c, state_of, write_end};
 use crate::in_c::{item_in_c, totals_in_c};
 use crate::layout::{RdsGap, RdsItem, RdsRules, RdsStream, RdsTotals};
@@ -24,9 +24,6 @@ use std::marker::Model;
 
 /// How many of the last bytes of a stream are known.
 const MOST_KEPT: u64 = 30;
-
-/// The most bits that a stream may have.
-const MOST_BITS: u64 = 1 << 36;
 
 /// Totals, from C.
 fn totals_from_c(totals: RdsTotals) -> Totals

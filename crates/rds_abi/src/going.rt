@@ -1,20 +1,24 @@
 //! A run that goes on from a state which the caller keeps.
 
-ghost use Rattle.std.specs.Prelude.{◌≡◌, ◌≢◌, ◌-◌, ◌<◌, ◌≤◌, ◌⊎◌, ℕ, IfErr, IfOk, IfSome, IsOkUnless, None, OnErr, OnOk, length, map};
+ghost use Rattle.std.specs.Prelude.{◌≡◌, ◌≢◌, ◌+◌, ◌-◌, ◌^◌, ◌<◌, ◌≤◌, ◌⊎◌, ℕ, All, IfErr, IfOk, IfSome, IsOkUnless, None, OnErr, OnOk, length, map};
 ghost use Rattle.rds_stream.specs.Recording.{length_of};
 ghost use Rattle.rds_sync.specs.Advance.{group_item};
 ghost use Rattle.rds_sync.specs.Lawful.{IsLawful as IsLawfulState};
 ghost use Rattle.rds_sync.specs.Rules.{RuleNumbers};
-ghost use Rattle.rds_sync.specs.Step.{run as the_run};
+ghost use Rattle.rds_sync.specs.Step.{items_of_end, run as the_run};
+ghost use Rattle.rds_live.specs.Moving.{IsPartHeard, moved_item, moved_items, moved_state};
+ghost use Rattle.rds_live.specs.Places.{place_of};
 ghost use Rattle.rds_abi.specs.Asked.{IsFilled, IsTooMuch, asked, recording_of as the_recording_of, rules_of as the_rules_of};
 ghost use Rattle.rds_abi.specs.declared.refusal.Refusal.TheVariants.{OutOfMemory, PlaceRange, SmallRoom, UnlawfulState};
-ghost use Rattle.rds_abi.specs.Going.{IsRun, RefusesRun, items_at_end, items_of_run, run_asked, state_in_c as the_state_in_c, state_of as the_state_of};
+ghost use Rattle.rds_abi.specs.Going.{IsRun, RefusesRun, items_at_end, items_of_run, run_asked, run_in_part, state_in_c as the_state_in_c, state_of as the_state_of};
 ghost use Rattle.rds_abi.specs.Layout.{item_in_c};
 
-use crate::asked::{Input, input_of};
+use crate::asked::{MOST_BITS, refuse_recording, rules_of};
 use crate::in_c::item_in_c;
 use crate::layout::{RdsGap, RdsItem, RdsRules, RdsState};
+use crate::part::{Part, moved_back, moved_on, part_of};
 use crate::refusal::Refusal;
+use rds_live::laws::{ends_move, runs_move};
 use rds_stream::Counted;
 use rds_sync::{Decoder, Group, Item, Lock, Rules, Spans, State, finish, laws, run_report};
 use std::alloc::Global;
@@ -91,14 +95,15 @@ fn state_at(rules: &Rules, bits: u64, range: (u64, u64), s: RdsState) -> Result<
     }
 }
 
-/// A recording and rules, and a state that is lawful at a place of it.
+/// Rules, the part of a recording that a run hears, and the state in the part that the run begins with.
 #[derive(Drop)]
 struct Start {
-    input: Input,
+    rules: Rules,
+    part: Part,
     state: State,
 }
 
-/// The recording, the rules and the state that a run over the places from `from` to before `to` begins with.
+/// What a run over the places of this range begins with.
 fn start_of(
     alloc: Global,
     bytes: &[u8],
@@ -108,16 +113,22 @@ fn start_of(
     range: (u64, u64),
     state: RdsState,
 ) -> Result<Start, Refusal>
-    ensures recording { IfOk result (λ start. start.input.recording ≡ the_recording_of bytes.now bits gaps.now) }
-    ensures len { IfOk result (λ start. length_of start.input.recording ≡ bits) }
-    ensures rules { IfOk result (λ start. start.input.rules ≡ the_rules_of rules) }
-    ensures state { IfOk result (λ start. start.state ≡ the_state_of state) }
+    ensures rules { IfOk result (λ start. start.rules ≡ the_rules_of rules) }
+    ensures begins { IfOk result (λ start. start.part.before ≤ range.0) }
+    ensures len { IfOk result (λ start. length_of start.part.recording ≡ range.1 - start.part.before) }
+    ensures heard { IfOk result (λ start. (place : ℕ) → range.0 - start.part.before ≤ place
+        → IsPartHeard (the_recording_of bytes.now bits gaps.now) start.part.recording start.part.before place) }
+    ensures state { IfOk result (λ start. moved_state start.part.before start.state ≡ the_state_of state) }
+    ensures begin { IfOk result (λ start. IsLawfulState start.rules (range.0 - start.part.before) start.state) }
     ensures lawful { IfOk result (λ _. IsRun (asked bytes.now bits gaps.now rules) range.0 range.1 state) }
     ensures refused { IfErr result (RefusesRun (asked bytes.now bits gaps.now rules) range.0 range.1 state) }
 {
-    let input = input_of(alloc, bytes, bits, gaps, rules)?;
-    let state = state_at(&input.rules, bits, range, state)?;
-    Ok(Start { input, state })
+    let rules = rules_of(alloc, rules)?;
+    refuse_recording(bytes, bits, gaps)?;
+    let whole = state_at(&rules, bits, range, state)?;
+    let part = part_of(alloc, bytes, bits, gaps, range.0, range.1)?;
+    let state = moved_back(whole, part.before);
+    Ok(Start { rules, part, state })
 }
 
 /// Runs over the places from `from` to before `to` of a recording, from a state that is lawful before `from`, and writes
@@ -125,7 +136,8 @@ fn start_of(
 /// Runs in a row, each from the state of the one before, are one run: so a list of any length needs room for few items.
 ///
 /// Refuses as [`totals`](crate::totals) does, then `PlaceRange` and `UnlawfulState`, and then `SmallRoom`, where `count`
-/// tells how many items there are, and nothing else was written. It takes memory for a copy of the bytes.
+/// tells how many items there are, and nothing else was written. It takes memory for the tables of the rules, and for the
+/// bytes and the gaps of the range and of the 233 bits before it.
 pub fn run(
     alloc: Global,
     bytes: &[u8],
@@ -151,79 +163,98 @@ pub fn run(
         ⊎ (RefusesRun (asked bytes.now bits gaps.now rules) range.0 range.1 state.old refusal × (count.new ≡ count.old))) }
 {
     let start = start_of(alloc, bytes, bits, gaps, rules, range, *state)?;
-    let (from, to) = range;
-    go_on(alloc, &start, from, to, state, room, count)
+    runs_move();
+    go_on(alloc, &start, range, state, room, count)
 }
 
-/// Runs over these places from a start, and writes what this gives.
+/// Runs over a range from a start, and writes what this gives.
 fn go_on(
     alloc: Global,
     start: &Start,
-    from: u64,
-    to: u64,
+    range: (u64, u64),
     state: &mut RdsState,
     room: &mut [RdsItem],
     count: &mut u64,
 ) -> Result<(), Refusal>
-    requires lawful { IsLawfulState start.now.input.rules from start.now.state }
-    requires order { from ≤ to }
-    requires within { to ≤ length_of start.now.input.recording }
-    ensures filled { OnOk result (IsFilled (map item_in_c (the_run start.now.input.recording start.now.input.rules start.now.state from (to - from)).1) room.old room.new) }
-    ensures count { OnOk result (count.new ≡ length (the_run start.now.input.recording start.now.input.rules start.now.state from (to - from)).1) }
-    ensures laid { OnOk result (state.new ≡ the_state_in_c (the_run start.now.input.recording start.now.input.rules start.now.state from (to - from)).0) }
-    ensures state { OnOk result (the_state_of state.new ≡ (the_run start.now.input.recording start.now.input.rules start.now.state from (to - from)).0) }
-    ensures next { OnOk result (IsLawfulState start.now.input.rules to (the_state_of state.new)) }
+    requires begins { start.now.part.before ≤ range.0 }
+    requires order { range.0 ≤ range.1 }
+    requires limit { range.1 ≤ 2 ^ 36 }
+    requires len { length_of start.now.part.recording ≡ range.1 - start.now.part.before }
+    requires begin { IsLawfulState start.now.rules (range.0 - start.now.part.before) start.now.state }
+    ensures filled { OnOk result (IsFilled (map item_in_c (run_in_part start.now.part.recording start.now.rules start.now.state start.now.part.before range.0 range.1).1) room.old room.new) }
+    ensures count { OnOk result (count.new ≡ length (run_in_part start.now.part.recording start.now.rules start.now.state start.now.part.before range.0 range.1).1) }
+    ensures laid { OnOk result (state.new ≡ the_state_in_c (run_in_part start.now.part.recording start.now.rules start.now.state start.now.part.before range.0 range.1).0) }
+    ensures state { OnOk result (the_state_of state.new ≡ (run_in_part start.now.part.recording start.now.rules start.now.state start.now.part.before range.0 range.1).0) }
+    ensures next { OnOk result (IsLawfulState start.now.rules range.1 (the_state_of state.new)) }
     ensures untouched { OnErr result ((room.new ≡ room.old) × (state.new ≡ state.old)) }
     ensures refused { IfErr result (λ refusal.
-        IsTooMuch (map item_in_c (the_run start.now.input.recording start.now.input.rules start.now.state from (to - from)).1) (length room.old) refusal count.new
+        IsTooMuch (map item_in_c (run_in_part start.now.part.recording start.now.rules start.now.state start.now.part.before range.0 range.1).1) (length room.old) refusal count.new
         ⊎ ((refusal ≡ OutOfMemory) × (count.new ≡ count.old))) }
 {
+    let before = start.part.before;
+    let from = range.0 - before;
+    let to = range.1 - before;
     let (end, number) = counted(alloc, start, from, to)?;
     *count = number as u64;
     if room.len() < number {
         return Err(Refusal::SmallRoom);
     }
-    let items = Decoder::new(
-        &start.input.recording,
-        &start.input.rules,
-        start.state,
-        from,
-        to,
-    );
-    fill_run(room, items);
-    *state = state_in_c(end);
+    let items = Decoder::new(&start.part.recording, &start.rules, start.state, from, to);
+    fill_run(room, items, before);
+    *state = state_in_c(moved_on(end, before));
     Ok(())
 }
 
-/// The state at the end of a run, and how many items it gives.
+/// The state at the end of a run over places of the part, and how many items it gives.
 fn counted(alloc: Global, start: &Start, from: u64, to: u64) -> Result<(State, usize), Refusal>
-    requires lawful { IsLawfulState start.now.input.rules from start.now.state }
+    requires lawful { IsLawfulState start.now.rules from start.now.state }
     requires order { from ≤ to }
-    requires within { to ≤ length_of start.now.input.recording }
-    ensures state { IfOk result (λ end. end.0 ≡ (the_run start.now.input.recording start.now.input.rules start.now.state from (to - from)).0) }
-    ensures count { IfOk result (λ end. end.1 ≡ length (the_run start.now.input.recording start.now.input.rules start.now.state from (to - from)).1) }
-    ensures lawful { IfOk result (λ end. IsLawfulState start.now.input.rules to end.0) }
+    requires within { to ≤ length_of start.now.part.recording }
+    ensures state { IfOk result (λ end. end.0 ≡ (the_run start.now.part.recording start.now.rules start.now.state from (to - from)).0) }
+    ensures count { IfOk result (λ end. end.1 ≡ length (the_run start.now.part.recording start.now.rules start.now.state from (to - from)).1) }
+    ensures lawful { IfOk result (λ end. IsLawfulState start.now.rules to end.0) }
     ensures refused { IsOkUnless result OutOfMemory }
 {
-    let input = &start.input;
+    let recording = &start.part.recording;
     laws::runs_give_few_items();
-    prove!(to <= input.recording.len());
-    let Input { recording, rules } = input;
-    match run_report(alloc, recording, rules, start.state, from, to, Spans::Whole) {
+    prove!(to <= recording.len());
+    match run_report(
+        alloc,
+        recording,
+        &start.rules,
+        start.state,
+        from,
+        to,
+        Spans::Whole,
+    ) {
         Ok((end, report)) => Ok((end, report.items.len())),
         Err(_) => Err(Refusal::OutOfMemory),
     }
 }
 
-/// Writes the items of a run to the beginning of the room.
-fn fill_run(room: &mut [RdsItem], items: Decoder<'_>)
-    requires { length items.items ≤ length room.old }
-    ensures { IsFilled (map item_in_c items.entry.items) room.old room.new }
+/// Writes the items of a run, so many places further, to the beginning of the room.
+fn fill_run(room: &mut [RdsItem], items: Decoder<'_>, by: u64)
+    requires fits { length items.items ≤ length room.old }
+    requires early { All (λ item. place_of item < 2 ^ 36) items.items }
+    requires limit { by ≤ 2 ^ 36 }
+    ensures { IsFilled (map item_in_c (moved_items by items.entry.items)) room.old room.new }
 {
     let mut at = 0;
     for item in items {
-        room[at] = item_in_c(item);
+        room[at] = moved_in_c(item, by);
         at += 1;
+    }
+}
+
+/// An item, so many places further, for C.
+fn moved_in_c(item: Item, by: u64) -> RdsItem
+    requires { place_of item + by < 2 ^ 64 }
+    ensures { result ≡ item_in_c (moved_item by item) }
+{
+    let found = item_in_c(item);
+    RdsItem {
+        place: found.place + by,
+        ..found
     }
 }
 
@@ -272,7 +303,24 @@ pub fn finish_run(
         ⊎ (RefusesRun (asked bytes.now bits gaps.now rules) bits bits state refusal × (count.new ≡ count.old))) }
 {
     let start = start_of(alloc, bytes, bits, gaps, rules, (bits, bits), state)?;
-    let tape = &mut Counted::new(&start.input.recording);
-    let group = finish(tape, &start.input.rules, start.state);
+    ends_move();
+    let group = end_of(&start);
     write_end(room, group, count)
+}
+
+/// The group in progress at the end of a recording, of which the start's part is the last.
+fn end_of(start: &Start) -> Option<Group>
+    requires begin { IsLawfulState start.now.rules (length_of start.now.part.recording) start.now.state }
+    requires limit { start.now.part.before ≤ 2 ^ 36 }
+    ensures { group_item result ≡ moved_items start.now.part.before (items_of_end start.now.part.recording start.now.rules start.now.state) }
+{
+    let tape = &mut Counted::new(&start.part.recording);
+    prove!(start.part.recording.len() <= MOST_BITS);
+    match finish(tape, &start.rules, start.state) {
+        Some(group) => Some(Group {
+            place: group.place + start.part.before,
+            ..group
+        }),
+        None => None,
+    }
 }

@@ -25,6 +25,7 @@ mod layout; // What crosses to C, as it lies there.
 mod in_c; // What is found, laid out so.
 mod asked; // What a caller asks for.
 mod whole; // A recording that is handed over whole.
+mod part; // The part of a recording that a run hears.
 mod going; // A run from range to range.
 mod following; // A stream chunk by chunk.
 mod blocks; // Blocks alone.

@@ -1,7 +1,18 @@
-use Rattle.std.proofs.Common.{ap, ◌∙◌}
+use Rattle.std.proofs.Common.{◌*◌, ◌≤◌, ap, ap₂, arith, length, refl, take, List, ℕ, ◌∙◌}
 use Rattle.std.proofs.lemmas.List.FromFn.{length-map-range_with_len}
-use Rattle.rds_stream.specs.Recording.{length_of, packed_bit}
+use Rattle.rds_stream.specs.Recording.{bits_of, length_of, packed_bit}
+use Rattle.rds_abi.proofs.PartRuns.{bits-of-first}
 use Rattle.rds_abi.proofs.asked.recording_of.Goals as goal
+
+pub returns-in-Ok-clause-held : goal.returns-in-Ok-clause-held
+returns-in-Ok-clause-held c =
+    let bits = c.args.bits in
+    let first : List ℕ = take c.held_bytes.result c.args.bytes.now in
+    let copied = c.in_ok-copy.ensures.items in
+    let held : bits ≤ 8 * length first = omega (arith, (c.in-Ok.ensures.taken.0 refl).1, c.in_ok-copy.copy.ok.0, ap (λ (bytes : List ℕ). length bytes) copied) in
+    c.in-Ok.ensures.held
+    ∙ ap₂ (λ (all : List ℕ) (gaps : List (ℕ × ℕ)). record { bits = all; gaps = gaps })
+    (ap (λ (bytes : List ℕ). bits_of bytes bits) copied ∙ bits-of-first c.args.bytes.now c.held_bytes.result bits held) c.in_ok-places.ensures
 
 pub returns-in-Ok-clause-len : goal.returns-in-Ok-clause-len
 returns-in-Ok-clause-len c =

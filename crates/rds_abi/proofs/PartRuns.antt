@@ -1,0 +1,90 @@
+-- A run over a part of a recording is the run over the whole there.
+use Rattle.std.proofs.Common.{◌≡◌, ℕ, ◌+◌, ◌-◌, ◌*◌, ◌≤◌, ◌⊎◌, ◌∙◌, List, ap, ap₂, arith, drop, length, subst, sym, take}
+use Rattle.std.specs.List.{slice_range}
+use Rattle.std.proofs.lemmas.List.{get_or-drop, get_or-take, length-drop, length-take, take-append-drop}
+use Rattle.rds_stream.specs.Recording.{AreGaps, Signal, bits_of, length_of}
+use Rattle.rds_sync.specs.declared.state.State.{State}
+use Rattle.rds_sync.specs.declared.state.State.TheVariants.{Locked, Searching}
+use Rattle.rds_sync.specs.Lawful.{IsLawful}
+use Rattle.rds_sync.specs.Ranges.{IsInRange}
+use Rattle.rds_sync.specs.Rules.{RuleNumbers}
+use Rattle.rds_sync.specs.Step.{items_of_end, run}
+use Rattle.rds_live.specs.Gaps.{gaps_within}
+use Rattle.rds_live.specs.Live.{signal_at}
+use Rattle.rds_live.specs.Moving.{EndsMove, IsPartHeard, RunsMove, moved_items, moved_state, most_behind}
+use Rattle.rds_live.specs.Places.{is_due_from}
+use Rattle.rds_live.proofs.GapParts.{part-touched}
+use Rattle.rds_live.proofs.Parts.{IsPartOf, bits-begin, bits-heard}
+use Rattle.rds_abi.specs.Asked.{asked, recording_of, rules_of}
+use Rattle.rds_abi.specs.Going.{IsRun, run_asked, run_in_part, state_of}
+use Rattle.rds_abi.specs.declared.layout.RdsGap.{RdsGap}
+use Rattle.rds_abi.specs.declared.layout.RdsRules.{RdsRules}
+use Rattle.rds_abi.specs.declared.layout.RdsState.{RdsState}
+
+-- the first bits of bytes are those of as many bytes as hold them
+pub bits-of-first : (bytes : List ℕ) (k bits : ℕ) → bits ≤ 8 * length (take k bytes) → bits_of (take k bytes) bits ≡ bits_of bytes bits
+bits-of-first bytes k bits held =
+    bits-begin (take k bytes) (drop k bytes) bits held ∙ ap (λ (all : List ℕ). bits_of all bits) (take-append-drop k bytes)
+
+-- bytes from number k on stand in all
+pub slice-part : (bytes : List ℕ) (k z : ℕ) → k ≤ z → z ≤ length bytes → IsPartOf bytes (slice_range bytes k z) k
+slice-part bytes k z order within = record {
+  within = omega (arith, order, within, length-take (z - k) (drop k bytes), length-drop k bytes);
+  same = λ j h. get_or-take (z - k) (drop k bytes) j 0 (omega (arith, h, length-take (z - k) (drop k bytes))) ∙ get_or-drop k bytes j 0;
+}
+
+-- a part that begins with byte k is heard in the whole
+pub slice-heard : (bytes : List ℕ) (bits : ℕ) (gaps : List (ℕ × ℕ)) (k z len place : ℕ) (part : Signal) → AreGaps bits gaps → k ≤ z → z ≤ length bytes
+    → len ≤ 8 * (z - k) → len + 8 * k ≤ bits → part ≡ signal_at (gaps_within gaps (8 * k) len) (slice_range bytes k z) len → (8 * k ≡ 0) ⊎ (most_behind ≤ place)
+    → IsPartHeard (signal_at gaps bytes bits) part (8 * k) place
+slice-heard bytes bits gaps k z len place part are order within held inside is early =
+    let long : length (slice_range bytes k z) ≡ z - k = omega (arith, order, within, length-take (z - k) (drop k bytes), length-drop k bytes) in
+    subst (λ (b : Signal). IsPartHeard (signal_at gaps bytes bits) b (8 * k) place) (sym is)
+    (bits-heard bytes (slice_range bytes k z) k (slice-part bytes k z order within) len bits (omega (arith, held, long)) inside
+    gaps (gaps_within gaps (8 * k) len) (part-touched bits (8 * k) len gaps are) place early)
+
+module _ (moves : RunsMove) (whole part : Signal) (rules : RuleNumbers) (before from to : ℕ) (s state : State)
+    (range : IsInRange rules) (begins : before ≤ from) (order : from ≤ to) (long : length_of part ≡ to - before)
+    (is : moved_state before s ≡ state) (lawful : IsLawful rules (from - before) s) (heard : IsPartHeard whole part before (from - before)) where
+  -- the run over places of the part
+  pub run-in-part : run_in_part part rules s before from to ≡ run whole rules state from (to - from)
+  run-in-part =
+      let there : from - before + before ≡ from = omega (arith, begins) in
+      let many : to - before - (from - before) ≡ to - from = omega (arith, begins, order) in
+      sym (moves whole part rules before s (from - before) (to - before - (from - before)) range.some_loss range.reach lawful heard (omega (arith, begins, order, long)))
+      ∙ ap₂ (λ (t : State) (p : ℕ). run whole rules t p (to - before - (from - before))) is there
+      ∙ ap (λ (n : ℕ). run whole rules state from n) many
+
+-- a block that is waited for at a place is due no earlier
+pub due-from : (rules : RuleNumbers) (d place : ℕ) (s : State) → IsLawful rules place s → d ≤ place → is_due_from d s
+due-from rules d place Searching lawful order = tt
+due-from rules d place (Locked lock) lawful order = omega (arith, lawful.soon, order)
+
+-- the group in progress at the end of the whole
+pub end-in-part : EndsMove → (whole part : Signal) (rules : RuleNumbers) (before : ℕ) (s state : State) → moved_state before s ≡ state
+    → IsLawful rules (length_of part) s → IsPartHeard whole part before (length_of part) → moved_items before (items_of_end part rules s) ≡ items_of_end whole rules state
+end-in-part ends whole part rules before s state is lawful heard =
+    sym (ends whole part rules before s lawful heard) ∙ ap (λ (t : State). items_of_end whole rules t) is
+
+-- what is asked for, by the part that a run over it hears
+module _ (bytes : List ℕ) (bits : ℕ) (gaps : List RdsGap) (rules : RdsRules) (from to : ℕ) (s : RdsState) (part : Signal) (numbers : RuleNumbers) (before : ℕ) (here : State)
+    (rules_are : numbers ≡ rules_of rules) (begins : before ≤ from) (long : length_of part ≡ to - before) (is : moved_state before here ≡ state_of s)
+    (lawful : IsLawful numbers (from - before) here) (heard : IsPartHeard (recording_of bytes bits gaps) part before (from - before))
+    (asked_is : IsRun (asked bytes bits gaps rules) from to s) where
+  lawful-here : IsLawful (rules_of rules) (from - before) here
+  lawful-here = subst (λ (r : RuleNumbers). IsLawful r (from - before) here) rules_are lawful
+
+  -- the run
+  pub run-asked : RunsMove → run_in_part part numbers here before from to ≡ run_asked (asked bytes bits gaps rules) from to s
+  run-asked moves =
+      ap (λ (r : RuleNumbers). run_in_part part r here before from to) rules_are
+      ∙ run-in-part moves (recording_of bytes bits gaps) part (rules_of rules) before from to here (state_of s) asked_is.asked.rules begins asked_is.order long is lawful-here heard
+
+  -- and the group in progress at the end, where that is the recording's
+  pub end-asked : EndsMove → from ≡ to → moved_items before (items_of_end part numbers here) ≡ items_of_end (recording_of bytes bits gaps) (rules_of rules) (state_of s)
+  end-asked ends last =
+      let end : from - before ≡ length_of part = omega (arith, long, last) in
+      ap (λ (r : RuleNumbers). moved_items before (items_of_end part r here)) rules_are
+      ∙ end-in-part ends (recording_of bytes bits gaps) part (rules_of rules) before here (state_of s) is
+      (subst (λ (n : ℕ). IsLawful (rules_of rules) n here) end lawful-here)
+      (subst (λ (n : ℕ). IsPartHeard (recording_of bytes bits gaps) part before n) end heard)

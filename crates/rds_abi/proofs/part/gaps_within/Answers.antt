@@ -1,0 +1,15 @@
+use Rattle.std.proofs.Common.{rules, tests, ◌∙◌}
+use Rattle.std.proofs.lemmas.Iterator.{YieldsList-from_slice, items_from_collect}
+use Rattle.std.proofs.lemmas.Iterator.Consumers.{YieldsList-from_filter_map}
+use Rattle.std.proofs.lemmas.Result.{IfOk-weaker}
+use Rattle.rds_live.specs.Gaps.{part_of_gap}
+use Rattle.rds_abi.specs.Asked.{gap_of}
+use Rattle.rds_abi.specs.declared.layout.RdsGap.{RdsGap}
+use Rattle.rds_abi.proofs.GapLists.{parts-of-gaps}
+use Rattle.rds_abi.proofs.part.gaps_within.Goals as goal
+
+pub returns : goal.returns
+returns c =
+    IfOk-weaker c.collect.result _ _ (λ near is. is ∙ parts-of-gaps c.args.before c.args.len c.args.gaps.now)
+    (items_from_collect _ c.collect.ensures.ran
+    (YieldsList-from_filter_map _ (λ (gap : RdsGap). part_of_gap c.args.before c.args.len (gap_of gap)) (YieldsList-from_slice c.args.gaps.now cc) c.filter_map.ensures.closure (λ x r q k. search (rules, tests))))
