@@ -1,12 +1,13 @@
 -- From devices with no history to those that a run leaves.
-use Rattle.std.proofs.Common.{◌++◌, ◌*◌, ◌≤◌, ◌≡◌, ◌≢◌, ◌⊎◌, ◌∙◌, [], ℕ, ap, arith, Bool, Err, false, inl, inr, List, None, Ok, Option, refl, Result, Some, subst, sym, true}
-use Rattle.std.specs.Prelude.{IfErr, OnOk}
+use Rattle.std.proofs.Common.{◌++◌, ◌*◌, ◌<◌, ◌≤◌, ◌≡◌, ◌≢◌, ◌⊎◌, ◌∙◌, [], ℕ, ap, arith, Bool, Err, false, inl, inr, length, List, None, Ok, Option, refl, Result, Some, subst, sym, true}
+use Rattle.std.specs.Prelude.{◌↔◌, IfErr, IsErrOf, OnOk}
 use Rattle.rds_live.specs.Live.{Terms}
 use Rattle.rds_rows.specs.declared.sink.Sink.{Ghosts as Sink}
+use Rattle.rds_sync.specs.Rules.{RuleNumbers}
 use Rattle.rds_sync.specs.declared.error.SyncError.{SyncError}
 use Rattle.rds_sync.specs.declared.error.SyncError.TheVariants as sync
 use Rattle.rds_tool.specs.Refusals.{of_sync}
-use Rattle.rds_tool.specs.Following.{AllCount, BreaksOff, IsHeardOut, listed}
+use Rattle.rds_tool.specs.Following.{AllCount, BreaksOff, IsHeardOut, MayBreakOff, listed}
 use Rattle.rds_tool.specs.History.{Gave}
 use Rattle.rds_tool.specs.Outcome.{IsOutside, Writes, WritesPrefix, outcome}
 use Rattle.rds_tool.specs.Tasks.{task_of}
@@ -15,7 +16,7 @@ use Rattle.rds_tool.specs.declared.devices.Source.{Ghosts as Source}
 use Rattle.rds_tool.specs.declared.error.ToolError.{ToolError}
 use Rattle.rds_tool.specs.declared.error.ToolError.TheVariants.{BadGaps, BitsPastBytes, BurstRange, LossRange, OutOfMemory, ReachRange, Read, ShareRange, TooLong, Write}
 use Rattle.rds_tool.specs.declared.job.Job.{Job}
-use Rattle.rds.specs.Session.{IsDone, IsFollowed}
+use Rattle.rds.specs.Session.{IsDone, IsFollowed, RefusesRules}
 
 -- what was given is all that was given since the reader was made
 gave_all : (given' : List ℕ) (P : List ℕ → Type 0) → Gave [] given' P → P given'
@@ -52,9 +53,11 @@ module _ {R W : Type 0} (source : Source R) (sink : Sink W) (job : Job) (reader 
   untouched_of (Err e) taken none took h = λ other. untouched_is taken none took (h other)
 
   -- a transcription between devices that were just made
-  job_done_at : IsTranscribed source sink job reader reader' writer writer' answer → source.given reader ≡ [] → sink.contents writer ≡ Some []
-      → (given' taken : List ℕ) → source.given reader' ≡ given' → sink.contents writer' ≡ Some taken → IsDone given' (source.has_ended reader') taken (sink.is_flushed writer') answer job
-  job_done_at t fresh none given' taken gave took =
+  job_done_at : IsTranscribed source sink job reader reader' writer writer' answer
+      → source.given reader ≡ [] → source.failed reader ≡ 0 → sink.contents writer ≡ Some [] → sink.failed writer ≡ 0
+      → (given' taken : List ℕ) → source.given reader' ≡ given' → sink.contents writer' ≡ Some taken
+      → IsDone given' (source.has_ended reader') (source.failed reader') taken (sink.is_flushed writer') (sink.failed writer') answer job
+  job_done_at t fresh unfailed none sound given' taken gave took =
       let heard : OnOk answer (Gave [] given' (λ bytes. Writes (Some []) (Some taken) (outcome job bytes))) =
       subst (λ o. OnOk answer (Gave [] given' (λ bytes. Writes o (Some taken) (outcome job bytes)))) none
       (subst (λ n. OnOk answer (Gave [] given' (λ bytes. Writes (sink.contents writer) n (outcome job bytes)))) took
@@ -67,6 +70,15 @@ module _ {R W : Type 0} (source : Source R) (sink : Sink W) (job : Job) (reader 
         text = wrote_all answer job given' taken heard;
         end = t.ended;
         flush = t.flushed;
+        devices = record {
+          read = subst (λ n. IsErrOf answer Read ↔ (n < source.failed reader')) unfailed t.read;
+          write = subst (λ n. IsErrOf answer Write ↔ (n < sink.failed writer')) sound t.write;
+        };
+        turns = λ p.
+            gave_all given' (λ bytes. 16777216 ≤ length bytes)
+            (subst (λ g. Gave [] g (λ bytes. 16777216 ≤ length bytes)) gave
+            (subst (λ g. Gave g (source.given reader') (λ bytes. 16777216 ≤ length bytes)) fresh (t.turned p)));
+        no_worker = t.no_worker;
         refused = refused_by answer job given' (source.has_ended reader') kinds;
         untouched = untouched_of answer taken none took t.untouched;
         prefix = λ p.
@@ -79,16 +91,21 @@ module _ {R W : Type 0} (source : Source R) (sink : Sink W) (job : Job) (reader 
       }
 
   -- and left as these
-  pub job_done : IsTranscribed source sink job reader reader' writer writer' answer → source.given reader ≡ [] → sink.contents writer ≡ Some []
-      → (given' : List ℕ) (ended : Bool) (taken : List ℕ) (flushed : Bool)
-      → source.given reader' ≡ given' → source.has_ended reader' ≡ ended → sink.contents writer' ≡ Some taken → sink.is_flushed writer' ≡ flushed
-      → IsDone given' ended taken flushed answer job
-  job_done t fresh none given' ended taken flushed gave done took flush =
-      subst (λ x. IsDone given' x taken flushed answer job) done
-      (subst (λ x. IsDone given' (source.has_ended reader') taken x answer job) flush (job_done_at t fresh none given' taken gave took))
+  pub job_done : IsTranscribed source sink job reader reader' writer writer' answer
+      → source.given reader ≡ [] → source.failed reader ≡ 0 → sink.contents writer ≡ Some [] → sink.failed writer ≡ 0
+      → (given' : List ℕ) (ended : Bool) (reads : ℕ) (taken : List ℕ) (flushed : Bool) (writes : ℕ)
+      → source.given reader' ≡ given' → source.has_ended reader' ≡ ended → source.failed reader' ≡ reads
+      → sink.contents writer' ≡ Some taken → sink.is_flushed writer' ≡ flushed → sink.failed writer' ≡ writes
+      → IsDone given' ended reads taken flushed writes answer job
+  job_done t fresh unfailed none sound given' ended reads taken flushed writes gave done read took flush wrote =
+      subst (λ x. IsDone given' x reads taken flushed writes answer job) done
+      (subst (λ x. IsDone given' (source.has_ended reader') x taken flushed writes answer job) read
+      (subst (λ x. IsDone given' (source.has_ended reader') (source.failed reader') taken x writes answer job) flush
+      (subst (λ x. IsDone given' (source.has_ended reader') (source.failed reader') taken (sink.is_flushed writer') x answer job) wrote
+      (job_done_at t fresh unfailed none sound given' taken gave took))))
 
 -- a stream that was followed between devices that were just made
-module _ (terms : Terms) (bits : Option ℕ) (given' taken : List ℕ) (ended flushed : Bool) where
+module _ (terms : Terms) (bits : Option ℕ) (given' : List ℕ) (ended : Bool) (reads : ℕ) (taken : List ℕ) (flushed : Bool) (writes : ℕ) where
   followed_text : (answer : Result (Unit {0}) ToolError)
       → OnOk answer (Gave [] given' (λ bytes. IsHeardOut bits ended bytes × Writes (Some []) (Some taken) (listed terms bits bytes)))
       → OnOk answer (listed terms bits given' ≡ Ok taken)
@@ -101,11 +118,18 @@ module _ (terms : Terms) (bits : Option ℕ) (given' taken : List ℕ) (ended fl
   followed_end (Ok x) h = (gave_all given' (λ bytes. IsHeardOut bits ended bytes × Writes (Some []) (Some taken) (listed terms bits bytes)) h).0
   followed_end (Err e) h = tt
 
-  pub stream_followed : (given : List ℕ) (old : Option (List ℕ)) (answer : Result (Unit {0}) ToolError) → given ≡ [] → old ≡ Some []
+  -- why it broke off is no matter of the rules
+  broke_for : (answer : Result (Unit {0}) ToolError) → IfErr answer MayBreakOff → IfErr answer (λ error. MayBreakOff error ⊎ RefusesRules terms.rules error)
+  broke_for (Ok x) h = tt
+  broke_for (Err e) h = inl h
+
+  pub stream_followed : (given : List ℕ) (read' : ℕ) (old : Option (List ℕ)) (written' : ℕ) (answer : Result (Unit {0}) ToolError)
+      → given ≡ [] → read' ≡ 0 → old ≡ Some [] → written' ≡ 0
       → OnOk answer (Gave given given' (λ bytes. IsHeardOut bits ended bytes × Writes old (Some taken) (listed terms bits bytes)))
-      → OnOk answer (flushed ≡ true) → IfErr answer (BreaksOff terms bits given given' ended old (Some taken) flushed)
-      → IsFollowed given' ended taken flushed answer terms bits
-  stream_followed given old answer fresh none heard flush broke =
+      → OnOk answer (flushed ≡ true) → IsErrOf answer Read ↔ (read' < reads) → IsErrOf answer Write ↔ (written' < writes)
+      → IfErr answer MayBreakOff → IfErr answer (BreaksOff terms bits given given' ended old (Some taken) flushed)
+      → IsFollowed given' ended reads taken flushed writes answer terms bits
+  stream_followed given read' old written' answer fresh unfailed none sound heard flush read write refused broke =
       let all : OnOk answer (Gave [] given' (λ bytes. IsHeardOut bits ended bytes × Writes (Some []) (Some taken) (listed terms bits bytes))) =
       subst (λ o. OnOk answer (Gave [] given' (λ bytes. IsHeardOut bits ended bytes × Writes o (Some taken) (listed terms bits bytes)))) none
       (subst (λ g. OnOk answer (Gave g given' (λ bytes. IsHeardOut bits ended bytes × Writes old (Some taken) (listed terms bits bytes)))) fresh heard) in
@@ -113,6 +137,11 @@ module _ (terms : Terms) (bits : Option ℕ) (given' taken : List ℕ) (ended fl
         text = followed_text answer all;
         end = followed_end answer all;
         flush = flush;
+        devices = record {
+          read = subst (λ n. IsErrOf answer Read ↔ (n < reads)) unfailed read;
+          write = subst (λ n. IsErrOf answer Write ↔ (n < writes)) sound write;
+        };
+        refused = broke_for answer refused;
         broke_off = subst (λ o. IfErr answer (BreaksOff terms bits [] given' ended o (Some taken) flushed)) none
             (subst (λ g. IfErr answer (BreaksOff terms bits g given' ended old (Some taken) flushed)) fresh broke);
       }
@@ -137,13 +166,32 @@ is_of_rules sync.LossRange k is among = none_of LossRange k (sym is) among (λ p
 is_of_rules sync.OutOfMemory k is among = none_of OutOfMemory k (sym is) among (λ p. cc p) (λ p. cc p) (λ p. cc p) (λ p. cc p) (λ p. cc p)
 is_of_rules sync.ShareRange k is among = none_of ShareRange k (sym is) among (λ p. cc p) (λ p. cc p) (λ p. cc p) (λ p. cc p) (λ p. cc p)
 
-pub stream_refused : (terms : Terms) (bits : Option ℕ) (x : SyncError) → IsFollowed [] false [] false (Err (of_sync x)) terms bits
-stream_refused terms bits x =
+-- the numbers that are refused by this error, or memory
+abbrev pub IsRefusal : RuleNumbers → SyncError → Type 0
+IsRefusal rules x = (x ≡ sync.OutOfMemory) ⊎ (let e : ToolError = of_sync x in RefusesRules rules e)
+
+no_break : (rules : RuleNumbers) (x : SyncError) → IsRefusal rules x → let e : ToolError = of_sync x in MayBreakOff e ⊎ RefusesRules rules e
+no_break rules x (inl memory) = inl (inl (ap of_sync memory))
+no_break rules x (inr refused) = inr refused
+
+same_error : (d e : ToolError) → (let r : Result (Unit {0}) ToolError = Err d in r ≡ Err e) → d ≡ e
+same_error d e p = cc p
+
+none_less : (let n : ℕ = 0 in n < 0) → ⊥
+none_less some = omega (arith, some)
+
+pub stream_refused : (terms : Terms) (bits : Option ℕ) (x : SyncError) → IsRefusal terms.rules x → IsFollowed [] false 0 [] false 0 (Err (of_sync x)) terms bits
+stream_refused terms bits x why =
     let not : (k : ToolError) → ((k ≡ Read) ⊎ ((k ≡ Write) ⊎ ((k ≡ TooLong) ⊎ ((k ≡ BitsPastBytes) ⊎ (k ≡ BadGaps))))) → (let r : ToolError = of_sync x in r ≡ k) → ⊥ = λ k among is. is_of_rules x k is among in
     record {
       text = tt;
       end = tt;
       flush = tt;
+      devices = record {
+        read = (λ p. absurd (not Read (inl refl) (same_error _ _ p)), λ some. absurd (none_less some));
+        write = (λ p. absurd (not Write (inr (inl refl)) (same_error _ _ p)), λ some. absurd (none_less some));
+      };
+      refused = no_break terms.rules x why;
       broke_off = record {
         bytes = [];
         gave = refl;
@@ -156,11 +204,31 @@ stream_refused terms bits x =
       };
     }
 
-pub stream_refused_by : (terms : Terms) (bits : Option ℕ) (x : SyncError) (given : List ℕ) (ended : Bool) (taken : List ℕ) (flushed : Bool) (answer : Result (Unit {0}) ToolError)
-    → answer ≡ Err (of_sync x) → given ≡ [] → ended ≡ false → taken ≡ [] → flushed ≡ false → IsFollowed given ended taken flushed answer terms bits
-stream_refused_by terms bits x given ended taken flushed answer a g e t f =
-    subst (λ y. IsFollowed y ended taken flushed answer terms bits) (sym g)
-    (subst (λ y. IsFollowed [] y taken flushed answer terms bits) (sym e)
-    (subst (λ y. IsFollowed [] false y flushed answer terms bits) (sym t)
-    (subst (λ y. IsFollowed [] false [] y answer terms bits) (sym f)
-    (subst (λ y. IsFollowed [] false [] false y terms bits) (sym a) (stream_refused terms bits x)))))
+-- `Rules::of` answers this error
+module _ (T : Type 0) (x : SyncError) where
+  abbrev pub IsRefused : SyncError → Type 0
+  IsRefused k = let r : Result T SyncError = Err x in IsErrOf r k
+
+rules_refused : (T : Type 0) (rules : RuleNumbers) (x : SyncError)
+    → (IsRefused T x sync.BurstRange → RefusesRules rules BurstRange) → (IsRefused T x sync.ReachRange → RefusesRules rules ReachRange)
+    → (IsRefused T x sync.LossRange → RefusesRules rules LossRange) → (IsRefused T x sync.ShareRange → RefusesRules rules ShareRange) → IsRefusal rules x
+rules_refused T rules sync.BurstRange burst reach loss share = inr (burst refl)
+rules_refused T rules sync.ReachRange burst reach loss share = inr (reach refl)
+rules_refused T rules sync.LossRange burst reach loss share = inr (loss refl)
+rules_refused T rules sync.OutOfMemory burst reach loss share = inl refl
+rules_refused T rules sync.ShareRange burst reach loss share = inr (share refl)
+
+pub stream_refused_by : (T : Type 0) (terms : Terms) (bits : Option ℕ) (x : SyncError)
+    → (IsRefused T x sync.BurstRange → RefusesRules terms.rules BurstRange) → (IsRefused T x sync.ReachRange → RefusesRules terms.rules ReachRange)
+    → (IsRefused T x sync.LossRange → RefusesRules terms.rules LossRange) → (IsRefused T x sync.ShareRange → RefusesRules terms.rules ShareRange)
+    → (given : List ℕ) (ended : Bool) (reads : ℕ) (taken : List ℕ) (flushed : Bool) (writes : ℕ) (answer : Result (Unit {0}) ToolError)
+    → answer ≡ Err (of_sync x) → given ≡ [] → ended ≡ false → reads ≡ 0 → taken ≡ [] → flushed ≡ false → writes ≡ 0
+    → IsFollowed given ended reads taken flushed writes answer terms bits
+stream_refused_by T terms bits x burst reach loss share given ended reads taken flushed writes answer a g e r t f w =
+    subst (λ y. IsFollowed y ended reads taken flushed writes answer terms bits) (sym g)
+    (subst (λ y. IsFollowed [] y reads taken flushed writes answer terms bits) (sym e)
+    (subst (λ y. IsFollowed [] false y taken flushed writes answer terms bits) (sym r)
+    (subst (λ y. IsFollowed [] false 0 y flushed writes answer terms bits) (sym t)
+    (subst (λ y. IsFollowed [] false 0 [] y writes answer terms bits) (sym f)
+    (subst (λ y. IsFollowed [] false 0 [] false y answer terms bits) (sym w)
+    (subst (λ y. IsFollowed [] false 0 [] false 0 y terms bits) (sym a) (stream_refused terms bits x (rules_refused T terms.rules x burst reach loss share))))))))

@@ -1,47 +1,73 @@
--- What the program does, by the histories of standard input and standard output: this project's rule. `do_as_asked` promises it,
--- and what it calls.
-use Rattle.std.specs.Prelude.{◌++◌, ◌≡◌, ◌≢◌, ◌⊎◌, [], ℕ, Bool, Err, IfErr, IsErrOf, List, None, Ok, OnOk, Option, Result, Some, true}
+-- The promise of the program, by the histories of standard input and standard output: this project's rule. `do_as_asked` and the
+-- functions that it calls cite it.
+use Rattle.std.specs.Prelude.{◌++◌, ◌<◌, ◌≡◌, ◌≢◌, ◌≤◌, ◌⊎◌, ◌↔◌, [], ℕ, Bool, Err, IfErr, IsErrOf, List, None, Ok, OnOk, Option, Result, Some, length, true}
 use Rattle.rds_live.specs.Live.{Terms}
-use Rattle.rds_tool.specs.Ends.{given_by, has_ended, is_flushed, taken_by}
-use Rattle.rds_tool.specs.Following.{BreaksOff, IsHeardOut, listed}
+use Rattle.rds_sync.specs.Ranges.{IsRunOutside, IsShareOutside, farthest_reach, longest_burst}
+use Rattle.rds_sync.specs.Rules.{RuleNumbers}
+use Rattle.rds_tool.specs.Ends.{given_by, has_ended, is_flushed, read_failures, taken_by, write_failures}
+use Rattle.rds_tool.specs.Following.{BreaksOff, IsHeardOut, MayBreakOff, listed}
 use Rattle.rds_tool.specs.Outcome.{IsOutside, outcome}
-use Rattle.rds_tool.specs.Tasks.{task_of}
+use Rattle.rds_tool.specs.Tasks.{AsksForThreads, task_of}
 use Rattle.rds_tool.specs.declared.error.ToolError.{ToolError}
-use Rattle.rds_tool.specs.declared.error.ToolError.TheVariants.{Write}
+use Rattle.rds_tool.specs.declared.error.ToolError.TheVariants.{BurstRange, LossRange, NoWorker, ReachRange, Read, ShareRange, TooManyTurns, Write}
 use Rattle.rds_tool.specs.declared.fault.CliFault.{CliFault}
+use Rattle.rds_tool.specs.declared.fault.FaultKind.{FaultKind}
+use Rattle.rds_tool.specs.declared.fault.FaultKind.TheVariants.{Help, Memory, Version, Words}
 use Rattle.rds_tool.specs.declared.job.Asked.{Asked}
 use Rattle.rds_tool.specs.declared.job.Asked.TheVariants.{Follow, Job as Work}
 use Rattle.rds_tool.specs.declared.job.Job.{Job}
 use Rattle.rds.specs.declared.session.Session.{Session}
 
--- the bytes that reads gave, whether the last read answered the end, the bytes that writes took, and whether the last call of
--- the writer was a flush that succeeded
-module _ (given : List ℕ) (ended : Bool) (taken : List ℕ) (flushed : Bool) (answer : Result (Unit {0}) ToolError) where
+-- rules are refused by this error: the number that it names is out of its range
+abbrev pub RefusesRules : RuleNumbers → ToolError → Type 0
+RefusesRules rules BurstRange = longest_burst < rules.burst
+RefusesRules rules ReachRange = (rules.reach < 1) ⊎ (farthest_reach < rules.reach)
+RefusesRules rules LossRange = IsRunOutside rules.loss
+RefusesRules rules ShareRange = IsShareOutside rules.loss
+RefusesRules rules other = ⊥
+
+-- an error of a device is answered exactly if the device failed
+pub record BlamesDevices (failed_reads failed_writes : ℕ) (answer : Result (Unit {0}) ToolError) : Type 0 where
+  pub read : IsErrOf answer Read ↔ (0 < failed_reads)
+  pub write : IsErrOf answer Write ↔ (0 < failed_writes)
+
+-- the bytes that reads gave, whether the last read answered the end, and how many reads failed; the bytes that writes took, whether
+-- the last call of the writer was a flush that succeeded, and how many of its calls failed
+module _ (given : List ℕ) (ended : Bool) (failed_reads : ℕ) (taken : List ℕ) (flushed : Bool) (failed_writes : ℕ)
+    (answer : Result (Unit {0}) ToolError) where
   -- a job was done: all that was read makes all that was written, or the refusal
   pub record IsDone (job : Job) : Type 0 where
     pub text : OnOk answer (outcome job given ≡ Ok taken)
     pub end : OnOk answer (ended ≡ true)
     pub flush : OnOk answer (flushed ≡ true)
+    pub devices : BlamesDevices failed_reads failed_writes answer
+    pub turns : IsErrOf answer TooManyTurns → 16777216 ≤ length given
+    pub no_worker : IsErrOf answer NoWorker → AsksForThreads job
     pub refused : IfErr answer (λ error. IsOutside error ⊎ ((outcome job given ≡ Err error) × ((task_of job ≡ Err error) ⊎ (ended ≡ true))))
     pub untouched : IfErr answer (λ error. error ≢ Write → taken ≡ [])
     pub prefix : IsErrOf answer Write → (rest : List ℕ) × (outcome job given ≡ Ok (taken ++ rest))
 
-  -- a stream was followed: all that was read makes all that was written, or it broke off
+  -- a stream was followed: all that was read makes all that was written, or it broke off, or its rules are refused
   pub record IsFollowed (terms : Terms) (bits : Option ℕ) : Type 0 where
     pub text : OnOk answer (listed terms bits given ≡ Ok taken)
     pub end : OnOk answer (IsHeardOut bits ended given)
     pub flush : OnOk answer (flushed ≡ true)
+    pub devices : BlamesDevices failed_reads failed_writes answer
+    pub refused : IfErr answer (λ error. MayBreakOff error ⊎ RefusesRules terms.rules error)
     pub broke_off : IfErr answer (BreaksOff terms bits [] given ended (Some []) (Some taken) flushed)
 
 -- the job was done by this session
 abbrev pub HasDone : Job → Session → Type 0
-HasDone job s = IsDone (given_by s.reader) (has_ended s.reader) (taken_by s.writer) (is_flushed s.writer) s.answer job
+HasDone job s =
+    IsDone (given_by s.reader) (has_ended s.reader) (read_failures s.reader) (taken_by s.writer) (is_flushed s.writer) (write_failures s.writer) s.answer job
 
 -- the stream was followed by it
 abbrev pub HasFollowed : Terms → Option ℕ → Session → Type 0
-HasFollowed terms bits s = IsFollowed (given_by s.reader) (has_ended s.reader) (taken_by s.writer) (is_flushed s.writer) s.answer terms bits
+HasFollowed terms bits s =
+    IsFollowed (given_by s.reader) (has_ended s.reader) (read_failures s.reader) (taken_by s.writer) (is_flushed s.writer) (write_failures s.writer) s.answer
+    terms bits
 
--- what is asked for was done
+-- the command line's request was done
 abbrev pub DoesAsked : Asked → Session → Type 0
 DoesAsked (Work job progress) s = HasDone job s
 DoesAsked (Follow input rules) s = HasFollowed (record { rules = rules; gaps = input.gaps }) input.bits s
@@ -51,9 +77,16 @@ abbrev pub status_of : Result (Unit {0}) ToolError → ℕ
 status_of (Ok done) = 0
 status_of (Err e) = 1
 
--- what is asked for was done, by a session whose answer the exit status is; or the words ask for nothing
+-- the exit status if the words ask for no job and no stream: help and the version may fail to be written
+abbrev pub EndsWith : FaultKind → ℕ → Type 0
+EndsWith Help status = (status ≡ 0) ⊎ (status ≡ 1)
+EndsWith Version status = (status ≡ 0) ⊎ (status ≡ 1)
+EndsWith Words status = status ≡ 2
+EndsWith Memory status = status ≡ 1
+
+-- the request was done, and the exit status is that of its answer; or there is no request, and the status says why
 abbrev pub Answers : Result Asked CliFault → Option Session → ℕ → Type 0
 Answers (Ok asked) None status = ⊥
 Answers (Ok asked) (Some s) status = DoesAsked asked s × (status ≡ status_of s.answer)
-Answers (Err fault) None status = Unit {0}
+Answers (Err fault) None status = EndsWith fault.kind status
 Answers (Err fault) (Some s) status = ⊥

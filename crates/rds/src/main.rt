@@ -7,10 +7,10 @@
 
 ghost use Rattle.std.specs.Prelude.{◌≡◌};
 ghost use Rattle.std.specs.Process.{exit_status};
-ghost use Rattle.rds.specs.Session.{Answers, status_of};
+ghost use Rattle.rds.specs.Session.{Answers, EndsWith, status_of};
 
 mod progress; // How far a job is.
-mod session; // What is asked for, from standard input to standard output.
+mod session; // Jobs and streams from standard input to standard output.
 
 use crate::session::{Session, do_asked};
 use rds_tool::{Asked, CliFault, FaultKind, ToolError, asked_of};
@@ -25,7 +25,7 @@ fn main(rt: HostRuntime) -> ExitCode {
     code
 }
 
-/// What the words asked for, the session in which that was done, and the exit status.
+/// The request, the session that did it, and the exit status.
 #[derive(Drop)]
 struct Ended {
     asked: Result<Asked, CliFault>,
@@ -33,7 +33,7 @@ struct Ended {
     code: ExitCode,
 }
 
-/// Does what the words ask for, and tells on standard error why it is refused.
+/// Does the request of the command line, and writes an error to standard error.
 fn do_as_asked<R: Threads + Wait + Sync>(rt: &HostRuntime, crew: &R) -> Ended
     ensures { Answers result.asked result.session (exit_status result.code) }
 {
@@ -58,7 +58,7 @@ fn do_as_asked<R: Threads + Wait + Sync>(rt: &HostRuntime, crew: &R) -> Ended
     }
 }
 
-/// What the command line asks for.
+/// The request of the command line.
 fn asked_for(rt: &HostRuntime) -> Result<Asked, CliFault> {
     match given_words(rt) {
         Ok(given) => asked_by(rt, given.as_slice()),
@@ -109,7 +109,9 @@ fn exit(rt: &HostRuntime, answer: &Result<(), ToolError>) -> ExitCode
     }
 }
 
-fn show(rt: &HostRuntime, fault: &CliFault) -> ExitCode {
+fn show(rt: &HostRuntime, fault: &CliFault) -> ExitCode
+    ensures { EndsWith fault.now.kind (exit_status result) }
+{
     let text = fault.text.as_str();
     match fault.kind {
         FaultKind::Help | FaultKind::Version => {

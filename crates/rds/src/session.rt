@@ -1,10 +1,10 @@
-//! What is asked for, from standard input to standard output.
+//! Jobs and streams from standard input to standard output.
 //!
-//! Nothing can name the bytes that the system will give or keep, so the two devices come back with their histories: the bytes
-//! that reads gave and that writes took.
+//! No contract can name the bytes that the system will give or keep. So both devices come back with their histories: the bytes
+//! that reads gave and the bytes that writes took.
 ghost use Rattle.std.specs.Prelude.{◌≡◌, [], Err, false};
 ghost use Rattle.rds.specs.Session.{DoesAsked, HasDone, HasFollowed};
-ghost use Rattle.rds_tool.specs.Ends.{given_by, has_ended, is_flushed, taken_by};
+ghost use Rattle.rds_tool.specs.Ends.{given_by, has_ended, is_flushed, read_failures, taken_by, write_failures};
 ghost use Rattle.rds_tool.specs.Refusals.{of_sync};
 
 use crate::progress::{Progress, Told};
@@ -113,8 +113,10 @@ fn refused(rt: &HostRuntime, error: SyncError) -> Session
     ensures answer { result.answer ≡ Err (of_sync error) }
     ensures given { given_by result.reader ≡ [] }
     ensures ended { has_ended result.reader ≡ false }
+    ensures reads { read_failures result.reader ≡ 0 }
     ensures taken { taken_by result.writer ≡ [] }
     ensures flushed { is_flushed result.writer ≡ false }
+    ensures writes { write_failures result.writer ≡ 0 }
 {
     Session {
         reader: FromRead::new(rt.stdin()),

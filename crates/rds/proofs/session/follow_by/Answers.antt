@@ -1,5 +1,5 @@
 use Rattle.std.proofs.Common.{◌≡◌, List, Option, Some, ap, subst, ℕ}
-use Rattle.rds_tool.specs.Ends.{given_by, has_ended, is_flushed, taken_by}
+use Rattle.rds_tool.specs.Ends.{given_by, has_ended, is_flushed, read_failures, taken_by, write_failures}
 use Rattle.rds_tool.specs.InputOf.{InputOf}
 use Rattle.rds.specs.Session.{IsFollowed}
 use Rattle.rds.proofs.Sessions.{stream_followed}
@@ -11,14 +11,17 @@ returns c =
     let answer = c.follow-answer.result in
     let given = given_by c.follow-answer.new.reader in
     let ended = has_ended c.follow-answer.new.reader in
+    let reads = read_failures c.follow-answer.new.reader in
     let taken = taken_by c.follow-answer.new.writer in
     let flushed = is_flushed c.follow-answer.new.writer in
+    let writes = write_failures c.follow-answer.new.writer in
     let its_bits = ap (λ (i : InputOf). i.bits) c.input.view_is in
     let its_gaps = ap (λ (i : InputOf). i.gaps) c.input.view_is in
     let lent = c.as_slice-gaps.ensures.value in
     let bits : c.input.inside.bits ≡ c.args.input.now.bits = cc in
     let gaps : c.as_slice-gaps.result.now ≡ c.args.input.now.gaps = cc in
-    subst (λ (b : Option ℕ). IsFollowed given ended taken flushed answer (record { rules = c.args.rules.now; gaps = c.args.input.now.gaps }) b) bits
-    (subst (λ (gs : List (ℕ × ℕ)). IsFollowed given ended taken flushed answer (record { rules = c.args.rules.now; gaps = gs }) c.input.inside.bits) gaps
-    (stream_followed (record { rules = c.args.rules.now; gaps = c.as_slice-gaps.result.now }) c.input.inside.bits given taken ended flushed _ _ answer
-    c.new-reader.ensures.given (ap (λ xs. Some xs) c.new-writer.ensures.taken) followed.heard followed.flushed followed.broke_off))
+    subst (λ (b : Option ℕ). IsFollowed given ended reads taken flushed writes answer (record { rules = c.args.rules.now; gaps = c.args.input.now.gaps }) b) bits
+    (subst (λ (gs : List (ℕ × ℕ)). IsFollowed given ended reads taken flushed writes answer (record { rules = c.args.rules.now; gaps = gs }) c.input.inside.bits) gaps
+    (stream_followed (record { rules = c.args.rules.now; gaps = c.as_slice-gaps.result.now }) c.input.inside.bits given ended reads taken flushed writes _ _ _ _ answer
+    c.new-reader.ensures.given c.new-reader.ensures.failures (ap (λ xs. Some xs) c.new-writer.ensures.taken) c.new-writer.ensures.failures
+    followed.heard followed.flushed followed.read followed.write followed.refused followed.broke_off))
