@@ -7,11 +7,12 @@ import hashlib
 import json
 import os
 import re
+import sqlite3
 from pathlib import Path
 from typing import Any, Dict, List
 
 import pytest
-from conftest import encode, monitor
+from conftest import encode, monitor, rds
 
 pytest.importorskip("jinja2")
 D3 = os.environ.get("RDS_D3", "/usr/share/javascript/d3/d3.min.js")
@@ -46,10 +47,11 @@ def data_of(text: str) -> List[Dict[str, Any]]:
 
 @needs_d3
 def test_counts_are_those_of_errors(station: bytes) -> None:
-    told = data_of(page(data=station))[0]["sessions"][0]
+    told = data_of(page(data=station))[0]
+    blocks = told["sessions"][0]["blocks"]
     rows = [it.split(",") for it in monitor("errors", "--every", "1", data=station).stdout.decode().splitlines()[1:]]
     for name, column in (("sent", 2), ("corrected", 4), ("lost", 5), ("missing", 6)):
-        assert list(base64.b64decode(told["blocks"][name])) == [int(it[column]) for it in rows]
+        assert list(base64.b64decode(blocks[name])) == [int(it[column]) for it in rows]
     assert told["totals"]["sent"] == sum(int(it[2]) for it in rows)
 
 
@@ -69,7 +71,7 @@ def test_scripts_and_style_are_those_of_the_policy() -> None:
 def test_texts_of_a_station_are_shown_as_text() -> None:
     text = page(data=station(text=EVIL))
     told = data_of(text)[0]["sessions"][0]
-    assert any(it[3].startswith("<script>alert") for it in told["events"])
+    assert any(it[2].startswith("<script>alert") for it in told["events"])
     rest = re.sub(r"<script>.*?</script>", "", text, flags=re.S)
     assert "<script>alert" not in text and "&lt;script&gt;alert(&#34;1&#34;)" in rest
 
@@ -89,8 +91,54 @@ def test_several_stations_the_worst_first(tmp_path: Path) -> None:
 @needs_d3
 def test_a_day_is_below_a_megabyte(tmp_path: Path) -> None:
     path = tmp_path / "day.bin"
-    path.write_bytes(station(rounds=2000) * 31)
-    assert len(page(path)) < 1_000_000
+    path.write_bytes(b"".join(station(text=f"hour {it}", rounds=20000) for it in range(24)))
+    text = page("--start", "2026-03-29T00:30:00Z", path)
+    told = data_of(text)[0]["sessions"][0]
+    assert 80000 < told["end"] < 86400 and len(told["mix"]) > 1300
+    assert 500_000 < len(text) < 1_000_000
+
+
+@needs_d3
+def test_a_tile_tells_the_last_minute_and_the_last_whole_group(tmp_path: Path) -> None:
+    (tmp_path / "it.bin").write_bytes(station(rounds=2000) + bytes(3000))
+    told = data_of(page(tmp_path / "it.bin"))[0]
+    assert abs(told["tile"]["silent"] - 3000 * 8 / 1187.5) < 0.2 and told["tile"]["alarm"] == "no whole group for 20 s"
+    assert abs(told["tile"]["minute"] - 100 * 20.2 / 60) < 2
+    line = told["tile"]["line"]
+    assert len(line) == 96 and line[:95] == [None] * 95 and abs(line[95] - told["bad_percent"]) < 0.01
+
+
+@needs_d3
+def test_sessions_of_a_stream_are_on_one_line_of_time() -> None:
+    listing = rds("list", data=station())
+    told = data_of(page("--trust-length", data=listing + listing))[0]
+    first, second = told["sessions"]
+    assert second["at"] == first["end"] and told["end"] == round(2 * first["end"], 3)
+    assert first["events"] == second["events"] and told["totals"]["sent"] == 2 * first["totals"]["sent"]
+
+
+@needs_d3
+def test_stations_of_a_database(tmp_path: Path, station: bytes) -> None:
+    """It tells the same of minutes as the recordings that were added."""
+    database, good, bad = tmp_path / "year.db", tmp_path / "good.bin", tmp_path / "bad.bin"
+    good.write_bytes(station)
+    bad.write_bytes(station[:10000] + bytes(2000) + station[12000:])
+    for name, path, start in (("Alpha", good, "00:30:00"), ("Alpha", bad, "01:30:00"), ("Beta <b>", bad, "02:30:00")):
+        words = ("--station", name, "--name", f"{name} {start}", "--start", f"2026-03-29T{start}Z", database, path)
+        assert monitor("db", *words).returncode == 0
+    told = {it["name"]: it for it in data_of(page(database))}
+    assert sorted(told) == ["Alpha", "Beta <b>"]
+    alpha, alone = told["Alpha"], data_of(page(good))[0]
+    assert [it["at"] for it in alpha["sessions"]] == [0, 3600] and alpha["sessions"][0]["totals"] == alone["totals"]
+    assert alpha["sessions"][0]["events"] == alone["sessions"][0]["events"] and alpha["held"]["PS"] == "PAXOLIDU"
+    assert alpha["sessions"][1]["outages"] == data_of(page(bad))[0]["sessions"][0]["outages"] != []
+
+
+def test_a_database_of_something_else(tmp_path: Path) -> None:
+    with sqlite3.connect(tmp_path / "other.db") as it:
+        it.execute("CREATE TABLE it(x)")
+    done = monitor("report", tmp_path / "other.db")
+    assert done.returncode == 1 and b"is no database of rds-monitor db" in done.stderr
 
 
 def test_without_d3(monkeypatch: pytest.MonkeyPatch) -> None:

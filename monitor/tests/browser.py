@@ -1,0 +1,39 @@
+"""A page in headless Chromium, for tests and for the pictures of the docs."""
+
+from __future__ import annotations
+
+import shutil
+from contextlib import contextmanager
+from importlib.util import find_spec
+from pathlib import Path
+from typing import Any, Iterator, List
+
+
+def missing() -> List[str]:
+    """What a browser needs and is not here."""
+    found = [it for it in ("chromium", "chromedriver") if not shutil.which(it)]
+    return found if find_spec("selenium") else [*found, "python3-selenium"]
+
+
+@contextmanager
+def browser(folder: Path, width: int = 1100, height: int = 900, dark: bool = False) -> Iterator[Any]:
+    """A browser whose profile is in a folder, and which has no network."""
+    from selenium import webdriver
+    from selenium.webdriver.chrome.service import Service
+
+    options = webdriver.ChromeOptions()
+    options.binary_location = shutil.which("chromium") or ""
+    # A root user has no sandbox, and a container little shared memory.
+    for word in ("--headless=new", "--no-sandbox", "--disable-dev-shm-usage", "--disable-gpu", "--hide-scrollbars",
+                 "--host-resolver-rules=MAP * ~NOTFOUND", f"--user-data-dir={folder}/profile", f"--window-size={width},{height}",
+                 *(["--force-dark-mode", "--blink-settings=preferredColorScheme=0"] if dark else [])):
+        options.add_argument(word)
+    options.set_capability("goog:loggingPrefs", {"browser": "ALL"})
+    driver = webdriver.Chrome(service=Service(shutil.which("chromedriver")), options=options)
+    # A busy machine may take long to draw.
+    driver.set_page_load_timeout(300)
+    driver.set_script_timeout(300)
+    try:
+        yield driver
+    finally:
+        driver.quit()

@@ -1,0 +1,186 @@
+"""The page of `report` in a real browser: zoom, tiles, keys, texts of strangers, the console, and paper."""
+
+from __future__ import annotations
+
+import base64
+import re
+from pathlib import Path
+from typing import Any, Iterator, List
+
+import pytest
+
+from browser import browser, missing
+from conftest import monitor
+from rds_monitor.charset import printable
+from rds_monitor.report import D3, page_of, told_of
+from test_report import EVIL, station
+
+LACKING = [*missing(), *([] if Path(D3).exists() else ["libjs-d3"])]
+pytestmark = pytest.mark.skipif(bool(LACKING), reason="needs " + " and ".join(LACKING))
+pytest.importorskip("jinja2")
+
+HOSTILE = printable("\u202eabc <img src=x onerror=alert(1)> A" + "\u0301" * 64 + "\x1b[31m 'q\" &lt;")
+
+
+@pytest.fixture(scope="module")
+def folder(tmp_path_factory: Any) -> Path:
+    """Pages: a station with an outage of two seconds within two hours, and three stations."""
+    made: Path = tmp_path_factory.mktemp("pages")
+    groups = station(text=EVIL, rounds=41000)
+    (made / "long.bin").write_bytes(groups[:500000] + bytes(300) + groups[500300:])
+    (made / "good.bin").write_bytes(station(0xD312, "good"))
+    (made / "bad.bin").write_bytes(station(0xD313, "bad") + bytes(4000))
+    for name, words in (("one", ["--start", "2026-03-29T00:30:00Z", "long.bin"]), ("three", ["good.bin", "bad.bin", "long.bin"])):
+        done = monitor("report", *words, cwd=made)
+        assert done.returncode == 0, done.stderr
+        (made / f"{name}.html").write_bytes(done.stdout)
+    session = {
+        "start": None, "begin": 0, "end": 600, "step": 1, "counts": [[45, 45, 0, 0, 0]] * 600, "outages": [], "mix": [], "clock": [],
+        "events": [[9, "RT", HOSTILE], [9, "PS", HOSTILE]], "more": 0, "held": {"PS": HOSTILE, "RT": HOSTILE}, "silent": 0}
+    (made / "hostile.html").write_text(page_of("Pages", [told_of(HOSTILE, [session])]), "utf-8")
+    return made
+
+
+@pytest.fixture(scope="module")
+def driver(tmp_path_factory: Any) -> Iterator[Any]:
+    with browser(tmp_path_factory.mktemp("browser")) as it:
+        yield it
+
+
+@pytest.fixture
+def opened(driver: Any, folder: Path) -> Iterator[Any]:
+    def open_page(name: str) -> Any:
+        driver.get((folder / f"{name}.html").as_uri())
+        return driver
+
+    yield open_page
+    # Whatever the test did, nothing was refused by the policy and nothing failed.
+    assert driver.get_log("browser") == []
+
+
+def all_of(driver: Any, selector: str) -> List[Any]:
+    return list(driver.find_elements("css selector", selector))
+
+
+def seconds_in_view(driver: Any) -> int:
+    """By the line above the chart."""
+    text = all_of(driver, "output")[0].text
+    first, last = (sum(60**k * int(it) for k, it in enumerate(reversed(found))) for found in re.findall(r"(\d\d):(\d\d):(\d\d)Z", text))
+    return int(last - first)
+
+
+def click(driver: Any, zoom: str) -> None:
+    driver.execute_script("arguments[0].click()", all_of(driver, f"[data-zoom={zoom}]")[0])
+
+
+def test_zoom_by_buttons(opened: Any) -> None:
+    page = opened("one")
+    whole = seconds_in_view(page)
+    assert 7000 < whole < 7300
+    click(page, "in")
+    assert abs(seconds_in_view(page) - whole / 2) <= 1
+    click(page, "minute")
+    assert seconds_in_view(page) == 60
+    click(page, "left")
+    click(page, "out")
+    assert seconds_in_view(page) == 120
+    click(page, "whole")
+    assert seconds_in_view(page) == whole
+
+
+def test_zoom_by_keys(opened: Any) -> None:
+    page = opened("one")
+    whole, chart = seconds_in_view(page), all_of(page, ".chart")[0]
+    page.execute_script("arguments[0].focus()", chart)
+    chart.send_keys("++")
+    assert abs(seconds_in_view(page) - whole / 4) <= 1
+    chart.send_keys("-")
+    assert abs(seconds_in_view(page) - whole / 2) <= 1
+
+
+def test_an_outage_is_seen_at_any_zoom(opened: Any) -> None:
+    page = opened("one")
+    rows = all_of(page, ".outages tbody tr")
+    assert len(rows) == 1 and 1.9 < float(rows[0].text.split()[-1]) < 2.3
+    for _ in range(3):
+        bars = all_of(page, "rect.outage")
+        assert len(bars) == 1 and float(bars[0].get_attribute("width")) >= 2
+        click(page, "in")
+        # It is in the middle of the second half.
+        click(page, "right")
+        if not all_of(page, "rect.outage"):
+            click(page, "left")
+
+
+def test_all_lanes_are_drawn(opened: Any) -> None:
+    page = opened("one")
+    names = [it.text for it in all_of(page, ".chart svg > text")]
+    for name in ("outages", "sessions", "groups", "PI", "PS", "RT", "PTY", "TP", "TA"):
+        assert name in names
+    for kind in ("valid", "missing", "outage", "session", "mix", "item"):
+        assert all_of(page, f"rect.{kind}"), kind
+
+
+def test_local_time(opened: Any) -> None:
+    page = opened("one")
+    before = all_of(page, "output")[0].text
+    page.execute_script("arguments[0].click()", all_of(page, "[data-local]")[0])
+    wanted = page.execute_script("return new Date(Date.UTC(2026, 2, 29, 0, 30)).toLocaleString()")
+    assert before.startswith("2026-03-29 00:30:00Z to ") and all_of(page, "output")[0].text.startswith(wanted)
+
+
+def test_tiles_of_three_stations_the_worst_first(opened: Any) -> None:
+    page = opened("three")
+    tiles = all_of(page, ".tiles a")
+    assert [it.find_element("css selector", ".file").text for it in tiles] == ["bad.bin", "good.bin", "long.bin"]
+    assert [it.find_element("css selector", "strong").text for it in tiles] == ["no whole group for 27 s", "no alarm", "no alarm"]
+    assert "D313" in tiles[0].text and "bad" in tiles[0].text and tiles[0].get_attribute("class") == "alarm"
+    assert len(all_of(page, ".tiles polyline")) == 3 and len(all_of(page, ".chart svg")) == 3
+    page.execute_script("arguments[0].click()", tiles[2])
+    assert page.current_url.endswith("#station-2")
+
+
+def test_markup_in_radiotext_is_text(opened: Any) -> None:
+    page = opened("one")
+    assert len(all_of(page, "script")) == 3
+    cells = [it.text for it in all_of(page, ".events td")]
+    assert EVIL in cells
+    lane = [it.get_attribute("textContent") for it in all_of(page, "rect.item title")]
+    assert any(it.endswith(EVIL) for it in lane)
+
+
+def test_hostile_texts_stay_where_they_are(opened: Any) -> None:
+    page = opened("hostile")
+    assert not all_of(page, "img") and len(all_of(page, "script")) == 3
+    found = [it for it in all_of(page, "td bdi") if it.text == HOSTILE]
+    assert len(found) == 4
+    lines = page.execute_script("return arguments[0].getBoundingClientRect().height / 16", found[0])
+    # Two marks of the 64 are drawn, and all others written.
+    assert lines < 20 and "\\u202e" in HOSTILE and "\\x1b" in HOSTILE and HOSTILE.count("\u0301") == 2
+
+
+def test_it_is_read_aloud(opened: Any) -> None:
+    page = opened("three")
+    for chart in all_of(page, ".chart"):
+        assert chart.get_attribute("role") == "img" and "blocks sent are valid" in chart.get_attribute("aria-label")
+        assert chart.get_attribute("tabindex") == "0"
+    assert all(it.get_attribute("aria-label") for it in all_of(page, "section"))
+    assert all(it.text for it in all_of(page, "caption")) and len(all_of(page, "html[lang]")) == 1
+
+
+def test_dark_and_light(opened: Any) -> None:
+    colours = []
+    for scheme in ("light", "dark"):
+        page = opened("one")
+        page.execute_cdp_cmd("Emulation.setEmulatedMedia", {"features": [{"name": "prefers-color-scheme", "value": scheme}]})
+        colours.append(page.execute_script("return getComputedStyle(document.body).color"))
+    page.execute_cdp_cmd("Emulation.setEmulatedMedia", {"features": []})
+    assert colours == ["rgb(0, 0, 0)", "rgb(255, 255, 255)"]
+
+
+def test_it_prints_on_a4(opened: Any) -> None:
+    page = opened("one")
+    paper = base64.b64decode(page.execute_cdp_cmd("Page.printToPDF", {"preferCSSPageSize": True})["data"])
+    assert paper.startswith(b"%PDF")
+    sizes = re.findall(rb"/MediaBox ?\[ ?0 0 ([\d.]+) ([\d.]+)\]", paper)
+    assert sizes and all((round(float(it[0])), round(float(it[1]))) == (595, 842) for it in sizes)
