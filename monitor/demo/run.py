@@ -1,7 +1,7 @@
 #!/usr/bin/python3
 """Three simulated stations, watched at sixty times real time: monitor/demo/run.py [--seconds N] [--folder FOLDER]
 
-Beta has noise for two minutes of each twenty, and one wrong bit in 200. Gamma's receiver dies after each quarter of an hour, and another PI
+Beta has noise for five minutes of each twenty-five, and one wrong bit in 200. Gamma's receiver dies after each quarter of an hour, and another PI
 comes in its place for five minutes of each thirty. The address of the page is printed once it shows all three; the page goes on until this
 is interrupted, or for N seconds.
 """
@@ -25,7 +25,7 @@ LONGEST_START = 100.0
 
 STATIONS = (
     ("Alpha", 98.1, "D318", "ALPHA", "Now: Harbour Lights, by the Night Shift", []),
-    ("Beta", 100.3, "D319", "BETA FM", "Traffic: all roads are clear", ["--errors", "0.005", "--outage", "1200:120"]),
+    ("Beta", 100.3, "D319", "BETA FM", "Traffic: all roads are clear", ["--errors", "0.005", "--outage", "1500:300"]),
     ("Gamma", 103.7, "D31A", "GAMMA", "News at the hour", ["--dies", "900", "--wrong-pi", "1800:300"]),
 )
 
@@ -33,7 +33,7 @@ STATIONS = (
 def table(folder: Path) -> str:
     lines = [f"folder = {json.dumps(str(folder))}"]
     for name, frequency, pi, ps, rt, more in STATIONS:
-        command = [sys.executable, str(HERE / "station.py"), "--pi", pi, "--ps", ps, "--rt", rt, "--speed", str(SPEED), *more]
+        command = [sys.executable, str(HERE / "station.py"), "--pi", pi, "--ps", ps, "--rt", rt, *more]
         lines += ["[[station]]", f'name = "{name}"', f"frequency = {frequency}", f'pi = "{pi}"', f'ps = "{ps}"']
         lines.append(f"command = {json.dumps(command)}")
     return "\n".join(lines) + "\n"
