@@ -113,7 +113,7 @@ class Station:
             return
         if seconds > 0:
             self._decode()
-            self._session.jump(seconds)
+            self._session.jump(seconds, utc)
             self._collect()
         else:
             self.end_session(utc - seconds, goes_on=True)
