@@ -1,7 +1,7 @@
 #!/usr/bin/env python3
 """A simulated receiver, for demonstrations and tests: packed bits of a station that is on the air all the time.
 
-    station.py --pi D318 --ps ALPHA --rt 'Now: nothing' [--speed N] [--errors RATE] [--outage EVERY:SECONDS] > bits
+    station.py --pi D318 --ps ALPHA --rt 'Now: nothing' [--errors RATE] [--outage EVERY:SECONDS] > bits
 
 Group N of a station is the same whoever receives it: it begins N / 11.418 seconds after 1970. Each sixth group has its number (6A).
 --errors is the rate of wrong bits. --outage is noise for some seconds at the end of every so many. --dies ends the program after some
@@ -112,11 +112,11 @@ class Air:
         return bytes(sent.tobytes())
 
 
-def moments(speed: float) -> Iterator[float]:
-    """UTC of the station, ten times a second."""
-    begin, steady = time.time(), time.monotonic()
+def moments() -> Iterator[float]:
+    """UTC of the station, ten times a second: that of a fast watch, if one started this."""
+    begin, speed = map(float, os.environ.get("RDS_MONITOR_FAST", "0 1").split())
     while True:
-        yield begin + (time.monotonic() - steady) * speed
+        yield begin + (time.time() - begin) * speed
         time.sleep(0.1)
 
 
@@ -131,7 +131,6 @@ def options() -> argparse.Namespace:
     parser.add_argument("--ps", required=True)
     parser.add_argument("--rt", default="")
     parser.add_argument("--pty", type=int, default=10)
-    parser.add_argument("--speed", type=float, default=1.0)
     parser.add_argument("--errors", type=float, default=0.0)
     for name in ("--outage", "--wrong-pi"):
         parser.add_argument(name, type=periodic)
@@ -145,7 +144,7 @@ def main() -> int:
     it = options()
     air, first, sent = Air(it), None, 0
     log: List[int] = [os.open(it.sent, os.O_WRONLY | os.O_APPEND | os.O_CREAT)] if it.sent else []
-    for utc in moments(it.speed):
+    for utc in moments():
         number = int(utc * GROUPS_PER_SECOND)
         if first is None:
             first, sent, begin = number, number, utc

@@ -11,7 +11,7 @@ import pytest
 
 from conftest import rds
 from made import run, said
-from network import GROUPS_PER_SECOND, START, Air, Network, Plan, Programme, numbers_in, stations
+from network import GROUPS_PER_SECOND, START, Air, InTurn, Network, Plan, Programme, numbers_in, stations
 from station import Periodic
 from rds_monitor.clock import start_of
 
@@ -321,9 +321,37 @@ def test_a_clock_that_is_set(tmp_path: Path) -> None:
         assert times == sorted(times)
     steps = sorted(times[-1] for times in by_session.values())
     assert abs(steps[1] - (START + 40 + 5400)) < 2 and abs(steps[0] - (START + 60 + 5400 - 86400)) < 2
-    # All is received but for the group in which the session ended.
-    numbers = sorted(number for number, _ in numbers_in(it.hours("Alpha")))
-    assert len(numbers) >= int(60 * GROUPS_PER_SECOND / 6) - 4 and len(set(numbers)) == len(numbers)
+    # All is received but for the group in which the session ended, and each group by the clock of its time.
+    found = sorted(numbers_in(it.hours("Alpha")))
+    assert len(found) >= int(60 * GROUPS_PER_SECOND / 6) - 4 and len({number for number, _ in found}) == len(found)
+    steps_told = [round(off) for off in apart(found)]
+    assert steps_told == sorted(steps_told[:40], key=lambda step: (step != 0, -step)) + steps_told[40:]
+    assert set(steps_told) == {0, 5400, 5400 - 86400} and 34 <= steps_told.count(0) <= 40 and 34 <= steps_told.count(5400) <= 40
+
+
+def test_a_disk_that_hangs(tmp_path: Path, monkeypatch: pytest.MonkeyPatch) -> None:
+    """No write fails, and none ends: that is an alarm, too."""
+    it = network(tmp_path, Air(ALPHA, START, 100))
+    it.run(10)
+    with monkeypatch.context() as patch:
+        patch.setattr(InTurn, "is_idle", property(lambda self: False))
+        it.run(20)
+    it.run(10)
+    it.end()
+    same_as_sent(it, tmp_path)
+    ((name, begin, end),) = alarms(it)
+    assert name == "disk" and 15 < begin < 17 and 30 < end < 32
+
+
+def test_pauses_grow(tmp_path: Path) -> None:
+    """A receiver that dies at once; then one that runs for a minute, after which the pause is a second again."""
+    it = network(tmp_path, Air(ALPHA, START, 600), *[Plan(dies=0.1) for _ in range(8)], Plan(dies=70), Plan(dies=0.1))
+    it.run(400, tick=1)
+    it.end()
+    begins = [at for _, at in it.runs]
+    gaps = [late - early for early, late in zip(begins, begins[1:])]
+    assert all(pause <= gap <= pause + 3 for gap, pause in zip(gaps, [1, 2, 4, 8, 16, 32, 60, 60]))
+    assert 70 <= gaps[8] <= 74 and gaps[9] <= 4
 
 
 # ---- the table

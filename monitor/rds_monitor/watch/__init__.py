@@ -72,6 +72,9 @@ class Service:
         self._lock = self._only_one(folder)
         self._records = Records(os.path.join(folder, "watch.db"))
         times = RealTimes(speed)
+        if speed != 1:
+            # By it a simulated receiver knows the time.
+            os.environ["RDS_MONITOR_FAST"] = f"{times.begin!r} {speed!r}"
         names = [it.name for it in table.stations]
         for it in recover(folder, names, self._records):
             say("notice", f"{it}: the last watch was killed; the hour is whole again")

@@ -68,11 +68,11 @@ class Alarm:
 
 class Watched(NamedTuple):
     """What was seen of a station up to now, on the monotonic clock: when the last byte came, how old the last valid block is
-    that counts, what holds, and since when rows cannot be written."""
+    that counts, what holds, if there is a session, and since when rows cannot be written."""
 
     last_byte: float
-    valid_age: Optional[float]
-    held: Dict[str, Any]
+    valid_age: float
+    held: Optional[Dict[str, Any]]
     unwritten_since: Optional[float]
 
 
@@ -120,18 +120,16 @@ class Alarms:
 
     def judge(self, it: Watched, now: float) -> List[Change]:
         """The alarms that begin or end."""
-        passed, self._now, self._values = now - self._now, now, it.held
+        passed, self._now, self._values = now - self._now, now, it.held or {}
         age = it.valid_age
-        silent, dead = now - it.last_byte > self._pause, age is None or age > self._pause
+        silent, dead = now - it.last_byte > self._pause, age > self._pause
         found: List[Change] = []
         self._judge(found, "silent", Fault(it.last_byte, f"no byte for {now - it.last_byte:.0f} s") if silent else None)
-        no_rds = Fault(now - age, f"no valid block for {age:.0f} s") if dead and age is not None else None
-        if age is not None:
-            self._judge(found, "no_rds", no_rds)
+        self._judge(found, "no_rds", Fault(now - age, f"no valid block for {age:.0f} s") if dead else None)
         self._judge_minutes(found)
         since = it.unwritten_since
         self._judge(found, "disk", None if since is None else Fault(since, f"rows wait to be written for {now - since:.0f} s"))
-        if silent or dead:
+        if silent or dead or it.held is None:
             self._hold(passed)
         else:
             self._judge_contents(found)

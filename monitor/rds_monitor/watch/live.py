@@ -75,7 +75,7 @@ class LiveSession:
             self._key = PartKey(f"{self._station} {utc_text(timing.start)}", 0)
             self._open(0, 0)
         elif self.arrivals.is_late():
-            self.jump(self.arrivals.delay())
+            self._jump(self.arrivals.delay())
         self._advance(self._taken(), self.place, utc)
         self._tell(utc)
 
@@ -84,8 +84,14 @@ class LiveSession:
         self._early = []
         return rows
 
-    def jump(self, seconds: float) -> None:
-        """The time jumps forward by so much: the machine's clock was set, or bits were dropped."""
+    def jump(self, seconds: float, utc: float) -> None:
+        """The machine's clock was set forward to this time. What came before has its times by the old one."""
+        if self.part:
+            self._advance(self._taken(), self.place, utc - seconds)
+        self._jump(seconds)
+
+    def _jump(self, seconds: float) -> None:
+        """From here on times are later by so much."""
         begin = self._end_part(self.place) if self.part else 0
         if self.arrivals.timing is not None:
             self.arrivals.jump(seconds)

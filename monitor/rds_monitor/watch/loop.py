@@ -23,6 +23,8 @@ from .writer import Batch
 PAGES_EVERY, TIDY_EVERY = 60.0, 3600.0
 # Rows of a station that wait for the disk, in bytes; the oldest are given up first.
 MOST_WAITING = 8 << 20
+# A batch takes milliseconds.
+HANGS = 5.0
 # Commands of the user's for alarms: how many at a time, and for how long.
 MOST_HOOKS, HOOK_SECONDS = 4, 60.0
 
@@ -79,6 +81,7 @@ class Watch:
         self._appends: List[Append] = []
         self._records: List[Record] = []
         self._hooks = Hooks(say)
+        self._busy_since: Optional[float] = None
         self._unwritten_since: Optional[float] = None
         self._pages_at = self._tidy_at = 0.0
         for it in table.stations:
@@ -131,10 +134,11 @@ class Watch:
         it.appends, it.records, it.changes = [], [], []
 
     def _see_writer(self, steady: float) -> None:
-        if self._writer.fault is None:
-            self._unwritten_since = None
-        elif self._unwritten_since is None:
-            self._unwritten_since = steady
+        """Rows are not written if that fails, or if it takes long: a disk may hang, too."""
+        busy = self._writer.fault is not None or not self._writer.is_idle
+        self._busy_since = None if not busy else steady if self._busy_since is None else self._busy_since
+        hangs = self._busy_since is not None and steady - self._busy_since > HANGS * self._times.speed
+        self._unwritten_since = self._busy_since if hangs or self._writer.fault is not None else None
         self._give_up_most()
 
     def _give_up_most(self) -> None:

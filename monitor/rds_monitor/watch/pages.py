@@ -30,8 +30,8 @@ ul.tiles{display:grid;grid-template-columns:repeat(auto-fill,minmax(19rem,1fr));
 .tile.warning{border-left-color:var(--warn)}.tile.critical{border-left-color:var(--bad)}
 .tile h2{margin:0}.tile p{margin:.2rem 0}.ps{font:600 1.2rem ui-monospace,monospace;white-space:pre}
 .alarm{color:var(--bad);font-weight:600}
-svg{width:100%;height:auto;display:block}.bad{fill:var(--bad)}.fixed{fill:var(--warn)}.fine{fill:var(--good)}.axis{stroke:var(--line)}
-svg text{fill:var(--soft);font-size:11px}
+svg{width:100%;height:2.6rem;display:block}.bad{fill:var(--bad)}.fixed{fill:var(--warn)}.fine{fill:var(--good)}.axis{stroke:var(--line)}
+.hours{display:flex;justify-content:space-between;margin:0;font-size:.75rem;color:var(--soft)}
 table{border-collapse:collapse}td,th{text-align:left;padding:.15rem .8rem .15rem 0;border-bottom:1px solid var(--line);vertical-align:top}
 td.text{white-space:pre-wrap;overflow-wrap:anywhere}"""
 HASH = base64.b64encode(hashlib.sha256(STYLE.encode()).digest()).decode()
@@ -151,7 +151,8 @@ def picture(bars: Sequence[Bar], height: int, name: str) -> str:
                 parts.append(f'<rect class="{kind}" x="{at}" y="{top:.1f}" width="1" height="{max(high, 1.0):.1f}"/>')
     text = f"Blocks of the last 24 hours of {escape(name)}: valid, corrected, bad"
     axis = f'<line class="axis" x1="0" x2="{width}" y1="{height}" y2="{height}"/>'
-    return f'<svg viewBox="0 0 {width} {height}" preserveAspectRatio="none" role="img" aria-label="{text}">{"".join(parts)}{axis}</svg>'
+    drawn = f'<svg viewBox="0 0 {width} {height}" preserveAspectRatio="none" shape-rendering="crispEdges" role="img" aria-label="{text}">'
+    return f'{drawn}{"".join(parts)}{axis}</svg><p class="hours"><span>24 h ago</span><span>12 h ago</span><span>now</span></p>'
 
 
 def _percent(state: Dict[str, Any]) -> str:

@@ -27,7 +27,7 @@ class Station:
 
     def __init__(self, it: StationTable, launch: Launch, speed: float, now: float, say: Say):
         self.table, self._speed, self._say = it, speed, say
-        self.keeper = Keeper(it.command, it.patience * max(1.0, speed / 10), launch, now)
+        self.keeper = Keeper(it.command, it.patience * speed, launch, now)
         self.alarms = Alarms(it, now, speed)
         self._session: Optional[LiveSession] = None
         self._bits: Optional[BitSource] = None
@@ -51,7 +51,7 @@ class Station:
 
     def set_table(self, it: StationTable) -> None:
         """Of the same receiver, with other limits."""
-        self.table, self.keeper.patience = it, it.patience * max(1.0, self._speed / 10)
+        self.table, self.keeper.patience = it, it.patience * self._speed
         self.alarms.set_table(it)
 
     # ---- bytes
@@ -113,7 +113,7 @@ class Station:
             return
         if seconds > 0:
             self._decode()
-            self._session.jump(seconds)
+            self._session.jump(seconds, utc)
             self._collect()
         else:
             self.end_session(utc - seconds, goes_on=True)
@@ -134,7 +134,7 @@ class Station:
                 self.end_session(utc)
                 self.keeper.stop_run(steady, str(error))
         self._see_valid(steady)
-        held = held_values(self._session.contents.decoder) if self._session else {}
+        held = held_values(self._session.contents.decoder) if self._session else None
         age = steady - self._last_valid
         seen = Watched(self.keeper.last_byte, age, held, unwritten_since)
         for change in self.alarms.judge(seen, steady):

@@ -29,15 +29,15 @@ class Times(Protocol):
 
 
 class RealTimes:
-    """The machine's clocks, or faster ones that begin with them."""
+    """The machine's clocks, or faster ones that begin with them: `begin` is the UTC of that."""
 
     def __init__(self, speed: float = 1.0):
         self.speed = speed
-        self._steady, self._utc = time.monotonic(), time.time()
+        self._steady, self.begin = time.monotonic(), time.time()
 
     def now(self) -> Now:
         steady, utc = time.monotonic(), time.time()
-        return Now(self._steady + (steady - self._steady) * self.speed, self._utc + (utc - self._utc) * self.speed)
+        return Now(self._steady + (steady - self._steady) * self.speed, self.begin + (utc - self.begin) * self.speed)
 
 
 class SteadyUtc:

@@ -1,0 +1,150 @@
+"""The pages and the metrics: what is on them, and what a hostile station cannot do there."""
+
+from __future__ import annotations
+
+import base64
+import hashlib
+import re
+import sqlite3
+import time
+from html.parser import HTMLParser
+from pathlib import Path
+from typing import Any, Dict, List, Tuple
+
+from rds_monitor.watch.metrics import METRICS, metrics_text
+from rds_monitor.watch.pages import Bar, bars_of, overview, picture, station_page, worst_first, write_pages
+from rds_monitor.watch.records import AlarmChanged, PartKey, PartOpened, PartTold, Records
+from rds_monitor.watch.session import EventRow, MinuteRow, Told
+from rds_monitor.measure import Interval
+from rds_monitor.watch.times import Timing
+
+UTC = 1795748400.0
+HOSTILE = "<script>alert(1)</script>\"'& \u202e\x1b[2J" + "a" + "\u0301" * 64
+
+
+def state(**changes: Any) -> Dict[str, Any]:
+    known: Dict[str, Any] = {
+        "utc": UTC, "frequency": 98.1, "expected_pi": "D318", "running": True, "starts": 3, "reason": "", "session_utc": UTC - 1000,
+        "held": {"pi": "D318", "ps": "ALPHA", "rt": "Now: nothing", "pty": "10 Pop music"}, "last_group_utc": UTC - 0.5,
+        "minute": {"sent": 2740, "valid": 2466, "corrected": 100}, "clock_s": -0.25, "signal": {"snr_db": 21.5},
+        "blocks": {"valid": 10, "corrected": 2, "lost": 3, "missing": 4}, "alarms": {},
+    }
+    return {**known, **changes}
+
+
+class Tags(HTMLParser):
+    """The elements of a page with their attributes, and the texts that are shown."""
+
+    def __init__(self, page: str):
+        super().__init__()
+        self.tags: List[Tuple[str, Dict[str, Any]]] = []
+        self.text = ""
+        self.feed(page)
+
+    def handle_starttag(self, tag: str, attrs: List[Tuple[str, Any]]) -> None:
+        self.tags.append((tag, dict(attrs)))
+
+    def handle_data(self, data: str) -> None:
+        self.text += data
+
+
+def test_a_hostile_station() -> None:
+    """Its texts are shown as texts, escaped where they would act."""
+    it = state(held={"pi": "D318", "ps": HOSTILE, "rt": HOSTILE, "pty": HOSTILE}, alarms={"ps": HOSTILE}, reason=HOSTILE, session_utc=None)
+    bars = [Bar(10, 9, 1)]
+    for page in (
+        overview({"Al<b>pha": it}, {"Al<b>pha": bars}, UTC, 60),
+        station_page("Al<b>pha", it, bars, [("ps", UTC, None, HOSTILE)], [(UTC, "ps", HOSTILE), (UTC, "rt", None)], UTC, 60),
+    ):
+        found = Tags(page)
+        names = {tag for tag, _ in found.tags}
+        assert "script" not in names and "b" not in names
+        assert not [name for _, attributes in found.tags for name in attributes if name.startswith("on")]
+        assert "<script>alert(1)</script>" in found.text and "\\x1b[2J" in found.text and "\\u202e" in found.text
+        assert "\x1b" not in page and "\u202e" not in page and "\u0301\u0301\u0301" not in page
+
+
+def test_the_policy_of_a_page() -> None:
+    """Nothing is loaded, and only the style of the page counts."""
+    page = overview({"Alpha": state()}, {"Alpha": []}, UTC, 60)
+    style = page.split("<style>")[1].split("</style>")[0]
+    policy = re.search('Content-Security-Policy" content="([^"]+)"', page)
+    assert policy and "default-src 'none'" in policy[1]
+    assert f"'sha256-{base64.b64encode(hashlib.sha256(style.encode()).digest()).decode()}'" in policy[1]
+    assert "http://" not in page and "https://" not in page and ' style="' not in page
+
+
+def test_a_tile() -> None:
+    text = Tags(overview({"Alpha": state(alarms={"ta": "TA is on"})}, {"Alpha": []}, UTC, 60)).text
+    for shown in ("1 stations, 1 with an alarm", "98.1 MHz", "ALPHA", "Now: nothing", "PI D318", "ta: TA is on", "10.0 % of the last minute bad", "group 0 s ago"):
+        assert shown in text
+    assert "no minute yet; no whole group yet" in Tags(overview({"A": state(minute=None, last_group_utc=None)}, {"A": []}, UTC, 60)).text
+
+
+def test_the_worst_first() -> None:
+    states = {
+        "a": state(), "b": state(minute={"sent": 10, "valid": 1, "corrected": 0}), "c": state(alarms={"ta": ""}), "d": state(alarms={"no_rds": ""}),
+    }
+    assert worst_first(states) == ["d", "c", "b", "a"]
+
+
+def test_an_outage_is_seen_in_a_day() -> None:
+    """Two blocks of a day's picture are a line of one pixel at least; a gap is none."""
+    drawn = picture([Bar(0, 0, 0), Bar(11000, 10998, 0)], 40, "Alpha")
+    assert 'class="bad" x="1" y="0.0" width="1" height="1.0"' in drawn and 'x="0"' not in drawn.replace('x1="0"', "")
+
+
+def filled(folder: Path) -> Records:
+    records = Records(str(folder / "watch.db"))
+    key, timing = PartKey("Alpha 1", 0), Timing(UTC - 3600)
+    minutes = [
+        MinuteRow(n, Interval(n * 71250, (n + 1) * 71250, 2740, 2740 - 100 * (n == 30), 0, 0, 100 * (n == 30)), {"0A": 5}, {"ps": "ALPHA"}, None, 0)
+        for n in range(60)
+    ]
+    told = Told(minutes, [EventRow(104, 0, "ps", "ALPHA"), EventRow(71250, 0, "ps", None)], [], [], [])
+    records.write([PartOpened(key, "Alpha", timing, 0, "listings/Alpha/x.csv"), PartTold(key, told),
+                   AlarmChanged("Alpha", "ta", True, UTC - 60, "TA is on")])
+    return records
+
+
+def test_pages_of_a_database(tmp_path: Path) -> None:
+    records = filled(tmp_path)
+    bars = bars_of(records.database, "Alpha", UTC)
+    assert len(bars) == 360 and sum(bar.sent for bar in bars) == 60 * 2740 and sum(bar.sent - bar.valid for bar in bars) == 100
+    assert [at for at, bar in enumerate(bars) if bar.valid < bar.sent] in ([351], [352])
+    write_pages(str(tmp_path / "pages"), {"Alpha": state(), "Be ta": state()}, UTC, records.database, 60)
+    assert sorted(it.name for it in (tmp_path / "pages").iterdir()) == ["Alpha.html", "Be ta.html", "index.html"]
+    page = (tmp_path / "pages" / "Alpha.html").read_text()
+    assert "TA is on" in page and "2026-11-27 02:59:00" in page and "ALPHA" in page
+    assert 'href="Be%20ta.html"' in (tmp_path / "pages" / "index.html").read_text()
+    begin = time.process_time()
+    write_pages(str(tmp_path / "pages"), {f"S{n}": state() for n in range(30)}, UTC, records.database, 60)
+    assert time.process_time() - begin < 10
+    records.close()
+
+
+def test_each_record_counts_once(tmp_path: Path) -> None:
+    """What is told again, as after a crash, changes nothing."""
+    filled(tmp_path).close()
+    before = dump(tmp_path)
+    filled(tmp_path).close()
+    assert dump(tmp_path) == before
+
+
+def dump(folder: Path) -> List[str]:
+    data = sqlite3.connect(folder / "watch.db")
+    try:
+        return list(data.iterdump())
+    finally:
+        data.close()
+
+
+def test_metrics() -> None:
+    text = metrics_text({'Al"pha\\\n': state(alarms={"ta": "x"}), "Beta": state(clock_s=None, minute=None, signal={})}, UTC)
+    lines = text.splitlines()
+    for line in lines:
+        assert re.fullmatch(r'# (HELP|TYPE) rds_\w+ .+|rds_\w+(\{(\w+="([^"\\]|\\["\\n])*",?)+\})? -?[0-9.e+]+', line), line
+    assert 'rds_alarm{station="Al\\"pha\\\\\\n",alarm="ta"} 1' in lines and 'rds_alarm{station="Beta",alarm="ta"} 0' in lines
+    assert 'rds_bad_blocks_ratio{station="Al\\"pha\\\\\\n"} 0.1' in lines and f"rds_watch_timestamp_seconds {UTC:.15g}" in lines
+    assert len([line for line in lines if line.startswith("rds_clock_offset")]) == 1
+    assert [line.split()[2] for line in lines if line.startswith("# TYPE")] == [it.name for it in METRICS]
