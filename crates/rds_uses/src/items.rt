@@ -88,6 +88,17 @@ pub fn appended_or_same(items: &mut Items, other: Items) -> bool
     items.append(other).is_ok()
 }
 
+/// The items of another list from any number on are appended, or the list stays as it was.
+pub fn appended_from(items: &mut Items, other: &Items, first: usize) -> bool
+    requires source { other.now.source ≡ items.old.source }
+    requires rules { other.now.rules ≡ items.old.rules }
+    ensures appended { result ≡ true → items.new
+        ≡ listed items.old.source items.old.rules (items.old.list ++ drop first other.now.list) }
+    ensures same { result ≡ false → items.new ≡ items.old }
+{
+    items.append_from(other, first).is_ok()
+}
+
 /// The items of a run in the spans that its marks cut.
 pub fn listed_by_marks(
     alloc: Global,
