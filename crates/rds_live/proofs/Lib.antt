@@ -2,9 +2,14 @@ pub mod Bits
 pub mod HeardParts
 pub mod ItemPlaces
 pub mod GapParts
+pub mod NearGaps
 pub mod Parts
 pub mod Following
 pub mod Ending
+pub mod Nexts
+pub mod NextHeard
+pub mod Pieces
+pub mod SpareGaps
 pub mod Rooms
 pub mod Moves
 pub mod Taking

@@ -18,7 +18,7 @@ pub length-at : (gaps : List (ℕ × ℕ)) (bytes : List ℕ) (bits : ℕ) → l
 length-at gaps bytes bits = length-map-range_with_len (packed_bit bytes) 0 bits
 
 -- a part of a table
-drop-table : (f : ℕ → ℕ) (s n a : ℕ) → drop a (map f (range_with_len s n)) ≡ map f (range_with_len (s + a) (n - a))
+pub drop-table : {X : Type 0} (f : ℕ → X) (s n a : ℕ) → drop a (map f (range_with_len s n)) ≡ map f (range_with_len (s + a) (n - a))
 drop-table f s n zero =
     let start : s + zero ≡ s = omega arith in
     let rest : n - zero ≡ n = omega arith in

@@ -4,3 +4,4 @@ pub mod Gaps
 pub mod Places
 pub mod Room
 pub mod Keeping
+pub mod Next

@@ -1,6 +1,6 @@
 -- Where the last bytes of a stream are gone over as a recording, of which there is always as much. `Live` keeps it so, and no caller
 -- sees it. This project's rule.
-use Rattle.std.specs.Prelude.{ℕ, ◌+◌, ◌-◌, ◌*◌, List, ◌++◌, length, map}
+use Rattle.std.specs.Prelude.{◌≡◌, ℕ, ◌+◌, ◌-◌, ◌*◌, List, ◌++◌, drop, length, map}
 use Rattle.std.specs.List.{range_with_len}
 use Rattle.rds_stream.specs.Recording.{Signal}
 use Rattle.rds_live.specs.Gaps.{gaps_within}
@@ -26,6 +26,10 @@ slots_of room = length room.recording.gaps
 -- the gap that stands at number k where none of the stream's does: it lies behind the bytes
 abbrev pub spare : ℕ → ℕ × ℕ
 spare k = (8 * most_held + k, 8 * most_held + k + 1)
+
+-- from number k on all gaps are such
+abbrev pub AreSpareFrom : ℕ → List (ℕ × ℕ) → Type 0
+AreSpareFrom k gaps = drop k gaps ≡ map spare (range_with_len k (length gaps - k))
 
 -- these gaps and as many of those as make up the number
 abbrev pub filled_up : List (ℕ × ℕ) → ℕ → List (ℕ × ℕ)

@@ -5,7 +5,18 @@ ghost use Rattle.rds_stream.specs.Recording.{AreGaps};
 ghost use Rattle.rds_live.specs.Room.{filled_up};
 ghost use Rattle.rds_live.specs.Gaps.{gaps_within, part_of_gap as the_part_of_gap};
 
+use crate::kept::MOST_BITS;
 use crate::room::HELD_BITS;
+
+/// Whether a stream may have these gaps: each has a place and ends by 2^36 bits, and each begins at or after the end of the one
+/// before it.
+///
+/// Its cost: the gaps are gone over twice. It takes no memory.
+pub fn may_have_gaps(gaps: &[(u64, u64)]) -> bool
+    ensures { (result ≡ true) ↔ AreGaps (2 ^ 36) gaps.now }
+{
+    are_gaps(gaps, MOST_BITS)
+}
 
 /// Whether these are gaps that so many bits may have: each has a place and lies within the bits, and each begins at or
 /// after the end of the one before it.
@@ -38,11 +49,24 @@ pub(crate) fn fill_gaps(found: &mut Vec<(u64, u64)>, gaps: &[(u64, u64)], before
     ensures room { vec_capacity found.new ≡ vec_capacity found.old }
 {
     found.clear();
-    for &gap in gaps {
+    let near = near(gaps, before, len);
+    for &gap in near {
         if let Some(part) = part_of_gap(before, len, gap) {
             found.push_reserved(part);
         }
     }
+}
+
+/// Leaves out the gaps that end before the part of a stream that begins at `before` and has `len` places, and those that begin
+/// after it. Two binary searches.
+fn near(gaps: &[(u64, u64)], before: u64, len: u64) -> &[(u64, u64)]
+    requires are { AreGaps (2 ^ 36) gaps.now }
+    ensures gaps { gaps_within result.now before len ≡ gaps_within gaps.now before len }
+{
+    let first = gaps.partition_point(|gap| gap.1 <= before);
+    let rest = &gaps[first..];
+    let count = rest.partition_point(|gap| gap.0.saturating_sub(before) < len);
+    &rest[..count]
 }
 
 /// Appends gaps behind the bytes that are heard, until there are so many.

@@ -2,6 +2,7 @@
 //! which the check of this crate proves, and which a proof above it may cite.
 
 ghost use Rattle.rds_live.specs.Moving.{EndsMove, RunsMove};
+ghost use Rattle.rds_live.specs.Next.{NextIsHeard, PiecesJoin};
 
 use rds_sync::laws;
 
@@ -18,3 +19,23 @@ pub fn runs_move()
 pub fn ends_move()
     ensures { EndsMove }
 {}
+
+/// Bytes that a decoder takes in two pieces give what they give at once, whatever it heard before.
+pub fn pieces_join()
+    ensures { PiecesJoin }
+{
+    laws::runs_join();
+    laws::runs_are_lawful();
+    laws::totals_join();
+    runs_move();
+}
+
+/// Of a stream that was heard, the items that further bytes complete are the stream's, and so is what is known after them.
+pub fn next_is_heard()
+    ensures { NextIsHeard }
+{
+    laws::runs_join();
+    laws::totals_join();
+    laws::codes_tell_totals();
+    runs_move();
+}

@@ -40,7 +40,8 @@
 //!   at any bit.
 //! - [`Live::tail`] and [`Live::resume`]: what a decoder has to keep beside its place, state and totals, and one that is made
 //!   of these. [`ResumeError`] says why it refuses.
-//! - [`laws`]: a run depends on what is heard alone.
+//! - [`may_have_gaps`]: the test of gaps that these make.
+//! - [`laws`]: a run depends on what is heard alone, and bytes in two pieces give what they give at once.
 //!
 //! # What callers may rely on
 //!
@@ -48,6 +49,8 @@
 //!   it, so two that were fed the same are equal, however the stream was cut.
 //! - Whatever the chunks, the items given are those of the run over all bits so far, from a search on; with the group of
 //!   the end they are the report's, and so are the totals.
+//! - Of numbers that are lawful and of no stream, each call promises what it gives too: the run over the tail and the further
+//!   bytes (`live_next`, `completed`, `group_next`).
 //! - A refused call has heard nothing: the same bytes can be offered again. `take` refuses `TooLong` (5) alone, past 2^36 bits in
 //!   all, and `take_all` `OutOfMemory` (8) too.
 //! - All memory that a stream needs is taken where it begins: `take`, `finish` and `finish_with` take none.
@@ -60,7 +63,7 @@
 //! # What it costs
 //!
 //! Windows are read from a recording, so the bytes that come are copied behind those that are kept, 960 at a time, into one that
-//! was made with the decoder. Where there are gaps each such part looks at all of them.
+//! was made with the decoder. The gaps of such a part are found by two binary searches among those of the stream.
 #![tactic(auto)]
 
 // In the order of reading: the decoder, what it keeps, and what makes a part of a stream a recording.
@@ -73,4 +76,5 @@ pub mod laws; // What holds of following itself.
 mod error; // Why a decoder that was kept as numbers is refused.
 
 pub use error::ResumeError;
+pub use gaps::may_have_gaps;
 pub use live::{Live, MOST_ITEMS, StreamEnd};

@@ -1,22 +1,24 @@
 //! The decoder of a stream.
 
-ghost use Rattle.std.specs.Prelude.{◌≡◌, ◌≤◌, ◌<◌, ◌↔◌, ◌-◌, ◌+◌, ◌*◌, ◌/◌, ◌^◌, ◌++◌, ◌⊎◌, min, All, List, ℕ, [], length, take, vec_capacity, IfOk, IfErr, IsErrOf, IsOk, IsOkUnless, OnErr, OnOk, true};
+ghost use Rattle.std.specs.Prelude.{◌≡◌, ◌≤◌, ◌<◌, ◌↔◌, ◌-◌, ◌+◌, ◌*◌, ◌/◌, ◌^◌, ◌++◌, ◌⊎◌, min, All, List, ℕ, [], drop, length, take, vec_capacity, IfOk, IfErr, IsErrOf, IsOk, IsOkUnless, OnErr, OnOk, true};
 ghost use Rattle.rds_stream.specs.Recording.{AreGaps, length_of};
 ghost use Rattle.rds_sync.specs.Advance.{group_item};
 ghost use Rattle.rds_sync.specs.Counting.{IsAtMost, plus};
 ghost use Rattle.rds_sync.specs.Lawful.{IsLawful};
+ghost use Rattle.rds_sync.specs.Ranges.{IsInRange};
 ghost use Rattle.rds_sync.specs.Step.{run, items_of_end};
 ghost use Rattle.rds_sync.specs.Totals.{totals_of};
 ghost use Rattle.rds_live.specs.Moving.{moved_items};
 ghost use Rattle.rds_live.specs.Live.{HasHeard, IsLive, Terms, by_rules, complete, last_bytes, live_of, live_with, most_counted, most_kept, report_at, report_of, signal_of};
+ghost use Rattle.rds_live.specs.Next.{completed, group_next, items_next, live_next};
 ghost use Rattle.rds_live.specs.Places.{place_of};
 ghost use Rattle.rds_live.specs.Room.{slots_of};
 ghost use Rattle.rds_live.specs.Keeping.{IsKept, live_kept};
 
 use crate::error::ResumeError;
-use crate::gaps::are_gaps;
+use crate::gaps::{are_gaps, may_have_gaps};
 use crate::kept::{Kept, MOST_BITS, MOST_KEPT, can_be_live};
-use crate::laws::{ends_move, runs_move};
+use crate::laws::{ends_move, pieces_join, runs_move};
 use crate::moved::{move_on, moved_back, moved_group, moved_on};
 use crate::room::{AT_ONCE, Room};
 use rds_stream::{Counted, Recording, StreamError};
@@ -96,7 +98,7 @@ impl<'r> Live<'r> {
         ensures bad_gaps { IsErrOf result StreamError.BadGaps ↔ (AreGaps (2 ^ 36) gaps.now → ⊥) }
         ensures only { IfErr result (λ e. (e ≡ StreamError.BadGaps) ⊎ (e ≡ StreamError.OutOfMemory)) }
     {
-        if !are_gaps(gaps, MOST_BITS) {
+        if !may_have_gaps(gaps) {
             return Err(StreamError::BadGaps);
         }
         Ok(Live::start(alloc, rules, gaps)?)
@@ -131,8 +133,8 @@ impl<'r> Live<'r> {
     ///
     /// Refuses gaps as [`with_gaps`](Live::with_gaps) does, then numbers that no decoder by these rules has (a place
     /// inside a byte or past 2^36, a tail of another length, a state that is not lawful at the place, or a count of the
-    /// totals above 2^11 a bit), and then only want of memory. Numbers that pass may still be of no stream: what
-    /// such a decoder gives later means nothing. It takes memory for a copy of the tail and of the gaps in it.
+    /// totals above 2^11 a bit), and then only want of memory. Numbers that pass may still be of no stream: such a
+    /// decoder goes on from them all the same. It takes memory for a copy of the tail and of the gaps in it.
     pub fn resume(
         alloc: Global,
         rules: &'r Rules,
@@ -149,7 +151,7 @@ impl<'r> Live<'r> {
             ↔ (AreGaps (2 ^ 36) gaps.now × (IsLive (live_with rules.now gaps.now tail.now place state totals) → ⊥)) }
         ensures memory_last { IsErrOf result ResumeError.OutOfMemory → IsLive (live_with rules.now gaps.now tail.now place state totals) }
     {
-        if !are_gaps(gaps, MOST_BITS) {
+        if !may_have_gaps(gaps) {
             return Err(ResumeError::BadGaps);
         }
         if !can_be_live(rules, tail, place, state, &totals) {
@@ -246,6 +248,10 @@ impl<'r> Live<'r> {
         ensures room { vec_capacity items.new ≡ vec_capacity items.old }
         ensures refused { OnErr result ((self.new ≡ self.old) × (items.new ≡ items.old)) }
         ensures too_long { IsErrOf result StreamError.TooLong ↔ (2 ^ 36 < self.old.place + 8 * length bytes.now) }
+
+        // The same of numbers that are lawful and of no stream.
+        ensures next { IfOk result (λ count. self.new ≡ live_next self.old (take count bytes.now)) }
+        ensures completed { IfOk result (λ count. items.new.items ≡ completed self.old (take count bytes.now)) }
         ensures only { IsOkUnless result StreamError.TooLong }
     {
         if bytes.len() as u64 > (MOST_BITS - self.place) / 8 {
@@ -287,6 +293,10 @@ impl<'r> Live<'r> {
         ensures fits { OnOk result (self.old.place + 8 * length bytes.now ≤ 2 ^ 36) }
         ensures refused { OnErr result (self.new ≡ self.old) }
         ensures too_long { IsErrOf result StreamError.TooLong ↔ (2 ^ 36 < self.old.place + 8 * length bytes.now) }
+
+        // The same of numbers that are lawful and of no stream.
+        ensures next { OnOk result (self.new ≡ live_next self.old bytes.now) }
+        ensures completed { IfOk result (λ items. items.items ≡ completed self.old bytes.now) }
         ensures only { IfErr result (λ e. (e ≡ StreamError.TooLong) ⊎ (e ≡ StreamError.OutOfMemory)) }
     {
         if bytes.len() as u64 > (MOST_BITS - self.place) / 8 {
@@ -300,6 +310,22 @@ impl<'r> Live<'r> {
                 Err(StreamError::OutOfMemory)
             }
         }
+    }
+
+    /// Its numbers are lawful, and its rules in their range.
+    fn is_known(&self)
+        ensures live { IsLive self.now }
+        ensures range { IsInRange self.now.terms.rules }
+    {
+        prove!(1 <= self.rules.reach());
+    }
+
+    /// No byte changes nothing.
+    fn is_still(&self)
+        ensures known { live_next self.now [] ≡ self.now }
+        ensures none { completed self.now [] ≡ [] }
+    {
+        no_items_count(&self.totals);
     }
 
     /// What it knows.
@@ -337,6 +363,10 @@ impl<'r> Live<'r> {
             → complete self.entry.terms bytes ++ group_item result.group ≡ report_of self.entry.terms bytes }
         ensures totals { (bytes : List ℕ) → HasHeard self.entry bytes
             → result.totals ≡ totals_of (report_of self.entry.terms bytes) }
+
+        // The same of numbers that are lawful and of no stream.
+        ensures closed { group_item result.group ≡ group_next self.entry [] 0 }
+        ensures counted { result.totals ≡ plus self.entry.totals (totals_of (group_next self.entry [] 0)) }
     {
         prove!(1 <= self.rules.reach());
         laws::runs_are_reports();
@@ -375,6 +405,12 @@ impl<'r> Live<'r> {
         ensures refused { OnErr result (items.new ≡ items.old) }
         ensures too_long { IsErrOf result StreamError.TooLong ↔ (2 ^ 36 < self.entry.place + bits) }
         ensures only { IsOkUnless result StreamError.TooLong }
+
+        // The same of numbers that are lawful and of no stream.
+        ensures completed { OnOk result (items.new.items ≡ items_next self.entry bytes.now bits) }
+        ensures closed { IfOk result (λ end. group_item end.group ≡ group_next self.entry bytes.now bits) }
+        ensures counted { IfOk result (λ end. end.totals
+            ≡ plus (plus self.entry.totals (totals_of (items_next self.entry bytes.now bits))) (totals_of (group_next self.entry bytes.now bits))) }
     {
         if bits > MOST_BITS - self.place {
             return Err(StreamError::TooLong);
@@ -415,6 +451,8 @@ fn taken(alloc: Global, live: &mut Live<'_>, bytes: &[u8]) -> Result<Vec<Item>, 
     ensures terms { live.new.terms ≡ live.old.terms }
     ensures items { IfOk result (λ items. (before : List ℕ) → HasHeard live.old before
         → complete live.old.terms (before ++ bytes.now) ≡ complete live.old.terms before ++ items.items) }
+    ensures next { OnOk result (live.new ≡ live_next live.old bytes.now) }
+    ensures completed { IfOk result (λ items. items.items ≡ completed live.old bytes.now) }
 {
     let mut some = Vec::with_capacity(alloc, ITEMS_A_BYTE * bytes.len().min(AT_ONCE))?;
     let mut items = Vec::new(alloc);
@@ -423,6 +461,7 @@ fn taken(alloc: Global, live: &mut Live<'_>, bytes: &[u8]) -> Result<Vec<Item>, 
         let count = take_next(live, rest, &mut some, &mut items)?;
         rest = &rest[count..];
     }
+    live.is_still();
     Ok(items)
 }
 
@@ -444,8 +483,13 @@ fn take_next(
     ensures items { IfOk result (λ count. (before : List ℕ) (given : List Item) → HasHeard live.old before
         → complete live.old.terms before ≡ given ++ items.old.items
         → complete live.old.terms (before ++ take count bytes.now) ≡ given ++ items.new.items) }
+    ensures next { IfOk result (λ count. live_next live.new (drop count bytes.now) ≡ live_next live.old bytes.now) }
+    ensures completed { IfOk result (λ count. items.new.items ++ completed live.new (drop count bytes.now)
+        ≡ items.old.items ++ completed live.old bytes.now) }
     ensures room { vec_capacity some.new ≡ vec_capacity some.old }
 {
+    pieces_join();
+    live.is_known();
     match live.take(bytes, some) {
         Ok(count) => {
             items.extend_from_slice(some)?;
@@ -495,6 +539,14 @@ fn ended(totals: Totals, group: Option<Group>) -> StreamEnd
     StreamEnd { group, totals }
 }
 
+/// No items count nothing.
+fn no_items_count(totals: &Totals)
+    ensures { plus totals.now (totals_of []) ≡ totals.now }
+{
+    let bursts: &[u64] = &totals.bursts;
+    prove!(bursts.len() == 5);
+}
+
 /// The totals of the group in progress.
 fn totals_of_end(group: &Option<Group>) -> Totals
     ensures value { result ≡ totals_of (group_item group.now) }
@@ -517,8 +569,10 @@ fn group_at_end(
     requires lawful { IsLawful rules.now place state }
     requires are { AreGaps (2 ^ 36) gaps.now }
     requires slots { min (length gaps.now) 7920 ≤ slots_of room }
-    ensures { (bytes : List ℕ) → room.bytes ≡ last_bytes bytes → place ≡ 8 * length bytes
+    ensures heard { (bytes : List ℕ) → room.bytes ≡ last_bytes bytes → place ≡ 8 * length bytes
         → group_item result ≡ items_of_end (signal_of gaps.now bytes) rules.now state }
+    ensures closed { (totals : Totals)
+        → group_item result ≡ group_next (live_with rules.now gaps.now room.bytes place state totals) [] 0 }
 {
     ends_move();
     let bits = 8 * room.bytes().len() as u64;

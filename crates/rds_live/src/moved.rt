@@ -2,6 +2,7 @@
 
 ghost use Rattle.std.specs.Prelude.{◌≡◌, ◌+◌, ◌<◌, ◌≤◌, ◌^◌, ◌∷◌, [], All, map};
 ghost use Rattle.rds_live.specs.Moving.{moved_item, moved_items, moved_state};
+ghost use Rattle.rds_live.specs.Next.{moved_back as the_moved_back};
 ghost use Rattle.rds_live.specs.Places.{place_of, is_due_below, is_due_from};
 
 use rds_sync::{Group, Item, Lock, State};
@@ -56,7 +57,8 @@ pub(crate) fn moved_on(state: State, by: u64) -> State
 /// The state, so many places before.
 pub(crate) fn moved_back(state: State, by: u64) -> State
     requires { is_due_from by state }
-    ensures { moved_state by result ≡ state }
+    ensures value { result ≡ the_moved_back by state }
+    ensures back { moved_state by result ≡ state }
 {
     match state {
         State::Searching => State::Searching,

@@ -24,27 +24,30 @@ pub(crate) const HELD_BITS: u64 = 8 * HELD as u64;
 /// The last bytes of a stream, those that come behind them, and a recording that they are heard in.
 ///
 /// The recording always has as many bits, and as many gaps, since more than it was made with would take memory. Its second
-/// half is for the gaps that are not needed. Contracts see the bytes and the recording.
+/// half is for the spare gaps, which are not needed. Contracts see the bytes and the recording.
 #[derive(Drop)]
 pub(crate) struct Room {
     bytes: Vec<u8>,
     gaps: Vec<(u64, u64)>,
     /// How many gaps the recording has.
     slots: usize,
+    /// How many of them are no spare ones.
+    used: usize,
     recording: Recording,
 }
 
 impl Model for Room {
     ghost use Rattle.std.specs.Prelude.{◌≡◌, ◌≤◌, length, vec_capacity};
     ghost use Rattle.rds_stream.specs.Recording.{length_of};
-    ghost use Rattle.rds_live.specs.Room.{RoomOf};
+    ghost use Rattle.rds_live.specs.Room.{AreSpareFrom, RoomOf};
 
     ghost Value = { RoomOf };
 
     ghost view = { λ r. record { bytes = r.bytes.items; recording = r.recording } };
 
     ghost invariant = { λ r. (length r.bytes.items ≤ 990) × (990 ≤ vec_capacity r.bytes) × (length_of r.recording ≡ 15840)
-        × (length r.recording.gaps ≡ r.slots) × (r.slots ≤ 7920) × (r.slots ≤ vec_capacity r.gaps) };
+        × (length r.recording.gaps ≡ r.slots) × (r.slots ≤ 7920) × (r.slots ≤ vec_capacity r.gaps)
+        × (r.used ≤ r.slots) × AreSpareFrom r.used r.recording.gaps };
 }
 
 impl Room {
@@ -64,6 +67,7 @@ impl Room {
                 bytes,
                 gaps,
                 slots,
+                used: 0,
                 recording,
             }),
             Err(_) => unreachable!(),
@@ -117,8 +121,10 @@ impl Room {
         ensures heard { IsHeardIn self.new gaps.now before }
     {
         fill_gaps(&mut self.gaps, gaps, before, HELD_BITS);
-        fill_up(&mut self.gaps, self.slots);
+        let used = self.gaps.len();
+        fill_up(&mut self.gaps, self.used);
         self.recording.refill(&self.bytes, &self.gaps);
+        self.used = used;
     }
 
     /// The recording.
@@ -140,6 +146,7 @@ impl Room {
             bytes,
             gaps: near,
             slots: _,
+            used: _,
             recording: _,
         } = self;
         let mut near = near;

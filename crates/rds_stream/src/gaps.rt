@@ -1,5 +1,5 @@
 //! Gaps: ranges of places whose bits mean nothing, by rising place.
-ghost use Rattle.std.specs.Prelude.{◌≡◌, ◌<◌, ◌≤◌, ◌↔◌, length, true};
+ghost use Rattle.std.specs.Prelude.{◌≡◌, ◌<◌, ◌≤◌, ◌↔◌, length, true, ◌++◌, drop};
 ghost use Rattle.std.specs.List.{All, AllAdjacentBelow};
 ghost use Rattle.std.specs.List.Sorted.{IsNonDecreasingBy};
 ghost use Rattle.std.specs.Option.{MatchOption};
@@ -43,4 +43,13 @@ pub(crate) fn first_after(gaps: &[(u64, u64)], place: u64) -> Option<(u64, u64)>
 {
     let before = gaps.partition_point(|gap| gap.1 <= place);
     gaps.get(before).copied()
+}
+
+/// Puts these gaps in the place of the first ones.
+pub(crate) fn put_first_gaps(stored: &mut [(u64, u64)], gaps: &[(u64, u64)])
+    requires { length gaps.now ≤ length stored.old }
+    ensures len { length stored.new ≡ length stored.old }
+    ensures gaps { stored.new ≡ gaps.now ++ drop (length gaps.now) stored.old }
+{
+    stored[..gaps.len()].copy_from_slice(gaps);
 }

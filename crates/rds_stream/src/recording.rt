@@ -8,7 +8,7 @@ ghost use Rattle.rds_stream.specs.Inside.Sections.{IsSection};
 ghost use Rattle.rds_stream.specs.Recording.{AreGaps, Signal, bits_of, length_of, off, touched, ungapped, window};
 
 use crate::error::StreamError;
-use crate::gaps::{Section, are_gaps, first_after};
+use crate::gaps::{Section, are_gaps, first_after, put_first_gaps};
 use crate::packed::Packed;
 use rds_code::{BLOCK_BITS, Offset, offset_of, rem26};
 use std::marker::Model;
@@ -112,19 +112,20 @@ impl Recording {
         })
     }
 
-    /// Puts the bits of these bytes in the place of the first ones, and these gaps in the place of all, of which there are
-    /// as many. So a room that is taken once can be gone over again and again: it takes no memory.
+    /// Puts the bits of these bytes in the place of the first ones, and these gaps in the place of the first ones, of which
+    /// there are at least as many. So a room that is taken once can be gone over again and again: it takes no memory, and no
+    /// time for the bits and gaps that stay.
     pub fn refill(&mut self, bytes: &[u8], gaps: &[(u64, u64)])
         requires within { 8 * length bytes.now ≤ length_of self.old }
-        requires as_many { length gaps.now ≡ length self.old.gaps }
-        requires gaps { AreGaps (length_of self.old) gaps.now }
+        requires as_many { length gaps.now ≤ length self.old.gaps }
+        requires gaps { AreGaps (length_of self.old) (gaps.now ++ drop (length gaps.now) self.old.gaps) }
         ensures { self.new ≡ record {
           bits = bits_of bytes.now (8 * length bytes.now) ++ drop (8 * length bytes.now) self.old.bits;
-          gaps = gaps.now;
+          gaps = gaps.now ++ drop (length gaps.now) self.old.gaps;
         } }
     {
         self.packed.refill(bytes);
-        self.gaps.copy_from_slice(gaps);
+        put_first_gaps(self.gaps.as_mut_slice(), gaps);
     }
 
     /// The number of bits, at most 2^36.

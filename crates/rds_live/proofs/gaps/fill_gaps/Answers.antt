@@ -8,9 +8,10 @@ pub push_reserved-requires : goal.push_reserved-requires
 push_reserved-requires c =
     let loop = c.loop-gap in
     let gaps = c.args.gaps.now in
+    let near = c.near-near.result.now in
     let all = gaps_within gaps c.args.before c.args.len in
-    let rest = gaps_within (drop (loop.gap-index + 1) gaps) c.args.before c.args.len in
-    let is = one-found c.args.before c.args.len gaps loop.found.items all loop.gap-index (0, 0) c.in-Some.part (omega (arith, c.loop-gap-test.true, loop.invariant.end)) loop.invariant.so_far
+    let rest = gaps_within (drop (loop.gap-index + 1) near) c.args.before c.args.len in
+    let is = one-found c.args.before c.args.len near loop.found.items all loop.gap-index (0, 0) c.in-Some.part (omega (arith, c.loop-gap-test.true, loop.invariant.end)) loop.invariant.so_far
     (sym (sym c.part_of_gap.ensures ∙ c.in-Some.is)) in
     omega (
       arith,

@@ -1,16 +1,19 @@
-use Rattle.std.proofs.Common.{◌≡◌, ◌-◌, ◌*◌, ◌/◌, ◌^◌, ◌≤◌, ◌⊎◌, ℕ, List, length, min, inl, inr, ap, ap₂, refl, sym, subst, ◌∙◌, arith}
-use Rattle.std.proofs.lemmas.List.{length-drop}
+use Rattle.std.proofs.Common.{◌≡◌, ◌+◌, ◌-◌, ◌*◌, ◌/◌, ◌^◌, ◌≤◌, ◌⊎◌, ◌++◌, ℕ, List, [], length, min, inl, inr, ap, ap₂, refl, sym, subst, ◌∙◌, arith}
+use Rattle.std.proofs.lemmas.List.{append-nil, length-drop}
 use Rattle.rds_stream.specs.Recording.{AreGaps, Signal, length_of}
 use Rattle.rds_sync.specs.declared.state.State.{State}
+use Rattle.rds_sync.specs.Advance.{group_item}
 use Rattle.rds_sync.specs.Lawful.{IsLawful}
 use Rattle.rds_sync.specs.Rules.{RuleNumbers}
 use Rattle.rds_sync.specs.Step.{items_of_end}
 use Rattle.rds_live.specs.Moving.{IsPartHeard, moved_state}
 use Rattle.rds_live.specs.Gaps.{gaps_within}
-use Rattle.rds_live.specs.Live.{last_bytes, signal_at, signal_of, most_kept}
+use Rattle.rds_live.specs.Live.{last_bytes, live_with, signal_at, signal_of, most_kept}
+use Rattle.rds_live.specs.Next.{moved_back as the_moved_back}
 use Rattle.rds_live.proofs.GapParts.{part-touched}
 use Rattle.rds_live.proofs.Parts.{length-at, length-signal, bits-heard, end-part}
 use Rattle.rds_live.proofs.Following.{early-or-long, state-in-part}
+use Rattle.rds_live.proofs.Nexts.{group-next, part-next, there}
 use Rattle.rds_live.proofs.live.group_at_end.Goals as goal
 
 -- the part that is kept of a stream
@@ -56,18 +59,33 @@ lawful-at-end rules gaps tail heard place part local state same is kept whole mo
 pub moved_end-requires-clause-lawful : goal.moved_end-requires-clause-lawful
 moved_end-requires-clause-lawful c =
     lawful-at-end c.args.rules.now c.args.gaps.now c.args.room.bytes c.bytes.result.now c.args.place c.into_recording-part.result c.moved_back.result c.args.state c.bytes.ensures.value
-    c.into_recording-part.ensures c.requires.kept c.requires.whole c.moved_back.ensures c.requires.lawful
+    c.into_recording-part.ensures c.requires.kept c.requires.whole c.moved_back.ensures.back c.requires.lawful
 
-pub returns : goal.returns
-returns c bytes tail_is place_is =
+pub returns-clause-closed : goal.returns-clause-closed
+returns-clause-closed c totals =
+    let tail = c.args.room.bytes in
+    let gaps = c.args.gaps.now in
+    let live = live_with c.args.rules.now gaps tail c.args.place c.args.state totals in
+    let from : ℕ = 8 * length c.bytes.result.now in
+    let from_is : from ≡ 8 * length tail = ap (λ (xs : List ℕ). 8 * length xs) c.bytes.ensures.value in
+    let all : from ≡ 8 * length tail + 0 = omega (arith, from_is) in
+    let none : tail ≡ tail ++ [] = sym (append-nil tail) in
+    let part_is = part-next live [] 0 from (c.args.place - from) c.moved_back.result from_is refl c.moved_back.ensures.value c.into_recording-part.result from all
+    (c.into_recording-part.ensures ∙ ap (λ (xs : List ℕ). signal_at (gaps_within gaps (c.args.place - from) from) xs from) none) in
+    let end_is = c.moved_back.ensures.value ∙ ap (λ (d : ℕ). the_moved_back d c.args.state) (there live [] 0 from (c.args.place - from) c.moved_back.result from_is refl c.moved_back.ensures.value) in
+    group-next live [] 0 from (c.args.place - from) c.moved_back.result from_is refl c.moved_back.ensures.value c.into_recording-part.result c.moved_back.result (group_item c.moved_end.result)
+    part_is end_is c.moved_end.ensures
+
+pub returns-clause-heard : goal.returns-clause-heard
+returns-clause-heard c bytes tail_is place_is =
     let tail = c.args.room.bytes in
     let gaps = c.args.gaps.now in
     let from_is : 8 * length c.bytes.result.now ≡ 8 * length tail = ap (λ (xs : List ℕ). 8 * length xs) c.bytes.ensures.value in
     let part_is = part-is gaps tail c.bytes.result.now c.args.place c.into_recording-part.result c.bytes.ensures.value c.into_recording-part.ensures in
     let lawful = lawful-at-end c.args.rules.now gaps tail c.bytes.result.now c.args.place c.into_recording-part.result c.moved_back.result c.args.state c.bytes.ensures.value
-    c.into_recording-part.ensures c.requires.kept c.requires.whole c.moved_back.ensures c.requires.lawful in
+    c.into_recording-part.ensures c.requires.kept c.requires.whole c.moved_back.ensures.back c.requires.lawful in
     c.moved_end.ensures
     ∙ sym (c.ends_move.ensures (signal_of gaps bytes) c.into_recording-part.result c.args.rules.now (c.args.place - 8 * length c.bytes.result.now) c.moved_back.result lawful
     (heard-in-part tail c.args.place (8 * length c.bytes.result.now) c.requires.kept c.requires.whole from_is gaps
     (gaps_within gaps (c.args.place - 8 * length tail) (8 * length tail)) bytes c.into_recording-part.result c.requires.are refl part_is tail_is place_is))
-    ∙ ap (λ (s : State). items_of_end (signal_of gaps bytes) c.args.rules.now s) c.moved_back.ensures
+    ∙ ap (λ (s : State). items_of_end (signal_of gaps bytes) c.args.rules.now s) c.moved_back.ensures.back

@@ -1,4 +1,4 @@
-use Rattle.std.proofs.Common.{◌≡◌, ◌++◌, ℕ, List, ap, sym, subst, ◌∙◌}
+use Rattle.std.proofs.Common.{◌≡◌, ◌++◌, ℕ, List, [], ap, ap₂, sym, subst, ◌∙◌}
 use Rattle.rds_sync.specs.declared.item.Item.{Item}
 use Rattle.rds_sync.specs.declared.state.State.{State}
 use Rattle.rds_sync.specs.declared.state.State.TheVariants.{Searching}
@@ -10,6 +10,7 @@ use Rattle.rds_sync.specs.Loss.{IsLoss}
 use Rattle.rds_sync.specs.Step.{run, items_of_end}
 use Rattle.rds_sync.specs.Totals.{totals_of}
 use Rattle.rds_live.specs.Live.{LiveOf, Terms, HasHeard, complete, report_of, run_of, signal_of}
+use Rattle.rds_live.specs.Next.{group_next}
 use Rattle.rds_live.proofs.Parts.{length-signal}
 use Rattle.rds_live.proofs.live.Live.finish.Goals as goal
 
@@ -36,7 +37,7 @@ returns-clause-group c bytes h =
     let terms : Terms = record { rules = s.rules.now; gaps = s.gaps.now } in
     let heard = subst (λ (live : LiveOf). HasHeard live bytes) (sym c.self.view_is) h in
     let last = ap group_item c.ended.ensures.group
-    ∙ c.group_at_end-group.ensures bytes (ap (λ (l : LiveOf). l.tail) heard) (ap (λ (l : LiveOf). l.place) heard)
+    ∙ c.group_at_end-group.ensures.heard bytes (ap (λ (l : LiveOf). l.tail) heard) (ap (λ (l : LiveOf). l.place) heard)
     ∙ ap (λ (t : State). items_of_end (signal_of s.gaps.now bytes) s.rules.now t) (ap (λ (l : LiveOf). l.state) heard) in
     subst (λ (t : Terms). complete t bytes ++ group_item c.ended.result.group ≡ report_of t bytes) (ap (λ (l : LiveOf). l.terms) c.self.view_is)
     (all-items c.runs_are_reports.ensures terms c.reach.ensures.range.some_loss bytes (group_item c.ended.result.group) last)
@@ -46,8 +47,18 @@ returns-clause-totals c bytes h =
     let s = c.self.inside in
     let terms : Terms = record { rules = s.rules.now; gaps = s.gaps.now } in
     let heard = subst (λ (live : LiveOf). HasHeard live bytes) (sym c.self.view_is) h in
-    let last = c.group_at_end-group.ensures bytes (ap (λ (l : LiveOf). l.tail) heard) (ap (λ (l : LiveOf). l.place) heard)
+    let last = c.group_at_end-group.ensures.heard bytes (ap (λ (l : LiveOf). l.tail) heard) (ap (λ (l : LiveOf). l.place) heard)
     ∙ ap (λ (t : State). items_of_end (signal_of s.gaps.now bytes) s.rules.now t) (ap (λ (l : LiveOf). l.state) heard) in
     subst (λ (t : Terms). c.ended.result.totals ≡ totals_of (report_of t bytes)) (ap (λ (l : LiveOf). l.terms) c.self.view_is)
     (all-totals c.totals_join.ensures c.runs_are_reports.ensures terms c.reach.ensures.range.some_loss bytes (group_item c.group_at_end-group.result) s.totals c.ended.result.totals
     last (ap (λ (l : LiveOf). l.totals) heard) c.ended.ensures.totals)
+
+pub returns-clause-closed : goal.returns-clause-closed
+returns-clause-closed c =
+    ap group_item c.ended.ensures.group ∙ c.group_at_end-group.ensures.closed c.self.inside.totals ∙ ap (λ (live : LiveOf). group_next live [] 0) c.self.view_is
+
+pub returns-clause-counted : goal.returns-clause-counted
+returns-clause-counted c =
+    c.ended.ensures.totals
+    ∙ ap₂ (λ (t : Totals) (items : List Item). plus t (totals_of items)) (ap (λ (live : LiveOf). live.totals) c.self.view_is)
+    (c.group_at_end-group.ensures.closed c.self.inside.totals ∙ ap (λ (live : LiveOf). group_next live [] 0) c.self.view_is)

@@ -6,11 +6,15 @@ use Rattle.rds_sync.specs.declared.item.Item.{Item}
 use Rattle.rds_sync.specs.declared.state.State.{State}
 use Rattle.rds_sync.specs.Advance.{group_item}
 use Rattle.rds_sync.specs.Lawful.{IsLawful}
-use Rattle.rds_sync.specs.Step.{run}
+use Rattle.rds_sync.specs.declared.totals.Totals.{Totals}
+use Rattle.rds_sync.specs.Counting.{plus}
+use Rattle.rds_sync.specs.Step.{run, items_of_end}
 use Rattle.rds_sync.specs.Totals.{totals_of}
 use Rattle.rds_live.specs.Gaps.{gaps_within}
 use Rattle.rds_live.specs.Live.{LiveOf, Terms, HasHeard, complete, report_at, signal_at}
 use Rattle.rds_live.specs.Moving.{moved_item, moved_items}
+use Rattle.rds_live.specs.Next.{group_next, items_next, part_with, run_next}
+use Rattle.rds_live.proofs.Nexts.{count-next, group-next, part-begin, part-next, run-next, there}
 use Rattle.rds_live.proofs.Parts.{length-at}
 use Rattle.rds_live.proofs.Following.{at-most-more, state-in-part}
 use Rattle.rds_live.proofs.Ending.{IsLast, report-begin, report-to, totals-to}
@@ -29,7 +33,7 @@ pub fill_from-end-requires-clause-lawful : goal.fill_from-end-requires-clause-la
 fill_from-end-requires-clause-lawful c =
     let live = c.self.invariant.0 in
     state-in-part c.self.inside.room.bytes c.self.inside.place (8 * length c.bytes.result.now) live.kept live.whole (ap (λ (xs : List ℕ). 8 * length xs) c.bytes.ensures.value)
-    c.self.inside.rules.now c.moved_back-state.result c.self.inside.state c.moved_back-state.ensures live.lawful
+    c.self.inside.rules.now c.moved_back-state.result c.self.inside.state c.moved_back-state.ensures.back live.lawful
 
 pub fill_from-end-requires-clause-within : goal.fill_from-end-requires-clause-within
 fill_from-end-requires-clause-within c =
@@ -63,7 +67,7 @@ moved_end-group-requires-clause-lawful c =
     subst (λ (k : ℕ). IsLawful c.self.inside.rules.now k c.fill_from-end.result) (sym long) c.fill_from-end.ensures.lawful
 
 -- where the bits that end the stream were gone over, behind those that are kept of the bytes heard before
-module _ (c : After-ended) (before : List ℕ) (h : HasHeard c.args.self before) where
+module _ (c : After-ended) where
   abbrev terms : Terms
   terms = record { rules = c.self.inside.rules.now; gaps = c.self.inside.gaps.now }
 
@@ -99,23 +103,6 @@ module _ (c : After-ended) (before : List ℕ) (h : HasHeard c.args.self before)
   long : length_of part ≡ from + c.args.bits
   long = size-of part (gaps_within terms.gaps at (from + c.args.bits)) c.push.new.self.bytes (from + c.args.bits) c.into_recording-part.ensures
 
-  heard : HasHeard (record { terms = terms; tail = tail; place = c.self.inside.place; state = c.self.inside.state; totals = c.self.inside.totals }) before
-  heard = subst (λ (live : LiveOf). HasHeard live before) (sym c.self.view_is) h
-
-  last : IsLast terms c.reach.ensures.range c.self.invariant.0.gaps before more c.args.bits held tail c.self.inside.place from at local part
-  last =
-      let live = c.self.invariant.0 in
-      record {
-        tail_is = ap (λ (l : LiveOf). l.tail) heard;
-        place_is = ap (λ (l : LiveOf). l.place) heard;
-        part_is = part-is part terms.gaps at (from + c.args.bits) (8 * length tail + c.args.bits) c.push.new.self.bytes (tail ++ more) c.into_recording-part.ensures
-            (omega (arith, from_is)) c.push.ensures.bytes;
-        from_is = from_is;
-        before_is = refl;
-        local_is = c.moved_back-state.ensures ∙ ap (λ (l : LiveOf). l.state) heard;
-        lawful = state-in-part tail c.self.inside.place from live.kept live.whole from_is terms.rules local c.self.inside.state c.moved_back-state.ensures live.lawful;
-      }
-
   left : from + c.args.bits - from ≡ length_of part - from
   left = omega (arith, long)
 
@@ -131,34 +118,105 @@ module _ (c : After-ended) (before : List ℕ) (h : HasHeard c.args.self before)
   given_are : c.move_on.new.items ≡ moved_items at found.1
   given_are = c.move_on.ensures ∙ ap (moved_items at) (c.as_mut_slice.ensures.value ∙ found_are)
 
-  report_is : report_at terms (before ++ more) (8 * length before + c.args.bits) ≡ report_at terms (before ++ c.args.bytes.now) (8 * length before + c.args.bits)
-  report_is = report-begin terms before c.args.bytes.now c.div_ceil.result (8 * length before + c.args.bits) (omega (arith, held, length-append before more))
-
-  items_of_report : complete c.args.self.terms before ++ (with_items c.fill_from-end.new.items c.move_on.new.items).items ++ group_item c.ended.result.group
-      ≡ report_at c.args.self.terms (before ++ c.args.bytes.now) (8 * length before + c.args.bits)
-  items_of_report =
-      let given : List Item = c.move_on.new.items in
+  items_are : (with_items c.fill_from-end.new.items c.move_on.new.items).items ≡ moved_items at found.1
+  items_are =
       let counted = ap length c.move_on.ensures ∙ length-map c.as_mut_slice.result.now (moved_item at) ∙ c.as_mut_slice.ensures.len in
-      let items_are = with_items_is c.fill_from-end.new.items given counted ∙ given_are in
-      subst (λ (t : Terms). complete t before ++ (with_items c.fill_from-end.new.items given).items ++ group_item c.ended.result.group ≡ report_at t (before ++ c.args.bytes.now) (8 * length before + c.args.bits))
-      (ap (λ (l : LiveOf). l.terms) c.self.view_is)
-      (report-to terms c.reach.ensures.range c.self.invariant.0.gaps before more c.args.bits held tail c.self.inside.place from at local part
-      c.runs_join.ensures c.runs_move.ensures c.ends_move.ensures c.runs_are_reports.ensures last (with_items c.fill_from-end.new.items given).items (group_item c.ended.result.group) c.fill_from-end.result
-      items_are end_is end_lawful (ap group_item c.ended.ensures.group ∙ c.moved_end-group.ensures) ∙ report_is)
+      with_items_is c.fill_from-end.new.items c.move_on.new.items counted ∙ given_are
 
-  totals_of_report : c.ended.result.totals ≡ totals_of (report_at c.args.self.terms (before ++ c.args.bytes.now) (8 * length before + c.args.bits))
-  totals_of_report =
-      subst (λ (t : Terms). c.ended.result.totals ≡ totals_of (report_at t (before ++ c.args.bytes.now) (8 * length before + c.args.bits)))
-      (ap (λ (l : LiveOf). l.terms) c.self.view_is)
-      (totals-to terms c.reach.ensures.range c.self.invariant.0.gaps before more c.args.bits held tail c.self.inside.place from at local part
-      c.runs_join.ensures c.runs_move.ensures c.ends_move.ensures c.runs_are_reports.ensures last c.move_on.new.items (group_item c.moved_end-group.result) c.fill_from-end.result
-      given_are end_is end_lawful c.moved_end-group.ensures
-      c.totals_join.ensures c.codes_tell_totals.ensures c.self.inside.totals c.of_items.result c.plus-totals.result c.ended.result.totals
-      (ap (λ (l : LiveOf). l.totals) heard) (c.of_items.ensures.value ∙ ap (λ (items : List Item). totals_of items) (c.deref.ensures.value ∙ found_are)) c.plus-totals.ensures.value c.ended.ensures.totals
-      ∙ ap (λ (items : List Item). totals_of items) report_is)
+  last_is : group_item c.ended.result.group ≡ moved_items at (items_of_end part terms.rules c.fill_from-end.result)
+  last_is = ap group_item c.ended.ensures.group ∙ c.moved_end-group.ensures
+
+  -- the same by the numbers alone
+  abbrev live : LiveOf
+  live = record { terms = terms; tail = tail; place = c.self.inside.place; state = c.self.inside.state; totals = c.self.inside.totals }
+
+  part_next : part ≡ part_with live c.args.bytes.now c.args.bits
+  part_next =
+      part-next live more c.args.bits from at local from_is refl c.moved_back-state.ensures.value part (8 * length tail + c.args.bits) refl
+      (part-is part terms.gaps at (from + c.args.bits) (8 * length tail + c.args.bits) c.push.new.self.bytes (tail ++ more) c.into_recording-part.ensures (omega (arith, from_is)) c.push.ensures.bytes)
+      ∙ part-begin live c.args.bytes.now c.div_ceil.result c.args.bits held
+
+  found_is : found ≡ run_next live c.args.bytes.now c.args.bits
+  found_is = run-next live c.args.bytes.now c.args.bits from at local from_is refl c.moved_back-state.ensures.value part (length_of part - from) part_next (omega (arith, long))
+
+  completed_is : (with_items c.fill_from-end.new.items c.move_on.new.items).items ≡ items_next live c.args.bytes.now c.args.bits
+  completed_is =
+      items_are
+      ∙ ap₂ (λ (d : ℕ) (r : State × List Item). moved_items d r.1) (there live c.args.bytes.now c.args.bits from at local from_is refl c.moved_back-state.ensures.value) found_is
+
+  closed_is : group_item c.ended.result.group ≡ group_next live c.args.bytes.now c.args.bits
+  closed_is =
+      group-next live c.args.bytes.now c.args.bits from at local from_is refl c.moved_back-state.ensures.value part c.fill_from-end.result (group_item c.ended.result.group) part_next
+      (end_is ∙ ap (λ (r : State × List Item). r.0) found_is) last_is
+
+  counted_is : c.ended.result.totals ≡ plus (plus c.self.inside.totals (totals_of (items_next live c.args.bytes.now c.args.bits))) (totals_of (group_next live c.args.bytes.now c.args.bits))
+  counted_is =
+      c.ended.ensures.totals
+      ∙ ap₂ (λ (t : Totals) (items : List Item). plus t (totals_of items))
+      (c.plus-totals.ensures.value ∙ ap (λ (t : Totals). plus c.self.inside.totals t)
+      (c.of_items.ensures.value ∙ ap (λ (items : List Item). totals_of items) (c.deref.ensures.value ∙ found_are ∙ ap (λ (r : State × List Item). r.1) found_is)
+      ∙ count-next live c.args.bytes.now c.args.bits c.codes_tell_totals.ensures))
+      (sym (ap group_item c.ended.ensures.group) ∙ closed_is)
+
+  module _ (before : List ℕ) (h : HasHeard c.args.self before) where
+    heard : HasHeard (record { terms = terms; tail = tail; place = c.self.inside.place; state = c.self.inside.state; totals = c.self.inside.totals }) before
+    heard = subst (λ (live : LiveOf). HasHeard live before) (sym c.self.view_is) h
+
+    last : IsLast terms c.reach.ensures.range c.self.invariant.0.gaps before more c.args.bits held tail c.self.inside.place from at local part
+    last =
+        let live = c.self.invariant.0 in
+        record {
+          tail_is = ap (λ (l : LiveOf). l.tail) heard;
+          place_is = ap (λ (l : LiveOf). l.place) heard;
+          part_is = part-is part terms.gaps at (from + c.args.bits) (8 * length tail + c.args.bits) c.push.new.self.bytes (tail ++ more) c.into_recording-part.ensures
+              (omega (arith, from_is)) c.push.ensures.bytes;
+          from_is = from_is;
+          before_is = refl;
+          local_is = c.moved_back-state.ensures.back ∙ ap (λ (l : LiveOf). l.state) heard;
+          lawful = state-in-part tail c.self.inside.place from live.kept live.whole from_is terms.rules local c.self.inside.state c.moved_back-state.ensures.back live.lawful;
+        }
+
+    report_is : report_at terms (before ++ more) (8 * length before + c.args.bits) ≡ report_at terms (before ++ c.args.bytes.now) (8 * length before + c.args.bits)
+    report_is = report-begin terms before c.args.bytes.now c.div_ceil.result (8 * length before + c.args.bits) (omega (arith, held, length-append before more))
+
+    items_of_report : complete c.args.self.terms before ++ (with_items c.fill_from-end.new.items c.move_on.new.items).items ++ group_item c.ended.result.group
+        ≡ report_at c.args.self.terms (before ++ c.args.bytes.now) (8 * length before + c.args.bits)
+    items_of_report =
+        let given : List Item = c.move_on.new.items in
+        subst (λ (t : Terms). complete t before ++ (with_items c.fill_from-end.new.items given).items ++ group_item c.ended.result.group ≡ report_at t (before ++ c.args.bytes.now) (8 * length before + c.args.bits))
+        (ap (λ (l : LiveOf). l.terms) c.self.view_is)
+        (report-to terms c.reach.ensures.range c.self.invariant.0.gaps before more c.args.bits held tail c.self.inside.place from at local part
+        c.runs_join.ensures c.runs_move.ensures c.ends_move.ensures c.runs_are_reports.ensures last (with_items c.fill_from-end.new.items given).items (group_item c.ended.result.group) c.fill_from-end.result
+        items_are end_is end_lawful last_is ∙ report_is)
+
+    totals_of_report : c.ended.result.totals ≡ totals_of (report_at c.args.self.terms (before ++ c.args.bytes.now) (8 * length before + c.args.bits))
+    totals_of_report =
+        subst (λ (t : Terms). c.ended.result.totals ≡ totals_of (report_at t (before ++ c.args.bytes.now) (8 * length before + c.args.bits)))
+        (ap (λ (l : LiveOf). l.terms) c.self.view_is)
+        (totals-to terms c.reach.ensures.range c.self.invariant.0.gaps before more c.args.bits held tail c.self.inside.place from at local part
+        c.runs_join.ensures c.runs_move.ensures c.ends_move.ensures c.runs_are_reports.ensures last c.move_on.new.items (group_item c.moved_end-group.result) c.fill_from-end.result
+        given_are end_is end_lawful c.moved_end-group.ensures
+        c.totals_join.ensures c.codes_tell_totals.ensures c.self.inside.totals c.of_items.result c.plus-totals.result c.ended.result.totals
+        (ap (λ (l : LiveOf). l.totals) heard) (c.of_items.ensures.value ∙ ap (λ (items : List Item). totals_of items) (c.deref.ensures.value ∙ found_are)) c.plus-totals.ensures.value c.ended.ensures.totals
+        ∙ ap (λ (items : List Item). totals_of items) report_is)
 
 pub returns-clause-items : goal.returns-clause-items
 returns-clause-items c before h = items_of_report (goal.at.returns-clause-items c).After-ended before h
 
 pub returns-clause-totals : goal.returns-clause-totals
 returns-clause-totals c before h = totals_of_report (goal.at.returns-clause-totals c).After-ended before h
+
+pub returns-clause-completed : goal.returns-clause-completed
+returns-clause-completed c =
+    let c = (goal.at.returns-clause-completed c).After-ended in
+    completed_is c ∙ ap (λ (l : LiveOf). items_next l c.args.bytes.now c.args.bits) c.self.view_is
+
+pub returns-clause-closed : goal.returns-clause-closed
+returns-clause-closed c =
+    let c = (goal.at.returns-clause-closed c).After-ended in
+    closed_is c ∙ ap (λ (l : LiveOf). group_next l c.args.bytes.now c.args.bits) c.self.view_is
+
+pub returns-clause-counted : goal.returns-clause-counted
+returns-clause-counted c =
+    let c = (goal.at.returns-clause-counted c).After-ended in
+    counted_is c ∙ ap (λ (l : LiveOf). plus (plus l.totals (totals_of (items_next l c.args.bytes.now c.args.bits))) (totals_of (group_next l c.args.bytes.now c.args.bits))) c.self.view_is

@@ -2,8 +2,9 @@ use Rattle.std.proofs.Common.{◌≡◌, ◌≤◌, ◌∙◌, ℕ, List, [], ap
 use Rattle.std.proofs.lemmas.Bool.{false≢true}
 use Rattle.std.proofs.lemmas.List.FromFn.{length-map-range_with_len}
 use Rattle.rds_stream.specs.Recording.{AreGaps, Signal, length_of, packed_bit}
-use Rattle.rds_live.specs.Room.{filled_up}
+use Rattle.rds_live.specs.Room.{AreSpareFrom, filled_up}
 use Rattle.rds_live.proofs.GapParts.{gaps-filled-up, length-filled-up}
+use Rattle.rds_live.proofs.SpareGaps.{spare-behind}
 use Rattle.rds_live.proofs.room.Room.new.Goals as goal
 
 -- no gaps are some that a recording may have
@@ -17,6 +18,9 @@ spare-are spare none slots is empty few =
 as-many : (spare none : List (ℕ × ℕ)) (slots : ℕ) → spare ≡ filled_up none slots → none ≡ [] → length spare ≡ slots
 as-many spare none slots is empty =
     ap length (is ∙ ap (λ (gaps : List (ℕ × ℕ)). filled_up gaps slots) empty) ∙ length-filled-up [] slots (omega arith)
+
+spare-from : (gaps spare none : List (ℕ × ℕ)) (slots : ℕ) → gaps ≡ spare → spare ≡ filled_up none slots → none ≡ [] → AreSpareFrom 0 gaps
+spare-from gaps spare none slots held is empty = spare-behind gaps [] slots (omega arith) (held ∙ is ∙ ap (λ (gs : List (ℕ × ℕ)). filled_up gs slots) empty)
 
 pub unreachable-requires : goal.unreachable-requires
 unreachable-requires c =
@@ -35,6 +39,8 @@ invariant_of-result c =
       ap (λ (b : Signal). length b.gaps) c.in-Ok.ensures.held ∙ many,
       omega (arith, c.min-slots.ensures),
       omega (arith, c.in_ok-gaps.ensures.capacity),
+      omega arith,
+      spare-from c.in-Ok.recording.gaps c.fill_up.new.gaps.items c.in_ok-spare.spare.items c.min-slots.result (ap (λ (b : Signal). b.gaps) c.in-Ok.ensures.held) c.fill_up.ensures.gaps c.in_ok-spare.ensures.items,
     )
 
 pub returns-clause-bytes : goal.returns-clause-bytes

@@ -1,0 +1,71 @@
+-- The gaps of a stream that are looked at for a part of it: those before them and those behind them have no place in the part.
+use Rattle.std.proofs.Common.{◌≡◌, ℕ, zero, suc, ◌+◌, ◌-◌, ◌<◌, ◌≤◌, List, [], ◌∷◌, drop, length, take, Bool, true, false, Option, None, leb, leb-true, ltb, min, refl, sym, ap, ◌∙◌, arith}
+use Rattle.std.specs.Prelude.{slice_index_or}
+use Rattle.std.specs.List.{cons_option, filter_map}
+use Rattle.std.specs.List.Sorted.{IsNonDecreasingBy, IsPartitionPoint}
+use Rattle.std.proofs.lemmas.Bool.{le-ltb, ltb-false}
+use Rattle.std.proofs.lemmas.List.{get_or-drop, length-drop}
+use Rattle.std.proofs.lemmas.List.Sorted.{IsNonDecreasingBy-from_all_adjacent}
+use Rattle.rds_stream.specs.Recording.{AreGaps}
+use Rattle.rds_live.specs.Gaps.{gaps_within, part_of_gap}
+
+-- the ends of gaps rise, and so do their beginnings
+pub ends-rise : (top : ℕ) (gaps : List (ℕ × ℕ)) → AreGaps top gaps → IsNonDecreasingBy (λ (gap : ℕ × ℕ). gap.1) gaps
+ends-rise top gaps are =
+    IsNonDecreasingBy-from_all_adjacent (λ (gap : ℕ × ℕ). gap.1) gaps (λ k d l. omega (arith, are.apart k d l, are.each (k + 1) d l))
+
+pub begins-rise : (top before first : ℕ) (gaps rest : List (ℕ × ℕ)) → AreGaps top gaps → rest ≡ drop first gaps → IsNonDecreasingBy (λ (gap : ℕ × ℕ). gap.0 - before) rest
+begins-rise top before first gaps rest are is =
+    IsNonDecreasingBy-from_all_adjacent (λ (gap : ℕ × ℕ). gap.0 - before) rest (λ k d l. rises k d l) where
+      at_gap : (k : ℕ) (d : ℕ × ℕ) → slice_index_or rest k d ≡ slice_index_or gaps (first + k) d
+      at_gap k d = ap (λ (gs : List (ℕ × ℕ)). slice_index_or gs k d) is ∙ get_or-drop first gaps k d
+
+      rises : (k : ℕ) (d : ℕ × ℕ) → k + 1 < length rest → (slice_index_or rest k d).0 - before ≤ (slice_index_or rest (k + 1) d).0 - before
+      rises k d l =
+          let next : first + (k + 1) ≡ first + k + 1 = omega arith in
+          let few : first + k + 1 < length gaps = omega (arith, l, ap length is, length-drop first gaps) in
+          omega (
+            arith,
+            are.apart (first + k) d few,
+            are.each (first + k) d (omega (arith, few)),
+            ap (λ (gap : ℕ × ℕ). gap.0) (at_gap k d),
+            ap (λ (gap : ℕ × ℕ). gap.0) (at_gap (k + 1) d ∙ ap (λ (n : ℕ). slice_index_or gaps n d) next),
+          )
+
+module _ (f : ℕ × ℕ → Option (ℕ × ℕ)) where
+  -- the first ones give nothing
+  skipped : (gaps : List (ℕ × ℕ)) (i : ℕ) → ((k : ℕ) (d : ℕ × ℕ) → k < i → f (slice_index_or gaps k d) ≡ None) → filter_map f (drop i gaps) ≡ filter_map f gaps
+  skipped gaps zero none = refl
+  skipped [] (suc i) none = refl
+  skipped (gap ∷ gaps) (suc i) none =
+      skipped gaps i (λ k d l. none (suc k) d (omega (arith, l))) ∙ sym (ap (λ (o : Option (ℕ × ℕ)). cons_option o (filter_map f gaps)) (none 0 gap (omega arith)))
+
+  -- and so do those from a number on
+  ended : (gaps : List (ℕ × ℕ)) (n : ℕ) → ((k : ℕ) (d : ℕ × ℕ) → n ≤ k → k < length gaps → f (slice_index_or gaps k d) ≡ None) → filter_map f (take n gaps) ≡ filter_map f gaps
+  ended [] zero none = refl
+  ended [] (suc n) none = refl
+  ended (gap ∷ gaps) zero none =
+      ended gaps zero (λ k d low high. none (suc k) d (omega arith) (omega (arith, high))) ∙ sym (ap (λ (o : Option (ℕ × ℕ)). cons_option o (filter_map f gaps)) (none 0 gap (omega arith) (omega arith)))
+  ended (gap ∷ gaps) (suc n) none =
+      ap (λ (rest : List (ℕ × ℕ)). cons_option (f gap) rest) (ended gaps n (λ k d low high. none (suc k) d (omega (arith, low)) (omega (arith, high))))
+
+module _ (before len : ℕ) where
+  ends-before : (gap : ℕ × ℕ) → leb gap.1 before ≡ true → part_of_gap before len gap ≡ None
+  ends-before gap e =
+      let none : min (gap.1 - before) len ≤ gap.0 - before = omega (arith, leb-true gap.1 before e) in
+      rw (le-ltb (gap.0 - before) (min (gap.1 - before) len) none) refl
+
+  begins-behind : (gap : ℕ × ℕ) → ltb (gap.0 - before) len ≡ false → part_of_gap before len gap ≡ None
+  begins-behind gap e =
+      let none : min (gap.1 - before) len ≤ gap.0 - before = omega (arith, ltb-false (gap.0 - before) len e) in
+      rw (le-ltb (gap.0 - before) (min (gap.1 - before) len) none) refl
+
+  -- without them the part has the same gaps
+  pub near-gaps : (gaps rest : List (ℕ × ℕ)) (first count : ℕ) → rest ≡ drop first gaps
+      → IsPartitionPoint (λ (gap : ℕ × ℕ). leb gap.1 before ≡ true) (λ (gap : ℕ × ℕ). leb gap.1 before ≡ false) gaps first
+      → IsPartitionPoint (λ (gap : ℕ × ℕ). ltb (gap.0 - before) len ≡ true) (λ (gap : ℕ × ℕ). ltb (gap.0 - before) len ≡ false) rest count
+      → gaps_within (take count rest) before len ≡ gaps_within gaps before len
+  near-gaps gaps rest first count is at_first at_count =
+      ended (part_of_gap before len) rest count (λ k d low high. begins-behind (slice_index_or rest k d) (at_count.1 k d low high))
+      ∙ ap (λ (gs : List (ℕ × ℕ)). gaps_within gs before len) is
+      ∙ skipped (part_of_gap before len) gaps first (λ k d low. ends-before (slice_index_or gaps k d) (at_first.0 k d (omega arith) low))

@@ -1,0 +1,228 @@
+-- Bytes that a decoder takes in two pieces give what they give at once.
+use Rattle.std.proofs.Common.{◌≡◌, ℕ, ◌+◌, ◌-◌, ◌*◌, ◌/◌, ◌^◌, ◌≤◌, ◌<◌, ◌⊎◌, List, [], ◌∷◌, ◌++◌, append_assoc, drop, length, map, refl, sym, ap, ap₂, subst, ◌∙◌, arith, inl, inr}
+use Rattle.std.specs.Prelude.{slice_index}
+use Rattle.std.specs.List.{list_any}
+use Rattle.std.proofs.lemmas.Bool.{cases_lt}
+use Rattle.std.proofs.lemmas.List.{append-nil, length-append, length-drop, map-append}
+use Rattle.rds_stream.specs.Recording.{AreGaps, Signal, is_touched_by, length_of}
+use Rattle.rds_sync.specs.declared.state.State.{State}
+use Rattle.rds_sync.specs.declared.state.State.TheVariants.{Searching, Locked}
+use Rattle.rds_sync.specs.declared.item.Item.{Item}
+use Rattle.rds_sync.specs.declared.item.Item.TheVariants.{Acquired, Group, LostLock}
+use Rattle.rds_sync.specs.declared.totals.Totals.{Totals}
+use Rattle.rds_sync.specs.Rules.{RuleNumbers}
+use Rattle.rds_sync.specs.Ranges.{IsInRange}
+use Rattle.rds_sync.specs.Lawful.{IsLawful}
+use Rattle.rds_sync.specs.Laws.{RunsAreLawful, RunsJoin}
+use Rattle.rds_sync.specs.Counting.{TotalsJoin, plus}
+use Rattle.rds_sync.specs.Totals.{totals_of}
+use Rattle.rds_sync.specs.Step.{run}
+use Rattle.rds_live.specs.Gaps.{gaps_within}
+use Rattle.rds_live.specs.Live.{IsLive, LiveOf, last_bytes, most_kept, signal_at}
+use Rattle.rds_live.specs.Moving.{IsPartHeard, RunsMove, moved_item, moved_items, moved_state, most_behind}
+use Rattle.rds_live.specs.Next.{before_tail, completed, live_next, moved_back, part_with, run_next}
+use Rattle.rds_live.proofs.Following.{last-bytes, lawful-back, state-in-part}
+use Rattle.rds_live.proofs.GapParts.{TouchAlike, part-touched}
+use Rattle.rds_live.proofs.Nexts.{live-next}
+use Rattle.rds_live.proofs.Parts.{bits-heard, first-part, last-part, length-at}
+use Rattle.rds_live.proofs.Rooms.{run-in-room}
+
+-- moved twice
+state-twice : (d k e : ℕ) (s : State) → d + k ≡ e → moved_state d (moved_state k s) ≡ moved_state e s
+state-twice d k e Searching is = refl
+state-twice d k e (Locked lock) is = let there : lock.due + k + d ≡ lock.due + e = omega (arith, is) in ap (λ (p : ℕ). Locked (record lock { due = p })) there
+
+item-twice : (d k e : ℕ) (item : Item) → d + k ≡ e → moved_item d (moved_item k item) ≡ moved_item e item
+item-twice d k e (Acquired a x) is = let there : a + k + d ≡ a + e = omega (arith, is) in ap (λ (p : ℕ). Acquired p x) there
+item-twice d k e (Group g) is = let there : g.place + k + d ≡ g.place + e = omega (arith, is) in ap (λ (p : ℕ). Group (record g { place = p })) there
+item-twice d k e (LostLock a) is = let there : a + k + d ≡ a + e = omega (arith, is) in ap (λ (p : ℕ). LostLock p) there
+
+items-twice : (d k e : ℕ) (items : List Item) → d + k ≡ e → moved_items d (moved_items k items) ≡ moved_items e items
+items-twice d k e [] is = refl
+items-twice d k e (item ∷ items) is = ap₂ (λ (x : Item) (xs : List Item). x ∷ xs) (item-twice d k e item is) (items-twice d k e items is)
+
+-- back and on again
+pub back-on : (rules : RuleNumbers) (d place : ℕ) (s : State) → IsLawful rules place s → d ≤ place → moved_state d (moved_back d s) ≡ s
+back-on rules d place Searching lawful early = refl
+back-on rules d place (Locked lock) lawful early =
+    let there : lock.due - d + d ≡ lock.due = omega (arith, lawful.soon, early) in
+    ap (λ (p : ℕ). Locked (record lock { due = p })) there
+
+on-back : (rules : RuleNumbers) (d k e place : ℕ) (s : State) → IsLawful rules place s → k ≤ place → d + k ≡ e → moved_state k (moved_back e (moved_state d s)) ≡ s
+on-back rules d k e place Searching lawful early is = refl
+on-back rules d k e place (Locked lock) lawful early is =
+    let there : lock.due + d - e + k ≡ lock.due = omega (arith, lawful.soon, early, is) in
+    ap (λ (p : ℕ). Locked (record lock { due = p })) there
+
+-- the windows of a part of a part are touched as in the first
+within-touched : (d e m n : ℕ) (gaps : List (ℕ × ℕ)) → AreGaps (2 ^ 36) gaps → m + e ≤ n → TouchAlike e m (gaps_within gaps d n) (gaps_within gaps (d + e) m)
+within-touched d e m n gaps are fits i late early =
+    let there : i + (d + e) ≡ i + e + d = omega arith in
+    part-touched (2 ^ 36) (d + e) m gaps are i late early
+    ∙ ap (λ (p : ℕ). list_any (is_touched_by p) gaps) there
+    ∙ sym (part-touched (2 ^ 36) d n gaps are (i + e) (omega (arith, late)) (omega (arith, early, fits)))
+
+plus-assoc : (t a b : Totals) → plus (plus t a) b ≡ plus t (plus a b)
+plus-assoc t a b =
+    let at : (n : ℕ) → slice_index t.bursts n + slice_index a.bursts n + slice_index b.bursts n ≡ slice_index t.bursts n + (slice_index a.bursts n + slice_index b.bursts n) = λ n. omega arith in
+    let valid : t.valid + a.valid + b.valid ≡ t.valid + (a.valid + b.valid) = omega arith in
+    let lost : t.lost + a.lost + b.lost ≡ t.lost + (a.lost + b.lost) = omega arith in
+    let bits : t.bits + a.bits + b.bits ≡ t.bits + (a.bits + b.bits) = omega arith in
+    let groups : t.groups + a.groups + b.groups ≡ t.groups + (a.groups + b.groups) = omega arith in
+    let complete : t.complete + a.complete + b.complete ≡ t.complete + (a.complete + b.complete) = omega arith in
+    let acquired : t.acquired + a.acquired + b.acquired ≡ t.acquired + (a.acquired + b.acquired) = omega arith in
+    let losses : t.losses + a.losses + b.losses ≡ t.losses + (a.losses + b.losses) = omega arith in
+    rw (valid, at 0, at 1, at 2, at 3, at 4, lost, bits, groups, complete, acquired, losses) refl
+
+module _ (joins : RunsJoin) (lawfuls : RunsAreLawful) (moves : RunsMove) (live : LiveOf) (first second : List ℕ) (range : IsInRange live.terms.rules) (known : IsLive live) where
+  abbrev rules : RuleNumbers
+  rules = live.terms.rules
+
+  abbrev gaps : List (ℕ × ℕ)
+  gaps = live.terms.gaps
+
+  abbrev d : ℕ
+  d = before_tail live
+
+  abbrev f : ℕ
+  f = 8 * length live.tail
+
+  abbrev n1 : ℕ
+  n1 = 8 * length first
+
+  abbrev n2 : ℕ
+  n2 = 8 * length second
+
+  abbrev n : ℕ
+  n = 8 * length (first ++ second)
+
+  abbrev local : State
+  local = moved_back d live.state
+
+  abbrev one : Signal
+  one = part_with live first n1
+
+  abbrev whole : Signal
+  whole = part_with live (first ++ second) n
+
+  abbrev next : LiveOf
+  next = live_next live first
+
+  abbrev two : Signal
+  two = part_with next second n2
+
+  -- how many bytes are forgotten between the two
+  abbrev k : ℕ
+  k = length (live.tail ++ first) - most_kept
+
+  abbrev f1 : ℕ
+  f1 = 8 * length next.tail
+
+  all : n ≡ n1 + n2
+  all = omega (arith, length-append first second)
+
+  kept : length next.tail ≡ length (live.tail ++ first) - k
+  kept = length-drop k (live.tail ++ first)
+
+  both : length (live.tail ++ first) ≡ length live.tail + length first
+  both = length-append live.tail first
+
+  d-next : d + 8 * k ≡ before_tail next
+  d-next = omega (arith, kept, both, known.kept, known.whole)
+
+  f-next : f1 + 8 * k ≡ f + n1
+  f-next = omega (arith, kept, both)
+
+  early : (8 * k ≡ 0) ⊎ (most_behind ≤ f1)
+  early = elim (cases_lt (length (live.tail ++ first)) 31) [
+    | inl few ↦ inl (omega arith)
+    | inr many ↦ inr (omega (arith, kept))
+  ]
+
+  lawful : IsLawful rules f local
+  lawful =
+      state-in-part live.tail live.place f known.kept known.whole refl rules local live.state (back-on rules d live.place live.state known.lawful (omega arith)) known.lawful
+
+  end-lawful : IsLawful rules (f + n1) (run_next live first n1).0
+  end-lawful =
+      let count : f + n1 - f ≡ n1 = omega arith in
+      subst (λ (m : ℕ). IsLawful rules (f + n1) (run one rules local f m).0) count (lawfuls one rules range.some_loss local f (f + n1) (omega arith) lawful)
+
+  first-heard : IsPartHeard whole one 0 0
+  first-heard =
+      let heard : IsPartHeard (signal_at (gaps_within gaps d (f + n)) ((live.tail ++ first) ++ second) (f + n)) (signal_at (gaps_within gaps (d + 0) (f + n1)) (live.tail ++ first) (f + n1)) (8 * 0) 0 =
+      bits-heard ((live.tail ++ first) ++ second) (live.tail ++ first) 0 (first-part (live.tail ++ first) second) (f + n1) (f + n) (omega (arith, both)) (omega (arith, all))
+      (gaps_within gaps d (f + n)) (gaps_within gaps (d + 0) (f + n1)) (within-touched d 0 (f + n1) (f + n) gaps known.gaps (omega (arith, all))) 0 (inl refl) in
+      let none : d + 0 ≡ d = omega arith in
+      subst (λ (m : ℕ). IsPartHeard whole (signal_at (gaps_within gaps m (f + n1)) (live.tail ++ first) (f + n1)) 0 0) none
+      (subst (λ (xs : List ℕ). IsPartHeard (signal_at (gaps_within gaps d (f + n)) xs (f + n)) (signal_at (gaps_within gaps (d + 0) (f + n1)) (live.tail ++ first) (f + n1)) 0 0)
+      (append_assoc live.tail first second) heard)
+
+  second-heard : IsPartHeard whole two (8 * k) f1
+  second-heard =
+      let tail : List ℕ = last_bytes (live.tail ++ first) in
+      let heard : IsPartHeard (signal_at (gaps_within gaps d (f + n)) ((live.tail ++ first) ++ second) (f + n)) (signal_at (gaps_within gaps (d + 8 * k) (f1 + n2)) (tail ++ second) (f1 + n2)) (8 * k) f1 =
+      bits-heard ((live.tail ++ first) ++ second) (tail ++ second) k (last-part (live.tail ++ first) second) (f1 + n2) (f + n) (omega (arith, length-append tail second)) (omega (arith, f-next, all))
+      (gaps_within gaps d (f + n)) (gaps_within gaps (d + 8 * k) (f1 + n2)) (within-touched d (8 * k) (f1 + n2) (f + n) gaps known.gaps (omega (arith, f-next, all))) f1 early in
+      subst (λ (m : ℕ). IsPartHeard whole (signal_at (gaps_within gaps m (f1 + n2)) (tail ++ second) (f1 + n2)) (8 * k) f1) d-next
+      (subst (λ (xs : List ℕ). IsPartHeard (signal_at (gaps_within gaps d (f + n)) xs (f + n)) (signal_at (gaps_within gaps (d + 8 * k) (f1 + n2)) (tail ++ second) (f1 + n2)) (8 * k) f1)
+      (append_assoc live.tail first second) heard)
+
+  run-first : run whole rules local f n1 ≡ run_next live first n1
+  run-first =
+      run-in-room moves whole one rules local f n1 range first-heard lawful
+      (omega (arith, length-at (gaps_within gaps d (f + n1)) (live.tail ++ first) (f + n1)))
+
+  state-there : moved_state (8 * k) (moved_back (before_tail next) next.state) ≡ (run_next live first n1).0
+  state-there = on-back rules d (8 * k) (before_tail next) (f + n1) (run_next live first n1).0 end-lawful (omega (arith, f-next)) d-next
+
+  run-second : run whole rules (run_next live first n1).0 (f + n1) n2 ≡ (moved_state (8 * k) (run_next next second n2).0, moved_items (8 * k) (run_next next second n2).1)
+  run-second =
+      let here : State = moved_back (before_tail next) next.state in
+      let next_lawful = lawful-back rules (8 * k) f1 (f + n1) here (run_next live first n1).0 state-there end-lawful f-next early in
+      ap₂ (λ (s : State) (p : ℕ). run whole rules s p n2) (sym state-there) (sym f-next)
+      ∙ moves whole two rules (8 * k) here f1 n2 range.some_loss range.reach next_lawful second-heard
+      (omega (arith, length-at (gaps_within gaps (before_tail next) (f1 + n2)) (next.tail ++ second) (f1 + n2)))
+
+  run-both : run_next live (first ++ second) n
+      ≡ (moved_state (8 * k) (run_next next second n2).0, (run_next live first n1).1 ++ moved_items (8 * k) (run_next next second n2).1)
+  run-both =
+      let total : f + n - f ≡ n = omega arith in
+      let front : f + n1 - f ≡ n1 = omega arith in
+      let rest : f + n - (f + n1) ≡ n2 = omega (arith, all) in
+      ap (λ (m : ℕ). run whole rules local f m) (sym total)
+      ∙ joins whole rules local f (f + n1) (f + n) (omega arith) (omega (arith, all))
+      ∙ ap₂ (λ (a b : ℕ). (
+        (run whole rules (run whole rules local f a).0 (f + n1) b).0,
+        (run whole rules local f a).1 ++ (run whole rules (run whole rules local f a).0 (f + n1) b).1,
+      )) front rest
+      ∙ ap (λ (r : State × List Item). ((run whole rules r.0 (f + n1) n2).0, r.1 ++ (run whole rules r.0 (f + n1) n2).1)) run-first
+      ∙ ap (λ (r : State × List Item). (r.0, (run_next live first n1).1 ++ r.1)) run-second
+
+  pub completed-both : completed live first ++ completed next second ≡ completed live (first ++ second)
+  completed-both =
+      sym (ap (λ (r : State × List Item). moved_items d r.1) run-both
+      ∙ map-append (moved_item d) (run_next live first n1).1 (moved_items (8 * k) (run_next next second n2).1)
+      ∙ ap (λ (xs : List Item). completed live first ++ xs) (items-twice d (8 * k) (before_tail next) (run_next next second n2).1 d-next))
+
+  pub next-both : TotalsJoin → live_next next second ≡ live_next live (first ++ second)
+  next-both join =
+      live-next live (first ++ second) (last_bytes (next.tail ++ second)) (next.place + n2) (moved_state (before_tail next) (run_next next second n2).0) (plus next.totals (totals_of (completed next second)))
+      (last-bytes (live.tail ++ first) second ∙ ap last_bytes (append_assoc live.tail first second))
+      (omega (arith, all))
+      (sym (ap (λ (r : State × List Item). moved_state d r.0) run-both ∙ state-twice d (8 * k) (before_tail next) (run_next next second n2).0 d-next))
+      (plus-assoc live.totals (totals_of (completed live first)) (totals_of (completed next second))
+      ∙ ap (λ (t : Totals). plus live.totals t)
+      (sym (join (completed live first) (completed next second)).joined ∙ ap (λ (items : List Item). totals_of items) completed-both))
+
+-- ---- no bytes
+
+pub none-next : (live : LiveOf) → IsLive live → plus live.totals (totals_of []) ≡ live.totals → live_next live [] ≡ live
+none-next live known still =
+    let few : length live.tail - most_kept ≡ 0 = omega (arith, known.kept) in
+    let place : live.place ≡ live.place + 0 = omega arith in
+    sym (live-next live [] live.tail live.place live.state live.totals
+    (sym (ap last_bytes (append-nil live.tail) ∙ ap (λ (n : ℕ). drop n live.tail) few))
+    place
+    (sym (back-on live.terms.rules (before_tail live) live.place live.state known.lawful (omega arith)))
+    (sym still))

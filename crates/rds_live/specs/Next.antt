@@ -1,0 +1,70 @@
+-- What a decoder of a stream gives and knows next, by its numbers alone: by those that a decoder was left with, and by others that are
+-- lawful and of no stream. `take`, `take_all`, `finish` and `finish_with` of `Live` cite it. This project's rule.
+use Rattle.std.specs.Prelude.{◌≡◌, ℕ, ◌+◌, ◌-◌, ◌*◌, ◌^◌, ◌≤◌, List, ◌++◌, length}
+use Rattle.rds_stream.specs.Recording.{Signal}
+use Rattle.rds_sync.specs.declared.state.State.{State}
+use Rattle.rds_sync.specs.declared.state.State.TheVariants.{Searching, Locked}
+use Rattle.rds_sync.specs.declared.item.Item.{Item}
+use Rattle.rds_sync.specs.Counting.{plus}
+use Rattle.rds_sync.specs.Ranges.{IsInRange}
+use Rattle.rds_sync.specs.Step.{run, items_of_end}
+use Rattle.rds_sync.specs.Totals.{totals_of}
+use Rattle.rds_live.specs.Gaps.{gaps_within}
+use Rattle.rds_live.specs.Live.{HasHeard, IsLive, LiveOf, complete, last_bytes, live_of, signal_at}
+use Rattle.rds_live.specs.Moving.{moved_items, moved_state}
+
+-- the state, where all places are so many less
+abbrev pub moved_back : ℕ → State → State
+moved_back d Searching = Searching
+moved_back d (Locked lock) = Locked (record lock { due = lock.due - d })
+
+-- how many bits of the stream come before the bytes that are kept
+abbrev pub before_tail : LiveOf → ℕ
+before_tail live = live.place - 8 * length live.tail
+
+-- the bytes that are kept and the first bits of these as a recording, with the gaps in them
+abbrev pub part_with : LiveOf → List ℕ → ℕ → Signal
+part_with live bytes bits =
+    signal_at (gaps_within live.terms.gaps (before_tail live) (8 * length live.tail + bits)) (live.tail ++ bytes) (8 * length live.tail + bits)
+
+-- the run over these bits, by the places of that recording
+abbrev pub run_next : LiveOf → List ℕ → ℕ → State × List Item
+run_next live bytes bits =
+    run (part_with live bytes bits) live.terms.rules (moved_back (before_tail live) live.state) (8 * length live.tail) bits
+
+-- the items that these bits complete, by their places in the stream
+abbrev pub items_next : LiveOf → List ℕ → ℕ → List Item
+items_next live bytes bits = moved_items (before_tail live) (run_next live bytes bits).1
+
+-- the group in progress behind them, if there is one
+abbrev pub group_next : LiveOf → List ℕ → ℕ → List Item
+group_next live bytes bits =
+    moved_items (before_tail live) (items_of_end (part_with live bytes bits) live.terms.rules (run_next live bytes bits).0)
+
+-- the items that these bytes complete
+abbrev pub completed : LiveOf → List ℕ → List Item
+completed live bytes = items_next live bytes (8 * length bytes)
+
+-- what is known after these bytes
+abbrev pub live_next : LiveOf → List ℕ → LiveOf
+live_next live bytes = record {
+  terms = live.terms;
+  tail = last_bytes (live.tail ++ bytes);
+  place = live.place + 8 * length bytes;
+  state = moved_state (before_tail live) (run_next live bytes (8 * length bytes)).0;
+  totals = plus live.totals (totals_of (completed live bytes));
+}
+
+-- ---- laws
+
+-- bytes that are taken in two pieces give what they give at once
+abbrev pub PiecesJoin : Type 0
+PiecesJoin = (live : LiveOf) (first second : List ℕ) → IsInRange live.terms.rules → IsLive live
+    → (live_next (live_next live first) second ≡ live_next live (first ++ second))
+    × (completed live first ++ completed (live_next live first) second ≡ completed live (first ++ second))
+
+-- of a stream that was heard, this is what is known of it, and the items are those of the stream
+abbrev pub NextIsHeard : Type 0
+NextIsHeard = (live : LiveOf) (before bytes : List ℕ) → IsInRange live.terms.rules → IsLive live → HasHeard live before
+    → HasHeard (live_next live bytes) (before ++ bytes)
+    × (complete live.terms before ++ completed live bytes ≡ complete live.terms (before ++ bytes))
