@@ -1,22 +1,20 @@
 #!/usr/bin/env bash
-# Time that grows as the input does: tests/growth.sh PATH-TO-RDS [LIBRARY-FOLDER [--gaps]]
+# Time that grows as the input does: tests/growth.sh PATH-TO-RDS [LIBRARY-FOLDER]
 #
 # Runs jobs over inputs of three sizes, each four times the one before, and compares the processor time that they take: it
 # may grow eightfold from one size to the next. A job that goes over its input some times takes four times as long; one
 # that goes over it once more for each acquisition, gap, piece or row takes sixteen times. No time is compared with a number
 # of seconds. Other programs disturb a measurement: the least time of a size counts, and a job has failed where it grows
 # so in fifteen attempts.
-# Then it compares jobs that do the same in two ways: a stream and a list, many workers and one, a reader that is slow and a file, calls
-# of the library for C and a list. With --gaps it compares those with ten thousand gaps too, which are no part of the gate: today
-# `follow` and rds_push go over all gaps for each 960 bytes, and take some three times as long as a list.
+# Then it compares jobs that do the same in two ways: a stream and a list, both with ten thousand gaps too, many workers and one, a reader
+# that is slow and a file, calls of the library for C and a list.
 # The last line is 'N passed, M failed', and the exit status says whether all passed.
 
-usage='usage: tests/growth.sh PATH-TO-RDS [LIBRARY-FOLDER [--gaps]]'
+usage='usage: tests/growth.sh PATH-TO-RDS [LIBRARY-FOLDER]'
 # shellcheck source-path=SCRIPTDIR source=common.sh
 . "$(dirname "$0")/common.sh" || exit
 check_programs "${1:-}"
 if [ $# -gt 1 ] && [ ! -f "$2/librds.a" ]; then misused; fi
-case ${3:-} in '' | --gaps) ;; *) misused ;; esac
 rds=$(realpath "$1")
 library=${2:+$(realpath "$2")}
 limit_time "$rds"
@@ -163,9 +161,11 @@ beside() {
 }
 
 one=("$rds" list --workers 1)
+many=$(gaps 10000 9 5)
 beside 2 cat station.16 "$rds" follow beside "${one[@]}"
 beside 2 cat losing.16 "$rds" follow beside "${one[@]}"
 beside 2 cat station.16 "$rds" follow --bits 19000001 beside "${one[@]}" --bits 19000001
+beside 2 cat station.16 "$rds" follow --gaps "$many" beside "${one[@]}" --gaps "$many"
 for workers in 8 32; do
     beside 4 cat station.16 "$rds" scan --workers $workers beside "$rds" scan --workers 1
     beside 4 cat station.16 "$rds" list --workers $workers beside "${one[@]}"
@@ -182,13 +182,9 @@ if [ -n "$library" ]; then
     # ranges of 16,384 bits, and of 4,096
     beside 4 cat station.16 ./run 16384 beside "${one[@]}"
     beside 8 cat station.16 ./run 4096 beside "${one[@]}"
+    beside 2 cat station.16 ./push 65536 10000 beside "${one[@]}" --gaps "$many"
 else
     echo 'skipped: calls of the library, which is not given'
-fi
-if [ -n "${3:-}" ]; then
-    many=$(gaps 10000 9 5)
-    beside 2 cat station.16 "$rds" follow --gaps "$many" beside "${one[@]}" --gaps "$many"
-    beside 2 cat station.16 ./push 65536 10000 beside "${one[@]}" --gaps "$many"
 fi
 
 finish
