@@ -14,6 +14,7 @@ LIBRARIES = ["rds_code", "rds_stream", "rds_sync", "rds_live", "rds_abi", "rds_p
 EXPORTED = "rds_c"
 # The callers of the libraries, proved from contracts alone.
 CALLERS = "rds_uses"
+PROGRAM = "rds"
 # The hole is of any type: its goal is printed, and the statement of a function takes long to print.
 HOLE = """use Rattle.{crate}.proofs.{path}.Statement.{{statement}}
 
@@ -86,11 +87,16 @@ def holders(text):
         yield it.end(), past(text, it.end()), kind.split()[0], kind.split()[0] + trait.strip().rpartition(":")[2]
 
 
+def root_of(folder):
+    """The root module of a crate."""
+    return "main" if os.path.isfile(f"{folder}/src/main.rt") else "lib"
+
+
 def functions_of(folder):
     """All functions of a crate."""
     crate, modules = os.path.basename(folder), sorted(it[:-3] for it in os.listdir(f"{folder}/src"))
-    texts = {it: blanked(read(f"{folder}/src/{it}.rt")) for it in modules}
-    exported = set(re.findall(r"\w+", " ".join(re.findall(r"pub (?:use \w+::|mod )([^;]*);", texts["lib"]))))
+    root, texts = root_of(folder), {it: blanked(read(f"{folder}/src/{it}.rt")) for it in modules}
+    exported = set(re.findall(r"\w+", " ".join(re.findall(r"pub (?:use \w+::|mod )([^;]*);", texts[root]))))
     home = {kind: it for it in texts for kind in re.findall(r"^pub.* (?:struct|enum|trait) (\w+)", texts[it], re.M)}
     for module, text in texts.items():
         inside = list(holders(text))
@@ -107,7 +113,7 @@ def functions_of(folder):
             at += re.match(r"\s*", text[at:]).end()
             end = past(text, at) if text[at] == "{" else at
             is_open = it[1] == "pub " or not it[1] and (owner != kind or end == at)
-            path = ".".join(filter(None, [home.get(kind, module), owner, it[2]]))
+            path = ".".join(filter(None, [home.get(kind, module if module != root else None), owner, it[2]]))
             is_public = is_open and bool({module, kind or it[2]} & exported)
             yield Function(
                 crate, f"{crate}/src/{module}.rt", path, is_public, (it.start(), end), text[at:end], clauses
@@ -166,7 +172,7 @@ def over(crate, where=built):
 
 def of_kit(crate, kit):
     """The words of each command over a crate and these libraries of the toolchain."""
-    said = ["--crate-name", crate, "src/lib.rt", "--logic-built", f"{KIT}/logic_built"]
+    said = ["--crate-name", crate, f"src/{root_of(f'{TOP}/crates/{crate}')}.rt", "--logic-built", f"{KIT}/logic_built"]
     said += ["--antt-project", f"{KIT}/rattle/logic/antt-project.json", "-L", f"dependency={KIT}/rlibs"]
     return said + [word for it in sorted(kit) for word in ("--extern", f"{it}={KIT}/rlibs/{it}.rlib")]
 

@@ -148,7 +148,7 @@ def compare_numbers():
     crates = {line.split(":")[0].split()[0] for line in read("crates.txt").splitlines() if not line.startswith("#")}
     named = set(re.findall(r"`(rds(?:_\w+)?)`", between(read("docs/ARCHITECTURE.md"), "## The crates", "\n## ")))
     same("docs/ARCHITECTURE.md, crates", crates, named & crates)
-    for crate, count in re.findall(r"^\| `?(rds_\w+)`? \|.*\| (\d+) edits", read("docs/TESTING.md"), re.M):
+    for crate, count in re.findall(r"^\| `?(rds(?:_\w+)?)`? \|.*\| (\d+) edits", read("docs/TESTING.md"), re.M):
         folders = (f"crates/{crate}/{kind}" for kind in ("wrong", "must-fail"))
         same(f"docs/TESTING.md, edits of {crate}", sum(len(os.listdir(it)) for it in folders if os.path.isdir(it)), int(count))
 

@@ -36,7 +36,7 @@ from dataclasses import dataclass, replace
 from threading import Semaphore
 
 from holes import (
-    CALLERS, EXPORTED, LIBRARIES, RT, TOP, below, built, checked, copied, functions_of, is_built, over, read, words, write
+    CALLERS, EXPORTED, LIBRARIES, PROGRAM, RT, TOP, below, built, checked, copied, functions_of, is_built, over, read, words, write
 )
 
 CRATES = f"{TOP}/crates"
@@ -354,7 +354,7 @@ def tried(crates, are_right, log):
 
 def main(names, are_right, log):
     told = told_of()
-    crates = [it for it in [*LIBRARIES, EXPORTED, CALLERS] if os.path.isdir(f"{CRATES}/{it}/wrong")]
+    crates = [it for it in [*LIBRARIES, EXPORTED, CALLERS, PROGRAM] if os.path.isdir(f"{CRATES}/{it}/wrong")]
     if unknown := [it for it in names if it not in crates]:
         sys.exit(f"there are no wrong bodies of {', '.join(unknown)}")
     bodies = tried([it for it in crates if it in (names or crates)], are_right, log)
