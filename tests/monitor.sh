@@ -17,7 +17,7 @@ python=${PYTHON:-/usr/bin/python3}
 
 # tried NAME COMMAND..: passes if the command ends in status 0, and else shows its output
 tried() {
-  if timeout 900 "${@:2}" > "$work/said" 2>&1; then pass; else
+  if timeout 1100 "${@:2}" > "$work/said" 2>&1; then pass; else
     fail "$1"
     sed 's/^/  /' "$work/said" | tail -40
   fi
@@ -35,7 +35,7 @@ if has mypy; then tried 'types' "$python" -m mypy --strict --cache-dir "$work/my
 if has pyflakes; then tried 'names' "$python" -m pyflakes monitor/rds_monitor monitor/tests bindings/python/librds; fi
 if has numpy pytest hypothesis; then
   workers=()
-  if has xdist; then workers=(-n "$(nproc)"); fi
+  if has xdist; then workers=(-n "$(nproc)" --dist loadgroup); fi
   tried 'the tests of monitor/' "$python" -B -m pytest -q -p no:cacheprovider "${workers[@]}" monitor/tests
   tail -n 1 "$work/said"
 

@@ -31,8 +31,8 @@ def browser(folder: Path, width: int = 1100, height: int = 900, dark: bool = Fal
     options.set_capability("goog:loggingPrefs", {"browser": "ALL"})
     driver = webdriver.Chrome(service=Service(shutil.which("chromedriver")), options=options)
     # A busy machine may take long to draw.
-    driver.set_page_load_timeout(300)
-    driver.set_script_timeout(300)
+    driver.set_page_load_timeout(600)
+    driver.set_script_timeout(600)
     try:
         yield driver
     finally:

@@ -16,7 +16,9 @@ from rds_monitor.report import D3, page_of, told_of
 from test_report import EVIL, station
 
 LACKING = [*missing(), *([] if Path(D3).exists() else ["libjs-d3"])]
-pytestmark = pytest.mark.skipif(bool(LACKING), reason="needs " + " and ".join(LACKING))
+# In one worker, so that there is one browser.
+pytestmark = [
+    pytest.mark.skipif(bool(LACKING), reason="needs " + " and ".join(LACKING)), pytest.mark.xdist_group("browser")]
 pytest.importorskip("jinja2")
 
 HOSTILE = printable("\u202eabc <img src=x onerror=alert(1)> A" + "\u0301" * 64 + "\x1b[31m 'q\" &lt;")

@@ -339,6 +339,11 @@ def test_the_flag_of_rt_turned_with_the_same_text_is_an_event() -> None:
     assert values(groups, "rt") == ["The same"]
 
 
+@pytest.mark.parametrize("content", [b"Traffic", b"Talks", b"0123456789ABCDE"])
+def test_the_end_of_a_text_is_no_part_of_it_however_often_it_comes(content: bytes) -> None:
+    assert values(10 * text(content + b"\r"), "rt") == [content.decode()]
+
+
 def test_a_text_after_a_turned_flag_is_no_mixture() -> None:
     first, second = text(b"AAAABBBBCCCC\r"), text(b"AAAABBBBDDDD\r", 1)
     assert values(first + second[2:] + second[:2], "rt") == ["AAAABBBBCCCC", "AAAABBBBDDDD"]

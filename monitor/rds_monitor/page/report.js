@@ -4,6 +4,8 @@
   const stations = JSON.parse(document.getElementById("data").textContent);
   const MARGIN = {left: 62, right: 10}, COLUMN = 2, ROWS = 200, SHORTEST = 60;
   const PARTS = ["missing", "lost", "corrected"];
+  // Group types with a colour of their own: most others come from wrong corrections.
+  const TYPES = 12, OTHER = "other";
   const SPANS = {minute: 60, hour: 3600, day: 86400};
   // The lanes of a chart from top to bottom, by their heights.
   const BLOCKS = 170, BAR = 12, MIX = 60, ITEM = 15, CLOCK = 50, AXIS = 22;
@@ -55,7 +57,8 @@
       this.to = Math.max(this.station.end, this.from + SHORTEST);
       this.collect();
       this.lanes = stretchesOf(this.sessions);
-      this.colour = d3.scale.category20().domain(this.types);
+      const colours = d3.scale.category20().domain(this.types.filter((it) => it !== OTHER));
+      this.colour = (type) => type === OTHER ? "#888" : colours(type);
       this.nameTypes();
       this.place();
       this.listen();
@@ -73,7 +76,27 @@
       this.clock = moved("clock", (at, [time, offset]) => [at + time, offset]);
       this.outages = moved("outages", (at, [begin, end]) => [at + begin, at + end]);
       this.events = moved("events", (at, [time, item, text]) => [at + time, item, text]);
-      this.types = [...new Set(this.mix.flatMap(([, counts]) => Object.keys(counts)))].sort();
+      this.types = this.commonTypes();
+    }
+
+    // The group types that are counted most, in order of name, and `other` for the rest, if there is one.
+    commonTypes() {
+      const sums = new Map();
+      for (const [, counts] of this.mix)
+        for (const type in counts) sums.set(type, (sums.get(type) || 0) + counts[type]);
+      const sorted = [...sums.keys()].sort((one, two) => sums.get(two) - sums.get(one)), most = sorted.slice(0, TYPES).sort();
+      if (sorted.length > TYPES)
+        for (const it of this.mix) it[1] = this.withOther(it[1], most);
+      return sorted.length > TYPES ? [...most, OTHER] : most;
+    }
+
+    withOther(counts, most) {
+      const told = {[OTHER]: 0};
+      for (const type in counts) {
+        if (most.includes(type)) told[type] = counts[type];
+        else told[OTHER] += counts[type];
+      }
+      return told;
     }
 
     nameTypes() {

@@ -1,0 +1,82 @@
+#!/usr/bin/env python3
+"""The pictures of the docs, of a page of three simulated stations: monitor/tests/pictures.py FOLDER
+
+It writes overview.png and station.png there, by Chromium. RDS_LIBRARY names the library.
+"""
+
+from __future__ import annotations
+
+import sys
+import tempfile
+from pathlib import Path
+from typing import List, Sequence
+
+import numpy
+
+from browser import browser
+from conftest import monitor
+from sent import Words, clock, group, name, text
+
+START = "2026-03-29T00:00:00Z"
+# Groups per second.
+PACE = 1187.5 / 104
+MJD = 61128
+
+
+def sent(pi: int, names: Sequence[bytes], texts: Sequence[bytes]) -> bytes:
+    """A day of a station that says its names and texts in turn, an hour each, and the time each minute."""
+    import librds
+
+    def bits(groups: List[Words]) -> bytes:
+        return bytes(librds.encode([(pi, *words[1:]) for words in groups]))
+
+    day, groups = [], 0
+    for minute in range(24 * 60):
+        hour = minute // 60
+        if minute % 60 == 0:
+            cycle = bits(name(names[hour % len(names)]) + text(texts[hour % len(texts)], hour % 2) + [group("8A", 0)])
+        count = int((minute + 1) * 60 * PACE) - groups - 1
+        groups += count + 1
+        day.append((cycle * (count // (len(cycle) // 13) + 1))[: 13 * count] + bits([clock(MJD, hour, minute % 60, 0)]))
+    return b"".join(day)
+
+
+def received(bits: bytes, rates: Sequence[float], outages: Sequence[Sequence[int]], seed: int) -> bytes:
+    """With bits wrong at a rate for each part of it, and noise in the outages, from second to second."""
+    random = numpy.random.default_rng(seed)
+    every = numpy.frombuffer(bits, "u1").copy()
+    for part, rate in zip(numpy.array_split(every, len(rates)), rates):
+        part ^= numpy.packbits(random.random(8 * len(part)) < rate)
+    for begin, end in outages:
+        low, high = (int(it * 1187.5 / 8) for it in (begin, end))
+        every[low:high] = random.integers(0, 256, high - low)
+    return every.tobytes()
+
+
+def main(into: Path) -> None:
+    stations = {
+        "alpha.bin": received(
+            sent(0xD312, [b"ALPHA   ", b"ALPHA FM"], [b"The morning show\r", b"News on the hour", b"Music all day long\r"]),
+            [0.001] * 8 + [0.004, 0.01, 0.02, 0.01, 0.004] + [0.001] * 11, [(30000, 30002), (61000, 61900)], 1),
+        "beta.bin": received(sent(0xD313, [b"BETA 104"], [b"Classics\r"]), [0.002], [], 2),
+        "gamma.bin": received(sent(0xD314, [b" GAMMA  "], [b"Talk\r", b"Traffic\r"]), [0.015], [(86360, 86390)], 3),
+    }
+    with tempfile.TemporaryDirectory() as given:
+        folder = Path(given)
+        for file, data in stations.items():
+            (folder / file).write_bytes(data)
+        for page, words in (("overview", list(stations)), ("station", ["--start", START, "alpha.bin"])):
+            done = monitor("report", *words, cwd=folder)
+            assert done.returncode == 0, done.stderr
+            (folder / f"{page}.html").write_bytes(done.stdout)
+        with browser(folder) as driver:
+            for page, height in (("overview", 520), ("station", 690)):
+                driver.get((folder / f"{page}.html").as_uri())
+                driver.set_window_size(1000, height)
+                driver.save_screenshot(str(into / f"{page}.png"))
+
+
+if __name__ == "__main__":
+    if len(sys.argv) != 2:
+        sys.exit(__doc__)
+    main(Path(sys.argv[1]))
