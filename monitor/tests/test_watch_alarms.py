@@ -23,7 +23,7 @@ class Judged:
         (station,) = table_of(stations('name = "Alpha"', 'command = ["a"]', *lines)).stations
         self.alarms, self.now = Alarms(station, 0.0), 0.0
         self.found: List[Tuple[str, bool, float]] = []
-        self.held: Dict[str, Any] = {}
+        self.held: Dict[str, Any] = {"pi": "D318"}
 
     def seconds(self, count: int, *, age: float = 0.1, quiet: float = 0.0, since: Optional[float] = None, **held: Any) -> "Judged":
         """So many seconds in which this holds; `age` and `quiet` grow if they are above 2."""
@@ -83,6 +83,9 @@ def test_another_pi() -> None:
     it.seconds(20, pi="D318")
     assert it.found == [("pi", True, 54.0), ("pi", False, 69.0)]
     assert Judged().seconds(50, pi="D319").found == []
+    unknown = Judged('pi = "D318"', 'ps = "ALPHA"')
+    unknown.held.clear()
+    assert unknown.seconds(100).found == []
 
 
 def test_no_contents_hold_their_alarms() -> None:

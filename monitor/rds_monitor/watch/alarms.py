@@ -68,11 +68,11 @@ class Alarm:
 
 class Watched(NamedTuple):
     """What was seen of a station up to now, on the monotonic clock: when the last byte came, how old the last valid block is
-    that counts, what holds, if there is a session, and since when rows cannot be written."""
+    that counts, what holds, and since when rows cannot be written. Without a PI nothing is known of the contents."""
 
     last_byte: float
     valid_age: float
-    held: Optional[Dict[str, Any]]
+    held: Dict[str, Any]
     unwritten_since: Optional[float]
 
 
@@ -80,7 +80,7 @@ class Alarms:
     """The alarms of one station."""
 
     def __init__(self, it: StationTable, now: float, speed: float = 1.0):
-        self._now, self._pause = now, PAUSE * speed
+        self._now, self._speed = now, speed
         self._values: Dict[str, Any] = {}
         self._minutes: Deque[float] = deque(maxlen=60)
         self._offsets: Deque[float] = deque(maxlen=60)
@@ -120,16 +120,17 @@ class Alarms:
 
     def judge(self, it: Watched, now: float) -> List[Change]:
         """The alarms that begin or end."""
-        passed, self._now, self._values = now - self._now, now, it.held or {}
+        passed, self._now, self._values = now - self._now, now, it.held
         age = it.valid_age
-        silent, dead = now - it.last_byte > self._pause, age > self._pause
+        pause = PAUSE * self._speed
+        silent, dead = now - it.last_byte > pause, age > pause
         found: List[Change] = []
         self._judge(found, "silent", Fault(it.last_byte, f"no byte for {now - it.last_byte:.0f} s") if silent else None)
         self._judge(found, "no_rds", Fault(now - age, f"no valid block for {age:.0f} s") if dead else None)
         self._judge_minutes(found)
         since = it.unwritten_since
         self._judge(found, "disk", None if since is None else Fault(since, f"rows wait to be written for {now - since:.0f} s"))
-        if silent or dead or it.held is None:
+        if silent or dead or "pi" not in self._values:
             self._hold(passed)
         else:
             self._judge_contents(found)
@@ -167,8 +168,8 @@ class Alarms:
         self._since = {name: since + passed for name, since in self._since.items()}
 
     def _judge_contents(self, found: List[Change]) -> None:
-        pi, expected = self._values.get("pi"), self._table.pi
-        if pi is not None and expected is not None:
+        pi, expected = self._values["pi"], self._table.pi
+        if expected is not None:
             self._flag(found, "pi", pi != expected, f"PI {pi} in place of {expected}")
         for name in ("ps", "rt"):
             if self._fits[name]:
@@ -213,8 +214,9 @@ class Alarms:
             return
         count = max(1, int(limits.ct))
         offsets = list(self._offsets)
-        off = [abs(it) > limits.ct_offset for it in offsets[-count:]]
-        fine = [abs(it) <= limits.ct_offset / 2 for it in offsets[-2:]]
+        most = limits.ct_offset * self._speed
+        off = [abs(it) > most for it in offsets[-count:]]
+        fine = [abs(it) <= most / 2 for it in offsets[-2:]]
         if len(off) == count and all(off):
             self._judge(found, "ct", Fault(self._now, f"CT is off by {offsets[-1]:+.1f} s"))
         elif len(fine) == 2 and all(fine):

@@ -190,7 +190,7 @@ def station_page(
     utc: float,
     refresh: int,
 ) -> str:
-    session = f"session since {_time(it['session_utc'])}" if it["session_utc"] else f"no session: the receiver {_text(it['reason'] or 'starts')}"
+    session = f"session since {_time(it['session_utc'])}" if it["session_utc"] else f"no session: {_text(it['reason'] or 'the receiver starts')}"
     parts = [
         f'<p><a href="index.html">RDS network</a></p><h1>{escape(name)}</h1>',
         f"<p>{_percent(it)}; {session}; {it['starts']} starts of the receiver. {_time(utc)}</p>",

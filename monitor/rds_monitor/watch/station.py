@@ -6,6 +6,7 @@ from typing import Any, Callable, Dict, List, Optional
 
 from ..charset import printable
 from ..items import Fault
+from ..schema import HELD
 from .alarms import Alarms, Change, Watched
 from .bits import BitSource, bit_source
 from .live import Append, LiveSession
@@ -41,6 +42,7 @@ class Station:
         self._blocks = {"valid": 0, "corrected": 0, "lost": 0, "missing": 0}
         self._last_minute: Optional[Dict[str, float]] = None
         self._clock_s: Optional[float] = None
+        self._shown: Dict[str, str] = {}
         self.appends: List[Append] = []
         self.records: List[Record] = []
         self.changes: List[Change] = []
@@ -134,7 +136,7 @@ class Station:
                 self.end_session(utc)
                 self.keeper.stop_run(steady, str(error))
         self._see_valid(steady)
-        held = held_values(self._session.contents.decoder) if self._session else None
+        held = held_values(self._session.contents.decoder) if self._session else {}
         age = steady - self._last_valid
         seen = Watched(self.keeper.last_byte, age, held, unwritten_since)
         for change in self.alarms.judge(seen, steady):
@@ -179,7 +181,9 @@ class Station:
     def state(self, utc: float) -> Dict[str, Any]:
         """What is known of the station now, for pages, metrics and `check`."""
         held = self._session.contents.decoder.held() if self._session else {}
-        shown = {item: printable(held[item].text) for item in ("pi", "ps", "rt", "pty", "tp", "ta", "ms") if item in held}
+        if "pi" in held:
+            # After the session the last contents are shown on.
+            self._shown = {item: printable(held[item].text) for item in HELD if item in held}
         timing = self._session.timing if self._session else None
         return {
             "utc": utc,
@@ -189,7 +193,7 @@ class Station:
             "starts": self.keeper.starts,
             "reason": printable(self.keeper.reason),
             "session_utc": timing.utc(0) if timing else None,
-            "held": shown,
+            "held": self._shown,
             "last_group_utc": self._whole_utc,
             "minute": self._last_minute,
             "clock_s": self._clock_s,
