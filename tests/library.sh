@@ -87,6 +87,10 @@ rows=("$work/rows")
 if has cargo; then
   export RDS_LIB_DIR=$library CARGO_TARGET_DIR=$work/cargo
   tried 'the crate for Rust, and its tests' cargo test --quiet --offline --manifest-path bindings/rust/Cargo.toml
+  tried 'its documentation, without the library' env -u RDS_LIB_DIR PKG_CONFIG_LIBDIR=/ \
+    cargo doc --quiet --offline --no-deps --manifest-path bindings/rust/Cargo.toml
+  tried 'a relative RDS_LIB_DIR' sh -c 'cd "$1/.." && RDS_LIB_DIR=${1##*/} cargo build --quiet --offline --examples --manifest-path "$2"' \
+    sh "$library" "$PWD/bindings/rust/Cargo.toml"
   tried 'programs in Rust' cargo build --quiet --offline --release --examples --manifest-path bindings/rust/Cargo.toml
   same 'the calls of the table by Rust' "$(grep -v '^name ' "$table")" \
     "$(grep -v '^name ' "$table" | timeout 60 "$work/cargo/release/examples/cases")"
