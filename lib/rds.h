@@ -31,6 +31,9 @@
  * rds_finish_run, rds_push, rds_finish, rds_finish_with and rds_correct ask for memory, by malloc, and have given it back when they
  * return.
  *
+ * A call takes time for the bits that it decodes and for the gaps that it is told, whatever the length of the recording or the
+ * stream. It takes at most 8192 bytes of stack.
+ *
  * What is said here of results is proved of the library's code: docs/PROOFS.md says what is, and what is only trusted.
  */
 #ifndef RDS_H

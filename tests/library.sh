@@ -76,8 +76,9 @@ done
 make_program() {
   tried "making $1" "${CC:-cc}" -std=c11 -D_DEFAULT_SOURCE "${strict[@]}" -o "$work/$1" "tests/library/$1.c" "$library/librds.a" -lpthread
 }
-for it in rows refused threads states streams cases texts; do make_program "$it"; done
+for it in rows refused threads states streams cases texts stack; do make_program "$it"; done
 tried 'texts' "$work/texts"
+tried 'the stack that calls take' "$work/stack" "$sample"
 
 # One table of calls with their answers, for C, Python, Rust and the second decoder.
 table=tests/library/cases.txt
