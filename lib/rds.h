@@ -31,6 +31,9 @@
  * rds_finish_run, rds_push, rds_finish, rds_finish_with and rds_correct ask for memory, by malloc, and have given it back when they
  * return.
  *
+ * A call takes time for the bits that it decodes and for the gaps that it is told, whatever the length of the recording or the
+ * stream. It takes at most 8192 bytes of stack.
+ *
  * What is said here of results is proved of the library's code: docs/PROOFS.md says what is, and what is only trusted.
  */
 #ifndef RDS_H
@@ -192,9 +195,9 @@ uint8_t rds_finish_run(const uint8_t *bytes, size_t bytes_len, uint64_t bits, co
  * places in the stream, and may lie ahead. However a stream was cut, from one of zeros on the items are those of rds_items of all
  * bytes so far, but for the group in progress, which rds_finish gives; no later byte changes them. Room for 16 items a byte is
  * never too little. Where there is too little room (64), count tells how many items there are, and nothing else is written: the
- * same bytes can be offered again. Numbers that no call can have left are refused (65); others are gone on with, whoever wrote
- * them. It asks for memory for the tables of the rules, the gaps, and the items: those that these bytes complete, and as many as
- * 960 bytes may. The bytes themselves take none. Refusals: 1, 2, 3, 15, then 16, 65, 5 (past 2^36 bits in all), 64, and 8. */
+ * same bytes can be offered again. Numbers that no call can have left are refused (65), such as a byte after the tail that is not
+ * zero, or a search that waits for a block; others are gone on with, whoever wrote them. It asks for memory for the tables of the
+ * rules, the gaps, and the items: those that these bytes complete, and as many as 960 bytes may. The bytes themselves take none. Refusals: 1, 2, 3, 15, then 16, 65, 5 (past 2^36 bits in all), 64, and 8. */
 RDS_MUST_USE
 uint8_t rds_push(const uint8_t *bytes, size_t bytes_len, const rds_gap_t *gaps, size_t gaps_len, const rds_rules_t *rules,
                              rds_stream_t *stream, rds_item_t *room, size_t room_len, uint64_t *count);

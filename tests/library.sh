@@ -76,8 +76,9 @@ done
 make_program() {
   tried "making $1" "${CC:-cc}" -std=c11 -D_DEFAULT_SOURCE "${strict[@]}" -o "$work/$1" "tests/library/$1.c" "$library/librds.a" -lpthread
 }
-for it in rows refused threads states streams cases texts; do make_program "$it"; done
+for it in rows refused threads states streams cases texts stack; do make_program "$it"; done
 tried 'texts' "$work/texts"
+tried 'the stack that calls take' "$work/stack" "$sample"
 
 # One table of calls with their answers, for C, Python, Rust and the second decoder.
 table=tests/library/cases.txt
@@ -87,6 +88,10 @@ rows=("$work/rows")
 if has cargo; then
   export RDS_LIB_DIR=$library CARGO_TARGET_DIR=$work/cargo
   tried 'the crate for Rust, and its tests' cargo test --quiet --offline --manifest-path bindings/rust/Cargo.toml
+  tried 'its documentation, without the library' env -u RDS_LIB_DIR PKG_CONFIG_LIBDIR=/ \
+    cargo doc --quiet --offline --no-deps --manifest-path bindings/rust/Cargo.toml
+  tried 'a relative RDS_LIB_DIR' sh -c 'cd "$1/.." && RDS_LIB_DIR=${1##*/} cargo build --quiet --offline --examples --manifest-path "$2"' \
+    sh "$library" "$PWD/bindings/rust/Cargo.toml"
   tried 'programs in Rust' cargo build --quiet --offline --release --examples --manifest-path bindings/rust/Cargo.toml
   same 'the calls of the table by Rust' "$(grep -v '^name ' "$table")" \
     "$(grep -v '^name ' "$table" | timeout 60 "$work/cargo/release/examples/cases")"

@@ -26,9 +26,7 @@ static void print_changes(uint64_t count)
 
 static int refused(uint8_t number)
 {
-    uint8_t name[RDS_NAME_ROOM];
-    rds_refusal_name(number, name, sizeof name);
-    fprintf(stderr, "refused %d %s\n", number, (const char *)name);
+    fprintf(stderr, "refused %d %s: %s\n", number, rds_refusal_text(number), rds_refusal_reason(number));
     return 1;
 }
 

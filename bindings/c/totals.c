@@ -33,9 +33,7 @@ int main(int count, char **words)
     }
     uint8_t refused = rds_totals(bytes, len, 8 * (uint64_t)len, NULL, 0, &rules, &totals);
     if (refused) {
-        uint8_t name[RDS_NAME_ROOM];
-        rds_refusal_name(refused, name, sizeof name);
-        fprintf(stderr, "refused %d %s\n", refused, (const char *)name);
+        fprintf(stderr, "refused %d %s: %s\n", refused, rds_refusal_text(refused), rds_refusal_reason(refused));
         return 1;
     }
     printf("%" PRIu64 " groups, %" PRIu64 " of them complete; %" PRIu64 " bits corrected\n", totals.groups, totals.complete,

@@ -146,6 +146,7 @@ def facts(structs, reasons):
     yield r"as many as (\d+) bytes may", [at_once]
     yield r"(\d+)\^(\d+) bits", [2, most_bits]
     yield r'such as "(\d+)\.(\d+)\.(\d+)"', three_of(re.search(r"^Version: (.*)$", text_of(f"{TOP}/lib/rds.pc.in"), re.M)[1])
+    yield r"at most (\d+) bytes of stack", [number_in("tests/library/stack.c", r"MOST = (\d+),")]
     yield r"hears up to (\d+) bits before", [word * reach[1] + word - 1]
     yield r"gaps of the range and of the (\d+) bits before it", [number_in("crates/rds_abi/src/part.rt", r"HEARD_BEFORE: u64 = (\d+);")]
     yield r"word of (?:more than )?(\d+) bits", [word]

@@ -9,6 +9,15 @@
 static uint8_t bytes[1 << 12];
 static rds_item_t room[1 << 10];
 
+/* Whether a search that has other numbers is refused. */
+static int is_made_up_refused(size_t len)
+{
+    static const rds_rules_t rules = RDS_RULES;
+    rds_state_t state = {123, 456, 0, 789};
+    uint64_t number;
+    return rds_run(bytes, len, 8 * len, NULL, 0, &rules, 0, 8 * len, &state, room, 1 << 10, &number) == RDS_UNLAWFUL_STATE;
+}
+
 int main(int count, char **words)
 {
     FILE *file = count >= 2 ? fopen(words[1], "rb") : NULL;
@@ -18,6 +27,8 @@ int main(int count, char **words)
     if (!file)
         return 2;
     size_t len = fread(bytes, 1, sizeof bytes, file);
+    if (!is_made_up_refused(len))
+        return 7;
     for (int k = 0; k < 200000 / share; k++) {
         uint64_t random[6];
         for (int j = 0; j < 6; j++) {

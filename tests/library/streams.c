@@ -34,8 +34,26 @@ static rds_stream_t random_stream(int k)
         stream.state.bad %= 8;
         stream.state.number %= 6;
         stream.state.first = stream.state.number > 1 ? 1 + stream.state.first % stream.state.number : 1;
+        if (k % 19) {
+            uint64_t kept = stream.place / 8 < 30 ? stream.place / 8 : 30;
+            if (stream.state.number == 0)
+                stream.state = (rds_state_t){0};
+            memset(stream.tail + kept, 0, sizeof stream.tail - kept);
+        }
     }
     return stream;
+}
+
+/* Whether a stream with another byte than 0 after its tail is refused. */
+static int is_another_tail_refused(void)
+{
+    static const rds_rules_t rules = RDS_RULES;
+    rds_stream_t stream = {0};
+    uint64_t number;
+    if (rds_push(bytes, 40, NULL, 0, &rules, &stream, room, sizeof room / sizeof *room, &number))
+        return 0;
+    stream.tail[30] = 1;
+    return rds_push(bytes, 40, NULL, 0, &rules, &stream, room, sizeof room / sizeof *room, &number) == RDS_UNLAWFUL_STATE;
 }
 
 int main(int count, char **words)
@@ -46,6 +64,8 @@ int main(int count, char **words)
     if (!file)
         return 2;
     size_t len = fread(bytes, 1, sizeof bytes, file);
+    if (!is_another_tail_refused())
+        return 7;
     for (int k = 0; k < 60000 / share; k++) {
         rds_stream_t stream = random_stream(k), before = stream;
         uint64_t r = next_random();

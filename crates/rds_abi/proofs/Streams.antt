@@ -4,9 +4,9 @@ use Rattle.std.proofs.lemmas.List.{length-map}
 use Rattle.rds_sync.specs.Advance.{group_item}
 use Rattle.rds_sync.specs.declared.item.Group.{Group as GroupRecord}
 use Rattle.rds_sync.specs.declared.item.Item.{Item}
-use Rattle.rds_live.specs.Live.{HasHeard, IsLive, LiveOf, Terms, complete, most_kept, report_at, report_of}
+use Rattle.rds_live.specs.Live.{HasHeard, LiveOf, Terms, complete, most_kept, report_at, report_of}
 use Rattle.rds_sync.specs.Ranges.{IsInRange}
-use Rattle.rds_abi.specs.Following.{AreClosed, AreLeft, AreTooMany, AreWritten, IsFollowed, RefusesEnd, RefusesFollowed, RefusesLast, RefusesPush, RefusesStream, place_after, stream_of, terms_of}
+use Rattle.rds_abi.specs.Following.{AreClosed, AreLeft, AreTooMany, AreWritten, IsFollowed, IsLeft, RefusesEnd, RefusesFollowed, RefusesLast, RefusesPush, RefusesStream, place_after, stream_of, terms_of}
 use Rattle.rds_abi.specs.Asked.{IsFilled, rules_of}
 use Rattle.rds_abi.specs.Going.{state_of}
 use Rattle.rds_abi.specs.Layout.{item_in_c, totals_in_c}
@@ -34,36 +34,36 @@ says_next terms s laid live next is same says =
     subst (λ (t : Terms). stream_of t laid ≡ next) (same ∙ ap (λ (l : LiveOf). l.terms) is) says
 
 -- what is refused of bytes, where the stream is one that a caller may have kept
-pub refused_bytes : (terms : Terms) (s : RdsStream) (bytes : List ℕ) (refusal : Refusal) (TooMany Same : Type 0) → IsLive (stream_of terms s)
+pub refused_bytes : (terms : Terms) (s : RdsStream) (bytes : List ℕ) (refusal : Refusal) (TooMany Same : Type 0) → IsLeft terms s
     → ((place_after s bytes ≤ 2 ^ 36) × TooMany) ⊎ ((((refusal ≡ TooLong) × (2 ^ 36 < place_after s bytes)) ⊎ (refusal ≡ OutOfMemory)) × Same)
-    → (IsLive (stream_of terms s) × (place_after s bytes ≤ 2 ^ 36) × TooMany)
-    ⊎ ((RefusesStream terms s refusal ⊎ (IsLive (stream_of terms s) × (2 ^ 36 < place_after s bytes) × (refusal ≡ TooLong))) × Same)
+    → (IsLeft terms s × (place_after s bytes ≤ 2 ^ 36) × TooMany)
+    ⊎ ((RefusesStream terms s refusal ⊎ (IsLeft terms s × (2 ^ 36 < place_after s bytes) × (refusal ≡ TooLong))) × Same)
 refused_bytes terms s bytes r TooMany Same live (inl (fits, many)) = inl (live, fits, many)
 refused_bytes terms s bytes r TooMany Same live (inr (inl (is, long), same)) = inr (inr (live, long, is), same)
 refused_bytes terms s bytes r TooMany Same live (inr (inr is, same)) = inr (inl (subst (λ (refusal : Refusal). RefusesStream terms s refusal) (sym is) tt), same)
 
 -- what is refused of bytes, by rules that are in range
 pub refused_push : (rules : RdsRules) (gaps : List RdsGap) (s : RdsStream) (bytes : List ℕ) (refusal : Refusal) (TooMany Same : Type 0) → IsInRange (rules_of rules)
-    → (IsLive (stream_of (terms_of rules gaps) s) × (place_after s bytes ≤ 2 ^ 36) × TooMany)
-    ⊎ ((RefusesStream (terms_of rules gaps) s refusal ⊎ (IsLive (stream_of (terms_of rules gaps) s) × (2 ^ 36 < place_after s bytes) × (refusal ≡ TooLong))) × Same)
+    → (IsLeft (terms_of rules gaps) s × (place_after s bytes ≤ 2 ^ 36) × TooMany)
+    ⊎ ((RefusesStream (terms_of rules gaps) s refusal ⊎ (IsLeft (terms_of rules gaps) s × (2 ^ 36 < place_after s bytes) × (refusal ≡ TooLong))) × Same)
     → (IsFollowed rules gaps s × (place_after s bytes ≤ 2 ^ 36) × TooMany) ⊎ (RefusesPush rules gaps s bytes refusal × Same)
-refused_push rules gaps s bytes r TooMany Same range (inl (live, fits, many)) = inl (record { range = range; live = live }, fits, many)
+refused_push rules gaps s bytes r TooMany Same range (inl (live, fits, many)) = inl (record { range = range; left = live }, fits, many)
 refused_push rules gaps s bytes r TooMany Same range (inr (inl of_stream, same)) = inr (inl (inr (range, of_stream)), same)
-refused_push rules gaps s bytes r TooMany Same range (inr (inr (live, long, is), same)) = inr (inr (record { range = range; live = live }, long, is), same)
+refused_push rules gaps s bytes r TooMany Same range (inr (inr (live, long, is), same)) = inr (inr (record { range = range; left = live }, long, is), same)
 
 -- and of its end
 pub refused_end : (rules : RdsRules) (gaps : List RdsGap) (s : RdsStream) (refusal : Refusal) (TooMany Same : Type 0) → IsInRange (rules_of rules)
-    → (IsLive (stream_of (terms_of rules gaps) s) × TooMany) ⊎ (RefusesStream (terms_of rules gaps) s refusal × Same)
+    → (IsLeft (terms_of rules gaps) s × TooMany) ⊎ (RefusesStream (terms_of rules gaps) s refusal × Same)
     → (IsFollowed rules gaps s × TooMany) ⊎ (RefusesFollowed rules gaps s refusal × Same)
-refused_end rules gaps s r TooMany Same range (inl (live, many)) = inl (record { range = range; live = live }, many)
+refused_end rules gaps s r TooMany Same range (inl (live, many)) = inl (record { range = range; left = live }, many)
 refused_end rules gaps s r TooMany Same range (inr (of_stream, same)) = inr (inr (range, of_stream), same)
 
 -- and of its last bits
 pub refused_last : (rules : RdsRules) (gaps : List RdsGap) (s : RdsStream) (bytes : List ℕ) (bits : ℕ) (refusal : Refusal) → IsInRange (rules_of rules)
-    → RefusesStream (terms_of rules gaps) s refusal ⊎ (IsLive (stream_of (terms_of rules gaps) s) × RefusesLast s bytes bits refusal)
+    → RefusesStream (terms_of rules gaps) s refusal ⊎ (IsLeft (terms_of rules gaps) s × RefusesLast s bytes bits refusal)
     → RefusesEnd rules gaps s bytes bits refusal
 refused_last rules gaps s bytes bits r range (inl of_stream) = inl (inr (range, of_stream))
-refused_last rules gaps s bytes bits r range (inr (live, of_last)) = inr (record { range = range; live = live }, of_last)
+refused_last rules gaps s bytes bits r range (inr (live, of_last)) = inr (record { range = range; left = live }, of_last)
 
 module _ (terms : Terms) (s : RdsStream) (live : LiveOf) (is : live ≡ stream_of terms s) where
   -- the group that its end closes
@@ -83,10 +83,6 @@ module _ (terms : Terms) (s : RdsStream) (live : LiveOf) (is : live ≡ stream_o
       → AreLeft terms s bytes bits items
   left bytes bits items gives =
       subst (λ (l : LiveOf). (before : List ℕ) → HasHeard l before → complete l.terms before ++ items ≡ report_at l.terms (before ++ bytes) (8 * length before + bits)) is gives
-
-  -- it is one that a caller may have kept
-  pub is_live : IsLive live → IsLive (stream_of terms s)
-  is_live = subst (λ (l : LiveOf). IsLive l) is
 
   -- so many more bits fit
   pub fits : (n : ℕ) → live.place + n ≤ 2 ^ 36 → s.place + n ≤ 2 ^ 36

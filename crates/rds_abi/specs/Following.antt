@@ -36,7 +36,7 @@ totals_from_c t = record {
 abbrev pub terms_of : RdsRules → List RdsGap → Terms
 terms_of rules gaps = record { rules = rules_of rules; gaps = gaps_of gaps }
 
--- what is known of the stream: the tail is all the bytes that were heard, or the last 30, and what stands behind them means nothing
+-- what is known of the stream: the tail is all the bytes that were heard, or the last 30
 abbrev pub stream_of : Terms → RdsStream → LiveOf
 stream_of terms s = record {
   terms = terms;
@@ -55,12 +55,17 @@ stream_in_c live = record {
   tail = live.tail ++ replicate (32 - length live.tail) 0;
 }
 
+-- a stream that a call can have left: a decoder can know what the numbers say, and they are those that a call writes of it
+pub record IsLeft (terms : Terms) (s : RdsStream) : Type 0 where
+  pub live : IsLive (stream_of terms s)
+  pub laid : s ≡ stream_in_c (stream_of terms s)
+
 -- ---- what is refused
 
--- gaps that no stream may have, and then numbers that no decoder of a stream can have left
+-- gaps that no stream may have, and then numbers that no call can have left
 abbrev pub RefusesStream : Terms → RdsStream → Refusal → Type 0
 RefusesStream terms s BadGaps = AreGaps (2 ^ 36) terms.gaps → ⊥
-RefusesStream terms s UnlawfulState = AreGaps (2 ^ 36) terms.gaps × (IsLive (stream_of terms s) → ⊥)
+RefusesStream terms s UnlawfulState = AreGaps (2 ^ 36) terms.gaps × (IsLeft terms s → ⊥)
 RefusesStream terms s OutOfMemory = ⊤
 RefusesStream terms s other = ⊥
 
@@ -72,7 +77,7 @@ RefusesFollowed rules gaps s refusal =
 -- nothing of it
 pub record IsFollowed (rules : RdsRules) (gaps : List RdsGap) (s : RdsStream) : Type 0 where
   pub range : IsInRange (rules_of rules)
-  pub live : IsLive (stream_of (terms_of rules gaps) s)
+  pub left : IsLeft (terms_of rules gaps) s
 
 -- how many bits were heard once so many bytes more are
 abbrev pub place_after : RdsStream → List ℕ → ℕ

@@ -1,5 +1,5 @@
 -- A run that goes on from a state which the caller keeps as plain numbers. `run` and `finish_run` cite it. This project's rules.
-use Rattle.std.specs.Prelude.{ℕ, ◌-◌, ◌<◌, ◌≤◌, ◌⊎◌, ◌==◌, List, map, if◌then◌else◌}
+use Rattle.std.specs.Prelude.{◌≡◌, ℕ, ◌-◌, ◌<◌, ◌≤◌, ◌⊎◌, ◌==◌, List, map, if◌then◌else◌}
 use Rattle.rds_stream.specs.Recording.{Signal}
 use Rattle.rds_live.specs.Moving.{moved_items, moved_state}
 use Rattle.rds_sync.specs.Rules.{RuleNumbers}
@@ -24,10 +24,14 @@ abbrev pub state_in_c : State → RdsState
 state_in_c Searching = record { due = 0; bad = 0; number = 0; first = 0 }
 state_in_c (Locked lock) = record { due = lock.due; bad = lock.bad; number = lock.number; first = lock.first }
 
--- what else is refused of a run: places that are no range of the recording, and then a state that is not lawful before them
+-- a state that a call can have left before a place: it is lawful there, and its numbers are those that a call writes of it
+abbrev pub IsLeftState : RuleNumbers → ℕ → RdsState → Type 0
+IsLeftState rules place s = IsLawfulState rules place (state_of s) × (s ≡ state_in_c (state_of s))
+
+-- what else is refused of a run: places that are no range of the recording, and then a state that no call can have left before them
 abbrev pub RefusesPlaces : Asked → ℕ → ℕ → RdsState → Refusal → Type 0
 RefusesPlaces a from to s PlaceRange = (to < from) ⊎ (a.bits < to)
-RefusesPlaces a from to s UnlawfulState = (from ≤ to) × (to ≤ a.bits) × (IsLawfulState (rules_of a.rules) from (state_of s) → ⊥)
+RefusesPlaces a from to s UnlawfulState = (from ≤ to) × (to ≤ a.bits) × (IsLeftState (rules_of a.rules) from s → ⊥)
 RefusesPlaces a from to s other = ⊥
 
 -- what is asked for is looked at first
@@ -39,7 +43,7 @@ pub record IsRun (a : Asked) (from to : ℕ) (s : RdsState) : Type 0 where
   pub asked : IsLawful a
   pub order : from ≤ to
   pub within : to ≤ a.bits
-  pub state : IsLawfulState (rules_of a.rules) from (state_of s)
+  pub state : IsLeftState (rules_of a.rules) from s
 
 -- ---- what is found
 

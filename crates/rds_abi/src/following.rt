@@ -7,7 +7,7 @@ ghost use Rattle.rds_sync.specs.Totals.{totals_of};
 ghost use Rattle.rds_live.specs.Live.{HasHeard, IsLive, complete, report_at, report_of};
 ghost use Rattle.rds_sync.specs.Ranges.{IsInRange};
 ghost use Rattle.rds_abi.specs.Asked.{IsFilled, RefusesRules, rules_of as the_rules_of};
-ghost use Rattle.rds_abi.specs.Following.{AreClosed, AreCompleted, AreLast, AreLeft, AreTooMany, AreWritten, IsFollowed, RefusesEnd, RefusesFollowed, RefusesLast, RefusesPush, RefusesStream, place_after, stream_in_c as the_stream_in_c, stream_of as the_stream_of, terms_of, totals_from_c};
+ghost use Rattle.rds_abi.specs.Following.{AreClosed, AreCompleted, AreLast, AreLeft, AreTooMany, AreWritten, IsFollowed, IsLeft, RefusesEnd, RefusesFollowed, RefusesLast, RefusesPush, RefusesStream, place_after, stream_in_c as the_stream_in_c, stream_of as the_stream_of, terms_of, totals_from_c};
 ghost use Rattle.rds_abi.specs.Layout.{item_in_c, totals_in_c};
 ghost use Rattle.rds_abi.specs.declared.refusal.Refusal.TheVariants.{BadGaps, BitsPastBytes, OutOfMemory, SmallRoom, TooLong};
 
@@ -71,7 +71,7 @@ fn told_of(alloc: Global, rules: RdsRules, gaps: &[RdsGap]) -> Result<Told, Refu
 /// The decoder of the stream that these numbers say.
 fn live_of<'r>(alloc: Global, told: &'r Told, stream: &RdsStream) -> Result<Live<'r>, Refusal>
     ensures live { IfOk result (λ live. live ≡ the_stream_of told.now stream.now) }
-    ensures lawful { IfOk result (λ live. IsLive live) }
+    ensures left { IfOk result (λ _. IsLeft told.now stream.now) }
     ensures refused { IfErr result (RefusesStream told.now stream.now) }
 {
     refuse_gaps(alloc, told)?;
@@ -82,6 +82,9 @@ fn live_of<'r>(alloc: Global, told: &'r Told, stream: &RdsStream) -> Result<Live
     };
     let kept = MOST_KEPT.min(stream.place / 8) as usize;
     let tail = &stream.tail[..kept];
+    if tail_in_c(tail) != stream.tail {
+        return Err(Refusal::UnlawfulState);
+    }
     let totals = totals_from_c(stream.totals);
     match Live::resume(alloc, rules, gaps, tail, stream.place, state, totals) {
         Ok(live) => Ok(live),
@@ -201,14 +204,14 @@ fn go_on(
         → HasHeard (the_stream_of told.now stream.new) (before ++ bytes.now)) }
     ensures laid { OnOk result (stream.new ≡ the_stream_in_c (the_stream_of told.now stream.new)) }
     ensures items { OnOk result (AreWritten (AreCompleted told.now stream.old bytes.now) room.old room.new count.new) }
-    ensures next { OnOk result (IsLive (the_stream_of told.now stream.new)) }
-    ensures lawful { OnOk result (IsLive (the_stream_of told.now stream.old) × (place_after stream.old bytes.now ≤ 2 ^ 36)) }
+    ensures next { OnOk result (IsLeft told.now stream.new) }
+    ensures lawful { OnOk result (IsLeft told.now stream.old × (place_after stream.old bytes.now ≤ 2 ^ 36)) }
     ensures untouched { OnErr result ((room.new ≡ room.old) × (stream.new ≡ stream.old)) }
     ensures refused { IfErr result (λ refusal.
-        (IsLive (the_stream_of told.now stream.old) × (place_after stream.old bytes.now ≤ 2 ^ 36)
+        (IsLeft told.now stream.old × (place_after stream.old bytes.now ≤ 2 ^ 36)
         × AreTooMany (AreCompleted told.now stream.old bytes.now) (length room.old) refusal count.new)
         ⊎ ((RefusesStream told.now stream.old refusal
-        ⊎ (IsLive (the_stream_of told.now stream.old) × (2 ^ 36 < place_after stream.old bytes.now) × (refusal ≡ TooLong)))
+        ⊎ (IsLeft told.now stream.old × (2 ^ 36 < place_after stream.old bytes.now) × (refusal ≡ TooLong)))
         × (count.new ≡ count.old))) }
 {
     let mut live = live_of(alloc, told, stream)?;
@@ -285,10 +288,10 @@ fn close(
     ensures items { OnOk result (AreWritten (AreClosed told.now stream.now) room.old room.new count.new) }
     ensures totals { OnOk result ((bytes : List ℕ) → HasHeard (the_stream_of told.now stream.now) bytes
         → totals.new ≡ totals_in_c (totals_of (report_of told.now bytes))) }
-    ensures lawful { OnOk result (IsLive (the_stream_of told.now stream.now)) }
+    ensures lawful { OnOk result (IsLeft told.now stream.now) }
     ensures untouched { OnErr result ((room.new ≡ room.old) × (totals.new ≡ totals.old)) }
     ensures refused { IfErr result (λ refusal.
-        (IsLive (the_stream_of told.now stream.now)
+        (IsLeft told.now stream.now
         × AreTooMany (AreClosed told.now stream.now) (length room.old) refusal count.new)
         ⊎ (RefusesStream told.now stream.now refusal × (count.new ≡ count.old))) }
 {
@@ -363,9 +366,9 @@ fn last_of(
     ensures items { IfOk result (λ r. AreLeft told.now stream.now bytes.now bits r.0.items) }
     ensures totals { IfOk result (λ r. (before : List ℕ) → HasHeard (the_stream_of told.now stream.now) before
         → r.1 ≡ totals_of (report_at told.now (before ++ bytes.now) (8 * length before + bits))) }
-    ensures lawful { IfOk result (λ _. IsLive (the_stream_of told.now stream.now) × AreLast stream.now bytes.now bits) }
+    ensures lawful { IfOk result (λ _. IsLeft told.now stream.now × AreLast stream.now bytes.now bits) }
     ensures refused { IfErr result (λ refusal. RefusesStream told.now stream.now refusal
-        ⊎ (IsLive (the_stream_of told.now stream.now) × RefusesLast stream.now bytes.now bits refusal)) }
+        ⊎ (IsLeft told.now stream.now × RefusesLast stream.now bytes.now bits refusal)) }
 {
     let live = live_of(alloc, told, stream)?;
     refuse_last(live.place(), bytes, bits)?;

@@ -5,12 +5,13 @@ ghost use Rattle.rds_stream.specs.Recording.{length_of};
 ghost use Rattle.rds_sync.specs.Advance.{group_item};
 ghost use Rattle.rds_sync.specs.Lawful.{IsLawful as IsLawfulState};
 ghost use Rattle.rds_sync.specs.Rules.{RuleNumbers};
+ghost use Rattle.rds_sync.specs.declared.state.State.TheVariants.{Searching};
 ghost use Rattle.rds_sync.specs.Step.{items_of_end, run as the_run};
 ghost use Rattle.rds_live.specs.Moving.{IsPartHeard, moved_item, moved_items, moved_state};
 ghost use Rattle.rds_live.specs.Places.{place_of};
 ghost use Rattle.rds_abi.specs.Asked.{IsFilled, IsTooMuch, asked, recording_of as the_recording_of, rules_of as the_rules_of};
 ghost use Rattle.rds_abi.specs.declared.refusal.Refusal.TheVariants.{OutOfMemory, PlaceRange, SmallRoom, UnlawfulState};
-ghost use Rattle.rds_abi.specs.Going.{IsRun, RefusesRun, items_at_end, items_of_run, run_asked, run_in_part, state_in_c as the_state_in_c, state_of as the_state_of};
+ghost use Rattle.rds_abi.specs.Going.{IsLeftState, IsRun, RefusesRun, items_at_end, items_of_run, run_asked, run_in_part, state_in_c as the_state_in_c, state_of as the_state_of};
 ghost use Rattle.rds_abi.specs.Layout.{item_in_c};
 
 use crate::asked::{MOST_BITS, refuse_recording, rules_of};
@@ -27,8 +28,8 @@ use std::alloc::Global;
 fn lock_of(rules: &Rules, s: RdsState, place: u64) -> Option<State>
     requires { s.number ≢ 0 }
     ensures some { IfSome result (λ state. state ≡ the_state_of s) }
-    ensures lawful { IfSome result (λ state. IsLawfulState rules.now place state) }
-    ensures none { result ≡ None → IsLawfulState rules.now place (the_state_of s) → ⊥ }
+    ensures left { IfSome result (λ _. IsLeftState rules.now place s) }
+    ensures none { result ≡ None → IsLeftState rules.now place s → ⊥ }
 {
     if s.number > 4 || s.first > 4 {
         return None;
@@ -46,14 +47,27 @@ fn lock_of(rules: &Rules, s: RdsState, place: u64) -> Option<State>
     }
 }
 
-/// The state that these numbers say, or none where it is not lawful before `place`.
+/// A search, or none where its numbers are not all 0.
+fn search_of(s: RdsState) -> Option<State>
+    requires { s.number ≡ 0 }
+    ensures some { IfSome result (λ state. (state ≡ Searching) × (s ≡ the_state_in_c Searching)) }
+    ensures none { result ≡ None → s ≡ the_state_in_c Searching → ⊥ }
+{
+    if s.due == 0 && s.bad == 0 && s.first == 0 {
+        Some(State::Searching)
+    } else {
+        None
+    }
+}
+
+/// The state that these numbers say, or none where no call can have left them before `place`.
 pub(crate) fn state_of(rules: &Rules, s: RdsState, place: u64) -> Option<State>
     ensures some { IfSome result (λ state. state ≡ the_state_of s) }
-    ensures lawful { IfSome result (λ state. IsLawfulState rules.now place state) }
-    ensures none { result ≡ None → IsLawfulState rules.now place (the_state_of s) → ⊥ }
+    ensures left { IfSome result (λ _. IsLeftState rules.now place s) }
+    ensures none { result ≡ None → IsLeftState rules.now place s → ⊥ }
 {
     if s.number == 0 {
-        Some(State::Searching)
+        search_of(s)
     } else {
         lock_of(rules, s, place)
     }
@@ -78,12 +92,12 @@ pub(crate) fn state_in_c(state: State) -> RdsState
 /// The state that a run over the places of this range begins with, in a recording of so many bits.
 fn state_at(rules: &Rules, bits: u64, range: (u64, u64), s: RdsState) -> Result<State, Refusal>
     ensures state { IfOk result (λ state. state ≡ the_state_of s) }
-    ensures lawful { IfOk result (λ state. IsLawfulState rules.now range.0 state) }
+    ensures left { IfOk result (λ _. IsLeftState rules.now range.0 s) }
     ensures order { IfOk result (λ _. range.0 ≤ range.1) }
     ensures within { IfOk result (λ _. range.1 ≤ bits) }
     ensures refused { IfErr result (λ refusal.
         ((refusal ≡ PlaceRange) × ((range.1 < range.0) ⊎ (bits < range.1)))
-        ⊎ ((refusal ≡ UnlawfulState) × (range.0 ≤ range.1) × (range.1 ≤ bits) × (IsLawfulState rules.now range.0 (the_state_of s) → ⊥))) }
+        ⊎ ((refusal ≡ UnlawfulState) × (range.0 ≤ range.1) × (range.1 ≤ bits) × (IsLeftState rules.now range.0 s → ⊥))) }
 {
     let (from, to) = range;
     if to < from || bits < to {
@@ -154,7 +168,7 @@ pub fn run(
     ensures state { OnOk result (the_state_of state.new
         ≡ (run_asked (asked bytes.now bits gaps.now rules) range.0 range.1 state.old).0) }
     ensures laid { OnOk result (state.new ≡ the_state_in_c (run_asked (asked bytes.now bits gaps.now rules) range.0 range.1 state.old).0) }
-    ensures next { OnOk result (IsLawfulState (the_rules_of rules) range.1 (the_state_of state.new)) }
+    ensures next { OnOk result (IsLeftState (the_rules_of rules) range.1 state.new) }
     ensures lawful { OnOk result (IsRun (asked bytes.now bits gaps.now rules) range.0 range.1 state.old) }
     ensures untouched { OnErr result ((room.new ≡ room.old) × (state.new ≡ state.old)) }
     ensures refused { IfErr result (λ refusal.
@@ -185,7 +199,7 @@ fn go_on(
     ensures count { OnOk result (count.new ≡ length (run_in_part start.now.part.recording start.now.rules start.now.state start.now.part.before range.0 range.1).1) }
     ensures laid { OnOk result (state.new ≡ the_state_in_c (run_in_part start.now.part.recording start.now.rules start.now.state start.now.part.before range.0 range.1).0) }
     ensures state { OnOk result (the_state_of state.new ≡ (run_in_part start.now.part.recording start.now.rules start.now.state start.now.part.before range.0 range.1).0) }
-    ensures next { OnOk result (IsLawfulState start.now.rules range.1 (the_state_of state.new)) }
+    ensures next { OnOk result (IsLeftState start.now.rules range.1 state.new) }
     ensures untouched { OnErr result ((room.new ≡ room.old) × (state.new ≡ state.old)) }
     ensures refused { IfErr result (λ refusal.
         IsTooMuch (map item_in_c (run_in_part start.now.part.recording start.now.rules start.now.state start.now.part.before range.0 range.1).1) (length room.old) refusal count.new

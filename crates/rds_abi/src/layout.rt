@@ -153,7 +153,7 @@ pub struct RdsStream {
     pub state: RdsState,
     /// The totals of the items that are complete.
     pub totals: RdsTotals,
-    /// The last 30 bytes that were heard, or all, and zeros behind them. What is handed over there means nothing.
+    /// The last 30 bytes that were heard, or all, and then zeros.
     pub tail: [u8; 32],
 }
 

@@ -1,9 +1,8 @@
 //! A run that goes on from a state which the caller keeps.
 
 ghost use Rattle.std.specs.Prelude.{◌≡◌, ◌≢◌, ◌⊎◌, length};
-ghost use Rattle.rds_sync.specs.Lawful.{IsLawful as IsLawfulState};
 ghost use Rattle.rds_abi.specs.Asked.{IsFilled, IsTooMuch, RefusedBy, asked, rules_of};
-ghost use Rattle.rds_abi.specs.Going.{IsRun, RefusesRun, items_at_end, items_of_run, run_asked, state_in_c, state_of};
+ghost use Rattle.rds_abi.specs.Going.{IsLeftState, IsRun, RefusesRun, items_at_end, items_of_run, run_asked, state_in_c, state_of};
 
 use rds_abi::{RdsGap, RdsItem, RdsRules, RdsState, finish_run, run};
 use std::alloc::Global;
@@ -29,7 +28,7 @@ pub extern "C" fn rds_run(
     ensures state { result ≡ 0 → state_of state.new
         ≡ (run_asked (asked bytes.now bits gaps.now rules.now) from to state.old).0 }
     ensures laid { result ≡ 0 → state.new ≡ state_in_c (run_asked (asked bytes.now bits gaps.now rules.now) from to state.old).0 }
-    ensures next { result ≡ 0 → IsLawfulState (rules_of rules.now) to (state_of state.new) }
+    ensures next { result ≡ 0 → IsLeftState (rules_of rules.now) to state.new }
     ensures lawful { result ≡ 0 → IsRun (asked bytes.now bits gaps.now rules.now) from to state.old }
     ensures refused { result ≢ 0 → RefusedBy (λ refusal.
         (IsRun (asked bytes.now bits gaps.now rules.now) from to state.old

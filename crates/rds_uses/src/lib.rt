@@ -19,6 +19,7 @@
 //! | | [`items`] | lists of items of a recording, and their totals |
 //! | `rds_live` | [`live`] | streams, chunk by chunk, and what `follow` of `rds_tool` writes of one |
 //! | `rds_abi` | [`library`] | the calls for C |
+//! | | [`kept`] | numbers that C keeps between calls |
 //! | `rds_pieces` | [`pieces`] | cuttings, guesses, seams, joins, their joints, and what is stitched of them |
 //! | | [`decoder`] | all of these together, from bytes to a report |
 //! | `rds_crew` | [`dealer`] | numbers that are dealt to seats |
@@ -43,6 +44,7 @@ pub mod devices;
 pub mod gaps;
 pub mod history;
 pub mod items;
+pub mod kept;
 pub mod library;
 pub mod live;
 pub mod loss;

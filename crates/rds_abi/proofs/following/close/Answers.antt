@@ -6,7 +6,7 @@ use Rattle.rds_live.specs.Live.{HasHeard, LiveOf, report_of}
 use Rattle.rds_abi.specs.Following.{AreClosed, AreTooMany}
 use Rattle.rds_abi.specs.Layout.{totals_in_c}
 use Rattle.rds_abi.specs.declared.refusal.Refusal.{Refusal}
-use Rattle.rds_abi.proofs.Streams.{closed, is_live, too_many}
+use Rattle.rds_abi.proofs.Streams.{closed, too_many}
 use Rattle.rds_abi.proofs.following.close.Goals as goal
 
 pub returns-in_err-write_end-clause-refused : goal.returns-in_err-write_end-clause-refused
@@ -18,7 +18,7 @@ returns-in_err-write_end-clause-refused c =
     let refused = c.in_err-write_end.ensures.refused in
     let found = closed terms c.args.stream.now c.in_ok-live.live is group c.finish-end.ensures.group in
     rw (p.1, p.2) (inl (
-      is_live terms c.args.stream.now c.in_ok-live.live is c.in_ok-live.ensures.lawful,
+      c.in_ok-live.ensures.left,
       subst (λ (r : Refusal). AreTooMany (AreClosed terms c.args.stream.now) (length c.args.room.now) r c.write_end.new.count) (sym refused.0)
           (too_many (AreClosed terms c.args.stream.now) (group_item group) found _ c.in_err-write_end.ensures.count _ refused.1),
     ))

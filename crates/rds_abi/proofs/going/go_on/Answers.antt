@@ -35,4 +35,5 @@ returns-clause-next c =
     let start = c.args.start.now in
     let before = start.part.before in
     let there = lawful-on start.rules before (c.args.range.1 - before) c.args.range.1 c.in_ok-end.end c.moved_on.result c.moved_on.ensures c.in_ok-end.ensures.lawful (omega (arith, c.requires.begins, c.requires.order)) in
-    subst (λ (s : State). IsLawful start.rules c.args.range.1 s) (sym (c.state_in_c.ensures.says start.rules c.args.range.1 there)) there
+    let says = c.state_in_c.ensures.says start.rules c.args.range.1 there in
+    (subst (λ (s : State). IsLawful start.rules c.args.range.1 s) (sym says) there, c.state_in_c.ensures.value ∙ ap state_in_c (sym says))
