@@ -70,7 +70,7 @@ def main(into: Path) -> None:
             assert done.returncode == 0, done.stderr
             (folder / f"{page}.html").write_bytes(done.stdout)
         with browser(folder) as driver:
-            for page, height in (("overview", 520), ("station", 690)):
+            for page, height in (("overview", 540), ("station", 790)):
                 driver.get((folder / f"{page}.html").as_uri())
                 driver.set_window_size(1000, height)
                 driver.save_screenshot(str(into / f"{page}.png"))
