@@ -37,7 +37,9 @@ def sent(pi: int, names: Sequence[bytes], texts: Sequence[bytes]) -> bytes:
             cycle = bits(name(names[hour % len(names)]) + text(texts[hour % len(texts)], hour % 2) + [group("8A", 0)])
         count = int((minute + 1) * 60 * PACE) - groups - 1
         groups += count + 1
-        day.append((cycle * (count // (len(cycle) // 13) + 1))[: 13 * count] + bits([clock(MJD, hour, minute % 60, 0)]))
+        after = minute + 1
+        told = clock(MJD + after // 1440, after // 60 % 24, after % 60, 0)
+        day.append((cycle * (count // (len(cycle) // 13) + 1))[: 13 * count] + bits([told]))
     return b"".join(day)
 
 
@@ -70,7 +72,7 @@ def main(into: Path) -> None:
             assert done.returncode == 0, done.stderr
             (folder / f"{page}.html").write_bytes(done.stdout)
         with browser(folder) as driver:
-            for page, height in (("overview", 520), ("station", 690)):
+            for page, height in (("overview", 540), ("station", 790)):
                 driver.get((folder / f"{page}.html").as_uri())
                 driver.set_window_size(1000, height)
                 driver.save_screenshot(str(into / f"{page}.png"))

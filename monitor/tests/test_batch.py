@@ -17,6 +17,7 @@ from typing import Any, Iterator, List
 import numpy
 import pytest
 from conftest import PROGRAM, STATION, encode, monitor, rds
+from made import run
 from modulator import mpx, stored, wav, words
 
 from rds_monitor.batch import WORK
@@ -71,6 +72,15 @@ def test_no_station_is_named_each_time(folders: Any) -> None:
     assert len(listings(folders[1])) == 2
 
 
+def test_two_complete_groups_make_a_station(folders: Any) -> None:
+    # The first block of the first group is read only to acquire.
+    for count in (1, 2):
+        (folders[0] / f"{count}.bin").write_bytes(encode([(0xD393, 0x0548, 0xE0CD, 0x5041)] * (count + 1)))
+    done = monitor("batch", *folders)
+    assert done.returncode == 1 and done.stderr.count(b"\n") == 1 and b"1.bin: no station" in done.stderr
+    assert sorted(listings(folders[1])) == ["1.csv", "2.csv"]
+
+
 def test_what_failed_is_named_and_the_others_are_decoded(folders: Any, station_listing: bytes) -> None:
     (folders[0] / "bad.hex [1]").write_bytes(b"xyz")
     (folders[0] / "good.hex [1]").write_text(STATION.read_bytes().hex())
@@ -96,6 +106,56 @@ def test_signals_are_demodulated(folders: Any) -> None:
     assert done.returncode == 1
     assert b"cut.wav: failed: rds-monitor demod: the WAV file ends within its header" in done.stderr
     assert listings(folders[1])["mpx.csv"].count(b"\ngroup,") >= 23
+
+
+# ---- jobs that fail, and how a listing comes into its place
+
+
+def program(folder: Path, text: str) -> str:
+    """A program in the place of rds, in sh."""
+    path = folder / "program"
+    path.write_text(f"#!/bin/sh\n{text}\n")
+    path.chmod(0o755)
+    return str(path)
+
+
+def batch_by(program_: str, *words_: Any) -> "subprocess.CompletedProcess[bytes]":
+    return monitor("batch", *words_, env={**os.environ, "RDS": program_})
+
+
+def test_a_listing_is_moved_into_its_place(folders: Any, monkeypatch: pytest.MonkeyPatch, station_listing: bytes) -> None:
+    """From the same file system, when it is whole: who looks at the folder meanwhile never sees a part of one."""
+    fill(folders[0], NAMES[:2])
+    moved, replace = [], os.replace
+
+    def seen(made: str, listing: str) -> None:
+        moved.append((Path(made).parent.parent, Path(made).read_bytes(), os.path.exists(listing)))
+        replace(made, listing)
+
+    monkeypatch.setenv("RDS", PROGRAM)
+    monkeypatch.setattr(os, "replace", seen)
+    assert run("batch", *folders).status == 0
+    assert moved == [(folders[1], station_listing, False)] * 2
+    assert set(listings(folders[1]).values()) == {station_listing}
+
+
+@pytest.mark.parametrize("text,said", [
+    (f"'{PROGRAM}' \"$@\" | head -c 5000", b"a.bin: failed: the listing does not end in its totals"),
+    (f"'{PROGRAM}' \"$@\"; rm ./*.csv", b"a.bin: failed: its listing did not come back"),
+    ("exit 3", b"a.bin: failed: status 3"),
+    ("echo 'refused 8 OutOfMemory' >&2; echo more >&2; exit 1", b"a.bin: failed: refused 8 OutOfMemory\n")])
+def test_what_is_no_listing_does_not_come_into_its_place(text: str, said: bytes, folders: Any, tmp_path: Path) -> None:
+    fill(folders[0], ["a.bin"])
+    done = batch_by(program(tmp_path, text), *folders)
+    assert done.returncode == 1 and said in done.stderr
+    assert listings(folders[1]) == {} and not left_over(folders[1])
+
+
+def test_what_was_not_decoded_is_named(folders: Any, tmp_path: Path) -> None:
+    fill(folders[0], ["a.bin", "b.bin", "c.bin"])
+    done = batch_by(program(tmp_path, "exit 1"), *folders, "--jobs", "1", "--halt", "now,fail=1")
+    named = [line.split(b"/")[-1] for line in done.stderr.splitlines() if line.startswith(b"rds-monitor batch: ")]
+    assert done.returncode == 1 and named == [b"a.bin: failed: status 1", b"b.bin: was not decoded", b"c.bin: was not decoded"]
 
 
 # ---- two at once, and killed ones

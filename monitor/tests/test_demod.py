@@ -4,6 +4,7 @@ from __future__ import annotations
 
 import json
 import os
+import pty
 import struct
 import subprocess
 import sys
@@ -221,6 +222,51 @@ def test_raw_samples_from_a_pipe(form: str, signal: Array) -> None:
 def test_raw_iq(form: str) -> None:
     data = stored(iq(mpx(encode(GROUPS[:12]), 256000, snr=40), 256000, cnr=40), form)
     assert demodulated("--raw", form, "--iq", "--rate", 256000, data=data) == GROUPS[1:12]
+
+
+def test_iq_beside_the_centre() -> None:
+    data = stored(iq(mpx(encode(GROUPS[:12]), 256000, snr=40), 256000, cnr=40, offset=60000.0), "f32")
+    words_ = ("--raw", "f32", "--iq", "--rate", 256000)
+    assert demodulated(*words_, "--offset", 60000, data=data) == GROUPS[1:12]
+    assert whole_groups(monitor("demod", *words_, "--offset", -60000, data=data).stdout) == []
+
+
+def test_the_equaliser_is_on_by_default() -> None:
+    groups, rate = words(5, 30), 256000
+    data = stored(iq(mpx(encode(groups), rate, snr=40), rate, paths=[(30, 0.7, 90, 0)], cnr=30), "f32")
+    words_ = ("--raw", "f32", "--iq", "--rate", rate)
+    plain, equalised = (set(demodulated(*words_, *more, data=data)) & set(groups) for more in (["--no-equaliser"], []))
+    assert len(equalised) >= 24 > 10 >= len(plain)
+
+
+@pytest.mark.parametrize("form,level", [("s16", -40.0), ("f32", -30.5), ("u8", -40.0)])
+def test_the_level_is_that_of_the_form(form: str, level: float) -> None:
+    """The modulator has RDS at 0.03 of full scale, of which integers have a third."""
+    data = stored(mpx(encode(words(4, 40)), 192000, snr=30), form)
+    done = monitor("demod", "--raw", form, "--rate", 192000, "--json", data=data)
+    assert abs(json.loads(done.stderr.splitlines()[-1])["rds_dbfs"] - level) < 0.6
+
+
+def test_a_terminal_has_one_line_that_is_overwritten(signal: Array, tmp_path: Any) -> None:
+    (tmp_path / "it").write_bytes(stored(signal, "s16") * 3)
+    code = (
+        "import itertools, sys; from rds_monitor import cli, demod\n"
+        "clock = itertools.count(1)\ndemod.time.monotonic = lambda: next(clock)\nsys.exit(cli.main(sys.argv[1:]))")
+    ours, theirs = pty.openpty()
+    process = subprocess.Popen([sys.executable, "-c", code, "demod", "--raw", "s16", "--rate", "192000", "--output", "/dev/null",
+                                str(tmp_path / "it")], stderr=theirs)
+    os.close(theirs)
+    said = b""
+    try:
+        while True:
+            said += os.read(ours, 65536)
+    except OSError:
+        pass
+    os.close(ours)
+    assert process.wait() == 0
+    lines = said.split(b"\r")
+    assert len(lines) >= 4 and all(it.endswith(b"\x1b[K") for it in lines[1:-2]) and said.count(b"\n") == 1
+    assert b"rds-monitor demod: " in said and b"RDS for " in lines[1]
 
 
 def test_iq_in_wav(file: Any) -> None:

@@ -40,6 +40,9 @@
         if (!name) continue;
         if (!lanes.has(name)) lanes.set(name, []);
         if (open.has(name)) open.get(name).to = at;
+        open.delete(name);
+        // An item that is no longer sent has no text.
+        if (!text) continue;
         const one = {from: at, to: end, text: name === "EON" ? `${item.slice(4)}: ${text}` : text};
         open.set(name, one);
         lanes.get(name).push(one);
@@ -276,17 +279,17 @@
     // What an item said from when to when: as a text as far as it fits, and whole in its title.
     drawLane(lane) {
       this.name(lane.name, lane.top + ITEM - 4);
-      let edge = -1;
-      lane.stretches.forEach(({from, to, text}, k) => {
-        if (to < this.first || from > this.last) return;
+      let edge = -1, drawn = 0;
+      for (const {from, to, text} of lane.stretches) {
+        if (to < this.first || from > this.last) continue;
         const low = this.x(Math.max(from, this.first)), high = Math.max(low + 1, this.x(Math.min(to, this.last)));
         // Of those within one pixel the first is drawn.
-        if (high <= edge + 1) return;
+        if (high <= edge + 1) continue;
         edge = high;
-        const kind = k % 2 ? "item odd" : "item", fits = Math.floor((high - low - 4) / 6.5);
+        const kind = drawn++ % 2 ? "item odd" : "item", fits = Math.floor((high - low - 4) / 6.5);
         this.rect(kind, low, lane.top + 1, high - low, ITEM - 2).append("title").text(`${lane.name} from ${this.time(from)}: ${text}`);
         if (fits > 2) this.svg.append("text").attr("class", "held").attr("x", low + 3).attr("y", lane.top + ITEM - 4).text(text.slice(0, fits));
-      });
+      }
     }
 
     // The station's clock less that of the recording.
