@@ -69,7 +69,7 @@ class Hooks:
 
 
 class Watch:
-    """`poll` reads what came, and `tick` makes of it what is written. Neither waits."""
+    """`poll` reads the receivers, and `tick` decodes and hands over to the writer. Neither waits."""
 
     def __init__(self, table: Table, folder: str, times: Times, launch: Launch, writer: TakesBatches, records: Records, say: Say):
         self._folder, self._times, self._launch, self._writer, self._say = folder, times, launch, writer, say
@@ -97,7 +97,7 @@ class Watch:
         return self._clock.utc(self._now)
 
     def _look(self) -> Now:
-        """The time, and what a step of the machine's clock means for sessions."""
+        """The time. Sessions hear of a step of the machine's clock."""
         self._now = self._times.now()
         step = self._clock.step(self._now)
         if step:
@@ -175,7 +175,7 @@ class Watch:
         try:
             removed = tidy(self._folder, self._keep, utc, records)
         except (OSError, sqlite3.Error) as error:
-            self._say("error", f"what is too old cannot be removed: {error}")
+            self._say("error", f"old hours cannot be removed: {error}")
             return
         if removed:
             self._say("info", f"{len(removed)} hours are removed, up to {removed[-1]}")
