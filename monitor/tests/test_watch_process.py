@@ -221,6 +221,10 @@ def test_killed_fifty_times(tmp_path: Path) -> None:
     assert numbers == sorted(set(numbers)) and len(numbers) > 60
     nothing_lost(set(numbers), sent_in(tmp_path / "sent"), kills)
     told_once(tmp_path)
+    # A machine that is loaded gives bits late.
+    high = int(time.time() * GROUPS_PER_SECOND) >> 32 << 32
+    off = sorted(abs(utc - (high + number) / GROUPS_PER_SECOND) for number, utc in numbers_in(hours_in(tmp_path, "Alpha")))
+    assert off[len(off) // 2] < 1
 
 
 def nothing_lost(found: "set[int]", sent: List[Tuple[int, int, float]], kills: List[float]) -> None:
@@ -339,6 +343,15 @@ def test_it_opens_no_socket(tmp_path: Path) -> None:
     links = [os.readlink(path) for path in Path(f"/proc/{it.it.pid}/fd").iterdir() if path.is_symlink()]
     assert not [link for link in links if link.startswith("socket:")] and len(links) < 30
     assert it.end() == 0
+
+
+def test_the_demonstration(tmp_path: Path) -> None:
+    """Three simulated stations are on a page, whose address is printed."""
+    words = [sys.executable, str(STATION.parent / "run.py"), "--folder", str(tmp_path / "demo"), "--seconds", "2"]
+    done = subprocess.run(words, stdout=subprocess.PIPE, stderr=subprocess.DEVNULL, timeout=3 * PATIENCE)
+    page = tmp_path / "demo" / "pages" / "index.html"
+    assert done.returncode == 0 and done.stdout.decode() == f"{page.as_uri()}\n"
+    assert all(f">{ps}<" in page.read_text() for ps in ("ALPHA", "BETA FM", "GAMMA"))
 
 
 # ---- asking
