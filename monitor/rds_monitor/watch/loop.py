@@ -83,6 +83,7 @@ class Watch:
         self._hooks = Hooks(say)
         self._busy_since: Optional[float] = None
         self._unwritten_since: Optional[float] = None
+        # On the monotonic clock.
         self._pages_at = self._tidy_at = 0.0
         for it in table.stations:
             self._add(it, records.lasting(it.name))
@@ -153,12 +154,12 @@ class Watch:
 
     def _give(self) -> None:
         after: List[Callable[[Records], None]] = []
-        utc = self.utc
-        if utc >= self._pages_at:
-            self._pages_at = utc + PAGES_EVERY
+        utc, steady = self.utc, self._now.steady
+        if steady >= self._pages_at:
+            self._pages_at = steady + PAGES_EVERY
             after.append(partial(self._write_pages, {name: it.state(utc) for name, it in self.stations.items()}, utc))
-        if utc >= self._tidy_at:
-            self._tidy_at = utc + TIDY_EVERY
+        if steady >= self._tidy_at:
+            self._tidy_at = steady + TIDY_EVERY
             after.append(partial(self._tidy, utc))
         if self._appends or self._records or after:
             self._writer.give(Batch(self._appends, self._records, after))

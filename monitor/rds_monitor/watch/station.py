@@ -142,8 +142,8 @@ class Station:
         for change in self.alarms.judge(seen, steady):
             self.changes.append(change)
             self.records.append(AlarmChanged(self.name, change.alarm, change.begins, utc, change.text))
-        if utc >= self._news or self.changes:
-            self._news = utc + NEWS * self._speed
+        if steady >= self._news or self.changes:
+            self._news = steady + NEWS * self._speed
             self.records.append(StateSeen(self.name, utc, self.state(utc)))
 
     def _see_valid(self, steady: float) -> None:
