@@ -1,8 +1,19 @@
 """python3 -m rds_monitor"""
 
+import gc
 import sys
 
-from .cli import main
+# Nothing that is imported is garbage, and to look for it takes a tenth of the time of a short command.
+gc.set_threshold(100000)
+
+from .cli import main  # noqa: E402
+
+
+def run() -> None:
+    status = main()
+    gc.freeze()
+    sys.exit(status)
+
 
 if __name__ == "__main__":
-    sys.exit(main())
+    run()

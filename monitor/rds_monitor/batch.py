@@ -13,6 +13,7 @@ import os
 import re
 import shlex
 import shutil
+import signal
 import subprocess
 import sys
 import tempfile
@@ -132,13 +133,18 @@ def run_jobs(arguments: argparse.Namespace, work: str, count: int, lock: IO[byte
     """The number, the status and the words of each job as it ends."""
     program = os.environ.get("RDS", "rds")
     words = parallel_words(arguments, job_text(arguments, program))
+    signal.signal(signal.SIGPIPE, signal.SIG_IGN)
     # rsync follows the links to the recordings.
     environment = {**os.environ, "PARALLEL_RSYNC_OPTS": "-rLDzR", "PARALLEL_SHELL": "/bin/sh"}
     process = subprocess.Popen(words, cwd=work, env=environment, stdin=subprocess.PIPE, stdout=subprocess.PIPE,
                                pass_fds=(lock.fileno(),))
     assert process.stdin and process.stdout
-    process.stdin.write("".join(f"{number}\n" for number in range(count)).encode())
-    process.stdin.close()
+    try:
+        process.stdin.write("".join(f"{number}\n" for number in range(count)).encode())
+        process.stdin.close()
+    except BrokenPipeError:
+        # It ended at once: the recordings are named as not decoded.
+        pass
     for line in process.stdout:
         match = re.fullmatch(rb"([0-9]+) ([0-9]+) (.*)\n", line)
         if match:

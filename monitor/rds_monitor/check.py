@@ -19,7 +19,8 @@ import numpy
 from .clock import RATE, number_of, rate_of
 from .inputs import length_of, recording_options, rules_of
 from .items import CORRECTED, GROUP_BITS, VALID, Fault, Readable, Recording, Rows, Source, library
-from .listing import Listing, ends_of, is_listing
+from .heads import is_listing
+from .listing import Listing, ends_of
 from .measure import Programmes, begins_of, groups_in, kinds_of
 from .watch.hours import hour_of
 

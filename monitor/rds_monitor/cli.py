@@ -35,8 +35,8 @@ class Command(NamedTuple):
 
 
 COMMANDS = (
-    Command("errors", "measure", "block errors by interval"),
-    Command("outages", "measure", "when no RDS was received"),
+    Command("errors", "errors", "block errors by interval"),
+    Command("outages", "outages", "when no RDS was received"),
     Command("programmes", "measure", "which PI codes were received, and when"),
     Command("types", "measure", "which group types were received, and how many"),
     Command("corrected", "measure", "which blocks were corrected, and how"),
@@ -69,11 +69,26 @@ class Parser(argparse.ArgumentParser):
         self.exit(2, f"{self.prog}: {message}\n{self.format_usage()}")
 
 
+class Help(argparse.RawDescriptionHelpFormatter):
+    """Help as wide as the terminal: argparse imports shutil for that, even for a command that prints no help."""
+
+    def __init__(self, prog: str):
+        super().__init__(prog, width=_columns() - 2)
+
+
+def _columns() -> int:
+    told = os.environ.get("COLUMNS", "")
+    try:
+        return int(told) if told.isdigit() and int(told) else os.get_terminal_size(1).columns
+    except OSError:
+        return 80
+
+
 def parser_of(command: Command) -> Parser:
     parser = Parser(
         prog=f"rds-monitor {command.name}",
         description=command.summary[0].upper() + command.summary[1:] + ".",
-        formatter_class=argparse.RawDescriptionHelpFormatter,
+        formatter_class=Help,
         allow_abbrev=False,
     )
     command.options(parser)

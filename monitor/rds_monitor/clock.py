@@ -4,12 +4,9 @@ clock time (CT) that its station sends."""
 from __future__ import annotations
 
 import argparse
-import datetime
 import re
 import sys
 from typing import Any, Iterator, List, NamedTuple, Optional, Tuple
-
-import numpy
 
 from .inputs import input_options, open_input
 from .items import GROUP, VALID, VERSION_A, Fault, Rows
@@ -41,18 +38,24 @@ class Clock(NamedTuple):
 
 def utc_text(seconds: float) -> str:
     """A time since 1970 to the millisecond, such as 2026-03-29T00:30:00.000Z."""
+    import datetime
+
     time = datetime.datetime(1970, 1, 1) + datetime.timedelta(milliseconds=int(seconds * 1000 + 0.5))
     return time.isoformat(timespec="milliseconds") + "Z"
 
 
 def utc_texts(seconds: Rows) -> List[str]:
     """The same of many times."""
+    import numpy
+
     stamps = (seconds * 1000 + 0.5).astype("i8").astype("M8[ms]")
     return [f"{it}Z" for it in numpy.datetime_as_string(stamps).tolist()]
 
 
 def start_of(text: str) -> float:
     """The value of --start."""
+    import datetime
+
     match = re.fullmatch(r"\d{4}-\d\d-\d\dT\d\d:\d\d:\d\d(\.\d{1,6})?Z", text)
     try:
         whole = datetime.datetime.strptime(text[:19], "%Y-%m-%dT%H:%M:%S") if match else None
@@ -260,4 +263,6 @@ def _print_steps(found: Fit) -> None:
 
 def milliseconds(places: Any, rate: float) -> List[str]:
     """Positions as seconds to the millisecond, as text."""
+    import numpy
+
     return [f"{it:.3f}" for it in (numpy.asarray(places, "f8") / rate).tolist()]

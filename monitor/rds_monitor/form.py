@@ -12,7 +12,7 @@ from typing import Iterator, List, NamedTuple, Tuple
 import numpy
 
 from .items import Fault, library
-from .listing import is_listing
+from .heads import is_listing
 from .pack import NAMES, Change, bits_of, packed_of
 from .rates import likely_rate, locked
 from .samples import Layout, Signal, Stored, open_samples, wav_layout

@@ -9,21 +9,18 @@ Lines that begin with `<`, and lines `G:`, hold no group.
 from __future__ import annotations
 
 import argparse
-import datetime
 import re
 import sys
-from functools import lru_cache
 from typing import Any, BinaryIO, Iterator, List, NamedTuple, Optional, Tuple
 
-import numpy
-
 from .clock import RATE, Clock, clock_of_options, clock_options, utc_texts
+from .columns import BLOCKS, Items, items_in
+from .heads import GROUP_LINE, NO_GROUP
 from .inputs import input_options, open_input
 from .items import (
     ACQUIRED,
     GROUP,
     GROUP_BITS,
-    ITEM,
     LOSS,
     LOST,
     UNKNOWN_TYPE,
@@ -38,51 +35,40 @@ from .items import (
     Totals,
 )
 
-_BLOCK = rb"([0-9A-Fa-f]{4}|-{4})"
-_LINE = re.compile(
-    rb"[ \t]*" + rb"[ \t]*".join([_BLOCK] * 4) + rb"(?:[ \t]*@[ \t]*(\S[^\r\n]*?)|[ \t][^@\r\n]*)?[ \t\r]*"
-)
-_EMPTY = re.compile(rb"[ \t\r]*(?:<[^\n]*|[Gg]:[ \t\r]*)?")
 _TIMES = ("%Y/%m/%d %H:%M:%S.%f", "%Y/%m/%d %H:%M:%S", "%Y-%m-%d %H:%M:%S.%f", "%Y-%m-%d %H:%M:%S")
-_DIGITS = numpy.frombuffer(b"0123456789ABCDEF", "u1")
 CHUNK = 1 << 20
 
 
 # ---- out
 
-_LINE_TEXT = numpy.dtype(
-    [(f"{name}{block}", kind) for block in (1, 2, 3, 4) for name, kind in (("word", "<u4"), ("blank", "u1"))]
-)
+_UPPER = bytes(b"0123456789ABCDEF"[it >> 4] for it in range(256))
+_LOWER = bytes(b"0123456789ABCDEF"[it & 15] for it in range(256))
+# What follows a word until it is written ----: a blank, or a mark that the block is not known.
+_MARK = b"\1"
+_AFTER = bytes(_MARK[0] if kind < VALID else ord(" ") for kind in range(256))
 
 
-@lru_cache(None)
-def _words() -> Any:
-    """The four digits of each word, as a number of four bytes."""
-    word = numpy.arange(1 << 16)
-    digits = numpy.stack([_DIGITS[word >> shift & 15] for shift in (12, 8, 4, 0)], axis=1)
-    return numpy.ascontiguousarray(digits).view("<u4")[:, 0]
-
-
-def text_of(rows: Rows) -> Any:
-    """The groups among the rows, a line of 19 bytes each and one more, named blank4."""
-    text = numpy.zeros(len(rows), _LINE_TEXT)
-    for block in (1, 2, 3, 4):
-        word = _words()[rows[f"info{block}"]]
-        word[rows[f"kind{block}"] < VALID] = int.from_bytes(b"----", "little")
-        text[f"word{block}"], text[f"blank{block}"] = word, ord(" ")
-    return text
-
-
-def is_whole(rows: Rows) -> Any:
-    """Which groups lack no block."""
-    whole = numpy.ones(len(rows), bool)
-    for block in (1, 2, 3, 4):
-        whole &= rows[f"kind{block}"] >= VALID
-    return whole
+def text_of(items: Items) -> bytes:
+    """The groups among the items, a line of 20 bytes each. librds has the word 0 for a block that is not known."""
+    text = bytearray(20 * items.count)
+    for block, kinds in zip(BLOCKS, items.kinds):
+        at = 5 * (block - 1)
+        for column in items.word_bytes(block):
+            text[at::20], text[at + 1 :: 20] = column.translate(_UPPER), column.translate(_LOWER)
+            at += 2
+        text[at::20] = kinds.translate(_AFTER)
+    text = text.replace(b"0000" + _MARK, b"---- ")
+    text[19::20] = b"\n" * items.count
+    runs = items.runs()
+    if runs == [(0, items.count)]:
+        return text
+    return b"".join(text[20 * begin : 20 * end] for begin, end in runs)
 
 
 def spy_times(seconds: Any) -> List[str]:
     """Times since 1970 as RDS Spy writes them."""
+    import numpy
+
     stamps = numpy.datetime_as_string((seconds * 1000 + 0.5).astype("i8").astype("M8[ms]"))
     return [f"@{it[:10].replace('-', '/')} {it[11:22]}" for it in stamps.tolist()]
 
@@ -107,14 +93,17 @@ def options_groups(parser: argparse.ArgumentParser) -> None:
 
 def run_groups(arguments: argparse.Namespace) -> int:
     source = open_input(arguments)
-    for rows in source.chunks():
+    for items in items_in(source):
         clock = clock_of(arguments, source)
         if arguments.spy and clock.start is None:
             raise Misuse("--spy writes UTC: say --start, as rds-monitor clock --options finds it")
-        found = rows[rows["what"] == GROUP]
+        text = text_of(items)
+        if arguments.spy or arguments.times:
+            text = _with_times(text, items, clock, arguments.spy)
         if arguments.whole:
-            found = found[is_whole(found)]
-        _write(found, _times(found, clock, arguments))
+            text = b"".join(line for line in text.splitlines(keepends=True) if b"-" not in line[:19])
+        sys.stdout.buffer.write(text)
+        sys.stdout.flush()
     return 0
 
 
@@ -124,24 +113,16 @@ def clock_of(arguments: argparse.Namespace, source: Source) -> Clock:
     return clock if clock.start is not None else clock._replace(start=getattr(source, "start", None))
 
 
-def _times(rows: Rows, clock: Clock, arguments: argparse.Namespace) -> Optional[List[str]]:
-    seconds = rows["place"] / clock.rate
-    if arguments.spy:
-        return spy_times((clock.start or 0.0) + seconds)
-    if not arguments.times:
-        return None
-    return utc_texts(clock.start + seconds) if clock.start is not None else [f"{it:.3f}" for it in seconds.tolist()]
-
-
-def _write(rows: Rows, times: Optional[List[str]]) -> None:
-    text = text_of(rows)
-    if times is None:
-        text["blank4"] = ord("\n")
-        sys.stdout.buffer.write(text.tobytes())
+def _with_times(text: bytes, items: Items, clock: Clock, spy: bool) -> bytes:
+    """The lines with the times of their groups: for RDS Spy, or in UTC if it is known, or in seconds."""
+    rows = items.rows
+    seconds = rows["place"][rows["what"] == GROUP] / clock.rate
+    if spy:
+        times = spy_times((clock.start or 0.0) + seconds)
     else:
-        lines = text.tobytes().decode("ascii")
-        sys.stdout.write("".join([f"{lines[20 * k : 20 * k + 20]}{time}\n" for k, time in enumerate(times)]))
-    sys.stdout.flush()
+        times = utc_texts(clock.start + seconds) if clock.start is not None else [f"{it:.3f}" for it in seconds.tolist()]
+    lines = text.decode("ascii").splitlines()
+    return "".join([f"{line} {time}\n" for line, time in zip(lines, times)]).encode("ascii")
 
 
 # ---- in
@@ -154,19 +135,11 @@ class Line(NamedTuple):
     time: Optional[float]
 
 
-def is_groups(head: bytes) -> bool:
-    """Whether an input begins with such lines. Digits without a blank after each word may be a recording, unless `@` or
-    ---- is there."""
-    whole = head.split(b"\n")
-    lines = [it for it in whole[: max(1, len(whole) - 1)] if not _EMPTY.fullmatch(it)][:3]
-    return bool(lines) and all(_LINE.fullmatch(it) and re.search(rb"@|----|^\s*(?:\w{4}[ \t]+){3}", it) for it in lines)
-
-
 def line_of(line: bytes, number: int) -> Optional[Line]:
     """The group of a line, or None if it holds none."""
-    if _EMPTY.fullmatch(line):
+    if re.fullmatch(NO_GROUP, line):
         return None
-    match = _LINE.fullmatch(line)
+    match = re.fullmatch(GROUP_LINE, line)
     if not match:
         raise Fault(f"line {number} is no group of four hexadecimal words")
     words = tuple(-1 if match[k] == b"----" else int(match[k], 16) for k in (1, 2, 3, 4))
@@ -175,6 +148,8 @@ def line_of(line: bytes, number: int) -> Optional[Line]:
 
 
 def _time_of(text: str, number: int) -> float:
+    import datetime
+
     for form in _TIMES:
         try:
             return (datetime.datetime.strptime(text, form) - datetime.datetime(1970, 1, 1)).total_seconds()
@@ -203,6 +178,10 @@ class GroupLines:
         self._counts = [0] * 6
 
     def chunks(self) -> Iterator[Rows]:
+        import numpy
+
+        from .items import ITEM
+
         more = True
         while more:
             data = self._stream.read(CHUNK)

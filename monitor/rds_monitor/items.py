@@ -1,7 +1,8 @@
 """Rows of what was decoded, and where they come from: a recording, a listing or standard input, told apart by content.
 
-All commands work on numpy arrays of the dtype `ITEM`, a row per acquisition, group or loss, in the order of a listing.
-A `Source` gives them in chunks, so memory does not grow with the length of the input.
+Most commands work on numpy arrays of the dtype `ITEM`, a row per acquisition, group or loss, in the order of a listing.
+A `Source` gives them in chunks, so memory does not grow with the length of the input. numpy is imported only where rows
+are made: what counts blocks works on columns of bytes (columns.py).
 """
 
 from __future__ import annotations
@@ -13,14 +14,16 @@ import sys
 import time
 from typing import TYPE_CHECKING, Any, BinaryIO, Iterator, NamedTuple, Optional, Protocol, Sequence, Tuple
 
-import numpy
-
 if TYPE_CHECKING:
+    import numpy
     from numpy.typing import NDArray
 
+    from .columns import Items
+    from .decoder import Decoder
+
     Rows = NDArray[Any]
+    ITEM: numpy.dtype[Any]
 else:
-    # That module takes a tenth of the time of numpy to import.
     Rows = Any
 
 ACQUIRED, GROUP, LOSS = 1, 2, 3
@@ -32,6 +35,8 @@ LONGEST = 2**36
 
 
 def _item_dtype() -> numpy.dtype[Any]:
+    import numpy
+
     names, formats, offsets = ["place"], ["<u8"], [0]
     for block in range(4):
         names += [f"{field}{block + 1}" for field in ("burst", "info", "kind", "offset")]
@@ -43,8 +48,12 @@ def _item_dtype() -> numpy.dtype[Any]:
     return numpy.dtype({"names": names, "formats": formats, "offsets": offsets, "itemsize": 48})
 
 
-# The same as librds.ITEM, the memory layout of rds_item_t: a listing needs no library.
-ITEM = _item_dtype()
+def __getattr__(name: str) -> Any:
+    """ITEM is the same as librds.ITEM, the memory layout of rds_item_t: a listing needs no library."""
+    if name != "ITEM":
+        raise AttributeError(f"module {__name__!r} has no attribute {name!r}")
+    globals()["ITEM"] = _item_dtype()
+    return globals()["ITEM"]
 
 
 class Fault(Exception):
@@ -79,6 +88,8 @@ class Totals(NamedTuple):
 
 def totals_of(rows: Rows) -> Totals:
     """The totals of rows."""
+    import numpy
+
     kinds = numpy.empty((4, len(rows)), "u1")
     masks = []
     for block in range(4):
@@ -104,6 +115,8 @@ def totals_of(rows: Rows) -> Totals:
 
 def burst_lengths(masks: Rows) -> Rows:
     """From the first to the last bit of each error mask."""
+    import numpy
+
     wide = masks.astype("i8")
     lengths: Rows = numpy.frexp(wide)[1] - numpy.frexp(wide & -wide)[1] + (wide > 0)
     return lengths
@@ -184,45 +197,35 @@ class Recording:
         self._gaps, self._rules = list(gaps), rules
 
     def chunks(self) -> Iterator[Rows]:
-        librds = library()
-        try:
-            follower = librds.Follower(librds.Rules(*self._rules), self._gaps)
-            left: Optional[int] = self._bits
-            for data in self._bytes():
-                if left is not None and 8 * len(data) > left:
-                    yield follower.push_array(data[: left // 8])
-                    yield self._finish(follower, data[left // 8 : left // 8 + 1], left % 8)
-                    return
-                yield follower.push_array(data)
-                left = None if left is None else left - 8 * len(data)
-            if left:
-                raise Fault(
-                    f"refused 4 BitsPastBytes: the input has {follower.place} bits, fewer than the {self._bits} of "
-                    "--bits"
-                )
-            yield self._finish(follower, b"", 0)
-        except librds.Refused as error:
-            raise Fault(str(error)) from None
+        return (it.rows for it in self.items())
 
-    def _finish(self, follower: Any, data: bytes, bits: int) -> Rows:
-        rows: Rows
-        rows, found = follower.finish_array(data, bits)
-        self.length = follower.place + bits
-        if self._gaps and self._gaps[-1][1] > follower.place + bits:
+    def items(self) -> Iterator[Items]:
+        """The same in a buffer, which each chunk uses again."""
+        from .decoder import Decoder
+
+        decoder = Decoder(self._rules, self._gaps)
+        left: Optional[int] = self._bits
+        for data in self._bytes():
+            if left is not None and 8 * len(data) > left:
+                yield decoder.push(data[: left // 8])
+                yield self._finish(decoder, data[left // 8 : left // 8 + 1], left % 8)
+                return
+            yield decoder.push(data)
+            left = None if left is None else left - 8 * len(data)
+        if left:
+            raise Fault(
+                f"refused 4 BitsPastBytes: the input has {decoder.place} bits, fewer than the {self._bits} of --bits"
+            )
+        yield self._finish(decoder, b"", 0)
+
+    def _finish(self, decoder: Decoder, data: bytes, bits: int) -> Items:
+        items, self.totals = decoder.finish(data, bits)
+        self.length = decoder.place + bits
+        if self._gaps and self._gaps[-1][1] > self.length:
             raise Fault(
                 f"refused 16 BadGaps: a gap ends at {self._gaps[-1][1]}, past the {self.length} bits of the recording"
             )
-        self.totals = Totals(
-            found.valid,
-            found.bursts,
-            found.lost,
-            found.bits,
-            found.groups,
-            found.complete,
-            found.acquired,
-            found.losses,
-        )
-        return rows
+        return items
 
     def _bytes(self) -> Iterator[bytes]:
         if self._hex:
@@ -284,14 +287,17 @@ def open_source(
     """The source of a file, or of standard input by the name "-". With `unfinished_ok` a listing may be a part of one:
     without its first rows, its last ones or its totals. With `sessions` it may be several, one after the other.
     `length` is how many bits the recording of a listing has."""
-    from .hexgroups import GroupLines, is_groups
-    from .listing import Listing, is_listing
+    from .heads import is_groups, is_listing
 
     stream, size = _open(path)
     head = _read_some(stream, 4096)
     if not hex and is_groups(head):
+        from .hexgroups import GroupLines
+
         return GroupLines(stream, head)
     if not hex and (is_listing(head) or not head and unfinished_ok):
+        from .listing import Listing
+
         return Listing(
             stream, head, unfinished_ok=unfinished_ok, length=length, trust_length=trust_length, sessions=sessions
         )

@@ -14,6 +14,7 @@ from typing import Iterator, List, NoReturn, Optional
 
 import numpy
 
+from .heads import HEADER
 from .items import (
     ACQUIRED,
     BLOCK_BITS,
@@ -32,7 +33,6 @@ from .items import (
 )
 from .parse import FIRST, LAST, TOTAL, Bad, parse, read_pattern
 
-HEADER = b"kind,place,type,version,block1,block2,block3,block4"
 TOTAL_NAMES = (
     "valid",
     "burst1",
@@ -52,24 +52,6 @@ LINES = 1 << 19
 # No row has a tenth of it.
 LONGEST_LINE = 1 << 12
 CUT = "the listing does not end in its totals: it is cut off, or rds has not ended (--unfinished accepts it)"
-
-
-def is_listing(head: bytes) -> bool:
-    """Whether an input is text that claims to be a listing. Other text is refused: no recording looks like it."""
-    if head.startswith((b"\xff\xfe", b"\xfe\xff")) and b"g\0r\0o\0u\0p\0" in head:
-        raise Fault("the listing is in UTF-16, as PowerShell writes it: convert it to UTF-8 or ASCII")
-    text = head[3:] if head.startswith(b"\xef\xbb\xbf") else head
-    if text.startswith((b"acquired,", b"group,", b"lost,", b"total,", HEADER[:11])):
-        return True
-    if len(head) >= 16 and not head.translate(None, bytes(range(32, 127)) + b"\t\r\n"):
-        line = head.splitlines()[0][:60].decode("ascii")
-        digits = not head.translate(None, b"0123456789abcdefABCDEF \t\r\n")
-        raise Fault(
-            "the input is hexadecimal text: use --hex"
-            if digits
-            else f"row 1: {line!r} is no row of a listing, and text is no recording of packed bits"
-        )
-    return False
 
 
 class Listing:

@@ -1,69 +1,33 @@
-"""How well a station was received: blocks by interval, outages, PI codes, group types, corrected blocks, and the rows
-as a table.
-
-What was sent is counted by the clock, whether or not there are groups. All of it is taken chunk by chunk, by numpy.
-"""
+"""Which PI codes and group types were received, and which blocks were corrected: chunk by chunk, by numpy."""
 
 from __future__ import annotations
 
 import argparse
-import math
-import sys
 from typing import Any, Dict, Iterator, List, NamedTuple, Optional, Sequence, Tuple
 
 import numpy
 
 from .clock import Clock, clock_of_options, clock_options, number_of
+from .columns import BLOCKS
+from .errors import Errors, Interval, interval_of
+from .extent import Extent, write_csv
 from .inputs import input_options, open_input
 from .items import (
     BLOCK_BITS,
     CORRECTED,
     GROUP,
-    GROUP_BITS,
-    LOST,
     MISSING,
     UNKNOWN_TYPE,
     VALID,
-    Progress,
     Rows,
-    Source,
     burst_lengths,
 )
-from .listing import Listing, ends_of
+from .listing import ends_of
+from .outages import Outages
 from .parse import FIRST, read_pattern
 
-BLOCKS = (1, 2, 3, 4)
-
-
-class Extent:
-    """From where to where an input tells something: a listing without --length ends with its last row, and a part of
-    one begins with its first."""
-
-    def __init__(self, source: Source):
-        self._source, self._first, self._last = source, 0, 0
-        self._seen = False
-
-    def chunks(self) -> Iterator[Rows]:
-        progress = Progress(self._source.length)
-        for rows in self._source.chunks():
-            if len(rows):
-                if not self._seen:
-                    self._first, self._seen = int(begins_of(rows[:1])[0]), True
-                self._last = max(self._last, int(ends_of(rows[-1:])[0]))
-                progress.at(self._last)
-                yield rows
-        progress.close()
-
-    @property
-    def begin(self) -> int:
-        """0, but for a part of a listing. It counts after the first chunk."""
-        part = isinstance(self._source, Listing) and self._source.is_part
-        return self._first if part else 0
-
-    @property
-    def end(self) -> int:
-        """It counts after the last chunk."""
-        return self._last if self._source.length is None else self._source.length
+# With what is in files of its own, since it needs no numpy.
+__all__ = ["BLOCKS", "Errors", "Extent", "Interval", "Mix", "Outages", "Programmes", "begins_of", "groups_in", "kinds_of", "type_names"]
 
 
 def begins_of(rows: Rows) -> Rows:
@@ -86,28 +50,6 @@ def kinds_of(groups: Rows) -> Rows:
     return kinds
 
 
-def outcomes_of(groups: Rows) -> Rows:
-    """The same as a number of two bits a block, block 1 lowest, by which `OUTCOMES` counts them."""
-    codes: Rows = groups["kind4"] << 2
-    for block in (3, 2):
-        codes |= groups[f"kind{block}"]
-        codes <<= 2
-    codes |= groups["kind1"]
-    return codes
-
-
-def _outcome_table() -> Rows:
-    """How many blocks have each outcome: a row of four per code of `outcomes_of`."""
-    codes = numpy.arange(256)
-    counts = [sum((codes >> 2 * block & 3) == kind for block in range(4)) for kind in range(4)]
-    table: Rows = numpy.stack(counts, 1).astype("i8")
-    return table
-
-
-OUTCOMES = _outcome_table()
-VALID_BLOCKS = OUTCOMES[:, VALID].copy()
-
-
 def places_of(groups: Rows) -> Rows:
     """The positions of the first bits of the blocks, a row of four per group. They count for blocks that were read."""
     first = groups["place"].astype("i8")
@@ -115,282 +57,6 @@ def places_of(groups: Rows) -> Rows:
         first -= BLOCK_BITS * FIRST[read_pattern(groups)]
     places: Rows = first[:, None] + BLOCK_BITS * numpy.arange(4)
     return places
-
-
-def write_csv(rows: Sequence[Sequence[Any]]) -> None:
-    sys.stdout.write("".join(",".join(map(str, row)) + "\n" for row in rows))
-
-
-# ---- block errors
-
-
-class Interval(NamedTuple):
-    """Blocks of an interval: those sent by the clock, and of these those valid, corrected, uncorrectable and not
-    read."""
-
-    begin: float
-    end: float
-    sent: int
-    valid: int
-    corrected: int
-    lost: int
-    missing: int
-
-    @property
-    def bad_percent(self) -> float:
-        return 100 * (self.sent - self.valid) / self.sent if self.sent else 0.0
-
-
-class Errors:
-    """Blocks by intervals of so many bits. A block belongs to the interval of its first bit."""
-
-    def __init__(self, bits: float):
-        self._bits = bits
-        self._counts = numpy.zeros((64, 4), "i8")
-        self._ends: Dict[int, int] = {}
-
-    def add(self, rows: Rows) -> None:
-        groups = groups_in(rows)
-        if not len(groups):
-            return
-        places, codes = groups["place"].astype("i8"), outcomes_of(groups)
-        low, high = int(places[0] / self._bits), int(places[-1] / self._bits)
-        self._grow(high + 2)
-        edges = numpy.arange(low + 1, high + 1) * self._bits
-        cuts = numpy.concatenate([[0], numpy.searchsorted(places, edges), [len(places)]])
-        slots = numpy.repeat(256 * numpy.arange(high - low + 1), numpy.diff(cuts))
-        counts = numpy.bincount(slots + codes, minlength=256 * (high - low + 1)).reshape(-1, 256)
-        # The last group of an interval may lie in two.
-        used = numpy.flatnonzero(numpy.diff(cuts))
-        lasts = cuts[used + 1] - 1
-        parted = places[lasts] + 3 * BLOCK_BITS >= (low + used + 1) * self._bits
-        counts[used[parted], codes[lasts[parted]]] -= 1
-        self._add_blocks(groups[lasts[parted]])
-        for slot, end in zip(used[~parted].tolist(), ends_of(groups[lasts[~parted]]).tolist()):
-            self._end_at(low + slot, end)
-        self._counts[low : high + 1] += counts @ OUTCOMES
-
-    def _add_blocks(self, groups: Rows) -> None:
-        """Groups that may lie in several intervals, block by block."""
-        read = kinds_of(groups) != MISSING
-        for kind, place in zip(kinds_of(groups)[read].tolist(), places_of(groups)[read].tolist()):
-            at = int(place / self._bits)
-            self._grow(at + 1)
-            self._counts[at, kind] += 1
-            self._end_at(at, place + BLOCK_BITS)
-
-    def _end_at(self, at: int, end: int) -> None:
-        """A block of this interval ends here."""
-        self._ends[at] = max(self._ends.get(at, 0), end)
-
-    def _grow(self, size: int) -> None:
-        if size > len(self._counts):
-            more = numpy.zeros((max(size, 2 * len(self._counts)), 4), "i8")
-            more[: len(self._counts)] = self._counts
-            self._counts = more
-
-    def intervals(self, begin: int, end: int) -> Iterator[Interval]:
-        """The intervals of an extent.
-
-        Bits up to an interval's end that are of no block that was read were sent as well: the whole blocks among them,
-        less those of the intervals before, are missing in this one. So the parts add up to what was sent, and all that
-        was sent to the bits.
-        """
-        first = int(begin / self._bits)
-        self._grow(math.ceil(end / self._bits) + 1)
-        known = read_so_far = through = 0
-        at = first
-        while at * self._bits < end:
-            lost, valid, corrected = (int(self._counts[at, kind]) for kind in (LOST, VALID, CORRECTED))
-            upto = min((at + 1) * self._bits, end)
-            read = lost + valid + corrected
-            read_so_far += read
-            through = max(through, self._ends.get(at, 0))
-            gone = int((upto - begin - BLOCK_BITS * read_so_far + max(0, through - upto)) / BLOCK_BITS)
-            missing = max(0, gone - known)
-            known += missing
-            yield Interval(max(begin, at * self._bits), upto, read + missing, valid, corrected, lost, missing)
-            at += 1
-
-
-def interval_of(text: str) -> float:
-    seconds = number_of(text)
-    if seconds < 1:
-        raise argparse.ArgumentTypeError("an interval has a second or more")
-    return seconds
-
-
-def options_errors(parser: argparse.ArgumentParser) -> None:
-    parser.description = (
-        "Block errors over time, as CSV: per interval the blocks sent by the clock, those valid, corrected, "
-        "uncorrectable "
-        "(lost) and not read for want of sync (missing), and how many per cent of those sent are not valid."
-    )
-    parser.epilog = "example:\n  rds-monitor errors --every 60 --start 2026-03-29T00:30:00Z monday.bin > errors.csv"
-    input_options(parser)
-    parser.add_argument(
-        "--every", type=interval_of, default=60.0, metavar="SECONDS", help="the length of an interval (60)"
-    )
-    clock_options(parser)
-
-
-def run_errors(arguments: argparse.Namespace) -> int:
-    clock = clock_of_options(arguments)
-    errors, extent = Errors(arguments.every * clock.rate), Extent(open_input(arguments))
-    for rows in extent.chunks():
-        errors.add(rows)
-    table: List[Sequence[Any]] = [
-        [
-            "begin_s",
-            "end_s",
-            "sent",
-            "valid",
-            "corrected",
-            "lost",
-            "missing",
-            "bad_percent",
-            *clock.names("begin", "end"),
-        ]
-    ]
-    for it in errors.intervals(extent.begin, extent.end):
-        table.append(
-            [
-                f"{it.begin / clock.rate:.0f}",
-                f"{it.end / clock.rate:.0f}",
-                *it[2:],
-                f"{it.bad_percent:.2f}",
-                *clock.utc(it.begin, it.end),
-            ]
-        )
-    write_csv(table)
-    return 0
-
-
-# ---- outages
-
-
-class Outages:
-    """Stretches of `least` bits or more in which no valid block counts. One counts if within some second it is one of
-    `needed` valid ones: noise gives some that are alone."""
-
-    def __init__(self, rate: float, share: float, shortest: float):
-        self._second, self._least = rate, shortest * rate
-        self._needed = max(1, math.ceil(share / 100 * rate / BLOCK_BITS))
-        # Groups that lie within a second wherever it begins.
-        self._window = int(rate / GROUP_BITS) - 1
-        # The last valid blocks, of which it is not known yet whether they count, and whether they do by those before
-        # them.
-        self._open = numpy.zeros(0, "i8")
-        self._counts = numpy.zeros(0, bool)
-        self.end: Optional[int] = None
-
-    def add(self, rows: Rows) -> List[Tuple[int, int]]:
-        """The outages that end within these rows, from position to position."""
-        groups, some = groups_in(rows), 2 * self._window
-        if len(groups) < 2 * some or not self._is_dense(groups):
-            return self._add(groups)
-        # There is none between the first groups and the last ones, and all valid blocks count.
-        found = self._add(groups[:some])
-        valid = places_of(groups[-some:])[kinds_of(groups[-some:]) == VALID]
-        keep = len(valid) - self._needed + 1
-        self._open, self._counts, self.end = (
-            valid[keep:],
-            numpy.ones(self._needed - 1, bool),
-            int(valid[keep - 1]) + BLOCK_BITS,
-        )
-        return found
-
-    def _is_dense(self, groups: Rows) -> bool:
-        """Whether the groups follow on one another, and enough blocks are valid wherever some second is looked at, so
-        that no two valid ones are as far apart as an outage."""
-        if (self._window + 1) * GROUP_BITS >= self._least or not (numpy.diff(groups["place"]) == GROUP_BITS).all():
-            return False
-        sums = numpy.cumsum(VALID_BLOCKS[outcomes_of(groups)])
-        window = self._window
-        return bool(sums[window - 1] >= self._needed and (sums[window:] - sums[:-window] >= self._needed).all())
-
-    def _add(self, groups: Rows) -> List[Tuple[int, int]]:
-        valid = places_of(groups)[kinds_of(groups) == VALID]
-        places = numpy.concatenate([self._open, valid])
-        counts = numpy.concatenate([self._counts, numpy.zeros(len(valid), bool)])
-        # A later block may still make the last ones count.
-        keep = max(0, len(places) - self._needed + 1)
-        dense = places[len(places) - keep :] + BLOCK_BITS - places[:keep] <= self._second
-        for shift in range(self._needed):
-            counts[shift : shift + keep] |= dense
-        self._open, self._counts = places[keep:], counts[keep:]
-        return self._between(places[:keep][counts[:keep]])
-
-    def close(self, end: int) -> List[Tuple[int, int]]:
-        found = self._between(self._open[self._counts])
-        return found + self._long(self.end or 0, end)
-
-    def begin(self, place: int) -> None:
-        """The recording begins at this position."""
-        if self.end is None:
-            self.end = place
-
-    def _between(self, places: Rows) -> List[Tuple[int, int]]:
-        if not len(places):
-            return []
-        begins = numpy.concatenate([[self.end or 0], places[:-1] + BLOCK_BITS])
-        self.end = int(places[-1]) + BLOCK_BITS
-        lengths = places - begins
-        at = numpy.flatnonzero((lengths >= self._least) & (lengths > 0))
-        return [(int(begins[it]), int(places[it])) for it in at]
-
-    def _long(self, begin: int, end: int) -> List[Tuple[int, int]]:
-        return [(begin, end)] if end > begin and end - begin >= self._least else []
-
-
-def share_of(text: str) -> float:
-    share = number_of(text)
-    if share > 100:
-        raise argparse.ArgumentTypeError("it takes up to 100 per cent")
-    return share
-
-
-def options_outages(parser: argparse.ArgumentParser) -> None:
-    parser.description = (
-        "When no RDS was received (the carrier may be up), as CSV: stretches in which no valid block counts. A valid "
-        "block "
-        "counts if within some second it is one of at least --density per cent of the blocks sent."
-    )
-    parser.epilog = "example:\n  rds-monitor outages --shortest 2 monday.bin"
-    input_options(parser)
-    parser.add_argument(
-        "--density", type=share_of, default=10.0, metavar="PERCENT", help="of the blocks sent in a second (10)"
-    )
-    parser.add_argument(
-        "--shortest", type=number_of, default=1.0, metavar="SECONDS", help="the shortest outage told (1)"
-    )
-    clock_options(parser)
-
-
-def run_outages(arguments: argparse.Namespace) -> int:
-    clock, extent = clock_of_options(arguments), Extent(open_input(arguments))
-    write_csv([["begin_s", "end_s", "length_s", "begin_place", "end_place", *clock.names("begin", "end")]])
-    for begin, end in outages_in(extent, Outages(clock.rate, arguments.density, arguments.shortest)):
-        write_csv(
-            [
-                [
-                    f"{begin / clock.rate:.3f}",
-                    f"{end / clock.rate:.3f}",
-                    f"{(end - begin) / clock.rate:.3f}",
-                    begin,
-                    end,
-                    *clock.utc(begin, end),
-                ]
-            ]
-        )
-    return 0
-
-
-def outages_in(extent: Extent, outages: Outages) -> Iterator[Tuple[int, int]]:
-    for rows in extent.chunks():
-        outages.begin(extent.begin)
-        yield from outages.add(rows)
-    yield from outages.close(extent.end)
 
 
 # ---- PI codes

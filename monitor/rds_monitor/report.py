@@ -17,7 +17,7 @@ from .clock import Clock, clock_of_options, clock_options
 from .info import label
 from .inputs import input_options, open_input
 from .items import Fault
-from .measure import Errors, Interval
+from .errors import Errors, Interval
 from .sessions import Session, sessions_of
 
 HERE = os.path.dirname(os.path.abspath(__file__))

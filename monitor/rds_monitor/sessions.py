@@ -12,7 +12,9 @@ from .clock import Clock, Tick, ticks_of
 from .content import Decoder, Event
 from .items import ITEM, Progress, Rows, Source, Totals
 from .listing import Listing, ends_of
-from .measure import Errors, Interval, Mix, Outages, begins_of, groups_in, type_names
+from .errors import Errors, Interval
+from .measure import Mix, begins_of, groups_in, type_names
+from .outages import Outages
 
 # The clock time changes each minute, and its offset is a column of the minutes.
 NOT_STORED = ("ct",)

@@ -12,8 +12,9 @@ import numpy
 from .clock import Clock, clock_of_options, clock_options, milliseconds, utc_texts
 from .inputs import input_options, open_input
 from .items import Fault, Rows
-from .listing import HEADER, text_of
-from .measure import Extent
+from .extent import Extent
+from .heads import HEADER
+from .listing import text_of
 
 
 def options_table(parser: argparse.ArgumentParser) -> None:

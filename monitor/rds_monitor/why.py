@@ -5,6 +5,7 @@ from __future__ import annotations
 import argparse
 import os
 import re
+import signal
 import subprocess
 import sys
 from typing import Callable, Dict, List, Optional, Sequence
@@ -28,6 +29,8 @@ def options_why(parser: argparse.ArgumentParser) -> None:
 def run_why(arguments: argparse.Namespace) -> int:
     words, held = [*arguments.words], sys.stdin.buffer.read()
     program = os.environ.get("RDS", "rds")
+    # rds may refuse before it has read all: then the pipe is closed, which is no end of this command.
+    signal.signal(signal.SIGPIPE, signal.SIG_IGN)
     try:
         ran = subprocess.run([program, *words], input=held, stdout=subprocess.DEVNULL, stderr=subprocess.PIPE, check=False)
     except OSError as error:

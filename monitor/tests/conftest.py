@@ -9,10 +9,12 @@ from pathlib import Path
 from typing import Any, Callable, Iterable, Sequence
 
 import pytest
-from hypothesis import settings
+from hypothesis import HealthCheck, settings
 
-# The same examples each time: a gate that fails by chance is none.
-settings.register_profile("gate", derandomize=True, database=None)
+# The same examples each time, however slow the machine is: a gate that fails by chance is none.
+settings.register_profile(
+    "gate", derandomize=True, database=None, deadline=None, suppress_health_check=[HealthCheck.too_slow]
+)
 settings.load_profile("gate")
 
 TOP = Path(__file__).resolve().parents[2]

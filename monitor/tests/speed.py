@@ -1,8 +1,8 @@
 #!/usr/bin/env python3
 """Processor seconds of the commands over a day, beside those of `rds list --workers 1`: monitor/tests/speed.py [RUNS]
 
-The day is 985,000 groups of the sample, 12.8 MB, with one bit in 100 wrong, always the same. Of RUNS runs (3) the least
-counts. Prints a row per command: seconds and peak memory from the recording and from its listing, and how many times
+The day is 985,000 groups of the sample, 12.8 MB, with one bit in 100 wrong, always the same. Of RUNS runs (5) the least
+counts; the list is run beside each. Prints a row per command: seconds and peak memory from the recording and from its listing, and how many times
 those of the list they are. The exit status says whether all are within their limits. RDS names the program, RDS_LIBRARY
 the library.
 """
@@ -35,8 +35,8 @@ LIMITS = (
     Limit(("errors",), 1, 8),
     Limit(("outages",), 1, 8),
     Limit(("groups",), 1, 8),
-    Limit(("programmes",), 1, 8),
-    Limit(("types",), 1, 8),
+    Limit(("programmes",), 2, 8),
+    Limit(("types",), 2, 8),
     Limit(("info",), 10, 20),
     Limit(("db", "--name", "day", "{folder}/day.db"), 10, 20),
 )
@@ -49,7 +49,7 @@ def make_day(path: Path) -> None:
     rows = librds.items_array(STATION.read_bytes())
     rows = rows[rows["what"] == 2][1:-1]
     words = numpy.stack([rows[f"info{block}"] for block in (1, 2, 3, 4)], 1)
-    sent = librds.encode(words[numpy.arange(GROUPS) % len(words)].tolist())
+    sent = (librds.encode(words.tolist()) * (GROUPS // len(words) + 1))[: 13 * GROUPS]
     random, size = numpy.random.default_rng(1), 1 << 20
     with open(path, "wb") as it:
         for begin in range(0, len(sent), size):
@@ -78,7 +78,8 @@ def main(runs: int) -> int:
         day, listing = folder / "day.bin", folder / "day.csv"
         # In a process of its own: the memory of this one would count for those it starts.
         subprocess.run([sys.executable, __file__, "--make", str(day)], check=True)
-        unit, _ = measured([PROGRAM, "list", "--workers", "1"], day, listing, runs)
+        lister = [PROGRAM, "list", "--workers", "1"]
+        unit, _ = measured(lister, day, listing, runs)
         print(f"rds list --workers 1: {unit:.2f} s")
         print(
             f"{'command':12} {'recording':>9} {'times':>6} {'limit':>5} {'MB':>4}   "
@@ -96,6 +97,7 @@ def main(runs: int) -> int:
                     str(path),
                 ]
                 seconds, memory = measured(words, None, folder / "out", runs)
+                unit = min(unit, measured(lister, day, folder / "again", runs)[0])
                 within = seconds <= most * unit and memory < MEMORY_MB
                 failed += not within
                 row.append(f"{seconds:9.2f} {seconds / unit:6.1f} {most:5.0f} {memory:4.0f} {' ' if within else '!'}")
@@ -126,4 +128,4 @@ if __name__ == "__main__":
     arguments: List[str] = sys.argv[1:]
     if arguments[:1] == ["--make"]:
         sys.exit(make_day(Path(arguments[1])))
-    sys.exit(main(int(arguments[0]) if arguments else 3))
+    sys.exit(main(int(arguments[0]) if arguments else 5))

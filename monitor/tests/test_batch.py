@@ -101,27 +101,31 @@ def test_signals_are_demodulated(folders: Any) -> None:
 # ---- two at once, and killed ones
 
 
-def slow_rds(folder: Path, seconds: float) -> str:
-    """A program that takes its time within a listing."""
-    path = folder / "slow rds"
-    path.write_text(f"""#!/bin/sh
+class SlowRds:
+    """A program that stops within its listing until it may go on, or its folder is gone."""
+
+    def __init__(self, folder: Path):
+        self.path, self._go = folder / "slow rds", folder / "go"
+        self.path.write_text(f"""#!/bin/sh
 '{PROGRAM}' "$@" > "$0.$$" || exit
 head -c 5000 "$0.$$"
-sleep {seconds}
+while [ -e "$0" ] && [ ! -e '{self._go}' ]; do sleep 0.1; done
 tail -c +5001 "$0.$$"
 rm "$0.$$"
 """)
-    path.chmod(0o755)
-    return str(path)
+        self.path.chmod(0o755)
+
+    def go_on(self) -> None:
+        self._go.touch()
 
 
-def started(folders: Any, program: str, *options: str) -> "subprocess.Popen[bytes]":
+def started(folders: Any, program: Any, *options: str) -> "subprocess.Popen[bytes]":
     return subprocess.Popen([sys.executable, "-m", "rds_monitor", "batch", *options, *map(str, folders)],
-                            stderr=subprocess.PIPE, env={**os.environ, "RDS": program}, start_new_session=True)
+                            stderr=subprocess.PIPE, env={**os.environ, "RDS": str(program)}, start_new_session=True)
 
 
 def wait_for(condition: Any) -> None:
-    end = time.monotonic() + 30
+    end = time.monotonic() + 600
     while not condition():
         assert time.monotonic() < end
         time.sleep(0.02)
@@ -140,25 +144,28 @@ def is_locked(folder: Path) -> bool:
 
 def test_two_at_once(folders: Any, tmp_path: Path, station_listing: bytes) -> None:
     fill(folders[0], NAMES[:3])
-    first = started(folders, slow_rds(tmp_path, 1))
+    slow = SlowRds(tmp_path)
+    first = started(folders, slow.path)
     wait_for(lambda: is_locked(folders[1]))
     refused = monitor("batch", *folders)
     assert refused.returncode == 1 and b"another batch is running" in refused.stderr
     second = started(folders, PROGRAM, "--wait")
-    assert (first.wait(60), second.wait(60)) == (0, 0)
+    slow.go_on()
+    assert (first.wait(), second.wait()) == (0, 0)
     assert set(listings(folders[1]).values()) == {station_listing} and len(listings(folders[1])) == 3
 
 
 @pytest.mark.parametrize("whole_session", [False, True])
 def test_one_that_is_killed(whole_session: bool, folders: Any, tmp_path: Path, station_listing: bytes) -> None:
     fill(folders[0])
-    first = started(folders, slow_rds(tmp_path, 1))
-    wait_for(lambda: folders[1].exists() and any(path.glob("*.csv") for path in folders[1].glob(WORK + "*")))
-    time.sleep(0.4)
+    slow = SlowRds(tmp_path)
+    first = started(folders, slow.path)
+    wait_for(lambda: any(path.stat().st_size == 5000 for path in folders[1].glob(WORK + "*/*.csv")))
     (os.killpg if whole_session else os.kill)(first.pid, signal.SIGKILL)
     first.wait()
     # The jobs that were at work hold the lock until they end.
     assert whole_session or is_locked(folders[1])
+    slow.go_on()
     assert set(listings(folders[1]).values()) <= {station_listing}
     assert monitor("batch", "--wait", *folders).returncode == 0
     assert listings(folders[1]) == {name[:-4] + ".csv": station_listing for name in NAMES}
@@ -217,7 +224,7 @@ def machines(tmp_path: Path) -> Iterator[List[str]]:
                       f"-o LogLevel=ERROR {getpass.getuser()}@127.0.0.1")
     try:
         for login in logins:
-            end = time.monotonic() + 5
+            end = time.monotonic() + 60
             while subprocess.run([*login.split(), "true"], capture_output=True).returncode:
                 if time.monotonic() > end:
                     pytest.skip("no sshd can be started here")

@@ -136,15 +136,16 @@ def on_a_terminal(*words: str) -> bytes:
 
 def test_progress_is_for_a_terminal(tmp_path, station: bytes) -> None:
     (tmp_path / "it").write_bytes(station * 40)
-    slow = (
-        "import sys, time; from rds_monitor import cli, items\n"
-        "items.CHUNK = 1 << 16; read = items.Recording._read\n"
-        "def slowly(it):\n    for data in read(it): time.sleep(0.15); yield data\n"
-        "items.Recording._read = slowly; sys.exit(cli.main(['errors', sys.argv[1]]))"
+    # A second passes with each look at the clock, or none.
+    timed = (
+        "import itertools, sys; from rds_monitor import cli, items\n"
+        "clock = itertools.count(0, int(sys.argv[1]))\n"
+        "items.CHUNK, items.time.monotonic = 1 << 16, lambda: next(clock)\n"
+        "sys.exit(cli.main(['errors', sys.argv[2]]))"
     )
-    shown = on_a_terminal("-c", slow, str(tmp_path / "it"))
+    shown = on_a_terminal("-c", timed, "1", str(tmp_path / "it"))
     assert b" %" in shown and shown.endswith(b"\r" + b" " * 4 + b"\r") or shown.rstrip(b"\r ").endswith(b"%")
-    assert on_a_terminal("-m", "rds_monitor", "errors", str(tmp_path / "it")) == b""
+    assert on_a_terminal("-c", timed, "0", str(tmp_path / "it")) == b""
     assert monitor("errors", str(tmp_path / "it")).stderr == b""
     progress = items.Progress(None)
     progress.at(5)

@@ -11,7 +11,9 @@ import pytest
 from hypothesis import given, settings, strategies as st
 
 from conftest import STATION, encode, monitor, rds
-from rds_monitor.hexgroups import GroupLines, is_groups, text_of
+from rds_monitor.columns import Items
+from rds_monitor.heads import is_groups
+from rds_monitor.hexgroups import GroupLines, text_of
 from rds_monitor.items import GROUP, LOST, VALID, Fault
 from inside import said
 from sent import group, name, text
@@ -125,7 +127,7 @@ def test_a_log_gives_times() -> None:
 )
 def test_forms_of_a_line(line: str) -> None:
     _, rows = read(line.encode() + b"\n")
-    assert text_of(rows[rows["what"] == GROUP]).tobytes()[:19] == b"D318 0548 E0CD 5041"
+    assert text_of(Items.of(rows))[:20] == b"D318 0548 E0CD 5041\n"
 
 
 @pytest.mark.parametrize(
@@ -181,10 +183,7 @@ WORD = st.one_of(st.none(), st.integers(0, 0xFFFF))
 def test_lines_that_are_read_are_written_the_same(words: List[Any]) -> None:
     lines = "".join(" ".join("----" if it is None else f"{it:04X}" for it in one) + "\n" for one in words).encode()
     source, rows = read(lines)
-    groups = rows[rows["what"] == GROUP]
-    text = text_of(groups)
-    text["blank4"] = ord("\n")
-    assert text.tobytes() == lines
+    assert text_of(Items.of(rows)) == lines
     assert source.length == 104 * len(words) and source.totals.groups == len(words)
 
 

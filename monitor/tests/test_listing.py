@@ -14,7 +14,8 @@ from conftest import encode, rds
 from made import acquired_row, block, group_row, listing, lock, loss_row, read
 from rds_monitor import listing as of_listing
 from rds_monitor.items import GROUP, ITEM, VALID, Fault, Rows, Rules, open_source, totals_of
-from rds_monitor.listing import HEADER, Listing, text_of, totals_text
+from rds_monitor.heads import HEADER
+from rds_monitor.listing import Listing, text_of, totals_text
 from rds_monitor.parse import _set_types, parse
 
 WORDS = (0xD393, 0x0548, 0xE0CD, 0x5041)
@@ -319,7 +320,7 @@ def test_random_listings_are_read_as_they_were_written(rows: List[Rows]) -> None
 BYTES = st.sampled_from(b"0123456789ABCDEFabx:~,-!?\r\n gl\0\xff")
 
 
-@settings(max_examples=400, deadline=None, suppress_health_check=[HealthCheck.filter_too_much])
+@settings(max_examples=400, deadline=None, suppress_health_check=[HealthCheck.filter_too_much, HealthCheck.too_slow])
 @given(st.data())
 def test_damage_is_refused_or_read_as_it_stands(data) -> None:
     text = bytearray(data.draw(st.sampled_from(DAMAGED)))

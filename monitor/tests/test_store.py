@@ -3,6 +3,7 @@
 from __future__ import annotations
 
 import json
+import os
 import sqlite3
 import subprocess
 import sys
@@ -273,14 +274,14 @@ def test_migrations(database, station: bytes, monkeypatch) -> None:
 
 
 def test_a_database_that_several_processes_make_at_once(tmp_path) -> None:
-    """They spin until the file named first is gone, so that all of them find no database."""
+    """They wait for a writer of the pipe named first, so that all of them find no database."""
     code = (
-        "import os, sys\nfrom rds_monitor.store import Store\nprint(flush=True)\n"
-        "while os.path.exists(sys.argv[1]): pass\nStore(sys.argv[2]).close()"
+        "import sys\nfrom rds_monitor.store import Store\nprint(flush=True)\n"
+        "open(sys.argv[1]).close()\nStore(sys.argv[2]).close()"
     )
     for turn in range(5):
         barrier, path = tmp_path / f"barrier{turn}", tmp_path / f"{turn}.db"
-        barrier.touch()
+        os.mkfifo(barrier)
         makers = [
             subprocess.Popen(
                 [sys.executable, "-c", code, str(barrier), str(path)], stdout=subprocess.PIPE, stderr=subprocess.PIPE
@@ -289,8 +290,8 @@ def test_a_database_that_several_processes_make_at_once(tmp_path) -> None:
         ]
         for maker in makers:
             assert maker.stdout is not None and maker.stdout.readline() == b"\n"
-        barrier.unlink()
-        assert [(maker.communicate(timeout=300)[1], maker.returncode) for maker in makers] == [(b"", 0)] * 6
+        with open(barrier, "wb"):
+            assert [(maker.communicate()[1], maker.returncode) for maker in makers] == [(b"", 0)] * 6
 
 
 def test_four_writers_at_once_and_a_reader(database, station: bytes, tmp_path) -> None:

@@ -31,6 +31,10 @@ def test_tells_where(data: bytes, words: str, told: str) -> None:
     assert why(data, *words.split()) == (1, told)
 
 
+def test_rds_that_refuses_before_it_has_read_all() -> None:
+    assert why(bytes(1 << 20), "list", "--burst", "6") == (1, "refused 1 BurstRange\n")
+
+
 def test_nothing_is_refused() -> None:
     assert why(b"0000", "list") == (0, "")
 
