@@ -23,7 +23,7 @@ TOP = HERE.parents[1]
 SPEED = 200
 LONGEST_START = 100.0
 
-STATIONS = (
+STATIONS: "tuple[tuple[str, float, str, str, str, list[str]], ...]" = (
     ("Alpha", 98.1, "D318", "ALPHA", "Now: Harbour Lights, by the Night Shift", []),
     ("Beta", 100.3, "D319", "BETA FM", "Traffic: all roads are clear", ["--errors", "0.005", "--outage", "7200:900"]),
     ("Gamma", 103.7, "D31A", "GAMMA", "News at the hour", ["--dies", "5400", "--wrong-pi", "10800:1800"]),

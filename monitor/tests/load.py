@@ -23,7 +23,7 @@ from pathlib import Path
 from typing import Dict, List
 
 import conftest  # noqa: F401 - it names the library
-from network import START, Air, Network, Plan, Programme, SimulatedTimes
+from network import START, Air, Network, Plan, Programme, Simulated, SimulatedTimes
 from station import GROUPS_PER_SECOND, RATE
 
 COUNT, SPEED = 30, 100
@@ -170,6 +170,7 @@ KINDS = {"bits": bits, "live": live, "mpx": mpx, "week": week}
 
 def main(words: List[str]) -> int:
     failed = 0
+    Simulated.keeps = False
     for name in words or ["bits", "live", "mpx"]:
         with tempfile.TemporaryDirectory() as folder:
             failed += KINDS[name](Path(folder))

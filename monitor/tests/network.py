@@ -74,7 +74,9 @@ class Plan(NamedTuple):
 
 
 class Simulated:
-    """A run of a receiver."""
+    """A run of a receiver. Its bytes are kept, to be compared, but not those of a week."""
+
+    keeps = True
 
     def __init__(self, air: Air, times: SimulatedTimes, true_begin: float, plan: Plan):
         self._air, self._times, self._plan, self._zero = air, times, plan, true_begin
@@ -93,7 +95,8 @@ class Simulated:
             return None
         upto = self._air.at(self._began - self._zero + self._lasted() - self._plan.late)
         data, self._at = self._air.bytes(self._at, upto), max(self._at, upto)
-        self.given += data
+        if self.keeps:
+            self.given += data
         if not data and self._plan.dies is not None and self._lasted() >= self._plan.dies:
             return None
         return data

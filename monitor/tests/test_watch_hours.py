@@ -11,8 +11,10 @@ from hypothesis import strategies as st
 
 from made import run
 from rds_monitor.watch.hours import Hour, hour_of, make_whole
-from rds_monitor.watch.records import PartKey, PartOpened, Records
+from rds_monitor.measure import Interval
+from rds_monitor.watch.records import AlarmChanged, PartGrew, PartKey, PartOpened, PartTold, Records, RunBegan, RunEnded
 from rds_monitor.watch.retention import tidy
+from rds_monitor.watch.session import EventRow, MinuteRow, Told
 from rds_monitor.watch.table import Keep
 from rds_monitor.watch.times import Timing
 
@@ -101,3 +103,26 @@ def test_by_size(tmp_path: Path) -> None:
 
 def test_one_that_is_being_written(tmp_path: Path) -> None:
     assert kept(tmp_path, Keep(listings_days=1 / 24), 10, 10, 10, 10, 10, busy=1) == [1, 3, 4]
+
+
+def test_old_rows_of_the_database(tmp_path: Path) -> None:
+    """Parts that ended before go, with all that belongs to them, and facts that nothing names."""
+    records = Records(str(tmp_path / "watch.db"))
+    for name, begin, ps in (("old", HOUR - 10 * 86400, "OLD"), ("new", HOUR - 3600, "NEW")):
+        key = PartKey(f"Alpha {name}", 0)
+        minute = MinuteRow(0, Interval(0, 71250, 2740, 2740, 0, 0, 0), {"0A": 1}, {"ps": ps}, None, 0)
+        told = Told([minute], [EventRow(104, 0, "rt", f"text of {name}")], [(0, 2000)], [], [])
+        records.write([PartOpened(key, "Alpha", Timing(begin), 0, f"{name}.csv"), PartTold(key, told), PartGrew(key, 71250, 0, True),
+                       AlarmChanged("Alpha", name, True, begin, ""), AlarmChanged("Alpha", name, False, begin + 1, ""),
+                       RunBegan("Alpha", begin), RunEnded("Alpha", begin + 9, name)])
+    tidy(str(tmp_path), Keep(database_days=0), HOUR, records)
+    assert counts(records) == [2, 2, 2, 2, 2, 2, 2, 2, 4]
+    tidy(str(tmp_path), Keep(database_days=2), HOUR, records)
+    assert counts(records) == [1] * 8 + [2]
+    assert records.database.execute("SELECT value FROM facts ORDER BY 1").fetchall() == [("NEW",), ("text of new",)]
+    records.close()
+
+
+def counts(records: Records) -> "list[int]":
+    tables = ("recordings", "sessions", "hour_files", "minute_rows", "event_rows", "outage_rows", "alarm_rows", "run_rows", "facts")
+    return [records.database.execute(f"SELECT COUNT(*) FROM {it}").fetchone()[0] for it in tables]

@@ -4,6 +4,7 @@ from __future__ import annotations
 
 import json
 import random
+import re
 from pathlib import Path
 from typing import Any, Dict, List, Tuple
 
@@ -304,6 +305,11 @@ def test_a_clock_that_is_set(tmp_path: Path) -> None:
     it.run(20)
     it.times.utc -= 86400
     it.run(20)
+    ((looked,),) = it.asked("SELECT looked_at FROM station_rows")
+    assert abs(looked - it.times.utc) < 11
+    it.run(50)
+    stamp = re.search("rds_watch_timestamp_seconds ([0-9.]+)", (tmp_path / "metrics.prom").read_text())
+    assert stamp and abs(float(stamp[1]) - it.times.utc) < 61
     it.end()
     by_session: Dict[str, List[float]] = {}
     query = (
@@ -320,10 +326,10 @@ def test_a_clock_that_is_set(tmp_path: Path) -> None:
     for times in by_session.values():
         assert times == sorted(times)
     steps = sorted(times[-1] for times in by_session.values())
-    assert abs(steps[1] - (START + 40 + 5400)) < 2 and abs(steps[0] - (START + 60 + 5400 - 86400)) < 2
+    assert abs(steps[1] - (START + 40 + 5400)) < 2 and abs(steps[0] - (START + 110 + 5400 - 86400)) < 2
     # All is received but for the group in which the session ended, and each group by the clock of its time.
     found = sorted(numbers_in(it.hours("Alpha")))
-    assert len(found) >= int(60 * GROUPS_PER_SECOND / 6) - 4 and len({number for number, _ in found}) == len(found)
+    assert len(found) >= int(110 * GROUPS_PER_SECOND / 6) - 5 and len({number for number, _ in found}) == len(found)
     steps_told = [round(off) for off in apart(found)]
     assert steps_told == sorted(steps_told[:40], key=lambda step: (step != 0, -step)) + steps_told[40:]
     assert set(steps_told) == {0, 5400, 5400 - 86400} and 34 <= steps_told.count(0) <= 40 and 34 <= steps_told.count(5400) <= 40

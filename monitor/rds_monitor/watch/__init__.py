@@ -55,7 +55,7 @@ def run_watch(arguments: argparse.Namespace) -> int:
 
 
 class Service:
-    """The watch as a process: its signals, its pace, and what it tells systemd."""
+    """The watch as a process: its signals, its pace, and its words to systemd."""
 
     def __init__(self, path: str, table: Any, folder: str, speed: float):
         from .journal import say
@@ -146,7 +146,7 @@ class Service:
         notify("READY=1")
 
     def _leave(self) -> int:
-        """Ends the sessions and writes them. What does not end or cannot be written within some seconds is left."""
+        """Ends the sessions and writes them, for some seconds at most."""
         self._watch.stop()
         end = time.monotonic() + LEAVING
         while not self._watch.has_left and time.monotonic() < end:

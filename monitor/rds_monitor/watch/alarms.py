@@ -1,4 +1,4 @@
-"""Alarms of a station: when each begins and ends, by what was seen of the station."""
+"""Alarms of a station: when each begins and ends."""
 
 from __future__ import annotations
 
@@ -30,7 +30,7 @@ class Change(NamedTuple):
 
 
 class Fault(NamedTuple):
-    """A fault that is seen: since when, on the monotonic clock, and what to say of it."""
+    """A fault that is seen: since when, on the monotonic clock, and its description."""
 
     since: float
     text: str
@@ -67,8 +67,8 @@ class Alarm:
 
 
 class Watched(NamedTuple):
-    """What was seen of a station up to now, on the monotonic clock: when the last byte came, how old the last valid block is
-    that counts, what holds, and since when rows cannot be written. Without a PI nothing is known of the contents."""
+    """A station as it is now, on the monotonic clock: when the last byte came, how old the last valid block is that counts, the
+    contents, and since when rows cannot be written. Without a PI nothing is known of the contents."""
 
     last_byte: float
     valid_age: float
@@ -90,7 +90,7 @@ class Alarms:
         self.set_table(it)
 
     def set_table(self, it: StationTable) -> None:
-        """Other limits; what is known stays."""
+        """Other limits; the history stays."""
         self._table = it
         self._alarms: Dict[str, Alarm] = {}
         for name in NAMES:
@@ -106,7 +106,7 @@ class Alarms:
             if name in self._alarms:
                 self._alarms[name].text = self.lasting[name] = text
 
-    # ---- what is seen
+    # ---- observations
 
     def take(self, changes: Sequence[Event], minutes: Iterable[float], ticks: Iterable[Tick], timing: Timing) -> None:
         """Changes of the contents, per cent of bad blocks by minute, and clock times."""

@@ -1,4 +1,4 @@
-"""What the database of a watch says of a station: `check --station`."""
+"""`check --station`: the verdict on a station by the database of a watch."""
 
 from __future__ import annotations
 

@@ -1,4 +1,4 @@
-"""From what a receiver's command writes to packed bits."""
+"""From the output of a receiver's command to packed bits."""
 
 from __future__ import annotations
 
@@ -67,7 +67,7 @@ class Demodulated:
         self._samples += frames
         packed = self._packed(numpy.concatenate(bits))
         if packed and not self.delay:
-            # What the receiver waits for, of which the first bits that it gives tell.
+            # The receiver waits for later samples: the first bits that it gives tell for how many.
             self.delay = max(0.0, self._samples / self._rate - 8 * len(packed) / RATE)
         return packed
 

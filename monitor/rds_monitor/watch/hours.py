@@ -1,5 +1,5 @@
-"""Files of an hour of a session, in the form of a listing: their names, which give the times of their rows, and how what is
-left of one after a crash is made whole."""
+"""Files of an hour of a session, in the form of a listing: their names, which give the times of their rows, and their repair
+after a crash."""
 
 from __future__ import annotations
 
@@ -35,7 +35,7 @@ class Hour(NamedTuple):
 
 
 def hour_of(path: str) -> Optional[Hour]:
-    """What the name of a file says, if it is that of an hour."""
+    """The hour that the name of a file says, if it is that of one."""
     match = NAME.fullmatch(os.path.basename(path))
     if not match:
         return None
@@ -68,7 +68,7 @@ def clock_of_hour(arguments: argparse.Namespace, path: str) -> Clock:
 
 
 def make_whole(path: str) -> int:
-    """Cuts off what is no whole row at the end of a file, such as after a power failure, and gives its size."""
+    """Cuts off a torn row, or zeros, at the end of a file, such as after a power failure, and gives its size."""
     with open(path, "r+b") as it:
         size = it.seek(0, os.SEEK_END)
         begin = max(0, size - TAIL)

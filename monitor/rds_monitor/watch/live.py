@@ -29,7 +29,7 @@ class Append(NamedTuple):
 
 
 class LiveSession:
-    """A session of one station. What it made waits in `appends`, `records` and `told`."""
+    """A session of one station. Its results wait in `appends`, `records` and `told`."""
 
     def __init__(self, station: str, speed: float):
         librds = library()
@@ -65,7 +65,7 @@ class LiveSession:
         self._early.append(self._follower.push_array(data))
 
     def tick(self, utc: float) -> None:
-        """Makes of the bits what can be made by now."""
+        """Makes rows and records of the bits so far."""
         timing = self.arrivals.timing
         if timing is None:
             return
@@ -160,7 +160,7 @@ class LiveSession:
             self.whole_end = int(whole[-1]) + GROUP_BITS
 
     def _collect(self) -> bool:
-        """Hands over what the part has to tell, if anything."""
+        """Hands over what the part completed, and says whether the database gets any of it."""
         assert self.part is not None
         told = self.part.taken()
         if told.changes or told.minutes or told.ticks:

@@ -69,7 +69,7 @@ class Hooks:
 
 
 class Watch:
-    """`poll` reads what came, and `tick` makes of it what is written. Neither waits."""
+    """`poll` reads the receivers, and `tick` decodes and hands over to the writer. Neither waits."""
 
     def __init__(self, table: Table, folder: str, times: Times, launch: Launch, writer: TakesBatches, records: Records, say: Say):
         self._folder, self._times, self._launch, self._writer, self._say = folder, times, launch, writer, say
@@ -83,6 +83,7 @@ class Watch:
         self._hooks = Hooks(say)
         self._busy_since: Optional[float] = None
         self._unwritten_since: Optional[float] = None
+        # On the monotonic clock.
         self._pages_at = self._tidy_at = 0.0
         for it in table.stations:
             self._add(it, records.lasting(it.name))
@@ -97,7 +98,7 @@ class Watch:
         return self._clock.utc(self._now)
 
     def _look(self) -> Now:
-        """The time, and what a step of the machine's clock means for sessions."""
+        """The time. Sessions hear of a step of the machine's clock."""
         self._now = self._times.now()
         step = self._clock.step(self._now)
         if step:
@@ -153,12 +154,12 @@ class Watch:
 
     def _give(self) -> None:
         after: List[Callable[[Records], None]] = []
-        utc = self.utc
-        if utc >= self._pages_at:
-            self._pages_at = utc + PAGES_EVERY
+        utc, steady = self.utc, self._now.steady
+        if steady >= self._pages_at:
+            self._pages_at = steady + PAGES_EVERY
             after.append(partial(self._write_pages, {name: it.state(utc) for name, it in self.stations.items()}, utc))
-        if utc >= self._tidy_at:
-            self._tidy_at = utc + TIDY_EVERY
+        if steady >= self._tidy_at:
+            self._tidy_at = steady + TIDY_EVERY
             after.append(partial(self._tidy, utc))
         if self._appends or self._records or after:
             self._writer.give(Batch(self._appends, self._records, after))
@@ -175,7 +176,7 @@ class Watch:
         try:
             removed = tidy(self._folder, self._keep, utc, records)
         except (OSError, sqlite3.Error) as error:
-            self._say("error", f"what is too old cannot be removed: {error}")
+            self._say("error", f"old hours cannot be removed: {error}")
             return
         if removed:
             self._say("info", f"{len(removed)} hours are removed, up to {removed[-1]}")

@@ -1,4 +1,4 @@
-"""What is known of the stations, in the text format of Prometheus."""
+"""The state of the stations in the text format of Prometheus."""
 
 from __future__ import annotations
 

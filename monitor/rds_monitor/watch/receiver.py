@@ -128,7 +128,7 @@ class Keeper:
         return self._it is not None
 
     def read(self, now: float) -> Optional[bytes]:
-        """What came since the last call; None once, when a run has ended. It starts the command if it is time."""
+        """The bytes since the last call; None once, when a run has ended. It starts the command if it is time."""
         if self._it is None:
             if not self._stopped and now >= self._again:
                 return self._start(now)
@@ -157,7 +157,7 @@ class Keeper:
             last = self._it.read()
             if last:
                 return last
-            # What is left of its group, such as a pipeline's other programs.
+            # Others of its group may be left, such as programs of a pipeline.
             self._it.kill()
             self._end(now, self.reason if self._killing is not None and self.reason else ended)
             return None

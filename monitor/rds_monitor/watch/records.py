@@ -1,4 +1,4 @@
-"""The watch's part of the database: what each tick adds to it, in one transaction, each thing once."""
+"""The watch's part of the database: each tick is one transaction, and each thing is stored once."""
 
 from __future__ import annotations
 

@@ -1,4 +1,4 @@
-"""What a watch that was killed left: hours' files are made whole, and the database learns of the rows that it lacks."""
+"""Recovery after a watch was killed: hours' files are made whole, and the database gets the rows that it lacks."""
 
 from __future__ import annotations
 

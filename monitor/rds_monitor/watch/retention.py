@@ -1,4 +1,4 @@
-"""Removes what is older, or more, than the table wants to keep."""
+"""Removes hours and rows that are older, or larger together, than the table allows."""
 
 from __future__ import annotations
 

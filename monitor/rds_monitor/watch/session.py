@@ -1,5 +1,5 @@
-"""A part of a session, such as an hour, minute by minute: what the database keeps of it. What is known of the contents, and
-of an outage in progress, goes on in the next part."""
+"""A part of a session, such as an hour, as rows of the database: minutes, events, outages. The contents, and an outage in
+progress, go on in the next part."""
 
 from __future__ import annotations
 
@@ -44,7 +44,7 @@ class EventRow(NamedTuple):
 
 
 class Told(NamedTuple):
-    """What was completed. `changes` are all changes of contents, and `events` those that are stored."""
+    """Completed rows. `changes` are all changes of contents, and `events` those that are stored."""
 
     minutes: List[MinuteRow]
     events: List[EventRow]
@@ -54,7 +54,7 @@ class Told(NamedTuple):
 
 
 class Contents:
-    """What outlasts a part of a session."""
+    """The state that outlasts a part of a session."""
 
     def __init__(self, rate: float) -> None:
         self.decoder = Decoder()
@@ -142,7 +142,7 @@ class Part:
             self._told.outages.extend(self.contents.outages.close(self.end))
 
     def taken(self) -> Told:
-        """All of it since the last call."""
+        """All that was completed since the last call."""
         told, self._told = self._told, Told([], [], [], [], [])
         return told
 

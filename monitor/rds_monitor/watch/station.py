@@ -1,4 +1,4 @@
-"""A station that is watched: its receiver, its session, its alarms, and what is known of it."""
+"""A station that is watched: its receiver, its session, its alarms and its state."""
 
 from __future__ import annotations
 
@@ -59,7 +59,7 @@ class Station:
     # ---- bytes
 
     def poll(self, steady: float, utc: float) -> None:
-        """Reads what came."""
+        """Reads the bytes that came."""
         data = self.keeper.read(steady)
         if self.keeper.starts != self._starts:
             self._starts = self.keeper.starts
@@ -123,7 +123,7 @@ class Station:
     # ---- ticks
 
     def tick(self, steady: float, utc: float, unwritten_since: Optional[float]) -> None:
-        """Decodes what came, and judges it."""
+        """Decodes the bytes that came, and judges the station."""
         if self._session:
             try:
                 self._decode()
@@ -142,8 +142,8 @@ class Station:
         for change in self.alarms.judge(seen, steady):
             self.changes.append(change)
             self.records.append(AlarmChanged(self.name, change.alarm, change.begins, utc, change.text))
-        if utc >= self._news or self.changes:
-            self._news = utc + NEWS * self._speed
+        if steady >= self._news or self.changes:
+            self._news = steady + NEWS * self._speed
             self.records.append(StateSeen(self.name, utc, self.state(utc)))
 
     def _see_valid(self, steady: float) -> None:
@@ -153,8 +153,8 @@ class Station:
             return
         end = session.contents.outages.end or 0
         if end > 0:
-            behind = (session.place - end) / session.part.timing.rate
-            self._last_valid = max(self._last_valid, min(steady, self.keeper.last_byte) - behind)
+            age = (session.place - end) / session.part.timing.rate
+            self._last_valid = max(self._last_valid, min(steady, self.keeper.last_byte) - age)
 
     def _collect(self) -> None:
         session = self._session
@@ -176,10 +176,10 @@ class Station:
                                  "corrected": it.blocks.corrected}
             self._clock_s = it.clock_s if it.clock_s is not None else self._clock_s
 
-    # ---- what is known
+    # ---- its state
 
     def state(self, utc: float) -> Dict[str, Any]:
-        """What is known of the station now, for pages, metrics and `check`."""
+        """The state now, for pages, metrics and `check`."""
         held = self._session.contents.decoder.held() if self._session else {}
         if "pi" in held:
             # After the session the last contents are shown on.

@@ -1,4 +1,4 @@
-"""The table of stations: what it may say, and its defaults."""
+"""The table of stations: its keys, their values and their defaults."""
 
 from __future__ import annotations
 

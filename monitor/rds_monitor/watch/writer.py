@@ -1,4 +1,4 @@
-"""What goes to disk: rows of hours, the database, pages and metrics, by a thread of its own. What cannot be written waits."""
+"""Writes rows of hours, the database, pages and metrics to disk, in a thread of its own. If a write fails, all waits for the next try."""
 
 from __future__ import annotations
 
@@ -19,7 +19,7 @@ Say = Callable[[str, str], None]
 
 
 class Batch(NamedTuple):
-    """What some ticks made. `after` is done once that is on disk: pages, and the removal of what is too old."""
+    """The results of some ticks. `after` is done once these are on disk: pages, and the removal of old files."""
 
     appends: Sequence[Append]
     records: Sequence[Record]
@@ -201,7 +201,7 @@ class WriterThread(threading.Thread):
             pause.wait(RETRY)
 
     def end(self, seconds: float) -> None:
-        """Writes what was given, for at most so long."""
+        """Writes the rest, for at most so long."""
         with self._wake:
             self._ending = True
             self._wake.notify()

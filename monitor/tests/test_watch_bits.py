@@ -1,0 +1,70 @@
+"""From a receiver's bytes to packed bits, however the bytes are cut."""
+
+from __future__ import annotations
+
+import random
+from typing import Dict, List, Tuple
+
+import pytest
+
+from conftest import encode
+from modulator import iq, mpx, stored, words
+from network import stations
+from rds_monitor.items import Fault, library
+from rds_monitor.watch.bits import bit_source
+from rds_monitor.watch.table import StationTable, table_of
+
+GROUPS = words(5, 60)
+
+
+def station(*lines: str) -> StationTable:
+    return table_of(stations('name = "Alpha"', 'command = ["a"]', *lines)).stations[0]
+
+
+def cut(data: bytes, seed: int) -> List[bytes]:
+    """Pieces of any length, of a byte too."""
+    chance, found, at = random.Random(seed), [], 0
+    while at < len(data):
+        size = chance.choice([1, 3, chance.randrange(1, 200000)])
+        found.append(data[at : at + size])
+        at += size
+    return found
+
+
+def test_packed_bits_are_left_alone() -> None:
+    source = bit_source(station())
+    assert source.take(b"\x01\x02") == b"\x01\x02" and source.finish() == b"" and source.delay == 0 and source.report() == {}
+
+
+FORMS: Dict[str, Tuple[str, ...]] = {
+    "mpx s16": ('form = "mpx"', 'raw = "s16"', "rate = 171000"),
+    "mpx f32": ('form = "mpx"', 'raw = "f32"', "rate = 192000"),
+    "iq u8": ('form = "iq"', 'raw = "u8"', "rate = 240000"),
+    "iq s16, beside the centre": ('form = "iq"', 'raw = "s16"', "rate = 256000", "offset = 20000"),
+}
+
+
+@pytest.mark.parametrize("name", FORMS)
+def test_a_signal(name: str) -> None:
+    it = station(*FORMS[name])
+    assert it.rate is not None and it.raw is not None
+    signal = mpx(encode(GROUPS), it.rate, snr=40)
+    if it.form == "iq":
+        data = stored(iq(signal, it.rate, cnr=40, offset=it.offset), it.raw, peak=1.5)
+    else:
+        data = stored(signal, it.raw)
+    source = bit_source(it)
+    bits = b"".join([source.take(piece) for piece in cut(data, 3)]) + source.finish()
+    rows = library().items_array(bits)
+    found = [tuple(int(row[f"info{block}"]) for block in (1, 2, 3, 4)) for row in rows[rows["what"] == 2]]
+    assert len([group for group in found if group in GROUPS]) >= 50
+    assert 0.5 < source.delay < 3 and source.report()["snr_db"] > 15
+
+
+def test_what_is_no_signal() -> None:
+    """A number that no signal has is a fault; a part of a sample at the end is none."""
+    it = station('form = "mpx"', 'raw = "f32"', "rate = 192000")
+    with pytest.raises(Fault, match="no signal has it"):
+        bit_source(it).take(b"\x00\x00\x80\x7f" * 1000)
+    short = bit_source(it)
+    assert short.take(b"\x00\x00\x00") == b"" and short.finish() == b""
