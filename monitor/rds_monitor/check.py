@@ -22,7 +22,7 @@ from .items import CORRECTED, GROUP_BITS, VALID, Fault, Readable, Recording, Row
 from .heads import is_listing
 from .listing import Listing, ends_of
 from .measure import Programmes, begins_of, groups_in, kinds_of
-from .watch.hours import hour_of
+from .hours import hour_of
 
 OK, WARNING, CRITICAL, UNKNOWN = 0, 1, 2, 3
 WORDS = ("OK", "WARNING", "CRITICAL", "UNKNOWN")

@@ -16,7 +16,7 @@ from typing import Any, Callable, NamedTuple, NoReturn, Optional, Sequence
 
 from . import __version__
 from .items import Fault, Misuse
-from .watch.hours import take_hour
+from .hours import take_hour
 
 
 class Command(NamedTuple):

@@ -19,7 +19,7 @@ from .listing import TOTAL_NAMES, VERSION_NAMES, block_texts, flat
 from .measure import BLOCKS, kinds_of
 from .schema import HELD, MARK, MIGRATIONS
 from .sessions import Session, sessions_of
-from .watch.hours import clock_of_hour, hour_of
+from .hours import clock_of_hour, hour_of
 
 WAIT = 600.0
 

@@ -11,7 +11,7 @@ import numpy
 
 from conftest import TOP, encode
 from rds_monitor.items import Rows
-from rds_monitor.watch.hours import Hour, hour_of
+from rds_monitor.hours import Hour, hour_of
 from rds_monitor.watch.loop import Watch
 from rds_monitor.watch.records import Records
 from rds_monitor.watch.recover import recover, rows_of

@@ -10,9 +10,10 @@ from hypothesis import given
 from hypothesis import strategies as st
 
 from made import run
-from rds_monitor.watch.hours import Hour, hour_of, make_whole
+from rds_monitor.hours import Hour, hour_of
 from rds_monitor.measure import Interval
 from rds_monitor.watch.records import AlarmChanged, PartGrew, PartKey, PartOpened, PartTold, Records, RunBegan, RunEnded
+from rds_monitor.watch.repair import make_whole
 from rds_monitor.watch.retention import tidy
 from rds_monitor.watch.session import EventRow, MinuteRow, Told
 from rds_monitor.watch.table import Keep

@@ -11,7 +11,7 @@ from ..clock import utc_text
 from ..items import ACQUIRED, BLOCK_BITS, GROUP, GROUP_BITS, ITEM, LOSS, VALID, Rows, Totals, library
 from ..listing import ends_of, text_of, totals_text
 from ..measure import groups_in, kinds_of
-from .hours import HOUR, Hour
+from ..hours import HOUR, Hour
 from .records import PartGrew, PartKey, PartOpened, PartTold, Record
 from .session import Contents, Part, Told
 from .times import Arrivals, Timing

@@ -10,7 +10,8 @@ import numpy
 
 from ..items import BLOCK_BITS, ITEM, Fault, Rows
 from ..listing import Listing, ends_of
-from .hours import hour_of, make_whole
+from ..hours import hour_of
+from .repair import make_whole
 from .records import OpenPart, PartGrew, PartKey, PartOpened, PartTold, Records
 from .session import Contents, Part
 from .times import Timing

@@ -6,7 +6,7 @@ import os
 from typing import Iterator, List, NamedTuple, Set
 
 from ..schema import HELD
-from .hours import HOUR, hour_of
+from ..hours import HOUR, hour_of
 from .records import Records
 from .table import Keep
 

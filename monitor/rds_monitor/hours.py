@@ -1,22 +1,16 @@
-"""Files of an hour of a session, in the form of a listing: their names, which give the times of their rows, and their repair
-after a crash."""
+"""Names of the files of a watch: an hour of a session, in the form of a listing. They give the times of the rows."""
 
 from __future__ import annotations
 
 import argparse
-import datetime
 import os
 import re
 from typing import List, NamedTuple, Optional
 
-from ..clock import RATE, Clock
-from ..parse import parse
+from .clock import RATE, Clock
 
 NAME = re.compile(r"(\d{4}-\d\d-\d\dT\d\d)Z_(\d{8}T\d{6}\.\d{3})Z(?:_(\d{4}\.\d{4}))?\.csv")
-EPOCH = datetime.datetime(1970, 1, 1)
 HOUR = 3600
-# No second of a listing has more bytes.
-TAIL = 1 << 16
 
 
 class Hour(NamedTuple):
@@ -28,8 +22,11 @@ class Hour(NamedTuple):
 
     @property
     def name(self) -> str:
-        hour = EPOCH + datetime.timedelta(seconds=self.begin)
-        start = EPOCH + datetime.timedelta(milliseconds=round(self.start * 1000))
+        import datetime
+
+        epoch = datetime.datetime(1970, 1, 1)
+        hour = epoch + datetime.timedelta(seconds=self.begin)
+        start = epoch + datetime.timedelta(milliseconds=round(self.start * 1000))
         of_rate = "" if self.rate == RATE else f"_{self.rate:.4f}"
         return f"{hour:%Y-%m-%dT%HZ}_{start:%Y%m%dT%H%M%S}.{start.microsecond // 1000:03d}Z{of_rate}.csv"
 
@@ -39,12 +36,15 @@ def hour_of(path: str) -> Optional[Hour]:
     match = NAME.fullmatch(os.path.basename(path))
     if not match:
         return None
+    import datetime
+
+    epoch = datetime.datetime(1970, 1, 1)
     try:
         hour = datetime.datetime.strptime(match[1], "%Y-%m-%dT%H")
         start = datetime.datetime.strptime(match[2] + "000", "%Y%m%dT%H%M%S.%f")
     except ValueError:
         return None
-    return Hour((hour - EPOCH).total_seconds(), (start - EPOCH).total_seconds(), float(match[3] or RATE))
+    return Hour((hour - epoch).total_seconds(), (start - epoch).total_seconds(), float(match[3] or RATE))
 
 
 def take_hour(arguments: argparse.Namespace) -> None:
@@ -65,33 +65,3 @@ def clock_of_hour(arguments: argparse.Namespace, path: str) -> Clock:
     if hour is None or arguments.start is not None:
         return Clock(arguments.start, arguments.rate)
     return Clock(hour.start, hour.rate if arguments.rate == RATE else arguments.rate)
-
-
-def make_whole(path: str) -> int:
-    """Cuts off a torn row, or zeros, at the end of a file, such as after a power failure, and gives its size."""
-    with open(path, "r+b") as it:
-        size = it.seek(0, os.SEEK_END)
-        begin = max(0, size - TAIL)
-        it.seek(begin)
-        tail = it.read()
-        if begin:
-            # The first line may be a part of one.
-            skipped = tail.find(b"\n") + 1
-            begin, tail = begin + skipped, tail[skipped:]
-        whole = begin + _whole(tail)
-        if whole < size:
-            it.truncate(whole)
-            it.flush()
-            os.fsync(it.fileno())
-        return whole
-
-
-def _whole(tail: bytes) -> int:
-    """How many bytes of some lines are whole rows."""
-    lines = tail[: tail.rfind(b"\n") + 1]
-    if not lines:
-        return 0
-    rows, bad = parse(lines)
-    if bad is None:
-        return len(lines)
-    return sum(len(line) + 1 for line in lines.split(b"\n")[: bad.row])

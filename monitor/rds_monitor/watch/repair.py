@@ -1,0 +1,40 @@
+"""Repair of an hour's file after a crash."""
+
+from __future__ import annotations
+
+import os
+
+from ..parse import parse
+
+# No second of a listing has more bytes.
+TAIL = 1 << 16
+
+
+def make_whole(path: str) -> int:
+    """Cuts off a torn row, or zeros, at the end of a file, such as after a power failure, and gives its size."""
+    with open(path, "r+b") as it:
+        size = it.seek(0, os.SEEK_END)
+        begin = max(0, size - TAIL)
+        it.seek(begin)
+        tail = it.read()
+        if begin:
+            # The first line may be a part of one.
+            skipped = tail.find(b"\n") + 1
+            begin, tail = begin + skipped, tail[skipped:]
+        whole = begin + _whole(tail)
+        if whole < size:
+            it.truncate(whole)
+            it.flush()
+            os.fsync(it.fileno())
+        return whole
+
+
+def _whole(tail: bytes) -> int:
+    """How many bytes of some lines are whole rows."""
+    lines = tail[: tail.rfind(b"\n") + 1]
+    if not lines:
+        return 0
+    rows, bad = parse(lines)
+    if bad is None:
+        return len(lines)
+    return sum(len(line) + 1 for line in lines.split(b"\n")[: bad.row])
