@@ -56,8 +56,11 @@ class Message:
         called at the first group of each, with how many bytes the turn before had."""
         known, before = self.known(), self._reached
         self._reached = len(known)
-        is_all = len(known) == before and len(known) >= reach and self._have == (1 << len(known) // 2) - 1
-        return known if is_all and END_OF_TEXT not in known else None
+        if END_OF_TEXT in known:
+            return None
+        return (
+            known if len(known) == before and len(known) >= reach and self._have == (1 << len(known) // 2) - 1 else None
+        )
 
 
 class Name(Taker):

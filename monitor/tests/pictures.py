@@ -37,7 +37,9 @@ def sent(pi: int, names: Sequence[bytes], texts: Sequence[bytes]) -> bytes:
             cycle = bits(name(names[hour % len(names)]) + text(texts[hour % len(texts)], hour % 2) + [group("8A", 0)])
         count = int((minute + 1) * 60 * PACE) - groups - 1
         groups += count + 1
-        day.append((cycle * (count // (len(cycle) // 13) + 1))[: 13 * count] + bits([clock(MJD, hour, minute % 60, 0)]))
+        after = minute + 1
+        told = clock(MJD + after // 1440, after // 60 % 24, after % 60, 0)
+        day.append((cycle * (count // (len(cycle) // 13) + 1))[: 13 * count] + bits([told]))
     return b"".join(day)
 
 

@@ -102,12 +102,24 @@ def main(runs: int) -> int:
                 failed += not within
                 row.append(f"{seconds:9.2f} {seconds / unit:6.1f} {most:5.0f} {memory:4.0f} {' ' if within else '!'}")
             print(" ".join(row), flush=True)
+        failed += not report_within_its_limit(folder, runs)
         failed += not demod_within_its_limit(folder, runs)
     return min(failed, 1)
 
 
+# Seconds of a processor for a day's page, and its size.
+REPORT_SECONDS, REPORT_BYTES = 5.0, 1_000_000
 # Seconds of a processor for a minute of 192 kHz MPX.
 DEMOD_SECONDS = 1.0
+
+
+def report_within_its_limit(folder: Path, runs: int) -> bool:
+    words = [sys.executable, "-m", "rds_monitor", "report", "--start", "2026-03-29T00:30:00Z", str(folder / "day.bin")]
+    seconds, _ = measured(words, None, folder / "out", runs)
+    size = (folder / "out").stat().st_size
+    within = seconds <= REPORT_SECONDS and size < REPORT_BYTES
+    print(f"report of a day: {seconds:.2f} s, limit {REPORT_SECONDS}; {size} bytes, limit {REPORT_BYTES} {' ' if within else '!'}")
+    return within
 
 
 def demod_within_its_limit(folder: Path, runs: int) -> bool:

@@ -72,6 +72,15 @@ def test_no_station_is_named_each_time(folders: Any) -> None:
     assert len(listings(folders[1])) == 2
 
 
+def test_two_complete_groups_make_a_station(folders: Any) -> None:
+    # The first block of the first group is read only to acquire.
+    for count in (1, 2):
+        (folders[0] / f"{count}.bin").write_bytes(encode([(0xD393, 0x0548, 0xE0CD, 0x5041)] * (count + 1)))
+    done = monitor("batch", *folders)
+    assert done.returncode == 1 and done.stderr.count(b"\n") == 1 and b"1.bin: no station" in done.stderr
+    assert sorted(listings(folders[1])) == ["1.csv", "2.csv"]
+
+
 def test_what_failed_is_named_and_the_others_are_decoded(folders: Any, station_listing: bytes) -> None:
     (folders[0] / "bad.hex [1]").write_bytes(b"xyz")
     (folders[0] / "good.hex [1]").write_text(STATION.read_bytes().hex())
