@@ -51,7 +51,8 @@ class Items:
 
     def start(self, at: int) -> int:
         """The position of a group's block 1, whether or not that was read."""
-        first = next((k for k, column in enumerate(self.kinds) if column[at] != MISSING), 0)
+        one, two, three, four = self.kinds
+        first = 0 if one[at] else 1 if two[at] else 2 if three[at] else 3 if four[at] else 0
         return self.places[at] - BLOCK_BITS * first
 
     def blocks(self, at: int) -> List[Tuple[int, int]]:

@@ -4,7 +4,8 @@ from __future__ import annotations
 
 import argparse
 import math
-from itertools import chain, compress
+from itertools import chain, compress, repeat
+from operator import sub
 from typing import Iterator, List, Optional, Tuple
 
 from .clock import clock_of_options, clock_options, number_of
@@ -36,19 +37,20 @@ class Outages:
 
     def add_items(self, items: Items) -> List[Tuple[int, int]]:
         """The outages that end within these items, from position to position."""
-        return [it for begin, end in items.runs() for it in self._add_run(items, begin, end)]
+        found: List[Tuple[int, int]] = []
+        some, todo = 2 * self._window, 0
+        for begin, end in items.runs():
+            # The first group and the last one may be parts of groups.
+            if end - begin >= 2 * some + 2 and self._is_dense(items, begin + 1, end - 1):
+                found += self._add(valid_places(items, todo, begin + 1 + some))
+                self._pass(valid_places(items, end - 1 - some, end - 1))
+                todo = end - 1
+        return found + self._add(valid_places(items, todo, items.count))
 
-    def _add_run(self, items: Items, begin: int, end: int) -> List[Tuple[int, int]]:
-        """The same of groups from number to number. The first one and the last one may be parts of groups."""
-        some = 2 * self._window
-        if end - begin < 2 * some + 2 or not self._is_dense(items, begin + 1, end - 1):
-            return self._add(valid_places(items, begin, end))
-        # There is none between the first groups and the last ones, and all valid blocks count.
-        found = self._add(valid_places(items, begin, begin + 1 + some))
-        valid = valid_places(items, end - 1 - some, end - 1)
+    def _pass(self, valid: List[int]) -> None:
+        """Goes on from the last ones of groups in which all valid blocks count, and no two are as far apart as an outage."""
         keep = len(valid) - self._needed + 1
         self._open, self._counts, self.end = valid[keep:], b"\1" * (self._needed - 1), valid[keep - 1] + BLOCK_BITS
-        return found + self._add(valid_places(items, end - 1, end))
 
     def _is_dense(self, items: Items, begin: int, end: int) -> bool:
         """Whether the groups follow on one another, and enough blocks are valid wherever some second is looked at, so
@@ -68,7 +70,8 @@ class Outages:
         places, needed = self._open + valid, self._needed
         # A later block may still make the last ones count.
         keep = max(0, len(places) - needed + 1)
-        dense = bytes(late + BLOCK_BITS - early <= self._second for early, late in zip(places, places[needed - 1 :]))
+        # Of each so many in a row, whether they are within a second.
+        dense = bytes(map((self._second - BLOCK_BITS).__ge__, map(sub, places[needed - 1 :], places)))
         first = int.from_bytes(dense, "little")
         counts = int.from_bytes(self._counts, "little")
         for shift in range(needed):
@@ -91,14 +94,15 @@ class Outages:
         """The outages before and between blocks that count."""
         if not places:
             return []
-        begins = [self.end or 0, *(place + BLOCK_BITS for place in places)]
-        self.end = begins.pop()
-        least = max(self._least, 1)
-        return [(begin, place) for begin, place in zip(begins, places) if place - begin >= least]
+        befores = [(self.end or 0) - BLOCK_BITS, *places]
+        self.end = places[-1] + BLOCK_BITS
+        least = max(self._least, 1) + BLOCK_BITS
+        far = map(least.__le__, map(sub, places, befores))
+        return [(befores[at] + BLOCK_BITS, places[at]) for at in compress(range(len(places)), far)]
 
 
 def valid_places(items: Items, begin: int, end: int) -> List[int]:
-    """The positions of the valid blocks of groups from number to number."""
+    """The positions of the valid blocks of items from number to number."""
     starts = items.places[begin:end].tolist()
     at = items.kinds[0].find(MISSING, begin, end)
     while at >= 0:
@@ -107,7 +111,8 @@ def valid_places(items: Items, begin: int, end: int) -> List[int]:
     flags = bytearray(4 * len(starts))
     for k, column in enumerate(items.kinds):
         flags[k::4] = column[begin:end].translate(_IS_VALID)
-    return list(compress(chain.from_iterable(range(it, it + GROUP_BITS, BLOCK_BITS) for it in starts), flags))
+    blocks = map(range, starts, map(GROUP_BITS.__add__, starts), repeat(BLOCK_BITS))
+    return list(compress(chain.from_iterable(blocks), flags))
 
 
 def share_of(text: str) -> float:

@@ -336,6 +336,12 @@ def test_json_at_times_and_at_the_end(signal: Array) -> None:
     assert abs(told[-1]["snr_db"] - 30) < 1 and told[-1]["bits"] >= 24 * 104 - 5 and told[-1]["locked"] == 1
 
 
+def test_no_more_reports_than_asked_for(signal: Array) -> None:
+    done = monitor("demod", "--raw", "s16", "--rate", 192000, "--json", "--every", 0.8, data=stored(signal, "s16") * 3)
+    times = [json.loads(line)["seconds"] for line in done.stderr.splitlines()]
+    assert len(times) >= 4 and all(after - before >= 0.8 for before, after in zip(times, times[1:-1]))
+
+
 @pytest.mark.parametrize("rate,said", [(192000, 171000), (171000, 250000), (228500, 240000)])
 def test_a_wrong_rate_is_told(rate: int, said: int) -> None:
     data = stored(mpx(encode(words(6, 60)), rate), "s16")
