@@ -36,7 +36,8 @@ if has pyflakes; then tried 'names' "$python" -m pyflakes monitor/rds_monitor mo
 if has numpy pytest hypothesis; then
   workers=()
   if has xdist; then workers=(-n "$(nproc)" --dist loadgroup); fi
-  tried 'the tests of monitor/' "$python" -B -m pytest -q -p no:cacheprovider "${workers[@]}" monitor/tests
+  tried 'the tests of monitor/' "$python" -B -m pytest -q -rs -p no:cacheprovider "${workers[@]}" monitor/tests
+  sed -n 's/^SKIPPED/skipped:/p' "$work/said"
   tail -n 1 "$work/said"
 
   tried 'installing' make -s install-monitor "DESTDIR=$work/root" PREFIX=/usr ZSH_COMPLETIONS=/usr/share/zsh/vendor-completions
