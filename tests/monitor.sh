@@ -32,7 +32,7 @@ has() {
 }
 
 if has mypy; then tried 'types' "$python" -m mypy --strict --cache-dir "$work/mypy" monitor/rds_monitor bindings/python/librds; fi
-if has pyflakes; then tried 'names' "$python" -m pyflakes monitor/rds_monitor monitor/tests bindings/python/librds; fi
+if has pyflakes; then tried 'names' "$python" -m pyflakes monitor bindings/python; fi
 if has numpy pytest hypothesis; then
   workers=()
   if has xdist; then workers=(-n "$(nproc)" --dist loadgroup); fi

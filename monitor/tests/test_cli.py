@@ -219,13 +219,3 @@ def test_completion_in_zsh() -> None:
     if not shutil.which("zsh"):
         pytest.skip("no zsh")
     assert subprocess.run(["zsh", "-n", MONITOR / "completions" / "_rds-monitor"], capture_output=True).stderr == b""
-
-
-def test_the_code_is_checked() -> None:
-    for words in (
-        ["-m", "mypy", "--strict", "--cache-dir", str(TOP / "build" / "mypy"), "monitor/rds_monitor"],
-        ["-m", "pyflakes", "monitor", "bindings/python"],
-    ):
-        if subprocess.run([sys.executable, "-c", f"import {words[1]}"], capture_output=True).returncode == 0:
-            done = subprocess.run([sys.executable, *words], cwd=TOP, capture_output=True, text=True)
-            assert done.returncode == 0, done.stdout

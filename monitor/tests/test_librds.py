@@ -227,14 +227,3 @@ def test_a_wheel_with_the_library(tmp_path, station: bytes) -> None:
         text=True,
     )
     assert other.returncode == 1 and "a wheel cannot need" in other.stderr
-
-
-def test_types_are_checked() -> None:
-    pytest.importorskip("mypy")
-    done = subprocess.run(
-        [sys.executable, "-m", "mypy", "--strict", "--cache-dir", os.devnull, "bindings/python/librds"],
-        cwd=TOP,
-        capture_output=True,
-        text=True,
-    )
-    assert done.returncode == 0, done.stdout
