@@ -279,7 +279,7 @@ def test_a_database_that_several_processes_make_at_once(tmp_path) -> None:
         "import sys\nfrom rds_monitor.store import Store\nprint(flush=True)\n"
         "open(sys.argv[1]).close()\nStore(sys.argv[2]).close()"
     )
-    for turn in range(2):
+    for turn in range(5):
         barrier, path = tmp_path / f"barrier{turn}", tmp_path / f"{turn}.db"
         os.mkfifo(barrier)
         makers = [
