@@ -15,8 +15,8 @@
 //! # Ok::<(), rds::Refused>(())
 //! ```
 //!
-//! A stream is followed by a [`Follower`], or [`read`] from a reader. What is refused is a [`Refused`], by the number and name that the
-//! program gives it too.
+//! A [`Follower`] decodes a stream chunk by chunk, and [`read`] decodes one from a reader. An error is a [`Refused`]: it has the number and
+//! the name that the program prints.
 
 #![deny(missing_docs)]
 
