@@ -1,13 +1,12 @@
 -- Levels of the tree of joins: what stands in the level above, and that it stands in a row.
-use Rattle.std.proofs.Common.{◌≡◌, ℕ, zero, suc, ◌+◌, ◌-◌, ◌*◌, ◌/◌, ◌^◌, ◌<◌, ◌≤◌, List, [], ◌∷◌, length, get_or, map, sym, refl, ap, ◌∙◌, arith}
+use Rattle.std.proofs.Common.{◌≡◌, ℕ, zero, suc, ◌+◌, ◌-◌, ◌*◌, ◌/◌, ◌%◌, ◌^◌, ◌<◌, ◌≤◌, List, [], ◌∷◌, ◌++◌, length, get_or, map, sym, refl, ap, ◌∙◌, arith}
 use Rattle.std.specs.List.{range_with_len}
 use Rattle.std.proofs.lemmas.List.FromFn.{fill_by_all}
 use Rattle.rds_stream.specs.Recording.{Signal}
 use Rattle.rds_sync.specs.Rules.{RuleNumbers}
 use Rattle.rds_pieces.specs.Joining.{AreNeighbours}
 use Rattle.rds_pieces.specs.RunOf.{RunOf, run_over, FollowEachOther}
-use Rattle.rds_pieces.specs.JointOf.{JointOf, joint_of}
-use Rattle.rds_crew.specs.Inside.Tree.{level_above, joints_of, joint_at}
+use Rattle.rds_crew.specs.Inside.Tree.{level_above, joins_of, join_at}
 
 module _ (b : Signal) (rules : RuleNumbers) where
   -- the first two of a row
@@ -18,9 +17,9 @@ module _ (b : Signal) (rules : RuleNumbers) where
     next = sym (ap (λ (r : RunOf). r.from) row.2.0);
   }
 
-  -- the runs that joint m joins are neighbours
+  -- the runs of join m are neighbours
   pub joined_at : (from to : ℕ) (runs : List RunOf) (m i j : ℕ) (d e : RunOf) → FollowEachOther b rules from to runs → i ≡ m * 2 → j ≡ i + 1 → m < length runs / 2
-      → AreNeighbours b rules (get_or runs i d) (get_or runs j e) × (joint_at b rules runs m ≡ joint_of (get_or runs i d) (get_or runs j e))
+      → AreNeighbours b rules (get_or runs i d) (get_or runs j e) × (join_at b rules runs m ≡ run_over b rules (get_or runs i d).from (get_or runs j e).to)
   joined_at from to [] m i j d e row left right below = absurd (omega arith)
   joined_at from to (x ∷ []) m i j d e row left right below = absurd (omega arith)
   joined_at from to (x ∷ (y ∷ runs)) zero zero (suc zero) d e row left right below = (first_two from to x y runs row, refl)
@@ -47,15 +46,27 @@ module _ (b : Signal) (rules : RuleNumbers) where
   length-level_above (x ∷ []) = refl
   length-level_above (x ∷ (y ∷ runs)) = let rest = length-level_above runs in omega (arith, rest)
 
-  -- there is a joint for every two runs
-  length-joints_of : (runs : List RunOf) → length (joints_of runs) ≡ length runs / 2
-  length-joints_of [] = refl
-  length-joints_of (x ∷ []) = refl
-  length-joints_of (x ∷ (y ∷ runs)) = let rest = length-joints_of runs in omega (arith, rest)
+  -- there is a join for every two runs
+  length-joins_of : (runs : List RunOf) → length (joins_of b rules runs) ≡ length runs / 2
+  length-joins_of [] = refl
+  length-joins_of (x ∷ []) = refl
+  length-joins_of (x ∷ (y ∷ runs)) = let rest = length-joins_of runs in omega (arith, rest)
 
-  pub joints_by_number : (runs : List RunOf) (joints : List JointOf) → joints ≡ map (joint_at b rules runs) (range_with_len 0 (length runs / 2)) → joints ≡ joints_of runs
-  joints_by_number runs joints are =
-      are ∙ sym (fill_by_all (joint_at b rules runs) (joints_of runs) (length runs / 2) (joint_of (run_over b rules 0 0) (run_over b rules 0 0)) (length-joints_of runs) (λ k below. refl))
+  pub joins_by_number : (runs joined : List RunOf) → joined ≡ map (join_at b rules runs) (range_with_len 0 (length runs / 2)) → joined ≡ joins_of b rules runs
+  joins_by_number runs joined are =
+      are ∙ sym (fill_by_all (join_at b rules runs) (joins_of b rules runs) (length runs / 2) (run_over b rules 0 0) (length-joins_of runs) (λ k below. refl))
+
+  -- with no run left over they are the level above
+  pub level_even : (runs : List RunOf) → length runs % 2 ≡ 0 → joins_of b rules runs ≡ level_above b rules runs
+  level_even [] even = refl
+  level_even (x ∷ []) even = absurd (omega (arith, even))
+  level_even (x ∷ (y ∷ runs)) even = ap (λ (rs : List RunOf). run_over b rules x.from y.to ∷ rs) (level_even runs (omega (arith, even)))
+
+  -- and else with the last one after them
+  pub level_odd : (front : List RunOf) (last : RunOf) → length front % 2 ≡ 0 → joins_of b rules (front ++ last ∷ []) ++ last ∷ [] ≡ level_above b rules (front ++ last ∷ [])
+  level_odd [] last even = refl
+  level_odd (x ∷ []) last even = absurd (omega (arith, even))
+  level_odd (x ∷ (y ∷ front)) last even = ap (λ (rs : List RunOf). run_over b rules x.from y.to ∷ rs) (level_odd front last (omega (arith, even)))
 
 -- so many levels halve any number of runs to one
 pub halved : (n k : ℕ) → 1 < n → n ≤ 2 ^ k → (n + 1) / 2 ≤ 2 ^ (k - 1)

@@ -1,5 +1,5 @@
 //! What a caller hears of the workers while they run.
-use rds_pieces::{Joint, PieceRun};
+use rds_pieces::PieceRun;
 
 /// What the workers call round each piece and round each join, so that a caller can watch them or hold them up.
 ///
@@ -20,13 +20,12 @@ pub trait Gate {
         let _ = m;
     }
 
-    /// Called by the same worker once it has what joins the two, which it goes on to hand back: the runs are put together
-    /// after the last join of the level. Not called where the join was refused memory. Does nothing, unless it is
-    /// implemented.
-    fn join_done(&self, level: u32, m: u64, joint: &Joint) {
+    /// Called by the same worker once the two are joined, with the run that it goes on to hand back. Not called where the
+    /// join was refused memory. Does nothing, unless it is implemented.
+    fn join_done(&self, level: u32, m: u64, run: &PieceRun) {
         let _ = level;
         let _ = m;
-        let _ = joint;
+        let _ = run;
     }
 }
 

@@ -1,5 +1,5 @@
 -- What the proofs of this crate use of runs: what the definitions compute, and the laws in the forms that they use.
-use Rattle.std.proofs.Common.{◌≡◌, ◌≢◌, ℕ, ◌+◌, ◌-◌, ◌≤◌, ◌⊎◌, List, [], ◌∷◌, ◌++◌, true, false, Some, None, refl, ap, ap₂, ◌∙◌, arith, inl, inr}
+use Rattle.std.proofs.Common.{◌≡◌, ◌≢◌, ℕ, ◌+◌, ◌-◌, ◌≤◌, ◌⊎◌, List, [], ◌∷◌, ◌++◌, true, false, Some, None, refl, ap, ap₂, ◌∙◌, subst, arith, inl, inr}
 use Rattle.std.proofs.lemmas.Bool.{cases_eq, eq-eqb, ne_eqb}
 use Rattle.rds_stream.specs.Recording.{Signal}
 use Rattle.rds_sync.specs.declared.lock.Lock.{Lock}
@@ -44,6 +44,14 @@ same_state (Locked lock) (Locked lock2) = elim (cases_eq lock.due lock2.due) [
     ]
   ]
 ]
+
+-- a fact over another name of the recording and of the rules
+pub renamed : (P : Signal → RuleNumbers → Type 0) (b b2 : Signal) (rules rules2 : RuleNumbers) → b ≡ b2 → rules ≡ rules2 → P b rules → P b2 rules2
+renamed P b b2 rules rules2 e f h = subst (λ (x : RuleNumbers). P b2 x) f (subst (λ (x : Signal). P x rules) e h)
+
+-- and over other names of a range's ends
+pub ranged : (P : ℕ → ℕ → Type 0) (from from2 to to2 : ℕ) → from ≡ from2 → to ≡ to2 → P from to → P from2 to2
+ranged P from from2 to to2 e f h = subst (λ (x : ℕ). P from2 x) f (subst (λ (x : ℕ). P x to) e h)
 
 module _ (b : Signal) (rules : RuleNumbers) where
   -- one bit, as it is defined

@@ -2,7 +2,6 @@
 use Rattle.std.proofs.Common.{◌≡◌, ℕ, zero, suc, ◌+◌, ◌-◌, ◌*◌, ◌^◌, ◌<◌, ◌≤◌, Bool, true, false, List, [], ◌∷◌, ◌++◌, take, drop, Option, Some, None, refl, sym, ap, ◌∙◌, subst, arith, lit≤, inl, inr}
 use Rattle.std.specs.Prelude.{sum_by, if◌then◌else◌, ◌==◌, nat_le, ◌&&◌}
 use Rattle.std.proofs.lemmas.Bool.{cases_Bool, cases_eq}
-use Rattle.std.proofs.lemmas.List.{take-append-drop}
 use Rattle.std.proofs.lemmas.Nat.{ones_le_self}
 use Rattle.rds_code.specs.declared.reading.Wanted.{Wanted}
 use Rattle.rds_code.specs.declared.reading.Wanted.TheVariants.{Either}
@@ -20,14 +19,11 @@ use Rattle.rds_sync.specs.declared.item.Item.{Item}
 use Rattle.rds_sync.specs.declared.item.Item.TheVariants.{Acquired, Group as GroupItem, LostLock}
 use Rattle.rds_sync.specs.declared.totals.Totals.{Totals}
 use Rattle.rds_sync.specs.Acquiring.{acquired}
-use Rattle.rds_sync.specs.Counting.{plus, IsRest, TotalsJoin, IsAtMost, FitTogether}
+use Rattle.rds_sync.specs.Counting.{plus, TotalsJoin, IsAtMost, FitTogether}
 use Rattle.rds_sync.specs.Groups.{group, block_at, wanted_beside, are_complete}
 use Rattle.rds_sync.specs.Rules.{RuleNumbers}
 use Rattle.rds_sync.specs.Loss.{are_too_many}
 use Rattle.rds_sync.specs.Step.{run, step, items_at, group_after, bad_with}
-use Rattle.rds_sync.specs.CodeLaws.{CodesTellTotals}
-use Rattle.rds_sync.specs.Codes.{Code, codes_of, totals_of_codes}
-use Rattle.rds_pieces.proofs.KeptLemmas.{codes-take}
 use Rattle.rds_pieces.proofs.RunFacts.{items-searching, items-acquiring, items-waiting, items-keeping, items-losing}
 use Rattle.rds_sync.specs.Totals.{totals_of, is_valid, is_lost, is_corrected_by, bits_corrected}
 
@@ -62,15 +58,6 @@ at_most-plus m n t u a b = record {
   acquired = omega (arith, a.acquired, b.acquired);
   losses = omega (arith, a.losses, b.losses);
 }
-
--- the totals from some item on are the rest
-pub rest_after : TotalsJoin → CodesTellTotals → (items : List Item) (first : ℕ) (whole part : Totals) → whole ≡ totals_of items
-    → part ≡ totals_of_codes (take first (codes_of items)) → IsRest part whole (totals_of (drop first items))
-rest_after join tell items first whole part whole_is part_is =
-    let p : part ≡ totals_of (take first items) = part_is ∙ ap (λ (cs : List Code). totals_of_codes cs) (sym (codes-take first items)) ∙ sym (tell (take first items)) in
-    let w : whole ≡ totals_of (take first items ++ drop first items) = whole_is ∙ ap (λ (is : List Item). totals_of is) (sym (take-append-drop first items)) in
-    let r = join (take first items) (drop first items) in
-    record { spans = r.spans; joined = w ∙ r.joined ∙ ap (λ (t : Totals). plus t (totals_of (drop first items))) (sym p) }
 
 -- so small is what one bit gives
 abbrev pub per_bit : ℕ

@@ -4,7 +4,6 @@ pub mod RunOf
 pub mod Meeting
 pub mod Seams
 pub mod Soon
-pub mod JointOf
 pub mod Joining
 pub mod WorkOf
 pub mod Laws

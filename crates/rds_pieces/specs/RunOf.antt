@@ -1,4 +1,4 @@
--- What contracts see of the run of a piece, and which runs follow each other. `speculate`, `join_runs`, `joint_of`,
+-- What contracts see of the run of a piece, and which runs follow each other. `speculate`, `join_runs`,
 -- `PieceRun::joined` and `stitch` cite it, and `Work`, by which a crew calls them.
 use Rattle.std.specs.Prelude.{◌≡◌, ℕ, ◌+◌, ◌-◌, ◌<◌, List, [], ◌∷◌, map, slice_index}
 use Rattle.std.specs.List.{range_with_len}

@@ -1,4 +1,4 @@
--- What the seams of runs that follow each other may read. `seam`, `join_runs`, `joint_of` and `stitch` read no more.
+-- What the seams of runs that follow each other may read. `seam`, `join_runs` and `stitch` read no more.
 use Rattle.std.specs.Prelude.{◌≡◌, ℕ, ◌+◌, ◌-◌, ◌*◌, List, [], ◌∷◌, Option}
 use Rattle.rds_stream.specs.Recording.{Signal}
 use Rattle.rds_sync.specs.declared.state.State.{State}

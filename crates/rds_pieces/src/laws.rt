@@ -32,10 +32,7 @@ pub(crate) fn run_laws()
     laws::one_bit_runs();
     laws::locks_wait();
     laws::items_mark_changes();
-    laws::runs_give_few_items();
+    laws::runs_merge();
     laws::totals_join();
     code_laws::readings_follow_the_rule();
-    laws::codes_tell_totals();
-    laws::codes_tell_marks();
-    laws::runs_are_keepable();
 }

@@ -25,27 +25,19 @@
 //! let left = speculate(alloc, &recording, &rules, &cutting, 0)?;
 //! let right = speculate(alloc, &recording, &rules, &cutting, 1)?;
 //! let mut tape = Counted::new(&recording);
-//! // Reads the tape, and only borrows the runs.
-//! let joint = joint_of(alloc, &mut tape, &rules, &left, &right)?;
-//! // Reads nothing, and moves what both runs keep.
-//! let both = PieceRun::joined(left, joint, right)?;
-//! // The guess of both pieces: what it keeps and its end state are those of a run from Searching over both.
+//! // The guess of both pieces. Both runs are only lent.
+//! let both = join_runs(alloc, &mut tape, &rules, &left, &right)?;
 //! ```
 //!
 //! # What there is
 //!
 //! - [`Cutting`]: the places at which a recording is cut.
-//! - [`speculate`]: the guess of a piece, a [`PieceRun`]: the run over it from Searching. It keeps no items, but their
-//!   [`Codes`](rds_sync::Codes), their totals and the end state. The codes tell its [marks](PieceRun::marks): the first
-//!   place and the place after every bit that gave an item, with the state there.
-//! - [`seam`]: carries the true state over a piece, step by step, until it is in the state of the guess's last mark
-//!   with no group in progress; from there on the items are the guess's, and nothing more is read. It answers a
-//!   [`Seam`], whose items are spans of both runs.
-//! - [`joint_of`]: does so with the end state of the run of the range before. It answers a [`Joint`], with which
-//!   [`PieceRun::joined`] makes of both runs the guess of both ranges. So many runs can be joined two by two,
-//!   neighbours in any order: their joints at the same time, of runs that are only lent, and then each pair by its
-//!   owner.
-//! - [`join_runs`]: both of these at once.
+//! - [`speculate`]: the guess of a piece, a [`PieceRun`]: the run over it from Searching. It keeps the totals, the end
+//!   state and the spans of its items, which are decoded where recording and rules are lent again.
+//! - [`seam`]: carries the true state over a piece, side by side with the guess, until they are in one state with no
+//!   group in progress; from there on the items are the guess's, and nothing more is read. It answers a [`Seam`].
+//! - [`join_runs`]: does so with the end state of the run of the range before, and makes of both runs the guess of both
+//!   ranges. So many runs can be joined two by two, neighbours in any order.
 //! - [`stitch`]: the report, of runs in a row from the first bit to the last, by a seam over each.
 //! - [`Work`] and [`RecordingWork`]: all of these over one recording, one set of rules and one cutting.
 //! - [`laws`]: what holds of pieces themselves.
@@ -53,16 +45,15 @@
 //!
 //! # What callers may rely on
 //!
-//! - A [`PieceRun`] is the guess of its range, marks too, for the recording and the rules that it names, a joined one
-//!   too. It borrows nothing and holds nothing of the recording.
+//! - A [`PieceRun`] is the guess of its range for the recording and the rules that it names, a joined one too. It borrows nothing and holds nothing of the recording.
 //! - A seam gives the items, their totals and the end state of the run from the state handed in, and says where the two
 //!   met or that they never did. It reads at most (reach + 2)(d + 1) windows, where d is the number of bits up to the
 //!   meeting, or to the piece's end where there is none; a join reads no more than the seam in it.
 //! - The stitched report is that of whole locks, items and totals.
 //! - A guess is met by the end of any sound range in its piece; on other recordings nothing is promised. A guess that
 //!   locks at a false phase may never be met, and then a seam or a join reads its whole piece.
-//! - A run takes memory for its codes: 2 bytes an item and 8 an acquisition. A seam and a join take as much for their
-//!   way up to the meeting, and a seam for the spans of its items, one in some thousand. No code is copied.
+//! - A run takes memory for the spans of its items, one in some hundred items. A seam and a join copy those that they
+//!   take over.
 //!
 //! # What it leaves to others
 //!
@@ -73,13 +64,9 @@
 // In the order of reading: a piece and its guess, the way along a guess, and what is made of it.
 mod cutting; // Where a recording is cut.
 mod run; // The guess of a range of places, and how a piece is guessed.
-mod advance; // One step of a run over a tape, with the codes of what it gives.
-mod passed; // What such a run passes of a guess that it meets.
-mod walk; // A run along a guess, until they meet.
 mod beside; // A run and its guess, side by side.
 mod seams; // What a piece gives from the state before it.
-mod seaming; // That state carried over the piece, along a walk.
-mod joint; // What joins two runs, made of a walk.
+mod seaming; // That state carried over the piece.
 mod joining; // Two neighbours joined.
 mod stitching; // The report of runs in a row.
 mod work; // All of these over one recording, for who runs them.
@@ -88,8 +75,7 @@ mod error; // Why a call refuses.
 
 pub use cutting::Cutting;
 pub use error::PieceError;
-pub use joining::{join_runs, joint_of};
-pub use joint::Joint;
+pub use joining::join_runs;
 pub use run::{PieceRun, speculate};
 pub use seaming::seam;
 pub use seams::Seam;

@@ -18,7 +18,7 @@ use crate::run::PieceRun;
 use crate::seaming::seam;
 use rds_stream::Tape;
 use rds_sync::laws::totals_join;
-use rds_sync::{Items, Report, Rules, Spans, State, Totals, finish};
+use rds_sync::{Items, Report, Rules, State, Totals, finish};
 use std::alloc::Global;
 
 /// The report of the tape's recording: carries the state over the runs in order, from Searching at its first bit, and
@@ -34,7 +34,6 @@ pub fn stitch<T: Tape>(
     tape: &mut T,
     rules: &Rules,
     runs: &[PieceRun],
-    spans: Spans,
 ) -> Result<Report, PieceError>
     requires in_a_row { FollowEachOther (T.signal tape.old) rules.now 0 (length_of (T.signal tape.old)) runs.now }
     requires room { T.reads_made tape.old ≤ 2 ^ 61 }
@@ -52,7 +51,7 @@ pub fn stitch<T: Tape>(
 {
     // The end's totals join those before it.
     totals_join();
-    let (end_state, mut report) = carry_over_all(alloc, tape, rules, runs, spans)?;
+    let (end_state, mut report) = carry_over_all(alloc, tape, rules, runs)?;
     let last = finish(tape, rules, end_state);
     report.totals = report.totals.plus(Totals::of_end(last));
     report.items.close(end_state)?;
@@ -66,7 +65,6 @@ fn carry_over_all<T: Tape>(
     tape: &mut T,
     rules: &Rules,
     runs: &[PieceRun],
-    spans: Spans,
 ) -> Result<(State, Report), PieceError>
     requires in_a_row { FollowEachOther (T.signal tape.old) rules.now 0 (length_of (T.signal tape.old)) runs.now }
     requires room { T.reads_made tape.old ≤ 2 ^ 61 }
@@ -96,7 +94,7 @@ fn carry_over_all<T: Tape>(
     };
     let mut state = State::Searching;
     for run in runs {
-        state = carry_over(alloc, tape, rules, state, run, spans, &mut report)?;
+        state = carry_over(alloc, tape, rules, state, run, &mut report)?;
     }
     Ok((state, report))
 }
@@ -108,7 +106,6 @@ fn carry_over<T: Tape>(
     rules: &Rules,
     state: State,
     run: &PieceRun,
-    spans: Spans,
     report: &mut Report,
 ) -> Result<State, PieceError>
     requires lawful { IsLawful rules.now run.now.from state }
@@ -136,7 +133,7 @@ fn carry_over<T: Tape>(
         → IsMeeting (T.signal tape.old) rules.now state State.Searching run.now.from run.now.to met
         → T.reads_made tape.new ≤ T.reads_made tape.old + seam_reads rules.now run.now.from run.now.to met }
 {
-    let seam = seam(alloc, tape, rules, state, run, spans)?;
+    let seam = seam(alloc, tape, rules, state, run)?;
     report.items.append(seam.items)?;
     report.totals = report.totals.plus(seam.totals);
     Ok(seam.end_state)

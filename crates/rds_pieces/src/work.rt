@@ -7,15 +7,13 @@ ghost use Rattle.rds_sync.specs.Rules.{RuleNumbers};
 ghost use Rattle.rds_sync.specs.Totals.{totals_of};
 ghost use Rattle.rds_pieces.specs.Cutting.{IsCutting, pieces_of};
 ghost use Rattle.rds_pieces.specs.Joining.{AreNeighbours};
-ghost use Rattle.rds_pieces.specs.JointOf.{joint_of as the_joint_of};
-ghost use Rattle.rds_pieces.specs.RunOf.{FollowEachOther, run_at};
+ghost use Rattle.rds_pieces.specs.RunOf.{FollowEachOther, run_at, run_over};
 ghost use Rattle.rds_pieces.specs.declared.error.PieceError.TheVariants.{OutOfMemory};
 
 use crate::cutting::Cutting;
 use crate::error::PieceError;
-use crate::joining::joint_of;
-use crate::joint::Joint;
-use crate::run::{PieceRun, speculate};
+use crate::joining::join_runs;
+use crate::run::{PieceRun, speculate_into};
 use crate::stitching::stitch;
 use rds_stream::{Counted, Recording};
 use rds_sync::{Report, Rules, Spans};
@@ -53,11 +51,10 @@ pub trait Work {
         ensures ok { IfOk result (λ r. r ≡ run_at (recording self.now) (rule_set self.now) (places self.now) j) }
         ensures err { IsOkUnless result OutOfMemory };
 
-    /// What joins the runs of two ranges that follow each other: [`PieceRun::joined`] puts them together. Fails with
-    /// `OutOfMemory` alone.
-    fn join(&self, alloc: Global, left: &PieceRun, right: &PieceRun) -> Result<Joint, PieceError>
+    /// The run of two ranges that follow each other. Fails with `OutOfMemory` alone.
+    fn join(&self, alloc: Global, left: &PieceRun, right: &PieceRun) -> Result<PieceRun, PieceError>
         requires { AreNeighbours (recording self.now) (rule_set self.now) left.now right.now }
-        ensures ok { IfOk result (λ joint. joint ≡ the_joint_of left.now right.now) }
+        ensures ok { IfOk result (λ r. r ≡ run_over (recording self.now) (rule_set self.now) left.now.from right.now.to) }
         ensures err { IsOkUnless result OutOfMemory };
 
     /// The report, from runs that follow each other from place 0 to the recording's end. Fails with `OutOfMemory`
@@ -72,7 +69,7 @@ pub trait Work {
         ensures err { IsOkUnless result OutOfMemory };
 }
 
-/// The work over a recording that is lent to it: `guess` is `speculate`, and `join` and `report` are `joint_of` and
+/// The work over a recording that is lent to it: `guess` is `speculate`, and `join` and `report` are `join_runs` and
 /// `stitch`, each on a tape of its own. It can be shared between threads.
 #[derive(Drop)]
 pub struct RecordingWork<'a> {
@@ -108,7 +105,7 @@ impl<'a> RecordingWork<'a> {
         }
     }
 
-    /// The same work, whose report cuts its items into such spans: [`Spans::Whole`] where it is asked for its totals.
+    /// The same work, whose runs cut their items into such spans: [`Spans::Whole`] where it is asked for its totals.
     pub fn cut_into(self, spans: Spans) -> RecordingWork<'a>
         ensures { result ≡ self.entry }
     {
@@ -136,16 +133,28 @@ impl Work for RecordingWork<'_> {
     }
 
     fn guess(&self, alloc: Global, j: u64) -> Result<PieceRun, PieceError> {
-        speculate(alloc, self.recording, self.rules, self.cutting, j)
+        speculate_into(
+            alloc,
+            self.recording,
+            self.rules,
+            self.cutting,
+            j,
+            self.spans,
+        )
     }
 
-    fn join(&self, alloc: Global, left: &PieceRun, right: &PieceRun) -> Result<Joint, PieceError> {
+    fn join(
+        &self,
+        alloc: Global,
+        left: &PieceRun,
+        right: &PieceRun,
+    ) -> Result<PieceRun, PieceError> {
         let mut tape = Counted::new(self.recording);
-        joint_of(alloc, &mut tape, self.rules, left, right)
+        join_runs(alloc, &mut tape, self.rules, left, right)
     }
 
     fn report(&self, alloc: Global, runs: &[PieceRun]) -> Result<Report, PieceError> {
         let mut tape = Counted::new(self.recording);
-        stitch(alloc, &mut tape, self.rules, runs, self.spans)
+        stitch(alloc, &mut tape, self.rules, runs)
     }
 }

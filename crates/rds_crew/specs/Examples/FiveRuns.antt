@@ -3,8 +3,7 @@ use Rattle.std.specs.Prelude.{◌≡◌, ℕ, [], ◌∷◌, refl}
 use Rattle.rds_stream.specs.Recording.{Signal}
 use Rattle.rds_sync.specs.Rules.{RuleNumbers}
 use Rattle.rds_pieces.specs.RunOf.{RunOf, run_over}
-use Rattle.rds_pieces.specs.JointOf.{joint_of}
-use Rattle.rds_crew.specs.Inside.Tree.{level_above, joints_of, joint_at}
+use Rattle.rds_crew.specs.Inside.Tree.{level_above, joins_of, join_at}
 
 module _ (b : Signal) (rules : RuleNumbers) where
   abbrev over : ℕ → ℕ → RunOf
@@ -25,16 +24,16 @@ module _ (b : Signal) (rules : RuleNumbers) where
   pub no_run : level_above b rules [] ≡ []
   no_run = refl
 
-  -- what joins the first four, two by two; the fifth takes part in none
-  pub joints_1 : joints_of (over 0 10 ∷ over 10 20 ∷ over 20 30 ∷ over 30 40 ∷ over 40 50 ∷ []) ≡ joint_of (over 0 10) (over 10 20) ∷ joint_of (over 20 30) (over 30 40) ∷ []
-  joints_1 = refl
+  -- the first four joined, two by two; the fifth takes part in none
+  pub joins_1 : joins_of b rules (over 0 10 ∷ over 10 20 ∷ over 20 30 ∷ over 30 40 ∷ over 40 50 ∷ []) ≡ over 0 20 ∷ over 20 40 ∷ []
+  joins_1 = refl
 
-  pub no_joint : joints_of (over 0 50 ∷ []) ≡ []
-  no_joint = refl
+  pub no_join : joins_of b rules (over 0 50 ∷ []) ≡ []
+  no_join = refl
 
   -- by their numbers
-  pub first_of_two : joint_at b rules (over 0 10 ∷ over 10 20 ∷ over 20 30 ∷ over 30 40 ∷ over 40 50 ∷ []) 0 ≡ joint_of (over 0 10) (over 10 20)
+  pub first_of_two : join_at b rules (over 0 10 ∷ over 10 20 ∷ over 20 30 ∷ over 30 40 ∷ over 40 50 ∷ []) 0 ≡ over 0 20
   first_of_two = refl
 
-  pub second_of_two : joint_at b rules (over 0 10 ∷ over 10 20 ∷ over 20 30 ∷ over 30 40 ∷ over 40 50 ∷ []) 1 ≡ joint_of (over 20 30) (over 30 40)
+  pub second_of_two : join_at b rules (over 0 10 ∷ over 10 20 ∷ over 20 30 ∷ over 30 40 ∷ over 40 50 ∷ []) 1 ≡ over 20 40
   second_of_two = refl

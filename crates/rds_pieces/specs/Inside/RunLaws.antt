@@ -1,12 +1,9 @@
 -- The laws of runs that the proofs of this crate rest on: those that rds_sync and rds_code promise. `run_laws`, which bodies
 -- call, has them at hand; no public call cites it.
 use Rattle.rds_code.specs.Laws.{ReadsByRule}
-use Rattle.rds_sync.specs.CodeLaws.{CodesTellTotals}
 use Rattle.rds_sync.specs.Counting.{TotalsJoin}
 use Rattle.rds_sync.specs.Laws.{RunsAreReports, RunsJoin, StepsAreLawful, RunsAreLawful, OneBitRuns, LocksWait}
-use Rattle.rds_sync.specs.Laws.{ItemsMarkChanges, RunsGiveFewItems}
-use Rattle.rds_sync.specs.MarkLaws.{CodesTellMarks}
-use Rattle.rds_sync.specs.Words.{RunsAreKeepable}
+use Rattle.rds_sync.specs.Laws.{ItemsMarkChanges, RunsMerge}
 
 pub record RunLaws : Type 0 where
   pub reports : RunsAreReports
@@ -16,9 +13,6 @@ pub record RunLaws : Type 0 where
   pub one_bit : OneBitRuns
   pub wait : LocksWait
   pub changes : ItemsMarkChanges
-  pub few_items : RunsGiveFewItems
+  pub merge : RunsMerge
   pub totals : TotalsJoin
   pub readings : ReadsByRule
-  pub codes : CodesTellTotals
-  pub marks : CodesTellMarks
-  pub keepable : RunsAreKeepable

@@ -5,7 +5,7 @@ use crate::decoder::samples::Sample;
 use rds_code::encode_group;
 use rds_pieces::{PieceError, PieceRun, seam, speculate};
 use rds_stream::Counted;
-use rds_sync::{Decoder, Item, Loss, Spans, State};
+use rds_sync::{Decoder, Item, Loss, State};
 use std::alloc::{AllocError, Global};
 
 /// The guess of the second of two pieces, cut there.
@@ -29,7 +29,7 @@ fn meets_from(alloc: Global, sample: &Sample, guess: &PieceRun, state: State, pl
         return false;
     }
     let mut tape = Counted::new(&sample.recording);
-    match seam(alloc, &mut tape, &sample.rules, state, guess, Spans::Short) {
+    match seam(alloc, &mut tape, &sample.rules, state, guess) {
         Ok(seam) => seam.met_at == Some(place),
         Err(_) => false,
     }

@@ -9,10 +9,7 @@ returns c = record {
   one_bit = c.one_bit_runs.ensures;
   wait = c.locks_wait.ensures;
   changes = c.items_mark_changes.ensures;
-  few_items = c.runs_give_few_items.ensures;
+  merge = c.runs_merge.ensures;
   totals = c.totals_join.ensures;
   readings = c.readings_follow_the_rule.ensures;
-  codes = c.codes_tell_totals.ensures;
-  marks = c.codes_tell_marks.ensures;
-  keepable = c.runs_are_keepable.ensures;
 }

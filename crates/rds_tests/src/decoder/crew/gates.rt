@@ -6,7 +6,7 @@ ghost use Rattle.rds_pieces.specs.Cutting.{IsCutting};
 use crate::decoder::crew::journal::{Event, Journal, Noted};
 use crate::decoder::samples::Sample;
 use rds_crew::{Gate, decode_crew};
-use rds_pieces::{Joint, PieceRun, RecordingWork, Work};
+use rds_pieces::{PieceRun, RecordingWork, Work};
 use rds_sync::Loss;
 use std::alloc::Global;
 use std::sync::Wait;
@@ -77,8 +77,8 @@ impl<R: Wait> Gate for Watch<'_, R> {
         self.journal.join_begin(level, m);
     }
 
-    fn join_done(&self, level: u32, m: u64, joint: &Joint) {
-        self.journal.join_done(level, m, joint);
+    fn join_done(&self, level: u32, m: u64, run: &PieceRun) {
+        self.journal.join_done(level, m, run);
     }
 }
 

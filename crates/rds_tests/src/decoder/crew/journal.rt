@@ -1,6 +1,6 @@
 //! A gate and a work that keep what a crew does.
 use rds_crew::Gate;
-use rds_pieces::{Cutting, Joint, PieceError, PieceRun, RecordingWork, Work};
+use rds_pieces::{Cutting, PieceError, PieceRun, RecordingWork, Work};
 use rds_stream::Recording;
 use rds_sync::{Report, Rules, State, Totals};
 use std::alloc::Global;
@@ -155,7 +155,7 @@ impl<R: Wait> Gate for Journal<'_, R> {
         self.keep(Event::JoinBegun(level, m));
     }
 
-    fn join_done(&self, level: u32, m: u64, _joint: &Joint) {
+    fn join_done(&self, level: u32, m: u64, _run: &PieceRun) {
         self.keep(Event::JoinDone(level, m));
     }
 }
@@ -191,7 +191,7 @@ impl<R: Wait> Work for Noted<'_, R> {
         self.inner.guess(alloc, j)
     }
 
-    fn join(&self, alloc: Global, left: &PieceRun, right: &PieceRun) -> Result<Joint, PieceError> {
+    fn join(&self, alloc: Global, left: &PieceRun, right: &PieceRun) -> Result<PieceRun, PieceError> {
         let event = Event::Joined(left.from(), right.to());
         self.journal.keep(event);
         self.journal.keep_run(event, left);

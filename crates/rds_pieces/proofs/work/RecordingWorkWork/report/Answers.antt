@@ -3,7 +3,7 @@ use Rattle.rds_stream.specs.Tape.{TapeState}
 use Rattle.rds_sync.specs.Report.{report_items}
 use Rattle.rds_sync.specs.Totals.{totals_of}
 use Rattle.rds_pieces.specs.WorkOf.{WorkOf}
-use Rattle.rds_pieces.proofs.SeamLemmas.{renamed}
+use Rattle.rds_pieces.proofs.RunFacts.{renamed}
 use Rattle.rds_pieces.proofs.work.RecordingWorkWork.report.Goals as goal
 
 pub returns-clause-totals : goal.returns-clause-totals

@@ -1,0 +1,36 @@
+use Rattle.std.proofs.Common.{◌-◌, sym, subst, arith}
+use Rattle.rds_sync.specs.Decoding.{ItemsOf}
+use Rattle.rds_pieces.specs.Inside.RunInside.{IsKept}
+use Rattle.rds_pieces.specs.RunOf.{run_over}
+use Rattle.rds_pieces.proofs.run.speculate_into.Goals as goal
+
+pub prove-unreachable-requires : goal.prove-unreachable-requires
+prove-unreachable-requires c =
+    let r = c.range_of-from.ensures.inside in
+    let below = c.if-prove.true in
+    omega (arith, r.1, c.len-len.ensures.value, below)
+
+pub run_report-requires-clause-order : goal.run_report-requires-clause-order
+run_report-requires-clause-order c =
+    let r = c.range_of-from.ensures.inside in
+    omega (arith, r.0)
+
+pub run_report-requires-clause-within : goal.run_report-requires-clause-within
+run_report-requires-clause-within c =
+    let r = c.range_of-from.ensures.inside in
+    omega (arith, r.1)
+
+pub new-requires : goal.new-requires
+new-requires c =
+    let r = c.range_of-from.ensures.inside in
+    let limit = c.len-len.ensures.limit in
+    let value = c.len-len.ensures.value in
+    let kept = c.in-Ok.ensures in
+    subst (λ (x : ItemsOf). IsKept (run_over x.source x.rules c.range_of-from.result.0 c.range_of-from.result.1) c.in-Ok.report c.in-Ok.end_state) (sym kept.items) (record {
+      inside = (omega (arith, r.0), r.1);
+      items_are = kept.items;
+      counted = kept.totals;
+      ends = kept.state;
+      few = omega (arith, limit, value);
+      rules = c.reach.ensures.range;
+    })
