@@ -1,4 +1,4 @@
-//! Calls that a crew is made of, each by itself: joins, a report stitched of two guesses, codes, a dealer.
+//! Calls that a crew is made of, each by itself: a join, a report stitched of two guesses, a dealer.
 //!
 //! tests/refusals.sh refuses memory to them, allocation by allocation. A call that was refused is made once more of the
 //! same recording, rules and runs, which have to be as they were: a refused allocation changes no answer of these calls.
@@ -17,14 +17,14 @@ use std::alloc::{AllocError, Global};
 /// The bits of the group of four zero words.
 const ZERO_GROUP: [u8; 13] = [0, 0, 0x3F, 0, 0, 0x19, 0x80, 0, 0x05, 0xA0, 0, 0x01, 0xB4];
 
-/// Prints what the calls answer.
+/// Prints the answers of the calls.
 pub fn show(rt: &HostRuntime) -> Result<()> {
     let text = answers(rt.alloc())?;
     print!(rt; "{text}")?;
     Ok(())
 }
 
-/// What the calls answer over eight zero groups cut at place 190: by reach 3 the runs meet soon, by reach 4 never.
+/// The answers of the calls over eight zero groups cut at place 190: by reach 3 the runs meet soon, by reach 4 never.
 fn answers(alloc: Global) -> Result<String, AllocError> {
     let mut text = String::new(alloc);
     push_answers(alloc, &mut text)?;
@@ -46,7 +46,7 @@ fn push_found_by_both(
     push_found(alloc, text, recording, 4)
 }
 
-/// What is made of no recording: seats, and a code that is kept. What is refused is made once more.
+/// Seats, which need no recording. If they are refused, they are made once more.
 fn push_made(alloc: Global, text: &mut String) -> Result<(), AllocError> {
     let seats = match seats(alloc) {
         Ok(seats) => seats,
@@ -55,11 +55,7 @@ fn push_made(alloc: Global, text: &mut String) -> Result<(), AllocError> {
             Err(_) => return Err(AllocError),
         },
     };
-    let kept = match two_guesses::kept_in_room(alloc) {
-        Ok(kept) => kept,
-        Err(_) => two_guesses::kept_in_room(alloc)?,
-    };
-    writeln!(text, "{seats} seats\n{kept} code")
+    writeln!(text, "{seats} seats")
 }
 
 fn eight_groups(alloc: Global) -> Result<Recording, AllocError> {
@@ -73,7 +69,7 @@ fn eight_groups(alloc: Global) -> Result<Recording, AllocError> {
     }
 }
 
-/// The rows of what joins and a report find by this reach.
+/// The rows of a join and of a report by this reach.
 fn push_found(
     alloc: Global,
     text: &mut String,
@@ -111,8 +107,6 @@ fn push_calls(
 {
     let joined = two_guesses::joined(alloc, recording, rules, cutting)?;
     push_row(text, "joined", joined)?;
-    let at_once = two_guesses::joined_at_once(alloc, recording, rules, cutting)?;
-    push_row(text, "joined at once", at_once)?;
     let stitched = two_guesses::stitched(alloc, recording, rules, cutting)?;
     push_row(text, "stitched", stitched)?;
     Ok(())

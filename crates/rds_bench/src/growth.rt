@@ -9,7 +9,7 @@ use crate::timing::nanos_since;
 use anyhow::{Result, bail};
 use rds_live::{Live, MOST_ITEMS};
 use rds_stream::{Recording, StreamError};
-use rds_sync::{Item, Rules, State, run_codes};
+use rds_sync::{Item, Rules, Spans, State, run_report};
 use std::alloc::Global;
 use std::sync::Wait;
 use std::thread::Threads;
@@ -63,7 +63,7 @@ enum Call {
     Scan,
     OneDecoder,
     Items,
-    Codes,
+    Report,
     Guess,
     Crew,
     Stream,
@@ -74,7 +74,7 @@ const CALLS: [Call; 8] = [
     Call::Scan,
     Call::OneDecoder,
     Call::Items,
-    Call::Codes,
+    Call::Report,
     Call::Guess,
     Call::Crew,
     Call::Stream,
@@ -87,7 +87,7 @@ impl Call {
             Call::Scan => "rds_stream: scan",
             Call::OneDecoder => "rds_sync: decode_plain",
             Call::Items => "rds_sync: Decoder",
-            Call::Codes => "rds_sync: run_codes",
+            Call::Report => "rds_sync: run_report",
             Call::Guess => "rds_pieces: speculate",
             Call::Crew => "rds_crew: decode_crew",
             Call::Stream => "rds_live: take",
@@ -108,7 +108,7 @@ impl Call {
             Call::Scan => forms::listed_windows(alloc, recording),
             Call::OneDecoder => forms::one_decoder(alloc, recording, rules),
             Call::Items => Ok(forms::item_by_item(recording, rules)),
-            Call::Codes => codes(alloc, recording, rules),
+            Call::Report => report(alloc, recording, rules),
             Call::Guess => forms::one_guess(alloc, recording, rules),
             Call::Crew => {
                 let pieces = recording.len() / 50_000 + 1;
@@ -119,10 +119,18 @@ impl Call {
     }
 }
 
-/// Keeps the codes of a run over the recording: 1 where it ends in a lawful state.
-fn codes(alloc: Global, recording: &Recording, rules: &Rules) -> Result<u64> {
+/// The totals and items of a run over the recording: 1 if it ends in a lawful state.
+fn report(alloc: Global, recording: &Recording, rules: &Rules) -> Result<u64> {
     let len = recording.len();
-    let (end, _codes) = run_codes(alloc, recording, rules, State::Searching, 0, len)?;
+    let (end, _report) = run_report(
+        alloc,
+        recording,
+        rules,
+        State::Searching,
+        0,
+        len,
+        Spans::Short,
+    )?;
     Ok(u64::from(end.is_lawful(rules, len)))
 }
 

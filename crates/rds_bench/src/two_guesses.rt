@@ -3,15 +3,12 @@ ghost use Rattle.std.specs.Prelude.{◌≡◌, IfOk};
 ghost use Rattle.rds_stream.specs.Recording.{length_of};
 ghost use Rattle.rds_pieces.specs.Cutting.{IsCutting, pieces_of};
 ghost use Rattle.rds_pieces.specs.Joining.{AreNeighbours};
-ghost use Rattle.rds_pieces.specs.JointOf.{joint_of as the_joint_of};
 ghost use Rattle.rds_pieces.specs.RunOf.{FollowEachOther, run_at};
 
-use rds_pieces::{
-    Cutting, Joint, PieceError, PieceRun, join_runs, joint_of, laws, speculate, stitch,
-};
+use rds_pieces::{Cutting, PieceError, PieceRun, join_runs, laws, speculate, stitch};
 use rds_stream::{Counted, Recording, Tape};
-use rds_sync::{Codes, Item, Rules, Spans, Totals};
-use std::alloc::{AllocError, Global};
+use rds_sync::{Rules, Totals};
+use std::alloc::Global;
 
 /// What a call found, and how many windows it read.
 #[derive(Clone, Copy)]
@@ -35,7 +32,7 @@ impl Found {
     }
 }
 
-/// What a join of the two guesses finds. They are only lent to what is made once more, and then put together.
+/// What a join of the two guesses finds. It is made once more if it is refused.
 pub fn joined(
     alloc: Global,
     recording: &Recording,
@@ -46,8 +43,10 @@ pub fn joined(
     requires two { pieces_of cutting.now ≡ 2 }
 {
     let (left, right) = two_guesses(alloc, recording, rules, cutting)?;
-    let made = join_again(alloc, recording, rules, &left, &right);
-    put_together(left, made, right)
+    match join_once(alloc, recording, rules, &left, &right) {
+        Ok(found) => Ok(found),
+        Err(_) => join_once(alloc, recording, rules, &left, &right),
+    }
 }
 
 /// The guesses of the two pieces.
@@ -67,89 +66,19 @@ fn two_guesses(
     Ok((left, right))
 }
 
-/// What two guesses are together, where what joins them was made.
-fn put_together(
-    left: PieceRun,
-    made: Result<(Joint, u64), PieceError>,
-    right: PieceRun,
-) -> Result<Found, PieceError>
-    requires neighbours { AreNeighbours left.source left.rules left right }
-    requires joint { IfOk made (λ made. made.0 ≡ the_joint_of left right) }
-{
-    let (joint, reads) = made?;
-    let totals = PieceRun::joined(left, joint, right)?.totals();
-    Ok(Found::of_totals(&totals, reads))
-}
-
-/// What joins two guesses, made once more where it is refused, and how many windows that reads.
-fn join_again(
-    alloc: Global,
-    recording: &Recording,
-    rules: &Rules,
-    left: &PieceRun,
-    right: &PieceRun,
-) -> Result<(Joint, u64), PieceError>
-    requires { AreNeighbours recording.now rules.now left.now right.now }
-    ensures { IfOk result (λ made. made.0 ≡ the_joint_of left.now right.now) }
-{
-    match join_once(alloc, recording, rules, left, right) {
-        Ok(made) => Ok(made),
-        Err(_) => join_once(alloc, recording, rules, left, right),
-    }
-}
-
-/// What joins two guesses, and how many windows that reads.
+/// What a join of two guesses finds, and how many windows it reads.
 fn join_once(
     alloc: Global,
     recording: &Recording,
     rules: &Rules,
     left: &PieceRun,
     right: &PieceRun,
-) -> Result<(Joint, u64), PieceError>
+) -> Result<Found, PieceError>
     requires { AreNeighbours recording.now rules.now left.now right.now }
-    ensures { IfOk result (λ made. made.0 ≡ the_joint_of left.now right.now) }
 {
     let mut tape = Counted::new(recording);
-    let joint = joint_of(alloc, &mut tape, rules, left, right)?;
-    Ok((joint, tape.reads()))
-}
-
-/// What a join of the two guesses finds that takes them. They are made anew where it is refused.
-pub fn joined_at_once(
-    alloc: Global,
-    recording: &Recording,
-    rules: &Rules,
-    cutting: &Cutting,
-) -> Result<Found, PieceError>
-    requires fits { IsCutting (length_of recording.now) cutting.now }
-    requires two { pieces_of cutting.now ≡ 2 }
-{
-    match join_at_once(alloc, recording, rules, cutting) {
-        Ok(found) => Ok(found),
-        Err(_) => join_at_once(alloc, recording, rules, cutting),
-    }
-}
-
-fn join_at_once(
-    alloc: Global,
-    recording: &Recording,
-    rules: &Rules,
-    cutting: &Cutting,
-) -> Result<Found, PieceError>
-    requires fits { IsCutting (length_of recording.now) cutting.now }
-    requires two { pieces_of cutting.now ≡ 2 }
-{
-    let (left, right) = two_guesses(alloc, recording, rules, cutting)?;
-    let mut tape = Counted::new(recording);
-    let totals = join_runs(alloc, &mut tape, rules, left, right)?.totals();
-    Ok(Found::of_totals(&totals, tape.reads()))
-}
-
-/// How many codes are kept of one loss, in room made for it.
-pub fn kept_in_room(alloc: Global) -> Result<usize, AllocError> {
-    let mut codes = Codes::with_room(alloc, 1)?;
-    codes.push(&Item::LostLock { place: 0 })?;
-    Ok(codes.len())
+    let run = join_runs(alloc, &mut tape, rules, left, right)?;
+    Ok(Found::of_totals(&run.totals(), tape.reads()))
 }
 
 /// What the report stitched of the two guesses says.
@@ -193,7 +122,7 @@ fn stitch_once(
     requires in_a_row { FollowEachOther recording.now rules.now 0 (length_of recording.now) runs.now }
 {
     let mut tape = Counted::new(recording);
-    let report = stitch(alloc, &mut tape, rules, runs, Spans::Short)?;
+    let report = stitch(alloc, &mut tape, rules, runs)?;
     Ok(Found {
         items: report.items.len() as u64,
         valid: report.totals.valid,

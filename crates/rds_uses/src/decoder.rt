@@ -8,7 +8,7 @@ use crate::pieces::stitched;
 use crate::sync::usual_rules;
 use rds_pieces::{Cutting, PieceError};
 use rds_stream::Recording;
-use rds_sync::{Report, Rules, Spans};
+use rds_sync::{Report, Rules};
 use std::alloc::Global;
 
 /// The report of the bytes of a recording in an even cutting: that of one decoder, into however many pieces it is cut.
@@ -35,5 +35,5 @@ fn in_pieces(
     ensures { IfOk result (λ report. report.items.list ≡ report_items recording.now rules.now) }
 {
     let cutting = Cutting::even(alloc, recording.len(), pieces)?;
-    stitched(alloc, recording, rules, &cutting, Spans::Short)
+    stitched(alloc, recording, rules, &cutting)
 }

@@ -1,24 +1,20 @@
 //! What a user of lists of items relies on, and of their totals.
-ghost use Rattle.std.specs.Prelude.{◌≡◌, ◌-◌, ◌+◌, ◌<◌, ◌≤◌, ◌^◌, ◌++◌, [], IsOkUnless, IfOk, IfSome, List, None, OnOk, Some, drop, false, length, slice_get, slice_range, take, true, vec_capacity};
+ghost use Rattle.std.specs.Prelude.{◌≡◌, ◌-◌, ◌+◌, ◌≤◌, ◌^◌, ◌++◌, [], IsOkUnless, IfOk, IfSome, None, OnOk, Some, drop, false, length, slice_get, slice_range, take, true, vec_capacity};
 ghost use Rattle.rds_stream.specs.Recording.{length_of};
-ghost use Rattle.rds_sync.specs.Codes.{kept_of, totals_of_codes};
 ghost use Rattle.rds_sync.specs.Counting.{IsAtMost, IsRest, plus};
 ghost use Rattle.rds_sync.specs.Decoding.{listed};
 ghost use Rattle.rds_sync.specs.Lawful.{IsLawful};
-ghost use Rattle.rds_sync.specs.Marks.{marks_on};
 ghost use Rattle.rds_sync.specs.Report.{report_items};
 ghost use Rattle.rds_sync.specs.Step.{run as run_of};
 ghost use Rattle.rds_sync.specs.Totals.{totals_of};
 ghost use Rattle.rds_sync.specs.declared.error.SyncError.TheVariants.{OutOfMemory};
-ghost use Rattle.rds_sync.specs.declared.item.Item.{Item as AnItem};
 ghost use Rattle.rds_sync.specs.declared.state.State.TheVariants.{Searching};
 ghost use Rattle.rds_sync.specs.declared.totals.Totals.{Totals as TheTotals};
 
-use crate::codes::marks_of_run;
 use rds_stream::{Counted, Recording};
 use rds_sync::{
-    Codes, Decoder, Item, ItemIter, Items, Mark, Marks, Rules, State, SyncError, Totals, finish,
-    laws, run_codes,
+    Decoder, Item, ItemIter, Items, Rules, Spans, State, SyncError, Totals, finish, laws,
+    run_report,
 };
 use std::alloc::{AllocError, Global};
 use std::snapshot::Snapshot;
@@ -99,53 +95,6 @@ pub fn appended_from(items: &mut Items, other: &Items, first: usize) -> bool
     items.append_from(other, first).is_ok()
 }
 
-/// The items of a run in the spans that its marks cut.
-pub fn listed_by_marks(
-    alloc: Global,
-    recording: &Recording,
-    rules: &Rules,
-    state: State,
-    from: u64,
-) -> Result<Items, SyncError>
-    requires lawful { IsLawful rules.now from state }
-    requires within { from ≤ length_of recording.now }
-    ensures { IfOk result (λ items. items ≡ listed recording.now rules.now
-        (run_of recording.now rules.now state from (length_of recording.now - from)).1) }
-{
-    let mut items = Items::none(alloc, Snapshot::of(recording), rules);
-    push_by_marks(alloc, recording, rules, state, from, &mut items)?;
-    Ok(items)
-}
-
-/// Appends the items of a run to a list that has none, in the spans that its marks cut.
-fn push_by_marks(
-    alloc: Global,
-    recording: &Recording,
-    rules: &Rules,
-    state: State,
-    from: u64,
-    items: &mut Items,
-) -> Result<(), SyncError>
-    requires lawful { IsLawful rules.now from state }
-    requires within { from ≤ length_of recording.now }
-    requires none { items.old ≡ listed recording.now rules.now [] }
-    ensures { OnOk result (items.new ≡ listed recording.now rules.now
-        (run_of recording.now rules.now state from (length_of recording.now - from)).1) }
-{
-    laws::runs_give_few_items();
-    let len = recording.len();
-    let (_end, codes) = run_codes(alloc, recording, rules, state, from, len)?;
-    let first = Mark {
-        place: from,
-        state,
-        items: 0,
-    };
-    let mut marks = marks_of_run(&codes, recording, rules, state, from, len);
-    let _first = marks.next();
-    items.push_run(first, marks, len, codes.len() as u64)?;
-    Ok(())
-}
-
 /// Items in a row by the index of a list, which are those of the list.
 pub fn range_by_index<'a>(
     alloc: Global,
@@ -194,29 +143,47 @@ fn push_report(
 {
     laws::runs_give_few_items();
     let len = recording.len();
-    let (end, codes) = run_codes(alloc, recording, rules, State::Searching, 0, len)?;
-    items.push_span(State::Searching, 0, len, codes.len())?;
+    let (end, report) = run_report(
+        alloc,
+        recording,
+        rules,
+        State::Searching,
+        0,
+        len,
+        Spans::Whole,
+    )?;
+    items.push_span(State::Searching, 0, len, report.items.len())?;
     items.close(end)?;
     let _loss = rules.loss();
     laws::runs_are_reports();
     Ok(())
 }
 
-/// Where there was no memory for the spans of a run, the list stays as it was.
-pub fn run_or_same(items: &mut Items, first: Mark, marks: Marks<'_>, to: u64, count: u64) -> bool
-    requires lawful { IsLawful items.old.rules first.place first.state }
-    requires order { first.place ≤ to }
-    requires within { to ≤ length_of items.old.source }
-    requires marks { marks
-        ≡ marks_on items.old.source items.old.rules first.state first.place first.items (to - first.place) }
-    requires count { count ≡ first.items
-        + length (run_of items.old.source items.old.rules first.state first.place (to - first.place)).1 }
-    ensures { result ≡ false → items.new ≡ items.old }
+/// A run in two parts gives the items of the run over both.
+pub fn listed_in_two(
+    alloc: Global,
+    recording: &Recording,
+    rules: &Rules,
+    middle: u64,
+) -> Result<(State, Items), SyncError>
+    requires { middle ≤ length_of recording.now }
+    ensures state { IfOk result (λ end. end.0
+        ≡ (run_of recording.now rules.now Searching 0 (length_of recording.now)).0) }
+    ensures items { IfOk result (λ end. end.1 ≡ listed recording.now rules.now
+        (run_of recording.now rules.now Searching 0 (length_of recording.now)).1) }
+    ensures refused { IsOkUnless result OutOfMemory }
 {
-    items.push_run(first, marks, to, count).is_ok()
+    laws::runs_join();
+    let len = recording.len();
+    let cut = Spans::Short;
+    let (state, first) = run_report(alloc, recording, rules, State::Searching, 0, middle, cut)?;
+    let (end, second) = run_report(alloc, recording, rules, state, middle, len, cut)?;
+    let mut items = first.items;
+    items.append(second.items)?;
+    Ok((end, items))
 }
 
-/// Where there was no memory for one span, it stays too.
+/// If there is no memory for a span, the list stays as it was.
 pub fn span_or_same(items: &mut Items, state: State, from: u64, to: u64, count: usize) -> bool
     requires lawful { IsLawful items.old.rules from state }
     requires order { from ≤ to }
@@ -227,7 +194,7 @@ pub fn span_or_same(items: &mut Items, state: State, from: u64, to: u64, count: 
     items.push_span(state, from, to, count).is_ok()
 }
 
-/// And where there was none for the item of the recording's end.
+/// So it does if there is none for the item of the recording's end.
 pub fn closed_or_same(items: &mut Items, state: State) -> bool
     requires { IsLawful items.old.rules (length_of items.old.source) state }
     ensures { result ≡ false → items.new ≡ items.old }
@@ -300,7 +267,7 @@ pub fn totals_of_range(
     totals
 }
 
-/// The totals of a report: those of what a run keeps, and of the group at the recording's end.
+/// The totals of a report: those of a run, and of the group at the recording's end.
 pub fn totals_of_report(
     alloc: Global,
     recording: &Recording,
@@ -310,26 +277,31 @@ pub fn totals_of_report(
 {
     laws::runs_give_few_items();
     let len = recording.len();
-    let (end, codes) = run_codes(alloc, recording, rules, State::Searching, 0, len)?;
+    let (end, run) = run_report(
+        alloc,
+        recording,
+        rules,
+        State::Searching,
+        0,
+        len,
+        Spans::Short,
+    )?;
     let group = finish(&mut Counted::new(recording), rules, end);
-    let totals = codes.totals().plus(Totals::of_end(group));
+    let totals = run.totals.plus(Totals::of_end(group));
     let _loss = rules.loss();
     laws::runs_are_reports();
-    laws::codes_tell_totals();
     laws::totals_join();
     Ok(totals)
 }
 
 /// The totals of the rest of a list are those of all, less those of its first items.
-pub fn totals_of_rest(codes: &Codes, first: usize) -> Totals
-    requires kept { (items : List AnItem) × (codes.now ≡ kept_of items) }
-    requires within { first ≤ length codes.now.codes }
-    requires few { length codes.now.codes ≤ 2 ^ 40 }
-    ensures { (items : List AnItem) → codes.now ≡ kept_of items → result ≡ totals_of (drop first items) }
+pub fn totals_of_rest(items: &[Item], first: usize) -> Totals
+    requires within { first ≤ length items.now }
+    requires few { length items.now ≤ 2 ^ 37 }
+    ensures { result ≡ totals_of (drop first items.now) }
 {
-    laws::codes_tell_totals();
     laws::totals_join();
-    codes.totals().less(codes.totals_of_first(first))
+    Totals::of_items(items).less(Totals::of_items(&items[..first]))
 }
 
 /// What is left of totals is no more than they are: it may be added to them.
@@ -341,15 +313,13 @@ pub fn rest_and_all(all: Totals, part: Totals) -> Totals
     all.less(part).plus(all)
 }
 
-/// Three lists are not too long for the sum of their totals, nor are the first items of one for that with two.
-pub fn totals_of_three(codes: &Codes, first: usize) -> Totals
-    requires within { first ≤ length codes.now.codes }
-    requires few { length codes.now.codes ≤ 2 ^ 40 }
-    ensures { result ≡ plus (plus (totals_of_codes codes.now.codes) (totals_of_codes codes.now.codes))
-        (totals_of_codes (take first codes.now.codes)) }
+/// Three lists are not too long for the sum of their totals.
+pub fn totals_of_three(items: &[Item], first: usize) -> Totals
+    requires within { first ≤ length items.now }
+    requires few { length items.now ≤ 2 ^ 37 }
+    ensures { result ≡ plus (plus (totals_of items.now) (totals_of items.now)) (totals_of (take first items.now)) }
 {
-    codes
-        .totals()
-        .plus(codes.totals())
-        .plus(codes.totals_of_first(first))
+    Totals::of_items(items)
+        .plus(Totals::of_items(items))
+        .plus(Totals::of_items(&items[..first]))
 }

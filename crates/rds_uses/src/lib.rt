@@ -15,12 +15,11 @@
 //! | | [`gaps`] | gaps in recordings, and what is read where one is touched, in `rds_sync` too |
 //! | `rds_sync` | [`loss`] | what bad blocks do to a lock, by either rule |
 //! | | [`sync`] | rules, lawful states, steps, runs, their items one after the other, and reports |
-//! | | [`codes`] | what a run keeps, and the marks that it tells |
 //! | | [`items`] | lists of items of a recording, and their totals |
 //! | `rds_live` | [`live`] | streams, chunk by chunk, and what `follow` of `rds_tool` writes of one |
 //! | `rds_abi` | [`library`] | the calls for C |
 //! | | [`kept`] | numbers that C keeps between calls |
-//! | `rds_pieces` | [`pieces`] | cuttings, guesses, seams, joins, their joints, and what is stitched of them |
+//! | `rds_pieces` | [`pieces`] | cuttings, guesses, seams, joins, and the report that is stitched of them |
 //! | | [`decoder`] | all of these together, from bytes to a report |
 //! | `rds_crew` | [`dealer`] | numbers that are dealt to seats |
 //! | | [`crew`] | the reports of crews |
@@ -35,7 +34,6 @@
 #![tactic(auto)]
 
 pub mod code;
-pub mod codes;
 pub mod commands;
 pub mod crew;
 pub mod dealer;

@@ -3,7 +3,6 @@ ghost use Rattle.std.specs.Prelude.{◌≡◌, ℕ, ◌+◌, ◌-◌, ◌*◌, �
 ghost use Rattle.rds_stream.specs.Recording.{length_of};
 ghost use Rattle.rds_sync.specs.declared.state.State.TheVariants.{Searching};
 ghost use Rattle.rds_sync.specs.declared.loss.Loss.TheVariants.{InARow};
-ghost use Rattle.rds_sync.specs.Codes.{kept_of};
 ghost use Rattle.rds_sync.specs.Convergence.{IsSound};
 ghost use Rattle.rds_sync.specs.Decoding.{listed};
 ghost use Rattle.rds_sync.specs.Lawful.{IsLawful};
@@ -11,22 +10,20 @@ ghost use Rattle.rds_sync.specs.Report.{report_items};
 ghost use Rattle.rds_sync.specs.Step.{run as run_of};
 ghost use Rattle.rds_sync.specs.Totals.{totals_of};
 ghost use Rattle.rds_pieces.specs.Cutting.{IsCutting, pieces_of};
-ghost use Rattle.rds_pieces.specs.Guess.{guess, marks};
-ghost use Rattle.rds_pieces.specs.JointOf.{joint_of as the_joint_of};
+ghost use Rattle.rds_pieces.specs.Guess.{guess};
 ghost use Rattle.rds_pieces.specs.Joining.{AreNeighbours};
 ghost use Rattle.rds_pieces.specs.RunOf.{FollowEachOther, end_of, run_at, run_over, runs_of};
 ghost use Rattle.rds_pieces.specs.declared.error.PieceError.TheVariants.{BadCutting, OutOfMemory};
 
 use rds_pieces::{
-    Cutting, Joint, PieceError, PieceRun, RecordingWork, Seam, Work, join_runs, joint_of, laws,
-    seam, speculate, stitch,
+    Cutting, PieceError, PieceRun, RecordingWork, Seam, Work, join_runs, laws, seam, speculate,
+    stitch,
 };
 use rds_stream::{Counted, Recording, Tape};
 use rds_sync::{
-    Codes, Decoder, Loss, Mark, Marks, Report, Rules, Spans, State, SyncError, Totals,
-    laws as laws_of_runs, run_codes,
+    Decoder, ItemIter, Items, Report, Rules, State, SyncError, Totals, laws as laws_of_runs, run,
 };
-use std::alloc::{AllocError, Global};
+use std::alloc::Global;
 use std::slice;
 use std::snapshot::Snapshot;
 
@@ -113,47 +110,42 @@ pub fn guessed_as_run(recording: &Recording, rules: &Rules, run: &PieceRun) -> b
     decoder.end_state() == run.end_state()
 }
 
-/// It keeps as many items.
-pub fn kept_as_run(
+/// It gives as many items.
+pub fn guess_as_long_as_run(
     alloc: Global,
     recording: &Recording,
     rules: &Rules,
-    run: &PieceRun,
+    guess: &PieceRun,
 ) -> Result<bool, SyncError>
-    requires source { run.now.source ≡ recording.now }
-    requires rules { run.now.rules ≡ rules.now }
+    requires source { guess.now.source ≡ recording.now }
+    requires rules { guess.now.rules ≡ rules.now }
     ensures { IfOk result (λ same. same ≡ true) }
 {
-    laws_of_runs::runs_give_few_items();
-    let (from, to) = (run.from(), run.to());
+    let (from, to) = (guess.from(), guess.to());
     let _len = recording.len();
-    let (_end, codes) = run_codes(alloc, recording, rules, State::Searching, from, to)?;
-    Ok(codes.len() == run.codes().len())
+    let (_end, items) = run(alloc, recording, rules, State::Searching, from, to)?;
+    Ok(items.len() == guess.list().len())
 }
 
-/// What a guess keeps is what a run from Searching over its range does.
-pub fn codes_of_guess(run: &PieceRun) -> &Codes
-    ensures { result.now
-        ≡ kept_of (run_of run.now.source run.now.rules Searching run.now.from (run.now.to - run.now.from)).1 }
+/// The items of a guess, one after the other, are those of a run from Searching over its range.
+pub fn items_of_guess<'a>(
+    recording: &'a Recording,
+    rules: &'a Rules,
+    run: &'a PieceRun,
+) -> ItemIter<'a>
+    requires source { run.now.source ≡ recording.now }
+    requires rules { run.now.rules ≡ rules.now }
+    ensures { result ≡ (run_of recording.now rules.now Searching run.now.from (run.now.to - run.now.from)).1 }
 {
-    run.codes()
+    run.items(recording, rules)
 }
 
-/// A guess has a mark at its first place.
-pub fn first_mark(run: &PieceRun, rules: &Rules) -> Option<Mark>
-    requires { run.now.rules ≡ rules.now }
-    ensures { result ≡ Some (record { place = run.now.from; state = Searching; items = 0 }) }
+/// Their list names the recording and the rules of the guess.
+pub fn list_of_guess(run: &PieceRun) -> &Items
+    ensures { result.now ≡ listed run.now.source run.now.rules
+        (run_of run.now.source run.now.rules Searching run.now.from (run.now.to - run.now.from)).1 }
 {
-    run.marks(rules).peek()
-}
-
-/// The marks of a guess, one after the other: at its first place, and after each bit that gave an item.
-pub fn marks_of_guess(alloc: Global, run: &PieceRun, rules: &Rules) -> Result<Vec<Mark>, AllocError>
-    requires { run.now.rules ≡ rules.now }
-    ensures { IfOk result (λ found. found.items
-        ≡ marks run.now.source run.now.rules run.now.from (run.now.to - run.now.from)) }
-{
-    run.marks(rules).collect(alloc)
+    run.list()
 }
 
 /// A guess knows the totals of its items.
@@ -192,7 +184,6 @@ pub fn carried_on<'a>(
         rules,
         state,
         run,
-        Spans::Short,
     )?;
     Ok((before, seam))
 }
@@ -213,7 +204,7 @@ pub fn met_at_once<T: Tape>(
     ensures refused { OnErr result (T.reads_made tape.new ≤ T.reads_made tape.old + (rules.now.reach + 2)) }
 {
     run.from();
-    seam(alloc, tape, rules, State::Searching, run, Spans::Whole)
+    seam(alloc, tape, rules, State::Searching, run)
 }
 
 /// What any seam costs, refused memory or not: no more windows than its piece has places for; the tape is of the same bits.
@@ -233,7 +224,7 @@ pub fn cost_of_seam<T: Tape>(
         ≤ T.reads_made tape.old + (rules.now.reach + 2) * (run.now.to - run.now.from + 1) }
     ensures same { T.signal tape.new ≡ T.signal tape.old }
 {
-    seam(alloc, tape, rules, state, run, Spans::Whole)
+    seam(alloc, tape, rules, state, run)
 }
 
 /// On sound signal from the piece's first place on, a seam meets the guess within 416 bits by a loss of ten blocks.
@@ -258,7 +249,6 @@ pub fn met_on_sound_signal(
         rules,
         state,
         run,
-        Spans::Short,
     )?;
     Ok(seam.met_at)
 }
@@ -278,72 +268,53 @@ pub fn joined_guesses(
     ensures refused { IsOkUnless result OutOfMemory }
 {
     let (left, right) = two_guesses(alloc, &RecordingWork::new(recording, rules, cutting))?;
-    join_runs(alloc, &mut Counted::new(recording), rules, left, right)
+    join_runs(alloc, &mut Counted::new(recording), rules, &left, &right)
 }
 
-/// What a join costs, which is said of it as it is of a joint.
-pub fn cost_of_join<T: Tape>(
-    alloc: Global,
-    tape: &mut T,
-    rules: &Rules,
-    left: PieceRun,
-    right: PieceRun,
-) -> Result<PieceRun, PieceError>
-    requires neighbours { AreNeighbours (T.signal tape.old) rules.now left right }
-    requires room { T.reads_made tape.old ≤ 2 ^ 62 }
-    ensures refused { IsOkUnless result OutOfMemory }
-    ensures reads { T.reads_made tape.new
-        ≤ T.reads_made tape.old + (rules.now.reach + 2) * (right.to - right.from + 1) }
-    ensures same { T.signal tape.new ≡ T.signal tape.old }
-{
-    join_runs(alloc, tape, rules, left, right)
-}
-
-// ---- joints
-
-/// The guesses of two pieces that are joined while they are only lent, and put together by who owns them, are the guess
-/// of the whole recording.
-pub fn joined_by_joint(
+/// A join leaves both runs as they are, so that one can be joined to another neighbour, too.
+pub fn joined_on_both_sides(
     alloc: Global,
     recording: &Recording,
     rules: &Rules,
-    cutting: &Cutting,
-) -> Result<PieceRun, PieceError>
-    requires fits { IsCutting (length_of recording.now) cutting.now }
-    requires two { pieces_of cutting.now ≡ 2 }
-    ensures run { IfOk result (λ run. run ≡ run_over recording.now rules.now 0 (length_of recording.now)) }
-    ensures refused { IsOkUnless result OutOfMemory }
+    one: &PieceRun,
+    two: &PieceRun,
+    three: &PieceRun,
+) -> Result<(PieceRun, PieceRun), PieceError>
+    requires before { AreNeighbours recording.now rules.now one.now two.now }
+    requires after { AreNeighbours recording.now rules.now two.now three.now }
+    ensures before { IfOk result (λ runs. runs.0 ≡ run_over recording.now rules.now one.now.from two.now.to) }
+    ensures after { IfOk result (λ runs. runs.1 ≡ run_over recording.now rules.now two.now.from three.now.to) }
 {
-    let (left, right) = two_guesses(alloc, &RecordingWork::new(recording, rules, cutting))?;
-    let joint = joint_of(alloc, &mut Counted::new(recording), rules, &left, &right);
-    joined_unless_refused(left, joint, right)
+    let before = join_runs(alloc, &mut Counted::new(recording), rules, one, two)?;
+    let after = join_runs(alloc, &mut Counted::new(recording), rules, two, three)?;
+    Ok((before, after))
 }
 
-/// A joint whose left run ends in a search costs the reach and two windows at most, refused memory or not.
-pub fn joint_behind_search<T: Tape>(
+/// A join whose left run ends in a search costs the reach and two windows at most, refused memory or not.
+pub fn join_after_a_search<T: Tape>(
     alloc: Global,
     tape: &mut T,
     rules: &Rules,
     left: &PieceRun,
     right: &PieceRun,
-) -> Result<Joint, PieceError>
+) -> Result<PieceRun, PieceError>
     requires neighbours { AreNeighbours (T.signal tape.old) rules.now left.now right.now }
     requires room { T.reads_made tape.old ≤ 2 ^ 62 }
     requires search { end_of left.now ≡ Searching }
     ensures { T.reads_made tape.new ≤ T.reads_made tape.old + (rules.now.reach + 2) }
 {
     right.from();
-    joint_of(alloc, tape, rules, left, right)
+    join_runs(alloc, tape, rules, left, right)
 }
 
-/// On sound signal from the cut on, a joint costs the windows of 416 bits at most by a loss of ten blocks.
-pub fn joint_on_sound_signal<T: Tape>(
+/// On sound signal from the cut on, a join costs the windows of 416 bits at most by a loss of ten blocks.
+pub fn join_on_sound_signal<T: Tape>(
     alloc: Global,
     tape: &mut T,
     rules: &Rules,
     left: &PieceRun,
     right: &PieceRun,
-) -> Result<Joint, PieceError>
+) -> Result<PieceRun, PieceError>
     requires neighbours { AreNeighbours (T.signal tape.old) rules.now left.now right.now }
     requires room { T.reads_made tape.old ≤ 2 ^ 62 }
     requires loss { rules.now.loss ≡ InARow 10 }
@@ -351,17 +322,17 @@ pub fn joint_on_sound_signal<T: Tape>(
     requires inside { right.now.from + 416 ≤ right.now.to }
     ensures { OnOk result (T.reads_made tape.new ≤ T.reads_made tape.old + (rules.now.reach + 2) * 417) }
 {
-    joint_of(alloc, tape, rules, left, right)
+    join_runs(alloc, tape, rules, left, right)
 }
 
-/// What any joint costs, refused memory or not: no more windows than the right run has places for.
-pub fn cost_of_joint<T: Tape>(
+/// What any join costs, refused memory or not: no more windows than the right run has places for.
+pub fn cost_of_join<T: Tape>(
     alloc: Global,
     tape: &mut T,
     rules: &Rules,
     left: &PieceRun,
     right: &PieceRun,
-) -> Result<Joint, PieceError>
+) -> Result<PieceRun, PieceError>
     requires neighbours { AreNeighbours (T.signal tape.old) rules.now left.now right.now }
     requires room { T.reads_made tape.old ≤ 2 ^ 62 }
     ensures refused { IsOkUnless result OutOfMemory }
@@ -369,32 +340,7 @@ pub fn cost_of_joint<T: Tape>(
         ≤ T.reads_made tape.old + (rules.now.reach + 2) * (right.now.to - right.now.from + 1) }
     ensures same { T.signal tape.new ≡ T.signal tape.old }
 {
-    joint_of(alloc, tape, rules, left, right)
-}
-
-/// Two neighbours put together, where what joins them was not refused memory.
-fn joined_unless_refused(
-    left: PieceRun,
-    joint: Result<Joint, PieceError>,
-    right: PieceRun,
-) -> Result<PieceRun, PieceError>
-    requires neighbours { AreNeighbours left.source left.rules left right }
-    requires joint { IfOk joint (λ joint. joint ≡ the_joint_of left right) }
-    requires memory { IsOkUnless joint OutOfMemory }
-    ensures run { IfOk result (λ run. run ≡ run_over left.source left.rules left.from right.to) }
-    ensures refused { IsOkUnless result OutOfMemory }
-{
-    PieceRun::joined(left, joint?, right)
-}
-
-/// Runs that are put together by their joint are the run of both ranges, or there was no memory.
-pub fn put_together(left: PieceRun, joint: Joint, right: PieceRun) -> Result<PieceRun, PieceError>
-    requires neighbours { AreNeighbours left.source left.rules left right }
-    requires joint { joint ≡ the_joint_of left right }
-    ensures run { IfOk result (λ run. run ≡ run_over left.source left.rules left.from right.to) }
-    ensures refused { IsOkUnless result OutOfMemory }
-{
-    PieceRun::joined(left, joint, right)
+    join_runs(alloc, tape, rules, left, right)
 }
 
 // ---- reports
@@ -413,7 +359,7 @@ pub fn decoded_in_two_pieces(
     ensures totals { IfOk result (λ report. report.totals ≡ totals_of (report_items recording.now rules.now)) }
     ensures refused { IsOkUnless result OutOfMemory }
 {
-    stitched(alloc, recording, rules, cutting, Spans::Whole)
+    stitched(alloc, recording, rules, cutting)
 }
 
 /// The report of a recording in the pieces of a cutting.
@@ -422,7 +368,6 @@ pub(crate) fn stitched(
     recording: &Recording,
     rules: &Rules,
     cutting: &Cutting,
-    spans: Spans,
 ) -> Result<Report, PieceError>
     requires { IsCutting (length_of recording.now) cutting.now }
     ensures items { IfOk result (λ report. report.items
@@ -437,7 +382,6 @@ pub(crate) fn stitched(
         &mut Counted::new(recording),
         rules,
         runs.as_slice(),
-        spans,
     )
 }
 
@@ -474,7 +418,7 @@ pub fn cost_of_one_piece<T: Tape>(
     ensures refused { OnErr result (T.reads_made tape.new ≤ T.reads_made tape.old + (rules.now.reach + 2) + 3) }
     ensures same { T.signal tape.new ≡ T.signal tape.old }
 {
-    stitch(alloc, tape, rules, runs, Spans::Short)
+    stitch(alloc, tape, rules, runs)
 }
 
 /// Runs stay in a row where one run stands for two neighbours.
@@ -520,8 +464,7 @@ pub fn joined_by_work<W: Work>(alloc: Global, work: &W) -> Result<PieceRun, Piec
     ensures refused { IsOkUnless result OutOfMemory }
 {
     let (left, right) = two_guesses(alloc, work)?;
-    let joint = work.join(alloc, &left, &right);
-    joined_unless_refused(left, joint, right)
+    work.join(alloc, &left, &right)
 }
 
 /// The guesses of a work that is cut into two pieces.

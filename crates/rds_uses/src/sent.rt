@@ -10,7 +10,6 @@ ghost use Rattle.rds_code.specs.Offsets.{number};
 ghost use Rattle.rds_code.specs.Reading.{information};
 ghost use Rattle.rds_code.specs.Remainder.{rem};
 ghost use Rattle.rds_stream.specs.Recording.{length_of, ungapped};
-ghost use Rattle.rds_sync.specs.Codes.{kept_of};
 ghost use Rattle.rds_sync.specs.Groups.{group as group_at};
 ghost use Rattle.rds_sync.specs.Lawful.{IsLawful};
 ghost use Rattle.rds_sync.specs.Longer.{AreNoLess, BeginsWith, OnlyAddsItems, beginning};
@@ -31,7 +30,7 @@ use rds_code::{
     is_block, laws as code_laws, offset_of, read_block, rem26,
 };
 use rds_stream::Recording;
-use rds_sync::{Codes, Group, Report, Rules, State, SyncError, decode_plain, laws, run_codes};
+use rds_sync::{Group, Item, Report, Rules, State, SyncError, decode_plain, laws, run};
 use rds_tool::{FromRead, Job, ToWrite, follow, laws as tool_laws};
 use std::alloc::{AllocError, Global};
 use std::sync::Wait;
@@ -287,18 +286,18 @@ pub fn decoded_in_lock(
     state: State,
     from: u64,
     to: u64,
-) -> Result<(State, Codes), SyncError>
+) -> Result<(State, Vec<Item>), SyncError>
     requires lawful { IsLawful rules.now from state }
     requires order { from ≤ to }
     requires within { to ≤ length_of recording.now }
     ensures { IfOk result (λ run. (bad : ℕ) (groups : List SentGroup)
         → state ≡ Locked (lock_of (from + 25) 1 bad 1)
         → AreHeardBetween recording.now rules.now from to bad groups
-        → run.1 ≡ kept_of (items_damaged from groups)) }
+        → run.1.items ≡ items_damaged from groups) }
 {
     prove!(rules.burst() <= 5);
     laws::damaged_groups_are_listed();
-    run_codes(alloc, recording, rules, state, from, to)
+    run(alloc, recording, rules, state, from, to)
 }
 
 /// After a sound range a decoder gives the groups that come with the words that were sent, whatever state it began in.
@@ -309,7 +308,7 @@ pub fn decoded_after_sound_range(
     state: State,
     from: u64,
     to: u64,
-) -> Result<(State, Codes), SyncError>
+) -> Result<(State, Vec<Item>), SyncError>
     requires lawful { IsLawful rules.now from state }
     requires order { from ≤ to }
     requires within { to ≤ length_of recording.now }
@@ -317,11 +316,11 @@ pub fn decoded_after_sound_range(
         → IsSoundUpTo recording.now rules.now from start
         → AreHeardBetween recording.now rules.now start to 0 groups
         → let before = (run_of recording.now rules.now state from (start - from)).1 in
-        run.1 ≡ kept_of (before ++ items_damaged start groups)) }
+        run.1.items ≡ before ++ items_damaged start groups) }
 {
     let _loss = rules.loss();
     laws::sound_signal_is_decoded();
-    run_codes(alloc, recording, rules, state, from, to)
+    run(alloc, recording, rules, state, from, to)
 }
 
 // ---- a longer recording

@@ -7,7 +7,6 @@ use Rattle.rds_sync.specs.declared.state.State.TheVariants.{Searching}
 use Rattle.rds_sync.specs.Counting.{plus}
 use Rattle.rds_sync.specs.Step.{items_of_end, run}
 use Rattle.rds_sync.specs.Totals.{totals_of}
-use Rattle.rds_uses.proofs.KeptRuns.{totals-kept}
 use Rattle.rds_uses.proofs.items.totals_of_report.Goals as goal
 
 pub returns : goal.returns
@@ -19,7 +18,7 @@ returns c =
     ∙ ap (λ (s : State). items_of_end b rules s) c.in_ok-end.ensures.state in
     let all : c.len-len.result - 0 ≡ length_of b = omega (arith, c.len-len.ensures.value) in
     c.plus-totals.ensures.value
-    ∙ ap₂ plus (c.totals.ensures.value ∙ totals-kept c.codes_tell_totals.ensures c.in_ok-end.codes whole.1 c.in_ok-end.ensures.codes)
+    ∙ ap₂ plus c.in_ok-end.ensures.totals
     (c.of_end.ensures.value ∙ ap (λ (items : List Item). totals_of items) ended)
     ∙ sym ((c.totals_join.ensures whole.1 (items_of_end b rules whole.0)).joined)
     ∙ ap (λ (n : ℕ). totals_of ((run b rules Searching 0 n).1 ++ items_of_end b rules (run b rules Searching 0 n).0)) all

@@ -1,5 +1,4 @@
 use Rattle.std.proofs.Common.{◌≡◌, ℕ, ◌-◌, ◌*◌, List, ap, ◌∙◌, arith, length}
-use Rattle.rds_sync.specs.Codes.{kept_of}
 use Rattle.rds_sync.specs.Step.{run}
 use Rattle.rds_sync.specs.declared.item.Item.{Item}
 use Rattle.rds_sync.specs.declared.state.State.{State}
@@ -11,9 +10,9 @@ returns c =
     let b = c.args.recording.now in
     let rules = c.args.rules.now in
     let from = c.args.from in
-    if-ok c.run_codes.result (λ run_was kept bad groups locked between.
+    if-ok c.run.result (λ run_was given bad groups locked between.
     let bits : c.args.to - from ≡ 104 * length groups = omega (arith, between.end) in
     let law = c.damaged_groups_are_listed.ensures.locked b rules (omega (arith, c.burst.ensures.range.burst)) from bad groups between.heard between.kept in
-    kept ∙ ap kept_of (ap (λ (n : ℕ). (run b rules c.args.state from n).1) bits
-    ∙ ap (λ (s : State). (run b rules s from (104 * length groups)).1) locked ∙ ap (λ (r : State × List Item). r.1) law))
-    c.run_codes.ensures.codes
+    given ∙ ap (λ (n : ℕ). (run b rules c.args.state from n).1) bits
+    ∙ ap (λ (s : State). (run b rules s from (104 * length groups)).1) locked ∙ ap (λ (r : State × List Item). r.1) law)
+    c.run.ensures.items

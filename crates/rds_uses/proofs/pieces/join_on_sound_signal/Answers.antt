@@ -7,21 +7,21 @@ use Rattle.rds_sync.specs.declared.loss.Loss.TheVariants.{InARow}
 use Rattle.rds_sync.specs.declared.state.State.{State}
 use Rattle.rds_sync.specs.declared.state.State.TheVariants.{Searching}
 use Rattle.rds_pieces.specs.Meeting.{IsMeeting}
-use Rattle.rds_pieces.specs.JointOf.{JointOf}
+use Rattle.rds_pieces.specs.RunOf.{RunOf}
 use Rattle.rds_pieces.specs.Seams.{seam_reads}
 use Rattle.rds_pieces.specs.Soon.{MeetSoon}
 use Rattle.rds_pieces.specs.declared.error.PieceError.{PieceError}
 use Rattle.rds_uses.proofs.SoundSignal.{cost_within}
-use Rattle.rds_uses.proofs.pieces.joint_on_sound_signal.Goals as goal
+use Rattle.rds_uses.proofs.pieces.join_on_sound_signal.Goals as goal
 
 cheap : (b : Signal) (rules : RuleNumbers) (s : State) (from to old new : ℕ) (result : _) → rules.loss ≡ InARow 10
     → (p : ℕ) × (c : ℕ) × IsSound b rules 0 from p c → from + 416 ≤ to
     → OnOk result (MeetSoon b rules s Searching from to)
     → OnOk result ((met : Option ℕ) × IsMeeting b rules s Searching from to met × (new ≤ old + seam_reads rules from to met))
-    → OnOk {T = JointOf} {E = PieceError} result (new ≤ old + (rules.reach + 2) * 417)
+    → OnOk {T = RunOf} {E = PieceError} result (new ≤ old + (rules.reach + 2) * 417)
 cheap b rules s from to old new (Ok r) loss sound inside soon reads =
     omega (arith, reads.2, cost_within b rules from to loss sound inside s Searching reads.0 soon reads.1)
 cheap b rules s from to old new (Err e) loss sound inside soon reads = tt
 
 pub returns : goal.returns
-returns g c = cheap _ _ _ _ _ _ _ c.joint_of.result c.requires.loss c.requires.sound c.requires.inside c.joint_of.ensures.cost.soon c.joint_of.ensures.cost.reads
+returns g c = cheap _ _ _ _ _ _ _ c.join_runs.result c.requires.loss c.requires.sound c.requires.inside c.join_runs.ensures.cost.soon c.join_runs.ensures.cost.reads

@@ -16,7 +16,7 @@ use Rattle.rds_sync.specs.MarkLaws.{WholeGroups}
 use Rattle.rds_sync.specs.Marks.{bad_over, good_at}
 use Rattle.rds_sync.specs.Rules.{RuleNumbers}
 use Rattle.rds_sync.specs.Step.{run, lock_of}
-use Rattle.rds_uses.proofs.codes.group_of_good_lock.Goals as goal
+use Rattle.rds_uses.proofs.sync.group_of_good_lock.Goals as goal
 
 -- so few blocks lose no lock
 few_blocks : (os : List Outcome) (y blocks row : ℕ) → row + blocks < 10 → are_too_many (InARow 10) (bad_over (InARow 10) os row y blocks) ≡ false
