@@ -17,6 +17,7 @@
 //! | | [`sync`] | rules, lawful states, steps, runs, their items one after the other, and reports |
 //! | | [`items`] | lists of items of a recording, and their totals |
 //! | `rds_live` | [`live`] | streams, chunk by chunk, and what `follow` of `rds_tool` writes of one |
+//! | | [`live_numbers`] | decoders of streams that are made of any lawful numbers |
 //! | `rds_abi` | [`library`] | the calls for C |
 //! | | [`kept`] | numbers that C keeps between calls |
 //! | `rds_pieces` | [`pieces`] | cuttings, guesses, seams, joins, and the report that is stitched of them |
@@ -45,6 +46,7 @@ pub mod items;
 pub mod kept;
 pub mod library;
 pub mod live;
+pub mod live_numbers;
 pub mod loss;
 pub mod pieces;
 pub mod refusals;
