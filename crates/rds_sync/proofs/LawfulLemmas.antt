@@ -1,6 +1,6 @@
 -- Where a place acquires, and the states that follow on a lawful one.
-use Rattle.std.proofs.Common.{◌≡◌, ℕ, zero, suc, ◌+◌, ◌-◌, ◌*◌, ◌%◌, ◌<◌, ◌≤◌, Bool, true, false, Option, Some, None, refl, sym, ap, subst, arith, inl, inr, ⊎_elim}
-use Rattle.std.proofs.lemmas.Bool.{ne_eqb, cases_eq, cases_lt, cases_Bool, eqb-true, lt-ltb}
+use Rattle.std.proofs.Common.{◌≡◌, ℕ, zero, suc, ◌+◌, ◌-◌, ◌*◌, ◌%◌, ◌<◌, ◌≤◌, Bool, true, false, Option, Some, None, refl, sym, ap, subst, ◌∙◌, arith, inl, inr, ⊎_elim}
+use Rattle.std.proofs.lemmas.Bool.{ne_eqb, eq-eqb, cases_eq, cases_lt, cases_Bool, eqb-true, lt-ltb}
 use Rattle.std.specs.Prelude.{◌==◌}
 use Rattle.std.specs.List.{list_any, range_with_len}
 use Rattle.rds_code.specs.declared.offset.Offset.{Offset}
@@ -12,7 +12,7 @@ use Rattle.rds_sync.specs.declared.state.State.{State}
 use Rattle.rds_sync.specs.declared.state.State.TheVariants.{Searching, Locked}
 use Rattle.rds_sync.specs.Rules.{RuleNumbers}
 use Rattle.rds_sync.specs.Loss.{IsLoss, IsLawfulBad, are_too_many}
-use Rattle.rds_sync.specs.Acquiring.{acquired, has_number, has_partner, with_partner}
+use Rattle.rds_sync.specs.Acquiring.{acquired, has_number, has_partner, is_numbered, with_partner}
 use Rattle.rds_sync.specs.Lawful.{IsLawful, IsLawfulLock}
 use Rattle.rds_sync.specs.Step.{run, step, bad_with, lock_of, lock_after}
 use Rattle.rds_sync.proofs.LossLemmas.{lawful_none, lawful_kept}
@@ -101,6 +101,11 @@ module _ (b : Signal) (rules : RuleNumbers) where
       let p : 25 ≤ i - 26 * f.distance = off-place b (i - 26 * f.distance) o.0 o.1 in
       let w = f.within_reach in
       omega (arith, p, w)
+
+  -- the place has that number
+  pub acquired-number : (i x : ℕ) → acquired b rules i ≡ Some x → has_number b i x ≡ true
+  unfolding has_number
+  acquired-number i x e = let f = acquired-facts i x e in ap (λ o. is_numbered o x) f.here ∙ eq-eqb _ x f.number_is
 
   -- where the offset at a place is known, acquiring is a matter of its partner
   pub acquired-none : (i : ℕ) → off b i ≡ None → acquired b rules i ≡ None

@@ -8,8 +8,8 @@ use Rattle.rds_sync.specs.declared.state.State.TheVariants.{Locked}
 use Rattle.rds_sync.specs.declared.step.Step.{Step}
 use Rattle.rds_sync.specs.Groups.{group}
 use Rattle.rds_sync.specs.Lawful.{IsLawful}
+use Rattle.rds_sync.specs.Inside.Outcomes.{bad_over}
 use Rattle.rds_sync.specs.Loss.{IsLawfulBad, are_too_many}
-use Rattle.rds_sync.specs.Marks.{bad_over}
 use Rattle.rds_sync.specs.Rules.{RuleNumbers}
 use Rattle.rds_sync.specs.Step.{run, lock_of}
 use Rattle.rds_sync.specs.Stretch.{IsStretch}
