@@ -1,10 +1,9 @@
 //! What a user of `rds_sync` relies on: rules, lawful states, steps over a tape, runs over a range and their items, and
 //! reports.
-ghost use Rattle.std.specs.Prelude.{◌≡◌, ◌≢◌, ℕ, ◌+◌, ◌-◌, ◌*◌, ◌<◌, ◌≤◌, ◌^◌, ◌++◌, ◌∷◌, ◌↔◌, [], IsTrue, IfOk, IsOkUnless, IsErrOf, None, Some, slice_get, true};
+ghost use Rattle.std.specs.Prelude.{◌≡◌, ◌≢◌, ℕ, ◌+◌, ◌-◌, ◌*◌, ◌<◌, ◌≤◌, ◌^◌, ◌++◌, ◌↔◌, [], IsTrue, IfOk, IsOkUnless, IsErrOf, None, Some, slice_get, true};
 ghost use Rattle.rds_stream.specs.Recording.{length_of};
 ghost use Rattle.rds_sync.specs.declared.item.Block.{Block as ABlock};
 ghost use Rattle.rds_sync.specs.declared.error.SyncError.TheVariants.{BurstRange, LossRange, OutOfMemory, ReachRange, ShareRange};
-ghost use Rattle.rds_sync.specs.declared.item.Item.TheVariants.{Group};
 ghost use Rattle.rds_sync.specs.declared.loss.Loss.TheVariants.{InARow, Share};
 ghost use Rattle.rds_sync.specs.declared.state.State.{State as AState};
 ghost use Rattle.rds_sync.specs.declared.state.State.TheVariants.{Searching};
@@ -562,24 +561,4 @@ pub fn report_of(alloc: Global, recording: &Recording, rules: &Rules) -> Result<
     ensures refused { IsOkUnless result OutOfMemory }
 {
     decode_plain(alloc, recording, rules)
-}
-
-/// If ten bad blocks in a row lose a lock, a lock without one gives the next group whatever its bits are. It then is between
-/// groups.
-pub fn group_of_good_lock<'a>(recording: &'a Recording, rules: &'a Rules, due: u64) -> Decoder<'a>
-    requires loss { rules.now.loss ≡ InARow 10 }
-    requires first { 25 ≤ due }
-    requires last { due + 79 ≤ length_of recording.now }
-    ensures items { result.items ≡ Group (group_at recording.now rules.now 1 4 (due + 78)) ∷ [] }
-    ensures end { IsBetweenGroups result.end }
-{
-    let _len = recording.len();
-    laws::whole_groups();
-    let lock = Lock {
-        due,
-        number: 1,
-        bad: 0,
-        first: 1,
-    };
-    Decoder::new(recording, rules, State::Locked(lock), due - 25, due + 79)
 }
