@@ -24,7 +24,8 @@ module _ (b : Signal) (rules : RuleNumbers) (s : State) (place to : ℕ) (reache
       → ((run b rules s place (middle - place)).1 ≡ []) × IsStretch b rules (run b rules s place (middle - place)).0 middle to reached
   later middle low high =
       let quiet = run-places b rules s place middle (reached.place - 1) low (omega arith) in
-      let none = none-of _ _ (sym (ap (λ (r : State × List Item). r.1) quiet) ∙ is.quiet) in
+      let none : ((run b rules s place (middle - place)).1 ≡ []) × ((run b rules (run b rules s place (middle - place)).0 middle (reached.place - 1 - middle)).1 ≡ []) =
+      none-of _ _ (sym (ap (λ (r : State × List Item). r.1) quiet) ∙ is.quiet) in
       let whole = run-places b rules s place middle reached.place low (omega arith) in (
         none.0,
         record {
@@ -48,16 +49,16 @@ past-due b rules lock place to reached is early =
 pub stretches_are_steps : StretchesAreSteps
 stretches_are_steps b rules Searching place to reached lawful is = (omega (arith, is.forward), later b rules Searching place to reached is (place + 1) (omega arith))
 stretches_are_steps b rules (Locked lock) place to reached lawful is = elim (cases_lt lock.due to) [
-  | inl before ↦ rw (lt-ltb lock.due to before) (
+  | inl before ↦ rw (next_place, lt-ltb lock.due to before) (
       (elim (cases_lt lock.due reached.place) [
-        | inl past ↦ past
+        | inl past ↦ omega (arith, past)
         | inr early ↦ let at = past-due b rules lock place to reached is early in omega (arith, before, at)
       ]),
       λ more. later b rules (Locked lock) place to reached is (lock.due + 1) (omega (arith, lawful.soon)) more,
     )
   | inr after ↦
       let at : reached.place ≡ to = past-due b rules lock place to reached is (omega (arith, is.limit, after)) in
-      rw (le-ltb to lock.due after) ((omega (arith, at)), λ more. absurd (omega (arith, at, more)))
+      rw (next_place, le-ltb lock.due to after) ((omega (arith, at)), λ more. absurd (omega (arith, at, more)))
 ]
 
 pub hops_are_stretches : HopsAreStretches
