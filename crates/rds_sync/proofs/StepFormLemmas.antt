@@ -1,5 +1,5 @@
 -- A stretch of a run, step by step.
-use Rattle.std.proofs.Common.{◌≡◌, ℕ, ◌+◌, ◌-◌, ◌<◌, ◌≤◌, List, [], ◌∷◌, ◌++◌, refl, sym, ap, ◌∙◌, subst, arith, inl, inr, ⊎_elim}
+use Rattle.std.proofs.Common.{◌≡◌, ℕ, ◌+◌, ◌-◌, ◌<◌, ◌≤◌, List, [], ◌∷◌, ◌++◌, refl, sym, ap, ◌∙◌, arith, inl, inr, ⊎_elim}
 use Rattle.std.proofs.lemmas.Bool.{cases_lt, lt-ltb, le-ltb}
 use Rattle.rds_stream.specs.Recording.{Signal}
 use Rattle.rds_sync.specs.declared.item.Item.{Item}
@@ -50,12 +50,12 @@ pub stretches_are_steps : StretchesAreSteps
 stretches_are_steps b rules Searching place to reached lawful is = (omega (arith, is.forward), later b rules Searching place to reached is (place + 1) (omega arith))
 stretches_are_steps b rules (Locked lock) place to reached lawful is = elim (cases_lt lock.due to) [
   | inl before ↦ rw (next_place, lt-ltb lock.due to before) (
-      (elim (cases_lt lock.due reached.place) [
-        | inl past ↦ omega (arith, past)
-        | inr early ↦ let at = past-due b rules lock place to reached is early in omega (arith, before, at)
-      ]),
-      λ more. later b rules (Locked lock) place to reached is (lock.due + 1) (omega (arith, lawful.soon)) more,
-    )
+    (elim (cases_lt lock.due reached.place) [
+      | inl past ↦ omega (arith, past)
+      | inr early ↦ let at = past-due b rules lock place to reached is early in omega (arith, before, at)
+    ]),
+    λ more. later b rules (Locked lock) place to reached is (lock.due + 1) (omega (arith, lawful.soon)) more,
+  )
   | inr after ↦
       let at : reached.place ≡ to = past-due b rules lock place to reached is (omega (arith, is.limit, after)) in
       rw (next_place, le-ltb lock.due to after) ((omega (arith, at)), λ more. absurd (omega (arith, at, more)))

@@ -1,4 +1,4 @@
-use Rattle.std.proofs.Common.{◌≡◌, ◌≤◌, ◌<◌, ◌+◌, ◌-◌, ◌*◌, ◌%◌, ℕ, Bool, List, [], ◌∷◌, refl, ap, ap₂, sym, subst, ◌∙◌, arith, inl, inr}
+use Rattle.std.proofs.Common.{◌≡◌, ◌≤◌, ◌<◌, ◌+◌, ◌-◌, ℕ, Bool, List, [], refl, ap, ap₂, sym, subst, ◌∙◌, arith, inr}
 use Rattle.rds_stream.specs.Recording.{Signal}
 use Rattle.rds_sync.specs.declared.item.Block.{Block}
 use Rattle.rds_sync.specs.declared.item.Item.{Item}
@@ -17,7 +17,7 @@ use Rattle.rds_sync.specs.Lawful.{IsLawful}
 use Rattle.rds_sync.specs.Loss.{IsLoss}
 use Rattle.rds_sync.specs.Rules.{RuleNumbers}
 use Rattle.rds_sync.specs.Step.{step, items_at, run}
-use Rattle.rds_sync.specs.Inside.Words.{blocks_in, word_of_blocks}
+use Rattle.rds_sync.specs.Inside.Words.{blocks_in}
 use Rattle.rds_sync.proofs.CountLemmas.{added-nothing, group-added, lost-added}
 use Rattle.rds_sync.proofs.DueLemmas.{step-due, items-inside, items-closed, items-lost, kept-next}
 use Rattle.rds_sync.proofs.GroupWords.{word-tells}
