@@ -260,7 +260,6 @@ impl<'r> Live<'r> {
         prove!(1 <= self.rules.reach());
         laws::runs_join();
         laws::totals_join();
-        laws::codes_tell_totals();
         runs_move();
         let count = bytes
             .len()
@@ -419,7 +418,6 @@ impl<'r> Live<'r> {
         laws::runs_join();
         laws::runs_are_reports();
         laws::totals_join();
-        laws::codes_tell_totals();
         runs_move();
         ends_move();
         let Live {

@@ -4,7 +4,7 @@ use Rattle.rds_stream.specs.Recording.{Signal}
 use Rattle.rds_sync.specs.declared.item.Block.{Block}
 use Rattle.rds_sync.specs.declared.item.Group.{Group as GroupRecord}
 use Rattle.rds_sync.specs.Groups.{blocks_at, group}
-use Rattle.rds_sync.specs.Inside.Outcomes.{Outcome, outcome_of}
+use Rattle.rds_sync.specs.Inside.Outcomes.{outcome_of}
 use Rattle.rds_sync.specs.Inside.Words.{AreShort, blocks_in, word_of_blocks}
 use Rattle.rds_sync.specs.Rules.{RuleNumbers}
 use Rattle.rds_sync.proofs.GroupBlocks.{group-blocks}

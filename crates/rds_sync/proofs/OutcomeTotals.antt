@@ -11,7 +11,7 @@ use Rattle.rds_sync.specs.declared.item.Item.{Item}
 use Rattle.rds_sync.specs.declared.item.Item.TheVariants.{Acquired, Group, LostLock}
 use Rattle.rds_sync.specs.Groups.{info_of}
 use Rattle.rds_sync.specs.Inside.Outcomes.{Outcome, outcome_of, was_valid, was_lost, has_span, bits_inverted, has_info, group_totals}
-use Rattle.rds_sync.specs.Totals.{totals_of, sum_blocks, count_blocks, is_valid, is_lost, is_corrected_by, bits_corrected}
+use Rattle.rds_sync.specs.Totals.{totals_of, sum_blocks, count_blocks, is_valid, is_lost, is_corrected_by, bits_corrected, is_complete}
 use Rattle.rds_sync.proofs.TotalsLemmas.{same_counts}
 
 -- a sum over a list from that over what stands for its elements
@@ -79,6 +79,8 @@ group-tells g =
     (count_is is_lost was_lost lost_is g)
     (sum_is bits_corrected bits_inverted bits_are g)
     refl
-    (ap one_if (all-through (λ b. is_some (info_of b)) has_info outcome_of info_is g.blocks))
+    (sum_by-cons (λ (item : Item). one_if (is_complete item)) (Group g) []
+    ∙ add-zero (one_if (is_complete (Group g)))
+    ∙ ap one_if (all-through (λ b. is_some (info_of b)) has_info outcome_of info_is g.blocks))
     refl
     refl

@@ -6,6 +6,7 @@ ghost use Rattle.rds_sync.specs.Counting.{TotalsJoin};
 ghost use Rattle.rds_sync.specs.GroupLaws.{GroupsAreRead};
 ghost use Rattle.rds_sync.specs.Longer.{BeginningsBegin, LongerRecordingsAddItems, TotalsOnlyGrow};
 ghost use Rattle.rds_sync.specs.Sent.{GroupsAreCorrected, SentGroupsAreListed, EncodedGroupsAreHeard, EncodedGroupsAreListed, PackedGroupsAreSent, LockedGroupsAreListed, DamagedGroupsAreListed, DamagedGroupsAreHeard, DamagedBitsAreDecoded, DamageTellsTotals, DamagedBitsTellTotals, SoundSignalIsDecoded};
+ghost use Rattle.rds_sync.specs.StepForms.{StretchesAreSteps, HopsAreStretches};
 ghost use Rattle.rds_sync.specs.Laws.{RunsAreReports, RunsJoin, StepsAreLawful, RunsAreLawful, RunsMerge, OneBitRuns, LocksWait, SearchesGoOn, ItemsMarkChanges, RunsGiveFewItems, AcquisitionsAreLate, MasksTellBlocks, BadBlocksLose, RunsAreShares};
 
 use rds_code::laws as code_laws;
@@ -38,6 +39,12 @@ pub fn runs_merge()
 /// A run over one bit is that bit.
 pub fn one_bit_runs()
     ensures { OneBitRuns }
+{}
+
+/// A stretch is made of steps of [`advance`](crate::advance); a hop that ends where a stretch does ends in its state.
+pub fn steps_agree()
+    ensures stretches { StretchesAreSteps }
+    ensures hops { HopsAreStretches }
 {}
 
 /// While a block is waited for, a run changes nothing and gives nothing.

@@ -41,7 +41,7 @@ returns-in-Closed-clause-counts c =
     let closes = subst (λ (due : Due). IsAfter rules.loss lock good due) c.in-Closed.is after in
     let tells = word-tells b rules lock.first lock.number lock.due c.read_due-good.new.blocks c.read_due-good.ensures.blocks
     (record { lists = c.bursts_are_listed.ensures; reads = c.readings_follow_the_rule.ensures }) c.loss-loss.ensures.range.burst
-    c.word_of_blocks.result c.word_of_blocks.ensures.value in
+    c.word_of_blocks.result c.word_of_blocks.ensures in
     c.add_group.ensures
     ∙ group-added c.args.counts.now (group b rules lock.first lock.number lock.due) (blocks_in c.word_of_blocks.result) tells
     ∙ ap (λ (is : List Item). added c.args.counts.now is) (sym (items-closed b rules lock good c.read_due-good.ensures.valid c.in-Closed.field-0 closes))
@@ -57,7 +57,7 @@ returns-in-Lost-clause-counts c =
     let word = c.word_of_blocks-in-Lost.result in
     let tells = word-tells b rules lock.first lock.number lock.due c.read_due-good.new.blocks c.read_due-good.ensures.blocks
     (record { lists = c.bursts_are_listed.ensures; reads = c.readings_follow_the_rule.ensures }) c.loss-loss.ensures.range.burst
-    word c.word_of_blocks-in-Lost.ensures.value in
+    word c.word_of_blocks-in-Lost.ensures in
     lost-added c.args.counts.now c.add_group-in-Lost.new.self c.add_loss.new.self (group b rules lock.first lock.number lock.due) (blocks_in word) lock.due tells
     c.add_group-in-Lost.ensures c.add_loss.ensures
     ∙ ap (λ (is : List Item). added c.args.counts.now is) (sym (items-lost b rules lock good c.read_due-good.ensures.valid loses))
