@@ -66,15 +66,24 @@ module _ (b : Signal) (rules : RuleNumbers) where
       ∙ ap (λ (k : ℕ). marks_on b rules t (a + m) k (suc n)) count
       ∙ ap (λ (ms : List Mark). ms ++ marks_on b rules next (a + m + 1) (c + length given) n) (mark_there given (mark_at b rules next (a + m + 1) (c + length given)) some)
 
+  -- the same, by other names of the last bit's place, state and items
+  marks_on-came : (s t u : State) (a c m n to : ℕ) (given : List Item) → run b rules s a m ≡ (t, []) → a + m + 1 ≡ to → u ≡ step b rules (a + m) t → given ≡ items_at b rules (a + m) t
+      → given ≢ [] → marks_on b rules s a c (m + suc n) ≡ mark_at b rules u to (c + length given) ∷ marks_on b rules u to (c + length given) n
+  marks_on-came s t u a c m n to given quiet last state items some =
+      rw (← last, state, items) (marks_on-next s t a c m n quiet (λ none. some (items ∙ none)))
+
+  -- after bits that give nothing, a run is that of its last bit
+  run-last : RunLaws → (s t : State) (a m : ℕ) → run b rules s a m ≡ (t, []) → run b rules s a (m + 1) ≡ (step b rules (a + m) t, items_at b rules (a + m) t)
+  run-last laws s t a m quiet =
+      run-append laws b rules s a m 1
+      ∙ ap (λ (r : State × List Item). ((run b rules r.0 (a + m) 1).0, r.1 ++ (run b rules r.0 (a + m) 1).1)) quiet
+      ∙ laws.one_bit b rules t (a + m)
+
   module _ (laws : RunLaws) (s : State) (place to before : ℕ) (reached : Step) (is : IsStretch b rules s place to reached) where
-    gone : ℕ
-    gone = reached.place - 1 - place
-
-    abbrev pub After : Mark → Type 0
-    After mark = marks_on b rules s place before (to - place) ≡ mark ∷ marks_on b rules mark.state mark.place mark.items (to - mark.place)
-
     -- over a stretch that gives items
-    pub marks_on-stretch : items_in reached.items ≢ [] → After (mark_at b rules reached.state reached.place (before + length (items_in reached.items)))
+    pub marks_on-stretch : items_in reached.items ≢ []
+        → let count : ℕ = before + length (items_in reached.items) in
+        marks_on b rules s place before (to - place) ≡ mark_at b rules reached.state reached.place count ∷ marks_on b rules reached.state reached.place count (to - reached.place)
     marks_on-stretch some =
         let m : ℕ = reached.place - 1 - place in
         let t : State = (run b rules s place m).0 in
@@ -84,15 +93,11 @@ module _ (b : Signal) (rules : RuleNumbers) where
         let last : place + m + 1 ≡ reached.place = omega arith in
         let rest : m + suc (to - reached.place) ≡ to - place = omega arith in
         let quiet : run b rules s place m ≡ (t, []) = ap (λ (is : List Item). (t, is)) is.quiet in
-        let whole : run b rules s place (reached.place - place) ≡ (step b rules (place + m) t, items_at b rules (place + m) t) =
-        ap (λ (n : ℕ). run b rules s place n) (sym bits) ∙ run-append laws b rules s place m 1
-        ∙ ap (λ (r : State × List Item). ((run b rules r.0 (place + m) 1).0, r.1 ++ (run b rules r.0 (place + m) 1).1)) quiet ∙ laws.one_bit b rules t (place + m) in
-        let given : items_in reached.items ≡ items_at b rules (place + m) t = is.items ∙ ap (λ (r : State × List Item). r.1) whole in
+        let whole = rw bits at (run-last laws s t place m quiet) in
         let state : reached.state ≡ step b rules (place + m) t = is.state ∙ ap (λ (r : State × List Item). r.0) whole in
-        ap (λ (n : ℕ). marks_on b rules s place before n) (sym rest)
-        ∙ marks_on-next s t place before m (to - reached.place) quiet (λ none. some (given ∙ none))
-        ∙ ap (λ (p : ℕ). mark_at b rules (step b rules (place + m) t) p (before + length (items_at b rules (place + m) t)) ∷ marks_on b rules (step b rules (place + m) t) p (before + length (items_at b rules (place + m) t)) (to - reached.place)) last
-        ∙ ap₂ (λ (u : State) (is : List Item). mark_at b rules u reached.place (before + length is) ∷ marks_on b rules u reached.place (before + length is) (to - reached.place)) (sym state) (sym given)
+        let items : items_in reached.items ≡ items_at b rules (place + m) t = is.items ∙ ap (λ (r : State × List Item). r.1) whole in
+        let all = marks_on-came s t reached.state place before m (to - reached.place) reached.place (items_in reached.items) quiet last state items some in
+        rw rest at all
 
     -- over one that gives none, up to the end
     pub marks_on-none : items_in reached.items ≡ [] → reached.place ≡ to → marks_on b rules s place before (to - place) ≡ []
