@@ -86,8 +86,9 @@ fn with_last<W: Work>(
     if below.len() % 2 == 0 {
         return Ok(above);
     }
-    if let Some(last) = below.pop() {
-        above.push(last)?;
-    }
+    let Some(last) = below.pop() else {
+        unreachable!()
+    };
+    above.push(last)?;
     Ok(above)
 }

@@ -9,5 +9,6 @@ mod RowLemmas
 mod HopFacts
 mod Apart
 mod Paid
+mod MarkLemmas
 mod GoneRuns
 mod Walks

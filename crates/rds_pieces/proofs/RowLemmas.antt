@@ -20,7 +20,8 @@ module _ (b : Signal) (rules : RuleNumbers) where
       let last : j ≡ length places - 1 = omega arith in
       ap (λ (k : ℕ). get_or places k 0) last ∙ cutting.ends
   follow_from places cutting (suc m) j e =
-      (refl, (piece_inside (length_of b) places cutting j (omega arith)).0, follow_from places cutting m (j + 1) (omega arith))
+      let piece = (piece_inside (length_of b) places cutting j (omega arith)).0 in
+      (refl, omega (arith, piece), follow_from places cutting m (j + 1) (omega arith))
 
 pub pieces_in_a_row : PiecesFollow
 pieces_in_a_row b rules places cutting =

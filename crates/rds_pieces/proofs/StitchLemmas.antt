@@ -1,23 +1,21 @@
 -- A run that is carried over runs that follow each other, from place 0 to the recording's end.
-use Rattle.std.proofs.Common.{◌≡◌, ℕ, ◌+◌, ◌-◌, ◌*◌, ◌<◌, ◌≤◌, ◌^◌, List, [], ◌∷◌, ◌++◌, length, get_or, drop, Option, Some, None, refl, sym, ap, ap₂, ◌∙◌, subst, arith}
+use Rattle.std.proofs.Common.{◌≡◌, ◌≢◌, ℕ, ◌+◌, ◌-◌, ◌*◌, ◌<◌, ◌≤◌, ◌^◌, List, [], ◌∷◌, ◌++◌, length, get_or, drop, Option, Some, None, refl, sym, ap, ap₂, ◌∙◌, subst, arith, append-nil}
 use Rattle.std.proofs.lemmas.Nat.{mul-le}
 use Rattle.std.proofs.lemmas.List.{drop_more, drop_all, nil_from_length}
 use Rattle.rds_stream.specs.Recording.{Signal, length_of}
 use Rattle.rds_sync.specs.declared.state.State.{State}
-use Rattle.rds_sync.specs.declared.state.State.TheVariants.{Searching}
-use Rattle.rds_sync.specs.declared.item.Group.{Group}
+use Rattle.rds_sync.specs.declared.state.State.TheVariants.{Searching, Locked}
 use Rattle.rds_sync.specs.declared.item.Item.{Item}
 use Rattle.rds_sync.specs.declared.totals.Totals.{Totals}
 use Rattle.rds_sync.specs.Counting.{IsAtMost, FitTogether}
 use Rattle.rds_sync.specs.Totals.{totals_of}
 use Rattle.rds_sync.specs.Rules.{RuleNumbers}
 use Rattle.rds_sync.specs.Ranges.{IsInRange}
-use Rattle.rds_sync.specs.Lawful.{IsLawful}
-use Rattle.rds_sync.specs.Advance.{group_item}
+use Rattle.rds_sync.specs.Lawful.{IsLawful, IsBetweenGroups}
 use Rattle.rds_sync.specs.Report.{report_items}
 use Rattle.rds_sync.specs.Loss.{IsLoss}
 use Rattle.rds_sync.specs.Step.{run, items_of_end}
-use Rattle.rds_pieces.specs.Meeting.{IsMeeting, distance}
+use Rattle.rds_pieces.specs.Meeting.{IsMeeting, MeetAt, distance}
 use Rattle.rds_pieces.specs.RunOf.{RunOf, FollowEachOther}
 use Rattle.rds_pieces.specs.Inside.RunLaws.{RunLaws}
 use Rattle.rds_pieces.specs.Seams.{seam_reads, IsSumOfReads}
@@ -34,12 +32,30 @@ distance_inside b rules s t from to None h = omega arith
 distance_inside b rules s t from to (Some p) h = let i = h.here.inside in omega (arith, i)
 
 -- so a seam over some place reads at most 20 windows a place
-few_reads : (b : Signal) (rules : RuleNumbers) (s : State) (from to : ℕ) (met : Option ℕ) → rules.reach ≤ 8 → from < to → IsMeeting b rules s Searching from to met
+pub few_reads : (b : Signal) (rules : RuleNumbers) (s : State) (from to : ℕ) (met : Option ℕ) → rules.reach ≤ 8 → from < to → IsMeeting b rules s Searching from to met
     → seam_reads rules from to met ≤ 20 * (to - from)
 few_reads b rules s from to met reach some h =
     let d = distance_inside b rules s Searching from to met h in
     let most = mul-le (rules.reach + 2) (distance from to met + 1) 10 (to - from + 1) (omega arith) (omega (arith, d)) in
     omega (arith, most)
+
+-- over no place a run and the guess meet if the run searches
+pub meeting_at_once : (b : Signal) (rules : RuleNumbers) (s : State) (from to : ℕ) → from ≡ to → (met : Option ℕ) × IsMeeting b rules s Searching from to met
+meeting_at_once b rules Searching from to e =
+    let none : from - from ≡ 0 = omega arith in
+    let here : MeetAt b rules Searching Searching from to from = record {
+      inside = (omega arith, omega (arith, e));
+      same = refl;
+      between = subst (λ (n : ℕ). IsBetweenGroups (run b rules Searching from n).0) (sym none) tt;
+    } in
+    (Some from, record { here = here; least = λ q below there. omega (arith, below, there.inside) })
+meeting_at_once b rules (Locked lock) from to e = (
+  None,
+  λ q there.
+      let none : q - from ≡ 0 = omega (arith, e, there.inside) in
+      let same : Locked lock ≡ Searching = subst (λ (n : ℕ). (run b rules (Locked lock) from n).0 ≡ (run b rules Searching from n).0) none there.same in
+      absurd (cc same),
+)
 
 module _ (b : Signal) (rules : RuleNumbers) (runs : List RunOf) where
   -- what was done once the state was carried over the first k runs
@@ -51,7 +67,7 @@ module _ (b : Signal) (rules : RuleNumbers) (runs : List RunOf) where
     pub items_are : items ≡ (run b rules Searching 0 (place - 0)).1
     pub lawful : IsLawful rules place state
     pub reads_most : reads ≤ base + sum
-    pub few : sum ≤ 20 * place
+    pub few : reads ≤ base + 20 * place
     pub sums : (n : ℕ) → IsSumOfReads b rules state (drop k runs) n → IsSumOfReads b rules Searching runs (sum + n)
     -- of what all seams may read, as much is left as those of the runs to come may
     pub left_to_read : (n : ℕ) → IsSumOfReads b rules Searching runs n → (m : ℕ) × IsSumOfReads b rules state (drop k runs) m × (reads + m ≤ base + n)
@@ -123,19 +139,27 @@ module _ (b : Signal) (rules : RuleNumbers) (runs : List RunOf) where
         let most = all.2 in
         (next.1, next.3, omega (arith, read, parts, most))
 
+    -- what some places may read, a meeting among them
+    pub seam_few : IsInRange rules → r.from ≢ r.to → (reads2 : ℕ) (met : Option ℕ) → IsMeeting b rules state Searching r.from r.to met
+        → reads2 ≤ reads + seam_reads rules r.from r.to met → reads2 ≤ reads + 20 * (r.to - r.from)
+    seam_few range some reads2 met meeting read =
+        let n = next_follows.1 in
+        let f = from_is in
+        let most = few_reads b rules state r.from r.to met range.reach (omega (arith, n, f, some)) meeting in
+        omega (arith, most, read)
+
     pub seam_within : (reads2 : ℕ) → ((met : Option ℕ) → IsMeeting b rules state Searching r.from r.to met → reads2 ≤ reads + seam_reads rules r.from r.to met)
         → (n : ℕ) → IsSumOfReads b rules Searching runs n → reads2 ≤ base + n
     seam_within reads2 way n h = let most = (seam_paid reads2 way n h).2 in omega (arith, most)
 
     pub stitched_on : RunLaws → IsInRange rules → (after : State) (items2 : List Item) (reads2 : ℕ) (met : Option ℕ)
         → after ≡ (run b rules state r.from (r.to - r.from)).0 → items2 ≡ items ++ (run b rules state r.from (r.to - r.from)).1
-        → IsMeeting b rules state Searching r.from r.to met → reads2 ≤ reads + seam_reads rules r.from r.to met
+        → IsMeeting b rules state Searching r.from r.to met → reads2 ≤ reads + seam_reads rules r.from r.to met → reads2 ≤ reads + 20 * (r.to - r.from)
         → ((met : Option ℕ) → IsMeeting b rules state Searching r.from r.to met → reads2 ≤ reads + seam_reads rules r.from r.to met) → IsStitched base (k + 1) after items2 reads2
-    stitched_on laws range after items2 reads2 met after_is items2_are meeting read way =
+    stitched_on laws range after items2 reads2 met after_is items2_are meeting read few way =
         let n = next_follows.1 in
         let f = from_is in
         let whole = laws.join b rules Searching 0 done.place r.to (omega arith) (omega (arith, n, f)) in
-        let most = few_reads b rules state r.from r.to met range.reach (omega (arith, n, f)) meeting in
         let state_on : after ≡ (run b rules Searching 0 (r.to - 0)).0 =
         after_is ∙ ap₂ (λ (s : State) (p : ℕ). (run b rules s p (r.to - p)).0) done.state_is f ∙ sym (ap (λ (x : State × List Item). x.0) whole) in
         record {
@@ -147,7 +171,7 @@ module _ (b : Signal) (rules : RuleNumbers) (runs : List RunOf) where
               ∙ sym (ap (λ (x : State × List Item). x.1) whole);
           lawful = subst (λ (s : State). IsLawful rules r.to s) (sym after_is) (laws.lawful_runs b rules range.some_loss state r.from r.to (omega (arith, n, f)) lawful_here);
           reads_most = let m = done.reads_most in omega (arith, m, read);
-          few = let l = done.few in omega (arith, l, most, n, f);
+          few = let l = done.few in omega (arith, l, few, n, f);
           sums = λ m h.
               let total : done.sum + (seam_reads rules r.from r.to met + m) ≡ done.sum + seam_reads rules r.from r.to met + m = omega arith in
               let rest = subst (λ (s : State). IsSumOfReads b rules s (drop (k + 1) runs) m) after_is h in
@@ -158,6 +182,14 @@ module _ (b : Signal) (rules : RuleNumbers) (runs : List RunOf) where
               let rest = seam_paid reads2 way n h in
               (rest.0, subst (λ (s : State). IsSumOfReads b rules s (drop (k + 1) runs) rest.0) (sym after_is) rest.1, rest.2);
         }
+
+    -- a run over no place is passed over
+    pub stitched_past : RunLaws → IsInRange rules → r.from ≡ r.to → IsStitched base (k + 1) state items reads
+    stitched_past laws range none =
+        let no_bits : 0 ≡ r.to - r.from = omega (arith, none) in
+        let meeting = meeting_at_once b rules state r.from r.to none in
+        stitched_on laws range state items reads meeting.0 (ap (λ (n : ℕ). (run b rules state r.from n).0) no_bits)
+        (sym (append-nil items) ∙ ap (λ (n : ℕ). items ++ (run b rules state r.from n).1) no_bits) meeting.1 (omega arith) (omega arith) (λ met first. omega arith)
 
   -- once it was carried over all
   module _ (base k : ℕ) (state : State) (items : List Item) (reads : ℕ) (done : IsStitched base k state items reads) (all : length runs ≤ k) where
@@ -201,6 +233,5 @@ module _ (b : Signal) (rules : RuleNumbers) (runs : List RunOf) where
   pub stitched_few : (base k : ℕ) (state : State) (items : List Item) (reads : ℕ) → IsStitched base k state items reads → length_of b ≤ 2 ^ 36 → base ≤ 2 ^ 61 → reads ≤ 2 ^ 62
   stitched_few base k state items reads done bits room =
       let t = follow_inside b rules done.place (length_of b) (drop k runs) done.follow in
-      let m = done.reads_most in
       let l = done.few in
-      omega (arith, t, m, l)
+      omega (arith, t, l)

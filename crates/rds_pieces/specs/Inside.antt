@@ -1,4 +1,5 @@
 -- What the bodies of this crate cite, and no contract of a public function.
 pub mod Beside
+pub mod MarkInside
 pub mod RunInside
 pub mod RunLaws

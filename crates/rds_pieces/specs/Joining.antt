@@ -1,5 +1,5 @@
--- What is asked of two runs that are joined, and what their join costs. `join_runs` and `joint_of` cite both, and callers rely
--- on the fields as on clauses; `Work::join` cites the first.
+-- What is asked of two runs that are joined, and what their join costs. `join_runs` cites both, and callers rely on the fields as on
+-- clauses; `Work::join` cites the first.
 use Rattle.std.specs.Prelude.{◌≡◌, ℕ, ◌+◌, ◌-◌, ◌*◌, ◌≤◌, IsOkUnless, OnOk, Option, Result}
 use Rattle.rds_stream.specs.Recording.{Signal}
 use Rattle.rds_sync.specs.declared.state.State.TheVariants.{Searching}

@@ -1,5 +1,6 @@
 pub mod Cutting
 pub mod Guess
+pub mod Marks
 pub mod RunOf
 pub mod Meeting
 pub mod Seams

@@ -1,5 +1,5 @@
--- Where two runs meet: this project's rule. `seam` answers the place, and `join_runs` and `joint_of` bound by it what they
--- read.
+-- Where two runs meet: this project's rule. `seam` answers the place, and bounds by it what it reads; so does
+-- `join_runs`.
 use Rattle.std.specs.Prelude.{◌≡◌, ℕ, ◌-◌, ◌<◌, ◌≤◌, Option, Some, None, MatchOption}
 use Rattle.rds_stream.specs.Recording.{Signal}
 use Rattle.rds_sync.specs.declared.state.State.{State}

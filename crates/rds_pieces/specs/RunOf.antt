@@ -1,6 +1,6 @@
--- What contracts see of the run of a piece, and which runs follow each other. `speculate`, `join_runs`,
--- `PieceRun::joined` and `stitch` cite it, and `Work`, by which a crew calls them.
-use Rattle.std.specs.Prelude.{◌≡◌, ℕ, ◌+◌, ◌-◌, ◌<◌, List, [], ◌∷◌, map, slice_index}
+-- What contracts see of the run of a piece, and which runs follow each other. `speculate`, `join_runs` and
+-- `stitch` cite it, and `Work`, by which a crew calls them.
+use Rattle.std.specs.Prelude.{◌≡◌, ℕ, ◌+◌, ◌-◌, ◌≤◌, List, [], ◌∷◌, map, slice_index}
 use Rattle.std.specs.List.{range_with_len}
 use Rattle.rds_stream.specs.Recording.{Signal}
 use Rattle.rds_sync.specs.declared.state.State.{State}
@@ -36,7 +36,7 @@ module _ (b : Signal) (rules : RuleNumbers) where
   abbrev pub runs_of : List ℕ → List RunOf
   runs_of places = map (run_at places) (range_with_len 0 (pieces_of places))
 
-  -- the runs follow each other from `from` to `to`, and none of them is empty
+  -- the runs follow each other from `from` to `to`; a run may be empty
   abbrev pub FollowEachOther : ℕ → ℕ → List RunOf → Type 0
   FollowEachOther from to [] = from ≡ to
-  FollowEachOther from to (r ∷ rs) = (r ≡ run_over from r.to) × (from < r.to) × FollowEachOther r.to to rs
+  FollowEachOther from to (r ∷ rs) = (r ≡ run_over from r.to) × (from ≤ r.to) × FollowEachOther r.to to rs

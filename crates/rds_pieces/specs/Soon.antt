@@ -1,4 +1,4 @@
--- How soon a run meets the guess of a piece: this project's rule. `seam`, `join_runs` and `joint_of` promise it.
+-- How soon a run meets the guess of a piece: this project's rule. `seam` and `join_runs` promise it.
 use Rattle.std.specs.Prelude.{◌≡◌, ℕ, ◌+◌, ◌≤◌, Option, Some}
 use Rattle.rds_stream.specs.Recording.{Signal}
 use Rattle.rds_sync.specs.declared.state.State.{State}

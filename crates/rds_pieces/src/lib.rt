@@ -34,6 +34,8 @@
 //! - [`Cutting`]: the places at which a recording is cut.
 //! - [`speculate`]: the guess of a piece, a [`PieceRun`]: the run over it from Searching. It keeps the totals, the end
 //!   state and the spans of its items, which are decoded where recording and rules are lent again.
+//! - [`Marks`]: where another run may meet a guess, a [`Mark`] each: its first place, and the place after each bit that
+//!   gave an item.
 //! - [`seam`]: carries the true state over a piece, side by side with the guess, until they are in one state with no
 //!   group in progress; from there on the items are the guess's, and nothing more is read. It answers a [`Seam`].
 //! - [`join_runs`]: does so with the end state of the run of the range before, and makes of both runs the guess of both
@@ -45,11 +47,12 @@
 //!
 //! # What callers may rely on
 //!
-//! - A [`PieceRun`] is the guess of its range for the recording and the rules that it names, a joined one too. It borrows nothing and holds nothing of the recording.
+//! - A [`PieceRun`] is the guess of its range for the recording and the rules that it names, a joined one too. It
+//!   borrows nothing and holds nothing of the recording.
 //! - A seam gives the items, their totals and the end state of the run from the state handed in, and says where the two
 //!   met or that they never did. It reads at most (reach + 2)(d + 1) windows, where d is the number of bits up to the
 //!   meeting, or to the piece's end where there is none; a join reads no more than the seam in it.
-//! - The stitched report is that of whole locks, items and totals.
+//! - The stitched report is that of whole locks, items and totals. Runs that are stitched or joined may be empty.
 //! - A guess is met by the end of any sound range in its piece; on other recordings nothing is promised. A guess that
 //!   locks at a false phase may never be met, and then a seam or a join reads its whole piece.
 //! - A run takes memory for the spans of its items, one in some hundred items. A seam and a join copy those that they
@@ -65,6 +68,8 @@
 mod cutting; // Where a recording is cut.
 mod run; // The guess of a range of places, and how a piece is guessed.
 mod beside; // A run and its guess, side by side.
+mod mark; // Where another run may meet one.
+mod marks; // All such places of a guess.
 mod seams; // What a piece gives from the state before it.
 mod seaming; // That state carried over the piece.
 mod joining; // Two neighbours joined.
@@ -76,6 +81,8 @@ mod error; // Why a call refuses.
 pub use cutting::Cutting;
 pub use error::PieceError;
 pub use joining::join_runs;
+pub use mark::Mark;
+pub use marks::Marks;
 pub use run::{PieceRun, speculate};
 pub use seaming::seam;
 pub use seams::Seam;

@@ -6,6 +6,7 @@ ghost use Rattle.rds_sync.specs.Ranges.{IsInRange};
 ghost use Rattle.rds_sync.specs.Totals.{totals_of};
 ghost use Rattle.rds_pieces.specs.Cutting.{IsCutting, pieces_of};
 ghost use Rattle.rds_pieces.specs.Guess.{guess};
+ghost use Rattle.rds_pieces.specs.Marks.{marks_of};
 ghost use Rattle.rds_pieces.specs.RunOf.{run_at, run_over};
 ghost use Rattle.rds_pieces.specs.Inside.RunInside.{IsKept};
 ghost use Rattle.rds_pieces.specs.declared.error.PieceError.TheVariants.{OutOfMemory};
@@ -13,6 +14,7 @@ ghost use Rattle.rds_pieces.specs.declared.error.PieceError.TheVariants.{OutOfMe
 use crate::cutting::Cutting;
 use crate::error::PieceError;
 use crate::laws::run_laws;
+use crate::marks::Marks;
 use rds_stream::Recording;
 use rds_sync::{ItemIter, Items, Report, Rules, Spans, State, Totals, run_report};
 use std::alloc::Global;
@@ -94,6 +96,17 @@ impl PieceRun {
         ensures { result ≡ (guess self.now.source self.now.rules self.now.from (self.now.to - self.now.from)).1 }
     {
         self.report.items.iter(rec, rules)
+    }
+
+    /// The marks: the piece's first place, and the place after each bit that gave an item, with the state there. There
+    /// another run may meet it. They are decoded one by one.
+    pub fn marks<'a>(&self, rec: &'a Recording, rules: &'a Rules) -> Marks<'a>
+        requires source { self.now.source ≡ rec.now }
+        requires rules { self.now.rules ≡ rules.now }
+        ensures { result
+            ≡ marks_of self.now.source self.now.rules State.Searching self.now.from (self.now.to - self.now.from) }
+    {
+        Marks::over(rec, rules, self.from, self.to)
     }
 
     /// The list of these items.

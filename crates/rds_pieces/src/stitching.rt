@@ -23,7 +23,7 @@ use std::alloc::Global;
 
 /// The report of the tape's recording: carries the state over the runs in order, from Searching at its first bit, and
 /// ends with the group in progress at its end. The runs follow each other from place 0 to the recording's end, one a
-/// piece or more of them joined; there is none where the recording is empty.
+/// piece or more of them joined. A run may be empty, and it is passed over; where the recording is empty there need be none.
 ///
 /// Fails with `OutOfMemory` alone.
 ///
@@ -94,6 +94,9 @@ fn carry_over_all<T: Tape>(
     };
     let mut state = State::Searching;
     for run in runs {
+        if run.from() == run.to() {
+            continue;
+        }
         state = carry_over(alloc, tape, rules, state, run, &mut report)?;
     }
     Ok((state, report))

@@ -1,12 +1,13 @@
--- The zero group twice, cut between the two: the guesses of both pieces, and the guess of both ranges.
-use Rattle.std.specs.Prelude.{◌≡◌, ◌++◌, length, refl}
+-- The zero group twice, cut between the two: the guesses of both pieces with their marks, and the guess of both ranges.
+use Rattle.std.specs.Prelude.{◌≡◌, [], ◌∷◌, ◌++◌, length, refl}
 use Rattle.rds_code.specs.Remainder.{rem}
 use Rattle.rds_stream.specs.Recording.{Signal, bits_of, ungapped, window, touched, heard, off}
-use Rattle.rds_sync.specs.declared.state.State.TheVariants.{Locked}
+use Rattle.rds_sync.specs.declared.state.State.TheVariants.{Searching, Locked}
 use Rattle.rds_sync.specs.Acquiring.{acquired, has_number}
 use Rattle.rds_sync.specs.Groups.{group}
 use Rattle.rds_sync.specs.Examples.Words.{zero_group, default_rules}
 use Rattle.rds_pieces.specs.Guess.{guess}
+use Rattle.rds_pieces.specs.Marks.{marks_of}
 use Rattle.rds_sync.specs.Step.{lock_of}
 
 abbrev pub b : Signal
@@ -38,3 +39,29 @@ end_of_both = refl
 pub items_of_both : length (guess b default_rules 0 208).1 ≡ 3
 unfolding acquired has_number group rem window touched heard off
 items_of_both = refl
+
+pub marks_of_the_first : marks_of b default_rules Searching 0 104 ≡
+    record { place = 0; state = Searching; items = 0 }
+    ∷ record { place = 52; state = Locked (lock_of 77 3 0 2); items = 1 }
+    ∷ record { place = 104; state = Locked (lock_of 129 1 0 1); items = 2 }
+    ∷ []
+unfolding acquired has_number group rem window touched heard off
+marks_of_the_first = refl
+
+pub marks_of_the_second : marks_of b default_rules Searching 104 104 ≡
+    record { place = 104; state = Searching; items = 0 }
+    ∷ record { place = 130; state = Locked (lock_of 155 2 0 1); items = 1 }
+    ∷ record { place = 208; state = Locked (lock_of 233 1 0 1); items = 2 }
+    ∷ []
+unfolding acquired has_number group rem window touched heard off
+marks_of_the_second = refl
+
+-- joined, the mark at the cut is that of the item before it, and the last one counts the items of both pieces
+pub marks_of_both : marks_of b default_rules Searching 0 208 ≡
+    record { place = 0; state = Searching; items = 0 }
+    ∷ record { place = 52; state = Locked (lock_of 77 3 0 2); items = 1 }
+    ∷ record { place = 104; state = Locked (lock_of 129 1 0 1); items = 2 }
+    ∷ record { place = 208; state = Locked (lock_of 233 1 0 1); items = 3 }
+    ∷ []
+unfolding acquired has_number group rem window touched heard off
+marks_of_both = refl

@@ -1,6 +1,6 @@
 -- The zero group three times, cut after the first: what a join takes of both guesses.
 use Rattle.std.specs.Prelude.{◌≡◌, ◌==◌, ◌++◌, List, drop, length, refl}
-use Rattle.std.proofs.Common.{ap, sym}
+use Rattle.std.proofs.Common.{ap}
 use Rattle.std.proofs.lemmas.Bool.{false≢true, leb-true}
 use Rattle.rds_code.specs.Remainder.{rem}
 use Rattle.rds_stream.specs.Recording.{Signal, bits_of, ungapped, window, touched, heard, off}

@@ -1,4 +1,4 @@
-use Rattle.std.proofs.Common.{◌-◌, sym, subst, arith}
+use Rattle.std.proofs.Common.{sym, subst, arith}
 use Rattle.rds_sync.specs.Decoding.{ItemsOf}
 use Rattle.rds_pieces.specs.Inside.RunInside.{IsKept}
 use Rattle.rds_pieces.specs.RunOf.{run_over}

@@ -1,4 +1,4 @@
-use Rattle.std.proofs.Common.{◌≡◌, ◌≤◌, ◌+◌, ◌-◌, ◌*◌, ℕ, Option, sym, ap, ◌∙◌, subst}
+use Rattle.std.proofs.Common.{◌≡◌, ◌≤◌, ◌+◌, ◌-◌, ◌*◌, ℕ, Option, sym, subst}
 use Rattle.rds_stream.specs.Recording.{Signal, length_of}
 use Rattle.rds_sync.specs.declared.state.State.{State}
 use Rattle.rds_sync.specs.declared.state.State.TheVariants.{Searching}
@@ -7,12 +7,11 @@ use Rattle.rds_sync.specs.Lawful.{IsLawful}
 use Rattle.rds_sync.specs.Ranges.{IsInRange}
 use Rattle.rds_sync.specs.Rules.{RuleNumbers}
 use Rattle.rds_sync.specs.Step.{run}
-use Rattle.rds_sync.specs.Tally.{TallyOf, tally_at, gone_on}
+use Rattle.rds_sync.specs.Tally.{tally_at, gone_on}
 use Rattle.rds_sync.specs.Totals.{totals_of}
 use Rattle.rds_pieces.specs.Inside.Beside.{come_to}
 use Rattle.rds_pieces.specs.Meeting.{IsMeeting}
 use Rattle.rds_pieces.specs.Seams.{seam_reads}
-use Rattle.rds_pieces.specs.Soon.{IsSoonMet}
 use Rattle.rds_pieces.proofs.RunFacts.{renamed, ranged}
 use Rattle.rds_pieces.proofs.SoonLemmas.{soon_met}
 use Rattle.rds_pieces.proofs.seaming.seam.Goals as goal

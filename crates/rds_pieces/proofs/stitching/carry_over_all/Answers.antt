@@ -1,4 +1,4 @@
-use Rattle.std.proofs.Common.{◌≡◌, List, ◌++◌, ◌-◌, length, refl, sym, ap, ap₂, ◌∙◌, subst, arith}
+use Rattle.std.proofs.Common.{◌≡◌, ◌≢◌, List, ◌++◌, ◌-◌, length, refl, sym, ap, ap₂, ◌∙◌, subst, arith}
 use Rattle.rds_stream.specs.Recording.{Signal}
 use Rattle.rds_sync.specs.declared.state.State.TheVariants.{Searching}
 use Rattle.rds_sync.specs.declared.item.Item.{Item}
@@ -8,7 +8,7 @@ use Rattle.rds_sync.specs.Decoding.{ItemsOf, listed}
 use Rattle.rds_sync.specs.Totals.{totals_of}
 use Rattle.rds_sync.specs.Step.{run}
 use Rattle.rds_pieces.specs.Meeting.{IsMeeting}
-use Rattle.rds_pieces.proofs.StitchLemmas.{stitched_start, source_is, rules_are, lawful_here, fits_next, stitched_on, stitched_few, seam_within, read_at_end, sum_at_end, whole_at_end, small_at_end, lawful_at_end}
+use Rattle.rds_pieces.proofs.StitchLemmas.{stitched_start, source_is, rules_are, lawful_here, fits_next, stitched_on, stitched_past, seam_few, stitched_few, seam_within, read_at_end, sum_at_end, whole_at_end, small_at_end, lawful_at_end}
 use Rattle.rds_pieces.proofs.stitching.carry_over_all.Goals as goal
 
 pub loop-run-init : goal.loop-run-init
@@ -68,14 +68,19 @@ loop-run-preserved g c =
     let step = c.in_ok-state.ensures in
     let given = (run (g.T.Tape.signal c.loop-run.tape) rules here r.from (r.to - r.from)).1 in
     let more : c.carry_over.new.report.items.list ≡ first ++ given = ap (λ (x : ItemsOf). x.list) step.items in
+    let meeting = subst (λ (x : Signal). IsMeeting x rules here Searching r.from r.to step.reads.0) same step.reads.1 in
+    let some : r.from ≢ r.to = λ same. omega (arith, same, c.if-from-to.false, c.from.ensures.value, c.to.ensures) in
     record {
       stitched = stitched_on (g.T.Tape.signal c.args.tape.now) c.args.rules.now c.args.runs.now (g.T.Tape.reads_made c.args.tape.now) c.loop-run.run-index c.loop-run.state c.loop-run.report.items.list
           (g.T.Tape.reads_made c.loop-run.tape) c.loop-run.invariant.stitched c.run-item.result c.run-item.result c.loop-run-test.true c.run-item.is c.run_laws.ensures c.reach-reach.ensures.range
           c.in_ok-state.state c.carry_over.new.report.items.list (g.T.Tape.reads_made c.carry_over.new.tape) step.reads.0
           (step.end ∙ ap (λ (x : Signal). (run x rules here r.from (r.to - r.from)).0) same)
           (more ∙ ap (λ (x : Signal). first ++ (run x rules here r.from (r.to - r.from)).1) same)
-          (subst (λ (x : Signal). IsMeeting x rules here Searching r.from r.to step.reads.0) same step.reads.1)
+          meeting
           step.reads.2
+          (seam_few (g.T.Tape.signal c.args.tape.now) c.args.rules.now c.args.runs.now (g.T.Tape.reads_made c.args.tape.now) c.loop-run.run-index c.loop-run.state c.loop-run.report.items.list
+          (g.T.Tape.reads_made c.loop-run.tape) c.loop-run.invariant.stitched c.run-item.result c.run-item.result c.loop-run-test.true c.run-item.is c.reach-reach.ensures.range some
+          (g.T.Tape.reads_made c.carry_over.new.tape) step.reads.0 meeting step.reads.2)
           (λ met first. c.carry_over.ensures.reads_way met (subst (λ (x : Signal). IsMeeting x rules here Searching r.from r.to met) (sym same) first));
       counted = step.totals
           ∙ ap (λ (t : Totals). plus t (totals_of given)) c.loop-run.invariant.counted
@@ -83,6 +88,16 @@ loop-run-preserved g c =
       named = step.items ∙ ap₂ (λ (x : Signal) (is : List Item). listed x rules is) same (sym more);
       same = c.carry_over.ensures.same ∙ same;
     }
+
+pub loop-run-preserved-then-from-to : goal.loop-run-preserved-then-from-to
+loop-run-preserved-then-from-to g c = record {
+  stitched = stitched_past (g.T.Tape.signal c.args.tape.now) c.args.rules.now c.args.runs.now (g.T.Tape.reads_made c.args.tape.now) c.loop-run.run-index c.loop-run.state c.loop-run.report.items.list
+      (g.T.Tape.reads_made c.loop-run.tape) c.loop-run.invariant.stitched c.run-item.result c.run-item.result c.loop-run-test.true c.run-item.is c.run_laws.ensures c.reach-reach.ensures.range
+      (omega (arith, c.if-from-to.true, c.from.ensures.value, c.to.ensures));
+  counted = c.loop-run.invariant.counted;
+  named = c.loop-run.invariant.named;
+  same = c.loop-run.invariant.same;
+}
 
 pub returns-clause-reads : goal.returns-clause-reads
 returns-clause-reads g c =

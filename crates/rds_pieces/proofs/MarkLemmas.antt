@@ -1,0 +1,105 @@
+-- Where the next mark of a run is: after the next stretch that gives an item.
+use Rattle.std.proofs.Common.{◌≡◌, ◌≢◌, ℕ, zero, suc, ◌+◌, ◌-◌, List, [], ◌∷◌, ◌++◌, length, refl, sym, ap, ap₂, ◌∙◌, arith, append_assoc, length-append}
+use Rattle.rds_stream.specs.Recording.{Signal}
+use Rattle.rds_sync.specs.declared.item.Item.{Item}
+use Rattle.rds_pieces.specs.declared.mark.Mark.{Mark}
+use Rattle.rds_sync.specs.declared.state.State.{State}
+use Rattle.rds_sync.specs.declared.step.Step.{Step}
+use Rattle.rds_sync.specs.Advance.{items_in}
+use Rattle.rds_sync.specs.Rules.{RuleNumbers}
+use Rattle.rds_sync.specs.Step.{run, step, items_at}
+use Rattle.rds_sync.specs.Stretch.{IsStretch}
+use Rattle.rds_pieces.specs.Inside.RunLaws.{RunLaws}
+use Rattle.rds_pieces.specs.Marks.{mark_where, mark_at, marks_on}
+use Rattle.rds_pieces.proofs.RunFacts.{none_first, none_rest, run-append}
+
+-- a mark stands where items were given
+mark_there : (given : List Item) (mark : Mark) → given ≢ [] → mark_where given mark ≡ mark ∷ []
+mark_there [] mark some = absurd (some refl)
+mark_there (item ∷ items) mark some = refl
+
+module _ (b : Signal) (rules : RuleNumbers) where
+  -- bits that give nothing have no mark
+  pub marks_on-quiet : (s : State) (a before bits : ℕ) → (run b rules s a bits).1 ≡ [] → marks_on b rules s a before bits ≡ []
+  marks_on-quiet s a before zero e = refl
+  marks_on-quiet s a before (suc bits) e =
+      let given : List Item = items_at b rules a s in
+      let here = none_first given _ e in
+      let there = none_rest given _ e in
+      let mark : Mark = mark_at b rules (step b rules a s) (a + 1) (before + length given) in
+      ap (λ (ms : List Mark). mark_where given mark ++ ms) (marks_on-quiet (step b rules a s) (a + 1) (before + length given) bits there)
+      ∙ ap (λ (is : List Item). mark_where is mark ++ []) here
+
+  -- the marks over some bits and then some more
+  pub marks_on-append : (s : State) (a c m n : ℕ)
+      → marks_on b rules s a c (m + n) ≡ marks_on b rules s a c m ++ marks_on b rules (run b rules s a m).0 (a + m) (c + length (run b rules s a m).1) n
+  marks_on-append s a c zero n =
+      let none : 0 + n ≡ n = omega arith in
+      let spot : a + 0 ≡ a = omega arith in
+      let count : c + 0 ≡ c = omega arith in
+      rw (none, spot, count) refl
+  marks_on-append s a c (suc m) n =
+      let all : suc m + n ≡ suc (m + n) = omega arith in
+      let spot : a + 1 + m ≡ a + suc m = omega arith in
+      let given : List Item = items_at b rules a s in
+      let after : Mark = mark_at b rules (step b rules a s) (a + 1) (c + length given) in
+      let rest : State × List Item = run b rules (step b rules a s) (a + 1) m in
+      let len = length-append given rest.1 in
+      let count : c + length given + length rest.1 ≡ c + length (given ++ rest.1) = omega (arith, len) in
+      rw all
+      (ap (λ (ms : List Mark). mark_where given after ++ ms) (marks_on-append (step b rules a s) (a + 1) (c + length given) m n)
+      ∙ sym (append_assoc (mark_where given after) (marks_on b rules (step b rules a s) (a + 1) (c + length given) m) _)
+      ∙ ap₂ (λ (p k : ℕ). (mark_where given after ++ marks_on b rules (step b rules a s) (a + 1) (c + length given) m) ++ marks_on b rules rest.0 p k n) spot count)
+
+  -- bits that give nothing, then one that does, and more bits
+  marks_on-next : (s t : State) (a c m n : ℕ) → run b rules s a m ≡ (t, []) → items_at b rules (a + m) t ≢ []
+      → let given : List Item = items_at b rules (a + m) t in
+      let next : State = step b rules (a + m) t in
+      marks_on b rules s a c (m + suc n) ≡ mark_at b rules next (a + m + 1) (c + length given) ∷ marks_on b rules next (a + m + 1) (c + length given) n
+  marks_on-next s t a c m n quiet some =
+      let given : List Item = items_at b rules (a + m) t in
+      let next : State = step b rules (a + m) t in
+      let count : c + 0 ≡ c = omega arith in
+      marks_on-append s a c m (suc n)
+      ∙ ap (λ (ms : List Mark). ms ++ marks_on b rules (run b rules s a m).0 (a + m) (c + length (run b rules s a m).1) (suc n)) (marks_on-quiet s a c m (ap (λ (r : State × List Item). r.1) quiet))
+      ∙ ap (λ (r : State × List Item). marks_on b rules r.0 (a + m) (c + length r.1) (suc n)) quiet
+      ∙ ap (λ (k : ℕ). marks_on b rules t (a + m) k (suc n)) count
+      ∙ ap (λ (ms : List Mark). ms ++ marks_on b rules next (a + m + 1) (c + length given) n) (mark_there given (mark_at b rules next (a + m + 1) (c + length given)) some)
+
+  -- the same, by other names of the last bit's place, state and items
+  marks_on-came : (s t u : State) (a c m n to : ℕ) (given : List Item) → run b rules s a m ≡ (t, []) → a + m + 1 ≡ to → u ≡ step b rules (a + m) t → given ≡ items_at b rules (a + m) t
+      → given ≢ [] → marks_on b rules s a c (m + suc n) ≡ mark_at b rules u to (c + length given) ∷ marks_on b rules u to (c + length given) n
+  marks_on-came s t u a c m n to given quiet last state items some =
+      rw (← last, state, items) (marks_on-next s t a c m n quiet (λ none. some (items ∙ none)))
+
+  -- after bits that give nothing, a run is that of its last bit
+  run-last : RunLaws → (s t : State) (a m : ℕ) → run b rules s a m ≡ (t, []) → run b rules s a (m + 1) ≡ (step b rules (a + m) t, items_at b rules (a + m) t)
+  run-last laws s t a m quiet =
+      run-append laws b rules s a m 1
+      ∙ ap (λ (r : State × List Item). ((run b rules r.0 (a + m) 1).0, r.1 ++ (run b rules r.0 (a + m) 1).1)) quiet
+      ∙ laws.one_bit b rules t (a + m)
+
+  module _ (laws : RunLaws) (s : State) (place to before : ℕ) (reached : Step) (is : IsStretch b rules s place to reached) where
+    -- over a stretch that gives items
+    pub marks_on-stretch : items_in reached.items ≢ []
+        → let count : ℕ = before + length (items_in reached.items) in
+        marks_on b rules s place before (to - place) ≡ mark_at b rules reached.state reached.place count ∷ marks_on b rules reached.state reached.place count (to - reached.place)
+    marks_on-stretch some =
+        let m : ℕ = reached.place - 1 - place in
+        let t : State = (run b rules s place m).0 in
+        let ahead = is.forward in
+        let inside = is.limit in
+        let bits : m + 1 ≡ reached.place - place = omega arith in
+        let last : place + m + 1 ≡ reached.place = omega arith in
+        let rest : m + suc (to - reached.place) ≡ to - place = omega arith in
+        let quiet : run b rules s place m ≡ (t, []) = ap (λ (is : List Item). (t, is)) is.quiet in
+        let whole = rw bits at (run-last laws s t place m quiet) in
+        let state : reached.state ≡ step b rules (place + m) t = is.state ∙ ap (λ (r : State × List Item). r.0) whole in
+        let items : items_in reached.items ≡ items_at b rules (place + m) t = is.items ∙ ap (λ (r : State × List Item). r.1) whole in
+        let all = marks_on-came s t reached.state place before m (to - reached.place) reached.place (items_in reached.items) quiet last state items some in
+        rw rest at all
+
+    -- over one that gives none, up to the end
+    pub marks_on-none : items_in reached.items ≡ [] → reached.place ≡ to → marks_on b rules s place before (to - place) ≡ []
+    marks_on-none none end =
+        marks_on-quiet s place before (to - place) (ap (λ (p : ℕ). (run b rules s place (p - place)).1) (sym end) ∙ sym is.items ∙ none)
