@@ -8,7 +8,7 @@ use Rattle.rds_sync.specs.Report.{report_items}
 use Rattle.rds_sync.specs.Rules.{RuleNumbers}
 use Rattle.rds_sync.specs.Totals.{totals_of}
 use Rattle.rds_sync.specs.declared.loss.Loss.{Loss}
-use Rattle.rds_sync.specs.declared.loss.Loss.TheVariants.{InARow, Share}
+use Rattle.rds_sync.specs.declared.loss.Loss.TheVariants.{Run, Share}
 use Rattle.rds_abi.specs.Layout.{item_in_c, totals_in_c}
 use Rattle.rds_abi.specs.Refusals.{number_of}
 use Rattle.rds_abi.specs.declared.layout.RdsGap.{RdsGap}
@@ -38,7 +38,7 @@ gaps_of gaps = map gap_of gaps
 
 -- a rule of loss: so many bad blocks in a row, or so many of the last `of`
 abbrev pub loss_of : RdsRules → Loss
-loss_of rules = if rules.of == 0 then InARow rules.loss else Share rules.loss rules.of
+loss_of rules = if rules.of == 0 then Run rules.loss else Share rules.loss rules.of
 
 abbrev pub rules_of : RdsRules → RuleNumbers
 rules_of rules = record { burst = rules.burst; reach = rules.reach; loss = loss_of rules }

@@ -17,7 +17,7 @@ fn loss_of(asked: RdsRules) -> Loss
     ensures { result ≡ the_loss_of asked }
 {
     if asked.of == 0 {
-        Loss::InARow(asked.loss)
+        Loss::Run(asked.loss)
     } else {
         Loss::Share {
             bad: asked.loss,

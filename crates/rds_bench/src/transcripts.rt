@@ -101,7 +101,7 @@ fn job_of(alloc: Global, workers: u32, loss: u32, listing: bool) -> Job {
     let settings = Settings {
         burst: 2,
         reach: 3,
-        loss: Loss::InARow(loss),
+        loss: Loss::Run(loss),
         workers,
         cuts: Cuts::Even(16),
     };

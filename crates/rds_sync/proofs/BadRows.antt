@@ -6,7 +6,7 @@ use Rattle.std.proofs.lemmas.Bool.{lt-leb}
 use Rattle.std.specs.Int.Count.{ones, ones_step}
 use Rattle.std.specs.Prelude.{count_ones, ⊤}
 use Rattle.rds_sync.specs.declared.loss.Loss.{Loss}
-use Rattle.rds_sync.specs.declared.loss.Loss.TheVariants.{InARow, Share}
+use Rattle.rds_sync.specs.declared.loss.Loss.TheVariants.{Run, Share}
 use Rattle.rds_sync.specs.Loss.{IsLoss, IsLawfulBad, bad_after, are_too_many}
 use Rattle.rds_sync.specs.Convergence.{sound_blocks}
 use Rattle.rds_sync.specs.Inside.Outcomes.{bad_over}
@@ -70,7 +70,7 @@ ones_fewer (suc v) m =
 
 -- a good block loses no lock
 pub good_keeps : (loss : Loss) (bad : ℕ) → IsLawfulBad loss bad → are_too_many loss (bad_after loss true bad) ≡ false
-good_keeps (InARow n) row h = lt-leb n 0 (omega (arith, h))
+good_keeps (Run n) row h = lt-leb n 0 (omega (arith, h))
 good_keeps (Share n v) m h =
     let shifted : count_ones (2 * m + 0) ≡ count_ones m + 0 = ones_below m 0 (omega arith) in
     let fewer = ones_fewer v (2 * m + 0) in
@@ -78,51 +78,51 @@ good_keeps (Share n v) m h =
 
 -- how many bad blocks lose a lock, and how many good ones leave nothing of the bad ones
 abbrev pub needed : Loss → ℕ
-needed (InARow n) = n
+needed (Run n) = n
 needed (Share n v) = n
 
 abbrev pub memory : Loss → ℕ
-memory (InARow n) = 1
+memory (Run n) = 1
 memory (Share n v) = v
 
 pub needed_is : (loss : Loss) (j : ℕ) → (j + 1) * needed loss + 6 ≤ sound_blocks loss j
-needed_is (InARow n) j = omega arith
+needed_is (Run n) j = omega arith
 needed_is (Share n v) j = omega arith
 
 pub memory_is : (loss : Loss) (j : ℕ) → IsLoss loss → memory loss + 6 ≤ sound_blocks loss j
-memory_is (InARow n) j h = let more : 1 * n ≤ (j + 1) * n = mul-le-mul_right n (omega arith) in omega (arith, more, h)
+memory_is (Run n) j h = let more : 1 * n ≤ (j + 1) * n = mul-le-mul_right n (omega arith) in omega (arith, more, h)
 memory_is (Share n v) j h = omega arith
 
 -- at least the last r blocks were bad
 abbrev pub HasRow : Loss → ℕ → ℕ → Type 0
-HasRow (InARow n) row r = r ≤ row
+HasRow (Run n) row r = r ≤ row
 HasRow (Share n v) m r = Lows 1 r m
 
 pub row_zero : (loss : Loss) (bad : ℕ) → HasRow loss bad 0
-row_zero (InARow n) row = omega arith
+row_zero (Run n) row = omega arith
 row_zero (Share n v) m = tt
 
 pub row_short : (loss : Loss) (bad r : ℕ) → IsLawfulBad loss bad → HasRow loss bad r → r < needed loss
-row_short (InARow n) row r h l = omega (arith, h, l)
+row_short (Run n) row r h l = omega (arith, h, l)
 row_short (Share n v) m r h l = omega (arith, h.1, lows_ones r m l)
 
 pub row_grows : (loss : Loss) (bad r : ℕ) → IsLoss loss → IsLawfulBad loss bad → HasRow loss bad r → HasRow loss (bad_after loss false bad) (suc r)
-row_grows (InARow n) row r some h l = omega (arith, l)
+row_grows (Run n) row r some h l = omega (arith, l)
 row_grows (Share n v) m r some h l =
     let short : r < n = row_short (Share n v) m r h l in
     lows_more 1 r v m (omega arith) (omega (arith, short, some.1)) l
 
 -- at least the last r blocks were good
 abbrev pub IsClean : Loss → ℕ → ℕ → Type 0
-IsClean (InARow n) row r = 1 ≤ r → row ≡ 0
+IsClean (Run n) row r = 1 ≤ r → row ≡ 0
 IsClean (Share n v) m r = (i : ℕ) → i ≤ r → i ≤ v → Lows 0 i m
 
 pub clean_zero : (loss : Loss) (bad : ℕ) → IsClean loss bad 0
-clean_zero (InARow n) row = λ h. absurd (omega arith)
+clean_zero (Run n) row = λ h. absurd (omega arith)
 clean_zero (Share n v) m = λ i l u. lows_start i m l
 
 pub clean_none : (loss : Loss) (r : ℕ) → IsClean loss 0 r
-clean_none (InARow n) r = λ h. refl
+clean_none (Run n) r = λ h. refl
 clean_none (Share n v) r = λ i l u. lows_zero i
 
 shift_clean : (v m r : ℕ) → ((i : ℕ) → i ≤ r → i ≤ v → Lows 0 i m) → (i : ℕ) → i ≤ suc r → i ≤ v → Lows 0 i ((2 * m + 0) % 2 ^ v)
@@ -130,15 +130,15 @@ shift_clean v m r clean zero l u = tt
 shift_clean v m r clean (suc i) l u = lows_more 0 i v m (omega arith) u (clean i (omega arith) (omega arith))
 
 pub clean_more : (loss : Loss) (bad r : ℕ) → IsClean loss bad r → IsClean loss (bad_after loss true bad) (suc r)
-clean_more (InARow n) row r c = λ h. refl
+clean_more (Run n) row r c = λ h. refl
 clean_more (Share n v) m r c = shift_clean v m r c
 
 pub clean_is : (loss : Loss) (bad r : ℕ) → IsLawfulBad loss bad → memory loss ≤ r → IsClean loss bad r → bad ≡ 0
-clean_is (InARow n) row r h some c = c some
+clean_is (Run n) row r h some c = c some
 clean_is (Share n v) m r h some c = lows_none v m h.0 (c v some (omega arith))
 
 -- four good blocks leave no row, and none of them loses a lock
-pub clean_kept : (n row k : ℕ) → 1 ≤ n → k < 4 → are_too_many (InARow n) (bad_over (InARow n) (blocks_in 4369) row 1 (k + 1)) ≡ false
+pub clean_kept : (n row k : ℕ) → 1 ≤ n → k < 4 → are_too_many (Run n) (bad_over (Run n) (blocks_in 4369) row 1 (k + 1)) ≡ false
 clean_kept n row zero some h = lt-leb n 0 some
 clean_kept n row (suc zero) some h = lt-leb n 0 some
 clean_kept n row (suc (suc zero)) some h = lt-leb n 0 some

@@ -12,7 +12,7 @@ use Rattle.std.specs.Int.{bit_at}
 use Rattle.std.specs.Prelude.{nat_le, nat_lt, not, count_by, count_ones}
 use Rattle.std.specs.List.{list_all, range_with_len}
 use Rattle.rds_sync.specs.declared.loss.Loss.{Loss}
-use Rattle.rds_sync.specs.declared.loss.Loss.TheVariants.{InARow, Share}
+use Rattle.rds_sync.specs.declared.loss.Loss.TheVariants.{Run, Share}
 use Rattle.rds_sync.specs.Laws.{MasksTellBlocks}
 use Rattle.rds_sync.specs.Loss.{IsLoss, IsLawfulBad, bad_at, bad_after, are_too_many, last_blocks, loses}
 
@@ -52,9 +52,9 @@ module _ (is_good : ℕ → Bool) where
   row zero = 0
   row (suc k) = cond (is_good (suc k)) 0 (row k + 1)
 
-  row_is : (n k : ℕ) → bad_at is_good (InARow n) k ≡ row k
+  row_is : (n k : ℕ) → bad_at is_good (Run n) k ≡ row k
   row_is n zero = refl
-  row_is n (suc k) = ap (bad_after (InARow n) (is_good (suc k))) (row_is n k)
+  row_is n (suc k) = ap (bad_after (Run n) (is_good (suc k))) (row_is n k)
 
   row_good : (k : ℕ) → is_good (suc k) ≡ true → row (suc k) ≡ 0
   row_good k e = rw e refl
@@ -86,13 +86,13 @@ module _ (is_good : ℕ → Bool) where
     | inr ill ↦ let e = row_more k ill in let r = row_stop k (omega arith) in (r.0, omega (arith, r.1), r.2)
   ]
 
-  row_loses : (n k : ℕ) → n ≤ row k → loses (InARow n) is_good k ≡ true
+  row_loses : (n k : ℕ) → n ≤ row k → loses (Run n) is_good k ≡ true
   row_loses n k h = let within = row_le k in
       rw (le-leb n k (omega arith))
       (all_pass (λ j. not (is_good j)) (k + 1 - n) n
       (λ j l u. let ill : is_good j ≡ false = row_back k j (omega arith) (omega arith) in rw ill refl))
 
-  row_keeps : (n k : ℕ) → row k < n → loses (InARow n) is_good k ≡ false
+  row_keeps : (n k : ℕ) → row k < n → loses (Run n) is_good k ≡ false
   row_keeps n k h = elim (cases_lt k n) [
     | inl few ↦ rw (lt-leb n k few) refl
     | inr many ↦
@@ -170,8 +170,8 @@ module _ (is_good : ℕ → Bool) where
 
   -- a lock is lost by what is kept exactly where its blocks lose it
   pub loses_is : (loss : Loss) (k : ℕ) → are_too_many loss (bad_at is_good loss k) ≡ loses loss is_good k
-  loses_is (InARow n) k = ap (are_too_many (InARow n)) (row_is n k) ∙ by_row (cases_lt (row k) n) where
-    by_row : (row k < n) ⊎ (n ≤ row k) → nat_le n (row k) ≡ loses (InARow n) is_good k
+  loses_is (Run n) k = ap (are_too_many (Run n)) (row_is n k) ∙ by_row (cases_lt (row k) n) where
+    by_row : (row k < n) ⊎ (n ≤ row k) → nat_le n (row k) ≡ loses (Run n) is_good k
     by_row (inl few) = lt-leb n (row k) few ∙ sym (row_keeps n k few)
     by_row (inr many) = le-leb n (row k) many ∙ sym (row_loses n k many)
   loses_is (Share n v) k =
@@ -180,7 +180,7 @@ module _ (is_good : ℕ → Bool) where
 
   none_lost : (loss : Loss) → IsLoss loss → are_too_many loss 0 ≡ false
   unfolding ones
-  none_lost (InARow n) h = lt-leb n 0 h
+  none_lost (Run n) h = lt-leb n 0 h
   none_lost (Share n v) h = lt-leb n 0 h.0
 
   pub never_0 : (loss : Loss) → IsLoss loss → loses loss is_good 0 ≡ false
@@ -210,9 +210,9 @@ module _ (is_good : ℕ → Bool) where
         omega (arith, f, in_a_row v k (omega (arith, h, row_more k ill)))
   ]
 
-  pub run_is_share : (n k : ℕ) → loses (InARow n) is_good k ≡ loses (Share n n) is_good k
+  pub run_is_share : (n k : ℕ) → loses (Run n) is_good k ≡ loses (Share n n) is_good k
   run_is_share n k = by_row (cases_lt (row k) n) ∙ ap (nat_le n) (sym (bads_are n k)) where
-    by_row : (row k < n) ⊎ (n ≤ row k) → loses (InARow n) is_good k ≡ nat_le n (bads n k)
+    by_row : (row k < n) ⊎ (n ≤ row k) → loses (Run n) is_good k ≡ nat_le n (bads n k)
     by_row (inl few) = row_keeps n k few ∙ sym (fewer (cases_lt (bads n k) n)) where
       fewer : (bads n k < n) ⊎ (n ≤ bads n k) → nat_le n (bads n k) ≡ false
       fewer (inl less) = lt-leb n (bads n k) less
@@ -263,14 +263,14 @@ few_from n m e = elim (cases_lt m n) [
 
 -- a good block leaves none
 pub none-kept : (loss : Loss) → bad_after loss true 0 ≡ 0
-none-kept (InARow n) = refl
+none-kept (Run n) = refl
 none-kept (Share n v) = let some : 1 ≤ 2 ^ v = omega (arith, pow_pos v) in mod-eq_of_lt {n = 0} {m = 2 ^ v} some
 
 -- lawful: none, and what is kept of a lock that is not lost
 pub lawful_none : (loss : Loss) → IsLoss loss → IsLawfulBad loss 0
-lawful_none (InARow n) h = h
+lawful_none (Run n) h = h
 lawful_none (Share n v) h = (omega (arith, pow_pos v), omega (arith, ones_zero, h.0))
 
 pub lawful_kept : (loss : Loss) (bad : ℕ) (good : Bool) → IsLawfulBad loss bad → are_too_many loss (bad_after loss good bad) ≡ false → IsLawfulBad loss (bad_after loss good bad)
-lawful_kept (InARow n) row good h e = few_from n _ e
+lawful_kept (Run n) row good h e = few_from n _ e
 lawful_kept (Share n v) m good h e = (mod-lt _ (omega (arith, pow_pos v)), few_from n _ e)

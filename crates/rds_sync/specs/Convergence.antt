@@ -10,7 +10,7 @@ use Rattle.std.specs.List.{All}
 use Rattle.std.specs.List.Sorted.{IsStrictlyIncreasing}
 use Rattle.rds_stream.specs.Recording.{Signal, length_of, off}
 use Rattle.rds_sync.specs.declared.loss.Loss.{Loss}
-use Rattle.rds_sync.specs.declared.loss.Loss.TheVariants.{InARow, Share}
+use Rattle.rds_sync.specs.declared.loss.Loss.TheVariants.{Run, Share}
 use Rattle.rds_sync.specs.declared.state.State.{State}
 use Rattle.rds_sync.specs.declared.state.State.TheVariants.{Locked}
 use Rattle.rds_sync.specs.Rules.{RuleNumbers}
@@ -43,14 +43,14 @@ module _ (b : Signal) (from to : ℕ) where
 
 -- how many blocks a sound range has: enough for j + 1 losses, and for the blocks that a rule of loss looks at
 abbrev pub sound_blocks : Loss → ℕ → ℕ
-sound_blocks (InARow n) j = (j + 1) * n + 6
+sound_blocks (Run n) j = (j + 1) * n + 6
 sound_blocks (Share bad of) j = max ((j + 1) * bad) of + 6
 
 -- the same in bits: 416 under the default rules, where no rival is about
 abbrev pub sound_bits : Loss → ℕ → ℕ
 sound_bits loss j = 26 * sound_blocks loss j
 
--- An example, two bits a character: by the rule InARow 1, where one bad block loses a lock, and for j = 1, a sound range has
+-- An example, two bits a character: by the rule Run 1, where one bad block loses a lock, and for j = 1, a sound range has
 -- (1 + 1) * 1 + 6 = 8 blocks, 208 bits. A digit is the end of a block of the sequence, and its number: from p on, with c = 3.
 --
 --     s     p                                                                last                             s + 208

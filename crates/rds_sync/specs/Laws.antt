@@ -5,7 +5,7 @@ use Rattle.std.specs.Int.{bit_at}
 use Rattle.rds_stream.specs.Recording.{Signal, length_of}
 use Rattle.rds_sync.specs.declared.lock.Lock.{Lock}
 use Rattle.rds_sync.specs.declared.loss.Loss.{Loss}
-use Rattle.rds_sync.specs.declared.loss.Loss.TheVariants.{InARow, Share}
+use Rattle.rds_sync.specs.declared.loss.Loss.TheVariants.{Run, Share}
 use Rattle.rds_sync.specs.declared.state.State.{State}
 use Rattle.rds_sync.specs.declared.state.State.TheVariants.{Searching, Locked}
 use Rattle.rds_sync.specs.declared.item.Item.{Item}
@@ -90,4 +90,4 @@ BadBlocksLose = (is_good : ℕ → Bool) (loss : Loss) (k : ℕ) → are_too_man
 
 -- n bad blocks in a row are n bad blocks among the last n
 abbrev pub RunsAreShares : Type 0
-RunsAreShares = (is_good : ℕ → Bool) (n k : ℕ) → loses (InARow n) is_good k ≡ loses (Share n n) is_good k
+RunsAreShares = (is_good : ℕ → Bool) (n k : ℕ) → loses (Run n) is_good k ≡ loses (Share n n) is_good k

@@ -6,17 +6,17 @@
 use Rattle.std.specs.Prelude.{ℕ, zero, suc, List, ◌+◌, ◌-◌, ◌*◌, ◌%◌, ◌^◌, ◌<◌, ◌≤◌, min, Bool, not, ◌&&◌, nat_le, if◌then◌else◌, count_by, count_ones}
 use Rattle.std.specs.List.{list_all, range_with_len}
 use Rattle.rds_sync.specs.declared.loss.Loss.{Loss}
-use Rattle.rds_sync.specs.declared.loss.Loss.TheVariants.{InARow, Share}
+use Rattle.rds_sync.specs.declared.loss.Loss.TheVariants.{Run, Share}
 
 -- a rule that does not lose a lock with no bad block
 abbrev pub IsLoss : Loss → Type 0
-IsLoss (InARow n) = 1 ≤ n
+IsLoss (Run n) = 1 ≤ n
 IsLoss (Share bad of) = (1 ≤ bad) × (bad ≤ of)
 
 -- what is kept of a lock's bad blocks, once one more was read. It is a number, which is 0 where none was bad: by a run, how many in a row
 -- were bad; by a share, a mask of the last `of` blocks, in which 1 is a bad one and the newest is lowest
 abbrev pub bad_after : Loss → Bool → ℕ → ℕ
-bad_after (InARow n) good row = if good then 0 else row + 1
+bad_after (Run n) good row = if good then 0 else row + 1
 bad_after (Share bad of) good mask = (2 * mask + (if good then 0 else 1)) % 2 ^ of
 
 -- what is kept once block k of a lock was read, of whose blocks these are good: block 0 is never counted
@@ -26,12 +26,12 @@ bad_at is_good loss (suc k) = bad_after loss (is_good (suc k)) (bad_at is_good l
 
 -- whether these lose the lock
 abbrev pub are_too_many : Loss → ℕ → Bool
-are_too_many (InARow n) row = nat_le n row
+are_too_many (Run n) row = nat_le n row
 are_too_many (Share bad of) mask = nat_le bad (count_ones mask)
 
 -- what can be kept of a lock that is not lost
 abbrev pub IsLawfulBad : Loss → ℕ → Type 0
-IsLawfulBad (InARow n) row = row < n
+IsLawfulBad (Run n) row = row < n
 IsLawfulBad (Share bad of) mask = (mask < 2 ^ of) × (count_ones mask < bad)
 
 -- the last `of` blocks up to block k, or as many as there are: block 0 is none of them
@@ -41,5 +41,5 @@ last_blocks of k = range_with_len (k + 1 - min of k) (min of k)
 -- whether a lock, of whose blocks these are good, is lost at block k: it and the n - 1 blocks before it, none of them block 0, are
 -- not good; or so many of the last blocks are not
 abbrev pub loses : Loss → (ℕ → Bool) → ℕ → Bool
-loses (InARow n) is_good k = nat_le n k && list_all (λ j. not (is_good j)) (range_with_len (k + 1 - n) n)
+loses (Run n) is_good k = nat_le n k && list_all (λ j. not (is_good j)) (range_with_len (k + 1 - n) n)
 loses (Share bad of) is_good k = nat_le bad (count_by (λ j. not (is_good j)) (last_blocks of k))

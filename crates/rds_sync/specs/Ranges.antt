@@ -2,7 +2,7 @@
 -- say that theirs are such. This project's own.
 use Rattle.std.specs.Prelude.{ℕ, ◌<◌, ◌≤◌, ◌⊎◌}
 use Rattle.rds_sync.specs.declared.loss.Loss.{Loss}
-use Rattle.rds_sync.specs.declared.loss.Loss.TheVariants.{InARow, Share}
+use Rattle.rds_sync.specs.declared.loss.Loss.TheVariants.{Run, Share}
 use Rattle.rds_sync.specs.Loss.{IsLoss}
 use Rattle.rds_sync.specs.Rules.{RuleNumbers}
 
@@ -18,7 +18,7 @@ most_blocks = 64
 
 -- how many blocks a rule of loss looks at
 abbrev pub blocks_seen : Loss → ℕ
-blocks_seen (InARow n) = n
+blocks_seen (Run n) = n
 blocks_seen (Share bad of) = of
 
 -- the numbers that a rule of loss may have
@@ -35,10 +35,10 @@ pub record IsInRange (rules : RuleNumbers) : Type 0 where
 
 -- a number of bad blocks in a row that a rule may not have
 abbrev pub IsRunOutside : Loss → Type 0
-IsRunOutside (InARow n) = (n < 1) ⊎ (most_blocks < n)
+IsRunOutside (Run n) = (n < 1) ⊎ (most_blocks < n)
 IsRunOutside (Share bad of) = ⊥
 
 -- a share of bad blocks that a rule may not have
 abbrev pub IsShareOutside : Loss → Type 0
-IsShareOutside (InARow n) = ⊥
+IsShareOutside (Run n) = ⊥
 IsShareOutside (Share bad of) = (bad < 1) ⊎ (of < bad) ⊎ (most_blocks < of)

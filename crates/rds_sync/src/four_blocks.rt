@@ -3,7 +3,7 @@
 ghost use Rattle.std.specs.Prelude.{◌≡◌, ◌≤◌, ◌<◌, ◌+◌, ◌-◌, ◌^◌, ◌∷◌, [], false, map, ℕ, All, IfSome};
 ghost use Rattle.rds_code.specs.Offsets.{number};
 ghost use Rattle.rds_code.specs.declared.reading.Wanted.{Wanted as TheWanted};
-ghost use Rattle.rds_stream.specs.InARow.{four_heard};
+ghost use Rattle.rds_stream.specs.Run.{four_heard};
 ghost use Rattle.rds_stream.specs.Recording.{Signal, length_of, reading_heard};
 ghost use Rattle.rds_sync.specs.Groups.{blocks_at, group};
 ghost use Rattle.rds_sync.specs.Inside.Outcomes.{valid, outcome_of, bad_over};
@@ -184,7 +184,7 @@ fn bad_after_clean(loss: Loss, bad: u64) -> Option<u64>
         → are_too_many loss (bad_over loss (blocks_in 0x1111) bad 1 (k + 1)) ≡ false) }
 {
     match loss {
-        Loss::InARow(_) => Some(NONE_BAD),
+        Loss::Run(_) => Some(NONE_BAD),
         Loss::Share { .. } => bad_after_four(loss, CLEAN, bad),
     }
 }
@@ -219,7 +219,7 @@ pub(crate) fn bad_after_four(loss: Loss, word: u16, bad: u64) -> Option<u64>
         → are_too_many loss (bad_over loss (blocks_in word) bad 1 (k + 1)) ≡ false) }
 {
     match loss {
-        Loss::InARow(_) if word == CLEAN => Some(NONE_BAD),
+        Loss::Run(_) if word == CLEAN => Some(NONE_BAD),
         _ => bad_after_each(loss, word, bad),
     }
 }

@@ -31,7 +31,7 @@ pub struct Lock {
     /// The number that it is read as.
     pub number: u8,
     /// What is kept of the blocks that were not valid, too few for a loss; it is 0 where there are none. By the rule
-    /// `Loss::InARow(n)` it is how many of them came in a row, below `n`. By `Loss::Share { bad, of }` it is a mask of
+    /// `Loss::Run(n)` it is how many of them came in a row, below `n`. By `Loss::Share { bad, of }` it is a mask of
     /// the last `of` blocks, in which 1 is a bad one and the newest is the lowest bit.
     pub bad: u64,
     /// The number of the first block that was read in the group in progress, or 1.

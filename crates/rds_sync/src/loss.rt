@@ -13,7 +13,7 @@ const MOST_BLOCKS: u32 = 64;
 #[derive(Clone, Copy, Debug, PartialEq, Eq)]
 pub enum Loss {
     /// After so many bad blocks in a row: 1 to 64.
-    InARow(u32),
+    Run(u32),
     /// Where `bad` of the last `of` blocks are bad: 1 ≤ bad ≤ of ≤ 64.
     Share { bad: u32, of: u32 },
 }
@@ -30,7 +30,7 @@ impl Loss {
         ensures share { IsErrOf result SyncError.ShareRange ↔ IsShareOutside self }
     {
         match self {
-            Loss::InARow(loss) if loss < 1 || loss > MOST_BLOCKS => Err(SyncError::LossRange),
+            Loss::Run(loss) if loss < 1 || loss > MOST_BLOCKS => Err(SyncError::LossRange),
             Loss::Share { bad, of } if bad < 1 || of < bad || of > MOST_BLOCKS => Err(
                 SyncError::ShareRange,
             ),
@@ -44,7 +44,7 @@ impl Loss {
         ensures { result ≡ true → are_too_many self (bad_after self false 0) ≡ true }
     {
         match self {
-            Loss::InARow(1) => true,
+            Loss::Run(1) => true,
             Loss::Share { bad: 1, .. } => true,
             _ => false,
         }
@@ -57,7 +57,7 @@ impl Loss {
         ensures { result ≡ bad_after self good bad }
     {
         match self {
-            Loss::InARow(_) => if good { 0 } else { bad + 1 },
+            Loss::Run(_) => if good { 0 } else { bad + 1 },
             Loss::Share { of, .. } => mask_after(bad, good, of),
         }
     }
@@ -67,7 +67,7 @@ impl Loss {
         ensures { result ≡ are_too_many self bad }
     {
         match self {
-            Loss::InARow(most) => u64::from(most) <= bad,
+            Loss::Run(most) => u64::from(most) <= bad,
             Loss::Share { bad: most, .. } => most <= bad.count_ones(),
         }
     }
@@ -78,7 +78,7 @@ impl Loss {
         ensures { IsTrue result ↔ IsLawfulBad self bad }
     {
         match self {
-            Loss::InARow(most) => bad < u64::from(most),
+            Loss::Run(most) => bad < u64::from(most),
             Loss::Share { bad: most, of } => is_mask_of(bad, of) && bad.count_ones() < most,
         }
     }

@@ -4,7 +4,7 @@ ghost use Rattle.std.specs.Prelude.{◌≡◌, ◌≢◌, ◌<◌, ◌≤◌, �
 ghost use Rattle.rds_code.specs.Kinds.{kind_of};
 ghost use Rattle.rds_stream.specs.Recording.{reading_heard};
 ghost use Rattle.rds_sync.specs.Ranges.{IsInRange, IsRunOutside, IsShareOutside, farthest_reach, longest_burst, most_blocks};
-ghost use Rattle.rds_sync.specs.declared.loss.Loss.TheVariants.{InARow, Share};
+ghost use Rattle.rds_sync.specs.declared.loss.Loss.TheVariants.{Run, Share};
 
 use crate::error::SyncError;
 use crate::loss::Loss;
@@ -83,7 +83,7 @@ impl Rules {
     /// memory.
     pub fn new(alloc: Global, burst: u32, reach: u32, loss: u32) -> Result<Rules, SyncError>
         ensures numbers { IfOk result (λ rules. (rules.burst ≡ burst) × (rules.reach ≡ reach)
-            × (rules.loss ≡ InARow loss)) }
+            × (rules.loss ≡ Run loss)) }
 
         ensures burst_range { IsErrOf result SyncError.BurstRange ↔ (longest_burst < burst) }
         ensures reach_range { IsErrOf result SyncError.ReachRange
@@ -98,7 +98,7 @@ impl Rules {
             RuleNumbers {
                 burst,
                 reach,
-                loss: Loss::InARow(loss),
+                loss: Loss::Run(loss),
             },
         )
     }

@@ -16,7 +16,7 @@ use Rattle.clap.specs.declared.parser.matches.MatchedArg.{MatchedArg}
 use Rattle.clap.proofs.WalkLemmas.{find_row, first_value-rows, one_text-rows}
 use Rattle.clap.specs.declared.parser.matches.ValueSource.{ValueSource}
 use Rattle.rds_sync.specs.declared.loss.Loss.{Loss}
-use Rattle.rds_sync.specs.declared.loss.Loss.TheVariants.{InARow, Share}
+use Rattle.rds_sync.specs.declared.loss.Loss.TheVariants.{Run, Share}
 use Rattle.rds_tool.specs.CommandLine.{FitNoInput, FitNoRules, FitNoSettings, FitNoStream, GivesNoRuled, GivesNoRules, GivesNothing, IsAsked, IsFlag, MaySpell, Reports, gaps_asked_for, gaps_spelled, is_given, is_of_words, Spells, SpellsLoss}
 use Rattle.rds_tool.specs.GapText.{gaps_of}
 use Rattle.rds_tool.specs.declared.fault.NoJob.{NoJob}
@@ -140,7 +140,7 @@ module _ (f : Found) (given : Option (Bor Text)) (is : option_map (λ s. s.now) 
 
 -- a share that is no number
 pub no_share : (rows : List Row) → ((share : Option ℕ) → MaySpell 32 (one_of (codes "share") rows) share → ⊥) → (loss : Loss) → SpellsLoss rows loss → ⊥
-no_share rows h (InARow row) s = h None s.0
+no_share rows h (Run row) s = h None s.0
 no_share rows h (Share bad of) s = h (Some bad) s.0
 
 -- no rules, no settings

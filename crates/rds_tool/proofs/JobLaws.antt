@@ -16,7 +16,7 @@ use Rattle.rds_sync.specs.Report.{report_items}
 use Rattle.rds_sync.specs.Rules.{RuleNumbers}
 use Rattle.rds_sync.specs.Sent.{AreWords, EncodedGroupsAreListed as SentGroupsAreListed, PackedGroupsAreSent, bits_sent, packed_group, packed_groups}
 use Rattle.rds_sync.specs.declared.loss.Loss.{Loss}
-use Rattle.rds_sync.specs.declared.loss.Loss.TheVariants.{InARow, Share}
+use Rattle.rds_sync.specs.declared.loss.Loss.TheVariants.{Run, Share}
 use Rattle.rds_tool.specs.Cuts.{cuts_bits}
 use Rattle.rds_tool.specs.Following.{listed}
 use Rattle.rds_tool.specs.GroupText.{group_text, lines_of, lines_text, words_of, words_or_refusal}
@@ -167,9 +167,9 @@ record AreLawful (rules : RuleNumbers) : Type 0 where
   burst : rules.burst ≤ 5
 
 loss_lawful : (asked loss : Loss) → loss_of asked ≡ Ok loss → IsLoss loss
-loss_lawful (InARow n) loss is =
+loss_lawful (Run n) loss is =
     let inside = untested (nat_lt n 1 || nat_lt 64 n) LossRange _ loss is in
-    rw (← same-ok (InARow n) loss inside.1) (grind (arith, nat_tests, inside.0))
+    rw (← same-ok (Run n) loss inside.1) (grind (arith, nat_tests, inside.0))
 loss_lawful (Share bad of) loss is =
     let inside = untested (nat_lt bad 1 || nat_lt of bad || nat_lt 64 of) ShareRange _ loss is in
     rw (← same-ok (Share bad of) loss inside.1) (grind (arith, nat_tests, inside.0), grind (arith, nat_tests, inside.0))

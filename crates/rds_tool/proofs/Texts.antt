@@ -19,7 +19,7 @@ use Rattle.rds_tool.specs.Listing.{report_text, totals_text}
 use Rattle.rds_tool.specs.Outcome.{Writes, WritesPrefix, cut_recording, list_text, outcome, text_of_task, totals_list}
 use Rattle.rds_tool.specs.Plans.{PlanOf, crew_of, cut_by, plan_of, workers_of}
 use Rattle.rds_sync.specs.declared.loss.Loss.{Loss}
-use Rattle.rds_sync.specs.declared.loss.Loss.TheVariants.{InARow, Share}
+use Rattle.rds_sync.specs.declared.loss.Loss.TheVariants.{Run, Share}
 use Rattle.rds_tool.specs.Refusals.{IsMemoryOrErrOf, IsShortageOrErrOf}
 use Rattle.rds_tool.specs.Rules.{loss_of, rules_of}
 use Rattle.rds_tool.specs.Tasks.{AsksForThreads, MayStartThreads, task_of}
@@ -178,8 +178,8 @@ refused_inside X t held e (inr (inl h)) = threads_inside e h.0
 refused_inside X t held e (inr (inr p)) = inside e (of_bytes t held e p)
 
 loss_errs : (loss : Loss) → IfErr (loss_of loss) IsOfOutcome
-loss_errs (InARow n) = by_test (nat_lt n 1 || nat_lt 64 n) where
-  by_test : (t : Bool) → let r : Result Loss ToolError = if t then Err LossRange else Ok (InARow n) in IfErr r IsOfOutcome
+loss_errs (Run n) = by_test (nat_lt n 1 || nat_lt 64 n) where
+  by_test : (t : Bool) → let r : Result Loss ToolError = if t then Err LossRange else Ok (Run n) in IfErr r IsOfOutcome
   by_test true = tt
   by_test false = tt
 loss_errs (Share bad of) = by_test (nat_lt bad 1 || nat_lt of bad || nat_lt 64 of) where

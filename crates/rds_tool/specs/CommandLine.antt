@@ -14,7 +14,7 @@ use Rattle.clap.specs.declared.parser.matches.ValueSource.{ValueSource}
 use Rattle.clap.specs.declared.parser.matches.ValueSource.TheVariants.{CommandLine}
 use Rattle.rds_sync.specs.Rules.{RuleNumbers}
 use Rattle.rds_sync.specs.declared.loss.Loss.{Loss}
-use Rattle.rds_sync.specs.declared.loss.Loss.TheVariants.{InARow, Share}
+use Rattle.rds_sync.specs.declared.loss.Loss.TheVariants.{Run, Share}
 use Rattle.rds_tool.specs.GapText.{gaps_of}
 use Rattle.rds_tool.specs.declared.fault.CliFault.{CliFault}
 use Rattle.rds_tool.specs.declared.fault.FaultKind.{FaultKind}
@@ -157,7 +157,7 @@ SpellsPieces entry (At cuts) = ⊥
 
 -- the rule of loss that the entries give: a share where there is one, of as many blocks as `--of` says, or else `--loss` in a row
 abbrev pub SpellsLoss : List Row → Loss → Type 0
-SpellsLoss rows (InARow n) = (one_of (codes "share") rows ≡ None) × Spells 32 (one_of (codes "loss") rows) n
+SpellsLoss rows (Run n) = (one_of (codes "share") rows ≡ None) × Spells 32 (one_of (codes "loss") rows) n
 SpellsLoss rows (Share bad of) = Spells 32 (one_of (codes "share") rows) bad × Spells 32 (one_of (codes "of") rows) of
 
 abbrev pub is_of_words : Option ValueSource → Bool

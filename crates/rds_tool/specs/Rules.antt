@@ -3,7 +3,7 @@ use Rattle.std.specs.Prelude.{◌||◌, Err, Ok, Result, if◌then◌else◌, na
 use Rattle.rds_sync.specs.Ranges.{farthest_reach, longest_burst, most_blocks}
 use Rattle.rds_sync.specs.Rules.{RuleNumbers}
 use Rattle.rds_sync.specs.declared.loss.Loss.{Loss}
-use Rattle.rds_sync.specs.declared.loss.Loss.TheVariants.{InARow, Share}
+use Rattle.rds_sync.specs.declared.loss.Loss.TheVariants.{Run, Share}
 use Rattle.rds_tool.specs.Input.{and_then}
 use Rattle.rds_tool.specs.declared.error.ToolError.{ToolError}
 use Rattle.rds_tool.specs.declared.error.ToolError.TheVariants.{BurstRange, LossRange, ReachRange, ShareRange}
@@ -11,7 +11,7 @@ use Rattle.rds_tool.specs.declared.job.Settings.{Settings}
 
 -- the rule of loss, if it is in its range
 abbrev pub loss_of : Loss → Result Loss ToolError
-loss_of (InARow n) = if nat_lt n 1 || nat_lt most_blocks n then Err LossRange else Ok (InARow n)
+loss_of (Run n) = if nat_lt n 1 || nat_lt most_blocks n then Err LossRange else Ok (Run n)
 loss_of (Share bad of) = if nat_lt bad 1 || nat_lt of bad || nat_lt most_blocks of then Err ShareRange else Ok (Share bad of)
 
 -- the rules of these settings, or the first that is out of its range

@@ -170,7 +170,7 @@ fn loss_in(entries: &ArgMatches<'_>) -> Option<Loss>
     ensures none { IfNone result ((loss : Loss) → SpellsLoss (rows_of (found_of entries.now)) loss → ⊥) }
 {
     match share_in(entries)? {
-        None => Some(Loss::InARow(number_in(entries, "loss")?)),
+        None => Some(Loss::Run(number_in(entries, "loss")?)),
         Some(bad) => Some(Loss::Share {
             bad,
             of: number_in(entries, "of")?,

@@ -9,7 +9,7 @@ use Rattle.clap.specs.declared.error.kind.ErrorKind.{ErrorKind}
 use Rattle.clap.specs.declared.error.kind.ErrorKind.TheVariants as kind
 use Rattle.rds_sync.specs.Rules.{RuleNumbers}
 use Rattle.rds_sync.specs.declared.loss.Loss.{Loss}
-use Rattle.rds_sync.specs.declared.loss.Loss.TheVariants.{InARow, Share}
+use Rattle.rds_sync.specs.declared.loss.Loss.TheVariants.{Run, Share}
 use Rattle.rds_tool.specs.CommandLine.{AreRules, HasBadGaps, HasBadLoss, IsAskedOf, IsInput, MayAnswer, Spells, entries_of, faults_of}
 use Rattle.rds_tool.specs.declared.fault.FaultKind.{FaultKind}
 use Rattle.rds_tool.specs.declared.fault.FaultKind.TheVariants.{Help, Memory, Version, Words}
@@ -126,7 +126,7 @@ by_share = record { burst = 2; reach = 3; loss = Share 2 3 }
 the_rules : (burst reach : ℕ) (loss : Loss) → AreRules rows_of_share (record { burst = burst; reach = reach; loss = loss })
     → let rules : RuleNumbers = record { burst = burst; reach = reach; loss = loss } in rules ≡ by_share
 unfolding walked
-the_rules burst reach (InARow n) are = let loss = are.loss in let none = loss.0 in cc none
+the_rules burst reach (Run n) are = let loss = are.loss in let none = loss.0 in cc none
 the_rules burst reach (Share bad of) are =
     let burst_is = are.burst in
     let reach_is = are.reach in

@@ -4,14 +4,14 @@ use Rattle.std.proofs.lemmas.Bool.{cases_lt}
 use Rattle.std.proofs.lemmas.Nat.{mul-le}
 use Rattle.rds_stream.specs.Recording.{Signal}
 use Rattle.rds_sync.specs.declared.loss.Loss.{Loss}
-use Rattle.rds_sync.specs.declared.loss.Loss.TheVariants.{InARow}
+use Rattle.rds_sync.specs.declared.loss.Loss.TheVariants.{Run}
 use Rattle.rds_sync.specs.declared.state.State.{State}
 use Rattle.rds_sync.specs.Convergence.{IsSound, sound_bits}
 use Rattle.rds_sync.specs.Rules.{RuleNumbers}
 use Rattle.rds_pieces.specs.Meeting.{IsMeeting, MeetFirstAt, distance}
 use Rattle.rds_pieces.specs.Soon.{IsSoonMet, MeetSoon}
 
-module _ (b : Signal) (rules : RuleNumbers) (from to : ℕ) (loss : rules.loss ≡ InARow 10)
+module _ (b : Signal) (rules : RuleNumbers) (from to : ℕ) (loss : rules.loss ≡ Run 10)
     (sound : (p : ℕ) × (c : ℕ) × IsSound b rules 0 from p c) (inside : from + 416 ≤ to) where
   bits : sound_bits rules.loss 0 ≡ 416
   bits = ap (λ (l : Loss). sound_bits l 0) loss

@@ -1,7 +1,7 @@
 //! A decoder as a user of the libraries writes it: from bytes to a report, piece by piece.
 ghost use Rattle.std.specs.Prelude.{◌≡◌, ◌*◌, ◌≤◌, ◌^◌, IfOk, IfSome, length, vec_len};
 ghost use Rattle.rds_sync.specs.Report.{report_items};
-ghost use Rattle.rds_sync.specs.declared.loss.Loss.TheVariants.{InARow};
+ghost use Rattle.rds_sync.specs.declared.loss.Loss.TheVariants.{Run};
 ghost use Rattle.rds_uses.specs.Jobs.{all_bits};
 
 use crate::pieces::stitched;
@@ -16,7 +16,7 @@ pub fn decoded(alloc: Global, bytes: Vec<u8>, pieces: u64) -> Option<Report>
     requires few { 8 * vec_len bytes ≤ 2 ^ 36 }
     requires some { 1 ≤ pieces }
     ensures { IfSome result (λ report. report.items.list
-        ≡ report_items (all_bits bytes.items) (record { burst = 2; reach = 3; loss = InARow 10 })) }
+        ≡ report_items (all_bits bytes.items) (record { burst = 2; reach = 3; loss = Run 10 })) }
 {
     let bits = 8 * bytes.len() as u64;
     let recording = Recording::from_bytes(bytes, bits).ok()?;

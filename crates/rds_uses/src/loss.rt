@@ -30,7 +30,7 @@ pub fn as_share(loss: Loss) -> Loss
 {
     laws::runs_are_shares();
     match loss {
-        Loss::InARow(blocks) => Loss::Share {
+        Loss::Run(blocks) => Loss::Share {
             bad: blocks,
             of: blocks,
         },

@@ -2,7 +2,7 @@
 ghost use Rattle.std.specs.Prelude.{◌≡◌, ℕ, ◌+◌, ◌-◌, ◌*◌, ◌<◌, ◌≤◌, ◌^◌, ◌++◌, ◌∷◌, [], IfOk, IsOkUnless, OnErr, OnOk, Some, length, slice_index, true};
 ghost use Rattle.rds_stream.specs.Recording.{length_of};
 ghost use Rattle.rds_sync.specs.declared.state.State.TheVariants.{Searching};
-ghost use Rattle.rds_sync.specs.declared.loss.Loss.TheVariants.{InARow};
+ghost use Rattle.rds_sync.specs.declared.loss.Loss.TheVariants.{Run};
 ghost use Rattle.rds_sync.specs.Convergence.{IsSound};
 ghost use Rattle.rds_sync.specs.Decoding.{listed};
 ghost use Rattle.rds_sync.specs.Lawful.{IsLawful};
@@ -238,7 +238,7 @@ pub fn met_on_sound_signal(
     requires lawful { IsLawful rules.now run.now.from state }
     requires source { run.now.source ≡ recording.now }
     requires rules { run.now.rules ≡ rules.now }
-    requires loss { rules.now.loss ≡ InARow 10 }
+    requires loss { rules.now.loss ≡ Run 10 }
     requires sound { (p : ℕ) × (c : ℕ) × IsSound recording.now rules.now 0 run.now.from p c }
     requires inside { run.now.from + 416 ≤ run.now.to }
     ensures { IfOk result (λ met. (place : ℕ) × (met ≡ Some place) × (place ≤ run.now.from + 416)) }
@@ -317,7 +317,7 @@ pub fn join_on_sound_signal<T: Tape>(
 ) -> Result<PieceRun, PieceError>
     requires neighbours { AreNeighbours (T.signal tape.old) rules.now left.now right.now }
     requires room { T.reads_made tape.old ≤ 2 ^ 62 }
-    requires loss { rules.now.loss ≡ InARow 10 }
+    requires loss { rules.now.loss ≡ Run 10 }
     requires sound { (p : ℕ) × (c : ℕ) × IsSound (T.signal tape.old) rules.now 0 right.now.from p c }
     requires inside { right.now.from + 416 ≤ right.now.to }
     ensures { OnOk result (T.reads_made tape.new ≤ T.reads_made tape.old + (rules.now.reach + 2) * 417) }

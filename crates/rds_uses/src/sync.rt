@@ -4,7 +4,7 @@ ghost use Rattle.std.specs.Prelude.{◌≡◌, ◌≢◌, ℕ, ◌+◌, ◌-◌,
 ghost use Rattle.rds_stream.specs.Recording.{length_of};
 ghost use Rattle.rds_sync.specs.declared.item.Block.{Block as ABlock};
 ghost use Rattle.rds_sync.specs.declared.error.SyncError.TheVariants.{BurstRange, LossRange, OutOfMemory, ReachRange, ShareRange};
-ghost use Rattle.rds_sync.specs.declared.loss.Loss.TheVariants.{InARow, Share};
+ghost use Rattle.rds_sync.specs.declared.loss.Loss.TheVariants.{Run, Share};
 ghost use Rattle.rds_sync.specs.declared.state.State.{State as AState};
 ghost use Rattle.rds_sync.specs.declared.state.State.TheVariants.{Searching};
 ghost use Rattle.rds_sync.specs.Advance.{group_item, items_in};
@@ -31,7 +31,7 @@ use std::alloc::Global;
 
 /// The rules that the program takes where none are given: nothing but memory can be in want.
 pub fn usual_rules(alloc: Global) -> Result<Rules, SyncError>
-    ensures rules { IfOk result (λ rules. rules ≡ record { burst = 2; reach = 3; loss = InARow 10 }) }
+    ensures rules { IfOk result (λ rules. rules ≡ record { burst = 2; reach = 3; loss = Run 10 }) }
     ensures refused { IsOkUnless result OutOfMemory }
 {
     Rules::of(
@@ -39,14 +39,14 @@ pub fn usual_rules(alloc: Global) -> Result<Rules, SyncError>
         RuleNumbers {
             burst: 2,
             reach: 3,
-            loss: Loss::InARow(10),
+            loss: Loss::Run(10),
         },
     )
 }
 
 /// The same by their numbers alone.
 pub fn counted_rules(alloc: Global) -> Result<Rules, SyncError>
-    ensures rules { IfOk result (λ rules. rules ≡ record { burst = 2; reach = 3; loss = InARow 10 }) }
+    ensures rules { IfOk result (λ rules. rules ≡ record { burst = 2; reach = 3; loss = Run 10 }) }
     ensures refused { IsOkUnless result OutOfMemory }
 {
     Rules::new(alloc, 2, 3, 10)
@@ -143,7 +143,7 @@ pub fn blocks_in_byte(rules: &Rules) -> u8
     ensures { result ≡ blocks_seen rules.now.loss }
 {
     match rules.loss() {
-        Loss::InARow(blocks) => blocks as u8,
+        Loss::Run(blocks) => blocks as u8,
         Loss::Share { bad: _, of } => of as u8,
     }
 }

@@ -6,7 +6,7 @@ use Rattle.rds_code.specs.declared.reading.Wanted.TheVariants.{OnlyC, Either}
 use Rattle.rds_sync.specs.declared.item.Block.TheVariants.{Read}
 use Rattle.rds_sync.specs.declared.item.Item.TheVariants.{Acquired, Group, LostLock}
 use Rattle.rds_sync.specs.declared.item.Version.TheVariants.{B}
-use Rattle.rds_sync.specs.declared.loss.Loss.TheVariants.{InARow, Share}
+use Rattle.rds_sync.specs.declared.loss.Loss.TheVariants.{Run, Share}
 use Rattle.rds_sync.specs.declared.state.State.TheVariants.{Locked, Searching}
 use Rattle.rds_sync.specs.Step.{lock_of}
 use Rattle.rds_abi.specs.Asked.{loss_of}
@@ -56,7 +56,7 @@ in_a_row = record { burst = 2; reach = 3; loss = 10; of = 0 }
 abbrev pub of_twenty : RdsRules
 of_twenty = record { burst = 2; reach = 3; loss = 5; of = 20 }
 
-pub run_of_ten : loss_of in_a_row ≡ InARow 10
+pub run_of_ten : loss_of in_a_row ≡ Run 10
 run_of_ten = refl
 
 pub five_of_twenty : loss_of of_twenty ≡ Share 5 20

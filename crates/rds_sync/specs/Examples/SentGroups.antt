@@ -7,7 +7,7 @@ use Rattle.rds_stream.specs.Recording.{Signal, bits_of, ungapped, window, touche
 use Rattle.rds_sync.specs.declared.item.Item.{Item}
 use Rattle.rds_sync.specs.declared.item.Item.TheVariants.{Acquired, Group, LostLock}
 use Rattle.rds_sync.specs.declared.item.Version.TheVariants.{A, B, Unknown}
-use Rattle.rds_sync.specs.declared.loss.Loss.TheVariants.{InARow}
+use Rattle.rds_sync.specs.declared.loss.Loss.TheVariants.{Run}
 use Rattle.rds_sync.specs.Acquiring.{acquired, has_number}
 use Rattle.rds_sync.specs.Groups.{group}
 use Rattle.rds_sync.specs.Loss.{are_too_many}
@@ -103,14 +103,14 @@ damaged_totals = refl
 -- ---- sync that is kept, and lost
 
 -- the bad blocks of these groups are one, one, and two in a row: sync that is lost at three in a row is kept
-pub kept : KeepLock (InARow 3) 0 (0x0000001 ∷ 0 ∷ four_damages damaged_second)
+pub kept : KeepLock (Run 3) 0 (0x0000001 ∷ 0 ∷ four_damages damaged_second)
 kept = (refl, (refl, (refl, (refl, (refl, (refl, tt))))))
 
-pub bad_at_the_end : bad_after_blocks (InARow 3) 0 (0x0000001 ∷ 0 ∷ four_damages damaged_second) ≡ 2
+pub bad_at_the_end : bad_after_blocks (Run 3) 0 (0x0000001 ∷ 0 ∷ four_damages damaged_second) ≡ 2
 bad_at_the_end = refl
 
 -- at two in a row it is lost, at the last block
-pub lost_at_two : are_too_many (InARow 2) (bad_after_blocks (InARow 2) 0 (0x0000001 ∷ 0 ∷ four_damages damaged_second)) ≡ true
+pub lost_at_two : are_too_many (Run 2) (bad_after_blocks (Run 2) 0 (0x0000001 ∷ 0 ∷ four_damages damaged_second)) ≡ true
 lost_at_two = refl
 
 pub report_of_the_loss : IsReported damaged (rules_of 2 3 2) (damaged_items ++ LostLock 207 ∷ []) (totals 3 3 1 0 0 0 0 5 2 1 1 1)

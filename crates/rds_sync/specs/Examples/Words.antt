@@ -4,7 +4,7 @@ use Rattle.rds_code.specs.declared.offset.Offset.{Offset}
 use Rattle.rds_code.specs.declared.reading.Reading.TheVariants.{Valid, Corrected, Lost}
 use Rattle.rds_stream.specs.Recording.{Signal, bits_of, ungapped}
 use Rattle.rds_sync.specs.Rules.{RuleNumbers}
-use Rattle.rds_sync.specs.declared.loss.Loss.TheVariants.{InARow, Share}
+use Rattle.rds_sync.specs.declared.loss.Loss.TheVariants.{Run, Share}
 use Rattle.rds_sync.specs.declared.item.Block.{Block}
 use Rattle.rds_sync.specs.declared.item.Block.TheVariants.{Missing, Read}
 use Rattle.rds_sync.specs.declared.item.Version.{Version}
@@ -19,7 +19,7 @@ abbrev pub zero_group : List ℕ
 zero_group = 0x00 ∷ 0x00 ∷ 0x3f ∷ 0x00 ∷ 0x00 ∷ 0x19 ∷ 0x80 ∷ 0x00 ∷ 0x05 ∷ 0xa0 ∷ 0x00 ∷ 0x01 ∷ 0xb4 ∷ []
 
 abbrev pub rules_of : ℕ → ℕ → ℕ → RuleNumbers
-rules_of burst reach loss = record { burst = burst; reach = reach; loss = InARow loss }
+rules_of burst reach loss = record { burst = burst; reach = reach; loss = Run loss }
 
 -- rules by which a lock is lost at `bad` bad blocks among the last `of`
 abbrev pub rules_with_share : ℕ → ℕ → RuleNumbers

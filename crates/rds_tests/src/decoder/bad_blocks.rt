@@ -55,7 +55,7 @@ fn are_outlived_up_to_three(alloc: Global, loss: Loss, first: usize) -> bool {
 fn three_bad_blocks_are_outlived_and_four_are_not_whichever_is_the_first(rt: HostRuntime) {
     for first in 8..12usize {
         assert!(rt;
-            are_outlived_up_to_three(rt.alloc(), Loss::InARow(4), first)
+            are_outlived_up_to_three(rt.alloc(), Loss::Run(4), first)
                 && are_outlived_up_to_three(rt.alloc(), Loss::Share { bad: 4, of: 4 }, first),
             "from {first} on"
         );

@@ -51,7 +51,7 @@ fn bad_among(good: &[bool], count: usize) -> usize {
 /// Whether a lock of whose blocks these are good, the acquiring one first, is lost at the last.
 fn is_lost(loss: Loss, good: &[bool]) -> bool {
     match loss {
-        Loss::InARow(n) => bad_among(good, n as usize) == n as usize,
+        Loss::Run(n) => bad_among(good, n as usize) == n as usize,
         Loss::Share { bad, of } => bad_among(good, of as usize) >= bad as usize,
     }
 }
@@ -143,8 +143,8 @@ fn has_locks_of(alloc: Global, seed: u64, loss: Loss) -> bool {
 }
 
 static LOSSES: [Loss; 6] = [
-    Loss::InARow(1),
-    Loss::InARow(3),
+    Loss::Run(1),
+    Loss::Run(3),
     Loss::Share { bad: 1, of: 1 },
     Loss::Share { bad: 2, of: 3 },
     Loss::Share { bad: 5, of: 12 },

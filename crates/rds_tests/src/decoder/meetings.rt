@@ -78,9 +78,9 @@ fn is_met_in_two_groups(alloc: Global, loss: Loss, cut: u64) -> bool {
 
 /// Rules of loss, and cuts between the groups, in the middle of block 1, and before its last bit.
 static CUT_OFF: [(Loss, u64); 6] = [
-    (Loss::InARow(10), 104),
-    (Loss::InARow(10), 116),
-    (Loss::InARow(10), 129),
+    (Loss::Run(10), 104),
+    (Loss::Run(10), 116),
+    (Loss::Run(10), 129),
     (Loss::Share { bad: 2, of: 4 }, 104),
     (Loss::Share { bad: 2, of: 4 }, 116),
     (Loss::Share { bad: 2, of: 4 }, 129),
@@ -119,7 +119,7 @@ fn station_bytes(alloc: Global) -> Result<Vec<u8>, AllocError> {
 
 /// Those groups, read by the default rules.
 fn station(alloc: Global) -> Result<Sample, AllocError> {
-    Sample::of(station_bytes(alloc)?, 312, 2, Loss::InARow(10))
+    Sample::of(station_bytes(alloc)?, 312, 2, Loss::Run(10))
 }
 
 /// Where the seam at a cut has to meet: while the decoder searches, at the cut itself; else behind the group of the first

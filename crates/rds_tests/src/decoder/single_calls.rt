@@ -36,7 +36,7 @@ fn has_bits_and_items(alloc: Global, sample: &Sample) -> bool {
 
 /// Whether that holds of two zero groups.
 fn two_groups_have(alloc: Global) -> bool {
-    match Sample::of_groups(alloc, 2, Loss::InARow(10)) {
+    match Sample::of_groups(alloc, 2, Loss::Run(10)) {
         Ok(twice) => has_bits_and_items(alloc, &twice),
         Err(_) => false,
     }

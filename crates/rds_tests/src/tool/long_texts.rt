@@ -78,7 +78,7 @@ impl Long {
                 let settings = Settings {
                     burst: 2,
                     reach: 3,
-                    loss: Loss::InARow(10),
+                    loss: Loss::Run(10),
                     workers,
                     cuts: Cuts::Even(16),
                 };

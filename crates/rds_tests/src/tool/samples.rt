@@ -2,7 +2,7 @@
 use crate::tool::devices::gives_for;
 use crate::tool::jobs::ungapped;
 use rds_crew::{Gate, OpenGate};
-use rds_tool::Loss::InARow;
+use rds_tool::Loss::Run;
 use rds_tool::{Cuts, Job, Loss, Settings};
 use std::alloc::{AllocError, Global};
 use std::sync::Wait;
@@ -44,7 +44,7 @@ macro_rules! sample {
 /// The group of four zero words, twice: 208 bits.
 pub static TWO_GROUPS: Sample = sample!(
     "00003f000019800005a00001b4 00003f000019800005a00001b4",
-    (2, 3, InARow(10)),
+    (2, 3, Run(10)),
     "acquired,51,2,-,-,-,-,-\n\
      group,26,0,A,none,B:0000,C:0000,D:0000\n\
      group,104,0,A,A:0000,B:0000,C:0000,D:0000\n",
@@ -54,7 +54,7 @@ pub static TWO_GROUPS: Sample = sample!(
 /// Two groups, block 1 of the second damaged: by a loss of 1 the lock is lost there, and acquired again.
 pub static A_LOSS: Sample = sample!(
     "00003f000019800005a00001b4 000037400019800005a00001b4",
-    (2, 3, InARow(1)),
+    (2, 3, Run(1)),
     "acquired,51,2,-,-,-,-,-\n\
      group,26,0,A,none,B:0000,C:0000,D:0000\n\
      group,104,-,?,lost,none,none,none\n\

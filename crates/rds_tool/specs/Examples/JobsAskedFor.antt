@@ -11,7 +11,7 @@ use Rattle.clap.specs.declared.error.kind.ErrorKind.{ErrorKind}
 use Rattle.clap.specs.declared.error.kind.ErrorKind.TheVariants as kind
 use Rattle.rds_sync.specs.Rules.{RuleNumbers}
 use Rattle.rds_sync.specs.declared.loss.Loss.{Loss}
-use Rattle.rds_sync.specs.declared.loss.Loss.TheVariants.{InARow, Share}
+use Rattle.rds_sync.specs.declared.loss.Loss.TheVariants.{Run, Share}
 use Rattle.rds_tool.specs.CommandLine.{HasBadGaps, HasBadLoss, IsAskedOf, IsFlag, MayAnswer, Spells, SpellsLoss, entries_of, faults_of, mixes_losses}
 use Rattle.rds_tool.specs.declared.fault.FaultKind.TheVariants.{Help, Memory, Version, Words}
 use Rattle.rds_tool.specs.declared.job.Asked.{Asked}
@@ -64,7 +64,7 @@ share = (
   ((leb-true 1 2 refl, (leb-true 7 10 refl, (leb-true 5 10 refl, tt))), leb-true 65 4294967296 refl, refl),
 )
 
-pub not_in_a_row : GiveLoss for_share (InARow 10) → ⊥
+pub not_in_a_row : GiveLoss for_share (Run 10) → ⊥
 unfolding walked
 not_in_a_row (none, ten) = false≢true (sym (ap is_some none))
 
@@ -179,7 +179,7 @@ encode = ((refl, flag), not_told)
 
 -- a stream, by the default rules
 abbrev pub default_rules : RuleNumbers
-default_rules = record { burst = 2; reach = 3; loss = InARow 10 }
+default_rules = record { burst = 2; reach = 3; loss = Run 10 }
 
 pub follow : IsAskedOf (entries_of (codes "rds" ∷ codes "follow" ∷ [])) (Follow raw_input default_rules)
 unfolding walked

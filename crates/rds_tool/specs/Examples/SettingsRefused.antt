@@ -1,6 +1,6 @@
 -- Settings at the ends of their ranges and past them, and which of two that are out of range is refused.
 use Rattle.std.specs.Prelude.{◌≡◌, ◌∷◌, [], Err, List, Ok, map, refl, true, false}
-use Rattle.rds_sync.specs.declared.loss.Loss.TheVariants.{InARow, Share}
+use Rattle.rds_sync.specs.declared.loss.Loss.TheVariants.{Run, Share}
 use Rattle.rds_tool.specs.Cuts.{are_inner, places_at}
 use Rattle.rds_tool.specs.Plans.{plan_of}
 use Rattle.rds_tool.specs.declared.error.ToolError.{ToolError}
@@ -10,14 +10,14 @@ use Rattle.rds_tool.specs.declared.job.Settings.{Settings}
 use Rattle.rds_tool.specs.Examples.Words.{settings_of, share_settings}
 
 pub least : plan_of (settings_of 0 1 1 1 1) ≡ Ok (record {
-  rules = record { burst = 0; reach = 1; loss = InARow 1 };
+  rules = record { burst = 0; reach = 1; loss = Run 1 };
   workers = 1;
   cuts = Even 1;
 })
 least = refl
 
 pub most : plan_of (settings_of 5 8 64 256 4294967295)
-    ≡ Ok (record { rules = record { burst = 5; reach = 8; loss = InARow 64 }; workers = 256; cuts = Even 4294967295 })
+    ≡ Ok (record { rules = record { burst = 5; reach = 8; loss = Run 64 }; workers = 256; cuts = Even 4294967295 })
 most = refl
 
 pub whole_share : plan_of (share_settings 2 64 64 4)

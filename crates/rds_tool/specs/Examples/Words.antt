@@ -1,6 +1,6 @@
 -- Short words for the examples.
 use Rattle.std.specs.Prelude.{ℕ, List, [], ◌∷◌, ◌++◌, None, Some, false, true}
-use Rattle.rds_sync.specs.declared.loss.Loss.TheVariants.{InARow, Share}
+use Rattle.rds_sync.specs.declared.loss.Loss.TheVariants.{Run, Share}
 use Rattle.rds_tool.specs.declared.job.Cuts.{Cuts}
 use Rattle.rds_tool.specs.declared.job.Cuts.TheVariants.{Even}
 use Rattle.rds_tool.specs.declared.job.Input.{Input}
@@ -27,7 +27,7 @@ raw_bits bits = record { hex = false; bits = Some bits; gaps = [] }
 -- the rules, the workers and the most pieces
 abbrev pub settings_of : ℕ → ℕ → ℕ → ℕ → ℕ → Settings
 settings_of burst reach loss workers pieces =
-    record { burst = burst; reach = reach; loss = InARow loss; workers = workers; cuts = Even pieces }
+    record { burst = burst; reach = reach; loss = Run loss; workers = workers; cuts = Even pieces }
 
 -- the same, where a lock is lost by a share of the last blocks
 abbrev pub share_settings : ℕ → ℕ → ℕ → ℕ → Settings
@@ -39,4 +39,4 @@ default_settings = settings_of 2 3 10 4 16
 
 -- the default rules, with so many workers and cut so
 abbrev pub cut_settings : ℕ → Cuts → Settings
-cut_settings workers cuts = record { burst = 2; reach = 3; loss = InARow 10; workers = workers; cuts = cuts }
+cut_settings workers cuts = record { burst = 2; reach = 3; loss = Run 10; workers = workers; cuts = cuts }

@@ -4,7 +4,7 @@ use Rattle.rds_sync.specs.Loss.{IsLoss}
 use Rattle.rds_sync.proofs.BadRows.{clean_kept}
 use Rattle.rds_sync.proofs.four_blocks.bad_after_clean.Goals as goal
 
-pub returns-in-InARow-clause-kept : goal.returns-in-InARow-clause-kept
-returns-in-InARow-clause-kept c k h =
-    let rule = c.in-InARow.is in
-    rw rule (clean_kept c.in-InARow.field-0 c.args.bad k (subst (λ (loss : Loss). IsLoss loss) rule c.requires.range.0) h)
+pub returns-in-Run-clause-kept : goal.returns-in-Run-clause-kept
+returns-in-Run-clause-kept c k h =
+    let rule = c.in-Run.is in
+    rw rule (clean_kept c.in-Run.field-0 c.args.bad k (subst (λ (loss : Loss). IsLoss loss) rule c.requires.range.0) h)

@@ -4,8 +4,8 @@ use Rattle.rds_sync.specs.Loss.{IsLoss}
 use Rattle.rds_sync.proofs.BadRows.{clean_kept}
 use Rattle.rds_sync.proofs.four_blocks.bad_after_four.Goals as goal
 
-pub returns-in-InARow-clause-kept : goal.returns-in-InARow-clause-kept
-returns-in-InARow-clause-kept c k h =
-    let rule = c.in-InARow.is in
+pub returns-in-Run-clause-kept : goal.returns-in-Run-clause-kept
+returns-in-Run-clause-kept c k h =
+    let rule = c.in-Run.is in
     rw (rule, c.if-word-eq-CLEAN.true)
-    (clean_kept c.in-InARow.field-0 c.args.bad k (subst (λ (loss : Loss). IsLoss loss) rule c.requires.range.0) h)
+    (clean_kept c.in-Run.field-0 c.args.bad k (subst (λ (loss : Loss). IsLoss loss) rule c.requires.range.0) h)

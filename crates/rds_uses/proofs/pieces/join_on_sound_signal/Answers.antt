@@ -3,7 +3,7 @@ use Rattle.std.specs.Result.{OnOk}
 use Rattle.rds_stream.specs.Recording.{Signal}
 use Rattle.rds_sync.specs.Convergence.{IsSound}
 use Rattle.rds_sync.specs.Rules.{RuleNumbers}
-use Rattle.rds_sync.specs.declared.loss.Loss.TheVariants.{InARow}
+use Rattle.rds_sync.specs.declared.loss.Loss.TheVariants.{Run}
 use Rattle.rds_sync.specs.declared.state.State.{State}
 use Rattle.rds_sync.specs.declared.state.State.TheVariants.{Searching}
 use Rattle.rds_pieces.specs.Meeting.{IsMeeting}
@@ -14,7 +14,7 @@ use Rattle.rds_pieces.specs.declared.error.PieceError.{PieceError}
 use Rattle.rds_uses.proofs.SoundSignal.{cost_within}
 use Rattle.rds_uses.proofs.pieces.join_on_sound_signal.Goals as goal
 
-cheap : (b : Signal) (rules : RuleNumbers) (s : State) (from to old new : ℕ) (result : _) → rules.loss ≡ InARow 10
+cheap : (b : Signal) (rules : RuleNumbers) (s : State) (from to old new : ℕ) (result : _) → rules.loss ≡ Run 10
     → (p : ℕ) × (c : ℕ) × IsSound b rules 0 from p c → from + 416 ≤ to
     → OnOk result (MeetSoon b rules s Searching from to)
     → OnOk result ((met : Option ℕ) × IsMeeting b rules s Searching from to met × (new ≤ old + seam_reads rules from to met))
