@@ -11,19 +11,20 @@ ghost use Rattle.rds_sync.specs.Step.{run as run_of};
 ghost use Rattle.rds_sync.specs.Totals.{totals_of};
 ghost use Rattle.rds_pieces.specs.Cutting.{IsCutting, pieces_of};
 ghost use Rattle.rds_pieces.specs.Guess.{guess};
+ghost use Rattle.rds_pieces.specs.Marks.{marks_of};
 ghost use Rattle.rds_pieces.specs.Joining.{AreNeighbours};
 ghost use Rattle.rds_pieces.specs.RunOf.{FollowEachOther, end_of, run_at, run_over, runs_of};
 ghost use Rattle.rds_pieces.specs.declared.error.PieceError.TheVariants.{BadCutting, OutOfMemory};
 
 use rds_pieces::{
-    Cutting, PieceError, PieceRun, RecordingWork, Seam, Work, join_runs, laws, seam, speculate,
-    stitch,
+    Cutting, Mark, PieceError, PieceRun, RecordingWork, Seam, Work, join_runs, laws, seam,
+    speculate, stitch,
 };
 use rds_stream::{Counted, Recording, Tape};
 use rds_sync::{
     Decoder, ItemIter, Items, Report, Rules, State, SyncError, Totals, laws as laws_of_runs, run,
 };
-use std::alloc::Global;
+use std::alloc::{AllocError, Global};
 use std::slice;
 use std::snapshot::Snapshot;
 
@@ -146,6 +147,30 @@ pub fn list_of_guess(run: &PieceRun) -> &Items
         (run_of run.now.source run.now.rules Searching run.now.from (run.now.to - run.now.from)).1 }
 {
     run.list()
+}
+
+/// The first mark of a guess is its first place, before which it searches.
+pub fn first_mark(recording: &Recording, rules: &Rules, run: &PieceRun) -> Option<Mark>
+    requires source { run.now.source ≡ recording.now }
+    requires rules { run.now.rules ≡ rules.now }
+    ensures { result ≡ Some (record { place = run.now.from; state = Searching; items = 0 }) }
+{
+    run.marks(recording, rules).next()
+}
+
+/// All marks of a guess: its first place, and the place after each bit that gave an item.
+pub fn marks_of_guess(
+    alloc: Global,
+    recording: &Recording,
+    rules: &Rules,
+    run: &PieceRun,
+) -> Result<Vec<Mark>, AllocError>
+    requires source { run.now.source ≡ recording.now }
+    requires rules { run.now.rules ≡ rules.now }
+    ensures { IfOk result (λ found. found.items
+        ≡ marks_of recording.now rules.now Searching run.now.from (run.now.to - run.now.from)) }
+{
+    run.marks(recording, rules).collect(alloc)
 }
 
 /// A guess knows the totals of its items.

@@ -23,9 +23,10 @@ ghost use Rattle.rds_sync.specs.Totals.{totals_of};
 use rds_stream::{Counted, Reader, Recording, Tape};
 use rds_sync::{
     Block, Decoder, Group, Item, Lock, Loss, Report, RuleNumbers, Rules, Spans, State, Step,
-    SyncError, Totals, advance, decode_plain, finish, laws, run, run_report, stretch,
+    SyncError, Tally, Totals, advance, decode_plain, finish, laws, run, run_report, stretch,
 };
-use std::alloc::Global;
+use std::alloc::{AllocError, Global};
+use std::snapshot::Snapshot;
 
 // ---- rules
 
@@ -313,6 +314,46 @@ pub fn two_stretches(
     }
     let second = stretch(reader, rules, first.state, first.place, to);
     (second.place, second.state)
+}
+
+/// A step of `advance` goes no further than a stretch from the same place.
+pub fn step_within_stretch(
+    recording: &Recording,
+    rules: &Rules,
+    state: State,
+    place: u64,
+    to: u64,
+) -> bool
+    requires lawful { IsLawful rules.now place state }
+    requires before { place < to }
+    requires within { to ≤ length_of recording.now }
+    ensures { result ≡ true }
+{
+    laws::steps_agree();
+    let step = advance(&mut Counted::new(recording), rules, state, place, to);
+    let far = stretch(&mut Reader::new(recording), rules, state, place, to);
+    step.place <= far.place
+}
+
+/// A hop of a tally that ends where a stretch does ends in the state of the stretch.
+pub fn hop_as_stretch(
+    alloc: Global,
+    recording: &Recording,
+    rules: &Rules,
+    state: State,
+    place: u64,
+) -> Result<bool, AllocError>
+    requires lawful { IsLawful rules.now place state }
+    requires before { place < length_of recording.now }
+    ensures { IfOk result (λ same. same ≡ true) }
+{
+    laws::steps_agree();
+    let to = recording.len();
+    let source = Snapshot::of(recording);
+    let mut tally = Tally::new(alloc, source, rules, state, place, Spans::Whole);
+    tally.hop(&mut Counted::new(recording), rules, to, to)?;
+    let far = stretch(&mut Reader::new(recording), rules, state, place, to);
+    Ok(tally.place() != far.place || tally.state() == far.state)
 }
 
 /// A stretch that finds nothing has come to its end.
