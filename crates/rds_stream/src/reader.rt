@@ -1,6 +1,6 @@
 //! A recording that is read in turn.
 ghost use Rattle.std.specs.Prelude.{◌≡◌, ◌<◌, ◌≤◌, ◌+◌, ◌^◌, All, IfSome};
-ghost use Rattle.rds_stream.specs.Run.{four_heard};
+ghost use Rattle.rds_stream.specs.InARow.{four_heard};
 ghost use Rattle.rds_stream.specs.Recording.{Signal, heard, length_of};
 ghost use Rattle.rds_stream.specs.Inside.Sections.{IsSection};
 

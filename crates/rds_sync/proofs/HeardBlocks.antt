@@ -5,7 +5,7 @@ use Rattle.rds_code.specs.declared.reading.Wanted.{Wanted}
 use Rattle.rds_code.specs.declared.reading.Wanted.TheVariants.{Either}
 use Rattle.rds_code.specs.declared.reading.Reading.{Reading}
 use Rattle.rds_code.specs.declared.reading.Reading.TheVariants.{Valid, Corrected, Lost}
-use Rattle.rds_stream.specs.Run.{four_heard}
+use Rattle.rds_stream.specs.InARow.{four_heard}
 use Rattle.rds_stream.specs.Recording.{Signal, reading_heard, reading_at}
 use Rattle.rds_sync.specs.declared.item.Block.TheVariants.{Read}
 use Rattle.rds_sync.specs.Groups.{block_at, blocks_at, wanted_beside}

@@ -3,7 +3,7 @@
 ghost use Rattle.std.specs.Prelude.{◌≡◌, ◌≤◌, ◌<◌, ◌+◌, ◌-◌, ◌^◌, ◌∷◌, [], false, map, ℕ, All, IfSome};
 ghost use Rattle.rds_code.specs.Offsets.{number};
 ghost use Rattle.rds_code.specs.declared.reading.Wanted.{Wanted as TheWanted};
-ghost use Rattle.rds_stream.specs.Run.{four_heard};
+ghost use Rattle.rds_stream.specs.InARow.{four_heard};
 ghost use Rattle.rds_stream.specs.Recording.{Signal, length_of, reading_heard};
 ghost use Rattle.rds_sync.specs.Groups.{blocks_at, group};
 ghost use Rattle.rds_sync.specs.Inside.Outcomes.{valid, outcome_of, bad_over};
