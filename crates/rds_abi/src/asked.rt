@@ -8,12 +8,9 @@ ghost use Rattle.rds_abi.specs.Asked.{IsLawful, IsRecording, Refuses, RefusesRec
 
 use crate::layout::{RdsGap, RdsRules};
 use crate::refusal::Refusal;
-use rds_stream::{Recording, StreamError};
+use rds_stream::{MOST_BITS, Recording, StreamError};
 use rds_sync::{Loss, RuleNumbers, Rules, SyncError};
 use std::alloc::{AllocError, Global};
-
-/// The most bits that a recording or a stream may have.
-pub(crate) const MOST_BITS: u64 = 1 << 36;
 
 /// The rule of loss that these numbers say.
 fn loss_of(asked: RdsRules) -> Loss

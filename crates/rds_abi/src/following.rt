@@ -11,13 +11,13 @@ ghost use Rattle.rds_abi.specs.Following.{AreClosed, AreCompleted, AreLast, AreL
 ghost use Rattle.rds_abi.specs.Layout.{item_in_c, totals_in_c};
 ghost use Rattle.rds_abi.specs.declared.refusal.Refusal.TheVariants.{BadGaps, BitsPastBytes, OutOfMemory, SmallRoom, TooLong};
 
-use crate::asked::{MOST_BITS, gaps_in, rules_of};
+use crate::asked::{gaps_in, rules_of};
 use crate::going::{state_in_c, state_of, write_end};
 use crate::in_c::{item_in_c, totals_in_c};
 use crate::layout::{RdsGap, RdsItem, RdsRules, RdsStream, RdsTotals};
 use crate::refusal::Refusal;
 use rds_live::{Live, ResumeError};
-use rds_stream::StreamError;
+use rds_stream::{MOST_BITS, StreamError};
 use rds_sync::{Group, Item, Rules, Totals};
 use std::alloc::{AllocError, Global};
 use std::marker::Model;

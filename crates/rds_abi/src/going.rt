@@ -14,13 +14,13 @@ ghost use Rattle.rds_abi.specs.declared.refusal.Refusal.TheVariants.{OutOfMemory
 ghost use Rattle.rds_abi.specs.Going.{IsLeftState, IsRun, RefusesRun, items_at_end, items_of_run, run_asked, run_in_part, state_in_c as the_state_in_c, state_of as the_state_of};
 ghost use Rattle.rds_abi.specs.Layout.{item_in_c};
 
-use crate::asked::{MOST_BITS, refuse_recording, rules_of};
+use crate::asked::{refuse_recording, rules_of};
 use crate::in_c::item_in_c;
 use crate::layout::{RdsGap, RdsItem, RdsRules, RdsState};
 use crate::part::{Part, moved_back, moved_on, part_of};
 use crate::refusal::Refusal;
 use rds_live::laws::{ends_move, runs_move};
-use rds_stream::Counted;
+use rds_stream::{Counted, MOST_BITS};
 use rds_sync::{Decoder, Group, Item, Lock, Rules, Spans, State, finish, laws, run_report};
 use std::alloc::Global;
 

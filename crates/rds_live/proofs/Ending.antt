@@ -10,7 +10,6 @@ use Rattle.rds_sync.specs.declared.totals.Totals.{Totals}
 use Rattle.rds_sync.specs.Ranges.{IsInRange}
 use Rattle.rds_sync.specs.Lawful.{IsLawful}
 use Rattle.rds_sync.specs.Laws.{RunsJoin, RunsAreReports}
-use Rattle.rds_sync.specs.CodeLaws.{CodesTellTotals}
 use Rattle.rds_sync.specs.Counting.{TotalsJoin, plus}
 use Rattle.rds_sync.specs.Report.{report_items}
 use Rattle.rds_sync.specs.Totals.{totals_of}
@@ -115,10 +114,10 @@ module _ (terms : Terms) (range : IsInRange terms.rules) (are : AreGaps (2 ^ 36)
           ∙ reports whole terms.rules range.some_loss
 
       -- and its totals
-      pub totals-to : TotalsJoin → CodesTellTotals → (totals found sum all : Totals) → totals ≡ totals_of (complete terms bytes) → found ≡ totals_of here.1 → sum ≡ plus totals found
+      pub totals-to : TotalsJoin → (totals found sum all : Totals) → totals ≡ totals_of (complete terms bytes) → found ≡ totals_of here.1 → sum ≡ plus totals found
           → all ≡ plus sum (totals_of last) → all ≡ totals_of (report_at terms (bytes ++ more) (8 * length bytes + bits))
-      totals-to join tell totals found sum all so_far found_is sum_is all_is =
-          let found_items : found ≡ totals_of items = found_is ∙ sym (totals-moved tell before here.1) ∙ ap (λ (xs : List Item). totals_of xs) (sym items_is) in
+      totals-to join totals found sum all so_far found_is sum_is all_is =
+          let found_items : found ≡ totals_of items = found_is ∙ sym (totals-moved join before here.1) ∙ ap (λ (xs : List Item). totals_of xs) (sym items_is) in
           let both : sum ≡ totals_of (complete terms bytes ++ items) = sum_is ∙ ap₂ plus so_far found_items ∙ sym (join (complete terms bytes) items).joined in
           all_is ∙ ap (λ (t : Totals). plus t (totals_of last)) both ∙ sym (join (complete terms bytes ++ items) last).joined
           ∙ ap (λ (xs : List Item). totals_of xs) report-to

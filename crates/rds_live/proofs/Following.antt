@@ -12,8 +12,6 @@ use Rattle.rds_sync.specs.Ranges.{IsInRange}
 use Rattle.rds_sync.specs.Lawful.{IsLawful}
 use Rattle.rds_sync.specs.Laws.{RunsJoin}
 use Rattle.rds_sync.specs.declared.totals.Totals.{Totals}
-use Rattle.rds_sync.specs.CodeLaws.{CodesTellTotals}
-use Rattle.rds_sync.specs.Codes.{Code, code_of, codes_of, totals_of_codes}
 use Rattle.rds_sync.specs.Counting.{IsAtMost, TotalsJoin, plus}
 use Rattle.rds_sync.specs.Totals.{totals_of}
 use Rattle.rds_sync.specs.Step.{run}
@@ -37,18 +35,18 @@ pub still-items : (items : List Item) → moved_items 0 items ≡ items
 still-items [] = refl
 still-items (item ∷ items) = ap₂ (λ (x : Item) (xs : List Item). x ∷ xs) (still-item item) (still-items items)
 
--- codes and totals do not depend on places
-code-moved : (d : ℕ) (item : Item) → code_of (moved_item d item) ≡ code_of item
-code-moved d (Acquired a x) = refl
-code-moved d (Group g) = refl
-code-moved d (LostLock a) = refl
+-- totals do not depend on places
+one-moved : (d : ℕ) (item : Item) → totals_of (moved_item d item ∷ []) ≡ totals_of (item ∷ [])
+one-moved d (Acquired a x) = refl
+one-moved d (Group g) = refl
+one-moved d (LostLock a) = refl
 
-codes-moved : (d : ℕ) (items : List Item) → codes_of (moved_items d items) ≡ codes_of items
-codes-moved d [] = refl
-codes-moved d (item ∷ items) = ap₂ (λ (x : Code) (xs : List Code). x ∷ xs) (code-moved d item) (codes-moved d items)
-
-pub totals-moved : CodesTellTotals → (d : ℕ) (items : List Item) → totals_of (moved_items d items) ≡ totals_of items
-totals-moved tell d items = tell (moved_items d items) ∙ ap totals_of_codes (codes-moved d items) ∙ sym (tell items)
+pub totals-moved : TotalsJoin → (d : ℕ) (items : List Item) → totals_of (moved_items d items) ≡ totals_of items
+totals-moved join d [] = refl
+totals-moved join d (item ∷ items) =
+    (join (moved_item d item ∷ []) (moved_items d items)).joined
+    ∙ ap₂ plus (one-moved d item) (totals-moved join d items)
+    ∙ sym (join (item ∷ []) items).joined
 
 -- moved back into a part that begins before the group in progress, a lawful state is lawful
 pub lawful-back : (rules : RuleNumbers) (d from place : ℕ) (s t : State) → moved_state d s ≡ t → IsLawful rules place t → from + d ≡ place → (d ≡ 0) ⊎ (most_behind ≤ from)
@@ -59,6 +57,7 @@ lawful-back rules d from place (Locked lock) t is h there early =
     let short : 26 * (lock.number - lock.first) ≤ 78 = (elim l.in_order [ inl between ↦ omega arith | inr inside ↦ omega arith ]) in
     record {
       soon = (omega (arith, l.soon, there), omega (arith, l.soon, there));
+      late = (elim early [ inl first ↦ omega (arith, l.late) | inr far ↦ omega (arith, l.soon, there) ]);
       few_bad = l.few_bad;
       enough_bits = (elim early [ inl first ↦ omega (arith, l.enough_bits) | inr late ↦ omega (arith, l.soon, there, short) ]);
       in_order = l.in_order;
@@ -69,6 +68,7 @@ pub lawful-on : (rules : RuleNumbers) (d from place : ℕ) (s t : State) → t �
 lawful-on rules d from place Searching t is h there = subst (λ (u : State). IsLawful rules place u) (sym is) tt
 lawful-on rules d from place (Locked lock) t is h there = subst (λ (u : State). IsLawful rules place u) (sym is) (record {
   soon = (omega (arith, h.soon, there), omega (arith, h.soon, there));
+  late = omega (arith, h.late);
   few_bad = h.few_bad;
   enough_bits = omega (arith, h.enough_bits);
   in_order = h.in_order;
@@ -204,12 +204,12 @@ module _ (terms : Terms) (range : IsInRange terms.rules) (are : AreGaps (2 ^ 36)
         → complete terms (bytes ++ more) ≡ complete terms bytes ++ items
     complete-after p items is = ap (λ (r : State × List Item). r.1) (run-after p) ∙ ap (λ (more_items : List Item). complete terms bytes ++ more_items) (sym is)
 
-    module _ (p : IsPrepared) (kept : List ℕ) (after : ℕ) (end next : State) (join : TotalsJoin) (tell : CodesTellTotals) (totals found sum : Totals) where
+    module _ (p : IsPrepared) (kept : List ℕ) (after : ℕ) (end next : State) (join : TotalsJoin) (totals found sum : Totals) where
       totals-after : totals ≡ totals_of (complete terms bytes) → found ≡ totals_of (run part terms.rules local from (length_of part - from)).1 → sum ≡ plus totals found
           → sum ≡ totals_of (complete terms (bytes ++ more))
       totals-after so_far found_is sum_is =
           let items : List Item = moved_items before (run part terms.rules local from (length_of part - from)).1 in
-          sum_is ∙ ap₂ plus so_far (found_is ∙ sym (totals-moved tell before (run part terms.rules local from (length_of part - from)).1))
+          sum_is ∙ ap₂ plus so_far (found_is ∙ sym (totals-moved join before (run part terms.rules local from (length_of part - from)).1))
           ∙ sym (join (complete terms bytes) items).joined
           ∙ ap (λ (all : List Item). totals_of all) (sym (complete-after p items refl))
 

@@ -6,7 +6,6 @@ use Rattle.rds_sync.specs.declared.state.State.{State}
 use Rattle.rds_sync.specs.declared.item.Item.{Item}
 use Rattle.rds_sync.specs.Ranges.{IsInRange}
 use Rattle.rds_sync.specs.Laws.{RunsJoin}
-use Rattle.rds_sync.specs.CodeLaws.{CodesTellTotals}
 use Rattle.rds_sync.specs.Counting.{TotalsJoin, plus}
 use Rattle.rds_sync.specs.Totals.{totals_of}
 use Rattle.rds_sync.specs.Step.{run}
@@ -56,13 +55,13 @@ module _ (joins : RunsJoin) (moves : RunsMove) (live : LiveOf) (before bytes : L
       (part-next live bytes bits from at local refl refl refl part (8 * length (live.tail ++ bytes)) (omega (arith, length-append live.tail bytes)) refl)
       (omega (arith, long))
 
-  pub next-heard : TotalsJoin → CodesTellTotals → HasHeard (live_next live bytes) (before ++ bytes)
-  next-heard join tell =
+  pub next-heard : TotalsJoin → HasHeard (live_next live bytes) (before ++ bytes)
+  next-heard join =
       heard-after live.terms range known.gaps joins moves before bytes live.tail live.place from at local part ready
       (last_bytes (live.tail ++ bytes)) (live.place + bits) (run_next live bytes bits).0 (moved_state at (run_next live bytes bits).0)
-      join tell live.totals (totals_of (completed live bytes)) (plus live.totals (totals_of (completed live bytes)))
+      join live.totals (totals_of (completed live bytes)) (plus live.totals (totals_of (completed live bytes)))
       refl (omega (arith, long, known.kept, known.whole)) (sym (ap (λ (r : State × List Item). r.0) found-is)) refl (ap (λ (l : LiveOf). l.totals) heard)
-      (sym (ap (λ (r : State × List Item). totals_of r.1) found-is ∙ count-next live bytes bits tell)) refl
+      (sym (ap (λ (r : State × List Item). totals_of r.1) found-is ∙ count-next live bytes bits join)) refl
 
   pub next-complete : complete live.terms before ++ completed live bytes ≡ complete live.terms (before ++ bytes)
   next-complete =

@@ -5,8 +5,7 @@ use Rattle.rds_stream.specs.Recording.{Signal, bits_of}
 use Rattle.rds_sync.specs.declared.state.State.{State}
 use Rattle.rds_sync.specs.declared.item.Item.{Item}
 use Rattle.rds_sync.specs.declared.totals.Totals.{Totals}
-use Rattle.rds_sync.specs.CodeLaws.{CodesTellTotals}
-use Rattle.rds_sync.specs.Counting.{plus}
+use Rattle.rds_sync.specs.Counting.{TotalsJoin, plus}
 use Rattle.rds_sync.specs.Step.{run, items_of_end}
 use Rattle.rds_sync.specs.Totals.{totals_of}
 use Rattle.rds_live.specs.Gaps.{gaps_within}
@@ -42,8 +41,8 @@ module _ (live : LiveOf) (more : List ℕ) (bits : ℕ) where
         ∙ ap (λ (d : ℕ). moved_items d (items_of_end (part_with live more bits) live.terms.rules (run_next live more bits).0)) there
 
   -- the items do not count otherwise where they are moved
-  pub count-next : CodesTellTotals → totals_of (run_next live more bits).1 ≡ totals_of (items_next live more bits)
-  count-next tell = sym (totals-moved tell (before_tail live) (run_next live more bits).1)
+  pub count-next : TotalsJoin → totals_of (run_next live more bits).1 ≡ totals_of (items_next live more bits)
+  count-next join = sym (totals-moved join (before_tail live) (run_next live more bits).1)
 
 -- no byte behind the last bit is heard
 pub part-begin : (live : LiveOf) (bytes : List ℕ) (count bits : ℕ) → bits ≤ 8 * length (take count bytes) → part_with live (take count bytes) bits ≡ part_with live bytes bits

@@ -1,12 +1,11 @@
 //! Gaps of a stream, and those of a part of it.
-ghost use Rattle.std.specs.Prelude.{◌≡◌, ◌<◌, ◌≤◌, ◌↔◌, ◌^◌, length, min, true, vec_capacity};
-ghost use Rattle.std.specs.List.{All, AllAdjacentBelow};
+ghost use Rattle.std.specs.Prelude.{◌≡◌, ◌≤◌, ◌↔◌, ◌^◌, length, min, true, vec_capacity};
 ghost use Rattle.rds_stream.specs.Recording.{AreGaps};
 ghost use Rattle.rds_live.specs.Room.{filled_up};
 ghost use Rattle.rds_live.specs.Gaps.{gaps_within, part_of_gap as the_part_of_gap};
 
-use crate::kept::MOST_BITS;
 use crate::room::HELD_BITS;
+use rds_stream::{MOST_BITS, are_gaps};
 
 /// Whether a stream may have these gaps: each has a place and ends by 2^36 bits, and each begins at or after the end of the one
 /// before it.
@@ -16,28 +15,6 @@ pub fn may_have_gaps(gaps: &[(u64, u64)]) -> bool
     ensures { (result ≡ true) ↔ AreGaps (2 ^ 36) gaps.now }
 {
     are_gaps(gaps, MOST_BITS)
-}
-
-/// Whether these are gaps that so many bits may have: each has a place and lies within the bits, and each begins at or
-/// after the end of the one before it.
-pub(crate) fn are_gaps(gaps: &[(u64, u64)], bits: u64) -> bool
-    ensures { (result ≡ true) ↔ AreGaps bits gaps.now }
-{
-    are_within(gaps, bits) && are_apart(gaps)
-}
-
-/// Whether each has a place and lies within so many bits.
-fn are_within(gaps: &[(u64, u64)], bits: u64) -> bool
-    ensures { (result ≡ true) ↔ All (λ gap. (gap.0 < gap.1) × (gap.1 ≤ bits)) gaps.now }
-{
-    gaps.iter().all(|&(from, to)| from < to && to <= bits)
-}
-
-/// Whether each begins at or after the end of the one before it.
-fn are_apart(gaps: &[(u64, u64)]) -> bool
-    ensures { (result ≡ true) ↔ AllAdjacentBelow (λ gap next. gap.1 ≤ next.0) gaps.now (length gaps.now) }
-{
-    gaps.is_sorted_by(|gap, next| gap.1 <= next.0)
 }
 
 /// Puts the gaps in the part of a stream that begins at `before` and has `len` places, by their places in the part, in the

@@ -5,14 +5,12 @@ ghost use Rattle.rds_stream.specs.Recording.{AreGaps};
 ghost use Rattle.rds_sync.specs.Counting.{IsAtMost};
 ghost use Rattle.rds_live.specs.Live.{IsLive, live_with, most_kept};
 
+use rds_stream::MOST_BITS;
 use rds_sync::{Rules, State, Totals};
 
 /// How many of the last bytes of a stream are kept. A run may hear 233 bits behind one: those of a partner's window,
 /// eight blocks back.
 pub(crate) const MOST_KEPT: usize = 30;
-
-/// The most bits that a stream may have.
-pub(crate) const MOST_BITS: u64 = 1 << 36;
 
 /// No count of the totals rises by more than this with a bit.
 const MOST_COUNTED: u64 = 1 << 11;

@@ -36,6 +36,5 @@ pub fn next_is_heard()
 {
     laws::runs_join();
     laws::totals_join();
-    laws::codes_tell_totals();
     runs_move();
 }

@@ -16,12 +16,12 @@ ghost use Rattle.rds_live.specs.Room.{slots_of};
 ghost use Rattle.rds_live.specs.Keeping.{IsKept, live_kept};
 
 use crate::error::ResumeError;
-use crate::gaps::{are_gaps, may_have_gaps};
-use crate::kept::{Kept, MOST_BITS, MOST_KEPT, can_be_live};
+use crate::gaps::may_have_gaps;
+use crate::kept::{Kept, MOST_KEPT, can_be_live};
 use crate::laws::{ends_move, pieces_join, runs_move};
 use crate::moved::{move_on, moved_back, moved_group, moved_on};
 use crate::room::{AT_ONCE, Room};
-use rds_stream::{Counted, Recording, StreamError};
+use rds_stream::{Counted, MOST_BITS, Recording, StreamError, are_gaps};
 use rds_sync::{Decoder, Group, Item, Rules, State, Totals, finish, laws};
 use std::alloc::{AllocError, Global};
 use std::marker::Model;
@@ -260,7 +260,6 @@ impl<'r> Live<'r> {
         prove!(1 <= self.rules.reach());
         laws::runs_join();
         laws::totals_join();
-        laws::codes_tell_totals();
         runs_move();
         let count = bytes
             .len()
@@ -419,7 +418,6 @@ impl<'r> Live<'r> {
         laws::runs_join();
         laws::runs_are_reports();
         laws::totals_join();
-        laws::codes_tell_totals();
         runs_move();
         ends_move();
         let Live {

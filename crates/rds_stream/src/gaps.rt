@@ -16,7 +16,9 @@ pub(crate) struct Section {
 
 /// Whether these are gaps that so many bits may have: each has a place and lies within the bits, and each begins at or
 /// after the end of the one before it.
-pub(crate) fn are_gaps(gaps: &[(u64, u64)], bits: u64) -> bool
+///
+/// Its cost: the gaps are gone over twice. It takes no memory.
+pub fn are_gaps(gaps: &[(u64, u64)], bits: u64) -> bool
     ensures { (result ≡ true) ↔ AreGaps bits gaps.now }
 {
     are_within(gaps, bits) && are_apart(gaps)

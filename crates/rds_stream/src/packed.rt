@@ -10,7 +10,7 @@ use rds_code::BLOCK_BITS;
 use std::marker::Model;
 
 /// The most bits that a recording may hold.
-const MOST_BITS: u64 = 1 << 36;
+pub const MOST_BITS: u64 = 1 << 36;
 
 /// Ones in the places of a block.
 const BLOCK: u32 = (1 << BLOCK_BITS) - 1;

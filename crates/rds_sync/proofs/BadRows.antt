@@ -9,8 +9,8 @@ use Rattle.rds_sync.specs.declared.loss.Loss.{Loss}
 use Rattle.rds_sync.specs.declared.loss.Loss.TheVariants.{InARow, Share}
 use Rattle.rds_sync.specs.Loss.{IsLoss, IsLawfulBad, bad_after, are_too_many}
 use Rattle.rds_sync.specs.Convergence.{sound_blocks}
-use Rattle.rds_sync.specs.Marks.{bad_over}
-use Rattle.rds_sync.specs.Words.{blocks_in}
+use Rattle.rds_sync.specs.Inside.Outcomes.{bad_over}
+use Rattle.rds_sync.specs.Inside.Words.{blocks_in}
 use Rattle.rds_sync.proofs.LossLemmas.{double, ones_below, ones_zero}
 
 -- the lowest j digits of m are all f

@@ -2,10 +2,8 @@
 use Rattle.std.proofs.Common.{◌≡◌, ℕ, ◌+◌, ◌-◌, ◌*◌, ◌≤◌, List, [], ◌∷◌, true, length, refl, ap, ◌∙◌, arith}
 use Rattle.rds_stream.specs.Recording.{Signal}
 use Rattle.rds_sync.specs.Acquiring.{has_number}
-use Rattle.rds_sync.specs.Codes.{Outcome, missing, valid, lost, corrected, was_valid}
 use Rattle.rds_sync.specs.Groups.{group}
-use Rattle.rds_sync.specs.Inside.CodeRuns.{AreValid}
-use Rattle.rds_sync.specs.Marks.{good_at}
+use Rattle.rds_sync.specs.Inside.Outcomes.{Outcome, missing, valid, lost, corrected, was_valid, good_at}
 use Rattle.rds_sync.specs.Rules.{RuleNumbers}
 use Rattle.rds_sync.proofs.GroupOutcomes.{outcomes, good-at}
 
@@ -31,6 +29,13 @@ four-valid (o ∷ p ∷ q ∷ r ∷ s ∷ os) h h1 h2 h3 h4 = absurd (omega (ari
 outcomes-four : (b : Signal) (rules : RuleNumbers) (f x p : ℕ) → length (outcomes (group b rules f x p)) ≡ 4
 unfolding group
 outcomes-four b rules f x p = refl
+
+-- four blocks that are valid with their numbers
+pub record AreValid (b : Signal) (due : ℕ) : Type 0 where
+  pub one : has_number b due 1 ≡ true
+  pub two : has_number b (due + 26) 2 ≡ true
+  pub three : has_number b (due + 52) 3 ≡ true
+  pub four : has_number b (due + 78) 4 ≡ true
 
 module _ (b : Signal) (rules : RuleNumbers) (due : ℕ) (late : 25 ≤ due) (all : AreValid b due) where
   pub clean-outcomes : outcomes (group b rules 1 4 (due + 78)) ≡ all_valid

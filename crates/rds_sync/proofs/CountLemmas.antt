@@ -1,14 +1,13 @@
 -- Items counted one after the other.
-use Rattle.std.proofs.Common.{◌≡◌, ℕ, ◌+◌, List, [], ◌∷◌, ◌++◌, map, refl, sym, ap, ap₂, ◌∙◌, arith, append_assoc, append-nil, length-append}
+use Rattle.std.proofs.Common.{◌≡◌, ℕ, List, [], ◌∷◌, ◌++◌, map, refl, sym, ap, ap₂, ◌∙◌, arith, append_assoc, append-nil, length-append}
 use Rattle.rds_sync.specs.declared.item.Group.{Group as GroupRecord}
 use Rattle.rds_sync.specs.declared.item.Item.{Item}
 use Rattle.rds_sync.specs.declared.item.Item.TheVariants.{Group, LostLock}
 use Rattle.rds_sync.specs.declared.totals.Totals.{Totals}
-use Rattle.rds_sync.specs.Codes.{Outcome, outcome_of}
 use Rattle.rds_sync.specs.Counting.{plus}
-use Rattle.rds_sync.specs.Inside.Counts.{CountOf, no_count, count_of, joined, group_count, loss_count, added}
-use Rattle.rds_sync.specs.Totals.{totals_of}
-use Rattle.rds_sync.proofs.CodeTotals.{codes_tell_totals}
+use Rattle.rds_sync.specs.Inside.Counts.{CountOf, count_of, joined, group_count, loss_count, added}
+use Rattle.rds_sync.specs.Inside.Outcomes.{Outcome, outcome_of}
+use Rattle.rds_sync.proofs.OutcomeTotals.{group-tells}
 use Rattle.rds_sync.proofs.TotalsLemmas.{same_counts, totals_of-append}
 
 pub added-append : (before : CountOf) (xs ys : List Item) → added before (xs ++ ys) ≡ added (added before xs) ys
@@ -27,7 +26,7 @@ added-nothing before xs none = ap (λ (is : List Item). added before is) (sym no
 pub group-added : (before : CountOf) (g : GroupRecord) (os : List Outcome) → os ≡ map outcome_of g.blocks → joined before (group_count os) ≡ added before (Group g ∷ [])
 group-added before g os is =
     ap (λ (outcomes : List Outcome). joined before (group_count outcomes)) is
-    ∙ ap (λ (t : Totals). joined before (record { totals = t; items = 1 })) (sym (codes_tell_totals (Group g ∷ [])))
+    ∙ ap (λ (t : Totals). joined before (record { totals = t; items = 1 })) (sym (group-tells g))
 
 -- and the loss that it closes with
 pub lost-added : (before mid after : CountOf) (g : GroupRecord) (os : List Outcome) (place : ℕ) → os ≡ map outcome_of g.blocks

@@ -8,10 +8,10 @@ use Rattle.rds_code.specs.declared.reading.Reading.TheVariants.{Valid, Corrected
 use Rattle.rds_stream.specs.InARow.{four_heard}
 use Rattle.rds_stream.specs.Recording.{Signal, reading_heard, reading_at}
 use Rattle.rds_sync.specs.declared.item.Block.TheVariants.{Read}
-use Rattle.rds_sync.specs.Codes.{outcome_of}
 use Rattle.rds_sync.specs.Groups.{block_at, blocks_at, wanted_beside}
+use Rattle.rds_sync.specs.Inside.Outcomes.{outcome_of}
+use Rattle.rds_sync.specs.Inside.Words.{nibble, word_of_blocks}
 use Rattle.rds_sync.specs.Rules.{RuleNumbers}
-use Rattle.rds_sync.specs.Words.{nibble, word_of_blocks}
 use Rattle.rds_sync.proofs.GroupBlocks.{block_at-read, blocks_at-read}
 
 -- a block that was read from what was heard at its place

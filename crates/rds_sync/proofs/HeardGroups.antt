@@ -4,14 +4,13 @@ use Rattle.rds_stream.specs.Recording.{Signal}
 use Rattle.rds_sync.specs.declared.item.Block.{Block}
 use Rattle.rds_sync.specs.declared.item.Group.{Group}
 use Rattle.rds_sync.specs.declared.loss.Loss.{Loss}
-use Rattle.rds_sync.specs.Codes.{Outcome, was_valid, outcome_of}
 use Rattle.rds_sync.specs.Groups.{blocks_at, group, group_of}
+use Rattle.rds_sync.specs.Inside.Outcomes.{Outcome, was_valid, outcome_of, bad_over}
 use Rattle.rds_sync.specs.Inside.WholeGroups.{IsWhole, outcomes_at}
 use Rattle.rds_sync.specs.Loss.{IsLawfulBad, are_too_many, bad_after}
-use Rattle.rds_sync.specs.Marks.{bad_over}
 use Rattle.rds_sync.specs.Rules.{RuleNumbers}
 use Rattle.rds_sync.specs.Totals.{is_valid}
-use Rattle.rds_sync.proofs.CodeTotals.{valid_is}
+use Rattle.rds_sync.proofs.OutcomeTotals.{valid_is}
 
 -- what holds of the first four holds of each of them
 pub each-of-four : (P : ℕ → Type 0) → P 0 → P 1 → P 2 → P 3 → (k : ℕ) → k < 4 → P k

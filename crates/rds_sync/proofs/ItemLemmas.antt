@@ -64,15 +64,3 @@ report-run b rules n s items loss whole state_is items_are =
     ap₂ (λ (t : State) (is : List Item). is ++ items_of_end b rules t) state_is items_are
     ∙ ap (λ (m : ℕ). (run b rules Searching 0 m).1 ++ items_of_end b rules (run b rules Searching 0 m).0) bits
     ∙ run_is_report b rules loss
-
-pub report-few : (b : Signal) (rules : RuleNumbers) (n : ℕ) (s : State) (items ended : List Item)
-    → items ≡ (run b rules Searching 0 (n - 0)).1 → ended ≡ items_of_end b rules s → length (items ++ ended) ≤ 2 * n + 1
-report-few b rules n s items ended items_are end_is =
-    omega (
-      arith,
-      length-append items ended,
-      ap (λ (is : List Item). length is) items_are,
-      ap (λ (is : List Item). length is) end_is,
-      run_items-few b rules Searching 0 (n - 0),
-      items_of_end-few b rules s,
-    )

@@ -1,6 +1,6 @@
 -- Where a place acquires, and the states that follow on a lawful one.
-use Rattle.std.proofs.Common.{◌≡◌, ℕ, zero, suc, ◌+◌, ◌-◌, ◌*◌, ◌%◌, ◌<◌, ◌≤◌, Bool, true, false, Option, Some, None, refl, sym, ap, subst, arith, inl, inr, ⊎_elim}
-use Rattle.std.proofs.lemmas.Bool.{ne_eqb, cases_eq, cases_lt, cases_Bool, eqb-true, lt-ltb}
+use Rattle.std.proofs.Common.{◌≡◌, ℕ, zero, suc, ◌+◌, ◌-◌, ◌*◌, ◌%◌, ◌<◌, ◌≤◌, Bool, true, false, Option, Some, None, refl, sym, ap, subst, ◌∙◌, arith, inl, inr, ⊎_elim}
+use Rattle.std.proofs.lemmas.Bool.{ne_eqb, eq-eqb, cases_eq, cases_lt, cases_Bool, eqb-true, lt-ltb}
 use Rattle.std.specs.Prelude.{◌==◌}
 use Rattle.std.specs.List.{list_any, range_with_len}
 use Rattle.rds_code.specs.declared.offset.Offset.{Offset}
@@ -12,7 +12,7 @@ use Rattle.rds_sync.specs.declared.state.State.{State}
 use Rattle.rds_sync.specs.declared.state.State.TheVariants.{Searching, Locked}
 use Rattle.rds_sync.specs.Rules.{RuleNumbers}
 use Rattle.rds_sync.specs.Loss.{IsLoss, IsLawfulBad, are_too_many}
-use Rattle.rds_sync.specs.Acquiring.{acquired, has_number, has_partner, with_partner}
+use Rattle.rds_sync.specs.Acquiring.{acquired, has_number, has_partner, is_numbered, with_partner}
 use Rattle.rds_sync.specs.Lawful.{IsLawful, IsLawfulLock}
 use Rattle.rds_sync.specs.Step.{run, step, bad_with, lock_of, lock_after}
 use Rattle.rds_sync.proofs.LossLemmas.{lawful_none, lawful_kept}
@@ -102,6 +102,11 @@ module _ (b : Signal) (rules : RuleNumbers) where
       let w = f.within_reach in
       omega (arith, p, w)
 
+  -- the place has that number
+  pub acquired-number : (i x : ℕ) → acquired b rules i ≡ Some x → has_number b i x ≡ true
+  unfolding has_number
+  acquired-number i x e = let f = acquired-facts i x e in ap (λ o. is_numbered o x) f.here ∙ eq-eqb _ x f.number_is
+
   -- where the offset at a place is known, acquiring is a matter of its partner
   pub acquired-none : (i : ℕ) → off b i ≡ None → acquired b rules i ≡ None
   unfolding acquired
@@ -112,18 +117,18 @@ module _ (b : Signal) (rules : RuleNumbers) where
   acquired-some i o e = ap (λ (w : Option Offset). elim w as (λ _. Option ℕ) [ None ↦ None | Some o ↦ with_partner b rules i (number o) ]) e
 
 -- the lock after block x was read at place i, or acquired there
-pub lawful-lock_after : (rules : RuleNumbers) (i x bad first : ℕ) → IsLawfulBad rules.loss bad → 26 * (x - first) + 25 ≤ i → 1 ≤ first → first ≤ x → x ≤ 4
+pub lawful-lock_after : (rules : RuleNumbers) (i x bad first : ℕ) → IsLawfulBad rules.loss bad → 51 ≤ i → 26 * (x - first) + 25 ≤ i → 1 ≤ first → first ≤ x → x ≤ 4
     → IsLawful rules (i + 1) (Locked (lock_after i x bad first))
-lawful-lock_after rules i x bad first few enough low order high = elim (cases_eq x 4) [
+lawful-lock_after rules i x bad first few late enough low order high = elim (cases_eq x 4) [
   | inl four ↦
       let e : Locked (lock_after i x bad first) ≡ Locked (lock_of (i + 26) 1 bad 1) = rw four refl in
       subst (λ (s : State). IsLawful rules (i + 1) s) (sym e)
-      (record { soon = (omega arith, omega arith); few_bad = few; enough_bits = omega arith; in_order = inl (refl, refl) })
+      (record { soon = (omega arith, omega arith); late = omega arith; few_bad = few; enough_bits = omega arith; in_order = inl (refl, refl) })
   | inr less ↦
       let n : x % 4 + 1 ≡ x + 1 = omega arith in
       let e : Locked (lock_after i x bad first) ≡ Locked (lock_of (i + 26) (x + 1) bad first) = rw (ne_eqb x 4 less, n) refl in
       subst (λ (s : State). IsLawful rules (i + 1) s) (sym e)
-      (record { soon = (omega arith, omega arith); few_bad = few; enough_bits = omega arith; in_order = inr (low, omega arith, omega arith) })
+      (record { soon = (omega arith, omega arith); late = omega arith; few_bad = few; enough_bits = omega arith; in_order = inr (low, omega arith, omega arith) })
 ]
 
 -- the numbers of a lawful lock
@@ -142,7 +147,7 @@ module _ (b : Signal) (rules : RuleNumbers) where
         let r = acquired-range b rules i x e in
         let p = acquired-place b rules i x e in
         subst (λ (t : State). IsLawful rules (i + 1) t) (sym (step-acquiring b rules i x e))
-        (lawful-lock_after rules i x 0 x (lawful_none rules.loss loss) (omega arith) (omega (arith, r)) (omega arith) (omega (arith, r)))
+        (lawful-lock_after rules i x 0 x (lawful_none rules.loss loss) p (omega arith) (omega (arith, r)) (omega arith) (omega (arith, r)))
   lawful-step loss i (Locked lock) lawful = elim (cases_eq lock.due i) [
     | inl same ↦
         let bad : ℕ = bad_with b rules lock.due lock.number lock.bad in
@@ -151,13 +156,13 @@ module _ (b : Signal) (rules : RuleNumbers) where
         (elim (cases_Bool (are_too_many rules.loss bad)) [
           | inr few ↦ subst (λ (t : State). IsLawful rules (lock.due + 1) t) (sym (step-keeping b rules lock few))
               (lawful-lock_after rules lock.due lock.number bad lock.first (lawful_kept rules.loss lock.bad (has_number b lock.due lock.number) lawful.few_bad few)
-              lawful.enough_bits n.0 n.1 n.2)
+              (omega (arith, lawful.late)) lawful.enough_bits n.0 n.1 n.2)
           | inl many ↦ subst (λ (t : State). IsLawful rules (lock.due + 1) t) (sym (step-losing b rules lock many)) tt
         ])
     | inr other ↦
         let soon = lawful.soon in
         subst (λ (t : State). IsLawful rules (i + 1) t) (sym (step-waiting b rules lock i other))
-        (record { soon = (omega (arith, soon), omega (arith, soon)); few_bad = lawful.few_bad; enough_bits = lawful.enough_bits; in_order = lawful.in_order })
+        (record { soon = (omega (arith, soon), omega (arith, soon)); late = lawful.late; few_bad = lawful.few_bad; enough_bits = lawful.enough_bits; in_order = lawful.in_order })
   ]
 
   -- a run leads from a lawful state to a lawful state
@@ -182,7 +187,7 @@ pub lawful-waiting : (rules : RuleNumbers) (place later : ℕ) (lock : Lock) →
     → place ≤ later → later ≤ lock.due → IsLawfulLock rules later lock
 lawful-waiting rules place later lock lawful order before =
     let soon = lawful.soon in
-    record { soon = (before, omega (arith, soon.1)); few_bad = lawful.few_bad; enough_bits = lawful.enough_bits; in_order = lawful.in_order }
+    record { soon = (before, omega (arith, soon.1)); late = lawful.late; few_bad = lawful.few_bad; enough_bits = lawful.enough_bits; in_order = lawful.in_order }
 
 -- the state after the block that is due is lawful
 pub lawful-due : (b : Signal) (rules : RuleNumbers) (place : ℕ) (lock : Lock) → IsLoss rules.loss → IsLawfulLock rules place lock

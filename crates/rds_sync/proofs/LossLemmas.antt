@@ -261,6 +261,11 @@ few_from n m e = elim (cases_lt m n) [
   | inr many ↦ let t : nat_le n m ≡ true = le-leb n m many in let no : true ≡ false = sym t ∙ e in cc no
 ]
 
+-- a good block leaves none
+pub none-kept : (loss : Loss) → bad_after loss true 0 ≡ 0
+none-kept (InARow n) = refl
+none-kept (Share n v) = let some : 1 ≤ 2 ^ v = omega (arith, pow_pos v) in mod-eq_of_lt {n = 0} {m = 2 ^ v} some
+
 -- lawful: none, and what is kept of a lock that is not lost
 pub lawful_none : (loss : Loss) → IsLoss loss → IsLawfulBad loss 0
 lawful_none (InARow n) h = h

@@ -14,10 +14,6 @@ use Rattle.rds_sync.specs.Acquiring.{acquired}
 use Rattle.rds_sync.specs.Groups.{group}
 use Rattle.rds_sync.specs.Step.{run, step, after_bit, items_at, bad_with, group_after, lock_after}
 
--- the lock of a state
-pub same-lock : (lock other : Lock) → Locked lock ≡ Locked other → lock ≡ other
-same-lock lock other same = cc
-
 module _ (b : Signal) (rules : RuleNumbers) where
   -- one bit
 

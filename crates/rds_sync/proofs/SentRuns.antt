@@ -18,27 +18,24 @@ use Rattle.rds_sync.specs.declared.state.State.{State}
 use Rattle.rds_sync.specs.declared.state.State.TheVariants.{Searching, Locked}
 use Rattle.rds_sync.specs.declared.totals.Totals.{Totals}
 use Rattle.rds_sync.specs.Acquiring.{acquired, has_number, has_partner, is_in_step, is_numbered}
-use Rattle.rds_sync.specs.Codes.{Outcome, outcome_of, was_valid}
 use Rattle.rds_sync.specs.Counting.{plus}
 use Rattle.rds_sync.specs.Groups.{group}
-use Rattle.rds_sync.specs.Inside.CodeRuns.{AreValid}
+use Rattle.rds_sync.specs.Inside.Outcomes.{Outcome, outcome_of, was_valid, bad_over, good_at}
 use Rattle.rds_sync.specs.Loss.{IsLoss, are_too_many, bad_after}
-use Rattle.rds_sync.specs.Marks.{bad_over, good_at}
 use Rattle.rds_sync.specs.Report.{report_items}
 use Rattle.rds_sync.specs.Rules.{RuleNumbers}
 use Rattle.rds_sync.specs.Sent.{IsHeardFrom, GroupIsHeard, AreHeard, block_sent, group_sent, items_sent, SentGroup, four_damages, AreHeardDamaged, items_damaged, bad_after_blocks, KeepLock, SentGroupsAreListed, LockedGroupsAreListed, DamagedGroupsAreListed, SoundSignalIsDecoded}
 use Rattle.rds_sync.specs.Step.{run, items_of_end, lock_of}
 use Rattle.rds_sync.specs.Totals.{totals_of, is_valid}
 use Rattle.rds_sync.proofs.BadRows.{good_keeps}
-use Rattle.rds_sync.proofs.CleanGroups.{all_valid, clean-outcomes}
-use Rattle.rds_sync.proofs.CodeMarks.{none-kept}
-use Rattle.rds_sync.proofs.CodeTotals.{valid_is}
+use Rattle.rds_sync.proofs.CleanGroups.{AreValid, all_valid, clean-outcomes}
 use Rattle.rds_sync.proofs.Converge.{runs_converge}
 use Rattle.rds_sync.proofs.GroupOutcomes.{outcomes, good-at}
 use Rattle.rds_sync.proofs.HeardGroups.{each-of-four, all-four, kept-each}
 use Rattle.rds_sync.proofs.HeardLemmas.{off-heard, good-heard}
 use Rattle.rds_sync.proofs.LawfulLemmas.{acquired-place, acquired-some}
-use Rattle.rds_sync.proofs.LossLemmas.{lawful_none}
+use Rattle.rds_sync.proofs.LossLemmas.{lawful_none, none-kept}
+use Rattle.rds_sync.proofs.OutcomeTotals.{valid_is}
 use Rattle.rds_sync.proofs.RunIsReport.{run_is_report}
 use Rattle.rds_sync.proofs.RunLemmas.{run-append, run-found, run-places, step-acquiring, items-acquiring}
 use Rattle.rds_sync.proofs.SentGroups.{CodeLaws, groups_are_corrected, third_number}

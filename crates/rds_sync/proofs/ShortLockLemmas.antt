@@ -17,26 +17,23 @@ use Rattle.rds_sync.specs.declared.item.Item.TheVariants.{Group, LostLock}
 use Rattle.rds_sync.specs.declared.state.State.{State}
 use Rattle.rds_sync.specs.declared.state.State.TheVariants.{Searching, Locked}
 use Rattle.rds_sync.specs.Acquiring.{acquired, has_number}
-use Rattle.rds_sync.specs.Codes.{Outcome, outcome_of, Code, blocks, ended, KeptOf, behind, kept_of}
 use Rattle.rds_sync.specs.Groups.{block_at, blocks_at, group, wanted_beside}
-use Rattle.rds_sync.specs.Inside.CodeParts.{kept_as}
+use Rattle.rds_sync.specs.Inside.Counts.{CountOf, joined, group_count, loss_count, added}
+use Rattle.rds_sync.specs.Inside.Outcomes.{Outcome, outcome_of}
 use Rattle.rds_sync.specs.Inside.ShortLocks.{IsLostAtOnce, wanted_behind, first_behind, word_of_two}
+use Rattle.rds_sync.specs.Inside.Words.{nibble, word_of_blocks, blocks_in}
 use Rattle.rds_sync.specs.Lawful.{HaveRoom}
 use Rattle.rds_sync.specs.Loss.{bad_after, are_too_many}
 use Rattle.rds_sync.specs.Rules.{RuleNumbers}
 use Rattle.rds_sync.specs.Step.{items_at, run, bad_with, lock_after, lock_of}
 use Rattle.rds_sync.specs.Totals.{is_valid}
-use Rattle.rds_sync.specs.Inside.Counts.{CountOf, joined, group_count, loss_count, added}
-use Rattle.rds_sync.specs.Words.{nibble, word_of_blocks, blocks_in}
 use Rattle.rds_sync.proofs.CleanGroups.{valid-only}
-use Rattle.rds_sync.proofs.CodePartLemmas.{behind-assoc}
 use Rattle.rds_sync.proofs.CountLemmas.{lost-added}
 use Rattle.rds_sync.proofs.GroupBlocks.{block_at-read, block_at-missing}
 use Rattle.rds_sync.proofs.GroupOutcomes.{good_block}
 use Rattle.rds_sync.proofs.HeardBlocks.{kind-nibble}
 use Rattle.rds_sync.proofs.HeardLemmas.{good-reading}
 use Rattle.rds_sync.proofs.RunLemmas.{step-acquiring, step-losing, items-losing, run-due, run-found, run-further}
-use Rattle.rds_sync.proofs.WordLemmas.{not_group}
 
 -- one bad block is a share of one
 pub share-of-one : (of : ℕ) → 1 ≤ of → nat_le 1 (count_ones ((2 * 0 + 1) % 2 ^ of)) ≡ true
@@ -157,16 +154,6 @@ module _ (b : Signal) (rules : RuleNumbers) (here x to word : ℕ) (acquires : a
       (run-found b rules from here order none ∙ ap (λ (s : State). (s, items_at b rules here Searching)) (step-acquiring b rules here x acquires))
       (sym (ap (λ (r : State × List Item). r.0) last ∙ step-losing b rules (lock_of (here + 26) (x % 4 + 1) 0 (first_behind x)) many))
       (sym (ap (λ (r : State × List Item). r.1) last))
-
-  -- and what is kept of it behind its acquisition
-  pub short-codes : (before group_kept all : KeptOf) → group_kept ≡ behind before (kept_as (word ∷ []) []) → all ≡ behind group_kept (kept_as (65535 ∷ []) [])
-      → all ≡ behind before (kept_of (items_at b rules (here + 26) lock))
-  short-codes before group_kept all first second =
-      second
-      ∙ ap (λ (kept : KeptOf). behind kept (kept_as (65535 ∷ []) [])) first
-      ∙ behind-assoc before (kept_as (word ∷ []) []) (kept_as (65535 ∷ []) [])
-      ∙ ap (λ (code : Code). behind before (record { codes = code ∷ ended ∷ []; locks = [] })) (not_group word lost.few ∙ ap (λ (os : List Outcome). blocks os) lost.blocks)
-      ∙ ap (λ (is : List Item). behind before (kept_of is)) (sym last-items)
 
   -- and what is counted of it after its acquisition
   pub short-counts : (before mid after : CountOf) → mid ≡ joined before (group_count (blocks_in word)) → after ≡ joined mid loss_count

@@ -1,18 +1,14 @@
--- Spans: those that are passed over, and those of a run that is cut at its marks.
-use Rattle.std.proofs.Common.{◌≡◌, ◌≢◌, ℕ, zero, suc, ◌+◌, ◌-◌, ◌<◌, ◌≤◌, List, [], ◌∷◌, ◌++◌, All, length, drop, Option, Some, None, refl, sym, ap, ap₂, subst, ◌∙◌, arith, length-append, append_assoc, append-nil}
+-- Spans: those that are passed over, and those of a list with more behind them.
+use Rattle.std.proofs.Common.{◌≡◌, ◌≢◌, ℕ, ◌+◌, ◌-◌, ◌<◌, ◌≤◌, List, [], ◌∷◌, ◌++◌, All, length, drop, Option, Some, None, refl, sym, ap, subst, ◌∙◌, arith, length-append, append_assoc, append-nil}
 use Rattle.std.specs.Prelude.{MatchOption}
 use Rattle.std.specs.Iterator.{YieldsFirst}
 use Rattle.std.proofs.Math.Seq.{drop-append-add}
 use Rattle.std.proofs.lemmas.List.Elements.{All-append, All-cons, All-nil}
 use Rattle.rds_stream.specs.Recording.{Signal}
 use Rattle.rds_sync.specs.declared.item.Item.{Item}
-use Rattle.rds_sync.specs.declared.mark.Mark.{Mark}
 use Rattle.rds_sync.specs.declared.span.Span.{Span}
-use Rattle.rds_sync.specs.declared.state.State.{State}
 use Rattle.rds_sync.specs.Inside.Spans.{items_of, items_in, IsSpan, AreSpans}
-use Rattle.rds_sync.specs.Marks.{mark_where, marks_on}
 use Rattle.rds_sync.specs.Rules.{RuleNumbers}
-use Rattle.rds_sync.specs.Step.{step, items_at, run}
 
 module _ (b : Signal) (rules : RuleNumbers) where
   -- the items of spans in two rows
@@ -29,71 +25,6 @@ module _ (b : Signal) (rules : RuleNumbers) where
       let own = items_of b rules span in
       let e : n ≡ length own + (n - length own) = omega arith in
       sym (ap (λ (k : ℕ). drop k (own ++ items_in b rules rest)) e ∙ drop-append-add own (items_in b rules rest) (n - length own))
-
-  -- ---- marks
-
-  -- where a run is cut at a mark: the bits up to it, and the marks of the bits after it
-  pub record IsCut (s : State) (a before bits : ℕ) (m : Mark) (rest : List Mark) : Type 0 where
-    pub gone : ℕ
-    pub within : gone ≤ bits
-    pub place : m.place ≡ a + gone
-    pub state : m.state ≡ (run b rules s a gone).0
-    pub items : m.items ≡ before + length (run b rules s a gone).1
-    pub rest_is : rest ≡ marks_on b rules m.state m.place m.items (bits - gone)
-
-  -- after one bit
-  cut_later : (s : State) (a before bits : ℕ) (m : Mark) (rest : List Mark)
-      → IsCut (step b rules a s) (a + 1) (before + length (items_at b rules a s)) bits m rest → IsCut s a before (suc bits) m rest
-  cut_later s a before bits m rest cut = record {
-    gone = suc cut.gone;
-    within = omega (arith, cut.within);
-    place = omega (arith, cut.place);
-    state = cut.state;
-    items = omega (arith, cut.items, length-append (items_at b rules a s) (run b rules (step b rules a s) (a + 1) cut.gone).1);
-    rest_is = cut.rest_is ∙ ap (λ (n : ℕ). marks_on b rules m.state m.place m.items n) (the_same bits cut.gone);
-  } where
-    the_same : (n k : ℕ) → n - k ≡ suc n - suc k
-    the_same n k = omega arith
-
-  -- at the mark of one bit
-  cut_here : (s : State) (a before bits : ℕ) (m : Mark) (rest : List Mark) (item : Item) (items : List Item) → items_at b rules a s ≡ item ∷ items
-      → m ∷ rest ≡ marks_on b rules s a before (suc bits) → IsCut s a before (suc bits) m rest
-  cut_here s a before bits m rest item items some is =
-      let count : ℕ = before + length (items_at b rules a s) in
-      let after : Mark = record { place = a + 1; state = step b rules a s; items = count } in
-      let others : List Mark = marks_on b rules (step b rules a s) (a + 1) count bits in
-      let here : m ∷ rest ≡ after ∷ others = is ∙ ap (λ (found : List Item). mark_where found after ++ others) some in
-      let m_is : m ≡ after = cc here in
-      let rest_is : rest ≡ others = cc here in
-      let left : suc bits - 1 ≡ bits = omega arith in
-      record {
-        gone = 1;
-        within = omega arith;
-        place = ap (λ (m : Mark). m.place) m_is;
-        state = ap (λ (m : Mark). m.state) m_is;
-        items = ap (λ (m : Mark). m.items) m_is ∙ ap (λ (is : List Item). before + length is) (sym (append-nil (items_at b rules a s)));
-        rest_is = rest_is ∙ sym (ap₂ (λ (m : Mark) (n : ℕ). marks_on b rules m.state m.place m.items n) m_is left);
-      }
-
-  -- the first mark, where that of the first bit is known
-  cut_by : (s : State) (a before bits : ℕ) (m : Mark) (rest : List Mark) (found : List Item) → items_at b rules a s ≡ found
-      → m ∷ rest ≡ marks_on b rules s a before (suc bits)
-      → (m ∷ rest ≡ marks_on b rules (step b rules a s) (a + 1) (before + length (items_at b rules a s)) bits
-      → IsCut (step b rules a s) (a + 1) (before + length (items_at b rules a s)) bits m rest)
-      → IsCut s a before (suc bits) m rest
-  cut_by s a before bits m rest [] none is later =
-      let count : ℕ = before + length (items_at b rules a s) in
-      let after : Mark = record { place = a + 1; state = step b rules a s; items = count } in
-      cut_later s a before bits m rest
-      (later (is ∙ ap (λ (found : List Item). mark_where found after ++ marks_on b rules (step b rules a s) (a + 1) count bits) none))
-  cut_by s a before bits m rest (item ∷ items) some is later = cut_here s a before bits m rest item items some is
-
-  -- the first mark
-  pub cut-first : (s : State) (a before bits : ℕ) (m : Mark) (rest : List Mark) → m ∷ rest ≡ marks_on b rules s a before bits → IsCut s a before bits m rest
-  cut-first s a before zero m rest is = absurd (omega (arith, ap (λ (ms : List Mark). length ms) is))
-  cut-first s a before (suc bits) m rest is =
-      cut_by s a before bits m rest (items_at b rules a s) refl is
-      (cut-first (step b rules a s) (a + 1) (before + length (items_at b rules a s)) bits m rest)
 
 -- where nothing is given, there was nothing
 pub gives_none : (items left : List Item) (given : Option Item) → ((item : Item) → given ≢ Some item) → YieldsFirst (λ (is : List Item). is) items given left

@@ -1,11 +1,11 @@
 -- A run that goes on, as it is kept.
-use Rattle.std.proofs.Common.{◌≡◌, ℕ, ◌+◌, ◌-◌, ◌*◌, ◌^◌, ◌≤◌, List, [], ◌++◌, length, refl, sym, ap, ap₂, subst, ◌∙◌, arith, append_assoc, append-nil, length-append}
+use Rattle.std.proofs.Common.{◌≡◌, ℕ, ◌-◌, ◌*◌, ◌^◌, ◌≤◌, List, ◌++◌, length, refl, sym, ap, ap₂, subst, ◌∙◌, arith, append_assoc, append-nil, length-append}
 use Rattle.rds_stream.specs.Recording.{Signal, length_of}
 use Rattle.rds_sync.specs.declared.item.Item.{Item}
 use Rattle.rds_sync.specs.declared.state.State.{State}
 use Rattle.rds_sync.specs.Counting.{IsAtMost}
 use Rattle.rds_sync.specs.Inside.CountRuns.{IsCountStretch}
-use Rattle.rds_sync.specs.Inside.Counts.{CountOf, count_of, joined, added}
+use Rattle.rds_sync.specs.Inside.Counts.{CountOf, count_of, joined}
 use Rattle.rds_sync.specs.Inside.Tally.{IsTally}
 use Rattle.rds_sync.specs.Rules.{RuleNumbers}
 use Rattle.rds_sync.specs.Step.{run}

@@ -9,7 +9,7 @@ use Rattle.rds_sync.specs.declared.item.Item.TheVariants.{Group as GroupItem}
 use Rattle.rds_sync.specs.declared.totals.Totals.{Totals}
 use Rattle.rds_sync.specs.Totals.{totals_of, sum_blocks, count_blocks, is_valid, is_lost, is_corrected_by, bits_corrected, is_complete}
 use Rattle.rds_sync.specs.Counting.{plus, IsAtMost, IsRest}
-use Rattle.rds_sync.specs.Inside.Tallies.{whole_totals, block_totals}
+use Rattle.rds_sync.specs.Inside.Tallies.{block_totals}
 
 -- the totals of two lists, one after the other
 pub totals_of-append : (xs ys : List Item) → totals_of (xs ++ ys) ≡ plus (totals_of xs) (totals_of ys)
@@ -57,12 +57,6 @@ group_totals g a b c d n blocks complete t is =
 -- two that are added come in any order
 pub plus_swap : (t u w : Totals) → plus (plus t u) w ≡ plus (plus t w) u
 plus_swap t u w =
-    same_counts (omega arith) (omega arith) (omega arith) (omega arith) (omega arith) (omega arith)
-    (omega arith) (omega arith) (omega arith) (omega arith) (omega arith) (omega arith)
-
--- one whole group more
-pub plus_whole : (t : Totals) (n : ℕ) → plus t (whole_totals (n + 1)) ≡ plus (plus t (whole_totals n)) (whole_totals 1)
-plus_whole t n =
     same_counts (omega arith) (omega arith) (omega arith) (omega arith) (omega arith) (omega arith)
     (omega arith) (omega arith) (omega arith) (omega arith) (omega arith) (omega arith)
 

@@ -1,8 +1,7 @@
--- Codes as words of 16 bits.
-use Rattle.std.proofs.Common.{◌≡◌, ◌≢◌, ℕ, zero, suc, ◌+◌, ◌-◌, ◌*◌, ◌/◌, ◌%◌, ◌<◌, ◌≤◌, [], ◌∷◌, refl, ap, ◌∙◌, arith}
-use Rattle.std.proofs.lemmas.Bool.{ne_eqb, lt-leb, le-leb}
-use Rattle.rds_sync.specs.Codes.{Outcome, missing, valid, lost, corrected, locked, blocks, ended}
-use Rattle.rds_sync.specs.Words.{nibble, outcome_at, IsShort, blocks_in, code_in, WordsTellCodes}
+-- How the blocks of a group came out, as a word of 16 bits.
+use Rattle.std.proofs.Common.{◌≡◌, ℕ, zero, suc, ◌+◌, ◌*◌, ◌/◌, ◌%◌, ◌≤◌, List, [], ◌∷◌, refl, ap, ◌∙◌, arith}
+use Rattle.rds_sync.specs.Inside.Outcomes.{Outcome, missing, valid, lost, corrected}
+use Rattle.rds_sync.specs.Inside.Words.{nibble, outcome_at, IsShort, AreShort, word_of_blocks, blocks_in}
 
 -- four bits tell an outcome
 pub record IsNibble (o : Outcome) : Type 0 where
@@ -41,25 +40,14 @@ nibble-is (corrected (suc (suc (suc (suc (suc zero))))) (suc (suc (suc (suc (suc
 nibble-is (corrected (suc (suc (suc (suc (suc zero))))) (suc (suc (suc (suc (suc (suc n))))))) h = absurd (omega (arith, h.3))
 nibble-is (corrected (suc (suc (suc (suc (suc (suc s)))))) n) h = absurd (omega (arith, h.1))
 
--- a word that is no group's
-pub not_group : (w : ℕ) → w < 65520 → code_in w ≡ blocks (blocks_in w)
-not_group w h =
-    let no : w ≢ 65535 = λ e. absurd (omega arith) in
-    rw (ne_eqb w 65535 no, lt-leb 65520 w h) refl
-
-pub words_tell_codes : WordsTellCodes
-words_tell_codes (locked x) h =
-    let no : 65520 + x ≢ 65535 = λ e. absurd (omega arith) in
-    let high : 65520 ≤ 65520 + x = omega arith in
-    let back : 65520 + x - 65520 ≡ x = omega arith in
-    record { fits = omega arith; back = rw (ne_eqb (65520 + x) 65535 no, le-leb 65520 (65520 + x) high, back) refl }
-words_tell_codes ended h = record { fits = omega arith; back = refl }
-words_tell_codes (blocks []) h = absurd (omega (arith, h.0))
-words_tell_codes (blocks (o ∷ [])) h = absurd (omega (arith, h.0))
-words_tell_codes (blocks (o ∷ p ∷ [])) h = absurd (omega (arith, h.0))
-words_tell_codes (blocks (o ∷ p ∷ q ∷ [])) h = absurd (omega (arith, h.0))
-words_tell_codes (blocks (o ∷ p ∷ q ∷ r ∷ s ∷ os)) h = absurd (omega (arith, h.0))
-words_tell_codes (blocks (o ∷ p ∷ q ∷ r ∷ [])) h =
+-- a word tells the four outcomes that it is of
+pub word-tells : (os : List Outcome) → AreShort os → blocks_in (word_of_blocks os) ≡ os
+word-tells [] h = absurd (omega (arith, h.0))
+word-tells (o ∷ []) h = absurd (omega (arith, h.0))
+word-tells (o ∷ p ∷ []) h = absurd (omega (arith, h.0))
+word-tells (o ∷ p ∷ q ∷ []) h = absurd (omega (arith, h.0))
+word-tells (o ∷ p ∷ q ∷ r ∷ s ∷ os) h = absurd (omega (arith, h.0))
+word-tells (o ∷ p ∷ q ∷ r ∷ []) h =
     let a = nibble-is o (h.1 0 missing (omega arith)) in
     let b = nibble-is p (h.1 1 missing (omega arith)) in
     let c = nibble-is q (h.1 2 missing (omega arith)) in
@@ -69,14 +57,10 @@ words_tell_codes (blocks (o ∷ p ∷ q ∷ r ∷ [])) h =
     let fc = c.few in
     let fd = d.few in
     let w : ℕ = nibble o + 16 * (nibble p + 16 * (nibble q + 16 * (nibble r + 16 * 0))) in
-    let small : w < 65520 = omega arith in
     let first : w % 16 ≡ nibble o = omega arith in
     let second : w / 16 % 16 ≡ nibble p = omega arith in
     let third : w / 256 % 16 ≡ nibble q = omega arith in
     let fourth : w / 4096 ≡ nibble r = omega arith in
-    record {
-      fits = omega arith;
-      back = not_group w small ∙ four (ap outcome_at first ∙ a.back) (ap outcome_at second ∙ b.back) (ap outcome_at third ∙ c.back) (ap outcome_at fourth ∙ d.back);
-    } where
-      four : {o2 p2 q2 r2 : Outcome} → o2 ≡ o → p2 ≡ p → q2 ≡ q → r2 ≡ r → blocks (o2 ∷ p2 ∷ q2 ∷ r2 ∷ []) ≡ blocks (o ∷ p ∷ q ∷ r ∷ [])
+    four (ap outcome_at first ∙ a.back) (ap outcome_at second ∙ b.back) (ap outcome_at third ∙ c.back) (ap outcome_at fourth ∙ d.back) where
+      four : {o2 p2 q2 r2 : Outcome} → o2 ≡ o → p2 ≡ p → q2 ≡ q → r2 ≡ r → o2 ∷ p2 ∷ q2 ∷ r2 ∷ [] ≡ o ∷ p ∷ q ∷ r ∷ []
       four e f g k = cc

@@ -25,7 +25,4 @@ pub mod GuessesThatDiffer
 pub mod Shares
 pub mod SoundRange
 pub mod SoundLengths
-pub mod KeptItems
-pub mod WordsOfCodes
-pub mod MarksOfRuns
 pub mod PartsOfARun

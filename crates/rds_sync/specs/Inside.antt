@@ -1,16 +1,13 @@
 -- What the bodies of this crate cite, and no contract of a public function.
-pub mod CodeCursors
-pub mod CodeParts
-pub mod CodeRuns
-pub mod CodeSpots
-pub mod CodeTotals
 pub mod CountRuns
 pub mod Counts
 pub mod Due
 pub mod GroupParts
 pub mod Locks
+pub mod Outcomes
 pub mod ShortLocks
 pub mod Spans
 pub mod Tallies
 pub mod Tally
 pub mod WholeGroups
+pub mod Words

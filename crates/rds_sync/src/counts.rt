@@ -2,14 +2,13 @@
 
 ghost use Rattle.std.specs.Prelude.{◌≡◌, ◌≤◌, ◌<◌, ◌+◌, ◌*◌, ◌%◌, ◌^◌, All, sum_by};
 ghost use Rattle.std.specs.List.{list_all};
-ghost use Rattle.rds_sync.specs.Codes.{bits_inverted, has_info};
 ghost use Rattle.rds_sync.specs.Counting.{IsAtMost};
 ghost use Rattle.rds_sync.specs.Inside.Counts.{acquired_count, group_count, in_lanes, joined, loss_count, no_count};
-ghost use Rattle.rds_sync.specs.Words.{blocks_in, outcome_at};
+ghost use Rattle.rds_sync.specs.Inside.Outcomes.{bits_inverted, has_info};
+ghost use Rattle.rds_sync.specs.Inside.Words.{blocks_in, outcome_at};
 
-use crate::code_totals::has_info;
 use crate::totals::Totals;
-use crate::words::CLEAN;
+use crate::words::{CLEAN, has_info};
 use std::marker::Model;
 
 /// How many items are counted at most before they are added to totals: a group adds 20 to a lane at most.

@@ -12,7 +12,7 @@ use crate::push::push_one;
 use crate::rules::Rules;
 use crate::state::State;
 use crate::stretches::stretch;
-use crate::whole_items::push_whole_groups;
+use crate::whole_groups::push_whole_groups;
 use rds_stream::{FIRST_WINDOW, Reader, Recording};
 use std::iter::FusedIterator;
 use std::marker::Model;

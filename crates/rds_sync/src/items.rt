@@ -5,8 +5,6 @@ ghost use Rattle.rds_stream.specs.Recording.{length_of};
 ghost use Rattle.rds_sync.specs.Decoding.{listed};
 ghost use Rattle.rds_sync.specs.Inside.Spans.{AreBehind, IsAt, IsInFirst, IsSpan, items_in};
 ghost use Rattle.rds_sync.specs.Lawful.{IsLawful};
-ghost use Rattle.rds_sync.specs.Marks.{marks_on};
-ghost use Rattle.rds_sync.specs.Ranges.{IsInRange};
 ghost use Rattle.rds_sync.specs.Rules.{RuleNumbers};
 ghost use Rattle.rds_sync.specs.Step.{run, items_of_end};
 ghost use Rattle.rds_stream.specs.Recording.{Signal};
@@ -14,8 +12,6 @@ ghost use Rattle.rds_stream.specs.Recording.{Signal};
 use crate::indexed_items::{IndexedItems, starts_of};
 use crate::item::Item;
 use crate::item_iter::ItemIter;
-use crate::mark::Mark;
-use crate::marks::Marks;
 use crate::rules::{RuleNumbers, Rules};
 use crate::span::Span;
 use crate::state::State;
@@ -170,60 +166,6 @@ impl Items {
         })
     }
 
-    /// Appends the items of the run from `first.state` over the places from `first.place` to before `to`, in spans that
-    /// are cut at marks. `marks` are those of that run, and say of it what [`marks_from`](crate::Codes::marks_from) does: how many
-    /// items stand before each, `first.items` of them before `first`, and `items` before `to`.
-    ///
-    /// Its cost is that of the marks, a few steps each, and nothing where the run has one span; a span takes memory once
-    /// in some hundred items. Refused memory, it leaves the list as it was.
-    pub fn push_run(
-        &mut self,
-        first: Mark,
-        marks: Marks<'_>,
-        to: u64,
-        items: u64,
-    ) -> Result<(), AllocError>
-        requires lawful { IsLawful self.old.rules first.place first.state }
-        requires order { first.place ≤ to }
-        requires within { to ≤ length_of self.old.source }
-        requires marks { marks ≡ marks_on self.old.source self.old.rules
-            first.state first.place first.items (to - first.place) }
-        requires count { items
-            ≡ first.items
-            + length (run self.old.source self.old.rules first.state first.place (to - first.place)).1 }
-        ensures ok { OnOk result (self.new ≡ listed self.old.source self.old.rules
-            (self.old.list
-            ++ (run self.old.source self.old.rules first.state first.place (to - first.place)).1)) }
-        ensures refused { OnErr result (self.new ≡ self.old) }
-    {
-        let count = items - first.items;
-        if count <= self.cut.most_in_one() {
-            return self.push_span(first.state, first.place, to, count as usize);
-        }
-        let before = self.spans.len();
-        let Some(len) = self.len.checked_add(count as usize) else {
-            return Err(AllocError);
-        };
-        match push_spans(
-            &self.source,
-            self.rules,
-            &mut self.spans,
-            first,
-            marks,
-            to,
-            items,
-        ) {
-            Ok(()) => {
-                self.len = len;
-                Ok(())
-            }
-            Err(error) => {
-                self.spans.truncate(before);
-                Err(error)
-            }
-        }
-    }
-
     /// Appends the `items` items of the run from `state` over the places from `from` to before `to`, in one span: to
     /// come to one of them, those before it are decoded. Refused memory, it leaves the list as it was.
     pub fn push_span(
@@ -351,54 +293,4 @@ pub(crate) fn spans_from(spans: &[Span], from: usize) -> (&[Span], usize)
         rest = others;
     }
     (rest, left)
-}
-
-/// Appends the spans of a run, as [`push_run`](Items::push_run) does.
-fn push_spans(
-    source: &Snapshot<Recording>,
-    rules: RuleNumbers,
-    spans: &mut Vec<Span>,
-    first: Mark,
-    marks: Marks<'_>,
-    to: u64,
-    items: u64,
-) -> Result<(), AllocError>
-    requires range { IsInRange rules }
-    requires lawful { IsLawful rules first.place first.state }
-    requires order { first.place ≤ to }
-    requires within { to ≤ length_of source.now.value }
-    requires marks { marks ≡ marks_on source.now.value rules
-        first.state first.place first.items (to - first.place) }
-    requires count { items ≡ first.items
-        + length (run source.now.value rules first.state first.place (to - first.place)).1 }
-    ensures ok { OnOk result (AreBehind source.now.value rules spans.old.items spans.new.items
-        (run source.now.value rules first.state first.place (to - first.place)).1) }
-    ensures refused { OnErr result (take (length spans.old.items) spans.new.items ≡ spans.old.items) }
-{
-    let mut start = first;
-    let mut left = marks;
-    loop {
-        left.pass_groups(start.items.saturating_add(SPAN_ITEMS));
-        let Some(mark) = left.next() else {
-            break;
-        };
-        if mark.items - start.items >= SPAN_ITEMS {
-            spans.push(Span::Run {
-                place: start.place,
-                state: start.state,
-                to: mark.place,
-                passed: 0,
-                items: (mark.items - start.items) as usize,
-            })?;
-            start = mark;
-        }
-    }
-    spans.push(Span::Run {
-        place: start.place,
-        state: start.state,
-        to,
-        passed: 0,
-        items: (items - start.items) as usize,
-    })?;
-    Ok(())
 }

@@ -2,13 +2,11 @@
 //! which the check of this crate proves, and which a proof above it may cite.
 
 ghost use Rattle.rds_sync.specs.Convergence.{SoundRangesHaveFours, RunsConverge};
-ghost use Rattle.rds_sync.specs.CodeLaws.{CodesTellTotals, CodesTellRanges};
 ghost use Rattle.rds_sync.specs.Counting.{TotalsJoin};
 ghost use Rattle.rds_sync.specs.GroupLaws.{GroupsAreRead};
 ghost use Rattle.rds_sync.specs.Longer.{BeginningsBegin, LongerRecordingsAddItems, TotalsOnlyGrow};
-ghost use Rattle.rds_sync.specs.MarkLaws.{CodesTellMarks, MarksGoOn, WholeGroups};
 ghost use Rattle.rds_sync.specs.Sent.{GroupsAreCorrected, SentGroupsAreListed, EncodedGroupsAreHeard, EncodedGroupsAreListed, PackedGroupsAreSent, LockedGroupsAreListed, DamagedGroupsAreListed, DamagedGroupsAreHeard, DamagedBitsAreDecoded, DamageTellsTotals, DamagedBitsTellTotals, SoundSignalIsDecoded};
-ghost use Rattle.rds_sync.specs.Words.{WordsTellCodes, RunsHaveWords, RunsAreKeepable};
+ghost use Rattle.rds_sync.specs.StepForms.{StretchesAreSteps, HopsAreStretches};
 ghost use Rattle.rds_sync.specs.Laws.{RunsAreReports, RunsJoin, StepsAreLawful, RunsAreLawful, RunsMerge, OneBitRuns, LocksWait, SearchesGoOn, ItemsMarkChanges, RunsGiveFewItems, AcquisitionsAreLate, MasksTellBlocks, BadBlocksLose, RunsAreShares};
 
 use rds_code::laws as code_laws;
@@ -41,6 +39,12 @@ pub fn runs_merge()
 /// A run over one bit is that bit.
 pub fn one_bit_runs()
     ensures { OneBitRuns }
+{}
+
+/// A stretch is made of steps of [`advance`](crate::advance); a hop that ends where a stretch does ends in its state.
+pub fn steps_agree()
+    ensures stretches { StretchesAreSteps }
+    ensures hops { HopsAreStretches }
 {}
 
 /// While a block is waited for, a run changes nothing and gives nothing.
@@ -99,52 +103,6 @@ pub fn totals_join()
 pub fn runs_converge()
     ensures fours { SoundRangesHaveFours }
     ensures converge { RunsConverge }
-{}
-
-/// The totals of a list of items are those of its codes.
-pub fn codes_tell_totals()
-    ensures { CodesTellTotals }
-{}
-
-/// The marks of a run are those of its locks and codes.
-pub fn codes_tell_marks()
-    ensures { CodesTellMarks }
-{}
-
-/// The word of a code tells it.
-pub fn words_tell_codes()
-    ensures { WordsTellCodes }
-{}
-
-/// The codes of a run have words.
-pub fn runs_have_words()
-    ensures { RunsHaveWords }
-{
-    code_laws::bursts_are_listed();
-    code_laws::readings_follow_the_rule();
-}
-
-/// The items of a run over a recording can be kept.
-pub fn runs_are_keepable()
-    ensures { RunsAreKeepable }
-{
-    code_laws::bursts_are_listed();
-    code_laws::readings_follow_the_rule();
-}
-
-/// The totals of a range of items are those of their codes.
-pub fn codes_tell_ranges()
-    ensures { CodesTellRanges }
-{}
-
-/// The marks from a code on.
-pub fn marks_go_on()
-    ensures { MarksGoOn }
-{}
-
-/// Four blocks of a lock at once.
-pub fn whole_groups()
-    ensures { WholeGroups }
 {}
 
 /// A group is read as it was sent, if no block has more than one burst of errors within the limit. With a limit of 5 bits,

@@ -17,6 +17,9 @@ use rds_stream::FIRST_WINDOW;
 /// How far the last bits of two blocks in a row lie apart, in places.
 pub(crate) const BLOCK_PLACES: u64 = BLOCK_BITS as u64;
 
+/// The least place at which a block that is waited for ends: no place before 51 acquires.
+const LEAST_DUE: u64 = FIRST_WINDOW + 2 * BLOCK_PLACES;
+
 /// What a synchroniser that is locked knows: this project's rule, after the flywheel of EN 50067:1998, annex C.
 ///
 /// The next block ends at place `due` and is read as block `number` (1 to 4). The first block that was read in the
@@ -57,6 +60,7 @@ impl Lock {
         let group_places = BLOCK_PLACES * u64::from(self.number.saturating_sub(self.first));
         place <= self.due
             && self.due - place < BLOCK_PLACES
+            && LEAST_DUE <= self.due
             && rules.loss().is_lawful_bad(self.bad)
             && group_places + FIRST_WINDOW <= self.due
             && (self.number == 1 && self.first == 1

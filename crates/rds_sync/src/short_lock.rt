@@ -51,8 +51,7 @@ pub(crate) fn word_if_lost(
 #[inline(always)]
 fn word_of_two(number: BlockNumber, kind: u16) -> u16
     requires kind { kind ≤ 13 }
-    ensures value { result ≡ word_of_two number kind }
-    ensures few { result < 65520 }
+    ensures { result ≡ word_of_two number kind }
 {
     match number.get() {
         1 => 0x0001 + 0x0010 * kind,

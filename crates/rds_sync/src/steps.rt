@@ -1,4 +1,8 @@
 //! A run over a tape, step by step: a bit while searching, a block while locked.
+//!
+//! A run is made in three forms, each for its cost. A step asks a tape for few windows, and ends where its caller may want
+//! to stop. A stretch goes over 64 places of a recording at once, up to the next item. A hop of a [`Tally`](crate::Tally)
+//! counts its items and makes none. The law [`steps_agree`](crate::laws::steps_agree) says that they are one run.
 
 ghost use Rattle.std.specs.Prelude.{◌≡◌, ◌≤◌, ◌<◌, ◌+◌, ◌-◌, ◌*◌, ◌^◌, length};
 ghost use Rattle.rds_stream.specs.Recording.{length_of};

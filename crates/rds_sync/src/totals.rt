@@ -58,20 +58,6 @@ impl Totals {
         }
     }
 
-    /// The totals of so many groups of four valid blocks.
-    pub(crate) fn of_whole(groups: u64) -> Totals
-        requires { groups ≤ 2 ^ 40 }
-        ensures value { result ≡ whole_totals groups }
-        ensures small { IsAtMost (4 * groups) result }
-    {
-        Totals {
-            valid: 4 * groups,
-            groups,
-            complete: groups,
-            ..Totals::NONE
-        }
-    }
-
     /// The totals of these items, of which there are at most 2^37. Of groups of four valid blocks, acquisitions and losses,
     /// as most items are, it only counts how many there are.
     pub fn of_items(items: &[Item]) -> Totals

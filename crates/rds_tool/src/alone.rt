@@ -22,7 +22,7 @@ use crate::window_rows::WindowRows;
 use crate::{Input, Job, Sink, Source, ToolError};
 use rds_rows::{RowsError, write_rows_alone};
 use rds_stream::{Counted, Recording};
-use rds_sync::{Rules, State, Totals, finish, laws, run_codes};
+use rds_sync::{Rules, Spans, State, Totals, finish, laws, run_report};
 use std::alloc::Global;
 
 /// [`transcribe`](crate::transcribe) by the caller alone, however many workers the job asks for: what is written is the
@@ -126,13 +126,12 @@ fn count(alloc: Global, recording: &Recording, rules: &Rules) -> Result<Totals, 
 {
     prove!(1 <= rules.reach());
     laws::runs_are_reports();
-    laws::runs_give_few_items();
-    laws::codes_tell_totals();
     laws::totals_join();
     let len = recording.len();
-    let (end, codes) = run_codes(alloc, recording, rules, State::Searching, 0, len)?;
+    let start = State::Searching;
+    let (end, report) = run_report(alloc, recording, rules, start, 0, len, Spans::Whole)?;
     let group = finish(&mut Counted::new(recording), rules, end);
-    Ok(codes.totals().plus(Totals::of_end(group)))
+    Ok(report.totals.plus(Totals::of_end(group)))
 }
 
 /// The blocks of the groups that the lines spell.

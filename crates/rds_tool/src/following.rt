@@ -20,6 +20,7 @@ use crate::rows::{CsvRows, rows_in_room, text_of_rows};
 use crate::text::write_flushed;
 use crate::{Failed, Sink, Source, ToolError};
 use rds_live::{Live, MOST_ITEMS, StreamEnd};
+use rds_stream::MOST_BITS;
 use rds_sync::{Item, Rules, laws};
 use std::alloc::Global;
 
@@ -28,9 +29,6 @@ const CHUNK: usize = 65_536;
 
 /// How many bytes of rows a byte of a sound station gives: a group of 13 bytes has a row of some 50.
 const ROWS_A_BYTE: usize = 4;
-
-/// The most bits that a stream may have.
-const MOST_BITS: u64 = 1 << 36;
 
 /// Follows a stream by these rules, from the reader's next byte to its end, the highest bit of a byte first: after each
 /// read it writes and flushes the rows that are complete, and at the end of input the rest of the listing. What was

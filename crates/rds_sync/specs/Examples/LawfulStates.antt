@@ -17,6 +17,7 @@ search_at_0 = tt
 pub due_now : IsLawful default_rules 129 (Locked (lock_of 129 1 9 1))
 due_now = record {
   soon = (leb-true 129 129 refl, leb-true 129 154 refl);
+  late = leb-true 77 129 refl;
   few_bad = leb-true 10 10 refl;
   enough_bits = leb-true 25 129 refl;
   in_order = inl (refl, refl);
@@ -25,6 +26,7 @@ due_now = record {
 pub due_last : IsLawful default_rules 104 (Locked (lock_of 129 1 0 1))
 due_last = record {
   soon = (leb-true 104 129 refl, leb-true 129 129 refl);
+  late = leb-true 77 129 refl;
   few_bad = leb-true 1 10 refl;
   enough_bits = leb-true 25 129 refl;
   in_order = inl (refl, refl);
@@ -41,6 +43,7 @@ due_after_27 lawful = false≢true (le-leb 129 128 lawful.soon.1)
 pub all_but_one_of_64 : IsLawful (rules_of 2 3 64) 129 (Locked (lock_of 129 1 63 1))
 all_but_one_of_64 = record {
   soon = (leb-true 129 129 refl, leb-true 129 154 refl);
+  late = leb-true 77 129 refl;
   few_bad = leb-true 64 64 refl;
   enough_bits = leb-true 25 129 refl;
   in_order = inl (refl, refl);
@@ -55,6 +58,7 @@ pub oldest_of_four : IsLawful (rules_with_share 2 4) 129 (Locked (lock_of 129 1 
 unfolding ones
 oldest_of_four = record {
   soon = (leb-true 129 129 refl, leb-true 129 154 refl);
+  late = leb-true 77 129 refl;
   few_bad = (leb-true 9 16 refl, leb-true 2 2 refl);
   enough_bits = leb-true 25 129 refl;
   in_order = inl (refl, refl);
@@ -70,22 +74,41 @@ two_of_four lawful = false≢true (le-leb 3 2 lawful.few_bad.1)
 -- ---- where its group may begin
 
 -- the first block of the group ends at place 25, the least
-pub least_start : IsLawful default_rules 26 (Locked (lock_of 51 2 0 1))
+pub least_start : IsLawful default_rules 78 (Locked (lock_of 103 4 0 1))
 least_start = record {
-  soon = (leb-true 26 51 refl, leb-true 51 51 refl);
+  soon = (leb-true 78 103 refl, leb-true 103 103 refl);
+  late = leb-true 77 103 refl;
   few_bad = leb-true 1 10 refl;
-  enough_bits = leb-true 51 51 refl;
+  enough_bits = leb-true 103 103 refl;
+  in_order = inr (leb-true 1 1 refl, leb-true 2 4 refl, leb-true 4 4 refl);
+}
+
+pub before_the_start : IsLawful default_rules 77 (Locked (lock_of 102 4 0 1)) → ⊥
+before_the_start lawful = false≢true (le-leb 103 102 lawful.enough_bits)
+
+-- the block after one that acquires at place 51, the least
+pub due_first : IsLawful default_rules 52 (Locked (lock_of 77 2 0 1))
+due_first = record {
+  soon = (leb-true 52 77 refl, leb-true 77 77 refl);
+  late = leb-true 77 77 refl;
+  few_bad = leb-true 1 10 refl;
+  enough_bits = leb-true 51 77 refl;
   in_order = inr (leb-true 1 1 refl, leb-true 2 2 refl, leb-true 2 4 refl);
 }
 
-pub before_the_start : IsLawful default_rules 25 (Locked (lock_of 50 2 0 1)) → ⊥
-before_the_start lawful = false≢true (le-leb 51 50 lawful.enough_bits)
+pub before_any_acquires : IsLawful default_rules 51 (Locked (lock_of 76 2 0 1)) → ⊥
+before_any_acquires lawful = false≢true (le-leb 77 76 lawful.late)
+
+-- whose block would be the recording's first
+pub first_of_all : IsLawful default_rules 0 (Locked (lock_of 25 1 0 1)) → ⊥
+first_of_all lawful = false≢true (le-leb 77 25 lawful.late)
 
 -- ---- which numbers it may have
 
 pub last_of_a_group : IsLawful default_rules 129 (Locked (lock_of 129 4 0 3))
 last_of_a_group = record {
   soon = (leb-true 129 129 refl, leb-true 129 154 refl);
+  late = leb-true 77 129 refl;
   few_bad = leb-true 1 10 refl;
   enough_bits = leb-true 51 129 refl;
   in_order = inr (leb-true 1 3 refl, leb-true 4 4 refl, leb-true 4 4 refl);

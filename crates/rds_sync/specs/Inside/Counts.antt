@@ -3,8 +3,8 @@
 use Rattle.std.specs.Prelude.{◌≡◌, ℕ, ◌+◌, ◌*◌, ◌/◌, ◌%◌, ◌^◌, ◌≤◌, List, [], ◌∷◌, length, if◌then◌else◌}
 use Rattle.rds_sync.specs.declared.item.Item.{Item}
 use Rattle.rds_sync.specs.declared.totals.Totals.{Totals}
-use Rattle.rds_sync.specs.Codes.{Outcome, blocks, was_valid, was_lost, has_span, bits_inverted, totals_of_codes}
 use Rattle.rds_sync.specs.Counting.{plus}
+use Rattle.rds_sync.specs.Inside.Outcomes.{Outcome, was_valid, was_lost, has_span, bits_inverted, group_totals}
 use Rattle.rds_sync.specs.Totals.{totals_of}
 
 -- the totals of some items, and how many they are
@@ -24,7 +24,7 @@ joined first more = record { totals = plus first.totals more.totals; items = fir
 
 -- a group whose blocks came out so
 abbrev pub group_count : List Outcome → CountOf
-group_count os = record { totals = totals_of_codes (blocks os ∷ []); items = 1 }
+group_count os = record { totals = group_totals os; items = 1 }
 
 abbrev pub acquired_count : CountOf
 acquired_count = record { totals = record (totals_of []) { acquired = 1 }; items = 1 }

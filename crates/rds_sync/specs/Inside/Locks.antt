@@ -1,5 +1,5 @@
 -- A lock that is followed from block to block, with the blocks of the group in progress. Cited by the bodies below `stretch`, `Decoder` and
--- `run_codes`, and by no public call.
+-- `run_report`, and by no public call.
 use Rattle.std.specs.Prelude.{◌≡◌, ◌≢◌, ◌+◌, ◌-◌, ◌*◌, ◌<◌, List, [], ◌∷◌}
 use Rattle.rds_stream.specs.Recording.{Signal, length_of}
 use Rattle.rds_sync.specs.declared.item.Block.{Block}

@@ -1,15 +1,16 @@
--- A lock that its second block loses, and the word of its group. Cited by a body below `run_codes`, and by no public call.
+-- A lock that its second block loses, and the word of its group. Cited by a body below `run_report`, and by no
+-- public call.
 use Rattle.std.specs.Prelude.{◌≡◌, ℕ, ◌+◌, ◌*◌, ◌%◌, ◌<◌, map, true, false, ◌==◌, if◌then◌else◌}
 use Rattle.rds_code.specs.declared.reading.Wanted.{Wanted}
 use Rattle.rds_code.specs.declared.reading.Wanted.TheVariants.{Either}
 use Rattle.rds_stream.specs.Recording.{Signal, reading_at}
 use Rattle.rds_sync.specs.declared.item.Block.TheVariants.{Read}
 use Rattle.rds_sync.specs.Acquiring.{has_number}
-use Rattle.rds_sync.specs.Codes.{outcome_of}
 use Rattle.rds_sync.specs.Groups.{group, wanted_beside}
+use Rattle.rds_sync.specs.Inside.Outcomes.{outcome_of}
+use Rattle.rds_sync.specs.Inside.Words.{blocks_in}
 use Rattle.rds_sync.specs.Loss.{bad_after, are_too_many}
 use Rattle.rds_sync.specs.Rules.{RuleNumbers}
-use Rattle.rds_sync.specs.Words.{blocks_in}
 
 -- the offsets that are tried for the block behind block x at a place
 abbrev pub wanted_behind : Signal → RuleNumbers → ℕ → ℕ → Wanted
@@ -28,5 +29,4 @@ pub record IsLostAtOnce (b : Signal) (rules : RuleNumbers) (place x to word : �
   pub before : place + 26 < to
   pub bad : has_number b (place + 26) (x % 4 + 1) ≡ false
   pub loses : are_too_many rules.loss (bad_after rules.loss false 0) ≡ true
-  pub few : word < 65520
   pub blocks : blocks_in word ≡ map outcome_of (group b rules (first_behind x) (x % 4 + 1) (place + 26)).blocks

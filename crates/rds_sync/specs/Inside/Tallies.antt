@@ -1,5 +1,5 @@
 -- What is counted block by block, and of items without a look at the rest: whole groups, acquisitions and losses. Cited by the bodies
--- below `Totals::of_item` and `of_items`, and `Codes::totals`, and by no public call.
+-- below `Totals::of_item` and `of_items`, and by no public call.
 use Rattle.std.specs.Prelude.{ℕ, ◌*◌, [], ◌∷◌, if◌then◌else◌}
 use Rattle.rds_sync.specs.declared.item.Block.{Block}
 use Rattle.rds_sync.specs.declared.totals.Totals.{Totals}

@@ -1,4 +1,4 @@
--- Whole groups of a lock, as items: one that does not lose it, and how far several in a row lead. Cited by the bodies below
+-- Whole groups of a lock: one that does not lose it, and how far several in a row lead, as items. Cited by the bodies below
 -- `Decoder::fill`, and by no public call.
 use Rattle.std.specs.Prelude.{◌≡◌, ℕ, ◌+◌, ◌-◌, ◌<◌, ◌≤◌, List, ◌++◌, false, length, map}
 use Rattle.rds_stream.specs.Recording.{Signal}
@@ -6,10 +6,9 @@ use Rattle.rds_sync.specs.declared.lock.Lock.{Lock}
 use Rattle.rds_sync.specs.declared.item.Group.{Group}
 use Rattle.rds_sync.specs.declared.item.Item.{Item}
 use Rattle.rds_sync.specs.declared.state.State.TheVariants.{Locked}
-use Rattle.rds_sync.specs.Codes.{Outcome, outcome_of}
 use Rattle.rds_sync.specs.Groups.{group}
+use Rattle.rds_sync.specs.Inside.Outcomes.{Outcome, outcome_of, bad_over}
 use Rattle.rds_sync.specs.Loss.{IsLawfulBad, are_too_many}
-use Rattle.rds_sync.specs.Marks.{bad_over}
 use Rattle.rds_sync.specs.Rules.{RuleNumbers}
 use Rattle.rds_sync.specs.Step.{run}
 

@@ -1,14 +1,14 @@
-use Rattle.std.proofs.Common.{◌≡◌, ℕ, List, [], ◌∷◌, true, sym, ap, ◌∙◌}
+use Rattle.std.proofs.Common.{◌≡◌, ℕ, List, ◌∷◌, true, sym, ap, ◌∙◌}
 use Rattle.rds_sync.specs.declared.item.Item.{Item}
 use Rattle.rds_sync.specs.declared.item.Item.TheVariants.{Acquired}
 use Rattle.rds_sync.specs.Acquiring.{has_number}
 use Rattle.rds_sync.specs.Groups.{group}
 use Rattle.rds_sync.specs.Inside.Counts.{CountOf, joined, group_count, acquired_count, added}
+use Rattle.rds_sync.specs.Inside.Words.{blocks_in}
 use Rattle.rds_sync.specs.Step.{group_after}
-use Rattle.rds_sync.specs.Words.{blocks_in}
 use Rattle.rds_sync.proofs.CleanGroups.{last-alone}
-use Rattle.rds_sync.proofs.CodeMarks.{acquired-number}
 use Rattle.rds_sync.proofs.CountLemmas.{group-added}
+use Rattle.rds_sync.proofs.LawfulLemmas.{acquired-number}
 use Rattle.rds_sync.proofs.RunLemmas.{items-acquiring}
 use Rattle.rds_sync.proofs.count_run.add_found.Goals as goal
 

@@ -6,7 +6,7 @@ use Rattle.rds_sync.specs.Groups.{blocks_at, group}
 use Rattle.rds_sync.specs.Inside.Counts.{added}
 use Rattle.rds_sync.specs.Inside.Due.{IsAfter}
 use Rattle.rds_sync.specs.Inside.Locks.{IsFollowed}
-use Rattle.rds_sync.specs.Words.{blocks_in}
+use Rattle.rds_sync.specs.Inside.Words.{blocks_in}
 use Rattle.rds_sync.proofs.CountLemmas.{group-added, lost-added}
 use Rattle.rds_sync.proofs.DueLemmas.{items-inside, items-closed, items-lost, kept-next}
 use Rattle.rds_sync.proofs.GroupWords.{word-tells}
@@ -41,7 +41,7 @@ returns-in-Closed-clause-counts c =
     let closes = subst (λ (due : Due). IsAfter rules.loss lock good due) c.in-Closed.is after in
     let tells = word-tells b rules lock.first lock.number lock.due c.read_due-good.new.blocks c.read_due-good.ensures.blocks
     (record { lists = c.bursts_are_listed.ensures; reads = c.readings_follow_the_rule.ensures }) c.loss-loss.ensures.range.burst
-    c.word_of_blocks.result c.word_of_blocks.ensures.value c.word_of_blocks.ensures.few in
+    c.word_of_blocks.result c.word_of_blocks.ensures in
     c.add_group.ensures
     ∙ group-added c.args.counts.now (group b rules lock.first lock.number lock.due) (blocks_in c.word_of_blocks.result) tells
     ∙ ap (λ (is : List Item). added c.args.counts.now is) (sym (items-closed b rules lock good c.read_due-good.ensures.valid c.in-Closed.field-0 closes))
@@ -57,7 +57,7 @@ returns-in-Lost-clause-counts c =
     let word = c.word_of_blocks-in-Lost.result in
     let tells = word-tells b rules lock.first lock.number lock.due c.read_due-good.new.blocks c.read_due-good.ensures.blocks
     (record { lists = c.bursts_are_listed.ensures; reads = c.readings_follow_the_rule.ensures }) c.loss-loss.ensures.range.burst
-    word c.word_of_blocks-in-Lost.ensures.value c.word_of_blocks-in-Lost.ensures.few in
+    word c.word_of_blocks-in-Lost.ensures in
     lost-added c.args.counts.now c.add_group-in-Lost.new.self c.add_loss.new.self (group b rules lock.first lock.number lock.due) (blocks_in word) lock.due tells
     c.add_group-in-Lost.ensures c.add_loss.ensures
     ∙ ap (λ (is : List Item). added c.args.counts.now is) (sym (items-lost b rules lock good c.read_due-good.ensures.valid loses))

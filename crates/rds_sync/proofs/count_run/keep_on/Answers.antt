@@ -30,6 +30,7 @@ module _ (b : Signal) (rules : RuleNumbers) (lock next : Lock) (place to : ℕ) 
       let far = passed.far more in
       record {
         soon = (omega arith, omega arith);
+        late = omega (arith, lawful.late, more);
         few_bad = passed.few_bad;
         enough_bits = omega (arith, passed.between.0, start, more);
         in_order = inl passed.between;

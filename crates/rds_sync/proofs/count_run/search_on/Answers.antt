@@ -1,4 +1,4 @@
-use Rattle.std.proofs.Common.{◌≡◌, ◌≤◌, ◌<◌, ◌+◌, ◌-◌, ◌++◌, ℕ, Bool, true, false, List, [], ◌∷◌, Option, Some, None, refl, ap, sym, subst, ◌∙◌, arith, inl, inr}
+use Rattle.std.proofs.Common.{◌≡◌, ◌≤◌, ◌<◌, ◌+◌, ◌-◌, ◌++◌, ℕ, Bool, true, false, List, [], Option, Some, None, refl, ap, sym, subst, ◌∙◌, arith, inl, inr}
 use Rattle.std.specs.List.{list_any, range_with_len}
 use Rattle.std.proofs.lemmas.Bool.{cases_lt}
 use Rattle.rds_code.specs.declared.offset.Offset.{Offset}
@@ -10,7 +10,6 @@ use Rattle.rds_sync.specs.declared.lock.Lock.{Lock}
 use Rattle.rds_sync.specs.declared.state.State.{State}
 use Rattle.rds_sync.specs.declared.state.State.TheVariants.{Searching, Locked}
 use Rattle.rds_sync.specs.Inside.Counts.{CountOf, added}
-use Rattle.rds_sync.proofs.CodeMarks.{acquired-number}
 use Rattle.rds_sync.proofs.CountLemmas.{added-further}
 use Rattle.rds_sync.specs.Acquiring.{acquired, has_number, has_partner}
 use Rattle.rds_sync.specs.Inside.ShortLocks.{IsLostAtOnce}
@@ -18,7 +17,7 @@ use Rattle.rds_sync.specs.Lawful.{IsLawful}
 use Rattle.rds_sync.specs.Rules.{RuleNumbers}
 use Rattle.rds_sync.specs.Step.{step, items_at, run, lock_after}
 use Rattle.rds_sync.proofs.RunLemmas.{step-acquiring, run-found, run-unfound, run-further}
-use Rattle.rds_sync.proofs.LawfulLemmas.{acquired-none, lawful-step, off-place}
+use Rattle.rds_sync.proofs.LawfulLemmas.{acquired-none, acquired-number, lawful-step, off-place}
 use Rattle.rds_sync.proofs.HeardLemmas.{acquired-offset}
 use Rattle.rds_sync.proofs.ShortLockLemmas.{short-run, short-counts}
 use Rattle.rds_sync.proofs.count_run.search_on.Invariants.{HasSearchedOn}

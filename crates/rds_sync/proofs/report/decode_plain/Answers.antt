@@ -1,5 +1,4 @@
-use Rattle.std.proofs.Common.{◌≡◌, ◌-◌, ◌++◌, ℕ, List, ap, ap₂, refl, sym, ◌∙◌, arith}
-use Rattle.rds_stream.specs.Recording.{length_of}
+use Rattle.std.proofs.Common.{◌-◌, ◌++◌, List, ap, ap₂, refl, sym, ◌∙◌}
 use Rattle.rds_stream.specs.Tape.{TapeState}
 use Rattle.rds_sync.specs.declared.item.Item.{Item}
 use Rattle.rds_sync.specs.declared.state.State.TheVariants.{Searching}

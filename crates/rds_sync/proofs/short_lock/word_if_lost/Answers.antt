@@ -20,9 +20,7 @@ returns-then-kind-from-clause-lost c =
       bad = bad-there b (place + 26) (x % 4 + 1) (wanted_behind b rules place x) rules.burst k (omega arith) value
           (λ e. c.if-kind-from.true (omega (arith, e, c.from.ensures)));
       loses = subst (λ (loss : Loss). are_too_many loss (bad_after loss false 0) ≡ true) c.loss-loss.ensures.value (c.loses_by_one.ensures c.if-loses_by_one.true);
-      few = c.word_of_two.ensures.few;
       blocks = word-tells b rules (first_behind x) (x % 4 + 1) (place + 26) (blocks_at b rules (first_behind x) (x % 4 + 1) (place + 26)) refl
           (record { lists = c.bursts_are_listed.ensures; reads = c.readings_follow_the_rule.ensures }) c.loss-loss.ensures.range.burst c.word_of_two.result
-          (c.word_of_two.ensures.value ∙ two-are b rules place x k c.requires.valid.0 (omega arith) (omega arith) c.requires.valid.1 value)
-          c.word_of_two.ensures.few;
+          (c.word_of_two.ensures ∙ two-are b rules place x k c.requires.valid.0 (omega arith) (omega arith) c.requires.valid.1 value);
     }

@@ -1,4 +1,4 @@
-use Rattle.std.proofs.Common.{ℕ, ◌-◌, sym, subst, arith}
+use Rattle.std.proofs.Common.{ℕ, ◌-◌, sym, subst}
 use Rattle.rds_sync.specs.declared.state.State.{State}
 use Rattle.rds_sync.specs.Hop.{IsHop}
 use Rattle.rds_sync.specs.Lawful.{IsLawful, IsLawfulLock}

@@ -1,4 +1,4 @@
-use Rattle.std.proofs.Common.{◌≡◌, ◌≤◌, ◌<◌, ◌+◌, ◌-◌, ◌*◌, ◌%◌, ℕ, Bool, List, [], ◌∷◌, refl, ap, ap₂, sym, subst, ◌∙◌, arith, inl, inr}
+use Rattle.std.proofs.Common.{◌≡◌, ◌≤◌, ◌<◌, ◌+◌, ◌-◌, ℕ, Bool, List, [], refl, ap, ap₂, sym, subst, ◌∙◌, arith, inr}
 use Rattle.rds_stream.specs.Recording.{Signal}
 use Rattle.rds_sync.specs.declared.item.Block.{Block}
 use Rattle.rds_sync.specs.declared.item.Item.{Item}
@@ -17,7 +17,7 @@ use Rattle.rds_sync.specs.Lawful.{IsLawful}
 use Rattle.rds_sync.specs.Loss.{IsLoss}
 use Rattle.rds_sync.specs.Rules.{RuleNumbers}
 use Rattle.rds_sync.specs.Step.{step, items_at, run}
-use Rattle.rds_sync.specs.Words.{blocks_in, word_of_blocks}
+use Rattle.rds_sync.specs.Inside.Words.{blocks_in}
 use Rattle.rds_sync.proofs.CountLemmas.{added-nothing, group-added, lost-added}
 use Rattle.rds_sync.proofs.DueLemmas.{step-due, items-inside, items-closed, items-lost, kept-next}
 use Rattle.rds_sync.proofs.GroupWords.{word-tells}
@@ -159,7 +159,7 @@ returns-in-Closed-clause-came g c =
     let tells = word-tells b rules now.first now.number now.due c.read_due-good.new.blocks
     (c.read_due-good.ensures.blocks ∙ ap (λ (signal : Signal). blocks_at signal rules now.first now.number now.due) l.invariant.same)
     (record { lists = c.bursts_are_listed.ensures; reads = c.readings_follow_the_rule.ensures }) c.loss-loss.ensures.range.burst
-    word c.word_of_blocks.ensures.value c.word_of_blocks.ensures.few in
+    word c.word_of_blocks.ensures in
     came-by b rules c.args.lock c.args.place c.args.to now l.blocks reads loss kept (Locked next) c.args.counts.now c.add_group.new.self c.loop-now-test.true is
     (c.add_group.ensures
     ∙ ap (λ (k : CountOf). joined k (group_count (blocks_in word))) l.invariant.counts
@@ -184,7 +184,7 @@ returns-in-Lost-clause-came g c =
     let tells = word-tells b rules now.first now.number now.due c.read_due-good.new.blocks
     (c.read_due-good.ensures.blocks ∙ ap (λ (signal : Signal). blocks_at signal rules now.first now.number now.due) l.invariant.same)
     (record { lists = c.bursts_are_listed.ensures; reads = c.readings_follow_the_rule.ensures }) c.loss-loss.ensures.range.burst
-    word c.word_of_blocks-in-Lost.ensures.value c.word_of_blocks-in-Lost.ensures.few in
+    word c.word_of_blocks-in-Lost.ensures in
     came-by b rules c.args.lock c.args.place c.args.to now l.blocks reads loss kept Searching c.args.counts.now c.add_loss.new.self c.loop-now-test.true is
     (lost-added c.args.counts.now c.add_group-in-Lost.new.self c.add_loss.new.self (group b rules now.first now.number now.due) (blocks_in word) now.due tells
     (c.add_group-in-Lost.ensures ∙ ap (λ (k : CountOf). joined k (group_count (blocks_in word))) l.invariant.counts) c.add_loss.ensures

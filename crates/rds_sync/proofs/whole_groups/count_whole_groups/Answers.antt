@@ -6,15 +6,14 @@ use Rattle.rds_sync.specs.declared.item.Item.TheVariants.{Group}
 use Rattle.rds_sync.specs.declared.loss.Loss.{Loss}
 use Rattle.rds_sync.specs.declared.state.State.{State}
 use Rattle.rds_sync.specs.declared.state.State.TheVariants.{Locked}
-use Rattle.rds_sync.specs.Codes.{Outcome}
 use Rattle.rds_sync.specs.Groups.{group}
 use Rattle.rds_sync.specs.Inside.CountRuns.{HasCountedOn}
 use Rattle.rds_sync.specs.Inside.Counts.{CountOf, added, joined, group_count}
+use Rattle.rds_sync.specs.Inside.Outcomes.{Outcome, bad_over}
+use Rattle.rds_sync.specs.Inside.Words.{blocks_in}
 use Rattle.rds_sync.specs.Loss.{IsLawfulBad, are_too_many}
-use Rattle.rds_sync.specs.Marks.{bad_over}
 use Rattle.rds_sync.specs.Rules.{RuleNumbers}
 use Rattle.rds_sync.specs.Step.{run, lock_of}
-use Rattle.rds_sync.specs.Words.{blocks_in}
 use Rattle.rds_sync.proofs.CountLemmas.{added-further, group-added}
 use Rattle.rds_sync.proofs.GroupOutcomes.{outcomes}
 use Rattle.rds_sync.proofs.RunLemmas.{run-append}

@@ -8,8 +8,8 @@ use Rattle.rds_sync.specs.declared.state.State.TheVariants.{Locked}
 use Rattle.rds_sync.specs.declared.step.Step.{Step}
 use Rattle.rds_sync.specs.Groups.{group}
 use Rattle.rds_sync.specs.Lawful.{IsLawful}
+use Rattle.rds_sync.specs.Inside.Outcomes.{bad_over}
 use Rattle.rds_sync.specs.Loss.{IsLawfulBad, are_too_many}
-use Rattle.rds_sync.specs.Marks.{bad_over}
 use Rattle.rds_sync.specs.Rules.{RuleNumbers}
 use Rattle.rds_sync.specs.Step.{run, lock_of}
 use Rattle.rds_sync.specs.Stretch.{IsStretch}
@@ -47,7 +47,7 @@ module _ (b : Signal) (rules : RuleNumbers) (s : State) (due to bad after : ℕ)
         quiet = rw (state, bits) (whole_quiet b rules due bad late few);
         ended = inr (λ none. cc);
         lawful = subst (λ (p : ℕ). IsLawful rules (due + 78 + 1) (Locked (lock_of p 1 after 1))) place
-            (lawful-lock_after rules (due + 78) 4 after 1 lawful (omega arith) (omega arith) (omega arith) (omega arith));
+            (lawful-lock_after rules (due + 78) 4 after 1 lawful (omega arith) (omega arith) (omega arith) (omega arith) (omega arith));
       }
 
 pub returns-clause-reached : goal.returns-clause-reached

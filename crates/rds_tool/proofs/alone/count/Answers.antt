@@ -1,11 +1,8 @@
-use Rattle.std.proofs.Common.{◌≡◌, ℕ, ◌-◌, ◌*◌, ◌^◌, ◌≤◌, ◌++◌, ◌∙◌, List, ap, ap₂, arith, length, sym}
-use Rattle.std.proofs.lemmas.List.{length-map}
+use Rattle.std.proofs.Common.{◌≡◌, ℕ, ◌-◌, ◌^◌, ◌++◌, ◌∙◌, List, ap, ap₂, arith, sym}
 use Rattle.rds_stream.specs.Recording.{Signal, length_of}
 use Rattle.rds_stream.specs.Tape.{TapeState}
-use Rattle.rds_sync.specs.CodeLaws.{CodesTellTotals}
-use Rattle.rds_sync.specs.Codes.{KeptOf, code_of, kept_of, totals_of_codes}
 use Rattle.rds_sync.specs.Counting.{TotalsJoin, plus}
-use Rattle.rds_sync.specs.Laws.{RunsAreReports, RunsGiveFewItems}
+use Rattle.rds_sync.specs.Laws.{RunsAreReports}
 use Rattle.rds_sync.specs.Loss.{IsLoss}
 use Rattle.rds_sync.specs.Report.{report_items}
 use Rattle.rds_sync.specs.Rules.{RuleNumbers}
@@ -17,36 +14,25 @@ use Rattle.rds_sync.specs.declared.state.State.TheVariants.{Searching}
 use Rattle.rds_sync.specs.declared.totals.Totals.{Totals}
 use Rattle.rds_tool.proofs.alone.count.Goals as goal
 
-module _ (b : Signal) (rules : RuleNumbers) (n : ℕ) (kept : KeptOf) (kept_is : kept ≡ kept_of (run b rules Searching 0 (n - 0)).1) where
-  few : RunsGiveFewItems → n ≤ 2 ^ 36 → length kept.codes ≤ 2 ^ 37
-  few law short =
-      let items = (run b rules Searching 0 (n - 0)).1 in
-      omega (arith, short, law b rules Searching 0 n (omega arith), ap (λ (k : KeptOf). length k.codes) kept_is, length-map items code_of)
-
-  all : CodesTellTotals → TotalsJoin → RunsAreReports → IsLoss rules.loss → n ≡ length_of b → (end : State) → end ≡ (run b rules Searching 0 (n - 0)).0
-      → (t u : Totals) (ended : List Item) → t ≡ totals_of_codes kept.codes → u ≡ totals_of ended → ended ≡ items_of_end b rules end → plus t u ≡ totals_of (report_items b rules)
-  all tell join reports loss long end end_is t u ended t_is u_is ended_is =
-      let items : List Item = (run b rules Searching 0 (n - 0)).1 in
-      let same : n - 0 ≡ length_of b = omega (arith, long) in
-      let whole : items ++ items_of_end b rules end ≡ report_items b rules =
-      ap₂ (λ (s : State) (m : ℕ). (run b rules Searching 0 m).1 ++ items_of_end b rules s) (end_is ∙ ap (λ (m : ℕ). (run b rules Searching 0 m).0) same) same ∙ reports b rules loss in
-      ap₂ plus (t_is ∙ ap (λ (k : KeptOf). totals_of_codes k.codes) kept_is ∙ sym (tell items)) (u_is ∙ ap (λ (is : List Item). totals_of is) ended_is)
-      ∙ sym (join items (items_of_end b rules end)).joined
-      ∙ ap (λ (is : List Item). totals_of is) whole
-
-pub totals-requires : goal.totals-requires
-totals-requires c =
-    omega (arith, few c.args.recording.now c.args.rules.now c.len-len.result c.in_ok-end.codes c.in_ok-end.ensures.codes c.runs_give_few_items.ensures c.len-len.ensures.limit)
+-- the totals of the run over a recording, with those of its end, are the report's
+all : (b : Signal) (rules : RuleNumbers) (n : ℕ) → TotalsJoin → RunsAreReports → IsLoss rules.loss → n ≡ length_of b → (end : State) → end ≡ (run b rules Searching 0 (n - 0)).0
+    → (t u : Totals) (ended : List Item) → t ≡ totals_of (run b rules Searching 0 (n - 0)).1 → u ≡ totals_of ended → ended ≡ items_of_end b rules end
+    → plus t u ≡ totals_of (report_items b rules)
+all b rules n join reports loss long end end_is t u ended t_is u_is ended_is =
+    let items : List Item = (run b rules Searching 0 (n - 0)).1 in
+    let same : n - 0 ≡ length_of b = omega (arith, long) in
+    let whole : items ++ items_of_end b rules end ≡ report_items b rules =
+    ap₂ (λ (s : State) (m : ℕ). (run b rules Searching 0 m).1 ++ items_of_end b rules s) (end_is ∙ ap (λ (m : ℕ). (run b rules Searching 0 m).0) same) same ∙ reports b rules loss in
+    ap₂ plus t_is (u_is ∙ ap (λ (is : List Item). totals_of is) ended_is)
+    ∙ sym (join items (items_of_end b rules end)).joined
+    ∙ ap (λ (is : List Item). totals_of is) whole
 
 pub plus-requires : goal.plus-requires
-plus-requires c =
-    let short = few c.args.recording.now c.args.rules.now c.len-len.result c.in_ok-end.codes c.in_ok-end.ensures.codes c.runs_give_few_items.ensures c.len-len.ensures.limit in
-    (2 ^ 10 * length c.in_ok-end.codes.codes, 2 ^ 10, omega (arith, short), c.totals.ensures.small, c.of_end.ensures.small)
+plus-requires c = (2 ^ 47, 2 ^ 10, omega arith, c.in_ok-end.ensures.small, c.of_end.ensures.small)
 
 pub returns-clause-totals : goal.returns-clause-totals
 returns-clause-totals c =
     c.plus.ensures.value
-    ∙ all c.args.recording.now c.args.rules.now c.len-len.result c.in_ok-end.codes c.in_ok-end.ensures.codes c.codes_tell_totals.ensures c.totals_join.ensures
-    c.runs_are_reports.ensures c.reach.ensures.range.some_loss c.len-len.ensures.value
-    c.in_ok-end.end c.in_ok-end.ensures.state c.totals.result c.of_end.result _ c.totals.ensures.value c.of_end.ensures.value
+    ∙ all c.args.recording.now c.args.rules.now c.len-len.result c.totals_join.ensures c.runs_are_reports.ensures c.reach.ensures.range.some_loss c.len-len.ensures.value
+    c.in_ok-end.end c.in_ok-end.ensures.state c.in_ok-end.report.totals c.of_end.result _ c.in_ok-end.ensures.totals c.of_end.ensures.value
     (c.finish-group.ensures.group ∙ ap (λ (t : TapeState). items_of_end t.signal c.args.rules.now c.in_ok-end.end) c.new.ensures)

@@ -155,7 +155,7 @@ module _ (c : After-ended) where
       ∙ ap₂ (λ (t : Totals) (items : List Item). plus t (totals_of items))
       (c.plus-totals.ensures.value ∙ ap (λ (t : Totals). plus c.self.inside.totals t)
       (c.of_items.ensures.value ∙ ap (λ (items : List Item). totals_of items) (c.deref.ensures.value ∙ found_are ∙ ap (λ (r : State × List Item). r.1) found_is)
-      ∙ count-next live c.args.bytes.now c.args.bits c.codes_tell_totals.ensures))
+      ∙ count-next live c.args.bytes.now c.args.bits c.totals_join.ensures))
       (sym (ap group_item c.ended.ensures.group) ∙ closed_is)
 
   module _ (before : List ℕ) (h : HasHeard c.args.self before) where
@@ -196,7 +196,7 @@ module _ (c : After-ended) where
         (totals-to terms c.reach.ensures.range c.self.invariant.0.gaps before more c.args.bits held tail c.self.inside.place from at local part
         c.runs_join.ensures c.runs_move.ensures c.ends_move.ensures c.runs_are_reports.ensures last c.move_on.new.items (group_item c.moved_end-group.result) c.fill_from-end.result
         given_are end_is end_lawful c.moved_end-group.ensures
-        c.totals_join.ensures c.codes_tell_totals.ensures c.self.inside.totals c.of_items.result c.plus-totals.result c.ended.result.totals
+        c.totals_join.ensures c.self.inside.totals c.of_items.result c.plus-totals.result c.ended.result.totals
         (ap (λ (l : LiveOf). l.totals) heard) (c.of_items.ensures.value ∙ ap (λ (items : List Item). totals_of items) (c.deref.ensures.value ∙ found_are)) c.plus-totals.ensures.value c.ended.ensures.totals
         ∙ ap (λ (items : List Item). totals_of items) report_is)
 

@@ -120,7 +120,7 @@ module _ (c : After-moved_on-self-inside) where
       (c.moved_on-self-inside.ensures ∙ ap₂ (λ (d : ℕ) (s : State). moved_state d s) there_is (c.fill_from-end.ensures.state ∙ ap (λ (r : State × List Item). r.0) (run_is ∙ found_is)))
       (c.plus-self-inside.ensures.value ∙ ap (λ (t : Totals). plus c.self.inside.totals t)
       (c.of_items.ensures.value ∙ ap (λ (items : List Item). totals_of items) (c.deref.ensures.value ∙ found_are ∙ ap (λ (r : State × List Item). r.1) found_is)
-      ∙ count-next live more (8 * length more) c.codes_tell_totals.ensures))
+      ∙ count-next live more (8 * length more) c.totals_join.ensures))
 
   module _ (before : List ℕ) (h : HasHeard c.args.self.now before) where
     heard : HasHeard (record { terms = terms; tail = tail; place = c.self.inside.place; state = c.self.inside.state; totals = c.self.inside.totals }) before
@@ -138,7 +138,7 @@ module _ (c : After-moved_on-self-inside) where
     heard_after =
         heard-after terms c.reach.ensures.range c.self.invariant.0.gaps c.runs_join.ensures c.runs_move.ensures before more tail c.self.inside.place from at local part ready
         c.keep_last.new.self.bytes (at + (from + 8 * c.min-count.result)) c.fill_from-end.result c.moved_on-self-inside.result
-        c.totals_join.ensures c.codes_tell_totals.ensures c.self.inside.totals c.of_items.result c.plus-self-inside.result
+        c.totals_join.ensures c.self.inside.totals c.of_items.result c.plus-self-inside.result
         (c.keep_last.ensures.bytes ∙ ap last_bytes bytes_are) (omega (arith, long))
         (c.fill_from-end.ensures.state ∙ ap (λ (r : State × List Item). r.0) run_is) c.moved_on-self-inside.ensures
         (ap (λ (l : LiveOf). l.totals) heard) (c.of_items.ensures.value ∙ ap (λ (items : List Item). totals_of items) (c.deref.ensures.value ∙ found_are)) c.plus-self-inside.ensures.value

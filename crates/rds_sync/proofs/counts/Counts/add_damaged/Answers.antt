@@ -1,11 +1,10 @@
-use Rattle.std.proofs.Common.{◌≡◌, ◌≤◌, ◌+◌, ◌%◌, ◌/◌, ℕ, Bool, List, [], ◌∷◌, refl, sym, ap, ap₂, ◌∙◌, arith}
+use Rattle.std.proofs.Common.{◌≡◌, ◌%◌, ◌/◌, [], ◌∷◌, ap, ◌∙◌, arith}
 use Rattle.std.specs.Prelude.{if◌then◌else◌}
 use Rattle.std.specs.List.{list_all}
-use Rattle.rds_sync.specs.Codes.{Outcome, was_valid, was_lost, has_span, bits_inverted, has_info, blocks, totals_of_codes}
-use Rattle.rds_sync.specs.Counting.{plus}
-use Rattle.rds_sync.specs.Inside.Counts.{in_lanes, AreLanes, CountOf, counted, joined, group_count}
-use Rattle.rds_sync.specs.Words.{outcome_at}
-use Rattle.rds_sync.proofs.LaneLemmas.{lanes-more, are-more, counted-group}
+use Rattle.rds_sync.specs.Inside.Counts.{CountOf, joined, group_count}
+use Rattle.rds_sync.specs.Inside.Outcomes.{has_info}
+use Rattle.rds_sync.specs.Inside.Words.{outcome_at}
+use Rattle.rds_sync.proofs.LaneLemmas.{are-more, counted-group}
 use Rattle.rds_sync.proofs.counts.Counts.add_damaged.Goals as goal
 
 pub invariant_of-self : goal.invariant_of-self

@@ -1,0 +1,86 @@
+-- The totals of a group, from how its blocks came out.
+use Rattle.std.proofs.Common.{◌≡◌, ℕ, ◌+◌, List, [], ◌∷◌, Bool, refl, sym, ap, ap₂, ◌∙◌, add-zero}
+use Rattle.std.specs.Prelude.{sum_by, map, if◌then◌else◌, is_some, ◌&&◌}
+use Rattle.std.specs.List.{list_all}
+use Rattle.std.proofs.lemmas.List.Sums.{sum_by-cons}
+use Rattle.rds_code.specs.declared.reading.Reading.TheVariants.{Valid, Corrected, Lost}
+use Rattle.rds_sync.specs.declared.item.Block.{Block}
+use Rattle.rds_sync.specs.declared.item.Block.TheVariants.{Missing, Read}
+use Rattle.rds_sync.specs.declared.item.Group.{Group as GroupRecord}
+use Rattle.rds_sync.specs.declared.item.Item.{Item}
+use Rattle.rds_sync.specs.declared.item.Item.TheVariants.{Acquired, Group, LostLock}
+use Rattle.rds_sync.specs.Groups.{info_of}
+use Rattle.rds_sync.specs.Inside.Outcomes.{Outcome, outcome_of, was_valid, was_lost, has_span, bits_inverted, has_info, group_totals}
+use Rattle.rds_sync.specs.Totals.{totals_of, sum_blocks, count_blocks, is_valid, is_lost, is_corrected_by, bits_corrected, is_complete}
+use Rattle.rds_sync.proofs.TotalsLemmas.{same_counts}
+
+-- a sum over a list from that over what stands for its elements
+sum-through : {A B : Type 0} (f : A → ℕ) (h : B → ℕ) (k : A → B) → ((a : A) → f a ≡ h (k a)) → (xs : List A) → sum_by f xs ≡ sum_by h (map k xs)
+sum-through f h k e [] = refl
+sum-through f h k e (x ∷ xs) =
+    sum_by-cons f x xs ∙ ap₂ (λ (m n : ℕ). m + n) (e x) (sum-through f h k e xs) ∙ sym (sum_by-cons h (k x) (map k xs))
+
+all-through : {A B : Type 0} (p : A → Bool) (q : B → Bool) (k : A → B) → ((a : A) → p a ≡ q (k a)) → (xs : List A) → list_all p xs ≡ list_all q (map k xs)
+all-through p q k e [] = refl
+all-through p q k e (x ∷ xs) = ap₂ (λ (s t : Bool). s && t) (e x) (all-through p q k e xs)
+
+sum_is : (f : Block → ℕ) (h : Outcome → ℕ) → ((b : Block) → f b ≡ h (outcome_of b)) → (g : GroupRecord) → sum_blocks f (Group g ∷ []) ≡ sum_by h (map outcome_of g.blocks)
+sum_is f h e g =
+    sum_by-cons (λ (item : Item). elim item as (λ _. ℕ) [ Acquired a x ↦ 0 | Group g ↦ sum_by f g.blocks | LostLock a ↦ 0 ]) (Group g) []
+    ∙ add-zero (sum_by f g.blocks)
+    ∙ sum-through f h outcome_of e g.blocks
+
+-- 1 where the test passes
+abbrev one_if : Bool → ℕ
+one_if t = if t then 1 else 0
+
+count_is : (p : Block → Bool) (q : Outcome → Bool) → ((b : Block) → p b ≡ q (outcome_of b)) → (g : GroupRecord)
+    → count_blocks p (Group g ∷ []) ≡ sum_by (λ o. one_if (q o)) (map outcome_of g.blocks)
+count_is p q e = sum_is (λ b. one_if (p b)) (λ o. one_if (q o)) (λ b. ap one_if (e b))
+
+pub valid_is : (b : Block) → is_valid b ≡ was_valid (outcome_of b)
+valid_is Missing = refl
+valid_is (Read (Valid o info)) = refl
+valid_is (Read (Corrected o info e)) = refl
+valid_is (Read Lost) = refl
+
+lost_is : (b : Block) → is_lost b ≡ was_lost (outcome_of b)
+lost_is Missing = refl
+lost_is (Read (Valid o info)) = refl
+lost_is (Read (Corrected o info e)) = refl
+lost_is (Read Lost) = refl
+
+corrected_is : (s : ℕ) (b : Block) → is_corrected_by s b ≡ has_span s (outcome_of b)
+corrected_is s Missing = refl
+corrected_is s (Read (Valid o info)) = refl
+corrected_is s (Read (Corrected o info e)) = refl
+corrected_is s (Read Lost) = refl
+
+bits_are : (b : Block) → bits_corrected b ≡ bits_inverted (outcome_of b)
+bits_are Missing = refl
+bits_are (Read (Valid o info)) = refl
+bits_are (Read (Corrected o info e)) = refl
+bits_are (Read Lost) = refl
+
+info_is : (b : Block) → is_some (info_of b) ≡ has_info (outcome_of b)
+info_is Missing = refl
+info_is (Read (Valid o info)) = refl
+info_is (Read (Corrected o info e)) = refl
+info_is (Read Lost) = refl
+
+pub group-tells : (g : GroupRecord) → totals_of (Group g ∷ []) ≡ group_totals (map outcome_of g.blocks)
+group-tells g =
+    same_counts (count_is is_valid was_valid valid_is g)
+    (count_is (is_corrected_by 1) (has_span 1) (corrected_is 1) g)
+    (count_is (is_corrected_by 2) (has_span 2) (corrected_is 2) g)
+    (count_is (is_corrected_by 3) (has_span 3) (corrected_is 3) g)
+    (count_is (is_corrected_by 4) (has_span 4) (corrected_is 4) g)
+    (count_is (is_corrected_by 5) (has_span 5) (corrected_is 5) g)
+    (count_is is_lost was_lost lost_is g)
+    (sum_is bits_corrected bits_inverted bits_are g)
+    refl
+    (sum_by-cons (λ (item : Item). one_if (is_complete item)) (Group g) []
+    ∙ add-zero (one_if (is_complete (Group g)))
+    ∙ ap one_if (all-through (λ b. is_some (info_of b)) has_info outcome_of info_is g.blocks))
+    refl
+    refl

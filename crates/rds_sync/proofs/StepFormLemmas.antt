@@ -1,0 +1,65 @@
+-- A stretch of a run, step by step.
+use Rattle.std.proofs.Common.{◌≡◌, ℕ, ◌+◌, ◌-◌, ◌<◌, ◌≤◌, List, [], ◌∷◌, ◌++◌, refl, sym, ap, ◌∙◌, arith, inl, inr, ⊎_elim}
+use Rattle.std.proofs.lemmas.Bool.{cases_lt, lt-ltb, le-ltb}
+use Rattle.rds_stream.specs.Recording.{Signal}
+use Rattle.rds_sync.specs.declared.item.Item.{Item}
+use Rattle.rds_sync.specs.declared.lock.Lock.{Lock}
+use Rattle.rds_sync.specs.declared.state.State.{State}
+use Rattle.rds_sync.specs.declared.state.State.TheVariants.{Searching, Locked}
+use Rattle.rds_sync.specs.declared.step.Step.{Step}
+use Rattle.rds_sync.specs.Advance.{next_place}
+use Rattle.rds_sync.specs.Rules.{RuleNumbers}
+use Rattle.rds_sync.specs.Step.{run}
+use Rattle.rds_sync.specs.StepForms.{StretchesAreSteps, HopsAreStretches}
+use Rattle.rds_sync.specs.Stretch.{IsStretch}
+use Rattle.rds_sync.proofs.RunLemmas.{run-places, run-waiting}
+
+none-of : (xs ys : List Item) → xs ++ ys ≡ [] → (xs ≡ []) × (ys ≡ [])
+none-of [] ys h = (refl, h)
+none-of (x ∷ xs) ys h = cc
+
+module _ (b : Signal) (rules : RuleNumbers) (s : State) (place to : ℕ) (reached : Step) (is : IsStretch b rules s place to reached) where
+  -- from a place before its end on
+  later : (middle : ℕ) → place ≤ middle → middle < reached.place
+      → ((run b rules s place (middle - place)).1 ≡ []) × IsStretch b rules (run b rules s place (middle - place)).0 middle to reached
+  later middle low high =
+      let quiet = run-places b rules s place middle (reached.place - 1) low (omega arith) in
+      let none : ((run b rules s place (middle - place)).1 ≡ []) × ((run b rules (run b rules s place (middle - place)).0 middle (reached.place - 1 - middle)).1 ≡ []) =
+      none-of _ _ (sym (ap (λ (r : State × List Item). r.1) quiet) ∙ is.quiet) in
+      let whole = run-places b rules s place middle reached.place low (omega arith) in (
+        none.0,
+        record {
+          forward = high;
+          limit = is.limit;
+          state = is.state ∙ ap (λ (r : State × List Item). r.0) whole;
+          items = is.items ∙ ap (λ (r : State × List Item). r.1) whole
+              ∙ ap (λ (xs : List Item). xs ++ (run b rules (run b rules s place (middle - place)).0 middle (reached.place - middle)).1) none.0;
+          quiet = none.1;
+          ended = is.ended;
+          lawful = is.lawful;
+        },
+      )
+
+-- a lock's stretch ends after the block that is due, or at the range's end
+past-due : (b : Signal) (rules : RuleNumbers) (lock : Lock) (place to : ℕ) (reached : Step) → IsStretch b rules (Locked lock) place to reached
+    → reached.place ≤ lock.due → reached.place ≡ to
+past-due b rules lock place to reached is early =
+    ⊎_elim (λ at. at) (λ some. absurd (some (is.items ∙ ap (λ (r : State × List Item). r.1) (run-waiting b rules lock place (reached.place - place) (omega (arith, is.forward, early)))))) is.ended
+
+pub stretches_are_steps : StretchesAreSteps
+stretches_are_steps b rules Searching place to reached lawful is = (omega (arith, is.forward), later b rules Searching place to reached is (place + 1) (omega arith))
+stretches_are_steps b rules (Locked lock) place to reached lawful is = elim (cases_lt lock.due to) [
+  | inl before ↦ rw (next_place, lt-ltb lock.due to before) (
+    (elim (cases_lt lock.due reached.place) [
+      | inl past ↦ omega (arith, past)
+      | inr early ↦ let at = past-due b rules lock place to reached is early in omega (arith, before, at)
+    ]),
+    λ more. later b rules (Locked lock) place to reached is (lock.due + 1) (omega (arith, lawful.soon)) more,
+  )
+  | inr after ↦
+      let at : reached.place ≡ to = past-due b rules lock place to reached is (omega (arith, is.limit, after)) in
+      rw (next_place, le-ltb lock.due to after) ((omega (arith, at)), λ more. absurd (omega (arith, at, more)))
+]
+
+pub hops_are_stretches : HopsAreStretches
+hops_are_stretches b rules s after place near to reads reached hop is = hop.state_is ∙ sym is.state

@@ -1,0 +1,12 @@
+use Rattle.std.proofs.Common.{◌+◌, sym, ◌∙◌}
+use Rattle.rds_sync.proofs.GroupWords.{outcomes-are}
+use Rattle.rds_sync.proofs.HeardGroups.{whole-is}
+use Rattle.rds_sync.proofs.four_blocks.whole_heard.Goals as goal
+
+pub returns-in_ok-after-in-Some : goal.returns-in_ok-after-in-Some
+returns-in_ok-after-in-Some c b due late place heard =
+    let rules = c.args.rules.now in
+    let are = c.in-Some.ensures.blocks b rules due heard in
+    let outcomes = sym c.in-Some.ensures.valid ∙ outcomes-are b rules 1 4 (due + 78) c.in-Some.blocks are in
+    whole-is b rules due c.args.loss c.args.place c.in-Some.blocks _ c.args.bad c.in_ok-after-in-Some.after c.of_blocks.result late place are outcomes c.requires.loss
+    c.of_blocks.ensures c.in_ok-after-in-Some.ensures.bad c.in_ok-after-in-Some.ensures.lawful c.in_ok-after-in-Some.ensures.kept

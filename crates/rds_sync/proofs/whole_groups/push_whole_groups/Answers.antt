@@ -1,0 +1,80 @@
+use Rattle.std.proofs.Common.{◌≡◌, ℕ, ◌+◌, ◌-◌, ◌<◌, ◌≤◌, List, [], ◌∷◌, ◌++◌, length, length-append, append_assoc, refl, sym, ap, ap₂, subst, ◌∙◌, arith}
+use Rattle.rds_stream.specs.Recording.{Signal}
+use Rattle.rds_sync.specs.declared.lock.Lock.{Lock}
+use Rattle.rds_sync.specs.declared.item.Group.{Group as GroupRecord}
+use Rattle.rds_sync.specs.declared.item.Item.{Item}
+use Rattle.rds_sync.specs.declared.item.Item.TheVariants.{Group}
+use Rattle.rds_sync.specs.declared.state.State.{State}
+use Rattle.rds_sync.specs.declared.state.State.TheVariants.{Locked}
+use Rattle.rds_sync.specs.Inside.WholeGroups.{HasGiven, IsWhole}
+use Rattle.rds_sync.specs.Rules.{RuleNumbers}
+use Rattle.rds_sync.specs.Step.{run, lock_of}
+use Rattle.rds_sync.proofs.RunLemmas.{run-append}
+use Rattle.rds_sync.proofs.WholeGroupLemmas.{whole_group}
+use Rattle.rds_sync.proofs.whole_groups.push_whole_groups.Goals as goal
+
+-- one whole group more
+module _ (b : Signal) (rules : RuleNumbers) (lock now : Lock) (to : ℕ) (before items after : List Item) (given : HasGiven b rules lock to before now items)
+    (start : 25 ≤ lock.due) (room : now.due + 78 < to) (found : GroupRecord) (bad : ℕ) (whole : IsWhole b rules now.due now.bad found bad)
+    (pushed : after ≡ items ++ Group found ∷ []) where
+  abbrev so_far : State × List Item
+  so_far = run b rules (Locked lock) (lock.due - 25) (now.due - lock.due)
+
+  late : 25 ≤ now.due
+  late = omega (arith, start, given.from_on)
+
+  here : run b rules (Locked (lock_of now.due 1 now.bad 1)) (now.due - 25) 104 ≡ (Locked (lock_of (now.due + 104) 1 bad 1), Group found ∷ [])
+  here =
+      whole_group b rules now.due now.bad late whole.few
+      ∙ ap₂ (λ (c : ℕ) (g : GroupRecord). (Locked (lock_of (now.due + 104) 1 c 1), Group g ∷ [])) (sym whole.bad_is) (sym whole.given_is)
+
+  total : run b rules (Locked lock) (lock.due - 25) (now.due + 104 - lock.due) ≡ (Locked (lock_of (now.due + 104) 1 bad 1), so_far.1 ++ Group found ∷ [])
+  total =
+      let count : now.due + 104 - lock.due ≡ now.due - lock.due + 104 = omega (arith, given.from_on) in
+      let place : lock.due - 25 + (now.due - lock.due) ≡ now.due - 25 = omega (arith, start, given.from_on) in
+      let state : so_far.0 ≡ Locked (lock_of now.due 1 now.bad 1) = given.state ∙ ap₂ (λ (x f : ℕ). Locked (lock_of now.due x now.bad f)) given.between.0 given.between.1 in
+      ap (λ (n : ℕ). run b rules (Locked lock) (lock.due - 25) n) count
+      ∙ run-append b rules (Locked lock) (lock.due - 25) (now.due - lock.due) 104
+      ∙ ap₂ (λ (t : State) (p : ℕ). ((run b rules t p 104).0, so_far.1 ++ (run b rules t p 104).1)) state place
+      ∙ ap (λ (r : State × List Item). (r.0, so_far.1 ++ r.1)) here
+
+  longer : length after ≡ length items + 1
+  longer = ap (λ (is : List Item). length is) pushed ∙ length-append items (Group found ∷ [])
+
+  at_least : length before ≤ length items
+  at_least = omega (arith, ap (λ (is : List Item). length is) given.items, length-append before so_far.1)
+
+  pub further : HasGiven b rules lock to before (record { due = now.due + 104; number = now.number; bad = bad; first = now.first }) after
+  further = record {
+    between = given.between;
+    few_bad = whole.lawful;
+    from_on = omega (arith, given.from_on);
+    limit = λ more. omega (arith, room);
+    more = λ more. omega (arith, longer, at_least);
+    state = ap (λ (r : State × List Item). r.0) total ∙ sym (ap₂ (λ (x f : ℕ). Locked (lock_of (now.due + 104) x bad f)) given.between.0 given.between.1);
+    items = pushed ∙ ap (λ (is : List Item). is ++ Group found ∷ []) given.items ∙ append_assoc before so_far.1 (Group found ∷ [])
+        ∙ ap (λ (r : State × List Item). before ++ r.1) (sym total);
+  }
+
+pub loop-now-preserved : goal.loop-now-preserved
+loop-now-preserved c =
+    let b = c.args.reader.now in
+    let rules = c.args.rules.now in
+    let l = c.loop-now in
+    let now = l.now in
+    let far = l.invariant.0 in
+    let late : 25 ≤ now.due = omega (arith, c.requires.start, far.given.from_on) in
+    let whole = subst (λ (s : Signal). IsWhole s rules now.due now.bad c.in-Some.group c.in-Some.bad) far.same
+    (c.in-Some.ensures l.reader now.due late refl c.four_windows-heard.ensures.value) in
+    let pushed = c.push_one.ensures.items in
+    let longer : length c.push_one.new.part.items ≡ length l.part.items + 1 =
+    ap (λ (is : List Item). length is) pushed ∙ length-append l.part.items (Group c.in-Some.group ∷ []) in (
+      record {
+        same = c.four_windows-heard.ensures.same ∙ far.same;
+        near = omega (arith, c.loop-now-test.true, c.if-prove.false, c.len.ensures.limit);
+        given = further b rules c.args.lock now c.args.to c.args.part.now.items l.part.items c.push_one.new.part.items far.given c.requires.start c.loop-now-test.true
+            c.in-Some.group c.in-Some.bad whole pushed;
+        within = omega (arith, longer, c.if-len-most.true);
+      },
+      c.push_one.ensures.room ∙ l.invariant.1,
+    )

@@ -1,0 +1,260 @@
+//! Four blocks of a lock that were heard at once: the group of them, or its word, and what is kept of the bad ones.
+
+ghost use Rattle.std.specs.Prelude.{◌≡◌, ◌≤◌, ◌<◌, ◌+◌, ◌-◌, ◌^◌, ◌∷◌, [], false, map, ℕ, All, IfSome};
+ghost use Rattle.rds_code.specs.Offsets.{number};
+ghost use Rattle.rds_code.specs.declared.reading.Wanted.{Wanted as TheWanted};
+ghost use Rattle.rds_stream.specs.InARow.{four_heard};
+ghost use Rattle.rds_stream.specs.Recording.{Signal, length_of, reading_heard};
+ghost use Rattle.rds_sync.specs.Groups.{blocks_at, group};
+ghost use Rattle.rds_sync.specs.Inside.Outcomes.{valid, outcome_of, bad_over};
+ghost use Rattle.rds_sync.specs.Inside.WholeGroups.{IsWhole};
+ghost use Rattle.rds_sync.specs.Inside.Words.{blocks_in};
+ghost use Rattle.rds_sync.specs.Loss.{IsLawfulBad, bad_after, are_too_many};
+ghost use Rattle.rds_sync.specs.Ranges.{IsLossInRange};
+ghost use Rattle.rds_sync.specs.Rules.{RuleNumbers};
+ghost use Rattle.rds_sync.specs.declared.item.Block.TheVariants.{Read};
+
+use crate::item::{Block, Group};
+use crate::loss::{Loss, NONE_BAD};
+use crate::rules::Rules;
+use crate::words::{CLEAN, nibble, was_valid};
+use rds_code::laws::{bursts_are_listed, readings_follow_the_rule};
+use rds_code::{BlockNumber, Offset, Reading, Wanted, rem26};
+use rds_stream::Reader;
+
+/// The group of four blocks that were heard, the first of which begins at `place`, and what is kept of the bad blocks
+/// behind it: none where a block of it loses the lock.
+#[inline(always)]
+pub(crate) fn whole_heard(
+    rules: &Rules,
+    loss: Loss,
+    place: u64,
+    heard: [Option<u32>; 4],
+    bad: u64,
+) -> Option<(Group, u64)>
+    requires blocks { All (λ heard. IfSome heard (λ window. window < 2 ^ 26)) heard }
+    requires loss { loss ≡ rules.now.loss }
+    requires range { IsLossInRange loss }
+    requires lawful { IsLawfulBad loss bad }
+    ensures { IfSome result (λ whole. (b : Signal) (due : ℕ) → 25 ≤ due → place ≡ due - 25
+        → heard ≡ four_heard b due
+        → IsWhole b rules.now due bad whole.0 whole.1) }
+{
+    match valid_blocks(heard) {
+        Some(blocks) => {
+            let after = bad_after_clean(loss, bad)?;
+            Some((Group::of_blocks(place, blocks), after))
+        }
+        None => damaged_heard(rules, loss, place, heard, bad),
+    }
+}
+
+/// The same, whether or not all four blocks are valid. It is not in line, so that a clean group takes no call.
+#[inline(never)]
+fn damaged_heard(
+    rules: &Rules,
+    loss: Loss,
+    place: u64,
+    heard: [Option<u32>; 4],
+    bad: u64,
+) -> Option<(Group, u64)>
+    requires blocks { All (λ heard. IfSome heard (λ window. window < 2 ^ 26)) heard }
+    requires loss { loss ≡ rules.now.loss }
+    requires range { IsLossInRange loss }
+    requires lawful { IsLawfulBad loss bad }
+    ensures { IfSome result (λ whole. (b : Signal) (due : ℕ) → 25 ≤ due → place ≡ due - 25
+        → heard ≡ four_heard b due
+        → IsWhole b rules.now due bad whole.0 whole.1) }
+{
+    let blocks = blocks_of(rules, heard);
+    let after = bad_after_blocks(loss, &blocks, bad)?;
+    Some((Group::of_blocks(place, blocks), after))
+}
+
+/// The word of the group whose block 1 ends at `due`.
+#[inline(always)]
+pub(crate) fn whole_word(reader: &mut Reader<'_>, rules: &Rules, due: u64) -> u16
+    requires first { 25 ≤ due }
+    requires last { due + 78 < length_of reader.old }
+    requires place { due < 2 ^ 37 }
+    ensures blocks { blocks_in result ≡ map outcome_of (group reader.old rules.now 1 4 (due + 78)).blocks }
+    ensures same { reader.new ≡ reader.old }
+{
+    let heard = reader.four_windows(due);
+    match valid_blocks(heard) {
+        Some(_) => CLEAN,
+        None => damaged_word(rules, heard),
+    }
+}
+
+/// The word of a group of which this was heard.
+fn damaged_word(rules: &Rules, heard: [Option<u32>; 4]) -> u16
+    requires { All (λ heard. IfSome heard (λ window. window < 2 ^ 26)) heard }
+    ensures { (b : Signal) (due : ℕ) → heard ≡ four_heard b due
+        → blocks_in result ≡ map outcome_of (group b rules.now 1 4 (due + 78)).blocks }
+{
+    // The outcome of each reading has a word.
+    bursts_are_listed();
+    readings_follow_the_rule();
+    prove!(rules.burst() <= 5);
+    let [one, two, three, four] = heard;
+    let second = Block::Read(rules.read(two, BlockNumber::TWO, Wanted::Either));
+    let first = rules.kind(one, BlockNumber::ONE, Wanted::Either);
+    let third = rules.kind(three, BlockNumber::THREE, second.wanted_beside());
+    let fourth = rules.kind(four, BlockNumber::FOUR, Wanted::Either);
+    first + 16 * (nibble(&second) + 16 * (third + 16 * fourth))
+}
+
+/// The four blocks of that group.
+#[inline(always)]
+fn blocks_of(rules: &Rules, heard: [Option<u32>; 4]) -> [Block; 4]
+    requires { All (λ heard. IfSome heard (λ window. window < 2 ^ 26)) heard }
+    ensures { (b : Signal) (due : ℕ) → heard ≡ four_heard b due
+        → result ≡ blocks_at b rules.now 1 4 (due + 78) }
+{
+    let [one, two, three, four] = heard;
+    let first = Block::Read(rules.read(one, BlockNumber::ONE, Wanted::Either));
+    let second = Block::Read(rules.read(two, BlockNumber::TWO, Wanted::Either));
+    let third = Block::Read(rules.read(three, BlockNumber::THREE, second.wanted_beside()));
+    let fourth = Block::Read(rules.read(four, BlockNumber::FOUR, Wanted::Either));
+    [first, second, third, fourth]
+}
+
+/// The four blocks that were heard, where all of them are valid with the numbers 1 to 4.
+#[inline(always)]
+fn valid_blocks(heard: [Option<u32>; 4]) -> Option<[Block; 4]>
+    requires { All (λ heard. IfSome heard (λ window. window < 2 ^ 26)) heard }
+    ensures blocks { IfSome result (λ blocks. (b : Signal) (rules : RuleNumbers) (due : ℕ)
+        → heard ≡ four_heard b due
+        → blocks ≡ blocks_at b rules 1 4 (due + 78)) }
+    ensures valid { IfSome result (λ blocks. map outcome_of blocks ≡ valid ∷ valid ∷ valid ∷ valid ∷ []) }
+{
+    let [one, two, three, four] = heard;
+    let first = valid_reading(one, Offset::A)?;
+    let second = valid_reading(two, Offset::B)?;
+    let third = valid_third(three)?;
+    let fourth = valid_reading(four, Offset::D)?;
+    Some([
+        Block::Read(first),
+        Block::Read(second),
+        Block::Read(third),
+        Block::Read(fourth),
+    ])
+}
+
+/// What was heard, where it is a valid block 3 of either version.
+#[inline(always)]
+fn valid_third(heard: Option<u32>) -> Option<Reading>
+    requires { IfSome heard (λ window. window < 2 ^ 26) }
+    ensures reading { IfSome result (λ reading. (wanted : TheWanted) (limit : ℕ)
+        → reading ≡ reading_heard heard 3 wanted limit) }
+    ensures valid { IfSome result (λ reading. outcome_of (Read reading) ≡ valid) }
+{
+    match valid_reading(heard, Offset::C) {
+        Some(reading) => Some(reading),
+        None => valid_reading(heard, Offset::Cx),
+    }
+}
+
+/// What was heard, where it is a valid block with this offset: one comparison of its remainder tells.
+#[inline(always)]
+fn valid_reading(heard: Option<u32>, offset: Offset) -> Option<Reading>
+    requires { IfSome heard (λ window. window < 2 ^ 26) }
+    ensures reading { IfSome result (λ reading. (wanted : TheWanted) (limit : ℕ)
+        → reading ≡ reading_heard heard (number offset) wanted limit) }
+    ensures valid { IfSome result (λ reading. outcome_of (Read reading) ≡ valid) }
+{
+    match heard {
+        Some(window) if rem26(window) == offset.word() => Some(Reading::Valid {
+            offset,
+            info: (window >> 10) as u16,
+        }),
+        _ => None,
+    }
+}
+
+/// What is kept of the bad blocks after four good ones, of which none loses a lock.
+#[inline(always)]
+fn bad_after_clean(loss: Loss, bad: u64) -> Option<u64>
+    requires range { IsLossInRange loss }
+    requires lawful { IsLawfulBad loss bad }
+    ensures bad { IfSome result (λ after. after ≡ bad_over loss (blocks_in 0x1111) bad 1 4) }
+    ensures lawful { IfSome result (IsLawfulBad loss) }
+    ensures kept { IfSome result (λ _. (k : ℕ) → k < 4
+        → are_too_many loss (bad_over loss (blocks_in 0x1111) bad 1 (k + 1)) ≡ false) }
+{
+    match loss {
+        Loss::InARow(_) => Some(NONE_BAD),
+        Loss::Share { .. } => bad_after_four(loss, CLEAN, bad),
+    }
+}
+
+/// What is kept of the bad blocks after these four, or none where one of them loses the lock.
+#[inline(always)]
+fn bad_after_blocks(loss: Loss, blocks: &[Block; 4], bad: u64) -> Option<u64>
+    requires range { IsLossInRange loss }
+    requires lawful { IsLawfulBad loss bad }
+    ensures bad { IfSome result (λ after. after ≡ bad_over loss (map outcome_of blocks.now) bad 1 4) }
+    ensures lawful { IfSome result (IsLawfulBad loss) }
+    ensures kept { IfSome result (λ _. (k : ℕ) → k < 4
+        → are_too_many loss (bad_over loss (map outcome_of blocks.now) bad 1 (k + 1)) ≡ false) }
+{
+    let [one, two, three, four] = blocks;
+    let first = kept_after(loss, one.is_valid(), bad)?;
+    let second = kept_after(loss, two.is_valid(), first)?;
+    let third = kept_after(loss, three.is_valid(), second)?;
+    let fourth = kept_after(loss, four.is_valid(), third)?;
+    Some(fourth)
+}
+
+/// What is kept of the bad blocks after those of the group of a word, or none where one of them loses the lock. Behind
+/// four good blocks no row of bad ones is left, and none is counted.
+#[inline(always)]
+pub(crate) fn bad_after_four(loss: Loss, word: u16, bad: u64) -> Option<u64>
+    requires range { IsLossInRange loss }
+    requires lawful { IsLawfulBad loss bad }
+    ensures bad { IfSome result (λ after. after ≡ bad_over loss (blocks_in word) bad 1 4) }
+    ensures lawful { IfSome result (IsLawfulBad loss) }
+    ensures kept { IfSome result (λ _. (k : ℕ) → k < 4
+        → are_too_many loss (bad_over loss (blocks_in word) bad 1 (k + 1)) ≡ false) }
+{
+    match loss {
+        Loss::InARow(_) if word == CLEAN => Some(NONE_BAD),
+        _ => bad_after_each(loss, word, bad),
+    }
+}
+
+/// The same, by one block after the other.
+#[inline(always)]
+fn bad_after_each(loss: Loss, word: u16, bad: u64) -> Option<u64>
+    requires range { IsLossInRange loss }
+    requires lawful { IsLawfulBad loss bad }
+    ensures bad { IfSome result (λ after. after ≡ bad_over loss (blocks_in word) bad 1 4) }
+    ensures lawful { IfSome result (IsLawfulBad loss) }
+    ensures kept { IfSome result (λ _. (k : ℕ) → k < 4
+        → are_too_many loss (bad_over loss (blocks_in word) bad 1 (k + 1)) ≡ false) }
+{
+    let one = kept_after(loss, was_valid(word % 16), bad)?;
+    let two = kept_after(loss, was_valid(word / 16 % 16), one)?;
+    let three = kept_after(loss, was_valid(word / 256 % 16), two)?;
+    let four = kept_after(loss, was_valid(word / 4096), three)?;
+    Some(four)
+}
+
+/// What is kept of the bad blocks after one more, or none where it loses the lock.
+#[inline(always)]
+#[tactic(auto, using(crate::proofs::LossLemmas::lawful_kept))]
+fn kept_after(loss: Loss, good: bool, bad: u64) -> Option<u64>
+    requires range { IsLossInRange loss }
+    requires lawful { IsLawfulBad loss bad }
+    ensures bad { IfSome result (λ after. after ≡ bad_after loss good bad) }
+    ensures lawful { IfSome result (IsLawfulBad loss) }
+    ensures kept { IfSome result (λ after. are_too_many loss after ≡ false) }
+{
+    let after = loss.bad_after(good, bad);
+    if loss.are_too_many(after) {
+        None
+    } else {
+        Some(after)
+    }
+}
