@@ -1,5 +1,5 @@
 //! A run and its guess over one range, side by side.
-ghost use Rattle.std.specs.Prelude.{◌≡◌, ℕ, Option, ◌+◌, ◌-◌, ◌*◌, ◌≤◌, ◌^◌, ◌↔◌, IfOk, IsTrue};
+ghost use Rattle.std.specs.Prelude.{◌≡◌, ℕ, Option, Some, ◌+◌, ◌-◌, ◌*◌, ◌≤◌, ◌^◌, ◌↔◌, IfOk, IsTrue};
 ghost use Rattle.rds_stream.specs.Recording.{length_of};
 ghost use Rattle.rds_sync.specs.Lawful.{IsLawful};
 ghost use Rattle.rds_sync.specs.Tally.{gone_on, tally_at};
@@ -68,8 +68,7 @@ pub(crate) fn go_beside<T: Tape>(
     );
     'along: loop {
         if meet(&own, &guess) {
-            let met_at = Some(own.place());
-            return Ok(Beside { own, guess, met_at });
+            return Ok(met_here(own, guess));
         }
         if are_at_end(&own, &guess, to) {
             return Ok(Beside {
@@ -80,6 +79,16 @@ pub(crate) fn go_beside<T: Tape>(
         }
         hop_first(tape, rules, &mut own, &mut guess, to)?;
     }
+}
+
+/// Both, once they met.
+fn met_here(own: Tally, guess: Tally) -> Beside
+    ensures own { result.own ≡ own }
+    ensures guess { result.guess ≡ guess }
+    ensures met { result.met_at ≡ Some own.place }
+{
+    let met_at = Some(own.place());
+    Beside { own, guess, met_at }
 }
 
 /// Lets the one that is behind hop; of two at one place one that is locked. A search goes no further than to the other

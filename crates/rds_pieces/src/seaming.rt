@@ -1,9 +1,11 @@
 //! The seam before a piece: how the state that the pieces before it left runs over it.
 ghost use Rattle.std.specs.Prelude.{◌≡◌, ℕ, Option, ◌+◌, ◌-◌, ◌*◌, ◌≤◌, ◌^◌, IfOk, IsOkUnless};
+ghost use Rattle.rds_sync.specs.Counting.{IsRest};
 ghost use Rattle.rds_sync.specs.Lawful.{IsLawful};
 ghost use Rattle.rds_sync.specs.Step.{run as run_of};
 ghost use Rattle.rds_sync.specs.Tally.{gone_on, tally_at};
 ghost use Rattle.rds_sync.specs.Totals.{totals_of};
+ghost use Rattle.rds_sync.specs.declared.totals.Totals.{Totals};
 ghost use Rattle.rds_sync.specs.Decoding.{listed};
 ghost use Rattle.rds_pieces.specs.Inside.Beside.{come_to};
 ghost use Rattle.rds_pieces.specs.Meeting.{IsMeeting, distance};
@@ -18,7 +20,7 @@ use crate::run::PieceRun;
 use crate::seams::Seam;
 use rds_stream::Tape;
 use rds_sync::laws::runs_converge;
-use rds_sync::{Report, Rules, State};
+use rds_sync::{Report, Rules, State, Totals};
 use std::alloc::Global;
 
 /// Carries the run on from `state`, lawful at the piece's first place, over the piece that `run` guessed, of the tape's
@@ -71,12 +73,31 @@ pub fn seam<T: Tape>(
     let beside = go_beside(alloc, tape, rules, state, from, to, run.cut())?;
     let met_at = beside.met_at;
     let (report, end_state) = sewn(beside, state, run)?;
-    Ok(Seam {
-        items: report.items,
-        totals: report.totals,
+    Ok(seam_of(report, end_state, met_at))
+}
+
+/// What a piece gives, by a report of its items.
+fn seam_of(report: Report, end_state: State, met_at: Option<u64>) -> Seam
+    ensures items { result.items ≡ report.items }
+    ensures totals { result.totals ≡ report.totals }
+    ensures end { result.end_state ≡ end_state }
+    ensures met { result.met_at ≡ met_at }
+{
+    let Report { items, totals } = report;
+    Seam {
+        items,
+        totals,
         end_state,
         met_at,
-    })
+    }
+}
+
+/// The totals of what comes after some first items, from those of all and those of the first.
+fn totals_after(all: Totals, first: Totals) -> Totals
+    requires { (rest : Totals) × IsRest first all rest }
+    ensures { (rest : Totals) → IsRest first all rest → result ≡ rest }
+{
+    all.less(first)
 }
 
 /// What a run gives over the whole range, and its end state, once it went on from `state` beside the guess: its own up to
@@ -107,7 +128,7 @@ fn sewn(beside: Beside, state: State, run: &PieceRun) -> Result<(Report, State),
         Some(_place) => {
             let before = guess.report()?;
             report.items.append_from(run.list(), before.items.len())?;
-            let rest = run.totals().less(before.totals);
+            let rest = totals_after(run.totals(), before.totals);
             report.totals = report.totals.plus(rest);
             Ok((report, run.end_state()))
         }

@@ -1,9 +1,9 @@
-use Rattle.std.proofs.Common.{◌≡◌, ◌≤◌, ℕ, ◌-◌, refl, sym, ap, ◌∙◌, subst, arith}
+use Rattle.std.proofs.Common.{◌≡◌, ◌≤◌, ℕ, Option, ◌-◌, refl, sym, ap, ◌∙◌, subst, arith}
 use Rattle.rds_stream.specs.Recording.{Signal, length_of}
 use Rattle.rds_sync.specs.declared.state.State.TheVariants.{Searching}
 use Rattle.rds_sync.specs.Tally.{TallyOf, tally_at, gone_on}
-use Rattle.rds_pieces.specs.Inside.Beside.{IsStep, Meet}
-use Rattle.rds_pieces.specs.Meeting.{MeetFirstAt}
+use Rattle.rds_pieces.specs.Inside.Beside.{IsStep, Meet, come_to}
+use Rattle.rds_pieces.specs.Meeting.{IsMeeting}
 use Rattle.rds_pieces.proofs.Walks.{IsBeside, beside_start, hops_first, few_in_range, few_to_meeting, room_for, met_least, never_met, step_moves}
 use Rattle.rds_pieces.proofs.beside.go_beside.Goals as goal
 
@@ -84,19 +84,20 @@ pub returns-then-meet-clause-met : goal.returns-then-meet-clause-met
 returns-then-meet-clause-met g c =
     let b = g.T.Tape.signal c.args.tape.now in
     let l = c.along in
-    subst (λ (p : ℕ). MeetFirstAt b c.args.rules.now c.args.state Searching c.args.from c.args.to p) (sym c.place.ensures)
+    subst (λ (met : Option ℕ). IsMeeting b c.args.rules.now c.args.state Searching c.args.from c.args.to met) (sym c.met_here.ensures.met)
     (met_least c.run_laws.ensures b c.args.rules.now c.reach.ensures.range c.args.state c.args.from c.args.to c.requires.lawful l.own l.guess
     (g.T.Tape.reads_made l.tape - g.T.Tape.reads_made c.args.tape.now) l.invariant.beside (c.meet.ensures.0 c.if-meet.true))
 
 pub returns-then-meet-clause-own : goal.returns-then-meet-clause-own
 returns-then-meet-clause-own g c =
     let start = tally_at (g.T.Tape.signal c.args.tape.now) c.args.rules.now c.args.from c.args.state in
-    c.along.invariant.beside.own_is ∙ ap (λ (p : ℕ). gone_on start p) (sym c.place.ensures)
+    c.met_here.ensures.own ∙ c.along.invariant.beside.own_is ∙ ap (λ (met : Option ℕ). gone_on start (come_to c.args.to met)) (sym c.met_here.ensures.met)
 
 pub returns-then-meet-clause-guess : goal.returns-then-meet-clause-guess
 returns-then-meet-clause-guess g c =
     let start = tally_at (g.T.Tape.signal c.args.tape.now) c.args.rules.now c.args.from Searching in
-    c.along.invariant.beside.guess_is ∙ ap (λ (p : ℕ). gone_on start p) (sym (c.place.ensures ∙ (c.meet.ensures.0 c.if-meet.true).0))
+    c.met_here.ensures.guess ∙ c.along.invariant.beside.guess_is ∙ ap (λ (p : ℕ). gone_on start p) (sym (c.meet.ensures.0 c.if-meet.true).0)
+    ∙ ap (λ (met : Option ℕ). gone_on start (come_to c.args.to met)) (sym c.met_here.ensures.met)
 
 pub returns-then-meet-clause-reads_way : goal.returns-then-meet-clause-reads_way
 returns-then-meet-clause-reads_way g c = λ met meeting. (

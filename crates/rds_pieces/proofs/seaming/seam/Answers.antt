@@ -1,4 +1,4 @@
-use Rattle.std.proofs.Common.{◌≡◌, ◌≤◌, ◌+◌, ◌-◌, ◌*◌, ℕ, Option, sym, subst}
+use Rattle.std.proofs.Common.{◌≡◌, ◌≤◌, ◌+◌, ◌-◌, ◌*◌, ℕ, Option, sym, subst, ◌∙◌}
 use Rattle.rds_stream.specs.Recording.{Signal, length_of}
 use Rattle.rds_sync.specs.declared.state.State.{State}
 use Rattle.rds_sync.specs.declared.state.State.TheVariants.{Searching}
@@ -95,15 +95,14 @@ returns-clause-reads_most g c =
 
 pub returns-clause-met : goal.returns-clause-met
 returns-clause-met g c =
-    ranged (λ from to. IsMeeting (g.T.Tape.signal c.args.tape.now) c.args.rules.now c.args.state Searching from to c.in_ok-beside.beside.met_at) c.range-from.result.0 c.args.run.now.from c.range-from.result.1 c.args.run.now.to
-    c.range-from.ensures.first c.range-from.ensures.end c.in_ok-beside.ensures.met
+    let meeting = ranged (λ from to. IsMeeting (g.T.Tape.signal c.args.tape.now) c.args.rules.now c.args.state Searching from to c.in_ok-beside.beside.met_at)
+    c.range-from.result.0 c.args.run.now.from c.range-from.result.1 c.args.run.now.to c.range-from.ensures.first c.range-from.ensures.end c.in_ok-beside.ensures.met in
+    subst (λ (met : Option ℕ). IsMeeting (g.T.Tape.signal c.args.tape.now) c.args.rules.now c.args.state Searching c.args.run.now.from c.args.run.now.to met) (sym c.seam_of.ensures.met) meeting
 
 pub returns-clause-reads : goal.returns-clause-reads
 returns-clause-reads g c =
     way (g.T.Tape.reads_made c.args.tape.now) (g.T.Tape.reads_made c.go_beside.new.tape) (g.T.Tape.signal c.args.tape.now) c.args.rules.now c.args.state c.args.run.now.from c.range-from.result.0 c.args.run.now.to c.range-from.result.1
-    c.range-from.ensures.first c.range-from.ensures.end c.go_beside.ensures.reads_way c.in_ok-beside.beside.met_at
-    (ranged (λ from to. IsMeeting (g.T.Tape.signal c.args.tape.now) c.args.rules.now c.args.state Searching from to c.in_ok-beside.beside.met_at) c.range-from.result.0 c.args.run.now.from c.range-from.result.1 c.args.run.now.to
-    c.range-from.ensures.first c.range-from.ensures.end c.in_ok-beside.ensures.met)
+    c.range-from.ensures.first c.range-from.ensures.end c.go_beside.ensures.reads_way c.seam_of.result.met_at (returns-clause-met g c)
 
 pub returns-clause-soon : goal.returns-clause-soon
 returns-clause-soon g c =
@@ -112,24 +111,25 @@ returns-clause-soon g c =
     let range = c.range-from.ensures.rules in
     let some = subst (λ (x : RuleNumbers). IsInRange x) c.requires.rules range in
     soon_met b c.args.rules.now c.args.state Searching r.from r.to c.run_laws.ensures c.runs_converge.ensures.fours c.runs_converge.ensures.converge
-    some.some_loss some.some_reach c.requires.lawful tt c.in_ok-beside.beside.met_at
-    (ranged (λ from to. IsMeeting b c.args.rules.now c.args.state Searching from to c.in_ok-beside.beside.met_at) c.range-from.result.0 r.from c.range-from.result.1 r.to
-    c.range-from.ensures.first c.range-from.ensures.end c.in_ok-beside.ensures.met)
+    some.some_loss some.some_reach c.requires.lawful tt c.seam_of.result.met_at (returns-clause-met g c)
 
 pub returns-clause-items : goal.returns-clause-items
 returns-clause-items g c =
     let r = c.args.run.now in
-    renamed (λ b rules. c.in_ok-report.report.items ≡ listed b rules (run b rules c.args.state r.from (r.to - r.from)).1) r.source (g.T.Tape.signal c.args.tape.now) r.rules c.args.rules.now
+    c.seam_of.ensures.items
+    ∙ renamed (λ b rules. c.in_ok-report.report.items ≡ listed b rules (run b rules c.args.state r.from (r.to - r.from)).1) r.source (g.T.Tape.signal c.args.tape.now) r.rules c.args.rules.now
     c.requires.source c.requires.rules c.in_ok-report.ensures.items
 
 pub returns-clause-totals : goal.returns-clause-totals
 returns-clause-totals g c =
     let r = c.args.run.now in
-    renamed (λ b rules. c.in_ok-report.report.totals ≡ totals_of (run b rules c.args.state r.from (r.to - r.from)).1) r.source (g.T.Tape.signal c.args.tape.now) r.rules c.args.rules.now
+    c.seam_of.ensures.totals
+    ∙ renamed (λ b rules. c.in_ok-report.report.totals ≡ totals_of (run b rules c.args.state r.from (r.to - r.from)).1) r.source (g.T.Tape.signal c.args.tape.now) r.rules c.args.rules.now
     c.requires.source c.requires.rules c.in_ok-report.ensures.totals
 
 pub returns-clause-end : goal.returns-clause-end
 returns-clause-end g c =
     let r = c.args.run.now in
-    renamed (λ b rules. c.in_ok-report.end_state ≡ (run b rules c.args.state r.from (r.to - r.from)).0) r.source (g.T.Tape.signal c.args.tape.now) r.rules c.args.rules.now
+    c.seam_of.ensures.end
+    ∙ renamed (λ b rules. c.in_ok-report.end_state ≡ (run b rules c.args.state r.from (r.to - r.from)).0) r.source (g.T.Tape.signal c.args.tape.now) r.rules c.args.rules.now
     c.requires.source c.requires.rules c.in_ok-report.ensures.end

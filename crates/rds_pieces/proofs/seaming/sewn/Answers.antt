@@ -50,8 +50,8 @@ pub append_from-requires-clause-rules : goal.append_from-requires-clause-rules
 append_from-requires-clause-rules c =
     ap (λ (x : ItemsOf). x.rules) c.list.ensures ∙ sym (ap (λ (x : ItemsOf). x.rules) c.in_ok-report.ensures.items ∙ ap (λ (t : TallyOf). t.rules) c.requires.own)
 
-pub less-rest-requires : goal.less-rest-requires
-less-rest-requires c =
+pub totals_after-rest-requires : goal.totals_after-rest-requires
+totals_after-rest-requires c =
     let r = c.args.run.now in
     let b = c.args.beside in
     let place : ℕ = c.in-Some._place in
@@ -73,11 +73,11 @@ plus-report-requires c =
     let guess = came_at r Searching b.met_at place b.guess c.in-Some.is c.requires.guess in
     let before = c.in_ok-before-in-Some.ensures.totals ∙ ap (λ (t : TallyOf). totals_of t.list) guess in
     let mine = c.in_ok-report.ensures.totals ∙ ap (λ (t : TallyOf). totals_of t.list) own in
-    let rest = c.less-rest.ensures.value (totals_of (later laws r.source r.rules c.args.state r.from r.to place met).1)
+    let rest = c.totals_after-rest.ensures (totals_of (later laws r.source r.rules c.args.state r.from r.to place met).1)
     (sewn_rest laws r.source r.rules c.args.state r.from r.to place met c.totals.result c.in_ok-before-in-Some.before.totals c.totals.ensures before) in
     let inside = c.range.ensures.inside in
     let few = c.range.ensures.few in
-    sewn_fit laws r.source r.rules c.args.state r.from r.to place met c.range.ensures.rules.burst (omega (arith, inside, few)) c.in_ok-report.report.totals c.less-rest.result mine rest
+    sewn_fit laws r.source r.rules c.args.state r.from r.to place met c.range.ensures.rules.burst (omega (arith, inside, few)) c.in_ok-report.report.totals c.totals_after-rest.result mine rest
 
 pub returns-in_ok-append_from-in-Some-clause-items : goal.returns-in_ok-append_from-in-Some-clause-items
 returns-in_ok-append_from-in-Some-clause-items c =
@@ -103,9 +103,9 @@ returns-in_ok-append_from-in-Some-clause-totals c =
     let guess = came_at r Searching b.met_at place b.guess c.in-Some.is c.requires.guess in
     let before = c.in_ok-before-in-Some.ensures.totals ∙ ap (λ (t : TallyOf). totals_of t.list) guess in
     let mine = c.in_ok-report.ensures.totals ∙ ap (λ (t : TallyOf). totals_of t.list) own in
-    let rest = c.less-rest.ensures.value (totals_of (later laws r.source r.rules c.args.state r.from r.to place met).1)
+    let rest = c.totals_after-rest.ensures (totals_of (later laws r.source r.rules c.args.state r.from r.to place met).1)
     (sewn_rest laws r.source r.rules c.args.state r.from r.to place met c.totals.result c.in_ok-before-in-Some.before.totals c.totals.ensures before) in
-    c.plus-report.ensures.value ∙ sewn_totals laws r.source r.rules c.args.state r.from r.to place met c.in_ok-report.report.totals c.less-rest.result mine rest
+    c.plus-report.ensures.value ∙ sewn_totals laws r.source r.rules c.args.state r.from r.to place met c.in_ok-report.report.totals c.totals_after-rest.result mine rest
 
 pub returns-in_ok-append_from-in-Some-clause-end : goal.returns-in_ok-append_from-in-Some-clause-end
 returns-in_ok-append_from-in-Some-clause-end c =
