@@ -247,13 +247,13 @@ def build(crates):
 
 
 def cut(folder, crate):
-    """Leaves out of a copy what the crate's edits of must-fail/ leave out: lines that get `#[cfg(test)]` before them."""
+    """Leaves out of a copy what the crate's edits of must-fail/ leave out: modules, by `#[cfg(test)]`, and files, by a comment over each."""
     for file in sorted(os.listdir(f"{CRATES}/{crate}/must-fail")):
         path, old = "", ""
         for it in read(f"{CRATES}/{crate}/must-fail/{file}").splitlines():
             key, _, said = it.partition(": ")
             path = f"{folder}/{crate}/{said}" if key == "file" else path
-            if key == "new" and said == f"#[cfg(test)] {old}":
+            if key == "new" and said in (f"#[cfg(test)] {old}", f"{{-{old[2:]}", f"{old} -}}"):
                 write(path, read(path).replace(old, said))
             old = said
 
