@@ -25,8 +25,8 @@ from unproved import build, is_new
 
 HERE = Path(__file__).resolve().parent
 TOP = HERE.parents[1]
-# An unproved program has enough to do with 100.
-SPEED, SLOW = 200, 100
+# An unproved program has enough to do with 60.
+SPEED, SLOW = 200, 60
 LONGEST_START = 100.0
 
 STATIONS: "tuple[tuple[str, float, str, str, str, list[str]], ...]" = (
@@ -111,7 +111,10 @@ def main() -> int:
         pass
     finally:
         watch.send_signal(signal.SIGTERM)
-        watch.wait(30)
+        try:
+            watch.wait(30)
+        except subprocess.TimeoutExpired:
+            watch.kill()
     return 0
 
 

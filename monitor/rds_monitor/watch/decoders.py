@@ -21,8 +21,8 @@ from .receiver import how_ended
 
 # systemd and a terminal signal all processes of a watch at once. The decoder ends when its input does, and not before.
 SHIELD = 'trap "" TERM INT HUP QUIT; exec "$0" follow'
-# Seconds without any progress after which a program hangs.
-PATIENCE = 10.0
+# Seconds without any progress after which a program hangs. systemd's watchdog has twice as many.
+PATIENCE = 30.0
 FIRST_PAUSE, LONGEST_PAUSE = 0.0002, 0.01
 
 
