@@ -254,6 +254,12 @@ def numbers_in(hours: "List[Tuple[Hour, Rows]]") -> List[Tuple[int, float]]:
     return found
 
 
+def decoders_of(pid: int) -> List[int]:
+    """The processes `rds follow` of a watch."""
+    children = Path(f"/proc/{pid}/task/{pid}/children").read_text().split()
+    return [int(it) for it in children if Path(f"/proc/{it}/cmdline").read_bytes().split(b"\0")[1:2] == [b"follow"]]
+
+
 def stations(*lines: str) -> str:
     """A table of a station, from its lines, or of several, parted by '--'."""
     return "[[station]]\n" + "\n".join("[[station]]" if it == "--" else it for it in lines) + "\n"

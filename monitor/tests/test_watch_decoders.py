@@ -14,7 +14,7 @@ import numpy
 import pytest
 
 from conftest import PROGRAM, encode, rds
-from network import START, Air, Network, Plan, Programme, hours_in, numbers_in, stations
+from network import START, Air, Network, Plan, Programme, decoders_of, hours_in, numbers_in, stations
 from rds_monitor.items import Fault
 from rds_monitor.listing import text_of, totals_text
 from rds_monitor.watch import decoders
@@ -183,18 +183,12 @@ def tables(folder: Path) -> Dict[str, List[Tuple[Any, ...]]]:
 # ---- as a process
 
 
-def decoders_of(it: Process) -> List[int]:
-    """The processes of its decoders."""
-    children = Path(f"/proc/{it.it.pid}/task/{it.it.pid}/children").read_text().split()
-    return [int(pid) for pid in children if Path(f"/proc/{pid}/cmdline").read_bytes().split(b"\0")[1:2] == [b"follow"]]
-
-
 def test_signals_to_all_processes(tmp_path: Path) -> None:
     """systemd signals all processes of a service. The decoder goes on until all that was sent is in the files."""
     it = Process(tmp_path, table(tmp_path, command=receiver(tmp_path)), program=PROGRAM)
     it.says(f"decoded by {PROGRAM}")
     it.receives(1000)
-    (decoder,) = decoders_of(it)
+    (decoder,) = decoders_of(it.it.pid)
     for number in (signal.SIGHUP, signal.SIGINT, signal.SIGTERM):
         os.kill(decoder, number)
     assert it.end() == 0
@@ -211,7 +205,7 @@ def test_a_decoder_that_is_killed(tmp_path: Path) -> None:
     """The session ends without totals, and the next one goes on with another decoder."""
     it = Process(tmp_path, table(tmp_path), program=PROGRAM)
     it.receives(500)
-    os.kill(decoders_of(it)[0], signal.SIGKILL)
+    os.kill(decoders_of(it.it.pid)[0], signal.SIGKILL)
     it.says("was ended by SIGKILL")
     it.says("the session has no totals")
     it.receives(500)
@@ -225,7 +219,7 @@ def test_a_decoder_that_is_killed(tmp_path: Path) -> None:
 def test_no_decoder_outlives_its_watch(tmp_path: Path) -> None:
     it = Process(tmp_path, table(tmp_path), program=PROGRAM)
     it.receives(500)
-    (decoder,) = decoders_of(it)
+    (decoder,) = decoders_of(it.it.pid)
     it.it.kill()
     it.it.wait()
     STARTED.remove(it.it.pid)
