@@ -20,7 +20,7 @@ _rds_monitor_options() {
     pack) echo '-h --help --from --lsb-first --invert --differential --output' ;;
     demod) echo '-h --help --raw --rate --iq --offset --no-equaliser --channel --unpacked --output --json --every' ;;
     batch) echo '-h --help --suffix --options --demod --shared --wait' ;;
-    watch) echo '-h --help --folder --check --speed' ;;
+    watch) echo '-h --help --folder --program --check --speed' ;;
     '') echo 'errors outages programmes types corrected clock info json groups table db report why check form pack demod batch watch --help --version' ;;
   esac
 }

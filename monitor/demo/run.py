@@ -4,6 +4,9 @@
 Beta has noise for a quarter of each second hour, and one wrong bit in 200. Gamma's receiver dies after an hour and a half, and another PI
 comes for half an hour of each three. The address of the page is printed once it shows all three; the page goes on until this
 is interrupted, or for N seconds.
+
+It decodes by the library of `make lib`, or else by build/rds, or else by the system's library. If none is there, it builds rds without
+proof, in a minute or so.
 """
 
 from __future__ import annotations
@@ -18,9 +21,12 @@ import tempfile
 import time
 from pathlib import Path
 
+from unproved import build, is_new
+
 HERE = Path(__file__).resolve().parent
 TOP = HERE.parents[1]
-SPEED = 200
+# An unproved program has enough to do with 60.
+SPEED, SLOW = 200, 60
 LONGEST_START = 100.0
 
 STATIONS: "tuple[tuple[str, float, str, str, str, list[str]], ...]" = (
@@ -40,13 +46,37 @@ def table(folder: Path) -> str:
 
 
 def environment() -> "dict[str, str]":
-    """The library of this checkout, if it is built, or else the system's."""
+    """The modules of this checkout, and its library if it is built."""
     paths = [str(TOP / "monitor"), str(TOP / "bindings" / "python")]
     found = {**os.environ, "PYTHONPATH": os.pathsep.join(paths)}
     built = TOP / "build" / "lib" / "librds.so.0"
     if built.exists():
         found.setdefault("RDS_LIBRARY", str(built))
     return found
+
+
+def has(module: str, known: "dict[str, str]") -> bool:
+    return not subprocess.run([sys.executable, "-c", f"import {module}"], env=known, stderr=subprocess.DEVNULL).returncode
+
+
+def decoder(known: "dict[str, str]") -> "list[str]":
+    """The options for `watch` that choose the decoder and the speed."""
+    built, unproved = TOP / "build" / "rds", TOP / "build" / "unproved" / "rds"
+    if "RDS_LIBRARY" in known and has("librds", known):
+        return told(f"librds, {known['RDS_LIBRARY']}", SPEED)
+    if built.exists():
+        return told(str(built), SPEED, "--program", str(built))
+    if has("librds", known):
+        return told("the librds of this machine", SPEED)
+    if not is_new(unproved):
+        print("there is no build/lib and no build/rds: rds is built without proof, in a minute or so", file=sys.stderr, flush=True)
+        build(unproved)
+    return told(f"{unproved}, which is not proved", SLOW, "--program", str(unproved))
+
+
+def told(name: str, speed: int, *words: str) -> "list[str]":
+    print(f"decoded by {name}, at {speed} times real time", file=sys.stderr, flush=True)
+    return ["--speed", str(speed), *words]
 
 
 def shows_all(page: Path) -> bool:
@@ -60,13 +90,14 @@ def main() -> int:
     parser.add_argument("--folder", help="where to write (default: a new folder)")
     it = parser.parse_args()
     known = environment()
-    if subprocess.run([sys.executable, "-c", "import librds, numpy"], env=known, stderr=subprocess.DEVNULL).returncode:
-        sys.exit("the demonstration needs numpy and librds: install python3-numpy and python3-librds, or run `make lib`")
+    if not has("numpy", known):
+        sys.exit("the demonstration needs numpy: install python3-numpy")
+    options = decoder(known)
     folder = Path(it.folder or tempfile.mkdtemp(prefix="rds-monitor-demo-")).resolve()
     folder.mkdir(parents=True, exist_ok=True)
     (folder / "stations.toml").write_text(table(folder))
     page = folder / "pages" / "index.html"
-    words = [sys.executable, "-m", "rds_monitor", "watch", "--speed", str(SPEED), str(folder / "stations.toml")]
+    words = [sys.executable, "-m", "rds_monitor", "watch", *options, str(folder / "stations.toml")]
     watch = subprocess.Popen(words, env=known)
     try:
         end = time.monotonic() + LONGEST_START
@@ -80,7 +111,10 @@ def main() -> int:
         pass
     finally:
         watch.send_signal(signal.SIGTERM)
-        watch.wait(30)
+        try:
+            watch.wait(30)
+        except subprocess.TimeoutExpired:
+            watch.kill()
     return 0
 
 

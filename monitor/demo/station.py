@@ -14,7 +14,7 @@ import argparse
 import os
 import sys
 import time
-from typing import Any, Iterator, List, NamedTuple, Optional, Sequence, Tuple
+from typing import Any, Iterable, Iterator, List, NamedTuple, Optional, Sequence, Tuple
 
 RATE, GROUP_BITS, GROUP_BYTES = 1187.5, 104, 13
 GROUPS_PER_SECOND = RATE / GROUP_BITS
@@ -77,6 +77,36 @@ def number_of(words: Sequence[int]) -> Optional[int]:
     return words[2] << 16 | words[3] if words[1] >> 12 == 6 else None
 
 
+# ---- bits
+
+# x^10 + x^8 + x^7 + x^5 + x^4 + x^3 + 1, and the offset words A, B, C and D.
+GENERATOR, OFFSETS = 0x5B9, (0x0FC, 0x198, 0x168, 0x1B4)
+
+
+def _checkword(word: int) -> int:
+    rest = word << 10
+    for bit in range(15, -1, -1):
+        if rest >> bit + 10 & 1:
+            rest ^= GENERATOR << bit
+    return rest
+
+
+# A checkword is the sum of those of the word's bytes.
+HIGH = [_checkword(byte << 8) for byte in range(256)]
+LOW = [_checkword(byte) for byte in range(256)]
+
+
+def encoded(groups: Iterable[Words]) -> bytes:
+    """The bits of groups of version A, 13 bytes each."""
+    data = bytearray()
+    for words in groups:
+        group = 0
+        for word, offset in zip(words, OFFSETS):
+            group = group << 26 | word << 10 | HIGH[word >> 8] ^ LOW[word & 0xFF] ^ offset
+        data += group.to_bytes(GROUP_BYTES, "big")
+    return bytes(data)
+
+
 # ---- the program
 
 
@@ -84,9 +114,6 @@ class Air:
     """Bytes as they are sent, group by group, from the one that is on the air."""
 
     def __init__(self, it: argparse.Namespace):
-        import librds
-
-        self._encode = librds.encode
         self._random: Any = None
         if it.errors or it.outage:
             # Its import takes ten times as long as all else here.
@@ -98,7 +125,7 @@ class Air:
         self._errors, self._outage = it.errors, it.outage
 
     def groups(self, numbers: range) -> bytes:
-        data: bytes = self._encode([self._programme.group(it) for it in numbers])
+        data = encoded(self._programme.group(it) for it in numbers)
         return self._damaged(data, numbers) if self._random else data
 
     def _damaged(self, data: bytes, numbers: range) -> bytes:

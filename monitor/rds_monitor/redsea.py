@@ -9,6 +9,7 @@ from typing import Any, Callable, Dict, Iterator, List, Tuple
 
 from .clock import Clock
 from .content import Decoder
+from .content_networks import kilohertz
 from .items import GROUP, UNKNOWN_TYPE, VALID, CORRECTED, Rows
 from .names import programme_type
 
@@ -41,6 +42,8 @@ class Redsea:
             "4A": self._clock,
             "5A": self._channel,
             "5B": self._channel,
+            "6A": self._in_house,
+            "6B": self._in_house,
             "8A": self._traffic,
             "10A": self._type_name,
             "14A": self._network,
@@ -114,10 +117,13 @@ class Redsea:
         ]
 
     def _number(self, found: Object, words: Tuple[int, ...]) -> None:
-        number = self._held.get("pin")
-        if number:
-            found["prog_item_number"] = words[3]
-            found["prog_item_started"] = {"day": int(number[:2]), "time": number[3:]}
+        self._put_number(found, "pin", words[3])
+
+    def _put_number(self, found: Object, item: str, number: int) -> None:
+        held = self._held.get(item)
+        if held:
+            found["prog_item_number"] = number
+            found["prog_item_started"] = {"day": int(held[:2]), "time": held[3:]}
 
     def _labels(self, found: Object, words: Tuple[int, ...]) -> None:
         self._number(found, words)
@@ -125,6 +131,8 @@ class Redsea:
         variant = words[2] >> 12 & 7
         if variant == 0:
             self._put(found, country="country")
+        elif variant == 1 and "tmc_id" in self._held:
+            found["tmc_id"] = int(self._held["tmc_id"], 16)
         elif variant == 3 and "language" in self._held:
             from .names import language
 
@@ -145,7 +153,10 @@ class Redsea:
             }
 
     def _clock(self, found: Object, words: Tuple[int, ...]) -> None:
-        self._put(found, clock_time="ct")
+        time = self._held.get("ct")
+        if time:
+            # To the second, with its offset: 2026-03-29T03:30:00+02:00, or Z for none.
+            found["clock_time"] = f"{time[:16]}:00{'Z' if time[16:] == '+00:00' else time[16:]}"
 
     def _channel(self, found: Object, words: Tuple[int, ...]) -> None:
         if f"tdc:{words[1] & 0x1F}" in self._held:
@@ -154,6 +165,10 @@ class Redsea:
                 "address": words[1] & 0x1F,
                 "raw": " ".join(f"{it >> 8:02X} {it & 0xFF:02X}" for it in data),
             }
+
+    def _in_house(self, found: Object, words: Tuple[int, ...]) -> None:
+        data = words[2:] if found["group"] == "6A" else words[3:]
+        found["in_house_data"] = [words[1] & 0x1F, *data]
 
     def _traffic(self, found: Object, words: Tuple[int, ...]) -> None:
         if self._held.get("tmc_provider"):
@@ -174,10 +189,18 @@ class Redsea:
             self._put(other, ta=of + "ta")
         elif variant == 3:
             self._put(other, ps=of + "ps")
-        elif variant == 4:
+        elif variant == 4 and isinstance(self._held.get(of + "af"), list):
             self._put(other, alt_frequencies=of + "af")
+        elif 5 <= variant <= 9:
+            mapped = kilohertz(words[2] & 0xFF, low=variant == 9)
+            if mapped:
+                other["kilohertz"] = mapped
         elif variant == 12:
             other["has_linkage"] = bool(words[2] & 0x8000)
+            if words[2] & 0x8000 and words[2] & 0xFFF:
+                other["linkage_set"] = words[2] & 0xFFF
+        elif variant == 14:
+            self._put_number(other, of + "pin", words[2])
         elif variant == 13:
             self._put(other, ta=of + "ta")
             if of + "pty" in self._held:

@@ -1,8 +1,9 @@
 #!/usr/bin/env python3
-"""What a watch of 30 stations takes: monitor/tests/load.py [bits|live|mpx|week ..], by default all but week
+"""What a watch of 30 stations takes: monitor/tests/load.py [bits|live|program|mpx|week ..], by default all but week
 
 bits  packed bits at 100 times real time, in ticks of 50 seconds: processor seconds
 live  the command with 30 simulated receivers in real time: processor share, memory and descriptors
+program  the same with a process `rds follow` per station
 mpx   MPX of 192,000 samples per second in real time, in ticks of half a second: processor share, memory
 week  two stations over a week, in ticks of 50 seconds: memory and the size of the folder, day by day
 
@@ -23,7 +24,7 @@ from pathlib import Path
 from typing import Dict, List
 
 import conftest  # noqa: F401 - it names the library
-from network import START, Air, Network, Plan, Programme, Simulated, SimulatedTimes
+from network import START, Air, Network, Plan, Programme, Simulated, SimulatedTimes, decoders_of
 from station import GROUPS_PER_SECOND, RATE
 
 COUNT, SPEED = 30, 100
@@ -67,24 +68,36 @@ def bits(folder: Path) -> int:
     return said(f"bits: {COUNT} stations, {seconds:.0f} s in {used:.1f} s of a processor, {speed:.0f} times real time, limit {SPEED}; {memory_mb():.0f} MB", speed >= SPEED)
 
 
-def live(folder: Path) -> int:
+def live(folder: Path, name: str = "live", *options: str) -> int:
     lines = [f'folder = "{folder}"']
-    for n, name in enumerate(names(COUNT)):
-        command = f'["{sys.executable}", "{STATION}", "--pi", "{0xD300 + n:04X}", "--ps", "{name}", "--rt", "Now: nothing", "--errors", "0.001"]'
-        lines += ["[[station]]", f'name = "{name}"', f"command = {command}"]
+    for n, station in enumerate(names(COUNT)):
+        words = [sys.executable, str(STATION), "--pi", f"{0xD300 + n:04X}", "--ps", station, "--rt", "Now: nothing", "--errors", "0.001"]
+        lines += ["[[station]]", f'name = "{station}"', f"command = {words!r}".replace("'", '"')]
     (folder / "stations.toml").write_text("\n".join(lines))
-    it = subprocess.Popen([sys.executable, "-m", "rds_monitor", "watch", str(folder / "stations.toml")], stderr=subprocess.DEVNULL)
+    words = [sys.executable, "-m", "rds_monitor", "watch", *options, str(folder / "stations.toml")]
+    it = subprocess.Popen(words, stderr=subprocess.DEVNULL)
     time.sleep(30)
-    proc, hertz = Path(f"/proc/{it.pid}"), os.sysconf("SC_CLK_TCK")
-    before = sum(map(int, (proc / "stat").read_text().rpartition(")")[2].split()[11:13])) / hertz
+    all_of_it = [it.pid, *decoders_of(it.pid)]
+    before = sum(map(used_by, all_of_it))
     time.sleep(60)
-    used = sum(map(int, (proc / "stat").read_text().rpartition(")")[2].split()[11:13])) / hertz - before
-    memory = int((proc / "statm").read_text().split()[1]) * resource.getpagesize() / 1e6
-    count = len(list((proc / "fd").iterdir()))
+    used = sum(map(used_by, all_of_it)) - before
+    pages = sum(int(Path(f"/proc/{pid}/statm").read_text().split()[1]) for pid in all_of_it)
+    memory, count = pages * resource.getpagesize() / 1e6, len(list(Path(f"/proc/{it.pid}/fd").iterdir()))
     it.send_signal(signal.SIGTERM)
     it.wait()
     within = memory <= MEMORY_MB * COUNT and count <= DESCRIPTORS * COUNT
-    return said(f"live: {COUNT} stations, {100 * used / 60:.0f} % of a processor, {memory:.0f} MB, {count} descriptors", within)
+    text = f"{name}: {COUNT} stations, {100 * used / 60:.0f} % of a processor, {memory:.0f} MB, {count} descriptors"
+    return said(f"{text}, {len(all_of_it)} processes", within)
+
+
+def used_by(pid: int) -> float:
+    """Processor seconds of a process."""
+    fields = Path(f"/proc/{pid}/stat").read_text().rpartition(")")[2].split()
+    return sum(map(int, fields[11:13])) / os.sysconf("SC_CLK_TCK")
+
+
+def program(folder: Path) -> int:
+    return live(folder, "program", "--program", conftest.PROGRAM)
 
 
 class MpxAir:
@@ -165,13 +178,13 @@ def week(folder: Path) -> int:
     return said("week: no growth from the third day on", memory7 < 1.05 * memory3 + 5 and size7 < 1.1 * size3)
 
 
-KINDS = {"bits": bits, "live": live, "mpx": mpx, "week": week}
+KINDS = {"bits": bits, "live": live, "program": program, "mpx": mpx, "week": week}
 
 
 def main(words: List[str]) -> int:
     failed = 0
     Simulated.keeps = False
-    for name in words or ["bits", "live", "mpx"]:
+    for name in words or ["bits", "live", "program", "mpx"]:
         with tempfile.TemporaryDirectory() as folder:
             failed += KINDS[name](Path(folder))
     return min(failed, 1)

@@ -12,6 +12,7 @@ import numpy
 from conftest import TOP, encode
 from rds_monitor.items import Rows
 from rds_monitor.hours import Hour, hour_of
+from rds_monitor.watch.decoders import ByLibrary, NewDecoder
 from rds_monitor.watch.loop import Watch
 from rds_monitor.watch.records import Records
 from rds_monitor.watch.recover import recover, rows_of
@@ -140,8 +141,15 @@ class InTurn:
 class Network:
     """A watch over simulated stations. The first word of a station's command is the name of its receiver."""
 
-    def __init__(self, folder: Path, table: str, airs: Dict[str, Air], plans: Optional[Dict[str, List[Plan]]] = None):
-        self.folder, self.text = folder, table
+    def __init__(
+        self,
+        folder: Path,
+        table: str,
+        airs: Dict[str, Air],
+        plans: Optional[Dict[str, List[Plan]]] = None,
+        decoder: NewDecoder = ByLibrary,
+    ):
+        self.folder, self.text, self.decoder = folder, table, decoder
         self.times, self.airs, self.plans = SimulatedTimes(), airs, plans or {}
         self.zero = self.times.steady
         self.said: List[str] = []
@@ -156,7 +164,9 @@ class Network:
         self.recovered = recover(str(self.folder), [it.name for it in table.stations], self.records)
         self.records.end_runs(self.times.utc)
         self.writer = InTurn(Writer(str(self.folder), self.records, self._say))
-        self.watch = Watch(table, str(self.folder), self.times, self._launch, self.writer, self.records, self._say)
+        self.watch = Watch(
+            table, str(self.folder), self.times, self._launch, self.decoder, self.writer, self.records, self._say
+        )
 
     def _say(self, priority: str, text: str) -> None:
         self.said.append(text)
@@ -242,6 +252,12 @@ def numbers_in(hours: "List[Tuple[Hour, Rows]]") -> List[Tuple[int, float]]:
                 assert number is not None
                 found.append((number, hour.start + float(row["place"]) / hour.rate))
     return found
+
+
+def decoders_of(pid: int) -> List[int]:
+    """The processes `rds follow` of a watch."""
+    children = Path(f"/proc/{pid}/task/{pid}/children").read_text().split()
+    return [int(it) for it in children if Path(f"/proc/{it}/cmdline").read_bytes().split(b"\0")[1:2] == [b"follow"]]
 
 
 def stations(*lines: str) -> str:

@@ -1,26 +1,32 @@
 #!/usr/bin/env python3
-"""The pictures of the docs, of a page of three simulated stations: monitor/tests/pictures.py FOLDER
+"""The pictures of the docs, by Chromium: monitor/tests/pictures.py FOLDER [network]
 
-It writes overview.png and station.png there, by Chromium. RDS_LIBRARY names the library.
+It writes overview.png and station.png there, of a page of `report`, and network.png, of the demonstration's page after some two minutes;
+the last one alone if asked. RDS_LIBRARY names the library; network.png needs none.
 """
 
 from __future__ import annotations
 
+import signal
+import subprocess
 import sys
 import tempfile
+import time
 from pathlib import Path
 from typing import List, Sequence
 
 import numpy
 
 from browser import browser
-from conftest import monitor
+from conftest import TOP, monitor
 from sent import Words, clock, group, name, text
 
 START = "2026-03-29T00:00:00Z"
 # Groups per second.
 PACE = 1187.5 / 104
 MJD = 61128
+# Seconds of the demonstration before its picture is taken, and the most of them; its third station has an alarm once in 54.
+DEMO, LONGEST_DEMO = 90, 300
 
 
 def sent(pi: int, names: Sequence[bytes], texts: Sequence[bytes]) -> bytes:
@@ -55,7 +61,29 @@ def received(bits: bytes, rates: Sequence[float], outages: Sequence[Sequence[int
     return every.tobytes()
 
 
-def main(into: Path) -> None:
+def network(into: Path) -> None:
+    """The demonstration's page, with an alarm."""
+    with tempfile.TemporaryDirectory() as given:
+        words = [sys.executable, str(TOP / "monitor" / "demo" / "run.py"), "--folder", f"{given}/demo"]
+        demo = subprocess.Popen(words, stdout=subprocess.PIPE, text=True)
+        try:
+            assert demo.stdout
+            address, begin = demo.stdout.readline().strip(), time.monotonic()
+            page = Path(given) / "demo" / "pages" / "index.html"
+            with browser(Path(given)) as driver:
+                while time.monotonic() < begin + DEMO or "in place of D31A" not in page.read_text():
+                    assert demo.poll() is None and time.monotonic() < begin + LONGEST_DEMO
+                    time.sleep(0.2)
+                size = {"width": 1180, "height": 440, "deviceScaleFactor": 1, "mobile": False}
+                driver.execute_cdp_cmd("Emulation.setDeviceMetricsOverride", size)
+                driver.get(address)
+                driver.save_screenshot(str(into / "network.png"))
+        finally:
+            demo.send_signal(signal.SIGINT)
+            demo.wait()
+
+
+def report(into: Path) -> None:
     stations = {
         "alpha.bin": received(
             sent(0xD312, [b"ALPHA   ", b"ALPHA FM"], [b"The morning show\r", b"News on the hour", b"Music all day long\r"]),
@@ -79,6 +107,8 @@ def main(into: Path) -> None:
 
 
 if __name__ == "__main__":
-    if len(sys.argv) != 2:
+    if sys.argv[2:] not in ([], ["network"]) or len(sys.argv) < 2:
         sys.exit(__doc__)
-    main(Path(sys.argv[1]))
+    network(Path(sys.argv[1]))
+    if len(sys.argv) == 2:
+        report(Path(sys.argv[1]))

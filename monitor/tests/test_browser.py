@@ -4,6 +4,7 @@ from __future__ import annotations
 
 import base64
 import re
+from datetime import datetime
 from pathlib import Path
 from typing import Any, Iterator, List
 
@@ -36,6 +37,12 @@ def folder(tmp_path_factory: Any) -> Path:
         done = monitor("report", *words, cwd=made)
         assert done.returncode == 0, done.stderr
         (made / f"{name}.html").write_bytes(done.stdout)
+    for month, path in (("01", "good.bin"), ("07", "long.bin"), ("12", "bad.bin")):
+        words = ["--station", "Year", "--name", month, "--start", f"2025-{month}-31T00:30:00Z", "year.db", path]
+        assert monitor("db", *words, cwd=made).returncode == 0
+    done = monitor("report", "year.db", cwd=made)
+    assert done.returncode == 0, done.stderr
+    (made / "year.html").write_bytes(done.stdout)
     session = {
         "start": None, "begin": 0, "end": 600, "step": 1, "counts": [[45, 45, 0, 0, 0]] * 600, "outages": [], "mix": [], "clock": [],
         "events": [[9, "RT", HOSTILE], [9, "PS", HOSTILE]], "more": 0, "held": {"PS": HOSTILE, "RT": HOSTILE}, "silent": 0}
@@ -88,6 +95,28 @@ def test_zoom_by_buttons(opened: Any) -> None:
     assert seconds_in_view(page) == 120
     click(page, "whole")
     assert seconds_in_view(page) == whole
+
+
+def test_zoom_from_a_year_to_a_minute(opened: Any) -> None:
+    """At each zoom bars of blocks are drawn; the page of a year says 11 months of it."""
+    page = opened("year")
+
+    def view() -> List[datetime]:
+        text = all_of(page, "output")[0].text
+        return [datetime.strptime(it, "%Y-%m-%d %H:%M:%S") for it in re.findall(r"(\d{4}-\d\d-\d\d \d\d:\d\d:\d\d)Z", text)]
+
+    first, last = view()
+    assert first == datetime(2025, 1, 31, 0, 30) and 334 <= (last - first).days <= 335
+    assert all_of(page, "rect.valid") and len(all_of(page, "rect.session")) == 3 and len(all_of(page, "rect.outage")) >= 1
+    zooms = 0
+    while (view()[1] - view()[0]).total_seconds() > 60:
+        click(page, "in")
+        # To the first session, which is at the left end.
+        for _ in range(2):
+            click(page, "left")
+        zooms += 1
+        assert all_of(page, "rect.valid"), view()
+    assert zooms == 19 and view()[0] == first
 
 
 def test_zoom_by_keys(opened: Any) -> None:

@@ -312,10 +312,41 @@ def test_redsea_has_a_line_per_group_with_its_keys() -> None:
         "item_toggle": 1,
         "tags": [{"content-type": "item_title", "data": "Song"}, {"content-type": "item_artist", "data": "Singer"}],
     }
-    assert found[12]["clock_time"] == "2026-03-29T03:30+02:00"
+    assert found[12]["clock_time"] == "2026-03-29T03:30:00+02:00"
     assert found[13]["other_network"] == {"pi": "0xD312", "tp": False, "ta": True, "prog_type": "Finance"}
     assert found[14]["other_network"] == {"pi": "0xD312", "tp": True, "ta": True}
     assert found[15]["transparent_data"] == {"address": 3, "raw": "FF 01 02 03"}
+
+
+def test_redsea_has_the_keys_of_groups_that_are_rare() -> None:
+    """Clock time without an offset, TMC identification, in-house data, and the variants of other networks."""
+    groups = [
+        *name(b"PAXO 318"),
+        clock(61128, 1, 30, 0),
+        label(1, 0x123),
+        group("6A", 0x1F, 0x1234, 0x5678),
+        group("6B", 3, 0xD318, 0x5678),
+        group("14A", 4, 0xE101, 0xD312),
+        group("14A", 5, 0x0102, 0xD312),
+        group("14A", 9, 0x0110, 0xD312),
+        group("14A", 12, 0x8042, 0xD312),
+        group("14A", 12, 0x0042, 0xD312),
+        group("14A", 14, 15 << 11 | 20 << 6 | 30, 0xD312),
+    ]
+    found = lines(said("json", "--redsea", data=bits(*groups)))[4:]
+    assert found[0]["clock_time"] == "2026-03-29T01:30:00Z"
+    assert found[1]["tmc_id"] == 0x123
+    assert found[2]["in_house_data"] == [0x1F, 0x1234, 0x5678] and found[3]["in_house_data"] == [3, 0x5678]
+    others = [it["other_network"] for it in found[4:]]
+    assert all(it.pop("pi") == "0xD312" and it.pop("tp") is False for it in others)
+    assert others == [
+        {"alt_frequencies": [87600]},
+        {"kilohertz": 87700},
+        {"kilohertz": 531},
+        {"has_linkage": True, "linkage_set": 0x42},
+        {"has_linkage": False},
+        {"prog_item_number": 15 << 11 | 20 << 6 | 30, "prog_item_started": {"day": 15, "time": "20:30"}},
+    ]
 
 
 def test_redsea_has_a_ps_as_soon_as_it_is_whole() -> None:

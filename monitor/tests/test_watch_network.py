@@ -3,6 +3,7 @@
 from __future__ import annotations
 
 import json
+import os
 import random
 import re
 from pathlib import Path
@@ -218,6 +219,68 @@ def told_once(it: Network) -> None:
     assert it.asked("SELECT COUNT(*) FROM hour_files WHERE is_open") == [(0,)]
     ps = it.asked("SELECT COUNT(*) FROM events WHERE item = 'ps'")[0][0]
     assert ps <= len(it.given)
+
+
+class PowerFailure(BaseException):
+    """The machine goes off."""
+
+
+class Disk:
+    """Operations on the disk, before one of which the power fails. It keeps what was synchronised, and perhaps more."""
+
+    def __init__(self, monkeypatch: pytest.MonkeyPatch, folder: Path):
+        from rds_monitor.watch import records, writer
+
+        self.folder, self.left = folder, 0
+        self.kept: Dict[str, int] = {}
+        for of, name in ((writer.HourWriter, "append"), (records.Records, "write"), (os, "fsync"), (os, "fdatasync")):
+            monkeypatch.setattr(of, name, self._counted(getattr(of, name), "sync" in name))
+
+    def _counted(self, real: Any, syncs: bool) -> Any:
+        def work(*words: Any) -> Any:
+            self.left -= 1
+            if not self.left:
+                raise PowerFailure
+            done = real(*words)
+            if syncs:
+                self.kept[os.readlink(f"/proc/self/fd/{words[0]}")] = os.fstat(words[0]).st_size
+            return done
+
+        return work
+
+    def lose(self, chance: random.Random) -> None:
+        """The power failed. What is there afterwards is on the disk."""
+        for path in (self.folder / "listings").rglob("*.csv"):
+            size, kept = path.stat().st_size, self.kept.get(str(path), 0)
+            self.kept[str(path)] = chance.choice([kept, chance.randint(kept, size)])
+            os.truncate(path, self.kept[str(path)])
+
+
+@pytest.mark.parametrize("seed", range(5))
+def test_power_failures(tmp_path: Path, seed: int, monkeypatch: pytest.MonkeyPatch) -> None:
+    """Twelve times, a third of them just after a SIGKILL. The database tells only of rows that are on the disk, so nothing is there twice."""
+    chance, disk = random.Random(seed), Disk(monkeypatch, tmp_path)
+    it = network(tmp_path, Air(ALPHA, START, 300))
+    for turn in range(12):
+        disk.left = chance.randint(4, 90)
+        with pytest.raises(PowerFailure):
+            it.run(60)
+        it.kill()
+        if turn % 3:
+            disk.lose(chance)
+        it.times.pass_by(chance.uniform(0.1, 2))
+        disk.left = 0
+        it.begin()
+        if not turn % 3:
+            it.kill()
+            disk.lose(chance)
+            it.begin()
+    it.run(5)
+    it.end()
+    found = [number for number, _ in numbers_in(it.hours("Alpha"))]
+    assert found == sorted(set(found)) and len(found) > 30
+    nothing_lost(it, found)
+    told_once(it)
 
 
 def test_killed_in_the_middle_of_an_hour(tmp_path: Path) -> None:

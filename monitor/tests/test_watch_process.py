@@ -18,7 +18,6 @@ import pytest
 
 from conftest import TOP, encode, monitor
 from network import GROUPS_PER_SECOND, hours_in, numbers_in
-from rds_monitor.items import library
 
 STATION = TOP / "monitor" / "demo" / "station.py"
 # For a machine that is loaded; nothing waits for so long else.
@@ -32,7 +31,6 @@ STARTED: List[int] = []
 @pytest.fixture(autouse=True)
 def nothing_is_left() -> Iterator[None]:
     """A test that fails leaves no process."""
-    library()
     yield
     for pid in STARTED:
         try:
@@ -56,11 +54,12 @@ def table(folder: Path, *lines: str, command: "List[str] | None" = None) -> Path
 class Process:
     """A watch, with its lines on standard error in a file."""
 
-    def __init__(self, folder: Path, path: Path, **environment: str):
+    def __init__(self, folder: Path, path: Path, program: str = "", **environment: str):
         self.folder, self.log = folder, folder / "log"
         with open(self.log, "ab") as log:
             self.it = subprocess.Popen(
-                [sys.executable, "-m", "rds_monitor", "watch", str(path)], stderr=log, env={**os.environ, **environment}
+                [sys.executable, "-m", "rds_monitor", "watch", *(["--program", program] if program else []), str(path)],
+                stderr=log, env={**os.environ, **environment},
             )
         STARTED.append(self.it.pid)
 

@@ -10,7 +10,7 @@ import time
 from typing import Any, List, Optional
 
 from ..clock import number_of
-from ..items import Fault, library
+from ..items import Fault
 
 # How often receivers are read, and how often what they gave is decoded and written.
 POLL, TICK = 0.1, 0.5
@@ -31,6 +31,9 @@ def options_watch(parser: argparse.ArgumentParser) -> None:
     parser.add_argument(
         "--folder", metavar="FOLDER", help="where to write (default: the table's folder, or STATE_DIRECTORY of systemd)"
     )
+    parser.add_argument(
+        "--program", metavar="PROGRAM", help="decode by processes of this program rds (default: by librds, or by rds if that is missing)"
+    )
     parser.add_argument("--check", action="store_true", help="check the table, list its stations, and end")
     parser.add_argument(
         "--speed", type=number_of, default=1.0, metavar="N", help="let the clock go N times as fast, for tests and demonstrations"
@@ -38,6 +41,7 @@ def options_watch(parser: argparse.ArgumentParser) -> None:
 
 
 def run_watch(arguments: argparse.Namespace) -> int:
+    from .decoders import decoder_of
     from .table import read_table
 
     table = read_table(arguments.table)
@@ -50,14 +54,14 @@ def run_watch(arguments: argparse.Namespace) -> int:
     folder = arguments.folder or table.folder or os.environ.get("STATE_DIRECTORY", "").split(":")[0]
     if not folder:
         raise Fault("there is no folder to write to: name it by --folder, or 'folder' in the table")
-    library()
-    return Service(arguments.table, table, os.path.abspath(folder), arguments.speed).run()
+    decoder = decoder_of(arguments.program or table.program)
+    return Service(arguments.table, table, os.path.abspath(folder), arguments.speed, decoder).run()
 
 
 class Service:
     """The watch as a process: its signals, its pace, and its words to systemd."""
 
-    def __init__(self, path: str, table: Any, folder: str, speed: float):
+    def __init__(self, path: str, table: Any, folder: str, speed: float, decoder: Any):
         from .journal import say
         from .loop import Watch
         from .receiver import Process
@@ -67,6 +71,7 @@ class Service:
         from .writer import Writer, WriterThread
 
         self._path, self._say = path, say
+        new_decoder, self._decoded_by = decoder
         self._ending = self._rereading = False
         os.makedirs(folder, exist_ok=True)
         self._lock = self._only_one(folder)
@@ -81,7 +86,7 @@ class Service:
         self._records.end_runs(times.now().utc)
         self._writer = Writer(folder, self._records, say)
         self._thread = WriterThread(self._writer)
-        self._watch = Watch(table, folder, times, Process, self._thread, self._records, say)
+        self._watch = Watch(table, folder, times, Process, new_decoder, self._thread, self._records, say)
 
     @staticmethod
     def _only_one(folder: str) -> int:
@@ -101,7 +106,7 @@ class Service:
         # A reader of standard error that leaves must not end the watch.
         signal.signal(signal.SIGPIPE, signal.SIG_IGN)
         self._thread.start()
-        self._say("info", f"{len(self._watch.stations)} stations are watched")
+        self._say("info", f"{len(self._watch.stations)} stations are watched, decoded by {self._decoded_by}")
         notify("READY=1")
         try:
             self._go_on()

@@ -3,15 +3,16 @@
 from __future__ import annotations
 
 import os
-from typing import Any, List, NamedTuple, Optional, Tuple
+from typing import List, NamedTuple, Optional, Tuple
 
 import numpy
 
 from ..clock import utc_text
-from ..items import ACQUIRED, BLOCK_BITS, GROUP, GROUP_BITS, ITEM, LOSS, VALID, Rows, Totals, library
+from ..items import ACQUIRED, BLOCK_BITS, GROUP, GROUP_BITS, ITEM, LOSS, VALID, Rows, Totals
 from ..listing import ends_of, text_of, totals_text
 from ..measure import groups_in, kinds_of
 from ..hours import HOUR, Hour
+from .decoders import StreamDecoder
 from .records import PartGrew, PartKey, PartOpened, PartTold, Record
 from .session import Contents, Part, Told
 from .times import Arrivals, Timing
@@ -31,10 +32,8 @@ class Append(NamedTuple):
 class LiveSession:
     """A session of one station. Its results wait in `appends`, `records` and `told`."""
 
-    def __init__(self, station: str, speed: float):
-        librds = library()
-        self._station, self._speed = station, speed
-        self._follower: Any = librds.Follower()
+    def __init__(self, station: str, speed: float, decoder: StreamDecoder):
+        self._station, self._speed, self._decoder = station, speed, decoder
         self.arrivals = Arrivals(speed)
         self.contents = Contents(1187.5)
         self.part: Optional[Part] = None
@@ -54,7 +53,7 @@ class LiveSession:
     @property
     def place(self) -> int:
         """How many bits were heard."""
-        return int(self._follower.place)
+        return self._decoder.place
 
     @property
     def timing(self) -> Optional[Timing]:
@@ -62,7 +61,7 @@ class LiveSession:
 
     def take(self, data: bytes) -> None:
         """The next bits, of whose arrival `arrivals` was told."""
-        self._early.append(self._follower.push_array(data))
+        self._early.append(self._decoder.push(data))
 
     def tick(self, utc: float) -> None:
         """Makes rows and records of the bits so far."""
@@ -176,19 +175,19 @@ class LiveSession:
             self._news = utc + NEWS * self._speed
             self.records.append(PartGrew(self._key, self.part.end, self._size))
 
-    def close(self, utc: float) -> None:
-        """The session has ended: the group in progress and the totals."""
+    def close(self, utc: float) -> bool:
+        """The session has ended: the group in progress and the totals. Whether there are totals: a decoder may die."""
         if self.arrivals.timing is None:
-            return
-        rows, found = self._follower.finish_array()
+            return True
+        rows, totals = self._decoder.finish()
         self._early.append(rows)
         if self.part is None:
             self._key = PartKey(f"{self._station} {utc_text(self.arrivals.timing.start)}", 0)
             self._open(0, 0)
         self._advance(self._taken(), self.place, utc)
-        totals = Totals(found.valid, tuple(found.bursts), *(getattr(found, it) for it in Totals._fields[2:]))
-        if totals.groups or totals.acquired:
+        if totals and (totals.groups or totals.acquired):
             text = totals_text(totals)
             self._size += len(text)
             self.appends.append(Append(self._path, text))
         self._close_part(self.place, True, totals)
+        return totals is not None

@@ -9,6 +9,7 @@ from functools import partial
 from typing import Callable, Dict, List, Optional, Protocol, Tuple
 
 from .alarms import words_for
+from .decoders import NewDecoder
 from .live import Append
 from .metrics import metrics_text
 from .pages import replace, write_pages
@@ -71,8 +72,11 @@ class Hooks:
 class Watch:
     """`poll` reads the receivers, and `tick` decodes and hands over to the writer. Neither waits."""
 
-    def __init__(self, table: Table, folder: str, times: Times, launch: Launch, writer: TakesBatches, records: Records, say: Say):
-        self._folder, self._times, self._launch, self._writer, self._say = folder, times, launch, writer, say
+    def __init__(
+        self, table: Table, folder: str, times: Times, launch: Launch, decoder: NewDecoder, writer: TakesBatches, records: Records, say: Say
+    ):
+        self._folder, self._times, self._writer, self._say = folder, times, writer, say
+        self._launch, self._decoder = launch, decoder
         self._now = times.now()
         self._clock = SteadyUtc(self._now, times.speed)
         self._keep = table.keep
@@ -89,7 +93,7 @@ class Watch:
             self._add(it, records.lasting(it.name))
 
     def _add(self, it: StationTable, lasting: Dict[str, str]) -> None:
-        station = Station(it, self._launch, self._times.speed, self._now.steady, self._say)
+        station = Station(it, self._launch, self._decoder, self._times.speed, self._now.steady, self._say)
         station.alarms.resume(lasting)
         self.stations[it.name] = station
 

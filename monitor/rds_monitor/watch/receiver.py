@@ -73,12 +73,7 @@ class Process:
 
     def ended(self) -> Optional[str]:
         status = self._it.poll()
-        if status is None:
-            return None
-        how = f"ended with status {status}" if status >= 0 else f"was ended by {_signal_name(-status)}"
-        lines = self._said.decode("utf-8", "backslashreplace").split("\n")
-        last = next((line.strip() for line in reversed(lines) if line.strip()), "")
-        return how + (f": {last}" if last else "")
+        return None if status is None else how_ended(status, self._said)
 
     def terminate(self) -> None:
         self._signal(signal.SIGTERM)
@@ -97,6 +92,14 @@ class Process:
         self._out.close()
         self._error.close()
         self._it.poll()
+
+
+def how_ended(status: int, said: bytes) -> str:
+    """In words, by the status of a process and what it said on standard error."""
+    how = f"ended with status {status}" if status >= 0 else f"was ended by {_signal_name(-status)}"
+    lines = said.decode("utf-8", "backslashreplace").split("\n")
+    last = next((line.strip() for line in reversed(lines) if line.strip()), "")
+    return how + (f": {last}" if last else "")
 
 
 def _signal_name(number: int) -> str:

@@ -11,7 +11,8 @@ TAIL = 1 << 16
 
 
 def make_whole(path: str) -> int:
-    """Cuts off a torn row, or zeros, at the end of a file, such as after a power failure, and gives its size."""
+    """Cuts off a torn row, or zeros, at the end of a file, such as after a power failure, and gives its size. All of that is on the
+    disk then: a watch that was killed leaves rows that are not."""
     with open(path, "r+b") as it:
         size = it.seek(0, os.SEEK_END)
         begin = max(0, size - TAIL)
@@ -24,8 +25,7 @@ def make_whole(path: str) -> int:
         whole = begin + _whole(tail)
         if whole < size:
             it.truncate(whole)
-            it.flush()
-            os.fsync(it.fileno())
+        os.fsync(it.fileno())
         return whole
 
 

@@ -9,6 +9,7 @@ from ..items import Fault
 from ..schema import HELD
 from .alarms import Alarms, Change, Watched
 from .bits import BitSource, bit_source
+from .decoders import NewDecoder
 from .live import Append, LiveSession
 from .receiver import Keeper, Launch
 from .records import AlarmChanged, Record, RunBegan, RunEnded, StateSeen
@@ -26,8 +27,8 @@ Say = Callable[[str, str], None]
 class Station:
     """All times are pairs of the monotonic clock and UTC."""
 
-    def __init__(self, it: StationTable, launch: Launch, speed: float, now: float, say: Say):
-        self.table, self._speed, self._say = it, speed, say
+    def __init__(self, it: StationTable, launch: Launch, decoder: NewDecoder, speed: float, now: float, say: Say):
+        self.table, self._decoder, self._speed, self._say = it, decoder, speed, say
         self.keeper = Keeper(it.command, it.patience * speed, launch, now)
         self.alarms = Alarms(it, now, speed)
         self._session: Optional[LiveSession] = None
@@ -68,7 +69,8 @@ class Station:
             self._end_run(utc)
         elif data:
             if self._session is None:
-                self._session, self._bits = LiveSession(self.name, self._speed), self._bits or bit_source(self.table)
+                self._session = LiveSession(self.name, self._speed, self._decoder())
+                self._bits = self._bits or bit_source(self.table)
                 self._counted = 0
             self._waiting.append(data)
             self._last_read = utc
@@ -105,7 +107,8 @@ class Station:
                 self._session.take(rest)
         except (Fault, ValueError) as error:
             self._say("warning", f"{self.name}: {error}")
-        self._session.close(utc)
+        if not self._session.close(utc):
+            self._say("warning", f"{self.name}: the decoder ended before its input: the session has no totals")
         self._collect()
         self._session = None
 
@@ -113,12 +116,17 @@ class Station:
         """The machine's clock was set. Within a session no time goes back."""
         if self._session is None:
             return
-        if seconds > 0:
-            self._decode()
-            self._session.jump(seconds, utc)
-            self._collect()
-        else:
+        if seconds < 0:
             self.end_session(utc - seconds, goes_on=True)
+            return
+        try:
+            self._decode()
+        except (Fault, ValueError) as error:
+            self._say("warning", f"{self.name}: {error}")
+            self.end_session(utc - seconds, goes_on=True)
+            return
+        self._session.jump(seconds, utc)
+        self._collect()
 
     # ---- ticks
 

@@ -70,6 +70,8 @@ class Table(NamedTuple):
     folder: Optional[str]
     keep: Keep
     stations: Tuple[StationTable, ...]
+    # that decodes, in place of librds
+    program: Optional[str] = None
 
 
 # ---- reading
@@ -103,8 +105,8 @@ def table_of(text: str) -> Table:
         given: Dict[str, Any] = toml.loads(text)
     except toml.TOMLDecodeError as error:
         raise Fault(f"this is no TOML: {error}") from None
-    _known(given, {"folder", "keep", "defaults", "station"}, "the table")
-    folder = None if "folder" not in given else _text(given["folder"], "folder")
+    _known(given, {"folder", "program", "keep", "defaults", "station"}, "the table")
+    folder, program = (None if it not in given else _text(given[it], it) for it in ("folder", "program"))
     listed, defaults = given.get("station", []), given.get("defaults", {})
     if not isinstance(listed, list) or not listed:
         raise Fault("there is no [[station]]")
@@ -115,7 +117,7 @@ def table_of(text: str) -> Table:
     for it in stations:
         if names.count(it.name.casefold()) > 1:
             raise Fault(f"there are two stations {it.name!r}")
-    return Table(folder, _keep(given.get("keep", {})), stations)
+    return Table(folder, _keep(given.get("keep", {})), stations, program)
 
 
 def _keep(given: Any) -> Keep:
