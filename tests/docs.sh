@@ -110,7 +110,8 @@ planted docs/PROOFS.md 's/`BurstLemmas`, `SpanLemmas`/`BurstLemma`, `SpanLemmas`
 planted tests/README.md '/^| `common.sh` |/d' 'tests/README.md, files'
 planted examples/README.md 's/^| `gaps.sh` |/| `gap.sh` |/' 'examples/README.md, files'
 planted docs/GLOSSARY.md 's/^| piece | /| run | /' 'docs/GLOSSARY.md, words that are there twice'
-planted docs/GLOSSARY.md '/^| piece | /s/.*/&\n| a | \n| b | \n| c | \n| d | \n| e | \n| f | \n| g | \n| h | \n| i | \n| j | /' 'docs/GLOSSARY.md, words past forty'
+more=$(printf '\\n| %s | ' {a..z})
+planted docs/GLOSSARY.md "/^| piece | /s/.*/&$more/" 'docs/GLOSSARY.md, words past forty'
 planted docs/TESTING.md '/^| `\{0,1\}rds_code`\{0,1\} |.*edits/s/\([0-9]*\) edits/1\1 edits/' 'docs/TESTING.md, edits of rds_code'
 testing=docs/TESTING.md
 planted Makefile 's/ progress\.py / /' "$testing, scripts of the gate"
