@@ -105,8 +105,9 @@ planted $map 's|`Loss::bad_after`, |`Bad::bad_after`, |' "$map: crates/rds_sync/
 planted $map 's|`search` (`rds_sync/src/stretches.rt`)|`seek` (`rds_sync/src/stretches.rt`)|' \
     "$map: crates/rds_sync/src/stretches.rt has no seek"
 planted $map 's|(`blocks_before`, `follow.rt`)|(`blocks_before`, `followed.rt`)|' "$map: there is no followed.rt"
-planted docs/PROOFS.md 's/`only_remainder`/`one_remainder`/' 'docs/PROOFS.md: crates/rds_uses/src/code.rt has no one_remainder'
-planted docs/PROOFS.md 's/`BurstLemmas`, `SpanLemmas`/`BurstLemma`, `SpanLemmas`/' 'docs/PROOFS.md: no proofs have BurstLemma.antt'
+planted docs/PROOFS.md 's/`BurstTable::find`/`BurstTable::found`/' 'tests/claims.tsv, contracts'
+planted tests/claims.tsv 's/`only_remainder`/`one_remainder`/' 'tests/claims.tsv: crates/rds_uses/src/code.rt has no one_remainder'
+planted tests/claims.tsv 's/`BurstLemmas`, `SpanLemmas`/`BurstLemma`, `SpanLemmas`/' 'tests/claims.tsv: no proofs have BurstLemma.antt'
 planted tests/README.md '/^| `common.sh` |/d' 'tests/README.md, files'
 planted examples/README.md 's/^| `gaps.sh` |/| `gap.sh` |/' 'examples/README.md, files'
 planted docs/GLOSSARY.md 's/^| piece | /| run | /' 'docs/GLOSSARY.md, words that are there twice'

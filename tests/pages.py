@@ -3,8 +3,8 @@
 
 FOLDER is the project's, or a copy of it. The options, refusals and rows of the program's help are compared with the manual page,
 docs/USING.md, docs/OUTPUT.md and completion; numbers of a page with the tree; links, the commands that a page shows, the files
-and functions that docs/ARCHITECTURE.md names, the callers and lemmas of docs/PROOFS.md, and the maps of tests/ and examples/
-with the files. Pages have no sentence of more than 35 words, no page is without a link from README.md, and pages, help, rds.1
+and functions that docs/ARCHITECTURE.md names, the contracts of docs/PROOFS.md with their callers and lemmas, and the maps of tests/ and
+examples/ with the files. Pages have no sentence of more than 35 words, no page is without a link from README.md, and pages, help, rds.1
 and rds.h avoid some turns of phrase. `tests/docs.sh` calls it, and sees that it finds differences.
 """
 import functools
@@ -268,21 +268,20 @@ def compare_places(page):
 
 
 def compare_claims():
-    """The callers and the files of lemmas that docs/PROOFS.md names beside each claim."""
+    """The contracts that docs/PROOFS.md names, and the callers and the files of lemmas of each in tests/claims.tsv."""
+    table = [line.split("\t") for line in read("tests/claims.tsv").splitlines()[1:]]
+    rows = re.findall(r"^\| (?!Claim)[^|]* \| ([^|]*) \|$", between(read("docs/PROOFS.md"), "\n## What is proved\n", "\n## "), re.M)
+    same("tests/claims.tsv, contracts", set(rows), {row[0] for row in table})
     lemmas = {name for crate in os.listdir("crates") for _, _, names in os.walk(f"crates/{crate}/proofs") for name in names}
-    for line in re.findall(r"^\| .*$", between(read("docs/PROOFS.md"), "\n## What is proved\n", "\n## "), re.M):
-        cells = line.split(" |")
-        if len(cells) != 5:
-            faults.append(f"docs/PROOFS.md: no row of four cells: {line[:60]}")
-            continue
-        for name, row in re.findall(r"(\w+): ((?:`\w+`(?:, )?)+)", cells[2]):
+    for _, callers, files in table:
+        for name, row in re.findall(r"(\w+): ((?:`\w+`(?:, )?)+)", callers):
             path = f"crates/rds_uses/src/{name}.rt"
             for caller in re.findall(r"\w+", row):
                 if not os.path.exists(path) or caller not in defined_in(path):
-                    faults.append(f"docs/PROOFS.md: {path} has no {caller}")
-        for name in re.findall(r"`(\w+)`", cells[3]):
+                    faults.append(f"tests/claims.tsv: {path} has no {caller}")
+        for name in re.findall(r"`(\w+)`", files):
             if f"{name}.antt" not in lemmas:
-                faults.append(f"docs/PROOFS.md: no proofs have {name}.antt")
+                faults.append(f"tests/claims.tsv: no proofs have {name}.antt")
 
 
 def compare_maps():
