@@ -110,7 +110,7 @@ planted tests/claims.tsv 's/`only_remainder`/`one_remainder`/' 'tests/claims.tsv
 planted tests/claims.tsv 's/`BurstLemmas`, `SpanLemmas`/`BurstLemma`, `SpanLemmas`/' 'tests/claims.tsv: no proofs have BurstLemma.antt'
 planted tests/README.md '/^| `common.sh` |/d' 'tests/README.md, files'
 planted examples/README.md 's/^| `gaps.sh` |/| `gap.sh` |/' 'examples/README.md, files'
-planted docs/GLOSSARY.md 's/^| piece | /| run | /' 'docs/GLOSSARY.md, words that are there twice'
+planted docs/GLOSSARY.md 's/^| piece | /| item | /' 'docs/GLOSSARY.md, words that are there twice'
 more=$(printf '\\n| %s | ' {a..z})
 planted docs/GLOSSARY.md "/^| piece | /s/.*/&$more/" 'docs/GLOSSARY.md, words past forty'
 planted docs/TESTING.md '/^| `\{0,1\}rds_code`\{0,1\} |.*edits/s/\([0-9]*\) edits/1\1 edits/' 'docs/TESTING.md, edits of rds_code'

@@ -187,6 +187,7 @@ def compare_tests():
     """What docs/TESTING.md says of the gate: its scripts, and numbers of the tests."""
     page, makefile = read("docs/TESTING.md"), read("Makefile")
     gate = between(page, "\n| No | What |", "\n\n")
+    page = one_line(page)
     named = {name for row in gate.splitlines() for name in re.findall(r"`tests/([\w.]+)`", row.split("|")[2] if "|" in row else "")}
     made = set(re.findall(r"[\w]+\.(?:sh|py)", between(makefile, "SCRIPTS := $(addprefix tests/,", ")")))
     called = set(re.findall(r"tests/(\w+\.(?:sh|py))", "".join(re.findall(r"^\t.*", makefile, re.M)))) - {"quick.sh"}
