@@ -139,6 +139,7 @@ planted $using 's/^`follow` writes and flushes each row/& of the listing, which 
     "$using: a sentence of 36 words"
 planted README.md 's/^Sync was acquired at bit 51/Behind bit 51 sync was acquired/' 'README.md: 1 turns of phrase'
 planted rds.1 's/^The output stays the same\.$/The output ends well./' 'rds.1: 3 turns of phrase'
+planted CHANGELOG.md "\$a $(printf 'word. %.0s' {1..6000})" 'the pages have '
 # more than may be left in either
 turns=$(printf 'behind %.0s' {1..20})
 planted lib/rds.h "1s/^/\/* $turns*\/\n/" 'lib/rds.h: '

@@ -4,8 +4,8 @@
 FOLDER is the project's, or a copy of it. The options, refusals and rows of the program's help are compared with the manual page,
 docs/USING.md, docs/OUTPUT.md and completion; numbers of a page with the tree; links, the commands that a page shows, the files
 and functions that docs/ARCHITECTURE.md names, the contracts of docs/PROOFS.md with their callers and lemmas, and the maps of tests/ and
-examples/ with the files. Pages have no sentence of more than 35 words, no page is without a link from README.md, and pages, help, rds.1
-and rds.h avoid some turns of phrase. `tests/docs.sh` calls it, and sees that it finds differences.
+examples/ with the files. Pages have no sentence of more than 35 words and 24,000 words together, no page is without a link from README.md,
+and pages, help, rds.1 and rds.h avoid some turns of phrase. `tests/docs.sh` calls it, and sees that it finds differences.
 """
 import functools
 import os
@@ -355,6 +355,16 @@ def compare_sentences(pages):
                 faults.append(f"{page}: a sentence of {count} words: {sentence[:60]}")
 
 
+# The most words of all pages together, as `wc -w` counts them.
+MOST_WORDS = 24_000
+
+
+def compare_length(pages):
+    count = sum(len(read(page).split()) for page in pages)
+    if count > MOST_WORDS:
+        faults.append(f"the pages have {count} words, and may have {MOST_WORDS}: say each thing once")
+
+
 # Turns of phrase that make a reader read twice: say 'after', 'how many', 'on success', 'per' and the like.
 TURNS = re.compile(
     r"\b(behind|so many|lies? (?:in|at|over|there|before)|stands? (?:in|at|for|beside|above|there|once)|is no command line"
@@ -425,6 +435,7 @@ def main():
     compare_links(pages)
     compare_commands(program, pages)
     compare_sentences(pages)
+    compare_length(pages)
     compare_words(program, pages)
     print("".join(f"{it}\n" for it in faults), end="")
     sys.exit(1 if faults else 0)
