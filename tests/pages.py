@@ -369,7 +369,7 @@ def compare_length(pages):
 TURNS = re.compile(
     r"\b(behind|so many|lies? (?:in|at|over|there|before)|stands? (?:in|at|for|beside|above|there|once)|is no command line"
     r"|bytes a byte|(?:seconds|minutes|hours) of a processor|ends well|want of memory|taken off|goes? by|gone along|at its head"
-    r"|what (?:is|was|are|were) [a-z]+ed|that which)\b",
+    r"|in a row of its own|by one worker and by|what (?:is|was|are|were) [a-z]+ed|that which)\b",
     re.I,
 )
 # How many are left where other things than words are changed now. These only shrink.
