@@ -145,7 +145,7 @@ turns=$(printf 'behind %.0s' {1..20})
 planted lib/rds.h "1s/^/\/* $turns*\/\n/" 'lib/rds.h: '
 told=$work/told.sh
 printf '#!/bin/sh\n"%s" "$@"\n[ "$2" != --help ] || echo "%s"\n' "$rds" "$turns" > "$told"
-PATH=$all_tools chmod +x "$told"
+chmod +x "$told"
 if rds=$told pages; then
     fail 'turns of phrase in the help are not found'
 elif grep -q '^help: ' "$work/said"; then
