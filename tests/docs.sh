@@ -1,9 +1,9 @@
 #!/usr/bin/env bash
-# What is written twice: tests/docs.sh PATH-TO-RDS
+# Texts that say the same, and how pages are written: tests/docs.sh PATH-TO-RDS
 #
-# Options, refusals and rows stand in the help, the manual page, docs/USING.md and completion; numbers of the tree, its files
-# and functions, links and commands in the pages. `pages.py` compares them, and has to find nothing. Then a difference is
-# planted in a copy of each table in turn, which it has to find and name.
+# The help, the manual page, docs/USING.md, docs/OUTPUT.md and completion have options, refusals and rows; pages have numbers of the
+# tree, its files and functions, links and commands. `pages.py` compares them, looks at sentences and words, and has to find
+# nothing. Then a difference is planted in a copy of each in turn, which it has to find and name.
 # The last line is 'N passed, M failed', and the exit status says whether all passed.
 
 usage='usage: tests/docs.sh PATH-TO-RDS'
@@ -43,8 +43,8 @@ fi
 copy=$work/copy
 mkdir "$copy" || exit 1
 cp -r README.md CHANGELOG.md Makefile crates.txt rds.1 completions docs examples lib packaging tests "$copy" || exit 1
-# the sources are looked at, and never changed
-PATH=$all_tools ln -s "$(realpath crates)" "$copy/crates" || exit 1
+# these are looked at, and never changed
+PATH=$all_tools ln -s "$(realpath crates)" "$(realpath monitor)" "$(realpath bindings)" "$copy" || exit 1
 
 # planted FILE EDIT TEXT: once sed made the edit in the file of the copy, TEXT is found there
 planted() {
@@ -62,6 +62,20 @@ planted() {
     cp "$1" "$copy/$1" || exit 1
 }
 
+# unlinked PAGE: a page that is new in the copy, and that nothing links, is found
+unlinked() {
+    echo '# A page' > "$copy/$1" || exit 1
+    if pages "$copy"; then
+        fail "$1: a page that nothing links is not found"
+    elif grep -qF -e "$1: no link leads here" "$work/said"; then
+        pass
+    else
+        fail "$1: a page that nothing links is not told"
+        cat "$work/said"
+    fi
+    rm "$copy/$1" || exit 1
+}
+
 using=docs/USING.md
 planted $using '/^| `encode` | from/d' "$using, commands"
 planted $using '/^| `--reach N`/d' "$using, options of list"
@@ -70,8 +84,9 @@ planted $using '/^| `--burst N`/s/default 2/default 3/' "$using, default of --bu
 planted $using '/^| `--reach N`/s/1 to 8/1 to 9/' "$using, range of --reach"
 planted $using 's/^| 7 | CrewRange/| 7 | CrewSize/' "$using, refusals"
 planted $using 's/refused 10 Write/refused 10 Writing/' "$using, refusals in the text"
-planted $using 's/^| `acquired` |/| `locked` |/' "$using, rows"
-planted $using 's/^| `bits` |/| `bit` |/' "$using, totals"
+output=docs/OUTPUT.md
+planted $output 's/^| `acquired` |/| `locked` |/' "$output, rows"
+planted $output 's/^| `bits` |/| `bit` |/' "$output, totals"
 planted rds.1 '/^\.Cm encode$/,/^\.Nm$/s/^\.Op Fl -hex$/.Op Fl -bits/' 'rds.1, options of encode'
 planted rds.1 's/^bits, 0 to 5; 2 where/bits, 0 to 5; 1 where/' 'rds.1, default of --burst'
 planted rds.1 's/threads, 1 to 256;/threads, 1 to 255;/' 'rds.1, range of --workers'
@@ -90,12 +105,14 @@ planted $map 's|`Loss::bad_after`, |`Bad::bad_after`, |' "$map: crates/rds_sync/
 planted $map 's|`search` (`rds_sync/src/stretches.rt`)|`seek` (`rds_sync/src/stretches.rt`)|' \
     "$map: crates/rds_sync/src/stretches.rt has no seek"
 planted $map 's|(`blocks_before`, `follow.rt`)|(`blocks_before`, `followed.rt`)|' "$map: there is no followed.rt"
-planted docs/PROOFS.md 's/`only_remainder`/`one_remainder`/' 'docs/PROOFS.md: crates/rds_uses/src/code.rt has no one_remainder'
-planted docs/PROOFS.md 's/`BurstLemmas`, `SpanLemmas`/`BurstLemma`, `SpanLemmas`/' 'docs/PROOFS.md: no proofs have BurstLemma.antt'
+planted docs/PROOFS.md 's/`BurstTable::find`/`BurstTable::found`/' 'tests/claims.tsv, contracts'
+planted tests/claims.tsv 's/`only_remainder`/`one_remainder`/' 'tests/claims.tsv: crates/rds_uses/src/code.rt has no one_remainder'
+planted tests/claims.tsv 's/`BurstLemmas`, `SpanLemmas`/`BurstLemma`, `SpanLemmas`/' 'tests/claims.tsv: no proofs have BurstLemma.antt'
 planted tests/README.md '/^| `common.sh` |/d' 'tests/README.md, files'
 planted examples/README.md 's/^| `gaps.sh` |/| `gap.sh` |/' 'examples/README.md, files'
-planted docs/MODEL.md 's/^| lock | /| run | /' 'docs/MODEL.md, words that the glossary has twice'
-planted docs/MODEL.md '/^| lock | /s/.*/& \n| a | \n| b | \n| c | \n| d | \n| e | /' 'docs/MODEL.md, words of the glossary past forty'
+planted docs/GLOSSARY.md 's/^| piece | /| item | /' 'docs/GLOSSARY.md, words that are there twice'
+more=$(printf '\\n| %s | ' {a..z})
+planted docs/GLOSSARY.md "/^| piece | /s/.*/&$more/" 'docs/GLOSSARY.md, words past forty'
 planted docs/TESTING.md '/^| `\{0,1\}rds_code`\{0,1\} |.*edits/s/\([0-9]*\) edits/1\1 edits/' 'docs/TESTING.md, edits of rds_code'
 testing=docs/TESTING.md
 planted Makefile 's/ progress\.py / /' "$testing, scripts of the gate"
@@ -115,9 +132,27 @@ planted tests/listings.sums '1d' "$testing, sums of listings.sh"
 planted tests/refusals.sh '/^job .*--burst 5/d' "$testing, jobs of refusals.sh"
 planted README.md 's|(docs/USING.md)|(docs/USAGE.md)|' 'README.md: the link docs/USAGE.md leads nowhere'
 planted README.md 's|USING.md#a-stream|USING.md#a-river|' 'README.md: the link docs/USING.md#a-river names no heading'
-planted README.md 's|\[docs/MODEL.md\](docs/MODEL.md)|docs/MODEL.md|' 'docs/MODEL.md: no link from README.md or docs/ARCHITECTURE.md'
+unlinked docs/NEW.md
 planted docs/RECIPES.md 's|examples/gaps.sh|examples/holes.sh|' 'docs/RECIPES.md: there is no examples/holes.sh'
 planted README.md 's/make install  /make instal   /' 'README.md: there is no target instal'
+planted $using 's/^`follow` writes and flushes each row/& of the listing, which has the acquisitions and the groups and the losses of the stream as far as it was heard by then,/' \
+    "$using: a sentence of 36 words"
+planted README.md 's/^Sync was acquired at bit 51/Behind bit 51 sync was acquired/' 'README.md: 1 turns of phrase'
+planted rds.1 's/^The output stays the same\.$/The output ends well./' 'rds.1: 3 turns of phrase'
+planted CHANGELOG.md "\$a $(printf 'word. %.0s' {1..6000})" 'the pages have '
+# more than may be left in either
+turns=$(printf 'behind %.0s' {1..20})
+planted lib/rds.h "1s/^/\/* $turns*\/\n/" 'lib/rds.h: '
+told=$work/told.sh
+printf '#!/bin/sh\n"%s" "$@"\n[ "$2" != --help ] || echo "%s"\n' "$rds" "$turns" > "$told"
+chmod +x "$told"
+if rds=$told pages; then
+    fail 'turns of phrase in the help are not found'
+elif grep -q '^help: ' "$work/said"; then
+    pass
+else
+    fail 'turns of phrase in the help are not told'
+fi
 planted docs/RECIPES.md 's/rds list --gaps/rds list --gap/' 'docs/RECIPES.md: rds list has no option --gap'
 planted docs/RECIPES.md 's/rds list </rds lists </' 'docs/RECIPES.md: rds has no command lists'
 

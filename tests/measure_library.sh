@@ -1,5 +1,5 @@
 #!/usr/bin/env bash
-# Measures the library: the figures of docs/MEASUREMENTS.md. No test, since times depend on the machine and the day:
+# Measures the library: the figures of docs/PERFORMANCE.md. No test, since times depend on the machine and the day:
 #   tests/measure_library.sh FOLDER PATH-TO-RDS
 # FOLDER holds what lib/make_library.sh laid out. Prints how long a call takes on 100 bytes, how long rds_totals takes over the sample
 # recording 400 times over, beside `rds totals` by one worker, and how many groups a second Python has in an array.

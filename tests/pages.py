@@ -1,10 +1,11 @@
 #!/usr/bin/env python3
 """Compares what is written twice, and prints a line for each difference: tests/pages.py PATH-TO-RDS [FOLDER]
 
-FOLDER is the project's, or a copy of it. The options, refusals and rows of the program's help are held against the manual
-page, docs/USING.md and completion; numbers of a page against the tree; links, the commands that a page shows, the files and
-functions that docs/ARCHITECTURE.md names, the callers and lemmas of docs/PROOFS.md, and the maps of tests/ and examples/
-against what is there. `tests/docs.sh` calls it, and sees that it finds differences.
+FOLDER is the project's, or a copy of it. The options, refusals and rows of the program's help are compared with the manual page,
+docs/USING.md, docs/OUTPUT.md and completion; numbers of a page with the tree; links, the commands that a page shows, the files
+and functions that docs/ARCHITECTURE.md names, the contracts of docs/PROOFS.md with their callers and lemmas, and the maps of tests/ and
+examples/ with the files. Pages have no sentence of more than 35 words and 24,000 words together, no page is without a link from README.md,
+and pages, help, rds.1 and rds.h avoid some turns of phrase. `tests/docs.sh` calls it, and sees that it finds differences.
 """
 import functools
 import os
@@ -94,7 +95,7 @@ class Manual:
 
 
 class Using:
-    """What docs/USING.md says."""
+    """What docs/USING.md and docs/OUTPUT.md say."""
 
     def __init__(self):
         text = read("docs/USING.md")
@@ -104,6 +105,7 @@ class Using:
         part = between(text, "## Exit status", "\n## " if "\n## " in text.split("## Exit status")[1] else "\0")
         self.refusals = set(re.findall(r"^\| (\d+) \| (\w+) \|", part, re.M))
         self.named = set(re.findall(r"`refused (\d+) (\w+)`", text))
+        text = read("docs/OUTPUT.md")
         rows = between(text, "| Row | Fields |", "\n\n")
         self.rows = set(re.findall(r"^\| `([a-z]+)` \|", rows, re.M))
         totals = between(text, "| Total | Counts |", "\n\n").splitlines()[2:]
@@ -136,10 +138,10 @@ def compare_options(program, manual, using):
 
 
 def compare_rows(program, manual, using):
-    for name, page in (("docs/USING.md", using), ("rds.1", manual)):
-        same(f"{name}, refusals", program.refusals, page.refusals)
-        same(f"{name}, rows", program.rows, page.rows)
-        same(f"{name}, totals", program.totals, page.totals)
+    for refusals, rows, page in (("docs/USING.md", "docs/OUTPUT.md", using), ("rds.1", "rds.1", manual)):
+        same(f"{refusals}, refusals", program.refusals, page.refusals)
+        same(f"{rows}, rows", program.rows, page.rows)
+        same(f"{rows}, totals", program.totals, page.totals)
     same("docs/USING.md, refusals in the text", set(), using.named - program.refusals)
 
 
@@ -168,7 +170,7 @@ TOLD = (
     (r"may take (\w+) times its processor time", "tests/growth.sh", r"^most=(\d+)$"),
     (r"may take (\w+) times its processor time", "crates/rds_bench/src/growth.rt", r"^const MOST: u64 = (\d+);"),
     (r"past its bound (\w+) times in a row", "crates/rds_bench/src/standards.rt", r"^const ATTEMPTS: \w+ = (\d+);"),
-    (r"what was measured, and a (\w+) to spare", "tests/work.sh", r"\bspare=(\d+) kept$"),
+    (r"the measurement, and a (\w+) to spare", "tests/work.sh", r"\bspare=(\d+) kept$"),
     (r"it is a (\w+), so that one more table shows", "tests/work.sh", r"\|\| spare=(\d+)$"),
     (r"64 KiB is allowed, and (\w+) more", "tests/work.sh", r"\$1 / 65536 \+ (\d+)\)"),
 )
@@ -185,6 +187,7 @@ def compare_tests():
     """What docs/TESTING.md says of the gate: its scripts, and numbers of the tests."""
     page, makefile = read("docs/TESTING.md"), read("Makefile")
     gate = between(page, "\n| No | What |", "\n\n")
+    page = one_line(page)
     named = {name for row in gate.splitlines() for name in re.findall(r"`tests/([\w.]+)`", row.split("|")[2] if "|" in row else "")}
     made = set(re.findall(r"[\w]+\.(?:sh|py)", between(makefile, "SCRIPTS := $(addprefix tests/,", ")")))
     called = set(re.findall(r"tests/(\w+\.(?:sh|py))", "".join(re.findall(r"^\t.*", makefile, re.M)))) - {"quick.sh"}
@@ -266,21 +269,20 @@ def compare_places(page):
 
 
 def compare_claims():
-    """The callers and the files of lemmas that docs/PROOFS.md names beside each claim."""
+    """The contracts that docs/PROOFS.md names, and the callers and the files of lemmas of each in tests/claims.tsv."""
+    table = [line.split("\t") for line in read("tests/claims.tsv").splitlines()[1:]]
+    rows = re.findall(r"^\| (?!Claim)[^|]* \| ([^|]*) \|$", between(read("docs/PROOFS.md"), "\n## What is proved\n", "\n## "), re.M)
+    same("tests/claims.tsv, contracts", set(rows), {row[0] for row in table})
     lemmas = {name for crate in os.listdir("crates") for _, _, names in os.walk(f"crates/{crate}/proofs") for name in names}
-    for line in re.findall(r"^\| .*$", between(read("docs/PROOFS.md"), "\n## What is proved\n", "\n## "), re.M):
-        cells = line.split(" |")
-        if len(cells) != 5:
-            faults.append(f"docs/PROOFS.md: no row of four cells: {line[:60]}")
-            continue
-        for name, row in re.findall(r"(\w+): ((?:`\w+`(?:, )?)+)", cells[2]):
+    for _, callers, files in table:
+        for name, row in re.findall(r"(\w+): ((?:`\w+`(?:, )?)+)", callers):
             path = f"crates/rds_uses/src/{name}.rt"
             for caller in re.findall(r"\w+", row):
                 if not os.path.exists(path) or caller not in defined_in(path):
-                    faults.append(f"docs/PROOFS.md: {path} has no {caller}")
-        for name in re.findall(r"`(\w+)`", cells[3]):
+                    faults.append(f"tests/claims.tsv: {path} has no {caller}")
+        for name in re.findall(r"`(\w+)`", files):
             if f"{name}.antt" not in lemmas:
-                faults.append(f"docs/PROOFS.md: no proofs have {name}.antt")
+                faults.append(f"tests/claims.tsv: no proofs have {name}.antt")
 
 
 def compare_maps():
@@ -299,9 +301,9 @@ def compare_maps():
 
 def compare_glossary():
     """Each word of the glossary is there once, and there are at most forty."""
-    words = re.findall(r"^\| ([a-z]+) \|", between(read("docs/MODEL.md"), "\n## Glossary\n", "\n## "), re.M)
-    same("docs/MODEL.md, words that the glossary has twice", set(), {it for it in words if words.count(it) > 1})
-    same("docs/MODEL.md, words of the glossary past forty", [], words[40:])
+    words = re.findall(r"^\| ((?!Field term|Word)\w[^|]*) \|", read("docs/GLOSSARY.md"), re.M)
+    same("docs/GLOSSARY.md, words that are there twice", set(), {it for it in words if words.count(it) > 1})
+    same("docs/GLOSSARY.md, words past forty", [], words[40:])
 
 
 def headings(path):
@@ -310,7 +312,8 @@ def headings(path):
 
 
 def compare_links(pages):
-    linked = {"README.md"}
+    """Links lead somewhere, and from README.md a way of links leads to each page."""
+    links = {page: set() for page in pages}
     for page in pages:
         for link in re.findall(r"\]\(([^)\s]+)\)", re.sub(r"^```[\s\S]*?^```", "", read(page), flags=re.M)):
             path, _, heading = link.partition("#")
@@ -321,10 +324,66 @@ def compare_links(pages):
                 faults.append(f"{page}: the link {link} leads nowhere")
             elif heading and heading not in headings(target):
                 faults.append(f"{page}: the link {link} names no heading")
-            if page in ("README.md", "docs/ARCHITECTURE.md"):
-                linked.add(target)
-    for page in sorted(set(pages) - linked):
-        faults.append(f"{page}: no link from README.md or docs/ARCHITECTURE.md")
+            links[page].add(target)
+    found, new = set(), {"README.md"}
+    while new:
+        found |= new
+        new = {target for page in new for target in links.get(page, ())} - found
+    for page in sorted(set(pages) - found):
+        faults.append(f"{page}: no link leads here")
+
+
+# The most words of a sentence. In a table a semicolon ends one, since a cell may hold a list.
+LONGEST_SENTENCE = 35
+
+
+def sentences_of(text):
+    """The sentences of a page, without its code, and links by their text."""
+    text = re.sub(r"^```[\s\S]*?^```|^    .*$", "", text, flags=re.M)
+    text = re.sub(r"\]\([^)\s]*\)", "]", text)
+    for part in re.split(r"\n\s*\n|\n(?=\s*(?:[-*|#]|\d+\.) ?)", text):
+        cells, ends = (part.split("|"), ".!?;") if part.startswith("|") else ([part], ".!?")
+        for cell in cells:
+            yield from re.split(rf"(?<=[{ends}])[)*_]*\s+", one_line(cell).strip())
+
+
+def compare_sentences(pages):
+    for page in pages:
+        for sentence in sentences_of(read(page)):
+            count = len(sentence.split())
+            if count > LONGEST_SENTENCE:
+                faults.append(f"{page}: a sentence of {count} words: {sentence[:60]}")
+
+
+# The most words of all pages together, as `wc -w` counts them.
+MOST_WORDS = 24_000
+
+
+def compare_length(pages):
+    count = sum(len(read(page).split()) for page in pages)
+    if count > MOST_WORDS:
+        faults.append(f"the pages have {count} words, and may have {MOST_WORDS}: say each thing once")
+
+
+# Turns of phrase that make a reader read twice: say 'after', 'how many', 'on success', 'per' and the like.
+TURNS = re.compile(
+    r"\b(behind|so many|lies? (?:in|at|over|there|before)|stands? (?:in|at|for|beside|above|there|once)|is no command line"
+    r"|bytes a byte|(?:seconds|minutes|hours) of a processor|ends well|want of memory|taken off|goes? by|gone along|at its head"
+    r"|in a row of its own|by one worker and by|what (?:is|was|are|were) [a-z]+ed|that which)\b",
+    re.I,
+)
+# How many are left where other things than words are changed now. These only shrink.
+TURNS_LEFT = {"lib/rds.h": 11, "help": 2}
+
+
+def compare_words(program, pages):
+    texts = {page: read(page) for page in pages + ["rds.1", "lib/rds.h"]}
+    texts["help"] = "\n".join([program.help, *program.helps.values()])
+    for name, text in texts.items():
+        text = re.sub(r"^#.*$|\]\([^)\s]*\)", "", text, flags=re.M)  # headings may be questions
+        found = [turn[1] for turn in TURNS.finditer(one_line(text))]
+        if len(found) > TURNS_LEFT.get(name, 0):
+            faults.append(f"{name}: {len(found)} turns of phrase, at most {TURNS_LEFT.get(name, 0)}: {', '.join(found)}")
 
 
 def commands_of(page):
@@ -375,6 +434,9 @@ def main():
     compare_glossary()
     compare_links(pages)
     compare_commands(program, pages)
+    compare_sentences(pages)
+    compare_length(pages)
+    compare_words(program, pages)
     print("".join(f"{it}\n" for it in faults), end="")
     sys.exit(1 if faults else 0)
 
