@@ -2,3 +2,4 @@ pub mod Rooms
 pub mod Streams
 pub mod GapLists
 pub mod PartRuns
+pub mod NearStreams

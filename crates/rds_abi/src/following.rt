@@ -1,21 +1,24 @@
 //! A stream that is followed chunk by chunk, from what the caller keeps of it.
 
-ghost use Rattle.std.specs.Prelude.{◌≡◌, ◌++◌, ◌<◌, ◌≤◌, ◌⊎◌, ◌+◌, ◌-◌, ◌*◌, ◌^◌, ℕ, List, IfErr, IfOk, OnErr, OnOk, length, map, replicate, take, vec_capacity};
+ghost use Rattle.std.specs.Prelude.{◌≡◌, ◌++◌, ◌<◌, ◌≤◌, ◌⊎◌, ◌+◌, ◌-◌, ◌*◌, ◌/◌, ◌^◌, ℕ, List, IfErr, IfOk, OnErr, OnOk, length, map, min, replicate, take, vec_capacity};
 ghost use Rattle.rds_stream.specs.Recording.{AreGaps};
 ghost use Rattle.rds_sync.specs.Advance.{group_item};
 ghost use Rattle.rds_sync.specs.Totals.{totals_of};
-ghost use Rattle.rds_live.specs.Live.{HasHeard, IsLive, complete, report_at, report_of};
+ghost use Rattle.rds_live.specs.Live.{HasHeard, IsLive, complete, most_kept, report_at, report_of};
+ghost use Rattle.rds_live.specs.Next.{completed, live_next};
 ghost use Rattle.rds_sync.specs.Ranges.{IsInRange};
-ghost use Rattle.rds_abi.specs.Asked.{IsFilled, RefusesRules, rules_of as the_rules_of};
-ghost use Rattle.rds_abi.specs.Following.{AreClosed, AreCompleted, AreLast, AreLeft, AreTooMany, AreWritten, IsFollowed, IsLeft, RefusesEnd, RefusesFollowed, RefusesLast, RefusesPush, RefusesStream, place_after, stream_in_c as the_stream_in_c, stream_of as the_stream_of, terms_of, totals_from_c};
+ghost use Rattle.rds_abi.specs.Asked.{IsFilled, IsTooMuch, RefusesRules, gaps_of, rules_of as the_rules_of};
+ghost use Rattle.rds_abi.specs.Following.{AreClosed, AreCompleted, AreLast, AreLeft, AreTooMany, AreWritten, IsFollowed, IsLeft, IsNear, RefusesEnd, RefusesFollowed, RefusesLast, RefusesPush, RefusesStream, RefusesTold, place_after, stream_in_c as the_stream_in_c, stream_of as the_stream_of, terms_of, totals_from_c};
 ghost use Rattle.rds_abi.specs.Layout.{item_in_c, totals_in_c};
 ghost use Rattle.rds_abi.specs.declared.refusal.Refusal.TheVariants.{BadGaps, BitsPastBytes, OutOfMemory, SmallRoom, TooLong};
 
-use crate::asked::{MOST_BITS, gaps_in, rules_of};
+use crate::asked::{MOST_BITS, are_gaps, gaps_in, rules_of};
 use crate::going::{state_in_c, state_of, write_end};
 use crate::in_c::{item_in_c, totals_in_c};
 use crate::layout::{RdsGap, RdsItem, RdsRules, RdsStream, RdsTotals};
+use crate::part::near;
 use crate::refusal::Refusal;
+use rds_live::laws::next_is_heard;
 use rds_live::{Live, ResumeError};
 use rds_stream::StreamError;
 use rds_sync::{Group, Item, Rules, Totals};
@@ -24,6 +27,9 @@ use std::marker::Model;
 
 /// How many of the last bytes of a stream are known.
 const MOST_KEPT: u64 = 30;
+
+/// How many bytes a stream has at most.
+const MOST_BYTES: u64 = MOST_BITS / 8;
 
 /// Totals, from C.
 fn totals_from_c(totals: RdsTotals) -> Totals
@@ -57,31 +63,63 @@ impl Model for Told {
     ghost view = { λ t. record { rules = t.rules; gaps = t.gaps.items } };
 }
 
+/// The rules, and gaps that a stream may have, looked at in this order. Takes no memory for the gaps.
+fn rules_told(alloc: Global, rules: RdsRules, gaps: &[RdsGap]) -> Result<Rules, Refusal>
+    ensures rules { IfOk result (λ found. found ≡ the_rules_of rules) }
+    ensures range { IfOk result (λ _. IsInRange (the_rules_of rules)) }
+    ensures gaps { IfOk result (λ _. AreGaps (2 ^ 36) (gaps_of gaps.now)) }
+    ensures refused { IfErr result (RefusesTold rules gaps.now) }
+{
+    let rules = rules_of(alloc, rules)?;
+    if !are_gaps(gaps, MOST_BITS) {
+        return Err(Refusal::BadGaps);
+    }
+    Ok(rules)
+}
+
 /// What is told of a stream, from C.
 fn told_of(alloc: Global, rules: RdsRules, gaps: &[RdsGap]) -> Result<Told, Refusal>
     ensures terms { IfOk result (λ told. told ≡ terms_of rules gaps.now) }
     ensures range { IfOk result (λ _. IsInRange (the_rules_of rules)) }
-    ensures refused { IfErr result (RefusesRules (the_rules_of rules)) }
+    ensures gaps { IfOk result (λ told. AreGaps (2 ^ 36) told.gaps) }
+    ensures refused { IfErr result (RefusesTold rules gaps.now) }
 {
-    let rules = rules_of(alloc, rules)?;
+    let rules = rules_told(alloc, rules, gaps)?;
     let gaps = gaps_in(alloc, gaps)?;
+    Ok(Told { rules, gaps })
+}
+
+/// What is told of a part of a stream, from C: the rules, and the gaps near the part that begins at `before` and has `len`
+/// places. It takes memory for these gaps alone.
+fn told_near(
+    alloc: Global,
+    rules: RdsRules,
+    gaps: &[RdsGap],
+    before: u64,
+    len: u64,
+) -> Result<Told, Refusal>
+    ensures near { IfOk result (λ told. IsNear (terms_of rules gaps.now) told before len) }
+    ensures range { IfOk result (λ _. IsInRange (the_rules_of rules)) }
+    ensures refused { IfErr result (RefusesTold rules gaps.now) }
+{
+    let rules = rules_told(alloc, rules, gaps)?;
+    let gaps = gaps_in(alloc, near(gaps, before, len))?;
     Ok(Told { rules, gaps })
 }
 
 /// The decoder of the stream that these numbers say.
 fn live_of<'r>(alloc: Global, told: &'r Told, stream: &RdsStream) -> Result<Live<'r>, Refusal>
+    requires { AreGaps (2 ^ 36) told.now.gaps }
     ensures live { IfOk result (λ live. live ≡ the_stream_of told.now stream.now) }
     ensures left { IfOk result (λ _. IsLeft told.now stream.now) }
     ensures refused { IfErr result (RefusesStream told.now stream.now) }
 {
-    refuse_gaps(alloc, told)?;
     let rules = &told.rules;
     let gaps = told.gaps.as_slice();
     let Some(state) = state_of(rules, stream.state, stream.place) else {
         return Err(Refusal::UnlawfulState);
     };
-    let kept = MOST_KEPT.min(stream.place / 8) as usize;
-    let tail = &stream.tail[..kept];
+    let tail = &stream.tail[..kept_of(stream) as usize];
     if tail_in_c(tail) != stream.tail {
         return Err(Refusal::UnlawfulState);
     }
@@ -93,17 +131,11 @@ fn live_of<'r>(alloc: Global, told: &'r Told, stream: &RdsStream) -> Result<Live
     }
 }
 
-/// Refuses gaps that no stream may have, or want of memory.
-fn refuse_gaps(alloc: Global, told: &Told) -> Result<(), Refusal>
-    ensures lawful { OnOk result (AreGaps (2 ^ 36) told.now.gaps) }
-    ensures refused { IfErr result (λ refusal.
-        ((refusal ≡ BadGaps) × (AreGaps (2 ^ 36) told.now.gaps → ⊥)) ⊎ (refusal ≡ OutOfMemory)) }
+/// How many of the last bytes of the stream are known.
+fn kept_of(stream: &RdsStream) -> u64
+    ensures { result ≡ min most_kept (stream.now.place / 8) }
 {
-    match Live::with_gaps(alloc, &told.rules, told.gaps.as_slice()) {
-        Ok(_) => Ok(()),
-        Err(StreamError::BadGaps) => Err(Refusal::BadGaps),
-        Err(_) => Err(Refusal::OutOfMemory),
-    }
+    MOST_KEPT.min(stream.place / 8)
 }
 
 /// The last bytes of a stream, for C.
@@ -184,11 +216,21 @@ pub fn push(
     ensures untouched { OnErr result ((room.new ≡ room.old) × (stream.new ≡ stream.old)) }
     ensures refused { IfErr result (λ refusal.
         (IsFollowed rules gaps.now stream.old × (place_after stream.old bytes.now ≤ 2 ^ 36)
-        × AreTooMany (AreCompleted (terms_of rules gaps.now) stream.old bytes.now) (length room.old) refusal count.new)
+        × IsTooMuch (map item_in_c (completed (the_stream_of (terms_of rules gaps.now) stream.old) bytes.now)) (length room.old) refusal count.new)
         ⊎ (RefusesPush rules gaps.now stream.old bytes.now refusal × (count.new ≡ count.old))) }
+
+    // The same of numbers that are lawful and of no stream.
+    ensures after { OnOk result (the_stream_of (terms_of rules gaps.now) stream.new
+        ≡ live_next (the_stream_of (terms_of rules gaps.now) stream.old) bytes.now) }
+    ensures filled { OnOk result (IsFilled (map item_in_c (completed (the_stream_of (terms_of rules gaps.now) stream.old) bytes.now)) room.old room.new) }
+    ensures count { OnOk result (count.new ≡ length (completed (the_stream_of (terms_of rules gaps.now) stream.old) bytes.now)) }
 {
-    let told = told_of(alloc, rules, gaps)?;
-    go_on(alloc, &told, bytes, stream, room, count)
+    let kept = kept_of(stream);
+    let len = kept + MOST_BYTES.min(bytes.len() as u64);
+    let told = told_near(alloc, rules, gaps, stream.place - 8 * kept, 8 * len)?;
+    next_is_heard();
+    go_on(alloc, &told, bytes, stream, room, count)?;
+    Ok(())
 }
 
 /// Takes the next bytes of a stream, and writes what they give.
@@ -200,16 +242,18 @@ fn go_on(
     room: &mut [RdsItem],
     count: &mut u64,
 ) -> Result<(), Refusal>
-    ensures heard { OnOk result ((before : List ℕ) → HasHeard (the_stream_of told.now stream.old) before
-        → HasHeard (the_stream_of told.now stream.new) (before ++ bytes.now)) }
+    requires { AreGaps (2 ^ 36) told.now.gaps }
     ensures laid { OnOk result (stream.new ≡ the_stream_in_c (the_stream_of told.now stream.new)) }
-    ensures items { OnOk result (AreWritten (AreCompleted told.now stream.old bytes.now) room.old room.new count.new) }
+    ensures after { OnOk result (the_stream_of told.now stream.new ≡ live_next (the_stream_of told.now stream.old) bytes.now) }
+    ensures filled { OnOk result (IsFilled (map item_in_c (completed (the_stream_of told.now stream.old) bytes.now)) room.old room.new) }
+    ensures count { OnOk result (count.new ≡ length (completed (the_stream_of told.now stream.old) bytes.now)) }
     ensures next { OnOk result (IsLeft told.now stream.new) }
-    ensures lawful { OnOk result (IsLeft told.now stream.old × (place_after stream.old bytes.now ≤ 2 ^ 36)) }
+    ensures lawful { OnOk result (IsLeft told.now stream.old) }
+    ensures fits { OnOk result (place_after stream.old bytes.now ≤ 2 ^ 36) }
     ensures untouched { OnErr result ((room.new ≡ room.old) × (stream.new ≡ stream.old)) }
     ensures refused { IfErr result (λ refusal.
         (IsLeft told.now stream.old × (place_after stream.old bytes.now ≤ 2 ^ 36)
-        × AreTooMany (AreCompleted told.now stream.old bytes.now) (length room.old) refusal count.new)
+        × IsTooMuch (map item_in_c (completed (the_stream_of told.now stream.old) bytes.now)) (length room.old) refusal count.new)
         ⊎ ((RefusesStream told.now stream.old refusal
         ⊎ (IsLeft told.now stream.old × (2 ^ 36 < place_after stream.old bytes.now) × (refusal ≡ TooLong)))
         × (count.new ≡ count.old))) }
@@ -228,16 +272,15 @@ fn take_all(
     room: &mut [RdsItem],
     count: &mut u64,
 ) -> Result<(), Refusal>
-    ensures heard { OnOk result ((before : List ℕ) → HasHeard live.old before → HasHeard live.new (before ++ bytes.now)) }
+    ensures after { OnOk result (live.new ≡ live_next live.old bytes.now) }
     ensures terms { live.new.terms ≡ live.old.terms }
-    ensures items { OnOk result (AreWritten (λ items. (before : List ℕ) → HasHeard live.old before
-        → complete live.old.terms (before ++ bytes.now) ≡ complete live.old.terms before ++ items) room.old room.new count.new) }
+    ensures filled { OnOk result (IsFilled (map item_in_c (completed live.old bytes.now)) room.old room.new) }
+    ensures count { OnOk result (count.new ≡ length (completed live.old bytes.now)) }
     ensures fits { OnOk result (live.old.place + 8 * length bytes.now ≤ 2 ^ 36) }
     ensures untouched { OnErr result (room.new ≡ room.old) }
     ensures refused { IfErr result (λ refusal.
         ((live.old.place + 8 * length bytes.now ≤ 2 ^ 36)
-        × AreTooMany (λ items. (before : List ℕ) → HasHeard live.old before
-        → complete live.old.terms (before ++ bytes.now) ≡ complete live.old.terms before ++ items) (length room.old) refusal count.new)
+        × IsTooMuch (map item_in_c (completed live.old bytes.now)) (length room.old) refusal count.new)
         ⊎ ((((refusal ≡ TooLong) × (2 ^ 36 < live.old.place + 8 * length bytes.now)) ⊎ (refusal ≡ OutOfMemory))
         × (count.new ≡ count.old))) }
 {
@@ -285,6 +328,7 @@ fn close(
     count: &mut u64,
     totals: &mut RdsTotals,
 ) -> Result<(), Refusal>
+    requires { AreGaps (2 ^ 36) told.now.gaps }
     ensures items { OnOk result (AreWritten (AreClosed told.now stream.now) room.old room.new count.new) }
     ensures totals { OnOk result ((bytes : List ℕ) → HasHeard (the_stream_of told.now stream.now) bytes
         → totals.new ≡ totals_in_c (totals_of (report_of told.now bytes))) }
@@ -363,6 +407,7 @@ fn last_of(
     bits: u64,
     stream: &RdsStream,
 ) -> Result<(Vec<Item>, Totals), Refusal>
+    requires { AreGaps (2 ^ 36) told.now.gaps }
     ensures items { IfOk result (λ r. AreLeft told.now stream.now bytes.now bits r.0.items) }
     ensures totals { IfOk result (λ r. (before : List ℕ) → HasHeard (the_stream_of told.now stream.now) before
         → r.1 ≡ totals_of (report_at told.now (before ++ bytes.now) (8 * length before + bits))) }

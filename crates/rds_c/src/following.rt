@@ -1,11 +1,12 @@
 //! A stream that is followed chunk by chunk.
 
-ghost use Rattle.std.specs.Prelude.{◌≡◌, ◌≢◌, ◌++◌, ◌≤◌, ◌⊎◌, ◌+◌, ◌*◌, ◌^◌, ℕ, List, length};
+ghost use Rattle.std.specs.Prelude.{◌≡◌, ◌≢◌, ◌++◌, ◌≤◌, ◌⊎◌, ◌+◌, ◌*◌, ◌^◌, ℕ, List, length, map};
 ghost use Rattle.rds_sync.specs.Totals.{totals_of};
 ghost use Rattle.rds_live.specs.Live.{HasHeard, report_at, report_of};
-ghost use Rattle.rds_abi.specs.Asked.{RefusedBy};
+ghost use Rattle.rds_live.specs.Next.{completed, live_next};
+ghost use Rattle.rds_abi.specs.Asked.{IsFilled, IsTooMuch, RefusedBy};
 ghost use Rattle.rds_abi.specs.Following.{AreClosed, AreCompleted, AreLast, AreLeft, AreTooMany, AreWritten, IsFollowed, RefusesEnd, RefusesFollowed, RefusesPush, place_after, stream_in_c, stream_of, terms_of};
-ghost use Rattle.rds_abi.specs.Layout.{totals_in_c};
+ghost use Rattle.rds_abi.specs.Layout.{item_in_c, totals_in_c};
 
 use rds_abi::{RdsGap, RdsItem, RdsRules, RdsStream, RdsTotals, finish, finish_with, push};
 use std::alloc::Global;
@@ -31,9 +32,15 @@ pub extern "C" fn rds_push(
     ensures lawful { result ≡ 0 → IsFollowed rules.now gaps.now stream.old × (place_after stream.old bytes.now ≤ 2 ^ 36) }
     ensures refused { result ≢ 0 → RefusedBy (λ refusal.
         (IsFollowed rules.now gaps.now stream.old × (place_after stream.old bytes.now ≤ 2 ^ 36)
-        × AreTooMany (AreCompleted (terms_of rules.now gaps.now) stream.old bytes.now) (length room.old) refusal count.new)
+        × IsTooMuch (map item_in_c (completed (stream_of (terms_of rules.now gaps.now) stream.old) bytes.now)) (length room.old) refusal count.new)
         ⊎ (RefusesPush rules.now gaps.now stream.old bytes.now refusal × (count.new ≡ count.old))) result }
     ensures untouched { result ≢ 0 → (room.new ≡ room.old) × (stream.new ≡ stream.old) }
+
+    // The same of numbers that are lawful and of no stream.
+    ensures after { result ≡ 0 → stream_of (terms_of rules.now gaps.now) stream.new
+        ≡ live_next (stream_of (terms_of rules.now gaps.now) stream.old) bytes.now }
+    ensures filled { result ≡ 0 → IsFilled (map item_in_c (completed (stream_of (terms_of rules.now gaps.now) stream.old) bytes.now)) room.old room.new }
+    ensures count { result ≡ 0 → count.new ≡ length (completed (stream_of (terms_of rules.now gaps.now) stream.old) bytes.now) }
 {
     match push(alloc, bytes, gaps, *rules, stream, room, count) {
         Ok(()) => 0,

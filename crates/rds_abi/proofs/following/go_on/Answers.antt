@@ -1,6 +1,7 @@
-use Rattle.std.proofs.Common.{◌++◌, ap, refl, subst, sym, ◌∙◌}
+use Rattle.std.proofs.Common.{ap, refl, subst, sym, ◌∙◌}
 use Rattle.std.proofs.lemmas.Result.{err_from_is_err_and}
-use Rattle.rds_live.specs.Live.{HasHeard, IsLive, LiveOf}
+use Rattle.rds_live.specs.Live.{IsLive, LiveOf}
+use Rattle.rds_live.specs.Next.{live_next}
 use Rattle.rds_abi.specs.Following.{stream_in_c}
 use Rattle.rds_abi.proofs.Streams.{fits, refused_bytes, says_next}
 use Rattle.rds_abi.proofs.following.go_on.Goals as goal
@@ -13,20 +14,23 @@ returns-in_err-take_all-clause-refused c =
     let refused = rw is at c.in_err-take_all.ensures.refused in
     rw (p.1, p.2) (refused_bytes c.args.told.now c.args.stream.now c.args.bytes.now c.in_err-take_all.field-0.0 _ _ left refused)
 
-pub returns-clause-heard : goal.returns-clause-heard
-returns-clause-heard c before h =
+pub returns-clause-after : goal.returns-clause-after
+returns-clause-after c =
     let is = c.in_ok-live.ensures.live in
-    let next = says_next c.args.told.now c.args.stream.now c.stream_in_c.result c.in_ok-live.live c.take_all.new.live is c.in_ok-take_all.ensures.terms c.stream_in_c.ensures.says in
-    subst (λ (l : LiveOf). HasHeard l (before ++ c.args.bytes.now)) (sym next)
-    (c.in_ok-take_all.ensures.heard before (subst (λ (l : LiveOf). HasHeard l before) (sym is) h))
+    says_next c.args.told.now c.args.stream.now c.stream_in_c.result c.in_ok-live.live c.take_all.new.live is c.in_ok-take_all.ensures.terms c.stream_in_c.ensures.says
+    ∙ c.in_ok-take_all.ensures.after
+    ∙ ap (λ (l : LiveOf). live_next l c.args.bytes.now) is
 
 pub returns-clause-laid : goal.returns-clause-laid
 returns-clause-laid c =
     let next = says_next c.args.told.now c.args.stream.now c.stream_in_c.result c.in_ok-live.live c.take_all.new.live c.in_ok-live.ensures.live c.in_ok-take_all.ensures.terms c.stream_in_c.ensures.says in
     c.stream_in_c.ensures.laid ∙ ap stream_in_c (sym next)
 
-pub returns-clause-items : goal.returns-clause-items
-returns-clause-items c = rw c.in_ok-live.ensures.live at c.in_ok-take_all.ensures.items
+pub returns-clause-filled : goal.returns-clause-filled
+returns-clause-filled c = rw c.in_ok-live.ensures.live at c.in_ok-take_all.ensures.filled
+
+pub returns-clause-count : goal.returns-clause-count
+returns-clause-count c = rw c.in_ok-live.ensures.live at c.in_ok-take_all.ensures.count
 
 pub returns-clause-next : goal.returns-clause-next
 returns-clause-next c =
@@ -36,12 +40,9 @@ returns-clause-next c =
       laid = c.stream_in_c.ensures.laid ∙ ap stream_in_c (sym next);
     }
 
-pub returns-clause-lawful : goal.returns-clause-lawful
-returns-clause-lawful c =
-    let is = c.in_ok-live.ensures.live in (
-      c.in_ok-live.ensures.left,
-      fits c.args.told.now c.args.stream.now c.in_ok-live.live is _ c.in_ok-take_all.ensures.fits,
-    )
+pub returns-clause-fits : goal.returns-clause-fits
+returns-clause-fits c =
+    fits c.args.told.now c.args.stream.now c.in_ok-live.live c.in_ok-live.ensures.live _ c.in_ok-take_all.ensures.fits
 
 pub returns-in_err-take_all-clause-untouched : goal.returns-in_err-take_all-clause-untouched
 returns-in_err-take_all-clause-untouched c =
