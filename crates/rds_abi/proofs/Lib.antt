@@ -3,3 +3,4 @@ pub mod Streams
 pub mod GapLists
 pub mod PartRuns
 pub mod NearStreams
+pub mod Fitting

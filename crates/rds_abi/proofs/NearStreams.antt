@@ -1,5 +1,6 @@
 -- A stream by the gaps near the part that is heard, in place of all of them.
 use Rattle.std.proofs.Common.{◌≡◌, ◌+◌, ◌-◌, ◌*◌, ◌/◌, ◌^◌, ◌<◌, ◌≤◌, ◌++◌, ◌⊎◌, ℕ, List, ap, ap₂, arith, inl, inr, length, map, min, subst, sym, take, ◌∙◌}
+use Rattle.std.proofs.lemmas.List.{length-take}
 use Rattle.rds_sync.specs.Counting.{plus}
 use Rattle.rds_sync.specs.Lawful.{IsLawful}
 use Rattle.rds_sync.specs.Rules.{RuleNumbers}
@@ -11,7 +12,7 @@ use Rattle.rds_live.specs.Live.{HasHeard, LiveOf, Terms, last_bytes, most_kept, 
 use Rattle.rds_live.specs.Moving.{moved_items, moved_state}
 use Rattle.rds_live.specs.Next.{NextIsHeard, before_tail, completed, live_next, moved_back}
 use Rattle.rds_sync.specs.Ranges.{IsInRange}
-use Rattle.rds_abi.specs.Following.{AreCompleted, IsLeft, IsNear, RefusesStream, place_after, stream_of, totals_from_c}
+use Rattle.rds_abi.specs.Following.{AreCompleted, IsLeft, IsMostTaken, IsNear, RefusesStream, place_after, stream_of, totals_from_c}
 use Rattle.rds_abi.specs.Asked.{IsTooMuch}
 use Rattle.rds_abi.specs.Going.{state_of}
 use Rattle.rds_abi.specs.Layout.{item_in_c}
@@ -115,28 +116,37 @@ pub part-held : (all : Terms) (s : RdsStream) (kept few count : ℕ) → IsLeft 
     → few ≡ min 8589934592 count → 8 * length (take (min most_kept (s.place / 8)) s.tail) + 8 * count ≤ 8 * (kept + few)
 part-held all s kept few count left is fits many = omega (arith, left.live.kept, is, fits, many)
 
--- all of that of bytes that are pushed to a stream, by the gaps in at most so many bytes behind those that are kept
+-- all of that of the first of bytes that are pushed to a stream, by the gaps in at most so many bytes behind those that are kept
 module _ (all near : Terms) (s : RdsStream) (bytes : List ℕ) (kept few : ℕ) (is : IsNear all near (s.place - 8 * kept) (8 * (kept + few)))
     (keeps : kept ≡ min most_kept (s.place / 8)) (many : few ≡ min 8589934592 (length bytes)) where
   module _ (left : IsLeft near s) (fits : place_after s bytes ≤ 2 ^ 36) where
     known : IsLeft all s
     known = left-near all near s (s.place - 8 * kept) (8 * (kept + few)) is left
 
-    pub pushed-completed : completed (stream_of near s) bytes ≡ completed (stream_of all s) bytes
-    pushed-completed =
-        completed-near all near s (s.place - 8 * kept) (8 * (kept + few)) is bytes (part-begins all s kept known keeps) (part-held all s kept few (length bytes) known keeps fits many)
+    held : (n : ℕ) → 8 * length (take (min most_kept (s.place / 8)) s.tail) + 8 * length (take n bytes) ≤ 8 * (kept + few)
+    held n = omega (arith, part-held all s kept few (length bytes) known keeps fits many, length-take n bytes)
 
-    pub pushed-after : (new : RdsStream) → stream_of near new ≡ live_next (stream_of near s) bytes → stream_of all new ≡ live_next (stream_of all s) bytes
-    pushed-after =
-        next-near all near s (s.place - 8 * kept) (8 * (kept + few)) is bytes (part-begins all s kept known keeps) (part-held all s kept few (length bytes) known keeps fits many)
+    pub pushed-completed : (n : ℕ) → completed (stream_of near s) (take n bytes) ≡ completed (stream_of all s) (take n bytes)
+    pushed-completed n =
+        completed-near all near s (s.place - 8 * kept) (8 * (kept + few)) is (take n bytes) (part-begins all s kept known keeps) (held n)
+
+    pub pushed-after : (n : ℕ) (new : RdsStream) → stream_of near new ≡ live_next (stream_of near s) (take n bytes)
+        → stream_of all new ≡ live_next (stream_of all s) (take n bytes)
+    pushed-after n =
+        next-near all near s (s.place - 8 * kept) (8 * (kept + few)) is (take n bytes) (part-begins all s kept known keeps) (held n)
+
+    pub pushed-most : (room n : ℕ) → IsMostTaken (stream_of near s) bytes room n → IsMostTaken (stream_of all s) bytes room n
+    pushed-most room n (inl whole) = inl whole
+    pushed-most room n (inr (some, less, small)) =
+        inr (some, less, subst (λ (items : List Item). room < length items) (pushed-completed (n + 1)) small)
 
   pub pushed-refused : (r : Refusal) (room count : ℕ) (Same : Type 0)
-      → (IsLeft near s × (place_after s bytes ≤ 2 ^ 36) × IsTooMuch (map item_in_c (completed (stream_of near s) bytes)) room r count)
+      → (IsLeft near s × (place_after s bytes ≤ 2 ^ 36) × IsTooMuch (map item_in_c (completed (stream_of near s) (take 1 bytes))) room r count)
       ⊎ ((RefusesStream near s r ⊎ (IsLeft near s × (2 ^ 36 < place_after s bytes) × (r ≡ TooLong))) × Same)
-      → (IsLeft all s × (place_after s bytes ≤ 2 ^ 36) × IsTooMuch (map item_in_c (completed (stream_of all s) bytes)) room r count)
+      → (IsLeft all s × (place_after s bytes ≤ 2 ^ 36) × IsTooMuch (map item_in_c (completed (stream_of all s) (take 1 bytes))) room r count)
       ⊎ ((RefusesStream all s r ⊎ (IsLeft all s × (2 ^ 36 < place_after s bytes) × (r ≡ TooLong))) × Same)
   pushed-refused r room count Same (inl (left, fits, much)) =
-      inl (known left fits, fits, subst (λ (items : List Item). IsTooMuch (map item_in_c items) room r count) (pushed-completed left fits) much)
+      inl (known left fits, fits, subst (λ (items : List Item). IsTooMuch (map item_in_c items) room r count) (pushed-completed left fits 1) much)
   pushed-refused r room count Same (inr (inl refused, same)) =
       inr (inl (refused-near all near s (s.place - 8 * kept) (8 * (kept + few)) is r refused), same)
   pushed-refused r room count Same (inr (inr (left, long, too), same)) =

@@ -7,6 +7,7 @@ use Rattle.rds_sync.specs.declared.item.Item.{Item}
 use Rattle.rds_sync.specs.declared.totals.Totals.{Totals}
 use Rattle.rds_live.specs.Gaps.{gaps_within}
 use Rattle.rds_live.specs.Live.{HasHeard, IsLive, LiveOf, Terms, complete, most_kept, report_at, report_of}
+use Rattle.rds_live.specs.Next.{completed}
 use Rattle.rds_abi.specs.Asked.{IsFilled, IsTooMuch, RefusesRules, gaps_of, rules_of}
 use Rattle.rds_abi.specs.Going.{state_in_c, state_of}
 use Rattle.rds_abi.specs.Layout.{item_in_c, totals_in_c}
@@ -141,6 +142,12 @@ abbrev pub AreLeft : Terms → RdsStream → List ℕ → ℕ → List Item → 
 AreLeft terms s bytes bits items =
     (before : List ℕ) → HasHeard (stream_of terms s) before
     → complete terms before ++ items ≡ report_at terms (before ++ bytes) (8 * length before + bits)
+
+-- all bytes were taken, or as many as have room: the items of one byte more have none
+abbrev pub IsMostTaken : LiveOf → List ℕ → ℕ → ℕ → Type 0
+IsMostTaken live bytes room taken =
+    (taken ≡ length bytes)
+    ⊎ ((0 < taken) × (taken < length bytes) × (room < length (completed live (take (taken + 1) bytes))))
 
 -- such items stand at the beginning of the room, behind them is what was there, and the count is theirs
 abbrev pub AreWritten : (List Item → Type 0) → List RdsItem → List RdsItem → ℕ → Type 0

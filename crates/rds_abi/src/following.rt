@@ -8,7 +8,7 @@ ghost use Rattle.rds_live.specs.Live.{HasHeard, IsLive, complete, most_kept, rep
 ghost use Rattle.rds_live.specs.Next.{completed, live_next};
 ghost use Rattle.rds_sync.specs.Ranges.{IsInRange};
 ghost use Rattle.rds_abi.specs.Asked.{IsFilled, IsTooMuch, RefusesRules, gaps_of, rules_of as the_rules_of};
-ghost use Rattle.rds_abi.specs.Following.{AreClosed, AreCompleted, AreLast, AreLeft, AreTooMany, AreWritten, IsFollowed, IsLeft, IsNear, RefusesEnd, RefusesFollowed, RefusesLast, RefusesPush, RefusesStream, RefusesTold, place_after, stream_in_c as the_stream_in_c, stream_of as the_stream_of, terms_of, totals_from_c};
+ghost use Rattle.rds_abi.specs.Following.{AreClosed, AreCompleted, AreLast, AreLeft, AreTooMany, AreWritten, IsFollowed, IsLeft, IsMostTaken, IsNear, RefusesEnd, RefusesFollowed, RefusesLast, RefusesPush, RefusesStream, RefusesTold, place_after, stream_in_c as the_stream_in_c, stream_of as the_stream_of, terms_of, totals_from_c};
 ghost use Rattle.rds_abi.specs.Layout.{item_in_c, totals_in_c};
 ghost use Rattle.rds_abi.specs.declared.refusal.Refusal.TheVariants.{BadGaps, BitsPastBytes, OutOfMemory, SmallRoom, TooLong};
 
@@ -18,10 +18,10 @@ use crate::in_c::{item_in_c, totals_in_c};
 use crate::layout::{RdsGap, RdsItem, RdsRules, RdsStream, RdsTotals};
 use crate::part::near;
 use crate::refusal::Refusal;
-use rds_live::laws::next_is_heard;
+use rds_live::laws::{next_is_heard, pieces_join};
 use rds_live::{Live, ResumeError};
 use rds_stream::StreamError;
-use rds_sync::{Group, Item, Rules, Totals};
+use rds_sync::{Group, Item, Rules, Totals, laws};
 use std::alloc::{AllocError, Global};
 use std::marker::Model;
 
@@ -30,6 +30,10 @@ const MOST_KEPT: u64 = 30;
 
 /// How many bytes a stream has at most.
 const MOST_BYTES: u64 = MOST_BITS / 8;
+
+/// How many bytes a decoder takes at once at most, and how many items a byte may complete.
+const AT_ONCE: usize = 960;
+const ITEMS_A_BYTE: usize = 16;
 
 /// Totals, from C.
 fn totals_from_c(totals: RdsTotals) -> Totals
@@ -188,16 +192,21 @@ fn fill_room(room: &mut [RdsItem], items: &[Item])
     }
 }
 
-/// Takes the next bytes of a stream, the highest bit of a byte first, and writes the items that they complete to the
-/// beginning of `room`, how many they are to `count`, and what is known of the stream then to `stream`. The bytes may be
-/// any number, none too, and the gaps are told by their places in the stream.
+/// Takes as many of the next bytes of a stream, the highest bit of a byte first, as there is room for what they complete:
+/// writes the items that these complete to the beginning of `room`, how many they are to `count`, what is known of the stream
+/// then to `stream`, and how many bytes it took to `taken`. The others are to be offered again. The bytes may be any number,
+/// none too, and the gaps are told by their places in the stream.
+///
+/// It takes all bytes, or the items of one byte more would not fit. A byte completes at most 16 items, so room for 16 is never
+/// too little.
 ///
 /// However a stream was cut, the items are those of the run over all bytes, and with [`finish`] they are the report's. What
 /// is known of it are the same numbers, too, so that these may be compared.
 ///
 /// Refuses rules out of their range, then gaps that no stream may have, then `UnlawfulState`, then `TooLong`, past 2^36
-/// bits in all, and then `SmallRoom`, where `count` tells how many items there are, and nothing else was written; and want
-/// of memory at any time. It takes memory for the tables of the rules, for the gaps, and for the items.
+/// bits with all that are offered, and then `SmallRoom`, if the items of the first byte do not fit: `count` tells how many they
+/// are, and nothing else was written; and want of memory at any time. It takes memory for the tables of the rules, for the gaps
+/// near the bytes, and for the items that 960 bytes may complete.
 pub fn push(
     alloc: Global,
     bytes: &[u8],
@@ -205,89 +214,175 @@ pub fn push(
     rules: RdsRules,
     stream: &mut RdsStream,
     room: &mut [RdsItem],
+    taken: &mut u64,
     count: &mut u64,
 ) -> Result<(), Refusal>
     ensures heard { OnOk result ((before : List ℕ) → HasHeard (the_stream_of (terms_of rules gaps.now) stream.old) before
-        → HasHeard (the_stream_of (terms_of rules gaps.now) stream.new) (before ++ bytes.now)) }
+        → HasHeard (the_stream_of (terms_of rules gaps.now) stream.new) (before ++ take taken.new bytes.now)) }
     ensures laid { OnOk result (stream.new ≡ the_stream_in_c (the_stream_of (terms_of rules gaps.now) stream.new)) }
-    ensures items { OnOk result (AreWritten (AreCompleted (terms_of rules gaps.now) stream.old bytes.now) room.old room.new count.new) }
+    ensures items { OnOk result (AreWritten (AreCompleted (terms_of rules gaps.now) stream.old (take taken.new bytes.now)) room.old room.new count.new) }
+    ensures most { OnOk result (IsMostTaken (the_stream_of (terms_of rules gaps.now) stream.old) bytes.now (length room.old) taken.new) }
+    ensures few { OnOk result (count.new ≤ 16 * taken.new) }
     ensures next { OnOk result (IsFollowed rules gaps.now stream.new) }
     ensures lawful { OnOk result (IsFollowed rules gaps.now stream.old × (place_after stream.old bytes.now ≤ 2 ^ 36)) }
-    ensures untouched { OnErr result ((room.new ≡ room.old) × (stream.new ≡ stream.old)) }
+    ensures untouched { OnErr result ((room.new ≡ room.old) × (stream.new ≡ stream.old) × (taken.new ≡ taken.old)) }
     ensures refused { IfErr result (λ refusal.
         (IsFollowed rules gaps.now stream.old × (place_after stream.old bytes.now ≤ 2 ^ 36)
-        × IsTooMuch (map item_in_c (completed (the_stream_of (terms_of rules gaps.now) stream.old) bytes.now)) (length room.old) refusal count.new)
+        × IsTooMuch (map item_in_c (completed (the_stream_of (terms_of rules gaps.now) stream.old) (take 1 bytes.now))) (length room.old) refusal count.new)
         ⊎ (RefusesPush rules gaps.now stream.old bytes.now refusal × (count.new ≡ count.old))) }
+    ensures roomy { IfErr result (λ refusal. refusal ≡ SmallRoom → length room.old < 16) }
 
     // The same of numbers that are lawful and of no stream.
     ensures after { OnOk result (the_stream_of (terms_of rules gaps.now) stream.new
-        ≡ live_next (the_stream_of (terms_of rules gaps.now) stream.old) bytes.now) }
-    ensures filled { OnOk result (IsFilled (map item_in_c (completed (the_stream_of (terms_of rules gaps.now) stream.old) bytes.now)) room.old room.new) }
-    ensures count { OnOk result (count.new ≡ length (completed (the_stream_of (terms_of rules gaps.now) stream.old) bytes.now)) }
+        ≡ live_next (the_stream_of (terms_of rules gaps.now) stream.old) (take taken.new bytes.now)) }
+    ensures filled { OnOk result (IsFilled (map item_in_c (completed (the_stream_of (terms_of rules gaps.now) stream.old) (take taken.new bytes.now))) room.old room.new) }
+    ensures count { OnOk result (count.new ≡ length (completed (the_stream_of (terms_of rules gaps.now) stream.old) (take taken.new bytes.now))) }
 {
     let kept = kept_of(stream);
     let len = kept + MOST_BYTES.min(bytes.len() as u64);
     let told = told_near(alloc, rules, gaps, stream.place - 8 * kept, 8 * len)?;
+    laws::runs_give_few_items();
     next_is_heard();
-    go_on(alloc, &told, bytes, stream, room, count)?;
+    go_on(alloc, &told, bytes, stream, room, taken, count)?;
     Ok(())
 }
 
-/// Takes the next bytes of a stream, and writes what they give.
+/// Takes the next bytes of a stream, as many as there is room for, and writes what they give.
 fn go_on(
     alloc: Global,
     told: &Told,
     bytes: &[u8],
     stream: &mut RdsStream,
     room: &mut [RdsItem],
+    taken: &mut u64,
     count: &mut u64,
 ) -> Result<(), Refusal>
-    requires { AreGaps (2 ^ 36) told.now.gaps }
+    requires gaps { AreGaps (2 ^ 36) told.now.gaps }
+    requires range { IsInRange told.now.rules }
     ensures laid { OnOk result (stream.new ≡ the_stream_in_c (the_stream_of told.now stream.new)) }
-    ensures after { OnOk result (the_stream_of told.now stream.new ≡ live_next (the_stream_of told.now stream.old) bytes.now) }
-    ensures filled { OnOk result (IsFilled (map item_in_c (completed (the_stream_of told.now stream.old) bytes.now)) room.old room.new) }
-    ensures count { OnOk result (count.new ≡ length (completed (the_stream_of told.now stream.old) bytes.now)) }
+    ensures within { OnOk result (taken.new ≤ length bytes.now) }
+    ensures after { OnOk result (the_stream_of told.now stream.new ≡ live_next (the_stream_of told.now stream.old) (take taken.new bytes.now)) }
+    ensures filled { OnOk result (IsFilled (map item_in_c (completed (the_stream_of told.now stream.old) (take taken.new bytes.now))) room.old room.new) }
+    ensures count { OnOk result (count.new ≡ length (completed (the_stream_of told.now stream.old) (take taken.new bytes.now))) }
+    ensures most { OnOk result (IsMostTaken (the_stream_of told.now stream.old) bytes.now (length room.old) taken.new) }
     ensures next { OnOk result (IsLeft told.now stream.new) }
     ensures lawful { OnOk result (IsLeft told.now stream.old) }
     ensures fits { OnOk result (place_after stream.old bytes.now ≤ 2 ^ 36) }
-    ensures untouched { OnErr result ((room.new ≡ room.old) × (stream.new ≡ stream.old)) }
+    ensures untouched { OnErr result ((room.new ≡ room.old) × (stream.new ≡ stream.old) × (taken.new ≡ taken.old)) }
     ensures refused { IfErr result (λ refusal.
         (IsLeft told.now stream.old × (place_after stream.old bytes.now ≤ 2 ^ 36)
-        × IsTooMuch (map item_in_c (completed (the_stream_of told.now stream.old) bytes.now)) (length room.old) refusal count.new)
+        × IsTooMuch (map item_in_c (completed (the_stream_of told.now stream.old) (take 1 bytes.now))) (length room.old) refusal count.new)
         ⊎ ((RefusesStream told.now stream.old refusal
         ⊎ (IsLeft told.now stream.old × (2 ^ 36 < place_after stream.old bytes.now) × (refusal ≡ TooLong)))
         × (count.new ≡ count.old))) }
 {
     let mut live = live_of(alloc, told, stream)?;
-    take_all(alloc, &mut live, bytes, room, count)?;
-    *stream = stream_in_c(&live);
-    Ok(())
+    if bytes.len() as u64 > (MOST_BITS - stream.place) / 8 {
+        return Err(Refusal::TooLong);
+    }
+    let mut some = Vec::with_capacity(alloc, ITEMS_A_BYTE * bytes.len().clamp(1, AT_ONCE))?;
+    match take_fitting(&mut live, bytes, stream, room, &mut some) {
+        Ok(fit) => {
+            *taken = fit.taken as u64;
+            *count = fit.count as u64;
+            Ok(())
+        }
+        Err(needed) => {
+            *count = needed as u64;
+            Err(Refusal::SmallRoom)
+        }
+    }
 }
 
-/// Has the decoder take the next bytes, and writes the items that they complete.
-fn take_all(
-    alloc: Global,
+/// How many bytes were taken, and how many items they completed.
+#[derive(Clone, Copy)]
+struct Fit {
+    taken: usize,
+    count: usize,
+}
+
+/// Has the decoder take as many of the next bytes as there is room for what they complete, writes the items, and what is known
+/// then to the stream. Refuses if the items of the first byte do not fit, and tells how many they are.
+fn take_fitting(
     live: &mut Live<'_>,
     bytes: &[u8],
+    stream: &mut RdsStream,
     room: &mut [RdsItem],
-    count: &mut u64,
-) -> Result<(), Refusal>
-    ensures after { OnOk result (live.new ≡ live_next live.old bytes.now) }
-    ensures terms { live.new.terms ≡ live.old.terms }
-    ensures filled { OnOk result (IsFilled (map item_in_c (completed live.old bytes.now)) room.old room.new) }
-    ensures count { OnOk result (count.new ≡ length (completed live.old bytes.now)) }
-    ensures fits { OnOk result (live.old.place + 8 * length bytes.now ≤ 2 ^ 36) }
-    ensures untouched { OnErr result (room.new ≡ room.old) }
-    ensures refused { IfErr result (λ refusal.
-        ((live.old.place + 8 * length bytes.now ≤ 2 ^ 36)
-        × IsTooMuch (map item_in_c (completed live.old bytes.now)) (length room.old) refusal count.new)
-        ⊎ ((((refusal ≡ TooLong) × (2 ^ 36 < live.old.place + 8 * length bytes.now)) ⊎ (refusal ≡ OutOfMemory))
-        × (count.new ≡ count.old))) }
+    some: &mut Vec<Item>,
+) -> Result<Fit, usize>
+    requires capacity { 16 ≤ vec_capacity some.old }
+    requires fits { live.old.place + 8 * length bytes.now ≤ 2 ^ 36 }
+    requires range { IsInRange live.old.terms.rules }
+    requires lawful { IsLive live.old }
+    ensures within { IfOk result (λ fit. fit.taken ≤ length bytes.now) }
+    ensures after { IfOk result (λ fit. the_stream_of live.old.terms stream.new ≡ live_next live.old (take fit.taken bytes.now)) }
+    ensures laid { OnOk result (stream.new ≡ the_stream_in_c (the_stream_of live.old.terms stream.new)) }
+    ensures live { OnOk result (IsLive (the_stream_of live.old.terms stream.new)) }
+    ensures filled { IfOk result (λ fit. IsFilled (map item_in_c (completed live.old (take fit.taken bytes.now))) room.old room.new) }
+    ensures count { IfOk result (λ fit. fit.count ≡ length (completed live.old (take fit.taken bytes.now))) }
+    ensures most { IfOk result (λ fit. IsMostTaken live.old bytes.now (length room.old) fit.taken) }
+    ensures small { IfErr result (λ needed. length room.old < length (completed live.old (take 1 bytes.now))) }
+    ensures needed { IfErr result (λ needed. needed ≡ length (completed live.old (take 1 bytes.now))) }
+    ensures untouched { OnErr result ((room.new ≡ room.old) × (stream.new ≡ stream.old)) }
 {
-    match live.take_all(alloc, bytes) {
-        Ok(items) => write_items(room, &items, count),
-        Err(StreamError::TooLong) => Err(Refusal::TooLong),
-        Err(_) => Err(Refusal::OutOfMemory),
+    pieces_join();
+    let mut fit = take_piece(live, bytes, stream, room, some)?;
+    while fit.taken < bytes.len() {
+        match take_piece(live, &bytes[fit.taken..], stream, &mut room[fit.count..], some) {
+            Ok(more) => {
+                fit = Fit {
+                    taken: fit.taken + more.taken,
+                    count: fit.count + more.count,
+                };
+            }
+            Err(_) => return Ok(fit),
+        }
+    }
+    Ok(fit)
+}
+
+/// Has the decoder take some of the next bytes, as many as surely have room, or one: writes the items that they complete, and
+/// what is known then to the stream. Refuses if the items of one byte do not fit, and tells how many they are.
+fn take_piece(
+    live: &mut Live<'_>,
+    bytes: &[u8],
+    stream: &mut RdsStream,
+    room: &mut [RdsItem],
+    some: &mut Vec<Item>,
+) -> Result<Fit, usize>
+    requires capacity { 16 ≤ vec_capacity some.old }
+    requires fits { live.old.place + 8 * length bytes.now ≤ 2 ^ 36 }
+    ensures capacity { vec_capacity some.new ≡ vec_capacity some.old }
+    ensures terms { OnOk result (live.new.terms ≡ live.old.terms) }
+    ensures within { IfOk result (λ fit. fit.taken ≤ length bytes.now) }
+    ensures on { IfOk result (λ fit. 0 < length bytes.now → 0 < fit.taken) }
+    ensures after { IfOk result (λ fit. live.new ≡ live_next live.old (take fit.taken bytes.now)) }
+    ensures laid { OnOk result (stream.new ≡ the_stream_in_c live.new) }
+    ensures says { OnOk result (the_stream_of live.new.terms stream.new ≡ live.new) }
+    ensures live { OnOk result (IsLive live.new) }
+    ensures filled { IfOk result (λ fit. IsFilled (map item_in_c (completed live.old (take fit.taken bytes.now))) room.old room.new) }
+    ensures count { IfOk result (λ fit. fit.count ≡ length (completed live.old (take fit.taken bytes.now))) }
+    ensures room { IfOk result (λ fit. fit.count ≤ length room.old) }
+    ensures some { IfErr result (λ needed. 0 < length bytes.now) }
+    ensures small { IfErr result (λ needed. length room.old < length (completed live.old (take 1 bytes.now))) }
+    ensures needed { IfErr result (λ needed. needed ≡ length (completed live.old (take 1 bytes.now))) }
+    ensures untouched { OnErr result ((room.new ≡ room.old) × (stream.new ≡ stream.old)) }
+{
+    laws::runs_give_few_items();
+    let most = (room.len() / ITEMS_A_BYTE).max(1);
+    let piece = &bytes[..bytes.len().min(most)];
+    match live.take(piece, some) {
+        Ok(taken) => {
+            let items = some.as_slice();
+            let count = items.len();
+            if room.len() < count {
+                return Err(count);
+            }
+            fill_room(room, items);
+            *stream = stream_in_c(live);
+            Ok(Fit { taken, count })
+        }
+        Err(_) => unreachable!(),
     }
 }
 
