@@ -7,7 +7,6 @@ use Rattle.rds_sync.specs.Laws.{RunsGiveFewItems}
 use Rattle.rds_sync.specs.Ranges.{IsInRange}
 use Rattle.rds_sync.specs.Step.{run}
 use Rattle.rds_sync.specs.declared.item.Item.{Item}
-use Rattle.rds_sync.specs.declared.state.State.{State}
 use Rattle.rds_live.specs.Live.{IsLive, LiveOf, Terms}
 use Rattle.rds_live.specs.Moving.{moved_item}
 use Rattle.rds_live.specs.Next.{PiecesJoin, before_tail, completed, live_next, moved_back, part_with, run_next}

@@ -33,6 +33,7 @@ const MOST_BYTES: u64 = MOST_BITS / 8;
 
 /// How many bytes a decoder takes at once at most, and how many items a byte may complete.
 const AT_ONCE: usize = 960;
+
 const ITEMS_A_BYTE: usize = 16;
 
 /// Totals, from C.
@@ -328,7 +329,13 @@ fn take_fitting(
     pieces_join();
     let mut fit = take_piece(live, bytes, stream, room, some)?;
     while fit.taken < bytes.len() {
-        match take_piece(live, &bytes[fit.taken..], stream, &mut room[fit.count..], some) {
+        match take_piece(
+            live,
+            &bytes[fit.taken..],
+            stream,
+            &mut room[fit.count..],
+            some,
+        ) {
             Ok(more) => {
                 fit = Fit {
                     taken: fit.taken + more.taken,

@@ -1,4 +1,4 @@
-use Rattle.std.proofs.Common.{◌≡◌, ◌∙◌, ◌<◌, List, ap, arith, length, map, subst, sym, take}
+use Rattle.std.proofs.Common.{◌∙◌, List, ap, arith, length, map, subst, take}
 use Rattle.std.proofs.lemmas.List.{length-take}
 use Rattle.std.proofs.lemmas.Result.{err_from_is_err_and}
 use Rattle.rds_live.specs.Next.{completed}
@@ -6,8 +6,7 @@ use Rattle.rds_sync.specs.declared.item.Item.{Item}
 use Rattle.rds_abi.specs.Asked.{IsFilled}
 use Rattle.rds_abi.specs.Following.{stream_of, terms_of}
 use Rattle.rds_abi.specs.Layout.{item_in_c}
-use Rattle.rds_abi.specs.declared.refusal.Refusal.TheVariants.{SmallRoom}
-use Rattle.rds_abi.proofs.Fitting.{few-completed, roomy, told-roomy}
+use Rattle.rds_abi.proofs.Fitting.{few-completed, roomy}
 use Rattle.rds_abi.proofs.NearStreams.{are-completed, heard-next, left-near, pushed-after, pushed-completed, pushed-most, pushed-refused}
 use Rattle.rds_abi.proofs.Streams.{refused_push}
 use Rattle.rds_abi.proofs.following.push.Goals as goal

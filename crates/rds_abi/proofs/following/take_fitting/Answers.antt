@@ -1,4 +1,4 @@
-use Rattle.std.proofs.Common.{◌≡◌, ◌-◌, ◌+◌, ◌<◌, ◌≤◌, ◌++◌, ◌∙◌, ℕ, List, ap, arith, drop, length, subst, take}
+use Rattle.std.proofs.Common.{◌≡◌, ◌-◌, ◌+◌, ◌<◌, ◌≤◌, ◌∙◌, ℕ, List, ap, arith, drop, length, subst, take}
 use Rattle.std.proofs.lemmas.List.{length-drop, length-take, take_all}
 use Rattle.rds_live.specs.Live.{LiveOf, Terms}
 use Rattle.rds_live.specs.Next.{completed, live_next}
