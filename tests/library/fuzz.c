@@ -220,9 +220,30 @@ static void try_a_state(struct input *in, const struct asked *it, const struct r
 
 /* ---- streams */
 
-static uint8_t push(const uint8_t *bytes, size_t len, const struct asked *it, rds_stream_t *stream, size_t room_len, uint64_t *count)
+static uint8_t push(const uint8_t *bytes, size_t len, const struct asked *it, rds_stream_t *stream, size_t room_len, uint64_t *taken,
+                    uint64_t *count)
 {
-    return rds_push(bytes, len, it->gaps, it->gaps_len, &it->rules, stream, room, room_len, count);
+    return rds_push(bytes, len, it->gaps, it->gaps_len, &it->rules, stream, room, room_len, taken, count);
+}
+
+/* A chunk in room for few items: the same items and stream, in more calls. A call that is refused for want of room tells how many
+ * items the first byte has, and changes nothing. */
+static void push_in_little_room(const uint8_t *bytes, size_t len, const struct asked *it, rds_stream_t stream, size_t few,
+                                const rds_stream_t *wanted, const rds_item_t *items, uint64_t count)
+{
+    uint64_t taken = 77, some = 0, done = 0;
+    for (size_t at = 0; at < len; at += taken, done += some) {
+        rds_stream_t before = stream;
+        uint8_t answer = push(bytes + at, len - at, it, &stream, few, &taken, &some);
+        if (answer) {
+            HOLDS(answer == RDS_SMALL_ROOM && few < some && some <= 16 && !memcmp(&before, &stream, sizeof stream));
+            answer = push(bytes + at, 1, it, &stream, (size_t)some, &taken, &some);
+            HOLDS(!answer && taken == 1);
+        }
+        HOLDS(taken && taken <= len - at && some <= 16 * taken && done + some <= count);
+        HOLDS(!memcmp(room, items + done, some * sizeof *room));
+    }
+    HOLDS(done == count && (!len || !memcmp(&stream, wanted, sizeof stream)));
 }
 
 static void keep(struct report *all, uint64_t count)
@@ -242,25 +263,22 @@ static void try_a_stream(struct input *in, const struct asked *it, const struct 
     rds_stream_t stream = {0}, whole = {0};
     struct report all = {0};
     rds_totals_t totals;
-    uint64_t count = 0;
+    uint64_t count = 0, taken = 0;
     size_t done = 0, last = it->len ? next_number(in, 2) % it->len : 0;
     while (done < last) {
         size_t len = next_number(in, 2) % 100;
         len = len < last - done ? len : last - done;
         rds_stream_t before = stream;
-        HOLDS(!push(it->bytes + done, len, it, &stream, MOST_ITEMS, &count));
+        HOLDS(!push(it->bytes + done, len, it, &stream, MOST_ITEMS, &taken, &count));
+        HOLDS(taken == len);
+        size_t first = all.count;
         keep(&all, count);
-        if (count) {
-            uint64_t told = 0;
-            rds_stream_t again = before;
-            HOLDS(push(it->bytes + done, len, it, &again, count - 1, &told) == RDS_SMALL_ROOM);
-            HOLDS(told == count && !memcmp(&again, &before, sizeof again));
-        }
+        push_in_little_room(it->bytes + done, len, it, before, next(in) % 20, &stream, all.items + first, count);
         done += len;
         if (!len)
             break;
     }
-    HOLDS(!push(it->bytes, done, it, &whole, MOST_ITEMS, &count));
+    HOLDS(!push(it->bytes, done, it, &whole, MOST_ITEMS, &taken, &count) && taken == done);
     HOLDS(!done || !memcmp(&stream, &whole, sizeof stream));
     uint64_t bits = it->bits - 8 * done;
     HOLDS(!rds_finish_with(it->bytes + done, it->len - done, bits, it->gaps, it->gaps_len, &it->rules, &stream, room, MOST_ITEMS, &count, &totals));
@@ -273,7 +291,7 @@ static void try_a_stream(struct input *in, const struct asked *it, const struct 
     size_t which = next(in) % sizeof changed;
     at[which] ^= (uint8_t)(1 << next(in) % 8);
     rds_stream_t before = changed;
-    uint8_t answer = push(it->bytes, it->len, it, &changed, MOST_ITEMS, &count);
+    uint8_t answer = push(it->bytes, it->len, it, &changed, MOST_ITEMS, &taken, &count);
     HOLDS(answer == 0 || answer == RDS_UNLAWFUL_STATE || (answer == RDS_TOO_LONG && before.place + 8 * it->len > (uint64_t)1 << 36));
     HOLDS(!answer || !memcmp(&before, &changed, sizeof before));
     HOLDS(answer || changed.place == before.place + 8 * it->len);
