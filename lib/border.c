@@ -95,10 +95,10 @@ uint8_t rds_finish_run(const uint8_t *bytes, size_t bytes_len, uint64_t bits, co
 
 PROVED(rds_push);
 uint8_t rds_push(const uint8_t *bytes, size_t bytes_len, const rds_gap_t *gaps, size_t gaps_len, const rds_rules_t *rules,
-                 rds_stream_t *stream, rds_item_t *room, size_t room_len, uint64_t *count)
+                 rds_stream_t *stream, rds_item_t *room, size_t room_len, uint64_t *taken, uint64_t *count)
 {
-    LOOK_AT(MANY(bytes), MANY(gaps), ONE(rules), ONE_WRITTEN(stream), MANY_WRITTEN(room), ONE_WRITTEN(count));
-    return proved_rds_push(ROW(bytes), ROW(gaps), rules, stream, ROW(room), count);
+    LOOK_AT(MANY(bytes), MANY(gaps), ONE(rules), ONE_WRITTEN(stream), MANY_WRITTEN(room), ONE_WRITTEN(taken), ONE_WRITTEN(count));
+    return proved_rds_push(ROW(bytes), ROW(gaps), rules, stream, ROW(room), taken, count);
 }
 
 PROVED(rds_finish);

@@ -6,11 +6,13 @@
  *
  *     static const rds_rules_t rules = RDS_RULES;
  *     rds_stream_t stream = {0};                     // nothing was heard yet
- *     rds_item_t items[16 * CHUNK];                  // room for what a chunk may complete
- *     uint64_t count;
+ *     rds_item_t items[ROOM];                        // 16 are enough
+ *     uint64_t taken, count;
  *     while ((len = fread(bytes, 1, CHUNK, stdin)) > 0) {
- *         if (rds_push(bytes, len, NULL, 0, &rules, &stream, items, 16 * CHUNK, &count)) return 1;
- *         for (uint64_t k = 0; k < count; k++) {}    // items[k] is complete: no later bit changes it
+ *         for (size_t at = 0; at < len; at += taken) {
+ *             if (rds_push(bytes + at, len - at, NULL, 0, &rules, &stream, items, ROOM, &taken, &count)) return 1;
+ *             for (uint64_t k = 0; k < count; k++) {} // items[k] is complete: no later bit changes it
+ *         }
  *     }
  *     if (rds_finish(NULL, 0, &rules, &stream, items, 1, &count, &totals)) return 1;
  *
@@ -190,17 +192,20 @@ uint8_t rds_finish_run(const uint8_t *bytes, size_t bytes_len, uint64_t bits, co
                                    const rds_rules_t *rules, const rds_state_t *state, rds_item_t *room, size_t room_len,
                                    uint64_t *count);
 
-/* Takes the next bytes of a stream, any number of them, the highest bit of a byte first: writes the items that they complete to
- * the beginning of room, how many they are to count, and what is known of the stream then to stream. The gaps are told by their
- * places in the stream, and may lie ahead. However a stream was cut, from one of zeros on the items are those of rds_items of all
- * bytes so far, but for the group in progress, which rds_finish gives; no later byte changes them. Room for 16 items a byte is
- * never too little. Where there is too little room (64), count tells how many items there are, and nothing else is written: the
- * same bytes can be offered again. Numbers that no call can have left are refused (65), such as a byte after the tail that is not
- * zero, or a search that waits for a block; others are gone on with, whoever wrote them. It asks for memory for the tables of the
- * rules, the gaps, and the items: those that these bytes complete, and as many as 960 bytes may. The bytes themselves take none. Refusals: 1, 2, 3, 15, then 16, 65, 5 (past 2^36 bits in all), 64, and 8. */
+/* Takes as many of the next bytes of a stream as there is room for what they complete, the highest bit of a byte first: writes the
+ * items to the beginning of room, how many they are to count, how many bytes it took to taken, and what is known of the stream then
+ * to stream. The other bytes are to be offered again. It takes all bytes, or the items of one byte more do not fit. A byte completes
+ * at most 16 items: room for 16 is never too little, and count is at most 16 times taken. If the items of the first byte do not
+ * fit (64), count tells how many they are, and nothing else is written. The bytes may be any number, none too.
+ * The gaps are told by their places in the stream, and may lie ahead. However a stream was cut, from one of zeros on the items are
+ * those of rds_items of all bytes so far, but for the group in progress, which rds_finish gives; no later byte changes them. Numbers
+ * that no call can have left are refused (65), such as a byte after the tail that is not zero, or a search that waits for a block;
+ * others are gone on with, whoever wrote them. It asks for memory for the tables of the rules, the gaps near the bytes, and the
+ * items that 960 bytes may complete. Refusals: 1, 2, 3, 15, then 16, 65, 5 (past 2^36 bits with all bytes that are offered), 64,
+ * and 8. */
 RDS_MUST_USE
 uint8_t rds_push(const uint8_t *bytes, size_t bytes_len, const rds_gap_t *gaps, size_t gaps_len, const rds_rules_t *rules,
-                             rds_stream_t *stream, rds_item_t *room, size_t room_len, uint64_t *count);
+                             rds_stream_t *stream, rds_item_t *room, size_t room_len, uint64_t *taken, uint64_t *count);
 
 /* Ends a stream: writes the group in progress, as far as it was read, to the beginning of room, to count whether there is one, 1
  * or 0, and to totals those of all that was heard, with that group. The stream is only read, and can be gone on with. Refusals:

@@ -138,6 +138,18 @@ if has python3; then
   readme_program python >"$work/readme.py"
   same 'the program in Python' "$wanted" "$(PYTHONPATH=bindings/python said python3 -B "$work/readme.py")"
 fi
+# The wheel has the library in it, and needs nothing else.
+if has python3 objdump; then
+  if python3 -c 'import ensurepip, venv' 2>/dev/null; then
+    mkdir "$work/wheel"
+    tried 'a wheel' bindings/python/make_wheel.py "$library/librds.so.0" "$work/wheel"
+    tried 'a fresh environment' python3 -m venv "$work/venv"
+    tried 'installing the wheel' "$work/venv/bin/pip" install --quiet --no-index --no-deps "$work/wheel"/*.whl
+    same 'the program in Python, over the wheel' "$wanted" "$(said env -u RDS_LIBRARY "$work/venv/bin/python" -I -B "$work/readme.py")"
+  else
+    echo 'skipped: the wheel, which needs python3-venv'
+  fi
+fi
 if has cargo; then
   mkdir -p "$work/readme_rs/src"
   readme_program rust >"$work/readme_rs/src/main.rs"
@@ -147,6 +159,10 @@ if has cargo; then
 fi
 
 # ---- what may go wrong
+
+# Random calls are answered as a second decoder answers, which was written from docs/MODEL.md alone.
+tried 'making fuzz' "${CC:-cc}" -std=c11 "${strict[@]}" -o "$work/fuzz" tests/library/fuzz.c tests/library/model.c "$library/librds.a"
+tried 'random calls' "$work/fuzz" "${RDS_FUZZ_SECONDS:-20}" "${RDS_FUZZ_SEED:-1}" tests/library/corpus/*
 
 tried 'allocations refused' "$work/refused" "$sample"
 tried 'eight threads' "$work/threads" "$sample"

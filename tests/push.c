@@ -18,13 +18,13 @@ int main(int argc, char **argv)
     rds_gap_t *gaps = malloc((gaps_len + 1) * sizeof *gaps);
     rds_stream_t stream = {0};
     rds_totals_t totals;
-    uint64_t count, all = 0;
+    uint64_t taken, count, all = 0;
     if (!chunk || !bytes || !items || !gaps)
         return 2;
     for (size_t k = 0; k < gaps_len; k++)
         gaps[k] = (rds_gap_t){9 * k + 5, 9 * k + 6};
     while ((len = fread(bytes, 1, chunk, stdin)) > 0) {
-        if (rds_push(bytes, len, gaps, gaps_len, &rules, &stream, items, 16 * chunk, &count))
+        if (rds_push(bytes, len, gaps, gaps_len, &rules, &stream, items, 16 * chunk, &taken, &count) || taken != len)
             return 1;
         all += count;
     }

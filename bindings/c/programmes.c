@@ -34,12 +34,14 @@ int main(void)
 {
     uint8_t bytes[CHUNK], number;
     size_t len;
-    uint64_t count;
+    uint64_t taken, count;
     rds_totals_t totals;
     while ((len = fread(bytes, 1, CHUNK, stdin)) > 0) {
-        if ((number = rds_push(bytes, len, NULL, 0, &rules, &stream, items, ROOM, &count)))
-            return refused(number);
-        print_changes(count);
+        for (size_t at = 0; at < len; at += taken) {
+            if ((number = rds_push(bytes + at, len - at, NULL, 0, &rules, &stream, items, ROOM, &taken, &count)))
+                return refused(number);
+            print_changes(count);
+        }
     }
     if ((number = rds_finish(NULL, 0, &rules, &stream, items, ROOM, &count, &totals)))
         return refused(number);

@@ -56,8 +56,8 @@ class Decoder:
 
     def push(self, data: bytes) -> Items:
         """The items that the next bytes complete."""
-        lent = (_lent(data), len(data), *self._terms, self._stream)
-        return self._filled(len(data), lambda room: int(self._library.rds_push(*lent, *room)))
+        lent = (_lent(data), len(data), *self._terms)
+        return self._filled(len(data), lambda room: self._pushed(lent, room))
 
     def finish(self, data: bytes, bits: int) -> Tuple[Items, Totals]:
         """The items that the first `bits` bits of these bytes complete, the group in progress, and the totals."""
@@ -66,6 +66,18 @@ class Decoder:
         items = self._filled(len(data), lambda room: int(self._library.rds_finish_with(*lent, *room, found)))
         rest = (found.lost, found.bits, found.groups, found.complete, found.acquired, found.losses)
         return items, Totals(found.valid, tuple(found.bursts), *rest)
+
+    def _pushed(self, lent: Tuple[Any, ...], room: List[Any]) -> int:
+        """The answer of a push that takes all bytes. If their items do not fit, there has to be room for twice as many."""
+        items, size, count = room
+        taken, stream = ctypes.c_uint64(), type(self._stream).from_buffer_copy(self._stream)
+        number = int(self._library.rds_push(*lent, stream, items, size, taken, count))
+        if number == 0 and taken.value < lent[1] or number == SMALL_ROOM:
+            count.value = 2 * size
+            return SMALL_ROOM
+        if number == 0:
+            self._stream = stream
+        return number
 
     def _make_room(self, count: int) -> None:
         self._room = bytearray(SIZE * count)
@@ -78,7 +90,7 @@ class Decoder:
         if self._lent[1] < least:
             self._make_room(least)
         number = call(self._lent)
-        if number == SMALL_ROOM:
+        while number == SMALL_ROOM:
             self._make_room(self._count.value)
             number = call(self._lent)
         if number:

@@ -140,10 +140,10 @@ def facts(structs, reasons):
     yield r"The (\d+) bits of a group as it is sent, the first bit highest: (\d+) bytes", [group_bits, sizes["RdsPacked"]]
     yield r"the same (\d+) bytes are left", [sizes["RdsStream"]]
     yield r"the last (\d+) bytes that were heard", [kept]
-    yield r"items\[(\d+) \* CHUNK\]", [per_byte]
-    yield r"items, (\d+) \* CHUNK, &count", [per_byte]
-    yield r"Room for (\d+) items a byte", [per_byte]
-    yield r"as many as (\d+) bytes may", [at_once]
+    yield r"items\[ROOM\]; +// (\d+) are enough", [per_byte]
+    yield r"completes at most (\d+) items: room for (\d+) is never too little, and count is at most (\d+) times taken", [per_byte] * 3
+    yield r"do not fit \((\d+)\)", [64]
+    yield r"items that (\d+) bytes may complete", [at_once]
     yield r"(\d+)\^(\d+) bits", [2, most_bits]
     yield r'such as "(\d+)\.(\d+)\.(\d+)"', three_of(re.search(r"^Version: (.*)$", text_of(f"{TOP}/lib/rds.pc.in"), re.M)[1])
     yield r"at most (\d+) bytes of stack", [number_in("tests/library/stack.c", r"MOST = (\d+),")]
@@ -187,7 +187,7 @@ def refusal_lists():
 
 
 # Numbers that say what they are by themselves, such as a place from 0, or an array of 16 * CHUNK.
-PLAIN = [r"from 0\b", r"stream = \{0\}", r"fread\(bytes, 1, CHUNK, stdin\)\) > 0\)", r"return 1;", r"NULL, 0, &rules", r"k = 0;", r"items, 1, &count", r"returns 0, or", r"all 0 where",
+PLAIN = [r"from 0\b", r"stream = \{0\}", r"fread\(bytes, 1, CHUNK, stdin\)\) > 0\)", r"return 1;", r"NULL, 0, &rules", r"k = 0;", r"at = 0;", r"items, 1, &count", r"returns 0, or", r"all 0 where",
          r", or 0\b", r"\b0 none", r"always 0\b", r"at place 0\b", r"with a 0 behind it", r"the 0 behind it", r"^ \* 0 where", r"\b0 where these"]
 
 

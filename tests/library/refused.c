@@ -63,12 +63,15 @@ static union {
     rds_totals_t totals;
     rds_block_t block;
     uint64_t count;
+    struct {
+        uint64_t taken, count;
+    } pushed;
     uint8_t bytes[sizeof(rds_totals_t)];
 } found;
 
 static uint8_t totals(void) { return rds_totals(bytes, len, 8 * len, gaps, 2, &rules, &found.totals); }
 static uint8_t items(void) { return rds_items(bytes, len, 8 * len, gaps, 2, &rules, room, sizeof room / sizeof *room, &found.count); }
-static uint8_t push(void) { return rds_push(bytes, len, gaps, 2, &rules, &stream, room, sizeof room / sizeof *room, &found.count); }
+static uint8_t push(void) { return rds_push(bytes, len, gaps, 2, &rules, &stream, room, sizeof room / sizeof *room, &found.pushed.taken, &found.pushed.count); }
 static uint8_t correct(void) { return rds_correct(0x1234567, RDS_C_OR_CX, 5, &found.block); }
 
 static uint64_t number;

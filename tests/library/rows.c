@@ -93,24 +93,25 @@ static int is_same_in_ranges(const uint8_t *bytes, size_t len, uint64_t bits, co
     return count == 0 || memcmp(room, items + done, sizeof *room) == 0;
 }
 
-/* Whether one more chunk gives the next items. Room for one item less is refused first, and nothing is written there. */
+/* Whether one more chunk gives the next items, and what is known then; and in room for a few items, bit by bit, the same. */
 static int is_next(const uint8_t *bytes, size_t len, const rds_gap_t *gaps, size_t gaps_len, const rds_rules_t *rules,
                    rds_stream_t *stream, const rds_item_t *items, uint64_t left, uint64_t *count)
 {
-    static rds_item_t room[4096];
-    rds_stream_t before = *stream, again = *stream;
-    if (rds_push(bytes, len, gaps, gaps_len, rules, stream, room, 4096, count) || *count > left ||
+    static rds_item_t room[4096], none;
+    rds_stream_t again = *stream;
+    uint64_t taken = 0, some, done = 0;
+    if (rds_push(bytes, len, gaps, gaps_len, rules, stream, room, 4096, &taken, count) || taken != len || *count > left ||
         memcmp(room, items, *count * sizeof *room))
         return 0;
-    if (*count == 0)
-        return 1;
-    uint64_t told = 0;
-    rds_item_t first = room[0];
-    memset(room, 0x5A, sizeof *room);
-    if (rds_push(bytes, len, gaps, gaps_len, rules, &again, room, *count - 1, &told) != RDS_SMALL_ROOM || told != *count ||
-        memcmp(&before, &again, sizeof again) || !memcmp(room, &first, sizeof first))
-        return 0;
-    return 1;
+    memset(&none, 0x5A, sizeof none);
+    for (size_t at = 0; at < len; at += taken, done += some) {
+        const size_t few = 16 + at % 3;
+        room[few] = none;
+        if (rds_push(bytes + at, len - at, gaps, gaps_len, rules, &again, room, few, &taken, &some) || !taken || some > few ||
+            done + some > *count || memcmp(room, items + done, some * sizeof *room) || memcmp(&room[few], &none, sizeof none))
+            return 0;
+    }
+    return done == *count && !memcmp(stream, &again, sizeof again);
 }
 
 /* Whether a stream of the first bits, from one of zeros, gives the same items and totals as they do whole: ended with its last bytes,
@@ -122,7 +123,7 @@ static int is_same_in_chunks(const uint8_t *bytes, uint64_t bits, const rds_gap_
     rds_totals_t totals;
     rds_stream_t stream, at_once;
     size_t whole = (size_t)(bits / 8), all = (size_t)((bits + 7) / 8), stop = whole - (whole < 50 ? whole : bits % 50);
-    uint64_t done = 0, count, told, x = whole + 1;
+    uint64_t done = 0, taken, count, told, x = whole + 1;
     memset(&stream, 0, sizeof stream);
     memset(&at_once, 0, sizeof at_once);
     if (!room)
@@ -144,8 +145,8 @@ static int is_same_in_chunks(const uint8_t *bytes, uint64_t bits, const rds_gap_
         rds_finish_with(LAST, 8 * (all - stop) + 1, END(number, &told)) != RDS_BITS_PAST_BYTES ||
         rds_finish_with(LAST, ((uint64_t)1 << 36) + 1, END(number, &told)) != RDS_TOO_LONG)
         return 0;
-    if (rds_push(bytes + stop, whole - stop, gaps, gaps_len, rules, &stream, room, number, &count) ||
-        rds_push(bytes, whole, gaps, gaps_len, rules, &at_once, room, number, &told) || told != done + count ||
+    if (rds_push(bytes + stop, whole - stop, gaps, gaps_len, rules, &stream, room, number, &taken, &count) || taken != whole - stop ||
+        rds_push(bytes, whole, gaps, gaps_len, rules, &at_once, room, number, &taken, &told) || taken != whole || told != done + count ||
         memcmp(room, items, told * sizeof *room) || memcmp(&stream, &at_once, sizeof stream))
         return 0;
     memset(room, 0x5A, sizeof *room);

@@ -40,10 +40,10 @@ static uint8_t run(void)
 
 static uint8_t push(void)
 {
-    uint64_t count;
+    uint64_t taken, count;
     rds_stream_t stream = {0};
     rds_totals_t found;
-    return rds_push(bytes, len, &gap, 1, &rules, &stream, room, ROOM, &count) ||
+    return rds_push(bytes, len, &gap, 1, &rules, &stream, room, ROOM, &taken, &count) ||
            rds_finish(&gap, 1, &rules, &stream, room, ROOM, &count, &found) ||
            rds_finish_with(bytes, len, 8 * len - 3, &gap, 1, &rules, &stream, room, ROOM, &count, &found);
 }

@@ -49,18 +49,18 @@ static int is_another_tail_refused(void)
 {
     static const rds_rules_t rules = RDS_RULES;
     rds_stream_t stream = {0};
-    uint64_t number;
-    if (rds_push(bytes, 40, NULL, 0, &rules, &stream, room, sizeof room / sizeof *room, &number))
+    uint64_t taken, number;
+    if (rds_push(bytes, 40, NULL, 0, &rules, &stream, room, sizeof room / sizeof *room, &taken, &number))
         return 0;
     stream.tail[30] = 1;
-    return rds_push(bytes, 40, NULL, 0, &rules, &stream, room, sizeof room / sizeof *room, &number) == RDS_UNLAWFUL_STATE;
+    return rds_push(bytes, 40, NULL, 0, &rules, &stream, room, sizeof room / sizeof *room, &taken, &number) == RDS_UNLAWFUL_STATE;
 }
 
 int main(int count, char **words)
 {
     FILE *file = count >= 2 ? fopen(words[1], "rb") : NULL;
     const int share = count > 2 ? atoi(words[2]) : 1;
-    uint64_t refused = 0, lawful = 0, locks = 0, number;
+    uint64_t refused = 0, lawful = 0, locks = 0, taken, number;
     if (!file)
         return 2;
     size_t len = fread(bytes, 1, sizeof bytes, file);
@@ -74,7 +74,7 @@ int main(int count, char **words)
         size_t from = (r >> 24) % len, more = (r >> 48) % 200;
         more = more < len - from ? more : len - from;
         rds_totals_t totals;
-        uint8_t answer = rds_push(bytes + from, more, &gap, k % 4 == 0, &rules, &stream, room, sizeof room / sizeof *room, &number);
+        uint8_t answer = rds_push(bytes + from, more, &gap, k % 4 == 0, &rules, &stream, room, sizeof room / sizeof *room, &taken, &number);
         uint8_t ended = rds_finish(&gap, k % 4 == 0, &rules, &before, room, 1, &number, &totals);
         if (answer && memcmp(&before, &stream, sizeof stream))
             return 3;
@@ -86,7 +86,7 @@ int main(int count, char **words)
         lawful += answer == 0;
         locks += answer == 0 && before.state.number != 0;
         if (answer == 0 && (stream.place != before.place + 8 * more ||
-                            rds_push(bytes, 9, &gap, k % 4 == 0, &rules, &stream, room, sizeof room / sizeof *room, &number)))
+                            rds_push(bytes, 9, &gap, k % 4 == 0, &rules, &stream, room, sizeof room / sizeof *room, &taken, &number)))
             return 6;
     }
     printf("%llu refused, %llu lawful, %llu of them locks\n", (unsigned long long)refused, (unsigned long long)lawful,

@@ -30,9 +30,9 @@ static int decode(int it, rds_totals_t *totals, uint64_t *count)
     static const rds_gap_t none = {0, 0};
     rds_stream_t stream;
     rds_totals_t followed;
-    uint64_t first, last;
+    uint64_t taken, first, last;
     memset(&stream, 0, sizeof stream);
-    if (rds_push(bytes[it], len / 2, &none, 0, &rules, &stream, rooms[it], ROOM, &first) ||
+    if (rds_push(bytes[it], len / 2, &none, 0, &rules, &stream, rooms[it], ROOM, &taken, &first) || taken != len / 2 ||
         rds_finish_with(bytes[it] + len / 2, len - len / 2, 8 * (len - len / 2), &none, 0, &rules, &stream, rooms[it], ROOM, &last,
                         &followed))
         return 1;

@@ -213,6 +213,11 @@ class _Asked:
     def recording(self) -> tuple[Any, ...]:
         return (*self.bytes, self.bits, *self.terms)
 
+    def behind(self, count: int) -> Any:
+        """The bytes behind so many."""
+        start = ctypes.cast(self.bytes[0], ctypes.c_void_p).value or 0
+        return ctypes.cast(start + count, ctypes.POINTER(ctypes.c_uint8))
+
 
 def _pairs(gaps: Gaps) -> Iterator[Sequence[int]]:
     for gap in gaps:
@@ -370,12 +375,17 @@ class Follower:
 
     def push(self, data: Buffer) -> list[Item]:
         """The items that the next bytes complete. After an error the stream is unchanged."""
-        return [_item(it) for it in self._push(_object_room, data)]
+        return [_item(it) for part in self._push(_object_room, data) for it in part]
 
     def push_array(self, data: Buffer) -> NDArray[Any]:
         """The same as rows of the dtype `ITEM`, as `items_array` gives them."""
-        rows: NDArray[Any] = self._push(_array_room, data)
-        return rows
+        parts = self._push(_array_room, data)
+        if len(parts) == 1:
+            rows: NDArray[Any] = parts[0]
+            return rows
+        import numpy
+
+        return numpy.concatenate(parts)
 
     def finish(self) -> tuple[Optional[Group], Totals]:
         """The group in progress, as far as it was read, and the totals of everything heard, if the stream ended here.
@@ -398,15 +408,21 @@ class Follower:
         rows, found = self._finish(_array_room, data, bits)
         return rows, found
 
-    def _push(self, rooms: Callable[[int], tuple[Any, Any]], data: Buffer) -> Any:
+    def _push(self, rooms: Callable[[int], tuple[Any, Any]], data: Buffer) -> list[Any]:
+        """The items in parts: a call takes as many bytes as have room, and room for 16 items is never too little."""
         asked = _Asked(data, None, self._gaps, self._rules)
-        given = (*asked.bytes, *asked.terms, self._stream)
+        parts, done, taken, count = [], 0, ctypes.c_uint64(), ctypes.c_uint64()
         with self._lock:
-            return _fill(
-                rooms,
-                8 + asked.length // 4,
-                lambda room, size, count: int(_library.rds_push(*given, room, size, count)),
-            )
+            stream = RdsStream.from_buffer_copy(self._stream)
+            while not parts or done < asked.length:
+                rest = asked.length - done
+                room, lent = rooms(16 + rest // 4)
+                given = (asked.behind(done), rest, *asked.terms, stream, lent, len(room))
+                _check(int(_library.rds_push(*given, taken, count)))
+                parts.append(room[: count.value])
+                done += taken.value
+            self._stream = stream
+        return parts
 
     def _finish(self, rooms: Callable[[int], tuple[Any, Any]], data: Buffer, bits: Optional[int]) -> tuple[Any, Totals]:
         asked, found = _Asked(data, bits, self._gaps, self._rules), RdsTotals()

@@ -127,6 +127,7 @@ FUNCTIONS: dict[str, tuple[Any, list[Any]]] = {
             POINTER(RdsItem),
             c_size_t,
             POINTER(c_uint64),
+            POINTER(c_uint64),
         ],
     ),
     "rds_finish": (

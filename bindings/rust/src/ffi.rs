@@ -98,7 +98,7 @@ extern "C" {
     pub fn rds_items(bytes: *const u8, bytes_len: usize, bits: u64, gaps: *const RdsGap, gaps_len: usize, rules: *const RdsRules, room: *mut RdsItem, room_len: usize, count: *mut u64) -> u8;
     pub fn rds_run(bytes: *const u8, bytes_len: usize, bits: u64, gaps: *const RdsGap, gaps_len: usize, rules: *const RdsRules, from: u64, to: u64, state: *mut RdsState, room: *mut RdsItem, room_len: usize, count: *mut u64) -> u8;
     pub fn rds_finish_run(bytes: *const u8, bytes_len: usize, bits: u64, gaps: *const RdsGap, gaps_len: usize, rules: *const RdsRules, state: *const RdsState, room: *mut RdsItem, room_len: usize, count: *mut u64) -> u8;
-    pub fn rds_push(bytes: *const u8, bytes_len: usize, gaps: *const RdsGap, gaps_len: usize, rules: *const RdsRules, stream: *mut RdsStream, room: *mut RdsItem, room_len: usize, count: *mut u64) -> u8;
+    pub fn rds_push(bytes: *const u8, bytes_len: usize, gaps: *const RdsGap, gaps_len: usize, rules: *const RdsRules, stream: *mut RdsStream, room: *mut RdsItem, room_len: usize, taken: *mut u64, count: *mut u64) -> u8;
     pub fn rds_finish(gaps: *const RdsGap, gaps_len: usize, rules: *const RdsRules, stream: *const RdsStream, room: *mut RdsItem, room_len: usize, count: *mut u64, totals: *mut RdsTotals) -> u8;
     pub fn rds_finish_with(bytes: *const u8, bytes_len: usize, bits: u64, gaps: *const RdsGap, gaps_len: usize, rules: *const RdsRules, stream: *const RdsStream, room: *mut RdsItem, room_len: usize, count: *mut u64, totals: *mut RdsTotals) -> u8;
     pub fn rds_remainder(word: u32, found: *mut u16) -> u8;

@@ -388,27 +388,32 @@ impl Follower {
 
     /// Takes the next bytes, any number of them, and gives the items that they complete. Refused, it has heard nothing.
     pub fn push(&mut self, bytes: &[u8]) -> Result<impl ExactSizeIterator<Item = Item>, Refused> {
-        let mut count = 8 + bytes.len() as u64 / 4;
+        let (mut stream, mut rest, mut found) = (self.stream, bytes, Vec::new());
         loop {
-            let mut room = vec![RdsItem::default(); count as usize];
+            let (first, mut taken, mut count) = (found.len(), 0, 0);
+            // Room for 16 items is never too little, and a recording has seldom more than these.
+            found.resize(first + 16 + rest.len() / 4, RdsItem::default());
+            let room = &mut found[first..];
             // SAFETY: as in `totals`.
-            let number = unsafe {
+            check(unsafe {
                 ffi::rds_push(
-                    bytes.as_ptr(),
-                    bytes.len(),
+                    rest.as_ptr(),
+                    rest.len(),
                     self.gaps.as_ptr(),
                     self.gaps.len(),
                     &self.rules,
-                    &mut self.stream,
+                    &mut stream,
                     room.as_mut_ptr(),
                     room.len(),
+                    &mut taken,
                     &mut count,
                 )
-            };
-            if number != SMALL_ROOM {
-                check(number)?;
-                room.truncate(count as usize);
-                return Ok(room.into_iter().map(|item| item_of(&item)));
+            })?;
+            found.truncate(first + count as usize);
+            rest = &rest[taken as usize..];
+            if rest.is_empty() {
+                self.stream = stream;
+                return Ok(found.into_iter().map(|item| item_of(&item)));
             }
         }
     }

@@ -1,7 +1,10 @@
 -- Gaps as C has them, and as a recording does.
-use Rattle.std.proofs.Common.{◌≡◌, ℕ, ◌+◌, ◌<◌, ◌≤◌, List, [], ◌∷◌, ap, arith, get_or, length, refl}
+use Rattle.std.proofs.Common.{◌≡◌, ◌∙◌, ℕ, zero, suc, ◌+◌, ◌-◌, ◌<◌, ◌≤◌, List, [], ◌∷◌, true, false, Option, None, ap, arith, drop, get_or, leb, leb-true, length, ltb, min, refl, sym, take}
 use Rattle.std.specs.List.{All, AllAdjacentBelow, cons_option, filter_map}
-use Rattle.std.proofs.lemmas.List.{get_or-map, length-map}
+use Rattle.std.specs.List.Sorted.{IsNonDecreasingBy, IsPartitionPoint}
+use Rattle.std.proofs.lemmas.Bool.{le-ltb, ltb-false}
+use Rattle.std.proofs.lemmas.List.{get_or-drop, get_or-map, get_or-take, length-drop, length-map, length-take}
+use Rattle.std.proofs.lemmas.List.Sorted.{IsNonDecreasingBy-from_all_adjacent}
 use Rattle.rds_stream.specs.Recording.{AreGaps}
 use Rattle.rds_live.specs.Gaps.{gaps_within, part_of_gap}
 use Rattle.rds_abi.specs.Asked.{gap_of, gaps_of}
@@ -46,3 +49,87 @@ pub gaps-apart : (n : ℕ) (gaps : List RdsGap) → AreGaps n (gaps_of gaps) →
 gaps-apart n gaps are k e h =
     let here : k < length gaps = omega (arith, h) in
     omega (arith, are.apart k (gap_of e) (omega (arith, h, length-map gaps gap_of)), ends gaps k (gap_of e) e here, begins gaps (k + 1) (gap_of e) e h)
+
+-- ---- the gaps near a part
+
+at_gap : (f count : ℕ) (gaps : List RdsGap) (k : ℕ) (e : RdsGap) → k < length (take count (drop f gaps)) → get_or (take count (drop f gaps)) k e ≡ get_or gaps (f + k) e
+at_gap f count gaps k e h =
+    get_or-take count (drop f gaps) k e (omega (arith, h, length-take count (drop f gaps))) ∙ get_or-drop f gaps k e
+
+-- gaps in a row of gaps that a recording may have are some that it may have
+pub some-gaps : (n f count : ℕ) (gaps : List RdsGap) → AreGaps n (gaps_of gaps) → AreGaps n (gaps_of (take count (drop f gaps)))
+some-gaps n f count gaps are = are-gaps n some each apart
+  where
+    some : List RdsGap
+    some = take count (drop f gaps)
+
+    few : length some ≤ length gaps - f
+    few = omega (arith, length-take count (drop f gaps), length-drop f gaps)
+
+    each : All (Lies n) some
+    each k e h =
+        let lies = gaps-lie n gaps are (f + k) e (omega (arith, h, few)) in
+        let is = at_gap f count gaps k e h in
+        (omega (arith, lies.0, ap (λ (gap : RdsGap). gap.begin) is, ap (λ (gap : RdsGap). gap.end) is), omega (arith, lies.1, ap (λ (gap : RdsGap). gap.end) is))
+
+    apart : AllAdjacentBelow AreApart some (length some)
+    apart k e h =
+        let here : k < length some = omega (arith, h) in
+        let next : f + (k + 1) ≡ f + k + 1 = omega arith in
+        omega (
+          arith,
+          gaps-apart n gaps are (f + k) e (omega (arith, h, few)),
+          ap (λ (gap : RdsGap). gap.end) (at_gap f count gaps k e here),
+          ap (λ (gap : RdsGap). gap.begin) (at_gap f count gaps (k + 1) e h ∙ ap (λ (i : ℕ). get_or gaps i e) next),
+        )
+
+-- the ends of gaps rise, and so do their beginnings
+pub ends-rise : (n : ℕ) (gaps : List RdsGap) → AreGaps n (gaps_of gaps) → IsNonDecreasingBy (λ (gap : RdsGap). gap.end) gaps
+ends-rise n gaps are =
+    IsNonDecreasingBy-from_all_adjacent (λ (gap : RdsGap). gap.end) gaps
+    (λ k e h. omega (arith, gaps-apart n gaps are k e h, gaps-lie n gaps are (k + 1) e h))
+
+pub begins-rise : (n before : ℕ) (gaps : List RdsGap) → AreGaps n (gaps_of gaps) → IsNonDecreasingBy (λ (gap : RdsGap). gap.begin - before) gaps
+begins-rise n before gaps are =
+    IsNonDecreasingBy-from_all_adjacent (λ (gap : RdsGap). gap.begin - before) gaps
+    (λ k e h. omega (arith, gaps-apart n gaps are k e h, gaps-lie n gaps are k e (omega (arith, h))))
+
+module _ (f : RdsGap → Option (ℕ × ℕ)) where
+  -- the first ones give nothing
+  skipped : (gaps : List RdsGap) (i : ℕ) → ((k : ℕ) (e : RdsGap) → k < i → f (get_or gaps k e) ≡ None) → filter_map f (drop i gaps) ≡ filter_map f gaps
+  skipped gaps zero give = refl
+  skipped [] (suc i) give = refl
+  skipped (gap ∷ gaps) (suc i) give =
+      skipped gaps i (λ k e l. give (suc k) e (omega (arith, l))) ∙ sym (ap (λ (o : Option (ℕ × ℕ)). cons_option o (filter_map f gaps)) (give 0 gap (omega arith)))
+
+  -- and so do those from a number on
+  ended : (gaps : List RdsGap) (n : ℕ) → ((k : ℕ) (e : RdsGap) → n ≤ k → k < length gaps → f (get_or gaps k e) ≡ None) → filter_map f (take n gaps) ≡ filter_map f gaps
+  ended [] zero give = refl
+  ended [] (suc n) give = refl
+  ended (gap ∷ gaps) zero give =
+      ended gaps zero (λ k e low high. give (suc k) e (omega arith) (omega (arith, high))) ∙ sym (ap (λ (o : Option (ℕ × ℕ)). cons_option o (filter_map f gaps)) (give 0 gap (omega arith) (omega arith)))
+  ended (gap ∷ gaps) (suc n) give =
+      ap (λ (rest : List (ℕ × ℕ)). cons_option (f gap) rest) (ended gaps n (λ k e low high. give (suc k) e (omega (arith, low)) (omega (arith, high))))
+
+module _ (before len n : ℕ) (few : n ≤ len) where
+  none-before : (gap : RdsGap) → leb gap.end before ≡ true → part_of_gap before n (gap_of gap) ≡ None
+  none-before gap e =
+      let none : min (gap.end - before) n ≤ gap.begin - before = omega (arith, leb-true gap.end before e) in
+      rw (le-ltb (gap.begin - before) (min (gap.end - before) n) none) refl
+
+  none-behind : (gap : RdsGap) → ltb (gap.begin - before) len ≡ false → part_of_gap before n (gap_of gap) ≡ None
+  none-behind gap e =
+      let none : min (gap.end - before) n ≤ gap.begin - before = omega (arith, few, ltb-false (gap.begin - before) len e) in
+      rw (le-ltb (gap.begin - before) (min (gap.end - before) n) none) refl
+
+  -- without the gaps before and behind it the part has the same
+  pub near-same : (gaps rest : List RdsGap) (first count : ℕ) → rest ≡ drop first gaps
+      → IsPartitionPoint (λ (gap : RdsGap). leb gap.end before ≡ true) (λ (gap : RdsGap). leb gap.end before ≡ false) gaps first
+      → IsPartitionPoint (λ (gap : RdsGap). ltb (gap.begin - before) len ≡ true) (λ (gap : RdsGap). ltb (gap.begin - before) len ≡ false) rest count
+      → gaps_within (gaps_of (take count rest)) before n ≡ gaps_within (gaps_of gaps) before n
+  near-same gaps rest first count is at_first at_count =
+      sym (parts-of-gaps before n (take count rest))
+      ∙ ended (λ (gap : RdsGap). part_of_gap before n (gap_of gap)) rest count (λ k e low high. none-behind (get_or rest k e) (at_count.1 k e low high))
+      ∙ ap (λ (gs : List RdsGap). filter_map (λ (gap : RdsGap). part_of_gap before n (gap_of gap)) gs) is
+      ∙ skipped (λ (gap : RdsGap). part_of_gap before n (gap_of gap)) gaps first (λ k e low. none-before (get_or gaps k e) (at_first.0 k e (omega arith) low))
+      ∙ parts-of-gaps before n gaps

@@ -2,3 +2,5 @@ pub mod Rooms
 pub mod Streams
 pub mod GapLists
 pub mod PartRuns
+pub mod NearStreams
+pub mod Fitting

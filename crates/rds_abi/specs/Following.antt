@@ -5,7 +5,9 @@ use Rattle.rds_stream.specs.Recording.{AreGaps}
 use Rattle.rds_sync.specs.Ranges.{IsInRange}
 use Rattle.rds_sync.specs.declared.item.Item.{Item}
 use Rattle.rds_sync.specs.declared.totals.Totals.{Totals}
+use Rattle.rds_live.specs.Gaps.{gaps_within}
 use Rattle.rds_live.specs.Live.{HasHeard, IsLive, LiveOf, Terms, complete, most_kept, report_at, report_of}
+use Rattle.rds_live.specs.Next.{completed}
 use Rattle.rds_abi.specs.Asked.{IsFilled, IsTooMuch, RefusesRules, gaps_of, rules_of}
 use Rattle.rds_abi.specs.Going.{state_in_c, state_of}
 use Rattle.rds_abi.specs.Layout.{item_in_c, totals_in_c}
@@ -60,7 +62,24 @@ pub record IsLeft (terms : Terms) (s : RdsStream) : Type 0 where
   pub live : IsLive (stream_of terms s)
   pub laid : s ≡ stream_in_c (stream_of terms s)
 
+-- the same rules, and gaps by which the same is heard in the places from `before` on, up to `len` of them
+pub record IsNear (all near : Terms) (before len : ℕ) : Type 0 where
+  pub rules : near.rules ≡ all.rules
+  pub gaps : (n : ℕ) → n ≤ len → gaps_within near.gaps before n ≡ gaps_within all.gaps before n
+  pub may : AreGaps (2 ^ 36) all.gaps
+  pub some : AreGaps (2 ^ 36) near.gaps
+
 -- ---- what is refused
+
+-- gaps that no stream may have
+abbrev pub RefusesGaps : List RdsGap → Refusal → Type 0
+RefusesGaps gaps BadGaps = AreGaps (2 ^ 36) (gaps_of gaps) → ⊥
+RefusesGaps gaps OutOfMemory = ⊤
+RefusesGaps gaps other = ⊥
+
+-- the rules first, and then the gaps
+abbrev pub RefusesTold : RdsRules → List RdsGap → Refusal → Type 0
+RefusesTold rules gaps refusal = RefusesRules (rules_of rules) refusal ⊎ (IsInRange (rules_of rules) × RefusesGaps gaps refusal)
 
 -- gaps that no stream may have, and then numbers that no call can have left
 abbrev pub RefusesStream : Terms → RdsStream → Refusal → Type 0
@@ -123,6 +142,12 @@ abbrev pub AreLeft : Terms → RdsStream → List ℕ → ℕ → List Item → 
 AreLeft terms s bytes bits items =
     (before : List ℕ) → HasHeard (stream_of terms s) before
     → complete terms before ++ items ≡ report_at terms (before ++ bytes) (8 * length before + bits)
+
+-- all bytes were taken, or as many as have room: the items of one byte more have none
+abbrev pub IsMostTaken : LiveOf → List ℕ → ℕ → ℕ → Type 0
+IsMostTaken live bytes room taken =
+    (taken ≡ length bytes)
+    ⊎ ((0 < taken) × (taken < length bytes) × (room < length (completed live (take (taken + 1) bytes))))
 
 -- such items stand at the beginning of the room, behind them is what was there, and the count is theirs
 abbrev pub AreWritten : (List Item → Type 0) → List RdsItem → List RdsItem → ℕ → Type 0

@@ -97,7 +97,7 @@ fn recording_of(
 
 /// Whether these are gaps that so many bits may have: each has a place and lies within the bits, and each begins at or
 /// after the end of the one before it.
-fn are_gaps(gaps: &[RdsGap], bits: u64) -> bool
+pub(crate) fn are_gaps(gaps: &[RdsGap], bits: u64) -> bool
     ensures { (result ≡ true) ↔ AreGaps bits (gaps_of gaps.now) }
 {
     are_within(gaps, bits) && are_apart(gaps)

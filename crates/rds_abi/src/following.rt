@@ -1,29 +1,40 @@
 //! A stream that is followed chunk by chunk, from what the caller keeps of it.
 
-ghost use Rattle.std.specs.Prelude.{◌≡◌, ◌++◌, ◌<◌, ◌≤◌, ◌⊎◌, ◌+◌, ◌-◌, ◌*◌, ◌^◌, ℕ, List, IfErr, IfOk, OnErr, OnOk, length, map, replicate, take, vec_capacity};
+ghost use Rattle.std.specs.Prelude.{◌≡◌, ◌++◌, ◌<◌, ◌≤◌, ◌⊎◌, ◌+◌, ◌-◌, ◌*◌, ◌/◌, ◌^◌, ℕ, List, IfErr, IfOk, OnErr, OnOk, length, map, min, replicate, take, vec_capacity};
 ghost use Rattle.rds_stream.specs.Recording.{AreGaps};
 ghost use Rattle.rds_sync.specs.Advance.{group_item};
 ghost use Rattle.rds_sync.specs.Totals.{totals_of};
-ghost use Rattle.rds_live.specs.Live.{HasHeard, IsLive, complete, report_at, report_of};
+ghost use Rattle.rds_live.specs.Live.{HasHeard, IsLive, complete, most_kept, report_at, report_of};
+ghost use Rattle.rds_live.specs.Next.{completed, live_next};
 ghost use Rattle.rds_sync.specs.Ranges.{IsInRange};
-ghost use Rattle.rds_abi.specs.Asked.{IsFilled, RefusesRules, rules_of as the_rules_of};
-ghost use Rattle.rds_abi.specs.Following.{AreClosed, AreCompleted, AreLast, AreLeft, AreTooMany, AreWritten, IsFollowed, IsLeft, RefusesEnd, RefusesFollowed, RefusesLast, RefusesPush, RefusesStream, place_after, stream_in_c as the_stream_in_c, stream_of as the_stream_of, terms_of, totals_from_c};
+ghost use Rattle.rds_abi.specs.Asked.{IsFilled, IsTooMuch, RefusesRules, gaps_of, rules_of as the_rules_of};
+ghost use Rattle.rds_abi.specs.Following.{AreClosed, AreCompleted, AreLast, AreLeft, AreTooMany, AreWritten, IsFollowed, IsLeft, IsMostTaken, IsNear, RefusesEnd, RefusesFollowed, RefusesLast, RefusesPush, RefusesStream, RefusesTold, place_after, stream_in_c as the_stream_in_c, stream_of as the_stream_of, terms_of, totals_from_c};
 ghost use Rattle.rds_abi.specs.Layout.{item_in_c, totals_in_c};
 ghost use Rattle.rds_abi.specs.declared.refusal.Refusal.TheVariants.{BadGaps, BitsPastBytes, OutOfMemory, SmallRoom, TooLong};
 
-use crate::asked::{gaps_in, rules_of};
+use crate::asked::{are_gaps, gaps_in, rules_of};
 use crate::going::{state_in_c, state_of, write_end};
 use crate::in_c::{item_in_c, totals_in_c};
 use crate::layout::{RdsGap, RdsItem, RdsRules, RdsStream, RdsTotals};
+use crate::part::near;
 use crate::refusal::Refusal;
+use rds_live::laws::{next_is_heard, pieces_join};
 use rds_live::{Live, ResumeError};
 use rds_stream::{MOST_BITS, StreamError};
-use rds_sync::{Group, Item, Rules, Totals};
+use rds_sync::{Group, Item, Rules, Totals, laws};
 use std::alloc::{AllocError, Global};
 use std::marker::Model;
 
 /// How many of the last bytes of a stream are known.
 const MOST_KEPT: u64 = 30;
+
+/// How many bytes a stream has at most.
+const MOST_BYTES: u64 = MOST_BITS / 8;
+
+/// How many bytes a decoder takes at once at most, and how many items a byte may complete.
+const AT_ONCE: usize = 960;
+
+const ITEMS_A_BYTE: usize = 16;
 
 /// Totals, from C.
 fn totals_from_c(totals: RdsTotals) -> Totals
@@ -57,31 +68,63 @@ impl Model for Told {
     ghost view = { λ t. record { rules = t.rules; gaps = t.gaps.items } };
 }
 
+/// The rules, and gaps that a stream may have, looked at in this order. Takes no memory for the gaps.
+fn rules_told(alloc: Global, rules: RdsRules, gaps: &[RdsGap]) -> Result<Rules, Refusal>
+    ensures rules { IfOk result (λ found. found ≡ the_rules_of rules) }
+    ensures range { IfOk result (λ _. IsInRange (the_rules_of rules)) }
+    ensures gaps { IfOk result (λ _. AreGaps (2 ^ 36) (gaps_of gaps.now)) }
+    ensures refused { IfErr result (RefusesTold rules gaps.now) }
+{
+    let rules = rules_of(alloc, rules)?;
+    if !are_gaps(gaps, MOST_BITS) {
+        return Err(Refusal::BadGaps);
+    }
+    Ok(rules)
+}
+
 /// What is told of a stream, from C.
 fn told_of(alloc: Global, rules: RdsRules, gaps: &[RdsGap]) -> Result<Told, Refusal>
     ensures terms { IfOk result (λ told. told ≡ terms_of rules gaps.now) }
     ensures range { IfOk result (λ _. IsInRange (the_rules_of rules)) }
-    ensures refused { IfErr result (RefusesRules (the_rules_of rules)) }
+    ensures gaps { IfOk result (λ told. AreGaps (2 ^ 36) told.gaps) }
+    ensures refused { IfErr result (RefusesTold rules gaps.now) }
 {
-    let rules = rules_of(alloc, rules)?;
+    let rules = rules_told(alloc, rules, gaps)?;
     let gaps = gaps_in(alloc, gaps)?;
+    Ok(Told { rules, gaps })
+}
+
+/// What is told of a part of a stream, from C: the rules, and the gaps near the part that begins at `before` and has `len`
+/// places. It takes memory for these gaps alone.
+fn told_near(
+    alloc: Global,
+    rules: RdsRules,
+    gaps: &[RdsGap],
+    before: u64,
+    len: u64,
+) -> Result<Told, Refusal>
+    ensures near { IfOk result (λ told. IsNear (terms_of rules gaps.now) told before len) }
+    ensures range { IfOk result (λ _. IsInRange (the_rules_of rules)) }
+    ensures refused { IfErr result (RefusesTold rules gaps.now) }
+{
+    let rules = rules_told(alloc, rules, gaps)?;
+    let gaps = gaps_in(alloc, near(gaps, before, len))?;
     Ok(Told { rules, gaps })
 }
 
 /// The decoder of the stream that these numbers say.
 fn live_of<'r>(alloc: Global, told: &'r Told, stream: &RdsStream) -> Result<Live<'r>, Refusal>
+    requires { AreGaps (2 ^ 36) told.now.gaps }
     ensures live { IfOk result (λ live. live ≡ the_stream_of told.now stream.now) }
     ensures left { IfOk result (λ _. IsLeft told.now stream.now) }
     ensures refused { IfErr result (RefusesStream told.now stream.now) }
 {
-    refuse_gaps(alloc, told)?;
     let rules = &told.rules;
     let gaps = told.gaps.as_slice();
     let Some(state) = state_of(rules, stream.state, stream.place) else {
         return Err(Refusal::UnlawfulState);
     };
-    let kept = MOST_KEPT.min(stream.place / 8) as usize;
-    let tail = &stream.tail[..kept];
+    let tail = &stream.tail[..kept_of(stream) as usize];
     if tail_in_c(tail) != stream.tail {
         return Err(Refusal::UnlawfulState);
     }
@@ -93,17 +136,11 @@ fn live_of<'r>(alloc: Global, told: &'r Told, stream: &RdsStream) -> Result<Live
     }
 }
 
-/// Refuses gaps that no stream may have, or want of memory.
-fn refuse_gaps(alloc: Global, told: &Told) -> Result<(), Refusal>
-    ensures lawful { OnOk result (AreGaps (2 ^ 36) told.now.gaps) }
-    ensures refused { IfErr result (λ refusal.
-        ((refusal ≡ BadGaps) × (AreGaps (2 ^ 36) told.now.gaps → ⊥)) ⊎ (refusal ≡ OutOfMemory)) }
+/// How many of the last bytes of the stream are known.
+fn kept_of(stream: &RdsStream) -> u64
+    ensures { result ≡ min most_kept (stream.now.place / 8) }
 {
-    match Live::with_gaps(alloc, &told.rules, told.gaps.as_slice()) {
-        Ok(_) => Ok(()),
-        Err(StreamError::BadGaps) => Err(Refusal::BadGaps),
-        Err(_) => Err(Refusal::OutOfMemory),
-    }
+    MOST_KEPT.min(stream.place / 8)
 }
 
 /// The last bytes of a stream, for C.
@@ -156,16 +193,21 @@ fn fill_room(room: &mut [RdsItem], items: &[Item])
     }
 }
 
-/// Takes the next bytes of a stream, the highest bit of a byte first, and writes the items that they complete to the
-/// beginning of `room`, how many they are to `count`, and what is known of the stream then to `stream`. The bytes may be
-/// any number, none too, and the gaps are told by their places in the stream.
+/// Takes as many of the next bytes of a stream, the highest bit of a byte first, as there is room for what they complete:
+/// writes the items that these complete to the beginning of `room`, how many they are to `count`, what is known of the stream
+/// then to `stream`, and how many bytes it took to `taken`. The others are to be offered again. The bytes may be any number,
+/// none too, and the gaps are told by their places in the stream.
+///
+/// It takes all bytes, or the items of one byte more would not fit. A byte completes at most 16 items, so room for 16 is never
+/// too little.
 ///
 /// However a stream was cut, the items are those of the run over all bytes, and with [`finish`] they are the report's. What
 /// is known of it are the same numbers, too, so that these may be compared.
 ///
 /// Refuses rules out of their range, then gaps that no stream may have, then `UnlawfulState`, then `TooLong`, past 2^36
-/// bits in all, and then `SmallRoom`, where `count` tells how many items there are, and nothing else was written; and want
-/// of memory at any time. It takes memory for the tables of the rules, for the gaps, and for the items.
+/// bits with all that are offered, and then `SmallRoom`, if the items of the first byte do not fit: `count` tells how many they
+/// are, and nothing else was written; and want of memory at any time. It takes memory for the tables of the rules, for the gaps
+/// near the bytes, and for the items that 960 bytes may complete.
 pub fn push(
     alloc: Global,
     bytes: &[u8],
@@ -173,78 +215,181 @@ pub fn push(
     rules: RdsRules,
     stream: &mut RdsStream,
     room: &mut [RdsItem],
+    taken: &mut u64,
     count: &mut u64,
 ) -> Result<(), Refusal>
     ensures heard { OnOk result ((before : List ℕ) → HasHeard (the_stream_of (terms_of rules gaps.now) stream.old) before
-        → HasHeard (the_stream_of (terms_of rules gaps.now) stream.new) (before ++ bytes.now)) }
+        → HasHeard (the_stream_of (terms_of rules gaps.now) stream.new) (before ++ take taken.new bytes.now)) }
     ensures laid { OnOk result (stream.new ≡ the_stream_in_c (the_stream_of (terms_of rules gaps.now) stream.new)) }
-    ensures items { OnOk result (AreWritten (AreCompleted (terms_of rules gaps.now) stream.old bytes.now) room.old room.new count.new) }
+    ensures items { OnOk result (AreWritten (AreCompleted (terms_of rules gaps.now) stream.old (take taken.new bytes.now)) room.old room.new count.new) }
+    ensures most { OnOk result (IsMostTaken (the_stream_of (terms_of rules gaps.now) stream.old) bytes.now (length room.old) taken.new) }
+    ensures few { OnOk result (count.new ≤ 16 * taken.new) }
     ensures next { OnOk result (IsFollowed rules gaps.now stream.new) }
     ensures lawful { OnOk result (IsFollowed rules gaps.now stream.old × (place_after stream.old bytes.now ≤ 2 ^ 36)) }
-    ensures untouched { OnErr result ((room.new ≡ room.old) × (stream.new ≡ stream.old)) }
+    ensures untouched { OnErr result ((room.new ≡ room.old) × (stream.new ≡ stream.old) × (taken.new ≡ taken.old)) }
     ensures refused { IfErr result (λ refusal.
         (IsFollowed rules gaps.now stream.old × (place_after stream.old bytes.now ≤ 2 ^ 36)
-        × AreTooMany (AreCompleted (terms_of rules gaps.now) stream.old bytes.now) (length room.old) refusal count.new)
+        × IsTooMuch (map item_in_c (completed (the_stream_of (terms_of rules gaps.now) stream.old) (take 1 bytes.now))) (length room.old) refusal count.new)
         ⊎ (RefusesPush rules gaps.now stream.old bytes.now refusal × (count.new ≡ count.old))) }
+    ensures roomy { IfErr result (λ refusal. refusal ≡ SmallRoom → length room.old < 16) }
+
+    // The same of numbers that are lawful and of no stream.
+    ensures after { OnOk result (the_stream_of (terms_of rules gaps.now) stream.new
+        ≡ live_next (the_stream_of (terms_of rules gaps.now) stream.old) (take taken.new bytes.now)) }
+    ensures filled { OnOk result (IsFilled (map item_in_c (completed (the_stream_of (terms_of rules gaps.now) stream.old) (take taken.new bytes.now))) room.old room.new) }
+    ensures count { OnOk result (count.new ≡ length (completed (the_stream_of (terms_of rules gaps.now) stream.old) (take taken.new bytes.now))) }
 {
-    let told = told_of(alloc, rules, gaps)?;
-    go_on(alloc, &told, bytes, stream, room, count)
+    let kept = kept_of(stream);
+    let len = kept + MOST_BYTES.min(bytes.len() as u64);
+    let told = told_near(alloc, rules, gaps, stream.place - 8 * kept, 8 * len)?;
+    laws::runs_give_few_items();
+    next_is_heard();
+    go_on(alloc, &told, bytes, stream, room, taken, count)?;
+    Ok(())
 }
 
-/// Takes the next bytes of a stream, and writes what they give.
+/// Takes the next bytes of a stream, as many as there is room for, and writes what they give.
 fn go_on(
     alloc: Global,
     told: &Told,
     bytes: &[u8],
     stream: &mut RdsStream,
     room: &mut [RdsItem],
+    taken: &mut u64,
     count: &mut u64,
 ) -> Result<(), Refusal>
-    ensures heard { OnOk result ((before : List ℕ) → HasHeard (the_stream_of told.now stream.old) before
-        → HasHeard (the_stream_of told.now stream.new) (before ++ bytes.now)) }
+    requires gaps { AreGaps (2 ^ 36) told.now.gaps }
+    requires range { IsInRange told.now.rules }
     ensures laid { OnOk result (stream.new ≡ the_stream_in_c (the_stream_of told.now stream.new)) }
-    ensures items { OnOk result (AreWritten (AreCompleted told.now stream.old bytes.now) room.old room.new count.new) }
+    ensures within { OnOk result (taken.new ≤ length bytes.now) }
+    ensures after { OnOk result (the_stream_of told.now stream.new ≡ live_next (the_stream_of told.now stream.old) (take taken.new bytes.now)) }
+    ensures filled { OnOk result (IsFilled (map item_in_c (completed (the_stream_of told.now stream.old) (take taken.new bytes.now))) room.old room.new) }
+    ensures count { OnOk result (count.new ≡ length (completed (the_stream_of told.now stream.old) (take taken.new bytes.now))) }
+    ensures most { OnOk result (IsMostTaken (the_stream_of told.now stream.old) bytes.now (length room.old) taken.new) }
     ensures next { OnOk result (IsLeft told.now stream.new) }
-    ensures lawful { OnOk result (IsLeft told.now stream.old × (place_after stream.old bytes.now ≤ 2 ^ 36)) }
-    ensures untouched { OnErr result ((room.new ≡ room.old) × (stream.new ≡ stream.old)) }
+    ensures lawful { OnOk result (IsLeft told.now stream.old) }
+    ensures fits { OnOk result (place_after stream.old bytes.now ≤ 2 ^ 36) }
+    ensures untouched { OnErr result ((room.new ≡ room.old) × (stream.new ≡ stream.old) × (taken.new ≡ taken.old)) }
     ensures refused { IfErr result (λ refusal.
         (IsLeft told.now stream.old × (place_after stream.old bytes.now ≤ 2 ^ 36)
-        × AreTooMany (AreCompleted told.now stream.old bytes.now) (length room.old) refusal count.new)
+        × IsTooMuch (map item_in_c (completed (the_stream_of told.now stream.old) (take 1 bytes.now))) (length room.old) refusal count.new)
         ⊎ ((RefusesStream told.now stream.old refusal
         ⊎ (IsLeft told.now stream.old × (2 ^ 36 < place_after stream.old bytes.now) × (refusal ≡ TooLong)))
         × (count.new ≡ count.old))) }
 {
     let mut live = live_of(alloc, told, stream)?;
-    take_all(alloc, &mut live, bytes, room, count)?;
-    *stream = stream_in_c(&live);
-    Ok(())
+    if bytes.len() as u64 > (MOST_BITS - stream.place) / 8 {
+        return Err(Refusal::TooLong);
+    }
+    let mut some = Vec::with_capacity(alloc, ITEMS_A_BYTE * bytes.len().clamp(1, AT_ONCE))?;
+    match take_fitting(&mut live, bytes, stream, room, &mut some) {
+        Ok(fit) => {
+            *taken = fit.taken as u64;
+            *count = fit.count as u64;
+            Ok(())
+        }
+        Err(needed) => {
+            *count = needed as u64;
+            Err(Refusal::SmallRoom)
+        }
+    }
 }
 
-/// Has the decoder take the next bytes, and writes the items that they complete.
-fn take_all(
-    alloc: Global,
+/// How many bytes were taken, and how many items they completed.
+#[derive(Clone, Copy)]
+struct Fit {
+    taken: usize,
+    count: usize,
+}
+
+/// Has the decoder take as many of the next bytes as there is room for what they complete, writes the items, and what is known
+/// then to the stream. Refuses if the items of the first byte do not fit, and tells how many they are.
+fn take_fitting(
     live: &mut Live<'_>,
     bytes: &[u8],
+    stream: &mut RdsStream,
     room: &mut [RdsItem],
-    count: &mut u64,
-) -> Result<(), Refusal>
-    ensures heard { OnOk result ((before : List ℕ) → HasHeard live.old before → HasHeard live.new (before ++ bytes.now)) }
-    ensures terms { live.new.terms ≡ live.old.terms }
-    ensures items { OnOk result (AreWritten (λ items. (before : List ℕ) → HasHeard live.old before
-        → complete live.old.terms (before ++ bytes.now) ≡ complete live.old.terms before ++ items) room.old room.new count.new) }
-    ensures fits { OnOk result (live.old.place + 8 * length bytes.now ≤ 2 ^ 36) }
-    ensures untouched { OnErr result (room.new ≡ room.old) }
-    ensures refused { IfErr result (λ refusal.
-        ((live.old.place + 8 * length bytes.now ≤ 2 ^ 36)
-        × AreTooMany (λ items. (before : List ℕ) → HasHeard live.old before
-        → complete live.old.terms (before ++ bytes.now) ≡ complete live.old.terms before ++ items) (length room.old) refusal count.new)
-        ⊎ ((((refusal ≡ TooLong) × (2 ^ 36 < live.old.place + 8 * length bytes.now)) ⊎ (refusal ≡ OutOfMemory))
-        × (count.new ≡ count.old))) }
+    some: &mut Vec<Item>,
+) -> Result<Fit, usize>
+    requires capacity { 16 ≤ vec_capacity some.old }
+    requires fits { live.old.place + 8 * length bytes.now ≤ 2 ^ 36 }
+    requires range { IsInRange live.old.terms.rules }
+    requires lawful { IsLive live.old }
+    ensures within { IfOk result (λ fit. fit.taken ≤ length bytes.now) }
+    ensures after { IfOk result (λ fit. the_stream_of live.old.terms stream.new ≡ live_next live.old (take fit.taken bytes.now)) }
+    ensures laid { OnOk result (stream.new ≡ the_stream_in_c (the_stream_of live.old.terms stream.new)) }
+    ensures live { OnOk result (IsLive (the_stream_of live.old.terms stream.new)) }
+    ensures filled { IfOk result (λ fit. IsFilled (map item_in_c (completed live.old (take fit.taken bytes.now))) room.old room.new) }
+    ensures count { IfOk result (λ fit. fit.count ≡ length (completed live.old (take fit.taken bytes.now))) }
+    ensures most { IfOk result (λ fit. IsMostTaken live.old bytes.now (length room.old) fit.taken) }
+    ensures small { IfErr result (λ needed. length room.old < length (completed live.old (take 1 bytes.now))) }
+    ensures needed { IfErr result (λ needed. needed ≡ length (completed live.old (take 1 bytes.now))) }
+    ensures untouched { OnErr result ((room.new ≡ room.old) × (stream.new ≡ stream.old)) }
 {
-    match live.take_all(alloc, bytes) {
-        Ok(items) => write_items(room, &items, count),
-        Err(StreamError::TooLong) => Err(Refusal::TooLong),
-        Err(_) => Err(Refusal::OutOfMemory),
+    pieces_join();
+    let mut fit = take_piece(live, bytes, stream, room, some)?;
+    while fit.taken < bytes.len() {
+        match take_piece(
+            live,
+            &bytes[fit.taken..],
+            stream,
+            &mut room[fit.count..],
+            some,
+        ) {
+            Ok(more) => {
+                fit = Fit {
+                    taken: fit.taken + more.taken,
+                    count: fit.count + more.count,
+                };
+            }
+            Err(_) => return Ok(fit),
+        }
+    }
+    Ok(fit)
+}
+
+/// Has the decoder take some of the next bytes, as many as surely have room, or one: writes the items that they complete, and
+/// what is known then to the stream. Refuses if the items of one byte do not fit, and tells how many they are.
+fn take_piece(
+    live: &mut Live<'_>,
+    bytes: &[u8],
+    stream: &mut RdsStream,
+    room: &mut [RdsItem],
+    some: &mut Vec<Item>,
+) -> Result<Fit, usize>
+    requires capacity { 16 ≤ vec_capacity some.old }
+    requires fits { live.old.place + 8 * length bytes.now ≤ 2 ^ 36 }
+    ensures capacity { vec_capacity some.new ≡ vec_capacity some.old }
+    ensures terms { OnOk result (live.new.terms ≡ live.old.terms) }
+    ensures within { IfOk result (λ fit. fit.taken ≤ length bytes.now) }
+    ensures on { IfOk result (λ fit. 0 < length bytes.now → 0 < fit.taken) }
+    ensures after { IfOk result (λ fit. live.new ≡ live_next live.old (take fit.taken bytes.now)) }
+    ensures laid { OnOk result (stream.new ≡ the_stream_in_c live.new) }
+    ensures says { OnOk result (the_stream_of live.new.terms stream.new ≡ live.new) }
+    ensures live { OnOk result (IsLive live.new) }
+    ensures filled { IfOk result (λ fit. IsFilled (map item_in_c (completed live.old (take fit.taken bytes.now))) room.old room.new) }
+    ensures count { IfOk result (λ fit. fit.count ≡ length (completed live.old (take fit.taken bytes.now))) }
+    ensures room { IfOk result (λ fit. fit.count ≤ length room.old) }
+    ensures some { IfErr result (λ needed. 0 < length bytes.now) }
+    ensures small { IfErr result (λ needed. length room.old < length (completed live.old (take 1 bytes.now))) }
+    ensures needed { IfErr result (λ needed. needed ≡ length (completed live.old (take 1 bytes.now))) }
+    ensures untouched { OnErr result ((room.new ≡ room.old) × (stream.new ≡ stream.old)) }
+{
+    laws::runs_give_few_items();
+    let most = (room.len() / ITEMS_A_BYTE).max(1);
+    let piece = &bytes[..bytes.len().min(most)];
+    match live.take(piece, some) {
+        Ok(taken) => {
+            let items = some.as_slice();
+            let count = items.len();
+            if room.len() < count {
+                return Err(count);
+            }
+            fill_room(room, items);
+            *stream = stream_in_c(live);
+            Ok(Fit { taken, count })
+        }
+        Err(_) => unreachable!(),
     }
 }
 
@@ -285,6 +430,7 @@ fn close(
     count: &mut u64,
     totals: &mut RdsTotals,
 ) -> Result<(), Refusal>
+    requires { AreGaps (2 ^ 36) told.now.gaps }
     ensures items { OnOk result (AreWritten (AreClosed told.now stream.now) room.old room.new count.new) }
     ensures totals { OnOk result ((bytes : List ℕ) → HasHeard (the_stream_of told.now stream.now) bytes
         → totals.new ≡ totals_in_c (totals_of (report_of told.now bytes))) }
@@ -363,6 +509,7 @@ fn last_of(
     bits: u64,
     stream: &RdsStream,
 ) -> Result<(Vec<Item>, Totals), Refusal>
+    requires { AreGaps (2 ^ 36) told.now.gaps }
     ensures items { IfOk result (λ r. AreLeft told.now stream.now bytes.now bits r.0.items) }
     ensures totals { IfOk result (λ r. (before : List ℕ) → HasHeard (the_stream_of told.now stream.now) before
         → r.1 ≡ totals_of (report_at told.now (before ++ bytes.now) (8 * length before + bits))) }

@@ -1,7 +1,7 @@
 //! The part of a recording that a run over a range hears, and states in it.
 
 ghost use Rattle.std.specs.Prelude.{◌≡◌, ◌+◌, ◌-◌, ◌*◌, ◌<◌, ◌≤◌, ◌^◌, ℕ, IfOk, length};
-ghost use Rattle.rds_stream.specs.Recording.{length_of};
+ghost use Rattle.rds_stream.specs.Recording.{AreGaps, length_of};
 ghost use Rattle.rds_live.specs.Gaps.{gaps_within as the_gaps_within, part_of_gap as the_part_of_gap};
 ghost use Rattle.rds_live.specs.Moving.{IsPartHeard, moved_state};
 ghost use Rattle.rds_live.specs.Places.{is_due_below, is_due_from};
@@ -50,6 +50,19 @@ pub(crate) fn part_of(
         Ok(recording) => Ok(Part { recording, before }),
         Err(_) => unreachable!(),
     }
+}
+
+/// Leaves out the gaps that end before the part of a stream that begins at `before` and has `len` places, and those that begin
+/// after it. Two binary searches.
+pub(crate) fn near(gaps: &[RdsGap], before: u64, len: u64) -> &[RdsGap]
+    requires { AreGaps (2 ^ 36) (gaps_of gaps.now) }
+    ensures same { (n : ℕ) → n ≤ len → the_gaps_within (gaps_of result.now) before n ≡ the_gaps_within (gaps_of gaps.now) before n }
+    ensures some { AreGaps (2 ^ 36) (gaps_of result.now) }
+{
+    let first = gaps.partition_point(|gap| gap.end <= before);
+    let rest = &gaps[first..];
+    let count = rest.partition_point(|gap| gap.begin.saturating_sub(before) < len);
+    &rest[..count]
 }
 
 /// The gaps in the part that begins at `before` and has `len` places, by their places in the part.

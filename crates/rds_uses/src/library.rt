@@ -1,12 +1,12 @@
 //! What a user gets of the calls for C.
-ghost use Rattle.std.specs.Prelude.{◌≡◌, ◌≢◌, ◌++◌, ◌+◌, ◌*◌, ◌^◌, ◌<◌, ◌⊎◌, [], ◌∷◌, IfOk, IfSome, None, length, map, take, true};
+ghost use Rattle.std.specs.Prelude.{◌≡◌, ◌≢◌, ◌++◌, ◌+◌, ◌*◌, ◌^◌, ◌<◌, ◌⊎◌, ℕ, List, [], ◌∷◌, IfErr, IfOk, IfSome, None, OnOk, length, map, take, true};
 ghost use Rattle.rds_code.specs.Remainder.{rem};
 ghost use Rattle.rds_sync.specs.Report.{report_items};
 ghost use Rattle.rds_sync.specs.Totals.{totals_of};
-ghost use Rattle.rds_live.specs.Live.{report_at, report_of};
+ghost use Rattle.rds_live.specs.Live.{HasHeard, report_at, report_of};
 ghost use Rattle.rds_abi.specs.Asked.{asked, items_asked, recording_of, rules_of};
 ghost use Rattle.rds_abi.specs.Blocks.{packed};
-ghost use Rattle.rds_abi.specs.Following.{terms_of};
+ghost use Rattle.rds_abi.specs.Following.{AreCompleted, AreWritten, stream_in_c, stream_of, terms_of};
 ghost use Rattle.rds_abi.specs.Layout.{item_in_c, totals_in_c};
 
 use rds_abi::{
@@ -94,6 +94,82 @@ pub fn in_two_ranges(
     Ok(counts)
 }
 
+/// Takes all of the next bytes of a stream, or says that there is too little room for what they complete.
+fn push_all(
+    alloc: Global,
+    bytes: &[u8],
+    gaps: &[RdsGap],
+    rules: RdsRules,
+    stream: &mut RdsStream,
+    room: &mut [RdsItem],
+    count: &mut u64,
+) -> Result<(), Refusal>
+    ensures heard { OnOk result ((before : List ℕ) → HasHeard (stream_of (terms_of rules gaps.now) stream.old) before
+        → HasHeard (stream_of (terms_of rules gaps.now) stream.new) (before ++ bytes.now)) }
+    ensures laid { OnOk result (stream.new ≡ stream_in_c (stream_of (terms_of rules gaps.now) stream.new)) }
+    ensures items { OnOk result (AreWritten (AreCompleted (terms_of rules gaps.now) stream.old bytes.now) room.old room.new count.new) }
+{
+    let mut taken = 0;
+    push(alloc, bytes, gaps, rules, stream, room, &mut taken, count)?;
+    if taken < bytes.len() as u64 {
+        return Err(Refusal::SmallRoom);
+    }
+    Ok(())
+}
+
+/// Bytes are offered to a stream, and those that had no room once more, in the same room: once both calls have taken all of
+/// them, the stream has heard all of them. Answers how many they left.
+pub fn offered_again(
+    alloc: Global,
+    bytes: &[u8],
+    gaps: &[RdsGap],
+    rules: RdsRules,
+    stream: &mut RdsStream,
+    room: &mut [RdsItem],
+) -> Result<u64, Refusal>
+    ensures { IfOk result (λ left. left ≡ 0 → (before : List ℕ) → HasHeard (stream_of (terms_of rules gaps.now) stream.old) before
+        → HasHeard (stream_of (terms_of rules gaps.now) stream.new) (before ++ bytes.now)) }
+{
+    let mut taken = 0;
+    let mut count = 0;
+    push(
+        alloc, bytes, gaps, rules, stream, room, &mut taken, &mut count,
+    )?;
+    let rest = &bytes[taken as usize..];
+    push(
+        alloc, rest, gaps, rules, stream, room, &mut taken, &mut count,
+    )?;
+    Ok(rest.len() as u64 - taken)
+}
+
+/// Room for sixteen items is enough to go on, whatever the bytes are.
+pub fn goes_on_in_little_room(
+    alloc: Global,
+    bytes: &[u8],
+    rules: RdsRules,
+    stream: &mut RdsStream,
+    room: &mut [RdsItem],
+) -> Result<u64, Refusal>
+    requires room { length room.old ≡ 16 }
+    requires some { 0 < length bytes.now }
+    ensures some { IfOk result (λ taken. 0 < taken) }
+    ensures roomy { IfErr result (λ refusal. refusal ≢ Refusal.SmallRoom) }
+{
+    let mut taken = 0;
+    let mut count = 0;
+    push(
+        alloc,
+        bytes,
+        &[],
+        rules,
+        stream,
+        room,
+        &mut taken,
+        &mut count,
+    )?;
+    Ok(taken)
+}
+
 /// A stream in two chunks, between which it is kept as numbers alone, and what its end closes: together the items of the
 /// report of all its bytes, and that report's totals.
 pub fn in_two_chunks(
@@ -117,7 +193,7 @@ pub fn in_two_chunks(
     };
     let mut totals = RdsTotals::NONE;
     let mut stream = RdsStream::UNHEARD;
-    push(
+    push_all(
         alloc,
         early,
         gaps,
@@ -126,7 +202,7 @@ pub fn in_two_chunks(
         first,
         &mut counts.first,
     )?;
-    push(
+    push_all(
         alloc,
         late,
         gaps,
@@ -171,7 +247,7 @@ pub fn ended_inside_a_byte(
     };
     let mut totals = RdsTotals::NONE;
     let mut stream = RdsStream::UNHEARD;
-    push(
+    push_all(
         alloc,
         early,
         gaps,
@@ -210,9 +286,9 @@ pub fn kept_alike(
     let mut cut = RdsStream::UNHEARD;
     let mut whole = RdsStream::UNHEARD;
     let mut count = 0;
-    push(alloc, early, gaps, rules, &mut cut, room, &mut count)?;
-    push(alloc, late, gaps, rules, &mut cut, room, &mut count)?;
-    push(alloc, all, gaps, rules, &mut whole, room, &mut count)?;
+    push_all(alloc, early, gaps, rules, &mut cut, room, &mut count)?;
+    push_all(alloc, late, gaps, rules, &mut cut, room, &mut count)?;
+    push_all(alloc, all, gaps, rules, &mut whole, room, &mut count)?;
     Ok((cut, whole))
 }
 

@@ -1,49 +1,34 @@
-use Rattle.std.proofs.Common.{◌++◌, ap, refl, subst, sym, ◌∙◌}
-use Rattle.std.proofs.lemmas.Result.{err_from_is_err_and}
-use Rattle.rds_live.specs.Live.{HasHeard, IsLive, LiveOf}
-use Rattle.rds_abi.specs.Following.{stream_in_c}
-use Rattle.rds_abi.proofs.Streams.{fits, refused_bytes, says_next}
+use Rattle.std.proofs.Common.{◌≡◌, ◌<◌, arith, inl, length, refl, subst, take}
+use Rattle.std.proofs.lemmas.List.{length-map}
+use Rattle.rds_live.specs.Live.{LiveOf}
+use Rattle.rds_live.specs.Next.{completed}
+use Rattle.rds_abi.specs.Following.{stream_in_c, stream_of}
+use Rattle.rds_abi.specs.Layout.{item_in_c}
 use Rattle.rds_abi.proofs.following.go_on.Goals as goal
 
-pub returns-in_err-take_all-clause-refused : goal.returns-in_err-take_all-clause-refused
-returns-in_err-take_all-clause-refused c =
-    let p = err_from_is_err_and c.from_residual-in_err-take_all.result c.from_residual-in_err-take_all.ensures.1 in
-    let is = c.in_ok-live.ensures.live in
+pub returns-in-Ok-clause-after : goal.returns-in-Ok-clause-after
+returns-in-Ok-clause-after c = rw c.in_ok-live.ensures.live at c.in-Ok.ensures.after
+
+pub returns-in-Ok-clause-filled : goal.returns-in-Ok-clause-filled
+returns-in-Ok-clause-filled c = rw c.in_ok-live.ensures.live at c.in-Ok.ensures.filled
+
+pub returns-in-Ok-clause-most : goal.returns-in-Ok-clause-most
+returns-in-Ok-clause-most c = rw c.in_ok-live.ensures.live at c.in-Ok.ensures.most
+
+pub returns-in-Ok-clause-next : goal.returns-in-Ok-clause-next
+returns-in-Ok-clause-next c = record {
+  live = rw c.in_ok-live.ensures.live at c.in-Ok.ensures.live;
+  laid = subst (λ (l : LiveOf). c.take_fitting.new.stream ≡ stream_in_c (stream_of l.terms c.take_fitting.new.stream)) c.in_ok-live.ensures.live c.in-Ok.ensures.laid;
+}
+
+pub returns-clause-refused : goal.returns-clause-refused
+returns-clause-refused c =
     let left = c.in_ok-live.ensures.left in
-    let refused = rw is at c.in_err-take_all.ensures.refused in
-    rw (p.1, p.2) (refused_bytes c.args.told.now c.args.stream.now c.args.bytes.now c.in_err-take_all.field-0.0 _ _ left refused)
-
-pub returns-clause-heard : goal.returns-clause-heard
-returns-clause-heard c before h =
-    let is = c.in_ok-live.ensures.live in
-    let next = says_next c.args.told.now c.args.stream.now c.stream_in_c.result c.in_ok-live.live c.take_all.new.live is c.in_ok-take_all.ensures.terms c.stream_in_c.ensures.says in
-    subst (λ (l : LiveOf). HasHeard l (before ++ c.args.bytes.now)) (sym next)
-    (c.in_ok-take_all.ensures.heard before (subst (λ (l : LiveOf). HasHeard l before) (sym is) h))
-
-pub returns-clause-laid : goal.returns-clause-laid
-returns-clause-laid c =
-    let next = says_next c.args.told.now c.args.stream.now c.stream_in_c.result c.in_ok-live.live c.take_all.new.live c.in_ok-live.ensures.live c.in_ok-take_all.ensures.terms c.stream_in_c.ensures.says in
-    c.stream_in_c.ensures.laid ∙ ap stream_in_c (sym next)
-
-pub returns-clause-items : goal.returns-clause-items
-returns-clause-items c = rw c.in_ok-live.ensures.live at c.in_ok-take_all.ensures.items
-
-pub returns-clause-next : goal.returns-clause-next
-returns-clause-next c =
-    let next = says_next c.args.told.now c.args.stream.now c.stream_in_c.result c.in_ok-live.live c.take_all.new.live c.in_ok-live.ensures.live c.in_ok-take_all.ensures.terms c.stream_in_c.ensures.says in
-    record {
-      live = subst (λ (l : LiveOf). IsLive l) (sym next) c.stream_in_c.ensures.lawful;
-      laid = c.stream_in_c.ensures.laid ∙ ap stream_in_c (sym next);
-    }
-
-pub returns-clause-lawful : goal.returns-clause-lawful
-returns-clause-lawful c =
-    let is = c.in_ok-live.ensures.live in (
-      c.in_ok-live.ensures.left,
-      fits c.args.told.now c.args.stream.now c.in_ok-live.live is _ c.in_ok-take_all.ensures.fits,
+    let found = completed (stream_of c.args.told.now c.args.stream.now) (take 1 c.args.bytes.now) in
+    let small : length c.args.room.now < length found = rw c.in_ok-live.ensures.live at c.in-Err.ensures.small in
+    let told : c.in-Err.needed ≡ length found = rw c.in_ok-live.ensures.live at c.in-Err.ensures.needed in
+    inl (
+      left,
+      omega (arith, c.if-bytes-stream.false, left.live.limit),
+      (refl, omega (arith, small, length-map found item_in_c), omega (arith, told, length-map found item_in_c)),
     )
-
-pub returns-in_err-take_all-clause-untouched : goal.returns-in_err-take_all-clause-untouched
-returns-in_err-take_all-clause-untouched c =
-    let p = err_from_is_err_and c.from_residual-in_err-take_all.result c.from_residual-in_err-take_all.ensures.1 in
-    rw p.1 (c.in_err-take_all.ensures.untouched, refl)

@@ -1,0 +1,153 @@
+-- A stream by the gaps near the part that is heard, in place of all of them.
+use Rattle.std.proofs.Common.{◌≡◌, ◌+◌, ◌-◌, ◌*◌, ◌/◌, ◌^◌, ◌<◌, ◌≤◌, ◌++◌, ◌⊎◌, ℕ, List, ap, ap₂, arith, inl, inr, length, map, min, subst, sym, take, ◌∙◌}
+use Rattle.std.proofs.lemmas.List.{length-take}
+use Rattle.rds_sync.specs.Counting.{plus}
+use Rattle.rds_sync.specs.Lawful.{IsLawful}
+use Rattle.rds_sync.specs.Rules.{RuleNumbers}
+use Rattle.rds_sync.specs.Step.{run}
+use Rattle.rds_sync.specs.Totals.{totals_of}
+use Rattle.rds_sync.specs.declared.item.Item.{Item}
+use Rattle.rds_live.specs.Gaps.{gaps_within}
+use Rattle.rds_live.specs.Live.{HasHeard, LiveOf, Terms, last_bytes, most_kept, signal_at}
+use Rattle.rds_live.specs.Moving.{moved_items, moved_state}
+use Rattle.rds_live.specs.Next.{NextIsHeard, before_tail, completed, live_next, moved_back}
+use Rattle.rds_sync.specs.Ranges.{IsInRange}
+use Rattle.rds_abi.specs.Following.{AreCompleted, IsLeft, IsMostTaken, IsNear, RefusesStream, place_after, stream_of, totals_from_c}
+use Rattle.rds_abi.specs.Asked.{IsTooMuch}
+use Rattle.rds_abi.specs.Going.{state_of}
+use Rattle.rds_abi.specs.Layout.{item_in_c}
+use Rattle.rds_abi.specs.declared.layout.RdsStream.{RdsStream}
+use Rattle.rds_abi.specs.declared.refusal.Refusal.{Refusal}
+use Rattle.rds_abi.specs.declared.refusal.Refusal.TheVariants.{BadGaps, BitsPastBytes, BlockRange, BurstRange, LossRange, NoRefusal, OffsetRange, OutOfMemory, PlaceRange, ReachRange, ShareRange, SmallRoom, TooLong, UnlawfulState}
+
+module _ (all near : Terms) (s : RdsStream) (before len : ℕ) (is : IsNear all near before len) where
+  -- the same streams may have been left
+  pub left-near : IsLeft near s → IsLeft all s
+  left-near left = record {
+    live = record {
+      whole = left.live.whole;
+      limit = left.live.limit;
+      kept = left.live.kept;
+      lawful = subst (λ (r : RuleNumbers). IsLawful r s.place (state_of s.state)) is.rules left.live.lawful;
+      small = left.live.small;
+      gaps = is.may;
+    };
+    laid = left.laid;
+  }
+
+  pub near-left : IsLeft all s → IsLeft near s
+  near-left left = record {
+    live = record {
+      whole = left.live.whole;
+      limit = left.live.limit;
+      kept = left.live.kept;
+      lawful = subst (λ (r : RuleNumbers). IsLawful r s.place (state_of s.state)) (sym is.rules) left.live.lawful;
+      small = left.live.small;
+      gaps = is.some;
+    };
+    laid = left.laid;
+  }
+
+  -- and the same is refused
+  pub refused-near : (refusal : Refusal) → RefusesStream near s refusal → RefusesStream all s refusal
+  refused-near BadGaps bad = absurd (bad is.some)
+  refused-near UnlawfulState unlawful = (is.may, λ left. unlawful.1 (near-left left))
+  refused-near OutOfMemory memory = tt
+  refused-near BurstRange none = absurd none
+  refused-near ReachRange none = absurd none
+  refused-near LossRange none = absurd none
+  refused-near BitsPastBytes none = absurd none
+  refused-near TooLong none = absurd none
+  refused-near ShareRange none = absurd none
+  refused-near SmallRoom none = absurd none
+  refused-near PlaceRange none = absurd none
+  refused-near BlockRange none = absurd none
+  refused-near OffsetRange none = absurd none
+  refused-near NoRefusal none = absurd none
+
+  -- bytes that lie in the part
+  module _ (bytes : List ℕ) (begins : before ≡ before_tail (stream_of all s))
+      (held : 8 * length (take (min most_kept (s.place / 8)) s.tail) + 8 * length bytes ≤ len) where
+    abbrev tail : List ℕ
+    tail = take (min most_kept (s.place / 8)) s.tail
+
+    abbrev bits : ℕ
+    bits = 8 * length tail + 8 * length bytes
+
+    gaps-same : gaps_within near.gaps (before_tail (stream_of all s)) bits ≡ gaps_within all.gaps (before_tail (stream_of all s)) bits
+    gaps-same = subst (λ (d : ℕ). gaps_within near.gaps d bits ≡ gaps_within all.gaps d bits) begins (is.gaps bits held)
+
+    -- complete the same items
+    pub completed-near : completed (stream_of near s) bytes ≡ completed (stream_of all s) bytes
+    completed-near =
+        ap₂ (λ (gaps : List (ℕ × ℕ)) (r : RuleNumbers). moved_items (before_tail (stream_of all s))
+        (run (signal_at gaps (tail ++ bytes) bits) r (moved_back (before_tail (stream_of all s)) (state_of s.state)) (8 * length tail) (8 * length bytes)).1)
+        gaps-same is.rules
+
+    -- and leave the same to know
+    pub next-near : (new : RdsStream) → stream_of near new ≡ live_next (stream_of near s) bytes → stream_of all new ≡ live_next (stream_of all s) bytes
+    next-near new after =
+        ap (λ (l : LiveOf). record { terms = all; tail = l.tail; place = l.place; state = l.state; totals = l.totals }) after
+        ∙ ap₂ (λ (gaps : List (ℕ × ℕ)) (r : RuleNumbers). record {
+          terms = all;
+          tail = last_bytes (tail ++ bytes);
+          place = s.place + 8 * length bytes;
+          state = moved_state (before_tail (stream_of all s))
+              (run (signal_at gaps (tail ++ bytes) bits) r (moved_back (before_tail (stream_of all s)) (state_of s.state)) (8 * length tail) (8 * length bytes)).0;
+          totals = plus (totals_from_c s.totals) (totals_of (moved_items (before_tail (stream_of all s))
+              (run (signal_at gaps (tail ++ bytes) bits) r (moved_back (before_tail (stream_of all s)) (state_of s.state)) (8 * length tail) (8 * length bytes)).1));
+        }) gaps-same is.rules
+
+-- of a stream that was heard these are its items, and this is what is known of it
+module _ (law : NextIsHeard) (all : Terms) (s : RdsStream) (bytes : List ℕ) (range : IsInRange all.rules) (left : IsLeft all s) where
+  pub heard-next : (new : RdsStream) → stream_of all new ≡ live_next (stream_of all s) bytes → (before : List ℕ)
+      → HasHeard (stream_of all s) before → HasHeard (stream_of all new) (before ++ bytes)
+  heard-next new after before heard =
+      subst (λ (l : LiveOf). HasHeard l (before ++ bytes)) (sym after) (law (stream_of all s) before bytes range left.live heard).0
+
+  pub are-completed : AreCompleted all s bytes (completed (stream_of all s) bytes)
+  are-completed before heard = sym (law (stream_of all s) before bytes range left.live heard).1
+
+-- where a part of the stream begins, and how many places it has at most
+pub part-begins : (all : Terms) (s : RdsStream) (kept : ℕ) → IsLeft all s → kept ≡ min most_kept (s.place / 8) → s.place - 8 * kept ≡ before_tail (stream_of all s)
+part-begins all s kept left is = omega (arith, left.live.kept, is)
+
+pub part-held : (all : Terms) (s : RdsStream) (kept few count : ℕ) → IsLeft all s → kept ≡ min most_kept (s.place / 8) → s.place + 8 * count ≤ 2 ^ 36
+    → few ≡ min 8589934592 count → 8 * length (take (min most_kept (s.place / 8)) s.tail) + 8 * count ≤ 8 * (kept + few)
+part-held all s kept few count left is fits many = omega (arith, left.live.kept, is, fits, many)
+
+-- all of that of the first of bytes that are pushed to a stream, by the gaps in at most so many bytes behind those that are kept
+module _ (all near : Terms) (s : RdsStream) (bytes : List ℕ) (kept few : ℕ) (is : IsNear all near (s.place - 8 * kept) (8 * (kept + few)))
+    (keeps : kept ≡ min most_kept (s.place / 8)) (many : few ≡ min 8589934592 (length bytes)) where
+  module _ (left : IsLeft near s) (fits : place_after s bytes ≤ 2 ^ 36) where
+    known : IsLeft all s
+    known = left-near all near s (s.place - 8 * kept) (8 * (kept + few)) is left
+
+    held : (n : ℕ) → 8 * length (take (min most_kept (s.place / 8)) s.tail) + 8 * length (take n bytes) ≤ 8 * (kept + few)
+    held n = omega (arith, part-held all s kept few (length bytes) known keeps fits many, length-take n bytes)
+
+    pub pushed-completed : (n : ℕ) → completed (stream_of near s) (take n bytes) ≡ completed (stream_of all s) (take n bytes)
+    pushed-completed n =
+        completed-near all near s (s.place - 8 * kept) (8 * (kept + few)) is (take n bytes) (part-begins all s kept known keeps) (held n)
+
+    pub pushed-after : (n : ℕ) (new : RdsStream) → stream_of near new ≡ live_next (stream_of near s) (take n bytes)
+        → stream_of all new ≡ live_next (stream_of all s) (take n bytes)
+    pushed-after n =
+        next-near all near s (s.place - 8 * kept) (8 * (kept + few)) is (take n bytes) (part-begins all s kept known keeps) (held n)
+
+    pub pushed-most : (room n : ℕ) → IsMostTaken (stream_of near s) bytes room n → IsMostTaken (stream_of all s) bytes room n
+    pushed-most room n (inl whole) = inl whole
+    pushed-most room n (inr (some, less, small)) =
+        inr (some, less, subst (λ (items : List Item). room < length items) (pushed-completed (n + 1)) small)
+
+  pub pushed-refused : (r : Refusal) (room count : ℕ) (Same : Type 0)
+      → (IsLeft near s × (place_after s bytes ≤ 2 ^ 36) × IsTooMuch (map item_in_c (completed (stream_of near s) (take 1 bytes))) room r count)
+      ⊎ ((RefusesStream near s r ⊎ (IsLeft near s × (2 ^ 36 < place_after s bytes) × (r ≡ TooLong))) × Same)
+      → (IsLeft all s × (place_after s bytes ≤ 2 ^ 36) × IsTooMuch (map item_in_c (completed (stream_of all s) (take 1 bytes))) room r count)
+      ⊎ ((RefusesStream all s r ⊎ (IsLeft all s × (2 ^ 36 < place_after s bytes) × (r ≡ TooLong))) × Same)
+  pushed-refused r room count Same (inl (left, fits, much)) =
+      inl (known left fits, fits, subst (λ (items : List Item). IsTooMuch (map item_in_c items) room r count) (pushed-completed left fits 1) much)
+  pushed-refused r room count Same (inr (inl refused, same)) =
+      inr (inl (refused-near all near s (s.place - 8 * kept) (8 * (kept + few)) is r refused), same)
+  pushed-refused r room count Same (inr (inr (left, long, too), same)) =
+      inr (inr (left-near all near s (s.place - 8 * kept) (8 * (kept + few)) is left, long, too), same)
