@@ -54,13 +54,6 @@ impl Sample {
         Sample::of(zero_bytes(alloc, bits)?, bits, 2, loss)
     }
 
-    /// Zero groups of which about one byte in `rarity` is damaged, as the seed has it, and whose lock is lost so.
-    pub fn noisy(alloc: Global, seed: u64, rarity: u64, loss: Loss) -> Result<Sample, AllocError> {
-        let mut bytes = zero_bytes(alloc, 8_000)?;
-        damage_some(&mut bytes, seed, rarity);
-        Sample::of(bytes, 8_000, 2, loss)
-    }
-
     /// Its recording, cut at these places inside it.
     pub fn cut(&self, alloc: Global, inner: &[u64]) -> Result<Cutting, PieceError>
         ensures { IfOk result (λ c. IsCutting (length_of self.now.recording) c) }
@@ -81,18 +74,5 @@ fn cutting_at(alloc: Global, len: u64, inner: &[u64]) -> Result<Cutting, PieceEr
     match Cutting::new(places, len) {
         Ok(cutting) => Ok(cutting),
         Err((error, _places)) => Err(error),
-    }
-}
-
-/// Turns bits of about one byte in `rarity`.
-fn damage_some(bytes: &mut [u8], seed: u64, rarity: u64) {
-    let mut number = seed;
-    for byte in bytes {
-        number = number
-            .wrapping_mul(0x5851_F42D_4C95_7F2D)
-            .wrapping_add(0x1405_7B7E_F767_814F);
-        if (number >> 33) % rarity.max(1) == 0 {
-            *byte ^= ((number >> 50) & 0xFF) as u8;
-        }
     }
 }
