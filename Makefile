@@ -167,7 +167,8 @@ deb: $(PROGRAM) $(LIBRARY)/librds.so.0
 wheel: $(FOLDER_$(ARCH))/librds.so.0
 	bindings/python/make_wheel.py $(FOLDER_$(ARCH))/librds.so.0 build
 
-# Three simulated stations on a page, by the library of `make lib` or the system's.
+# Three simulated stations on a page, by the library of `make lib`, by build/rds, by the system's library, or else by a program that is
+# built without proof, in a minute or so.
 PYTHON ?= /usr/bin/python3
 monitor-demo:
 	$(PYTHON) monitor/demo/run.py $(DEMO)

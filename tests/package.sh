@@ -131,6 +131,7 @@ if has dpkg dpkg-architecture dpkg-deb dpkg-shlibdeps readelf strip lintian "${a
   mapfile -t here_installed < <(printf '%s\n' "${packages[@]}" | grep -v '_arm64\.deb$')
   dpkg_there --force-depends --install "${here_installed[@]}" 2> /dev/null || fail 'they are not installed'
   same 'the installed files' "$(for it in "${here_installed[@]}"; do files_of "$it"; done | sort)" "$(files_there)"
+  same 'the service is there, and off' /usr/lib/systemd/system/rds-monitor-watch.service "$(files_there | grep -F rds-monitor-watch.service)"
   same 'nothing is missing or other than it was' '' "$(dpkg --root="$root" --verify 2> /dev/null)"
   same 'the installed program' "$(station | cksum)" \
     "$("$root/usr/bin/rds" list < "$root/usr/share/rds/examples/station.bin" | cksum)"

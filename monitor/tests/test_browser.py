@@ -11,9 +11,10 @@ from typing import Any, Iterator, List
 import pytest
 
 from browser import browser, missing
-from conftest import monitor
+from conftest import encode, monitor
 from rds_monitor.charset import printable
 from rds_monitor.report import D3, page_of, told_of
+from sent import clock, group
 from test_report import EVIL, station
 
 LACKING = [*missing(), *([] if Path(D3).exists() else ["libjs-d3"])]
@@ -23,6 +24,18 @@ pytestmark = [
 pytest.importorskip("jinja2")
 
 HOSTILE = printable("\u202eabc <img src=x onerror=alert(1)> A" + "\u0301" * 64 + "\x1b[31m 'q\" &lt;")
+
+
+def told_the_time(seconds: int, slow: float) -> bytes:
+    """A station whose minutes are longer than those of its bits by a share. It begins at 00:30 of 2026-03-29."""
+    groups, minute = [], 31
+    for n in range(int(seconds * 1187.5 / 104)):
+        if (n + 1) * 104 / 1187.5 >= (minute - 30) * 60 * (1 + slow):
+            groups.append(clock(61128, minute // 60, minute % 60, 0))
+            minute += 1
+        else:
+            groups.append(group("0A", n % 4, 0xE0E0, 0x4141))
+    return encode(groups)
 
 
 @pytest.fixture(scope="module")
@@ -43,6 +56,10 @@ def folder(tmp_path_factory: Any) -> Path:
     done = monitor("report", "year.db", cwd=made)
     assert done.returncode == 0, done.stderr
     (made / "year.html").write_bytes(done.stdout)
+    (made / "clock.bin").write_bytes(told_the_time(600, 0.001))
+    done = monitor("report", "--start", "2026-03-29T00:30:00Z", "clock.bin", cwd=made)
+    assert done.returncode == 0, done.stderr
+    (made / "clock.html").write_bytes(done.stdout)
     session = {
         "start": None, "begin": 0, "end": 600, "step": 1, "counts": [[45, 45, 0, 0, 0]] * 600, "outages": [], "mix": [], "clock": [],
         "events": [[9, "RT", HOSTILE], [9, "PS", HOSTILE]], "more": 0, "held": {"PS": HOSTILE, "RT": HOSTILE}, "silent": 0}
@@ -150,6 +167,16 @@ def test_all_lanes_are_drawn(opened: Any) -> None:
         assert name in names
     for kind in ("valid", "missing", "outage", "session", "mix", "item"):
         assert all_of(page, f"rect.{kind}"), kind
+
+
+def test_the_stations_clock(opened: Any) -> None:
+    """A lane shows how far it is from that of the recording: by a minute's 60 ms more each minute."""
+    page = opened("clock")
+    assert "station's clock, less that of the recording" in [it.text for it in all_of(page, ".chart svg > text")]
+    ((line,), (title,)) = all_of(page, ".clock path"), all_of(page, ".clock title")
+    assert len(re.findall("[ML]", line.get_attribute("d"))) + line.get_attribute("d").count(",") > 8
+    first, last = map(float, re.findall(r"(-?[\d.]+) s", title.get_attribute("textContent")))
+    assert -0.72 < first < -0.5 and -0.15 < last <= 0
 
 
 def test_local_time(opened: Any) -> None:

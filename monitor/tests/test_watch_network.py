@@ -256,7 +256,7 @@ class Disk:
             os.truncate(path, self.kept[str(path)])
 
 
-@pytest.mark.parametrize("seed", range(5))
+@pytest.mark.parametrize("seed", range(3))
 def test_power_failures(tmp_path: Path, seed: int, monkeypatch: pytest.MonkeyPatch) -> None:
     """Twelve times, a third of them just after a SIGKILL. The database tells only of rows that are on the disk, so nothing is there twice."""
     chance, disk = random.Random(seed), Disk(monkeypatch, tmp_path)

@@ -17,7 +17,7 @@ from typing import Any, Callable, Dict, Iterator, List, Tuple
 import pytest
 
 from conftest import TOP, encode, monitor
-from network import GROUPS_PER_SECOND, hours_in, numbers_in
+from network import GROUPS_PER_SECOND, decoders_of, hours_in, numbers_in
 
 STATION = TOP / "monitor" / "demo" / "station.py"
 # For a machine that is loaded; nothing waits for so long else.
@@ -79,8 +79,9 @@ class Process:
 
     def receiver(self) -> int:
         """The process of its only receiver."""
-        (found,) = Path(f"/proc/{self.it.pid}/task/{self.it.pid}/children").read_text().split()
-        return int(found)
+        children = Path(f"/proc/{self.it.pid}/task/{self.it.pid}/children").read_text().split()
+        (found,) = {int(it) for it in children} - set(decoders_of(self.it.pid))
+        return found
 
     def end(self, number: int = signal.SIGTERM) -> int:
         self.it.send_signal(number)
