@@ -59,3 +59,5 @@ module _ (bytes : Vec ℕ) (bits : ℕ) (gaps : Vec (ℕ × ℕ)) (made : Made)
             | inr within ↦ by_gaps short within (may_be_gaps 0 gaps.items bits) refl
           ]
         ]
+
+-- (an edit of must-fail/ makes a comment of this file up to here)

@@ -173,3 +173,5 @@ module _ {R W : Type 0} (source : Source R) (sink : Sink W) (job : Job) (reader 
         prefix = prefix_is (source.remaining reader) job task held text r old new all is made prefix;
         broke_off = λ p. (held, gave, prefix_is (Some held) job task held text r old new refl is made prefix p);
       }
+
+-- (an edit of must-fail/ makes a comment of this file up to here)
