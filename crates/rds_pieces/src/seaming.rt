@@ -1,5 +1,5 @@
 //! The seam before a piece: how the state that the pieces before it left runs over it.
-ghost use Rattle.std.specs.Prelude.{◌≡◌, ℕ, Option, ◌+◌, ◌-◌, ◌*◌, ◌≤◌, ◌^◌, IfOk, IsOkUnless};
+ghost use Rattle.std.specs.Prelude.{◌≡◌, ℕ, Option, ◌+◌, ◌-◌, ◌*◌, ◌≤◌, ◌^◌, IfOk, IsOkUnless, length};
 ghost use Rattle.rds_sync.specs.Counting.{IsRest};
 ghost use Rattle.rds_sync.specs.Lawful.{IsLawful};
 ghost use Rattle.rds_sync.specs.Step.{run as run_of};
@@ -92,6 +92,13 @@ fn seam_of(report: Report, end_state: State, met_at: Option<u64>) -> Seam
     }
 }
 
+/// How many items a report has.
+fn item_count(report: &Report) -> usize
+    ensures { result ≡ length report.now.items.list }
+{
+    report.items.len()
+}
+
 /// The totals of what comes after some first items, from those of all and those of the first.
 fn totals_after(all: Totals, first: Totals) -> Totals
     requires { (rest : Totals) × IsRest first all rest }
@@ -127,7 +134,7 @@ fn sewn(beside: Beside, state: State, run: &PieceRun) -> Result<(Report, State),
         None => Ok((report, end_state)),
         Some(_place) => {
             let before = guess.report()?;
-            report.items.append_from(run.list(), before.items.len())?;
+            report.items.append_from(run.list(), item_count(&before))?;
             let rest = totals_after(run.totals(), before.totals);
             report.totals = report.totals.plus(rest);
             Ok((report, run.end_state()))

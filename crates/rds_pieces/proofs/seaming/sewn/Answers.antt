@@ -90,7 +90,7 @@ returns-in_ok-append_from-in-Some-clause-items c =
     let mine = c.in_ok-report.ensures.items ∙ ap (λ (t : TallyOf). listed t.source t.rules t.list) own in
     let before = c.in_ok-before-in-Some.ensures.items ∙ ap (λ (t : TallyOf). listed t.source t.rules t.list) guess in
     sewn_list c.run_laws.ensures r.source r.rules c.args.state r.from r.to place met c.in_ok-report.report.items c.list.result.now c.in_ok-before-in-Some.before.items
-    c.append_from.new.self c.len.result mine c.list.ensures before c.len.ensures c.in_ok-append_from-in-Some.ensures.ok
+    c.append_from.new.self c.item_count.result mine c.list.ensures before c.item_count.ensures c.in_ok-append_from-in-Some.ensures.ok
 
 pub returns-in_ok-append_from-in-Some-clause-totals : goal.returns-in_ok-append_from-in-Some-clause-totals
 returns-in_ok-append_from-in-Some-clause-totals c =
