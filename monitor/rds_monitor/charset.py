@@ -6,6 +6,7 @@ end of the text, and 0x1F a soft hyphen. The table leaves 0x7F and 0xFF empty: t
 from __future__ import annotations
 
 import json
+import re
 import unicodedata
 from functools import lru_cache
 from typing import Any
@@ -90,6 +91,13 @@ def safe_json(value: Any) -> str:
     text = json.dumps(value, ensure_ascii=False, separators=(",", ":"))
     if text.isascii() and text.isprintable():
         return text
-    return "".join(
-        [json.dumps(sign)[1:-1] if bad or _is_unsafe(sign) else sign for sign, bad in zip(text, _marks(text))]
-    )
+    return _RUN.sub(_safe_run, text)
+
+
+# Signs that may be unsafe, after the letter that combining marks may follow.
+_RUN = re.compile(r"[A-Za-z]?[^ -~]+")
+
+
+def _safe_run(found: "re.Match[str]") -> str:
+    run = found[0]
+    return "".join([json.dumps(sign)[1:-1] if bad or _is_unsafe(sign) else sign for sign, bad in zip(run, _marks(run))])

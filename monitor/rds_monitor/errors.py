@@ -40,6 +40,12 @@ class Errors:
         # Of each interval, four numbers: where its last block ends, and its blocks by their outcome.
         self._table = array("q")
 
+    def _grow(self, slot: int) -> None:
+        """Makes room for the intervals up to this one."""
+        lacking = slot + 1 - len(self._table) // 4
+        if lacking > 0:
+            self._table.frombytes(bytes(32 * lacking))
+
     def add(self, rows: Rows) -> None:
         self.add_items(Items.of(rows))
 
@@ -77,10 +83,8 @@ class Errors:
             table[at] = max(table[at], place + BLOCK_BITS)
 
     def _row(self, slot: int) -> int:
-        """The place of an interval in the table, which grows."""
-        lacking = slot + 1 - len(self._table) // 4
-        if lacking > 0:
-            self._table.frombytes(bytes(32 * lacking))
+        """The place of an interval in the table."""
+        self._grow(slot)
         return 4 * slot
 
     def intervals(self, begin: int, end: int) -> Iterator[Interval]:

@@ -27,7 +27,7 @@ from .outages import Outages
 from .parse import FIRST, read_pattern
 
 # With what is in files of its own, since it needs no numpy.
-__all__ = ["BLOCKS", "Errors", "Extent", "Interval", "Mix", "Outages", "Programmes", "begins_of", "groups_in", "kinds_of", "type_names"]
+__all__ = ["BLOCKS", "Errors", "Extent", "Interval", "Mix", "Outages", "Programmes", "ShortErrors", "begins_of", "groups_in", "kinds_of", "type_names"]
 
 
 def begins_of(rows: Rows) -> Rows:
@@ -48,6 +48,24 @@ def kinds_of(groups: Rows) -> Rows:
     for block in BLOCKS:
         kinds[:, block - 1] = groups[f"kind{block}"]
     return kinds
+
+
+class ShortErrors(Errors):
+    """The same by numpy, which is faster if intervals have only some groups, such as those of a second."""
+
+    def add(self, rows: Rows) -> None:
+        groups = groups_in(rows)
+        kinds = kinds_of(groups)
+        read = kinds != MISSING
+        places = places_of(groups)[read]
+        if not len(places):
+            return
+        slots = (places / self._bits).astype("i8")
+        first, after = int(slots.min()), int(slots.max()) + 1
+        self._grow(after)
+        table = numpy.frombuffer(self._table, "i8").reshape(-1, 4)[first:after]
+        table += numpy.bincount(4 * (slots - first) + kinds[read], minlength=table.size).reshape(-1, 4)
+        numpy.maximum.at(table[:, 0], slots - first, places + BLOCK_BITS)
 
 
 def places_of(groups: Rows) -> Rows:

@@ -15,10 +15,11 @@ import numpy
 
 from .charset import printable, safe_json
 from .clock import Clock, clock_of_options, clock_options
-from .errors import Errors, Interval
+from .errors import Interval
 from .info import label
 from .inputs import input_options, open_input
 from .items import GROUP, GROUP_BITS, VALID, Fault
+from .measure import ShortErrors
 from .overview import Span, bad_percent, polyline, tile_of
 from .sessions import Session, sessions_of
 from .stored import Stored, is_database
@@ -95,7 +96,7 @@ class Part:
 
     def __init__(self, session: Session):
         self._session = session
-        self._seconds = Errors(session.clock.rate)
+        self._seconds = ShortErrors(session.clock.rate)
         self._events: List[List[Any]] = []
         self._held: Dict[str, str] = {}
         self._more = 0

@@ -8,6 +8,7 @@ import unicodedata
 import pytest
 from hypothesis import given, strategies as st
 
+from rds_monitor import charset
 from rds_monitor.charset import character, decode, printable, safe_json
 
 # Table E.1 as it is printed: a line per low digit, a column per high digit, 2 to F. The blanks of 7F and FF are empty
@@ -86,6 +87,13 @@ def test_printable_is_one_safe_line(text: str) -> None:
 @given(st.text(), st.text())
 def test_printable_tells_texts_apart(one: str, other: str) -> None:
     assert (printable(one) == printable(other)) == (one == other)
+
+
+@given(st.text(st.one_of(st.characters(), st.sampled_from("aZ1 \u00e9\u0301\u0300\u202e\x7f"))))
+def test_json_is_looked_at_where_it_may_be_unsafe(text: str) -> None:
+    whole = json.dumps(text, ensure_ascii=False)
+    pairs = zip(whole, charset._marks(whole))
+    assert safe_json(text) == "".join(json.dumps(sign)[1:-1] if bad or charset._is_unsafe(sign) else sign for sign, bad in pairs)
 
 
 @given(st.text())

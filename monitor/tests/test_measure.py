@@ -3,7 +3,7 @@
 from __future__ import annotations
 
 import math
-from typing import Dict, Iterator, List, Tuple
+from typing import Dict, Iterator, List, Tuple, Type
 
 import numpy
 import pytest
@@ -12,7 +12,7 @@ from hypothesis import given, settings, strategies as st
 from conftest import rds
 from made import BLOCK_OFFSETS, block, group_row, listing, run, said
 from rds_monitor.items import CORRECTED, GROUP, ITEM, LOST, VALID, Rows
-from rds_monitor.measure import Errors, Outages, Programmes
+from rds_monitor.measure import Errors, Outages, Programmes, ShortErrors
 from rds_monitor.parse import _set_types
 
 WORDS = (0xD393, 0x0548, 0xE0CD, 0x5041)
@@ -255,24 +255,25 @@ def in_chunks(rows: Rows, cuts: List[int]) -> Iterator[Rows]:
     return (rows[begin:end] for begin, end in zip(edges, edges[1:]))
 
 
+@pytest.mark.parametrize("kind", [Errors, ShortErrors])
 @settings(max_examples=150, deadline=None)
 @given(
-    SEEDS,
-    st.lists(st.integers(0, 60), max_size=3),
-    st.sampled_from([26.0, 77.5, 104.0, 1187.5, 5000.3]),
-    st.integers(0, 900),
+    rows=SEEDS,
+    cuts=st.lists(st.integers(0, 60), max_size=3),
+    bits=st.sampled_from([26.0, 77.5, 104.0, 1187.5, 5000.3]),
+    tail=st.integers(0, 900),
 )
-def test_intervals_against_a_loop(rows: Rows, cuts: List[int], bits: float, tail: int) -> None:
-    errors = Errors(bits)
+def test_intervals_against_a_loop(kind: Type[Errors], rows: Rows, cuts: List[int], bits: float, tail: int) -> None:
+    errors = kind(bits)
     for chunk in in_chunks(rows, cuts):
         errors.add(chunk)
     places = list(blocks_in(rows))
     end = places[-1][0] + 26 + tail
     found = list(errors.intervals(0, end))
     counts: Dict[int, Dict[int, int]] = {}
-    for place, kind in places:
-        counts.setdefault(int(place / bits), {}).setdefault(kind, 0)
-        counts[int(place / bits)][kind] += 1
+    for place, outcome in places:
+        counts.setdefault(int(place / bits), {}).setdefault(outcome, 0)
+        counts[int(place / bits)][outcome] += 1
     for at, it in enumerate(found):
         wanted = counts.get(at, {})
         assert (it.valid, it.corrected, it.lost) == (
