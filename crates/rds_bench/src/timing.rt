@@ -1,7 +1,7 @@
 //! Times of the forms of one task, beside one another.
 //!
 //! A form has a bound where its ratio to the first says that work is done once, by tables or by whole words. The bounds
-//! are wide, half of what docs/MEASUREMENTS.md states, so that a busy machine keeps them.
+//! are wide, half of what docs/PERFORMANCE.md states, so that a busy machine keeps them.
 use anyhow::{Result, bail};
 use std::io;
 use std::time::Instant;
