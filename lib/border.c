@@ -173,6 +173,7 @@ static const struct {
     {RDS_OFFSET_RANGE, "OffsetRange", "a number that is none of an offset"},
     {RDS_NO_REFUSAL, "NoRefusal", "a number that is none of a refusal"},
     {RDS_BAD_POINTER, "BadPointer", "a pointer that is not as required"},
+    {RDS_RESERVED_FIELD, "ReservedField", "a reserved field that is not 0"},
 };
 
 static const char unknown[] = "unknown";

@@ -71,10 +71,11 @@ enum {
     RDS_BLOCK_RANGE = 67,     /* a word of more than 26 bits */
     RDS_OFFSET_RANGE = 68,    /* an offset that is none of RDS_A to RDS_C_OR_CX */
     RDS_NO_REFUSAL = 69,      /* no refusal has this number */
-    RDS_BAD_POINTER = 70      /* a pointer that cannot be what is required of it */
+    RDS_BAD_POINTER = 70,     /* a pointer that cannot be what is required of it */
+    RDS_RESERVED_FIELD = 71   /* a reserved field of the rules is not 0 */
 };
 
-/* The twelve totals of a report: 96 bytes. */
+/* The twelve totals of a report: 128 bytes. */
 typedef struct rds_totals_t {
     uint64_t valid;     /* valid blocks */
     uint64_t bursts[5]; /* corrected blocks, by the span of their burst: 1 to 5 bits */
@@ -84,6 +85,7 @@ typedef struct rds_totals_t {
     uint64_t complete;  /* groups of which all four blocks are valid or corrected */
     uint64_t acquired;  /* acquisitions */
     uint64_t losses;    /* losses */
+    uint64_t reserved[4]; /* always 0 */
 } rds_totals_t;
 
 /* A block: 8 bytes, all 0 where it is missing. */
@@ -117,35 +119,47 @@ typedef struct rds_gap_t {
     uint64_t end;
 } rds_gap_t;
 
-/* The numbers of a decoder's rules: 16 bytes. */
+/* The numbers of a decoder's rules: 32 bytes. */
 typedef struct rds_rules_t {
     uint32_t burst; /* the longest burst that is corrected, in bits: 0 to 5 */
     uint32_t reach; /* how many blocks back a partner is looked for while acquiring: 1 to 8 */
     uint32_t loss;  /* after how many bad blocks a lock is lost: 1 to 64 */
     uint32_t of;    /* 0 where these are bad blocks in a row; else among how many of the last blocks: loss to 64 */
+    uint32_t reserved[4]; /* has to be 0 */
 } rds_rules_t;
 
 /* The rules of the program where no option says otherwise. */
-#define RDS_RULES {2, 3, 10, 0}
+#define RDS_RULES {2, 3, 10, 0, {0}}
 
-/* What a run knows between two bits: 24 bytes, all 0 where no block is known, as before the first. They are numbers alone, which
- * may be copied, stored, and gone on with elsewhere by the same rules; runs that know the same have left the same bytes. */
+/* What a run knows between two bits: 40 bytes, all 0 where no block is known, as before the first. They are numbers alone, which
+ * may be copied, stored, and gone on with elsewhere by the same rules; runs that know the same have left the same bytes. A lock names
+ * the rule of loss that its bad blocks were counted by: by another it is refused (65). */
 typedef struct rds_state_t {
     uint64_t due;    /* where the next block ends */
     uint64_t bad;    /* how many of the last blocks in a row were bad; or, by a share, which of the last */
     uint32_t number; /* the number of the next block, 1 to 4, or 0 where no block is known */
     uint32_t first;  /* the number of the first block that was read in the group in progress */
+    uint32_t loss;   /* the rule of loss of a lock, as rules have it, or 0 */
+    uint32_t of;     /* the same */
+    uint64_t reserved; /* always 0 */
 } rds_state_t;
 
-/* What is known of a stream between two chunks: 160 bytes, all 0 where nothing was heard yet. They are numbers alone, which may
+/* What is known of a stream between two chunks: 256 bytes, all 0 where no call was made yet. They are numbers alone, which may
  * be copied, stored, and gone on with elsewhere by the same rules and gaps. However the same bytes were cut, by the same rules and
- * gaps the same 160 bytes are left: they may be compared and hashed. */
+ * gaps the same 256 bytes are left: they may be compared and hashed. What a call left names itself, its version and the rules, in
+ * the order of bytes of the processor: numbers that differ in any of that are refused (65). */
 typedef struct rds_stream_t {
+    uint32_t magic;      /* RDS_STREAM_MAGIC */
+    uint32_t version;    /* RDS_STREAM_VERSION */
+    rds_rules_t rules;   /* by which the stream is decoded */
     uint64_t place;      /* how many bits were heard, which is the place of the next */
     rds_state_t state;   /* the state after them */
     rds_totals_t totals; /* of the items that are complete */
     uint8_t tail[32];    /* the last 30 bytes that were heard, or all, and zeros behind them */
+    uint64_t reserved;   /* always 0 */
 } rds_stream_t;
+
+enum { RDS_STREAM_MAGIC = 0x31534452, RDS_STREAM_VERSION = 1 };
 
 /* The information words of a group's four blocks: 8 bytes. */
 typedef struct rds_words_t {
@@ -161,7 +175,7 @@ typedef struct rds_packed_t {
 #define RDS_NAME_ROOM 16
 
 /* The totals of the first bits bits of the bytes, the highest bit of a byte first, with these gaps, by these rules.
- * Refusals: 1, 2, 3, 15, then 5, 4, 16, and 8. */
+ * Refusals: 71, 1, 2, 3, 15, then 5, 4, 16, and 8. */
 RDS_MUST_USE
 uint8_t rds_totals(const uint8_t *bytes, size_t bytes_len, uint64_t bits, const rds_gap_t *gaps, size_t gaps_len,
                                const rds_rules_t *rules, rds_totals_t *found);
@@ -201,7 +215,7 @@ uint8_t rds_finish_run(const uint8_t *bytes, size_t bytes_len, uint64_t bits, co
  * those of rds_items of all bytes so far, but for the group in progress, which rds_finish gives; no later byte changes them. Numbers
  * that no call can have left are refused (65), such as a byte after the tail that is not zero, or a search that waits for a block;
  * others are gone on with, whoever wrote them. It asks for memory for the tables of the rules, the gaps near the bytes, and the
- * items that 960 bytes may complete. Refusals: 1, 2, 3, 15, then 16, 65, 5 (past 2^36 bits with all bytes that are offered), 64,
+ * items that 960 bytes may complete. Refusals: 71, 1, 2, 3, 15, then 16, 65, 5 (past 2^36 bits with all bytes that are offered), 64,
  * and 8. */
 RDS_MUST_USE
 uint8_t rds_push(const uint8_t *bytes, size_t bytes_len, const rds_gap_t *gaps, size_t gaps_len, const rds_rules_t *rules,

@@ -60,6 +60,12 @@ same 'what librds.so.0 shows' "$declared" "$(nm -D --defined-only "$library/libr
 same 'what librds.a shows' "$declared" "$(nm --defined-only -g "$library/librds.a" | awk 'NF == 3 {print $3}' | sort)"
 same 'what librds.a needs' 'free malloc memcpy memmove memset realloc' "$(nm -u "$library/librds.a" | awk 'NF == 2 {print $2}' | sort | tr '\n' ' ' | sed 's/ $//')"
 
+# What programs that were linked with this so.0 rely on: names, calls and structs. Written by
+# abidw --no-corpus-path --no-comp-dir-path --no-show-locs build/lib/librds.so.0 > tests/library/librds.so.0.abi
+if has abidiff; then
+  tried 'the names, calls and structs of so.0' abidiff tests/library/librds.so.0.abi "$library/librds.so.0"
+fi
+
 tried 'every number of the header' tests/library/header.py "$library" "$program"
 mkdir "$work/border"
 tried 'every pointer of every function' tests/library/border.py "$library" "$work/border"
@@ -162,7 +168,7 @@ fi
 
 # Random calls are answered as a second decoder answers, which was written from docs/MODEL.md alone.
 tried 'making fuzz' "${CC:-cc}" -std=c11 "${strict[@]}" -o "$work/fuzz" tests/library/fuzz.c tests/library/model.c "$library/librds.a"
-tried 'random calls' "$work/fuzz" "${RDS_FUZZ_SECONDS:-20}" "${RDS_FUZZ_SEED:-1}" tests/library/corpus/*
+tried 'random calls' sh -c '"$1" "$2" "$3" < tests/library/corpus.txt' sh "$work/fuzz" "${RDS_FUZZ_SECONDS:-20}" "${RDS_FUZZ_SEED:-1}"
 
 tried 'allocations refused' "$work/refused" "$sample"
 tried 'eight threads' "$work/threads" "$sample"

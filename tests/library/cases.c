@@ -64,6 +64,7 @@ static void read_recording(char **words, struct asked *it)
 {
     it->len = read_bytes(words[0], it->bytes);
     it->bits = strtoull(words[1], NULL, 10);
+    it->rules = (rds_rules_t){0};
     uint32_t *rules[] = {&it->rules.burst, &it->rules.reach, &it->rules.loss, &it->rules.of};
     for (int k = 0; k < 4; k++)
         *rules[k] = (uint32_t)strtoul(words[2 + k], NULL, 10);

@@ -68,8 +68,8 @@ def by_python(asked):
 
 def by_stream(r, data, bits, gaps, rules):
     """The same, in chunks, each from what was told of the stream as bytes; and whether the bytes are those of one that came at once."""
-    items, stream, rest = [], bytes(160), data[: bits // 8]
-    while rest:
+    items, stream, rest = [], bytes(256), data[: bits // 8]
+    while stream == bytes(256) or rest:
         size = r.randrange(1001)
         follower = librds.Follower(rules, gaps, stream)
         items += follower.push(rest[:size])

@@ -1,7 +1,8 @@
 /* Random calls of librds against a second decoder (model.c): each answer and everything written has to be what docs/MODEL.md says.
  *
- * With -fsanitize=fuzzer this is libFuzzer's harness. Else: fuzz SECONDS SEED FILE.. runs each file, and then bytes that are made
- * of them at random, for so many seconds of processor time. At the first difference it prints what differs, and aborts. */
+ * With -fsanitize=fuzzer and -DWITH_LIBFUZZER this is libFuzzer's harness. Else: fuzz SECONDS SEED < CORPUS, where each line of the
+ * corpus is an input in hexadecimal. It runs each, and then bytes that are made of them at random, for so many seconds of processor
+ * time. At the first difference it prints what differs and the input, and aborts. */
 #include "model.h"
 
 #include <stdio.h>
@@ -11,12 +12,23 @@
 
 enum { MOST_BYTES = 512, MOST_GAPS = 6, MOST_ITEMS = 16 * MOST_BYTES + 2 };
 
+/* The input that is tried. */
+static const uint8_t *tried_at;
+static size_t tried_size;
+
+static void fail(int line, const char *what)
+{
+    fprintf(stderr, "fuzz.c:%d: %s\n", line, what);
+    for (size_t k = 0; k < tried_size; k++)
+        fprintf(stderr, "%02x", tried_at[k]);
+    fprintf(stderr, "\n");
+    abort();
+}
+
 #define HOLDS(...)                                                                                                                    \
     do {                                                                                                                              \
-        if (!(__VA_ARGS__)) {                                                                                                         \
-            fprintf(stderr, "fuzz.c:%d: %s\n", __LINE__, #__VA_ARGS__);                                                               \
-            abort();                                                                                                                  \
-        }                                                                                                                             \
+        if (!(__VA_ARGS__))                                                                                                           \
+            fail(__LINE__, #__VA_ARGS__);                                                                                             \
     } while (0)
 
 /* ---- what is asked, made of the input's bytes */
@@ -138,7 +150,10 @@ static void try_whole(const struct asked *it, const struct recording *recording,
 static rds_state_t state_of(const struct knowledge *known, const rds_rules_t *rules)
 {
     rds_state_t state = {.due = known->due, .bad = known->bad, .number = known->number, .first = known->first};
-    (void)rules;
+    if (known->number) {
+        state.loss = rules->loss;
+        state.of = rules->of;
+    }
     return state;
 }
 
@@ -328,6 +343,8 @@ static void try_alone(struct input *in)
 int LLVMFuzzerTestOneInput(const uint8_t *data, size_t size)
 {
     struct input in = {data, data + size};
+    tried_at = data;
+    tried_size = size;
     try_alone(&in);
     struct asked it = next_asked(&in);
     const struct recording recording = {it.bytes, it.bits, it.gaps, it.gaps_len};
@@ -360,12 +377,25 @@ static uint64_t next_random(void)
     return x;
 }
 
-/* One of the files with some bytes changed, or bytes at random. */
-static size_t make(uint8_t *bytes, size_t most, uint8_t *const *files, const size_t *sizes, size_t count)
+enum { MOST_INPUTS = 1000, MOST_SIZE = 1024 };
+static uint8_t inputs[MOST_INPUTS][MOST_SIZE];
+static size_t sizes[MOST_INPUTS];
+
+/* The input that a line spells. */
+static size_t read_line(const char *line, uint8_t *bytes)
+{
+    size_t size = 0;
+    for (unsigned byte; size < MOST_SIZE && sscanf(line + 2 * size, "%2x", &byte) == 1; size++)
+        bytes[size] = (uint8_t)byte;
+    return size;
+}
+
+/* One of the inputs with some bytes changed, or bytes at random. */
+static size_t make(uint8_t *bytes, size_t count)
 {
     size_t k = next_random() % (count + 1), size = k < count ? sizes[k] : 200 + next_random() % 400;
     if (k < count)
-        memcpy(bytes, files[k], size);
+        memcpy(bytes, inputs[k], size);
     else
         for (size_t j = 0; j < size; j++)
             bytes[j] = (uint8_t)(next_random() >> 32);
@@ -373,39 +403,25 @@ static size_t make(uint8_t *bytes, size_t most, uint8_t *const *files, const siz
         bytes[next_random() % size] = (uint8_t)(next_random() >> 32);
     if (next_random() % 4 == 0 && size > 8)
         size -= next_random() % (size / 2);
-    return size < most ? size : most;
+    return size;
 }
 
 int main(int count, char **words)
 {
-    static uint8_t bytes[4096];
-    static uint8_t *files[1000];
-    static size_t sizes[1000];
+    static char line[2 * MOST_SIZE + 2];
+    static uint8_t bytes[MOST_SIZE];
     size_t found = 0;
-    uint64_t tried = 0;
-    if (count < 3)
+    unsigned long long made = 0;
+    if (count != 3)
         return 2;
     x = strtoull(words[2], NULL, 10) * 2654435761u + 88172645463325252u;
-    for (int k = 3; k < count && found < 1000; k++) {
-        FILE *file = fopen(words[k], "rb");
-        if (!file)
-            return 2;
-        size_t size = fread(bytes, 1, sizeof bytes, file);
-        fclose(file);
-        LLVMFuzzerTestOneInput(bytes, size);
-        files[found] = malloc(size ? size : 1);
-        HOLDS(files[found]);
-        memcpy(files[found], bytes, size);
-        sizes[found++] = size;
+    for (; found < MOST_INPUTS && fgets(line, sizeof line, stdin); found++) {
+        sizes[found] = read_line(line, inputs[found]);
+        LLVMFuzzerTestOneInput(inputs[found], sizes[found]);
     }
-    while (clock() / CLOCKS_PER_SEC < atoi(words[1])) {
-        size_t size = make(bytes, sizeof bytes, files, sizes, found);
-        LLVMFuzzerTestOneInput(bytes, size);
-        tried++;
-    }
-    printf("%zu files, %llu inputs made\n", found, (unsigned long long)tried);
-    for (size_t k = 0; k < found; k++)
-        free(files[k]);
-    return 0;
+    for (; clock() / CLOCKS_PER_SEC < atoi(words[1]); made++)
+        LLVMFuzzerTestOneInput(bytes, make(bytes, found));
+    printf("%zu inputs of the corpus, %llu made\n", found, made);
+    return found < 2;
 }
 #endif

@@ -65,11 +65,16 @@ def definitions():
     numbers["RDS_C_OR_CX"] = int(re.search(r"(\d+) => Some\(\(BlockNumber::THREE, Wanted::Either\)\)", asked)[1])
     upper = lambda name: re.sub(r"(?<!^)(?=[A-Z])", "_", name).upper()
     numbers |= {f"RDS_{upper(name)}": number for number, (name, _) in refusals_of_crate().items()}
+    following = text_of(f"{TOP}/crates/rds_abi/src/following.rt")
+    numbers["RDS_STREAM_MAGIC"] = int(re.search(r"MAGIC: u32 = 0x([\dA-F_]+);", following)[1].replace("_", ""), 16)
+    numbers["RDS_STREAM_VERSION"] = int(re.search(r"stream\.version == (\d+)", following)[1])
     return numbers | {"RDS_BAD_POINTER": 70}
 
 
 def compare_enumerators(faults, text):
-    declared = [(name, int(number)) for body in re.findall(r"enum \{(.*?)\}", text, re.S) for name, number in re.findall(r"(\w+) = (\d+)", body)]
+    bodies = re.findall(r"enum \{(.*?)\}", text, re.S)
+    found = [it for body in bodies for it in re.findall(r"(\w+) = (0x)?([\dA-F]+)", body)]
+    declared = [(name, int(number, 16 if hexadecimal else 10)) for name, hexadecimal, number in found]
     faults.same("names of enumerators that are there twice", len(declared), len(dict(declared)))
     wanted, got = definitions(), dict(declared)
     for name in sorted({*wanted, *got}):
@@ -82,8 +87,8 @@ def compare_enumerators(faults, text):
 def compare_macros(faults, text, program):
     help_of_list = says(program, "list", "--help")
     usual = [int(re.search(rf"--{name} .*?\[default: (\d+)\]", help_of_list, re.S)[1]) for name in ("burst", "reach", "loss")]
-    rules = re.search(r"#define RDS_RULES \{(.*?)\}", text)
-    faults.same("RDS_RULES", [*usual, 0], [int(it) for it in rules[1].split(",")])
+    rules = re.search(r"#define RDS_RULES (.*)", text)
+    faults.same("RDS_RULES", [*usual, 0, 0], [int(it) for it in re.findall(r"\d+", rules[1])])
     longest = max(len(name) for name, _ in refusals_of_crate().values())
     room = int(re.search(r"#define RDS_NAME_ROOM (\d+)", text)[1])
     if not longest < room <= 16:
@@ -169,15 +174,17 @@ def facts(structs, reasons):
     yield r"the library's own from (\d+) on", [min(number for number in reasons if number > 60)]
     yield r"too little room \((\d+)\)", [64]
     yield r"can have left are refused \((\d+)\)", [65]
+    yield r"by another it is refused \((\d+)\)", [65]
+    yield r"differ in any of that are refused \((\d+)\)", [65]
     yield r"whether there is one, (\d+)(?: \*)? or (\d+)", [1, 0]
 
 
 def refusal_lists():
     """The order of refusals at each function, as rds_abi's docs have it too."""
-    yield "rds_totals", [1, 2, 3, 15, 5, 4, 16, 8]
+    yield "rds_totals", [71, 1, 2, 3, 15, 5, 4, 16, 8]
     yield "rds_items", [64]
     yield "rds_run", [66, 65, 64]
-    yield "rds_push", [1, 2, 3, 15, 16, 65, 5, 36, 64, 8]
+    yield "rds_push", [71, 1, 2, 3, 15, 16, 65, 5, 36, 64, 8]
     yield "rds_finish", [5]
     yield "rds_finish_with", [4, 5]
     yield "rds_remainder", [67]
@@ -188,7 +195,7 @@ def refusal_lists():
 
 # Numbers that say what they are by themselves, such as a place from 0, or an array of 16 * CHUNK.
 PLAIN = [r"from 0\b", r"stream = \{0\}", r"fread\(bytes, 1, CHUNK, stdin\)\) > 0\)", r"return 1;", r"NULL, 0, &rules", r"k = 0;", r"at = 0;", r"items, 1, &count", r"returns 0, or", r"all 0 where",
-         r", or 0\b", r"\b0 none", r"always 0\b", r"at place 0\b", r"with a 0 behind it", r"the 0 behind it", r"^ \* 0 where", r"\b0 where these"]
+         r", or 0\b", r"\b0 none", r"always 0\b", r"has to be 0\b", r"the rules is not 0\b", r"at place 0\b", r"with a 0 behind it", r"the 0 behind it", r"^ \* 0 where", r"\b0 where these"]
 
 
 def compare_comments(faults, text, structs):

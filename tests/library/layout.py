@@ -175,7 +175,8 @@ def wrong_refusals(header):
         if {int(number): said for number, said in re.findall(row, text_of(f"{TOP}/bindings/{path}"), re.M)} != said_of:
             yield f"bindings/{path}: what is said of refusals"
     in_c = re.findall(r'^    \{RDS_(\w+), "(\w+)", "(.*?)"\},$', text_of(f"{TOP}/lib/border.c"), re.M)
-    if [(upper(name), name, said) for name, said in [*mine.values(), ("BadPointer", BAD_POINTER)]] != in_c:
+    rows = sorted({**mine, 70: ("BadPointer", BAD_POINTER)}.items())
+    if [(upper(name), name, said) for _, (name, said) in rows] != in_c:
         yield "lib/border.c: names and reasons of refusals"
 
 

@@ -70,7 +70,7 @@ static int is_same_in_ranges(const uint8_t *bytes, size_t len, uint64_t bits, co
                              const rds_rules_t *rules, const rds_item_t *items, uint64_t number)
 {
     static rds_item_t room[4096];
-    rds_state_t state = {0, 0, 0, 0};
+    rds_state_t state = {0};
     uint64_t from = 0, done = 0, count;
     uint32_t x = (uint32_t)bits | 1;
     while (from < bits) {
@@ -166,7 +166,7 @@ int main(int count, char **words)
     size_t len, gaps_len = (size_t)(count - 7) / 2;
     uint8_t *bytes = read_all(words[1], &len);
     rds_gap_t *gaps = malloc((gaps_len + 1) * sizeof *gaps);
-    rds_rules_t rules = {(uint32_t)atol(words[3]), (uint32_t)atol(words[4]), (uint32_t)atol(words[5]), (uint32_t)atol(words[6])};
+    rds_rules_t rules = {(uint32_t)atol(words[3]), (uint32_t)atol(words[4]), (uint32_t)atol(words[5]), (uint32_t)atol(words[6]), {0}};
     uint64_t bits = strtoull(words[2], NULL, 10), number = 0, again = 0;
     rds_item_t none, *room;
     if (!gaps)

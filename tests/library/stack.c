@@ -13,7 +13,7 @@ enum { MOST = 8192, GIVEN = 1 << 18, MARK = 0xA5, ROOM = 1 << 14 };
 static uint8_t bytes[1 << 12];
 static size_t len;
 static rds_item_t room[ROOM];
-static const rds_rules_t rules = {5, 8, 1, 0};
+static const rds_rules_t rules = {5, 8, 1, 0, {0}};
 static const rds_gap_t gap = {100, 200};
 
 static uint8_t nothing(void) { return 0; }

@@ -19,7 +19,7 @@ static uint64_t next_random(void)
 }
 
 /* Random numbers in all fields, or, in two of three, such as a stream may have but for a few. */
-static rds_stream_t random_stream(int k)
+static rds_stream_t random_stream(int k, const rds_rules_t *rules)
 {
     rds_stream_t stream;
     uint8_t *at = (uint8_t *)&stream;
@@ -34,6 +34,14 @@ static rds_stream_t random_stream(int k)
         stream.state.bad %= 8;
         stream.state.number %= 6;
         stream.state.first = stream.state.number > 1 ? 1 + stream.state.first % stream.state.number : 1;
+        stream.magic = RDS_STREAM_MAGIC;
+        stream.version = RDS_STREAM_VERSION;
+        stream.rules = *rules;
+        stream.reserved = 0;
+        memset(stream.totals.reserved, 0, sizeof stream.totals.reserved);
+        stream.state.loss = rules->loss;
+        stream.state.of = rules->of;
+        stream.state.reserved = 0;
         if (k % 19) {
             uint64_t kept = stream.place / 8 < 30 ? stream.place / 8 : 30;
             if (stream.state.number == 0)
@@ -56,6 +64,44 @@ static int is_another_tail_refused(void)
     return rds_push(bytes, 40, NULL, 0, &rules, &stream, room, sizeof room / sizeof *room, &taken, &number) == RDS_UNLAWFUL_STATE;
 }
 
+/* Whether a stream that a call left is refused if any byte differs that says what it is, and by other rules. */
+static int are_differences_refused(void)
+{
+    static const rds_rules_t rules = RDS_RULES;
+    static const struct {
+        size_t at, size;
+    } fixed[] = {
+        {offsetof(rds_stream_t, magic), 4},
+        {offsetof(rds_stream_t, version), 4},
+        {offsetof(rds_stream_t, rules), sizeof(rds_rules_t)},
+        {offsetof(rds_stream_t, state) + offsetof(rds_state_t, loss), 16},
+        {offsetof(rds_stream_t, totals) + offsetof(rds_totals_t, reserved), 32},
+        {offsetof(rds_stream_t, tail) + 30, 2},
+        {offsetof(rds_stream_t, reserved), 8},
+    };
+    rds_stream_t left = {0}, stream;
+    uint64_t taken, number;
+    if (rds_push(bytes, 40, NULL, 0, &rules, &left, room, sizeof room / sizeof *room, &taken, &number) || !left.state.number)
+        return 0;
+    for (size_t k = 0; k < sizeof fixed / sizeof *fixed; k++)
+        for (size_t j = 0; j < fixed[k].size; j++) {
+            stream = left;
+            ((uint8_t *)&stream)[fixed[k].at + j] ^= 1;
+            if (rds_push(bytes, 40, NULL, 0, &rules, &stream, room, sizeof room / sizeof *room, &taken, &number) != RDS_UNLAWFUL_STATE)
+                return 0;
+        }
+    for (int k = 0; k < 5; k++) {
+        rds_rules_t other = rules;
+        uint32_t *const numbers[] = {&other.burst, &other.reach, &other.loss, &other.of, &other.reserved[3]};
+        *numbers[k] += k == 3 ? 20 : 1;
+        stream = left;
+        if (rds_push(bytes, 40, NULL, 0, &other, &stream, room, sizeof room / sizeof *room, &taken, &number) !=
+            (k == 4 ? RDS_RESERVED_FIELD : RDS_UNLAWFUL_STATE))
+            return 0;
+    }
+    return 1;
+}
+
 int main(int count, char **words)
 {
     FILE *file = count >= 2 ? fopen(words[1], "rb") : NULL;
@@ -66,10 +112,12 @@ int main(int count, char **words)
     size_t len = fread(bytes, 1, sizeof bytes, file);
     if (!is_another_tail_refused())
         return 7;
+    if (!are_differences_refused())
+        return 8;
     for (int k = 0; k < 60000 / share; k++) {
-        rds_stream_t stream = random_stream(k), before = stream;
         uint64_t r = next_random();
-        rds_rules_t rules = {(uint32_t)(r % 6), 1 + (uint32_t)(r >> 8) % 8, 1 + (uint32_t)(r >> 16) % 64, k % 2 ? 0 : 64};
+        rds_rules_t rules = {(uint32_t)(r % 6), 1 + (uint32_t)(r >> 8) % 8, 1 + (uint32_t)(r >> 16) % 64, k % 2 ? 0 : 64, {0}};
+        rds_stream_t stream = random_stream(k, &rules), before = stream;
         rds_gap_t gap = {stream.place % 1000, stream.place % 1000 + 1 + (r >> 40) % 99};
         size_t from = (r >> 24) % len, more = (r >> 48) % 200;
         more = more < len - from ? more : len - from;

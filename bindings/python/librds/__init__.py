@@ -73,6 +73,7 @@ _REASONS = {
     68: "a number that is none of an offset",
     69: "a number that is none of a refusal",
     70: "a pointer that is not as required",
+    71: "a reserved field that is not 0",
 }
 
 
@@ -363,9 +364,9 @@ class Follower:
     begins.
     """
 
-    def __init__(self, rules: Rules = Rules(), gaps: Gaps = (), stream: bytes = bytes(160)):
+    def __init__(self, rules: Rules = Rules(), gaps: Gaps = (), stream: bytes = bytes(256)):
         if len(_bytes(stream)) != ctypes.sizeof(RdsStream):
-            raise ValueError("a stream is 160 bytes")
+            raise ValueError("a stream is 256 bytes")
         self._rules, self._gaps, self._stream = rules, list(gaps), RdsStream.from_buffer_copy(stream)
         self._lock = threading.Lock()
         self.finish()
@@ -411,7 +412,8 @@ class Follower:
     def _push(self, rooms: Callable[[int], tuple[Any, Any]], data: Buffer) -> list[Any]:
         """The items in parts: a call takes as many bytes as have room, and room for 16 items is never too little."""
         asked = _Asked(data, None, self._gaps, self._rules)
-        parts, done, taken, count = [], 0, ctypes.c_uint64(), ctypes.c_uint64()
+        parts: list[Any] = []
+        done, taken, count = 0, ctypes.c_uint64(), ctypes.c_uint64()
         with self._lock:
             stream = RdsStream.from_buffer_copy(self._stream)
             while not parts or done < asked.length:

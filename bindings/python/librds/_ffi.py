@@ -18,6 +18,7 @@ class RdsTotals(ctypes.Structure):
         ("complete", c_uint64),
         ("acquired", c_uint64),
         ("losses", c_uint64),
+        ("reserved", c_uint64 * 4),
     ]
 
 
@@ -42,15 +43,38 @@ class RdsGap(ctypes.Structure):
 
 
 class RdsRules(ctypes.Structure):
-    _fields_ = [("burst", c_uint32), ("reach", c_uint32), ("loss", c_uint32), ("of", c_uint32)]
+    _fields_ = [
+        ("burst", c_uint32),
+        ("reach", c_uint32),
+        ("loss", c_uint32),
+        ("of", c_uint32),
+        ("reserved", c_uint32 * 4),
+    ]
 
 
 class RdsState(ctypes.Structure):
-    _fields_ = [("due", c_uint64), ("bad", c_uint64), ("number", c_uint32), ("first", c_uint32)]
+    _fields_ = [
+        ("due", c_uint64),
+        ("bad", c_uint64),
+        ("number", c_uint32),
+        ("first", c_uint32),
+        ("loss", c_uint32),
+        ("of", c_uint32),
+        ("reserved", c_uint64),
+    ]
 
 
 class RdsStream(ctypes.Structure):
-    _fields_ = [("place", c_uint64), ("state", RdsState), ("totals", RdsTotals), ("tail", c_uint8 * 32)]
+    _fields_ = [
+        ("magic", c_uint32),
+        ("version", c_uint32),
+        ("rules", RdsRules),
+        ("place", c_uint64),
+        ("state", RdsState),
+        ("totals", RdsTotals),
+        ("tail", c_uint8 * 32),
+        ("reserved", c_uint64),
+    ]
 
 
 class RdsWords(ctypes.Structure):

@@ -21,6 +21,8 @@ pub struct RdsTotals {
     pub acquired: u64,
     /// Losses of it.
     pub losses: u64,
+    /// Always 0.
+    pub reserved: [u64; 4],
 }
 
 #[repr(C)]
@@ -52,12 +54,13 @@ pub struct RdsGap {
 }
 
 #[repr(C)]
-#[derive(Clone, Copy, Debug, PartialEq, Eq, Hash)]
+#[derive(Clone, Copy, Debug, Default, PartialEq, Eq, Hash)]
 pub struct RdsRules {
     pub burst: u32,
     pub reach: u32,
     pub loss: u32,
     pub of: u32,
+    pub reserved: [u32; 4],
 }
 
 /// What a run knows between two bits.
@@ -68,6 +71,9 @@ pub struct RdsState {
     pub bad: u64,
     pub number: u32,
     pub first: u32,
+    pub loss: u32,
+    pub of: u32,
+    pub reserved: u64,
 }
 
 /// What is known of a stream between two chunks: numbers alone. However the same bytes were cut, by the same rules and gaps these
@@ -75,10 +81,14 @@ pub struct RdsState {
 #[repr(C)]
 #[derive(Clone, Copy, Debug, Default, PartialEq, Eq, Hash)]
 pub struct RdsStream {
+    pub magic: u32,
+    pub version: u32,
+    pub rules: RdsRules,
     pub place: u64,
     pub state: RdsState,
     pub totals: RdsTotals,
     pub tail: [u8; 32],
+    pub reserved: u64,
 }
 
 #[repr(C)]

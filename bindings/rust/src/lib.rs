@@ -51,7 +51,7 @@ impl Refused {
 }
 
 /// `tests/library/layout.py` compares these with the proved code, and the last with `lib/border.c`.
-const REASONS: [(u8, &str); 15] = [
+const REASONS: [(u8, &str); 16] = [
     (1, "the burst limit is above 5"),
     (2, "the reach is not 1 to 8"),
     (3, "the loss is not 1 to 64"),
@@ -67,6 +67,7 @@ const REASONS: [(u8, &str); 15] = [
     (68, "a number that is none of an offset"),
     (69, "a number that is none of a refusal"),
     (70, "a pointer that is not as required"),
+    (71, "a reserved field that is not 0"),
 ];
 
 impl fmt::Display for Refused {
@@ -163,7 +164,7 @@ impl Rules {
             LossRule::Share { of: 0, .. } => (0, 1),
             LossRule::Share { bad, of } => (bad, of),
         };
-        RdsRules { burst: self.burst, reach: self.reach, loss, of }
+        RdsRules { burst: self.burst, reach: self.reach, loss, of, reserved: [0; 4] }
     }
 }
 

@@ -11,10 +11,8 @@ use Rattle.rds_live.specs.Live.{IsLive, LiveOf, Terms}
 use Rattle.rds_live.specs.Moving.{moved_item}
 use Rattle.rds_live.specs.Next.{PiecesJoin, before_tail, completed, live_next, moved_back, part_with, run_next}
 use Rattle.rds_abi.specs.Asked.{IsFilled, IsTooMuch}
-use Rattle.rds_abi.specs.Following.{IsLeft, IsMostTaken, RefusesStream, RefusesTold, place_after, stream_of}
+use Rattle.rds_abi.specs.Following.{IsLeft, IsMostTaken, RefusesStream, place_after, stream_of}
 use Rattle.rds_abi.specs.Refusals.{number_of}
-use Rattle.rds_abi.specs.declared.layout.RdsGap.{RdsGap}
-use Rattle.rds_abi.specs.declared.layout.RdsRules.{RdsRules}
 use Rattle.rds_abi.specs.declared.layout.RdsStream.{RdsStream}
 use Rattle.rds_abi.specs.declared.refusal.Refusal.{Refusal}
 use Rattle.rds_abi.specs.declared.refusal.Refusal.TheVariants.{SmallRoom, TooLong}
@@ -139,10 +137,3 @@ roomy law terms s bytes room count r Same (inl (left, fits, much)) is =
     )
 roomy law terms s bytes room count r Same (inr (inl refused, same)) is = absurd (subst (λ (it : Refusal). RefusesStream terms s it) is refused)
 roomy law terms s bytes room count r Same (inr (inr (left, long, too), same)) is = absurd (omega (arith, ap number_of (sym too ∙ is)))
-
--- and no call is refused for want of it because of what was told
-pub told-roomy : (rules : RdsRules) (gaps : List RdsGap) (r : Refusal) → RefusesTold rules gaps r → r ≡ SmallRoom → ⊥
-told-roomy rules gaps r told is = none (subst (λ (it : Refusal). RefusesTold rules gaps it) is told) where
-  none : RefusesTold rules gaps SmallRoom → ⊥
-  none (inl it) = it
-  none (inr it) = it.1

@@ -1,5 +1,5 @@
 -- A stream by the gaps near the part that is heard, in place of all of them.
-use Rattle.std.proofs.Common.{◌≡◌, ◌+◌, ◌-◌, ◌*◌, ◌/◌, ◌^◌, ◌<◌, ◌≤◌, ◌++◌, ◌⊎◌, ℕ, List, ap, ap₂, arith, inl, inr, length, map, min, subst, sym, take, ◌∙◌}
+use Rattle.std.proofs.Common.{◌≡◌, ◌+◌, ◌-◌, ◌*◌, ◌/◌, ◌^◌, ◌<◌, ◌≤◌, ◌++◌, ◌⊎◌, ℕ, List, ap, ap₂, arith, inl, inr, length, map, min, refl, subst, sym, take, ◌∙◌}
 use Rattle.std.proofs.lemmas.List.{length-take}
 use Rattle.rds_sync.specs.Counting.{plus}
 use Rattle.rds_sync.specs.Lawful.{IsLawful}
@@ -12,13 +12,21 @@ use Rattle.rds_live.specs.Live.{HasHeard, LiveOf, Terms, last_bytes, most_kept, 
 use Rattle.rds_live.specs.Moving.{moved_items, moved_state}
 use Rattle.rds_live.specs.Next.{NextIsHeard, before_tail, completed, live_next, moved_back}
 use Rattle.rds_sync.specs.Ranges.{IsInRange}
-use Rattle.rds_abi.specs.Following.{AreCompleted, IsLeft, IsMostTaken, IsNear, RefusesStream, place_after, stream_of, totals_from_c}
+use Rattle.rds_abi.specs.Following.{AreCompleted, IsLeft, IsMostTaken, IsNear, RefusesStream, place_after, stream_in_c, stream_of, totals_from_c, unheard}
 use Rattle.rds_abi.specs.Asked.{IsTooMuch}
 use Rattle.rds_abi.specs.Going.{state_of}
 use Rattle.rds_abi.specs.Layout.{item_in_c}
 use Rattle.rds_abi.specs.declared.layout.RdsStream.{RdsStream}
 use Rattle.rds_abi.specs.declared.refusal.Refusal.{Refusal}
-use Rattle.rds_abi.specs.declared.refusal.Refusal.TheVariants.{BadGaps, BitsPastBytes, BlockRange, BurstRange, LossRange, NoRefusal, OffsetRange, OutOfMemory, PlaceRange, ReachRange, ShareRange, SmallRoom, TooLong, UnlawfulState}
+use Rattle.rds_abi.specs.declared.refusal.Refusal.TheVariants.{BadGaps, BitsPastBytes, BlockRange, BurstRange, LossRange, NoRefusal, OffsetRange, OutOfMemory, PlaceRange, ReachRange, ReservedField, ShareRange, SmallRoom, TooLong, UnlawfulState}
+
+-- terms of the same rules are laid out alike
+same-laid : (one other : LiveOf) → one.terms.rules ≡ other.terms.rules → other ≡ record { terms = other.terms; tail = one.tail; place = one.place; state = one.state; totals = one.totals } → (s : RdsStream)
+    → (s ≡ unheard) ⊎ (s ≡ stream_in_c one) → (s ≡ unheard) ⊎ (s ≡ stream_in_c other)
+same-laid one other rules same s (inl none) = inl none
+same-laid one other rules same s (inr laid) =
+    inr (laid ∙ ap (λ (r : RuleNumbers). stream_in_c (record { terms = record { rules = r; gaps = other.terms.gaps }; tail = one.tail; place = one.place; state = one.state; totals = one.totals })) rules
+    ∙ ap stream_in_c (sym same))
 
 module _ (all near : Terms) (s : RdsStream) (before len : ℕ) (is : IsNear all near before len) where
   -- the same streams may have been left
@@ -32,7 +40,7 @@ module _ (all near : Terms) (s : RdsStream) (before len : ℕ) (is : IsNear all 
       small = left.live.small;
       gaps = is.may;
     };
-    laid = left.laid;
+    laid = same-laid (stream_of near s) (stream_of all s) is.rules refl s left.laid;
   }
 
   pub near-left : IsLeft all s → IsLeft near s
@@ -45,7 +53,7 @@ module _ (all near : Terms) (s : RdsStream) (before len : ℕ) (is : IsNear all 
       small = left.live.small;
       gaps = is.some;
     };
-    laid = left.laid;
+    laid = same-laid (stream_of all s) (stream_of near s) (sym is.rules) refl s left.laid;
   }
 
   -- and the same is refused
@@ -64,6 +72,7 @@ module _ (all near : Terms) (s : RdsStream) (before len : ℕ) (is : IsNear all 
   refused-near BlockRange none = absurd none
   refused-near OffsetRange none = absurd none
   refused-near NoRefusal none = absurd none
+  refused-near ReservedField none = absurd none
 
   -- bytes that lie in the part
   module _ (bytes : List ℕ) (begins : before ≡ before_tail (stream_of all s))

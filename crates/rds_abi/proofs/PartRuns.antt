@@ -78,7 +78,7 @@ module _ (bytes : List ℕ) (bits : ℕ) (gaps : List RdsGap) (rules : RdsRules)
   pub run-asked : RunsMove → run_in_part part numbers here before from to ≡ run_asked (asked bytes bits gaps rules) from to s
   run-asked moves =
       ap (λ (r : RuleNumbers). run_in_part part r here before from to) rules_are
-      ∙ run-in-part moves (recording_of bytes bits gaps) part (rules_of rules) before from to here (state_of s) asked_is.asked.rules begins asked_is.order long is lawful-here heard
+      ∙ run-in-part moves (recording_of bytes bits gaps) part (rules_of rules) before from to here (state_of s) asked_is.asked.rules.range begins asked_is.order long is lawful-here heard
 
   -- and the group in progress at the end, where that is the recording's
   pub end-asked : EndsMove → from ≡ to → moved_items before (items_of_end part numbers here) ≡ items_of_end (recording_of bytes bits gaps) (rules_of rules) (state_of s)

@@ -1,30 +1,28 @@
 -- A stream as a decoder has it, and as its numbers say it.
-use Rattle.std.proofs.Common.{◌≡◌, ◌+◌, ◌*◌, ◌/◌, ◌^◌, ◌<◌, ◌≤◌, ◌++◌, ◌⊎◌, ℕ, List, Option, Some, None, ap, arith, inl, inr, length, map, min, refl, subst, sym, take, ◌∙◌}
+use Rattle.std.proofs.Common.{◌≡◌, ◌+◌, ◌*◌, ◌/◌, ◌^◌, ◌<◌, ◌≤◌, ◌++◌, ◌⊎◌, ℕ, List, Option, Some, None, ap, arith, inl, inr, length, min, refl, subst, sym, take, ◌∙◌}
 use Rattle.std.proofs.lemmas.List.{length-map}
 use Rattle.rds_sync.specs.Advance.{group_item}
 use Rattle.rds_sync.specs.declared.item.Group.{Group as GroupRecord}
 use Rattle.rds_sync.specs.declared.item.Item.{Item}
 use Rattle.rds_live.specs.Live.{HasHeard, LiveOf, Terms, complete, most_kept, report_at, report_of}
-use Rattle.rds_sync.specs.Ranges.{IsInRange}
-use Rattle.rds_abi.specs.Following.{AreClosed, AreLeft, AreTooMany, AreWritten, IsFollowed, IsLeft, RefusesEnd, RefusesFollowed, RefusesLast, RefusesPush, RefusesStream, place_after, stream_of, terms_of}
-use Rattle.rds_abi.specs.Asked.{IsFilled, rules_of}
+use Rattle.rds_abi.specs.Following.{AreClosed, AreLeft, AreTooMany, IsFollowed, IsLeft, RefusesEnd, RefusesFollowed, RefusesLast, RefusesPush, RefusesStream, place_after, stream_of, terms_of}
+use Rattle.rds_abi.specs.Asked.{AreGiven}
 use Rattle.rds_abi.specs.Going.{state_of}
 use Rattle.rds_abi.specs.Layout.{item_in_c, totals_in_c}
 use Rattle.rds_abi.specs.declared.layout.RdsGap.{RdsGap}
 use Rattle.rds_abi.specs.declared.layout.RdsRules.{RdsRules}
 use Rattle.rds_abi.specs.declared.layout.RdsStream.{RdsStream}
 use Rattle.rds_abi.specs.declared.layout.RdsState.{RdsState}
-use Rattle.rds_abi.specs.declared.layout.RdsItem.{RdsItem}
 use Rattle.rds_abi.specs.declared.layout.RdsTotals.{RdsTotals}
 use Rattle.rds_abi.specs.declared.refusal.Refusal.{Refusal}
-use Rattle.rds_abi.specs.declared.refusal.Refusal.TheVariants.{OutOfMemory, SmallRoom, TooLong}
+use Rattle.rds_abi.specs.declared.refusal.Refusal.TheVariants.{SmallRoom, TooLong}
 
 -- what was laid out says what it was laid out of
-pub laid_out : (live : LiveOf) (place : ℕ) (state : RdsState) (totals : RdsTotals) (tail : List ℕ)
+pub laid_out : (live : LiveOf) (magic version : ℕ) (rules : RdsRules) (place : ℕ) (state : RdsState) (totals : RdsTotals) (tail : List ℕ)
     → place ≡ live.place → state_of state ≡ live.state → totals ≡ totals_in_c live.totals
     → take (length live.tail) tail ≡ live.tail → length live.tail ≡ min most_kept (live.place / 8)
-    → stream_of live.terms (record { place = place; state = state; totals = totals; tail = tail }) ≡ live
-laid_out live place state totals tail place_is state_is totals_are tail_is kept =
+    → stream_of live.terms (record { magic = magic; version = version; rules = rules; place = place; state = state; totals = totals; tail = tail; reserved = 0 }) ≡ live
+laid_out live magic version rules place state totals tail place_is state_is totals_are tail_is kept =
     rw (place_is, state_is, totals_are, sym kept, tail_is) refl
 
 -- the numbers that are laid out of what a decoder has become say it by the terms that it began with
@@ -33,37 +31,28 @@ pub says_next : (terms : Terms) (s laid : RdsStream) (live next : LiveOf) → li
 says_next terms s laid live next is same says =
     subst (λ (t : Terms). stream_of t laid ≡ next) (same ∙ ap (λ (l : LiveOf). l.terms) is) says
 
--- what is refused of bytes, where the stream is one that a caller may have kept
-pub refused_bytes : (terms : Terms) (s : RdsStream) (bytes : List ℕ) (refusal : Refusal) (TooMany Same : Type 0) → IsLeft terms s
-    → ((place_after s bytes ≤ 2 ^ 36) × TooMany) ⊎ ((((refusal ≡ TooLong) × (2 ^ 36 < place_after s bytes)) ⊎ (refusal ≡ OutOfMemory)) × Same)
-    → (IsLeft terms s × (place_after s bytes ≤ 2 ^ 36) × TooMany)
-    ⊎ ((RefusesStream terms s refusal ⊎ (IsLeft terms s × (2 ^ 36 < place_after s bytes) × (refusal ≡ TooLong))) × Same)
-refused_bytes terms s bytes r TooMany Same live (inl (fits, many)) = inl (live, fits, many)
-refused_bytes terms s bytes r TooMany Same live (inr (inl (is, long), same)) = inr (inr (live, long, is), same)
-refused_bytes terms s bytes r TooMany Same live (inr (inr is, same)) = inr (inl (subst (λ (refusal : Refusal). RefusesStream terms s refusal) (sym is) tt), same)
-
 -- what is refused of bytes, by rules that are in range
-pub refused_push : (rules : RdsRules) (gaps : List RdsGap) (s : RdsStream) (bytes : List ℕ) (refusal : Refusal) (TooMany Same : Type 0) → IsInRange (rules_of rules)
+pub refused_push : (rules : RdsRules) (gaps : List RdsGap) (s : RdsStream) (bytes : List ℕ) (refusal : Refusal) (TooMany Same : Type 0) → AreGiven rules
     → (IsLeft (terms_of rules gaps) s × (place_after s bytes ≤ 2 ^ 36) × TooMany)
     ⊎ ((RefusesStream (terms_of rules gaps) s refusal ⊎ (IsLeft (terms_of rules gaps) s × (2 ^ 36 < place_after s bytes) × (refusal ≡ TooLong))) × Same)
     → (IsFollowed rules gaps s × (place_after s bytes ≤ 2 ^ 36) × TooMany) ⊎ (RefusesPush rules gaps s bytes refusal × Same)
-refused_push rules gaps s bytes r TooMany Same range (inl (live, fits, many)) = inl (record { range = range; left = live }, fits, many)
+refused_push rules gaps s bytes r TooMany Same range (inl (live, fits, many)) = inl (record { given = range; left = live }, fits, many)
 refused_push rules gaps s bytes r TooMany Same range (inr (inl of_stream, same)) = inr (inl (inr (range, of_stream)), same)
-refused_push rules gaps s bytes r TooMany Same range (inr (inr (live, long, is), same)) = inr (inr (record { range = range; left = live }, long, is), same)
+refused_push rules gaps s bytes r TooMany Same range (inr (inr (live, long, is), same)) = inr (inr (record { given = range; left = live }, long, is), same)
 
 -- and of its end
-pub refused_end : (rules : RdsRules) (gaps : List RdsGap) (s : RdsStream) (refusal : Refusal) (TooMany Same : Type 0) → IsInRange (rules_of rules)
+pub refused_end : (rules : RdsRules) (gaps : List RdsGap) (s : RdsStream) (refusal : Refusal) (TooMany Same : Type 0) → AreGiven rules
     → (IsLeft (terms_of rules gaps) s × TooMany) ⊎ (RefusesStream (terms_of rules gaps) s refusal × Same)
     → (IsFollowed rules gaps s × TooMany) ⊎ (RefusesFollowed rules gaps s refusal × Same)
-refused_end rules gaps s r TooMany Same range (inl (live, many)) = inl (record { range = range; left = live }, many)
+refused_end rules gaps s r TooMany Same range (inl (live, many)) = inl (record { given = range; left = live }, many)
 refused_end rules gaps s r TooMany Same range (inr (of_stream, same)) = inr (inr (range, of_stream), same)
 
 -- and of its last bits
-pub refused_last : (rules : RdsRules) (gaps : List RdsGap) (s : RdsStream) (bytes : List ℕ) (bits : ℕ) (refusal : Refusal) → IsInRange (rules_of rules)
+pub refused_last : (rules : RdsRules) (gaps : List RdsGap) (s : RdsStream) (bytes : List ℕ) (bits : ℕ) (refusal : Refusal) → AreGiven rules
     → RefusesStream (terms_of rules gaps) s refusal ⊎ (IsLeft (terms_of rules gaps) s × RefusesLast s bytes bits refusal)
     → RefusesEnd rules gaps s bytes bits refusal
 refused_last rules gaps s bytes bits r range (inl of_stream) = inl (inr (range, of_stream))
-refused_last rules gaps s bytes bits r range (inr (live, of_last)) = inr (record { range = range; left = live }, of_last)
+refused_last rules gaps s bytes bits r range (inr (live, of_last)) = inr (record { given = range; left = live }, of_last)
 
 module _ (terms : Terms) (s : RdsStream) (live : LiveOf) (is : live ≡ stream_of terms s) where
   -- the group that its end closes
@@ -89,11 +78,7 @@ module _ (terms : Terms) (s : RdsStream) (live : LiveOf) (is : live ≡ stream_o
   fits n = subst (λ (l : LiveOf). l.place + n ≤ 2 ^ 36) is
 
 module _ (wanted : List Item → Type 0) (items : List Item) (found : wanted items) (count : ℕ) (told : count ≡ length items) where
-  -- items that are wanted and were written
-  pub are_written : (given : List Item) (old new : List RdsItem) → given ≡ items → IsFilled (map item_in_c given) old new → AreWritten wanted old new count
-  are_written given old new same filled = (items, found, subst (λ (xs : List Item). IsFilled (map item_in_c xs) old new) same filled, told)
-
-  -- and such as have no room
+  -- items that have no room
   pub too_many : (room : ℕ) → room < length items → AreTooMany wanted room SmallRoom count
   too_many room small =
       let same = length-map items item_in_c in

@@ -1,7 +1,7 @@
 -- What a caller asks for: bytes, how many bits of them, the gaps in these, and the numbers of rules; what is refused of it, and
 -- what is found in it. `totals` and `items` cite it, and by way of `Going` and `Following` the other calls of a decoder. This
 -- project's rules.
-use Rattle.std.specs.Prelude.{◌≡◌, ℕ, ◌*◌, ◌^◌, ◌<◌, ◌≤◌, ◌⊎◌, ◌==◌, ◌++◌, List, drop, length, map, if◌then◌else◌, ⊤}
+use Rattle.std.specs.Prelude.{◌≡◌, ℕ, ◌*◌, ◌^◌, ◌<◌, ◌≤◌, ◌⊎◌, ◌==◌, ◌++◌, List, drop, length, map, replicate, if◌then◌else◌, ⊤}
 use Rattle.rds_stream.specs.Recording.{AreGaps, Signal, bits_of}
 use Rattle.rds_sync.specs.Ranges.{IsInRange, IsRunOutside, IsShareOutside, farthest_reach, longest_burst}
 use Rattle.rds_sync.specs.Report.{report_items}
@@ -16,7 +16,7 @@ use Rattle.rds_abi.specs.declared.layout.RdsRules.{RdsRules}
 use Rattle.rds_abi.specs.declared.layout.RdsItem.{RdsItem}
 use Rattle.rds_abi.specs.declared.layout.RdsTotals.{RdsTotals}
 use Rattle.rds_abi.specs.declared.refusal.Refusal.{Refusal}
-use Rattle.rds_abi.specs.declared.refusal.Refusal.TheVariants.{BadGaps, BitsPastBytes, BurstRange, LossRange, OutOfMemory, ReachRange, ShareRange, SmallRoom, TooLong}
+use Rattle.rds_abi.specs.declared.refusal.Refusal.TheVariants.{BadGaps, BitsPastBytes, BurstRange, LossRange, OutOfMemory, ReachRange, ReservedField, ShareRange, SmallRoom, TooLong}
 
 pub record Asked : Type 0 where
   pub bytes : List ℕ
@@ -60,6 +60,20 @@ RefusesRules rules ShareRange =
 RefusesRules rules OutOfMemory = ⊤
 RefusesRules rules other = ⊥
 
+-- the reserved fields of rules are 0
+abbrev pub AreReserved : RdsRules → Type 0
+AreReserved rules = rules.reserved ≡ replicate 4 0
+
+-- what is refused of rules as C has them: a reserved field first
+abbrev pub RefusesGiven : RdsRules → Refusal → Type 0
+RefusesGiven rules ReservedField = AreReserved rules → ⊥
+RefusesGiven rules refusal = AreReserved rules × RefusesRules (rules_of rules) refusal
+
+-- nothing of them
+pub record AreGiven (rules : RdsRules) : Type 0 where
+  pub reserved : AreReserved rules
+  pub range : IsInRange (rules_of rules)
+
 -- of the recording: its length, then what the bytes hold, then the gaps
 module _ (bytes : List ℕ) (bits : ℕ) (gaps : List RdsGap) where
   abbrev pub RefusesRecording : Refusal → Type 0
@@ -75,12 +89,12 @@ module _ (bytes : List ℕ) (bits : ℕ) (gaps : List RdsGap) where
 
 -- nothing at all
 pub record IsLawful (a : Asked) : Type 0 where
-  pub rules : IsInRange (rules_of a.rules)
+  pub rules : AreGiven a.rules
   pub recording : IsRecording a.bytes a.bits a.gaps
 
 -- the rules first, and then the recording; want of memory at any time
 abbrev pub Refuses : Asked → Refusal → Type 0
-Refuses a refusal = RefusesRules (rules_of a.rules) refusal ⊎ (IsInRange (rules_of a.rules) × RefusesRecording a.bytes a.bits a.gaps refusal)
+Refuses a refusal = RefusesGiven a.rules refusal ⊎ (AreGiven a.rules × RefusesRecording a.bytes a.bits a.gaps refusal)
 
 -- a call that answers this number, not 0, had to refuse something
 abbrev pub RefusedBy : (Refusal → Type 0) → ℕ → Type 0

@@ -1,15 +1,16 @@
 -- A stream that is followed chunk by chunk, from what the caller keeps of it as plain numbers. `push`, `finish` and `finish_with` cite
 -- it. This project's rules.
-use Rattle.std.specs.Prelude.{◌≡◌, ℕ, ◌+◌, ◌-◌, ◌*◌, ◌/◌, ◌^◌, ◌<◌, ◌≤◌, ◌⊎◌, ◌++◌, List, length, map, min, replicate, take, ⊤}
+use Rattle.std.specs.Prelude.{◌≡◌, ℕ, ◌+◌, ◌-◌, ◌*◌, ◌/◌, ◌^◌, ◌<◌, ◌≤◌, ◌⊎◌, ◌++◌, List, [], length, map, min, replicate, take, ⊤}
 use Rattle.rds_stream.specs.Recording.{AreGaps}
-use Rattle.rds_sync.specs.Ranges.{IsInRange}
+use Rattle.rds_sync.specs.Rules.{RuleNumbers}
+use Rattle.rds_sync.specs.Totals.{totals_of}
 use Rattle.rds_sync.specs.declared.item.Item.{Item}
 use Rattle.rds_sync.specs.declared.totals.Totals.{Totals}
 use Rattle.rds_live.specs.Gaps.{gaps_within}
 use Rattle.rds_live.specs.Live.{HasHeard, IsLive, LiveOf, Terms, complete, most_kept, report_at, report_of}
 use Rattle.rds_live.specs.Next.{completed}
-use Rattle.rds_abi.specs.Asked.{IsFilled, IsTooMuch, RefusesRules, gaps_of, rules_of}
-use Rattle.rds_abi.specs.Going.{state_in_c, state_of}
+use Rattle.rds_abi.specs.Asked.{AreGiven, IsFilled, IsTooMuch, RefusesGiven, gaps_of, rules_of}
+use Rattle.rds_abi.specs.Going.{loss_in_c, searching_in_c, state_in_c, state_of}
 use Rattle.rds_abi.specs.Layout.{item_in_c, totals_in_c}
 use Rattle.rds_abi.specs.declared.layout.RdsGap.{RdsGap}
 use Rattle.rds_abi.specs.declared.layout.RdsRules.{RdsRules}
@@ -48,19 +49,53 @@ stream_of terms s = record {
   totals = totals_from_c s.totals;
 }
 
--- and as such numbers: behind the tail stand zeros, so that equal streams are equal numbers
-abbrev pub stream_in_c : LiveOf → RdsStream
-stream_in_c live = record {
-  place = live.place;
-  state = state_in_c live.state;
-  totals = totals_in_c live.totals;
-  tail = live.tail ++ replicate (32 - length live.tail) 0;
+-- rules as C has them
+abbrev pub rules_in_c : RuleNumbers → RdsRules
+rules_in_c rules = record {
+  burst = rules.burst;
+  reach = rules.reach;
+  loss = (loss_in_c rules.loss).0;
+  of = (loss_in_c rules.loss).1;
+  reserved = replicate 4 0;
 }
 
--- a stream that a call can have left: a decoder can know what the numbers say, and they are those that a call writes of it
+-- and as such numbers: by the first a stream is known, and the order of bytes; behind the tail stand zeros; so equal streams are
+-- equal numbers
+abbrev pub stream_in_c : LiveOf → RdsStream
+stream_in_c live = record {
+  magic = 0x31534452;
+  version = 1;
+  rules = rules_in_c live.terms.rules;
+  place = live.place;
+  state = state_in_c live.terms.rules live.state;
+  totals = totals_in_c live.totals;
+  tail = live.tail ++ replicate (32 - length live.tail) 0;
+  reserved = 0;
+}
+
+-- a stream of which nothing was heard yet: all 0
+abbrev pub unheard : RdsStream
+unheard = record {
+  magic = 0;
+  version = 0;
+  rules = record { burst = 0; reach = 0; loss = 0; of = 0; reserved = replicate 4 0 };
+  place = 0;
+  state = searching_in_c;
+  totals = totals_in_c (totals_of []);
+  tail = replicate 32 0;
+  reserved = 0;
+}
+
+-- the numbers around what is known of a stream are those that a call writes
+abbrev pub IsNamed : RuleNumbers → RdsStream → Type 0
+IsNamed rules s =
+    (s.magic ≡ 0x31534452) × (s.version ≡ 1) × (s.rules ≡ rules_in_c rules) × (s.totals.reserved ≡ replicate 4 0) × (s.reserved ≡ 0)
+
+-- a stream that a call can have left: a decoder can know what the numbers say, and they are those that a call writes of it by
+-- these rules, or all 0
 pub record IsLeft (terms : Terms) (s : RdsStream) : Type 0 where
   pub live : IsLive (stream_of terms s)
-  pub laid : s ≡ stream_in_c (stream_of terms s)
+  pub laid : (s ≡ unheard) ⊎ (s ≡ stream_in_c (stream_of terms s))
 
 -- the same rules, and gaps by which the same is heard in the places from `before` on, up to `len` of them
 pub record IsNear (all near : Terms) (before len : ℕ) : Type 0 where
@@ -79,7 +114,7 @@ RefusesGaps gaps other = ⊥
 
 -- the rules first, and then the gaps
 abbrev pub RefusesTold : RdsRules → List RdsGap → Refusal → Type 0
-RefusesTold rules gaps refusal = RefusesRules (rules_of rules) refusal ⊎ (IsInRange (rules_of rules) × RefusesGaps gaps refusal)
+RefusesTold rules gaps refusal = RefusesGiven rules refusal ⊎ (AreGiven rules × RefusesGaps gaps refusal)
 
 -- gaps that no stream may have, and then numbers that no call can have left
 abbrev pub RefusesStream : Terms → RdsStream → Refusal → Type 0
@@ -91,11 +126,11 @@ RefusesStream terms s other = ⊥
 -- the rules first, and then the stream
 abbrev pub RefusesFollowed : RdsRules → List RdsGap → RdsStream → Refusal → Type 0
 RefusesFollowed rules gaps s refusal =
-    RefusesRules (rules_of rules) refusal ⊎ (IsInRange (rules_of rules) × RefusesStream (terms_of rules gaps) s refusal)
+    RefusesGiven rules refusal ⊎ (AreGiven rules × RefusesStream (terms_of rules gaps) s refusal)
 
 -- nothing of it
 pub record IsFollowed (rules : RdsRules) (gaps : List RdsGap) (s : RdsStream) : Type 0 where
-  pub range : IsInRange (rules_of rules)
+  pub given : AreGiven rules
   pub left : IsLeft (terms_of rules gaps) s
 
 -- how many bits were heard once so many bytes more are

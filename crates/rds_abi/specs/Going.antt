@@ -6,6 +6,8 @@ use Rattle.rds_sync.specs.Rules.{RuleNumbers}
 use Rattle.rds_sync.specs.Lawful.{IsLawful as IsLawfulState}
 use Rattle.rds_sync.specs.Step.{items_of_end, run, lock_of}
 use Rattle.rds_sync.specs.declared.item.Item.{Item}
+use Rattle.rds_sync.specs.declared.loss.Loss.{Loss}
+use Rattle.rds_sync.specs.declared.loss.Loss.TheVariants.{Run, Share}
 use Rattle.rds_sync.specs.declared.state.State.{State}
 use Rattle.rds_sync.specs.declared.state.State.TheVariants.{Locked, Searching}
 use Rattle.rds_abi.specs.Asked.{Asked, IsLawful, Refuses, recording_of, rules_of}
@@ -19,14 +21,32 @@ use Rattle.rds_abi.specs.declared.refusal.Refusal.TheVariants.{PlaceRange, Unlaw
 abbrev pub state_of : RdsState → State
 state_of s = if s.number == 0 then Searching else Locked (lock_of s.due s.number s.bad s.first)
 
--- and as such numbers: all 0 where no block is known
-abbrev pub state_in_c : State → RdsState
-state_in_c Searching = record { due = 0; bad = 0; number = 0; first = 0 }
-state_in_c (Locked lock) = record { due = lock.due; bad = lock.bad; number = lock.number; first = lock.first }
+-- a rule of loss as two numbers: how many bad blocks, and among how many, or 0
+abbrev pub loss_in_c : Loss → ℕ × ℕ
+loss_in_c (Run n) = (n, 0)
+loss_in_c (Share bad of) = (bad, of)
+
+-- a search: all 0
+abbrev pub searching_in_c : RdsState
+searching_in_c = record { due = 0; bad = 0; number = 0; first = 0; loss = 0; of = 0; reserved = 0 }
+
+-- and a state by rules as such numbers: all 0 where no block is known, and else with the rule of loss that its bad blocks were
+-- counted by
+abbrev pub state_in_c : RuleNumbers → State → RdsState
+state_in_c rules Searching = searching_in_c
+state_in_c rules (Locked lock) = record {
+  due = lock.due;
+  bad = lock.bad;
+  number = lock.number;
+  first = lock.first;
+  loss = (loss_in_c rules.loss).0;
+  of = (loss_in_c rules.loss).1;
+  reserved = 0;
+}
 
 -- a state that a call can have left before a place: it is lawful there, and its numbers are those that a call writes of it
 abbrev pub IsLeftState : RuleNumbers → ℕ → RdsState → Type 0
-IsLeftState rules place s = IsLawfulState rules place (state_of s) × (s ≡ state_in_c (state_of s))
+IsLeftState rules place s = IsLawfulState rules place (state_of s) × (s ≡ state_in_c rules (state_of s))
 
 -- what else is refused of a run: places that are no range of the recording, and then a state that no call can have left before them
 abbrev pub RefusesPlaces : Asked → ℕ → ℕ → RdsState → Refusal → Type 0

@@ -1,5 +1,5 @@
 -- How totals, blocks and items lie in C: plain numbers alone. Each call that writes some cites it. This project's rules.
-use Rattle.std.specs.Prelude.{ℕ, [], ◌∷◌, map, Option, None, Some, if◌then◌else◌}
+use Rattle.std.specs.Prelude.{ℕ, [], ◌∷◌, map, replicate, Option, None, Some, if◌then◌else◌}
 use Rattle.rds_code.specs.declared.offset.Offset.{Offset}
 use Rattle.rds_code.specs.declared.offset.Offset.TheVariants as offset
 use Rattle.rds_code.specs.declared.reading.Reading.{Reading}
@@ -26,6 +26,7 @@ totals_in_c t = record {
   complete = t.complete;
   acquired = t.acquired;
   losses = t.losses;
+  reserved = replicate 4 0;
 }
 
 -- ---- a block

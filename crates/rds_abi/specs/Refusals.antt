@@ -2,7 +2,7 @@
 -- `name` and `of_number` answer them.
 use Rattle.std.specs.Prelude.{ℕ, List, codes}
 use Rattle.rds_abi.specs.declared.refusal.Refusal.{Refusal}
-use Rattle.rds_abi.specs.declared.refusal.Refusal.TheVariants.{BadGaps, BitsPastBytes, BlockRange, BurstRange, LossRange, NoRefusal, OffsetRange, OutOfMemory, PlaceRange, ReachRange, ShareRange, SmallRoom, TooLong, UnlawfulState}
+use Rattle.rds_abi.specs.declared.refusal.Refusal.TheVariants.{BadGaps, BitsPastBytes, BlockRange, BurstRange, LossRange, NoRefusal, OffsetRange, OutOfMemory, PlaceRange, ReachRange, ReservedField, ShareRange, SmallRoom, TooLong, UnlawfulState}
 
 abbrev pub number_of : Refusal → ℕ
 number_of BurstRange = 1
@@ -19,6 +19,7 @@ number_of PlaceRange = 66
 number_of BlockRange = 67
 number_of OffsetRange = 68
 number_of NoRefusal = 69
+number_of ReservedField = 71
 
 abbrev pub name_of : Refusal → List ℕ
 name_of BurstRange = codes "BurstRange"
@@ -35,3 +36,4 @@ name_of PlaceRange = codes "PlaceRange"
 name_of BlockRange = codes "BlockRange"
 name_of OffsetRange = codes "OffsetRange"
 name_of NoRefusal = codes "NoRefusal"
+name_of ReservedField = codes "ReservedField"

@@ -3,8 +3,7 @@
 ghost use Rattle.std.specs.Prelude.{◌≡◌, ◌*◌, ◌<◌, ◌≤◌, ◌↔◌, IfErr, IfOk, OnOk, length, true};
 ghost use Rattle.std.specs.List.{All, AllAdjacentBelow};
 ghost use Rattle.rds_stream.specs.Recording.{AreGaps, length_of};
-ghost use Rattle.rds_sync.specs.Ranges.{IsInRange};
-ghost use Rattle.rds_abi.specs.Asked.{IsLawful, IsRecording, Refuses, RefusesRecording, RefusesRules, asked, gaps_of, loss_of as the_loss_of, recording_of as the_recording_of, rules_of as the_rules_of};
+ghost use Rattle.rds_abi.specs.Asked.{IsLawful, AreGiven, IsRecording, Refuses, RefusesGiven, RefusesRecording, asked, gaps_of, loss_of as the_loss_of, recording_of as the_recording_of, rules_of as the_rules_of};
 
 use crate::layout::{RdsGap, RdsRules};
 use crate::refusal::Refusal;
@@ -40,9 +39,12 @@ fn numbers_of(asked: RdsRules) -> RuleNumbers
 /// The rules of these numbers.
 pub(crate) fn rules_of(alloc: Global, asked: RdsRules) -> Result<Rules, Refusal>
     ensures rules { IfOk result (λ rules. rules ≡ the_rules_of asked) }
-    ensures range { IfOk result (λ _. IsInRange (the_rules_of asked)) }
-    ensures refused { IfErr result (RefusesRules (the_rules_of asked)) }
+    ensures given { IfOk result (λ _. AreGiven asked) }
+    ensures refused { IfErr result (RefusesGiven asked) }
 {
+    if asked.reserved != [0; 4] {
+        return Err(Refusal::ReservedField);
+    }
     match Rules::of(alloc, numbers_of(asked)) {
         Ok(rules) => {
             let _numbers = rules.numbers();

@@ -1,19 +1,19 @@
 //! A stream that is followed chunk by chunk, from what the caller keeps of it.
 
-ghost use Rattle.std.specs.Prelude.{◌≡◌, ◌++◌, ◌<◌, ◌≤◌, ◌⊎◌, ◌+◌, ◌-◌, ◌*◌, ◌/◌, ◌^◌, ℕ, List, IfErr, IfOk, OnErr, OnOk, length, map, min, replicate, take, vec_capacity};
+ghost use Rattle.std.specs.Prelude.{◌≡◌, ◌++◌, ◌<◌, ◌≤◌, ◌⊎◌, ◌↔◌, true, ◌+◌, ◌-◌, ◌*◌, ◌/◌, ◌^◌, ℕ, List, IfErr, IfOk, OnErr, OnOk, length, map, min, replicate, take, vec_capacity};
 ghost use Rattle.rds_stream.specs.Recording.{AreGaps};
 ghost use Rattle.rds_sync.specs.Advance.{group_item};
 ghost use Rattle.rds_sync.specs.Totals.{totals_of};
 ghost use Rattle.rds_live.specs.Live.{HasHeard, IsLive, complete, most_kept, report_at, report_of};
 ghost use Rattle.rds_live.specs.Next.{completed, live_next};
 ghost use Rattle.rds_sync.specs.Ranges.{IsInRange};
-ghost use Rattle.rds_abi.specs.Asked.{IsFilled, IsTooMuch, RefusesRules, gaps_of, rules_of as the_rules_of};
-ghost use Rattle.rds_abi.specs.Following.{AreClosed, AreCompleted, AreLast, AreLeft, AreTooMany, AreWritten, IsFollowed, IsLeft, IsMostTaken, IsNear, RefusesEnd, RefusesFollowed, RefusesLast, RefusesPush, RefusesStream, RefusesTold, place_after, stream_in_c as the_stream_in_c, stream_of as the_stream_of, terms_of, totals_from_c};
+ghost use Rattle.rds_abi.specs.Asked.{AreGiven, IsFilled, IsTooMuch, gaps_of, rules_of as the_rules_of};
+ghost use Rattle.rds_abi.specs.Following.{AreClosed, AreCompleted, AreLast, AreLeft, AreTooMany, AreWritten, IsFollowed, IsLeft, IsMostTaken, IsNamed, IsNear, RefusesEnd, RefusesFollowed, RefusesLast, RefusesPush, RefusesStream, RefusesTold, place_after, rules_in_c as the_rules_in_c, stream_in_c as the_stream_in_c, stream_of as the_stream_of, terms_of, totals_from_c, unheard};
 ghost use Rattle.rds_abi.specs.Layout.{item_in_c, totals_in_c};
 ghost use Rattle.rds_abi.specs.declared.refusal.Refusal.TheVariants.{BadGaps, BitsPastBytes, OutOfMemory, SmallRoom, TooLong};
 
 use crate::asked::{are_gaps, gaps_in, rules_of};
-use crate::going::{state_in_c, state_of, write_end};
+use crate::going::{loss_in_c, state_in_c, state_of, write_end};
 use crate::in_c::{item_in_c, totals_in_c};
 use crate::layout::{RdsGap, RdsItem, RdsRules, RdsStream, RdsTotals};
 use crate::part::near;
@@ -30,6 +30,9 @@ const MOST_KEPT: u64 = 30;
 
 /// How many bytes a stream has at most.
 const MOST_BYTES: u64 = MOST_BITS / 8;
+
+/// By this number a stream is known, and the order of bytes.
+const MAGIC: u32 = 0x3153_4452;
 
 /// How many bytes a decoder takes at once at most, and how many items a byte may complete.
 const AT_ONCE: usize = 960;
@@ -71,7 +74,7 @@ impl Model for Told {
 /// The rules, and gaps that a stream may have, looked at in this order. Takes no memory for the gaps.
 fn rules_told(alloc: Global, rules: RdsRules, gaps: &[RdsGap]) -> Result<Rules, Refusal>
     ensures rules { IfOk result (λ found. found ≡ the_rules_of rules) }
-    ensures range { IfOk result (λ _. IsInRange (the_rules_of rules)) }
+    ensures given { IfOk result (λ _. AreGiven rules) }
     ensures gaps { IfOk result (λ _. AreGaps (2 ^ 36) (gaps_of gaps.now)) }
     ensures refused { IfErr result (RefusesTold rules gaps.now) }
 {
@@ -85,7 +88,7 @@ fn rules_told(alloc: Global, rules: RdsRules, gaps: &[RdsGap]) -> Result<Rules, 
 /// What is told of a stream, from C.
 fn told_of(alloc: Global, rules: RdsRules, gaps: &[RdsGap]) -> Result<Told, Refusal>
     ensures terms { IfOk result (λ told. told ≡ terms_of rules gaps.now) }
-    ensures range { IfOk result (λ _. IsInRange (the_rules_of rules)) }
+    ensures given { IfOk result (λ _. AreGiven rules) }
     ensures gaps { IfOk result (λ told. AreGaps (2 ^ 36) told.gaps) }
     ensures refused { IfErr result (RefusesTold rules gaps.now) }
 {
@@ -104,7 +107,7 @@ fn told_near(
     len: u64,
 ) -> Result<Told, Refusal>
     ensures near { IfOk result (λ told. IsNear (terms_of rules gaps.now) told before len) }
-    ensures range { IfOk result (λ _. IsInRange (the_rules_of rules)) }
+    ensures given { IfOk result (λ _. AreGiven rules) }
     ensures refused { IfErr result (RefusesTold rules gaps.now) }
 {
     let rules = rules_told(alloc, rules, gaps)?;
@@ -125,7 +128,7 @@ fn live_of<'r>(alloc: Global, told: &'r Told, stream: &RdsStream) -> Result<Live
         return Err(Refusal::UnlawfulState);
     };
     let tail = &stream.tail[..kept_of(stream) as usize];
-    if tail_in_c(tail) != stream.tail {
+    if tail_in_c(tail) != stream.tail || !(is_unheard(stream) || is_named(rules, stream)) {
         return Err(Refusal::UnlawfulState);
     }
     let totals = totals_from_c(stream.totals);
@@ -133,6 +136,39 @@ fn live_of<'r>(alloc: Global, told: &'r Told, stream: &RdsStream) -> Result<Live
         Ok(live) => Ok(live),
         Err(ResumeError::OutOfMemory) => Err(Refusal::OutOfMemory),
         Err(_) => Err(Refusal::UnlawfulState),
+    }
+}
+
+/// Whether nothing was heard of the stream, and no call has left it.
+fn is_unheard(stream: &RdsStream) -> bool
+    ensures { (result ≡ true) ↔ (stream.now ≡ unheard) }
+{
+    *stream == RdsStream::UNHEARD
+}
+
+/// Whether the numbers around what is known of the stream are those that a call writes by these rules.
+fn is_named(rules: &Rules, stream: &RdsStream) -> bool
+    ensures { (result ≡ true) ↔ IsNamed rules.now stream.now }
+{
+    stream.magic == MAGIC
+        && stream.version == 1
+        && stream.rules == rules_in_c(rules)
+        && stream.totals.reserved == [0; 4]
+        && stream.reserved == 0
+}
+
+/// Rules, for C.
+fn rules_in_c(rules: &Rules) -> RdsRules
+    ensures { result ≡ the_rules_in_c rules.now }
+{
+    let numbers = rules.numbers();
+    let (loss, of) = loss_in_c(numbers.loss);
+    RdsRules {
+        burst: numbers.burst,
+        reach: numbers.reach,
+        loss,
+        of,
+        reserved: [0; 4],
     }
 }
 
@@ -155,16 +191,21 @@ fn tail_in_c(tail: &[u8]) -> [u8; 32]
 }
 
 /// What is known of a stream, for C.
-fn stream_in_c(live: &Live<'_>) -> RdsStream
+fn stream_in_c(rules: &Rules, live: &Live<'_>) -> RdsStream
+    requires { live.now.terms.rules ≡ rules.now }
     ensures laid { result ≡ the_stream_in_c live.now }
     ensures says { the_stream_of live.now.terms result ≡ live.now }
     ensures lawful { IsLive live.now }
 {
     RdsStream {
+        magic: MAGIC,
+        version: 1,
+        rules: rules_in_c(rules),
         place: live.place(),
-        state: state_in_c(live.state()),
+        state: state_in_c(rules, live.state()),
         totals: totals_in_c(live.totals()),
         tail: tail_in_c(live.tail()),
+        reserved: 0,
     }
 }
 
@@ -282,7 +323,7 @@ fn go_on(
         return Err(Refusal::TooLong);
     }
     let mut some = Vec::with_capacity(alloc, ITEMS_A_BYTE * bytes.len().clamp(1, AT_ONCE))?;
-    match take_fitting(&mut live, bytes, stream, room, &mut some) {
+    match take_fitting(&mut live, &told.rules, bytes, stream, room, &mut some) {
         Ok(fit) => {
             *taken = fit.taken as u64;
             *count = fit.count as u64;
@@ -306,11 +347,13 @@ struct Fit {
 /// then to the stream. Refuses if the items of the first byte do not fit, and tells how many they are.
 fn take_fitting(
     live: &mut Live<'_>,
+    rules: &Rules,
     bytes: &[u8],
     stream: &mut RdsStream,
     room: &mut [RdsItem],
     some: &mut Vec<Item>,
 ) -> Result<Fit, usize>
+    requires rules { live.old.terms.rules ≡ rules.now }
     requires capacity { 16 ≤ vec_capacity some.old }
     requires fits { live.old.place + 8 * length bytes.now ≤ 2 ^ 36 }
     requires range { IsInRange live.old.terms.rules }
@@ -327,10 +370,11 @@ fn take_fitting(
     ensures untouched { OnErr result ((room.new ≡ room.old) × (stream.new ≡ stream.old)) }
 {
     pieces_join();
-    let mut fit = take_piece(live, bytes, stream, room, some)?;
+    let mut fit = take_piece(live, rules, bytes, stream, room, some)?;
     while fit.taken < bytes.len() {
         match take_piece(
             live,
+            rules,
             &bytes[fit.taken..],
             stream,
             &mut room[fit.count..],
@@ -352,11 +396,13 @@ fn take_fitting(
 /// what is known then to the stream. Refuses if the items of one byte do not fit, and tells how many they are.
 fn take_piece(
     live: &mut Live<'_>,
+    rules: &Rules,
     bytes: &[u8],
     stream: &mut RdsStream,
     room: &mut [RdsItem],
     some: &mut Vec<Item>,
 ) -> Result<Fit, usize>
+    requires rules { live.old.terms.rules ≡ rules.now }
     requires capacity { 16 ≤ vec_capacity some.old }
     requires fits { live.old.place + 8 * length bytes.now ≤ 2 ^ 36 }
     ensures capacity { vec_capacity some.new ≡ vec_capacity some.old }
@@ -386,7 +432,7 @@ fn take_piece(
                 return Err(count);
             }
             fill_room(room, items);
-            *stream = stream_in_c(live);
+            *stream = stream_in_c(rules, live);
             Ok(Fit { taken, count })
         }
         Err(_) => unreachable!(),

@@ -1,6 +1,6 @@
 //! A run that goes on from a state which the caller keeps.
 
-ghost use Rattle.std.specs.Prelude.{◌≡◌, ◌≢◌, ◌+◌, ◌-◌, ◌^◌, ◌<◌, ◌≤◌, ◌⊎◌, ℕ, All, IfErr, IfOk, IfSome, IsOkUnless, None, OnErr, OnOk, length, map};
+ghost use Rattle.std.specs.Prelude.{◌≡◌, ◌≢◌, ◌+◌, ◌-◌, ◌^◌, ◌<◌, ◌≤◌, ◌⊎◌, ◌↔◌, ℕ, true, All, IfErr, IfOk, IfSome, IsOkUnless, None, OnErr, OnOk, length, map};
 ghost use Rattle.rds_stream.specs.Recording.{length_of};
 ghost use Rattle.rds_sync.specs.Advance.{group_item};
 ghost use Rattle.rds_sync.specs.Lawful.{IsLawful as IsLawfulState};
@@ -11,7 +11,7 @@ ghost use Rattle.rds_live.specs.Moving.{IsPartHeard, moved_item, moved_items, mo
 ghost use Rattle.rds_live.specs.Places.{place_of};
 ghost use Rattle.rds_abi.specs.Asked.{IsFilled, IsTooMuch, asked, recording_of as the_recording_of, rules_of as the_rules_of};
 ghost use Rattle.rds_abi.specs.declared.refusal.Refusal.TheVariants.{OutOfMemory, PlaceRange, SmallRoom, UnlawfulState};
-ghost use Rattle.rds_abi.specs.Going.{IsLeftState, IsRun, RefusesRun, items_at_end, items_of_run, run_asked, run_in_part, state_in_c as the_state_in_c, state_of as the_state_of};
+ghost use Rattle.rds_abi.specs.Going.{IsLeftState, IsRun, RefusesRun, items_at_end, items_of_run, loss_in_c as the_loss_in_c, run_asked, run_in_part, searching_in_c, state_in_c as the_state_in_c, state_of as the_state_of};
 ghost use Rattle.rds_abi.specs.Layout.{item_in_c};
 
 use crate::asked::{refuse_recording, rules_of};
@@ -21,7 +21,7 @@ use crate::part::{Part, moved_back, moved_on, part_of};
 use crate::refusal::Refusal;
 use rds_live::laws::{ends_move, runs_move};
 use rds_stream::{Counted, MOST_BITS};
-use rds_sync::{Decoder, Group, Item, Lock, Rules, Spans, State, finish, laws, run_report};
+use rds_sync::{Decoder, Group, Item, Lock, Loss, Rules, Spans, State, finish, laws, run_report};
 use std::alloc::Global;
 
 /// The lock that these numbers say, of a block that is known, or none where it is not lawful before `place`.
@@ -31,7 +31,7 @@ fn lock_of(rules: &Rules, s: RdsState, place: u64) -> Option<State>
     ensures left { IfSome result (λ _. IsLeftState rules.now place s) }
     ensures none { result ≡ None → IsLeftState rules.now place s → ⊥ }
 {
-    if s.number > 4 || s.first > 4 {
+    if s.number > 4 || s.first > 4 || !is_by(rules.loss(), s) {
         return None;
     }
     let state = State::Locked(Lock {
@@ -47,13 +47,32 @@ fn lock_of(rules: &Rules, s: RdsState, place: u64) -> Option<State>
     }
 }
 
+/// Whether the numbers name this rule of loss, and nothing else stands behind it.
+fn is_by(loss: Loss, s: RdsState) -> bool
+    ensures { (result ≡ true) ↔ ((s.loss ≡ (the_loss_in_c loss).0) × (s.of ≡ (the_loss_in_c loss).1) × (s.reserved ≡ 0)) }
+{
+    let (bad, of) = loss_in_c(loss);
+    s.loss == bad && s.of == of && s.reserved == 0
+}
+
+/// A rule of loss as two numbers: how many bad blocks, and among how many, or 0.
+pub(crate) fn loss_in_c(loss: Loss) -> (u32, u32)
+    ensures { result ≡ the_loss_in_c loss }
+{
+    match loss {
+        Loss::Run(bad) => (bad, 0),
+        Loss::Share { bad, of } => (bad, of),
+    }
+}
+
 /// A search, or none where its numbers are not all 0.
 fn search_of(s: RdsState) -> Option<State>
     requires { s.number ≡ 0 }
-    ensures some { IfSome result (λ state. (state ≡ Searching) × (s ≡ the_state_in_c Searching)) }
-    ensures none { result ≡ None → s ≡ the_state_in_c Searching → ⊥ }
+    ensures some { IfSome result (λ state. (state ≡ Searching) × (s ≡ searching_in_c)) }
+    ensures none { result ≡ None → s ≡ searching_in_c → ⊥ }
 {
-    if s.due == 0 && s.bad == 0 && s.first == 0 {
+    let is_by_none = s.loss == 0 && s.of == 0 && s.reserved == 0;
+    if s.due == 0 && s.bad == 0 && s.first == 0 && is_by_none {
         Some(State::Searching)
     } else {
         None
@@ -73,19 +92,25 @@ pub(crate) fn state_of(rules: &Rules, s: RdsState, place: u64) -> Option<State>
     }
 }
 
-/// A state, for C.
-pub(crate) fn state_in_c(state: State) -> RdsState
-    ensures value { result ≡ the_state_in_c state }
+/// A state by these rules, for C.
+pub(crate) fn state_in_c(rules: &Rules, state: State) -> RdsState
+    ensures value { result ≡ the_state_in_c rules.now state }
     ensures says { (rules : RuleNumbers) (place : ℕ) → IsLawfulState rules place state → the_state_of result ≡ state }
 {
     match state {
         State::Searching => RdsState::SEARCHING,
-        State::Locked(lock) => RdsState {
-            due: lock.due,
-            bad: lock.bad,
-            number: u32::from(lock.number),
-            first: u32::from(lock.first),
-        },
+        State::Locked(lock) => {
+            let (loss, of) = loss_in_c(rules.loss());
+            RdsState {
+                due: lock.due,
+                bad: lock.bad,
+                number: u32::from(lock.number),
+                first: u32::from(lock.first),
+                loss,
+                of,
+                reserved: 0,
+            }
+        }
     }
 }
 
@@ -167,7 +192,7 @@ pub fn run(
     ensures count { OnOk result (count.new ≡ length (items_of_run (asked bytes.now bits gaps.now rules) range.0 range.1 state.old)) }
     ensures state { OnOk result (the_state_of state.new
         ≡ (run_asked (asked bytes.now bits gaps.now rules) range.0 range.1 state.old).0) }
-    ensures laid { OnOk result (state.new ≡ the_state_in_c (run_asked (asked bytes.now bits gaps.now rules) range.0 range.1 state.old).0) }
+    ensures laid { OnOk result (state.new ≡ the_state_in_c (the_rules_of rules) (run_asked (asked bytes.now bits gaps.now rules) range.0 range.1 state.old).0) }
     ensures next { OnOk result (IsLeftState (the_rules_of rules) range.1 state.new) }
     ensures lawful { OnOk result (IsRun (asked bytes.now bits gaps.now rules) range.0 range.1 state.old) }
     ensures untouched { OnErr result ((room.new ≡ room.old) × (state.new ≡ state.old)) }
@@ -197,7 +222,7 @@ fn go_on(
     requires begin { IsLawfulState start.now.rules (range.0 - start.now.part.before) start.now.state }
     ensures filled { OnOk result (IsFilled (map item_in_c (run_in_part start.now.part.recording start.now.rules start.now.state start.now.part.before range.0 range.1).1) room.old room.new) }
     ensures count { OnOk result (count.new ≡ length (run_in_part start.now.part.recording start.now.rules start.now.state start.now.part.before range.0 range.1).1) }
-    ensures laid { OnOk result (state.new ≡ the_state_in_c (run_in_part start.now.part.recording start.now.rules start.now.state start.now.part.before range.0 range.1).0) }
+    ensures laid { OnOk result (state.new ≡ the_state_in_c start.now.rules (run_in_part start.now.part.recording start.now.rules start.now.state start.now.part.before range.0 range.1).0) }
     ensures state { OnOk result (the_state_of state.new ≡ (run_in_part start.now.part.recording start.now.rules start.now.state start.now.part.before range.0 range.1).0) }
     ensures next { OnOk result (IsLeftState start.now.rules range.1 state.new) }
     ensures untouched { OnErr result ((room.new ≡ room.old) × (state.new ≡ state.old)) }
@@ -215,7 +240,7 @@ fn go_on(
     }
     let items = Decoder::new(&start.part.recording, &start.rules, start.state, from, to);
     fill_run(room, items, before);
-    *state = state_in_c(moved_on(end, before));
+    *state = state_in_c(&start.rules, moved_on(end, before));
     Ok(())
 }
 

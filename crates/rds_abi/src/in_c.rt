@@ -21,6 +21,7 @@ pub(crate) fn totals_in_c(totals: Totals) -> RdsTotals
         complete: totals.complete,
         acquired: totals.acquired,
         losses: totals.losses,
+        reserved: [0; 4],
     }
 }
 

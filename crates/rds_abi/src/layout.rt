@@ -10,7 +10,7 @@ pub struct RdsGap {
     pub end: u64,
 }
 
-/// The numbers of a decoder's rules: 16 bytes.
+/// The numbers of a decoder's rules: 32 bytes.
 #[repr(C)]
 #[derive(Clone, Copy, Debug, PartialEq, Eq)]
 pub struct RdsRules {
@@ -22,6 +22,8 @@ pub struct RdsRules {
     pub loss: u32,
     /// 0 where these are bad blocks in a row; else among how many of the last blocks they are: `loss` to 64.
     pub of: u32,
+    /// Has to be 0.
+    pub reserved: [u32; 4],
 }
 
 /// The information words of a group's four blocks: 8 bytes.
@@ -38,7 +40,7 @@ pub struct RdsPacked {
     pub bytes: [u8; 13],
 }
 
-/// The twelve totals of a report: 96 bytes.
+/// The twelve totals of a report: 128 bytes.
 #[repr(C)]
 #[derive(Clone, Copy, Debug, PartialEq, Eq)]
 pub struct RdsTotals {
@@ -58,6 +60,8 @@ pub struct RdsTotals {
     pub acquired: u64,
     /// Losses.
     pub losses: u64,
+    /// Always 0.
+    pub reserved: [u64; 4],
 }
 
 impl RdsTotals {
@@ -71,6 +75,7 @@ impl RdsTotals {
         complete: 0,
         acquired: 0,
         losses: 0,
+        reserved: [0; 4],
     };
 }
 
@@ -118,7 +123,7 @@ pub struct RdsItem {
     pub unused: u32,
 }
 
-/// What a run knows between two bits: 24 bytes, all 0 where no block is known.
+/// What a run knows between two bits: 40 bytes, all 0 where no block is known.
 #[repr(C)]
 #[derive(Clone, Copy, Debug, PartialEq, Eq)]
 pub struct RdsState {
@@ -131,6 +136,12 @@ pub struct RdsState {
     pub number: u32,
     /// The number of the first block that was read in the group in progress.
     pub first: u32,
+    /// The rule of loss that the bad blocks were counted by, as the rules have it.
+    pub loss: u32,
+    /// The same.
+    pub of: u32,
+    /// Always 0.
+    pub reserved: u64,
 }
 
 impl RdsState {
@@ -140,13 +151,22 @@ impl RdsState {
         bad: 0,
         number: 0,
         first: 0,
+        loss: 0,
+        of: 0,
+        reserved: 0,
     };
 }
 
-/// What is known of a stream between two chunks: 160 bytes, all 0 where nothing was heard yet.
+/// What is known of a stream between two chunks: 256 bytes, all 0 where nothing was heard yet.
 #[repr(C)]
 #[derive(Clone, Copy, Debug, PartialEq, Eq)]
 pub struct RdsStream {
+    /// By this number a stream is known, and the order of bytes: 0x31534452.
+    pub magic: u32,
+    /// The version of these numbers: 1.
+    pub version: u32,
+    /// The rules that the stream is decoded by.
+    pub rules: RdsRules,
     /// How many bits were heard, which is the place of the next.
     pub place: u64,
     /// The state after them.
@@ -155,14 +175,26 @@ pub struct RdsStream {
     pub totals: RdsTotals,
     /// The last 30 bytes that were heard, or all, and then zeros.
     pub tail: [u8; 32],
+    /// Always 0.
+    pub reserved: u64,
 }
 
 impl RdsStream {
     /// A stream of which nothing was heard yet.
     pub const UNHEARD: RdsStream = RdsStream {
+        magic: 0,
+        version: 0,
+        rules: RdsRules {
+            burst: 0,
+            reach: 0,
+            loss: 0,
+            of: 0,
+            reserved: [0; 4],
+        },
         place: 0,
         state: RdsState::SEARCHING,
         totals: RdsTotals::NONE,
         tail: [0; 32],
+        reserved: 0,
     };
 }

@@ -52,6 +52,9 @@ pub enum Refusal {
     /// A number that is none of a refusal.
     #[error("a number that is none of a refusal")]
     NoRefusal,
+    /// A reserved field of the rules is not 0.
+    #[error("a reserved field that is not 0")]
+    ReservedField,
 }
 
 impl Refusal {
@@ -76,6 +79,7 @@ impl Refusal {
             Refusal::BlockRange => 67,
             Refusal::OffsetRange => 68,
             Refusal::NoRefusal => 69,
+            Refusal::ReservedField => 71,
         }
     }
 
@@ -99,6 +103,7 @@ impl Refusal {
             67 => Some(Refusal::BlockRange),
             68 => Some(Refusal::OffsetRange),
             69 => Some(Refusal::NoRefusal),
+            71 => Some(Refusal::ReservedField),
             _ => None,
         }
     }
@@ -122,6 +127,7 @@ impl Refusal {
             Refusal::BlockRange => "BlockRange",
             Refusal::OffsetRange => "OffsetRange",
             Refusal::NoRefusal => "NoRefusal",
+            Refusal::ReservedField => "ReservedField",
         }
     }
 }

@@ -27,7 +27,7 @@ pub extern "C" fn rds_run(
     ensures count { result ≡ 0 → count.new ≡ length (items_of_run (asked bytes.now bits gaps.now rules.now) from to state.old) }
     ensures state { result ≡ 0 → state_of state.new
         ≡ (run_asked (asked bytes.now bits gaps.now rules.now) from to state.old).0 }
-    ensures laid { result ≡ 0 → state.new ≡ state_in_c (run_asked (asked bytes.now bits gaps.now rules.now) from to state.old).0 }
+    ensures laid { result ≡ 0 → state.new ≡ state_in_c (rules_of rules.now) (run_asked (asked bytes.now bits gaps.now rules.now) from to state.old).0 }
     ensures next { result ≡ 0 → IsLeftState (rules_of rules.now) to state.new }
     ensures lawful { result ≡ 0 → IsRun (asked bytes.now bits gaps.now rules.now) from to state.old }
     ensures refused { result ≢ 0 → RefusedBy (λ refusal.

@@ -33,6 +33,7 @@ pub fn six_bits_refused(alloc: Global, bytes: &[u8], reach: u32) -> Option<Refus
         reach,
         loss: 1,
         of: 0,
+        reserved: [0; 4],
     };
     totals(alloc, bytes, 0, &[], rules).err()
 }

@@ -12,11 +12,10 @@ use Rattle.rds_sync.specs.Step.{lock_of}
 use Rattle.rds_abi.specs.Asked.{loss_of}
 use Rattle.rds_live.specs.Live.{Terms, live_of}
 use Rattle.rds_abi.specs.Blocks.{block_wanted}
-use Rattle.rds_abi.specs.Following.{stream_of}
-use Rattle.rds_abi.specs.Going.{state_of}
+use Rattle.rds_abi.specs.Following.{stream_of, unheard}
+use Rattle.rds_abi.specs.Going.{searching_in_c, state_of}
 use Rattle.rds_abi.specs.Layout.{item_in_c, no_block}
 use Rattle.rds_abi.specs.declared.layout.RdsRules.{RdsRules}
-use Rattle.rds_abi.specs.declared.layout.RdsStream.{RdsStream}
 
 -- a group with a block of each kind
 pub each_kind : item_in_c (Group (record {
@@ -51,10 +50,10 @@ lost = refl
 
 -- ten in a row, and five of the last twenty
 abbrev pub in_a_row : RdsRules
-in_a_row = record { burst = 2; reach = 3; loss = 10; of = 0 }
+in_a_row = record { burst = 2; reach = 3; loss = 10; of = 0; reserved = replicate 4 0 }
 
 abbrev pub of_twenty : RdsRules
-of_twenty = record { burst = 2; reach = 3; loss = 5; of = 20 }
+of_twenty = record { burst = 2; reach = 3; loss = 5; of = 20; reserved = replicate 4 0 }
 
 pub run_of_ten : loss_of in_a_row ≡ Run 10
 run_of_ten = refl
@@ -63,21 +62,13 @@ pub five_of_twenty : loss_of of_twenty ≡ Share 5 20
 five_of_twenty = refl
 
 -- a lock, and a search
-pub three_in_a_row : state_of (record { due = 100; bad = 3; number = 2; first = 1 }) ≡ Locked (lock_of 100 2 3 1)
+pub three_in_a_row : state_of (record { due = 100; bad = 3; number = 2; first = 1; loss = 10; of = 0; reserved = 0 }) ≡ Locked (lock_of 100 2 3 1)
 three_in_a_row = refl
 
-pub zeros : state_of (record { due = 0; bad = 0; number = 0; first = 0 }) ≡ Searching
+pub zeros : state_of searching_in_c ≡ Searching
 zeros = refl
 
 -- of a stream of zeros nothing was heard
-abbrev pub unheard : RdsStream
-unheard = record {
-  place = 0;
-  state = record { due = 0; bad = 0; number = 0; first = 0 };
-  totals = record { valid = 0; bursts = 0 ∷ 0 ∷ 0 ∷ 0 ∷ 0 ∷ []; lost = 0; bits = 0; groups = 0; complete = 0; acquired = 0; losses = 0 };
-  tail = replicate 32 0;
-}
-
 pub nothing_heard : (terms : Terms) → stream_of terms unheard ≡ live_of terms []
 nothing_heard terms = refl
 

@@ -11,4 +11,4 @@ returns-clause-totals c = rw c.in_ok-told.ensures.terms at c.close.ensures.total
 pub returns-clause-refused : goal.returns-clause-refused
 returns-clause-refused c =
     let refused = rw c.in_ok-told.ensures.terms at c.close.ensures.refused in
-    IfErr-weaker c.close.result _ _ (λ refusal. refused_end c.args.rules c.args.gaps.now c.args.stream.now refusal _ _ c.in_ok-told.ensures.range) refused
+    IfErr-weaker c.close.result _ _ (λ refusal. refused_end c.args.rules c.args.gaps.now c.args.stream.now refusal _ _ c.in_ok-told.ensures.given) refused

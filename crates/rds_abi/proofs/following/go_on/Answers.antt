@@ -1,4 +1,4 @@
-use Rattle.std.proofs.Common.{◌≡◌, ◌<◌, arith, inl, length, refl, subst, take}
+use Rattle.std.proofs.Common.{◌≡◌, ◌<◌, arith, inl, inr, length, refl, subst, take}
 use Rattle.std.proofs.lemmas.List.{length-map}
 use Rattle.rds_live.specs.Live.{LiveOf}
 use Rattle.rds_live.specs.Next.{completed}
@@ -18,7 +18,7 @@ returns-in-Ok-clause-most c = rw c.in_ok-live.ensures.live at c.in-Ok.ensures.mo
 pub returns-in-Ok-clause-next : goal.returns-in-Ok-clause-next
 returns-in-Ok-clause-next c = record {
   live = rw c.in_ok-live.ensures.live at c.in-Ok.ensures.live;
-  laid = subst (λ (l : LiveOf). c.take_fitting.new.stream ≡ stream_in_c (stream_of l.terms c.take_fitting.new.stream)) c.in_ok-live.ensures.live c.in-Ok.ensures.laid;
+  laid = inr (subst (λ (l : LiveOf). c.take_fitting.new.stream ≡ stream_in_c (stream_of l.terms c.take_fitting.new.stream)) c.in_ok-live.ensures.live c.in-Ok.ensures.laid);
 }
 
 pub returns-clause-refused : goal.returns-clause-refused

@@ -12,4 +12,4 @@ pub returns-clause-refused : goal.returns-clause-refused
 returns-clause-refused c =
     let refused = rw c.in_ok-told.ensures.terms at c.last_of.ensures.refused in
     IfErr-weaker c.last_of.result _ _
-    (λ refusal. refused_last c.args.rules c.args.gaps.now c.args.stream.now c.args.bytes.now c.args.bits refusal c.in_ok-told.ensures.range) refused
+    (λ refusal. refused_last c.args.rules c.args.gaps.now c.args.stream.now c.args.bytes.now c.args.bits refusal c.in_ok-told.ensures.given) refused

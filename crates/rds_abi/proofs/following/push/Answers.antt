@@ -3,8 +3,10 @@ use Rattle.std.proofs.lemmas.List.{length-take}
 use Rattle.std.proofs.lemmas.Result.{err_from_is_err_and}
 use Rattle.rds_live.specs.Next.{completed}
 use Rattle.rds_sync.specs.declared.item.Item.{Item}
-use Rattle.rds_abi.specs.Asked.{IsFilled}
-use Rattle.rds_abi.specs.Following.{stream_of, terms_of}
+use Rattle.rds_abi.specs.Asked.{IsFilled, gaps_of}
+use Rattle.rds_abi.specs.Following.{stream_in_c, stream_of, terms_of, totals_from_c}
+use Rattle.rds_sync.specs.Rules.{RuleNumbers}
+use Rattle.rds_abi.specs.Going.{state_of}
 use Rattle.rds_abi.specs.Layout.{item_in_c}
 use Rattle.rds_abi.proofs.Fitting.{few-completed, roomy}
 use Rattle.rds_abi.proofs.NearStreams.{are-completed, heard-next, left-near, pushed-after, pushed-completed, pushed-most, pushed-refused}
@@ -23,7 +25,7 @@ returns-clause-heard c before h =
     let told = c.in_ok-told.ensures in
     let went = c.in_ok-go_on.ensures in
     let all = terms_of c.args.rules c.args.gaps.now in
-    heard-next c.next_is_heard.ensures all c.args.stream.now (take c.go_on.new.taken c.args.bytes.now) told.range
+    heard-next c.next_is_heard.ensures all c.args.stream.now (take c.go_on.new.taken c.args.bytes.now) told.given.range
     (left-near all c.in_ok-told.told c.args.stream.now _ _ told.near went.lawful) c.go_on.new.stream
     (pushed-after all c.in_ok-told.told c.args.stream.now c.args.bytes.now c.kept_of-kept.result c.min.result
     told.near c.kept_of-kept.ensures c.min.ensures went.lawful went.fits c.go_on.new.taken c.go_on.new.stream went.after) before h
@@ -53,7 +55,7 @@ returns-clause-items c =
     let same = pushed-completed all c.in_ok-told.told c.args.stream.now c.args.bytes.now c.kept_of-kept.result c.min.result
     told.near c.kept_of-kept.ensures c.min.ensures went.lawful went.fits c.go_on.new.taken in (
       completed (stream_of all c.args.stream.now) more,
-      are-completed c.next_is_heard.ensures all c.args.stream.now more told.range (left-near all c.in_ok-told.told c.args.stream.now _ _ told.near went.lawful),
+      are-completed c.next_is_heard.ensures all c.args.stream.now more told.given.range (left-near all c.in_ok-told.told c.args.stream.now _ _ told.near went.lawful),
       subst (λ (items : List Item). IsFilled (map item_in_c items) c.args.room.now c.go_on.new.room) same went.filled,
       went.count ∙ ap (λ (items : List Item). length items) same,
     )
@@ -78,13 +80,13 @@ returns-clause-few c =
 pub returns-clause-next : goal.returns-clause-next
 returns-clause-next c =
     let told = c.in_ok-told.ensures in
-    record { range = told.range; left = left-near (terms_of c.args.rules c.args.gaps.now) c.in_ok-told.told c.go_on.new.stream _ _ told.near c.in_ok-go_on.ensures.next }
+    record { given = told.given; left = left-near (terms_of c.args.rules c.args.gaps.now) c.in_ok-told.told c.go_on.new.stream _ _ told.near c.in_ok-go_on.ensures.next }
 
 pub returns-clause-lawful : goal.returns-clause-lawful
 returns-clause-lawful c =
     let told = c.in_ok-told.ensures in
     let went = c.in_ok-go_on.ensures in (
-      record { range = told.range; left = left-near (terms_of c.args.rules c.args.gaps.now) c.in_ok-told.told c.args.stream.now _ _ told.near went.lawful },
+      record { given = told.given; left = left-near (terms_of c.args.rules c.args.gaps.now) c.in_ok-told.told c.args.stream.now _ _ told.near went.lawful },
       went.fits,
     )
 
@@ -94,7 +96,7 @@ returns-in_err-go_on-clause-refused c =
     let told = c.in_ok-told.ensures in
     let all = terms_of c.args.rules c.args.gaps.now in
     rw (p.1, p.2)
-    (refused_push c.args.rules c.args.gaps.now c.args.stream.now c.args.bytes.now c.in_err-go_on.field-0.0 _ _ told.range
+    (refused_push c.args.rules c.args.gaps.now c.args.stream.now c.args.bytes.now c.in_err-go_on.field-0.0 _ _ told.given
     (pushed-refused all c.in_ok-told.told c.args.stream.now c.args.bytes.now c.kept_of-kept.result c.min.result
     told.near c.kept_of-kept.ensures c.min.ensures c.in_err-go_on.field-0.0 (length c.args.room.now) c.go_on.new.count _ c.in_err-go_on.ensures.refused))
 
@@ -109,3 +111,9 @@ pub returns-in_err-go_on-clause-untouched : goal.returns-in_err-go_on-clause-unt
 returns-in_err-go_on-clause-untouched c =
     let p = err_from_is_err_and c.from_residual-in_err-go_on.result c.from_residual-in_err-go_on.ensures.1 in
     rw p.1 c.in_err-go_on.ensures.untouched
+
+pub returns-clause-laid : goal.returns-clause-laid
+returns-clause-laid c =
+    let near = c.in_ok-told.ensures.near in
+    c.in_ok-go_on.ensures.laid
+    ∙ ap (λ (r : RuleNumbers). stream_in_c (record { terms = record { rules = r; gaps = gaps_of c.args.gaps.now }; tail = (stream_of c.in_ok-told.told c.go_on.new.stream).tail; place = c.go_on.new.stream.place; state = state_of c.go_on.new.stream.state; totals = totals_from_c c.go_on.new.stream.totals })) near.rules

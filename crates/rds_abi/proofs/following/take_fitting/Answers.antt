@@ -44,6 +44,7 @@ loop-fit-preserved c =
       laid = done.laid;
       says = subst (λ (t : Terms). stream_of t c.take_piece-in-loop-fit.new.stream ≡ c.take_piece-in-loop-fit.new.live) (done.terms ∙ ap (λ (l : LiveOf). l.terms) inv.after) done.says;
       live = done.live;
+      rules = ap (λ (t : Terms). t.rules) done.terms ∙ inv.rules;
       filled = filled;
       count = both;
       room = fits;

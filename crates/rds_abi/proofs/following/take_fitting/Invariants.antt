@@ -14,6 +14,7 @@ invariant-loop-fit l = record {
   laid : l.stream ≡ stream_in_c l.live;
   says : stream_of l.fn.live.terms l.stream ≡ l.live;
   live : IsLive l.live;
+  rules : l.live.terms.rules ≡ l.rules;
   filled : IsFilled (map item_in_c (completed l.fn.live (take l.fit.taken l.bytes))) l.fn.room l.room;
   count : l.fit.count ≡ length (completed l.fn.live (take l.fit.taken l.bytes));
   room : l.fit.count ≤ length l.fn.room;

@@ -21,7 +21,7 @@ fill_run-requires-clause-early c =
 pub returns-clause-laid : goal.returns-clause-laid
 returns-clause-laid c =
     let before = c.args.start.now.part.before in
-    c.state_in_c.ensures.value ∙ ap state_in_c (c.moved_on.ensures ∙ ap (moved_state before) c.in_ok-end.ensures.state)
+    c.state_in_c.ensures.value ∙ ap (state_in_c c.args.start.now.rules) (c.moved_on.ensures ∙ ap (moved_state before) c.in_ok-end.ensures.state)
 
 pub returns-clause-state : goal.returns-clause-state
 returns-clause-state c =
@@ -36,4 +36,4 @@ returns-clause-next c =
     let before = start.part.before in
     let there = lawful-on start.rules before (c.args.range.1 - before) c.args.range.1 c.in_ok-end.end c.moved_on.result c.moved_on.ensures c.in_ok-end.ensures.lawful (omega (arith, c.requires.begins, c.requires.order)) in
     let says = c.state_in_c.ensures.says start.rules c.args.range.1 there in
-    (subst (λ (s : State). IsLawful start.rules c.args.range.1 s) (sym says) there, c.state_in_c.ensures.value ∙ ap state_in_c (sym says))
+    (subst (λ (s : State). IsLawful start.rules c.args.range.1 s) (sym says) there, c.state_in_c.ensures.value ∙ ap (state_in_c start.rules) (sym says))

@@ -1,8 +1,9 @@
-use Rattle.std.proofs.Common.{◌≡◌, ◌-◌, List, arith, inl, inr, length, map, subst, sym, ◌∙◌}
+use Rattle.std.proofs.Common.{◌≡◌, ◌-◌, List, ap₂, arith, inl, inr, length, map, subst, sym, ◌∙◌}
 use Rattle.std.proofs.lemmas.List.{length-map}
 use Rattle.std.proofs.lemmas.Result.{IfErr-weaker, on_ok_weaker}
 use Rattle.rds_sync.specs.declared.item.Item.{Item}
 use Rattle.rds_sync.specs.declared.state.State.{State}
+use Rattle.rds_sync.specs.Rules.{RuleNumbers}
 use Rattle.rds_abi.specs.Asked.{IsFilled, IsTooMuch, asked}
 use Rattle.rds_abi.specs.Going.{RefusesRun, run_asked, state_in_c, state_of}
 use Rattle.rds_abi.specs.Layout.{item_in_c}
@@ -41,7 +42,7 @@ returns-clause-laid c =
     let start = c.in_ok-start.start in
     let run = run-asked c.args.bytes.now c.args.bits c.args.gaps.now c.args.rules c.args.range.0 c.args.range.1 c.args.state.now start.part.recording start.rules start.part.before start.state
     s.rules s.begins s.len s.state s.begin (s.heard (c.args.range.0 - start.part.before) (omega arith)) s.lawful c.runs_move.ensures in
-    on_ok_weaker c.go_on.result (subst (λ (r : State × List Item). c.go_on.new.state ≡ state_in_c r.0) run) c.go_on.ensures.laid
+    on_ok_weaker c.go_on.result (λ is. is ∙ ap₂ (λ (r : RuleNumbers) (found : State × List Item). state_in_c r found.0) s.rules run) c.go_on.ensures.laid
 
 pub returns-clause-next : goal.returns-clause-next
 returns-clause-next c = rw c.in_ok-start.ensures.rules at c.go_on.ensures.next
@@ -56,5 +57,5 @@ returns-clause-refused c =
     IfErr-weaker c.go_on.result _ _
     (λ refusal h. elim h [
       | inl many ↦ inl (s.lawful, subst (λ (r : State × List Item). IsTooMuch (map item_in_c r.1) (length c.args.room.now) refusal c.go_on.new.count) run many)
-      | inr (memory, same) ↦ inr (subst (λ (r : Refusal). RefusesRun a c.args.range.0 c.args.range.1 c.args.state.now r) (sym memory) (inl (inl tt)), same)
+      | inr (memory, same) ↦ inr (subst (λ (r : Refusal). RefusesRun a c.args.range.0 c.args.range.1 c.args.state.now r) (sym memory) (inl (inl (s.lawful.asked.rules.reserved, tt))), same)
     ]) c.go_on.ensures.refused

@@ -1,0 +1,15 @@
+use Rattle.std.proofs.Common.{◌++◌, ℕ, List, subst}
+use Rattle.std.proofs.lemmas.List.{take_all}
+use Rattle.rds_live.specs.Live.{HasHeard}
+use Rattle.rds_abi.specs.Following.{AreCompleted, AreWritten, stream_of, terms_of}
+use Rattle.rds_uses.proofs.library.push_all.Goals as goal
+
+pub returns-clause-heard : goal.returns-clause-heard
+returns-clause-heard c before h =
+    subst (λ (bytes : List ℕ). HasHeard (stream_of (terms_of c.args.rules c.args.gaps.now) c.push.new.stream) (before ++ bytes))
+    (take_all c.push.new.taken c.args.bytes.now c.if-taken-bytes.false) (c.in_ok-push.ensures.heard before h)
+
+pub returns-clause-items : goal.returns-clause-items
+returns-clause-items c =
+    subst (λ (bytes : List ℕ). AreWritten (AreCompleted (terms_of c.args.rules c.args.gaps.now) c.args.stream.now bytes) c.args.room.now c.push.new.room c.push.new.count)
+    (take_all c.push.new.taken c.args.bytes.now c.if-taken-bytes.false) c.in_ok-push.ensures.items
