@@ -44,13 +44,6 @@ run_items-few b rules s a (suc n) =
       length-append (items_at b rules a s) (run b rules (step b rules a s) (a + 1) n).1,
     )
 
-items_of_end-few : (b : Signal) (rules : RuleNumbers) (s : State) → length (items_of_end b rules s) ≤ 1
-items_of_end-few b rules Searching = omega arith
-items_of_end-few b rules (Locked lock) = elim (cases_eq lock.number 1) [
-  | inl one ↦ rw (eq-eqb lock.number 1 one, items_of_end) (omega arith)
-  | inr more ↦ rw (ne_eqb lock.number 1 more, items_of_end) (omega arith)
-]
-
 -- a list with a first item is not empty
 pub some_given : (given : List Item) (item : Item) (others : List Item) → given ≡ item ∷ others → given ≢ []
 some_given given item others is none = cc

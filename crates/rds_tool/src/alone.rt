@@ -128,8 +128,15 @@ fn count(alloc: Global, recording: &Recording, rules: &Rules) -> Result<Totals, 
     laws::runs_are_reports();
     laws::totals_join();
     let len = recording.len();
-    let start = State::Searching;
-    let (end, report) = run_report(alloc, recording, rules, start, 0, len, Spans::Whole)?;
+    let (end, report) = run_report(
+        alloc,
+        recording,
+        rules,
+        State::Searching,
+        0,
+        len,
+        Spans::Whole,
+    )?;
     let group = finish(&mut Counted::new(recording), rules, end);
     Ok(report.totals.plus(Totals::of_end(group)))
 }

@@ -34,5 +34,5 @@ pub returns-clause-totals : goal.returns-clause-totals
 returns-clause-totals c =
     c.plus.ensures.value
     ∙ all c.args.recording.now c.args.rules.now c.len-len.result c.totals_join.ensures c.runs_are_reports.ensures c.reach.ensures.range.some_loss c.len-len.ensures.value
-    c.in_ok-end.end c.in_ok-end.ensures.state c.in_ok-end.report.totals c.of_end.result _ c.in_ok-end.ensures.totals c.of_end.ensures.value
+    c.in_ok-end.end c.in_ok-end.ensures.state _ _ _ c.in_ok-end.ensures.totals c.of_end.ensures.value
     (c.finish-group.ensures.group ∙ ap (λ (t : TapeState). items_of_end t.signal c.args.rules.now c.in_ok-end.end) c.new.ensures)
