@@ -277,6 +277,8 @@ def machines(tmp_path: Path) -> Iterator[List[str]]:
         port = free_port()
         options = ["ListenAddress=127.0.0.1", f"Port={port}", f"HostKey={folder}/host",
                    f"AuthorizedKeysFile={folder}/authorized", "StrictModes=no", "UsePAM=no", "PidFile=none",
+                   # sshd drops connections at random if more than 10 are slow to begin, as on a machine that is loaded.
+                   "MaxStartups=100",
                    "PermitRootLogin=yes", "PasswordAuthentication=no"]
         servers.append(subprocess.Popen([sshd, "-D", "-e", "-f", "/dev/null", *(f"-o{it}" for it in options)],
                                         stderr=subprocess.DEVNULL))

@@ -137,21 +137,21 @@ TWO = stations('name = "Alpha"', 'command = ["a"]', 'pi = "D318"', "--", 'name =
 
 
 def simulated(folder: Path, decoder: NewDecoder) -> Network:
-    """Five minutes over an hour: noise, another PI, receivers that die, hang and are late, and a clock that is set."""
+    """Three minutes over an hour: noise, another PI, receivers that die, hang and are late, and a clock that is set."""
     folder.mkdir()
-    alpha, beta = Air(ALPHA, START, 310), Air(ALPHA._replace(pi=0xD319, wrong_pi=Periodic(90, 20)), START, 310)
+    alpha, beta = Air(ALPHA, START, 190), Air(ALPHA._replace(pi=0xD319, wrong_pi=Periodic(90, 20)), START, 190)
     alpha.noise(25, 36)
-    alpha.noise(200, 230)
-    beta.noise(120, 121)
-    plans = {"a": [Plan(dies=70.25), Plan(hangs=60), Plan(late=0.4)], "b": [Plan(), Plan(dies=10), Plan(dies=31.3)]}
+    alpha.noise(130, 150)
+    beta.noise(70, 71)
+    plans = {"a": [Plan(dies=40.25), Plan(hangs=30), Plan(late=0.4)], "b": [Plan(), Plan(dies=10), Plan(dies=31.3)]}
     it = Network(folder, TWO, {"a": alpha, "b": beta}, plans, decoder)
-    it.run(140)
+    it.run(80)
     it.times.utc += 5400
-    it.run(40.5)
+    it.run(30.5)
     it.times.utc -= 7000
-    it.run(30)
+    it.run(20)
     it.reload(TWO.replace('["b"]', '["b", "again"]'))
-    it.run(90)
+    it.run(50)
     it.end()
     return it
 
