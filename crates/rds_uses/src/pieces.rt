@@ -203,13 +203,7 @@ pub fn carried_on<'a>(
     let from = run.from();
     let before = Decoder::new(recording, rules, State::Searching, 0, from);
     let state = Decoder::new(recording, rules, State::Searching, 0, from).end_state();
-    let seam = seam(
-        alloc,
-        &mut Counted::new(recording),
-        rules,
-        state,
-        run,
-    )?;
+    let seam = seam(alloc, &mut Counted::new(recording), rules, state, run)?;
     Ok((before, seam))
 }
 
@@ -268,13 +262,7 @@ pub fn met_on_sound_signal(
     requires inside { run.now.from + 416 ≤ run.now.to }
     ensures { IfOk result (λ met. (place : ℕ) × (met ≡ Some place) × (place ≤ run.now.from + 416)) }
 {
-    let seam = seam(
-        alloc,
-        &mut Counted::new(recording),
-        rules,
-        state,
-        run,
-    )?;
+    let seam = seam(alloc, &mut Counted::new(recording), rules, state, run)?;
     Ok(seam.met_at)
 }
 
@@ -402,12 +390,7 @@ pub(crate) fn stitched(
 {
     let runs = guesses(alloc, recording, rules, cutting)?;
     laws::pieces_follow();
-    stitch(
-        alloc,
-        &mut Counted::new(recording),
-        rules,
-        runs.as_slice(),
-    )
+    stitch(alloc, &mut Counted::new(recording), rules, runs.as_slice())
 }
 
 /// The guesses of all pieces, in order.

@@ -191,7 +191,12 @@ impl<R: Wait> Work for Noted<'_, R> {
         self.inner.guess(alloc, j)
     }
 
-    fn join(&self, alloc: Global, left: &PieceRun, right: &PieceRun) -> Result<PieceRun, PieceError> {
+    fn join(
+        &self,
+        alloc: Global,
+        left: &PieceRun,
+        right: &PieceRun,
+    ) -> Result<PieceRun, PieceError> {
         let event = Event::Joined(left.from(), right.to());
         self.journal.keep(event);
         self.journal.keep_run(event, left);
