@@ -88,7 +88,7 @@ impl Burst {
     }
 }
 
-// Equality goes by the pattern, as clauses do.
+// Equality compares patterns, as clauses do.
 impl PartialEq for Burst {
     ghost eq = { ◌==◌ };
 
