@@ -1,5 +1,5 @@
--- What a decoder of a stream keeps beside its terms, so that it can go back to it. `Live::take_all` does so where memory is refused in
--- the midst, and no caller sees it. This project's rule.
+-- What a decoder of a stream keeps beside its terms, so that it can go back to it. `Live::take_all` does so
+-- if memory is refused midway, and no caller sees it. This project's rule.
 use Rattle.std.specs.Prelude.{◌≡◌, ◌≤◌, length, take}
 use Rattle.rds_live.specs.Live.{LiveOf, Terms, most_kept}
 use Rattle.rds_live.specs.declared.kept.Kept.{Kept}

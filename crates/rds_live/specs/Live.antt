@@ -13,11 +13,12 @@ use Rattle.rds_sync.specs.Report.{report_items}
 use Rattle.rds_sync.specs.Totals.{totals_of}
 use Rattle.rds_sync.specs.Step.{run}
 
--- how many bytes of a stream are kept: as many as a run may hear behind a bit
+-- how many bytes of a stream are kept: enough for all that a run may hear before a bit
 abbrev pub most_kept : ℕ
 most_kept = 30
 
--- what a stream is decoded by: its rules, and the gaps that were told of it, by their places in the stream
+-- the terms by which a stream is decoded: its rules, and the gaps that were told of it, by their places in
+-- the stream
 pub record Terms : Type 0 where
   pub rules : RuleNumbers
   pub gaps : List (ℕ × ℕ)
@@ -46,7 +47,7 @@ live_with rules gaps tail place state totals =
       totals = totals;
     }
 
--- the first bits of these bytes, and all of them, with these gaps; one that lies behind them is not heard of
+-- the first bits of these bytes, and all of them, with these gaps; a gap after the bytes has no effect
 abbrev pub signal_at : List (ℕ × ℕ) → List ℕ → ℕ → Signal
 signal_at gaps bytes bits = record { bits = bits_of bytes bits; gaps = gaps }
 
@@ -87,7 +88,7 @@ live_of terms bytes =
 abbrev pub HasHeard : LiveOf → List ℕ → Type 0
 HasHeard live bytes = live ≡ live_of live.terms bytes
 
--- no count of the totals of so many bits is above this
+-- no count of the totals of this many bits is above this
 abbrev pub most_counted : ℕ → ℕ
 most_counted bits = 2 ^ 11 * bits
 

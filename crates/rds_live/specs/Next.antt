@@ -1,5 +1,6 @@
--- What a decoder of a stream gives and knows next, by its numbers alone: by those that a decoder was left with, and by others that are
--- lawful and of no stream. `take`, `take_all`, `finish` and `finish_with` of `Live` cite it. This project's rule.
+-- What a decoder of a stream gives and knows next, only by its numbers: by those that a decoder was left
+-- with, and by others that are lawful and of no stream. `take`, `take_all`, `finish` and `finish_with` of
+-- `Live` cite it. This project's rule.
 use Rattle.std.specs.Prelude.{◌≡◌, ℕ, ◌+◌, ◌-◌, ◌*◌, ◌^◌, ◌≤◌, List, ◌++◌, length}
 use Rattle.rds_stream.specs.Recording.{Signal}
 use Rattle.rds_sync.specs.declared.state.State.{State}
@@ -13,7 +14,7 @@ use Rattle.rds_live.specs.Gaps.{gaps_within}
 use Rattle.rds_live.specs.Live.{HasHeard, IsLive, LiveOf, complete, last_bytes, live_of, signal_at}
 use Rattle.rds_live.specs.Moving.{moved_items, moved_state}
 
--- the state, where all places are so many less
+-- the state, with all places moved back by d
 abbrev pub moved_back : ℕ → State → State
 moved_back d Searching = Searching
 moved_back d (Locked lock) = Locked (record lock { due = lock.due - d })
@@ -36,7 +37,7 @@ run_next live bytes bits =
 abbrev pub items_next : LiveOf → List ℕ → ℕ → List Item
 items_next live bytes bits = moved_items (before_tail live) (run_next live bytes bits).1
 
--- the group in progress behind them, if there is one
+-- the group in progress after them, if there is one
 abbrev pub group_next : LiveOf → List ℕ → ℕ → List Item
 group_next live bytes bits =
     moved_items (before_tail live) (items_of_end (part_with live bytes bits) live.terms.rules (run_next live bytes bits).0)

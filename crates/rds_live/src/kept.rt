@@ -8,7 +8,8 @@ ghost use Rattle.rds_live.specs.Live.{IsLive, live_with, most_kept};
 use rds_stream::MOST_BITS;
 use rds_sync::{Rules, State, Totals};
 
-/// How many of the last bytes of a stream are kept. A run may hear 233 bits behind one: those of a partner's window,
+/// How many of the last bytes of a stream are kept. A run may hear 233 bits before one: those of a partner's
+/// window,
 /// eight blocks back.
 pub(crate) const MOST_KEPT: usize = 30;
 

@@ -1,13 +1,13 @@
-//! The laws of following a stream, over the definitions alone. Each function here does nothing: its contract is a law,
-//! which the check of this crate proves, and which a proof above it may cite.
+//! The laws of following a stream, over only the definitions. Each function here does nothing: its contract
+//! is a law, which the check of this crate proves, and which a proof above it may cite.
 
 ghost use Rattle.rds_live.specs.Moving.{EndsMove, RunsMove};
 ghost use Rattle.rds_live.specs.Next.{NextIsHeard, PiecesJoin};
 
 use rds_sync::laws;
 
-/// A run depends on what is heard alone: over a part of a recording it is the run over the whole there, but for the
-/// places.
+/// A run depends only on the bits heard: over a part of a recording it is the run over the whole there,
+/// except for the places.
 pub fn runs_move()
     ensures { RunsMove }
 {
