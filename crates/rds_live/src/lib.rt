@@ -1,9 +1,9 @@
 //! The decoder of a stream of Radio Data System bits, which takes them as they come.
 //!
 //! A receiver gives bits day and night. A [`Live`] is handed each chunk of them as it arrives, of any length, and gives
-//! the items that it completes; at the end it gives the group in progress and the totals. Together these are the report
-//! of all that was heard, as `rds_sync` defines it. What is decoded of a stream, and when it is complete, are this
-//! project's rules.
+//! the items that it completes; at the end it gives the group in progress and the totals. Together these are
+//! the report of all that was heard, as `rds_sync` defines it. How a stream is decoded, and when an item is
+//! complete, are this project's rules.
 //!
 //! # Example
 //!

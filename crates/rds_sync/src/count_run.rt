@@ -96,10 +96,11 @@ fn search_on(
     (to, State::Searching)
 }
 
-/// The word of a group of a valid block 4 alone.
+/// The word of a group of only a valid block 4.
 const LAST_BLOCK: u16 = 0x1000;
 
-/// Counts what a block of this number that acquires gives: itself, and as block 4 the group that it closes alone.
+/// Counts the items of a block of this number that acquires: itself, and as block 4 the group that it closes
+/// as its only block.
 pub(crate) fn add_found(counts: &mut Counts, place: u64, number: BlockNumber)
     requires late { 25 ≤ place }
     requires few { counts.old.items ≤ 3000 }

@@ -1,8 +1,8 @@
-//! What a block did to the lock that it was due in.
+//! The effect of a block on the lock that it was due in.
 
 use crate::lock::Lock;
 
-/// What a block did to the lock that it was due in.
+/// The effect of a block on the lock that it was due in.
 #[derive(Clone, Copy)]
 pub(crate) enum Due {
     /// Its group goes on with the block that is due next.

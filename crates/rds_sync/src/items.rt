@@ -20,7 +20,8 @@ use std::alloc::{AllocError, Global};
 use std::marker::Model;
 use std::snapshot::Snapshot;
 
-/// How many items a short span of a run has, or a few more: so many are decoded at most to come to one among them.
+/// How many items a short span of a run has, or a few more: to reach one of them, at most this many are
+/// decoded.
 const SPAN_ITEMS: u64 = 256;
 
 /// Into how many spans a list cuts the run that it is given.
@@ -28,7 +29,8 @@ const SPAN_ITEMS: u64 = 256;
 pub enum Spans {
     /// Some hundred items each: any item is near.
     Short,
-    /// One for the whole run, which costs nothing: for a list that is gone over from its first item on, or not at all.
+    /// One for the whole run, which costs nothing: for a list that is read from its first item on, or not at
+    /// all.
     Whole,
 }
 
@@ -108,7 +110,7 @@ impl Items {
         self.len == 0
     }
 
-    /// Item number `i`, the first of which is 0, or none where there are not so many. To go over many, take
+    /// Item number `i`, the first of which is 0, or none if there are too few. To read many, take
     /// [`range`](Items::range).
     pub fn get(&self, rec: &Recording, rules: &Rules, i: usize) -> Option<Item>
         requires source { self.now.source ≡ rec.now }
@@ -131,9 +133,9 @@ impl Items {
         self.range(rec, rules, 0, self.len)
     }
 
-    /// The items number `from` to `to` - 1 in order, of the recording and by the rules that they are of. The spans
-    /// before them are passed over, and of the first one of theirs what stands before them is decoded: of a long list
-    /// with many parts to be gone over, take those of [`indexed`](Items::indexed).
+    /// The items number `from` to `to` - 1 in order, of the recording and by the rules that they are of. The
+    /// spans before them are passed over, and the items before them in their first span are decoded too. To
+    /// read many parts of a long list, take those of [`indexed`](Items::indexed).
     pub fn range<'a>(
         &'a self,
         rec: &'a Recording,

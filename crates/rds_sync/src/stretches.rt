@@ -53,7 +53,7 @@ fn search(reader: &mut Reader<'_>, rules: &Rules, place: u64, to: u64) -> Step
     prove!(1 <= rules.reach());
     for (here, offset) in ValidWindows::new(rec, place, to) {
         // A window is valid by chance at one place in two hundred: so its partners are looked up in
-        // the recording, and the search keeps none of the windows behind it.
+        // the recording, and the search keeps none of the windows after it.
         let number = offset.number();
         if has_partner_in(rec, rules, here, number) {
             let found = Acquisition {

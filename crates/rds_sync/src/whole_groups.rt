@@ -19,8 +19,8 @@ use crate::state::State;
 use crate::step::Step;
 use rds_stream::{FIRST_WINDOW, Reader};
 
-/// The lock behind the whole groups that come next, none of whose blocks loses it, of which the last ends before `to`:
-/// as many as are counted until there are `most` items.
+/// The lock after the whole groups that come next, none of whose blocks loses it, of which the last ends
+/// before `to`: as many as are counted until there are `most` items.
 pub(crate) fn count_whole_groups(
     reader: &mut Reader<'_>,
     rules: &Rules,
@@ -58,7 +58,7 @@ pub(crate) fn count_whole_groups(
 }
 
 /// Appends the whole groups that come next, none of whose blocks loses the lock and of which the last ends before `to`,
-/// until there are `most` items. The lock behind them.
+/// until there are `most` items. The lock after them.
 #[inline(always)]
 pub(crate) fn push_whole_groups(
     reader: &mut Reader<'_>,
