@@ -1,5 +1,6 @@
--- How far one step of a decoder goes that takes its windows from a tape, how many windows it asks for, and the items in what it hands
--- out. Cited by `advance`, `finish` and `Totals::of_end`, and by the stretches of `Stretch`. This project's rule.
+-- How far one step of a decoder moves that takes its windows from a tape, how many windows it asks for, and
+-- the items that it hands out. Cited by `advance`, `finish` and `Totals::of_end`, and by the stretches of
+-- `Stretch`. This project's rule.
 use Rattle.std.specs.Prelude.{ℕ, ◌+◌, List, [], ◌∷◌, Option, Some, None, true, false, nat_lt}
 use Rattle.rds_sync.specs.declared.state.State.{State}
 use Rattle.rds_sync.specs.declared.state.State.TheVariants.{Searching, Locked}

@@ -1,5 +1,6 @@
--- The laws of runs, of the report and of the rules of loss, over the definitions alone. Each is cited by the law of `laws` that has its
--- name in small letters: `RunsAreReports` by `runs_are_reports`. This project's rules.
+-- The laws of runs, of the report and of the rules of loss, over only the definitions. Each is cited by the
+-- law of `laws` that has its name in small letters: `RunsAreReports` by `runs_are_reports`. This project's
+-- rules.
 use Rattle.std.specs.Prelude.{◌≡◌, ◌≢◌, ◌↔◌, ℕ, ◌+◌, ◌-◌, ◌*◌, ◌<◌, ◌≤◌, ◌⊎◌, List, [], ◌++◌, Some, None, length, Bool, nat_lt, min, if◌then◌else◌}
 use Rattle.std.specs.Int.{bit_at}
 use Rattle.rds_stream.specs.Recording.{Signal, length_of}
@@ -84,7 +85,7 @@ abbrev pub MasksTellBlocks : Type 0
 MasksTellBlocks = (is_good : ℕ → Bool) (bad of k i : ℕ)
     → bit_at (bad_at is_good (Share bad of) k) i ≡ (if nat_lt i (min of k) then (if is_good (k - i) then 0 else 1) else 0)
 
--- what is kept of a lock's bad blocks loses it exactly where its blocks do
+-- a lock's loss history triggers a loss exactly when its blocks do
 abbrev pub BadBlocksLose : Type 0
 BadBlocksLose = (is_good : ℕ → Bool) (loss : Loss) (k : ℕ) → are_too_many loss (bad_at is_good loss k) ≡ loses loss is_good k
 

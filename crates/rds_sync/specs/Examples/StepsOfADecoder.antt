@@ -9,7 +9,7 @@ use Rattle.rds_sync.specs.Step.{lock_of}
 pub search : next_place Searching 51 104 ≡ 52
 search = refl
 
--- a lock goes behind the block that is due, the last bit of the range too, and else to the range's end
+-- a lock moves past the block that is due, even at the last bit of the range, and else to the range's end
 pub to_the_block : next_place (Locked (lock_of 77 3 0 2)) 52 104 ≡ 78
 to_the_block = refl
 
