@@ -1,4 +1,5 @@
--- How totals, blocks and items lie in C: plain numbers alone. Each call that writes some cites it. This project's rules.
+-- How totals, blocks and items are laid out in C: only plain numbers. Each call that writes some cites it.
+-- This project's rules.
 use Rattle.std.specs.Prelude.{ℕ, [], ◌∷◌, map, Option, None, Some, if◌then◌else◌}
 use Rattle.rds_code.specs.declared.offset.Offset.{Offset}
 use Rattle.rds_code.specs.declared.offset.Offset.TheVariants as offset

@@ -89,7 +89,7 @@ pub(crate) fn state_in_c(state: State) -> RdsState
     }
 }
 
-/// The state that a run over the places of this range begins with, in a recording of so many bits.
+/// The state that a run over the places of this range begins with, in a recording of `bits` bits.
 fn state_at(rules: &Rules, bits: u64, range: (u64, u64), s: RdsState) -> Result<State, Refusal>
     ensures state { IfOk result (λ state. state ≡ the_state_of s) }
     ensures left { IfOk result (λ _. IsLeftState rules.now range.0 s) }
@@ -117,7 +117,7 @@ struct Start {
     state: State,
 }
 
-/// What a run over the places of this range begins with.
+/// The part, the rules and the state that a run over the places of this range begins with.
 fn start_of(
     alloc: Global,
     bytes: &[u8],
@@ -181,7 +181,7 @@ pub fn run(
     go_on(alloc, &start, range, state, room, count)
 }
 
-/// Runs over a range from a start, and writes what this gives.
+/// Runs over a range from a start, and writes the items and the state.
 fn go_on(
     alloc: Global,
     start: &Start,
@@ -246,7 +246,7 @@ fn counted(alloc: Global, start: &Start, from: u64, to: u64) -> Result<(State, u
     }
 }
 
-/// Writes the items of a run, so many places further, to the beginning of the room.
+/// Writes the items of a run, moved on by `by` places, to the beginning of the room.
 fn fill_run(room: &mut [RdsItem], items: Decoder<'_>, by: u64)
     requires fits { length items.items ≤ length room.old }
     requires early { All (λ item. place_of item < 2 ^ 36) items.items }
@@ -260,7 +260,7 @@ fn fill_run(room: &mut [RdsItem], items: Decoder<'_>, by: u64)
     }
 }
 
-/// An item, so many places further, for C.
+/// An item, moved on by `by` places, for C.
 fn moved_in_c(item: Item, by: u64) -> RdsItem
     requires { place_of item + by < 2 ^ 64 }
     ensures { result ≡ item_in_c (moved_item by item) }

@@ -1,4 +1,4 @@
-//! What crosses to C: numbers alone, in structs whose layout is C's.
+//! The values that cross to C: only numbers, in structs whose layout is C's.
 
 /// A gap in a recording, whose bits mean nothing: the places from `begin` to before `end`. 16 bytes.
 #[repr(C)]
@@ -6,7 +6,7 @@
 pub struct RdsGap {
     /// The first place.
     pub begin: u64,
-    /// The place behind the last.
+    /// The place after the last.
     pub end: u64,
 }
 
@@ -78,7 +78,7 @@ impl RdsTotals {
 #[repr(C)]
 #[derive(Clone, Copy, Debug, PartialEq, Eq)]
 pub struct RdsBlock {
-    /// The burst that was taken off, as the ones of a word of 26 bits, or 0.
+    /// The burst that was corrected, as the ones of a word of 26 bits, or 0.
     pub burst: u32,
     /// The information word, or 0.
     pub info: u16,
@@ -118,7 +118,7 @@ pub struct RdsItem {
     pub unused: u32,
 }
 
-/// What a run knows between two bits: 24 bytes, all 0 where no block is known.
+/// The state of a run between two bits: 24 bytes, all 0 if no block is known.
 #[repr(C)]
 #[derive(Clone, Copy, Debug, PartialEq, Eq)]
 pub struct RdsState {
@@ -143,7 +143,7 @@ impl RdsState {
     };
 }
 
-/// What is known of a stream between two chunks: 160 bytes, all 0 where nothing was heard yet.
+/// A stream between two chunks: 160 bytes, all 0 if nothing was heard yet.
 #[repr(C)]
 #[derive(Clone, Copy, Debug, PartialEq, Eq)]
 pub struct RdsStream {

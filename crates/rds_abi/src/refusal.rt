@@ -1,4 +1,4 @@
-//! What the calls refuse.
+//! The errors of the calls.
 
 ghost use Rattle.std.specs.Prelude.{◌≡◌, IfSome, None};
 ghost use Rattle.rds_abi.specs.declared.refusal.Refusal.TheVariants.{OutOfMemory};
@@ -6,8 +6,8 @@ ghost use Rattle.rds_abi.specs.declared.refusal.Refusal.TheVariants.{OutOfMemory
 use std::alloc::AllocError;
 use thiserror::Error;
 
-/// A refusal. Those of the decoder have the numbers and names that the program gives them; those of the library alone
-/// have numbers from 64 on. None ever changes.
+/// A refusal. Those of the decoder have the numbers and names that the program gives them; those of only the
+/// library have numbers from 64 on. None ever changes.
 #[derive(Clone, Copy, Debug, PartialEq, Eq, Error)]
 pub enum Refusal {
     /// The longest burst to be corrected is above 5 bits.

@@ -13,8 +13,9 @@ use std::alloc::Global;
 
 /// The totals of the first `bits` bits of these bytes, the highest bit of a byte first, with these gaps, by these rules.
 ///
-/// Refuses rules out of their range, then a recording that is too long, or longer than the bytes, or whose gaps are none,
-/// and otherwise only want of memory. It takes memory for a copy of the bytes and for what a report keeps.
+/// Refuses rules out of their range, then a recording that is too long, or longer than the bytes, or whose
+/// gaps are none. Otherwise it fails only if memory is refused. It takes memory for a copy of the bytes and
+/// for the parts of a report that are kept.
 pub fn totals(
     alloc: Global,
     bytes: &[u8],
