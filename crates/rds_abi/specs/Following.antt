@@ -131,7 +131,8 @@ abbrev pub AreCompleted : Terms → RdsStream → List ℕ → List Item → Typ
 AreCompleted terms s bytes items =
     (before : List ℕ) → HasHeard (stream_of terms s) before → complete terms (before ++ bytes) ≡ complete terms before ++ items
 
--- the group in progress where the stream ends, if there is one: the items that were complete and this are the report's
+-- the group in progress at the end of the stream, if there is one: the items that were complete and this are
+-- the report's
 abbrev pub AreClosed : Terms → RdsStream → List Item → Type 0
 AreClosed terms s items =
     (length items ≤ 1)

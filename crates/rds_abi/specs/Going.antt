@@ -19,7 +19,7 @@ use Rattle.rds_abi.specs.declared.refusal.Refusal.TheVariants.{PlaceRange, Unlaw
 abbrev pub state_of : RdsState → State
 state_of s = if s.number == 0 then Searching else Locked (lock_of s.due s.number s.bad s.first)
 
--- and as such numbers: all 0 where no block is known
+-- and as such numbers: all 0 if no block is known
 abbrev pub state_in_c : State → RdsState
 state_in_c Searching = record { due = 0; bad = 0; number = 0; first = 0 }
 state_in_c (Locked lock) = record { due = lock.due; bad = lock.bad; number = lock.number; first = lock.first }

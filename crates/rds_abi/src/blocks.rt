@@ -15,7 +15,7 @@ use std::alloc::Global;
 
 /// The remainder of a word of 26 bits by the generator (EN 50067:1998, 2.3 and annex B): below 1024.
 ///
-/// Refuses `BlockRange` where the word has more bits.
+/// Refuses `BlockRange` if the word has more bits.
 pub fn remainder(word: u32) -> Result<u16, Refusal>
     ensures remainder { IfOk result (λ remainder. remainder ≡ rem word) }
     ensures lawful { IfOk result (λ _. word < 2 ^ 26) }

@@ -1,4 +1,4 @@
-//! A run that goes on from a state which the caller keeps.
+//! A run from a state which the caller keeps.
 
 ghost use Rattle.std.specs.Prelude.{◌≡◌, ◌≢◌, ◌+◌, ◌-◌, ◌^◌, ◌<◌, ◌≤◌, ◌⊎◌, ℕ, All, IfErr, IfOk, IfSome, IsOkUnless, None, OnErr, OnOk, length, map};
 ghost use Rattle.rds_stream.specs.Recording.{length_of};
@@ -24,7 +24,7 @@ use rds_stream::{Counted, MOST_BITS};
 use rds_sync::{Decoder, Group, Item, Lock, Rules, Spans, State, finish, laws, run_report};
 use std::alloc::Global;
 
-/// The lock that these numbers say, of a block that is known, or none where it is not lawful before `place`.
+/// The lock that these numbers say, of a block that is known, or none if it is not lawful before `place`.
 fn lock_of(rules: &Rules, s: RdsState, place: u64) -> Option<State>
     requires { s.number ≢ 0 }
     ensures some { IfSome result (λ state. state ≡ the_state_of s) }
@@ -47,7 +47,7 @@ fn lock_of(rules: &Rules, s: RdsState, place: u64) -> Option<State>
     }
 }
 
-/// A search, or none where its numbers are not all 0.
+/// A search, or none if its numbers are not all 0.
 fn search_of(s: RdsState) -> Option<State>
     requires { s.number ≡ 0 }
     ensures some { IfSome result (λ state. (state ≡ Searching) × (s ≡ the_state_in_c Searching)) }
@@ -60,7 +60,7 @@ fn search_of(s: RdsState) -> Option<State>
     }
 }
 
-/// The state that these numbers say, or none where no call can have left them before `place`.
+/// The state that these numbers say, or none if no call can have left them before `place`.
 pub(crate) fn state_of(rules: &Rules, s: RdsState, place: u64) -> Option<State>
     ensures some { IfSome result (λ state. state ≡ the_state_of s) }
     ensures left { IfSome result (λ _. IsLeftState rules.now place s) }
@@ -149,9 +149,9 @@ fn start_of(
 /// the items that this gives to the beginning of `room`, how many they are to `count`, and the state after them to `state`.
 /// Runs in a row, each from the state of the one before, are one run: so a list of any length needs room for few items.
 ///
-/// Refuses as [`totals`](crate::totals) does, then `PlaceRange` and `UnlawfulState`, and then `SmallRoom`, where `count`
-/// tells how many items there are, and nothing else was written. It takes memory for the tables of the rules, and for the
-/// bytes and the gaps of the range and of the 233 bits before it.
+/// Refuses as [`totals`](crate::totals) does, then `PlaceRange` and `UnlawfulState`, and then `SmallRoom`;
+/// `count` then tells how many items there are, and nothing else was written. It takes memory for the tables
+/// of the rules, and for the bytes and the gaps of the range and of the 233 bits before it.
 pub fn run(
     alloc: Global,
     bytes: &[u8],
@@ -293,8 +293,8 @@ pub(crate) fn write_end(
     Ok(())
 }
 
-/// Writes the group in progress at a recording's end, where a run over it ended in this state, to the beginning of
-/// `room`, and to `count` how many groups these are: one or none.
+/// Writes the group in progress at a recording's end, if a run over it ended in this state, to the beginning
+/// of `room`, and to `count` how many groups these are: one or none.
 ///
 /// Refuses as [`run`] does, with no place from the recording's end on.
 pub fn finish_run(

@@ -20,7 +20,7 @@ pub struct RdsRules {
     pub reach: u32,
     /// After how many bad blocks a lock is lost: 1 to 64.
     pub loss: u32,
-    /// 0 where these are bad blocks in a row; else among how many of the last blocks they are: `loss` to 64.
+    /// 0 if these are bad blocks in a row; else among how many of the last blocks they are: `loss` to 64.
     pub of: u32,
 }
 
@@ -74,7 +74,7 @@ impl RdsTotals {
     };
 }
 
-/// A block: 8 bytes, all 0 where it is missing.
+/// A block: 8 bytes, all 0 if it is missing.
 #[repr(C)]
 #[derive(Clone, Copy, Debug, PartialEq, Eq)]
 pub struct RdsBlock {
@@ -108,7 +108,8 @@ pub struct RdsItem {
     pub blocks: [RdsBlock; 4],
     /// 1 an acquisition, 2 a group, 3 a loss.
     pub what: u8,
-    /// Of an acquisition the number of its block, 1 to 4; of a group its type, 0 to 15, or 255 where that is unknown.
+    /// Of an acquisition the number of its block, 1 to 4; of a group its type, 0 to 15, or 255 if that is
+    /// unknown.
     pub number: u8,
     /// Of a group its version: 1 A, 2 B, 3 unknown; else 0.
     pub version: u8,
@@ -124,10 +125,11 @@ pub struct RdsItem {
 pub struct RdsState {
     /// Where the next block ends.
     pub due: u64,
-    /// The lock's bad blocks, 0 where there are none: how many of the last in a row were bad; or, by a share, which of the
+    /// The lock's bad blocks, 0 if there are none: how many of the last in a row were bad; or, by a share,
+    /// which of the
     /// last, the newest lowest, 1 is bad.
     pub bad: u64,
-    /// The number of the next block, 1 to 4, or 0 where no block is known.
+    /// The number of the next block, 1 to 4, or 0 if no block is known.
     pub number: u32,
     /// The number of the first block that was read in the group in progress.
     pub first: u32,

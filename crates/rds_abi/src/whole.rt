@@ -37,7 +37,8 @@ pub fn totals(
 /// Writes the items of the first `bits` bits of these bytes to the beginning of `room`, in order of place, and how many
 /// they are to `count`.
 ///
-/// Refuses as [`totals`] does, and then `SmallRoom` where they are more than there is room for: `count` tells how many,
+/// Refuses as [`totals`] does, and then `SmallRoom` if they are more than there is room for: `count` tells
+/// how many,
 /// and nothing else was written. It takes memory as [`totals`] does.
 pub fn items(
     alloc: Global,

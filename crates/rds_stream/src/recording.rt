@@ -250,8 +250,8 @@ impl Recording {
         }
     }
 
-    /// Goes on from a section to one that has `place`, which is at least 25, and below the length: stays where it is, or
-    /// else looks for one.
+    /// Moves on from a section to one that has `place`, which is at least 25, and below the length: stays in
+    /// the same if that has it, or else looks for one.
     // In its place, since a copy of a section costs more than the comparison.
     #[inline(always)]
     pub(crate) fn go_on_to(&self, section: &mut Section, place: u64)

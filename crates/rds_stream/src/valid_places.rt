@@ -53,7 +53,8 @@ impl ValidPlaces {
         }
     }
 
-    /// Goes on from places without a valid one, to the next places of the section that they end in, or of the one after it.
+    /// Moves on from places without a valid one, to the next places of the section that they end in, or of
+    /// the one after it.
     fn next(self, recording: &Recording, section: &mut Section, end: u64) -> ValidPlaces
         requires first { 25 ≤ self.ahead }
         requires order { self.ahead < end }
@@ -158,7 +159,7 @@ fn one_by_one(recording: &Recording, from: u64, to: u64) -> u64
     places
 }
 
-/// Ones where the planes hold an offset word.
+/// Ones at the places at which the planes hold an offset word.
 #[inline(always)]
 fn offset_words(planes: &[u64x2; 10]) -> u64x2
     ensures { (j k remainder : ℕ) → j < 2 → k < 32 → HoldInLane planes.now j k remainder
@@ -175,7 +176,7 @@ fn offset_words(planes: &[u64x2; 10]) -> u64x2
     either(either(first, third), equal_to(planes, Offset::D.word()))
 }
 
-/// Ones where the planes hold `word`.
+/// Ones at the places at which the planes hold `word`.
 #[inline(always)]
 fn equal_to(planes: &[u64x2; 10], word: u16) -> u64x2
     requires { word < 2 ^ 10 }

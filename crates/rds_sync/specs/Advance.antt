@@ -9,8 +9,8 @@ use Rattle.rds_sync.specs.declared.item.Item.{Item}
 use Rattle.rds_sync.specs.declared.item.Item.TheVariants.{Group}
 use Rattle.rds_sync.specs.Rules.{RuleNumbers}
 
--- the place of the bit after a step from `place` in a range that ends before `to`: a search goes over one bit, a lock up to
--- and including the block that is due
+-- the place of the bit after a step from `place` in a range that ends before `to`: a search takes one bit, a
+-- lock all up to and including the block that is due
 abbrev pub next_place : State → ℕ → ℕ → ℕ
 next_place Searching place to = place + 1
 next_place (Locked lock) place to = elim (nat_lt lock.due to) [ true ↦ lock.due + 1 | false ↦ to ]

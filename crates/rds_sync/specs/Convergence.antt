@@ -47,7 +47,7 @@ abbrev pub sound_blocks : Loss → ℕ → ℕ
 sound_blocks (Run n) j = (j + 1) * n + 6
 sound_blocks (Share bad of) j = max ((j + 1) * bad) of + 6
 
--- the same in bits: 416 under the default rules, where no rival is about
+-- the same in bits: 416 under the default rules, if there is no rival
 abbrev pub sound_bits : Loss → ℕ → ℕ
 sound_bits loss j = 26 * sound_blocks loss j
 
@@ -70,8 +70,8 @@ pub record IsSound (b : Signal) (rules : RuleNumbers) (j s p c : ℕ) : Type 0 w
   pub none_acquires : (r : ℕ) → IsRival b s (s + sound_bits rules.loss j) p r → acquired b rules r ≡ None
   pub few : (phase : ℕ) (rivals : List ℕ) → AreRivals b s (s + sound_bits rules.loss j) p phase rivals → length rivals ≤ j
 
--- where a sound range begins at s, and the places up to `to` - 1 are those up to its last block of number 4, this is the state
--- after them: between two groups, with none of their blocks bad
+-- if a sound range begins at s, and the places up to `to` - 1 are those up to its last block of number 4,
+-- this is the state after them: between two groups, with none of their blocks bad
 abbrev pub IsConverged : Signal → RuleNumbers → ℕ → ℕ → State → Type 0
 IsConverged b rules s to end = (j p c last : ℕ) → IsSound b rules j s p c → IsLastFour b s (s + sound_bits rules.loss j) p c last
     → to ≡ p + 26 * last + 1

@@ -29,8 +29,8 @@ pub record BlocksAreRead (b : Signal) (rules : RuleNumbers) (first last place : 
       → IsBlock group y (Read (reading_at b (place - 26 * (last - y)) y (wanted_beside second) rules.burst))
   pub missing : (y : ℕ) → 1 ≤ y → y ≤ 4 → (y < first) ⊎ (last < y) → IsBlock group y Missing
 
--- the version is that of a valid block 3; else that of bit B0, where block 2 has an information word; else that of a corrected
--- block 3; else it is unknown
+-- the version is that of a valid block 3; else that of bit B0, if block 2 has an information word; else that
+-- of a corrected block 3; else it is unknown
 pub record VersionIsRead (version : Version) (second third : Block) : Type 0 where
   pub valid_c : (info : ℕ) → third ≡ Read (Valid C info) → version ≡ A
   pub valid_cx : (info : ℕ) → third ≡ Read (Valid Cx info) → version ≡ B

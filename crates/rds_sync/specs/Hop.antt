@@ -8,7 +8,7 @@ use Rattle.rds_sync.specs.Lawful.{IsBetweenGroups}
 use Rattle.rds_sync.specs.Rules.{RuleNumbers}
 use Rattle.rds_sync.specs.Step.{run}
 
--- the place at which the next block ends; 25 places on where none is known
+-- the place at which the next block ends; 25 places on if none is known
 abbrev pub mark : ℕ → State → ℕ
 mark place Searching = place + 25
 mark place (Locked lock) = lock.due

@@ -276,8 +276,8 @@ DamagedBitsTellTotals = (rules : RuleNumbers) (g : SentGroup) (groups : List Sen
 
 -- ---- from any bit on
 
--- A run from any lawful state goes over a sound range, up to its last block 4. From there on it gives each group that is heard, with the words
--- that were sent, and nothing else, if the damage does not lose sync.
+-- A run from any lawful state covers a sound range, up to its last block 4. From there on it gives each group
+-- that is heard, with the words that were sent, and nothing else, if the damage does not lose sync.
 abbrev pub SoundSignalIsDecoded : Type 0
 SoundSignalIsDecoded = (b : Signal) (rules : RuleNumbers) → IsLoss rules.loss → 1 ≤ rules.reach → rules.burst ≤ 5
     → (s : ℕ) (t : State) → IsLawful rules s t

@@ -115,8 +115,8 @@ pub(crate) fn add_found(counts: &mut Counts, place: u64, number: BlockNumber)
     }
 }
 
-/// Follows a lock over the whole groups that come next, until `most` items were counted, or where there is none up to and
-/// including the block that closes its group, or up to `to` where none is due before it.
+/// Follows a lock over the whole groups that come next, until `most` items were counted. If there is none, it
+/// follows it up to and including the block that closes its group, or up to `to` if none is due before it.
 fn keep_on(
     reader: &mut Reader<'_>,
     rules: &Rules,
@@ -145,8 +145,8 @@ fn keep_on(
     keep_group(reader, rules, lock, place, to, counts)
 }
 
-/// Follows a lock from block to block, up to and including the block that closes its group, or up to `to` where none
-/// is due before it.
+/// Follows a lock from block to block, up to and including the block that closes its group, or up to `to` if
+/// none is due before it.
 fn keep_group(
     reader: &mut Reader<'_>,
     rules: &Rules,

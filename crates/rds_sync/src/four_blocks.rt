@@ -121,7 +121,7 @@ fn blocks_of(rules: &Rules, heard: [Option<u32>; 4]) -> [Block; 4]
     [first, second, third, fourth]
 }
 
-/// The four blocks that were heard, where all of them are valid with the numbers 1 to 4.
+/// The four blocks that were heard, if all of them are valid with the numbers 1 to 4.
 #[inline(always)]
 fn valid_blocks(heard: [Option<u32>; 4]) -> Option<[Block; 4]>
     requires { All (λ heard. IfSome heard (λ window. window < 2 ^ 26)) heard }

@@ -82,7 +82,7 @@ impl<'a> IndexedItems<'a> {
     }
 }
 
-/// The last of these before which no more than `from` items stand.
+/// The last of these before which there are no more than `from` items.
 fn last_start(starts: &[Start], from: usize) -> Start
     ensures start { (b : Signal) (rules : RuleNumbers) (spans : List Span)
         → All (IsStart b rules spans) starts.now → IsStart b rules spans result }

@@ -46,9 +46,9 @@ impl Spans {
 
 /// A list of items of a recording by rules, which it names. Contracts see these, and the list.
 ///
-/// It holds none of its items, but the spans of the runs that give them, of some hundred items each where it was not
-/// told otherwise; they are decoded again where the recording and the rules are lent. It borrows nothing, may go from
-/// thread to thread, and be read by several.
+/// It holds none of its items, but the spans of the runs that give them, of some hundred items each unless it
+/// was told otherwise. They are decoded again when the recording and the rules are lent. It borrows nothing,
+/// may move from thread to thread, and be read by several.
 #[derive(Drop)]
 pub struct Items {
     source: Snapshot<Recording>,
@@ -153,7 +153,7 @@ impl Items {
         ItemIter::over(rec, rules, spans, left, to - from)
     }
 
-    /// The same items with an index of their spans, for who goes over many parts of a long list.
+    /// The same items with an index of their spans, to read many parts of a long list.
     pub fn indexed(&self, alloc: Global) -> Result<IndexedItems<'_>, AllocError>
         ensures { IfOk result (λ indexed. indexed ≡ self.now) }
     {
@@ -199,8 +199,8 @@ impl Items {
         Ok(())
     }
 
-    /// Appends the item of the recording's end, where the run over it ended in `state`: the group in progress, if there
-    /// is one. Refused memory, it leaves the list as it was.
+    /// Appends the item of the recording's end, if the run over it ended in `state`: the group in progress,
+    /// if there is one. If memory is refused, it leaves the list as it was.
     pub fn close(&mut self, state: State) -> Result<(), AllocError>
         requires lawful { IsLawful self.old.rules (length_of self.old.source) state }
         ensures ok { OnOk result (self.new ≡ listed self.old.source self.old.rules
@@ -276,8 +276,8 @@ fn push_past(spans: &mut Vec<Span>, more: &[Span], left: usize) -> Result<(), Al
     }
 }
 
-/// The spans from that on which holds item number `from`, and its number in that span; no spans,
-/// where there is no such item.
+/// The spans from that on which holds item number `from`, and its number in that span; no spans, if there is
+/// no such item.
 pub(crate) fn spans_from(spans: &[Span], from: usize) -> (&[Span], usize)
     ensures at { (b : Signal) (rules : RuleNumbers) → All (IsSpan b rules) spans.now
         → IsAt b rules spans.now from result.0.now result.1 }

@@ -57,7 +57,8 @@ pub fn searches_go_on()
     ensures { SearchesGoOn }
 {}
 
-/// A bit gives an item exactly where it changes the state, and the state was a search or is between groups afterwards.
+/// A bit gives an item exactly when it changes the state, and the state was a search or is between groups
+/// afterwards.
 pub fn items_mark_changes()
     ensures { ItemsMarkChanges }
 {}
@@ -177,8 +178,9 @@ pub fn sound_signal_is_decoded()
     code_laws::damaged_blocks_are_corrected();
 }
 
-/// A longer recording only adds rows: its report begins with the items of the shorter one, but for the group at the end, which
-/// goes on; and no total is less. Gaps within the shorter recording are those of the longer one there.
+/// A longer recording only adds rows: its report begins with the items of the shorter one, except the group
+/// at the end, which continues; and no total is less. Gaps within the shorter recording are those of the
+/// longer one there.
 pub fn longer_recordings_add_rows()
     ensures beginnings { BeginningsBegin }
     ensures items { LongerRecordingsAddItems }

@@ -15,7 +15,7 @@ use crate::rules::Rules;
 use rds_code::BLOCK_BITS;
 use rds_stream::FIRST_WINDOW;
 
-/// How far the last bits of two blocks in a row lie apart, in places.
+/// How far apart the last bits of two consecutive blocks are, in places.
 pub(crate) const BLOCK_PLACES: u64 = BLOCK_BITS as u64;
 
 /// The least place at which a block that is waited for ends: no place before 51 acquires.

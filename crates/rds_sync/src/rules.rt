@@ -102,11 +102,11 @@ impl Rules {
         )
     }
 
-    /// Rules that correct and acquire as those of [`new`](Rules::new), and lose a lock where `bad`
-    /// of the last `of` blocks read in it are bad (1 ≤ bad ≤ of ≤ 64).
+    /// Rules that correct and acquire as those of [`new`](Rules::new), and lose a lock if `bad` of the last
+    /// `of` blocks read in it are bad (1 ≤ bad ≤ of ≤ 64).
     ///
-    /// Refuses a burst, then a reach, then a share out of its range, and otherwise only want of
-    /// memory.
+    /// Refuses a burst, then a reach, then a share out of its range. Otherwise it fails only if memory is
+    /// refused.
     pub fn with_share(
         alloc: Global,
         burst: u32,

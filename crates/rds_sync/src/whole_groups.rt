@@ -96,8 +96,8 @@ pub(crate) fn push_whole_groups(
     now
 }
 
-/// The whole group that comes next, whose block 1 begins at `place`: none where a block of it loses the lock or ends at
-/// `to` or later, or where the lock is inside a group.
+/// The whole group that comes next, whose block 1 begins at `place`: none if a block of it loses the lock or
+/// ends at `to` or later, or if the lock is inside a group.
 #[inline(always)]
 pub(crate) fn whole_group(
     reader: &mut Reader<'_>,

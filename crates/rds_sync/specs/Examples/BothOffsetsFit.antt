@@ -1,4 +1,5 @@
--- A block 3 that both offsets fit: it is corrected only where one pair of an offset that is tried and a burst fits.
+-- A block 3 that both offsets fit: it is corrected only if exactly one pair of an offset that is tried and a
+-- burst fits.
 use Rattle.std.specs.Prelude.{ℕ, List, [], ◌∷◌, ◌++◌, refl, Some, None}
 use Rattle.std.specs.Int.Count.{count_leading_zeros, ones, count_trailing_zeros}
 use Rattle.rds_code.specs.Remainder.{rem}

@@ -60,7 +60,7 @@ abbrev pub is_empty : List Item → Bool
 is_empty [] = true
 is_empty (item ∷ items) = false
 
--- none is given only where none is left
+-- none is given only if none is left
 pub not_none : GivesNext (left (the_group ∷ []) (Locked (lock_of 129 1 0 1))) None (left [] (Locked (lock_of 129 1 0 1))) → ⊥
 not_none gives = false≢true (ap is_empty gives.0.0)
 

@@ -56,7 +56,7 @@ to_the_acquisition = record {
   };
 }
 
--- not one bit before, where nothing was given yet and the range goes on
+-- not one bit before, as nothing was given yet and the range continues
 pub not_before : IsStretch b default_rules Searching 0 104 (reached 51 Searching nothing) → ⊥
 unfolding acquired has_number group rem window touched heard off
 not_before stretch = goes_on stretch.ended
@@ -70,7 +70,7 @@ pub not_behind : IsStretch b default_rules Searching 0 104 (reached 53 (Locked (
 unfolding acquired has_number group rem window touched heard off
 not_behind stretch = false≢true (sym (ap is_some_item stretch.quiet))
 
--- where nothing is given it goes up to the end of its range
+-- if nothing is given it extends to the end of its range
 pub to_the_end : IsStretch b default_rules Searching 0 51 (reached 51 Searching nothing)
 unfolding acquired has_number group rem window touched heard off
 to_the_end = record {

@@ -37,13 +37,14 @@ items_of_due lock blocks (Inside next) = []
 items_of_due lock blocks (Closed next) = closing lock blocks ∷ []
 items_of_due lock blocks Lost = closing lock blocks ∷ LostLock lock.due ∷ []
 
--- where the group goes on, nothing was given, the next block is due after 26 places, and the blocks are those read so far
+-- if the group continues, nothing was given, the next block is due after 26 places, and the blocks are those
+-- read so far
 pub record GoesOn (b : Signal) (rules : RuleNumbers) (lock next : Lock) (blocks : List Block) : Type 0 where
   pub nothing : items_at b rules lock.due (Locked lock) ≡ []
   pub due : next.due ≡ lock.due + 26
   pub in_progress : IsInProgress b rules next blocks
 
--- and where the block closed it, an item was given
+-- and if the block closed it, an item was given
 abbrev pub IsFollowed : Signal → RuleNumbers → Lock → List Block → Due → Type 0
 IsFollowed b rules lock blocks (Inside next) = GoesOn b rules lock next blocks
 IsFollowed b rules lock blocks (Closed next) = items_at b rules lock.due (Locked lock) ≢ []
