@@ -126,8 +126,7 @@ pub struct RdsState {
     /// Where the next block ends.
     pub due: u64,
     /// The lock's bad blocks, 0 if there are none: how many of the last in a row were bad; or, by a share,
-    /// which of the
-    /// last, the newest lowest, 1 is bad.
+    /// which of the last, the newest lowest, 1 is bad.
     pub bad: u64,
     /// The number of the next block, 1 to 4, or 0 if no block is known.
     pub number: u32,

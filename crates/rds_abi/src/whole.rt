@@ -38,8 +38,7 @@ pub fn totals(
 /// they are to `count`.
 ///
 /// Refuses as [`totals`] does, and then `SmallRoom` if they are more than there is room for: `count` tells
-/// how many,
-/// and nothing else was written. It takes memory as [`totals`] does.
+/// how many, and nothing else was written. It takes memory as [`totals`] does.
 pub fn items(
     alloc: Global,
     bytes: &[u8],

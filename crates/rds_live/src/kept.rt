@@ -9,8 +9,7 @@ use rds_stream::MOST_BITS;
 use rds_sync::{Rules, State, Totals};
 
 /// How many of the last bytes of a stream are kept. A run may hear 233 bits before one: those of a partner's
-/// window,
-/// eight blocks back.
+/// window, eight blocks back.
 pub(crate) const MOST_KEPT: usize = 30;
 
 /// No count of the totals rises by more than this with a bit.

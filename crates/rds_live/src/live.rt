@@ -190,8 +190,7 @@ impl<'r> Live<'r> {
     }
 
     /// The last bytes that were heard: 30, or all of them if there are fewer. With the place, the state and
-    /// the totals
-    /// this is all that a decoder knows of a stream, from which [`resume`](Live::resume) goes on.
+    /// the totals this is all that a decoder knows of a stream, from which [`resume`](Live::resume) goes on.
     pub fn tail(&self) -> &[u8]
         ensures value { result.now ≡ self.now.tail }
         ensures count { length result.now ≡ min most_kept (self.now.place / 8) }

@@ -53,8 +53,7 @@ impl<'a> Reader<'a> {
     }
 
     /// The 26 bits that end at `place`, the first one highest (EN 50067:1998, 2.1), or none if they touch a
-    /// gap.
-    /// `place` is at least 25, and below the length.
+    /// gap. `place` is at least 25, and below the length.
     #[inline(always)]
     pub fn window(&mut self, place: u64) -> Option<u32>
         requires first { 25 ≤ place }
@@ -71,8 +70,7 @@ impl<'a> Reader<'a> {
     }
 
     /// The answers of `window` at `place` and 26, 52 and 78 places on: of four blocks in a row. The last of
-    /// these places is
-    /// below the length, and `place` below 2^37.
+    /// these places is below the length, and `place` below 2^37.
     #[inline(always)]
     pub fn four_windows(&mut self, place: u64) -> [Option<u32>; 4]
         requires first { 25 ≤ place }

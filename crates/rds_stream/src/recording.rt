@@ -113,10 +113,9 @@ impl Recording {
         })
     }
 
-    /// Puts the bits of these bytes in the place of the first ones, and these gaps in the place of the first ones, of which
-    /// there are at least as many. So a room that is taken once can be used again and again: it takes no
-    /// memory, and no
-    /// time for the bits and gaps that stay.
+    /// Puts the bits of these bytes in the place of the first ones, and these gaps in the place of the first
+    /// ones, of which there are at least as many. So a room that is taken once can be used again and again:
+    /// it takes no memory, and no time for the bits and gaps that stay.
     pub fn refill(&mut self, bytes: &[u8], gaps: &[(u64, u64)])
         requires within { 8 * length bytes.now ≤ length_of self.old }
         requires as_many { length gaps.now ≤ length self.old.gaps }
@@ -170,8 +169,7 @@ impl Recording {
     }
 
     /// Whether one of the 26 places up to `place` is in a gap: this project's rule. `place` is at least 25,
-    /// and below
-    /// the length.
+    /// and below the length.
     ///
     /// Takes a binary search through the gaps, and no time if there are none.
     pub fn touches(&self, place: u64) -> bool
@@ -182,10 +180,9 @@ impl Recording {
         self.section(place).touched
     }
 
-    /// The offset of the 26 bits that end at `place`: the one whose word is their remainder (EN 50067:1998, 2.3 and
-    /// annex A), or none; none too if they touch a gap, which is this project's rule. `place` is at least 25,
-    /// and
-    /// below the length.
+    /// The offset of the 26 bits that end at `place`: the one whose word is their remainder (EN 50067:1998,
+    /// 2.3 and annex A), or none; none too if they touch a gap, which is this project's rule. `place` is at
+    /// least 25, and below the length.
     ///
     /// A window that has an offset is called valid, and may still be no block.
     pub fn offset(&self, place: u64) -> Option<Offset>

@@ -32,9 +32,8 @@ pub trait Tape {
         ensures { result.value ≡ signal self.now };
 
     /// The 26 bits that end at `place`, the first one highest (EN 50067:1998, 2.1), or none if they touch a
-    /// gap;
-    /// `place` is at least 25, and below the length. It adds one to `reads` either way, which is below 2^63 before the
-    /// call.
+    /// gap; `place` is at least 25, and below the length. It adds one to `reads` either way, which is below
+    /// 2^63 before the call.
     fn window(&mut self, place: u64) -> Option<u32>
         requires first { 25 ≤ place }
         requires last { place < length_of (signal self.old) }

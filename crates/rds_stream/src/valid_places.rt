@@ -1,8 +1,7 @@
 //! Words of valid places: which of up to 64 places in a row have a valid window.
 //!
 //! A bit is a one exactly when all ten planes agree with one of the five offset words, so words are exact
-//! both ways:
-//! each valid window has a one, and no other is looked at.
+//! both ways: each valid window has a one, and no other is looked at.
 ghost use Rattle.std.specs.Prelude.{◌≡◌, ◌≢◌, ℕ, max, ◌+◌, ◌<◌, ◌≤◌, ◌^◌, ◌↔◌, false, slice_index, IsSome};
 ghost use Rattle.std.specs.Int.{bit_at};
 ghost use Rattle.rds_code.specs.Offsets.{offset_of as the_offset_of};

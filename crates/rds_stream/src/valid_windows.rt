@@ -16,8 +16,7 @@ use std::marker::Model;
 /// out: this project's rule.
 ///
 /// It covers 64 places at once, no further than it is asked for, and takes no memory. Contracts see which
-/// places are
-/// left.
+/// places are left.
 #[derive(Drop)]
 pub struct ValidWindows<'a> {
     recording: &'a Recording,

@@ -21,8 +21,7 @@ use std::marker::Model;
 /// rule, after EN 50067:1998, annex C.
 ///
 /// It reads no further than it is asked for, and takes no memory. Contracts see the items that are still to
-/// come, and
-/// the state that the run ends in.
+/// come, and the state that the run ends in.
 ///
 /// Its cost: a search covers 64 places at once, and looks up to `reach` windows back from each valid one. A
 /// lock reads a window every 26 bits, and those of a group again if the run continues inside it or it loses
