@@ -19,7 +19,7 @@ use Rattle.rds_abi.specs.declared.layout.RdsTotals.{RdsTotals}
 use Rattle.rds_abi.specs.declared.refusal.Refusal.{Refusal}
 use Rattle.rds_abi.specs.declared.refusal.Refusal.TheVariants.{OutOfMemory, SmallRoom, TooLong}
 
--- what was laid out says what it was laid out of
+-- the numbers laid out give back the stream
 pub laid_out : (live : LiveOf) (place : ℕ) (state : RdsState) (totals : RdsTotals) (tail : List ℕ)
     → place ≡ live.place → state_of state ≡ live.state → totals ≡ totals_in_c live.totals
     → take (length live.tail) tail ≡ live.tail → length live.tail ≡ min most_kept (live.place / 8)
@@ -27,13 +27,13 @@ pub laid_out : (live : LiveOf) (place : ℕ) (state : RdsState) (totals : RdsTot
 laid_out live place state totals tail place_is state_is totals_are tail_is kept =
     rw (place_is, state_is, totals_are, sym kept, tail_is) refl
 
--- the numbers that are laid out of what a decoder has become say it by the terms that it began with
+-- the numbers laid out of a later decoder give it back, by the terms that it began with
 pub says_next : (terms : Terms) (s laid : RdsStream) (live next : LiveOf) → live ≡ stream_of terms s → next.terms ≡ live.terms
     → stream_of next.terms laid ≡ next → stream_of terms laid ≡ next
 says_next terms s laid live next is same says =
     subst (λ (t : Terms). stream_of t laid ≡ next) (same ∙ ap (λ (l : LiveOf). l.terms) is) says
 
--- what is refused of bytes, where the stream is one that a caller may have kept
+-- the errors of bytes, if the stream is one that a caller may have kept
 pub refused_bytes : (terms : Terms) (s : RdsStream) (bytes : List ℕ) (refusal : Refusal) (TooMany Same : Type 0) → IsLeft terms s
     → ((place_after s bytes ≤ 2 ^ 36) × TooMany) ⊎ ((((refusal ≡ TooLong) × (2 ^ 36 < place_after s bytes)) ⊎ (refusal ≡ OutOfMemory)) × Same)
     → (IsLeft terms s × (place_after s bytes ≤ 2 ^ 36) × TooMany)
@@ -42,7 +42,7 @@ refused_bytes terms s bytes r TooMany Same live (inl (fits, many)) = inl (live, 
 refused_bytes terms s bytes r TooMany Same live (inr (inl (is, long), same)) = inr (inr (live, long, is), same)
 refused_bytes terms s bytes r TooMany Same live (inr (inr is, same)) = inr (inl (subst (λ (refusal : Refusal). RefusesStream terms s refusal) (sym is) tt), same)
 
--- what is refused of bytes, by rules that are in range
+-- the errors of bytes, by rules that are in range
 pub refused_push : (rules : RdsRules) (gaps : List RdsGap) (s : RdsStream) (bytes : List ℕ) (refusal : Refusal) (TooMany Same : Type 0) → IsInRange (rules_of rules)
     → (IsLeft (terms_of rules gaps) s × (place_after s bytes ≤ 2 ^ 36) × TooMany)
     ⊎ ((RefusesStream (terms_of rules gaps) s refusal ⊎ (IsLeft (terms_of rules gaps) s × (2 ^ 36 < place_after s bytes) × (refusal ≡ TooLong))) × Same)
@@ -84,7 +84,7 @@ module _ (terms : Terms) (s : RdsStream) (live : LiveOf) (is : live ≡ stream_o
   left bytes bits items gives =
       subst (λ (l : LiveOf). (before : List ℕ) → HasHeard l before → complete l.terms before ++ items ≡ report_at l.terms (before ++ bytes) (8 * length before + bits)) is gives
 
-  -- so many more bits fit
+  -- n more bits fit
   pub fits : (n : ℕ) → live.place + n ≤ 2 ^ 36 → s.place + n ≤ 2 ^ 36
   fits n = subst (λ (l : LiveOf). l.place + n ≤ 2 ^ 36) is
 
