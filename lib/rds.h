@@ -1,7 +1,7 @@
 /* librds: the decoder of Radio Data System bits, for C and C++.
  *
  * Bits are handed over as bytes, the first bit of a byte highest; a place is the number of a bit, from 0. What is found in them is a
- * list of items, in order of place: acquisitions of block synchronism, groups of four blocks, and losses. A list has at most two
+ * list of items, in order of place: acquisitions of block sync, groups of four blocks, and losses. A list has at most two
  * items a bit.
  *
  *     static const rds_rules_t rules = RDS_RULES;

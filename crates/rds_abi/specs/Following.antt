@@ -38,7 +38,7 @@ totals_from_c t = record {
 abbrev pub terms_of : RdsRules → List RdsGap → Terms
 terms_of rules gaps = record { rules = rules_of rules; gaps = gaps_of gaps }
 
--- what is known of the stream: the tail is all the bytes that were heard, or the last 30
+-- the decoder's view of the stream: the tail is all the bytes that were heard, or the last 30
 abbrev pub stream_of : Terms → RdsStream → LiveOf
 stream_of terms s = record {
   terms = terms;
@@ -57,7 +57,7 @@ stream_in_c live = record {
   tail = live.tail ++ replicate (32 - length live.tail) 0;
 }
 
--- a stream that a call can have left: a decoder can know what the numbers say, and they are those that a call writes of it
+-- a stream that a call can have left: a decoder can have these numbers, and a call writes the same of it
 pub record IsLeft (terms : Terms) (s : RdsStream) : Type 0 where
   pub live : IsLive (stream_of terms s)
   pub laid : s ≡ stream_in_c (stream_of terms s)

@@ -205,9 +205,9 @@ fn fill_room(room: &mut [RdsItem], items: &[Item])
 /// report's. The numbers of the stream are the same, too, so these may be compared.
 ///
 /// Refuses rules out of their range, then gaps that no stream may have, then `UnlawfulState`, then `TooLong`,
-/// past 2^36 bits with all that are offered, and then `SmallRoom`, if the items of the first byte do not fit:
-/// `count` tells how many they are, and nothing else was written. Memory may be refused at any time. It is
-/// taken for the tables of the rules, for the gaps near the bytes, and for the items that 960 bytes may
+/// past 2^36 bits with all that are offered. It then refuses `SmallRoom`, if the items of the first byte do
+/// not fit: `count` tells how many they are, and nothing else was written. Memory may be refused at any time.
+/// It is taken for the tables of the rules, for the gaps near the bytes, and for the items that 960 bytes may
 /// complete.
 pub fn push(
     alloc: Global,
@@ -396,9 +396,9 @@ fn take_piece(
     }
 }
 
-/// Ends a stream: writes the group in progress, as far as it was read, to the beginning of `room`, to `count`
-/// how many groups these are, one or none, and to `totals` those of the report of all that was heard. The
-/// stream is left as it is, and can be continued.
+/// Ends a stream: writes the group in progress, as far as it was read, to the beginning of `room`, and to
+/// `count` how many groups these are, one or none. It writes to `totals` those of the report of all that was
+/// heard. The stream is left as it is, and can be continued.
 ///
 /// Refuses as [`push`] does, but for `TooLong`.
 pub fn finish(

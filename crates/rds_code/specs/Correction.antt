@@ -1,4 +1,4 @@
--- What correction gives its user: the laws of the block code, which are of the code itself, and hold whoever reads. The laws
+-- The laws of correction, which are of the code itself, and hold for every reader. The laws
 -- `damaged_blocks_are_corrected` and `blocks_are_read_as_sent` are these.
 use Rattle.std.specs.Prelude.{◌≡◌, ◌≢◌, ℕ, ◌≤◌, bit_xor, ◌↔◌}
 use Rattle.rds_code.specs.declared.offset.Offset.{Offset}

@@ -1,7 +1,7 @@
 use crate::burst::Burst;
 use crate::offset::Offset;
 
-/// Which offsets are tried if block 3 is corrected: this project's rule. It matters only for block 3.
+/// The offsets allowed for block 3 when it is corrected: this project's rule. They matter only for block 3.
 #[derive(Clone, Copy, Debug, PartialEq, Eq)]
 pub enum Wanted {
     /// C, as block 2 of the same group names version A.

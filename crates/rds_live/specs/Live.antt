@@ -1,5 +1,6 @@
--- What a decoder of a stream knows, by what it has heard, and which items are complete then. Each call of `Live` cites it, and so do
--- `follow` of rds_tool and `push`, `finish` and `finish_with` of rds_abi. This project's rules.
+-- A decoder of a stream by the bytes that it has heard, and which items are complete then. Each call of
+-- `Live` cites it, and so do `follow` of rds_tool and `push`, `finish` and `finish_with` of rds_abi. This
+-- project's rules.
 use Rattle.std.specs.Prelude.{◌≡◌, ℕ, ◌-◌, ◌*◌, ◌/◌, ◌^◌, ◌≤◌, List, [], length, drop, min}
 use Rattle.rds_stream.specs.Recording.{AreGaps, Signal, bits_of}
 use Rattle.rds_sync.specs.declared.state.State.{State}
@@ -36,7 +37,7 @@ pub record LiveOf : Type 0 where
   pub state : State
   pub totals : Totals
 
--- what a decoder knows by these numbers
+-- a decoder with these numbers
 abbrev pub live_with : RuleNumbers → List (ℕ × ℕ) → List ℕ → ℕ → State → Totals → LiveOf
 live_with rules gaps tail place state totals =
     record {
@@ -73,7 +74,7 @@ report_of terms bytes = report_at terms bytes (8 * length bytes)
 abbrev pub last_bytes : List ℕ → List ℕ
 last_bytes bytes = drop (length bytes - most_kept) bytes
 
--- what is known once these bytes were heard
+-- the decoder once these bytes were heard
 abbrev pub live_of : Terms → List ℕ → LiveOf
 live_of terms bytes =
     record {
@@ -92,8 +93,9 @@ HasHeard live bytes = live ≡ live_of live.terms bytes
 abbrev pub most_counted : ℕ → ℕ
 most_counted bits = 2 ^ 11 * bits
 
--- what holds of every decoder of a stream: whole bytes were heard, no more than a recording may hold, the last of them are kept,
--- the state is lawful, the totals are small, and the gaps are some that a recording may have
+-- every decoder of a stream satisfies this: whole bytes were heard, no more than a recording may hold, the
+-- last of them are kept, the state is lawful, the totals are small, and the gaps are some that a recording
+-- may have
 pub record IsLive (live : LiveOf) : Type 0 where
   pub whole : live.place ≡ 8 * (live.place / 8)
   pub limit : live.place ≤ 2 ^ 36

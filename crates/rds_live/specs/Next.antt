@@ -1,6 +1,6 @@
--- What a decoder of a stream gives and knows next, only by its numbers: by those that a decoder was left
--- with, and by others that are lawful and of no stream. `take`, `take_all`, `finish` and `finish_with` of
--- `Live` cite it. This project's rule.
+-- The next items and the next state of a decoder of a stream, only by its numbers: by those that a decoder
+-- was left with, and by others that are lawful and of no stream. `take`, `take_all`, `finish` and
+-- `finish_with` of `Live` cite it. This project's rule.
 use Rattle.std.specs.Prelude.{◌≡◌, ℕ, ◌+◌, ◌-◌, ◌*◌, ◌^◌, ◌≤◌, List, ◌++◌, length}
 use Rattle.rds_stream.specs.Recording.{Signal}
 use Rattle.rds_sync.specs.declared.state.State.{State}
@@ -46,7 +46,7 @@ group_next live bytes bits =
 abbrev pub completed : LiveOf → List ℕ → List Item
 completed live bytes = items_next live bytes (8 * length bytes)
 
--- what is known after these bytes
+-- the decoder after these bytes
 abbrev pub live_next : LiveOf → List ℕ → LiveOf
 live_next live bytes = record {
   terms = live.terms;
@@ -58,13 +58,14 @@ live_next live bytes = record {
 
 -- ---- laws
 
--- bytes that are taken in two pieces give what they give at once
+-- bytes that are taken in two pieces give the same as at once
 abbrev pub PiecesJoin : Type 0
 PiecesJoin = (live : LiveOf) (first second : List ℕ) → IsInRange live.terms.rules → IsLive live
     → (live_next (live_next live first) second ≡ live_next live (first ++ second))
     × (completed live first ++ completed (live_next live first) second ≡ completed live (first ++ second))
 
--- of a stream that was heard, this is what is known of it, and the items are those of the stream
+-- the decoder of a heard stream is that of the longer stream after these bytes, and the items are those of
+-- the stream
 abbrev pub NextIsHeard : Type 0
 NextIsHeard = (live : LiveOf) (before bytes : List ℕ) → IsInRange live.terms.rules → IsLive live → HasHeard live before
     → HasHeard (live_next live bytes) (before ++ bytes)

@@ -15,7 +15,7 @@ pub(crate) const MOST_KEPT: usize = 30;
 /// No count of the totals rises by more than this with a bit.
 const MOST_COUNTED: u64 = 1 << 11;
 
-/// What a decoder knows of a stream, but for its terms.
+/// A decoder's knowledge of a stream, without its terms.
 #[derive(Clone, Copy)]
 pub(crate) struct Kept {
     pub tail: [u8; MOST_KEPT],

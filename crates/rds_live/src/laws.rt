@@ -20,7 +20,7 @@ pub fn ends_move()
     ensures { EndsMove }
 {}
 
-/// Bytes that a decoder takes in two pieces give what they give at once, whatever it heard before.
+/// Bytes that a decoder takes in two pieces give the same as at once, whatever it heard before.
 pub fn pieces_join()
     ensures { PiecesJoin }
 {
@@ -30,7 +30,8 @@ pub fn pieces_join()
     runs_move();
 }
 
-/// Of a stream that was heard, the items that further bytes complete are the stream's, and so is what is known after them.
+/// The items that further bytes of a heard stream complete are the stream's, and so is the decoder after
+/// them.
 pub fn next_is_heard()
     ensures { NextIsHeard }
 {

@@ -38,19 +38,19 @@
 //!   keeps; [`MOST_ITEMS`] is as much of it as is ever of use. [`Live::take_all`]: a chunk of any length, and its items in a list.
 //! - [`StreamEnd`]: the result of the end of a stream, by [`Live::finish`] after a whole byte, or by
 //!   [`Live::finish_with`] at any bit.
-//! - [`Live::tail`] and [`Live::resume`]: what a decoder has to keep beside its place, state and totals, and one that is made
-//!   of these. [`ResumeError`] says why it refuses.
+//! - [`Live::tail`] and [`Live::resume`]: the bytes that a decoder has to keep beside its place, state and
+//!   totals, and a decoder that is made of these. [`ResumeError`] says why it refuses.
 //! - [`may_have_gaps`]: the test of gaps that these make.
 //! - [`laws`]: a run depends only on the bits heard, and bytes in two pieces give the same as at once.
 //!
 //! # What callers may rely on
 //!
-//! - What a decoder knows depends only on the bytes: `HasHeard` says of a [`Live`] that it is what these
-//!   bytes make it, so two that were fed the same are equal, however the stream was cut.
+//! - A decoder's numbers depend only on the bytes: `HasHeard` says of a [`Live`] that these bytes lead to it.
+//!   So two that were fed the same are equal, however the stream was cut.
 //! - Whatever the chunks, the items given are those of the run over all bits so far, from a search on; with the group of
 //!   the end they are the report's, and so are the totals.
-//! - Of numbers that are lawful and of no stream, each call promises what it gives too: the run over the tail and the further
-//!   bytes (`live_next`, `completed`, `group_next`).
+//! - Each call promises its results for numbers that are lawful and of no stream, too: those of the run over
+//!   the tail and the further bytes (`live_next`, `completed`, `group_next`).
 //! - A refused call has heard nothing: the same bytes can be offered again. `take` refuses only `TooLong`
 //!   (5), past 2^36 bits in all, and `take_all` `OutOfMemory` (8) too.
 //! - All memory that a stream needs is taken at its beginning: `take`, `finish` and `finish_with` take none.

@@ -36,8 +36,8 @@ const NO_GAPS: &[(u64, u64)] = &[];
 
 /// A decoder of a stream of bits, which takes them as they come: this project's rule.
 ///
-/// Contracts see what it knows of the stream: its rules and gaps, the last bytes, how many bits there were, and the state
-/// after them.
+/// Contracts see its knowledge of the stream: its rules and gaps, the last bytes, how many bits there were,
+/// and the state after them.
 #[derive(Drop)]
 pub struct Live<'r> {
     rules: &'r Rules,
@@ -329,7 +329,7 @@ impl<'r> Live<'r> {
         no_items_count(&self.totals);
     }
 
-    /// What it knows.
+    /// Its numbers, without its terms.
     fn kept(&self) -> Kept
         ensures { IsKept result self.now }
     {
@@ -345,7 +345,7 @@ impl<'r> Live<'r> {
         }
     }
 
-    /// Knows again what it knew then.
+    /// Restores these numbers.
     fn go_back(&mut self, kept: &Kept)
         requires lawful { IsLive (live_kept self.old.terms kept.now) }
         requires within { kept.now.count ≤ 30 }

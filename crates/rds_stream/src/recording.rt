@@ -84,9 +84,9 @@ impl Recording {
     /// The same with gaps, which are this project's rule: each is the places from its first number to before its
     /// second.
     ///
-    /// Refuses more than 2^36 bits, then more than the bytes hold, and then gaps of which one has no place,
-    /// ends after the bits, or begins before the end of the one before it; the bytes and the gaps come back
-    /// as they were. Takes no memory.
+    /// Refuses more than 2^36 bits, then more than the bytes hold, and then bad gaps: one has no place, ends
+    /// after the bits, or begins before the end of the one before it. The bytes and the gaps come back as
+    /// they were. Takes no memory.
     pub fn with_gaps(
         bytes: Vec<u8>,
         bits: u64,

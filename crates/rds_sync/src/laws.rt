@@ -160,8 +160,8 @@ pub fn damaged_bits_are_decoded()
     code_laws::damaged_blocks_are_corrected();
 }
 
-/// The totals of a recording of damaged groups follow from only the damage, if each block has at most one
-/// burst of errors within the limit and the damage does not lose sync.
+/// The totals of a recording of damaged groups follow from only the damage, on two conditions. Each block has
+/// at most one burst of errors within the limit, and the damage does not lose sync.
 pub fn damage_tells_totals()
     ensures recorded { DamageTellsTotals }
     ensures decoded { DamagedBitsTellTotals }

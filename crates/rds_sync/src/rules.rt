@@ -1,4 +1,4 @@
-//! The rules by which synchronism is acquired, kept and lost.
+//! The rules by which sync is acquired, kept and lost.
 
 ghost use Rattle.std.specs.Prelude.{◌≡◌, ◌≢◌, ◌<◌, ◌≤◌, ◌⊎◌, ◌↔◌, ◌^◌, IfErr, IfOk, IfSome, IsErrOf};
 ghost use Rattle.rds_code.specs.Kinds.{kind_of};

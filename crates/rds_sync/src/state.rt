@@ -19,8 +19,8 @@ impl State {
     ghost use Rattle.rds_sync.specs.Lawful.{IsLawful};
 
     /// Whether the state is lawful before the bit at `place`, by these rules. It is a search, or a lock whose
-    /// block is due within 26 places, and at place 77 or later, whose bad blocks do not lose it, whose group
-    /// is in the recording, and whose numbers are in order. Runs lead from lawful states to lawful ones.
+    /// block is due within 26 places, and at place 77 or later. The lock's bad blocks do not lose it, its
+    /// group is in the recording, and its numbers are in order. Runs lead from lawful states to lawful ones.
     pub fn is_lawful(&self, rules: &Rules, place: u64) -> bool
         ensures { IsTrue result ↔ IsLawful rules.now place self.now }
     {

@@ -67,7 +67,7 @@ group_totals os = record {
 abbrev pub good_at : List Outcome → ℕ → Bool
 good_at os y = was_valid (slice_index_or os (y - 1) missing)
 
--- the loss history after these blocks, as many as the last number, from number y on
+-- the loss history after as many of these blocks as the last number says, from number y on
 abbrev pub bad_over : Loss → List Outcome → ℕ → ℕ → ℕ → ℕ
 bad_over loss os bad y zero = bad
 bad_over loss os bad y (suc more) = bad_over loss os (bad_after loss (good_at os y) bad) (y + 1) more

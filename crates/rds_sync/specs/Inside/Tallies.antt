@@ -5,7 +5,7 @@ use Rattle.rds_sync.specs.declared.item.Block.{Block}
 use Rattle.rds_sync.specs.declared.totals.Totals.{Totals}
 use Rattle.rds_sync.specs.Totals.{totals_of, is_valid, is_lost, is_corrected_by, bits_corrected}
 
--- the totals of only a block
+-- the totals of a single block
 abbrev pub block_totals : Block → Totals
 block_totals block = record (totals_of []) {
   valid = if is_valid block then 1 else 0;
