@@ -1,7 +1,7 @@
 /* librds: the decoder of Radio Data System bits, for C and C++.
  *
  * Bits are handed over as bytes, the first bit of a byte highest; a place is the number of a bit, from 0. What is found in them is a
- * list of items, in order of place: acquisitions of block synchronism, groups of four blocks, and losses. A list has at most two
+ * list of items, in order of place: acquisitions of block sync, groups of four blocks, and losses. A list has at most two
  * items a bit.
  *
  *     static const rds_rules_t rules = RDS_RULES;
@@ -17,16 +17,16 @@
  *     if (rds_finish(NULL, 0, &rules, &stream, items, 1, &count, &totals)) return 1;
  *
  * Every function that returns uint8_t returns 0, or the number of a refusal (rds_refusal_text and rds_refusal_reason say it in words).
- * After a refusal nothing that was lent has changed, but for the count that RDS_SMALL_ROOM tells. Where several reasons hold, the one that comes first in the
- * order that is told at the function is answered; want of memory, at any time.
+ * After a refusal the arguments are unchanged, except the count that RDS_SMALL_ROOM tells. If several reasons
+ * hold, the answer is the first in the order given at the function. RDS_OUT_OF_MEMORY may be answered at any time.
  *
- * What is required of a pointer, by its declaration:
+ * Requirements on a pointer, by its declaration:
  *   const T *p        points to one T, aligned, that no other thread writes meanwhile; it is read only during the call
  *   T *p              points to one T, aligned, of the caller's, that nobody else reads or writes meanwhile
  *   p, p_len          the same of p_len values in a row; they may be none, and p is then any pointer, NULL too
- * Before anything else, RDS_BAD_POINTER refuses a pointer that must not be NULL and is, one that is not aligned, more values than
- * memory may hold, and values that are written and lie over others that are lent. What C cannot see is the caller's business: that
- * the memory is there, and that no other thread writes it meanwhile.
+ * Before anything else, RDS_BAD_POINTER refuses a pointer that must not be NULL and is, one that is not aligned,
+ * more values than memory may hold, and values to be written that overlap others that are lent. The caller has to
+ * see to the rest, which C cannot check: that the memory is there, and that no other thread writes it meanwhile.
  *
  * Nothing is kept after the call: there is no handle, nothing to free, no thread, no lock and no global state. So any calls may run
  * at the same time, in any threads, as long as no two write to the same memory. Only rds_totals, rds_items, rds_run,
@@ -36,7 +36,8 @@
  * A call takes time for the bits that it decodes and for the gaps that it is told, whatever the length of the recording or the
  * stream. It takes at most 8192 bytes of stack.
  *
- * What is said here of results is proved of the library's code: docs/PROOFS.md says what is, and what is only trusted.
+ * The results described here are proved of the library's code: docs/PROOFS.md lists the proofs, and the parts that
+ * are only trusted.
  */
 #ifndef RDS_H
 #define RDS_H
@@ -90,7 +91,7 @@ typedef struct rds_totals_t {
 
 /* A block: 8 bytes, all 0 where it is missing. */
 typedef struct rds_block_t {
-    uint32_t burst; /* the burst that was taken off, as the ones of a word of 26 bits, or 0 */
+    uint32_t burst; /* the burst that was corrected, as the ones of a word of 26 bits, or 0 */
     uint16_t info;  /* the information word, or 0 */
     uint8_t kind;   /* RDS_MISSING, RDS_LOST, RDS_VALID or RDS_CORRECTED */
     uint8_t offset; /* 0 none, or RDS_A, RDS_B, RDS_C, RDS_CX or RDS_D */
@@ -171,7 +172,7 @@ typedef struct rds_packed_t {
     uint8_t bytes[13];
 } rds_packed_t;
 
-/* Enough bytes for the name of any refusal, with the 0 behind it. */
+/* Enough bytes for the name of any refusal and its final NUL. */
 #define RDS_NAME_ROOM 16
 
 /* The totals of the first bits bits of the bytes, the highest bit of a byte first, with these gaps, by these rules.
@@ -189,7 +190,7 @@ uint8_t rds_items(const uint8_t *bytes, size_t bytes_len, uint64_t bits, const r
 
 /* Runs over the places from from to before to, from a state that is lawful before from: writes the items that this gives to
  * the beginning of room, how many they are to count, and the state after them to state. Runs in a row, each from the state of
- * the one before, are one run; from a state of zeros at place 0 to the last, with rds_finish_run behind it, they give the items of
+ * the one before, are one run; from a state of zeros at place 0 to the last, followed by rds_finish_run, they give the items of
  * rds_items: so a list of any length needs room for few. A run hears up to 233 bits before from. Where there is too little room
  * (64), count tells how many items there are, and nothing else is written. The cost of a call depends on the range and on the
  * number of gaps, not on the length of the recording: it copies the bytes and gaps of the range and of the 233 bits before it.
@@ -229,9 +230,9 @@ uint8_t rds_finish(const rds_gap_t *gaps, size_t gaps_len, const rds_rules_t *ru
                                rds_item_t *room, size_t room_len, uint64_t *count, rds_totals_t *totals);
 
 /* Ends a stream with the first bits bits of these bytes, so inside a byte too: writes the items that they complete to the beginning
- * of room, and behind them the group in progress, to count how many these are, and to totals those of all that was heard and of
+ * of room, followed by the group in progress, to count how many these are, and to totals those of all that was heard and of
  * these bits. So the items of all chunks and these are those of rds_items of the whole. The stream is only read. Refusals: those of
- * rds_push, with 4 behind 5. */
+ * rds_push, with 4 after 5. */
 RDS_MUST_USE
 uint8_t rds_finish_with(const uint8_t *bytes, size_t bytes_len, uint64_t bits, const rds_gap_t *gaps, size_t gaps_len,
                                     const rds_rules_t *rules, const rds_stream_t *stream, rds_item_t *room, size_t room_len,
@@ -241,8 +242,8 @@ uint8_t rds_finish_with(const uint8_t *bytes, size_t bytes_len, uint64_t bits, c
 RDS_MUST_USE
 uint8_t rds_remainder(uint32_t word, uint16_t *found);
 
-/* A word of 26 bits read as the block with this offset, RDS_A to RDS_C_OR_CX; a burst of up to limit bits, 0 to 5, is taken
- * off where one alone fits. Refusals: 67, 68, 1, and 8. */
+/* A word of 26 bits read as the block with this offset, RDS_A to RDS_C_OR_CX; a burst of up to limit bits, 0 to 5, is corrected
+ * if exactly one fits. Refusals: 67, 68, 1, and 8. */
 RDS_MUST_USE
 uint8_t rds_correct(uint32_t word, uint8_t offset, uint8_t limit, rds_block_t *found);
 
@@ -258,7 +259,7 @@ const char *rds_refusal_reason(uint8_t number);
 const char *rds_offset_text(uint8_t offset);
 const char *rds_version_text(void);
 
-/* The name of the refusal of this number, as "TooLong", with a 0 behind it, to the beginning of room: RDS_NAME_ROOM bytes are
+/* The name of the refusal of this number, such as "TooLong", followed by a NUL, to the beginning of room: RDS_NAME_ROOM bytes are
  * enough for any. Print it as (const char *)room. Refusals: 69, 64. */
 uint8_t rds_refusal_name(uint8_t number, uint8_t *room, size_t room_len);
 

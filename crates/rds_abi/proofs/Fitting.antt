@@ -38,7 +38,7 @@ taken-on a n bytes =
 
 module _ (joins : PiecesJoin) (first live : LiveOf) (bytes : List ℕ) (a : ℕ) (range : IsInRange first.terms.rules) (lawful : IsLive first)
     (is : live ≡ live_next first (take a bytes)) where
-  -- what a further piece leaves to know
+  -- the stream after a further piece
   pub joined-next : (n : ℕ) → live_next live (take n (drop a bytes)) ≡ live_next first (take (a + n) bytes)
   joined-next n =
       ap (λ (l : LiveOf). live_next l (take n (drop a bytes))) is
@@ -63,7 +63,7 @@ module _ (joins : PiecesJoin) (first live : LiveOf) (bytes : List ℕ) (a : ℕ)
         ap (λ (items : List Item). length items) (joined-items n),
       )
 
-  -- where the items of one byte more have no room behind those before
+  -- if the items of one byte more have no room after those before
   pub all-taken : (room filled : ℕ) → 0 < a → filled ≡ length (completed first (take a bytes)) → 0 < length (drop a bytes)
       → room - filled < length (completed live (take 1 (drop a bytes))) → IsMostTaken first bytes room a
   all-taken room filled some count rest small =
@@ -73,7 +73,7 @@ module _ (joins : PiecesJoin) (first live : LiveOf) (bytes : List ℕ) (a : ℕ)
         omega (arith, small, joined-count 1 filled (length (completed live (take 1 (drop a bytes)))) count refl),
       )
 
--- items that are written behind those before
+-- items that are written after those before
 pub filled-on : (first more : List RdsItem) (filled : ℕ) (old room part : List RdsItem) → filled ≡ length first → IsFilled first old room
     → IsFilled more (drop filled room) part → IsFilled (first ++ more) old (take filled room ++ part)
 filled-on first more filled old room part count one two =
@@ -105,7 +105,7 @@ filled-long items old new is fits =
       fits,
     )
 
--- a piece's items, written to what is left of the room
+-- a piece's items, written to the rest of the room
 pub filled-piece : (first more both : List Item) (filled : ℕ) (old room part : List RdsItem) → first ++ more ≡ both → filled ≡ length first → filled ≤ length room
     → IsFilled (map item_in_c first) old room → IsFilled (map item_in_c more) (take (length room - filled) (drop filled room)) part
     → IsFilled (map item_in_c both) old (put_mid filled (length room - filled) room part)

@@ -122,7 +122,7 @@ module _ (before len n : ℕ) (few : n ≤ len) where
       let none : min (gap.end - before) n ≤ gap.begin - before = omega (arith, few, ltb-false (gap.begin - before) len e) in
       rw (le-ltb (gap.begin - before) (min (gap.end - before) n) none) refl
 
-  -- without the gaps before and behind it the part has the same
+  -- without the gaps before and after it the part has the same
   pub near-same : (gaps rest : List RdsGap) (first count : ℕ) → rest ≡ drop first gaps
       → IsPartitionPoint (λ (gap : RdsGap). leb gap.end before ≡ true) (λ (gap : RdsGap). leb gap.end before ≡ false) gaps first
       → IsPartitionPoint (λ (gap : RdsGap). ltb (gap.begin - before) len ≡ true) (λ (gap : RdsGap). ltb (gap.begin - before) len ≡ false) rest count

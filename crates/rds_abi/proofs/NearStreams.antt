@@ -74,7 +74,7 @@ module _ (all near : Terms) (s : RdsStream) (before len : ℕ) (is : IsNear all 
   refused-near NoRefusal none = absurd none
   refused-near ReservedField none = absurd none
 
-  -- bytes that lie in the part
+  -- bytes that are in the part
   module _ (bytes : List ℕ) (begins : before ≡ before_tail (stream_of all s))
       (held : 8 * length (take (min most_kept (s.place / 8)) s.tail) + 8 * length bytes ≤ len) where
     abbrev tail : List ℕ
@@ -107,7 +107,7 @@ module _ (all near : Terms) (s : RdsStream) (before len : ℕ) (is : IsNear all 
               (run (signal_at gaps (tail ++ bytes) bits) r (moved_back (before_tail (stream_of all s)) (state_of s.state)) (8 * length tail) (8 * length bytes)).1));
         }) gaps-same is.rules
 
--- of a stream that was heard these are its items, and this is what is known of it
+-- of a stream that was heard these are its items, and this is its state
 module _ (law : NextIsHeard) (all : Terms) (s : RdsStream) (bytes : List ℕ) (range : IsInRange all.rules) (left : IsLeft all s) where
   pub heard-next : (new : RdsStream) → stream_of all new ≡ live_next (stream_of all s) bytes → (before : List ℕ)
       → HasHeard (stream_of all s) before → HasHeard (stream_of all new) (before ++ bytes)
@@ -125,7 +125,8 @@ pub part-held : (all : Terms) (s : RdsStream) (kept few count : ℕ) → IsLeft 
     → few ≡ min 8589934592 count → 8 * length (take (min most_kept (s.place / 8)) s.tail) + 8 * count ≤ 8 * (kept + few)
 part-held all s kept few count left is fits many = omega (arith, left.live.kept, is, fits, many)
 
--- all of that of the first of bytes that are pushed to a stream, by the gaps in at most so many bytes behind those that are kept
+-- all of that of the first of bytes that are pushed to a stream, by the gaps in the bytes that are kept and
+-- at most `few` bytes after them
 module _ (all near : Terms) (s : RdsStream) (bytes : List ℕ) (kept few : ℕ) (is : IsNear all near (s.place - 8 * kept) (8 * (kept + few)))
     (keeps : kept ≡ min most_kept (s.place / 8)) (many : few ≡ min 8589934592 (length bytes)) where
   module _ (left : IsLeft near s) (fits : place_after s bytes ≤ 2 ^ 36) where

@@ -26,7 +26,7 @@ pub bits-of-first : (bytes : List ℕ) (k bits : ℕ) → bits ≤ 8 * length (t
 bits-of-first bytes k bits held =
     bits-begin (take k bytes) (drop k bytes) bits held ∙ ap (λ (all : List ℕ). bits_of all bits) (take-append-drop k bytes)
 
--- bytes from number k on stand in all
+-- bytes from number k on are in all
 pub slice-part : (bytes : List ℕ) (k z : ℕ) → k ≤ z → z ≤ length bytes → IsPartOf bytes (slice_range bytes k z) k
 slice-part bytes k z order within = record {
   within = omega (arith, order, within, length-take (z - k) (drop k bytes), length-drop k bytes);
@@ -66,7 +66,7 @@ pub end-in-part : EndsMove → (whole part : Signal) (rules : RuleNumbers) (befo
 end-in-part ends whole part rules before s state is lawful heard =
     sym (ends whole part rules before s lawful heard) ∙ ap (λ (t : State). items_of_end whole rules t) is
 
--- what is asked for, by the part that a run over it hears
+-- the run asked for, by the part that a run over it hears
 module _ (bytes : List ℕ) (bits : ℕ) (gaps : List RdsGap) (rules : RdsRules) (from to : ℕ) (s : RdsState) (part : Signal) (numbers : RuleNumbers) (before : ℕ) (here : State)
     (rules_are : numbers ≡ rules_of rules) (begins : before ≤ from) (long : length_of part ≡ to - before) (is : moved_state before here ≡ state_of s)
     (lawful : IsLawful numbers (from - before) here) (heard : IsPartHeard (recording_of bytes bits gaps) part before (from - before))

@@ -3,7 +3,7 @@ use Rattle.std.proofs.Common.{◌≡◌, ◌∙◌, ◌+◌, ◌-◌, ◌<◌, �
 use Rattle.std.proofs.lemmas.Grind.{take-set_at, take_at_read}
 use Rattle.std.proofs.lemmas.List.{drop-drop, drop-set-lt, drop_more, length-append, map-append, set-append_right}
 
--- one more of a list is written behind those before it
+-- one more of a list is written after those before it
 pub one_written : {A B : Type 0} (f : A → B) (xs : List A) (room : List B) (i : ℕ) (none : A) → i < length xs → i < length room
     → take i room ≡ map f (take i xs) → take (i + 1) (set room i (f (get_or xs i none))) ≡ map f (take (i + 1) xs)
 one_written f xs room i none within fits before =
@@ -11,13 +11,13 @@ one_written f xs room i none within fits before =
     ∙ ap (λ done. done ++ f (get_or xs i none) ∷ []) before
     ∙ sym (ap (λ done. map f done) (take_at_read xs i none within).1 ∙ map-append f (take i xs) (get_or xs i none ∷ []))
 
--- what is written before the rest
+-- the elements written before the rest
 pub before_rest : {B : Type 0} (room : List B) (i : ℕ) (y : B) (rest : List B) → i < length room
     → take (i + 1) (set room i y) ++ rest ≡ take i room ++ y ∷ rest
 before_rest room i y rest fits =
     ap (λ done. done ++ rest) (take-set_at room i (i + 1) y refl fits) ∙ append_assoc (take i room) (y ∷ []) rest
 
--- what stands behind it is as it was
+-- the elements after it are as they were
 pub still_kept : {B : Type 0} (room old : List B) (i : ℕ) (y : B) → drop i room ≡ drop i old → drop (i + 1) (set room i y) ≡ drop (i + 1) old
 still_kept room old i y kept =
     drop-set-lt (i + 1) room i y (omega arith)
@@ -25,7 +25,7 @@ still_kept room old i y kept =
     ∙ ap (λ rest. drop 1 rest) kept
     ∙ drop-drop 1 i old
 
--- one more behind what was written from the beginning on
+-- one more after those that were written from the beginning on
 pub one_behind : {B : Type 0} (written room new : List B) (i : ℕ) (y : B) → i ≡ length written → i < length room
     → new ≡ written ++ drop (length written) room → set new i y ≡ (written ++ y ∷ []) ++ drop (length (written ++ y ∷ [])) room
 one_behind written room new i y at fits is =

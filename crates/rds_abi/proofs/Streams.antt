@@ -25,7 +25,7 @@ pub laid_out : (live : LiveOf) (magic version : ℕ) (rules : RdsRules) (place :
 laid_out live magic version rules place state totals tail place_is state_is totals_are tail_is kept =
     rw (place_is, state_is, totals_are, sym kept, tail_is) refl
 
--- the numbers that are laid out of what a decoder has become say it by the terms that it began with
+-- the numbers laid out of a later decoder give it back, by the terms that it began with
 pub says_next : (terms : Terms) (s laid : RdsStream) (live next : LiveOf) → live ≡ stream_of terms s → next.terms ≡ live.terms
     → stream_of next.terms laid ≡ next → stream_of terms laid ≡ next
 says_next terms s laid live next is same says =
@@ -73,7 +73,7 @@ module _ (terms : Terms) (s : RdsStream) (live : LiveOf) (is : live ≡ stream_o
   left bytes bits items gives =
       subst (λ (l : LiveOf). (before : List ℕ) → HasHeard l before → complete l.terms before ++ items ≡ report_at l.terms (before ++ bytes) (8 * length before + bits)) is gives
 
-  -- so many more bits fit
+  -- n more bits fit
   pub fits : (n : ℕ) → live.place + n ≤ 2 ^ 36 → s.place + n ≤ 2 ^ 36
   fits n = subst (λ (l : LiveOf). l.place + n ≤ 2 ^ 36) is
 

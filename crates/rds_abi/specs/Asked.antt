@@ -27,7 +27,7 @@ pub record Asked : Type 0 where
 abbrev pub asked : List ℕ → ℕ → List RdsGap → RdsRules → Asked
 asked bytes bits gaps rules = record { bytes = bytes; bits = bits; gaps = gaps; rules = rules }
 
--- ---- what the numbers say
+-- ---- the meaning of the numbers
 
 -- a gap: the places from its first number to before its second
 abbrev pub gap_of : RdsGap → ℕ × ℕ
@@ -36,7 +36,7 @@ gap_of gap = (gap.begin, gap.end)
 abbrev pub gaps_of : List RdsGap → List (ℕ × ℕ)
 gaps_of gaps = map gap_of gaps
 
--- a rule of loss: so many bad blocks in a row, or so many of the last `of`
+-- a rule of loss: `loss` bad blocks in a row, or `loss` of the last `of`
 abbrev pub loss_of : RdsRules → Loss
 loss_of rules = if rules.of == 0 then Run rules.loss else Share rules.loss rules.of
 
@@ -47,7 +47,7 @@ rules_of rules = record { burst = rules.burst; reach = rules.reach; loss = loss_
 abbrev pub recording_of : List ℕ → ℕ → List RdsGap → Signal
 recording_of bytes bits gaps = record { bits = bits_of bytes bits; gaps = gaps_of gaps }
 
--- ---- what is refused
+-- ---- errors
 
 -- by these numbers of rules
 abbrev pub RefusesRules : RuleNumbers → Refusal → Type 0
@@ -92,7 +92,7 @@ pub record IsLawful (a : Asked) : Type 0 where
   pub rules : AreGiven a.rules
   pub recording : IsRecording a.bytes a.bits a.gaps
 
--- the rules first, and then the recording; want of memory at any time
+-- the rules first, and then the recording; memory may be refused at any time
 abbrev pub Refuses : Asked → Refusal → Type 0
 Refuses a refusal = RefusesGiven a.rules refusal ⊎ (AreGiven a.rules × RefusesRecording a.bytes a.bits a.gaps refusal)
 
@@ -100,7 +100,7 @@ Refuses a refusal = RefusesGiven a.rules refusal ⊎ (AreGiven a.rules × Refuse
 abbrev pub RefusedBy : (Refusal → Type 0) → ℕ → Type 0
 RefusedBy refuses number = (refusal : Refusal) × (number ≡ number_of refusal) × refuses refusal
 
--- ---- what is found
+-- ---- items
 
 abbrev pub items_asked : Asked → List RdsItem
 items_asked a = map item_in_c (report_items (recording_of a.bytes a.bits a.gaps) (rules_of a.rules))
@@ -108,10 +108,10 @@ items_asked a = map item_in_c (report_items (recording_of a.bytes a.bits a.gaps)
 abbrev pub totals_asked : Asked → RdsTotals
 totals_asked a = totals_in_c (totals_of (report_items (recording_of a.bytes a.bits a.gaps) (rules_of a.rules)))
 
--- these items stand at the beginning of the room, and behind them is what was there
+-- the room begins with these items, and is unchanged after them
 abbrev pub IsFilled : List RdsItem → List RdsItem → List RdsItem → Type 0
 IsFilled items old new = new ≡ items ++ drop (length items) old
 
--- what is found is refused for want of room, and its number told
+-- the items are refused because the room is too small, and their number is told
 abbrev pub IsTooMuch : List RdsItem → ℕ → Refusal → ℕ → Type 0
 IsTooMuch items room refusal count = (refusal ≡ SmallRoom) × (room < length items) × (count ≡ length items)

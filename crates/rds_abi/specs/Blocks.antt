@@ -1,5 +1,5 @@
--- What is asked of blocks and groups alone: a remainder, a correction, the bytes of groups. `remainder`, `correct` and `encode` cite
--- it. This project's rules.
+-- The calls for single blocks and groups: a remainder, a correction, the bytes of groups. `remainder`,
+-- `correct` and `encode` cite it. This project's rules.
 use Rattle.std.specs.Prelude.{◌≡◌, ◌≢◌, ℕ, ◌*◌, ◌+◌, ◌^◌, ◌<◌, ◌≤◌, ◌==◌, List, Option, None, Some, drop, slice_index, if◌then◌else◌, ⊤}
 use Rattle.std.specs.Int.{to_be_bytes, w128}
 use Rattle.rds_code.specs.Encoding.{encoded_group}

@@ -1,2 +1,2 @@
--- Numbers for C, with what the definitions say of them: theorems that the checker computes.
+-- Numbers for C, with their meaning by the definitions: theorems that the checker computes.
 pub mod Layouts

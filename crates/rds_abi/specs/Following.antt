@@ -20,7 +20,7 @@ use Rattle.rds_abi.specs.declared.layout.RdsTotals.{RdsTotals}
 use Rattle.rds_abi.specs.declared.refusal.Refusal.{Refusal}
 use Rattle.rds_abi.specs.declared.refusal.Refusal.TheVariants.{BadGaps, BitsPastBytes, OutOfMemory, TooLong, UnlawfulState}
 
--- ---- what the numbers say
+-- ---- the meaning of the numbers
 
 -- totals, field by field
 abbrev pub totals_from_c : RdsTotals → Totals
@@ -35,11 +35,11 @@ totals_from_c t = record {
   losses = t.losses;
 }
 
--- what a stream is decoded by
+-- the terms by which a stream is decoded
 abbrev pub terms_of : RdsRules → List RdsGap → Terms
 terms_of rules gaps = record { rules = rules_of rules; gaps = gaps_of gaps }
 
--- what is known of the stream: the tail is all the bytes that were heard, or the last 30
+-- the decoder's view of the stream: the tail is all the bytes that were heard, or the last 30
 abbrev pub stream_of : Terms → RdsStream → LiveOf
 stream_of terms s = record {
   terms = terms;
@@ -104,7 +104,7 @@ pub record IsNear (all near : Terms) (before len : ℕ) : Type 0 where
   pub may : AreGaps (2 ^ 36) all.gaps
   pub some : AreGaps (2 ^ 36) near.gaps
 
--- ---- what is refused
+-- ---- errors
 
 -- gaps that no stream may have
 abbrev pub RefusesGaps : List RdsGap → Refusal → Type 0
@@ -133,11 +133,11 @@ pub record IsFollowed (rules : RdsRules) (gaps : List RdsGap) (s : RdsStream) : 
   pub given : AreGiven rules
   pub left : IsLeft (terms_of rules gaps) s
 
--- how many bits were heard once so many bytes more are
+-- how many bits were heard after these bytes too
 abbrev pub place_after : RdsStream → List ℕ → ℕ
 place_after s bytes = s.place + 8 * length bytes
 
--- what was told is looked at first, and then how long the stream grows
+-- the stream and its terms are checked first, and then how long the stream grows
 abbrev pub RefusesPush : RdsRules → List RdsGap → RdsStream → List ℕ → Refusal → Type 0
 RefusesPush rules gaps s bytes refusal =
     RefusesFollowed rules gaps s refusal
@@ -154,25 +154,27 @@ module _ (s : RdsStream) (bytes : List ℕ) (bits : ℕ) where
   abbrev pub AreLast : Type 0
   AreLast = (s.place + bits ≤ 2 ^ 36) × (bits ≤ 8 * length bytes)
 
--- what was told is looked at first
+-- the stream and its terms are checked first
 abbrev pub RefusesEnd : RdsRules → List RdsGap → RdsStream → List ℕ → ℕ → Refusal → Type 0
 RefusesEnd rules gaps s bytes bits refusal =
     RefusesFollowed rules gaps s refusal ⊎ (IsFollowed rules gaps s × RefusesLast s bytes bits refusal)
 
--- ---- what is found
+-- ---- items
 
 -- the items that these bytes complete, whatever was heard before them
 abbrev pub AreCompleted : Terms → RdsStream → List ℕ → List Item → Type 0
 AreCompleted terms s bytes items =
     (before : List ℕ) → HasHeard (stream_of terms s) before → complete terms (before ++ bytes) ≡ complete terms before ++ items
 
--- the group in progress where the stream ends, if there is one: the items that were complete and this are the report's
+-- the group in progress at the end of the stream, if there is one: the items that were complete and this are
+-- the report's
 abbrev pub AreClosed : Terms → RdsStream → List Item → Type 0
 AreClosed terms s items =
     (length items ≤ 1)
     × ((bytes : List ℕ) → HasHeard (stream_of terms s) bytes → complete terms bytes ++ items ≡ report_of terms bytes)
 
--- the items that the first bits of these bytes complete, and behind them the group in progress where the stream ends with them
+-- the items that the first bits of these bytes complete, and after them the group in progress if the stream
+-- ends there
 abbrev pub AreLeft : Terms → RdsStream → List ℕ → ℕ → List Item → Type 0
 AreLeft terms s bytes bits items =
     (before : List ℕ) → HasHeard (stream_of terms s) before
@@ -184,7 +186,7 @@ IsMostTaken live bytes room taken =
     (taken ≡ length bytes)
     ⊎ ((0 < taken) × (taken < length bytes) × (room < length (completed live (take (taken + 1) bytes))))
 
--- such items stand at the beginning of the room, behind them is what was there, and the count is theirs
+-- the room begins with such items, and is unchanged after them, and the count is theirs
 abbrev pub AreWritten : (List Item → Type 0) → List RdsItem → List RdsItem → ℕ → Type 0
 AreWritten wanted old new count =
     (items : List Item) × wanted items × IsFilled (map item_in_c items) old new × (count ≡ length items)

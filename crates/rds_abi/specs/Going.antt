@@ -48,13 +48,14 @@ state_in_c rules (Locked lock) = record {
 abbrev pub IsLeftState : RuleNumbers → ℕ → RdsState → Type 0
 IsLeftState rules place s = IsLawfulState rules place (state_of s) × (s ≡ state_in_c rules (state_of s))
 
--- what else is refused of a run: places that are no range of the recording, and then a state that no call can have left before them
+-- the further errors of a run: places that are no range of the recording, and then a state that no call can
+-- have left before them
 abbrev pub RefusesPlaces : Asked → ℕ → ℕ → RdsState → Refusal → Type 0
 RefusesPlaces a from to s PlaceRange = (to < from) ⊎ (a.bits < to)
 RefusesPlaces a from to s UnlawfulState = (from ≤ to) × (to ≤ a.bits) × (IsLeftState (rules_of a.rules) from s → ⊥)
 RefusesPlaces a from to s other = ⊥
 
--- what is asked for is looked at first
+-- the recording and the rules are checked first
 abbrev pub RefusesRun : Asked → ℕ → ℕ → RdsState → Refusal → Type 0
 RefusesRun a from to s refusal = Refuses a refusal ⊎ (IsLawful a × RefusesPlaces a from to s refusal)
 
@@ -65,7 +66,7 @@ pub record IsRun (a : Asked) (from to : ℕ) (s : RdsState) : Type 0 where
   pub within : to ≤ a.bits
   pub state : IsLeftState (rules_of a.rules) from s
 
--- ---- what is found
+-- ---- items
 
 -- the run over the places from `from` to before `to`
 abbrev pub run_asked : Asked → ℕ → ℕ → RdsState → State × List Item

@@ -45,7 +45,7 @@ reading_in_c Lost = record { burst = 0; info = 0; kind = 1; offset = 0 }
 reading_in_c (Valid o info) = record { burst = 0; info = info; kind = 2; offset = offset_in_c o }
 reading_in_c (Corrected o info e) = record { burst = e; info = info; kind = 3; offset = offset_in_c o }
 
--- a block: all 0 where it is missing
+-- a block: all 0 if it is missing
 abbrev pub no_block : RdsBlock
 no_block = record { burst = 0; info = 0; kind = 0; offset = 0 }
 

@@ -1,10 +1,10 @@
--- The name of a refusal as C has it: its letters and a 0 behind them. `refusal_name` writes it. This project's rule.
+-- The name of an error in C: its letters, followed by a 0. `refusal_name` writes it. This project's rule.
 use Rattle.std.specs.Prelude.{◌≡◌, ℕ, ◌+◌, ◌≤◌, ◌++◌, ◌∷◌, List, drop, length}
 use Rattle.rds_abi.specs.Refusals.{name_of, number_of}
 use Rattle.rds_abi.specs.declared.refusal.Refusal.{Refusal}
 use Rattle.rds_abi.specs.declared.refusal.Refusal.TheVariants.{NoRefusal, SmallRoom}
 
--- the text and a 0 stand at the beginning of the room
+-- the room begins with the text and a 0
 abbrev pub IsSpelled : List ℕ → List ℕ → List ℕ → Type 0
 IsSpelled text old new = new ≡ text ++ 0 ∷ drop (length text + 1) old
 

@@ -1,4 +1,4 @@
-//! What a caller asks for, and what is made of it.
+//! A caller's arguments, and the recording and rules made of them.
 
 ghost use Rattle.std.specs.Prelude.{◌≡◌, ◌*◌, ◌<◌, ◌≤◌, ◌↔◌, IfErr, IfOk, OnOk, length, true};
 ghost use Rattle.std.specs.List.{All, AllAdjacentBelow};
@@ -97,15 +97,15 @@ fn recording_of(
     }
 }
 
-/// Whether these are gaps that so many bits may have: each has a place and lies within the bits, and each begins at or
-/// after the end of the one before it.
+/// Whether a recording of `bits` bits may have these gaps: each has a place and is within the bits, and each
+/// begins at or after the end of the one before it.
 pub(crate) fn are_gaps(gaps: &[RdsGap], bits: u64) -> bool
     ensures { (result ≡ true) ↔ AreGaps bits (gaps_of gaps.now) }
 {
     are_within(gaps, bits) && are_apart(gaps)
 }
 
-/// Whether each has a place and lies within so many bits.
+/// Whether each has a place and is within the first `bits` bits.
 fn are_within(gaps: &[RdsGap], bits: u64) -> bool
     ensures { (result ≡ true) ↔ All (λ gap. (gap.begin < gap.end) × (gap.end ≤ bits)) gaps.now }
 {

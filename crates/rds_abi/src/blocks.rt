@@ -1,4 +1,4 @@
-//! Blocks alone: their remainders, and their correction.
+//! Single blocks: their remainders, and their correction.
 
 ghost use Rattle.std.specs.Prelude.{◌≡◌, ◌≢◌, ◌^◌, ◌<◌, ◌≤◌, IfErr, IfOk, IfSome, None};
 ghost use Rattle.rds_code.specs.Reading.{reading};
@@ -15,7 +15,7 @@ use std::alloc::Global;
 
 /// The remainder of a word of 26 bits by the generator (EN 50067:1998, 2.3 and annex B): below 1024.
 ///
-/// Refuses `BlockRange` where the word has more bits.
+/// Refuses `BlockRange` if the word has more bits.
 pub fn remainder(word: u32) -> Result<u16, Refusal>
     ensures remainder { IfOk result (λ remainder. remainder ≡ rem word) }
     ensures lawful { IfOk result (λ _. word < 2 ^ 26) }
@@ -42,12 +42,12 @@ fn block_wanted(offset: u8) -> Option<(BlockNumber, Wanted)>
     }
 }
 
-/// A word of 26 bits read as the block with this offset: 1 A, 2 B, 3 C, 4 C', 5 D, or 6 for C or C'. A burst of up to
-/// `limit` bits, 0 to 5, is taken off where one alone fits. A block 3 that is valid is taken as it is, whichever of its
-/// two offsets was asked for: this project's rule.
+/// A 26-bit word read as the block with this offset: 1 A, 2 B, 3 C, 4 C', 5 D, or 6 for C or C'. A burst of
+/// up to `limit` bits, 0 to 5, is corrected if exactly one fits. A block 3 that is valid is taken as it is,
+/// whichever of its two offsets was asked for: this project's rule.
 ///
-/// Refuses `BlockRange`, then `OffsetRange`, then `BurstRange`, and otherwise only want of memory, which it takes for a
-/// table of bursts.
+/// Refuses `BlockRange`, then `OffsetRange`, then `BurstRange`. Otherwise it fails only if memory is refused,
+/// which it takes for a table of bursts.
 pub fn correct(alloc: Global, word: u32, offset: u8, limit: u8) -> Result<RdsBlock, Refusal>
     ensures block { IfOk result (λ block. IfSome (the_block_wanted offset)
         (λ wanted. block ≡ reading_in_c (reading word wanted.0 wanted.1 limit))) }

@@ -1,4 +1,4 @@
-//! A stream that is followed chunk by chunk, from what the caller keeps of it.
+//! A stream that is followed chunk by chunk, from the numbers that the caller keeps of it.
 
 ghost use Rattle.std.specs.Prelude.{◌≡◌, ◌++◌, ◌<◌, ◌≤◌, ◌⊎◌, ◌↔◌, true, ◌+◌, ◌-◌, ◌*◌, ◌/◌, ◌^◌, ℕ, List, IfErr, IfOk, OnErr, OnOk, length, map, min, replicate, take, vec_capacity};
 ghost use Rattle.rds_stream.specs.Recording.{AreGaps};
@@ -56,7 +56,7 @@ fn totals_from_c(totals: RdsTotals) -> Totals
     }
 }
 
-/// What is told of a stream: the rules and the gaps.
+/// The terms of a stream: the rules and the gaps.
 #[derive(Drop)]
 struct Told {
     rules: Rules,
@@ -85,7 +85,7 @@ fn rules_told(alloc: Global, rules: RdsRules, gaps: &[RdsGap]) -> Result<Rules, 
     Ok(rules)
 }
 
-/// What is told of a stream, from C.
+/// The terms of a stream, from C.
 fn told_of(alloc: Global, rules: RdsRules, gaps: &[RdsGap]) -> Result<Told, Refusal>
     ensures terms { IfOk result (λ told. told ≡ terms_of rules gaps.now) }
     ensures given { IfOk result (λ _. AreGiven rules) }
@@ -97,8 +97,8 @@ fn told_of(alloc: Global, rules: RdsRules, gaps: &[RdsGap]) -> Result<Told, Refu
     Ok(Told { rules, gaps })
 }
 
-/// What is told of a part of a stream, from C: the rules, and the gaps near the part that begins at `before` and has `len`
-/// places. It takes memory for these gaps alone.
+/// The terms of a part of a stream, from C: the rules, and the gaps near the part that begins at `before` and
+/// has `len` places. It takes memory only for these gaps.
 fn told_near(
     alloc: Global,
     rules: RdsRules,
@@ -234,21 +234,22 @@ fn fill_room(room: &mut [RdsItem], items: &[Item])
     }
 }
 
-/// Takes as many of the next bytes of a stream, the highest bit of a byte first, as there is room for what they complete:
-/// writes the items that these complete to the beginning of `room`, how many they are to `count`, what is known of the stream
-/// then to `stream`, and how many bytes it took to `taken`. The others are to be offered again. The bytes may be any number,
-/// none too, and the gaps are told by their places in the stream.
+/// Takes as many of the next bytes of a stream, the highest bit of a byte first, as there is room for the
+/// items that they complete. It writes these to the beginning of `room`, how many they are to `count`, the
+/// stream after them to `stream`, and how many bytes it took to `taken`. The others are to be offered again.
+/// The bytes may be any number, none too, and the gaps are told by their places in the stream.
 ///
 /// It takes all bytes, or the items of one byte more would not fit. A byte completes at most 16 items, so room for 16 is never
 /// too little.
 ///
-/// However a stream was cut, the items are those of the run over all bytes, and with [`finish`] they are the report's. What
-/// is known of it are the same numbers, too, so that these may be compared.
+/// However a stream was cut, the items are those of the run over all bytes, and with [`finish`] they are the
+/// report's. The numbers of the stream are the same, too, so these may be compared.
 ///
-/// Refuses rules out of their range, then gaps that no stream may have, then `UnlawfulState`, then `TooLong`, past 2^36
-/// bits with all that are offered, and then `SmallRoom`, if the items of the first byte do not fit: `count` tells how many they
-/// are, and nothing else was written; and want of memory at any time. It takes memory for the tables of the rules, for the gaps
-/// near the bytes, and for the items that 960 bytes may complete.
+/// Refuses rules out of their range, then gaps that no stream may have, then `UnlawfulState`, then `TooLong`,
+/// past 2^36 bits with all that are offered. It then refuses `SmallRoom`, if the items of the first byte do
+/// not fit: `count` tells how many they are, and nothing else was written. Memory may be refused at any time.
+/// It is taken for the tables of the rules, for the gaps near the bytes, and for the items that 960 bytes may
+/// complete.
 pub fn push(
     alloc: Global,
     bytes: &[u8],
@@ -289,7 +290,7 @@ pub fn push(
     Ok(())
 }
 
-/// Takes the next bytes of a stream, as many as there is room for, and writes what they give.
+/// Takes the next bytes of a stream, as many as there is room for, and writes their items.
 fn go_on(
     alloc: Global,
     told: &Told,
@@ -343,8 +344,9 @@ struct Fit {
     count: usize,
 }
 
-/// Has the decoder take as many of the next bytes as there is room for what they complete, writes the items, and what is known
-/// then to the stream. Refuses if the items of the first byte do not fit, and tells how many they are.
+/// Has the decoder take as many of the next bytes as there is room for the items that they complete, and
+/// writes the items, and the stream after them. Refuses if the items of the first byte do not fit, and tells
+/// how many they are.
 fn take_fitting(
     live: &mut Live<'_>,
     rules: &Rules,
@@ -392,8 +394,9 @@ fn take_fitting(
     Ok(fit)
 }
 
-/// Has the decoder take some of the next bytes, as many as surely have room, or one: writes the items that they complete, and
-/// what is known then to the stream. Refuses if the items of one byte do not fit, and tells how many they are.
+/// Has the decoder take some of the next bytes, as many as surely have room, or one: writes the items that
+/// they complete, and the stream after them. Refuses if the items of one byte do not fit, and tells how many
+/// they are.
 fn take_piece(
     live: &mut Live<'_>,
     rules: &Rules,
@@ -439,9 +442,9 @@ fn take_piece(
     }
 }
 
-/// Ends a stream: writes the group in progress, as far as it was read, to the beginning of `room`, to `count` how many
-/// groups these are, one or none, and to `totals` those of the report of all that was heard. The stream is left as it is,
-/// and can be gone on with.
+/// Ends a stream: writes the group in progress, as far as it was read, to the beginning of `room`, and to
+/// `count` how many groups these are, one or none. It writes to `totals` those of the report of all that was
+/// heard. The stream is left as it is, and can be continued.
 ///
 /// Refuses as [`push`] does, but for `TooLong`.
 pub fn finish(
@@ -467,7 +470,7 @@ pub fn finish(
     close(alloc, &told, stream, room, count, totals)
 }
 
-/// Ends a stream, and writes what this gives.
+/// Ends a stream, and writes the group in progress and the totals.
 fn close(
     alloc: Global,
     told: &Told,
@@ -494,12 +497,13 @@ fn close(
     Ok(())
 }
 
-/// Ends a stream with the first `bits` bits of these bytes, so inside a byte too: writes the items that they complete to the
-/// beginning of `room`, and behind them the group in progress, as far as it was read; to `count` how many these are, and to
-/// `totals` those of the report of all that was heard, and of these bits. The stream is left as it is.
+/// Ends a stream with the first `bits` bits of these bytes, so inside a byte too. It writes the items that
+/// they complete to the beginning of `room`, and after them the group in progress, as far as it was read; to
+/// `count` how many these are; and to `totals` those of the report of all that was heard, and of these bits.
+/// The stream is left as it is.
 ///
-/// Refuses as [`push`] does, with `BitsPastBytes`, where the bytes have fewer bits, behind `TooLong`. It takes memory as
-/// that does.
+/// Refuses as [`push`] does, and after `TooLong` `BitsPastBytes`, if the bytes have fewer bits. It takes
+/// memory as that does.
 pub fn finish_with(
     alloc: Global,
     bytes: &[u8],
@@ -527,8 +531,8 @@ pub fn finish_with(
     Ok(())
 }
 
-/// The items that the first `bits` bits of these bytes complete, with the group in progress where the stream ends behind them,
-/// and the totals of the report.
+/// The items that the first `bits` bits of these bytes complete, then the group in progress if the stream
+/// ends there, and the totals of the report.
 fn left_of(
     alloc: Global,
     bytes: &[u8],
@@ -547,7 +551,7 @@ fn left_of(
     last_of(alloc, &told, bytes, bits, stream)
 }
 
-/// The items that these bits complete, with the group in progress behind them, and the totals of the report.
+/// The items that these bits complete, then the group in progress, and the totals of the report.
 fn last_of(
     alloc: Global,
     told: &Told,
@@ -588,8 +592,8 @@ fn refuse_last(place: u64, bytes: &[u8], bits: u64) -> Result<(), Refusal>
     Ok(())
 }
 
-/// The items that so many bits complete, with the group in progress where the stream ends behind them, and the totals of the
-/// report.
+/// The items that the first `bits` bits complete, then the group in progress if the stream ends there, and
+/// the totals of the report.
 fn ended(
     alloc: Global,
     live: Live<'_>,
@@ -609,8 +613,8 @@ fn ended(
     Ok((items, totals))
 }
 
-/// Puts behind the items those that so many bits behind them complete, and the group in progress where the stream ends with
-/// these. The totals of the report.
+/// Appends the items that the next `bits` bits complete, and the group in progress if the stream ends there.
+/// The totals of the report.
 fn push_last(
     alloc: Global,
     live: Live<'_>,
@@ -652,7 +656,7 @@ fn push_with(
     Ok(end.totals)
 }
 
-/// Puts the last items behind the others, and behind them the group in progress, if there is one.
+/// Appends the last items to the others, and then the group in progress, if there is one.
 fn push_end(items: &mut Vec<Item>, last: &[Item], group: Option<Group>) -> Result<(), AllocError>
     ensures { OnOk result (items.new.items ≡ items.old.items ++ last.now ++ group_item group) }
 {

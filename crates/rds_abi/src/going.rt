@@ -1,4 +1,4 @@
-//! A run that goes on from a state which the caller keeps.
+//! A run from a state which the caller keeps.
 
 ghost use Rattle.std.specs.Prelude.{◌≡◌, ◌≢◌, ◌+◌, ◌-◌, ◌^◌, ◌<◌, ◌≤◌, ◌⊎◌, ◌↔◌, ℕ, true, All, IfErr, IfOk, IfSome, IsOkUnless, None, OnErr, OnOk, length, map};
 ghost use Rattle.rds_stream.specs.Recording.{length_of};
@@ -24,7 +24,7 @@ use rds_stream::{Counted, MOST_BITS};
 use rds_sync::{Decoder, Group, Item, Lock, Loss, Rules, Spans, State, finish, laws, run_report};
 use std::alloc::Global;
 
-/// The lock that these numbers say, of a block that is known, or none where it is not lawful before `place`.
+/// The lock that these numbers say, of a block that is known, or none if it is not lawful before `place`.
 fn lock_of(rules: &Rules, s: RdsState, place: u64) -> Option<State>
     requires { s.number ≢ 0 }
     ensures some { IfSome result (λ state. state ≡ the_state_of s) }
@@ -79,7 +79,7 @@ fn search_of(s: RdsState) -> Option<State>
     }
 }
 
-/// The state that these numbers say, or none where no call can have left them before `place`.
+/// The state that these numbers say, or none if no call can have left them before `place`.
 pub(crate) fn state_of(rules: &Rules, s: RdsState, place: u64) -> Option<State>
     ensures some { IfSome result (λ state. state ≡ the_state_of s) }
     ensures left { IfSome result (λ _. IsLeftState rules.now place s) }
@@ -114,7 +114,7 @@ pub(crate) fn state_in_c(rules: &Rules, state: State) -> RdsState
     }
 }
 
-/// The state that a run over the places of this range begins with, in a recording of so many bits.
+/// The state that a run over the places of this range begins with, in a recording of `bits` bits.
 fn state_at(rules: &Rules, bits: u64, range: (u64, u64), s: RdsState) -> Result<State, Refusal>
     ensures state { IfOk result (λ state. state ≡ the_state_of s) }
     ensures left { IfOk result (λ _. IsLeftState rules.now range.0 s) }
@@ -142,7 +142,7 @@ struct Start {
     state: State,
 }
 
-/// What a run over the places of this range begins with.
+/// The part, the rules and the state that a run over the places of this range begins with.
 fn start_of(
     alloc: Global,
     bytes: &[u8],
@@ -174,9 +174,9 @@ fn start_of(
 /// the items that this gives to the beginning of `room`, how many they are to `count`, and the state after them to `state`.
 /// Runs in a row, each from the state of the one before, are one run: so a list of any length needs room for few items.
 ///
-/// Refuses as [`totals`](crate::totals) does, then `PlaceRange` and `UnlawfulState`, and then `SmallRoom`, where `count`
-/// tells how many items there are, and nothing else was written. It takes memory for the tables of the rules, and for the
-/// bytes and the gaps of the range and of the 233 bits before it.
+/// Refuses as [`totals`](crate::totals) does, then `PlaceRange` and `UnlawfulState`, and then `SmallRoom`;
+/// `count` then tells how many items there are, and nothing else was written. It takes memory for the tables
+/// of the rules, and for the bytes and the gaps of the range and of the 233 bits before it.
 pub fn run(
     alloc: Global,
     bytes: &[u8],
@@ -206,7 +206,7 @@ pub fn run(
     go_on(alloc, &start, range, state, room, count)
 }
 
-/// Runs over a range from a start, and writes what this gives.
+/// Runs over a range from a start, and writes the items and the state.
 fn go_on(
     alloc: Global,
     start: &Start,
@@ -271,7 +271,7 @@ fn counted(alloc: Global, start: &Start, from: u64, to: u64) -> Result<(State, u
     }
 }
 
-/// Writes the items of a run, so many places further, to the beginning of the room.
+/// Writes the items of a run, moved on by `by` places, to the beginning of the room.
 fn fill_run(room: &mut [RdsItem], items: Decoder<'_>, by: u64)
     requires fits { length items.items ≤ length room.old }
     requires early { All (λ item. place_of item < 2 ^ 36) items.items }
@@ -285,7 +285,7 @@ fn fill_run(room: &mut [RdsItem], items: Decoder<'_>, by: u64)
     }
 }
 
-/// An item, so many places further, for C.
+/// An item, moved on by `by` places, for C.
 fn moved_in_c(item: Item, by: u64) -> RdsItem
     requires { place_of item + by < 2 ^ 64 }
     ensures { result ≡ item_in_c (moved_item by item) }
@@ -318,8 +318,8 @@ pub(crate) fn write_end(
     Ok(())
 }
 
-/// Writes the group in progress at a recording's end, where a run over it ended in this state, to the beginning of
-/// `room`, and to `count` how many groups these are: one or none.
+/// Writes the group in progress at a recording's end, if a run over it ended in this state, to the beginning
+/// of `room`, and to `count` how many groups these are: one or none.
 ///
 /// Refuses as [`run`] does, with no place from the recording's end on.
 pub fn finish_run(

@@ -1,4 +1,4 @@
-//! What is found, laid out for C.
+//! Items, blocks and totals, laid out for C.
 
 ghost use Rattle.std.specs.Prelude.{◌≡◌, [], ◌∷◌};
 ghost use Rattle.rds_abi.specs.Layout.{block_in_c, item_in_c, kind_in_c, no_block, offset_in_c, reading_in_c, totals_in_c, version_in_c};

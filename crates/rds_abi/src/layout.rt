@@ -1,4 +1,4 @@
-//! What crosses to C: numbers alone, in structs whose layout is C's.
+//! The values that cross to C: only numbers, in structs whose layout is C's.
 
 /// A gap in a recording, whose bits mean nothing: the places from `begin` to before `end`. 16 bytes.
 #[repr(C)]
@@ -6,7 +6,7 @@
 pub struct RdsGap {
     /// The first place.
     pub begin: u64,
-    /// The place behind the last.
+    /// The place after the last.
     pub end: u64,
 }
 
@@ -20,7 +20,7 @@ pub struct RdsRules {
     pub reach: u32,
     /// After how many bad blocks a lock is lost: 1 to 64.
     pub loss: u32,
-    /// 0 where these are bad blocks in a row; else among how many of the last blocks they are: `loss` to 64.
+    /// 0 if these are bad blocks in a row; else among how many of the last blocks they are: `loss` to 64.
     pub of: u32,
     /// Has to be 0.
     pub reserved: [u32; 4],
@@ -79,11 +79,11 @@ impl RdsTotals {
     };
 }
 
-/// A block: 8 bytes, all 0 where it is missing.
+/// A block: 8 bytes, all 0 if it is missing.
 #[repr(C)]
 #[derive(Clone, Copy, Debug, PartialEq, Eq)]
 pub struct RdsBlock {
-    /// The burst that was taken off, as the ones of a word of 26 bits, or 0.
+    /// The burst that was corrected, as the ones of a word of 26 bits, or 0.
     pub burst: u32,
     /// The information word, or 0.
     pub info: u16,
@@ -113,7 +113,8 @@ pub struct RdsItem {
     pub blocks: [RdsBlock; 4],
     /// 1 an acquisition, 2 a group, 3 a loss.
     pub what: u8,
-    /// Of an acquisition the number of its block, 1 to 4; of a group its type, 0 to 15, or 255 where that is unknown.
+    /// Of an acquisition the number of its block, 1 to 4; of a group its type, 0 to 15, or 255 if that is
+    /// unknown.
     pub number: u8,
     /// Of a group its version: 1 A, 2 B, 3 unknown; else 0.
     pub version: u8,
@@ -129,10 +130,10 @@ pub struct RdsItem {
 pub struct RdsState {
     /// Where the next block ends.
     pub due: u64,
-    /// The lock's bad blocks, 0 where there are none: how many of the last in a row were bad; or, by a share, which of the
-    /// last, the newest lowest, 1 is bad.
+    /// The lock's bad blocks, 0 if there are none: how many of the last in a row were bad; or, by a share,
+    /// which of the last, the newest lowest, 1 is bad.
     pub bad: u64,
-    /// The number of the next block, 1 to 4, or 0 where no block is known.
+    /// The number of the next block, 1 to 4, or 0 if no block is known.
     pub number: u32,
     /// The number of the first block that was read in the group in progress.
     pub first: u32,

@@ -1,4 +1,4 @@
-//! What is spelled for C: names and the version.
+//! Texts for C: names and the version.
 
 ghost use Rattle.std.specs.Prelude.{◌≡◌, ◌≤◌, IfErr, OnErr, OnOk, length};
 ghost use Rattle.rds_abi.specs.Names.{IsNamed, IsSpelled, RefusesName};
@@ -9,10 +9,10 @@ use crate::refusal::Refusal;
 /// The version of the library: 65536 times the first number, 256 times the second, and the third.
 pub const VERSION: u32 = 2 * 256;
 
-/// Writes the name of the refusal of this number, and a 0 behind it, to the beginning of `room`: 16 bytes are enough for
-/// any.
+/// Writes the name of the refusal of this number, followed by a 0, to the beginning of `room`: 16 bytes are
+/// enough for any.
 ///
-/// Refuses `NoRefusal` where there is none of this number, and then `SmallRoom`.
+/// Refuses `NoRefusal` if there is none of this number, and then `SmallRoom`.
 pub fn refusal_name(number: u8, room: &mut [u8]) -> Result<(), Refusal>
     ensures named { OnOk result (IsNamed number room.old room.new) }
     ensures refused { IfErr result (RefusesName number room.old) }

@@ -79,7 +79,7 @@ fn gaps_within(
         .collect(alloc)
 }
 
-/// As much of a gap as lies in the part, by its places there.
+/// A gap, as far as it is in the part, by its places there.
 fn part_of_gap(before: u64, len: u64, gap: RdsGap) -> Option<(u64, u64)>
     ensures { result ≡ the_part_of_gap before len (gap_of gap) }
 {
@@ -88,7 +88,7 @@ fn part_of_gap(before: u64, len: u64, gap: RdsGap) -> Option<(u64, u64)>
     if from < to { Some((from, to)) } else { None }
 }
 
-/// The state, so many places further.
+/// The state, moved on by `by` places.
 pub(crate) fn moved_on(state: State, by: u64) -> State
     requires { is_due_below (2 ^ 63) state × (by < 2 ^ 63) }
     ensures { result ≡ moved_state by state }
@@ -102,7 +102,7 @@ pub(crate) fn moved_on(state: State, by: u64) -> State
     }
 }
 
-/// The state, so many places before.
+/// The state, moved back by `by` places.
 pub(crate) fn moved_back(state: State, by: u64) -> State
     requires { is_due_from by state }
     ensures { moved_state by result ≡ state }

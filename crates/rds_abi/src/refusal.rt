@@ -1,4 +1,4 @@
-//! What the calls refuse.
+//! The errors of the calls.
 
 ghost use Rattle.std.specs.Prelude.{◌≡◌, IfSome, None};
 ghost use Rattle.rds_abi.specs.declared.refusal.Refusal.TheVariants.{OutOfMemory};
@@ -6,8 +6,8 @@ ghost use Rattle.rds_abi.specs.declared.refusal.Refusal.TheVariants.{OutOfMemory
 use std::alloc::AllocError;
 use thiserror::Error;
 
-/// A refusal. Those of the decoder have the numbers and names that the program gives them; those of the library alone
-/// have numbers from 64 on. None ever changes.
+/// A refusal. Those of the decoder have the numbers and names that the program gives them; those of only the
+/// library have numbers from 64 on. None ever changes.
 #[derive(Clone, Copy, Debug, PartialEq, Eq, Error)]
 pub enum Refusal {
     /// The longest burst to be corrected is above 5 bits.
@@ -31,7 +31,8 @@ pub enum Refusal {
     /// The share is not `loss` of the last `of` blocks, 1 ≤ loss ≤ of ≤ 64.
     #[error("the share is not 1 to 64 bad blocks of as many or more, up to 64")]
     ShareRange,
-    /// The gaps of a recording each have a place, lie within its bits, and begin at or after the end of the one before.
+    /// The gaps of a recording each have a place, are within its bits, and begin at or after the end of the
+    /// one before.
     #[error("gaps that are empty, out of order or past the bits")]
     BadGaps,
     /// There is too little room for the items. How many there are was told.

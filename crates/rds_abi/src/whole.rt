@@ -13,8 +13,9 @@ use std::alloc::Global;
 
 /// The totals of the first `bits` bits of these bytes, the highest bit of a byte first, with these gaps, by these rules.
 ///
-/// Refuses rules out of their range, then a recording that is too long, or longer than the bytes, or whose gaps are none,
-/// and otherwise only want of memory. It takes memory for a copy of the bytes and for what a report keeps.
+/// Refuses rules out of their range, then a recording that is too long, or longer than the bytes, or whose
+/// gaps are none. Otherwise it fails only if memory is refused. It takes memory for a copy of the bytes and
+/// for the parts of a report that are kept.
 pub fn totals(
     alloc: Global,
     bytes: &[u8],
@@ -36,8 +37,8 @@ pub fn totals(
 /// Writes the items of the first `bits` bits of these bytes to the beginning of `room`, in order of place, and how many
 /// they are to `count`.
 ///
-/// Refuses as [`totals`] does, and then `SmallRoom` where they are more than there is room for: `count` tells how many,
-/// and nothing else was written. It takes memory as [`totals`] does.
+/// Refuses as [`totals`] does, and then `SmallRoom` if they are more than there is room for: `count` tells
+/// how many, and nothing else was written. It takes memory as [`totals`] does.
 pub fn items(
     alloc: Global,
     bytes: &[u8],

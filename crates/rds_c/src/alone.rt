@@ -1,4 +1,4 @@
-//! Blocks and groups alone, names and the version.
+//! Single blocks and groups, names and the version.
 
 ghost use Rattle.std.specs.Prelude.{◌≡◌, ◌≢◌, ◌^◌, ◌<◌, ◌≤◌, ◌++◌, IfSome, None, drop, length, map};
 ghost use Rattle.rds_code.specs.Reading.{reading};
@@ -68,7 +68,7 @@ pub extern "C" fn rds_encode(groups: &[RdsWords], room: &mut [RdsPacked]) -> u8
     }
 }
 
-/// Writes the name of the refusal of this number, and a 0 behind it, and returns 0, or the number of a refusal.
+/// Writes the name of the refusal of this number, followed by a 0, and returns 0, or the number of a refusal.
 #[unsafe(no_mangle)]
 pub extern "C" fn rds_refusal_name(number: u8, room: &mut [u8]) -> u8
     ensures named { result ≡ 0 → IsNamed number room.old room.new }

@@ -1,4 +1,4 @@
-//! A run that goes on from a state which the caller keeps.
+//! A run from a state which the caller keeps.
 
 ghost use Rattle.std.specs.Prelude.{◌≡◌, ◌≢◌, ◌⊎◌, length};
 ghost use Rattle.rds_abi.specs.Asked.{IsFilled, IsTooMuch, RefusedBy, asked, rules_of};
@@ -52,9 +52,9 @@ pub extern "C" fn rds_run(
     }
 }
 
-/// Writes the group in progress at a recording's end, where a run over it ended in this state, to the beginning of `room`,
-/// and to `count` how many groups these are, one or none, and returns 0, or the number of a refusal. After that of
-/// `SmallRoom` only `count` was written.
+/// Writes the group in progress at a recording's end, if a run over it ended in this state, to the beginning
+/// of `room`, and to `count` how many groups these are, one or none. It returns 0, or the number of a
+/// refusal. After that of `SmallRoom` only `count` was written.
 #[unsafe(no_mangle)]
 pub extern "C" fn rds_finish_run(
     alloc: Global,

@@ -1,11 +1,12 @@
-//! The decoder for C, and for what calls C.
+//! The decoder for C, and for any language that calls C.
 //!
-//! Each function here is one of `rds_abi`'s, under the name that C calls it by: the number 0 stands for its `Ok`, and else
-//! the number of the refusal. `rds.h` says what of each pointer is required, who owns it, and which calls may run at once.
+//! Each function here is one of `rds_abi`'s, under the name that C calls it by. It returns 0 for `Ok`, and
+//! else the number of the refusal. `rds.h` states the requirements on each pointer, who owns it, and which
+//! calls may run at once.
 //!
 //! # What callers may rely on
 //!
-//! - After 0 what was asked for is written, and nothing else.
+//! - After 0 the results are written, and nothing else.
 //! - After any other number nothing that was lent has changed, but for the count that a `SmallRoom` tells.
 #![tactic(auto)]
 
@@ -13,4 +14,4 @@
 mod whole; // A recording that is handed over whole.
 mod going; // A run from range to range.
 mod following; // A stream chunk by chunk.
-mod alone; // Blocks and groups alone, names and the version.
+mod alone; // Single blocks and groups, names and the version.

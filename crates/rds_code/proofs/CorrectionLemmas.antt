@@ -49,7 +49,7 @@ pub reads_as_sent : ReadsAsSent
 reads_as_sent w info o wanted limit h =
     reads_valid w (number o) wanted limit o record { offset = ap offset_of h.remainder ∙ word_offset o; own = refl } ∙ ap (Valid o) h.above
 
--- what damage leaves of the remainder
+-- the remainder after damage
 pub damaged : (w info e : ℕ) (o : Offset) → IsBlockOf w info o → rem (bit_xor w e) ≡ bit_xor (word o) (rem e)
 damaged w info e o h = rem-xor w e ∙ ap (λ (n : ℕ). bit_xor n (rem e)) h.remainder
 
@@ -61,7 +61,7 @@ became w info e x o p h valid =
 not_itself : (w info e x : ℕ) (o : Offset) → IsBlockOf w info o → IsBurst 5 e → IsValid (bit_xor w e) x o → ⊥
 not_itself w info e x o h burst valid = rem-burst e burst (became w info e x o o h valid ∙ xor_self (word o))
 
--- where one offset alone is tried and the damaged block is not valid, the burst is found
+-- if only one offset is tried and the damaged block is not valid, the burst is found
 found_again : (w info x : ℕ) (o : Offset) (wanted : Wanted) (limit e : ℕ) → IsBlockOf w info o → limit ≤ 5 → IsBurst limit e → wanted_offsets x wanted ≡ o ∷ []
     → ((p : Offset) → IsValid (bit_xor w e) x p → ⊥) → reading (bit_xor w e) x wanted limit ≡ Corrected o info e
 found_again w info x o wanted limit e h few burst list not_valid =

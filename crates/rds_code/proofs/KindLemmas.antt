@@ -31,9 +31,9 @@ one_more limit kinds k stand here d less =
     (subst (IsKind limit (length kinds)) (sym (get_or-append_seam kinds k [] 0)) here)
     d (omega (arith, less, length-append kinds (k ∷ [])))
 
--- ---- what a kind says
+-- ---- the meaning of a kind
 
--- the remainder added to the word of an offset is 0 where it is this word alone
+-- the remainder added to the word of an offset is 0 only if it is this word
 alike : (r s : ℕ) → bit_xor r s ≡ 0 → s ≡ r
 alike r s same = sym (twice r s) ∙ ap (bit_xor r) same ∙ xor_zero_r r
 
@@ -54,7 +54,7 @@ at_most_13 limit d k few (inr (inr h)) =
     let e : ℕ = h.0 in
     omega (arith, h.2, kind_most (span e) (ones e) (omega (arith, h.1.0.short)) (ones-le_span limit e h.1.0))
 
--- what is known of the kind of a window that is damaged
+-- the facts about the kind of a window that is damaged
 abbrev pub Damage : ℕ → ℕ → ℕ → Type 0
 Damage limit d k = ((0 < d) × HasNoBurst limit d × (k ≡ 2)) ⊎ ((e : ℕ) × HasBurst limit d e × (k ≡ kind_of_burst (span e) (ones e)))
 
@@ -150,7 +150,7 @@ module _ (w limit : ℕ) (few : limit ≤ 5) where
     by_lists : (es ds : List ℕ) → fitting limit w C ≡ es → fitting limit w Cx ≡ ds → either ≡ by_only w (map {B = Offset × ℕ} (λ e. (C, e)) es ++ (map {B = Offset × ℕ} (λ e. (Cx, e)) ds ++ []))
     by_lists es ds hc hcx = reads_corrected w 3 Either limit not_third ∙ ap (by_only w) (corrections_two limit w C Cx es ds hc hcx)
 
-  -- where both are wanted: what the one is where the other is lost, and lost where neither is
+  -- if both are wanted: the kind of the one if the other is lost, and lost if neither is
   pub record IsEither (a b k : ℕ) : Type 0 where
     pub first_lost : a ≡ 2 → b ≡ k
     pub second_lost : (a ≡ 2 → ⊥) → b ≡ 2 → a ≡ k

@@ -9,7 +9,7 @@ abbrev pub is_among : ℕ → List ℕ → Bool
 is_among x [] = false
 is_among x (y ∷ ys) = cond (eqb x y) true (is_among x ys)
 
--- whether no number stands among them twice
+-- whether no number is among them twice
 abbrev pub all_differ : List ℕ → Bool
 all_differ [] = true
 all_differ (x ∷ xs) = cond (is_among x xs) false (all_differ xs)
@@ -84,7 +84,7 @@ filter_keeps p y ys h = ap (λ (b : Bool). cond b (y ∷ filter p ys) (filter p 
 filter_drops : (p : ℕ → Bool) (y : ℕ) (ys : List ℕ) → p y ≡ false → filter p (y ∷ ys) ≡ filter p ys
 filter_drops p y ys h = ap (λ (b : Bool). cond b (y ∷ filter p ys) (filter p ys)) h
 
--- a filter keeps what stands among the numbers and passes
+-- a filter keeps a number that is among them and passes
 pub among_filter : (p : ℕ → Bool) (x : ℕ) (xs : List ℕ) → is_among x xs ≡ true → p x ≡ true → is_among x (filter p xs) ≡ true
 among_filter p x [] h passed = h
 among_filter p x (y ∷ ys) h passed = elim (cases_eq x y) [
@@ -112,7 +112,7 @@ filter_among p x (y ∷ ys) h = elim (cases_Bool (p y)) [
       (among_more x y ys rest.0, rest.1)
 ]
 
--- what no number passes leaves nothing
+-- a filter that no number passes leaves nothing
 pub filter_none : (p : ℕ → Bool) (xs : List ℕ) → ((x : ℕ) → is_among x xs ≡ true → p x ≡ true → ⊥) → filter p xs ≡ []
 filter_none p [] none = refl
 filter_none p (y ∷ ys) none = elim (cases_Bool (p y)) [
@@ -120,7 +120,7 @@ filter_none p (y ∷ ys) none = elim (cases_Bool (p y)) [
   | inr dropped ↦ filter_drops p y ys dropped ∙ filter_none p ys (λ x h. none x (among_more x y ys h))
 ]
 
--- what one number alone passes leaves that number
+-- a filter that only one number passes leaves that number
 pub filter_one : (p : ℕ → Bool) (x : ℕ) (xs : List ℕ) → all_differ xs ≡ true → is_among x xs ≡ true → p x ≡ true → ((y : ℕ) → is_among y xs ≡ true → p y ≡ true → y ≡ x) → filter p xs ≡ x ∷ []
 filter_one p x [] differ h passed only = let no : false ≡ true = h in absurd (cc no)
 filter_one p x (y ∷ ys) differ h passed only =

@@ -96,7 +96,7 @@ one_of true true another = false
 one_of true false another = another
 one_of false b another = b
 
--- C and C' are wanted: a burst fits one of them alone
+-- C and C' are wanted: a burst fits only one of them
 either_test : ℕ → ℕ → ℕ → Bool
 either_test limit r n = cond (eqb r 0) false (cond (eqb r 0x238) false (one_of (is_near limit r) (is_near limit (bit_xor r 0x238)) (not (leb n limit))))
 
@@ -387,7 +387,7 @@ counts_are ts (e ∷ es) =
 all_limits : List ℕ
 all_limits = 0 ∷ 1 ∷ 2 ∷ 3 ∷ 4 ∷ 5 ∷ []
 
--- block 3 differs from the others at limit 5 alone
+-- block 3 differs from the others only at limit 5
 own_tests : List Test
 own_tests = map (own_test 0) all_limits ++ own_test 0x238 5 ∷ []
 

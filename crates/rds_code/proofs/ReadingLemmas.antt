@@ -24,7 +24,7 @@ word-lt C = lit< tt
 word-lt Cx = lit< tt
 word-lt D = lit< tt
 
--- what a burst has to leave for the window to become a block with the offset
+-- the remainder that a burst needs for the window to become a block with the offset
 pub wanted_remainder : (w e : ℕ) (o : Offset) → rem (bit_xor w e) ≡ word o → rem e ≡ bit_xor (rem w) (word o)
 wanted_remainder w e o fits = sym (twice (rem w) (rem e)) ∙ ap (bit_xor (rem w)) (sym (rem-xor w e) ∙ fits)
 
@@ -68,7 +68,7 @@ one_fits limit w o e few burst fits =
           (λ d among passes. only d (among_limit_is limit d few among) (eqb-true (rem (bit_xor w d)) (word o) passes));
     }
 
--- what the code asks the table for: r is the window's remainder and s the offset's word
+-- the argument that the code gives the table: r is the window's remainder and s the offset's word
 pub asked-lt : (w r s : ℕ) (o : Offset) → w < 2 ^ 26 → r ≡ rem w → s ≡ word o → bit_xor r s < 2 ^ 10
 asked-lt w r s o h hr hs = subst (λ (n : ℕ). n < 2 ^ 10) (sym (ap₂ bit_xor hr hs)) (wanted_remainder-lt w o h)
 
@@ -78,7 +78,7 @@ none_by_table limit w r s o few hr hs none = none_fits limit w o few (λ d burst
 pub one_by_table : (limit w r s : ℕ) (o : Offset) (e : ℕ) → limit ≤ 5 → r ≡ rem w → s ≡ word o → IsBurst limit e → rem e ≡ bit_xor r s → OneFits limit w o e
 one_by_table limit w r s o e few hr hs burst fits = one_fits limit w o e few burst (fits_by_remainder w e o (fits ∙ ap₂ bit_xor hr hs))
 
--- what an answer of the table says of the window
+-- the meaning of the table's answer for the window
 abbrev pub TableSays : ℕ → ℕ → Offset → Option ℕ → Type 0
 TableSays limit w o None = NoneFits limit w o
 TableSays limit w o (Some e) = OneFits limit w o e
@@ -170,7 +170,7 @@ valid_or_not w x = by_offset (offset_of (rem w)) refl
 
 -- ---- the computed reading is the rule's
 
--- where one offset alone may be wanted
+-- if only one offset may be wanted
 single : (w x : ℕ) (wanted : Wanted) (limit : ℕ) (o : Offset) → limit ≤ 5 → wanted_offsets x wanted ≡ o ∷ [] → number o ≡ x → IsTrue (allows wanted o)
     → ((p : Offset) → number p ≡ x → IsTrue (allows wanted p) → p ≡ o) → ((p : Offset) → IsValid w x p → ⊥) → IsReading w x wanted limit (corrected w x wanted limit)
 single w x wanted limit o few list own allowed alone not_valid = elim (fits_or_not limit w o few) [

@@ -26,7 +26,7 @@ shape_kept e h =
       shift_again = ap shift_of (sym same);
     }
 
--- what is kept is such a pattern
+-- a stored shape and its shift make such a pattern
 kept_pattern : (m t : ℕ) → IsShape m t → IsSmallPattern (m * 2 ^ t) m t
 kept_pattern m t h =
     let e : ℕ = m * 2 ^ t in

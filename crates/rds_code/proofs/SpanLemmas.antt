@@ -1,4 +1,4 @@
--- A burst is an odd pattern, shifted: its lowest one stands at the shift, and the pattern is as long as the span.
+-- A burst is an odd pattern, shifted: its lowest one is at the shift, and the pattern is as long as the span.
 use Rattle.std.proofs.Common.{◌≡◌, ℕ, zero, suc, ◌+◌, ◌*◌, ◌/◌, ◌%◌, ◌^◌, ◌<◌, ◌≤◌, sym, ap, ◌∙◌, arith, inl, inr, pow-add, pow_mono, lit<}
 use Rattle.std.proofs.Math.Nat.{pow-suc, suc-mul, mul_assoc, mul-le-mul_right}
 use Rattle.std.specs.Int.Count.{count_trailing_zeros, under, leading_top, ones, ones_step, ones_cat, ones-le}

@@ -1,4 +1,4 @@
--- What correction gives its user: the laws of the block code, which are of the code itself, and hold whoever reads. The laws
+-- The laws of correction, which are of the code itself, and hold for every reader. The laws
 -- `damaged_blocks_are_corrected` and `blocks_are_read_as_sent` are these.
 use Rattle.std.specs.Prelude.{◌≡◌, ◌≢◌, ℕ, ◌≤◌, bit_xor, ◌↔◌}
 use Rattle.rds_code.specs.declared.offset.Offset.{Offset}
@@ -11,7 +11,7 @@ use Rattle.rds_code.specs.Bursts.{IsBurst}
 use Rattle.rds_code.specs.Reading.{IsValid, reading}
 use Rattle.rds_code.specs.Encoding.{IsBlockOf}
 
--- what is wanted where this offset alone is to be tried; for A, B and D it is not looked at
+-- the offsets allowed if only this one is to be tried; for A, B and D they have no effect
 abbrev pub alone : Offset → Wanted
 alone C = OnlyC
 alone Cx = OnlyCx
@@ -35,7 +35,7 @@ abbrev pub CorrectsBurst : Type 0
 CorrectsBurst = (w info : ℕ) (o : Offset) (wanted : Wanted) (limit e : ℕ) → IsBlockOf w info o → number o ≢ 3 → limit ≤ 5 → IsBurst limit e
     → reading (bit_xor w e) (number o) wanted limit ≡ Corrected o info e
 
--- so is a block 3 whose own offset alone is wanted, but for one burst
+-- so is a block 3 if only its own offset is wanted, except for one burst
 abbrev pub CorrectsThird : Type 0
 CorrectsThird = (w info : ℕ) (o : Offset) (limit e : ℕ) → IsBlockOf w info o → number o ≡ 3 → limit ≤ 5 → IsBurst limit e → e ≢ version_burst
     → reading (bit_xor w e) 3 (alone o) limit ≡ Corrected o info e

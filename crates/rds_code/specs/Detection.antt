@@ -1,6 +1,6 @@
--- What the code detects, and what is miscorrected (EN 50067:1998, 2.3 and Annex B). Blocks and offset words are those of 2.1, 2.3 and
--- Annex A; which bursts are corrected is this project's rule. The laws `damage_is_detected`, `corrected_words_are_few` and
--- `miscorrections_are_counted` are these.
+-- What the code detects, and which words are miscorrected (EN 50067:1998, 2.3 and Annex B). Blocks and
+-- offset words are those of 2.1, 2.3 and Annex A; which bursts are corrected is this project's rule. The laws
+-- `damage_is_detected`, `corrected_words_are_few` and `miscorrections_are_counted` are these.
 use Rattle.std.specs.Prelude.{◌≡◌, ◌≢◌, ℕ, zero, suc, ◌+◌, ◌-◌, ◌<◌, ◌≤◌, ◌^◌, List, [], ◌∷◌, ◌++◌, map, filter, length, slice_index, slice_index_or, bit_xor, ◌↔◌, Contains, Bool, false, not, ◌==◌, ◌&&◌}
 use Rattle.std.specs.List.{AllPairs}
 use Rattle.std.specs.Int.Count.{ones}

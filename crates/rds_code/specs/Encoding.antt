@@ -33,7 +33,7 @@ pub record IsGroupOf (blocks words : List ℕ) : Type 0 where
 
 -- ---- the same, computed
 
--- the information word, then the checkword: the remainder of what stands before it, plus the offset word
+-- the information word, then the checkword: the remainder of the bits before it, plus the offset word
 abbrev pub encoded : ℕ → Offset → ℕ
 encoded info o = info * 2 ^ 10 + bit_xor (rem (info * 2 ^ 10)) (word o)
 

@@ -6,7 +6,7 @@ use Rattle.rds_code.specs.declared.reading.Reading.{Reading}
 use Rattle.rds_code.specs.declared.reading.Reading.TheVariants.{Valid, Corrected, Lost}
 use Rattle.rds_code.specs.Bursts.{span}
 
--- by a burst of this span with so many ones: 3 to 13 for the eleven pairs of a span up to 5 and a number of ones
+-- by a burst of this span with n ones: 3 to 13 for the eleven pairs of a span up to 5 and a number of ones
 abbrev pub kind_of_burst : ℕ → ℕ → ℕ
 kind_of_burst s n = (s - 1) * (s - 2) / 2 + n + 2
 

@@ -1,5 +1,5 @@
--- The laws of remainders, bursts, readings and blocks, over the definitions alone. Each is a clause of a function in `laws`,
--- which does nothing else.
+-- The laws of remainders, bursts, readings and blocks, over only the definitions. Each is a clause of a
+-- function in `laws`, which does nothing else.
 use Rattle.std.specs.Prelude.{◌≡◌, ◌≢◌, ℕ, ◌<◌, ◌≤◌, ◌^◌, bit_xor, ◌↔◌, Contains}
 use Rattle.rds_code.specs.declared.offset.Offset.{Offset}
 use Rattle.rds_code.specs.declared.reading.Wanted.{Wanted}
@@ -37,6 +37,6 @@ DetectsBursts = (e : ℕ) → IsBurst 5 e → rem e ≢ 0
 abbrev pub ReadsByRule : Type 0
 ReadsByRule = (w x : ℕ) (wanted : Wanted) (limit : ℕ) (r : Reading) → 1 ≤ x → x ≤ 4 → limit ≤ 5 → IsReading w x wanted limit r ↔ (r ≡ reading w x wanted limit)
 
--- one block alone carries an information word with an offset
+-- exactly one block carries an information word with an offset
 abbrev pub HasOneBlock : Type 0
 HasOneBlock = (w info : ℕ) (o : Offset) → info < 2 ^ 16 → IsBlockOf w info o ↔ (w ≡ encoded info o)

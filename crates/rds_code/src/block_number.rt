@@ -33,7 +33,7 @@ impl BlockNumber {
     /// Block 4, with offset D.
     pub const FOUR: BlockNumber = BlockNumber { number: 4 };
 
-    /// The block number that is this number, or none where it is not 1 to 4.
+    /// The block number that is this number, or none if it is not 1 to 4.
     pub fn new(number: u8) -> Option<BlockNumber>
         ensures number { IfSome result (λ block. block ≡ number) }
         ensures range { IsSome result ↔ ((1 ≤ number) × (number ≤ 4)) }
@@ -54,7 +54,7 @@ impl BlockNumber {
         self.number
     }
 
-    /// The number of the block behind it: after block 4 comes block 1, of the next group.
+    /// The number of the next block: after block 4 comes block 1, of the next group.
     #[inline(always)]
     pub fn next(self) -> BlockNumber
         ensures { result ≡ self % 4 + 1 }

@@ -4,8 +4,8 @@ ghost use Rattle.std.specs.Cmp.Rules.{comparing};
 
 use std::marker::Model;
 
-/// A burst of errors in a block: a word of 26 bits, not 0, whose highest and lowest ones lie fewer than five places
-/// apart. Clauses see its pattern.
+/// A burst of errors in a block: a word of 26 bits, not 0, whose highest and lowest ones are fewer than five
+/// places apart. Clauses see its pattern.
 ///
 /// It takes two bytes, since every block that a decoder keeps has room for one. EN 50067:1998, Annex B: the code
 /// corrects any single burst of up to five bits.
@@ -88,7 +88,7 @@ impl Burst {
     }
 }
 
-// Equality goes by the pattern, as clauses do.
+// Equality compares patterns, as clauses do.
 impl PartialEq for Burst {
     ghost eq = { ◌==◌ };
 

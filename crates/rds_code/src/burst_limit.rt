@@ -27,7 +27,7 @@ impl BurstLimit {
     /// Bursts of up to five bits are corrected.
     pub const LONGEST: BurstLimit = BurstLimit { bits: 5 };
 
-    /// The limit of so many bits, or none where they are more than five.
+    /// The limit of this number of bits, or none if it is above five.
     pub fn new(bits: u32) -> Option<BurstLimit>
         ensures limit { IfSome result (λ limit. limit ≡ bits) }
         ensures range { IsSome result ↔ (bits ≤ 5) }
@@ -39,7 +39,7 @@ impl BurstLimit {
         }
     }
 
-    /// So many bits: 0 to 5.
+    /// Its number of bits: 0 to 5.
     #[inline(always)]
     pub fn bits(self) -> u8
         ensures value { result ≡ self }

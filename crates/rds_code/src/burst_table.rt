@@ -35,7 +35,7 @@ impl BurstTable {
     ghost use Rattle.rds_code.specs.Remainder.{rem};
     ghost use Rattle.rds_code.specs.Bursts.{IsBurst};
 
-    /// The table, in one growth of 4,096 bytes. What it holds its type keeps. Fails with `OutOfMemory` alone.
+    /// The table, in one growth of 4,096 bytes. Its type keeps what it holds. Fails only with `OutOfMemory`.
     pub fn new(alloc: Global) -> Result<BurstTable, CodeError> {
         let mut patterns = no_bursts(alloc)?;
         enter_all(&mut patterns);
@@ -66,7 +66,7 @@ impl BurstTable {
     }
 }
 
-/// A table in which no burst stands.
+/// A table without bursts.
 fn no_bursts(alloc: Global) -> Result<Vec<u32>, AllocError>
     ensures { IfOk result (λ patterns. patterns.items ≡ replicate 1024 0) }
 {

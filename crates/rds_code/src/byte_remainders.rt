@@ -1,4 +1,4 @@
-//! The remainders of the two bytes of a block that stand above its lowest ten bits.
+//! The remainders of the two bytes of a block above its lowest ten bits.
 ghost use Rattle.std.specs.Prelude.{◌≡◌, ◌*◌, ◌^◌};
 ghost use Rattle.rds_code.specs.Remainder.{rem};
 

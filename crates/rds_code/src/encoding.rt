@@ -16,7 +16,7 @@ pub fn encode_block(info: u16, o: Offset) -> u32
     message | checkword as u32
 }
 
-/// The four blocks of a group, from its information words. Block 3 has C' where bit 11 of the second word, the
+/// The four blocks of a group, from its information words. Block 3 has C' if bit 11 of the second word, the
 /// version bit, is set, and else C.
 ///
 /// EN 50067:1998, sections 2.1 and 3.1.2.

@@ -19,9 +19,9 @@ use std::marker::Model;
 /// How many remainders there are.
 const REMAINDERS: u16 = 1024;
 
-/// How blocks come out, with bursts of up to a limit corrected: valid, lost, or corrected by a burst of a span with a
-/// number of ones. [`read_block`](crate::read_block) says more, and takes longer where a block is damaged: this asks a
-/// table, with no branch that damage decides. Contracts see the limit.
+/// How blocks come out, with bursts of up to a limit corrected: valid, lost, or corrected by a burst of a
+/// span with a number of ones. [`read_block`](crate::read_block) says more, and takes longer if a block is
+/// damaged: this asks a table, with no branch that damage decides. Contracts see the limit.
 #[derive(Drop)]
 pub struct Kinds {
     /// By the sum of a remainder and an offset word.
@@ -47,7 +47,8 @@ impl Kinds {
     /// The kind of a lost block.
     pub const LOST: u8 = 2;
 
-    /// The kinds where bursts within `limit` are corrected. Takes 1,024 bytes, and fails with `OutOfMemory` alone.
+    /// The kinds if bursts within `limit` are corrected. Takes 1,024 bytes, and fails only with
+    /// `OutOfMemory`.
     pub fn new(alloc: Global, table: &BurstTable, limit: BurstLimit) -> Result<Kinds, CodeError>
         ensures { IfOk result (λ kinds. kinds ≡ limit) }
     {
@@ -63,8 +64,8 @@ impl Kinds {
         self.limit
     }
 
-    /// The kind of the window `w`, a word of 26 bits, read as block `number`: 1 where it is valid, 2 where it is lost, and
-    /// 3 to 13 by the burst that is taken off.
+    /// The kind of the window `w`, a 26-bit word, read as block `number`: 1 if it is valid, 2 if it is lost,
+    /// and 3 to 13 by the burst that is corrected.
     #[inline(always)]
     pub fn of_block(&self, w: u32, number: BlockNumber, wanted: Wanted) -> u8
         requires { w < 2 ^ 26 }

@@ -43,8 +43,8 @@ pub fn blocks_are_read_as_sent()
     ensures valid { ReadsAsSent }
 {}
 
-/// A block that one burst within the limit damaged is corrected: for block 3 where its own offset alone is wanted, and
-/// but for the one burst that makes of it a valid block 3 of the other version.
+/// A block that one burst within the limit damaged is corrected. For block 3 this holds if only its own
+/// offset is wanted, and except for the one burst that makes of it a valid block 3 of the other version.
 pub fn damaged_blocks_are_corrected()
     ensures corrected { CorrectsBurst }
     ensures third { CorrectsThird }

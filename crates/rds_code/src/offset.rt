@@ -5,7 +5,7 @@ use crate::block_number::BlockNumber;
 
 /// The offset word that was added to a block's checkword, which tells the blocks of a group apart.
 ///
-/// EN 50067:1998, section 2.3 and Annex A. `Cx` stands for C'.
+/// EN 50067:1998, section 2.3 and Annex A. `Cx` means C'.
 #[derive(Clone, Copy, Debug, PartialEq, Eq)]
 pub enum Offset {
     /// Block 1.

@@ -1,4 +1,4 @@
-//! The remainder bit by bit: what the one from tables is compared with.
+//! The remainder bit by bit: the one from tables is compared with it.
 ghost use Rattle.std.specs.Prelude.{◌≡◌, ◌^◌, ◌<◌};
 ghost use Rattle.rds_code.specs.Remainder.{rem, IsRemainder};
 

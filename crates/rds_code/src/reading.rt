@@ -1,7 +1,7 @@
 use crate::burst::Burst;
 use crate::offset::Offset;
 
-/// Which offsets are tried where block 3 is corrected: this project's rule. It is looked at for block 3 alone.
+/// The offsets allowed for block 3 when it is corrected: this project's rule. They matter only for block 3.
 #[derive(Clone, Copy, Debug, PartialEq, Eq)]
 pub enum Wanted {
     /// C, as block 2 of the same group names version A.
@@ -12,7 +12,7 @@ pub enum Wanted {
     Either,
 }
 
-/// What a window says where it is read as a block: this project's rule.
+/// How a window is read as a block: this project's rule.
 #[derive(Clone, Copy, Debug, PartialEq, Eq)]
 pub enum Reading {
     /// The window is a block with this offset; `info` is its information word.
@@ -20,7 +20,7 @@ pub enum Reading {
         offset: Offset,
         info: u16,
     },
-    /// The window is a block with this offset once `burst` is taken off; `info` is the information word then.
+    /// The window is a block with this offset once `burst` is corrected; `info` is the information word then.
     Corrected {
         offset: Offset,
         info: u16,

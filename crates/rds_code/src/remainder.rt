@@ -1,7 +1,7 @@
 //! Remainders by the generator, from tables.
 //!
 //! Remainders are linear: that of a sum of words is the sum of theirs. A block is the sum of its lowest ten bits,
-//! which are their own remainder, and of the two bytes above them, whose remainders stand in tables.
+//! which are their own remainder, and of the two bytes above them, whose remainders are in tables.
 ghost use Rattle.std.specs.Prelude.{◌≡◌, ◌^◌, ◌<◌};
 ghost use Rattle.rds_code.specs.Remainder.{rem, IsRemainder};
 

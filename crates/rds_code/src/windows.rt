@@ -15,9 +15,9 @@ use crate::remainder::rem26;
 
 /// Reads the window `w`, a word of 26 bits, as block `number`, and corrects a burst within `limit`.
 ///
-/// The window is valid where its remainder is an offset word of that number, whatever is wanted. Else it is corrected
-/// where one pair alone of a wanted offset and a burst fits, and else lost: this project's rule.
-// In line: a valid block then stays in registers, and is not stored and loaded again where it is kept.
+/// The window is valid if its remainder is an offset word of that number, whatever is wanted. Else it is
+/// corrected if exactly one pair of a wanted offset and a burst fits, and else lost: this project's rule.
+// In line: a valid block then stays in registers, and is not stored and loaded again when it is kept.
 #[inline(always)]
 pub fn read_block(
     table: &BurstTable,
@@ -96,7 +96,7 @@ fn corrected_to(
     }
 }
 
-/// The window corrected to block 3 of either version, where one alone fits.
+/// The window corrected to block 3 of either version, if exactly one fits.
 fn corrected_to_either(table: &BurstTable, w: u32, remainder: u16, limit: BurstLimit) -> Reading
     requires block { w < 2 ^ 26 }
     requires of_window { remainder ≡ rem w }

@@ -1,4 +1,4 @@
--- What a bit does, case by case.
+-- The effect of a bit, case by case.
 use Rattle.std.proofs.Common.{◌≡◌, ◌≢◌, ℕ, ◌∷◌, [], true, false, Some, None, refl}
 use Rattle.std.proofs.lemmas.Bool.{ne_eqb, eq-eqb}
 use Rattle.rds_stream.specs.Recording.{Signal}

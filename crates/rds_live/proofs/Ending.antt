@@ -100,7 +100,8 @@ module _ (terms : Terms) (range : IsInRange terms.rules) (are : AreGaps (2 ^ 36)
     module _ (joins : RunsJoin) (moves : RunsMove) (ends : EndsMove) (reports : RunsAreReports) (p : IsLast) (items last : List Item) (end : State)
         (items_is : items ≡ moved_items before here.1) (end_is : end ≡ here.0) (end_lawful : IsLawful terms.rules (length_of part) end)
         (last_is : last ≡ moved_items before (items_of_end part terms.rules end)) where
-      -- what the last bytes complete, and the group in progress behind it, are the rest of the report
+      -- the items that the last bytes complete, and the group in progress after them, are the rest of the
+      -- report
       pub report-to : complete terms bytes ++ items ++ last ≡ report_at terms (bytes ++ more) (8 * length bytes + bits)
       report-to =
           let run_is = run-to joins moves p in
@@ -122,7 +123,7 @@ module _ (terms : Terms) (range : IsInRange terms.rules) (are : AreGaps (2 ^ 36)
           all_is ∙ ap (λ (t : Totals). plus t (totals_of last)) both ∙ sym (join (complete terms bytes ++ items) last).joined
           ∙ ap (λ (xs : List Item). totals_of xs) report-to
 
--- the report of the first bits of a stream knows of no byte behind them
+-- the report of the first bits of a stream does not depend on bytes after them
 pub report-begin : (terms : Terms) (before bytes : List ℕ) (count bits : ℕ) → bits ≤ 8 * length (before ++ take count bytes)
     → report_at terms (before ++ take count bytes) bits ≡ report_at terms (before ++ bytes) bits
 report-begin terms before bytes count bits held =

@@ -1,4 +1,4 @@
--- What a decoder of a stream knows after further bytes.
+-- A decoder of a stream after further bytes.
 use Rattle.std.proofs.Common.{◌≡◌, ℕ, ◌+◌, ◌-◌, ◌*◌, ◌/◌, ◌^◌, ◌≤◌, ◌⊎◌, List, [], ◌∷◌, ◌++◌, length, drop, min, refl, sym, ap, ap₂, subst, ◌∙◌, arith, inl, inr}
 use Rattle.std.proofs.lemmas.Bool.{cases_lt}
 use Rattle.std.proofs.lemmas.List.{length-drop, length-append, drop-append-le, drop-drop}
@@ -74,7 +74,7 @@ lawful-on rules d from place (Locked lock) t is h there = subst (λ (u : State).
   in_order = h.in_order;
 })
 
--- the part that is kept of a stream goes back to its first bit or behind any group in progress
+-- the part that is kept of a stream begins at its first bit or before any group in progress
 module _ (tail : List ℕ) (place from : ℕ) (kept : length tail ≡ min most_kept (place / 8)) (whole : place ≡ 8 * (place / 8)) (from_is : from ≡ 8 * length tail) where
   pub early-or-long : (place - from ≡ 0) ⊎ (most_behind ≤ from)
   early-or-long = elim (cases_lt (place / 8) 31) [
@@ -86,7 +86,7 @@ module _ (tail : List ℕ) (place from : ℕ) (kept : length tail ≡ min most_k
   pub state-in-part : (rules : RuleNumbers) (local state : State) → moved_state (place - from) local ≡ state → IsLawful rules place state → IsLawful rules from local
   state-in-part rules local state is lawful = lawful-back rules (place - from) from place local state is lawful (omega (arith, whole, kept, from_is)) early-or-long
 
--- counts that are at most so many are at most more
+-- counts that are at most a number are at most a greater one
 pub at-most-more : (m n : ℕ) (totals : Totals) → m ≤ n → IsAtMost m totals → IsAtMost n totals
 at-most-more m n totals more few = record {
   valid = omega (arith, few.valid, more);
@@ -187,7 +187,7 @@ module _ (terms : Terms) (range : IsInRange terms.rules) (are : AreGaps (2 ^ 36)
         ∙ ap (λ (next : State × List Item). (next.0, complete terms bytes ++ next.1)) rest
 
     module _ (state : State) (totals : Totals) (heard : record { terms = terms; tail = tail; place = place; state = state; totals = totals } ≡ live_of terms bytes) where
-      -- the part of a stream that is gone over, where these bytes were heard
+      -- the part of a stream that is decoded, if these bytes were heard
       pub prepared : part ≡ part_from before tail → from ≡ 8 * length tail → before ≡ place - from → moved_state before local ≡ state → IsLawful terms.rules from local → IsPrepared
       prepared part_is from_is before_is local_is lawful = record {
         tail_is = ap (λ (l : LiveOf). l.tail) heard;
@@ -213,7 +213,7 @@ module _ (terms : Terms) (range : IsInRange terms.rules) (are : AreGaps (2 ^ 36)
           ∙ sym (join (complete terms bytes) items).joined
           ∙ ap (λ (all : List Item). totals_of all) (sym (complete-after p items refl))
 
-      -- what is known after it
+      -- the state after it
       pub heard-after : kept ≡ last_bytes (tail ++ more) → after ≡ before + length_of part → end ≡ (run part terms.rules local from (length_of part - from)).0
           → next ≡ moved_state before end → totals ≡ totals_of (complete terms bytes) → found ≡ totals_of (run part terms.rules local from (length_of part - from)).1 → sum ≡ plus totals found
           → record { terms = terms; tail = kept; place = after; state = next; totals = sum } ≡ live_of terms (bytes ++ more)

@@ -95,7 +95,7 @@ not-true : (p : Bool) → (p ≡ true → ⊥) → p ≡ false
 not-true true h = absurd (h refl)
 not-true false h = refl
 
--- a gap of which some lies in the part touches a window there, where the whole of it does
+-- a gap of which some is in the part touches a window there exactly if the whole of it does
 same-touch : (d n i : ℕ) (gap : ℕ × ℕ) → 25 ≤ i → i < n → is_touched_by i (gap.0 - d, min (gap.1 - d) n) ≡ is_touched_by (i + d) gap
 same-touch d n i gap late early =
     ap₂ ◌&&◌
@@ -106,7 +106,7 @@ same-touch d n i gap late early =
     (λ e. lt-ltb (i + d - 25) gap.1 (omega (arith, ltb-true (i - 25) (min (gap.1 - d) n) e)))
     (λ e. lt-ltb (i - 25) (min (gap.1 - d) n) (omega (arith, ltb-true (i + d - 25) gap.1 e))))
 
--- and a gap of which nothing lies there touches none
+-- and a gap of which nothing is there touches none
 no-touch : (d n i : ℕ) (gap : ℕ × ℕ) → 25 ≤ i → i < n → gap.0 < gap.1 → min (gap.1 - d) n ≤ gap.0 - d → is_touched_by (i + d) gap ≡ false
 no-touch d n i gap late early some none =
     not-true (is_touched_by (i + d) gap) (λ e.
@@ -124,7 +124,7 @@ touches-alike d n i top low (gap ∷ gaps) late early h = elim (cases_lt (gap.0 
       ∙ ap (λ (t : Bool). t || list_any (is_touched_by (i + d)) gaps) (sym (no-touch d n i gap late early h.1 none)))
 ]
 
--- what is said of the windows of a part and of those of the whole, so many places further
+-- the windows of a part and those of the whole, d places further, are touched alike
 abbrev pub TouchAlike : ℕ → ℕ → List (ℕ × ℕ) → List (ℕ × ℕ) → Type 0
 TouchAlike d n whole part = (i : ℕ) → 25 ≤ i → i < n → list_any (is_touched_by i) part ≡ list_any (is_touched_by (i + d)) whole
 
@@ -137,7 +137,7 @@ start-touched n gaps i late early = let e : i ≡ i + 8 * 0 = omega arith in ap 
 
 -- ---- the gaps of a part as they are found
 
--- what is found, and what the gaps that are left have, where the next one has some of it
+-- the gaps found so far and those that are left, if the next one has some of it in the part
 pub one-found : (d n : ℕ) (gaps found all : List (ℕ × ℕ)) (i : ℕ) (none part : ℕ × ℕ) → i < length gaps → found ++ gaps_within (drop i gaps) d n ≡ all
     → Some part ≡ part_of_gap d n (get_or gaps i none) → (found ++ part ∷ []) ++ gaps_within (drop (i + 1) gaps) d n ≡ all
 one-found d n gaps found all i none part there so_far is =
@@ -166,7 +166,7 @@ pub few-of-part : (top d n : ℕ) (gaps : List (ℕ × ℕ)) → AreGaps top gap
 few-of-part top d n gaps are =
     omega (arith, no-more d n gaps, each-a-place 0 n (gaps_within gaps d n) (omega arith) (in-a-row (gaps_within gaps d n) n (gaps-of-part top d n gaps are)))
 
--- ---- gaps that stand behind a part
+-- ---- gaps after a part
 
 from-before : (low m n : ℕ) (gaps : List (ℕ × ℕ)) → low ≤ m → AreFrom m gaps n → AreFrom low gaps n
 from-before low m n [] order h = tt
@@ -186,7 +186,7 @@ spares k (suc n) top room =
       subst (λ (low : ℕ). AreFrom low (map spare (range_with_len (k + 1) n)) top) e (spares (k + 1) n top (omega (arith, room))),
     )
 
--- gaps of which the last lie behind the bytes that are heard
+-- gaps of which the last are after the bytes that are heard
 pub gaps-filled-up : (gaps : List (ℕ × ℕ)) (slots : ℕ) → AreGaps 7920 gaps → length gaps ≤ slots → slots ≤ 7920 → AreGaps 15840 (filled_up gaps slots)
 gaps-filled-up gaps slots are fits few =
     let row = behind 0 7920 15840 gaps (map spare (range_with_len (length gaps) (slots - length gaps))) (omega arith) (omega arith) (in-a-row gaps 7920 are)

@@ -1,4 +1,5 @@
--- What is heard in a part of a recording says what is found there: of acquiring, of groups, of a bit, of a run.
+-- The windows heard in a part of a recording determine the results there: of acquiring, of groups, of a bit,
+-- of a run.
 use Rattle.std.proofs.Common.{◌≡◌, ◌≢◌, ℕ, zero, suc, ◌+◌, ◌-◌, ◌*◌, ◌<◌, ◌≤◌, List, [], ◌∷◌, ◌++◌, Bool, true, false, eqb, Option, Some, None, refl, sym, ap, ap₂, subst, ◌∙◌, arith, inl, inr}
 use Rattle.std.proofs.lemmas.Bool.{ne_eqb, eq-eqb, cases_eq, cases_lt, cases_Bool, lt-ltb, le-ltb}
 use Rattle.std.proofs.lemmas.Bool.Decides.{nat_tests}
@@ -34,7 +35,7 @@ any-alike p q k (suc n) same =
     let later = any-alike p q (k + 1) n (λ j low high. same j (omega arith) (omega arith)) in
     rw (here, later) refl
 
--- from place 25 on the offset is that of what was heard, and before there is none
+-- from place 25 on the offset is that of the window heard, and before there is none
 off-heard : (b : Signal) (i : ℕ) → 25 ≤ i → off b i ≡ offset_heard (heard b i)
 unfolding off
 off-heard b i late = rw (le-ltb i 25 late, off) refl
@@ -65,7 +66,7 @@ module _ (whole part : Signal) (d from : ℕ) (h : IsPartHeard whole part d from
   off-late i late within =
       off-heard part i late ∙ ap offset_heard (h.heard_same i late within) ∙ sym (off-heard whole (i + d) (omega arith))
 
-  -- the offset of a place so many blocks before one that a run goes over
+  -- the offset of a place k blocks before one that a run reads
   off-behind : (i k : ℕ) → from ≤ i → i < length_of part → k ≤ 8 → off part (i - 26 * k) ≡ off whole (i + d - 26 * k)
   off-behind i k order within few = elim h.early [
     | inl first ↦ elim (cases_lt (i - 26 * k) 25) [

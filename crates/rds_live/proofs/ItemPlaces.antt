@@ -69,7 +69,7 @@ module _ (b : Signal) (rules : RuleNumbers) (to : ℕ) where
   run-early s a (suc n) h =
       All-append Early (items_at b rules a s) (run b rules (step b rules a s) (a + 1) n).1 (items-early a s (omega arith)) (run-early (step b rules a s) (a + 1) n (omega arith))
 
--- the group in progress at the end lies before it
+-- the group in progress at the end is before it
 pub end-early : (b : Signal) (rules : RuleNumbers) (to : ℕ) (s : State) → is_due_below to s → All (λ (item : Item). place_of item < to) (items_of_end b rules s)
 end-early b rules to Searching h = all-nil b rules to
 end-early b rules to (Locked lock) h = at_case (eqb lock.number 1) where

@@ -3,7 +3,7 @@ use Rattle.std.proofs.Common.{◌≡◌, ◌∙◌, ◌+◌, ◌<◌, ◌++◌, 
 use Rattle.std.proofs.lemmas.Grind.{take-set_at, take_at_read}
 use Rattle.std.proofs.lemmas.List.{drop-drop, drop-set-lt, get_or-drop, map-append}
 
--- one more is changed behind those before it
+-- one more is changed after those before it
 pub one-changed : {A : Type 0} (f : A → A) (old now : List A) (i : ℕ) (none : A) → i < length old → i < length now
     → take i now ≡ map f (take i old) → take (i + 1) (set now i (f (get_or old i none))) ≡ map f (take (i + 1) old)
 one-changed f old now i none within fits before =
@@ -11,12 +11,12 @@ one-changed f old now i none within fits before =
     ∙ ap (λ done. done ++ f (get_or old i none) ∷ []) before
     ∙ sym (ap (λ done. map f done) (take_at_read old i none within).1 ∙ map-append f (take i old) (get_or old i none ∷ []))
 
--- what stands behind it is as it was
+-- the elements after it are as they were
 pub still-left : {A : Type 0} (old now : List A) (i : ℕ) (y : A) → drop i now ≡ drop i old → drop (i + 1) (set now i y) ≡ drop (i + 1) old
 still-left old now i y left =
     drop-set-lt (i + 1) now i y (omega arith) ∙ sym (drop-drop 1 i now) ∙ ap (λ rest. drop 1 rest) left ∙ drop-drop 1 i old
 
--- and so is what is read of it
+-- and so is the element that is read of it
 pub same-read : {A : Type 0} (old now : List A) (i : ℕ) (none : A) → drop i now ≡ drop i old → get_or now i none ≡ get_or old i none
 same-read old now i none left =
     let e : i + 0 ≡ i = omega arith in

@@ -1,4 +1,4 @@
--- What is gone over next, by the numbers of a decoder alone.
+-- The part that is decoded next, only by the numbers of a decoder.
 use Rattle.std.proofs.Common.{◌≡◌, ℕ, ◌+◌, ◌-◌, ◌*◌, ◌≤◌, List, ◌++◌, append_assoc, drop, length, take, sym, ap, ap₂, ◌∙◌, arith}
 use Rattle.std.proofs.lemmas.List.{length-append, take-append-drop}
 use Rattle.rds_stream.specs.Recording.{Signal, bits_of}
@@ -21,7 +21,7 @@ module _ (live : LiveOf) (more : List ℕ) (bits : ℕ) where
     pub there : at ≡ before_tail live
     there = omega (arith, at_is, from_is)
 
-    -- the part that is gone over
+    -- the part that is decoded
     pub part-next : (part : Signal) (n : ℕ) → n ≡ 8 * length live.tail + bits → part ≡ signal_at (gaps_within live.terms.gaps at n) (live.tail ++ more) n → part ≡ part_with live more bits
     part-next part n long is =
         is ∙ ap₂ (λ (d m : ℕ). signal_at (gaps_within live.terms.gaps d m) (live.tail ++ more) m) there long
@@ -33,7 +33,7 @@ module _ (live : LiveOf) (more : List ℕ) (bits : ℕ) where
         ∙ ap (λ (s : State). run (part_with live more bits) live.terms.rules s from n) (local_is ∙ ap (λ (d : ℕ). moved_back d live.state) there)
         ∙ ap₂ (λ (p q : ℕ). run (part_with live more bits) live.terms.rules (moved_back (before_tail live) live.state) p q) from_is n_is
 
-    -- the group in progress behind it
+    -- the group in progress after it
     pub group-next : (part : Signal) (end : State) (last : List Item) → part ≡ part_with live more bits → end ≡ (run_next live more bits).0
         → last ≡ moved_items at (items_of_end part live.terms.rules end) → last ≡ group_next live more bits
     group-next part end last part_is end_is is =
@@ -44,7 +44,7 @@ module _ (live : LiveOf) (more : List ℕ) (bits : ℕ) where
   pub count-next : TotalsJoin → totals_of (run_next live more bits).1 ≡ totals_of (items_next live more bits)
   count-next join = sym (totals-moved join (before_tail live) (run_next live more bits).1)
 
--- no byte behind the last bit is heard
+-- no byte after the last bit is heard
 pub part-begin : (live : LiveOf) (bytes : List ℕ) (count bits : ℕ) → bits ≤ 8 * length (take count bytes) → part_with live (take count bytes) bits ≡ part_with live bytes bits
 part-begin live bytes count bits held =
     let n : ℕ = 8 * length live.tail + bits in
@@ -52,7 +52,7 @@ part-begin live bytes count bits held =
     (bits-begin (live.tail ++ take count bytes) (drop count bytes) n (omega (arith, held, length-append live.tail (take count bytes)))
     ∙ ap (λ (xs : List ℕ). bits_of xs n) (append_assoc live.tail (take count bytes) (drop count bytes) ∙ ap (λ (xs : List ℕ). live.tail ++ xs) (take-append-drop count bytes)))
 
--- what is known after these bytes
+-- the decoder's numbers after these bytes
 pub live-next : (live : LiveOf) (more tail : List ℕ) (place : ℕ) (state : State) (totals : Totals) → tail ≡ last_bytes (live.tail ++ more) → place ≡ live.place + 8 * length more
     → state ≡ moved_state (before_tail live) (run_next live more (8 * length more)).0 → totals ≡ plus live.totals (totals_of (completed live more))
     → record { terms = live.terms; tail = tail; place = place; state = state; totals = totals } ≡ live_next live more

@@ -52,7 +52,7 @@ same-tables f g a c (suc n) same =
           let other : c + (j + 1) ≡ c + 1 + j = omega arith in
           subst (λ (p : ℕ). f p ≡ g (c + 1 + j)) there (subst (λ (p : ℕ). f (a + (j + 1)) ≡ g p) other e)
 
--- these bytes stand in those, from number k on
+-- these bytes are in those, from number k on
 pub record IsPartOf (whole part : List ℕ) (k : ℕ) : Type 0 where
   pub within : k + length part ≤ length whole
   pub same : (j : ℕ) → j < length part → get_or part j 0 ≡ get_or whole (k + j) 0
@@ -64,7 +64,7 @@ module _ (whole part : List ℕ) (k : ℕ) (h : IsPartOf whole part k) where
       let bit : (j + 8 * k) % 8 ≡ j % 8 = omega arith in
       rw (byte, bit) (ap (λ (n : ℕ). bit_at n (7 - j % 8)) (h.same (j / 8) (omega arith)))
 
-  -- the first m bits of the part stand in the first n of the whole
+  -- the first m bits of the part are in the first n of the whole
   module _ (m n : ℕ) (held : m ≤ 8 * length part) (inside : m + 8 * k ≤ n) where
     window-part : (i : ℕ) → 25 ≤ i → i < m → window (bits_of part m) i ≡ window (bits_of whole n) (i + 8 * k)
     unfolding window
@@ -93,7 +93,7 @@ module _ (whole part : List ℕ) (k : ℕ) (h : IsPartOf whole part k) where
         early = early;
       }
 
--- the bytes so far stand at the beginning of all
+-- the bytes so far are the beginning of all
 pub first-part : (bytes more : List ℕ) → IsPartOf (bytes ++ more) bytes 0
 first-part bytes more = record {
   within = omega (arith, length-append bytes more);
@@ -110,7 +110,7 @@ last-part bytes more =
       same = λ j h. ap (λ (xs : List ℕ). get_or xs j 0) (sym is) ∙ get_or-drop k (bytes ++ more) j 0;
     }
 
--- the last bytes stand at the end
+-- the last bytes are the end
 pub end-part : (bytes : List ℕ) → IsPartOf bytes (last_bytes bytes) (length bytes - most_kept)
 end-part bytes =
     let k = length bytes - most_kept in

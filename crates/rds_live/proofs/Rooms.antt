@@ -1,4 +1,4 @@
--- What is heard in the room of a stream's last bytes.
+-- The windows heard in the room of a stream's last bytes.
 use Rattle.std.proofs.Common.{◌≡◌, ℕ, ◌+◌, ◌-◌, ◌*◌, ◌<◌, ◌≤◌, List, ◌++◌, length, drop, take, Bool, true, false, Option, Some, None, refl, sym, ap, ap₂, subst, ◌∙◌, arith, inl}
 use Rattle.std.proofs.lemmas.List.{length-append, length-drop, drop-append-le, take-append-le}
 use Rattle.std.proofs.lemmas.List.FromFn.{length-map-range_with_len}
@@ -51,7 +51,7 @@ module _ (top before slots : ℕ) (gaps : List (ℕ × ℕ)) (are : AreGaps top 
     early = inl refl;
   }
 
--- a run over what is heard is the run over the room
+-- a run over the bits heard is the run over the room
 pub run-in-room : (moves : RunsMove) (room part : Signal) (rules : RuleNumbers) (s : State) (from n : ℕ) → IsInRange rules → IsPartHeard room part 0 0 → IsLawful rules from s
     → from + n ≤ length_of part → run room rules s from n ≡ run part rules s from n
 run-in-room moves room part rules s from n range heard lawful within =
@@ -62,7 +62,7 @@ run-in-room moves room part rules s from n range heard lawful within =
     ∙ moves room part rules 0 s from n range.some_loss range.reach lawful (record { heard_same = heard.heard_same; early = inl refl }) within
     ∙ ap₂ (λ (t : State) (items : List Item). (t, items)) (still-state there.0) (still-items there.1)
 
--- over all that is heard behind a place
+-- over all that is heard after a place
 pub run-all : (moves : RunsMove) (room part : Signal) (rules : RuleNumbers) (s : State) (from n : ℕ) → IsInRange rules → IsPartHeard room part 0 0 → IsLawful rules from s
     → length_of part ≡ from + n → run room rules s from n ≡ run part rules s from (length_of part - from)
 run-all moves room part rules s from n range heard lawful long =

@@ -8,7 +8,7 @@ use Rattle.rds_live.specs.Room.{AreSpareFrom, filled_up, spare}
 use Rattle.rds_live.proofs.GapParts.{length-filled-up}
 use Rattle.rds_live.proofs.Parts.{drop-table}
 
--- from the number of these on there are spare gaps alone
+-- from the number of these on there are only spare gaps
 pub spare-behind : (gaps found : List (ℕ × ℕ)) (slots : ℕ) → length found ≤ slots → gaps ≡ filled_up found slots → AreSpareFrom (length found) gaps
 spare-behind gaps found slots fits is =
     let k = length found in

@@ -1,5 +1,5 @@
--- What a decoder of a stream keeps beside its terms, so that it can go back to it. `Live::take_all` does so where memory is refused in
--- the midst, and no caller sees it. This project's rule.
+-- The numbers that a decoder of a stream keeps beside its terms, so that it can go back to them.
+-- `Live::take_all` does so if memory is refused midway, and no caller sees it. This project's rule.
 use Rattle.std.specs.Prelude.{◌≡◌, ◌≤◌, length, take}
 use Rattle.rds_live.specs.Live.{LiveOf, Terms, most_kept}
 use Rattle.rds_live.specs.declared.kept.Kept.{Kept}
@@ -14,7 +14,7 @@ live_kept terms kept = record {
   totals = kept.totals;
 }
 
--- this is what it knows
+-- these are the numbers of the decoder
 pub record IsKept (kept : Kept) (live : LiveOf) : Type 0 where
   pub within : kept.count ≤ most_kept
   pub same : live_kept live.terms kept ≡ live

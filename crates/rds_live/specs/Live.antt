@@ -1,5 +1,6 @@
--- What a decoder of a stream knows, by what it has heard, and which items are complete then. Each call of `Live` cites it, and so do
--- `follow` of rds_tool and `push`, `finish` and `finish_with` of rds_abi. This project's rules.
+-- A decoder of a stream by the bytes that it has heard, and which items are complete then. Each call of
+-- `Live` cites it, and so do `follow` of rds_tool and `push`, `finish` and `finish_with` of rds_abi. This
+-- project's rules.
 use Rattle.std.specs.Prelude.{◌≡◌, ℕ, ◌-◌, ◌*◌, ◌/◌, ◌^◌, ◌≤◌, List, [], length, drop, min}
 use Rattle.rds_stream.specs.Recording.{AreGaps, Signal, bits_of}
 use Rattle.rds_sync.specs.declared.state.State.{State}
@@ -13,11 +14,12 @@ use Rattle.rds_sync.specs.Report.{report_items}
 use Rattle.rds_sync.specs.Totals.{totals_of}
 use Rattle.rds_sync.specs.Step.{run}
 
--- how many bytes of a stream are kept: as many as a run may hear behind a bit
+-- how many bytes of a stream are kept: enough for all that a run may hear before a bit
 abbrev pub most_kept : ℕ
 most_kept = 30
 
--- what a stream is decoded by: its rules, and the gaps that were told of it, by their places in the stream
+-- the terms by which a stream is decoded: its rules, and the gaps that were told of it, by their places in
+-- the stream
 pub record Terms : Type 0 where
   pub rules : RuleNumbers
   pub gaps : List (ℕ × ℕ)
@@ -35,7 +37,7 @@ pub record LiveOf : Type 0 where
   pub state : State
   pub totals : Totals
 
--- what a decoder knows by these numbers
+-- a decoder with these numbers
 abbrev pub live_with : RuleNumbers → List (ℕ × ℕ) → List ℕ → ℕ → State → Totals → LiveOf
 live_with rules gaps tail place state totals =
     record {
@@ -46,7 +48,7 @@ live_with rules gaps tail place state totals =
       totals = totals;
     }
 
--- the first bits of these bytes, and all of them, with these gaps; one that lies behind them is not heard of
+-- the first bits of these bytes, and all of them, with these gaps; a gap after the bytes has no effect
 abbrev pub signal_at : List (ℕ × ℕ) → List ℕ → ℕ → Signal
 signal_at gaps bytes bits = record { bits = bits_of bytes bits; gaps = gaps }
 
@@ -72,7 +74,7 @@ report_of terms bytes = report_at terms bytes (8 * length bytes)
 abbrev pub last_bytes : List ℕ → List ℕ
 last_bytes bytes = drop (length bytes - most_kept) bytes
 
--- what is known once these bytes were heard
+-- the decoder once these bytes were heard
 abbrev pub live_of : Terms → List ℕ → LiveOf
 live_of terms bytes =
     record {
@@ -87,12 +89,13 @@ live_of terms bytes =
 abbrev pub HasHeard : LiveOf → List ℕ → Type 0
 HasHeard live bytes = live ≡ live_of live.terms bytes
 
--- no count of the totals of so many bits is above this
+-- no count of the totals of this many bits is above this
 abbrev pub most_counted : ℕ → ℕ
 most_counted bits = 2 ^ 11 * bits
 
--- what holds of every decoder of a stream: whole bytes were heard, no more than a recording may hold, the last of them are kept,
--- the state is lawful, the totals are small, and the gaps are some that a recording may have
+-- every decoder of a stream satisfies this: whole bytes were heard, no more than a recording may hold, the
+-- last of them are kept, the state is lawful, the totals are small, and the gaps are some that a recording
+-- may have
 pub record IsLive (live : LiveOf) : Type 0 where
   pub whole : live.place ≡ 8 * (live.place / 8)
   pub limit : live.place ≤ 2 ^ 36

@@ -1,5 +1,5 @@
--- A run depends on what is heard alone: where the same is heard at other places, there the same is found. The laws `runs_move` and
--- `ends_move` are these. This project's rules.
+-- A run depends only on the bits heard: if the same is heard at other places, the same is found there. The
+-- laws `runs_move` and `ends_move` are these. This project's rules.
 use Rattle.std.specs.Prelude.{◌≡◌, ℕ, ◌+◌, ◌<◌, ◌≤◌, ◌⊎◌, List, map}
 use Rattle.rds_stream.specs.Recording.{Signal, heard, length_of}
 use Rattle.rds_sync.specs.declared.state.State.{State}
@@ -12,12 +12,12 @@ use Rattle.rds_sync.specs.Lawful.{IsLawful}
 use Rattle.rds_sync.specs.Ranges.{farthest_reach}
 use Rattle.rds_sync.specs.Step.{run, items_of_end}
 
--- the state, where all places are so many further
+-- the state, with all places moved on by d
 abbrev pub moved_state : ℕ → State → State
 moved_state d Searching = Searching
 moved_state d (Locked lock) = Locked (record lock { due = lock.due + d })
 
--- the item, where all places are so many further
+-- the item, with all places moved on by d
 abbrev pub moved_item : ℕ → Item → Item
 moved_item d (Acquired a x) = Acquired (a + d) x
 moved_item d (Group g) = Group (record g { place = g.place + d })
@@ -30,8 +30,8 @@ moved_items d items = map (moved_item d) items
 abbrev pub most_behind : ℕ
 most_behind = 233
 
--- all of the part is heard in the whole so many places further, and the part begins where the whole does, or so early before
--- place `from` that a run from there on hears nothing from before it
+-- all of the part is heard in the whole, d places further. The part begins where the whole does, or so early
+-- before place `from` that a run from there on hears nothing from before it
 pub record IsPartHeard (whole part : Signal) (d from : ℕ) : Type 0 where
   pub heard_same : (i : ℕ) → 25 ≤ i → i < length_of part → heard part i ≡ heard whole (i + d)
   pub early : (d ≡ 0) ⊎ (most_behind ≤ from)

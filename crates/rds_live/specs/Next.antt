@@ -1,5 +1,6 @@
--- What a decoder of a stream gives and knows next, by its numbers alone: by those that a decoder was left with, and by others that are
--- lawful and of no stream. `take`, `take_all`, `finish` and `finish_with` of `Live` cite it. This project's rule.
+-- The next items and the next state of a decoder of a stream, only by its numbers: by those that a decoder
+-- was left with, and by others that are lawful and of no stream. `take`, `take_all`, `finish` and
+-- `finish_with` of `Live` cite it. This project's rule.
 use Rattle.std.specs.Prelude.{◌≡◌, ℕ, ◌+◌, ◌-◌, ◌*◌, ◌^◌, ◌≤◌, List, ◌++◌, length}
 use Rattle.rds_stream.specs.Recording.{Signal}
 use Rattle.rds_sync.specs.declared.state.State.{State}
@@ -13,7 +14,7 @@ use Rattle.rds_live.specs.Gaps.{gaps_within}
 use Rattle.rds_live.specs.Live.{HasHeard, IsLive, LiveOf, complete, last_bytes, live_of, signal_at}
 use Rattle.rds_live.specs.Moving.{moved_items, moved_state}
 
--- the state, where all places are so many less
+-- the state, with all places moved back by d
 abbrev pub moved_back : ℕ → State → State
 moved_back d Searching = Searching
 moved_back d (Locked lock) = Locked (record lock { due = lock.due - d })
@@ -36,7 +37,7 @@ run_next live bytes bits =
 abbrev pub items_next : LiveOf → List ℕ → ℕ → List Item
 items_next live bytes bits = moved_items (before_tail live) (run_next live bytes bits).1
 
--- the group in progress behind them, if there is one
+-- the group in progress after them, if there is one
 abbrev pub group_next : LiveOf → List ℕ → ℕ → List Item
 group_next live bytes bits =
     moved_items (before_tail live) (items_of_end (part_with live bytes bits) live.terms.rules (run_next live bytes bits).0)
@@ -45,7 +46,7 @@ group_next live bytes bits =
 abbrev pub completed : LiveOf → List ℕ → List Item
 completed live bytes = items_next live bytes (8 * length bytes)
 
--- what is known after these bytes
+-- the decoder after these bytes
 abbrev pub live_next : LiveOf → List ℕ → LiveOf
 live_next live bytes = record {
   terms = live.terms;
@@ -57,13 +58,14 @@ live_next live bytes = record {
 
 -- ---- laws
 
--- bytes that are taken in two pieces give what they give at once
+-- bytes that are taken in two pieces give the same as at once
 abbrev pub PiecesJoin : Type 0
 PiecesJoin = (live : LiveOf) (first second : List ℕ) → IsInRange live.terms.rules → IsLive live
     → (live_next (live_next live first) second ≡ live_next live (first ++ second))
     × (completed live first ++ completed (live_next live first) second ≡ completed live (first ++ second))
 
--- of a stream that was heard, this is what is known of it, and the items are those of the stream
+-- the decoder of a heard stream is that of the longer stream after these bytes, and the items are those of
+-- the stream
 abbrev pub NextIsHeard : Type 0
 NextIsHeard = (live : LiveOf) (before bytes : List ℕ) → IsInRange live.terms.rules → IsLive live → HasHeard live before
     → HasHeard (live_next live bytes) (before ++ bytes)

@@ -1,5 +1,5 @@
--- Where the last bytes of a stream are gone over as a recording, of which there is always as much. `Live` keeps it so, and no caller
--- sees it. This project's rule.
+-- The recording in which the last bytes of a stream are decoded, whose length never changes. `Live` keeps it
+-- so, and no caller sees it. This project's rule.
 use Rattle.std.specs.Prelude.{◌≡◌, ℕ, ◌+◌, ◌-◌, ◌*◌, List, ◌++◌, drop, length, map}
 use Rattle.std.specs.List.{range_with_len}
 use Rattle.rds_stream.specs.Recording.{Signal}
@@ -7,7 +7,8 @@ use Rattle.rds_live.specs.Gaps.{gaps_within}
 use Rattle.rds_live.specs.Live.{signal_of}
 use Rattle.rds_live.specs.Moving.{IsPartHeard}
 
--- how many bytes of a stream are gone over at once, at most, and how many there is room for, with those that are kept
+-- how many bytes of a stream are decoded at once, at most, and how many there is room for, with those that
+-- are kept
 abbrev pub most_at_once : ℕ
 most_at_once = 960
 
@@ -19,11 +20,11 @@ pub record RoomOf : Type 0 where
   pub bytes : List ℕ
   pub recording : Signal
 
--- how many gaps the recording has, whether or not as many lie in the bytes
+-- how many gaps the recording has, whether or not the bytes have as many
 abbrev pub slots_of : RoomOf → ℕ
 slots_of room = length room.recording.gaps
 
--- the gap that stands at number k where none of the stream's does: it lies behind the bytes
+-- the gap at number k if it is none of the stream's: it is after the bytes
 abbrev pub spare : ℕ → ℕ × ℕ
 spare k = (8 * most_held + k, 8 * most_held + k + 1)
 
@@ -35,7 +36,8 @@ AreSpareFrom k gaps = drop k gaps ≡ map spare (range_with_len k (length gaps -
 abbrev pub filled_up : List (ℕ × ℕ) → ℕ → List (ℕ × ℕ)
 filled_up gaps slots = gaps ++ map spare (range_with_len (length gaps) (slots - length gaps))
 
--- the bytes are heard in the recording, with the gaps that lie in them, where `before` bits of the stream come before them
+-- the bytes are heard in the recording, with the gaps that are in them, if `before` bits of the stream come
+-- before them
 abbrev pub IsHeardIn : RoomOf → List (ℕ × ℕ) → ℕ → Type 0
 IsHeardIn room gaps before =
     IsPartHeard room.recording (signal_of (gaps_within gaps before (8 * length room.bytes)) room.bytes) 0 0

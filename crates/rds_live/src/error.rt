@@ -5,7 +5,8 @@ use thiserror::Error;
 /// Why [`Live::resume`](crate::Live::resume) refuses.
 #[derive(Clone, Copy, Debug, PartialEq, Eq, Error)]
 pub enum ResumeError {
-    /// The gaps of a stream each have a place, lie before place 2^36, and begin at or after the end of the one before.
+    /// The gaps of a stream each have a place, end by place 2^36, and begin at or after the end of the one
+    /// before.
     #[error("gaps that are empty, out of order or past 2^36 bits")]
     BadGaps,
     /// No decoder by these rules knows this of a stream.

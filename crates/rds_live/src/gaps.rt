@@ -10,7 +10,7 @@ use rds_stream::{MOST_BITS, are_gaps};
 /// Whether a stream may have these gaps: each has a place and ends by 2^36 bits, and each begins at or after the end of the one
 /// before it.
 ///
-/// Its cost: the gaps are gone over twice. It takes no memory.
+/// Its cost: the gaps are read twice. It takes no memory.
 pub fn may_have_gaps(gaps: &[(u64, u64)]) -> bool
     ensures { (result ≡ true) ↔ AreGaps (2 ^ 36) gaps.now }
 {
@@ -46,7 +46,7 @@ fn near(gaps: &[(u64, u64)], before: u64, len: u64) -> &[(u64, u64)]
     &rest[..count]
 }
 
-/// Appends gaps behind the bytes that are heard, until there are so many.
+/// Appends gaps after the bytes that are heard, until there are `slots` gaps.
 pub(crate) fn fill_up(gaps: &mut Vec<(u64, u64)>, slots: usize)
     requires few { slots ≤ 7920 }
     requires room { slots ≤ vec_capacity gaps.old }
@@ -59,7 +59,7 @@ pub(crate) fn fill_up(gaps: &mut Vec<(u64, u64)>, slots: usize)
     }
 }
 
-/// As much of a gap as lies in the part, by its places there.
+/// A gap, as far as it is in the part, by its places there.
 fn part_of_gap(before: u64, len: u64, gap: (u64, u64)) -> Option<(u64, u64)>
     ensures { result ≡ the_part_of_gap before len gap }
 {

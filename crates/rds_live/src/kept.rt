@@ -8,14 +8,14 @@ ghost use Rattle.rds_live.specs.Live.{IsLive, live_with, most_kept};
 use rds_stream::MOST_BITS;
 use rds_sync::{Rules, State, Totals};
 
-/// How many of the last bytes of a stream are kept. A run may hear 233 bits behind one: those of a partner's window,
-/// eight blocks back.
+/// How many of the last bytes of a stream are kept. A run may hear 233 bits before one: those of a partner's
+/// window, eight blocks back.
 pub(crate) const MOST_KEPT: usize = 30;
 
 /// No count of the totals rises by more than this with a bit.
 const MOST_COUNTED: u64 = 1 << 11;
 
-/// What a decoder knows of a stream, but for its terms.
+/// A decoder's knowledge of a stream, without its terms.
 #[derive(Clone, Copy)]
 pub(crate) struct Kept {
     pub tail: [u8; MOST_KEPT],

@@ -1,13 +1,13 @@
-//! The laws of following a stream, over the definitions alone. Each function here does nothing: its contract is a law,
-//! which the check of this crate proves, and which a proof above it may cite.
+//! The laws of following a stream, over only the definitions. Each function here does nothing: its contract
+//! is a law, which the check of this crate proves, and which a proof above it may cite.
 
 ghost use Rattle.rds_live.specs.Moving.{EndsMove, RunsMove};
 ghost use Rattle.rds_live.specs.Next.{NextIsHeard, PiecesJoin};
 
 use rds_sync::laws;
 
-/// A run depends on what is heard alone: over a part of a recording it is the run over the whole there, but for the
-/// places.
+/// A run depends only on the bits heard: over a part of a recording it is the run over the whole there,
+/// except for the places.
 pub fn runs_move()
     ensures { RunsMove }
 {
@@ -20,7 +20,7 @@ pub fn ends_move()
     ensures { EndsMove }
 {}
 
-/// Bytes that a decoder takes in two pieces give what they give at once, whatever it heard before.
+/// Bytes that a decoder takes in two pieces give the same as at once, whatever it heard before.
 pub fn pieces_join()
     ensures { PiecesJoin }
 {
@@ -30,7 +30,8 @@ pub fn pieces_join()
     runs_move();
 }
 
-/// Of a stream that was heard, the items that further bytes complete are the stream's, and so is what is known after them.
+/// The items that further bytes of a heard stream complete are the stream's, and so is the decoder after
+/// them.
 pub fn next_is_heard()
     ensures { NextIsHeard }
 {

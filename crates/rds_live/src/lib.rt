@@ -1,9 +1,9 @@
 //! The decoder of a stream of Radio Data System bits, which takes them as they come.
 //!
 //! A receiver gives bits day and night. A [`Live`] is handed each chunk of them as it arrives, of any length, and gives
-//! the items that it completes; at the end it gives the group in progress and the totals. Together these are the report
-//! of all that was heard, as `rds_sync` defines it. What is decoded of a stream, and when it is complete, are this
-//! project's rules.
+//! the items that it completes; at the end it gives the group in progress and the totals. Together these are
+//! the report of all that was heard, as `rds_sync` defines it. How a stream is decoded, and when an item is
+//! complete, are this project's rules.
 //!
 //! # Example
 //!
@@ -36,43 +36,45 @@
 //!   them, and the totals of the items that are complete.
 //! - [`Live::take`]: the next bytes, as many as are decoded at once, and the items that they complete, in room that the caller
 //!   keeps; [`MOST_ITEMS`] is as much of it as is ever of use. [`Live::take_all`]: a chunk of any length, and its items in a list.
-//! - [`StreamEnd`]: what the end of a stream gives, by [`Live::finish`] behind a whole byte, or by [`Live::finish_with`]
-//!   at any bit.
-//! - [`Live::tail`] and [`Live::resume`]: what a decoder has to keep beside its place, state and totals, and one that is made
-//!   of these. [`ResumeError`] says why it refuses.
+//! - [`StreamEnd`]: the result of the end of a stream, by [`Live::finish`] after a whole byte, or by
+//!   [`Live::finish_with`] at any bit.
+//! - [`Live::tail`] and [`Live::resume`]: the bytes that a decoder has to keep beside its place, state and
+//!   totals, and a decoder that is made of these. [`ResumeError`] says why it refuses.
 //! - [`may_have_gaps`]: the test of gaps that these make.
-//! - [`laws`]: a run depends on what is heard alone, and bytes in two pieces give what they give at once.
+//! - [`laws`]: a run depends only on the bits heard, and bytes in two pieces give the same as at once.
 //!
 //! # What callers may rely on
 //!
-//! - What a decoder knows is a matter of the bytes alone: `HasHeard` says of a [`Live`] that it is what these bytes make
-//!   it, so two that were fed the same are equal, however the stream was cut.
+//! - A decoder's numbers depend only on the bytes: `HasHeard` says of a [`Live`] that these bytes lead to it.
+//!   So two that were fed the same are equal, however the stream was cut.
 //! - Whatever the chunks, the items given are those of the run over all bits so far, from a search on; with the group of
 //!   the end they are the report's, and so are the totals.
-//! - Of numbers that are lawful and of no stream, each call promises what it gives too: the run over the tail and the further
-//!   bytes (`live_next`, `completed`, `group_next`).
-//! - A refused call has heard nothing: the same bytes can be offered again. `take` refuses `TooLong` (5) alone, past 2^36 bits in
-//!   all, and `take_all` `OutOfMemory` (8) too.
-//! - All memory that a stream needs is taken where it begins: `take`, `finish` and `finish_with` take none.
+//! - Each call promises its results for numbers that are lawful and of no stream, too: those of the run over
+//!   the tail and the further bytes (`live_next`, `completed`, `group_next`).
+//! - A refused call has heard nothing: the same bytes can be offered again. `take` refuses only `TooLong`
+//!   (5), past 2^36 bits in all, and `take_all` `OutOfMemory` (8) too.
+//! - All memory that a stream needs is taken at its beginning: `take`, `finish` and `finish_with` take none.
 //! - Both rules of loss are followed, and gaps that are told beforehand ([`Live::with_gaps`]).
-//! - A decoder that is made of what another tells is equal to that one, and so has heard the same bytes. Refused are gaps that no
-//!   stream may have, numbers that no decoder has, and want of memory: what a decoder tells is refused for want of memory alone.
+//! - A decoder that is made of the numbers of another is equal to that one, and so has heard the same bytes.
+//!   It is refused if no stream may have its gaps, if no decoder has its numbers, or if memory is refused.
+//!   The numbers of a decoder are refused only if memory is.
 //! - It keeps no more of a stream than its last 30 bytes: 233 bits are enough to go on, those of a partner's window eight
 //!   blocks back, since a group in progress begins later.
 //!
 //! # What it costs
 //!
-//! Windows are read from a recording, so the bytes that come are copied behind those that are kept, 960 at a time, into one that
-//! was made with the decoder. The gaps of such a part are found by two binary searches among those of the stream.
+//! Windows are read from a recording. So the next bytes are copied after those that are kept, 960 at a time,
+//! into a recording that was made with the decoder. The gaps of such a part are found by two binary searches
+//! among those of the stream.
 #![tactic(auto)]
 
-// In the order of reading: the decoder, what it keeps, and what makes a part of a stream a recording.
+// In the order of reading: the decoder, what it keeps, and how a part of a stream becomes a recording.
 mod live; // The decoder of a stream.
-mod room; // The last bytes, and those that come behind them.
+mod room; // The last bytes, and those that come after them.
 mod gaps; // The gaps of a stream, and those of a part of it.
 mod moved; // States and items whose places are counted from elsewhere.
 mod kept; // The numbers that a decoder may be made of.
-pub mod laws; // What holds of following itself.
+pub mod laws; // The laws of following.
 mod error; // Why a decoder that was kept as numbers is refused.
 
 pub use error::ResumeError;

@@ -36,8 +36,8 @@ const NO_GAPS: &[(u64, u64)] = &[];
 
 /// A decoder of a stream of bits, which takes them as they come: this project's rule.
 ///
-/// Contracts see what it knows of the stream: its rules and gaps, the last bytes, how many bits there were, and the state
-/// after them.
+/// Contracts see its knowledge of the stream: its rules and gaps, the last bytes, how many bits there were,
+/// and the state after them.
 #[derive(Drop)]
 pub struct Live<'r> {
     rules: &'r Rules,
@@ -62,7 +62,7 @@ impl<'r> Model for Live<'r> {
         × (min (length l.gaps.now) 7920 ≤ slots_of l.room) };
 }
 
-/// What the end of a stream gives.
+/// The result of the end of a stream.
 #[derive(Clone, Copy, Debug, PartialEq, Eq)]
 pub struct StreamEnd {
     /// The group in progress, as far as it was read.
@@ -74,7 +74,7 @@ pub struct StreamEnd {
 impl<'r> Live<'r> {
     /// A decoder that has heard nothing yet, of a stream without gaps.
     ///
-    /// Refuses only where memory is refused: it takes all that it will need.
+    /// Fails only if memory is refused: it takes all that it will need.
     pub fn new(alloc: Global, rules: &'r Rules) -> Result<Live<'r>, StreamError>
         ensures live { IfOk result (λ live. live ≡ live_of (by_rules rules.now) []) }
         ensures only_memory { IsOkUnless result StreamError.OutOfMemory }
@@ -85,9 +85,9 @@ impl<'r> Live<'r> {
     /// A decoder that has heard nothing yet, of a stream with these gaps: each is the places from its first number to before
     /// its second, by which the bits that will come there mean nothing.
     ///
-    /// Refuses gaps that no recording may have: one that has no place or goes past 2^36 bits, or begins before the end of the
-    /// one before it; and then only want of memory, of which it takes all that it will need. A gap past the end of the stream,
-    /// once that is known, means nothing.
+    /// Refuses gaps that no recording may have: one that has no place or ends after 2^36 bits, or begins
+    /// before the end of the one before it. Then it fails only if memory is refused, of which it takes all
+    /// that it will need. A gap past the end of the stream, once that is known, means nothing.
     pub fn with_gaps(
         alloc: Global,
         rules: &'r Rules,
@@ -128,13 +128,14 @@ impl<'r> Live<'r> {
     /// and these [`totals`](Live::totals), as they were asked of one that stopped there: it goes on as that one would. So a
     /// decoder can be kept as numbers between two chunks.
     ///
-    /// `tail` is the last 30 bytes of the stream, or all of them where there are fewer; `place` is how many bits there
-    /// were.
+    /// `tail` is the last 30 bytes of the stream, or all of them if there are fewer; `place` is how many bits
+    /// there were.
     ///
-    /// Refuses gaps as [`with_gaps`](Live::with_gaps) does, then numbers that no decoder by these rules has (a place
-    /// inside a byte or past 2^36, a tail of another length, a state that is not lawful at the place, or a count of the
-    /// totals above 2^11 a bit), and then only want of memory. Numbers that pass may still be of no stream: such a
-    /// decoder goes on from them all the same. It takes memory for a copy of the tail and of the gaps in it.
+    /// Refuses gaps as [`with_gaps`](Live::with_gaps) does, then numbers that no decoder by these rules has:
+    /// a place inside a byte or past 2^36, a tail of another length, a state that is not lawful at the place,
+    /// or a count of the totals above 2^11 per bit. Then it fails only if memory is refused. Numbers that
+    /// pass may still be of no stream: such a decoder continues from them all the same. It takes memory for a
+    /// copy of the tail and of the gaps in it.
     pub fn resume(
         alloc: Global,
         rules: &'r Rules,
@@ -188,8 +189,8 @@ impl<'r> Live<'r> {
         })
     }
 
-    /// The last bytes that were heard: 30, or all of them where there are fewer. With the place, the state and the totals
-    /// this is all that a decoder knows of a stream, from which [`resume`](Live::resume) goes on.
+    /// The last bytes that were heard: 30, or all of them if there are fewer. With the place, the state and
+    /// the totals this is all that a decoder knows of a stream, from which [`resume`](Live::resume) goes on.
     pub fn tail(&self) -> &[u8]
         ensures value { result.now ≡ self.now.tail }
         ensures count { length result.now ≡ min most_kept (self.now.place / 8) }
@@ -221,7 +222,7 @@ impl<'r> Live<'r> {
         self.totals
     }
 
-    /// Whether the stream may end so many bits further on, that is, whether no gap goes past them.
+    /// Whether the stream may end `bits` bits later, that is, whether no gap ends after that.
     pub fn may_end_after(&self, bits: u64) -> bool
         requires { self.now.place + bits ≤ 2 ^ 36 }
         ensures { (result ≡ true) ↔ AreGaps (self.now.place + bits) self.now.terms.gaps }
@@ -237,7 +238,8 @@ impl<'r> Live<'r> {
     ///
     /// Refuses more than 2^36 bits in all, with those that it would not take at once; refused, it has heard nothing.
     ///
-    /// Its cost: the bytes are gone over once, as by [`Decoder`], behind a copy of those that are kept. It takes no memory.
+    /// Its cost: the bytes are read once, as by [`Decoder`], after a copy of those that are kept. It takes no
+    /// memory.
     pub fn take(&mut self, bytes: &[u8], items: &mut Vec<Item>) -> Result<usize, StreamError>
         ensures heard { IfOk result (λ count. (before : List ℕ) → HasHeard self.old before → HasHeard self.new (before ++ take count bytes.now)) }
         ensures terms { OnOk result (self.new.terms ≡ self.old.terms) }
@@ -281,7 +283,7 @@ impl<'r> Live<'r> {
 
     /// Takes all of these bytes, and gives the items that they complete in a list of its own.
     ///
-    /// Refuses more than 2^36 bits in all, and want of memory; refused, it has heard nothing.
+    /// Fails for more than 2^36 bits in all, and if memory is refused; it has then heard nothing.
     ///
     /// Its cost: that of [`take`](Live::take) over and over, and memory for the list and for the items of 960 bytes.
     pub fn take_all(&mut self, alloc: Global, bytes: &[u8]) -> Result<Vec<Item>, StreamError>
@@ -327,7 +329,7 @@ impl<'r> Live<'r> {
         no_items_count(&self.totals);
     }
 
-    /// What it knows.
+    /// Its numbers, without its terms.
     fn kept(&self) -> Kept
         ensures { IsKept result self.now }
     {
@@ -343,7 +345,7 @@ impl<'r> Live<'r> {
         }
     }
 
-    /// Knows again what it knew then.
+    /// Restores these numbers.
     fn go_back(&mut self, kept: &Kept)
         requires lawful { IsLive (live_kept self.old.terms kept.now) }
         requires within { kept.now.count ≤ 30 }
@@ -463,8 +465,8 @@ fn taken(alloc: Global, live: &mut Live<'_>, bytes: &[u8]) -> Result<Vec<Item>, 
     Ok(items)
 }
 
-/// Has the decoder take as many of these bytes as it can at once, and puts the items that they complete behind those before.
-/// Answers how many bytes these were.
+/// Has the decoder take as many of these bytes as it can at once, and appends the items that they complete to
+/// those before. Answers how many bytes these were.
 fn take_next(
     live: &mut Live<'_>,
     bytes: &[u8],
@@ -527,7 +529,7 @@ fn fill_from(
     decoder.end_state()
 }
 
-/// What the end of a stream gives, whose complete items have these totals.
+/// The result of the end of a stream, whose complete items have these totals.
 fn ended(totals: Totals, group: Option<Group>) -> StreamEnd
     requires { IsAtMost (2 ^ 47) totals }
     ensures group { result.group ≡ group }
@@ -579,7 +581,7 @@ fn group_at_end(
     moved_end(&part, rules, moved_back(state, before), before)
 }
 
-/// The group in progress at the end of a recording, in this state, so many places further.
+/// The group in progress at the end of a recording, in this state, moved on by `by` places.
 fn moved_end(part: &Recording, rules: &Rules, state: State, by: u64) -> Option<Group>
     requires lawful { IsLawful rules.now (length_of part.now) state }
     requires limit { by ≤ 2 ^ 36 }

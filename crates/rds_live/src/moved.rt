@@ -7,7 +7,7 @@ ghost use Rattle.rds_live.specs.Places.{place_of, is_due_below, is_due_from};
 
 use rds_sync::{Group, Item, Lock, State};
 
-/// Moves all items so many places further.
+/// Moves all items on by `by` places.
 pub(crate) fn move_on(items: &mut [Item], by: u64)
     requires { All (λ item. place_of item + by < 2 ^ 64) items.old }
     ensures { items.new ≡ moved_items by items.old }
@@ -17,7 +17,7 @@ pub(crate) fn move_on(items: &mut [Item], by: u64)
     }
 }
 
-/// Moves the item so many places further, where it stands: it is larger than a register.
+/// Moves the item on by `by` places, in place: it is larger than a register.
 fn move_item(item: &mut Item, by: u64)
     requires { place_of item.old + by < 2 ^ 64 }
     ensures { item.new ≡ moved_item by item.old }
@@ -29,7 +29,7 @@ fn move_item(item: &mut Item, by: u64)
     }
 }
 
-/// The group, so many places further.
+/// The group, moved on by `by` places.
 pub(crate) fn moved_group(group: Group, by: u64) -> Group
     requires { group.place + by < 2 ^ 64 }
     ensures { Item.Group result ≡ moved_item by (Item.Group group) }
@@ -40,7 +40,7 @@ pub(crate) fn moved_group(group: Group, by: u64) -> Group
     }
 }
 
-/// The state, so many places further.
+/// The state, moved on by `by` places.
 pub(crate) fn moved_on(state: State, by: u64) -> State
     requires { is_due_below (2 ^ 63) state × (by < 2 ^ 63) }
     ensures { result ≡ moved_state by state }
@@ -54,7 +54,7 @@ pub(crate) fn moved_on(state: State, by: u64) -> State
     }
 }
 
-/// The state, so many places before.
+/// The state, moved back by `by` places.
 pub(crate) fn moved_back(state: State, by: u64) -> State
     requires { is_due_from by state }
     ensures value { result ≡ the_moved_back by state }

@@ -1,4 +1,4 @@
-//! Room for the last bytes of a stream and those that come behind them, which is taken once.
+//! Room for the last bytes of a stream and those that come after them, which is taken once.
 
 ghost use Rattle.std.specs.Prelude.{◌≡◌, ◌≤◌, ◌+◌, ◌*◌, ◌^◌, ◌++◌, [], IfOk, length, min};
 ghost use Rattle.rds_stream.specs.Recording.{AreGaps, length_of};
@@ -12,7 +12,7 @@ use rds_stream::Recording;
 use std::alloc::{AllocError, Global};
 use std::marker::Model;
 
-/// How many bytes are gone over at once, at most.
+/// How many bytes are decoded at once, at most.
 pub(crate) const AT_ONCE: usize = 960;
 
 /// How many bytes there is room for.
@@ -21,7 +21,7 @@ const HELD: usize = MOST_KEPT + AT_ONCE;
 /// How many bits these have.
 pub(crate) const HELD_BITS: u64 = 8 * HELD as u64;
 
-/// The last bytes of a stream, those that come behind them, and a recording that they are heard in.
+/// The last bytes of a stream, those that come after them, and a recording that they are heard in.
 ///
 /// The recording always has as many bits, and as many gaps, since more than it was made with would take memory. Its second
 /// half is for the spare gaps, which are not needed. Contracts see the bytes and the recording.
@@ -51,7 +51,7 @@ impl Model for Room {
 }
 
 impl Room {
-    /// Room for the bytes of a stream that has so many gaps. Takes the memory for them.
+    /// Room for the bytes of a stream with `gaps` gaps. Takes the memory for them.
     pub fn new(alloc: Global, gaps: usize) -> Result<Room, AllocError>
         ensures bytes { IfOk result (λ room. room.bytes ≡ []) }
         ensures slots { IfOk result (λ room. slots_of room ≡ min gaps 7920) }
@@ -102,7 +102,7 @@ impl Room {
         self.bytes.clear();
     }
 
-    /// Keeps the last bytes alone.
+    /// Keeps only the last bytes.
     pub fn keep_last(&mut self)
         ensures bytes { self.new.bytes ≡ last_bytes self.old.bytes }
         ensures slots { slots_of self.new ≡ slots_of self.old }
@@ -158,7 +158,7 @@ impl Room {
     }
 }
 
-/// Bytes for a recording that is to hear what there is room for, and as many places for gaps behind it.
+/// Bytes for a recording that hears all that there is room for, and as many places for gaps after it.
 fn silence(alloc: Global) -> Result<Vec<u8>, AllocError>
     ensures { IfOk result (λ bytes. length bytes.items ≡ 1980) }
 {

@@ -143,7 +143,8 @@ number_five bytes j small =
     let back : 8 * (j + 4) + 7 - 32 ≡ 8 * j + 7 = omega arith in
     number_split f 8 32 (8 * (j + 4) + 7) ∙ ap (λ x. x * 2 ^ 32 + number f 32 (8 * (j + 4) + 7)) (ap (number f 8) back ∙ number_byte bytes j small)
 
--- what the code makes of the four bytes up to that of place i, and of the one before them where the window begins in it
+-- the window that the code makes of the four bytes up to that of place i, and of the one before them if the
+-- window begins in it
 pub window_of_bytes : (bytes : List ℕ) (n i before four : ℕ) → 25 ≤ i → i < n → before < 256 →
     get_or bytes (i / 8 - 3) 0 < 256 → get_or bytes (i / 8 - 2) 0 < 256 → get_or bytes (i / 8 - 1) 0 < 256 → get_or bytes (i / 8) 0 < 256 →
     four ≡ get_or bytes (i / 8 - 3) 0 * 16777216 + get_or bytes (i / 8 - 2) 0 * 65536 + get_or bytes (i / 8 - 1) 0 * 256 + get_or bytes (i / 8) 0 →
@@ -243,7 +244,7 @@ number_of_eight bytes i eight late small eight_is =
       number_eight bytes byte small,
     )
 
--- what the code makes of the eight bytes up to that of place i
+-- the window that the code makes of the eight bytes up to that of place i
 pub window_of_eight : (bytes : List ℕ) (n i eight : ℕ) → 25 ≤ i → i < n → 7 ≤ i / 8 → ((k : ℕ) → get_or bytes k 0 < 256) →
     eight ≡ get_or bytes (i / 8 - 7) 0 * 72057594037927936 + get_or bytes (i / 8 - 6) 0 * 281474976710656 + get_or bytes (i / 8 - 5) 0 * 1099511627776
     + get_or bytes (i / 8 - 4) 0 * 4294967296 + get_or bytes (i / 8 - 3) 0 * 16777216 + get_or bytes (i / 8 - 2) 0 * 65536

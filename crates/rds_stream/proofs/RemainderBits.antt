@@ -13,7 +13,7 @@ use Rattle.rds_code.specs.Laws.{IsLinear}
 use Rattle.rds_stream.specs.Inside.Lanes.{IsWindowAt, lane}
 use Rattle.rds_stream.proofs.BitOrder.{shr_bit}
 
--- what the generator leaves of each power of x
+-- the remainder of each power of x by the generator
 unfoldable pub powers : List ℕ
 powers = 0x001 ∷ 0x002 ∷ 0x004 ∷ 0x008 ∷ 0x010 ∷ 0x020 ∷ 0x040 ∷ 0x080 ∷ 0x100 ∷ 0x200 ∷ 0x1B9 ∷ 0x372 ∷ 0x35D ∷ 0x303 ∷ 0x3BF ∷ 0x2C7 ∷ 0x037 ∷ 0x06E ∷ 0x0DC ∷ 0x1B8 ∷ 0x370 ∷ 0x359 ∷ 0x30B ∷ 0x3AF ∷ 0x2E7 ∷ 0x077 ∷ []
 

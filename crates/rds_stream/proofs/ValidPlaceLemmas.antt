@@ -111,7 +111,7 @@ later_places b next ahead word place places low high =
       past = λ k l. shr_bit word by k ∙ places.past (by + k) (omega arith);
     }
 
--- the places behind one whose bit is a one
+-- the places after one whose bit is a one
 pub places_behind : (b : Signal) (next ahead word bit rest : ℕ) → TellsValidPlaces b next ahead word → bit_at word bit ≡ 1 → ((k : ℕ) → bit_at rest k ≡ bit_at word (k + (bit + 1)))
     → TellsValidPlaces b (next + bit + 1) ahead rest
 places_behind b next ahead word bit rest places one is =

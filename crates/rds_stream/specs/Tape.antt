@@ -1,4 +1,5 @@
--- What a tape shows of itself: a recording, and how many of its windows were read. `Tape` and `Counted` are said to be it.
+-- The model of a tape: a recording, and how many of its windows were read. `Tape` and `Counted` are said to
+-- be it.
 use Rattle.std.specs.Prelude.{ℕ}
 use Rattle.rds_stream.specs.Recording.{Signal}
 

@@ -4,7 +4,7 @@ use Rattle.std.specs.Prelude.{◌≡◌, ℕ, ◌+◌, ◌<◌, ◌≤◌, Optio
 use Rattle.rds_code.specs.declared.offset.Offset.{Offset}
 use Rattle.rds_stream.specs.Recording.{Signal, off}
 
--- what is left of a range: the places of the recording from `next` to before `end`
+-- the rest of a range: the places of the recording from `next` to before `end`
 pub record WindowsLeft : Type 0 where
   pub signal : Signal
   pub next : ℕ
@@ -14,7 +14,8 @@ pub record WindowsLeft : Type 0 where
 abbrev pub NoneValid : Signal → ℕ → ℕ → Type 0
 NoneValid b from to = (i : ℕ) → from ≤ i → i < to → off b i ≡ None
 
--- the first valid window of what is left is given, with its place and offset, and what comes after it is left; or there is none
+-- the first valid window of the rest is given, with its place and offset, and the places after it are left;
+-- or there is none
 abbrev pub GivesFirst : WindowsLeft → Option (ℕ × Offset) → WindowsLeft → Type 0
 GivesFirst old None new = NoneValid old.signal old.next old.end × (new ≡ record { signal = old.signal; next = old.end; end = old.end })
 GivesFirst old (Some found) new =

@@ -1,4 +1,4 @@
-//! Bits in the order of their places, for arithmetic that goes over many places at a time.
+//! Bits in the order of their places, for arithmetic over many places at a time.
 ghost use Rattle.std.specs.Prelude.{◌≡◌, ℕ, ◌+◌, ◌-◌, ◌*◌, ◌/◌, ◌%◌, ◌<◌};
 ghost use Rattle.std.specs.Int.{bit_at};
 ghost use Rattle.rds_stream.specs.Recording.{packed_bit};

@@ -2,12 +2,13 @@
 //!
 //! A remainder's bits are sums of bits of its window, the same ones at each place. So ten planes, one for each bit of
 //! a remainder, come of the bits of a recording by shifts and sums of whole words. From a window to that of the next
-//! place division goes on by one step: x times the remainder, less the generator where that reaches x^10, and the place
-//! that comes in less x^26 times the one that goes out. Taken back, that makes a plane of the one above it: it is that
-//! one a place on, and to it come the highest plane where the generator has a one, and the first places of the windows
-//! where x^26 leaves a one. The highest plane alone is summed up from the places.
+//! place division takes one step: x times the remainder, less the generator if that reaches x^10, and the
+//! place that comes in, less x^26 times the one that leaves. Taken back, that makes a plane of the one above
+//! it: it is that one a place on. To it come the highest plane if the generator has a one, and the first
+//! places of the windows if x^26 leaves a one. Only the highest plane is summed up from the places.
 //!
-//! The 64 places go by halves in two lanes of a vector: 57 bits of a lane hold the windows of 32 places.
+//! The 64 places are split by halves into two lanes of a vector: 57 bits of a lane hold the windows of 32
+//! places.
 ghost use Rattle.std.specs.Prelude.{◌≡◌, ℕ, ◌+◌, ◌*◌, ◌<◌, ◌≤◌, slice_index};
 ghost use Rattle.std.specs.Int.{bit_at};
 ghost use Rattle.rds_code.specs.Remainder.{rem};
@@ -21,7 +22,7 @@ use rds_code::laws;
 use std::simd::prelude::*;
 
 /// The remainders of the windows at the 64 places from `at` on, as ten planes: bit k of plane r, counted from the
-/// lowest, is bit r of the remainder of the window at place `at` + k. That they stand so is this project's rule.
+/// lowest, is bit r of the remainder of the window at place `at` + k. This layout is this project's rule.
 ///
 /// `at` is at least 25, and `at` + 63 below the length. It takes no memory.
 pub fn planes(recording: &Recording, at: u64) -> [u64; 10]

@@ -14,7 +14,8 @@ pub enum StreamError {
     /// A recording holds at most 2^36 bits.
     #[error("more than 2^36 bits")]
     TooLong,
-    /// The gaps of a recording each have a place, lie within its bits, and begin at or after the end of the one before.
+    /// The gaps of a recording each have a place, are within its bits, and begin at or after the end of the
+    /// one before.
     #[error("gaps that are empty, out of order or past the bits")]
     BadGaps,
     /// The system refused memory.

@@ -14,17 +14,17 @@ pub(crate) struct Section {
     pub touched: bool,
 }
 
-/// Whether these are gaps that so many bits may have: each has a place and lies within the bits, and each begins at or
-/// after the end of the one before it.
+/// Whether a recording of `bits` bits may have these gaps: each has a place and is within the bits, and each
+/// begins at or after the end of the one before it.
 ///
-/// Its cost: the gaps are gone over twice. It takes no memory.
+/// Its cost: the gaps are read twice. It takes no memory.
 pub fn are_gaps(gaps: &[(u64, u64)], bits: u64) -> bool
     ensures { (result ≡ true) ↔ AreGaps bits gaps.now }
 {
     are_within(gaps, bits) && are_apart(gaps)
 }
 
-/// Whether each has a place and lies within so many bits.
+/// Whether each has a place and is within the first `bits` bits.
 fn are_within(gaps: &[(u64, u64)], bits: u64) -> bool
     ensures { (result ≡ true) ↔ All (λ gap. (gap.0 < gap.1) × (gap.1 ≤ bits)) gaps.now }
 {
@@ -38,7 +38,7 @@ fn are_apart(gaps: &[(u64, u64)]) -> bool
     gaps.is_sorted_by(|gap, next| gap.1 <= next.0)
 }
 
-/// The first gap that goes past `place`, if there is one.
+/// The first gap that ends after `place`, if there is one.
 pub(crate) fn first_after(gaps: &[(u64, u64)], place: u64) -> Option<(u64, u64)>
     requires { IsNonDecreasingBy (λ gap. gap.1) gaps.now }
     ensures { MatchOption result (AllEndBy gaps.now (length gaps.now) place) (IsFirstAfter gaps.now place) }

@@ -1,4 +1,4 @@
-//! What is read from what was heard at a place: a window, or nothing.
+//! How what was heard at a place is read: a window, or nothing.
 ghost use Rattle.std.specs.Prelude.{◌≡◌, ◌<◌, ◌≤◌, ◌^◌, IfSome};
 ghost use Rattle.rds_stream.specs.Recording.{offset_heard, reading_heard};
 

@@ -5,7 +5,7 @@ ghost use Rattle.rds_stream.specs.Inside.Lanes.{HasLanes};
 
 use std::simd::prelude::*;
 
-/// How many windows end in the places of one lane: 57 places lie in it, and 26 make a window.
+/// How many windows end in the places of one lane: it has 57 places, and 26 make a window.
 const LANE: u64 = 32;
 
 /// Each lane from the place `by` places on.
@@ -25,7 +25,7 @@ pub(crate) fn sum(a: u64x2, b: u64x2) -> u64x2
     a ^ b
 }
 
-/// The ones that stand in either.
+/// The ones of both lanes' words together.
 #[inline(always)]
 pub(crate) fn either(a: u64x2, b: u64x2) -> u64x2
     ensures { HasLanes result (λ j. bit_or (slice_index a j) (slice_index b j)) }

@@ -49,11 +49,11 @@ fn put_first(stored: &mut [u8], bytes: &[u8])
 }
 
 impl Packed {
-    /// Why the bytes are not taken for so many bits, where they are not.
+    /// Why the bytes do not hold `bits` bits, if they do not.
     pub fn refusal(bytes: &Vec<u8>, bits: u64) -> Option<StreamError>
         ensures taken { (result ≡ None) ↔ ((bits ≤ 2 ^ 36) × (bits ≤ 8 * vec_len bytes.now)) }
 
-        // What is too long is refused as such, whether or not the bytes hold it.
+        // Too many bits are refused as such, whether or not the bytes hold them.
         ensures too_long { (result ≡ Some TooLong) ↔ (2 ^ 36 < bits) }
         ensures past_bytes { (result ≡ Some BitsPastBytes) ↔ ((bits ≤ 2 ^ 36) × (8 * vec_len bytes.now < bits)) }
     {
@@ -166,7 +166,7 @@ impl Packed {
         ensures value { result ≡ window self.now place }
         ensures block { result < 2 ^ 26 }
     {
-        // A window lies in four bytes, or in five where it begins with the last bit of one.
+        // A window takes up four bytes, or five if it begins with the last bit of one.
         let last = (place / 8) as usize;
         let bytes = self.bytes.as_slice();
         let four = [
@@ -181,14 +181,14 @@ impl Packed {
     }
 
     /// The bits at the 89 places from `from` on, the first one lowest, in two words of 57 places: the second begins 32
-    /// places after the first, so the windows at 64 places lie in them.
+    /// places after the first, so they hold the windows at 64 places.
     #[inline(always)]
     pub fn places(&self, from: u64) -> [u64; 2]
         requires { from + 89 ≤ length self.now }
         ensures { (j k : ℕ) → j < 2 → k < 57
             → bit_at (slice_index result j) k ≡ slice_index self.now (from + (32 * j + k)) }
     {
-        // They lie in twelve bytes.
+        // Twelve bytes hold them.
         let first = (from / 8) as usize;
         let bytes = self.bytes.as_slice();
         [

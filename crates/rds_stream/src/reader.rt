@@ -14,8 +14,8 @@ const PLACES: u64 = BLOCK_BITS as u64;
 
 /// A recording whose windows are read one after the other.
 ///
-/// It remembers how far the next gap is, so that a reader that goes forward looks for a gap only where it comes to one
-/// or leaves one; any other order gives the same windows. Contracts see the recording.
+/// It remembers how far the next gap is, so a reader that moves forward looks for a gap only when it comes to
+/// one or leaves one; any other order gives the same windows. Contracts see the recording.
 #[derive(Drop)]
 pub struct Reader<'a> {
     recording: &'a Recording,
@@ -52,8 +52,8 @@ impl<'a> Reader<'a> {
         self.recording
     }
 
-    /// The 26 bits that end at `place`, the first one highest (EN 50067:1998, 2.1), or none where they touch a gap.
-    /// `place` is at least 25, and below the length.
+    /// The 26 bits that end at `place`, the first one highest (EN 50067:1998, 2.1), or none if they touch a
+    /// gap. `place` is at least 25, and below the length.
     #[inline(always)]
     pub fn window(&mut self, place: u64) -> Option<u32>
         requires first { 25 ≤ place }
@@ -69,8 +69,8 @@ impl<'a> Reader<'a> {
         Some(self.recording.window(place))
     }
 
-    /// What `window` tells at `place` and 26, 52 and 78 places on: of four blocks in a row. The last of these places is
-    /// below the length, and `place` below 2^37.
+    /// The answers of `window` at `place` and 26, 52 and 78 places on: of four blocks in a row. The last of
+    /// these places is below the length, and `place` below 2^37.
     #[inline(always)]
     pub fn four_windows(&mut self, place: u64) -> [Option<u32>; 4]
         requires first { 25 ≤ place }
@@ -106,7 +106,7 @@ impl<'a> Reader<'a> {
         [one, two, three, four]
     }
 
-    /// `window`, where a gap is touched or may be: it is looked for again, unless the section is known.
+    /// `window`, if a gap is touched or may be: it is looked for again, unless the section is known.
     #[cold]
     fn look(&mut self, place: u64) -> Option<u32>
         requires first { 25 ≤ place }

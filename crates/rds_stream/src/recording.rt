@@ -16,8 +16,9 @@ use std::marker::Model;
 /// The first place at which a window ends: 25, since a block's bits lead up to it.
 pub const FIRST_WINDOW: u64 = BLOCK_BITS as u64 - 1;
 
-/// Demodulated bits with their places from 0 on, and the gaps in them: ranges of places whose bits mean nothing, as
-/// where a receiver dropped samples. Contracts see the list of the bits, each 0 or 1, and the list of the gaps.
+/// Demodulated bits with their places from 0 on, and the gaps in them: ranges of places whose bits mean
+/// nothing, such as samples that a receiver dropped. Contracts see the list of the bits, each 0 or 1, and the
+/// list of the gaps.
 ///
 /// A window that has a place in a gap is said to touch it. No offset and no block is read from such a window.
 ///
@@ -36,7 +37,7 @@ impl Model for Recording {
     ghost invariant = { λ r. AreGaps (length r.packed) r.gaps.items };
 }
 
-/// Why the bytes and the gaps are not taken for so many bits, where they are not.
+/// Why the bytes and the gaps make no recording of `bits` bits, if they make none.
 fn refusal(bytes: &Vec<u8>, bits: u64, gaps: &[(u64, u64)]) -> Option<StreamError>
     ensures taken { (result ≡ None) ↔ ((bits ≤ 2 ^ 36) × (bits ≤ 8 * vec_len bytes.now) × AreGaps bits gaps.now) }
 
@@ -66,7 +67,7 @@ impl Recording {
         ensures held { IfOk result (λ recording. recording ≡ ungapped (bits_of bytes.items bits)) }
         ensures taken { IsOk result ↔ ((bits ≤ 2 ^ 36) × (bits ≤ 8 * vec_len bytes)) }
 
-        // What is too long is refused as such, whether or not the bytes hold it.
+        // Too many bits are refused as such, whether or not the bytes hold them.
         ensures too_long { (result ≡ Err (TooLong, bytes)) ↔ (2 ^ 36 < bits) }
         ensures past_bytes { (result ≡ Err (BitsPastBytes, bytes)) ↔ ((bits ≤ 2 ^ 36) × (8 * vec_len bytes < bits)) }
     {
@@ -83,9 +84,9 @@ impl Recording {
     /// The same with gaps, which are this project's rule: each is the places from its first number to before its
     /// second.
     ///
-    /// Refuses more than 2^36 bits, then more than the bytes hold, and then gaps of which one has no place, or goes
-    /// past the bits, or begins before the end of the one before it; the bytes and the gaps come back as they were.
-    /// Takes no memory.
+    /// Refuses more than 2^36 bits, then more than the bytes hold, and then bad gaps: one has no place, ends
+    /// after the bits, or begins before the end of the one before it. The bytes and the gaps come back as
+    /// they were. Takes no memory.
     pub fn with_gaps(
         bytes: Vec<u8>,
         bits: u64,
@@ -95,8 +96,8 @@ impl Recording {
             recording ≡ record { bits = bits_of bytes.items bits; gaps = gaps.items }) }
         ensures taken { IsOk result ↔ ((bits ≤ 2 ^ 36) × (bits ≤ 8 * vec_len bytes) × AreGaps bits gaps.items) }
 
-        // What is too long is refused as such, whether or not the bytes hold it, and both before the gaps are looked
-        // at.
+        // Too many bits are refused as such, whether or not the bytes hold them, and both before the gaps are
+        // looked at.
         ensures too_long { (result ≡ Err (TooLong, bytes, gaps)) ↔ (2 ^ 36 < bits) }
         ensures past_bytes { (result ≡ Err (BitsPastBytes, bytes, gaps))
             ↔ ((bits ≤ 2 ^ 36) × (8 * vec_len bytes < bits)) }
@@ -112,9 +113,9 @@ impl Recording {
         })
     }
 
-    /// Puts the bits of these bytes in the place of the first ones, and these gaps in the place of the first ones, of which
-    /// there are at least as many. So a room that is taken once can be gone over again and again: it takes no memory, and no
-    /// time for the bits and gaps that stay.
+    /// Puts the bits of these bytes in the place of the first ones, and these gaps in the place of the first
+    /// ones, of which there are at least as many. So a room that is taken once can be used again and again:
+    /// it takes no memory, and no time for the bits and gaps that stay.
     pub fn refill(&mut self, bytes: &[u8], gaps: &[(u64, u64)])
         requires within { 8 * length bytes.now ≤ length_of self.old }
         requires as_many { length gaps.now ≤ length self.old.gaps }
@@ -167,10 +168,10 @@ impl Recording {
         self.packed.two_windows(place)
     }
 
-    /// Whether one of the 26 places up to `place` lies in a gap: this project's rule. `place` is at least 25, and below
-    /// the length.
+    /// Whether one of the 26 places up to `place` is in a gap: this project's rule. `place` is at least 25,
+    /// and below the length.
     ///
-    /// Takes a binary search through the gaps, and no time where there are none.
+    /// Takes a binary search through the gaps, and no time if there are none.
     pub fn touches(&self, place: u64) -> bool
         requires first { 25 ≤ place }
         requires last { place < length_of self.now }
@@ -179,9 +180,9 @@ impl Recording {
         self.section(place).touched
     }
 
-    /// The offset of the 26 bits that end at `place`: the one whose word is their remainder (EN 50067:1998, 2.3 and
-    /// annex A), or none; none too where they touch a gap, which is this project's rule. `place` is at least 25, and
-    /// below the length.
+    /// The offset of the 26 bits that end at `place`: the one whose word is their remainder (EN 50067:1998,
+    /// 2.3 and annex A), or none; none too if they touch a gap, which is this project's rule. `place` is at
+    /// least 25, and below the length.
     ///
     /// A window that has an offset is called valid, and may still be no block.
     pub fn offset(&self, place: u64) -> Option<Offset>
@@ -246,8 +247,8 @@ impl Recording {
         }
     }
 
-    /// Goes on from a section to one that has `place`, which is at least 25, and below the length: stays where it is, or
-    /// else looks for one.
+    /// Moves on from a section to one that has `place`, which is at least 25, and below the length: stays in
+    /// the same if that has it, or else looks for one.
     // In its place, since a copy of a section costs more than the comparison.
     #[inline(always)]
     pub(crate) fn go_on_to(&self, section: &mut Section, place: u64)
@@ -263,7 +264,7 @@ impl Recording {
     }
 
     /// The bits at the 89 places from `from` on, the first one lowest, in two words of 57 places: the second begins 32
-    /// places after the first, so the windows at 64 places lie in them.
+    /// places after the first, so they hold the windows at 64 places.
     #[inline(always)]
     pub(crate) fn places(&self, from: u64) -> [u64; 2]
         requires { from + 89 ≤ length_of self.now }

@@ -12,7 +12,7 @@ use std::alloc::Global;
 /// All valid windows at the places from `from` to before `to`, each with its offset, by rising place.
 ///
 /// `from` is at most `to`, and `to` at most the length. Windows may begin before `from`, and none before the recording.
-/// Those that touch a gap are left out: this project's rule. It refuses only where memory is refused.
+/// Those that touch a gap are left out: this project's rule. It fails only if memory is refused.
 pub fn scan(
     alloc: Global,
     recording: &Recording,

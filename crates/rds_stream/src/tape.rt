@@ -27,13 +27,13 @@ pub trait Tape {
     fn reads(&self) -> u64
         ensures { result ≡ reads_made self.now };
 
-    /// The recording that the tape is of, for contracts alone.
+    /// The recording that the tape is of, only for contracts.
     fn source(&self) -> Snapshot<Recording>
         ensures { result.value ≡ signal self.now };
 
-    /// The 26 bits that end at `place`, the first one highest (EN 50067:1998, 2.1), or none where they touch a gap;
-    /// `place` is at least 25, and below the length. It adds one to `reads` either way, which is below 2^63 before the
-    /// call.
+    /// The 26 bits that end at `place`, the first one highest (EN 50067:1998, 2.1), or none if they touch a
+    /// gap; `place` is at least 25, and below the length. It adds one to `reads` either way, which is below
+    /// 2^63 before the call.
     fn window(&mut self, place: u64) -> Option<u32>
         requires first { 25 ≤ place }
         requires last { place < length_of (signal self.old) }

@@ -1,7 +1,7 @@
 //! Words of valid places: which of up to 64 places in a row have a valid window.
 //!
-//! A bit is a one just where all ten planes agree with one of the five offset words, so words are exact both ways:
-//! each valid window has a one, and no other is looked at.
+//! A bit is a one exactly when all ten planes agree with one of the five offset words, so words are exact
+//! both ways: each valid window has a one, and no other is looked at.
 ghost use Rattle.std.specs.Prelude.{◌≡◌, ◌≢◌, ℕ, max, ◌+◌, ◌<◌, ◌≤◌, ◌^◌, ◌↔◌, false, slice_index, IsSome};
 ghost use Rattle.std.specs.Int.{bit_at};
 ghost use Rattle.rds_code.specs.Offsets.{offset_of as the_offset_of};
@@ -18,7 +18,7 @@ use crate::recording::Recording;
 use rds_code::Offset;
 use std::simd::prelude::*;
 
-/// Up to 64 places in a row, from `next` to before `ahead`. Bit k of `word` is a one where the window at place
+/// Up to 64 places in a row, from `next` to before `ahead`. Bit k of `word` is a one if the window at place
 /// `next` + k is valid.
 #[derive(Clone, Copy, Drop)]
 pub(crate) struct ValidPlaces {
@@ -52,7 +52,8 @@ impl ValidPlaces {
         }
     }
 
-    /// Goes on from places without a valid one, to the next places of the section that they end in, or of the one after it.
+    /// Moves on from places without a valid one, to the next places of the section that they end in, or of
+    /// the one after it.
     fn next(self, recording: &Recording, section: &mut Section, end: u64) -> ValidPlaces
         requires first { 25 ≤ self.ahead }
         requires order { self.ahead < end }
@@ -76,7 +77,7 @@ impl ValidPlaces {
         }
     }
 
-    /// Those from `place` on: none, where it is behind all of these.
+    /// Those from `place` on: none, if it is after all of these.
     #[inline(always)]
     pub(crate) fn from_on(self, place: u64) -> ValidPlaces
         requires order { self.next ≤ place }
@@ -99,8 +100,8 @@ impl ValidPlaces {
         }
     }
 
-    /// Goes on to the next places that have a valid one, or up to `end` where there are none; to these same places,
-    /// where they have one.
+    /// Goes on to the next places that have a valid one, or up to `end` if there are none; to these same
+    /// places, if they have one.
     pub(crate) fn next_valid(
         self,
         recording: &Recording,
@@ -127,7 +128,7 @@ impl ValidPlaces {
     }
 }
 
-/// Ones at the valid places of the 64 from `at` on; bit k stands for place `at` + k.
+/// Ones at the valid places of the 64 from `at` on; bit k is place `at` + k.
 #[inline(always)]
 fn at_once(recording: &Recording, at: u64) -> u64
     requires first { 25 ≤ at }
@@ -139,7 +140,7 @@ fn at_once(recording: &Recording, at: u64) -> u64
     joined(offset_words(&plane_lanes(recording, at)))
 }
 
-/// Ones at the valid places from `from` to before `to`, fewer than 64, one by one; bit k stands for place `from` + k.
+/// Ones at the valid places from `from` to before `to`, fewer than 64, one by one; bit k is place `from` + k.
 fn one_by_one(recording: &Recording, from: u64, to: u64) -> u64
     requires first { 25 ≤ from }
     requires order { from ≤ to }
@@ -157,7 +158,7 @@ fn one_by_one(recording: &Recording, from: u64, to: u64) -> u64
     places
 }
 
-/// Ones where the planes hold an offset word.
+/// Ones at the places at which the planes hold an offset word.
 #[inline(always)]
 fn offset_words(planes: &[u64x2; 10]) -> u64x2
     ensures { (j k remainder : ℕ) → j < 2 → k < 32 → HoldInLane planes.now j k remainder
@@ -174,7 +175,7 @@ fn offset_words(planes: &[u64x2; 10]) -> u64x2
     either(either(first, third), equal_to(planes, Offset::D.word()))
 }
 
-/// Ones where the planes hold `word`.
+/// Ones at the places at which the planes hold `word`.
 #[inline(always)]
 fn equal_to(planes: &[u64x2; 10], word: u16) -> u64x2
     requires { word < 2 ^ 10 }

@@ -15,8 +15,8 @@ use std::marker::Model;
 /// The valid windows of a range, each with its place and its offset, by rising place. Windows that touch a gap are left
 /// out: this project's rule.
 ///
-/// It goes over 64 places at once, no further than it is asked for, and takes no memory. Contracts see which places are
-/// left.
+/// It covers 64 places at once, no further than it is asked for, and takes no memory. Contracts see which
+/// places are left.
 #[derive(Drop)]
 pub struct ValidWindows<'a> {
     recording: &'a Recording,

@@ -1,4 +1,4 @@
--- Bad blocks in a row, and good ones in a row, by what is kept of them: for both rules of loss.
+-- Bad blocks in a row, and good ones in a row, by the loss history: for both rules of loss.
 use Rattle.std.proofs.Common.{◌≡◌, ℕ, zero, suc, ◌+◌, ◌*◌, ◌%◌, ◌/◌, ◌^◌, ◌<◌, ◌≤◌, true, false, refl, sym, ap, ap₂, ◌∙◌, subst, arith}
 use Rattle.std.proofs.Math.Nat.{pow-suc, mul-le-mul_right}
 use Rattle.std.proofs.Math.Pow.{pow_pos}

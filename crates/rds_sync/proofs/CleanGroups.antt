@@ -44,7 +44,7 @@ module _ (b : Signal) (rules : RuleNumbers) (due : ℕ) (late : 25 ≤ due) (all
         at : (y place : ℕ) → 1 ≤ y → y ≤ 4 → due + 78 - 26 * (4 - y) ≡ place → has_number b place y ≡ true → good_at (outcomes (group b rules 1 4 (due + 78))) y ≡ true
         at y place low high e h = good-at b rules 1 4 (due + 78) y (omega arith) low high (omega arith) (omega arith) ∙ ap (λ (p : ℕ). has_number b p y) e ∙ h
 
--- a valid block 4 alone
+-- only a valid block 4
 pub last-alone : (b : Signal) (rules : RuleNumbers) (p : ℕ) → 25 ≤ p → has_number b p 4 ≡ true → outcomes (group b rules 4 4 p) ≡ missing ∷ missing ∷ missing ∷ valid ∷ []
 unfolding group
 last-alone b rules p late there =

@@ -45,7 +45,7 @@ plus-assoc t u w =
 joined-assoc : (a k m : CountOf) → joined a (joined k m) ≡ joined (joined a k) m
 joined-assoc a k m = ap₂ (λ (t : Totals) (n : ℕ). record { totals = t; items = n }) (plus-assoc a.totals k.totals m.totals) (omega arith)
 
--- what was counted after some items are counted together with these
+-- items that were counted after others are counted together with these
 pub counted-together : (first now : CountOf) (xs ys : List Item) → joined first now ≡ count_of xs → joined first (added now ys) ≡ count_of (xs ++ ys)
 counted-together first now xs [] is = is ∙ ap (λ (is : List Item). count_of is) (sym (append-nil xs))
 counted-together first now xs (y ∷ ys) is =

@@ -1,4 +1,4 @@
--- A decoder: the items of the next stretch stand before those of the rest.
+-- A decoder: the items of the next stretch come before those of the rest.
 use Rattle.std.proofs.Common.{◌≡◌, ◌≢◌, ℕ, ◌+◌, ◌-◌, ◌<◌, List, [], ◌∷◌, ◌++◌, append_assoc, length, get_or, Option, Some, None, refl, sym, ap, ap₂, ◌∙◌, arith, inl, inr}
 use Rattle.std.specs.Prelude.{⊤}
 use Rattle.std.specs.Iterator.{MakesProgress, YieldsFirst, item_count}
@@ -16,7 +16,7 @@ use Rattle.rds_sync.specs.Step.{run}
 use Rattle.rds_sync.specs.Stretch.{IsStretch}
 use Rattle.rds_sync.proofs.RunLemmas.{run-places}
 
--- what is left before `place` in state s, behind what is ready
+-- the items left before `place` in state s, after the one that is ready
 abbrev pub left_of : Signal → RuleNumbers → Option Item → State → ℕ → ℕ → DecoderOf
 left_of b rules ready s place to =
     record { items = items_in (ready ∷ []) ++ (run b rules s place (to - place)).1; end = (run b rules s place (to - place)).0 }
@@ -91,7 +91,7 @@ pub none_ready : (ready : Option Item) → ((item : Item) → ready ≢ Some ite
 none_ready None other = refl
 none_ready (Some item) other = absurd (other item refl)
 
--- whole groups that were given stand before the rest
+-- whole groups that were given come before the rest
 module _ (b read : Signal) (rules : RuleNumbers) (s : State) (place to : ℕ) (lock now : Lock) (before after : List Item) (given : HasGiven b rules lock to before now after)
     (same : read ≡ b) (s_is : s ≡ Locked lock) (place_is : place + 25 ≡ lock.due) (far : lock.due < now.due) (old : DecoderOf) (old_is : old ≡ left_of b rules None s place to) where
   abbrev behind : State × List Item

@@ -1,4 +1,4 @@
--- What a block that was due gives, with the blocks of its group.
+-- The items of a block that was due, with the blocks of its group.
 use Rattle.std.proofs.Common.{◌≡◌, ◌-◌, ℕ, List, [], ◌∷◌, Bool, sym, ap, ap₂, ◌∙◌, arith}
 use Rattle.rds_stream.specs.Recording.{Signal}
 use Rattle.rds_sync.specs.declared.due.Due.{Due}

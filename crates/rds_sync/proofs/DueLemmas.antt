@@ -1,4 +1,4 @@
--- The block that is due: what it does to its lock, and what it gives.
+-- The block that is due: its effect on its lock, and its items.
 use Rattle.std.proofs.Common.{◌≡◌, ℕ, ◌+◌, ◌%◌, ◌<◌, [], ◌∷◌, Bool, true, false, refl, sym, ap, ◌∙◌, arith}
 use Rattle.std.proofs.lemmas.Bool.{eq-eqb, ne_eqb}
 use Rattle.rds_stream.specs.Recording.{Signal}
@@ -53,7 +53,7 @@ module _ (b : Signal) (rules : RuleNumbers) (lock : Lock) (good : Bool) (good_is
   step-due (Closed next) after = step-kept next after.1
   step-due Lost after = step-lost after
 
-  -- and what it gave are the items of the step
+  -- and its items are those of the step
   pub items-inside : (next : Lock) → IsAfter rules.loss lock good (Inside next) → items_at b rules lock.due (Locked lock) ≡ []
   items-inside next after = items-kept next after.1 ∙ group_after-inside b rules lock.first lock.number lock.due after.0
 

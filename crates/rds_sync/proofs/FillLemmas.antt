@@ -7,11 +7,11 @@ use Rattle.rds_sync.specs.declared.span.Span.{Span}
 use Rattle.rds_sync.specs.Inside.Spans.{items_in, items_of}
 use Rattle.rds_sync.specs.Rules.{RuleNumbers}
 
--- with more behind both
+-- with more after both
 pub with_more : (a b c d more : List Item) → a ++ b ≡ c ++ d → a ++ (b ++ more) ≡ c ++ (d ++ more)
 with_more a b c d more is = sym (append_assoc a b more) ∙ ap (λ (items : List Item). items ++ more) is ∙ append_assoc c d more
 
--- the first span's items are appended, and those of the decoder stand before the other spans'
+-- the first span's items are appended, and those of the decoder come before the other spans'
 pub span_taken : (b : Signal) (rules : RuleNumbers) (span : Span) (others rest : List Span) (all before left now after : List Item)
     → all ≡ before ++ (left ++ items_in b rules rest) → left ≡ [] → rest ≡ span ∷ others → before ++ items_of b rules span ≡ after ++ now
     → all ≡ after ++ (now ++ items_in b rules others)
@@ -20,7 +20,7 @@ span_taken b rules span others rest all before left now after is none rest_is ta
     ∙ ap (λ (spans : List Span). before ++ items_in b rules spans) rest_is
     ∙ with_more before (items_of b rules span) after now (items_in b rules others) taken
 
--- so many of the items, the first of which are in a part
+-- n of the items, the first of which are in a part
 pub part_taken : (n : ℕ) (items part rest : List Item) → items ≡ part ++ rest → length part ≤ n → take n items ≡ part ++ take (n - length part) rest
 part_taken n items part rest is few =
     let count : n ≡ length part + (n - length part) = omega arith in

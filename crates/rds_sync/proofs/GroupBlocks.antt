@@ -12,12 +12,12 @@ use Rattle.rds_sync.specs.Groups.{block_at, blocks_at, group, group_of, wanted_b
 use Rattle.rds_sync.specs.Rules.{RuleNumbers}
 
 module _ (b : Signal) (rules : RuleNumbers) (f x p : ℕ) where
-  -- a block that was read is what was heard at its place, read
+  -- a block that was read is the window heard at its place, read
   pub block_at-read : (wanted : Wanted) (y : ℕ) → f ≤ y → y ≤ x
       → block_at b rules f x p wanted y ≡ Read (reading_at b (p - 26 * (x - y)) y wanted rules.burst)
   block_at-read wanted y low high = rw (le-leb f y low, le-leb y x high) refl
 
-  -- the same, of what was taken as heard
+  -- the same, if h was heard there
   pub block_at-heard : (wanted : Wanted) (y : ℕ) (h : Option ℕ) → f ≤ y → y ≤ x → h ≡ heard b (p - 26 * (x - y))
       → Read (reading_heard h y wanted rules.burst) ≡ block_at b rules f x p wanted y
   block_at-heard wanted y h low high same =
@@ -97,7 +97,7 @@ block_at-later_both : (b : Signal) (rules : RuleNumbers) (f x p : ℕ) (one othe
 block_at-later_both b rules f x p one other y after =
     block_at-missing b rules f (x - 1) (p - 26) one y (inr (omega arith)) ∙ sym (block_at-missing b rules f x p other y (inr after))
 
--- the last block is what was heard at the last place, read
+-- the last block is the window heard at the last place, read
 block_at-last : (b : Signal) (rules : RuleNumbers) (f x p : ℕ) (wanted : Wanted) → f ≤ x → Read (reading_at b p x wanted rules.burst) ≡ block_at b rules f x p wanted x
 block_at-last b rules f x p wanted from =
     let place : p ≡ p - 26 * (x - x) = omega arith in
@@ -141,7 +141,7 @@ blocks_at-next b rules f (suc (suc (suc (suc zero)))) p wanted block low from hi
     cc
 blocks_at-next b rules f (suc (suc (suc (suc (suc x))))) p wanted block low from high is other third = absurd (omega arith)
 
--- the group of block 4 alone
+-- the group of only block 4
 pub group-alone : (b : Signal) (rules : RuleNumbers) (p : ℕ) (block : Block) → block ≡ Read (reading_at b p 4 Either rules.burst)
     → group_of (p - 25) (Missing ∷ Missing ∷ Missing ∷ block ∷ []) ≡ group b rules 4 4 p
 group-alone b rules p block is =

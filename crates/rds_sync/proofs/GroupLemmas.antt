@@ -1,4 +1,4 @@
--- What a group says, read off its blocks.
+-- The facts of a group, read off its blocks.
 use Rattle.std.proofs.Common.{◌≡◌, ◌≢◌, ℕ, zero, suc, ◌+◌, ◌-◌, ◌*◌, ◌<◌, ◌≤◌, ◌⊎◌, List, [], ◌∷◌, Bool, true, false, Option, Some, None, refl, sym, ap, ◌∙◌, arith, inl, inr}
 use Rattle.std.proofs.lemmas.Bool.{cases_Bool, cases_lt, eqb-true}
 use Rattle.std.specs.Prelude.{◌==◌, ◌&&◌, is_some, slice_get}
@@ -22,7 +22,7 @@ use Rattle.rds_sync.specs.Groups.{info_of, version_of_bit, version_of_offset, ve
 use Rattle.rds_sync.proofs.GroupBlocks.{block_at-read, block_at-missing}
 use Rattle.rds_sync.specs.GroupLaws.{VersionIsRead, VersionsDiffer, GroupIsRead}
 
--- which of C and C' is wanted matters for block 3 alone
+-- the choice of C or C' matters only for block 3
 reading-wanted_1 : (h : Option ℕ) (limit : ℕ) (wanted : Wanted) → reading_heard h 1 Either limit ≡ reading_heard h 1 wanted limit
 reading-wanted_1 None limit wanted = refl
 reading-wanted_1 (Some w) limit OnlyC = refl

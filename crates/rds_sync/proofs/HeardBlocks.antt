@@ -14,7 +14,7 @@ use Rattle.rds_sync.specs.Inside.Words.{nibble, word_of_blocks}
 use Rattle.rds_sync.specs.Rules.{RuleNumbers}
 use Rattle.rds_sync.proofs.GroupBlocks.{block_at-read, blocks_at-read}
 
--- a block that was read from what was heard at its place
+-- a block that was read from the window heard at its place
 read-there : (b : Signal) (rules : RuleNumbers) (due p y : ℕ) (wanted : Wanted) (read : Reading) → 1 ≤ y → y ≤ 4 → p ≡ due + 78 - 26 * (4 - y)
     → read ≡ reading_at b p y wanted rules.burst → Read read ≡ block_at b rules 1 4 (due + 78) wanted y
 read-there b rules due p y wanted read low high place is =
@@ -22,7 +22,7 @@ read-there b rules due p y wanted read low high place is =
     ∙ ap (λ (q : ℕ). Read (reading_at b q y wanted rules.burst)) place
     ∙ sym (block_at-read b rules 1 4 (due + 78) wanted y low high)
 
--- the four blocks of a group that ends 78 places behind block 1
+-- the four blocks of a group that ends 78 places after block 1
 pub heard-blocks : (b : Signal) (rules : RuleNumbers) (due : ℕ) (hs : List (Option ℕ)) → hs ≡ four_heard b due → (wanted : Wanted) (one two three four : Reading)
     → one ≡ reading_heard (get_or hs 0 None) 1 Either rules.burst → two ≡ reading_heard (get_or hs 1 None) 2 Either rules.burst → wanted ≡ wanted_beside (Read two)
     → three ≡ reading_heard (get_or hs 2 None) 3 wanted rules.burst → four ≡ reading_heard (get_or hs 3 None) 4 Either rules.burst

@@ -12,7 +12,7 @@ use Rattle.rds_sync.specs.Rules.{RuleNumbers}
 use Rattle.rds_sync.specs.Totals.{is_valid}
 use Rattle.rds_sync.proofs.OutcomeTotals.{valid_is}
 
--- what holds of the first four holds of each of them
+-- a property of 0, 1, 2 and 3 is one of each number below 4
 pub each-of-four : (P : ℕ → Type 0) → P 0 → P 1 → P 2 → P 3 → (k : ℕ) → k < 4 → P k
 each-of-four P one two three four zero h = one
 each-of-four P one two three four (suc zero) h = two
@@ -20,7 +20,7 @@ each-of-four P one two three four (suc (suc zero)) h = three
 each-of-four P one two three four (suc (suc (suc zero))) h = four
 each-of-four P one two three four (suc (suc (suc (suc k)))) h = absurd (omega (arith, h))
 
--- a group of these blocks, with what is kept of the bad ones by how they came out
+-- a group of these blocks, with the loss history by how they came out
 pub whole-is : (b : Signal) (rules : RuleNumbers) (due : ℕ) (loss : Loss) (place : ℕ) (bs : List Block) (os : List Outcome) (before after : ℕ) (given : Group)
     → 25 ≤ due → place ≡ due - 25 → bs ≡ blocks_at b rules 1 4 (due + 78) → os ≡ outcomes_at b rules due → loss ≡ rules.loss → given ≡ group_of place bs
     → after ≡ bad_over loss os before 1 4 → IsLawfulBad loss after → ((k : ℕ) → k < 4 → are_too_many loss (bad_over loss os before 1 (k + 1)) ≡ false)
@@ -36,7 +36,7 @@ whole-is b rules due loss place bs os before after given late place_is bs_are os
           (subst (λ (l : Loss). (k : ℕ) → k < 4 → are_too_many l (bad_over l os before 1 (k + 1)) ≡ false) loss_is kept);
     }
 
--- what is kept of the bad blocks after each of these four
+-- the loss history after each of these four
 module _ (loss : Loss) (bs : List Block) (a b c d : Block) (are : bs ≡ a ∷ b ∷ c ∷ d ∷ []) (g h i j : Bool) (bad one two three four : ℕ)
     (g_is : g ≡ is_valid a) (h_is : h ≡ is_valid b) (i_is : i ≡ is_valid c) (j_is : j ≡ is_valid d)
     (one_is : one ≡ bad_after loss g bad) (two_is : two ≡ bad_after loss h one) (three_is : three ≡ bad_after loss i two) (four_is : four ≡ bad_after loss j three) where

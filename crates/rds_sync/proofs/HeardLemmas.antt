@@ -1,4 +1,4 @@
--- What is heard at a place says of a recording: of offsets, of acquiring, and of the reading of a block.
+-- The windows heard in a recording determine offsets, acquiring, and the reading of a block.
 use Rattle.std.proofs.Common.{◌≡◌, ℕ, suc, ◌+◌, ◌-◌, ◌*◌, ◌<◌, ◌≤◌, List, [], ◌∷◌, Bool, true, false, Option, Some, None, refl, sym, ap, ap₂, ◌∙◌, arith, eqb}
 use Rattle.std.proofs.lemmas.Bool.{le-ltb, lt-ltb}
 use Rattle.std.specs.List.{list_any, range_with_len}
@@ -42,7 +42,7 @@ pub off-early : (b : Signal) (i : ℕ) → i < 25 → off b i ≡ None
 unfolding off
 off-early b i early = rw (lt-ltb i 25 early, off) refl
 
--- from there on the offset is that of what was heard
+-- from there on the offset is that of the window heard
 pub off-heard : (b : Signal) (i : ℕ) → 25 ≤ i → off b i ≡ offset_heard (heard b i)
 unfolding off
 off-heard b i late = rw (le-ltb i 25 late, off) refl
@@ -53,7 +53,7 @@ unfolding has_number
 has_number-heard b i x late =
     ap (λ (o : Option Offset). elim o as (λ _. Bool) [ None ↦ false | Some p ↦ eqb (number p) x ]) (off-heard b i late)
 
--- the same, of what was taken as heard
+-- the same, if h was heard there
 pub good-heard : (b : Signal) (i x : ℕ) (h : Option ℕ) (good : Bool) → 25 ≤ i → h ≡ heard b i → good ≡ is_numbered (offset_heard h) x → good ≡ has_number b i x
 good-heard b i x h good late heard_is good_is =
     good_is ∙ ap (λ (w : Option ℕ). is_numbered (offset_heard w) x) heard_is ∙ sym (has_number-heard b i x late)

@@ -55,7 +55,7 @@ any-range p a (suc n) h = elim (cases_Bool (p a)) [
 ]
 
 module _ (b : Signal) (rules : RuleNumbers) where
-  -- what it is that a place acquires
+  -- the facts about a place that acquires
   pub record IsAcquired (i x : ℕ) : Type 0 where
     pub offset : Offset
     pub here : off b i ≡ Some offset

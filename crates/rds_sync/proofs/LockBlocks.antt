@@ -1,4 +1,4 @@
--- A lock from block to block: its state once block k was read, and what the run gives up to the next.
+-- A lock from block to block: its state once block k was read, and the items of the run up to the next.
 use Rattle.std.proofs.Common.{◌≡◌, ◌≢◌, ℕ, suc, ◌+◌, ◌-◌, ◌*◌, ◌%◌, ◌≤◌, List, [], ◌∷◌, ◌++◌, Bool, true, false, refl, sym, ◌∙◌, arith, inl, inr, cond}
 use Rattle.std.proofs.lemmas.Bool.{ne_eqb, cases_eq, cases_lt, le-leb, lt-leb, eq-eqb}
 use Rattle.std.specs.Prelude.{◌==◌}
@@ -23,7 +23,7 @@ cond_same true n = refl
 cond_same false n = refl
 
 module _ (b : Signal) (rules : RuleNumbers) (a x : ℕ) where
-  -- what is kept of the bad blocks once block k was read
+  -- the loss history once block k was read
   abbrev pub bad : ℕ → ℕ
   bad k = bad_at (is_good b rules a x) rules.loss k
 

@@ -35,7 +35,7 @@ use Rattle.rds_sync.proofs.LawfulLemmas.{lawful-run, lawful-due, lawful-numbers}
 use Rattle.rds_sync.proofs.RunIsReport.{run_is_report}
 use Rattle.rds_sync.proofs.RunLemmas.{run-append, run-waiting, run-reading, step-keeping, items-keeping, items-losing}
 
--- ---- what is heard
+-- ---- the windows heard
 
 window-begin : (bits more : List ℕ) (i : ℕ) → i < length bits → window (bits ++ more) i ≡ window bits i
 unfolding window
@@ -147,7 +147,7 @@ module _ (b : Signal) (rules : RuleNumbers) where
     order : (x ≤ y) × (y ≤ 4)
     is : items ≡ Group (group b rules f y (p + 26 * (y - x))) ∷ rest
 
-  -- what a lock gives from inside a group on, to the end of the recording
+  -- the items of a lock from inside a group on, to the end of the recording
   abbrev to_end : State → ℕ → ℕ → List Item
   to_end s place m = (run b rules s place m).1 ++ items_of_end b rules (run b rules s place m).0
 
@@ -246,7 +246,7 @@ module _ (b : Signal) (rules : RuleNumbers) where
         by_order f x due (inl one) inside room = absurd (inside one.0)
         by_order f x due (inr more) inside room = omega (arith, more, room)
 
--- ---- what it goes on from
+-- ---- the group that it continues
 
 module _ (b : Signal) (rules : RuleNumbers) (f x y p : ℕ) (low : 1 ≤ f) (order : f ≤ x) (more : x ≤ y) (room : 26 * (x - f) + 25 ≤ p) where
   abbrev later_place : ℕ

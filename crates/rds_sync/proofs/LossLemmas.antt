@@ -1,4 +1,4 @@
--- What is kept of a lock's bad blocks says when it is lost.
+-- A lock's loss history says when it is lost.
 use Rattle.std.proofs.Common.{◌≡◌, ℕ, zero, suc, ◌+◌, ◌-◌, ◌*◌, ◌%◌, ◌/◌, ◌^◌, ◌<◌, ◌≤◌, min, List, [], ◌∷◌, ◌++◌, Bool, true, false, refl, sym, ap, ap₂, ◌∙◌, arith, inl, inr, cond, ◌⊎◌}
 use Rattle.std.proofs.Math.Nat.{div-add-mod, mod-lt, mod-eq_of_lt, pow-suc}
 use Rattle.std.proofs.lemmas.Nat.{mod-mul-add}
@@ -168,7 +168,7 @@ module _ (is_good : ℕ → Bool) where
       flag_is true = refl
       flag_is false = refl
 
-  -- a lock is lost by what is kept exactly where its blocks lose it
+  -- a lock is lost by its loss history exactly when its blocks lose it
   pub loses_is : (loss : Loss) (k : ℕ) → are_too_many loss (bad_at is_good loss k) ≡ loses loss is_good k
   loses_is (Run n) k = ap (are_too_many (Run n)) (row_is n k) ∙ by_row (cases_lt (row k) n) where
     by_row : (row k < n) ⊎ (n ≤ row k) → nat_le n (row k) ≡ loses (Run n) is_good k
@@ -266,7 +266,7 @@ pub none-kept : (loss : Loss) → bad_after loss true 0 ≡ 0
 none-kept (Run n) = refl
 none-kept (Share n v) = let some : 1 ≤ 2 ^ v = omega (arith, pow_pos v) in mod-eq_of_lt {n = 0} {m = 2 ^ v} some
 
--- lawful: none, and what is kept of a lock that is not lost
+-- lawful: none, and the loss history of a lock that is not lost
 pub lawful_none : (loss : Loss) → IsLoss loss → IsLawfulBad loss 0
 lawful_none (Run n) h = h
 lawful_none (Share n v) h = (omega (arith, pow_pos v), omega (arith, ones_zero, h.0))

@@ -14,7 +14,7 @@ use Rattle.rds_sync.specs.Inside.Outcomes.{Outcome, outcome_of, was_valid, was_l
 use Rattle.rds_sync.specs.Totals.{totals_of, sum_blocks, count_blocks, is_valid, is_lost, is_corrected_by, bits_corrected, is_complete}
 use Rattle.rds_sync.proofs.TotalsLemmas.{same_counts}
 
--- a sum over a list from that over what stands for its elements
+-- a sum over a list from that over the images of its elements
 sum-through : {A B : Type 0} (f : A → ℕ) (h : B → ℕ) (k : A → B) → ((a : A) → f a ≡ h (k a)) → (xs : List A) → sum_by f xs ≡ sum_by h (map k xs)
 sum-through f h k e [] = refl
 sum-through f h k e (x ∷ xs) =

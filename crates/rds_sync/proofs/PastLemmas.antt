@@ -16,7 +16,7 @@ one_given items left None gives = gives.1 ∙ sym (ap (λ (is : List Item). drop
 one_given items left (Some item) gives = sym (ap (λ (is : List Item). drop 1 is) gives)
 
 module _ (b : Signal) (rules : RuleNumbers) where
-  -- the spans behind others, the first of which is a part of one
+  -- the spans after others, the first of which is a part of one
   pub behind-past : (before more after : List Span) (span rest : Span) (others : List Span) (left : ℕ) → more ≡ span ∷ others
       → after ≡ (before ++ rest ∷ []) ++ others
       → All (IsSpan b rules) more → IsInFirst b rules more left

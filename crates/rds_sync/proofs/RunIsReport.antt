@@ -62,7 +62,7 @@ module _ (b : Signal) (rules : RuleNumbers) (a x : ℕ) where
     | inr fewer ↦ rw (← add-one k, ne_eqb (number_after x k) 4 fewer, eq-eqb (k + 1) (read_blocks b rules a x) same) refl
   ]
 
-  -- what stands after this lock
+  -- the items after this lock
   abbrev rest : ℕ → List Item
   rest fuel = elim (end b rules a x) [ None ↦ [] | Some k ↦ items_from b rules fuel (a + 26 * k + 1) ]
 

@@ -24,7 +24,7 @@ use Rattle.rds_sync.specs.Groups.{version_of_offset, first_known, differ, block_
 use Rattle.rds_sync.specs.Sent.{IsHeardFrom, block_sent, GroupsAreCorrected}
 use Rattle.rds_sync.proofs.GroupBlocks.{block_at-read, block_at-missing, blocks_at-read, group-blocks}
 
--- the laws of the code that this stands on
+-- the laws of the code that this uses
 pub record CodeLaws : Type 0 where
   pub sent : ReadsAsSent
   pub burst : CorrectsBurst
@@ -36,7 +36,7 @@ unfolding count_leading_zeros count_trailing_zeros
 version_long = refl
 
 module _ (laws : CodeLaws) (b : Signal) where
-  -- what is read from what is heard
+  -- the reading of a window that is heard
   read_heard : (limit place info x : ℕ) (o : Offset) (e : ℕ) (wanted : Wanted) (h : IsHeardFrom b limit place info o e)
       → reading_at b place x wanted limit ≡ reading (bit_xor h.sent e) x wanted limit
   read_heard limit place info x o e wanted h = ap (λ (w : Option ℕ). reading_heard w x wanted limit) h.heard_is
@@ -59,7 +59,7 @@ module _ (laws : CodeLaws) (b : Signal) where
       ap (λ (r : Reading). Read r) (read_heard limit place info (number o) o (suc e) wanted h
       ∙ laws.burst h.sent info o wanted limit (suc e) h.block other few (some_burst limit e h.damage))
 
-  -- block 3, where its own offset alone is wanted
+  -- block 3, if only its own offset is wanted
   third_read : (limit place info : ℕ) (o : Offset) (e : ℕ) → number o ≡ 3 → limit ≤ 5 → (limit ≡ 5 → e ≢ version_burst) → IsHeardFrom b limit place info o e
       → Read (reading_at b place 3 (alone o) limit) ≡ block_sent o info e
   third_read limit place info o zero own few no_version_burst h =
@@ -100,7 +100,7 @@ module _ (info : ℕ) where
   abbrev wanted_by : Version → Wanted
   wanted_by v = elim v as (λ _. Wanted) [ VA ↦ OnlyC | VB ↦ OnlyCx | Unknown ↦ Either ]
 
-  -- what block 2 says of block 3
+  -- the offset of block 3 that block 2 allows
   wanted_is : (e : ℕ) → wanted_beside (block_sent B info e) ≡ alone (third_offset info)
   wanted_is e = own e ∙ elim says [ inl a ↦ ap wanted_by a.bit ∙ sym (ap alone a.offset) | inr b ↦ ap wanted_by b.bit ∙ sym (ap alone b.offset) ] where
     own : (e : ℕ) → wanted_beside (block_sent B info e) ≡ wanted_by (version_of_bit info)

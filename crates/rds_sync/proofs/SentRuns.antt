@@ -1,4 +1,4 @@
--- What a run gives of groups that were sent: in a lock, and from the first bit of a recording on.
+-- The items of a run over groups that were sent: in a lock, and from the first bit of a recording on.
 use Rattle.std.proofs.Common.{◌≡◌, ℕ, zero, suc, ◌+◌, ◌-◌, ◌*◌, ◌<◌, ◌≤◌, List, [], ◌∷◌, ◌++◌, length, Option, Some, None, Bool, true, false, refl, sym, ap, ap₂, subst, ◌∙◌, arith, inl, append-nil, bit_xor, get_or, flat_map}
 use Rattle.std.specs.Int.Bits.{xor_zero_r}
 use Rattle.std.specs.Prelude.{◌||◌, ◌==◌}
@@ -159,7 +159,7 @@ module _ (b : Signal) (rules : RuleNumbers) where
         ∙ ap₂ (λ (q d : ℕ). (Locked (lock_of q 1 d 1), Group (group b rules 1 4 (due + 78)) ∷ [])) next bad
         ∙ ap (λ (g : _). (Locked (lock_of (place + 104 + 25) 1 0 1), Group g ∷ [])) own
 
-    -- and so many
+    -- and any number of them
     pub groups_listed : (place : ℕ) (groups : List (List ℕ)) → AreHeard b place groups
         → run b rules (Locked (lock_of (place + 25) 1 0 1)) place (104 * length groups) ≡ (Locked (lock_of (place + 104 * length groups + 25) 1 0 1), items_sent place groups)
     groups_listed place [] h =
@@ -273,7 +273,7 @@ module _ (laws : CodeLaws) (b : Signal) (rules : RuleNumbers) (few : rules.burst
       ∙ ap₂ (λ (q d : ℕ). (Locked (lock_of q 1 d 1), Group (group b rules 1 4 (due + 78)) ∷ [])) next (sym total)
       ∙ ap (λ (g : GroupOf). (Locked (lock_of (place + 104 + 25) 1 four 1), Group g ∷ [])) own
 
-  -- and so many
+  -- and any number of them
   pub damaged_listed : (place bad : ℕ) (groups : List SentGroup) → AreHeardDamaged b rules.burst place groups → KeepLock rules.loss bad (flat_map four_damages groups)
       → run b rules (Locked (lock_of (place + 25) 1 bad 1)) place (104 * length groups)
       ≡ (Locked (lock_of (place + 104 * length groups + 25) 1 (bad_after_blocks rules.loss bad (flat_map four_damages groups)) 1), items_damaged place groups)

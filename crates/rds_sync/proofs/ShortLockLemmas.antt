@@ -89,7 +89,7 @@ word-are b rules f n p k l m r first second third fourth =
     (outcome_of (block_at b rules f n p (wanted_beside (block_at b rules f n p Either 2)) 3))
     (outcome_of (block_at b rules f n p Either 4)) k l m r first second third fourth
 
--- the word of a valid block and the one behind it
+-- the word of a valid block and the next one
 pub two-are : (b : Signal) (rules : RuleNumbers) (place x k : ℕ) → 25 ≤ place → 1 ≤ x → x ≤ 4 → has_number b place x ≡ true
     → k ≡ kind_of (reading_at b (place + 26) (x % 4 + 1) (wanted_behind b rules place x) rules.burst)
     → word_of_two x k ≡ word_of_blocks (map outcome_of (blocks_at b rules (first_behind x) (x % 4 + 1) (place + 26)))
@@ -135,7 +135,7 @@ two-are b rules place (suc (suc (suc (suc zero)))) k late low high valid is =
     (missing-is b rules 1 1 p Either 4 (inr (omega arith)))
 two-are b rules place (suc (suc (suc (suc (suc x))))) k late low high valid is = absurd (omega arith)
 
--- the run from before a lock that its second block loses to behind it
+-- the run from before a lock that its second block loses to after it
 module _ (b : Signal) (rules : RuleNumbers) (here x to word : ℕ) (acquires : acquired b rules here ≡ Some x) (lost : IsLostAtOnce b rules here x to word) where
   abbrev lock : State
   lock = Locked (lock_after here x 0 x)
@@ -155,7 +155,7 @@ module _ (b : Signal) (rules : RuleNumbers) (here x to word : ℕ) (acquires : a
       (sym (ap (λ (r : State × List Item). r.0) last ∙ step-losing b rules (lock_of (here + 26) (x % 4 + 1) 0 (first_behind x)) many))
       (sym (ap (λ (r : State × List Item). r.1) last))
 
-  -- and what is counted of it after its acquisition
+  -- and the counts of it after its acquisition
   pub short-counts : (before mid after : CountOf) → mid ≡ joined before (group_count (blocks_in word)) → after ≡ joined mid loss_count
       → after ≡ added before (items_at b rules (here + 26) lock)
   short-counts before mid after first second =

@@ -25,7 +25,7 @@ use Rattle.rds_sync.proofs.GroupOutcomes.{outcomes}
 abbrev is_short : ℕ → ℕ → Bool
 is_short s n = nat_le 1 s && (nat_le s 5 && (nat_le (min 2 s) n && nat_le n s))
 
--- the ones among so many binary digits, which computes where `count_ones` is too deep
+-- the ones among n binary digits, which computes if `count_ones` is too deep
 abbrev ones_in : ℕ → ℕ → ℕ
 ones_in zero e = 0
 ones_in (suc k) e = e % 2 + ones_in k (e / 2)

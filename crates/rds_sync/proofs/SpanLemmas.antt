@@ -1,4 +1,4 @@
--- Spans: those that are passed over, and those of a list with more behind them.
+-- Spans: those that are passed over, and those of a list with more after them.
 use Rattle.std.proofs.Common.{◌≡◌, ◌≢◌, ℕ, ◌+◌, ◌-◌, ◌<◌, ◌≤◌, List, [], ◌∷◌, ◌++◌, All, length, drop, Option, Some, None, refl, sym, ap, subst, ◌∙◌, arith, length-append, append_assoc, append-nil}
 use Rattle.std.specs.Prelude.{MatchOption}
 use Rattle.std.specs.Iterator.{YieldsFirst}
@@ -44,7 +44,7 @@ module _ (b : Signal) (rules : RuleNumbers) where
   items_in-push spans span =
       items_in-append b rules spans (span ∷ []) ∙ ap (λ (is : List Item). items_in b rules spans ++ is) (append-nil (items_of b rules span))
 
-  -- spans with those of a list behind them
+  -- spans with those of a list after them
   pub spans-behind : (spans more after : List Span) (len n total : ℕ) → AreSpans b rules spans len → All (IsSpan b rules) more → after ≡ spans ++ more
       → total ≡ len + n → n ≡ length (items_in b rules more) → AreSpans b rules after total
   spans-behind spans more after len n total are all after_is total_is n_is = subst (λ (ss : List Span). AreSpans b rules ss total) (sym after_is) (record {
@@ -60,7 +60,7 @@ module _ (b : Signal) (rules : RuleNumbers) where
     range = are.range;
   })
 
-  -- and with one behind them
+  -- and with one after them
   pub spans-push : (spans after : List Span) (span : Span) (len n total : ℕ) → AreSpans b rules spans len → IsSpan b rules span → after ≡ spans ++ span ∷ []
       → total ≡ len + n → n ≡ length (items_of b rules span) → AreSpans b rules after total
   spans-push spans after span len n total are is after_is total_is n_is =

@@ -50,7 +50,7 @@ one_more items n d within =
     ap (λ (some : List Item). totals_of some) (take_more items n d within)
     ∙ totals_of-append (take n items) (get_or items n d ∷ [])
 
--- what was counted of the first items, and then of the next
+-- the counts of the first items, and then of the next
 module _ (items : List Item) (n : ℕ) (d : Item) (within : n < length items) (t : Totals) (w a o : ℕ) (so_far : plus t (told w a o) ≡ totals_of (take n items))
     (item : Item) (is : get_or items n d ≡ item) where
   next_is : (u : Totals) → totals_of (item ∷ []) ≡ u → plus (plus t (told w a o)) u ≡ totals_of (take (n + 1) items)

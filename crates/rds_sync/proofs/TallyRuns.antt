@@ -19,7 +19,7 @@ module _ (b : Signal) (rules : RuleNumbers) (list : List Item) (a : ℕ) (s : St
   abbrev so_far : State × List Item
   so_far = run b rules s a (place - a)
 
-  -- a span of what came since the last one
+  -- a span of the items since the last one
   pub tally-cut : (longer : List Item) → longer ≡ list ++ so_far.1 → IsTally b rules longer place t place t first counts
   tally-cut longer longer_is =
       let none : place - place ≡ 0 = omega arith in

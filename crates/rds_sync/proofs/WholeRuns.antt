@@ -26,7 +26,7 @@ module _ (b : Signal) (rules : RuleNumbers) where
       append_assoc (items_at b rules a s) (run b rules (step b rules a s) (a + 1) bits).1 _
       ∙ ap (λ (t : List Item). items_at b rules a s ++ t) (whole_is (step b rules a s) (a + 1) bits)
 
-  -- what a search for a lock finds before place `total`, where the items from there are w
+  -- the result of a search for a lock before place `total`, if the items from there are w
   abbrev pub Found : List Item → ℕ → ℕ → ℕ × ℕ → Type 0
   Found w total p l = (left : ℕ) × (l.0 + (left + 1) ≡ total) × (p ≤ l.0) × (acquired b rules l.0 ≡ Some l.1) × (w ≡ whole Searching l.0 (suc left))
 

@@ -1,5 +1,6 @@
--- How far one step of a decoder goes that takes its windows from a tape, how many windows it asks for, and the items in what it hands
--- out. Cited by `advance`, `finish` and `Totals::of_end`, and by the stretches of `Stretch`. This project's rule.
+-- How far one step of a decoder moves that takes its windows from a tape, how many windows it asks for, and
+-- the items that it hands out. Cited by `advance`, `finish` and `Totals::of_end`, and by the stretches of
+-- `Stretch`. This project's rule.
 use Rattle.std.specs.Prelude.{ℕ, ◌+◌, List, [], ◌∷◌, Option, Some, None, true, false, nat_lt}
 use Rattle.rds_sync.specs.declared.state.State.{State}
 use Rattle.rds_sync.specs.declared.state.State.TheVariants.{Searching, Locked}
@@ -8,8 +9,8 @@ use Rattle.rds_sync.specs.declared.item.Item.{Item}
 use Rattle.rds_sync.specs.declared.item.Item.TheVariants.{Group}
 use Rattle.rds_sync.specs.Rules.{RuleNumbers}
 
--- the place of the bit after a step from `place` in a range that ends before `to`: a search goes over one bit, a lock up to
--- and including the block that is due
+-- the place of the bit after a step from `place` in a range that ends before `to`: a search takes one bit, a
+-- lock all up to and including the block that is due
 abbrev pub next_place : State → ℕ → ℕ → ℕ
 next_place Searching place to = place + 1
 next_place (Locked lock) place to = elim (nat_lt lock.due to) [ true ↦ lock.due + 1 | false ↦ to ]

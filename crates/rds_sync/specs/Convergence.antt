@@ -1,10 +1,11 @@
--- Sequences, rivals and sound ranges: where all runs come into one state, whatever state they come from. Cited by the law
--- `runs_converge`. This project's rules.
+-- Sequences, rivals and sound ranges, over which all runs come into one state, whatever state they come from.
+-- Cited by the law `runs_converge`. This project's rules.
 --
--- How long a sound range is, is enough. A run that is locked elsewhere sees a valid block only at a rival of its phase: with at
--- most j of them, so many of its blocks are bad in a row that it is lost. A run that is locked on the places of the sequence with
--- a wrong number sees no valid block. A run that searches locks on the sequence within two of its blocks, for no rival acquires.
--- Good blocks then leave no bad one among those that the rule looks at, and a block of number 4 ends within three more.
+-- A sound range is long enough for that. A run that is locked elsewhere sees a valid block only at a rival of
+-- its phase: with at most j of them, it has enough bad blocks in a row to be lost. A run that is locked on
+-- the places of the sequence with a wrong number sees no valid block. A run that searches locks on the
+-- sequence within two of its blocks, for no rival acquires. Good blocks then leave no bad one among those
+-- that the rule looks at, and a block of number 4 ends within three more.
 use Rattle.std.specs.Prelude.{◌≡◌, ◌≢◌, ℕ, ◌+◌, ◌-◌, ◌*◌, ◌%◌, ◌<◌, ◌≤◌, max, List, IsTrue, is_some, length, None}
 use Rattle.std.specs.List.{All}
 use Rattle.std.specs.List.Sorted.{IsStrictlyIncreasing}
@@ -31,7 +32,7 @@ module _ (b : Signal) (from to : ℕ) where
     pub valid : IsTrue (is_some (off b r))
     pub elsewhere : (k : ℕ) → r ≢ p + 26 * k
 
-  -- so many rivals, one above the other, have the place `phase` modulo 26
+  -- these rivals, in rising order, have the place `phase` modulo 26
   abbrev pub AreRivals : ℕ → ℕ → List ℕ → Type 0
   AreRivals p phase rivals = IsStrictlyIncreasing rivals × All (λ r. IsRival p r × (r % 26 ≡ phase)) rivals
 
@@ -46,7 +47,7 @@ abbrev pub sound_blocks : Loss → ℕ → ℕ
 sound_blocks (Run n) j = (j + 1) * n + 6
 sound_blocks (Share bad of) j = max ((j + 1) * bad) of + 6
 
--- the same in bits: 416 under the default rules, where no rival is about
+-- the same in bits: 416 under the default rules, if there is no rival
 abbrev pub sound_bits : Loss → ℕ → ℕ
 sound_bits loss j = 26 * sound_blocks loss j
 
@@ -58,9 +59,10 @@ sound_bits loss j = 26 * sound_blocks loss j
 --
 -- Two rivals are about, r and q: windows that have an offset, and are no end of a block of the sequence. Neither acquires; they are
 -- not a multiple of 26 bits apart, so that no place modulo 26 has more than j = 1 of them. From whatever lawful state a run comes to
--- s, it is in one state behind `last`: between two groups, the next block due 26 bits on.
+-- s, it is in one state after `last`: between two groups, the next block due 26 bits on.
 --
--- from s on, a sequence of p and c, where no rival acquires, and no more than j rivals have one place modulo 26
+-- from s on, a sequence of p and c; in it no rival acquires, and no more than j rivals have one place modulo
+-- 26
 pub record IsSound (b : Signal) (rules : RuleNumbers) (j s p c : ℕ) : Type 0 where
   pub inside : s + sound_bits rules.loss j ≤ length_of b
   pub number : (1 ≤ c) × (c ≤ 4)
@@ -68,8 +70,8 @@ pub record IsSound (b : Signal) (rules : RuleNumbers) (j s p c : ℕ) : Type 0 w
   pub none_acquires : (r : ℕ) → IsRival b s (s + sound_bits rules.loss j) p r → acquired b rules r ≡ None
   pub few : (phase : ℕ) (rivals : List ℕ) → AreRivals b s (s + sound_bits rules.loss j) p phase rivals → length rivals ≤ j
 
--- where a sound range begins at s, and the places up to `to` - 1 are those up to its last block of number 4, this is the state
--- after them: between two groups, with none of their blocks bad
+-- if a sound range begins at s, and the places up to `to` - 1 are those up to its last block of number 4,
+-- this is the state after them: between two groups, with none of their blocks bad
 abbrev pub IsConverged : Signal → RuleNumbers → ℕ → ℕ → State → Type 0
 IsConverged b rules s to end = (j p c last : ℕ) → IsSound b rules j s p c → IsLastFour b s (s + sound_bits rules.loss j) p c last
     → to ≡ p + 26 * last + 1

@@ -1,5 +1,6 @@
--- What is still to come of a run, and a list of items that names the recording and the rules that it is of. The first is what a
--- `Decoder` is said to be, the second what `Items` and `IndexedItems` are, and with them a report by `decode_plain`. This project's rules.
+-- The rest of a run, and a list of items that names its recording and its rules. A `Decoder` is said to be
+-- the first, `Items` and `IndexedItems` the second, and with them a report by `decode_plain`. This project's
+-- rules.
 use Rattle.std.specs.Prelude.{◌≡◌, ℕ, ◌-◌, List, Option}
 use Rattle.std.specs.Iterator.{YieldsFirst}
 use Rattle.rds_stream.specs.Recording.{Signal}
@@ -17,7 +18,7 @@ pub record DecoderOf : Type 0 where
 abbrev pub decoder_of : Signal → RuleNumbers → State → ℕ → ℕ → DecoderOf
 decoder_of b rules s from to = record { items = (run b rules s from (to - from)).1; end = (run b rules s from (to - from)).0 }
 
--- the first item of what is left is given, and the others are left; the run ends as before
+-- the first item of the rest is given, and the others are left; the run ends as before
 abbrev pub GivesNext : DecoderOf → Option Item → DecoderOf → Type 0
 GivesNext old given new = YieldsFirst (λ (d : DecoderOf). d.items) old given new × (new.end ≡ old.end)
 

@@ -1,4 +1,4 @@
--- Recordings of a few groups, with what the definitions give for them: theorems that the checker computes.
+-- Recordings of a few groups, with their results by the definitions: theorems that the checker computes.
 pub mod Words
 pub mod Cycle
 pub mod ZeroGroup

@@ -1,5 +1,5 @@
--- What a group says, read off its blocks one by one: where each lies, the type, the version, whether two versions are in conflict.
--- Cited by the law `groups_are_read`.
+-- The facts of a group, read off its blocks one by one: the place of each, the type, the version, whether two
+-- versions are in conflict. Cited by the law `groups_are_read`.
 --
 -- The places of the blocks, the type and bit B0 are those of EN 50067:1998, 2.1 and 3.1.2; which of two versions holds, and when they
 -- are in conflict, is this project's rule.
@@ -29,8 +29,8 @@ pub record BlocksAreRead (b : Signal) (rules : RuleNumbers) (first last place : 
       → IsBlock group y (Read (reading_at b (place - 26 * (last - y)) y (wanted_beside second) rules.burst))
   pub missing : (y : ℕ) → 1 ≤ y → y ≤ 4 → (y < first) ⊎ (last < y) → IsBlock group y Missing
 
--- the version is that of a valid block 3; else that of bit B0, where block 2 has an information word; else that of a corrected
--- block 3; else it is unknown
+-- the version is that of a valid block 3; else that of bit B0, if block 2 has an information word; else that
+-- of a corrected block 3; else it is unknown
 pub record VersionIsRead (version : Version) (second third : Block) : Type 0 where
   pub valid_c : (info : ℕ) → third ≡ Read (Valid C info) → version ≡ A
   pub valid_cx : (info : ℕ) → third ≡ Read (Valid Cx info) → version ≡ B
@@ -46,7 +46,7 @@ abbrev pub VersionsDiffer : Block → Block → Type 0
 VersionsDiffer second third = (o : Offset) × (info : ℕ) × (word : ℕ)
     × (third ≡ Read (Valid o info)) × (info_of second ≡ Some word) × (version_of_offset o ≢ version_of_bit word)
 
--- what the group says of its blocks `first` to `last`, of which the last ends at this place
+-- the facts of the group follow from its blocks `first` to `last`, of which the last ends at this place
 pub record GroupIsRead (b : Signal) (rules : RuleNumbers) (first last place : ℕ) (group : Group) : Type 0 where
   pub second : Block
   pub third : Block
@@ -59,7 +59,7 @@ pub record GroupIsRead (b : Signal) (rules : RuleNumbers) (first last place : �
   pub complete : IsTrue (are_complete group.blocks)
       ↔ ((y : ℕ) → 1 ≤ y → y ≤ 4 → (block : Block) × (word : ℕ) × IsBlock group y block × (info_of block ≡ Some word))
 
--- a group says what its blocks say
+-- a group agrees with its blocks
 abbrev pub GroupsAreRead : Type 0
 GroupsAreRead = (b : Signal) (rules : RuleNumbers) (first last place : ℕ) → 1 ≤ first → first ≤ last → last ≤ 4
     → HaveRoom first last place → GroupIsRead b rules first last place (group b rules first last place)

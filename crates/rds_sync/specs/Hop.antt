@@ -8,19 +8,19 @@ use Rattle.rds_sync.specs.Lawful.{IsBetweenGroups}
 use Rattle.rds_sync.specs.Rules.{RuleNumbers}
 use Rattle.rds_sync.specs.Step.{run}
 
--- the place at which the next block ends; 25 places on where none is known
+-- the place at which the next block ends; 25 places on if none is known
 abbrev pub mark : ℕ → State → ℕ
 mark place Searching = place + 25
 mark place (Locked lock) = lock.due
 
 module _ (b : Signal) (rules : RuleNumbers) where
-  -- a search asks for reach + 1 windows per place, and goes no further than to `near`; a lock asks for none and stays what it is, or for
-  -- 4 at most and is then due at least 26 places later
+  -- a search asks for reach + 1 windows per place, and moves no further than to `near`. A lock asks for none
+  -- and stays the same, or for 4 at most and is then due at least 26 places later
   abbrev pub IsPaidHop : State → ℕ → ℕ → ℕ → State → ℕ → Type 0
   IsPaidHop Searching place near next after reads = (next ≤ near) × (reads ≤ (rules.reach + 1) * (next - place)) × (place + 25 ≤ mark next after)
   IsPaidHop (Locked lock) place near next after reads = ((reads ≡ 0) × (after ≡ Locked lock)) ⊎ ((reads ≤ 4) × (lock.due + 26 ≤ mark next after))
 
-  -- a hop from state s before `place` to the state `after` before `next`, which asks for so many windows
+  -- a hop from state s before `place` to the state `after` before `next`, which asks for `reads` windows
   pub record IsHop (s : State) (place near to next : ℕ) (after : State) (reads : ℕ) : Type 0 where
     pub moved : (place < next) × (next ≤ to)
     pub state_is : after ≡ (run b rules s place (next - place)).0

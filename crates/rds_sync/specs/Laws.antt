@@ -1,5 +1,6 @@
--- The laws of runs, of the report and of the rules of loss, over the definitions alone. Each is cited by the law of `laws` that has its
--- name in small letters: `RunsAreReports` by `runs_are_reports`. This project's rules.
+-- The laws of runs, of the report and of the rules of loss, over only the definitions. Each is cited by the
+-- law of `laws` that has its name in small letters: `RunsAreReports` by `runs_are_reports`. This project's
+-- rules.
 use Rattle.std.specs.Prelude.{◌≡◌, ◌≢◌, ◌↔◌, ℕ, ◌+◌, ◌-◌, ◌*◌, ◌<◌, ◌≤◌, ◌⊎◌, List, [], ◌++◌, Some, None, length, Bool, nat_lt, min, if◌then◌else◌}
 use Rattle.std.specs.Int.{bit_at}
 use Rattle.rds_stream.specs.Recording.{Signal, length_of}
@@ -65,7 +66,8 @@ SearchesGoOn = (b : Signal) (rules : RuleNumbers) (from to : ℕ) → from ≤ t
     → ((i : ℕ) → from ≤ i → i < to → acquired b rules i ≡ None)
     → run b rules Searching from (to - from) ≡ (Searching, [])
 
--- a bit gives an item exactly where it changes the state, and the state was a search or is between groups afterwards
+-- a bit gives an item exactly when it changes the state, and the state was a search or is between groups
+-- afterwards
 abbrev pub ItemsMarkChanges : Type 0
 ItemsMarkChanges = (b : Signal) (rules : RuleNumbers) (place : ℕ) (s : State) → IsLawful rules place s
     → (items_at b rules place s ≢ []) ↔ ((step b rules place s ≢ s) × ((s ≡ Searching) ⊎ IsBetweenGroups (step b rules place s)))
@@ -79,12 +81,13 @@ RunsGiveFewItems = (b : Signal) (rules : RuleNumbers) (s : State) (from to : ℕ
 abbrev pub AcquisitionsAreLate : Type 0
 AcquisitionsAreLate = (b : Signal) (rules : RuleNumbers) (i x : ℕ) → acquired b rules i ≡ Some x → (51 ≤ i) × (1 ≤ x) × (x ≤ 4)
 
--- bit i of a mask tells whether block k - i was bad, where that is one of the last `of` blocks, and is 0 elsewhere
+-- bit i of a mask tells whether block k - i was bad, if that is one of the last `of` blocks, and is 0
+-- elsewhere
 abbrev pub MasksTellBlocks : Type 0
 MasksTellBlocks = (is_good : ℕ → Bool) (bad of k i : ℕ)
     → bit_at (bad_at is_good (Share bad of) k) i ≡ (if nat_lt i (min of k) then (if is_good (k - i) then 0 else 1) else 0)
 
--- what is kept of a lock's bad blocks loses it exactly where its blocks do
+-- a lock's loss history triggers a loss exactly when its blocks do
 abbrev pub BadBlocksLose : Type 0
 BadBlocksLose = (is_good : ℕ → Bool) (loss : Loss) (k : ℕ) → are_too_many loss (bad_at is_good loss k) ≡ loses loss is_good k
 

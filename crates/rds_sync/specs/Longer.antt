@@ -1,5 +1,5 @@
--- A recording, and a longer one that begins with it: what their reports have in common. Cited by the law `longer_recordings_add_rows`.
--- This project's rule.
+-- A recording, and a longer one that begins with it: the common part of their reports. Cited by the law
+-- `longer_recordings_add_rows`. This project's rule.
 use Rattle.std.specs.Prelude.{◌≡◌, ℕ, ◌<◌, ◌≤◌, ◌⊎◌, min, List, [], ◌∷◌, ◌++◌, map, filter, take, nat_lt, Some, ⊤, slice_get, slice_index}
 use Rattle.rds_stream.specs.Recording.{Signal, length_of, touched}
 use Rattle.rds_sync.specs.declared.item.Block.TheVariants.{Missing}
@@ -20,7 +20,7 @@ pub record BeginsWith (longer shorter : Signal) : Type 0 where
   pub bits : longer.bits ≡ shorter.bits ++ more
   pub gaps : (i : ℕ) → i < length_of shorter → touched longer i ≡ touched shorter i
 
--- The first n bits of a recording, with as much of its gaps as lies in them.
+-- The first n bits of a recording, with its gaps as far as they are in them.
 abbrev pub beginning : ℕ → Signal → Signal
 beginning n b = record {
   bits = take n b.bits;

@@ -1,8 +1,10 @@
--- When a lock is lost: at so many bad blocks in a row, or where so many of its last blocks are bad. Said twice, by what is kept from block
--- to block (`bad_after`, `are_too_many`: runs) and by the blocks themselves (`loses`: the report); the laws `bad_blocks_lose`,
--- `masks_tell_blocks` and `runs_are_shares` say how these agree.
+-- When a lock is lost: at a number of bad blocks in a row, or if a number of its last blocks are bad. It is
+-- said twice, by the loss history from block to block (`bad_after`, `are_too_many`: runs) and by the blocks
+-- themselves (`loses`: the report). The laws `bad_blocks_lose`, `masks_tell_blocks` and `runs_are_shares` say
+-- how these agree.
 --
--- This project's rules: the standard (EN 50067:1998, 2.4 and annex C) leaves to the receiver when it takes synchronism for lost.
+-- This project's rules: the standard (EN 50067:1998, 2.4 and annex C) leaves to the receiver when it takes
+-- sync for lost.
 use Rattle.std.specs.Prelude.{ℕ, zero, suc, List, ◌+◌, ◌-◌, ◌*◌, ◌%◌, ◌^◌, ◌<◌, ◌≤◌, min, Bool, not, ◌&&◌, nat_le, if◌then◌else◌, count_by, count_ones}
 use Rattle.std.specs.List.{list_all, range_with_len}
 use Rattle.rds_sync.specs.declared.loss.Loss.{Loss}
@@ -13,13 +15,14 @@ abbrev pub IsLoss : Loss → Type 0
 IsLoss (Run n) = 1 ≤ n
 IsLoss (Share bad of) = (1 ≤ bad) × (bad ≤ of)
 
--- what is kept of a lock's bad blocks, once one more was read. It is a number, which is 0 where none was bad: by a run, how many in a row
--- were bad; by a share, a mask of the last `of` blocks, in which 1 is a bad one and the newest is lowest
+-- a lock's loss history after one more block. It is a number, which is 0 if none was bad. By a run, it is how
+-- many in a row were bad; by a share, a mask of the last `of` blocks, in which 1 is a bad one and the newest
+-- is lowest
 abbrev pub bad_after : Loss → Bool → ℕ → ℕ
 bad_after (Run n) good row = if good then 0 else row + 1
 bad_after (Share bad of) good mask = (2 * mask + (if good then 0 else 1)) % 2 ^ of
 
--- what is kept once block k of a lock was read, of whose blocks these are good: block 0 is never counted
+-- the loss history after block k of a lock, of whose blocks these are good: block 0 is never counted
 abbrev pub bad_at : (ℕ → Bool) → Loss → ℕ → ℕ
 bad_at is_good loss zero = 0
 bad_at is_good loss (suc k) = bad_after loss (is_good (suc k)) (bad_at is_good loss k)
@@ -29,7 +32,7 @@ abbrev pub are_too_many : Loss → ℕ → Bool
 are_too_many (Run n) row = nat_le n row
 are_too_many (Share bad of) mask = nat_le bad (count_ones mask)
 
--- what can be kept of a lock that is not lost
+-- the loss histories of a lock that is not lost
 abbrev pub IsLawfulBad : Loss → ℕ → Type 0
 IsLawfulBad (Run n) row = row < n
 IsLawfulBad (Share bad of) mask = (mask < 2 ^ of) × (count_ones mask < bad)
@@ -38,8 +41,8 @@ IsLawfulBad (Share bad of) mask = (mask < 2 ^ of) × (count_ones mask < bad)
 abbrev pub last_blocks : ℕ → ℕ → List ℕ
 last_blocks of k = range_with_len (k + 1 - min of k) (min of k)
 
--- whether a lock, of whose blocks these are good, is lost at block k: it and the n - 1 blocks before it, none of them block 0, are
--- not good; or so many of the last blocks are not
+-- whether a lock, of whose blocks these are good, is lost at block k. By a run: it and the n - 1 blocks
+-- before it, none of them block 0, are not good. By a share: `bad` of the last blocks are not
 abbrev pub loses : Loss → (ℕ → Bool) → ℕ → Bool
 loses (Run n) is_good k = nat_le n k && list_all (λ j. not (is_good j)) (range_with_len (k + 1 - n) n)
 loses (Share bad of) is_good k = nat_le bad (count_by (λ j. not (is_good j)) (last_blocks of k))

@@ -1,6 +1,7 @@
--- Groups as a station sends them, and what is decoded from a recording of them: without damage, with damage, and from any bit on. Cited by
--- the laws `damaged_groups_are_corrected`, `sent_groups_are_listed`, `encoded_groups_are_listed`, `packed_groups_are_sent`,
--- `damaged_groups_are_listed`, `damaged_bits_are_decoded`, `damage_tells_totals` and `sound_signal_is_decoded`.
+-- Groups as a station sends them, and the items decoded from a recording of them: without damage, with
+-- damage, and from any bit on. Cited by the laws `damaged_groups_are_corrected`, `sent_groups_are_listed`,
+-- `encoded_groups_are_listed`, `packed_groups_are_sent`, `damaged_groups_are_listed`,
+-- `damaged_bits_are_decoded`, `damage_tells_totals` and `sound_signal_is_decoded`.
 --
 -- A group is four blocks of 26 bits (EN 50067:1998, 2.1); each bit string is sent with its most significant bit first, and there are no gaps
 -- between blocks or groups (2.2); checkwords and offset words are those of 2.3 and Annex A. How bursts are corrected, and when a decoder
@@ -223,7 +224,7 @@ totals_damaged n masks = record {
   losses = 0;
 }
 
--- Such a recording has these totals: they follow from the damage alone, whatever the words are.
+-- Such a recording has these totals: they follow from only the damage, whatever the words are.
 abbrev pub DamageTellsTotals : Type 0
 DamageTellsTotals = (b : Signal) (rules : RuleNumbers) (g : SentGroup) (groups : List SentGroup) → IsLoss rules.loss → 1 ≤ rules.reach → rules.burst ≤ 5
     → length_of b ≡ 104 * length (g ∷ groups) → AreHeardDamaged b rules.burst 0 (g ∷ groups)
@@ -275,8 +276,8 @@ DamagedBitsTellTotals = (rules : RuleNumbers) (g : SentGroup) (groups : List Sen
 
 -- ---- from any bit on
 
--- A run from any lawful state goes over a sound range, up to its last block 4. From there on it gives each group that is heard, with the words
--- that were sent, and nothing else, if the damage does not lose sync.
+-- A run from any lawful state covers a sound range, up to its last block 4. From there on it gives each group
+-- that is heard, with the words that were sent, and nothing else, if the damage does not lose sync.
 abbrev pub SoundSignalIsDecoded : Type 0
 SoundSignalIsDecoded = (b : Signal) (rules : RuleNumbers) → IsLoss rules.loss → 1 ≤ rules.reach → rules.burst ≤ 5
     → (s : ℕ) (t : State) → IsLawful rules s t

@@ -1,4 +1,4 @@
-//! How synchronism is acquired, and what an acquisition gives.
+//! How sync is acquired, and the items of an acquisition.
 
 ghost use Rattle.std.specs.Prelude.{◌≡◌, ◌≤◌, ◌<◌, ◌+◌, ◌-◌, ◌*◌, ◌%◌, ◌^◌, ◌==◌, ◌∷◌, ℕ, List, length, IfSome, Option, None, Some, false, option_map};
 ghost use Rattle.std.specs.List.{list_any, range_with_len};
@@ -17,8 +17,7 @@ use crate::rules::Rules;
 use rds_code::{BlockNumber, Offset, Wanted};
 use rds_stream::{FIRST_WINDOW, Recording, Tape, offset_heard};
 
-/// A block that acquires: the place at which it ends, the number with which it does, and what was
-/// heard there.
+/// A block that acquires: the place at which it ends, its number, and the window heard there.
 #[derive(Clone, Copy)]
 pub(crate) struct Acquisition {
     pub place: u64,
@@ -36,7 +35,7 @@ impl Acquisition {
         Lock::after_block(self.place, number, NONE_BAD, number)
     }
 
-    /// What its bit gives: itself, and as block 4 the group that it closes alone.
+    /// The items of its bit: itself, and as block 4 the group that it closes as its only block.
     pub fn items(&self, rules: &Rules) -> [Option<Item>; 2]
         requires block { (25 ≤ self.now.place) × IfSome self.now.heard (λ window. window < 2 ^ 26) }
         ensures { (b : Signal) → self.now.heard ≡ heard b self.now.place → items_in result
@@ -55,7 +54,7 @@ impl Acquisition {
         }
     }
 
-    /// The group of this block alone, as its block 4.
+    /// The group with only this block, as its block 4.
     fn group(&self, rules: &Rules) -> Group
         requires block { (25 ≤ self.now.place) × IfSome self.now.heard (λ window. window < 2 ^ 26) }
         ensures { (b : Signal) → self.now.heard ≡ heard b self.now.place
@@ -67,7 +66,7 @@ impl Acquisition {
     }
 }
 
-/// Whether an offset so many blocks before a block of this number stands in step with it.
+/// Whether an offset, `distance` blocks before a block of this number, is in step with it.
 fn is_in_step(offset: Option<Offset>, number: BlockNumber, distance: u32) -> bool
     requires { distance ≤ 8 }
     ensures { result ≡ is_in_step offset number distance }
@@ -129,7 +128,7 @@ fn has_partner<T: Tape>(tape: &mut T, rules: &Rules, place: u64, number: BlockNu
     false
 }
 
-/// Whether the window so many blocks back is valid, with the number that a block there has.
+/// Whether the window `distance` blocks back is valid, with the number that a block there has.
 fn is_partner<T: Tape>(tape: &mut T, place: u64, number: BlockNumber, distance: u32) -> bool
     requires distance { distance ≤ 8 }
     requires within { place < length_of (T.signal tape.old) }
@@ -175,7 +174,7 @@ pub(crate) fn has_partner_in(
     false
 }
 
-/// Whether the window so many blocks back is valid, with the number that a block there has.
+/// Whether the window `distance` blocks back is valid, with the number that a block there has.
 fn is_partner_in(rec: &Recording, place: u64, number: BlockNumber, distance: u32) -> bool
     requires distance { distance ≤ 8 }
     requires within { place < length_of rec.now }

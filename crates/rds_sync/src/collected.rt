@@ -18,11 +18,12 @@ use std::alloc::Global;
 /// The run from `state` over the bits at `from` to `to` - 1: the state after them, and the items that they gave, in order
 /// of place. Windows may begin before `from`. Runs are this project's rule, after EN 50067:1998, annex C.
 ///
-/// The item of the recording's end is not among them: see [`finish`](crate::finish). Fails with `OutOfMemory` alone. Over
-/// a sound range the runs from all lawful states end in one state: [`runs_converge`](crate::laws::runs_converge).
+/// The item of the recording's end is not among them: see [`finish`](crate::finish). Fails only with
+/// `OutOfMemory`. Over a sound range the runs from all lawful states end in one state:
+/// [`runs_converge`](crate::laws::runs_converge).
 ///
-/// Its cost is that of a [`Decoder`]. It takes memory for the items: a list that is to be gone over once takes none by a
-/// `Decoder`, and one that is to be kept takes little by [`run_report`](crate::run_report).
+/// Its cost is that of a [`Decoder`]. It takes memory for the items. A list that is to be read once takes
+/// none by a `Decoder`, and one that is to be kept takes little by [`run_report`](crate::run_report).
 pub fn run(
     alloc: Global,
     rec: &Recording,

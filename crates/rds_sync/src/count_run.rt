@@ -96,10 +96,11 @@ fn search_on(
     (to, State::Searching)
 }
 
-/// The word of a group of a valid block 4 alone.
+/// The word of a group of only a valid block 4.
 const LAST_BLOCK: u16 = 0x1000;
 
-/// Counts what a block of this number that acquires gives: itself, and as block 4 the group that it closes alone.
+/// Counts the items of a block of this number that acquires: itself, and as block 4 the group that it closes
+/// as its only block.
 pub(crate) fn add_found(counts: &mut Counts, place: u64, number: BlockNumber)
     requires late { 25 ≤ place }
     requires few { counts.old.items ≤ 3000 }
@@ -114,8 +115,8 @@ pub(crate) fn add_found(counts: &mut Counts, place: u64, number: BlockNumber)
     }
 }
 
-/// Follows a lock over the whole groups that come next, until `most` items were counted, or where there is none up to and
-/// including the block that closes its group, or up to `to` where none is due before it.
+/// Follows a lock over the whole groups that come next, until `most` items were counted. If there is none, it
+/// follows it up to and including the block that closes its group, or up to `to` if none is due before it.
 fn keep_on(
     reader: &mut Reader<'_>,
     rules: &Rules,
@@ -144,8 +145,8 @@ fn keep_on(
     keep_group(reader, rules, lock, place, to, counts)
 }
 
-/// Follows a lock from block to block, up to and including the block that closes its group, or up to `to` where none
-/// is due before it.
+/// Follows a lock from block to block, up to and including the block that closes its group, or up to `to` if
+/// none is due before it.
 fn keep_group(
     reader: &mut Reader<'_>,
     rules: &Rules,

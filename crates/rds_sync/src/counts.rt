@@ -104,7 +104,7 @@ impl Counts {
         self.losses += 1;
     }
 
-    /// The totals of what was counted.
+    /// The totals of the items that were counted.
     pub fn totals(&self) -> Totals
         ensures value { result ≡ self.now.totals }
         ensures small { IsAtMost (2 ^ 10 * self.now.items) result }

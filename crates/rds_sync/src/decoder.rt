@@ -20,11 +20,12 @@ use std::marker::Model;
 /// The items of a run over a range of a recording, in order of place, and the state at its end. Runs are this project's
 /// rule, after EN 50067:1998, annex C.
 ///
-/// It goes no further than it is asked for, and takes no memory. Contracts see the items that are still to come, and
-/// the state that the run ends in.
+/// It reads no further than it is asked for, and takes no memory. Contracts see the items that are still to
+/// come, and the state that the run ends in.
 ///
-/// Its cost: a search goes over 64 places at once, and looks up to `reach` windows back from each valid one; a lock
-/// reads a window every 26 bits, and those of a group again where the run goes on inside it or it loses the lock.
+/// Its cost: a search covers 64 places at once, and looks up to `reach` windows back from each valid one. A
+/// lock reads a window every 26 bits, and those of a group again if the run continues inside it or it loses
+/// the lock.
 #[derive(Drop)]
 pub struct Decoder<'a> {
     reader: Reader<'a>,

@@ -1,13 +1,13 @@
-//! What a block did to the lock that it was due in.
+//! The effect of a block on the lock that it was due in.
 
 use crate::lock::Lock;
 
-/// What a block did to the lock that it was due in.
+/// The effect of a block on the lock that it was due in.
 #[derive(Clone, Copy)]
 pub(crate) enum Due {
-    /// Its group goes on with the block that is due next.
+    /// Its group continues with the block that is due next.
     Inside(Lock),
-    /// It closed its group, as block 4, and the lock goes on with a new one.
+    /// It closed its group, as block 4, and the lock continues with a new one.
     Closed(Lock),
     /// It lost the lock, and closed its group.
     Lost,

@@ -1,4 +1,4 @@
-//! What the calls of this crate refuse.
+//! The errors of this crate's calls.
 
 ghost use Rattle.std.specs.Prelude.{◌≡◌};
 ghost use Rattle.rds_sync.specs.declared.error.SyncError.TheVariants.{OutOfMemory};

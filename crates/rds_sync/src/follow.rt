@@ -1,6 +1,6 @@
 //! How a lock is followed over a recording, from block to block.
 //!
-//! A good block costs one window, one remainder and one comparison: it is read once, where it is
+//! A good block costs one window, one remainder and one comparison: it is read once, when it is
 //! due, and kept until its group closes. Nothing is read in between.
 
 ghost use Rattle.std.specs.Prelude.{◌≡◌, ◌≤◌, ◌<◌, ◌+◌, ◌-◌, ◌*◌, List};

@@ -1,4 +1,5 @@
-//! Four blocks of a lock that were heard at once: the group of them, or its word, and what is kept of the bad ones.
+//! Four blocks of a lock that were heard at once: the group of them, or its word, and the loss history after
+//! them.
 
 ghost use Rattle.std.specs.Prelude.{◌≡◌, ◌≤◌, ◌<◌, ◌+◌, ◌-◌, ◌^◌, ◌∷◌, [], false, map, ℕ, All, IfSome};
 ghost use Rattle.rds_code.specs.Offsets.{number};
@@ -22,8 +23,8 @@ use rds_code::laws::{bursts_are_listed, readings_follow_the_rule};
 use rds_code::{BlockNumber, Offset, Reading, Wanted, rem26};
 use rds_stream::Reader;
 
-/// The group of four blocks that were heard, the first of which begins at `place`, and what is kept of the bad blocks
-/// behind it: none where a block of it loses the lock.
+/// The group of four blocks that were heard, the first of which begins at `place`, and the loss history after
+/// it: none if a block of it loses the lock.
 #[inline(always)]
 pub(crate) fn whole_heard(
     rules: &Rules,
@@ -120,7 +121,7 @@ fn blocks_of(rules: &Rules, heard: [Option<u32>; 4]) -> [Block; 4]
     [first, second, third, fourth]
 }
 
-/// The four blocks that were heard, where all of them are valid with the numbers 1 to 4.
+/// The four blocks that were heard, if all of them are valid with the numbers 1 to 4.
 #[inline(always)]
 fn valid_blocks(heard: [Option<u32>; 4]) -> Option<[Block; 4]>
     requires { All (λ heard. IfSome heard (λ window. window < 2 ^ 26)) heard }
@@ -142,7 +143,7 @@ fn valid_blocks(heard: [Option<u32>; 4]) -> Option<[Block; 4]>
     ])
 }
 
-/// What was heard, where it is a valid block 3 of either version.
+/// The window that was heard, if it is a valid block 3 of either version.
 #[inline(always)]
 fn valid_third(heard: Option<u32>) -> Option<Reading>
     requires { IfSome heard (λ window. window < 2 ^ 26) }
@@ -156,7 +157,7 @@ fn valid_third(heard: Option<u32>) -> Option<Reading>
     }
 }
 
-/// What was heard, where it is a valid block with this offset: one comparison of its remainder tells.
+/// The window that was heard, if it is a valid block with this offset: one comparison of its remainder tells.
 #[inline(always)]
 fn valid_reading(heard: Option<u32>, offset: Offset) -> Option<Reading>
     requires { IfSome heard (λ window. window < 2 ^ 26) }
@@ -173,7 +174,7 @@ fn valid_reading(heard: Option<u32>, offset: Offset) -> Option<Reading>
     }
 }
 
-/// What is kept of the bad blocks after four good ones, of which none loses a lock.
+/// The loss history after four good ones, none of which loses a lock.
 #[inline(always)]
 fn bad_after_clean(loss: Loss, bad: u64) -> Option<u64>
     requires range { IsLossInRange loss }
@@ -189,7 +190,7 @@ fn bad_after_clean(loss: Loss, bad: u64) -> Option<u64>
     }
 }
 
-/// What is kept of the bad blocks after these four, or none where one of them loses the lock.
+/// The loss history after these four blocks, or none if one of them loses the lock.
 #[inline(always)]
 fn bad_after_blocks(loss: Loss, blocks: &[Block; 4], bad: u64) -> Option<u64>
     requires range { IsLossInRange loss }
@@ -207,7 +208,7 @@ fn bad_after_blocks(loss: Loss, blocks: &[Block; 4], bad: u64) -> Option<u64>
     Some(fourth)
 }
 
-/// What is kept of the bad blocks after those of the group of a word, or none where one of them loses the lock. Behind
+/// The loss history after the blocks of the group of a word, or none if one of them loses the lock. After
 /// four good blocks no row of bad ones is left, and none is counted.
 #[inline(always)]
 pub(crate) fn bad_after_four(loss: Loss, word: u16, bad: u64) -> Option<u64>
@@ -241,7 +242,7 @@ fn bad_after_each(loss: Loss, word: u16, bad: u64) -> Option<u64>
     Some(four)
 }
 
-/// What is kept of the bad blocks after one more, or none where it loses the lock.
+/// The loss history after one more block, or none if it loses the lock.
 #[inline(always)]
 #[tactic(auto, using(crate::proofs::LossLemmas::lawful_kept))]
 fn kept_after(loss: Loss, good: bool, bad: u64) -> Option<u64>

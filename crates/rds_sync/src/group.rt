@@ -1,4 +1,4 @@
-//! How a group is read: block by block, from what was heard of it.
+//! How a group is read: block by block, from the windows that were heard.
 
 ghost use Rattle.std.specs.Prelude.{◌≡◌, ◌≤◌, ◌<◌, ◌+◌, ◌-◌, ◌*◌, ◌^◌, ◌&&◌, nat_le, nat_lt, if◌then◌else◌, IfSome};
 ghost use Rattle.rds_sync.specs.Groups.{block_at, blocks_at, group};
@@ -13,7 +13,7 @@ use crate::rules::Rules;
 use rds_code::{BlockNumber, Wanted};
 use rds_stream::{FIRST_WINDOW, Tape, offset_heard};
 
-/// Whether what was heard has an offset of this number.
+/// Whether the window that was heard has an offset of this number.
 pub(crate) fn is_numbered(heard: Option<u32>, number: u8) -> bool
     requires { IfSome heard (λ window. window < 2 ^ 26) }
     ensures { result ≡ is_numbered (the_offset_heard heard) number }

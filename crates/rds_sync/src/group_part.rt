@@ -1,7 +1,7 @@
 //! Which blocks of a group are read.
 
-/// The blocks of a group that are read: `first` to `last`. The last one ends at `place`, where this
-/// was heard.
+/// The blocks of a group that are read: `first` to `last`. The last one ends at `place`, with the window that
+/// was heard there.
 #[derive(Clone, Copy)]
 pub(crate) struct GroupPart {
     pub first: u8,

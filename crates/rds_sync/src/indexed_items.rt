@@ -14,14 +14,15 @@ use std::alloc::{AllocError, Global};
 use std::marker::Model;
 use std::snapshot::Snapshot;
 
-/// How many spans lie between two of which it is kept how many items stand before them.
+/// One span in this many has an index entry: how many items come before it.
 const STEP: usize = 16;
 
 /// The first span of a list.
 const FIRST: Start = Start { span: 0, before: 0 };
 
-/// The items of a list of spans, with an index of these: it finds any item in a few steps, where [`Items`](crate::Items)
-/// passes over all spans before it. For who goes over many parts of a long list. Contracts see what they see of the list.
+/// The items of a list of spans, with an index of these: it finds any item in a few steps, while
+/// [`Items`](crate::Items) passes over all spans before it. Use it to read many parts of a long list.
+/// Contracts see the same as of the list.
 #[derive(Drop)]
 pub struct IndexedItems<'a> {
     pub(crate) source: &'a Snapshot<Recording>,
@@ -52,8 +53,8 @@ impl<'a> IndexedItems<'a> {
         self.len
     }
 
-    /// The items number `from` to `to` - 1 in order, of the recording and by the rules that they are of. Of the first
-    /// span of theirs what stands before them is decoded.
+    /// The items number `from` to `to` - 1 in order, of the recording and by the rules that they are of. The
+    /// items before them in their first span are decoded too.
     pub fn range(
         &self,
         rec: &'a Recording,
@@ -81,7 +82,7 @@ impl<'a> IndexedItems<'a> {
     }
 }
 
-/// The last of these before which no more than `from` items stand.
+/// The last of these before which there are no more than `from` items.
 fn last_start(starts: &[Start], from: usize) -> Start
     ensures start { (b : Signal) (rules : RuleNumbers) (spans : List Span)
         → All (IsStart b rules spans) starts.now → IsStart b rules spans result }
@@ -103,7 +104,7 @@ fn last_start(starts: &[Start], from: usize) -> Start
     found
 }
 
-/// Every so many of these spans, with how many items stand before it.
+/// One span in every `STEP` of these, with how many items come before it.
 pub(crate) fn starts_of(alloc: Global, spans: &[Span]) -> Result<Vec<Start>, AllocError>
     ensures { IfOk result (λ starts. (b : Signal) (rules : RuleNumbers) → All (IsSpan b rules) spans.now
         → length (items_in b rules spans.now) < 2 ^ 64 → All (IsStart b rules spans.now) starts.items) }

@@ -44,7 +44,7 @@ impl<'a> Model for ItemIter<'a> {
 }
 
 impl<'a> ItemIter<'a> {
-    /// So many items of these spans, from number `first` on.
+    /// `count` items of these spans, starting at item `first`.
     pub(crate) fn over(
         recording: &'a Recording,
         rules: &'a Rules,

@@ -20,7 +20,8 @@ use std::alloc::{AllocError, Global};
 use std::marker::Model;
 use std::snapshot::Snapshot;
 
-/// How many items a short span of a run has, or a few more: so many are decoded at most to come to one among them.
+/// How many items a short span of a run has, or a few more: to reach one of them, at most this many are
+/// decoded.
 const SPAN_ITEMS: u64 = 256;
 
 /// Into how many spans a list cuts the run that it is given.
@@ -28,7 +29,8 @@ const SPAN_ITEMS: u64 = 256;
 pub enum Spans {
     /// Some hundred items each: any item is near.
     Short,
-    /// One for the whole run, which costs nothing: for a list that is gone over from its first item on, or not at all.
+    /// One for the whole run, which costs nothing: for a list that is read from its first item on, or not at
+    /// all.
     Whole,
 }
 
@@ -44,9 +46,9 @@ impl Spans {
 
 /// A list of items of a recording by rules, which it names. Contracts see these, and the list.
 ///
-/// It holds none of its items, but the spans of the runs that give them, of some hundred items each where it was not
-/// told otherwise; they are decoded again where the recording and the rules are lent. It borrows nothing, may go from
-/// thread to thread, and be read by several.
+/// It holds none of its items, but the spans of the runs that give them, of some hundred items each unless it
+/// was told otherwise. They are decoded again when the recording and the rules are lent. It borrows nothing,
+/// may move from thread to thread, and be read by several.
 #[derive(Drop)]
 pub struct Items {
     source: Snapshot<Recording>,
@@ -108,7 +110,7 @@ impl Items {
         self.len == 0
     }
 
-    /// Item number `i`, the first of which is 0, or none where there are not so many. To go over many, take
+    /// Item number `i`, the first of which is 0, or none if there are too few. To read many, take
     /// [`range`](Items::range).
     pub fn get(&self, rec: &Recording, rules: &Rules, i: usize) -> Option<Item>
         requires source { self.now.source ≡ rec.now }
@@ -131,9 +133,9 @@ impl Items {
         self.range(rec, rules, 0, self.len)
     }
 
-    /// The items number `from` to `to` - 1 in order, of the recording and by the rules that they are of. The spans
-    /// before them are passed over, and of the first one of theirs what stands before them is decoded: of a long list
-    /// with many parts to be gone over, take those of [`indexed`](Items::indexed).
+    /// The items number `from` to `to` - 1 in order, of the recording and by the rules that they are of. The
+    /// spans before them are passed over, and the items before them in their first span are decoded too. To
+    /// read many parts of a long list, take those of [`indexed`](Items::indexed).
     pub fn range<'a>(
         &'a self,
         rec: &'a Recording,
@@ -151,7 +153,7 @@ impl Items {
         ItemIter::over(rec, rules, spans, left, to - from)
     }
 
-    /// The same items with an index of their spans, for who goes over many parts of a long list.
+    /// The same items with an index of their spans, to read many parts of a long list.
     pub fn indexed(&self, alloc: Global) -> Result<IndexedItems<'_>, AllocError>
         ensures { IfOk result (λ indexed. indexed ≡ self.now) }
     {
@@ -197,8 +199,8 @@ impl Items {
         Ok(())
     }
 
-    /// Appends the item of the recording's end, where the run over it ended in `state`: the group in progress, if there
-    /// is one. Refused memory, it leaves the list as it was.
+    /// Appends the item of the recording's end, if the run over it ended in `state`: the group in progress,
+    /// if there is one. If memory is refused, it leaves the list as it was.
     pub fn close(&mut self, state: State) -> Result<(), AllocError>
         requires lawful { IsLawful self.old.rules (length_of self.old.source) state }
         ensures ok { OnOk result (self.new ≡ listed self.old.source self.old.rules
@@ -274,8 +276,8 @@ fn push_past(spans: &mut Vec<Span>, more: &[Span], left: usize) -> Result<(), Al
     }
 }
 
-/// The spans from that on which holds item number `from`, and its number in that span; no spans,
-/// where there is no such item.
+/// The spans from that on which holds item number `from`, and its number in that span; no spans, if there is
+/// no such item.
 pub(crate) fn spans_from(spans: &[Span], from: usize) -> (&[Span], usize)
     ensures at { (b : Signal) (rules : RuleNumbers) → All (IsSpan b rules) spans.now
         → IsAt b rules spans.now from result.0.now result.1 }

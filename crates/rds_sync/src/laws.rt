@@ -1,5 +1,5 @@
-//! The laws of runs and reports, over the definitions alone. Each function here does nothing: its contract is a law,
-//! which the check of this crate proves, and which a proof above it may cite.
+//! The laws of runs and reports, over only the definitions. Each function here does nothing: its contract is
+//! a law, which the check of this crate proves, and which a proof above it may cite.
 
 ghost use Rattle.rds_sync.specs.Convergence.{SoundRangesHaveFours, RunsConverge};
 ghost use Rattle.rds_sync.specs.Counting.{TotalsJoin};
@@ -57,7 +57,8 @@ pub fn searches_go_on()
     ensures { SearchesGoOn }
 {}
 
-/// A bit gives an item exactly where it changes the state, and the state was a search or is between groups afterwards.
+/// A bit gives an item exactly when it changes the state, and the state was a search or is between groups
+/// afterwards.
 pub fn items_mark_changes()
     ensures { ItemsMarkChanges }
 {}
@@ -72,7 +73,7 @@ pub fn acquisitions_are_late()
     ensures { AcquisitionsAreLate }
 {}
 
-/// What is kept of a lock's bad blocks loses it exactly where its blocks do.
+/// `Lock::bad` triggers a loss exactly when the blocks do.
 pub fn bad_blocks_lose()
     ensures { BadBlocksLose }
 {}
@@ -82,13 +83,13 @@ pub fn masks_tell_blocks()
     ensures { MasksTellBlocks }
 {}
 
-/// So many bad blocks in a row are so many bad blocks among as many.
+/// `Run(n)` is `Share { bad: n, of: n }`.
 pub fn runs_are_shares()
     ensures { RunsAreShares }
 {}
 
-/// A group says what its blocks say: their places, its type, its version, whether it is in conflict, whether it is
-/// complete.
+/// A group agrees with its blocks: their places, its type, its version, whether it is in conflict, whether it
+/// is complete.
 pub fn groups_are_read()
     ensures { GroupsAreRead }
 {}
@@ -98,8 +99,9 @@ pub fn totals_join()
     ensures { TotalsJoin }
 {}
 
-/// Over a sound range, in which the blocks of a station stand and little else looks like one, the runs from all lawful
-/// states come into one state: between two groups, after the range's last block of number 4, which there is.
+/// Over a sound range, which holds the blocks of a station and little else that looks like one, the runs from
+/// all lawful states come into one state: between two groups, after the range's last block of number 4, which
+/// there is.
 pub fn runs_converge()
     ensures fours { SoundRangesHaveFours }
     ensures converge { RunsConverge }
@@ -158,8 +160,8 @@ pub fn damaged_bits_are_decoded()
     code_laws::damaged_blocks_are_corrected();
 }
 
-/// The totals of a recording of damaged groups follow from the damage alone, if each block has at most one burst of errors
-/// within the limit and the damage does not lose sync.
+/// The totals of a recording of damaged groups follow from only the damage, on two conditions. Each block has
+/// at most one burst of errors within the limit, and the damage does not lose sync.
 pub fn damage_tells_totals()
     ensures recorded { DamageTellsTotals }
     ensures decoded { DamagedBitsTellTotals }
@@ -176,8 +178,9 @@ pub fn sound_signal_is_decoded()
     code_laws::damaged_blocks_are_corrected();
 }
 
-/// A longer recording only adds rows: its report begins with the items of the shorter one, but for the group at the end, which
-/// goes on; and no total is less. Gaps within the shorter recording are those of the longer one there.
+/// A longer recording only adds rows: its report begins with the items of the shorter one, except the group
+/// at the end, which continues; and no total is less. Gaps within the shorter recording are those of the
+/// longer one there.
 pub fn longer_recordings_add_rows()
     ensures beginnings { BeginningsBegin }
     ensures items { LongerRecordingsAddItems }

@@ -1,4 +1,5 @@
-//! A lock: what a synchroniser that is locked knows, and what a block does to that, whichever way it was read.
+//! A lock: the knowledge of a synchroniser that is locked, and the effect of a block on it, however it was
+//! read.
 
 ghost use Rattle.std.specs.Prelude.{◌≡◌, ◌≤◌, ◌<◌, ◌+◌, ◌^◌, ◌↔◌, IsTrue, true};
 ghost use Rattle.rds_sync.specs.Lawful.{IsLawfulLock};
@@ -14,23 +15,25 @@ use crate::rules::Rules;
 use rds_code::BLOCK_BITS;
 use rds_stream::FIRST_WINDOW;
 
-/// How far the last bits of two blocks in a row lie apart, in places.
+/// How far apart the last bits of two consecutive blocks are, in places.
 pub(crate) const BLOCK_PLACES: u64 = BLOCK_BITS as u64;
 
 /// The least place at which a block that is waited for ends: no place before 51 acquires.
 const LEAST_DUE: u64 = FIRST_WINDOW + 2 * BLOCK_PLACES;
 
-/// What a synchroniser that is locked knows: this project's rule, after the flywheel of EN 50067:1998, annex C.
+/// The state of a synchroniser that is locked: this project's rule, after the flywheel of EN 50067:1998,
+/// annex C.
 ///
-/// The next block ends at place `due` and is read as block `number` (1 to 4). The first block that was read in the
-/// group in progress has number `first`, which is below `number`; both are 1 where no group is in progress.
+/// The next block ends at place `due` and is read as block `number` (1 to 4). The first block that was read
+/// in the group in progress has number `first`, which is below `number`; both are 1 if no group is in
+/// progress.
 #[derive(Clone, Copy, Debug, PartialEq, Eq)]
 pub struct Lock {
     /// The place at which the next block ends.
     pub due: u64,
     /// The number that it is read as.
     pub number: u8,
-    /// What is kept of the blocks that were not valid, too few for a loss; it is 0 where there are none. By the rule
+    /// The loss history: the blocks that were not valid, too few for a loss; 0 if there are none. By the rule
     /// `Loss::Run(n)` it is how many of them came in a row, below `n`. By `Loss::Share { bad, of }` it is a mask of
     /// the last `of` blocks, in which 1 is a bad one and the newest is the lowest bit.
     pub bad: u64,
@@ -78,7 +81,7 @@ impl Lock {
             && place == self.due - FIRST_WINDOW
     }
 
-    /// What the block that is due does, where it is valid as what it is taken for, or is not.
+    /// The effect of the block that is due, which is valid with the expected number (`good`) or is not.
     pub(crate) fn after(self, loss: Loss, good: bool) -> Due
         requires range { IsLossInRange loss }
         requires lawful { IsLawfulBad loss self.bad }

@@ -1,4 +1,4 @@
-//! The rule of loss: what a lock keeps of its bad blocks, and when they lose it.
+//! The rule of loss: a lock's history of bad blocks, and when they lose it.
 
 ghost use Rattle.std.specs.Prelude.{◌≡◌, true, false, ◌≤◌, ◌<◌, ◌↔◌, ◌+◌, ◌*◌, ◌%◌, ◌^◌, ◌⊎◌, IsTrue, IsErrOf, IfOk, IfErr, if◌then◌else◌};
 ghost use Rattle.rds_sync.specs.Loss.{bad_after, are_too_many, IsLawfulBad};
@@ -12,13 +12,13 @@ const MOST_BLOCKS: u32 = 64;
 /// When a lock is lost. This project's rules: the standard leaves them to the receiver.
 #[derive(Clone, Copy, Debug, PartialEq, Eq)]
 pub enum Loss {
-    /// After so many bad blocks in a row: 1 to 64.
+    /// After this many bad blocks in a row: 1 to 64.
     Run(u32),
-    /// Where `bad` of the last `of` blocks are bad: 1 ≤ bad ≤ of ≤ 64.
+    /// If `bad` of the last `of` blocks are bad: 1 ≤ bad ≤ of ≤ 64.
     Share { bad: u32, of: u32 },
 }
 
-/// What a lock keeps of its bad blocks where there are none, by either rule.
+/// History of a fresh lock: 0 under both rules.
 pub(crate) const NONE_BAD: u64 = 0;
 
 impl Loss {
@@ -50,7 +50,7 @@ impl Loss {
         }
     }
 
-    /// What is kept after one more block: how many were bad in a row, or a mask of the last ones.
+    /// The history after one more block: how many were bad in a row, or a mask of the last ones.
     pub(crate) fn bad_after(self, good: bool, bad: u64) -> u64
         requires range { IsLossInRange self }
         requires lawful { IsLawfulBad self bad }
@@ -94,7 +94,7 @@ pub(crate) fn mask_after(mask: u64, good: bool, of: u32) -> u64
     ((mask << 1) + newest) & (u64::MAX >> (64 - of))
 }
 
-/// Whether a mask tells of the last `of` blocks alone.
+/// Whether a mask has only the last `of` blocks.
 fn is_mask_of(mask: u64, of: u32) -> bool
     requires some { 1 ≤ of }
     requires few { of ≤ 64 }

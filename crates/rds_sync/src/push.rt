@@ -2,7 +2,7 @@
 
 ghost use Rattle.std.specs.Prelude.{◌≡◌, ◌<◌, ◌++◌, [], ◌∷◌, length, vec_capacity};
 
-/// Appends an item, of any type: the check has no proof of a push where it sees what an item is made of.
+/// Appends an item, of any type: the check has no proof of a push that sees how an item is built.
 #[inline(always)]
 pub(crate) fn push_one<T: Copy>(part: &mut Vec<T>, item: &T)
     requires { length part.old.items < vec_capacity part.old }

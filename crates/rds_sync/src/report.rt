@@ -20,7 +20,7 @@ use rds_stream::{Counted, Reader, Recording};
 use std::alloc::Global;
 use std::snapshot::Snapshot;
 
-/// What was found in a recording: its items, in order of place, and their totals. This project's rule.
+/// The result of decoding a recording: its items, in order of place, and their totals. This project's rule.
 #[derive(Drop)]
 pub struct Report {
     /// Acquisitions, groups and losses, in order of place.
@@ -29,14 +29,14 @@ pub struct Report {
     pub totals: Totals,
 }
 
-/// The run from `state` over the bits at `from` to `to` - 1: the state after them, and what it gave. Windows may begin
-/// before `from`. Runs are this project's rule, after EN 50067:1998, annex C.
+/// The run from `state` over the bits at `from` to `to` - 1: the state after them, and their items and
+/// totals. Windows may begin before `from`. Runs are this project's rule, after EN 50067:1998, annex C.
 ///
-/// The item of the recording's end is not among them: see [`finish`]. Fails with `OutOfMemory` alone.
+/// The item of the recording's end is not among them: see [`finish`]. Fails only with `OutOfMemory`.
 ///
-/// Its cost: a search goes over 64 places at once, and looks up to `reach` windows back from each valid one; a lock
-/// reads a window every 26 bits, and those of a group in which it may be lost three times at most. It takes memory for
-/// the spans of the list alone.
+/// Its cost: a search covers 64 places at once, and looks up to `reach` windows back from each valid one. A
+/// lock reads a window every 26 bits, and those of a group in which it may be lost three times at most. It
+/// takes memory only for the spans of the list.
 pub fn run_report(
     alloc: Global,
     rec: &Recording,
@@ -68,10 +68,10 @@ pub fn run_report(
     Ok((end, tally.report()?))
 }
 
-/// The report of a recording, this project's rule: the items of its locks, in order, with that of
-/// its end, and their totals. Fails with `OutOfMemory` alone.
+/// The report of a recording, this project's rule: the items of its locks, in order, with that of its end,
+/// and their totals. Fails only with `OutOfMemory`.
 ///
-/// Its cost: the recording is gone over once, as by [`run_report`]. It takes memory for the spans of the list.
+/// Its cost: the recording is read once, as by [`run_report`]. It takes memory for the spans of the list.
 pub fn decode_plain(alloc: Global, rec: &Recording, rules: &Rules) -> Result<Report, SyncError>
     ensures items { IfOk result (λ report. report.items
         ≡ listed rec.now rules.now (report_items rec.now rules.now)) }

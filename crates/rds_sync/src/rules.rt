@@ -1,4 +1,4 @@
-//! The rules by which synchronism is acquired, kept and lost.
+//! The rules by which sync is acquired, kept and lost.
 
 ghost use Rattle.std.specs.Prelude.{◌≡◌, ◌≢◌, ◌<◌, ◌≤◌, ◌⊎◌, ◌↔◌, ◌^◌, IfErr, IfOk, IfSome, IsErrOf};
 ghost use Rattle.rds_code.specs.Kinds.{kind_of};
@@ -50,8 +50,8 @@ impl Model for Rules {
 impl Rules {
     /// Rules of these numbers.
     ///
-    /// Refuses a burst, then a reach, then a loss or a share out of its range, and otherwise only
-    /// want of memory.
+    /// Refuses a burst, then a reach, then a loss or a share out of its range. Otherwise it fails only if
+    /// memory is refused.
     pub fn of(alloc: Global, numbers: RuleNumbers) -> Result<Rules, SyncError>
         ensures numbers { IfOk result (λ rules. rules ≡ numbers) }
 
@@ -75,12 +75,11 @@ impl Rules {
         })
     }
 
-    /// Rules that correct bursts of up to `burst` bits (0 to 5), acquire where a fitting block
-    /// stands up to `reach` blocks back (1 to 8), and lose a lock after `loss` bad blocks in a row
-    /// (1 to 64).
+    /// Rules that correct bursts of up to `burst` bits (0 to 5), acquire if a fitting block is up to `reach`
+    /// blocks back (1 to 8), and lose a lock after `loss` bad blocks in a row (1 to 64).
     ///
-    /// Refuses a burst, then a reach, then a loss out of its range, and otherwise only want of
-    /// memory.
+    /// Refuses a burst, then a reach, then a loss out of its range. Otherwise it fails only if memory is
+    /// refused.
     pub fn new(alloc: Global, burst: u32, reach: u32, loss: u32) -> Result<Rules, SyncError>
         ensures numbers { IfOk result (λ rules. (rules.burst ≡ burst) × (rules.reach ≡ reach)
             × (rules.loss ≡ Run loss)) }
@@ -103,11 +102,11 @@ impl Rules {
         )
     }
 
-    /// Rules that correct and acquire as those of [`new`](Rules::new), and lose a lock where `bad`
-    /// of the last `of` blocks read in it are bad (1 ≤ bad ≤ of ≤ 64).
+    /// Rules that correct and acquire as those of [`new`](Rules::new), and lose a lock if `bad` of the last
+    /// `of` blocks read in it are bad (1 ≤ bad ≤ of ≤ 64).
     ///
-    /// Refuses a burst, then a reach, then a share out of its range, and otherwise only want of
-    /// memory.
+    /// Refuses a burst, then a reach, then a share out of its range. Otherwise it fails only if memory is
+    /// refused.
     pub fn with_share(
         alloc: Global,
         burst: u32,
@@ -169,7 +168,7 @@ impl Rules {
         self.numbers.loss
     }
 
-    /// What was heard, read as the block of this number, corrected where these rules allow it.
+    /// The window that was heard, read as the block of this number, corrected if these rules allow it.
     #[inline]
     pub(crate) fn read(&self, heard: Option<u32>, number: BlockNumber, wanted: Wanted) -> Reading
         requires { IfSome heard (λ window. window < 2 ^ 26) }

@@ -1,4 +1,4 @@
-//! A lock that its second block loses: its group has these two blocks, or the second alone behind a block 4.
+//! A lock that its second block loses: its group has these two blocks, or only the second after a block 4.
 
 ghost use Rattle.std.specs.Prelude.{◌≡◌, ◌≤◌, ◌<◌, ◌+◌, ◌%◌, ◌^◌, true, IfSome};
 ghost use Rattle.rds_code.specs.Kinds.{kind_of};
@@ -13,8 +13,8 @@ use rds_code::laws::{bursts_are_listed, readings_follow_the_rule};
 use rds_code::{BlockNumber, Kinds, Wanted};
 use rds_stream::Reader;
 
-/// The word of the group of a lock that begins with block `number` at `place`, where the block behind it, before `to`,
-/// is bad and one bad block loses a lock. Where there is none, nothing is said of the lock.
+/// The word of the group of a lock that begins with block `number` at `place`, if the next block, before
+/// `to`, is bad and one bad block loses a lock. If there is none, nothing is said of the lock.
 #[inline(always)]
 pub(crate) fn word_if_lost(
     reader: &mut Reader<'_>,
@@ -47,7 +47,8 @@ pub(crate) fn word_if_lost(
     None
 }
 
-/// The word of a group of a valid block of this number and the one behind it of this kind; behind block 4, of that alone.
+/// The word of a group of a valid block of this number and the next one of this kind; after block 4, of only
+/// that one.
 #[inline(always)]
 fn word_of_two(number: BlockNumber, kind: u16) -> u16
     requires kind { kind ≤ 13 }
@@ -61,7 +62,7 @@ fn word_of_two(number: BlockNumber, kind: u16) -> u16
     }
 }
 
-/// How the block behind one of this number at `place` came out.
+/// How the next block after one of this number at `place` came out.
 #[inline(always)]
 fn kind_behind(reader: &mut Reader<'_>, rules: &Rules, place: u64, number: BlockNumber) -> u16
     requires first { 25 ≤ place }

@@ -1,4 +1,4 @@
-//! A part of a list of items: what a run over some places gives.
+//! A part of a list of items: those of a run over some places.
 
 ghost use Rattle.std.specs.Prelude.{◌≡◌, ◌<◌, IfSome, length};
 ghost use Rattle.rds_stream.specs.Recording.{Signal};
@@ -7,7 +7,7 @@ ghost use Rattle.rds_sync.specs.Rules.{RuleNumbers};
 
 use crate::state::State;
 
-/// Items in a row, named by what gives them.
+/// Consecutive items, named by the run or the end that gives them.
 #[derive(Clone, Copy)]
 pub(crate) enum Span {
     /// The items of the run from `state` over the places from `place` to before `to`, but for the first `passed`: `items`
@@ -64,7 +64,7 @@ impl Span {
     }
 }
 
-/// A span that stands in a list, and how many items stand before it.
+/// A span in a list, and how many items come before it.
 #[derive(Clone, Copy)]
 pub(crate) struct Start {
     pub span: usize,

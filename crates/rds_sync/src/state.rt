@@ -1,4 +1,4 @@
-//! What a synchroniser knows between two bits.
+//! The state of a synchroniser between two bits.
 
 ghost use Rattle.std.specs.Prelude.{◌≡◌, ◌≤◌, ◌<◌, ◌^◌, ◌↔◌, IsTrue};
 ghost use Rattle.rds_sync.specs.Rules.{RuleNumbers};
@@ -18,10 +18,9 @@ pub enum State {
 impl State {
     ghost use Rattle.rds_sync.specs.Lawful.{IsLawful};
 
-    /// Whether the state is lawful before the bit at `place`, by these rules: a search, or a lock
-    /// whose block is due within 26 places, and at place 77 or later, whose bad blocks do not lose
-    /// it, whose group lies in the recording, and whose numbers are in order. Runs lead from lawful
-    /// states to lawful ones.
+    /// Whether the state is lawful before the bit at `place`, by these rules. It is a search, or a lock whose
+    /// block is due within 26 places, and at place 77 or later. The lock's bad blocks do not lose it, its
+    /// group is in the recording, and its numbers are in order. Runs lead from lawful states to lawful ones.
     pub fn is_lawful(&self, rules: &Rules, place: u64) -> bool
         ensures { IsTrue result ↔ IsLawful rules.now place self.now }
     {

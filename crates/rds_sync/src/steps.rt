@@ -1,8 +1,9 @@
 //! A run over a tape, step by step: a bit while searching, a block while locked.
 //!
-//! A run is made in three forms, each for its cost. A step asks a tape for few windows, and ends where its caller may want
-//! to stop. A stretch goes over 64 places of a recording at once, up to the next item. A hop of a [`Tally`](crate::Tally)
-//! counts its items and makes none. The law [`steps_agree`](crate::laws::steps_agree) says that they are one run.
+//! A run is made in three forms, each for its cost. A step asks a tape for few windows, and ends where its
+//! caller may want to stop. A stretch covers 64 places of a recording at once, up to the next item. A hop of
+//! a [`Tally`](crate::Tally) counts its items and makes none. The law
+//! [`steps_agree`](crate::laws::steps_agree) says that they are one run.
 
 ghost use Rattle.std.specs.Prelude.{◌≡◌, ◌≤◌, ◌<◌, ◌+◌, ◌-◌, ◌*◌, ◌^◌, length};
 ghost use Rattle.rds_stream.specs.Recording.{length_of};
@@ -21,13 +22,12 @@ use crate::state::State;
 use crate::step::Step;
 use rds_stream::Tape;
 
-/// One step of a run from a state that is lawful before `place`, towards `to`: a bit while
-/// searching; while locked, up to and including the block that is due, or up to `to` where that
-/// comes first. Runs are this project's rule, after EN 50067:1998, annex C.
+/// One step of a run from a state that is lawful before `place`, towards `to`: a bit while searching; while
+/// locked, up to and including the block that is due, or up to `to` if that comes first. Runs are this
+/// project's rule, after EN 50067:1998, annex C.
 ///
-/// It asks the tape for at most `reach` + 1 windows while searching, and at most four while
-/// locked; for none where no block is due before `to`. The tape has counted at most 2^63 - 16
-/// windows before. Takes no memory.
+/// It asks the tape for at most `reach` + 1 windows while searching, and at most four while locked; for none
+/// if no block is due before `to`. The tape has counted at most 2^63 - 16 windows before. Takes no memory.
 pub fn advance<T: Tape>(tape: &mut T, rules: &Rules, state: State, place: u64, to: u64) -> Step
     requires lawful { IsLawful rules.now place state }
     requires before { place < to }
@@ -58,9 +58,9 @@ pub fn advance<T: Tape>(tape: &mut T, rules: &Rules, state: State, place: u64, t
     }
 }
 
-/// The group in progress at the end of the recording, where the run ended in `state`, as far as it
-/// was read, or none: this project's rule. Asks the tape, which has counted at most 2^63 - 16
-/// windows before, for at most three, and takes no memory.
+/// The group in progress at the end of the recording, if the run ended in `state`, as far as it was read, or
+/// none: this project's rule. Asks the tape, which has counted at most 2^63 - 16 windows before, for at most
+/// three, and takes no memory.
 pub fn finish<T: Tape>(tape: &mut T, rules: &Rules, state: State) -> Option<Group>
     requires lawful { IsLawful rules.now (length_of (T.signal tape.old)) state }
     requires counted { T.reads_made tape.old + 16 ≤ 2 ^ 63 }

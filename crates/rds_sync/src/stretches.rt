@@ -18,16 +18,16 @@ use crate::step::Step;
 use crate::whole_groups::whole_group;
 use rds_stream::{Reader, ValidWindows};
 
-/// Goes on with a run from `state` before the bit at `place`, up to and including the next bit
-/// that gives an item, or up to `to` where none before it does.
+/// Continues a run from `state` before the bit at `place`, up to and including the next bit that gives an
+/// item, or up to `to` if none before it does.
 ///
-/// A run over a range is made of stretches: [`Decoder`](crate::Decoder) is that. Windows may begin
-/// before `place`. The reader goes on with them, and is of the same recording as before. Runs and
-/// stretches are this project's rule, after EN 50067:1998, annex C.
+/// A run over a range is made of stretches: [`Decoder`](crate::Decoder) is that. Windows may begin before
+/// `place`. The reader is used for them, and is of the same recording as before. Runs and stretches are this
+/// project's rule, after EN 50067:1998, annex C.
 ///
-/// Its cost: a search goes over 64 places at once, and looks up to `reach` windows back from each
-/// valid one; a lock reads a window every 26 bits, those of a group that loses it twice, and first,
-/// once more, the up to three of the group in progress that were read before. It takes no memory.
+/// Its cost: a search covers 64 places at once, and looks up to `reach` windows back from each valid one. A
+/// lock reads a window every 26 bits, those of a group that loses it twice, and first, once more, the up to
+/// three of the group in progress that were read before. It takes no memory.
 pub fn stretch(reader: &mut Reader<'_>, rules: &Rules, state: State, place: u64, to: u64) -> Step
     requires lawful { IsLawful rules.now place state }
     requires order { place < to }
@@ -53,7 +53,7 @@ fn search(reader: &mut Reader<'_>, rules: &Rules, place: u64, to: u64) -> Step
     prove!(1 <= rules.reach());
     for (here, offset) in ValidWindows::new(rec, place, to) {
         // A window is valid by chance at one place in two hundred: so its partners are looked up in
-        // the recording, and the search keeps none of the windows behind it.
+        // the recording, and the search keeps none of the windows after it.
         let number = offset.number();
         if has_partner_in(rec, rules, here, number) {
             let found = Acquisition {
@@ -75,8 +75,8 @@ fn search(reader: &mut Reader<'_>, rules: &Rules, place: u64, to: u64) -> Step
     }
 }
 
-/// Follows a lock up to and including the next block that closes a group, or up to `to` where none is due before it: over
-/// a whole group at once where it can, and else from block to block.
+/// Follows a lock up to and including the next block that closes a group, or up to `to` if none is due before
+/// it: over a whole group at once if it can, and else from block to block.
 fn keep_lock(reader: &mut Reader<'_>, rules: &Rules, lock: Lock, place: u64, to: u64) -> Step
     requires lawful { IsLawfulLock rules.now place lock }
     requires order { place < to }

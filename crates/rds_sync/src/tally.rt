@@ -27,8 +27,9 @@ use std::snapshot::Snapshot;
 /// How many items are counted at most before they are added to the totals.
 const MOST_COUNTED: u64 = 3000;
 
-/// A run over a recording that goes on part by part: where it is, and what it gave. It makes none of its items: it counts
-/// them, and keeps the spans that give them, of some hundred items each where it was not told otherwise.
+/// A run over a recording that continues part by part: where it is, and its items. It makes none of its
+/// items: it counts them, and keeps the spans that give them, of some hundred items each unless it was told
+/// otherwise.
 #[derive(Drop)]
 pub struct Tally {
     items: Items,
@@ -105,8 +106,8 @@ impl Tally {
         self.state
     }
 
-    /// Goes on to a later place, up to before `to`, by a reader of its recording and by its rules. Refused memory for a
-    /// span, it has gone on all the same.
+    /// Moves on to a later place, up to before `to`, by a reader of its recording and by its rules. If memory
+    /// for a span is refused, it has moved on all the same.
     pub(crate) fn go_on(
         &mut self,
         reader: &mut Reader<'_>,
@@ -138,9 +139,9 @@ impl Tally {
         self.end_long_span()
     }
 
-    /// Hops: a search goes on up to and including the first place that acquires, or up to `near`; a lock up to and including
-    /// the block that closes its group, or up to `to`. The tape is of its recording, the rules are its own. Refused memory
-    /// for a span, it has gone on all the same.
+    /// Hops: a search moves on up to and including the first place that acquires, or up to `near`; a lock up
+    /// to and including the block that closes its group, or up to `to`. The tape is of its recording, the
+    /// rules are its own. If memory for a span is refused, it has moved on all the same.
     pub fn hop<T: Tape>(
         &mut self,
         tape: &mut T,
@@ -201,7 +202,7 @@ impl Tally {
         Ok(())
     }
 
-    /// What the run gave.
+    /// The report of the run.
     pub fn report(self) -> Result<Report, AllocError>
         ensures items { IfOk result (λ report. report.items ≡ listed self.source self.rules self.list) }
         ensures totals { IfOk result (λ report. report.totals ≡ totals_of self.list) }
@@ -226,7 +227,7 @@ impl Tally {
     }
 }
 
-/// Adds what was counted to totals of so many items, if it is `most` items or more.
+/// Adds the counts to totals of `added` items, if they count `most` items or more.
 fn settle(totals: &mut Totals, added: &mut u64, counts: &mut Counts, most: u64)
     requires small { IsAtMost (2 ^ 10 * added.old) totals.old }
     requires few { added.old ≤ 2 ^ 40 }

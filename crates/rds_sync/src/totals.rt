@@ -80,7 +80,7 @@ impl Totals {
         totals.plus(Totals::told(whole, acquired, losses))
     }
 
-    /// The totals of so many groups of four valid blocks, acquisitions and losses.
+    /// The totals of `whole` groups of four valid blocks, `acquired` acquisitions and `losses` losses.
     fn told(whole: u64, acquired: u64, losses: u64) -> Totals
         requires { whole + acquired + losses ≤ 2 ^ 37 }
         ensures value { result ≡ told whole acquired losses }

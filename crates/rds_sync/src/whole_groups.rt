@@ -19,8 +19,8 @@ use crate::state::State;
 use crate::step::Step;
 use rds_stream::{FIRST_WINDOW, Reader};
 
-/// The lock behind the whole groups that come next, none of whose blocks loses it, of which the last ends before `to`:
-/// as many as are counted until there are `most` items.
+/// The lock after the whole groups that come next, none of whose blocks loses it, of which the last ends
+/// before `to`: as many as are counted until there are `most` items.
 pub(crate) fn count_whole_groups(
     reader: &mut Reader<'_>,
     rules: &Rules,
@@ -58,7 +58,7 @@ pub(crate) fn count_whole_groups(
 }
 
 /// Appends the whole groups that come next, none of whose blocks loses the lock and of which the last ends before `to`,
-/// until there are `most` items. The lock behind them.
+/// until there are `most` items. The lock after them.
 #[inline(always)]
 pub(crate) fn push_whole_groups(
     reader: &mut Reader<'_>,
@@ -96,8 +96,8 @@ pub(crate) fn push_whole_groups(
     now
 }
 
-/// The whole group that comes next, whose block 1 begins at `place`: none where a block of it loses the lock or ends at
-/// `to` or later, or where the lock is inside a group.
+/// The whole group that comes next, whose block 1 begins at `place`: none if a block of it loses the lock or
+/// ends at `to` or later, or if the lock is inside a group.
 #[inline(always)]
 pub(crate) fn whole_group(
     reader: &mut Reader<'_>,

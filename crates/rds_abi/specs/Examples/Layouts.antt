@@ -1,4 +1,4 @@
--- Items, blocks, states and rules as they lie in C.
+-- Items, blocks, states and rules in C's layout.
 use Rattle.std.specs.Prelude.{◌≡◌, [], ◌∷◌, None, Some, refl, replicate, true}
 use Rattle.rds_code.specs.declared.offset.Offset.TheVariants as offset
 use Rattle.rds_code.specs.declared.reading.Reading.TheVariants.{Valid, Corrected, Lost}

@@ -57,7 +57,8 @@ pub times_x : map (λ n. rem (2 * n)) quotients
 unfolding rem
 times_x = refl
 
--- block 3 where both of its offsets are wanted: with limit 3 a burst fits each of them, with limit 2 one fits C' alone
+-- block 3 if both of its offsets are wanted: with limit 3 a burst fits each of them, with limit 2 one fits
+-- only C'
 pub both_fit : reading (bit_xor (word C) 0x0000038) 3 Either 3 ≡ Lost
 unfolding rem
 both_fit = refl

@@ -13,7 +13,7 @@ pub high_powers : map (λ t. rem (2 ^ t)) (range_with_len 10 16)
 unfolding rem
 high_powers = refl
 
--- x^26: what a one stands for that has left the window at its highest place
+-- x^26: the value of a one that has left the window at its highest place
 pub power_26 : rem (2 * rem (2 ^ 25)) ≡ 0x0EE
 unfolding rem
 power_26 = refl

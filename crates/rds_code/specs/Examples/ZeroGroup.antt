@@ -15,7 +15,7 @@ one_group = ((word A * 2 ^ 26 + word B) * 2 ^ 26 + word C) * 2 ^ 26 + word D
 abbrev pub three_groups : ℕ
 three_groups = (one_group * 2 ^ 104 + one_group) * 2 ^ 104 + one_group
 
--- the window whose last bit stands at place i
+-- the window whose last bit is at place i
 abbrev pub window_at : ℕ → ℕ
 window_at i = three_groups / 2 ^ (311 - i) % 2 ^ 26
 
@@ -74,7 +74,7 @@ pub again : map (λ i. rem (window_at i)) (range_with_len 130 78) ≡ map (λ i.
 unfolding rem
 again = refl
 
--- a place with its offset, where it has one
+-- a place with its offset, if it has one
 abbrev pub valid_at : ℕ → Option (ℕ × Offset)
 valid_at i = elim (offset_of (rem (window_at i))) [ None ↦ None | Some o ↦ Some (i, o) ]
 

@@ -17,7 +17,7 @@ HasBurst limit d e = IsBurst limit e × (rem e ≡ d)
 abbrev pub IsKind : ℕ → ℕ → ℕ → Type 0
 IsKind limit d k = ((d ≡ 0) × (k ≡ 1)) ⊎ ((0 < d) × HasNoBurst limit d × (k ≡ 2)) ⊎ ((e : ℕ) × HasBurst limit d e × (k ≡ kind_of_burst (span e) (ones e)))
 
--- the first kinds of all stand in the table
+-- the first kinds of all are in the table
 abbrev pub StandIn : ℕ → List ℕ → Type 0
 StandIn limit kinds = (d : ℕ) → d < length kinds → IsKind limit d (slice_index kinds d)
 

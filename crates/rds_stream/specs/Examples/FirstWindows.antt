@@ -1,4 +1,4 @@
--- The first valid window of what is left of the zero group, and what is left after it.
+-- The first valid window in the rest of the zero group, and the rest after it.
 use Rattle.std.specs.Prelude.{◌≡◌, ℕ, ◌+◌, ◌-◌, List, Option, Some, None, map, get_or, is_some, refl}
 use Rattle.std.specs.List.{range_with_len}
 use Rattle.std.proofs.Common.{◌∙◌, ap, arith, sym, true≢false}
@@ -42,12 +42,12 @@ at_96 = refl
 pub not_none_78_to_97 : NoneValid once 78 97 → ⊥
 not_none_78_to_97 none = true≢false (ap is_some (sym at_96 ∙ none 96 (omega arith) (omega arith)))
 
--- ---- what is given
+-- ---- the window given
 
 pub first_from_78 : GivesFirst (left 78 104) (Some (96, B)) (left 97 104)
 first_from_78 = (omega arith, omega arith, none_78_to_96, at_96, refl)
 
--- behind it there is none before place 103, and nothing is left
+-- after it there is none before place 103, and nothing is left
 pub none_behind_96 : GivesFirst (left 97 103) None (left 103 103)
 none_behind_96 = (none_97_to_103, refl)
 
@@ -55,10 +55,10 @@ none_behind_96 = (none_97_to_103, refl)
 pub not_a_later_one : GivesFirst (left 78 104) (Some (103, D)) (left 104 104) → ⊥
 not_a_later_one gives = not_none_78_to_97 (λ i low high. gives.2 i low (omega (arith, high)))
 
--- what was given is not left
+-- a window that was given is not left
 pub not_once_more : GivesFirst (left 78 104) (Some (96, B)) (left 96 104) → ⊥
 not_once_more gives = absurd (omega (arith, ap (λ w. w.next) gives.4))
 
--- where there is one, none is not given
+-- if there is one, none is not given
 pub not_none : GivesFirst (left 78 104) None (left 104 104) → ⊥
 not_none gives = not_none_78_to_97 (λ i low high. gives.0 i low (omega (arith, high)))

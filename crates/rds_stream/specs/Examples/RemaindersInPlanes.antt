@@ -23,7 +23,7 @@ planes =
 abbrev pub places : ℕ
 places = 0x5A00001980000FC0000
 
--- what stands at bit k of the planes, that of plane 9 highest: at each of the 64 the remainder of its window
+-- bit k of the planes, that of plane 9 highest: at each of the 64 places the remainder of its window
 abbrev pub column : ℕ → ℕ
 column k = number_from_digits 2 (map (λ r. bit_at (slice_index planes (9 - r)) k) (range_with_len 0 10))
 

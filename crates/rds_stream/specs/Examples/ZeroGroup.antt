@@ -71,12 +71,12 @@ pub around_gap : map (touched with_gap) (103 ∷ 104 ∷ 129 ∷ 130 ∷ []) ≡
 unfolding touched
 around_gap = refl
 
--- what lies in a gap as a whole has no window that is heard
+-- a range inside a gap has no window that is heard
 pub all_gap : valid_windows (record { bits = once.bits; gaps = (0, 104) ∷ [] }) 0 104 ≡ []
 unfolding rem window touched heard off
 all_gap = refl
 
--- gaps may stand side by side
+-- gaps may be adjacent
 abbrev pub two_gaps : List (ℕ × ℕ)
 two_gaps = (10, 20) ∷ (20, 30) ∷ []
 

@@ -1,4 +1,4 @@
--- The first gap that goes past a place. A recording looks for it, and no caller sees it.
+-- The first gap that ends after a place. A recording looks for it, and no caller sees it.
 use Rattle.std.specs.Prelude.{◌≡◌, ℕ, ◌<◌, ◌≤◌, List, length}
 use Rattle.std.specs.List.{AllWithin, HoldsAt}
 

@@ -1,4 +1,5 @@
--- Vectors of two lanes, whose bits stand for places in a row. `planes` and the words of valid places are made in them, and no caller sees it.
+-- Vectors of two lanes, whose bits are consecutive places. `planes` and the words of valid places are made in
+-- them, and no caller sees it.
 use Rattle.std.specs.Prelude.{◌≡◌, ℕ, ◌+◌, ◌-◌, ◌^◌, ◌<◌, List, [], length, slice_index, slice_index_or}
 use Rattle.std.specs.Int.{bit_at}
 

@@ -1,4 +1,5 @@
--- Words of valid places: which of up to 64 places in a row are valid. `ValidWindows` goes on by them, and no caller sees it.
+-- Words of valid places: which of up to 64 places in a row are valid. `ValidWindows` uses them, and no caller
+-- sees it.
 use Rattle.std.specs.Prelude.{◌≡◌, ℕ, ◌+◌, ◌<◌, ◌≤◌, ◌↔◌, IsSome}
 use Rattle.std.specs.Int.{bit_at}
 use Rattle.rds_stream.specs.Recording.{Signal, off}

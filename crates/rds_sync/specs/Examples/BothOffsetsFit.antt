@@ -1,4 +1,5 @@
--- A block 3 that both offsets fit: it is corrected only where one pair of an offset that is tried and a burst fits.
+-- A block 3 that both offsets fit: it is corrected only if exactly one pair of an offset that is tried and a
+-- burst fits.
 use Rattle.std.specs.Prelude.{ℕ, List, [], ◌∷◌, ◌++◌, refl, Some, None}
 use Rattle.std.specs.Int.Count.{count_leading_zeros, ones, count_trailing_zeros}
 use Rattle.rds_code.specs.Remainder.{rem}
@@ -31,7 +32,7 @@ pub one_fits : HasReport bytes 208 (rules_of 2 3 10) limit_2_items (totals 5 1 0
 unfolding acquired has_number group rem window touched heard off count_leading_zeros count_trailing_zeros ones
 one_fits = (refl, refl)
 
--- the same block 3 beside a valid block 2 of version A: C alone is tried
+-- the same block 3 beside a valid block 2 of version A: only C is tried
 abbrev pub beside_version_a : List ℕ
 beside_version_a = 0x00 ∷ 0x00 ∷ 0x3f ∷ 0x00 ∷ 0x00 ∷ 0x19 ∷ 0x80 ∷ 0x00 ∷ 0x05 ∷ 0x40 ∷ 0x00 ∷ 0x01 ∷ 0xb4 ∷ []
 

@@ -1,5 +1,5 @@
--- A corrected block 2 says the version as a valid one does: beside it one offset alone is tried for a block 3 that
--- both fit.
+-- A corrected block 2 says the version as a valid one does: beside it only one offset is tried for a block 3
+-- that both fit.
 use Rattle.std.specs.Prelude.{ℕ, List, [], ◌∷◌, ◌++◌, refl, Some}
 use Rattle.std.specs.Int.Count.{count_leading_zeros, ones, count_trailing_zeros}
 use Rattle.rds_code.specs.Remainder.{rem}

@@ -1,4 +1,4 @@
--- The cycle of the numbers of blocks, wherever it is gone round: 1, 2, 3, 4, and 1 again.
+-- The cycle of the numbers of blocks, in each place that uses it: 1, 2, 3, 4, and 1 again.
 use Rattle.std.specs.Prelude.{◌≡◌, ℕ, ◌+◌, ◌%◌, List, [], ◌∷◌, Bool, true, ◌==◌, not, Some, map, if◌then◌else◌, refl}
 use Rattle.std.specs.List.{list_all, range_with_len}
 use Rattle.rds_code.specs.declared.offset.Offset.{Offset}
@@ -21,7 +21,8 @@ next_of_a_lock = refl
 abbrev pub alike : Bool → Bool → Bool
 alike one other = if one then other else not other
 
--- a window is a partner for just the block whose number is the one so many blocks after its own, within the farthest reach
+-- a window is a partner for exactly one block within the farthest reach: the one whose number is k blocks
+-- after its own
 abbrev pub is_after : Offset → ℕ → ℕ → Bool
 is_after o k x = alike (is_in_step (Some o) x k) (number_after (number o) k == x)
 

@@ -1,4 +1,4 @@
--- Blocks of a zero group inverted by a burst: corrected where the burst is within the limit, and else lost.
+-- Blocks of a zero group inverted by a burst: corrected if the burst is within the limit, and else lost.
 use Rattle.std.specs.Prelude.{ℕ, List, [], ◌∷◌, ◌++◌, refl, Some, None}
 use Rattle.std.specs.Int.Count.{count_leading_zeros, ones, count_trailing_zeros}
 use Rattle.rds_code.specs.Remainder.{rem}

@@ -47,7 +47,7 @@ it_is_bad = (refl, refl)
 
 -- ---- a damaged block
 
--- a block that is corrected where nothing is said of its bits is lost where one of them means nothing
+-- a block that is corrected without a gap is lost if one of its bits means nothing
 abbrev pub block_3_lost : List Item
 block_3_lost = Acquired 51 2 ∷ group_at 26 (Some 0) A missing (valid OB 0) lost missing ∷ []
 
@@ -65,7 +65,7 @@ pub block_2_touched : IsReported (gapped zero_group 104 40 41) default_rules fro
 unfolding acquired has_number group rem window touched heard off
 block_2_touched = (refl, refl)
 
--- so it is where all of block 2 is a gap, which its neighbours do not touch
+-- the result is the same if all of block 2 is a gap, which its neighbours do not touch
 pub block_2_alone : IsReported (gapped zero_group 104 26 52) default_rules from_block_3 (totals 2 0 0 0 0 0 0 0 1 0 1 0)
 unfolding acquired has_number group rem window touched heard off
 block_2_alone = (refl, refl)

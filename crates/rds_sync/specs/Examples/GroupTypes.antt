@@ -12,7 +12,7 @@ use Rattle.rds_sync.specs.Acquiring.{acquired, has_number}
 use Rattle.rds_sync.specs.Groups.{group, group_of}
 use Rattle.rds_sync.specs.Examples.Words.{default_rules, missing, valid, totals, HasReport}
 
--- the type and the version of a group of which block 2 alone was read, with this information word
+-- the type and the version of a group of which only block 2 was read, with this information word
 abbrev pub said_by : ℕ → Option ℕ × Version
 said_by info = let group = group_of 0 (missing ∷ valid OB info ∷ missing ∷ missing
     ∷ []) in (group.kind, group.version)

@@ -1,4 +1,4 @@
--- Lawful states at the ends of what is lawful, and states just past them.
+-- Lawful states at the limits, and states just past them.
 use Rattle.std.specs.Prelude.{◌==◌, refl}
 use Rattle.std.specs.Int.Count.{ones}
 use Rattle.std.proofs.Common.{ap, inl, inr}
@@ -121,7 +121,7 @@ past_4 lawful = out_of_order lawful.in_order
     out_of_order (inl (is_1, first)) = false≢true (ap (λ x. x == 1) is_1)
     out_of_order (inr (some, before, few)) = false≢true (le-leb 5 4 few)
 
--- no first block before block 2, but block 1 alone
+-- no first block before block 2, except block 1
 pub first_is_due : IsLawful default_rules 129 (Locked (lock_of 129 2 0 2)) → ⊥
 first_is_due lawful = out_of_order lawful.in_order
   where

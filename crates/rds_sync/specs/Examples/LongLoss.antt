@@ -14,7 +14,7 @@ use Rattle.rds_sync.specs.Step.{run}
 use Rattle.rds_sync.specs.Examples.Words.{zero_group, rules_of, missing, valid, lost, group_at, totals, HasReport}
 use Rattle.rds_sync.specs.Examples.ZeroGroup.{items_of_whole}
 
--- so many groups of four lost blocks from place 104 on
+-- `count` groups of four lost blocks from place 104 on
 abbrev pub lost_groups : ℕ → List Item
 lost_groups count = map (λ k. group_at (104 + 104 * k) None Unknown lost lost lost lost) (range_with_len 0 count)
 

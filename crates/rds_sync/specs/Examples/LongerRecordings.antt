@@ -44,7 +44,7 @@ only_adds = record {
     blocks (suc (suc (suc zero))) = inl refl
     blocks (suc (suc (suc (suc y)))) = inr refl
 
--- the first bits of a recording, and as much of its gaps as lies in them
+-- the first bits of a recording, and its gaps as far as they are in them
 pub first_bits : beginning 182 (ungapped (bits_of bytes 208)) ≡ ungapped (bits_of bytes 182)
 first_bits = refl
 

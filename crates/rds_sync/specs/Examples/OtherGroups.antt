@@ -10,7 +10,7 @@ use Rattle.rds_sync.specs.Acquiring.{acquired, has_number}
 use Rattle.rds_sync.specs.Groups.{group}
 use Rattle.rds_sync.specs.Examples.Words.{default_rules, missing, valid, group_at, totals, HasReport}
 
--- blocks 3 and 4 alone
+-- only blocks 3 and 4
 abbrev pub blocks_3_and_4 : List ℕ
 blocks_3_and_4 = 0x00 ∷ 0x00 ∷ 0x5a ∷ 0x00 ∷ 0x00 ∷ 0x1b ∷ 0x40 ∷ []
 

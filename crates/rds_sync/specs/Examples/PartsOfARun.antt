@@ -1,4 +1,4 @@
--- What is still to come of a run over the zero group, and its items with what they are items of.
+-- The rest of a run over the zero group, and its items with their recording and rules.
 use Rattle.std.specs.Prelude.{◌≡◌, ◌==◌, List, [], ◌∷◌, Bool, true, false, Some, None, refl}
 use Rattle.std.proofs.Common.{ap, sym}
 use Rattle.std.proofs.lemmas.Bool.{false≢true}
@@ -33,7 +33,7 @@ pub whole : decoder_of b default_rules Searching 0 104 ≡ left (Acquired 51 2 �
 unfolding acquired has_number group rem window touched heard off
 whole = refl
 
--- from a state on, over the places before the range's end alone
+-- from a state on, only over the places before the range's end
 pub from_the_lock : decoder_of b default_rules (Locked (lock_of 77 3 0 2)) 52 104 ≡ left (the_group ∷ []) (Locked (lock_of 129 1 0 1))
 unfolding acquired has_number group rem window touched heard off
 from_the_lock = refl
@@ -60,7 +60,7 @@ abbrev pub is_empty : List Item → Bool
 is_empty [] = true
 is_empty (item ∷ items) = false
 
--- none is given only where none is left
+-- none is given only if none is left
 pub not_none : GivesNext (left (the_group ∷ []) (Locked (lock_of 129 1 0 1))) None (left [] (Locked (lock_of 129 1 0 1))) → ⊥
 not_none gives = false≢true (ap is_empty gives.0.0)
 

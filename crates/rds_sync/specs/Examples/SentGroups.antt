@@ -13,7 +13,7 @@ use Rattle.rds_sync.specs.Groups.{group}
 use Rattle.rds_sync.specs.Loss.{are_too_many}
 use Rattle.rds_sync.specs.Sent.{binary, bits_sent, packed_groups, group_sent, items_sent, SentGroup, four_damages, items_damaged, bad_after_blocks, KeepLock, totals_sent, totals_damaged, masks_read, bits_with_damage}
 use Rattle.rds_sync.specs.Examples.Words.{rules_of, default_rules, missing, valid, corrected, group_at, totals, IsReported}
--- two zero groups, and what is decoded from them
+-- two zero groups, and the items decoded from them
 use Rattle.rds_sync.specs.Examples.TwoZeroGroups.{bytes}
 
 -- ---- as bits and bytes

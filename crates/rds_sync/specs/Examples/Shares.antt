@@ -1,4 +1,4 @@
--- Locks that are lost where so many of their last blocks are bad.
+-- Locks that are lost when some number of their last blocks are bad.
 use Rattle.std.specs.Prelude.{◌≡◌, ℕ, List, [], ◌∷◌, ◌++◌, refl, Some, None}
 use Rattle.std.specs.Int.Count.{ones}
 use Rattle.rds_code.specs.Remainder.{rem}
@@ -20,7 +20,7 @@ pub one_of_four : HasReport one_bad 208 (rules_with_share 1 4) items_of_loss (to
 unfolding acquired has_number group rem window touched heard off
 one_of_four = (refl, refl)
 
--- two of four do not stand in it
+-- by two of four it does not lose
 abbrev pub items_kept : List Item
 items_kept = items_of_whole ++ group_at 104 (Some 0) A lost (valid OB 0) (valid C 0) (valid D 0) ∷ []
 
@@ -54,7 +54,7 @@ pub run_two_of_three : run (ungapped (bits_of two_bad 208)) (rules_with_share 2 
 unfolding acquired has_number group rem window touched heard off ones
 run_two_of_three = refl
 
--- the bad blocks never stand together
+-- the bad blocks are never adjacent
 abbrev pub items_apart : List Item
 items_apart = items_of_whole ++ group_at 104 (Some 0) A lost (valid OB 0) lost (valid D 0) ∷ []
 

@@ -6,7 +6,7 @@ use Rattle.rds_sync.specs.Convergence.{sound_bits}
 pub by_default : sound_bits (Run 10) 0 ≡ 416
 by_default = refl
 
--- where two rivals have one place modulo 26
+-- if two rivals have one place modulo 26
 pub two_rivals : sound_bits (Run 10) 2 ≡ 936
 two_rivals = refl
 

@@ -25,7 +25,7 @@ pub valid_by_chance : filter (λ r. is_some (off b r) && not (r % 26 == 25)) (ra
 unfolding rem window touched heard off
 valid_by_chance = refl
 
--- what holds at each place of the range, as a test
+-- the condition at each place of the range, as a test
 unfoldable is_as_told : ℕ → Bool
 is_as_told r = (r % 26 == 25) || (not (is_some (acquired b rules r)) && (not (is_some (off b r)) || (r % 104 == 19) || (r % 104 == 96)))
 
@@ -40,7 +40,7 @@ all_blocks : list_all is_block (range_with_len 0 10) ≡ true
 unfolding is_block has_number rem window touched heard off
 all_blocks = refl
 
--- what all places of a range pass, each does
+-- a test that all places of a range pass, each passes
 each : (test : ℕ → Bool) (from n : ℕ) → list_all test (range_with_len from n) ≡ true → (i : ℕ) → i < n → test (from + i) ≡ true
 each test from n all i within =
     let long = length-range_with_len from n in

@@ -5,11 +5,11 @@ use Rattle.rds_sync.specs.Advance.{next_place, reads_most}
 use Rattle.rds_sync.specs.Examples.Words.{rules_of}
 use Rattle.rds_sync.specs.Step.{lock_of}
 
--- a search goes over one bit
+-- a search takes one bit
 pub search : next_place Searching 51 104 ≡ 52
 search = refl
 
--- a lock goes behind the block that is due, the last bit of the range too, and else to the range's end
+-- a lock moves past the block that is due, even at the last bit of the range, and else to the range's end
 pub to_the_block : next_place (Locked (lock_of 77 3 0 2)) 52 104 ≡ 78
 to_the_block = refl
 
@@ -19,7 +19,8 @@ to_the_last_bit = refl
 pub to_the_end : next_place (Locked (lock_of 129 1 0 1)) 104 110 ≡ 110
 to_the_end = refl
 
--- a search reads its own window and a partner's at each distance; a lock the blocks of a group, where one is due
+-- a search reads its own window and a partner's at each distance; a lock reads the blocks of a group, if one
+-- is due
 pub search_of_reach_8 : reads_most (rules_of 2 8 10) Searching 104 ≡ 9
 search_of_reach_8 = refl
 

@@ -37,7 +37,7 @@ abbrev pub is_some_item : List Item → Bool
 is_some_item [] = false
 is_some_item (item ∷ items) = true
 
--- the search ends behind the bit that acquires
+-- the search ends after the bit that acquires
 pub to_the_acquisition : IsStretch b default_rules Searching 0 104 (reached 52 (Locked (lock_of 77 3 0 2)) acquires)
 unfolding acquired has_number group rem window touched heard off
 to_the_acquisition = record {
@@ -56,7 +56,7 @@ to_the_acquisition = record {
   };
 }
 
--- not one bit before, where nothing was given yet and the range goes on
+-- not one bit before, as nothing was given yet and the range continues
 pub not_before : IsStretch b default_rules Searching 0 104 (reached 51 Searching nothing) → ⊥
 unfolding acquired has_number group rem window touched heard off
 not_before stretch = goes_on stretch.ended
@@ -65,12 +65,12 @@ not_before stretch = goes_on stretch.ended
     goes_on (inl end) = false≢true (ap (λ place. place == 104) end)
     goes_on (inr some) = some refl
 
--- and not one bit behind it, though the state is that of the run
+-- and not one bit after it, though the state is that of the run
 pub not_behind : IsStretch b default_rules Searching 0 104 (reached 53 (Locked (lock_of 77 3 0 2)) acquires) → ⊥
 unfolding acquired has_number group rem window touched heard off
 not_behind stretch = false≢true (sym (ap is_some_item stretch.quiet))
 
--- where nothing is given it goes up to the end of its range
+-- if nothing is given it extends to the end of its range
 pub to_the_end : IsStretch b default_rules Searching 0 51 (reached 51 Searching nothing)
 unfolding acquired has_number group rem window touched heard off
 to_the_end = record {

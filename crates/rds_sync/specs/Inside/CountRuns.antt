@@ -11,7 +11,7 @@ use Rattle.rds_sync.specs.Loss.{IsLawfulBad}
 use Rattle.rds_sync.specs.Rules.{RuleNumbers}
 use Rattle.rds_sync.specs.Step.{run}
 
--- how far the run from state s before `place` came, and what was counted of the items that it gave
+-- how far the run from state s before `place` came, and the counts of the items that it gave
 pub record IsCountStretch (b : Signal) (rules : RuleNumbers) (s : State) (place to : ℕ) (before : CountOf) (reached : ℕ × State) (after : CountOf) : Type 0 where
   pub forward : place < reached.0
   pub limit : reached.0 ≤ to

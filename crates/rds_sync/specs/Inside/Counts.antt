@@ -1,5 +1,5 @@
--- What was counted of items, with the counts of blocks in lanes of a number. Cited by the bodies below `run_report` and `Tally`, and by
--- no public call.
+-- Counts of items, with the counts of blocks in lanes of a number. Cited by the bodies below `run_report` and
+-- `Tally`, and by no public call.
 use Rattle.std.specs.Prelude.{◌≡◌, ℕ, ◌+◌, ◌*◌, ◌/◌, ◌%◌, ◌^◌, ◌≤◌, List, [], ◌∷◌, length, if◌then◌else◌}
 use Rattle.rds_sync.specs.declared.item.Item.{Item}
 use Rattle.rds_sync.specs.declared.totals.Totals.{Totals}
@@ -38,7 +38,8 @@ in_lanes o = (if was_valid o then 1 else 0) + 2 ^ 16 * (if has_span 1 o then 1 e
     + 2 ^ 48 * (if has_span 3 o then 1 else 0) + 2 ^ 64 * (if has_span 4 o then 1 else 0) + 2 ^ 80 * (if has_span 5 o then 1 else 0)
     + 2 ^ 96 * (if was_lost o then 1 else 0) + 2 ^ 112 * bits_inverted o
 
--- what so many whole groups, other groups, acquisitions and losses come to, where these are the counts of the other groups' blocks
+-- the counts of `clean` whole groups and of other groups, acquisitions and losses, given the counts of the
+-- other groups' blocks
 abbrev pub counted : ℕ → ℕ → ℕ → ℕ → ℕ → ℕ → CountOf
 counted lanes clean groups complete acquired losses = record {
   totals = record {

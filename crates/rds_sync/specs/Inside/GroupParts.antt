@@ -4,7 +4,7 @@ use Rattle.rds_stream.specs.Recording.{Signal, length_of, heard}
 use Rattle.rds_sync.specs.Lawful.{HaveRoom}
 use Rattle.rds_sync.specs.declared.group_part.GroupPart.{GroupPart}
 
--- the blocks first to last, of which the last ends at this place, where this was heard
+-- the blocks first to last, of which the last ends at this place, with the window that was heard there
 pub record IsGroupPart (b : Signal) (part : GroupPart) : Type 0 where
   pub first : 1 ≤ part.first
   pub in_order : part.first ≤ part.last

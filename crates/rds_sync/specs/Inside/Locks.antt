@@ -19,7 +19,8 @@ use Rattle.rds_sync.specs.Step.{items_at}
 abbrev pub IsInProgress : Signal → RuleNumbers → Lock → List Block → Type 0
 IsInProgress b rules lock blocks = blocks ≡ blocks_at b rules lock.first (lock.number - 1) (lock.due - 26)
 
--- a lock that can be followed: it is not lost, and the blocks of its group that are read already lie in the recording
+-- a lock that can be followed: it is not lost, and the recording has the blocks of its group that are read
+-- already
 pub record IsReadable (b : Signal) (rules : RuleNumbers) (lock : Lock) : Type 0 where
   pub few_bad : IsLawfulBad rules.loss lock.bad
   pub start : HaveRoom lock.first lock.number lock.due
@@ -30,19 +31,20 @@ pub record IsReadable (b : Signal) (rules : RuleNumbers) (lock : Lock) : Type 0 
 abbrev pub closing : Lock → List Block → Item
 closing lock blocks = Group (group_of (lock.due - 26 * (lock.number - lock.first) - 25) blocks)
 
--- what the block that was due gives, where these are the blocks of its group and this is what it did
+-- the items of the block that was due, given the blocks of its group and its effect
 abbrev pub items_of_due : Lock → List Block → Due → List Item
 items_of_due lock blocks (Inside next) = []
 items_of_due lock blocks (Closed next) = closing lock blocks ∷ []
 items_of_due lock blocks Lost = closing lock blocks ∷ LostLock lock.due ∷ []
 
--- where the group goes on, nothing was given, the next block is due after 26 places, and the blocks are those read so far
+-- if the group continues, nothing was given, the next block is due after 26 places, and the blocks are those
+-- read so far
 pub record GoesOn (b : Signal) (rules : RuleNumbers) (lock next : Lock) (blocks : List Block) : Type 0 where
   pub nothing : items_at b rules lock.due (Locked lock) ≡ []
   pub due : next.due ≡ lock.due + 26
   pub in_progress : IsInProgress b rules next blocks
 
--- and where the block closed it, an item was given
+-- and if the block closed it, an item was given
 abbrev pub IsFollowed : Signal → RuleNumbers → Lock → List Block → Due → Type 0
 IsFollowed b rules lock blocks (Inside next) = GoesOn b rules lock next blocks
 IsFollowed b rules lock blocks (Closed next) = items_at b rules lock.due (Locked lock) ≢ []

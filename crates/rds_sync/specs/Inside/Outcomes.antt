@@ -1,5 +1,6 @@
--- How the blocks of a group came out, and what that tells: the group's totals, and what is kept of the bad blocks of its lock. Cited by
--- the bodies below `Tally`, `run_report` and `Decoder::fill`, and by no public call. This project's rule.
+-- How the blocks of a group came out, and what follows from that: the group's totals, and its lock's loss
+-- history. Cited by the bodies below `Tally`, `run_report` and `Decoder::fill`, and by no public call. This
+-- project's rule.
 use Rattle.std.specs.Prelude.{ℕ, zero, suc, ◌+◌, ◌-◌, List, [], ◌∷◌, Bool, true, false, ◌==◌, sum_by, count_by, count_ones, if◌then◌else◌, slice_index_or}
 use Rattle.std.specs.List.{list_all}
 use Rattle.rds_code.specs.Bursts.{span}
@@ -24,7 +25,7 @@ outcome_of (Read (Valid o info)) = valid
 outcome_of (Read (Corrected o info e)) = corrected (span e) (count_ones e)
 outcome_of (Read Lost) = lost
 
--- what a rule of loss calls good
+-- the blocks that a rule of loss calls good
 abbrev pub was_valid : Outcome → Bool
 was_valid valid = true
 was_valid o = false
@@ -66,7 +67,7 @@ group_totals os = record {
 abbrev pub good_at : List Outcome → ℕ → Bool
 good_at os y = was_valid (slice_index_or os (y - 1) missing)
 
--- what is kept of the bad blocks once so many blocks from number y on were read
+-- the loss history after as many of these blocks as the last number says, from number y on
 abbrev pub bad_over : Loss → List Outcome → ℕ → ℕ → ℕ → ℕ
 bad_over loss os bad y zero = bad
 bad_over loss os bad y (suc more) = bad_over loss os (bad_after loss (good_at os y) bad) (y + 1) more

@@ -12,19 +12,20 @@ use Rattle.rds_sync.specs.Inside.Words.{blocks_in}
 use Rattle.rds_sync.specs.Loss.{bad_after, are_too_many}
 use Rattle.rds_sync.specs.Rules.{RuleNumbers}
 
--- the offsets that are tried for the block behind block x at a place
+-- the offsets that are tried for the next block after block x at a place
 abbrev pub wanted_behind : Signal → RuleNumbers → ℕ → ℕ → Wanted
 wanted_behind b rules place x = if x == 2 then wanted_beside (Read (reading_at b place 2 Either rules.burst)) else Either
 
--- the first block of the group of the block behind block x, in a lock that begins with that
+-- the first block of the group of the next block after block x, in a lock that begins with block x
 abbrev pub first_behind : ℕ → ℕ
 first_behind x = if x == 4 then 1 else x
 
--- the word of a group of a valid block x and the block behind it of kind k; behind block 4, of that alone
+-- the word of a group of a valid block x and the next block of kind k; after block 4, of only the next block
 abbrev pub word_of_two : ℕ → ℕ → ℕ
 word_of_two x k = if x == 1 then 1 + 16 * k else (if x == 2 then 16 + 256 * k else (if x == 3 then 256 + 4096 * k else k))
 
--- the block behind block x at a place ends before `to` and loses the lock, and the word is that of its group
+-- the next block after block x at a place ends before `to` and loses the lock, and the word is that of its
+-- group
 pub record IsLostAtOnce (b : Signal) (rules : RuleNumbers) (place x to word : ℕ) : Type 0 where
   pub before : place + 26 < to
   pub bad : has_number b (place + 26) (x % 4 + 1) ≡ false

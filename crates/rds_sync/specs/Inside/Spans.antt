@@ -51,12 +51,12 @@ module _ (b : Signal) (rules : RuleNumbers) where
   abbrev pub IsInFirst : List Span → ℕ → Type 0
   IsInFirst spans left = (span : Span) (others : List Span) → spans ≡ span ∷ others → left < length (items_of span)
 
-  -- a span that stands among these, or would be the next, and how many items stand before it
+  -- a span that is one of these, or would be the next, and how many items come before it
   pub record IsStart (spans : List Span) (start : Start) : Type 0 where
     pub within : start.span ≤ length spans
     pub before : start.before ≡ length (items_in (take start.span spans))
 
-  -- the spans after those that stood before, and what they give
+  -- the spans after those before, and the items that they give
   pub record AreBehind (before after : List Span) (items : List Item) : Type 0 where
     pub more : List Span
     pub same : after ≡ before ++ more

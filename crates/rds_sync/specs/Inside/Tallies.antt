@@ -1,11 +1,11 @@
--- What is counted block by block, and of items without a look at the rest: whole groups, acquisitions and losses. Cited by the bodies
--- below `Totals::of_item` and `of_items`, and by no public call.
+-- The totals of single blocks, and of items that need no look at their blocks: whole groups, acquisitions and
+-- losses. Cited by the bodies below `Totals::of_item` and `of_items`, and by no public call.
 use Rattle.std.specs.Prelude.{ℕ, ◌*◌, [], ◌∷◌, if◌then◌else◌}
 use Rattle.rds_sync.specs.declared.item.Block.{Block}
 use Rattle.rds_sync.specs.declared.totals.Totals.{Totals}
 use Rattle.rds_sync.specs.Totals.{totals_of, is_valid, is_lost, is_corrected_by, bits_corrected}
 
--- the totals of a block alone
+-- the totals of a single block
 abbrev pub block_totals : Block → Totals
 block_totals block = record (totals_of []) {
   valid = if is_valid block then 1 else 0;
@@ -16,10 +16,10 @@ block_totals block = record (totals_of []) {
   bits = bits_corrected block;
 }
 
--- the totals of so many groups of four valid blocks
+-- the totals of n groups of four valid blocks
 abbrev pub whole_totals : ℕ → Totals
 whole_totals n = record (totals_of []) { valid = 4 * n; groups = n; complete = n }
 
--- and of so many acquisitions and losses beside them
+-- and of acquisitions and losses beside them
 abbrev pub told : ℕ → ℕ → ℕ → Totals
 told whole acquired losses = record (whole_totals whole) { acquired = acquired; losses = losses }

@@ -10,8 +10,8 @@ use Rattle.rds_sync.specs.Lawful.{IsLawful}
 use Rattle.rds_sync.specs.Rules.{RuleNumbers}
 use Rattle.rds_sync.specs.Step.{run}
 
--- the spans give a list up to place a, where the run was in state s; at `place` it is in state t, and what was counted, added up or
--- not yet, is all that it gave
+-- the spans give a list up to place a, at which the run was in state s; at `place` it is in state t, and the
+-- counts, added up or not yet, are of all that it gave
 pub record IsTally (b : Signal) (rules : RuleNumbers) (list : List Item) (a : ℕ) (s : State) (place : ℕ) (t : State) (first counts : CountOf) : Type 0 where
   pub start : IsLawful rules a s
   pub order : a ≤ place

@@ -16,7 +16,7 @@ use Rattle.rds_sync.specs.Step.{run}
 abbrev pub outcomes_at : Signal → RuleNumbers → ℕ → List Outcome
 outcomes_at b rules due = map outcome_of (group b rules 1 4 (due + 78)).blocks
 
--- that group, none of whose blocks loses the lock, and what is kept of the bad blocks behind it
+-- that group, none of whose blocks loses the lock, and the loss history after it
 pub record IsWhole (b : Signal) (rules : RuleNumbers) (due before : ℕ) (given : Group) (after : ℕ) : Type 0 where
   pub given_is : given ≡ group b rules 1 4 (due + 78)
   pub bad_is : after ≡ bad_over rules.loss (outcomes_at b rules due) before 1 4

@@ -18,7 +18,7 @@ outcomes_in_order =
     missing ∷ valid ∷ lost ∷ corrected 1 1 ∷ corrected 2 2 ∷ corrected 3 2 ∷ corrected 3 3 ∷ corrected 4 2 ∷ corrected 4 3 ∷ corrected 4 4
     ∷ corrected 5 2 ∷ corrected 5 3 ∷ corrected 5 4 ∷ corrected 5 5 ∷ []
 
--- what four bits say; 14 and 15 say nothing
+-- the outcome that four bits say; 14 and 15 say nothing
 abbrev pub outcome_at : ℕ → Outcome
 outcome_at k = slice_index_or outcomes_in_order k missing
 

@@ -5,7 +5,7 @@ use Rattle.rds_code.specs.Inside.BurstTable.{HasBurst}
 use Rattle.rds_code.proofs.BurstLemmas.{pattern_is_burst, small_pattern}
 use Rattle.rds_code.proofs.burst_table.enter_all.Goals as goal
 
--- an odd pattern stands in the table at each of its shifts
+-- an odd pattern is in the table at each of its shifts
 Entered : List ℕ → ℕ → Type 0
 Entered patterns half = (shift : ℕ) → shift < 26 → (2 * half + 1) * 2 ^ shift < 2 ^ 26 → HasBurst patterns ((2 * half + 1) * 2 ^ shift)
 

@@ -13,7 +13,7 @@ whole m t few shift =
     let most : m * 2 ^ t ≤ 32 * 2 ^ t = mul-le-mul_right (2 ^ t) (omega (arith, few)) in
     omega (arith, most, pow_mono {i = t} {j = 25} (omega (arith, shift)))
 
--- what stands in the table up to a shift, and at it, stands there up to the next
+-- a pattern that is in the table up to a shift, and at it, is there up to the next
 EnteredAt : List ℕ → ℕ → ℕ → Type 0
 EnteredAt patterns m shift = m * 2 ^ shift < 2 ^ 26 → HasBurst patterns (m * 2 ^ shift)
 

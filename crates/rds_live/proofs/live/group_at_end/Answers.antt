@@ -38,7 +38,7 @@ module _ (tail : List ℕ) (place from : ℕ) (kept : length tail ≡ min 30 (pl
       (subst (λ (b : Signal). IsPartHeard (signal_of gaps bytes) b (place - from) from) (sym is)
       (subst (λ (d : ℕ). IsPartHeard (signal_of gaps bytes) (signal_of (gaps_within gaps (8 * k) n) (last_bytes bytes)) d from) cut heard))
 
--- the part that is gone over at the end
+-- the part that is decoded at the end
 part-is : (gaps : List (ℕ × ℕ)) (tail heard : List ℕ) (place : ℕ) (part : Signal) → heard ≡ tail
     → part ≡ signal_at (gaps_within gaps (place - 8 * length heard) (8 * length heard)) tail (8 * length heard)
     → part ≡ signal_of (gaps_within gaps (place - 8 * length tail) (8 * length tail)) tail

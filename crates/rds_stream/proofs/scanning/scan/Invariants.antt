@@ -4,7 +4,7 @@ use Rattle.rds_stream.specs.Recording.{Signal, valid_windows}
 use Rattle.rds_stream.specs.ValidWindows.{WindowsLeft}
 use Rattle.rds_stream.proofs.scanning.scan.Given as goal
 
--- what was found so far is all that is valid so far
+-- the windows found so far are all that are valid so far
 pub record HasScanned (b : Signal) (from to : ℕ) (left : WindowsLeft) (found : List (ℕ × Offset)) : Type 0 where
   pub bits : left.signal ≡ b
   pub end : left.end ≡ to

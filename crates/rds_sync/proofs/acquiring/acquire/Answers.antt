@@ -9,7 +9,7 @@ use Rattle.rds_sync.proofs.LawfulLemmas.{acquired-none}
 use Rattle.rds_sync.proofs.HeardLemmas.{off-heard, acquired-early, acquired-offset}
 use Rattle.rds_sync.proofs.acquiring.acquire.Goals as goal
 
--- the offset of the place, by what was heard there
+-- the offset of the place, by the window heard there
 offset_is : (b : Signal) (place : ℕ) (h : Option ℕ) (read answer : Option Offset)
     → 25 ≤ place → h ≡ heard b place → read ≡ offset_heard h → read ≡ answer → off b place ≡ answer
 offset_is b place h read answer late heard_is read_is is =

@@ -43,7 +43,7 @@ module _ (b read : Signal) (rules : RuleNumbers) (s : State) (place to : ℕ) (n
       run-further b rules s lock _ [] [] place followed.next later followed.from_on low followed.so_far
       (sym (ap (λ (r : State × List Item). r.0) wait)) (sym (ap (λ (r : State × List Item). r.1) wait))
 
--- what the block that is due does over what was read, it does over the recording
+-- the block that is due has the same effect over `read` as over the recording
 module _ (b read : Signal) (rules : RuleNumbers) (lock : Lock) (same : read ≡ b) where
   state_over : (t : State) → t ≡ step read rules lock.due (Locked lock) → t ≡ step b rules lock.due (Locked lock)
   state_over t is = is ∙ ap (λ (signal : Signal). step signal rules lock.due (Locked lock)) same

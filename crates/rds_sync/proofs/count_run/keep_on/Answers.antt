@@ -14,7 +14,7 @@ use Rattle.rds_sync.proofs.count_run.keep_on.Goals as goal
 
 module _ (b : Signal) (rules : RuleNumbers) (lock next : Lock) (place to : ℕ) (before after : CountOf) (passed : HasCountedOn b rules lock to before next after)
     (lawful : IsLawfulLock rules place lock) (start : 25 ≤ lock.due) (more : lock.due < next.due) where
-  -- what is waited for before the place changes nothing
+  -- the wait before the place changes nothing
   same-run : run b rules (Locked lock) (lock.due - 25) (next.due - lock.due) ≡ run b rules (Locked lock) place (next.due - 25 - place)
   same-run =
       let soon = lawful.soon in

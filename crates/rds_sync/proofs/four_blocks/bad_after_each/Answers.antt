@@ -4,7 +4,7 @@ use Rattle.rds_sync.specs.Inside.Outcomes.{Outcome, bad_over, good_at}
 use Rattle.rds_sync.specs.Inside.Words.{blocks_in}
 use Rattle.rds_sync.proofs.four_blocks.bad_after_each.Goals as goal
 
--- what holds of the first four holds of each of them
+-- a property of 0, 1, 2 and 3 is one of each number below 4
 each-of-four : (P : ℕ → Type 0) → P 0 → P 1 → P 2 → P 3 → (k : ℕ) → k < 4 → P k
 each-of-four P one two three four zero h = one
 each-of-four P one two three four (suc zero) h = two

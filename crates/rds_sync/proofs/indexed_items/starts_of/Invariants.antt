@@ -6,7 +6,7 @@ use Rattle.rds_sync.specs.Inside.Spans.{IsSpan, IsStart, items_in}
 use Rattle.rds_sync.specs.Rules.{RuleNumbers}
 use Rattle.rds_sync.proofs.indexed_items.starts_of.Given as goal
 
--- so many items stand before the next span, and all that was kept so far is a start
+-- `before` items come before the next span, and all entries kept so far are starts
 pub record HasCounted (b : Signal) (rules : RuleNumbers) (spans : List Span) (span before : ℕ) (starts : List Start) : Type 0 where
   pub count : before ≡ length (items_in b rules (take span spans))
   pub all : All (IsStart b rules spans) starts

@@ -2,7 +2,7 @@ use Rattle.std.proofs.Common.{◌≡◌, ◌-◌, drop}
 use Rattle.rds_sync.specs.Step.{run}
 use Rattle.rds_sync.proofs.item_iter.decoder_past.Given as goal
 
--- so many items were passed over
+-- this many items were passed over
 abbrev pub invariant-loop-number : goal.invariant-loop-number
 invariant-loop-number l =
     l.decoder.items ≡ drop l._number (run l.recording l.rules l.fn.state l.from (l.to - l.from)).1

@@ -6,7 +6,7 @@ use Rattle.rds_sync.specs.Inside.Spans.{IsSpan, items_in}
 use Rattle.rds_sync.specs.Rules.{RuleNumbers}
 use Rattle.rds_sync.proofs.item_iter.next_in.Given as goal
 
--- the decoder is done, and what is left stands in the spans that are left
+-- the decoder is done, and the rest is in the spans that are left
 pub record IsDone (b : Signal) (rules : RuleNumbers) (before now : DecoderOf) (spans rest : List Span) : Type 0 where
   pub all : All (IsSpan b rules) rest
   pub done : now.items ≡ []

@@ -12,7 +12,7 @@ use Rattle.rds_sync.proofs.TallyRuns.{gone-none, gone-again}
 use Rattle.rds_sync.proofs.report.run_report.Invariants.{HasCome}
 use Rattle.rds_sync.proofs.report.run_report.Goals as goal
 
--- what is known of a run that has come to its end
+-- the facts about a run that has come to its end
 module _ (b read : Signal) (rules : RuleNumbers) (s : State) (from to : ℕ) (now : TallyOf) (come : HasCome b read rules s from to now) where
   source-is : now.source ≡ b
   source-is = ap (λ (t : TallyOf). t.source) come.gone

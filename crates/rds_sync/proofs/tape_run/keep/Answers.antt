@@ -82,7 +82,7 @@ returns-then-to-lock-clause-quiet g c =
     let late = c.if-to-lock.true in
     ap (λ (r : State × List Item). r.1) (run-early (g.T.Tape.signal c.args.tape.now) c.args.rules.now (Locked c.args.lock) c.args.place (c.args.to - 1) c.args.lock refl (omega (arith, h)) (omega (arith, late)))
 
--- what the block that is due does, over what was read
+-- the effect of the block that is due, over `read`
 module _ (b read : Signal) (rules : RuleNumbers) (now : Lock) (good : Bool) (due : Due) (loss : Loss) (same : read ≡ b) (loss_is : loss ≡ rules.loss)
     (valid : good ≡ has_number read now.due now.number) (after : IsAfter loss now good due) where
   valid-there : good ≡ has_number b now.due now.number

@@ -9,7 +9,7 @@ use Rattle.rds_sync.specs.Rules.{RuleNumbers}
 use Rattle.rds_sync.specs.Step.{run}
 use Rattle.rds_sync.proofs.tape_run.keep.Given as goal
 
--- after so many blocks of a group, with what they were read as
+-- after some blocks of a group, with their readings
 pub record HasKept (b : Signal) (rules : RuleNumbers) (lock : Lock) (place to : ℕ) (now : Lock) (blocks : List Block) (reads : ℕ) : Type 0 where
   pub next : ℕ
   pub from_on : place ≤ next

@@ -3,7 +3,7 @@ use Rattle.std.proofs.lemmas.List.{get_or-replicate, take-append-le, take_all, l
 use Rattle.rds_code.specs.Inside.BurstTable.{IsSound, IsBurstTable}
 use Rattle.rds_code.proofs.burst_table.BurstTable.new.Goals as goal
 
--- nothing stands in an empty table
+-- an empty table has no burst
 sound_at_first : (n : ℕ) (patterns : List ℕ) → patterns ≡ replicate n 0 → n ≡ 1024 → IsSound patterns
 sound_at_first n patterns e long r within stands =
     absurd (omega (arith, stands, ap (λ (xs : List ℕ). get_or xs r 0) e, get_or-replicate {A = ℕ} n r 0 0 (omega (arith, long, within))))
@@ -14,7 +14,7 @@ enter_all-requires-clause-sound c = sound_at_first 1024 c.deref_mut.result.now (
 long_at_first : (n : ℕ) (patterns : List ℕ) → patterns ≡ replicate n 0 → length patterns ≡ n
 long_at_first n patterns e = ap length e ∙ length-replicate {A = ℕ} n 0
 
--- what was written to the whole of a vector is all of it
+-- a list written over the whole of a vector is all of it
 written : (n : ℕ) (xs rest : List ℕ) → n ≡ length xs → take n (xs ++ rest) ≡ xs
 written n xs rest e = take-append-le n xs rest (omega (arith, e)) ∙ take_all n xs (omega (arith, e))
 

@@ -24,7 +24,7 @@ use Rattle.rds_live.proofs.live.Live.finish_with.Goals as goal
 size-of : (part : Signal) (gaps : List (ℕ × ℕ)) (bytes : List ℕ) (n : ℕ) → part ≡ signal_at gaps bytes n → length_of part ≡ n
 size-of part gaps bytes n e = ap (λ (b : Signal). length_of b) e ∙ length-at gaps bytes n
 
--- the part that is gone over, with its gaps
+-- the part that is decoded, with its gaps
 part-is : (part : Signal) (gaps : List (ℕ × ℕ)) (at n m : ℕ) (held bytes : List ℕ) → part ≡ signal_at (gaps_within gaps at n) held n → n ≡ m → held ≡ bytes
     → part ≡ signal_at (gaps_within gaps at m) bytes m
 part-is part gaps at n m held bytes is long bytes_are = is ∙ ap₂ (λ (k : ℕ) (xs : List ℕ). signal_at (gaps_within gaps at k) xs k) long bytes_are
@@ -66,7 +66,8 @@ moved_end-group-requires-clause-lawful c =
     let long = size-of c.into_recording-part.result (gaps_within c.self.inside.gaps.now (c.self.inside.place - 8 * length c.bytes.result.now) n) c.push.new.self.bytes n c.into_recording-part.ensures in
     subst (λ (k : ℕ). IsLawful c.self.inside.rules.now k c.fill_from-end.result) (sym long) c.fill_from-end.ensures.lawful
 
--- where the bits that end the stream were gone over, behind those that are kept of the bytes heard before
+-- the facts once the bits that end the stream were decoded, after those that are kept of the bytes heard
+-- before
 module _ (c : After-ended) where
   abbrev terms : Terms
   terms = record { rules = c.self.inside.rules.now; gaps = c.self.inside.gaps.now }
@@ -126,7 +127,7 @@ module _ (c : After-ended) where
   last_is : group_item c.ended.result.group ≡ moved_items at (items_of_end part terms.rules c.fill_from-end.result)
   last_is = ap group_item c.ended.ensures.group ∙ c.moved_end-group.ensures
 
-  -- the same by the numbers alone
+  -- the same by only the numbers
   abbrev live : LiveOf
   live = record { terms = terms; tail = tail; place = c.self.inside.place; state = c.self.inside.state; totals = c.self.inside.totals }
 

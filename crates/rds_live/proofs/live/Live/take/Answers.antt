@@ -35,7 +35,7 @@ plus-self-inside-requires c =
       c.of_items.ensures.small,
     )
 
--- where the bytes that are taken were gone over, behind those that are kept of the bytes heard before
+-- the facts once the bytes that are taken were decoded, after those that are kept of the bytes heard before
 module _ (c : After-moved_on-self-inside) where
   abbrev terms : Terms
   terms = record { rules = c.self.inside.rules.now; gaps = c.self.inside.gaps.now }
@@ -91,7 +91,7 @@ module _ (c : After-moved_on-self-inside) where
       let counted = ap length c.move_on.ensures ∙ length-map c.as_mut_slice.result.now (moved_item at) ∙ c.as_mut_slice.ensures.len in
       with_items_is c.fill_from-end.new.items c.move_on.new.items counted ∙ c.move_on.ensures ∙ ap (moved_items at) (c.as_mut_slice.ensures.value ∙ found_are)
 
-  -- the same by the numbers alone
+  -- the same by only the numbers
   abbrev live : LiveOf
   live = record { terms = terms; tail = tail; place = c.self.inside.place; state = c.self.inside.state; totals = c.self.inside.totals }
 

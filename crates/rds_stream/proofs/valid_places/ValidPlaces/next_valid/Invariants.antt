@@ -7,7 +7,7 @@ use Rattle.rds_stream.specs.ValidWindows.{NoneValid}
 use Rattle.rds_stream.specs.Inside.ValidPlaces.{TellsValidPlaces}
 use Rattle.rds_stream.proofs.valid_places.ValidPlaces.next_valid.Given as goal
 
--- no place from `from` to the first of these has an offset, and what is known is a section
+-- no place from `from` to the first of these has an offset, and the known section is one
 pub record AreLaterPlaces (b : Signal) (from end : ℕ) (now : ValidPlaces) (known : Section) : Type 0 where
   pub places : TellsValidPlaces b now.next now.ahead now.word
   pub first : now.ahead < end → 25 ≤ now.ahead

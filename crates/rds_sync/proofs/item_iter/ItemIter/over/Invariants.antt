@@ -2,7 +2,7 @@ use Rattle.std.proofs.Common.{◌≡◌, ◌++◌, All, drop}
 use Rattle.rds_sync.specs.Inside.Spans.{IsSpan, items_in}
 use Rattle.rds_sync.proofs.item_iter.ItemIter.over.Given as goal
 
--- so many items were passed over
+-- this many items were passed over
 abbrev pub invariant-loop-number : goal.invariant-loop-number
 invariant-loop-number l =
     All (IsSpan l.recording l.rules) l.rest

@@ -6,7 +6,7 @@ use Rattle.rds_sync.specs.Totals.{totals_of}
 use Rattle.rds_sync.specs.Inside.Tallies.{told}
 use Rattle.rds_sync.proofs.totals.Totals.of_items.Given as goal
 
--- of so many items the common ones were counted, and the totals of the rest added up
+-- of the first n items the common ones were counted, and the totals of the rest added up
 pub record HasCounted (items : List Item) (n whole acquired losses : ℕ) (totals : Totals) : Type 0 where
   pub rest : ℕ
   pub parted : rest + whole + acquired + losses ≡ n
