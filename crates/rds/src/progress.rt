@@ -12,11 +12,11 @@ const PAUSE: u64 = 500;
 
 const MEGABYTE: u64 = 1_000_000;
 
-/// What takes a line away.
+/// Erases a line.
 const CLEAR: &str = "\r                                                            \r";
 
-/// What a line tells: how many pieces are decoded, and then of how many bits the rows are written. The workers, the reader
-/// and the writer count at once.
+/// The line shows how many pieces are decoded, and then how many of the bits have their rows written. The
+/// workers, the reader and the writer count at once.
 #[derive(Drop)]
 pub struct Progress<'a> {
     rt: &'a HostRuntime,
@@ -117,17 +117,17 @@ impl<'a> Progress<'a> {
     }
 }
 
-/// The seconds that the rest of the work takes at the pace of what is done in so many milliseconds.
+/// The seconds that the rest of the work takes, if `done` of `all` took `spent` milliseconds.
 fn seconds_left(spent: u64, done: u64, all: u64) -> u64 {
     spent.saturating_mul(all.saturating_sub(done)) / done.max(1) / 1000
 }
 
-/// What tells how many bits a recording has.
+/// How the number of bits of a recording is known.
 #[derive(Clone, Copy)]
 enum Length {
-    /// So many, as was asked for.
+    /// This number of bits, which the job asks for.
     Asked(u64),
-    /// So many for each byte that was read. Blanks in hexadecimal text count as digits here.
+    /// This number of bits per byte that was read. Blanks in hexadecimal text count as digits here.
     Read(u64),
 }
 
@@ -168,7 +168,7 @@ impl<'a, D> Told<'a, D> {
         Told { device, progress }
     }
 
-    /// The device alone.
+    /// Only the device.
     pub fn into_inner(self) -> D
         ensures { result ≡ self.entry.device }
     {
