@@ -1,4 +1,5 @@
--- Two runs of one range side by side, of which the one that is behind hops: they meet at the least place, and read few windows.
+-- Two runs of one range side by side, of which the one at the lesser place hops: they meet at the least
+-- place, and read few windows.
 use Rattle.std.proofs.Common.{◌≡◌, ◌≢◌, ℕ, ◌+◌, ◌-◌, ◌*◌, ◌<◌, ◌≤◌, ◌^◌, ◌⊎◌, Option, Some, None, refl, sym, ap, ◌∙◌, subst, arith, inl, inr}
 use Rattle.std.proofs.lemmas.Bool.{cases_lt}
 use Rattle.std.proofs.lemmas.Nat.{mul-le}
@@ -49,7 +50,7 @@ then_first a x c y other not_first = elim (which a c) [
   ]
 ]
 
--- the one that is first can go on, and a search is behind the other
+-- the one that is first can go on, and a search is at a lesser place than the other
 pub first_ahead : (a : ℕ) (x : State) (c to : ℕ) → a ≤ to → c ≤ to → IsFirst a x c → ¬ ((a ≡ to) × (c ≡ to)) → a < to
 first_ahead a x c to one two (inl less) other = omega (arith, less, two)
 first_ahead a x c to one two (inr same) other = let e = same.0 in elim (cases_lt a to) [
@@ -61,7 +62,7 @@ pub first_behind : (a : ℕ) (x : State) (c : ℕ) → IsFirst a x c → x ≡ S
 first_behind a x c (inl less) e = less
 first_behind a x c (inr same) e = absurd (same.1 e)
 
--- the run from s and its guess, side by side, after so many reads
+-- the run from s and its guess, side by side, after `reads` reads
 pub record IsBeside (b : Signal) (rules : RuleNumbers) (s : State) (from to : ℕ) (own guess : TallyOf) (reads : ℕ) : Type 0 where
   pub own_is : own ≡ gone_on (tally_at b rules from s) own.place
   pub guess_is : guess ≡ gone_on (tally_at b rules from Searching) guess.place

@@ -16,7 +16,7 @@ pub fn pieces_follow()
     ensures { PiecesFollow }
 {}
 
-/// Where two neighbours are joined, the runs follow each other as before.
+/// If two neighbours are joined, the runs follow each other as before.
 pub fn joined_runs_follow()
     ensures { JoinedRunsFollow }
 {}
