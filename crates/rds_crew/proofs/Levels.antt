@@ -1,4 +1,4 @@
--- Levels of the tree of joins: what stands in the level above, and that it stands in a row.
+-- Levels of the tree of joins: which runs are in the level above, and that they follow each other.
 use Rattle.std.proofs.Common.{◌≡◌, ℕ, zero, suc, ◌+◌, ◌-◌, ◌*◌, ◌/◌, ◌%◌, ◌^◌, ◌<◌, ◌≤◌, List, [], ◌∷◌, ◌++◌, length, get_or, map, sym, refl, ap, ◌∙◌, arith}
 use Rattle.std.specs.List.{range_with_len}
 use Rattle.std.proofs.lemmas.List.FromFn.{fill_by_all}
@@ -68,7 +68,7 @@ module _ (b : Signal) (rules : RuleNumbers) where
   level_odd (x ∷ []) last even = absurd (omega (arith, even))
   level_odd (x ∷ (y ∷ front)) last even = ap (λ (rs : List RunOf). run_over b rules x.from y.to ∷ rs) (level_odd front last (omega (arith, even)))
 
--- so many levels halve any number of runs to one
+-- this number of levels halves any number of runs to one
 pub halved : (n k : ℕ) → 1 < n → n ≤ 2 ^ k → (n + 1) / 2 ≤ 2 ^ (k - 1)
 halved n zero some few = absurd (omega arith)
 halved n (suc k) some few = let same : suc k - 1 ≡ k = omega arith in rw same (omega (arith, few))

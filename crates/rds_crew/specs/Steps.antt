@@ -14,8 +14,8 @@ use Rattle.rds_crew.specs.Deal.{held_count, fresh}
 abbrev pub words_of : Counts → List ℕ
 words_of counts = counts.tickets ∷ counts.done ∷ []
 
--- The step, which found so much in its word, is this event: from whatever counts that is the word of, the event leads to counts
--- that are the words after the step, which sets its own word alone
+-- The step, which found so much in its word, is this event: from whatever counts that is the word of, the
+-- event leads to counts that are the words after the step, which sets only its own word
 abbrev pub IsEvent : ℕ → Event → Step Unit → ℕ → Type 0
 IsEvent pieces event step found = (before : Counts) → slice_index (words_of before) step.word ≡ found
     → (after : Counts) × Leads pieces event before after

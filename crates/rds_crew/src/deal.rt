@@ -1,20 +1,22 @@
-//! What the table of a dealer keeps: its rule, and the kinds of step on it.
+//! The table of a dealer: its invariant, and the kinds of step on it.
 //!
-//! The table has two words. The first counts the tickets that were drawn, the second the numbers that are finished.
-//! What a seat knows is its view, which exists in proofs alone: none of it takes memory or is ever made.
+//! The table has two words. The first counts the tickets that were drawn, the second the numbers that are
+//! finished. All that a seat knows is its view, which exists only in proofs: none of it takes memory or is
+//! ever made.
 use atomic_table::{Join, Play, Split, TableRule};
 use std::collections::LinkedList;
 
-/// What a dealer is told once: of how many pieces it deals the numbers, and to how many seats.
+/// The terms of a dealer, fixed when it is made: of how many pieces it deals the numbers, and to how many
+/// seats.
 #[derive(Drop)]
 pub struct Terms {
     pub pieces: u64,
     pub seats: u64,
 }
 
-/// What a step of a seat is to the dealer, with the reply. No value of it is made.
+/// Ghost: a step of a seat, as an event of the dealer's core, with its reply. No value of it is made.
 pub enum Event {
-    /// A number was drawn, or `None` where none was left.
+    /// A number was drawn, or `None` if none was left.
     Draw(Option<u64>),
     /// The number held was finished.
     Finish,
@@ -22,10 +24,10 @@ pub enum Event {
     Progress(u64),
 }
 
-/// What a seat knows: of how many pieces its dealer is, its shares (one, but inside `Dealer::new` and
-/// `Dealer::close`), the numbers that it drew, which of them it holds, how often it was told that none is left, how
-/// many it finished, what it was last told of all that is finished, and its events, the newest last. No value of it
-/// is made.
+/// Ghost: all that a seat knows. That is of how many pieces its dealer is, its shares (one, but inside
+/// `Dealer::new` and `Dealer::close`), the numbers that it drew, which of them it holds, how often it was
+/// told that none is left, how many it finished, what it was last told of all that is finished, and its
+/// events, the newest last. No value of it is made.
 pub struct View {
     pub pieces: u64,
     pub share: u64,

@@ -5,7 +5,7 @@ ghost use Rattle.rds_crew.specs.Deal.{fresh};
 use crate::deal::View;
 use std::marker::Model;
 
-/// What a seat steps with. It takes no memory.
+/// The token that a seat steps with. It takes no memory.
 pub(crate) type Token = atomic_table::Seat<(), View>;
 
 /// The right to draw of one dealer, which one worker has at a time. Contracts see of which dealer it is and what it
@@ -85,7 +85,7 @@ impl Seat {
         }
     }
 
-    /// What the seat stepped with.
+    /// The token that the seat stepped with.
     pub(crate) fn into_token(self) -> Token
         ensures table { result.table_id ≡ self.dealer.table }
         ensures view { result.me ≡ (self.view, []) }
