@@ -465,7 +465,7 @@ module _ (setup : Setup) (pool : Pool) (k : ℕ) where
     asleep = r.asleep;
   }
 
--- ---- the caller takes a part, or a sheet to make it on alone
+-- ---- the caller takes a part, or a sheet to make it on by itself
 
 module _ (setup : Setup) (pool : Pool) (k : ℕ) where
   abbrev took : Pool

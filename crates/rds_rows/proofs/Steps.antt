@@ -25,7 +25,7 @@ appends_kept (Some a) None c xs p q = absurd p
 appends_kept (Some a) (Some b) None xs p q = absurd q
 appends_kept (Some a) (Some b) (Some c) xs p q = q ∙ p
 
--- what lies from a place on, as a slice gives it
+-- the bytes from a place on, as a slice gives them
 pub rest_whole : (xs : List ℕ) (i : ℕ) → take (length xs - i) (drop i xs) ≡ drop i xs
 rest_whole xs i = grind (arith, common_steps)
 
@@ -85,7 +85,7 @@ but_all a xs = ([], refl, appends_none a)
 pub but_none : (a b : Option (List ℕ)) (xs : List ℕ) → Appends a b xs → AppendsBut a b xs []
 but_none a b xs p = (xs, sym (append-nil xs), p)
 
--- more text behind what is kept
+-- more text after the kept text
 pub but_more : (a b c : Option (List ℕ)) (xs ys kept last : List ℕ) → AppendsBut a b xs kept → AppendsBut b c (kept ++ ys) last → AppendsBut a c (xs ++ ys) last
 but_more a b c xs ys kept last (front, split, p) (next, splits, q) = (
   front ++ next,
