@@ -87,7 +87,7 @@ near_end_by (Some n) place room to none (inr ended) = inr ended
 
 -- ---- rows
 
--- rows of a chunk, behind those of what was heard before
+-- rows of a chunk, after those of the bytes heard before
 abbrev pub HasRows : Terms → List ℕ → List ℕ → List ℕ → Type 0
 HasRows terms before bytes rows = rows_so_far terms (before ++ bytes) ≡ rows_so_far terms before ++ rows
 
@@ -138,7 +138,7 @@ module _ (terms : Terms) (bits : Option ℕ) where
     pub is_place : IsPlaceOf bits live.place
     is_place = place_of_all bits live.place heard place_is f.all_count
 
-    -- nothing came behind it
+    -- nothing came after it
     pub stops_here : (after : Option (List ℕ)) → Keeps to after → StopsBetweenRows terms bits from after old new
     stops_here after kept =
         (heard, [], omega arith, f.all_count, subst (λ xs. Consumes from after xs) (sym (append-nil heard)) (Consumes-kept from to after heard f.taken kept), f.written)
@@ -163,7 +163,7 @@ module _ (terms : Terms) (bits : Option ℕ) where
         pub taken_more : Consumes from after (heard ++ bytes)
         taken_more = Consumes-trans from to after heard bytes f.taken took_bytes
 
-        -- these came behind it, and no row of them was written
+        -- these came after it, and no row of them was written
         pub stops_behind : length bytes ≤ 65536 → StopsBetweenRows terms bits from after old new
         stops_behind few = (heard, bytes, few, f.all_count, taken_more, f.written)
 
@@ -477,7 +477,7 @@ pub on_ok : {E : Type 0} (r : Result (Unit {0}) E) (P Q : Type 0) → (P → Q) 
 on_ok (Ok x) P Q more h = more h
 on_ok (Err e) P Q more h = tt
 
--- the last write alone may be refused
+-- only the last write may be refused
 pub write_breaks : {T : Type 0} (r : Result T ToolError) → IfErr r (λ e. e ≡ Write) → IfErr r MayBreakOff
 write_breaks (Ok x) h = tt
 write_breaks (Err e) h = inr (inr (inl h))

@@ -25,7 +25,7 @@ use Rattle.rds_tool.specs.declared.job.Asked.{Asked}
 use Rattle.rds_tool.specs.declared.job.Asked.TheVariants.{Job as AskedJob, Follow}
 use Rattle.rds_tool.specs.declared.job.Job.TheVariants.{Encode, List as ListJob, Scan, Totals}
 
--- the way in which the unsigned types of std read a number of so many binary digits
+-- the way in which the unsigned types of std read a number of this many binary digits
 abbrev pub reads_unsigned : ℕ → Text → Result ℕ ParseIntError → Type 0
 reads_unsigned width text r = ParsesUnsigned width 10 text r × ExplainsUnsignedError 10 text r × HasUnsignedDigitsIfOk text r
 

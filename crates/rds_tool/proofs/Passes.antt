@@ -42,7 +42,7 @@ prefix_more a b c xs ys p (prefix, rest, split, q) = (xs ++ prefix, rest, ap (λ
 pub prefix_wider : (a b : Option (List ℕ)) (xs ys : List ℕ) → AppendsPrefix a b xs → AppendsPrefix a b (xs ++ ys)
 prefix_wider a b xs ys (prefix, rest, split, q) = (prefix, rest ++ ys, ap (λ (w : List ℕ). w ++ ys) split ∙ append_assoc prefix rest ys, q)
 
--- a whole text, and then a prefix of another, with more behind
+-- a whole text, and then a prefix of another, with more after it
 pub prefix_between : (a b c : Option (List ℕ)) (xs ys zs : List ℕ) → Appends a b xs → AppendsPrefix b c ys → AppendsPrefix a c (xs ++ (ys ++ zs))
 prefix_between a b c xs ys zs p q = prefix_more a b c xs (ys ++ zs) p (prefix_wider b c ys zs q)
 
@@ -172,7 +172,7 @@ module _ (all done left part shown rest : List Item) (first : all ≡ done ++ le
   pub counts_fit : 2 ^ 10 * length done + 2 ^ 10 * length shown < 2 ^ 64
   counts_fit = omega (arith, parted, few)
 
--- fewer are left behind a part that has some
+-- fewer are left after a part that has some
 pub fewer_left : (left part rest : List Item) → left ≡ part ++ rest → (length part ≡ 0 → ⊥) → length rest < length left
 fewer_left left part rest next some =
     let count : length left ≡ length (part ++ rest) = ap (λ (xs : List Item). length xs) next in

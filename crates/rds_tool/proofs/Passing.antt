@@ -8,7 +8,7 @@ pub passed : {T E : Type 0} (r : Result T E) (e : E) → IsErr r × IsErrAnd r (
 passed (Ok x) e h = cc h.0
 passed (Err x) e h = ap (λ y. Err y) h.1
 
--- it is of one kind alone
+-- it is of only one kind
 pub passed_kind : {T : Type 0} (r : Result T ToolError) (e k : ToolError) → r ≡ Err e → r ≡ Err k → e ≡ k
 passed_kind r e k p q = cc
 

@@ -149,7 +149,7 @@ pub row_short : (fs : List (List ℕ)) → 2 ≤ length fs → length fs ≤ 8 �
 row_short [] several few short = absurd (omega arith)
 row_short (f ∷ fs) several few short = grind (arith, common_steps, joined_short f fs short)
 
--- a short row behind others
+-- a short row after others
 pub text_short : (old new added : List ℕ) → new ≡ old ++ added → length added ≤ 168 → length new ≤ length old + 168
 text_short old new added e h = grind (arith, common_steps, e)
 

@@ -62,7 +62,7 @@ module _ (input : Input) (plan : PlanOf) (held : List ℕ) (bits : Signal) where
       let fits : cut_by plan.cuts bits ≡ Ok bits = ap (λ (t : Bool). if t then Ok bits else Err BadCutting) (any_fits plan.cuts any (length_of bits)) in
       listed_whole recorded fits
 
-  -- the text of its totals alone
+  -- the text of only its totals
   pub totals_made : (totals : TotalsOf) → recording_of input held ≡ Ok bits → cut_by plan.cuts bits ≡ Ok bits → totals ≡ totals_of (report_items bits plan.rules)
       → text_of_task (task.Totals input plan) held ≡ Ok (totals_text totals)
   totals_made totals recorded fits o = ap (λ r. and_then r (λ b. Ok (totals_list plan.rules b))) (cut recorded fits) ∙ ap (λ x. Ok (totals_text x)) (sym o)
@@ -164,7 +164,7 @@ task_errs (task.Encode hex) held = lines_errs hex (lines_of held)
 of_bytes : (t : Task) (held : List ℕ) (e : ToolError) → text_of_task t held ≡ Err e → IsOfOutcome e
 of_bytes t held e q = let P : Result (List ℕ) ToolError → Type 0 = λ r. IfErr r IsOfOutcome in subst P q (task_errs t held)
 
--- a thread is not started in this case alone
+-- only in this case a thread is not started
 pub started : (X : Type 0) (t : Task) (held : List ℕ) (e : ToolError) → IsShortageOrErrOf X (text_of_task t held) e → e ≡ NoWorker → X
 started X t held e (inl m) p = let bad : OutOfMemory ≡ NoWorker = sym m ∙ p in cc bad
 started X t held e (inr (inl h)) p = h.1
