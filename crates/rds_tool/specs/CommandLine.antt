@@ -265,7 +265,7 @@ IsFault k = (k ≢ kind.DisplayHelp) × (k ≢ kind.DisplayVersion) × (k ≢ ki
 
 -- the kind of answer that these faults and entries allow: help or the version if it was asked for; a refusal
 -- of the words if they have a fault, or if none of them is at fault and yet nothing to be asked for has their
--- entries; refused memory ever
+-- entries; `Memory` in any case
 abbrev pub MayAnswer : Kinds → Option (Text × List Row) → FaultKind → Type 0
 MayAnswer faults entries Help = IsAmong kind.DisplayHelp faults
 MayAnswer faults entries Version = IsAmong kind.DisplayVersion faults
