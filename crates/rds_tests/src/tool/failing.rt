@@ -1,4 +1,4 @@
-//! Devices that withhold what they are given, or have no end.
+//! Devices that withhold the bytes that they are given, or have no end.
 ghost use Rattle.std.specs.Prelude.{◌≤◌, length};
 
 use crate::tool::devices::{SlowReader, Withholding, scan_gives, written_to};
@@ -19,7 +19,8 @@ fn a_flush_reaches_the_writer_of_std(rt: HostRuntime) {
     assert!(rt; hands_on(&rt, rt.alloc(), true, Err(ToolError::Write), 0));
 }
 
-/// Whether a scan to a writer of std that waits for its flush is answered so, and so many bytes are handed on.
+/// Whether a scan to a writer of std that waits for its flush is answered so, and this number of bytes is
+/// handed on.
 fn hands_on<R: Threads + Wait + Sync>(
     rt: &R,
     alloc: Global,
@@ -65,7 +66,7 @@ fn is_left_in_time<R: Threads + Wait + Sync>(rt: &R, alloc: Global, bytes: &[u8]
         && is_read(rt, alloc, bytes, usize::MAX, Ok(b""), 257)
 }
 
-/// Whether a reader that gives so many of these bytes a read is answered so, after so many reads of 64 KiB.
+/// Whether a reader that gives `step` of these bytes per read is answered so, after `reads` reads of 64 KiB.
 fn is_read<R: Threads + Wait + Sync>(
     rt: &R,
     alloc: Global,
