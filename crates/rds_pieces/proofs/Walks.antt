@@ -34,7 +34,7 @@ is_search : (x : State) → (x ≡ Searching) ⊎ (x ≢ Searching)
 is_search Searching = inl refl
 is_search (Locked lock) = inr (λ e. cc)
 
--- where the one is not first the other is
+-- if the one is not first the other is
 pub then_first : (a : ℕ) (x : State) (c : ℕ) (y : State) → ¬ ((a ≡ c) × (x ≡ y) × IsBetweenGroups x) → ¬ IsFirst a x c → IsFirst c y a
 then_first a x c y other not_first = elim (which a c) [
   | inl less ↦ absurd (not_first (inl less))
@@ -159,7 +159,7 @@ module _ (laws : RunLaws) (b : Signal) (rules : RuleNumbers) (range : IsInRange 
         let most = mul-le (rules.reach + 2) (to - from + 1) 10 (2 ^ 36 + 1) (let r = range.reach in omega (arith, r)) (omega (arith, few)) in
         omega (arith, some, most, low, is)
 
-    -- where they meet it is the least place
+    -- if they meet it is the least place
     pub met_least : Meet own guess → MeetFirstAt b rules s Searching from to own.place
     met_least m = record {
       here = record {
@@ -170,7 +170,7 @@ module _ (laws : RunLaws) (b : Signal) (rules : RuleNumbers) (range : IsInRange 
       least = λ q less. h.apart.apart q (inl less);
     }
 
-    -- and where both are at the end they met nowhere
+    -- and if both are at the end they met nowhere
     pub never_met : ¬ Meet own guess → own.place ≡ to → guess.place ≡ to → (q : ℕ) → ¬ MeetAt b rules s Searching from to q
     never_met other own_end guess_end q m = elim (cases_lt q to) [
       | inl less ↦ h.apart.apart q (inl (omega (arith, less, own_end))) m

@@ -1,4 +1,4 @@
--- The laws of pieces, over the definitions alone. Each is the contract of the function of its name in `laws`.
+-- The laws of pieces, over only the definitions. Each is the contract of the function of its name in `laws`.
 use Rattle.std.specs.Prelude.{ℕ, ◌≤◌, List, ◌∷◌, ◌++◌}
 use Rattle.rds_stream.specs.Recording.{Signal, length_of}
 use Rattle.rds_sync.specs.Rules.{RuleNumbers}
