@@ -47,7 +47,7 @@ after view (Progress reply) = with_told view reply
 abbrev pub Does : Event → Step Unit → Me Unit View → ℕ → Me Unit View → Type 0
 Does event step me found me' = IsEvent me.0.pieces event step found × (me' ≡ (after me.0 event, me.1))
 
--- what each step tells its seat by what it found, beside the event that it is
+-- the news of each step to its seat, by the word that it found, beside the event that it is
 abbrev pub Drew : Step Unit → Me Unit View → ℕ → Me Unit View → Type 0
 Drew step me found me' = Does (Draw (number_of_ticket me.0.pieces found)) step me found me' × (me.0.finished ≤ found)
 

@@ -38,10 +38,10 @@ pub const MOST_WORKERS: u32 = 256;
 /// this order: `OutOfMemory` if memory was refused before the first thread was started; `NoWorker` if a
 /// thread was not started; `OutOfMemory` if memory was refused later. All parts made until then are dropped.
 ///
-/// Its cost: each bit is guessed once, and a join carries the left run on over the right one until the two meet (see
-/// [`join_runs`](rds_pieces::join_runs)): at best at once, at worst to the end of the right one. So each bit is gone
-/// over once, and at most once more for each level. The runs of one level are held at a time, and what joins them; runs
-/// are moved up a level, and none is copied.
+/// Its cost: each bit is guessed once, and a join carries the left run on over the right one until the two
+/// meet (see [`join_runs`](rds_pieces::join_runs)): at best at once, at worst to the end of the right one. So
+/// each bit is gone over once, and at most once more for each level. The runs of one level are held at a
+/// time, and what joins them; runs are moved up a level, and none is copied.
 pub fn decode_crew<R: Threads + Wait, W: Work + Sync, G: Gate + Sync>(
     rt: &R,
     alloc: Global,

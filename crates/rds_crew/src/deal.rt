@@ -26,7 +26,7 @@ pub enum Event {
 
 /// Ghost: all that a seat knows. That is of how many pieces its dealer is, its shares (one, but inside
 /// `Dealer::new` and `Dealer::close`), the numbers that it drew, which of them it holds, how often it was
-/// told that none is left, how many it finished, what it was last told of all that is finished, and its
+/// told that none is left, how many it finished, the count of finished numbers that it was last told, and its
 /// events, the newest last. No value of it is made.
 pub struct View {
     pub pieces: u64,
