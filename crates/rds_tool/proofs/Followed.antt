@@ -1,4 +1,4 @@
--- What was done of a stream so far, and where it breaks off.
+-- The progress of a stream so far, and where it breaks off.
 use Rattle.std.proofs.Common.{◌≡◌, ◌≢◌, ◌+◌, ◌-◌, ◌*◌, ◌/◌, ◌%◌, ◌^◌, ◌<◌, ◌≤◌, ◌++◌, ◌⊎◌, ◌↔◌, ℕ, List, [], ◌∷◌, Err, None, Ok, Option, Result, Some, inl, inr, length, map, min, take, refl, sym, zero, suc, ap, ap₂, ◌∙◌, subst, arith, append_assoc}
 use Rattle.std.specs.Prelude.{IfErr, IfSome, OnErr, OnOk}
 use Rattle.std.specs.Int.{bit_at}
@@ -442,7 +442,7 @@ module _ (live next : LiveOf) (bytes rest rows : List ℕ) (t : HasTaken live ne
             (ap (λ (u : Terms). rows_so_far u (before ++ t.taken)) same ∙ t.are_rows before h)));
       }
 
-  -- and where nothing is left, all of them
+  -- and if nothing is left, all of them
   module _ (none : length rest ≡ 0) where
     whole : t.taken ≡ bytes
     whole = sym (t.parted ∙ ap (λ xs. t.taken ++ xs) (nil_from_length rest none) ∙ append-nil t.taken)
@@ -467,7 +467,7 @@ pub stops_untouched : {W : Type 0} (contents : W → Option (List ℕ)) (terms :
     → StopsBetweenRows terms bits from after old (contents v) → StopsBetweenRows terms bits from after old (contents w)
 stops_untouched contents terms bits from after old v w same h = subst (λ x. StopsBetweenRows terms bits from after old (contents x)) (sym same) h
 
--- what holds in any case holds where there is a success
+-- a fact that holds in any case holds if there is a success
 pub on_any_ok : {T E P : Type 0} (r : Result T E) → P → OnOk r P
 on_any_ok (Ok x) p = p
 on_any_ok (Err e) p = tt
@@ -491,7 +491,7 @@ pub only_write : {T X : Type 0} (r : Result T ToolError) (k : ToolError) → Wri
 only_write {T} r k other kinds p =
     let is : k ≡ Write = subst (λ (x : Result T ToolError). IfErr x (λ e. e ≡ Write)) p kinds in absurd (other (sym is))
 
--- what holds of a refusal, where there is one
+-- a property of a refusal, if there is one
 pub of_err : {T E : Type 0} {P : Type 0} (r : Result T E) (e : E) → r ≡ Err e → OnErr r P → P
 of_err {P = P} r e is p = subst (λ x. OnErr x P) is p
 
@@ -514,7 +514,7 @@ no_gaps_told e (inl m) p = let bad : OutOfMemory ≡ BadGaps = sym m ∙ p in cc
 no_gaps_told e (inr (inl w)) p = let bad : Write ≡ BadGaps = sym w ∙ p in cc bad
 no_gaps_told e (inr (inr t)) p = let bad : TooLong ≡ BadGaps = sym t ∙ p in cc bad
 
--- what may break it off before its last bits is no want of bytes
+-- what may break it off before its last bits is not that bytes are missing
 pub early_has_bytes : (e : ToolError) → MayBreakEarly e → e ≢ BitsPastBytes
 early_has_bytes e (inl m) p = let bad : OutOfMemory ≡ BitsPastBytes = sym m ∙ p in cc bad
 early_has_bytes e (inr (inl d)) p = let bad : Read ≡ BitsPastBytes = sym d ∙ p in cc bad

@@ -27,7 +27,7 @@ use std::alloc::Global;
 /// How many bytes a read asks for at most.
 const CHUNK: usize = 65_536;
 
-/// How many bytes of rows a byte of a sound station gives: a group of 13 bytes has a row of some 50.
+/// How many bytes of rows one byte of a sound station gives: a group of 13 bytes has a row of some 50.
 const ROWS_A_BYTE: usize = 4;
 
 /// Follows a stream by these rules, from the reader's next byte to its end, the highest bit of a byte first:

@@ -14,9 +14,9 @@ pub struct Input {
     /// How many bits the recording has; without it, all those of its bytes. More than 2^36 is refused as `TooLong`, more
     /// than the bytes hold as `BitsPastBytes`.
     pub bits: Option<u64>,
-    /// The gaps in the recording: ranges of places whose bits mean nothing, each from its first number to before its second.
-    /// Each has a place, lies below the number of bits, and begins at or after the end of the one before it. Anything else is
-    /// refused as `BadGaps`.
+    /// The gaps in the recording: ranges of places whose bits mean nothing, each from its first number to
+    /// before its second. Each has a place, is below the number of bits, and begins at or after the end of
+    /// the one before it. Anything else is refused as `BadGaps`.
     pub gaps: Vec<(u64, u64)>,
 }
 

@@ -52,8 +52,8 @@
 //!
 //! The crates `rds_code`, `rds_stream` and `rds_sync` say what a block, a recording and a report are. No
 //! contract says when memory or a thread is refused, that workers run at the same time, that a [`ToWrite`]
-//! flushes its writer (std says nothing of what a flush does), what a file or a pipe holds, or what the texts
-//! of help, version and faults are: these are for tests.
+//! flushes its writer (std does not define the effect of a flush), which bytes a file or a pipe holds, or
+//! which texts help, version and faults have: these are for tests.
 #![tactic(auto)]
 
 // In the order of reading: the command line, a job on its way from a reader to a writer, its rows, and the
@@ -64,7 +64,7 @@ mod help; // Their texts.
 mod entries; // The entries of a parsed command line.
 mod fault; // Why it asks for nothing.
 mod gap_text; // Gaps as a command line names them.
-mod job; // What is asked for.
+mod job; // The jobs that can be asked for.
 mod engine; // From a reader to a writer.
 mod alone; // The same in the calling thread only.
 mod devices; // The two ends of that.
