@@ -31,14 +31,14 @@ pub struct Progress<'a> {
     /// When the first write was begun.
     rows_begun: AtomicU64,
     written: AtomicU64,
-    /// The place in the last row that was looked at; 0 where there was none.
+    /// The place in the last row that was looked at; 0 if there was none.
     place: AtomicU64,
     /// When the last line was told, in milliseconds from the start; 0 before the first.
     told: AtomicU64,
 }
 
 impl<'a> Progress<'a> {
-    /// That of a job which begins now, or none where there is no clock.
+    /// That of a job which begins now, or none if there is no clock.
     pub fn start(rt: &'a HostRuntime, job: &Job) -> Option<Progress<'a>> {
         Some(Progress {
             rt,
@@ -62,7 +62,8 @@ impl<'a> Progress<'a> {
         }
     }
 
-    /// The time where a line is due, in milliseconds from the start. Of several threads that find it so, one is told.
+    /// The time if a line is due, in milliseconds from the start. Of several threads that find it so, one is
+    /// told.
     fn due(&self) -> Option<u64> {
         let now = self.milliseconds()?;
         let told = self.told.load(Ordering::SeqCst);
@@ -80,7 +81,7 @@ impl<'a> Progress<'a> {
         u64::try_from(spent.as_millis()).ok()
     }
 
-    /// Notes the time where none was noted yet.
+    /// Notes the time if none was noted yet.
     fn note_time(&self, at: &AtomicU64) {
         if at.load(Ordering::SeqCst) == 0
             && let Some(now) = self.milliseconds()
