@@ -183,7 +183,8 @@ pub fn totals_of_guess(run: &PieceRun) -> Totals
 
 // ---- seams
 
-/// A seam goes on where the run before it stopped: both together are one run, from the first bit to the piece's end.
+/// A seam goes on where the run before it stopped: both together are one run, from the first bit to the
+/// piece's end.
 pub fn carried_on<'a>(
     alloc: Global,
     recording: &'a Recording,

@@ -217,7 +217,7 @@ pub fn recording_of<T: Tape>(tape: &T) -> Snapshot<Recording>
     tape.source()
 }
 
-/// How many bits there are where a reader reads.
+/// How many bits the recording of a reader has.
 pub fn len_of_read(reader: &Reader<'_>) -> u64
     ensures { result ≡ length_of reader.now }
 {
