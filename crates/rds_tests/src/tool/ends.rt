@@ -155,7 +155,7 @@ fn is_read_by<R: Sync + Threads + Wait>(
     scan_gives(rt, alloc, Scan::Bytes, &mut reader, wanted)
 }
 
-/// Whether these bytes are too many by a byte a read, and read by two and by all at once.
+/// Whether these bytes are too many at one byte per read, and are read at two per read and all at once.
 fn is_read_but_by_one<R: Sync + Threads + Wait>(rt: &R, alloc: Global, bytes: &[u8]) -> bool {
     is_read_by(rt, alloc, bytes, 1, Err(ToolError::TooManyTurns))
         && is_read_by(rt, alloc, bytes, 2, Ok(ROWS))

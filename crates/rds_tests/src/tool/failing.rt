@@ -12,7 +12,7 @@ const ZERO_GROUP: &[u8] = b"00003f000019800005a00001b4";
 
 const ROWS: &[u8] = b"25,A\n51,B\n77,C\n96,B\n103,D\n";
 
-// No contract of std says what a flush does, so none of ours can: a writer that waits for it tells.
+// No contract of std defines the effect of a flush, so none of ours can: a writer that waits for it tells.
 #[test]
 fn a_flush_reaches_the_writer_of_std(rt: HostRuntime) {
     assert!(rt; hands_on(&rt, rt.alloc(), false, Ok(()), 26));
@@ -36,7 +36,7 @@ fn hands_on<R: Threads + Wait + Sync>(
         && under.handed_on == handed_on
 }
 
-// A byte a read has to end within 16,777,216 reads; a read that gives all that it may takes 64 KiB.
+// One byte per read has to end within 16,777,216 reads; a read that gives all that it may takes 64 KiB.
 #[test]
 fn a_reader_without_an_end_is_left(rt: HostRuntime) {
     assert!(rt; long_reader_is_left(&rt, rt.alloc()));

@@ -68,7 +68,7 @@ enum Long {
     Scan(u32),
 }
 
-/// The jobs, each by one worker and by several.
+/// The jobs, each with one worker and with several.
 static JOBS: [Long; 4] = [Long::List(1), Long::List(3), Long::Scan(1), Long::Scan(3)];
 
 impl Long {
