@@ -23,9 +23,9 @@ pub(crate) struct Beside {
     pub met_at: Option<u64>,
 }
 
-/// Goes on from `state` over a range side by side with its guess, which begins with a search, until they are
-/// at one place in one state with no group in progress, or both are at the end. Fails if memory is refused
-/// for a span.
+/// Goes on from `state` over a range side by side with its guess, which begins with a search. It ends when
+/// they are at one place in one state with no group in progress, or both are at the end. Fails if memory is
+/// refused for a span.
 ///
 /// Its cost: it reads at most (reach + 2)(d + 1) windows of the tape, refused memory or not; d is the number
 /// of bits up to the meeting, or to the range's end if they never meet.

@@ -50,10 +50,10 @@
 //!
 //! - A [`PieceRun`] is the guess of its range for the recording and the rules that it names, a joined one too. It
 //!   borrows nothing and holds nothing of the recording.
-//! - A seam gives the items, their totals and the end state of the run from the state handed in, and says
-//!   where the two met or that they never did. It reads at most (reach + 2)(d + 1) windows, where d is the
-//!   number of bits up to the meeting, or to the piece's end if they never meet; a join reads no more than
-//!   the seam in it.
+//! - A seam gives the items, their totals and the end state of the run from the state handed in. It says
+//!   where the two met or that they never did. It reads at most (reach + 2)(d + 1) windows; d is the number
+//!   of bits up to the meeting, or to the piece's end if they never meet; a join reads no more than the seam
+//!   in it.
 //! - The stitched report is that of whole locks, items and totals. Runs that are stitched or joined may be empty.
 //! - A guess is met by the end of any sound range in its piece; on other recordings nothing is promised. A guess that
 //!   locks at a false phase may never be met, and then a seam or a join reads its whole piece.
