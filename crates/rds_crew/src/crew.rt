@@ -24,9 +24,8 @@ pub const MOST_WORKERS: u32 = 256;
 /// The report of the recording and the rules that the work names, made by up to `workers` threads.
 ///
 /// Each piece is guessed by itself. Then neighbours are joined, level by level, from level 1: runs 2m and 2m
-/// + 1 of a level, of which level 0 is the guesses, make run m of the next, and a last run without a
-/// neighbour goes up as it is. The one run that is left, or none if there is no piece, is made into the
-/// report.
+/// + 1 of a level, of which level 0 is the guesses, make run m of the next. A last run without a neighbour
+/// goes up as it is. The one run that is left, or none if there is no piece, is made into the report.
 ///
 /// The pieces, and then the joins of each level, are drawn from a dealer of their own. With two of them or
 /// more and two workers or more, as many threads are started as the lesser of the two numbers. Each draws

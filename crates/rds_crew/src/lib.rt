@@ -5,7 +5,7 @@
 //! level, until one run is left: that of the whole recording, which is made into the report that one decoder
 //! gives, reading from the first bit. A [`Work`](rds_pieces::Work) says what a piece is, how it is guessed,
 //! how two runs are joined and how a run becomes a report. This crate deals the pieces out, and then the
-//! joins of each level, waits for its workers, puts their results in order, and puts the runs of a level
+//! joins of each level, and waits for its workers. It puts their results in order, and the runs of a level
 //! together: they are moved up, and none is copied.
 //!
 //! # Example
@@ -40,10 +40,10 @@
 //!
 //! # What callers may rely on
 //!
-//! - If [`decode_crew`] answers a report, it is that of the work's recording and rules, whatever the cutting,
-//!   however many workers there were, and in whatever order they drew and ended. It is lent no recording:
-//!   bits reach it only by the work.
-//! - It refuses a number of workers outside 1 to 256 exactly as [`CrewError::CrewRange`], and answers
+//! - If [`decode_crew`] answers a report, it is that of the work's recording and rules. That holds for any
+//!   cutting and any number of workers, in whatever order they drew and ended. It is lent no recording: bits
+//!   reach it only by the work.
+//! - It refuses a number of workers outside 1 to 256 exactly as [`CrewError::CrewRange`]. It answers
 //!   [`CrewError::NoWorker`] only if there are two pieces or more and two workers or more.
 //! - No thread that it started outlives the call.
 //! - A dealer deals no number twice and leaves none out, in whatever order the steps of any threads
@@ -52,10 +52,10 @@
 //! # What it leaves to others
 //!
 //! That memory and threads are there, that the calls of the work and of the gate return, and which thread
-//! draws what and ends first. That the workers run at the same time, at pieces and at joins, that neighbours
-//! are joined level by level, and that the report is made of their runs and of no others, no contract can
-//! say: the tests in `rds_tests` show it, by a [`Gate`] that holds one worker up until the other has begun,
-//! and one that notes which runs each join is made of.
+//! draws what and ends first. No contract can say that the workers run at the same time, at pieces and at
+//! joins, or that neighbours are joined level by level. Nor can one say that the report is made of their runs
+//! and of no others. The tests in `rds_tests` show it: by a [`Gate`] that holds one worker up until the other
+//! has begun, and one that notes which runs each join is made of.
 #![tactic(auto)]
 
 // In the order of reading: the report of a crew, the parts that its workers draw, and the dealer that they
