@@ -1,11 +1,10 @@
 //! Rows of text, made by threads and written in order from a bounded room.
 //!
-//! Rows that are to be written are cut into parts. Threads make the parts, each in a sheet of its own, and
-//! the caller writes the parts one after the other and gives the sheets back. All sheets are taken and all
+//! Rows that are to be written are cut into parts. Threads make the parts, each in a sheet of its own. The
+//! caller writes the parts one after the other and gives the sheets back. All sheets are taken and all
 //! threads started before the first byte is written, and both live through all parts: the room is bounded
 //! however many rows there are, and no part waits for more than its own sheet. Small parts are gathered: a
-//! write has 64 KiB or more, but for the last, or as many bytes as a part of the longest rows, if these are
-//! fewer.
+//! write has 64 KiB or more, but for the last, or as many bytes as a part of the longest rows if fewer.
 //!
 //! # Example
 //!
