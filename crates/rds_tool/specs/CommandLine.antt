@@ -264,8 +264,8 @@ abbrev pub IsFault : ErrorKind → Type 0
 IsFault k = (k ≢ kind.DisplayHelp) × (k ≢ kind.DisplayVersion) × (k ≢ kind.OutOfMemory)
 
 -- the kind of answer that these faults and entries allow: help or the version if it was asked for; a refusal
--- of the words if they have a fault, or if none of them is at fault and yet nothing to be asked for has their
--- entries; `Memory` in any case
+-- of the words if they have a fault, or have none and yet nothing to be asked for has their entries; `Memory`
+-- in any case
 abbrev pub MayAnswer : Kinds → Option (Text × List Row) → FaultKind → Type 0
 MayAnswer faults entries Help = IsAmong kind.DisplayHelp faults
 MayAnswer faults entries Version = IsAmong kind.DisplayVersion faults

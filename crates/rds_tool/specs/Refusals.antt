@@ -1,5 +1,5 @@
--- The numbers and names of the refusals, which of them a refusal of a layer below is, and when refused memory
--- or a refused thread is one: this project's rule. `ToolError::number` and `name` answer the first two.
+-- The numbers and names of the refusals; which of them a refusal of a layer below is; when refused memory or
+-- a refused thread is one: this project's rule. `ToolError::number` and `name` answer the first two.
 use Rattle.std.specs.Prelude.{◌≡◌, ◌⊎◌, ℕ, Err, List, Result, codes}
 use Rattle.rds_crew.specs.declared.error.CrewError.{CrewError}
 use Rattle.rds_crew.specs.declared.error.CrewError.TheVariants as crew

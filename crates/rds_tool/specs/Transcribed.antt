@@ -23,8 +23,8 @@ pub record IsTranscribed {R W : Type 0} (source : Source R) (sink : Sink W) (job
       (λ bytes. Writes (sink.contents writer) (sink.contents writer') (outcome job bytes)))
   pub ended : OnOk result (source.has_ended reader' ≡ true)
   pub flushed : OnOk result (sink.is_flushed writer' ≡ true)
-  -- a refusal for a device's sake comes exactly if one failed, one for the number of reads only if as many
-  -- bytes were read, one for a thread's only if there may be some, and another is that of the job
+  -- a refusal for a device's sake comes exactly if one failed; one for the number of reads only if as many
+  -- bytes were read; one for a thread's only if there may be some; another is that of the job
   pub read : IsErrOf result Read ↔ (source.failed reader < source.failed reader')
   pub write : IsErrOf result Write ↔ (sink.failed writer < sink.failed writer')
   pub turns : IsErrOf result TooManyTurns

@@ -18,10 +18,10 @@ const BAD_LOSS: &str = "bad --loss or --of: --of needs --share, and --loss exclu
 /// Answers the request of a command line: a job, or to follow a stream. The words begin with the program's
 /// name.
 ///
-/// Else the answer is help or the version if that was asked for, or a fault if `clap` finds one in the words
-/// or neither a job nor a stream has their entries. If `clap` finds no fault but `--gaps` cannot be parsed,
-/// the text is `bad --gaps` and a line feed. Else, for `--loss` beside `--share`, or `--of` without it, the
-/// text begins with `bad --loss or --of`. If memory is refused, the fault says so instead.
+/// Else the answer is help or the version if that was asked for, or a fault. A fault comes if `clap` finds
+/// one in the words, or neither a job nor a stream has their entries. If `clap` finds no fault but `--gaps`
+/// cannot be parsed, the text is `bad --gaps` and a line feed. Else, for `--loss` beside `--share`, or `--of`
+/// without it, the text begins with `bad --loss or --of`. If memory is refused, the fault says so instead.
 pub fn asked_of(alloc: Global, words: &[&str]) -> Result<Asked, CliFault>
     ensures entries { IfOk result (IsAskedOf (entries_of (map (λ word. word.now) words.now))) }
     ensures faultless { OnOk result (faults_of (map (λ word. word.now) words.now) ≡ []) }

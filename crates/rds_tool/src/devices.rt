@@ -10,8 +10,8 @@ use std::snapshot::Snapshot;
 
 /// A reader that counts its failures and tells its history.
 ///
-/// An implementor says by `given` which bytes it gave, and by `remaining` which are still to come, or `None`
-/// if no contract can name them, as for a file or a pipe.
+/// An implementor says by `given` which bytes it gave, and by `remaining` which are still to come. That is
+/// `None` if no contract can name them, as for a file or a pipe.
 pub trait Source {
     /// The bytes that reads will give from here on, if they are known.
     ghost remaining: { Self → Option (List ℕ) };

@@ -39,9 +39,9 @@ const ROWS_A_BYTE: usize = 4;
 /// is read. The gaps are those of [`Input`](crate::Input). A read that gives less than was asked for is
 /// decoded as it is, so no row waits for bits after it. Of a stream no more is kept than the last read.
 ///
-/// Refusals: `TooLong` past 2^36 bits, before anything is read if `bits` says so, `BitsPastBytes` if the
-/// input ends before `bits`, `BadGaps`, before anything is read if no recording may have such gaps, and else
-/// at the end, `Read` and `Write` if a device failed, and `OutOfMemory`. None takes back the text that was
+/// Refusals: `TooLong` past 2^36 bits, before anything is read if `bits` says so; `BitsPastBytes` if the
+/// input ends before `bits`; `BadGaps`, before anything is read if no recording may have such gaps, and else
+/// at the end; `Read` and `Write` if a device failed; and `OutOfMemory`. None takes back the text that was
 /// written: whole rows of all bytes that were read but the last read, and, if the writer failed, a beginning
 /// of the text that comes next. Reader and writer have counted fewer than 2^63 failures before.
 pub fn follow<S: Source, K: Sink>(
@@ -60,8 +60,8 @@ pub fn follow<S: Source, K: Sink>(
     ensures ok { OnOk result (IfSome (S.remaining reader.old) (λ held. Writes (K.contents writer.old) (K.contents writer.new)
         (listed (record { rules = rules.now; gaps = gaps.now }) bits held))) }
 
-    // A refusal for a device's sake comes exactly if it failed, one for the length only if too much was
-    // claimed or read, or too little was read, and one for the gaps only if the recording can't have them.
+    // A refusal for a device's sake comes exactly if it failed. One for the length comes only if too much was
+    // claimed or read, or too little was read. One for the gaps comes only if the recording can't have them.
     ensures read { IsErrOf result ToolError.Read ↔ (S.failed reader.old < S.failed reader.new) }
     ensures write { IsErrOf result ToolError.Write ↔ (K.failed writer.old < K.failed writer.new) }
     ensures too_long { IsErrOf result ToolError.TooLong → IsTooLong bits (S.remaining reader.old) (S.remaining reader.new) }
@@ -139,8 +139,8 @@ fn follow_bytes<'r, S: Source, K: Sink>(
     Ok(live)
 }
 
-/// A decoder that has heard nothing yet, of a stream that may have `bits` bits and these gaps, with room for
-/// a read and for the items that are complete at once.
+/// A decoder that has heard nothing yet, of a stream that may have `bits` bits and these gaps. There is room
+/// for a read and for the items that are complete at once.
 fn begin<'r>(
     alloc: Global,
     rules: &'r Rules,
@@ -343,8 +343,8 @@ fn push_rows(
     Ok(count)
 }
 
-/// The rest of a listing: the rows that the first `bits` bits of these bytes complete, of the group in
-/// progress after them, if there is one, and of the totals.
+/// The rest of a listing: the rows that the first `bits` bits of these bytes complete, that of the group in
+/// progress after them, if any, and those of the totals.
 fn rows_of_rest(
     alloc: Global,
     live: Live<'_>,

@@ -2,8 +2,8 @@
 //! holds.
 //!
 //! A job lists the valid windows of a recording, the items of its report, or only the totals, or encodes
-//! groups. It is told which bits the recording has and which gaps are in them, by which rules it is decoded,
-//! in which pieces, and by how many workers.
+//! groups. It is told which bits the recording has and which gaps are in them. It is also told by which rules
+//! it is decoded, in which pieces, and by how many workers.
 //!
 //! # Example
 //!
@@ -29,7 +29,7 @@
 //! # What callers may rely on
 //!
 //! - If `transcribe` answers `Ok`, the bytes that the writer took are the text that the job makes of the
-//!   bytes that the reader gave, the reader had answered its end, and the last call of the writer was a flush
+//!   bytes that the reader gave. The reader had answered its end, and the last call of the writer was a flush
 //!   that succeeded. That holds at every reader and writer. If the reader tells the bytes to come, as one
 //!   over memory does, they are those. Of a `List` the text is the listing of the report of the recording,
 //!   lock by lock, for every cutting and any number of workers; `specs/Outcome.antt` says it for each job.
@@ -39,21 +39,20 @@
 //!   `OutOfMemory` exactly if the job and the bytes given call for it: `BadGaps`, for gaps that are empty,
 //!   out of order or past the bits, after `TooLong` and `BitsPastBytes`, and before `BadCutting`.
 //! - After any refusal but `Write` the writer is as it was; after `Write` it took a prefix of the text.
-//! - If `follow` answers `Ok`, the bytes that the writer took are the listing of those that the reader gave,
-//!   and the last call was a flush that succeeded. Whenever it is refused, the rows of all that was given but
-//!   the last read were taken, each once. If a read fails, the rows of all bytes before it were taken and
+//! - If `follow` answers `Ok`, the bytes that the writer took are the listing of those that the reader gave.
+//!   The last call was a flush that succeeded. Whenever it is refused, the rows of all that was given but the
+//!   last read were taken, each once. If a read fails, the rows of all bytes before it were taken and
 //!   flushed.
 //! - If `asked_of` answers `Ok`, the request holds the entries that `clap` read, defaults too, and its gaps
-//!   are the pairs that `--gaps` spells. If it answers a fault, it is help or the version that was asked for,
-//!   or `clap` finds a fault in the words, or neither a job nor a stream has their entries, or memory was
-//!   refused.
+//!   are the pairs that `--gaps` spells. If it answers a fault, help or the version was asked for, or `clap`
+//!   finds a fault in the words, or neither a job nor a stream has their entries, or memory was refused.
 //!
 //! # What it leaves to others
 //!
 //! The crates `rds_code`, `rds_stream` and `rds_sync` say what a block, a recording and a report are. No
-//! contract says when memory or a thread is refused, that workers run at the same time, that a [`ToWrite`]
-//! flushes its writer (std does not define the effect of a flush), which bytes a file or a pipe holds, or
-//! which texts help, version and faults have: these are for tests.
+//! contract says when memory or a thread is refused, or that workers run at the same time. None says that a
+//! [`ToWrite`] flushes its writer: std does not define the effect of a flush. Nor does one say which bytes a
+//! file or a pipe holds, or which texts help, version and faults have. These are for tests.
 #![tactic(auto)]
 
 // In the order of reading: the command line, a job on its way from a reader to a writer, its rows, and the
