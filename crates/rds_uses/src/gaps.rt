@@ -27,8 +27,8 @@ pub fn recorded_with_gaps(bytes: Vec<u8>, bits: u64, gaps: Vec<(u64, u64)>) -> O
     Recording::with_gaps(bytes, bits, gaps).ok()
 }
 
-/// More bits than a recording may have are refused as such, whatever the gaps, then more than the bytes hold,
-/// and then gaps that are not among the bits in order. The bytes and the gaps come back.
+/// More bits than a recording may have are refused as such, whatever the gaps. Next come more bits than the
+/// bytes hold, and then gaps that are not among the bits in order. The bytes and the gaps come back.
 pub fn refused_in_order(
     bytes: Vec<u8>,
     bits: u64,

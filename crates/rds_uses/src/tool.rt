@@ -144,8 +144,8 @@ pub fn gated_listing<R: Threads + Wait + Sync, G: Gate + Sync>(
 }
 
 /// With a gate too: the reader is at its end after success; a failed call of either device is answered; 13
-/// comes only if 16,777,216 bytes or more were read, 14 only if threads are asked for, and any other refusal
-/// if the job and the bytes call for it.
+/// comes only if 16,777,216 bytes or more were read; 14 only if threads are asked for; any other refusal if
+/// the job and the bytes call for it.
 pub fn gated_causes<R: Threads + Wait + Sync, S: Source, K: Sink, G: Gate + Sync>(
     rt: &R,
     alloc: Global,
