@@ -1,5 +1,5 @@
-//! A reader over memory that gives as little as it is told and fails on demand, a writer that withholds, and
-//! the text that a job gives.
+//! A reader over memory that gives as little as it is told and fails on demand; a writer that withholds; the
+//! text that a job gives.
 ghost use Rattle.std.specs.Prelude.{◌^◌, ◌<◌, ◌≡◌, Some};
 
 use crate::tool::jobs::Scan;

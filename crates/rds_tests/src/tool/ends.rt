@@ -1,6 +1,6 @@
 //! The buffers that readers and writers of std are handed. No contract says it: one that gives or takes one
-//! byte per call has all clauses too, but would end at 16,777,216 bytes, and go through a call of the system
-//! for each.
+//! byte per call has all clauses too. But it would end at 16,777,216 bytes, and go through a call of the
+//! system for each.
 use crate::tool::devices::{SlowReader, scan_gives, written_to};
 use crate::tool::jobs::Scan;
 use rds_tool::{FromRead, ToolError};

@@ -61,8 +61,8 @@ fn two_draws_that_were_finished_are_closed_as_two_of_each(rt: HostRuntime) {
     assert!(rt; are_dealt(&rt, rt.alloc(), 2, 1) && are_dealt(&rt, rt.alloc(), 2, 2));
 }
 
-/// Whether the seat of a dealer of one piece tells the number that it holds, how many it has finished, and
-/// how many it was told.
+/// Whether the seat of a dealer of one piece tells the number that it holds, and how many it has finished and
+/// was told.
 fn tells_its_steps(dealer: &Dealer, seat: Seat) -> bool
     requires { IsFresh dealer.now seat }
 {
