@@ -1,7 +1,7 @@
 //! `rds_bench`: how fast the parts of `rds` are.
 //!
 //! Each measurement is a function in a file of its own. It times the forms of one task in the same run, one
-//! after the other, over the same bits, and shows each as a ratio to the first: times of two runs say little
+//! after the other, over the same bits. Each is shown as a ratio to the first: times of two runs say little
 //! of one another. `--check` runs those that have a bound in a second, and fails if a ratio is lost.
 #![tactic(auto)]
 
