@@ -11,7 +11,7 @@ abbrev pub IsSoonMet : Signal → RuleNumbers → ℕ → ℕ → Option ℕ →
 IsSoonMet b rules from to met = (j s p c : ℕ) → IsSound b rules j s p c → from ≤ s → s + sound_bits rules.loss j ≤ to
     → (place : ℕ) × (met ≡ Some place) × (place ≤ s + sound_bits rules.loss j)
 
--- the same of the runs from two states, if no place is answered
+-- the same of the runs from two states, for a call that answers no place
 abbrev pub MeetSoon : Signal → RuleNumbers → State → State → ℕ → ℕ → Type 0
 MeetSoon b rules one other from to = (j s p c : ℕ) → IsSound b rules j s p c → from ≤ s → s + sound_bits rules.loss j ≤ to
     → (place : ℕ) × MeetFirstAt b rules one other from to place × (place ≤ s + sound_bits rules.loss j)

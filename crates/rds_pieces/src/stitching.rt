@@ -23,8 +23,8 @@ use std::alloc::Global;
 
 /// The report of the tape's recording: carries the state over the runs in order, from Searching at its first
 /// bit, and ends with the group in progress at its end. The runs follow each other from place 0 to the
-/// recording's end, one per piece, or more of them joined. A run may be empty, and it is passed over; if the
-/// recording is empty there need be none.
+/// recording's end, each of one piece, or of several joined. A run may be empty, and it is passed over; if
+/// the recording is empty there need be none.
 ///
 /// Its only error is `OutOfMemory`.
 ///
