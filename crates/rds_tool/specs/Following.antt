@@ -1,5 +1,5 @@
--- Following a stream: the rows that are written as its bytes come, and the rows that are written when it
--- breaks off; this project's rule. `follow` promises it.
+-- Following a stream: the rows that are written as its bytes come, and those that were written if it breaks
+-- off; this project's rule. `follow` promises it.
 use Rattle.std.specs.Prelude.{◌++◌, ◌≡◌, ◌≢◌, ◌≤◌, ◌<◌, ◌+◌, ◌*◌, ◌^◌, ◌⊎◌, [], ⊤, ℕ, Bool, List, None, Ok, Option, Result, Some, length, min, true}
 use Rattle.std.specs.List.{flat_map}
 use Rattle.std.specs.Io.KnownBytes.{Appends, Consumes, IsAtEnd}
@@ -30,7 +30,7 @@ AllCount (Some bits) bytes = 8 * length bytes ≤ bits
 abbrev pub rows_so_far : Terms → List ℕ → List ℕ
 rows_so_far terms bytes = flat_map item_row (complete terms bytes)
 
--- the listing of a stream of these bytes, of which those bits count
+-- the listing of the bits that count in a stream of these bytes
 abbrev pub stream_text : Terms → Option ℕ → List ℕ → List ℕ
 stream_text terms bits bytes = list_text terms.rules (signal_at terms.gaps bytes (counted bits bytes))
 

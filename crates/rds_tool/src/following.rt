@@ -55,7 +55,7 @@ pub fn follow<S: Source, K: Sink>(
     requires reads { S.failed reader.old < 2 ^ 63 }
     requires writes { K.failed writer.old < 2 ^ 63 }
 
-    // All bytes that count were read, and the text that a list makes of them was written.
+    // Just the bytes that count were read, and the text that a list makes of them was written.
     ensures end { OnOk result (IsReadAsFar bits (S.remaining reader.old) (S.remaining reader.new)) }
     ensures ok { OnOk result (IfSome (S.remaining reader.old) (λ held. Writes (K.contents writer.old) (K.contents writer.new)
         (listed (record { rules = rules.now; gaps = gaps.now }) bits held))) }
