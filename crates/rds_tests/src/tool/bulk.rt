@@ -34,7 +34,7 @@ fn has_the_windows<R: Threads + Wait + Sync>(rt: &R, alloc: Global, digits: &[u8
 
 const ROWS: &[u8] = b"4194329,A\n4194355,B\n4194381,C\n4194400,B\n4194407,D\n";
 
-// The windows of the group end 4,194,304 bits after those of only the group, and no other is valid.
+// The windows of the group end 4,194,304 bits after those of the group by itself, and no other is valid.
 #[test]
 fn a_million_digits_are_scanned(rt: HostRuntime) {
     assert!(rt; is_scanned(&rt, rt.alloc()));
