@@ -53,7 +53,7 @@ pub fn last_bit(recording: &Recording) -> bool
     recording.bit(recording.len() - 1)
 }
 
-/// How many bits there would be after `more` more.
+/// How many bits there would be with `more` bits added.
 pub fn len_with(recording: &Recording, more: u32) -> u64
     ensures { result ≡ length_of recording.now + more }
 {
@@ -203,7 +203,7 @@ pub fn seen_to_count<T: Tape>(tape: &mut T) -> bool
     tape.reads() == before + 1
 }
 
-/// How many bits a tape would have after `more` more.
+/// How many bits a tape would have with `more` bits added.
 pub fn tape_len_with<T: Tape>(tape: &T, more: u32) -> u64
     ensures { result ≡ length_of (T.signal tape.now) + more }
 {
