@@ -18,7 +18,7 @@ use Rattle.rds_tool.specs.declared.error.ToolError.TheVariants.{BadGaps, BitsPas
 use Rattle.rds_tool.specs.declared.job.Job.{Job}
 use Rattle.rds.specs.Session.{IsDone, IsFollowed, RefusesRules}
 
--- what was given is all that was given since the reader was made
+-- the bytes given are all bytes given since the reader was made
 gave_all : (given' : List ℕ) (P : List ℕ → Type 0) → Gave [] given' P → P given'
 gave_all given' P (bytes, gave, p) = subst P (sym gave) p
 

@@ -1,8 +1,8 @@
 //! `rds`: recordings of Radio Data System bits from standard input, text to standard output.
 //!
-//! The words of the command line ask for a job or a stream, and that becomes an exit status: 0 where the text was written,
-//! or help or the version was asked for, 2 where the words are no command line, 1 for a refusal, which one line on
-//! standard error names.
+//! The words of the command line ask for a job or a stream, and that becomes an exit status: 0 if the text
+//! was written, or help or the version was asked for; 2 for a usage error; 1 for a refusal. One line on
+//! standard error names the refusal.
 #![tactic(auto)]
 
 ghost use Rattle.std.specs.Prelude.{◌≡◌};

@@ -12,11 +12,11 @@ const PAUSE: u64 = 500;
 
 const MEGABYTE: u64 = 1_000_000;
 
-/// What takes a line away.
+/// Erases a line.
 const CLEAR: &str = "\r                                                            \r";
 
-/// What a line tells: how many pieces are decoded, and then of how many bits the rows are written. The workers, the reader
-/// and the writer count at once.
+/// The line shows how many pieces are decoded, and then how many of the bits have their rows written. The
+/// workers, the reader and the writer count at once.
 #[derive(Drop)]
 pub struct Progress<'a> {
     rt: &'a HostRuntime,
@@ -31,14 +31,14 @@ pub struct Progress<'a> {
     /// When the first write was begun.
     rows_begun: AtomicU64,
     written: AtomicU64,
-    /// The place in the last row that was looked at; 0 where there was none.
+    /// The place in the last row that was looked at; 0 if there was none.
     place: AtomicU64,
     /// When the last line was told, in milliseconds from the start; 0 before the first.
     told: AtomicU64,
 }
 
 impl<'a> Progress<'a> {
-    /// That of a job which begins now, or none where there is no clock.
+    /// That of a job which begins now, or none if there is no clock.
     pub fn start(rt: &'a HostRuntime, job: &Job) -> Option<Progress<'a>> {
         Some(Progress {
             rt,
@@ -62,7 +62,8 @@ impl<'a> Progress<'a> {
         }
     }
 
-    /// The time where a line is due, in milliseconds from the start. Of several threads that find it so, one is told.
+    /// The time if a line is due, in milliseconds from the start. Of several threads that find it so, one is
+    /// told.
     fn due(&self) -> Option<u64> {
         let now = self.milliseconds()?;
         let told = self.told.load(Ordering::SeqCst);
@@ -80,7 +81,7 @@ impl<'a> Progress<'a> {
         u64::try_from(spent.as_millis()).ok()
     }
 
-    /// Notes the time where none was noted yet.
+    /// Notes the time if none was noted yet.
     fn note_time(&self, at: &AtomicU64) {
         if at.load(Ordering::SeqCst) == 0
             && let Some(now) = self.milliseconds()
@@ -117,17 +118,17 @@ impl<'a> Progress<'a> {
     }
 }
 
-/// The seconds that the rest of the work takes at the pace of what is done in so many milliseconds.
+/// The seconds that the rest of the work takes, if `done` of `all` took `spent` milliseconds.
 fn seconds_left(spent: u64, done: u64, all: u64) -> u64 {
     spent.saturating_mul(all.saturating_sub(done)) / done.max(1) / 1000
 }
 
-/// What tells how many bits a recording has.
+/// How the number of bits of a recording is known.
 #[derive(Clone, Copy)]
 enum Length {
-    /// So many, as was asked for.
+    /// This number of bits, which the job asks for.
     Asked(u64),
-    /// So many for each byte that was read. Blanks in hexadecimal text count as digits here.
+    /// This number of bits per byte that was read. Blanks in hexadecimal text count as digits here.
     Read(u64),
 }
 
@@ -168,7 +169,7 @@ impl<'a, D> Told<'a, D> {
         Told { device, progress }
     }
 
-    /// The device alone.
+    /// Only the device.
     pub fn into_inner(self) -> D
         ensures { result ≡ self.entry.device }
     {

@@ -35,7 +35,8 @@ pub fn do_asked<R: Threads + Wait + Sync>(rt: &HostRuntime, crew: &R, asked: &As
     }
 }
 
-/// Does the job, with the threads of its crew. Its progress is told where that was asked for and there is a clock.
+/// Does the job, with the threads of its crew. Its progress is told if that was asked for and there is a
+/// clock.
 fn run<R: Threads + Wait + Sync>(rt: &HostRuntime, crew: &R, job: &Job, progress: bool) -> Session
     ensures { HasDone job.now result }
 {

@@ -18,7 +18,7 @@ const PIECES: u64 = 16;
 
 const WORKERS: u32 = 4;
 
-/// The guesses alone, with no report: what dealing gains where pieces differ in cost.
+/// Only the guesses, with no report: the gain of dealing if pieces differ in cost.
 pub fn measure<T: Threads + Sync>(
     rt: &HostRuntime,
     threads: &T,
@@ -47,7 +47,7 @@ fn time_both<T: Threads + Sync, W: Work + Sync>(
     timing.show(rt, Form::free("drawn from a dealer"), guessed)
 }
 
-/// How many bits the workers guess where worker k has the pieces k, k + 4, k + 8 and so on.
+/// How many bits the workers guess if worker k has the pieces k, k + 4, k + 8 and so on.
 fn by_shares<T: Threads + Sync, W: Work + Sync>(threads: &T, alloc: Global, work: &W) -> Result<u64>
     requires { IsCutting (length_of (W.recording work.now)) (W.places work.now) }
 {
@@ -74,7 +74,7 @@ fn guess_share<W: Work>(alloc: Global, work: &W, worker: u64) -> Result<u64, Pie
     Ok(bits)
 }
 
-/// How many bits they guess where each draws from one dealer until no piece is left.
+/// How many bits they guess if each draws from one dealer until no piece is left.
 fn by_draws<T: Threads + Sync, W: Work + Sync>(threads: &T, alloc: Global, work: &W) -> Result<u64>
     requires { IsCutting (length_of (W.recording work.now)) (W.places work.now) }
 {

@@ -1,4 +1,5 @@
-//! Forms that several measurements time, over a whole recording. Each answers a number that hangs on what it finds.
+//! Forms that several measurements time, over a whole recording. Each answers a number that depends on its
+//! result.
 ghost use Rattle.std.specs.Prelude.{◌≤◌};
 ghost use Rattle.rds_stream.specs.Recording.{length_of};
 ghost use Rattle.rds_pieces.specs.Cutting.{IsCutting};
@@ -61,7 +62,7 @@ fn first_guess(
     )
 }
 
-/// How many the report of so many pieces counts that so many workers make.
+/// How many the report counts, made from `pieces` pieces by `workers` workers.
 pub fn crew<T: Threads + Wait>(
     threads: &T,
     alloc: Global,
@@ -77,7 +78,7 @@ pub fn crew<T: Threads + Wait>(
     crew_of(threads, alloc, &work, workers, &OpenGate)
 }
 
-/// How many that of a work counts, where a gate hears of the workers.
+/// How many that of a work counts, if a gate hears of the workers.
 pub fn crew_of<T: Threads + Wait, W: Work + Sync, G: Gate + Sync>(
     threads: &T,
     alloc: Global,

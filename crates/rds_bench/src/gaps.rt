@@ -7,7 +7,7 @@ use rds_stream::{Recording, StreamError};
 use rds_sync::Rules;
 use std::alloc::{AllocError, Global};
 
-/// There is a gap of one place in so many: 100,000 of them in a recording of 100,000,000 bits.
+/// One place in this many is a gap: 100,000 of them in a recording of 100,000,000 bits.
 const EVERY: u64 = 1_000;
 
 /// The most that many gaps may cost, in hundredths of the time without: each is looked for once.

@@ -46,7 +46,7 @@ struct Sizes {
 }
 
 impl Sizes {
-    /// A sixteenth of so many bits, a fourth, and all.
+    /// A sixteenth of `bits` bits, a fourth, and all.
     fn of(alloc: Global, bits: u64, sample: Sample) -> Result<Sizes> {
         Ok(Sizes {
             small: Size::of(alloc, bits / 16, sample)?,
@@ -94,7 +94,7 @@ impl Call {
         }
     }
 
-    /// Makes the call over the whole recording. Answers a number that hangs on what it gives.
+    /// Makes the call over the whole recording. Answers a number that depends on its result.
     fn make<T: Threads + Wait>(
         self,
         threads: &T,
@@ -157,7 +157,7 @@ fn take_chunks(
     Ok(())
 }
 
-/// Times each call over a sixteenth of so many bits of the sample, over a fourth, and over all.
+/// Times each call over a sixteenth of `bits` bits of the sample, over a fourth, and over all.
 pub fn measure<T: Threads + Wait>(
     rt: &HostRuntime,
     threads: &T,
@@ -206,7 +206,7 @@ fn least_times<T: Threads + Wait>(
     Ok([small, middle, large])
 }
 
-/// Shows a call's times over the recordings: an error where one is too long for that before it.
+/// Shows a call's times over the recordings: an error if one is too long for that before it.
 fn show(rt: &HostRuntime, name: &str, times: [u64; 3]) -> Result<()> {
     let [small, middle, large] = times;
     println!(rt; "{name:<24} {small}, {middle} and {large} ns")?;

@@ -1,4 +1,4 @@
-//! The totals of one piece: from its items one by one, and from what a guess keeps of them.
+//! The totals of one piece: from its items one by one, and from the totals that a guess keeps.
 use crate::forms;
 use crate::sample::Sample;
 use crate::timing::{Form, Timing};
@@ -6,8 +6,8 @@ use anyhow::Result;
 use rds_stream::Recording;
 use rds_sync::Rules;
 
-/// The most that a guess may take, in hundredths of the time of the items. Where a run searches most of the time, both do
-/// the same.
+/// The most that a guess may take, in hundredths of the time of the items. If a run searches most of the
+/// time, both do the same.
 fn most_for(sample: Sample) -> u128 {
     match sample {
         Sample::Worst | Sample::Noise => 200,

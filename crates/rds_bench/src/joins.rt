@@ -28,7 +28,7 @@ const GROUP: u64 = 104;
 /// a false one, on which a guess stays.
 const BEGINS: [u64; 2] = [22, 86];
 
-/// A tree of so many workers: how its joins are shown, and how with the guesses before them.
+/// A tree of `workers` workers: how its joins are shown, and how with the guesses before them.
 #[derive(Clone, Copy)]
 struct Tree {
     workers: u32,
@@ -156,7 +156,7 @@ fn guesses<W: Work>(alloc: Global, work: &W) -> Result<Vec<PieceRun>, PieceError
     Ok(runs)
 }
 
-/// Times the joins alone, and then with the guesses before them.
+/// Times only the joins, and then with the guesses before them.
 fn time_tree<T: Sync + Threads + Wait, W: Work + Sync>(
     rt: &HostRuntime,
     threads: &T,

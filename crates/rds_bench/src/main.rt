@@ -1,8 +1,8 @@
 //! `rds_bench`: how fast the parts of `rds` are.
 //!
-//! Each measurement is a function in a file of its own. It times the forms of one task in the same run, one after the
-//! other, over the same bits, and shows each as a ratio to the first: times of two runs say little of one another.
-//! `--check` runs those that have a bound in a second, and fails where a ratio is lost.
+//! Each measurement is a function in a file of its own. It times the forms of one task in the same run, one
+//! after the other, over the same bits. Each is shown as a ratio to the first: times of two runs say little
+//! of one another. `--check` runs those that have a bound in a second, and fails if a ratio is lost.
 #![tactic(auto)]
 
 mod calls;
@@ -51,10 +51,10 @@ mending, 'losing', two groups of a station and four of noise by turns, 'noise', 
 station, or 'zeros', groups of zero words, in which guesses may lock on a false phase.
 ";
 
-/// The length of a recording where none is given.
+/// The length of a recording if none is given.
 const BITS: u64 = 100_000_000;
 
-/// What the words of the command line ask for.
+/// The measurement that the words of the command line ask for.
 #[derive(Clone, Copy)]
 struct Asked<'a> {
     measurement: &'a str,
@@ -67,7 +67,7 @@ fn main(rt: HostRuntime) -> Result<()> {
     run(&rt, &rt, words.as_slice())
 }
 
-/// Does what these words ask for.
+/// Makes the measurement that these words ask for.
 fn run<T: Threads + Wait + Sync>(rt: &HostRuntime, threads: &T, words: &[String]) -> Result<()> {
     match asked_by(words)? {
         Some(asked) if asked.measurement == "--check" => standards::check(rt, threads),
@@ -77,7 +77,7 @@ fn run<T: Threads + Wait + Sync>(rt: &HostRuntime, threads: &T, words: &[String]
     }
 }
 
-/// What is asked for, if anything is.
+/// The measurement that is asked for, if there is one.
 fn asked_by(words: &[String]) -> Result<Option<Asked<'_>>> {
     let Some(measurement) = words.first() else {
         return Ok(None);
@@ -121,7 +121,7 @@ fn measure<T: Threads + Wait + Sync>(
     }
 }
 
-/// A measurement of what is decoded of one recording.
+/// A measurement of decoding one recording.
 fn measure_decoding<T: Threads + Wait + Sync>(
     rt: &HostRuntime,
     threads: &T,

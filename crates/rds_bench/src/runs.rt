@@ -1,4 +1,4 @@
-//! The report of one decoder, and of pieces that are stitched; beside them the valid windows alone.
+//! The report of one decoder, and of pieces that are stitched; beside them only the valid windows.
 use crate::forms;
 use crate::timing::{Form, Timing};
 use anyhow::Result;
@@ -23,7 +23,7 @@ pub fn measure<T: Threads + Wait>(
     let valid = forms::crew(threads, rt.alloc(), recording, rules, 16, 1);
     timing.show(rt, Form::at_most("sixteen pieces", 340), valid)?;
 
-    // What a search has to do, whatever it finds.
+    // The least work of a search, whatever it finds.
     let found = forms::windows(recording);
     timing.show(rt, Form::free("valid windows alone"), Ok(found))
 }

@@ -4,15 +4,15 @@ use rds_code::encode_group;
 use rds_stream::Recording;
 use std::alloc::{AllocError, Global};
 
-/// What a recording is made of.
+/// The content of a recording.
 #[derive(Clone, Copy)]
 pub enum Sample {
     /// A station's groups: a decoder locks on the second block and stays locked.
     Station,
-    /// A station's groups with a bit turned in about one byte of so many.
+    /// A station's groups with a bit turned in about one byte of this many.
     Damaged(u64),
-    /// A station's groups whose blocks 2 and 4 no correction mends. A lock that one bad block loses is lost as soon as it
-    /// is acquired: of what a run keeps there is the most that was found.
+    /// A station's groups whose blocks 2 and 4 no correction mends. A lock that one bad block loses is lost
+    /// as soon as it is acquired: no sample was found of which a run keeps more.
     Worst,
     /// Two groups of a station and as much noise as four, by turns: each time a lock is acquired, and lost.
     Losing,
@@ -28,7 +28,7 @@ impl Sample {
     /// A station with one bit of about 500 turned, as in fair reception.
     const FAIR: Sample = Sample::Damaged(63);
 
-    /// After how many bad blocks in a row the lock is lost where this is decoded.
+    /// After how many bad blocks in a row the lock is lost when this is decoded.
     pub fn loss(self) -> u32 {
         match self {
             Sample::Worst => 1,
@@ -50,7 +50,7 @@ impl Sample {
         }
     }
 
-    /// About so many bits of it, as bytes: for a station as many as whole groups fit into.
+    /// About `bits` bits of it, as bytes: for a station as many as whole groups fit into.
     pub fn bytes(self, alloc: Global, bits: u64) -> Result<Vec<u8>, AllocError> {
         match self {
             Sample::Station => station(alloc, bits),
@@ -160,7 +160,7 @@ fn with_hiss(bytes: Vec<u8>) -> Vec<u8> {
     bytes
 }
 
-/// The bytes with a bit turned in about one of so many.
+/// The bytes with a bit turned in about one of `one_of`.
 fn damaged(bytes: Vec<u8>, one_of: u64) -> Vec<u8> {
     let mut bytes = bytes;
     let mut number = SEED;

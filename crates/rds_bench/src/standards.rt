@@ -38,7 +38,7 @@ const MEASURED: [(&str, Sample); 22] = [
     ("growth", Sample::Noise),
 ];
 
-/// Measures the tasks that have a bound, over short recordings: an error where one keeps losing a ratio.
+/// Measures the tasks that have a bound, over short recordings: an error if one keeps losing a ratio.
 pub fn check<T: Sync + Threads + Wait>(rt: &HostRuntime, threads: &T) -> Result<()> {
     for (name, sample) in MEASURED.iter() {
         println!(rt; "{name}:")?;

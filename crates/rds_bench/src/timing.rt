@@ -1,12 +1,12 @@
 //! Times of the forms of one task, beside one another.
 //!
-//! A form has a bound where its ratio to the first says that work is done once, by tables or by whole words. The bounds
-//! are wide, half of what docs/PERFORMANCE.md states, so that a busy machine keeps them.
+//! A form has a bound if its ratio to the first says that work is done once, by tables or by whole words. The
+//! bounds are wide, half of the ratios that docs/PERFORMANCE.md states, so that a busy machine keeps them.
 use anyhow::{Result, bail};
 use std::io;
 use std::time::Instant;
 
-/// How the time of a form may stand to that of the first one, in hundredths of it.
+/// The bound on the ratio of a form's time to that of the first one, in hundredths.
 #[derive(Clone, Copy)]
 enum Bound {
     Free,
@@ -40,7 +40,7 @@ impl Form {
         }
     }
 
-    /// A form that takes at least so many hundredths of the first one's time.
+    /// A form that takes at least this many hundredths of the first one's time.
     pub fn at_least(name: &'static str, hundredths: u128) -> Form {
         Form {
             name,
@@ -48,7 +48,7 @@ impl Form {
         }
     }
 
-    /// A form that takes at most so many hundredths of the first one's time.
+    /// A form that takes at most this many hundredths of the first one's time.
     pub fn at_most(name: &'static str, hundredths: u128) -> Form {
         Form {
             name,
@@ -57,7 +57,7 @@ impl Form {
     }
 }
 
-/// The times of one task's forms over so many bits, each shown as it comes.
+/// The times of one task's forms over `bits` bits, each shown as it comes.
 #[derive(Clone, Copy)]
 pub struct Timing {
     bits: u64,
@@ -76,8 +76,8 @@ impl Timing {
         })
     }
 
-    /// Shows the time of a form and what it counted, which is the same for all forms that do the task: an error where it
-    /// failed, or the time is past the form's bound. The next form begins behind that.
+    /// Shows the time of a form and its count, which is the same for all forms that do the task: an error if
+    /// it failed, or the time is past the form's bound. The next form begins after that.
     pub fn show(&mut self, rt: &HostRuntime, form: Form, found: Result<u64>) -> Result<()> {
         self.show_since(rt, form, self.start, found?)?;
         self.start = Instant::now(rt)?;

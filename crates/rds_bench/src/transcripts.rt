@@ -7,15 +7,15 @@ use std::alloc::Global;
 use std::sync::Wait;
 use std::thread::Threads;
 
-/// A crew of so many workers, and how its time is shown.
+/// A crew of `workers` workers, and how its time is shown.
 #[derive(Clone, Copy)]
 struct Crew {
     workers: u32,
     form: Form,
 }
 
-/// The most that a crew may take, in hundredths of one worker's time: its workers share the work out, and each does its
-/// own alone, so that on one processor they take as long as one.
+/// The most that a crew may take, in hundredths of one worker's time: its workers share the work out, and
+/// each does only its own part, so that on one processor they take as long as one.
 const MOST: u128 = 150;
 
 fn crews() -> [Crew; 3] {
@@ -35,7 +35,7 @@ fn crews() -> [Crew; 3] {
     ]
 }
 
-/// The whole way, reading and writing memory: a listing, or its totals alone.
+/// The whole way, reading and writing memory: a listing, or only its totals.
 pub fn measure<T: Threads + Wait + Sync>(
     rt: &HostRuntime,
     threads: &T,
@@ -62,7 +62,7 @@ fn time_crews<T: Threads + Wait + Sync>(
     Ok(())
 }
 
-/// How many bytes so many workers write of these.
+/// How many bytes `workers` workers write for these.
 fn written_by<T: Threads + Wait + Sync>(
     threads: &T,
     alloc: Global,

@@ -1,4 +1,4 @@
-//! Calls on two guesses, each made once more where it is refused.
+//! Calls on two guesses, each made once more if it is refused.
 ghost use Rattle.std.specs.Prelude.{◌≡◌, IfOk};
 ghost use Rattle.rds_stream.specs.Recording.{length_of};
 ghost use Rattle.rds_pieces.specs.Cutting.{IsCutting, pieces_of};
@@ -10,7 +10,7 @@ use rds_stream::{Counted, Recording, Tape};
 use rds_sync::{Rules, Totals};
 use std::alloc::Global;
 
-/// What a call found, and how many windows it read.
+/// The counts that a call found, and how many windows it read.
 #[derive(Clone, Copy)]
 pub struct Found {
     pub items: u64,
@@ -32,7 +32,7 @@ impl Found {
     }
 }
 
-/// What a join of the two guesses finds. It is made once more if it is refused.
+/// The counts that a join of the two guesses finds. It is made once more if it is refused.
 pub fn joined(
     alloc: Global,
     recording: &Recording,
@@ -66,7 +66,7 @@ fn two_guesses(
     Ok((left, right))
 }
 
-/// What a join of two guesses finds, and how many windows it reads.
+/// The counts that a join of two guesses finds, and how many windows it reads.
 fn join_once(
     alloc: Global,
     recording: &Recording,
@@ -81,7 +81,7 @@ fn join_once(
     Ok(Found::of_totals(&run.totals(), tape.reads()))
 }
 
-/// What the report stitched of the two guesses says.
+/// The counts of the report stitched of the two guesses.
 pub fn stitched(
     alloc: Global,
     recording: &Recording,

@@ -23,7 +23,7 @@ fn time_all(rt: &HostRuntime, recording: &Recording) -> Result<()> {
     let found = by_tables(recording);
     timing.show(rt, Form::free("place by place"), Ok(found))?;
 
-    // The scan goes by planes, and not place by place.
+    // The scan is by planes, not place by place.
     let found = by_division(recording);
     timing.show(rt, Form::at_least("by long division", 1000), Ok(found))
 }

@@ -32,7 +32,7 @@ module _ {X : Type 0} where
       let each : All (λ (entry : ℕ × X). entry.1 ≡ f entry.0) made = subst (All (λ (entry : ℕ × X). entry.1 ≡ f entry.0)) (sym is) (values_at f js) in
       one.1 ∙ ap (λ (x : X). Some (Some x)) (All-contains (λ (entry : ℕ × X). entry.1 ≡ f entry.0) made (j, one.0) each one.2)
 
-  -- the numbers drawn are those beside which values stand, each within the slots
+  -- the numbers drawn are those that have values beside them, each within the slots
   pub drawn_within : (f : ℕ → X) (count : ℕ) (js : List ℕ) (made : List (ℕ × X)) → made ≡ map (λ (i : ℕ). (i, f i)) js → All (λ j. j < count) js → All (λ entry. entry.0 < count) made
   drawn_within f count js made is within = subst (All (λ (entry : ℕ × X). entry.0 < count)) (sym is) (All-map (λ (entry : ℕ × X). entry.0 < count) (λ (i : ℕ). (i, f i)) js within)
 
@@ -59,7 +59,7 @@ module _ {X : Type 0} where
         (cases_lt 0 (times j seat.view.drawn));
   }
 
-  -- where the seats drew all numbers, each slot has what was made of its number
+  -- if the seats drew all numbers, each slot has the value made of its number
   all_filled : (f : ℕ → X) (count : ℕ) (seats : List SeatValue) (slots : List (Option X)) → IsGathered f count seats slots → DrewAllOnce count seats → (j : ℕ) → j < count → slice_get slots j ≡ Some (Some (f j))
   all_filled f count seats slots was all j below =
       let once : once_below j count ≡ 1 = ap (λ (b : Bool). cond {A = ℕ} b 1 0) (lt-ltb j count below) in

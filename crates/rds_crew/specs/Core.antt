@@ -20,7 +20,7 @@ start = counts 0 0
 abbrev pub number_of_ticket : ℕ → ℕ → Option ℕ
 number_of_ticket pieces ticket = if nat_lt ticket pieces then Some ticket else None
 
--- what the core of so many pieces replies to each event, and its counts after it
+-- the reply of the core of `pieces` pieces to each event, and its counts after it
 abbrev pub draw : ℕ → Counts → Option ℕ × Counts
 draw pieces now = (number_of_ticket pieces now.tickets, record now { tickets = now.tickets + 1 })
 

@@ -1,6 +1,6 @@
--- The rule that a dealer's table keeps between any two steps, over its two words and what each seat knows, its view; this
--- project's rule. The table has it by its type (`deal.rt`); of public calls `Dealer::progress` cites `held_count`, and the others
--- what `Seats` makes of views.
+-- The rule that a dealer's table keeps between any two steps, over its two words and the view of each seat,
+-- which is all that the seat knows; this project's rule. The table has it by its type (`deal.rt`); of public
+-- calls `Dealer::progress` cites `held_count`, and the others cite the definitions of `Seats` over views.
 use Rattle.std.specs.Prelude.{◌≡◌, ℕ, ◌+◌, ◌^◌, ◌<◌, ◌≤◌, min, ◌==◌, if◌then◌else◌, nat_lt, List, [], ◌∷◌, ◌++◌, length, slice_index, count_by, sum_by, Option, Some, None, IfSome}
 use mathlib.Core.Option.{some}
 use lib.ListN.{get_elem?}
@@ -10,7 +10,7 @@ use Rattle.rds_crew.specs.declared.deal.Terms.{Terms}
 use Rattle.rds_crew.specs.declared.deal.Event.{Event}
 use Rattle.rds_crew.specs.Core.{counts, Runs}
 
--- how often x stands in the list
+-- how often x is in the list
 abbrev pub times : ℕ → List ℕ → ℕ
 times x numbers = count_by (λ y. x == y) numbers
 
@@ -27,14 +27,14 @@ held_count (Some number) = 1
 abbrev pub EndsIn : List ℕ → ℕ → Type 0
 EndsIn numbers number = (front : List ℕ) × (numbers ≡ front ++ number ∷ [])
 
--- a view of so many shares that has done nothing
+-- a view of `share` shares that has done nothing
 abbrev pub fresh : ℕ → ℕ → View
 fresh pieces share = record { pieces = pieces; share = share; drawn = []; held = None; ended = 0; finished = 0; told = 0; log = [] }
 
--- what the rule says of one view, where `done` numbers are finished in all
+-- the rule for one view, if `done` numbers are finished in all
 pub record Fits (pieces done : ℕ) (view : View) : Type 0 where
   pub ended_within : view.ended ≤ view.share
-  -- it drew as many as it finished, and one more where it holds one: the last
+  -- it drew as many as it finished, and one more if it holds one: the last
   pub counted : length view.drawn ≡ view.finished + held_count view.held
   pub last : IfSome view.held (λ number. EndsIn view.drawn number)
   pub told_within : view.told ≤ done
@@ -42,7 +42,7 @@ pub record Fits (pieces done : ℕ) (view : View) : Type 0 where
   pub spent : view.share ≡ 0 → (view.drawn ≡ []) × (view.held ≡ None) × (view.log ≡ [])
   pub same_pieces : 0 < view.share → view.pieces ≡ pieces
 
--- what is added up over all views: a sum takes a function, so that each of these has a name
+-- the functions that are summed over all views: a sum takes a function, so that each of these has a name
 abbrev pub share_of : View → ℕ
 share_of view = view.share
 
@@ -66,7 +66,7 @@ log_of view = view.log
 abbrev pub Merges : {A : Type 0} → (A → List Event) → List Event → List A → Type 0
 Merges log events owners = (weight : Event → ℕ) → sum_by weight events ≡ sum_by (λ owner. sum_by weight (log owner)) owners
 
--- what all views did is, in some order, a run of the core to these counts
+-- the events of all views are, in some order, a run of the core to these counts
 abbrev pub HasRun : ℕ → ℕ → ℕ → List View → Type 0
 HasRun pieces tickets done views = (events : List Event) × Runs pieces events (counts tickets done) × Merges log_of events views
 
@@ -84,8 +84,8 @@ pub record Dealt (key : Terms) (tickets done : ℕ) (views : List View) : Type 0
   pub all_finished : done ≡ sum_by finished_of views
   pub each : (slot : ℕ) (view : View) → get_elem? views slot ≡ some view → Fits key.pieces done view
 
--- what holds of the dealer's table between any two steps: its first word is the tickets, which can never wrap, and
--- its second the finished
+-- the invariant of the dealer's table between any two steps: its first word is the tickets, which can never
+-- wrap, and its second the finished
 abbrev pub Holds : Terms → State Unit View → Type 0
 Holds key table = (length table.words ≡ 2) × Dealt key (slice_index table.words 0) (slice_index table.words 1) table.views
     × (slice_index table.words 0 ≤ key.pieces + 256)

@@ -1,5 +1,5 @@
--- A dealer and its seats, as callers see them: by names and views, and what seats did together. `Dealer::new`, `draw`, `finish`,
--- `progress` and `close` cite it.
+-- A dealer and its seats, as callers see them: by names and views, and the events of seats together.
+-- `Dealer::new`, `draw`, `finish`, `progress` and `close` cite it.
 use Rattle.std.specs.Prelude.{◌≡◌, ℕ, ◌+◌, List, sum_by, None}
 use Rattle.atomic_table.specs.Seated.{TableId}
 use Rattle.rds_crew.specs.declared.deal.View.{View}
@@ -17,7 +17,7 @@ pub record DealerValue : Type 0 where
   pub name : DealerName
   pub seats : ℕ
 
--- of which dealer a seat is, and what it knows
+-- of which dealer a seat is, and its view
 pub record SeatValue : Type 0 where
   pub dealer : DealerName
   pub view : View
@@ -50,12 +50,12 @@ times_drawn x seats = sum_by (λ seat. times x seat.view.drawn) seats
 abbrev pub DrewAllOnce : ℕ → List SeatValue → Type 0
 DrewAllOnce n seats = (x : ℕ) → times_drawn x seats ≡ once_below x n
 
--- what the seat did, the newest last
+-- the events of the seat, the newest last
 abbrev pub log_of_seat : SeatValue → List Event
 log_of_seat seat = seat.view.log
 
--- what the seats did is, in some order, a run of the dealer's core to its end: a ticket for each piece and one more
--- for each seat
+-- the events of the seats are, in some order, a run of the dealer's core to its end: a ticket for each piece
+-- and one more for each seat
 abbrev pub DidWholeRun : DealerValue → List SeatValue → Type 0
 DidWholeRun dealer seats = (events : List Event) × Runs dealer.name.pieces events (counts (dealer.name.pieces + dealer.seats) dealer.name.pieces)
     × Merges log_of_seat events seats

@@ -14,8 +14,8 @@ use Rattle.rds_crew.specs.Deal.{held_count, fresh}
 abbrev pub words_of : Counts → List ℕ
 words_of counts = counts.tickets ∷ counts.done ∷ []
 
--- The step, which found so much in its word, is this event: from whatever counts that is the word of, the event leads to counts
--- that are the words after the step, which sets its own word alone
+-- The step, which found so much in its word, is this event: from whatever counts that is the word of, the
+-- event leads to counts that are the words after the step, which sets only its own word
 abbrev pub IsEvent : ℕ → Event → Step Unit → ℕ → Type 0
 IsEvent pieces event step found = (before : Counts) → slice_index (words_of before) step.word ≡ found
     → (after : Counts) × Leads pieces event before after
@@ -47,7 +47,7 @@ after view (Progress reply) = with_told view reply
 abbrev pub Does : Event → Step Unit → Me Unit View → ℕ → Me Unit View → Type 0
 Does event step me found me' = IsEvent me.0.pieces event step found × (me' ≡ (after me.0 event, me.1))
 
--- what each step tells its seat by what it found, beside the event that it is
+-- the news of each step to its seat, by the word that it found, beside the event that it is
 abbrev pub Drew : Step Unit → Me Unit View → ℕ → Me Unit View → Type 0
 Drew step me found me' = Does (Draw (number_of_ticket me.0.pieces found)) step me found me' × (me.0.finished ≤ found)
 

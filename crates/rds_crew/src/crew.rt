@@ -23,23 +23,24 @@ pub const MOST_WORKERS: u32 = 256;
 
 /// The report of the recording and the rules that the work names, made by up to `workers` threads.
 ///
-/// Each piece is guessed by itself. Then neighbours are joined, level by level, from level 1: runs 2m and 2m + 1 of a
-/// level, of which level 0 is the guesses, make run m of the next, and a last run without a neighbour goes up as it is.
-/// The one run that is left, or none where there is no piece, is made into the report.
+/// Each piece is guessed by itself. Then neighbours are joined, level by level, from level 1: runs 2m and 2m
+/// + 1 of a level, of which level 0 is the guesses, make run m of the next. A last run without a neighbour
+/// goes up as it is. The one run that is left, or none if there is no piece, is made into the report.
 ///
-/// The pieces, and then the joins of each level, are drawn from a dealer of their own. With two of them or more and two
-/// workers or more, as many threads are started as the lesser of the two numbers. Each draws until none is left, makes
-/// what it drew in that order, and calls the gate round each. Else the calling thread does all of this and starts none.
-/// The threads are waited for before the next level is begun.
+/// The pieces, and then the joins of each level, are drawn from a dealer of their own. With two of them or
+/// more and two workers or more, as many threads are started as the lesser of the two numbers. Each draws
+/// until none is left, makes the parts that it drew in that order, and calls the gate round each. Else the
+/// calling thread does all of this and starts none. The threads are waited for before the next level is
+/// begun.
 ///
-/// Refuses `CrewRange` where `workers` is not 1 to 256. For the pieces, and then for each level, it refuses in this
-/// order: `OutOfMemory` where memory was refused before the first thread was started; `NoWorker` where a thread was not
-/// started; `OutOfMemory` where memory was refused later. What was made until then is dropped.
+/// Refuses `CrewRange` if `workers` is not 1 to 256. For the pieces, and then for each level, it refuses in
+/// this order: `OutOfMemory` if memory was refused before the first thread was started; `NoWorker` if a
+/// thread was not started; `OutOfMemory` if memory was refused later. All parts made until then are dropped.
 ///
-/// Its cost: each bit is guessed once, and a join carries the left run on over the right one until the two meet (see
-/// [`join_runs`](rds_pieces::join_runs)): at best at once, at worst to the end of the right one. So each bit is gone
-/// over once, and at most once more for each level. The runs of one level are held at a time, and what joins them; runs
-/// are moved up a level, and none is copied.
+/// Its cost: each bit is guessed once, and a join carries the left run on over the right one until the two
+/// meet (see [`join_runs`](rds_pieces::join_runs)): at best at once, at worst to the end of the right one. So
+/// each bit is gone over once, and at most once more for each level. The runs of one level are held at a
+/// time, and what joins them; runs are moved up a level, and none is copied.
 pub fn decode_crew<R: Threads + Wait, W: Work + Sync, G: Gate + Sync>(
     rt: &R,
     alloc: Global,
@@ -67,7 +68,7 @@ pub fn decode_crew<R: Threads + Wait, W: Work + Sync, G: Gate + Sync>(
     report_of(alloc, work, runs.as_slice())
 }
 
-/// Whether a crew may have so many workers.
+/// Whether a crew may have this number of workers.
 fn may_be_so_many(workers: u32) -> bool
     ensures { IsTrue result ↔ ((0 < workers) × (workers ≤ 256)) }
 {

@@ -1,7 +1,8 @@
-//! What a caller hears of the workers while they run.
+//! Calls by which a caller hears of the workers while they run.
 use rds_pieces::PieceRun;
 
-/// What the workers call round each piece and round each join, so that a caller can watch them or hold them up.
+/// The calls of the workers round each piece and round each join, so that a caller can watch them or hold
+/// them up.
 ///
 /// A gate is lent to all workers at once, and its calls are made in their threads. A worker waits
 /// for each call to return, and the crew for its workers: that the calls return is the gate's part.
@@ -9,8 +10,8 @@ pub trait Gate {
     /// Called by the worker of piece `j` before it guesses the piece.
     fn begin(&self, j: u64);
 
-    /// Called by the same worker once piece `j` is guessed, with the run that it goes on to hand
-    /// back. Not called where the guess was refused memory.
+    /// Called by the same worker once piece `j` is guessed, with the run that it goes on to hand back. Not
+    /// called if the guess was refused memory.
     fn done(&self, j: u64, run: &PieceRun);
 
     /// Called by the worker of join `m` of a level, from level 1 on, before it joins runs 2m and 2m + 1 of the level
@@ -20,8 +21,8 @@ pub trait Gate {
         let _ = m;
     }
 
-    /// Called by the same worker once the two are joined, with the run that it goes on to hand back. Not called where the
-    /// join was refused memory. Does nothing, unless it is implemented.
+    /// Called by the same worker once the two are joined, with the run that it goes on to hand back. Not
+    /// called if the join was refused memory. Does nothing, unless it is implemented.
     fn join_done(&self, level: u32, m: u64, run: &PieceRun) {
         let _ = level;
         let _ = m;

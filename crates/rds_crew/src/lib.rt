@@ -1,13 +1,12 @@
 //! The report of one decoder, made by a crew of threads.
 //!
-//! A recording is cut into pieces, and each piece is guessed by a worker that knows nothing of what
-//! the bits before it did. The guesses are then put in the order of their pieces, and neighbours
-//! are joined, level by level, until one run is left: that of the whole recording, which is made
-//! into the report that one decoder gives, reading from the first bit. What a piece is, how it is
-//! guessed, what joins two runs and how a run becomes a report is the business of a
-//! [`Work`](rds_pieces::Work). This crate deals the pieces out, and then the joins of each level,
-//! waits for its workers, puts in order what they made, and puts the runs of a level together: they
-//! are moved up, and none is copied.
+//! A recording is cut into pieces, and each piece is guessed by a worker that knows nothing of the bits
+//! before it. The guesses are then put in the order of their pieces, and neighbours are joined, level by
+//! level, until one run is left: that of the whole recording, which is made into the report that one decoder
+//! gives, reading from the first bit. A [`Work`](rds_pieces::Work) says what a piece is, how it is guessed,
+//! how two runs are joined and how a run becomes a report. This crate deals the pieces out, and then the
+//! joins of each level, and waits for its workers. It puts their results in order, and the runs of a level
+//! together: they are moved up, and none is copied.
 //!
 //! # Example
 //!
@@ -33,47 +32,47 @@
 //! # What there is
 //!
 //! - [`decode_crew`]: the report of a work, by up to [`MOST_WORKERS`] threads.
-//! - [`Gate`]: what the workers call round each piece and each join, by which a caller watches them
-//!   or holds them up. [`OpenGate`] does nothing.
-//! - [`Dealer`]: deals each number below some count once, to as many [`Seat`]s as it was made with,
-//!   at most 256, and takes no lock. [`Closed`] is what it counts in the end.
+//! - [`Gate`]: the calls of the workers round each piece and each join, by which a caller watches them or
+//!   holds them up. [`OpenGate`] does nothing.
+//! - [`Dealer`]: deals each number below some count once, to as many [`Seat`]s as it was made with, at most
+//!   256, and takes no lock. [`Closed`] has its final counts.
 //! - [`CrewError`]: the refusals `CrewRange` (7), `OutOfMemory` (8) and `NoWorker` (14).
 //!
 //! # What callers may rely on
 //!
-//! - Where [`decode_crew`] answers a report, it is that of the work's recording and rules, whatever
-//!   the cutting, however many workers there were, and in whatever order they drew and ended. It is
-//!   lent no recording: bits reach it by the work alone.
-//! - It refuses a number of workers outside 1 to 256 exactly as [`CrewError::CrewRange`], and
-//!   answers [`CrewError::NoWorker`] only where there are two pieces or more and two workers or
-//!   more.
+//! - If [`decode_crew`] answers a report, it is that of the work's recording and rules. That holds for any
+//!   cutting and any number of workers, in whatever order they drew and ended. It is lent no recording: bits
+//!   reach it only by the work.
+//! - It refuses a number of workers outside 1 to 256 exactly as [`CrewError::CrewRange`]. It answers
+//!   [`CrewError::NoWorker`] only if there are two pieces or more and two workers or more.
 //! - No thread that it started outlives the call.
 //! - A dealer deals no number twice and leaves none out, in whatever order the steps of any threads
 //!   fall. No call of it waits, tries again, or takes memory once it is made.
 //!
 //! # What it leaves to others
 //!
-//! That memory and threads are there, that the calls of the work and of the gate return, and which
-//! thread draws what and ends first. That the workers run at the same time, at pieces and at joins,
-//! that neighbours are joined level by level, and that the report is made of their runs and of no
-//! others, no contract can say: the tests in `rds_tests` show it, by a [`Gate`] that holds
-//! one worker up until the other has begun, and one that notes what is made of which runs.
+//! That memory and threads are there, that the calls of the work and of the gate return, and which thread
+//! draws what and ends first. No contract can say that the workers run at the same time, at pieces and at
+//! joins, or that neighbours are joined level by level. Nor can one say that the report is made of their runs
+//! and of no others. The tests in `rds_tests` show it: by a [`Gate`] that holds one worker up until the other
+//! has begun, and one that notes which runs each join is made of.
 #![tactic(auto)]
 
-// In the order of reading: the report of a crew, what its workers draw, and the dealer that they draw from.
+// In the order of reading: the report of a crew, the parts that its workers draw, and the dealer that they
+// draw from.
 mod crew; // The report, from the guesses to the run that is left.
-mod gate; // What a caller hears of the workers.
+mod gate; // Calls by which a caller hears of the workers.
 mod parts; // Work in numbered parts, of which there are two kinds.
 mod guesses; // The pieces of a work, as parts.
 mod joins; // The joins of one level, as parts.
 mod tree; // The levels of joins, up to one run.
 mod team; // All parts of a work, made by threads.
-mod drawing; // What one worker draws and makes.
-mod promise; // What its thread promises of that.
-mod slots; // What was made, in the order of its numbers.
+mod drawing; // The parts that one worker draws and makes.
+mod promise; // The promise of its thread about them.
+mod slots; // The parts that were made, in the order of their numbers.
 mod dealer; // Who deals the numbers.
 mod seat; // The right of a worker to draw.
-mod deal; // What the dealer's table keeps: the rule of its two words.
+mod deal; // The invariant of the dealer's table: the rule of its two words.
 mod error; // Why a call refuses.
 
 pub use crew::{MOST_WORKERS, decode_crew};

@@ -1,4 +1,4 @@
-//! What the thread of a worker promises, and what it hands back.
+//! The promise of the thread of a worker, and its result.
 ghost use Rattle.std.specs.Prelude.{◌≡◌};
 
 use crate::dealer::Dealer;
@@ -8,12 +8,12 @@ use rds_pieces::PieceError;
 use std::snapshot::Snapshot;
 use std::thread::{Promise, PromisedHandle};
 
-/// What a worker hands back: its seat, which has ended, and the part of each number that the seat drew, beside that
-/// number.
+/// The result of a worker: its seat, which has ended, and the part of each number that the seat drew, beside
+/// that number.
 pub(crate) type Drawn<M> = (Seat, Vec<(u64, M)>);
 
-/// What the thread of a worker promises: that its seat is of this dealer and has rested, and that it made what these
-/// parts are at the numbers that the seat drew.
+/// The promise of the thread of a worker: its seat is of this dealer and has rested, and it made those of
+/// these parts whose numbers the seat drew.
 #[derive(Drop)]
 pub(crate) struct DrawPromise<P> {
     parts: Snapshot<P>,

@@ -17,8 +17,8 @@ use std::sync::Wait;
 use std::thread;
 use std::thread::{Scope, Threads};
 
-/// All parts, in the order of their numbers. They are dealt to as many threads as there are workers or parts, whichever
-/// is less; where that is one, the calling thread makes them all.
+/// All parts, in the order of their numbers. They are dealt to as many threads as there are workers or parts,
+/// whichever is less; if that is one, the calling thread makes them all.
 pub(crate) fn make_all<R: Threads + Wait, P: Parts + Sync>(
     rt: &R,
     alloc: Global,
@@ -44,7 +44,7 @@ pub(crate) fn make_all<R: Threads + Wait, P: Parts + Sync>(
     deal_out(rt, alloc, parts, threads, slots)
 }
 
-/// All parts, which are dealt to so many threads, from these slots.
+/// All parts, which are dealt to `threads` threads, from these slots.
 fn deal_out<R: Threads + Wait, P: Parts + Sync>(
     rt: &R,
     alloc: Global,
@@ -66,7 +66,7 @@ fn deal_out<R: Threads + Wait, P: Parts + Sync>(
     in_order(alloc, parts, dealer, drawn, slots)
 }
 
-/// What is drawn with these seats: with one by the calling thread, else by a thread for each.
+/// Draws with these seats: with one in the calling thread, else in a thread for each.
 fn draw<R: Threads + Wait, P: Parts + Sync>(
     rt: &R,
     alloc: Global,
@@ -90,7 +90,7 @@ fn draw<R: Threads + Wait, P: Parts + Sync>(
     }
 }
 
-/// What the calling thread draws, with one seat.
+/// Draws in the calling thread, with one seat.
 fn draw_alone<P: Parts>(
     alloc: Global,
     parts: &P,
@@ -117,7 +117,7 @@ fn draw_alone<P: Parts>(
     Ok(drawn)
 }
 
-/// What threads draw, one for each seat.
+/// Draws in threads, one for each seat.
 fn draw_by_threads<R: Threads + Wait, P: Parts + Sync>(
     rt: &R,
     alloc: Global,
@@ -151,7 +151,7 @@ fn draw_by_threads<R: Threads + Wait, P: Parts + Sync>(
     )
 }
 
-/// Starts a thread for each seat. Where one is not started, those before it are waited for.
+/// Starts a thread for each seat. If one is not started, those before it are waited for.
 fn start_workers<'s, E, R: Threads, P: Parts + Sync>(
     scope: &'s Scope<'s, E>,
     rt: &R,
@@ -204,14 +204,14 @@ fn start<'s, E, P: Parts + Sync>(
     }
 }
 
-/// Waits for the threads, and drops what they made.
+/// Waits for the threads, and drops the parts that they made.
 fn wait_for<R: Threads, P: Parts>(rt: &R, threads: Vec<Worker<P>>) {
     for thread in threads {
         drop(thread.join(rt));
     }
 }
 
-/// Waits for all threads, and puts what they drew one behind the other.
+/// Waits for all threads, and lists their results in order.
 fn gather<R: Threads, P: Parts>(
     rt: &R,
     parts: &P,
@@ -231,7 +231,7 @@ fn gather<R: Threads, P: Parts>(
     let mut drawn = drawn;
     let mut short = false;
     for thread in threads {
-        // A want of memory is answered only after the last thread has ended.
+        // If memory was refused, that is answered only after the last thread has ended.
         match thread.join(rt) {
             Ok(made) => drawn.push_reserved(made),
             Err(_) => short = true,

@@ -13,7 +13,7 @@ use std::alloc::Global;
 use std::sync::Wait;
 use std::thread::Threads;
 
-/// Joins runs in a row to one, or to none where there is none. A level is begun once the one below is whole.
+/// Joins runs in a row to one, or to none if there is none. A level is begun once the one below is whole.
 pub(crate) fn join_all<R: Threads + Wait, W: Work + Sync, G: Gate + Sync>(
     rt: &R,
     alloc: Global,

@@ -1,4 +1,4 @@
--- What a bit and the place of the next block say of a hop.
+-- Facts about a hop, from a bit and the place of the next block.
 use Rattle.std.proofs.Common.{◌≡◌, ℕ, ◌+◌, ◌≤◌, ◌⊎◌, List, Option, Some, None, refl, sym, ap, ◌∙◌, arith, inl, inr}
 use Rattle.std.proofs.lemmas.Bool.{cases_eq, cases_Bool}
 use Rattle.rds_stream.specs.Recording.{Signal}

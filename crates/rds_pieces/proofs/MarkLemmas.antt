@@ -13,7 +13,7 @@ use Rattle.rds_pieces.specs.Inside.RunLaws.{RunLaws}
 use Rattle.rds_pieces.specs.Marks.{mark_where, mark_at, marks_on}
 use Rattle.rds_pieces.proofs.RunFacts.{none_first, none_rest, run-append}
 
--- a mark stands where items were given
+-- there is a mark if items were given
 mark_there : (given : List Item) (mark : Mark) → given ≢ [] → mark_where given mark ≡ mark ∷ []
 mark_there [] mark some = absurd (some refl)
 mark_there (item ∷ items) mark some = refl

@@ -60,7 +60,7 @@ paid_hop b rules from to a (Locked lock) c y next after reads cost h hop =
       ];
     }
 
--- so both asked for few, wherever the two places are d behind the first at most
+-- so both asked for few, if the two places are at most d after the first
 pub paid_most : (rules : RuleNumbers) (from d a : ℕ) (x : State) (c : ℕ) (y : State) (reads : ℕ) → 1 ≤ rules.reach → IsLawful rules a x → IsLawful rules c y
     → a ≤ from + d → c ≤ from + d → IsPaid rules from a x c y reads → reads ≤ (rules.reach + 2) * (d + 1)
 paid_most rules from d a x c y reads some one two near_a near_c h =

@@ -1,4 +1,5 @@
--- What the proofs of this crate use of runs: what the definitions compute, and the laws in the forms that they use.
+-- Facts about runs that the proofs of this crate use: values that the definitions compute, and the laws in
+-- the forms that they use.
 use Rattle.std.proofs.Common.{◌≡◌, ◌≢◌, ℕ, ◌+◌, ◌-◌, ◌≤◌, ◌⊎◌, List, [], ◌∷◌, ◌++◌, true, false, Some, None, refl, ap, ap₂, ◌∙◌, subst, arith, inl, inr}
 use Rattle.std.proofs.lemmas.Bool.{cases_eq, eq-eqb, ne_eqb}
 use Rattle.rds_stream.specs.Recording.{Signal}
@@ -90,7 +91,7 @@ module _ (b : Signal) (rules : RuleNumbers) where
   items-losing lock h = rw (eq-eqb lock.due lock.due refl, h, items_at, after_bit) refl
 
 module _ (laws : RunLaws) (b : Signal) (rules : RuleNumbers) where
-  -- the laws by counts of bits, where they are said by places
+  -- the laws by counts of bits, which are stated by places
 
   pub run-append : (s : State) (a m n : ℕ)
       → run b rules s a (m + n) ≡ ((run b rules (run b rules s a m).0 (a + m) n).0, (run b rules s a m).1 ++ (run b rules (run b rules s a m).0 (a + m) n).1)

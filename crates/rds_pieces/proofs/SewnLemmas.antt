@@ -1,4 +1,5 @@
--- A run and its guess that met go on as one: the whole run is what the run gave up to the meeting, and then what the guess gives.
+-- A run and its guess that met go on as one: the whole run has the items of the run up to the meeting, and
+-- then those of the guess.
 use Rattle.std.proofs.Common.{◌≡◌, ℕ, ◌-◌, ◌^◌, ◌≤◌, List, ◌++◌, length, drop, sym, ap, ap₂, ◌∙◌, arith}
 use Rattle.std.proofs.lemmas.List.Prefix.{front_rest}
 use Rattle.rds_stream.specs.Recording.{Signal}
@@ -20,7 +21,7 @@ module _ (laws : RunLaws) (b : Signal) (rules : RuleNumbers) (s : State) (from t
   abbrev pub own : State × List Item
   own = run b rules s from (place - from)
 
-  -- what both give from the meeting on
+  -- the result of both from the meeting on
   abbrev pub later : State × List Item
   later = run b rules own.0 place (to - place)
 

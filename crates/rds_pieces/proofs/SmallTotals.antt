@@ -119,7 +119,7 @@ lost_at_most i = few_at_most 1 0 1 (omega arith) (omega arith)
 none_at_most : (n : ℕ) → IsAtMost n (totals_of [])
 none_at_most n = few_at_most n 0 0 (omega arith) (omega arith)
 
--- a burst lies in a block
+-- a burst is inside a block
 reading_small : ReadsByRule → (w x : ℕ) (wanted : Wanted) (limit : ℕ) → 1 ≤ x → x ≤ 4 → limit ≤ 5 → bits_corrected (Read (reading w x wanted limit)) < 2 ^ 26
 reading_small law w x wanted limit low high few = at_case (reading w x wanted limit) ((law w x wanted limit (reading w x wanted limit) low high few).1 refl) where
   at_case : (r : Reading) → IsReading w x wanted limit r → bits_corrected (Read r) < 2 ^ 26

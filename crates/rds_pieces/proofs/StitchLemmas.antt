@@ -21,12 +21,12 @@ use Rattle.rds_pieces.specs.Inside.RunLaws.{RunLaws}
 use Rattle.rds_pieces.specs.Seams.{seam_reads, IsSumOfReads}
 use Rattle.rds_pieces.proofs.SmallTotals.{per_bit, at_most_more, run_at_most}
 
--- runs that follow each other lie between the places
+-- runs that follow each other are between the places
 pub follow_inside : (b : Signal) (rules : RuleNumbers) (from to : ℕ) (runs : List RunOf) → FollowEachOther b rules from to runs → from ≤ to
 follow_inside b rules from to [] h = omega (arith, h)
 follow_inside b rules from to (r ∷ rs) h = let l = follow_inside b rules r.to to rs h.2 in omega (arith, h.1, l)
 
--- a meeting lies in the range
+-- a meeting is in the range
 distance_inside : (b : Signal) (rules : RuleNumbers) (s t : State) (from to : ℕ) (met : Option ℕ) → IsMeeting b rules s t from to met → distance from to met ≤ to - from
 distance_inside b rules s t from to None h = omega arith
 distance_inside b rules s t from to (Some p) h = let i = h.here.inside in omega (arith, i)
@@ -58,7 +58,7 @@ meeting_at_once b rules (Locked lock) from to e = (
 )
 
 module _ (b : Signal) (rules : RuleNumbers) (runs : List RunOf) where
-  -- what was done once the state was carried over the first k runs
+  -- the progress once the state was carried over the first k runs
   pub record IsStitched (base k : ℕ) (state : State) (items : List Item) (reads : ℕ) : Type 0 where
     pub place : ℕ
     pub sum : ℕ
@@ -97,7 +97,7 @@ module _ (b : Signal) (rules : RuleNumbers) (runs : List RunOf) where
     pub next_follows : Next
     next_follows = subst (λ (rs : List RunOf). FollowEachOther b rules done.place (length_of b) rs) left done.follow
 
-    -- what a seam asks of run k
+    -- the conditions of a seam on run k
     pub source_is : r.source ≡ b
     source_is = ap (λ (x : RunOf). x.source) next_follows.0
 

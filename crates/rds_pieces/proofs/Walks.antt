@@ -1,4 +1,5 @@
--- Two runs of one range side by side, of which the one that is behind hops: they meet at the least place, and read few windows.
+-- Two runs of one range side by side, of which the one at the lesser place hops: they meet at the least
+-- place, and read few windows.
 use Rattle.std.proofs.Common.{◌≡◌, ◌≢◌, ℕ, ◌+◌, ◌-◌, ◌*◌, ◌<◌, ◌≤◌, ◌^◌, ◌⊎◌, Option, Some, None, refl, sym, ap, ◌∙◌, subst, arith, inl, inr}
 use Rattle.std.proofs.lemmas.Bool.{cases_lt}
 use Rattle.std.proofs.lemmas.Nat.{mul-le}
@@ -33,7 +34,7 @@ is_search : (x : State) → (x ≡ Searching) ⊎ (x ≢ Searching)
 is_search Searching = inl refl
 is_search (Locked lock) = inr (λ e. cc)
 
--- where the one is not first the other is
+-- if the one is not first the other is
 pub then_first : (a : ℕ) (x : State) (c : ℕ) (y : State) → ¬ ((a ≡ c) × (x ≡ y) × IsBetweenGroups x) → ¬ IsFirst a x c → IsFirst c y a
 then_first a x c y other not_first = elim (which a c) [
   | inl less ↦ absurd (not_first (inl less))
@@ -49,7 +50,7 @@ then_first a x c y other not_first = elim (which a c) [
   ]
 ]
 
--- the one that is first can go on, and a search is behind the other
+-- the one that is first can go on, and a search is at a lesser place than the other
 pub first_ahead : (a : ℕ) (x : State) (c to : ℕ) → a ≤ to → c ≤ to → IsFirst a x c → ¬ ((a ≡ to) × (c ≡ to)) → a < to
 first_ahead a x c to one two (inl less) other = omega (arith, less, two)
 first_ahead a x c to one two (inr same) other = let e = same.0 in elim (cases_lt a to) [
@@ -61,7 +62,7 @@ pub first_behind : (a : ℕ) (x : State) (c : ℕ) → IsFirst a x c → x ≡ S
 first_behind a x c (inl less) e = less
 first_behind a x c (inr same) e = absurd (same.1 e)
 
--- the run from s and its guess, side by side, after so many reads
+-- the run from s and its guess, side by side, after `reads` reads
 pub record IsBeside (b : Signal) (rules : RuleNumbers) (s : State) (from to : ℕ) (own guess : TallyOf) (reads : ℕ) : Type 0 where
   pub own_is : own ≡ gone_on (tally_at b rules from s) own.place
   pub guess_is : guess ≡ gone_on (tally_at b rules from Searching) guess.place
@@ -158,7 +159,7 @@ module _ (laws : RunLaws) (b : Signal) (rules : RuleNumbers) (range : IsInRange 
         let most = mul-le (rules.reach + 2) (to - from + 1) 10 (2 ^ 36 + 1) (let r = range.reach in omega (arith, r)) (omega (arith, few)) in
         omega (arith, some, most, low, is)
 
-    -- where they meet it is the least place
+    -- if they meet it is the least place
     pub met_least : Meet own guess → MeetFirstAt b rules s Searching from to own.place
     met_least m = record {
       here = record {
@@ -169,7 +170,7 @@ module _ (laws : RunLaws) (b : Signal) (rules : RuleNumbers) (range : IsInRange 
       least = λ q less. h.apart.apart q (inl less);
     }
 
-    -- and where both are at the end they met nowhere
+    -- and if both are at the end they met nowhere
     pub never_met : ¬ Meet own guess → own.place ≡ to → guess.place ≡ to → (q : ℕ) → ¬ MeetAt b rules s Searching from to q
     never_met other own_end guess_end q m = elim (cases_lt q to) [
       | inl less ↦ h.apart.apart q (inl (omega (arith, less, own_end))) m

@@ -5,7 +5,7 @@ use Rattle.std.specs.Int.{div_ceil}
 use Rattle.std.specs.List.{range_with_len}
 use Rattle.std.specs.List.Sorted.{IsStrictlyIncreasing}
 
--- a strictly rising list of places that begins with 0 and ends with n; for n = 0 it is the list of 0 alone
+-- a strictly rising list of places that begins with 0 and ends with n; for n = 0 it is the list of only 0
 pub record IsCutting (n : ℕ) (places : List ℕ) : Type 0 where
   pub some : 0 < length places
   pub begins : slice_index places 0 ≡ 0

@@ -1,4 +1,4 @@
--- Cuttings and guesses with what the definitions give for them: theorems that the checker computes.
+-- Cuttings and guesses with their values by the definitions: theorems that the checker computes.
 pub mod EvenCuttings
 pub mod GuessesOfTwoPieces
 pub mod JoinOfTwoGuesses

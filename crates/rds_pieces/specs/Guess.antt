@@ -1,5 +1,5 @@
--- The guess of a piece, this project's rule: the run from Searching at the piece's first place. It is what a `PieceRun` tells of
--- itself, by `items`, `list`, `totals` and `end_state`.
+-- The guess of a piece, this project's rule: the run from Searching at the piece's first place. A `PieceRun`
+-- tells it of itself, by `items`, `list`, `totals` and `end_state`.
 use Rattle.std.specs.Prelude.{ℕ, List}
 use Rattle.rds_stream.specs.Recording.{Signal}
 use Rattle.rds_sync.specs.declared.state.State.{State}
@@ -9,6 +9,6 @@ use Rattle.rds_sync.specs.Rules.{RuleNumbers}
 use Rattle.rds_sync.specs.Step.{run}
 
 module _ (b : Signal) (rules : RuleNumbers) (from : ℕ) where
-  -- the state and the items after so many bits of the piece
+  -- the state and the items after the first `bits` bits of the piece
   abbrev pub guess : ℕ → State × List Item
   guess bits = run b rules Searching from bits

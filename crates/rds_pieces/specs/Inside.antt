@@ -1,4 +1,4 @@
--- What the bodies of this crate cite, and no contract of a public function.
+-- Specs that only the bodies of this crate cite, and no contract of a public function.
 pub mod Beside
 pub mod MarkInside
 pub mod RunInside

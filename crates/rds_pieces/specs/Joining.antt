@@ -1,5 +1,5 @@
--- What is asked of two runs that are joined, and what their join costs. `join_runs` cites both, and callers rely on the fields as on
--- clauses; `Work::join` cites the first.
+-- The condition on two runs that are joined, and the cost of their join. `join_runs` cites both, and callers
+-- rely on the fields as on clauses; `Work::join` cites the first.
 use Rattle.std.specs.Prelude.{◌≡◌, ℕ, ◌+◌, ◌-◌, ◌*◌, ◌≤◌, IsOkUnless, OnOk, Option, Result}
 use Rattle.rds_stream.specs.Recording.{Signal}
 use Rattle.rds_sync.specs.declared.state.State.TheVariants.{Searching}
@@ -21,9 +21,9 @@ module _ (b : Signal) (rules : RuleNumbers) (left right : RunOf) where
   -- the answer to a join over a tape that had counted `old` windows and has now counted `new`
   pub record IsJoin {A : Type 0} (old new : ℕ) (result : Result A PieceError) : Type 0 where
     pub err : IsOkUnless result OutOfMemory
-    -- where a sound range lies inside the right run's, the left one's end meets it by that range's end
+    -- if a sound range is inside the right run's, the left one's end meets it by that range's end
     pub soon : OnOk result (MeetSoon b rules (end_of left) Searching right.from right.to)
-    -- it reads on up to the meeting, and no more where it is refused memory
+    -- it reads on up to the meeting, and no more if it is refused memory
     pub reads : OnOk result ((met : Option ℕ) × IsMeeting b rules (end_of left) Searching right.from right.to met
         × (new ≤ old + seam_reads rules right.from right.to met))
     pub reads_way : (met : Option ℕ) → IsMeeting b rules (end_of left) Searching right.from right.to met

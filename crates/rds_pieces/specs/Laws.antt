@@ -1,4 +1,4 @@
--- The laws of pieces, over the definitions alone. Each is the contract of the function of its name in `laws`.
+-- The laws of pieces, over only the definitions. Each is the contract of the function of its name in `laws`.
 use Rattle.std.specs.Prelude.{ℕ, ◌≤◌, List, ◌∷◌, ◌++◌}
 use Rattle.rds_stream.specs.Recording.{Signal, length_of}
 use Rattle.rds_sync.specs.Rules.{RuleNumbers}
@@ -13,7 +13,7 @@ PiecesAreFew = (n : ℕ) (places : List ℕ) → IsCutting n places → pieces_o
 abbrev pub PiecesFollow : Type 0
 PiecesFollow = (b : Signal) (rules : RuleNumbers) (places : List ℕ) → IsCutting (length_of b) places → FollowEachOther b rules 0 (length_of b) (runs_of b rules places)
 
--- where two neighbours are joined, the runs follow each other as before
+-- if two neighbours are joined, the runs follow each other as before
 abbrev pub JoinedRunsFollow : Type 0
 JoinedRunsFollow = (b : Signal) (rules : RuleNumbers) (from to : ℕ) (before : List RunOf) (left right : RunOf) (after : List RunOf)
     → FollowEachOther b rules from to (before ++ left ∷ right ∷ after) → FollowEachOther b rules from to (before ++ run_over b rules left.from right.to ∷ after)

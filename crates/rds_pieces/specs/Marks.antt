@@ -14,11 +14,11 @@ mark_where [] mark = []
 mark_where (item ∷ items) mark = mark ∷ []
 
 module _ (b : Signal) (rules : RuleNumbers) where
-  -- the mark before the bit at place a, in state s, after so many items
+  -- the mark before the bit at place a, in state s, after `before` items
   abbrev pub mark_at : State → ℕ → ℕ → Mark
   mark_at s a before = record { place = a; state = s; items = before }
 
-  -- the marks after the next bits from place a, in state s, where `before` items were given before
+  -- the marks after the next bits from place a, in state s, if `before` items were given before
   abbrev pub marks_on : State → ℕ → ℕ → ℕ → List Mark
   marks_on s a before zero = []
   marks_on s a before (suc bits) =
@@ -26,6 +26,6 @@ module _ (b : Signal) (rules : RuleNumbers) where
       let count : ℕ = before + length given in
       mark_where given (mark_at (step b rules a s) (a + 1) count) ++ marks_on (step b rules a s) (a + 1) count bits
 
-  -- all marks of the run from state s over so many bits from place a
+  -- all marks of the run from state s over `bits` bits from place a
   abbrev pub marks_of : State → ℕ → ℕ → List Mark
   marks_of s a bits = mark_at s a 0 ∷ marks_on s a 0 bits

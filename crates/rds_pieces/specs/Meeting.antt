@@ -1,4 +1,4 @@
--- Where two runs meet: this project's rule. `seam` answers the place, and bounds by it what it reads; so does
+-- Where two runs meet: this project's rule. `seam` answers the place, and bounds its reads by it; so does
 -- `join_runs`.
 use Rattle.std.specs.Prelude.{◌≡◌, ℕ, ◌-◌, ◌<◌, ◌≤◌, Option, Some, None, MatchOption}
 use Rattle.rds_stream.specs.Recording.{Signal}
@@ -19,7 +19,7 @@ module _ (b : Signal) (rules : RuleNumbers) (s t : State) (from to : ℕ) where
     pub here : MeetAt p
     pub least : (q : ℕ) → q < p → ¬ MeetAt q
 
-  -- the least place where they meet, or none where they do not
+  -- the least place where they meet, or none if they do not
   abbrev pub IsMeeting : Option ℕ → Type 0
   IsMeeting met = MatchOption met ((q : ℕ) → ¬ MeetAt q) MeetFirstAt
 

@@ -1,5 +1,5 @@
--- What contracts see of the run of a piece, and which runs follow each other. `speculate`, `join_runs` and
--- `stitch` cite it, and `Work`, by which a crew calls them.
+-- The view that contracts have of the run of a piece, and which runs follow each other. `speculate`,
+-- `join_runs` and `stitch` cite it, and `Work`, by which a crew calls them.
 use Rattle.std.specs.Prelude.{◌≡◌, ℕ, ◌+◌, ◌-◌, ◌≤◌, List, [], ◌∷◌, map, slice_index}
 use Rattle.std.specs.List.{range_with_len}
 use Rattle.rds_stream.specs.Recording.{Signal}

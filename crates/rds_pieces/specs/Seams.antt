@@ -1,4 +1,5 @@
--- What the seams of runs that follow each other may read. `seam`, `join_runs` and `stitch` read no more.
+-- How many windows the seams of runs that follow each other may read. `seam`, `join_runs` and `stitch` read
+-- no more.
 use Rattle.std.specs.Prelude.{◌≡◌, ℕ, ◌+◌, ◌-◌, ◌*◌, List, [], ◌∷◌, Option}
 use Rattle.rds_stream.specs.Recording.{Signal}
 use Rattle.rds_sync.specs.declared.state.State.{State}
@@ -17,7 +18,7 @@ module _ (b : Signal) (rules : RuleNumbers) where
   abbrev pub state_after : State → RunOf → State
   state_after s r = (run b rules s r.from (r.to - r.from)).0
 
-  -- n is the sum of what the seams of the runs may read, where s is the state at the first
+  -- n is the sum of the windows that the seams of the runs may read, if s is the state at the first
   abbrev pub IsSumOfReads : State → List RunOf → ℕ → Type 0
   IsSumOfReads s [] n = n ≡ 0
   IsSumOfReads s (r ∷ rs) n = (met : Option ℕ) × (rest : ℕ) × IsMeeting b rules s Searching r.from r.to met × IsSumOfReads (state_after s r) rs rest

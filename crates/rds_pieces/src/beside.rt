@@ -23,11 +23,12 @@ pub(crate) struct Beside {
     pub met_at: Option<u64>,
 }
 
-/// Goes on from `state` over a range side by side with its guess, which begins with a search, until they are at one
-/// place in one state with no group in progress, or both are at the end. Fails where memory is refused for a span.
+/// Goes on from `state` over a range side by side with its guess, which begins with a search. It ends when
+/// they are at one place in one state with no group in progress, or both are at the end. Fails if memory is
+/// refused for a span.
 ///
-/// Its cost: it reads at most (reach + 2)(d + 1) windows of the tape, refused memory or not; d is the number of bits up
-/// to the meeting, or to the range's end where there is none.
+/// Its cost: it reads at most (reach + 2)(d + 1) windows of the tape, refused memory or not; d is the number
+/// of bits up to the meeting, or to the range's end if they never meet.
 pub(crate) fn go_beside<T: Tape>(
     alloc: Global,
     tape: &mut T,
@@ -91,8 +92,8 @@ fn met_here(own: Tally, guess: Tally) -> Beside
     Beside { own, guess, met_at }
 }
 
-/// Lets the one that is behind hop; of two at one place one that is locked. A search goes no further than to the other
-/// run. Refused memory for a span, it has hopped all the same.
+/// Lets the run at the lesser place hop. At one place a locked one hops. A search goes no further than to the
+/// other run. If memory is refused for a span, it has hopped all the same.
 fn hop_first<T: Tape>(
     tape: &mut T,
     rules: &Rules,

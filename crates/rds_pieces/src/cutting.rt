@@ -26,8 +26,8 @@ impl Model for Cutting {
 }
 
 impl Cutting {
-    /// The cutting at these places of a recording of `len` bits. Where they are no cutting of that length, the answer
-    /// is `BadCutting` with the list given back. Takes no memory.
+    /// The cutting at these places of a recording of `len` bits. If they are no cutting of that length, the
+    /// answer is `BadCutting` with the list given back. Takes no memory.
     pub fn new(places: Vec<u64>, len: u64) -> Result<Cutting, (PieceError, Vec<u64>)>
         ensures ok { IfOk result (λ c. (c ≡ places.items) × IsCutting len places.items) }
         ensures err { IfErr result (λ e. (e.0 ≡ BadCutting) × (e.1 ≡ places) × ¬ IsCutting len places.items) }
@@ -39,9 +39,9 @@ impl Cutting {
         }
     }
 
-    /// The even cutting of `len` bits: places 0, s, 2s and so on below `len`, then `len`, where s is `len` divided by
-    /// `pieces`, 1 or more, rounded up. It has at most `pieces` pieces, and each but the last is of s bits. Refuses
-    /// `OutOfMemory` alone.
+    /// The even cutting of `len` bits: places 0, s, 2s and so on below `len`, then `len`, where s is `len`
+    /// divided by `pieces`, 1 or more, rounded up. It has at most `pieces` pieces, and each but the last is
+    /// of s bits. Its only error is `OutOfMemory`.
     pub fn even(alloc: Global, len: u64, pieces: u64) -> Result<Cutting, PieceError>
         requires { 1 ≤ pieces }
         ensures ok { IfOk result (λ c. c ≡ even_places len pieces) }

@@ -15,13 +15,13 @@ use std::alloc::Global;
 /// The guess of both ranges of two runs that follow each other, of the tape's recording and by these rules: the left
 /// run, then the [`seam`] of its end state over the right range. Both runs are lent, and their spans are copied.
 ///
-/// Where a sound range lies inside the right range, they meet by its end: within 416 bits of sound signal under the
-/// default rules. Fails with `OutOfMemory` alone.
+/// If a sound range is inside the right range, they meet by its end: within 416 bits of sound signal under
+/// the default rules. The only error is `OutOfMemory`.
 ///
-/// Its cost: it reads at most (reach + 2)(d + 1) windows of the tape, which has counted at most 2^62 before; d is the
-/// number of bits of the right range up to the meeting, or to its end where there is none; no more where memory is
-/// refused on the way. It takes memory for the spans of its items. What it costs are the fields of `IsJoin`
-/// (`specs/Joining.antt`).
+/// Its cost: it reads at most (reach + 2)(d + 1) windows of the tape, which has counted at most 2^62 before;
+/// d is the number of bits of the right range up to the meeting, or to its end if they never meet. It reads
+/// no more if memory is refused on the way. It takes memory for the spans of its items. The fields of
+/// `IsJoin` state its cost (`specs/Joining.antt`).
 pub fn join_runs<T: Tape>(
     alloc: Global,
     tape: &mut T,

@@ -1,5 +1,5 @@
-//! The laws of pieces, over the definitions alone. Each function here does nothing: its contract is a law, which the
-//! check of this crate proves, and which a proof above it may cite.
+//! The laws of pieces, over only the definitions. Each function here does nothing: its contract is a law,
+//! which the check of this crate proves, and which a proof above it may cite.
 ghost use Rattle.rds_pieces.specs.Laws.{PiecesAreFew, PiecesFollow, JoinedRunsFollow};
 ghost use Rattle.rds_pieces.specs.Inside.RunLaws.{RunLaws};
 
@@ -16,7 +16,7 @@ pub fn pieces_follow()
     ensures { PiecesFollow }
 {}
 
-/// Where two neighbours are joined, the runs follow each other as before.
+/// If two neighbours are joined, the runs follow each other as before.
 pub fn joined_runs_follow()
     ensures { JoinedRunsFollow }
 {}

@@ -20,9 +20,10 @@ use rds_sync::{ItemIter, Items, Report, Rules, Spans, State, Totals, run_report}
 use std::alloc::Global;
 use std::marker::Model;
 
-/// The guess of a range of places, for the recording and the rules that its items name: what a run from Searching at the
-/// range's first place gives. It keeps its totals, its end state and the spans of its items. Contracts see what it is a
-/// run of: the recording's bits, the rules' numbers and the range. It borrows nothing and holds nothing of the recording.
+/// The guess of a range of places, for the recording and the rules that its items name: the result of a run
+/// from Searching at the range's first place. It keeps its totals, its end state and the spans of its items.
+/// Contracts see the recording's bits, the rules' numbers and the range. It borrows nothing and holds nothing
+/// of the recording.
 #[derive(Drop)]
 pub struct PieceRun {
     from: u64,
@@ -44,7 +45,7 @@ impl Model for PieceRun {
 }
 
 impl PieceRun {
-    /// A run of what it keeps, whose seams cut their way into such spans.
+    /// A run of these parts, whose seams cut their way into such spans.
     pub(crate) fn new(from: u64, to: u64, report: Report, end_state: State, cut: Spans) -> PieceRun
         requires { IsKept (run_over report.items.source report.items.rules from to) report end_state }
         ensures { result ≡ run_over report.items.source report.items.rules from to }
@@ -78,7 +79,7 @@ impl PieceRun {
         self.to
     }
 
-    /// The range, with what bounds the reads over it.
+    /// The range, with the bounds on the reads over it.
     pub(crate) fn range(&self) -> (u64, u64)
         ensures first { result.0 ≡ self.now.from }
         ensures end { result.1 ≡ self.now.to }
@@ -145,8 +146,8 @@ fn range_of(rec: &Recording, cutting: &Cutting, j: u64) -> (u64, u64)
     (cutting.from(j), cutting.to(j))
 }
 
-/// Guesses piece `j` of a cutting: runs from Searching at its first place to its end, as if nothing stood before. Its
-/// windows may look before that place. Fails with `OutOfMemory` alone.
+/// Guesses piece `j` of a cutting: runs from Searching at its first place to its end, as if nothing came
+/// before. Its windows may look before that place. Its only error is `OutOfMemory`.
 ///
 /// Its cost: the piece is gone over once, as by [`run_report`]. It takes memory for the spans of its items.
 pub fn speculate(

@@ -27,14 +27,15 @@ use std::alloc::Global;
 /// recording and by these rules: it and the guess go side by side over the tape until they meet, in one state and with no
 /// group in progress; from there on it takes the guess's spans, and reads nothing.
 ///
-/// Where a sound range lies inside the piece, they meet by its end: within 416 bits of sound signal under the default
-/// rules.
+/// If a sound range is inside the piece, they meet by its end: within 416 bits of sound signal under the
+/// default rules.
 ///
-/// Fails with `OutOfMemory` alone.
+/// Its only error is `OutOfMemory`.
 ///
-/// Its cost: it reads at most (reach + 2)(d + 1) windows of the tape, which has counted at most 2^62 before; d is the
-/// number of bits up to the meeting, or to the piece's end where there is none. No more is read where memory is refused
-/// on the way. It takes memory for the spans of its items, and those of the guess are copied.
+/// Its cost: it reads at most (reach + 2)(d + 1) windows of the tape, which has counted at most 2^62 before;
+/// d is the number of bits up to the meeting, or to the piece's end if they never meet. No more is read if
+/// memory is refused on the way. It takes memory for the spans of its items, and those of the guess are
+/// copied.
 pub fn seam<T: Tape>(
     alloc: Global,
     tape: &mut T,
@@ -76,7 +77,7 @@ pub fn seam<T: Tape>(
     Ok(seam_of(report, end_state, met_at))
 }
 
-/// What a piece gives, by a report of its items.
+/// The seam of a piece, from a report of its items.
 fn seam_of(report: Report, end_state: State, met_at: Option<u64>) -> Seam
     ensures items { result.items ≡ report.items }
     ensures totals { result.totals ≡ report.totals }
@@ -99,7 +100,7 @@ fn item_count(report: &Report) -> usize
     report.items.len()
 }
 
-/// The totals of what comes after some first items, from those of all and those of the first.
+/// The totals of the items after some first ones, from those of all and those of the first.
 fn totals_after(all: Totals, first: Totals) -> Totals
     requires { (rest : Totals) × IsRest first all rest }
     ensures { (rest : Totals) → IsRest first all rest → result ≡ rest }
@@ -107,8 +108,8 @@ fn totals_after(all: Totals, first: Totals) -> Totals
     all.less(first)
 }
 
-/// What a run gives over the whole range, and its end state, once it went on from `state` beside the guess: its own up to
-/// the meeting, and from there on the guess's.
+/// The report of a run over the whole range, and its end state, once it went on from `state` beside the
+/// guess. Its items are its own up to the meeting, and from there on the guess's.
 fn sewn(beside: Beside, state: State, run: &PieceRun) -> Result<(Report, State), PieceError>
     requires met { IsMeeting run.now.source run.now.rules state State.Searching run.now.from run.now.to beside.met_at }
     requires own { beside.own

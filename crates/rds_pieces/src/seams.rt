@@ -1,7 +1,7 @@
-//! What is known of a piece once the state before it is.
+//! The results of a piece, once the state before it is known.
 use rds_sync::{Items, State, Totals};
 
-/// What a piece gives from the state that was handed in.
+/// The items, totals and end state of a piece, from the state that was handed in.
 #[derive(Drop)]
 pub struct Seam {
     /// The items that the bits of the piece give, in order of place: those before the meeting, and the guess's own from

@@ -21,14 +21,16 @@ use rds_sync::laws::totals_join;
 use rds_sync::{Items, Report, Rules, State, Totals, finish};
 use std::alloc::Global;
 
-/// The report of the tape's recording: carries the state over the runs in order, from Searching at its first bit, and
-/// ends with the group in progress at its end. The runs follow each other from place 0 to the recording's end, one a
-/// piece or more of them joined. A run may be empty, and it is passed over; where the recording is empty there need be none.
+/// The report of the tape's recording: carries the state over the runs in order, from Searching at its first
+/// bit, and ends with the group in progress at its end. The runs follow each other from place 0 to the
+/// recording's end, each of one piece, or of several joined. A run may be empty, and it is passed over; if
+/// the recording is empty there need be none.
 ///
-/// Fails with `OutOfMemory` alone.
+/// Its only error is `OutOfMemory`.
 ///
-/// Its cost: it reads what the seams may read, and at most three windows more, refused memory or not; the tape has
-/// counted at most 2^61 before. It takes memory as they do, one after the other, and for the spans of all items.
+/// Its cost: it reads at most as many windows as the seams may read, and three more, refused memory or not;
+/// the tape has counted at most 2^61 before. It takes memory as they do, one after the other, and for the
+/// spans of all items.
 pub fn stitch<T: Tape>(
     alloc: Global,
     tape: &mut T,
@@ -102,7 +104,7 @@ fn carry_over_all<T: Tape>(
     Ok((state, report))
 }
 
-/// Carries the state over one run, and puts what its seam gives behind what those before it gave.
+/// Carries the state over one run, and appends the items and totals of its seam to those before it.
 fn carry_over<T: Tape>(
     alloc: Global,
     tape: &mut T,

@@ -32,7 +32,7 @@ pub trait Work {
     /// The places of the cutting that it names.
     ghost places: { Self → List ℕ };
 
-    /// The recording, for contracts alone.
+    /// The recording, only for contracts.
     fn source(&self) -> Snapshot<Recording>
         ensures { result.value ≡ recording self.now };
 
@@ -44,21 +44,21 @@ pub trait Work {
     fn cutting(&self) -> &Cutting
         ensures { result.now ≡ places self.now };
 
-    /// The guess of piece `j`. Fails with `OutOfMemory` alone.
+    /// The guess of piece `j`. Its only error is `OutOfMemory`.
     fn guess(&self, alloc: Global, j: u64) -> Result<PieceRun, PieceError>
         requires fits { IsCutting (length_of (recording self.now)) (places self.now) }
         requires piece { j < pieces_of (places self.now) }
         ensures ok { IfOk result (λ r. r ≡ run_at (recording self.now) (rule_set self.now) (places self.now) j) }
         ensures err { IsOkUnless result OutOfMemory };
 
-    /// The run of two ranges that follow each other. Fails with `OutOfMemory` alone.
+    /// The run of two ranges that follow each other. Its only error is `OutOfMemory`.
     fn join(&self, alloc: Global, left: &PieceRun, right: &PieceRun) -> Result<PieceRun, PieceError>
         requires { AreNeighbours (recording self.now) (rule_set self.now) left.now right.now }
         ensures ok { IfOk result (λ r. r ≡ run_over (recording self.now) (rule_set self.now) left.now.from right.now.to) }
         ensures err { IsOkUnless result OutOfMemory };
 
-    /// The report, from runs that follow each other from place 0 to the recording's end. Fails with `OutOfMemory`
-    /// alone.
+    /// The report, from runs that follow each other from place 0 to the recording's end. Its only error is
+    /// `OutOfMemory`.
     fn report(&self, alloc: Global, runs: &[PieceRun]) -> Result<Report, PieceError>
         requires in_a_row { FollowEachOther (recording self.now) (rule_set self.now)
             0 (length_of (recording self.now)) runs.now }
@@ -105,7 +105,8 @@ impl<'a> RecordingWork<'a> {
         }
     }
 
-    /// The same work, whose runs cut their items into such spans: [`Spans::Whole`] where it is asked for its totals.
+    /// The same work, whose runs cut their items into such spans: [`Spans::Whole`] if it is asked for its
+    /// totals.
     pub fn cut_into(self, spans: Spans) -> RecordingWork<'a>
         ensures { result ≡ self.entry }
     {

@@ -1,4 +1,4 @@
--- What holds in every state of the pool that can be reached.
+-- The invariant of every state of the pool that can be reached.
 use Rattle.std.proofs.Common.{◌≡◌, ℕ, suc, ◌+◌, ◌%◌, ◌<◌, ◌≤◌, ◌==◌, ◌&&◌, ◌∙◌, Bool, true, false, if◌then◌else◌, nat_lt, ap, arith, refl, subst, sym, ◌⊎◌, inl, inr}
 use Rattle.std.proofs.Math.Nat.{add-mod_right}
 use Rattle.std.proofs.lemmas.Bool.{and_right, cases_eq, cases_lt, cond_both, eq-eqb, eqb-false, eqb-true, le-ltb, lt-ltb, ne_eqb}
@@ -58,7 +58,7 @@ abbrev pub Lies : Setup → Pool → ℕ → ℕ → SlotState → Type 0
 Lies setup pool w j slot = (slot.number % setup.seats ≡ j) × (w ≤ slot.number) × (slot.number < w + setup.seats)
     × (slot.sheet ≡ lies setup pool slot.number) × (slot.closed ≡ false)
 
--- part k, which thread i holds, where none below `low` is held
+-- part k, which thread i holds, if none below `low` is held
 abbrev pub IsHeld : Setup → Pool → ℕ → ℕ → ℕ → Type 0
 IsHeld setup pool low i k = (pool.drawn_by k ≡ i) × (low ≤ k) × (k < pool.next) × (k < setup.parts)
 
@@ -73,7 +73,7 @@ pub record Running (setup : Setup) (pool : Pool) (w low : ℕ) : Type 0 where
   pub alone : setup.threads ≡ 0 → pool.next ≡ 0
   pub ahead : 0 < setup.threads → low ≤ pool.next
   pub order : w ≤ low
-  -- no sheet lies there for who sleeps
+  -- no sheet is there for who sleeps
   pub asleep : (i k : ℕ) → pool.makers i ≡ sleeps k → HasBlank k (slot_of_part setup pool k) → ⊥
 
 abbrev pub Closing : Setup → Pool → ℕ → Type 0
@@ -90,7 +90,7 @@ RuleAt setup pool over = Unit {0}
 abbrev pub Rule : Setup → Pool → Type 0
 Rule setup pool = RuleAt setup pool pool.writer
 
--- ---- what the state of a sheet tells
+-- ---- facts from the state of a sheet
 
 abbrev IsOut : SheetState → Type 0
 IsOut out = Unit {0}
@@ -465,7 +465,7 @@ module _ (setup : Setup) (pool : Pool) (k : ℕ) where
     asleep = r.asleep;
   }
 
--- ---- the caller takes a part, or a sheet to make it on alone
+-- ---- the caller takes a part, or a sheet to make it on by itself
 
 module _ (setup : Setup) (pool : Pool) (k : ℕ) where
   abbrev took : Pool

@@ -48,7 +48,7 @@ stays_closed setup pool k j into same c i l =
     (λ e. same ∙ subst (λ n. (pool.slots n).closed ≡ true) e (c.1 i l))
     (λ o. c.1 i l)
 
--- the slot of a part that lies blank or made in it
+-- the slot of a part that is blank or made in it
 here : (setup : Setup) (pool : Pool) (w low k : ℕ) → 0 < setup.seats → Running setup pool w low → Lies setup pool w (seat_of setup k) (slot_of_part setup pool k)
 here setup pool w low k some r = r.slots (seat_of setup k) (mod_below k setup.seats some)
 
@@ -307,7 +307,7 @@ last_steps setup pool i (sleeps k) some l closed e h = absurd (let a = closed.2 
 last_steps setup pool i (makes k) some l closed e h = (hand_over i k, (l, e))
 last_steps setup pool i ended some l closed e h = absurd (h refl)
 
--- where part k is awaited and lies blank
+-- if part k is awaited and its sheet is blank
 first_draws : (setup : Setup) (pool : Pool) (k : ℕ) (m : Maker) → Running setup pool k k → k < setup.parts → 0 < setup.threads → pool.next ≤ k → pool.makers 0 ≡ m → Next setup pool
 first_draws setup pool k draws r l some none e = (draw 0, (some, e, omega arith))
 first_draws setup pool k (waits j) r l some none e = absurd (let b = r.held 0 j (holds_waits (pool.makers 0) j e) in omega (arith, b.1, b.2))
@@ -315,14 +315,14 @@ first_draws setup pool k (sleeps j) r l some none e = absurd (let b = r.held 0 j
 first_draws setup pool k (makes j) r l some none e = absurd (let b = r.held 0 j (holds_makes (pool.makers 0) j e) in omega (arith, b.1, b.2))
 first_draws setup pool k ended r l some none e = absurd (let g = r.goes 0 some e in omega (arith, g))
 
--- where the caller looks for part k
+-- if the caller looks for part k
 looks : (setup : Setup) (pool : Pool) (k : ℕ) (sheet : SheetState) → 0 < setup.threads → k < setup.parts → pool.writer ≡ waits_for k
     → (slot_of_part setup pool k).number ≡ k → (slot_of_part setup pool k).sheet ≡ sheet → Next setup pool
 looks setup pool k made threads l at number is = (fetch k, (at, l, (number, is)))
 looks setup pool k out threads l at number is = (sleep_for k, (at, l, λ p. no_out_made (sym is ∙ p.1), threads))
 looks setup pool k blank threads l at number is = (sleep_for k, (at, l, λ p. no_blank_made (sym is ∙ p.1), threads))
 
--- where the caller sleeps for part k: its sheet is out with a thread, or blank
+-- if the caller sleeps for part k: its sheet is out with a thread, or blank
 awaited : (setup : Setup) (pool : Pool) (k : ℕ) (sheet : SheetState) → 0 < setup.seats → 0 < setup.threads → Running setup pool k k → k < setup.parts
     → (HasPart k (slot_of_part setup pool k) → ⊥) → (slot_of_part setup pool k).number ≡ k → (slot_of_part setup pool k).sheet ≡ sheet → lies setup pool k ≡ sheet → Next setup pool
 awaited setup pool k made some threads r l none number is lie = absurd (none (number, is))

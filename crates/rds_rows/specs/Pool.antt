@@ -9,7 +9,7 @@ pub record Setup : Type 0 where
   pub seats : ℕ
   pub threads : ℕ
 
--- a sheet lies in its slot blank, or with a part on it, or is out
+-- a sheet is in its slot blank, or in it with a part on it, or is out
 pub data SheetState : Type 0 where
   blank : SheetState
   made : SheetState

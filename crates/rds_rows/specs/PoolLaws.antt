@@ -2,7 +2,7 @@
 use Rattle.std.specs.Prelude.{◌≡◌, ℕ, zero, suc, ◌+◌, ◌-◌, ◌*◌, ◌<◌, ◌≤◌, ◌++◌, false, List, [], ◌∷◌, length}
 use Rattle.rds_rows.specs.Pool.{Event, Maker, Pool, Runs, Setup, Writer, May, closes, draws, ended, makes, over, played, sleeps, sleeps_for, waits, waits_for, writes}
 
--- with so many seats or more: after any steps, some thread or the caller can step, unless all have ended
+-- with `least` seats or more: after any steps, some thread or the caller can step, unless all have ended
 abbrev pub NeverStuck : ℕ → Type 0
 NeverStuck least = (setup : Setup) (events : List Event) → least ≤ setup.seats → Runs setup events
     → ((played setup events).writer ≡ over → ⊥) → (event : Event) × May setup (played setup events) event
@@ -37,12 +37,12 @@ abbrev pub EachStepCounts : Type 0
 EachStepCounts = (setup : Setup) (events : List Event) (event : Event) → Runs setup (event ∷ events)
     → steps_left setup (played setup (event ∷ events)) < steps_left setup (played setup events)
 
--- so a run has at most so many steps a part, one more for each thread, and some for the end
+-- so a run has at most `each` steps per part, one more for each thread, and some for the end
 abbrev pub RunsEnd : ℕ → Type 0
 RunsEnd each = (setup : Setup) (events : List Event) → Runs setup events
     → length events ≤ setup.parts * (setup.threads + each) + setup.seats * (setup.threads + 1) + setup.threads + 3
 
--- ---- what is written
+-- ---- the parts that are written
 
 abbrev pub first_numbers : ℕ → List ℕ
 first_numbers zero = []

@@ -1,5 +1,5 @@
--- A slot as the machine of the pool sees it, and what the calls of `Slot` do to it: each is a step of that machine. No public
--- call cites it.
+-- A slot as the machine of the pool sees it, and the effects of the calls of `Slot` on it: each is a step of
+-- that machine. No public call cites it.
 use Rattle.std.specs.Prelude.{◌≡◌, ℕ, Bool, true, false, None, Option, Some}
 use Rattle.rds_rows.specs.declared.sheet.Sheet.{Sheet}
 use Rattle.rds_rows.specs.declared.slot.Found.{Found}
@@ -26,7 +26,7 @@ abbrev pub LooksForPart : ℕ → SlotState → Option Sheet → SlotState → T
 LooksForPart k slot (Some sheet) slot' = HasPart k slot × (slot' ≡ without_sheet slot)
 LooksForPart k slot None slot' = (HasPart k slot → ⊥) × (slot' ≡ slot)
 
--- what holds of the sheet that was found
+-- the property of the sheet, if a blank one was found
 abbrev pub IfBlank : Found → (Sheet → Type 0) → Type 0
 IfBlank (Blank sheet) P = P sheet
 IfBlank Closed P = Unit {0}

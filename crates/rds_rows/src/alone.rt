@@ -17,7 +17,7 @@ use crate::sink::{Failed, Sink};
 use crate::write::take_back;
 use std::alloc::Global;
 
-/// [`write_rows_in_parts`](crate::write_rows_in_parts) by the caller alone, with room for one part.
+/// [`write_rows_in_parts`](crate::write_rows_in_parts) in the calling thread only, with room for one part.
 pub fn write_rows_alone<T: Rows, K: Sink>(
     alloc: Global,
     rows: &T,
@@ -38,7 +38,7 @@ pub fn write_rows_alone<T: Rows, K: Sink>(
     result
 }
 
-/// The rows in so many parts, each made on this sheet, written to a writer that is handed in and back.
+/// The rows in `parts` parts, each made on this sheet, written to a writer that is handed in and back.
 fn by_hand<T: Rows, W: Hand + Drop>(
     rows: &T,
     sheet: Sheet,
@@ -85,7 +85,7 @@ fn write_in_turn<T: Rows, W: Hand>(
     gathered.write_out(out)
 }
 
-/// Puts all parts in order behind what is gathered, which is nothing yet.
+/// Appends all parts in order to the gathered text, which is empty at first.
 fn gather_in_turn<T: Rows, W: Hand>(
     rows: &T,
     sheet: &mut Sheet,

@@ -7,11 +7,13 @@ use crate::hand::Hand;
 use crate::sink::Failed;
 use std::alloc::{AllocError, Global};
 
-/// How many bytes a write has at least, but for the last. Where a part of the longest rows has fewer, it is as many as that.
+/// How many bytes a write has at least, but for the last. If a part of the longest rows has fewer, it is as
+/// many as that.
 const LARGE: usize = 65_536;
 
-/// What is made and not yet written: less than a large write. Its room is taken when it is made, and is that of two of them:
-/// a part that doesn't fit behind what is kept makes two writes, which are large on average.
+/// The text that is made and not yet written: less than a large write. Its room is taken when it is made, and
+/// is that of two of them: a part that doesn't fit after the kept text makes two writes, which are large on
+/// average.
 #[derive(Drop)]
 pub(crate) struct Gathered {
     kept: Vec<u8>,
@@ -24,7 +26,7 @@ pub(crate) struct Gathered {
 impl Gathered {
     ghost use Rattle.rds_rows.specs.Gathered.{kept_in};
 
-    /// One that keeps nothing, for parts of so many rows of so many bytes at most.
+    /// One that keeps nothing, for parts of at most `most` rows, each of at most `longest` bytes.
     pub(crate) fn new(alloc: Global, most: usize, longest: usize) -> Result<Gathered, AllocError>
         ensures { IfOk result (λ gathered. kept_in gathered ≡ []) }
     {
@@ -37,7 +39,7 @@ impl Gathered {
         })
     }
 
-    /// Puts a text behind what is kept, and writes all of it where that is a large write.
+    /// Appends a text to the kept text, and writes all of it if that is a large write.
     pub(crate) fn put<W: Hand>(&mut self, text: &[u8], out: &mut W) -> Result<(), Failed>
         requires { W.failed out.old < 2 ^ 63 }
         ensures name { W.name out.new ≡ W.name out.old }
@@ -61,7 +63,7 @@ impl Gathered {
         Ok(())
     }
 
-    /// Writes what is kept, and then a text.
+    /// Writes the kept text, and then a text.
     fn write_with<W: Hand>(&mut self, text: &[u8], out: &mut W) -> Result<(), Failed>
         requires { W.failed out.old < 2 ^ 63 }
         ensures name { W.name out.new ≡ W.name out.old }
@@ -76,7 +78,7 @@ impl Gathered {
         out.write(text)
     }
 
-    /// Writes what is kept.
+    /// Writes the kept text.
     pub(crate) fn write_out<W: Hand>(&mut self, out: &mut W) -> Result<(), Failed>
         requires { W.failed out.old < 2 ^ 63 }
         ensures name { W.name out.new ≡ W.name out.old }

@@ -12,7 +12,7 @@ pub fn pools_end()
     ensures bounded { RunsEnd 6 }
 {}
 
-/// The parts are written in order, each once; where no write fails, all of them.
+/// The parts are written in order, each once; if no write fails, all of them.
 pub fn pools_write_in_order()
     ensures order { WritesInOrder }
     ensures all { WritesAll }

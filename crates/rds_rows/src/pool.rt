@@ -1,4 +1,4 @@
-//! Threads that live through all parts, and the writer of what they make.
+//! Threads that live through all parts, and the writer of the parts that they make.
 ghost use Rattle.std.specs.Prelude.{◌++◌, ◌<◌, ◌^◌, ◌≡◌, [], All, IfOk, OnErr, OnOk, length};
 ghost use Rattle.std.specs.Io.KnownBytes.{Appends};
 ghost use Rattle.rds_rows.specs.Parts.{IsNamed, first_parts};
@@ -35,7 +35,7 @@ pub(crate) fn seats_of<J: Named>(
     Ok(seats)
 }
 
-/// Makes part `k` at its seat. Answers whether it was made: not where the seat is closed.
+/// Makes part `k` at its seat. Answers whether it was made: not if the seat is closed.
 fn make_part<R: Wait, J: Named, T: Rows>(rt: &R, rows: &T, seat: &Seat<J>, k: usize) -> bool
     requires { IsNamed (T.rows rows.now) (T.longest rows.now) J.size J.part }
 {
@@ -67,8 +67,8 @@ fn make_parts<R: Wait, J: Named, T: Rows>(
     }
 }
 
-/// Puts part `k` behind what is gathered, and gives its sheet back for the next part of the seat. Where no thread makes
-/// the part, it is made here.
+/// Appends part `k` to the gathered text, and gives its sheet back for the next part of the seat. If no
+/// thread makes the part, it is made here.
 fn write_part<R: Wait, J: Named, T: Rows, W: Hand + Drop>(
     rt: &R,
     rows: &T,
@@ -99,7 +99,7 @@ fn write_part<R: Wait, J: Named, T: Rows, W: Hand + Drop>(
     Ok(())
 }
 
-/// Puts all parts in order behind what is gathered, which is nothing yet.
+/// Appends all parts in order to the gathered text, which is empty at first.
 fn gather_parts<R: Wait, J: Named, T: Rows, W: Hand + Drop>(
     rt: &R,
     rows: &T,
@@ -159,8 +159,8 @@ fn stop<R: Wait, J: Named>(rt: &R, seats: &[Seat<J>], next: &AtomicUsize, parts:
     }
 }
 
-/// All parts, made by at most so many threads and written in order to a writer that is handed in and back. The threads
-/// are started before the first byte is written, and have ended at the return.
+/// All parts, made by at most `threads` threads and written in order to a writer that is handed in and back.
+/// The threads are started before the first byte is written, and have ended at the return.
 pub(crate) fn by_pool<
     R: Threads + Wait + Sync,
     J: Named + Send + Sync,

@@ -1,4 +1,4 @@
-//! What lies under the lock of a seat.
+//! The state under the lock of a seat.
 ghost use Rattle.std.specs.Prelude.{◌≡◌, ℕ, [], IfSome, List, Some, true};
 ghost use Rattle.rds_rows.specs.Pool.{blank, closed_slot, made, slot, with_sheet};
 ghost use Rattle.rds_rows.specs.Sheets.{size_of, size_or, text_of, text_or};
@@ -22,8 +22,8 @@ impl Named for Brand {
     ghost size = { (0, 0) };
 }
 
-/// A place for one sheet and the number of one part: the sheet lies there blank, or with that part on it, or is out with
-/// whoever works on it.
+/// A place for one sheet and the number of one part: the sheet is there blank, or with that part on it, or is
+/// out with whoever works on it.
 #[derive(Drop)]
 pub(crate) struct Slot<J: Named> {
     sheet: Option<Sheet>,
@@ -45,7 +45,7 @@ impl Change {
     }
 }
 
-/// What a thread finds that looks for a sheet to make its part on.
+/// The answer to a thread that looks for a sheet to make its part on.
 #[derive(Drop)]
 pub(crate) enum Found {
     Blank(Sheet),
@@ -70,7 +70,7 @@ impl<J: Named> Slot<J> {
         }
     }
 
-    /// The sheet, where part `k` is to be made on it.
+    /// The sheet, if part `k` is to be made on it.
     pub(crate) fn take_blank(&mut self, k: usize) -> Found
         ensures size { IfBlank result (λ s. size_of s ≡ J.size) }
         ensures step { LooksForBlank k
@@ -89,7 +89,7 @@ impl<J: Named> Slot<J> {
         }
     }
 
-    /// The sheet with part `k`, where it is made.
+    /// The sheet with part `k`, if it is made.
     pub(crate) fn take_part(&mut self, k: usize) -> Option<Sheet>
         ensures size { IfSome result (λ s. size_of s ≡ J.size) }
         ensures part { IfSome result (λ s. text_of s ≡ J.part k) }

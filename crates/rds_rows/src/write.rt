@@ -28,12 +28,13 @@ const USUAL_PART: usize = 4096;
 /// How many rows a part of each worker may have between them: the more workers, the smaller the parts.
 const ALL_ROWS: usize = 65_536;
 
-/// Writes all rows in order. They are made by as many threads as there are workers or parts, whichever is less, while the
-/// caller writes; where that is one, or no thread can be started, the caller makes them too.
+/// Writes all rows in order. They are made by as many threads as there are workers or parts, whichever is
+/// less, while the caller writes; if that is one, or no thread can be started, the caller makes them too.
 ///
-/// `OutOfMemory` comes before the first byte, and before the first thread is started: the writer is as it was. `Write`
-/// comes where a write failed; what was written is a beginning of the rows' text. There is no other refusal: a thread
-/// that the system refuses is done without. Each promise is a field of `IsWritten` (`specs/Written.antt`).
+/// `OutOfMemory` comes before the first byte, and before the first thread is started: the writer is as it
+/// was. `Write` comes if a write failed; the text that was written is a beginning of the rows' text. There is
+/// no other refusal: a thread that the system refuses is done without. Each promise is a field of `IsWritten`
+/// (`specs/Written.antt`).
 pub fn write_rows<R: Threads + Wait + Sync, T: Rows + Sync, K: Sink>(
     rt: &R,
     alloc: Global,
@@ -50,7 +51,8 @@ pub fn write_rows<R: Threads + Wait + Sync, T: Rows + Sync, K: Sink>(
     write_rows_in_parts(rt, alloc, rows, workers, most, writer)
 }
 
-/// [`write_rows`] in parts of so many rows. Each thread has room for two parts, and the writer for what it gathers to a write.
+/// [`write_rows`] in parts of `most` rows. Each thread has room for two parts, and the writer for the text
+/// that it gathers to a write.
 pub fn write_rows_in_parts<R: Threads + Wait + Sync, T: Rows + Sync, K: Sink>(
     rt: &R,
     alloc: Global,
@@ -82,7 +84,7 @@ struct Plan {
     /// How many rows each part but the last has.
     most: usize,
     parts: usize,
-    /// None where the caller makes them.
+    /// None if the caller makes them.
     threads: usize,
 }
 
@@ -112,7 +114,7 @@ impl Plan {
     }
 }
 
-/// Blank sheets, each for so many rows.
+/// `count` blank sheets, each for `most` rows.
 fn sheets_of(
     alloc: Global,
     count: usize,
@@ -129,15 +131,15 @@ fn sheets_of(
     Ok(sheets)
 }
 
-/// Ends a loan: what the lender has then is what lies behind the reference that came back.
+/// Ends a loan: the lender then has the value that the returned reference points to.
 pub(crate) fn take_back<K>(lent: &mut K)
     ensures { lent.new ≡ lent.old }
 {
     let _ = lent;
 }
 
-/// The rows, written to a writer that is handed in and back. The types of the seats' locks name the parts: they are
-/// picked here, where rows and sheets are known.
+/// The rows, written to a writer that is handed in and back. The types of the seats' locks name the parts:
+/// they are picked here, where rows and sheets are known.
 fn by_value<R: Threads + Wait + Sync, T: Rows + Sync, W: Hand + Drop>(
     rt: &R,
     alloc: Global,

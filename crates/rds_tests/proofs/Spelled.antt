@@ -1,4 +1,4 @@
--- Stored rows, one behind the other.
+-- Stored rows, one after the other.
 use Rattle.std.proofs.Common.{◌≡◌, ◌≤◌, ◌∙◌, ℕ, List, ap, arith, drop, length, map, sym, take}
 use Rattle.std.specs.List.{concat, flat_map}
 use Rattle.std.proofs.lemmas.Grind.{common_steps}

@@ -1,8 +1,9 @@
-//! Tests of the libraries, from outside, of what no clause says: each uses what is public alone.
+//! Tests of the libraries, from outside, of facts that no clause says: each uses only public items.
 //!
-//! - `decoder`: what finds and reads the groups of a recording, up to the crew.
-//! - `rows`: what writes rows that threads make.
-//! - `tool`: what the program stands on. What is no command line is tried on the built program, by `tests/program.sh`.
+//! - `decoder`: the crates that find and read the groups of a recording, up to the crew.
+//! - `rows`: the crate that writes rows made by threads.
+//! - `tool`: the library of the program. Faulty command lines are tried on the built program, by
+//!   `tests/program.sh`.
 //! - `writer`: a writer over memory, of both.
 #![tactic(auto)]
 

@@ -1,4 +1,4 @@
--- What was done of a stream so far, and where it breaks off.
+-- The progress of a stream so far, and where it breaks off.
 use Rattle.std.proofs.Common.{◌≡◌, ◌≢◌, ◌+◌, ◌-◌, ◌*◌, ◌/◌, ◌%◌, ◌^◌, ◌<◌, ◌≤◌, ◌++◌, ◌⊎◌, ◌↔◌, ℕ, List, [], ◌∷◌, Err, None, Ok, Option, Result, Some, inl, inr, length, map, min, take, refl, sym, zero, suc, ap, ap₂, ◌∙◌, subst, arith, append_assoc}
 use Rattle.std.specs.Prelude.{IfErr, IfSome, OnErr, OnOk}
 use Rattle.std.specs.Int.{bit_at}
@@ -87,7 +87,7 @@ near_end_by (Some n) place room to none (inr ended) = inr ended
 
 -- ---- rows
 
--- rows of a chunk, behind those of what was heard before
+-- rows of a chunk, after those of the bytes heard before
 abbrev pub HasRows : Terms → List ℕ → List ℕ → List ℕ → Type 0
 HasRows terms before bytes rows = rows_so_far terms (before ++ bytes) ≡ rows_so_far terms before ++ rows
 
@@ -138,7 +138,7 @@ module _ (terms : Terms) (bits : Option ℕ) where
     pub is_place : IsPlaceOf bits live.place
     is_place = place_of_all bits live.place heard place_is f.all_count
 
-    -- nothing came behind it
+    -- nothing came after it
     pub stops_here : (after : Option (List ℕ)) → Keeps to after → StopsBetweenRows terms bits from after old new
     stops_here after kept =
         (heard, [], omega arith, f.all_count, subst (λ xs. Consumes from after xs) (sym (append-nil heard)) (Consumes-kept from to after heard f.taken kept), f.written)
@@ -163,7 +163,7 @@ module _ (terms : Terms) (bits : Option ℕ) where
         pub taken_more : Consumes from after (heard ++ bytes)
         taken_more = Consumes-trans from to after heard bytes f.taken took_bytes
 
-        -- these came behind it, and no row of them was written
+        -- these came after it, and no row of them was written
         pub stops_behind : length bytes ≤ 65536 → StopsBetweenRows terms bits from after old new
         stops_behind few = (heard, bytes, few, f.all_count, taken_more, f.written)
 
@@ -442,7 +442,7 @@ module _ (live next : LiveOf) (bytes rest rows : List ℕ) (t : HasTaken live ne
             (ap (λ (u : Terms). rows_so_far u (before ++ t.taken)) same ∙ t.are_rows before h)));
       }
 
-  -- and where nothing is left, all of them
+  -- and if nothing is left, all of them
   module _ (none : length rest ≡ 0) where
     whole : t.taken ≡ bytes
     whole = sym (t.parted ∙ ap (λ xs. t.taken ++ xs) (nil_from_length rest none) ∙ append-nil t.taken)
@@ -467,7 +467,7 @@ pub stops_untouched : {W : Type 0} (contents : W → Option (List ℕ)) (terms :
     → StopsBetweenRows terms bits from after old (contents v) → StopsBetweenRows terms bits from after old (contents w)
 stops_untouched contents terms bits from after old v w same h = subst (λ x. StopsBetweenRows terms bits from after old (contents x)) (sym same) h
 
--- what holds in any case holds where there is a success
+-- a fact that holds in any case holds if there is a success
 pub on_any_ok : {T E P : Type 0} (r : Result T E) → P → OnOk r P
 on_any_ok (Ok x) p = p
 on_any_ok (Err e) p = tt
@@ -477,7 +477,7 @@ pub on_ok : {E : Type 0} (r : Result (Unit {0}) E) (P Q : Type 0) → (P → Q) 
 on_ok (Ok x) P Q more h = more h
 on_ok (Err e) P Q more h = tt
 
--- the last write alone may be refused
+-- only the last write may be refused
 pub write_breaks : {T : Type 0} (r : Result T ToolError) → IfErr r (λ e. e ≡ Write) → IfErr r MayBreakOff
 write_breaks (Ok x) h = tt
 write_breaks (Err e) h = inr (inr (inl h))
@@ -491,7 +491,7 @@ pub only_write : {T X : Type 0} (r : Result T ToolError) (k : ToolError) → Wri
 only_write {T} r k other kinds p =
     let is : k ≡ Write = subst (λ (x : Result T ToolError). IfErr x (λ e. e ≡ Write)) p kinds in absurd (other (sym is))
 
--- what holds of a refusal, where there is one
+-- a property of a refusal, if there is one
 pub of_err : {T E : Type 0} {P : Type 0} (r : Result T E) (e : E) → r ≡ Err e → OnErr r P → P
 of_err {P = P} r e is p = subst (λ x. OnErr x P) is p
 
@@ -514,7 +514,7 @@ no_gaps_told e (inl m) p = let bad : OutOfMemory ≡ BadGaps = sym m ∙ p in cc
 no_gaps_told e (inr (inl w)) p = let bad : Write ≡ BadGaps = sym w ∙ p in cc bad
 no_gaps_told e (inr (inr t)) p = let bad : TooLong ≡ BadGaps = sym t ∙ p in cc bad
 
--- what may break it off before its last bits is no want of bytes
+-- what may break it off before its last bits is not that bytes are missing
 pub early_has_bytes : (e : ToolError) → MayBreakEarly e → e ≢ BitsPastBytes
 early_has_bytes e (inl m) p = let bad : OutOfMemory ≡ BitsPastBytes = sym m ∙ p in cc bad
 early_has_bytes e (inr (inl d)) p = let bad : Read ≡ BitsPastBytes = sym d ∙ p in cc bad

@@ -50,7 +50,7 @@ one_more gaps gap (Some others) = ap Some (sym (append_assoc gaps (gap ∷ []) o
 
 module _ (texts : List (Bor (List ℕ))) (i : ℕ) (gaps : List (ℕ × ℕ))
     (so_far : each_gap (map (λ text. text.now) texts) ≡ with_rest gaps (each_gap (map (λ text. text.now) (drop i texts)))) where
-  -- where no text is left, they are all
+  -- if no text is left, they are all
   pub gaps_whole : length texts ≤ i → Some gaps ≡ each_gap (map (λ text. text.now) texts)
   gaps_whole none =
       sym (so_far ∙ ap (λ (rest : List (Bor (List ℕ))). with_rest gaps (each_gap (map (λ text. text.now) rest))) (drop_all i texts none)

@@ -25,7 +25,7 @@ use Rattle.rds_tool.specs.declared.job.Asked.{Asked}
 use Rattle.rds_tool.specs.declared.job.Asked.TheVariants.{Job as AskedJob, Follow}
 use Rattle.rds_tool.specs.declared.job.Job.TheVariants.{Encode, List as ListJob, Scan, Totals}
 
--- the way in which the unsigned types of std read a number of so many binary digits
+-- the way in which the unsigned types of std read a number of this many binary digits
 abbrev pub reads_unsigned : ℕ → Text → Result ℕ ParseIntError → Type 0
 reads_unsigned width text r = ParsesUnsigned width 10 text r × ExplainsUnsignedError 10 text r × HasUnsignedDigitsIfOk text r
 
@@ -60,7 +60,7 @@ may_none_at width None e none value n h = let bad : (let r : Result (Option ℕ)
 may_none_at width (Some t) e none value None h = cc h
 may_none_at width (Some t) e none value (Some n) h = refused width t e (value t refl) n h
 
--- and where it isn't read, it spells none
+-- and if it isn't read, it spells none
 pub may_none : (width : ℕ) (f : Found) (id : Text) (r : Result (Option ℕ) ParseIntError) (s : Option (Option ℕ)) → s ≡ result_ok r
     → (one_text f id ≡ None → r ≡ Ok None) → ((t : Text) → one_text f id ≡ Some t → TriesOne (reads_unsigned width) t r)
     → IfNone s ((n : Option ℕ) → MaySpell width (one_of id (rows_of f)) n → ⊥)
@@ -85,7 +85,7 @@ number_none_at : (width : ℕ) (o : Option Text) → ((t : Text) → o ≡ Some 
 number_none_at width None value n h = h
 number_none_at width (Some t) value n h = let e = value t refl in refused width t e.0 e.1 n h
 
--- and where it isn't read, it spells none
+-- and if it isn't read, it spells none
 pub number_none : (width : ℕ) (f : Found) (id : Text) (r : Option ℕ)
     → ((t : Text) → one_text f id ≡ Some t → ReadsOne (reads_unsigned width) t r)
     → IfNone r ((n : ℕ) → Spells width (one_of id (rows_of f)) n → ⊥)
@@ -112,11 +112,11 @@ module _ (f : Found) (given : Option (Bor Text)) (is : option_map (λ s. s.now) 
   asked_for : gaps_asked_for (rows_of f) ≡ gaps_spelled (option_map (λ s. s.now) given)
   asked_for = ap gaps_spelled (sym (is ∙ first_value-rows f (codes "gaps")))
 
-  -- where the option isn't given there are none
+  -- if the option isn't given there are none
   pub no_gaps : given ≡ None → (gaps : List (ℕ × ℕ)) → gaps ≡ [] → gaps_asked_for (rows_of f) ≡ Some gaps
   no_gaps none gaps empty = rw empty (asked_for ∙ ap (λ (o : Option (Bor Text)). gaps_spelled (option_map (λ s. s.now) o)) none)
 
-  -- where it is, they are those of its text, if that spells some
+  -- if it is, they are those of its text, if that spells some
   module _ (text : Bor Text) (some : given ≡ Some text) (gaps : Option (Vec (ℕ × ℕ))) (spelled : option_map (λ g. g.items) gaps ≡ gaps_of text.now) where
     asked_as : gaps_asked_for (rows_of f) ≡ option_map (λ g. g.items) gaps
     asked_as = asked_for ∙ ap (λ (o : Option (Bor Text)). gaps_spelled (option_map (λ s. s.now) o)) some ∙ sym spelled

@@ -1,4 +1,4 @@
--- What is listed of groups that were encoded, and which texts are that of a list, or a part of it.
+-- The listing of groups that were encoded, and which texts are that of a list, or a part of it.
 use Rattle.std.proofs.Common.{◌≡◌, ℕ, zero, suc, ◌+◌, ◌*◌, ◌/◌, ◌%◌, ◌^◌, ◌<◌, ◌≤◌, List, [], ◌∷◌, ◌++◌, Bool, true, false, cond, Some, Result, Ok, Err, length, flat_map, get_or, refl, sym, subst, ap, ap₂, ◌∙◌, arith, append-nil}
 use Rattle.std.specs.Prelude.{IfOk, not, nat_lt, ◌||◌, if◌then◌else◌}
 use Rattle.std.specs.Int.{byte_at, bytes_high_first}
@@ -72,7 +72,7 @@ more_small : (words : List ℕ) (groups : List (List ℕ)) → ((y : ℕ) → ge
 more_small words groups first others zero = first
 more_small words groups first others (suc k) = others k
 
--- ---- what is written for lines
+-- ---- the text that is written for lines
 
 line_spelled : (hex : Bool) (digit : ℕ) (digits : List ℕ) (lines : List (List ℕ)) (words : List ℕ) (groups : List (List ℕ))
     → words_of (digit ∷ digits) ≡ Ok words → lines_text hex lines ≡ Ok (flat_map (group_text hex) groups)

@@ -1,4 +1,4 @@
--- A run that is gone over once, and what is written and counted of it.
+-- A run that is gone over once, and the text and the counts that it gives.
 use Rattle.std.proofs.Common.{◌≡◌, ◌+◌, ◌++◌, ◌-◌, ◌*◌, ◌^◌, ◌<◌, ◌≤◌, ◌⊎◌, ◌∷◌, [], ℕ, List, Option, Result, Ok, Err, ap, ap₂, arith, append_assoc, inl, inr, length, length-append, append-nil, refl, subst, sym, ◌∙◌}
 use Rattle.std.specs.Prelude.{OnErr, OnOk}
 use Rattle.std.specs.List.{flat_map}
@@ -32,7 +32,7 @@ module _ (join : TotalsJoin) where
   pub two_parts : (done part : List Item) (t u : Totals) → t ≡ totals_of done → u ≡ totals_of part → plus t u ≡ totals_of (done ++ part)
   two_parts done part t u t_is u_is = ap₂ plus t_is u_is ∙ sym (join done part).joined
 
--- ---- what was written
+-- ---- the text that was written
 
 -- a whole text, and then a prefix of another
 pub prefix_more : (a b c : Option (List ℕ)) (xs ys : List ℕ) → Appends a b xs → AppendsPrefix b c ys → AppendsPrefix a c (xs ++ ys)
@@ -42,7 +42,7 @@ prefix_more a b c xs ys p (prefix, rest, split, q) = (xs ++ prefix, rest, ap (λ
 pub prefix_wider : (a b : Option (List ℕ)) (xs ys : List ℕ) → AppendsPrefix a b xs → AppendsPrefix a b (xs ++ ys)
 prefix_wider a b xs ys (prefix, rest, split, q) = (prefix, rest ++ ys, ap (λ (w : List ℕ). w ++ ys) split ∙ append_assoc prefix rest ys, q)
 
--- a whole text, and then a prefix of another, with more behind
+-- a whole text, and then a prefix of another, with more after it
 pub prefix_between : (a b c : Option (List ℕ)) (xs ys zs : List ℕ) → Appends a b xs → AppendsPrefix b c ys → AppendsPrefix a c (xs ++ (ys ++ zs))
 prefix_between a b c xs ys zs p q = prefix_more a b c xs (ys ++ zs) p (prefix_wider b c ys zs q)
 
@@ -124,7 +124,7 @@ end_is totals u all slice last same counted joined =
     ap₂ (λ (xs : List Item) (t : Totals). flat_map item_row xs ++ totals_text t) same
     (joined ∙ ap (λ (v : Totals). plus totals v) (counted ∙ ap (λ (xs : List Item). totals_of xs) same))
 
--- ---- where no part is left
+-- ---- if no part is left
 
 -- what is done is all
 pub all_done : (all done left part rest : List Item) (room : ℕ) → all ≡ done ++ left → left ≡ part ++ rest → length part ≡ 0
@@ -134,7 +134,7 @@ all_done all done left [] rest room first next none (inl ended) some =
 all_done all done left [] rest room first next none (inr full) some = absurd (omega (arith, full, some))
 all_done all done left (item ∷ part) rest room first next none full some = absurd (omega (arith, none))
 
--- counts that are at most so many are at most more
+-- counts that are at most a number are at most a greater one
 pub at_most_more : (m n : ℕ) (t : Totals) → m ≤ n → IsAtMost m t → IsAtMost n t
 at_most_more m n t more few = record {
   valid = omega (arith, few.valid, more);
@@ -172,7 +172,7 @@ module _ (all done left part shown rest : List Item) (first : all ≡ done ++ le
   pub counts_fit : 2 ^ 10 * length done + 2 ^ 10 * length shown < 2 ^ 64
   counts_fit = omega (arith, parted, few)
 
--- fewer are left behind a part that has some
+-- fewer are left after a part that has some
 pub fewer_left : (left part rest : List Item) → left ≡ part ++ rest → (length part ≡ 0 → ⊥) → length rest < length left
 fewer_left left part rest next some =
     let count : length left ≡ length (part ++ rest) = ap (λ (xs : List Item). length xs) next in

@@ -8,7 +8,7 @@ pub passed : {T E : Type 0} (r : Result T E) (e : E) → IsErr r × IsErrAnd r (
 passed (Ok x) e h = cc h.0
 passed (Err x) e h = ap (λ y. Err y) h.1
 
--- it is of one kind alone
+-- it is of only one kind
 pub passed_kind : {T : Type 0} (r : Result T ToolError) (e k : ToolError) → r ≡ Err e → r ≡ Err k → e ≡ k
 passed_kind r e k p q = cc
 
@@ -16,12 +16,12 @@ passed_kind r e k p q = cc
 pub passes : {T E : Type 0} (r : Result T E) (e : E) (P : E → Type 0) → IsErr r × IsErrAnd r (λ x. x ≡ e) → P e → IfErr r P
 passes r e P h p = subst (λ x. IfErr x P) (sym (passed r e h)) p
 
--- what holds in any case holds where there is an error
+-- a fact that holds in any case holds if there is an error
 pub on_any_err : {T E P : Type 0} (r : Result T E) → P → OnErr r P
 on_any_err (Ok x) p = tt
 on_any_err (Err e) p = p
 
--- where there is an error, nothing need hold of an answer
+-- if there is an error, nothing need hold of an answer
 pub no_ok : {T E : Type 0} (P : Type 0) (r : Result T E) (e : E) → r ≡ Err e → OnOk r P
 no_ok P (Ok x) e h = cc h
 no_ok P (Err x) e h = tt
@@ -30,7 +30,7 @@ no_ok P (Err x) e h = tt
 pub ok_is_no_err : {T E X : Type 0} (x : T) (e : E) → let r : Result T E = Ok x in r ≡ Err e → X
 ok_is_no_err x e p = cc p
 
--- where there is a success, nothing need hold of an error
+-- if there is a success, nothing need hold of an error
 pub no_err : {T E : Type 0} (P : E → Type 0) (r : Result T E) (x : T) → r ≡ Ok x → IfErr r P
 no_err P (Ok y) x h = tt
 no_err P (Err e) x h = cc h

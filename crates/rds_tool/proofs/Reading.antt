@@ -39,7 +39,7 @@ pub kind_told : (e : ToolError) (before after : ℕ) → Refuses e before after 
 kind_told e before after (inl h) = inl h.0
 kind_told e before after (inr h) = inr (inl h.0)
 
--- where no read failed, none was counted
+-- if no read failed, none was counted
 pub ok_told : {T : Type 0} (x : T) (start after : ℕ) → after ≡ start → let r : Result T ToolError = Ok x in (r ≡ Err Read) ↔ (start < after)
 ok_told x start after kept = (λ p. cc p, λ q. absurd (omega arith))
 

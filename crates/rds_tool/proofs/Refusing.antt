@@ -1,4 +1,4 @@
--- What is answered for an error of `clap`.
+-- The answer to an error of `clap`.
 use Rattle.std.proofs.Common.{◌≡◌, ◌∙◌, inl, inr, List, Option, refl, subst, sym}
 use Rattle.clap.specs.Kinds.{HasKind, IsAmong, Kinds}
 use Rattle.clap.specs.Values.{kind_of}
@@ -10,7 +10,7 @@ use Rattle.rds_tool.specs.CommandLine.{IsFault, MayAnswer}
 use Rattle.rds_tool.specs.declared.fault.FaultKind.{FaultKind}
 use Rattle.rds_tool.specs.declared.fault.FaultKind.TheVariants.{Help, Memory, Version, Words}
 
--- the kind answered is that of one of the faults, or want of memory
+-- the kind answered is that of one of the faults, or that of refused memory
 pub refused_by : (faults : Kinds) (entries : Option (Text × List Row)) (e : Error) (answer : FaultKind) → HasKind faults e
     → (answer ≡ Help → kind_of e ≡ kind.DisplayHelp)
     → (answer ≡ Version → kind_of e ≡ kind.DisplayVersion)

@@ -1,4 +1,4 @@
--- What `csv` writes of fields that need no quotes.
+-- The text that `csv` writes for fields that need no quotes.
 use Rattle.std.proofs.Common.{◌/◌, ◌%◌, ◌||◌, Bool, Option, Some, None, get_or, slice_index, suc, true, zero, ◌++◌, ◌+◌, ◌*◌, ◌<◌, ◌^◌, ◌∙◌, ◌∷◌, ◌≡◌, ◌≤◌, List, [], ap, append-nil, arith, false, length, map, refl, ℕ, Bor}
 use Rattle.std.specs.Prelude.{IfSome, decimal}
 use Rattle.std.specs.Char.{digit_value}
@@ -56,7 +56,7 @@ plain_row [] several plain = absurd (omega arith)
 plain_row (f ∷ []) several plain = absurd (omega arith)
 plain_row (f ∷ g ∷ fs) several plain = ap (λ (t : List ℕ). t ++ 10 ∷ []) (fields_as_is f (g ∷ fs) plain)
 
--- the same behind references
+-- the same through references
 pub plain_row_now : (fs : List (Bor (List ℕ))) → 2 ≤ length fs → AllByRecursion IsPlain (map (λ f. f.now) fs)
     → row_text default_writer (map (λ f. f.now) fs) ≡ row (map (λ f. f.now) fs)
 plain_row_now fs several plain =
@@ -149,7 +149,7 @@ pub row_short : (fs : List (List ℕ)) → 2 ≤ length fs → length fs ≤ 8 �
 row_short [] several few short = absurd (omega arith)
 row_short (f ∷ fs) several few short = grind (arith, common_steps, joined_short f fs short)
 
--- a short row behind others
+-- a short row after others
 pub text_short : (old new added : List ℕ) → new ≡ old ++ added → length added ≤ 168 → length new ≤ length old + 168
 text_short old new added e h = grind (arith, common_steps, e)
 

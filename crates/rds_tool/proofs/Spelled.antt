@@ -66,14 +66,14 @@ some_changed f all changed from n e =
 pub each_of_some : {X : Type 0} (P : X → Type 0) (all : List X) (from n : ℕ) → All P all → All P (take n (drop from all))
 each_of_some P all from n each = All-take P n (drop from all) (All-drop P from all each)
 
--- rows of some, none of which is longer than the longest, are no longer than so many of the longest
+-- rows of some, none of which is longer than the longest, are no longer than as many of the longest
 pub rows_fit : {X : Type 0} (all : List X) (from n longest : ℕ) (text rows : List ℕ) → longest ≡ 168
     → length rows ≤ length (take n (drop from all)) * 168 → text ≡ rows → length text ≤ n * longest
 rows_fit all from n longest text rows is short same =
     let few = length-take n (drop from all) in
     subst (λ (l : ℕ). length text ≤ n * l) (sym is) (subst (λ (t : List ℕ). length t ≤ n * 168) (sym same) (omega (arith, short, few)))
 
--- the last field behind the others, each of which has a comma behind it
+-- the last field after the others, each of which has a comma after it
 pub joined_last : (fs : List (Bor (List ℕ))) (n : ℕ) (d : Bor (List ℕ)) → length fs ≡ suc n
     → join_with_byte 44 (map (λ f. f.now) fs) ≡ flat_map (λ f. f.now ++ 44 ∷ []) (take n fs) ++ (get_or fs n d).now
 joined_last [] n d h = absurd (omega arith)
@@ -90,7 +90,7 @@ short_at [] i d h lt = absurd (omega arith)
 short_at (f ∷ fs) zero d h lt = h.0
 short_at (f ∷ fs) (suc i) d h lt = short_at fs i d h.1 (omega arith)
 
--- one field more, and a comma behind it
+-- one field more, and a comma after it
 pub fields_more : (fs : List (Bor (List ℕ))) (i : ℕ) (d : Bor (List ℕ)) (text : List ℕ) → i < length fs → text ≡ flat_map (λ f. f.now ++ 44 ∷ []) (take i fs)
     → (text ++ (get_or fs i d).now) ++ 44 ∷ [] ≡ flat_map (λ f. f.now ++ 44 ∷ []) (take (i + 1) fs)
 fields_more fs i d text lt e =

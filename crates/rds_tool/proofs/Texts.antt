@@ -62,7 +62,7 @@ module _ (input : Input) (plan : PlanOf) (held : List ℕ) (bits : Signal) where
       let fits : cut_by plan.cuts bits ≡ Ok bits = ap (λ (t : Bool). if t then Ok bits else Err BadCutting) (any_fits plan.cuts any (length_of bits)) in
       listed_whole recorded fits
 
-  -- the text of its totals alone
+  -- the text of only its totals
   pub totals_made : (totals : TotalsOf) → recording_of input held ≡ Ok bits → cut_by plan.cuts bits ≡ Ok bits → totals ≡ totals_of (report_items bits plan.rules)
       → text_of_task (task.Totals input plan) held ≡ Ok (totals_text totals)
   totals_made totals recorded fits o = ap (λ r. and_then r (λ b. Ok (totals_list plan.rules b))) (cut recorded fits) ∙ ap (λ x. Ok (totals_text x)) (sym o)
@@ -164,13 +164,13 @@ task_errs (task.Encode hex) held = lines_errs hex (lines_of held)
 of_bytes : (t : Task) (held : List ℕ) (e : ToolError) → text_of_task t held ≡ Err e → IsOfOutcome e
 of_bytes t held e q = let P : Result (List ℕ) ToolError → Type 0 = λ r. IfErr r IsOfOutcome in subst P q (task_errs t held)
 
--- a thread is not started in this case alone
+-- only in this case a thread is not started
 pub started : (X : Type 0) (t : Task) (held : List ℕ) (e : ToolError) → IsShortageOrErrOf X (text_of_task t held) e → e ≡ NoWorker → X
 started X t held e (inl m) p = let bad : OutOfMemory ≡ NoWorker = sym m ∙ p in cc bad
 started X t held e (inr (inl h)) p = h.1
 started X t held e (inr (inr q)) p = absurd (subst IsOfOutcome p (of_bytes t held e q))
 
--- a text is refused for want of memory or threads, or for its bytes
+-- a text is refused because memory or threads were refused, or for its bytes
 pub refused_inside : (X : Type 0) (t : Task) (held : List ℕ) (e : ToolError)
     → IsShortageOrErrOf X (text_of_task t held) e → IsInside e
 refused_inside X t held e (inl m) = memory_inside e m
@@ -219,7 +219,7 @@ settings_errs (ListJob input settings) = then_errs IsOfOutcome (plan_of settings
 settings_errs (Totals input settings) = then_errs IsOfOutcome (plan_of settings) _ (plan_errs settings) (λ plan. tt)
 settings_errs (Encode hex) = tt
 
--- settings are refused for want of memory, or as such
+-- settings are refused because memory was refused, or as such
 pub settings_inside : (job : Job) (e : ToolError) → IsMemoryOrErrOf (task_of job) e → IsInside e × (e ≢ NoWorker)
 settings_inside job e (inl m) = (memory_inside e m, λ p. let bad : OutOfMemory ≡ NoWorker = sym m ∙ p in cc bad)
 settings_inside job e (inr q) =
@@ -271,7 +271,7 @@ asked job t p = let P : Result Task ToolError → Type 0 = λ r. IfOk r (λ t. M
 pub outcome_is : (job : Job) (t : Task) (held bytes text : List ℕ) → task_of job ≡ Ok t → text_of_task t bytes ≡ Ok text → bytes ≡ held → outcome job held ≡ Ok text
 outcome_is job t held bytes text p q h = ap (λ r. and_then r (λ k. text_of_task k held)) p ∙ ap (text_of_task t) (sym h) ∙ q
 
--- what was written
+-- the text that was written
 pub written_is : (o : Option (List ℕ)) (job : Job) (t : Task) (bytes text : List ℕ) (r : Result (Unit {0}) ToolError) (old new : Option (List ℕ))
     → IfSome o (λ held. bytes ≡ held) → task_of job ≡ Ok t → text_of_task t bytes ≡ Ok text → OnOk r (Appends old new text)
     → OnOk r (IfSome o (λ held. Writes old new (outcome job held)))

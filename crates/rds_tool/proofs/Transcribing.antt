@@ -26,7 +26,7 @@ task_refused job remaining e (inl memory) = inl (inl memory)
 task_refused job None e (inr refused) = inr tt
 task_refused job (Some held) e (inr refused) = inr (ap (λ r. and_then r (λ task. text_of_task task held)) refused)
 
--- so is one of the bytes, but for want of memory or of a thread
+-- so is one of the bytes, but for refused memory or a refused thread
 text_refused : (X : Type 0) (job : Job) (task : Task) (remaining : Option (List ℕ)) (held : List ℕ) (e : ToolError) → task_of job ≡ Ok task
     → IfSome remaining (λ bytes. held ≡ bytes) → IsShortageOrErrOf X (text_of_task task held) e → IsOutside e ⊎ IfSome remaining (λ bytes. outcome job bytes ≡ Err e)
 text_refused X job task remaining held e is same (inl memory) = inl (inl memory)
@@ -56,7 +56,7 @@ write_refused P (Ok x) kinds = tt
 write_refused P (Err e) (inl memory) = inl (inl memory)
 write_refused P (Err e) (inr write) = inl (inr (inr (inr (inl write))))
 
--- what the writer alone may refuse is refused for nothing else
+-- the error of such a write is `OutOfMemory` or `Write`, and no other
 pub writer_alone : {T X : Type 0} (r : Result T ToolError) (k : ToolError) → ((k ≡ OutOfMemory) ⊎ (k ≡ Write) → X) → IfErr r (λ e. (e ≡ OutOfMemory) ⊎ (e ≡ Write)) → r ≡ Err k → X
 writer_alone {T} r k other kinds p = other (subst (λ (x : Result T ToolError). IfErr x (λ e. (e ≡ OutOfMemory) ⊎ (e ≡ Write))) p kinds)
 

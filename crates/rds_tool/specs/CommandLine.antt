@@ -1,5 +1,5 @@
--- The command line, as `clap` reads it, and what its words ask for: this project's rule. `asked_of` answers it; `rds_command`
--- and the functions of `entries.rt` are its steps.
+-- The command line, as `clap` reads it, and the job or stream that its words ask for: this project's rule.
+-- `asked_of` answers it; `rds_command` and the functions of `entries.rt` are its steps.
 use Rattle.std.specs.Prelude.{◌≡◌, ◌≢◌, ◌⊎◌, ◌<◌, ◌^◌, ◌++◌, ⊤, Bool, IfOk, List, None, Option, Result, Some, [], codes, false, find, if◌then◌else◌, option_and_then, pos, string_bytes, true, ℕ, ◌∷◌}
 use Rattle.std.specs.Str.{bytes_eq}
 use Rattle.std.specs.Str.Parse.{IsNumeral, digits_value, without_leading_plus}
@@ -30,7 +30,7 @@ use Rattle.rds_tool.specs.declared.job.Job.{Job}
 use Rattle.rds_tool.specs.declared.job.Settings.{Settings}
 use Rattle.rds_tool.specs.declared.job.Job.TheVariants.{Encode, List as ListJob, Scan, Totals}
 
--- ---- what a command reads
+-- ---- the input of a command
 
 -- it reads the words so, and none of its options is for its subcommands too
 pub record ReadsAs (command : Command) (reads : App) : Type 0 where
@@ -110,13 +110,13 @@ abbrev pub rds_app : App
 rds_app = with_subcommand (with_subcommand (with_subcommand (with_subcommand (with_subcommand bare_app
     scan_app.top) (ruled_app (codes "list")).top) follow_app.top) (ruled_app (codes "totals")).top) encode_app.top
 
--- ---- what the words give
+-- ---- the entries that the words give
 
 -- the command that the words name, with the entries of its options, defaults too
 abbrev pub entries_of : List Text → Option (Text × List Row)
 entries_of words = subcommand_of rds_app words
 
--- the kinds of fault that `clap` finds in the words, none where it takes them
+-- the kinds of fault that `clap` finds in the words, none if it takes them
 abbrev pub faults_of : List Text → Kinds
 faults_of words = fault_of rds_app words
 
@@ -135,12 +135,12 @@ MaySpell width entry (Some n) = Spells width entry n
 abbrev pub IsFlag : Option Text → Bool → Type 0
 IsFlag entry b = (entry ≡ None → b ≡ false) × (entry ≡ Some (codes "true") → b ≡ true) × (entry ≡ Some (codes "false") → b ≡ false)
 
--- the gaps that a text spells, and none where there is no text
+-- the gaps that a text spells, and none if there is no text
 abbrev pub gaps_spelled : Option Text → Option (List (ℕ × ℕ))
 gaps_spelled None = Some []
 gaps_spelled (Some text) = gaps_of text
 
--- the gaps that the entries ask for, where they spell some
+-- the gaps that the entries ask for, if they spell some
 abbrev pub gaps_asked_for : List Row → Option (List (ℕ × ℕ))
 gaps_asked_for rows = gaps_spelled (first_of (codes "gaps") rows)
 
@@ -155,7 +155,8 @@ abbrev pub SpellsPieces : Option Text → Cuts → Type 0
 SpellsPieces entry (Even pieces) = Spells 32 entry pieces
 SpellsPieces entry (At cuts) = ⊥
 
--- the rule of loss that the entries give: a share where there is one, of as many blocks as `--of` says, or else `--loss` in a row
+-- the rule of loss that the entries give: a share if there is one, of as many blocks as `--of` says, or else
+-- `--loss` in a row
 abbrev pub SpellsLoss : List Row → Loss → Type 0
 SpellsLoss rows (Run n) = (one_of (codes "share") rows ≡ None) × Spells 32 (one_of (codes "loss") rows) n
 SpellsLoss rows (Share bad of) = Spells 32 (one_of (codes "share") rows) bad × Spells 32 (one_of (codes "of") rows) of
@@ -164,7 +165,7 @@ abbrev pub is_of_words : Option ValueSource → Bool
 is_of_words (Some CommandLine) = true
 is_of_words other = false
 
--- the words gave the option, and not its default alone
+-- the words gave the option, not only its default
 abbrev pub is_given : Text → List Row → Bool
 is_given name rows = is_of_words (option_and_then (λ row. row.source) (find (λ row. bytes_eq row.id name) rows))
 
@@ -192,7 +193,7 @@ IsJob name rows (ListJob input settings) = (name ≡ codes "list") × IsInput ro
 IsJob name rows (Totals input settings) = (name ≡ codes "totals") × IsInput rows input × AreSettings rows settings
 IsJob name rows (Encode hex) = (name ≡ codes "encode") × IsFlag (one_of (codes "hex") rows) hex
 
--- what a command and its entries ask for
+-- the job or stream that a command and its entries ask for
 abbrev pub IsAsked : Text → List Row → Asked → Type 0
 IsAsked name rows (AskedJob job progress) = IsJob name rows job × IsFlag (one_of (codes "progress") rows) progress
 IsAsked name rows (Follow input rules) = (name ≡ codes "follow") × IsInput rows input × AreRules rows rules
@@ -220,12 +221,12 @@ abbrev pub HasBadGaps : Option (Text × List Row) → Type 0
 HasBadGaps None = ⊥
 HasBadGaps (Some entries) = ReadsBits entries.0 × (gaps_asked_for entries.1 ≡ None)
 
--- the command goes by a rule of loss, of which the words give options that do not go together
+-- the command uses a rule of loss, and the words give options of it that do not go together
 abbrev pub HasBadLoss : Option (Text × List Row) → Type 0
 HasBadLoss None = ⊥
 HasBadLoss (Some entries) = Synchronises entries.0 × (mixes_losses entries.1 ≡ true)
 
--- the entries give no rules, for that reason, or else none of what goes by rules
+-- the entries give no rules, for that reason, or else nothing that uses rules has these entries
 abbrev pub GivesNoRules : List Row → Type 0 → NoJob → Type 0
 GivesNoRules rows none_fit no.Loss = mixes_losses rows ≡ true
 GivesNoRules rows none_fit no.Entries = (mixes_losses rows ≡ false) × none_fit
@@ -262,9 +263,9 @@ GivesNothing entries no.Entries = (HasBadGaps entries → ⊥) × (HasBadLoss en
 abbrev pub IsFault : ErrorKind → Type 0
 IsFault k = (k ≢ kind.DisplayHelp) × (k ≢ kind.DisplayVersion) × (k ≢ kind.OutOfMemory)
 
--- the kind of answer that these faults and entries allow: help or the version where it was asked for; a refusal of the
--- words where they have a fault, or where none of them is at fault and yet nothing to be asked for has their entries; want of
--- memory ever
+-- the kind of answer that these faults and entries allow: help or the version if it was asked for; a refusal
+-- of the words if they have a fault, or have none and yet nothing to be asked for has their entries; `Memory`
+-- in any case
 abbrev pub MayAnswer : Kinds → Option (Text × List Row) → FaultKind → Type 0
 MayAnswer faults entries Help = IsAmong kind.DisplayHelp faults
 MayAnswer faults entries Version = IsAmong kind.DisplayVersion faults
@@ -272,7 +273,7 @@ MayAnswer faults entries Words = ((k : ErrorKind) × IsFault k × IsAmong k faul
     ⊎ ((faults ≡ []) × ((asked : Asked) → IsAskedOf entries asked → ⊥))
 MayAnswer faults entries Memory = ⊤
 
--- what is shown where the gaps are none
+-- the text that is shown if the gaps can't be parsed
 abbrev pub bad_gaps_text : Text
 bad_gaps_text = codes "bad --gaps" ++ 10 ∷ []
 
@@ -280,7 +281,7 @@ bad_gaps_text = codes "bad --gaps" ++ 10 ∷ []
 abbrev pub SaysBadGaps : CliFault → Type 0
 SaysBadGaps fault = (fault.kind ≡ Memory) ⊎ ((fault.kind ≡ Words) × (string_bytes fault.text ≡ bad_gaps_text))
 
--- what is shown where options of a rule of loss do not go together
+-- the text that is shown if options of a rule of loss do not go together
 abbrev pub bad_loss_text : Text
 bad_loss_text = codes "bad --loss or --of: --of needs --share, and --loss excludes it" ++ 10 ∷ []
 

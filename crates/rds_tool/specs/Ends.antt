@@ -1,5 +1,5 @@
--- What a clause sees of a source over a reader of std, and of a sink over a writer. `FromRead::new`, `ToWrite::new` and
--- `into_inner` cite it.
+-- The view that clauses have of a source over a reader of std, and of a sink over a writer. `FromRead::new`,
+-- `ToWrite::new` and `into_inner` cite it.
 use Rattle.std.specs.Prelude.{ℕ, Bool, List}
 use Rattle.rds_tool.specs.declared.devices.FromRead.{FromRead}
 use Rattle.rds_tool.specs.declared.devices.ToWrite.{ToWrite}

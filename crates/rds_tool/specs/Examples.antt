@@ -1,4 +1,4 @@
--- Texts, refusals, jobs and command lines, with what the definitions give for them: theorems that the checker
+-- Texts, refusals, jobs and command lines, with their values by the definitions: theorems that the checker
 -- computes.
 pub mod Words
 pub mod Rows

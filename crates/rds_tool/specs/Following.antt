@@ -1,5 +1,5 @@
--- Following a stream: the rows that are written as its bytes come, and what stands where it breaks off; this project's rule.
--- `follow` promises it.
+-- Following a stream: the rows that are written as its bytes come, and those that were written if it breaks
+-- off; this project's rule. `follow` promises it.
 use Rattle.std.specs.Prelude.{◌++◌, ◌≡◌, ◌≢◌, ◌≤◌, ◌<◌, ◌+◌, ◌*◌, ◌^◌, ◌⊎◌, [], ⊤, ℕ, Bool, List, None, Ok, Option, Result, Some, length, min, true}
 use Rattle.std.specs.List.{flat_map}
 use Rattle.std.specs.Io.KnownBytes.{Appends, Consumes, IsAtEnd}
@@ -15,7 +15,8 @@ use Rattle.rds_tool.specs.declared.error.ToolError.TheVariants.{BadGaps, BitsPas
 abbrev pub most_read : ℕ
 most_read = 65536
 
--- how many bits of a stream of these bytes count: the first ones where so many are claimed, or else all
+-- how many bits of a stream of these bytes count: the number that is claimed, if there are as many, or else
+-- all
 abbrev pub counted : Option ℕ → List ℕ → ℕ
 counted None bytes = 8 * length bytes
 counted (Some bits) bytes = min bits (8 * length bytes)
@@ -29,11 +30,11 @@ AllCount (Some bits) bytes = 8 * length bytes ≤ bits
 abbrev pub rows_so_far : Terms → List ℕ → List ℕ
 rows_so_far terms bytes = flat_map item_row (complete terms bytes)
 
--- the listing of a stream of these bytes, of which so many bits count
+-- the listing of the bits that count in a stream of these bytes
 abbrev pub stream_text : Terms → Option ℕ → List ℕ → List ℕ
 stream_text terms bits bytes = list_text terms.rules (signal_at terms.gaps bytes (counted bits bytes))
 
--- what a list makes of a recording of these bytes: its text, or the refusal of them
+-- the outcome of a list of a recording of these bytes: its text, or the refusal of them
 abbrev pub listed : Terms → Option ℕ → List ℕ → Result (List ℕ) ToolError
 listed terms bits held = and_then (first_bits (claimed bits held) terms.gaps held) (λ recording. Ok (list_text terms.rules recording))
 
@@ -99,13 +100,13 @@ IsHeardOut (Some n) ended bytes = (n ≤ 8 * length bytes) × (8 * length bytes 
 abbrev pub IsFlushedAfter : List ℕ → Bool → Type 0
 IsFlushedAfter bytes flushed = (bytes ≡ []) ⊎ (flushed ≡ true)
 
--- where following breaks off by this error: the reader gave these bytes, and what is told above of a reader that held them and
--- no others is so
+-- following broke off by this error: the reader gave these bytes, and the statements above hold for a reader
+-- that held only them
 pub record BreaksOff (terms : Terms) (bits : Option ℕ) (given given' : List ℕ) (ended : Bool) (old new : Option (List ℕ)) (flushed : Bool) (e : ToolError) : Type 0 where
   pub bytes : List ℕ
   pub gave : given' ≡ given ++ bytes
-  -- where a read fails, the rows that are complete were taken and flushed before it; since any read may fail, and no write
-  -- follows one that did, so they are before each read
+  -- if a read fails, the rows that are complete were taken and flushed before it; since any read may fail,
+  -- and no write follows one that did, so they are before each read
   pub prompt : e ≡ Read → Appends old new (rows_so_far terms bytes) × IsFlushedAfter bytes flushed
   pub between : e ≢ Write → StopsBetweenRows terms bits (Some bytes) (Some []) old new
   pub within : e ≡ Write → StopsInRows terms bits (Some bytes) (Some []) old new

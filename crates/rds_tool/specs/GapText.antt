@@ -12,7 +12,7 @@ is_place text = nat_lt 0 (length text) && nat_le (length text) 12 && all_ascii_d
 abbrev pub place_of : List ℕ → Option ℕ
 place_of text = if is_place text then Some (digits_value 10 text) else None
 
--- both places, where there are both
+-- both places, if there are both
 abbrev pub both : Option ℕ → Option ℕ → Option (ℕ × ℕ)
 both (Some from) (Some to) = Some (from, to)
 both from to = None
@@ -21,7 +21,7 @@ both from to = None
 abbrev pub gap_of : List ℕ → Option (ℕ × ℕ)
 gap_of text = both (place_of (before_first (λ b. b == 45) text)) (place_of (after_first (λ b. b == 45) text))
 
--- one gap more, where there is one
+-- one gap more, if there is one
 abbrev pub and_gaps : Option (ℕ × ℕ) → Option (List (ℕ × ℕ)) → Option (List (ℕ × ℕ))
 and_gaps (Some gap) (Some gaps) = Some (gap ∷ gaps)
 and_gaps gap gaps = None

@@ -24,7 +24,7 @@ lines_of text = slice_split (λ b. b == 10) (filter (λ b. not (is_space b)) tex
 abbrev pub word_at : List ℕ → ℕ → ℕ
 word_at bytes i = 256 * slice_index bytes i + slice_index bytes (i + 1)
 
--- the four words of eight bytes, or the refusal of what is no sixteen digits
+-- the four words of eight bytes, or the refusal of text that is not sixteen digits
 abbrev pub words_or_refusal : Result (List ℕ) FromHexError → Result (List ℕ) ToolError
 words_or_refusal (Ok bytes) = Ok (word_at bytes 0 ∷ word_at bytes 2 ∷ word_at bytes 4 ∷ word_at bytes 6 ∷ [])
 words_or_refusal (Err e) = Err GroupText
@@ -49,16 +49,16 @@ group_text hex words = if hex then encode_lower (group_bytes words) ++ 10 ∷ []
 
 -- ---- from lines to text
 
--- what is written for a line: nothing where it is empty
+-- the text that is written for a line: nothing if it is empty
 abbrev pub line_text : Bool → List ℕ → Result (List ℕ) ToolError
 line_text hex [] = Ok []
 line_text hex (digit ∷ digits) = and_then (words_of (digit ∷ digits)) (λ words. Ok (group_text hex words))
 
--- what is written for lines, or the refusal of the first that is faulty
+-- the text that is written for lines, or the refusal of the first that is faulty
 abbrev pub lines_text : Bool → List (List ℕ) → Result (List ℕ) ToolError
 lines_text hex [] = Ok []
 lines_text hex (line ∷ lines) = and_then (line_text hex line) (λ first. and_then (lines_text hex lines) (λ others. Ok (first ++ others)))
 
--- what is written for a text of lines, or the refusal of its first faulty line
+-- the text that is written for a text of lines, or the refusal of its first faulty line
 abbrev pub encoded_text : Bool → List ℕ → Result (List ℕ) ToolError
 encoded_text hex text = lines_text hex (lines_of text)

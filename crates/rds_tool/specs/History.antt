@@ -1,5 +1,5 @@
--- The bytes that a reader gave from one moment to another: this project's rule. `transcribe` and `follow` promise by it what
--- holds at every reader, standard input too.
+-- The bytes that a reader gave from one moment to another: this project's rule. `transcribe` and `follow`
+-- state by it the promises that hold at every reader, standard input too.
 use Rattle.std.specs.Prelude.{◌++◌, ◌≡◌, List, ℕ}
 
 -- bytes were given since then, of which this holds

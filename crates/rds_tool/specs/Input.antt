@@ -1,5 +1,5 @@
--- The recording that an input stands for, or its refusal: this project's rule. `transcribe` decodes it, by way of `Outcome`,
--- and `follow` cites how many bits are claimed.
+-- The recording that an input denotes, or its refusal: this project's rule. `transcribe` decodes it, by way
+-- of `Outcome`, and `follow` cites how many bits are claimed.
 use Rattle.std.specs.Prelude.{◌*◌, ◌==◌, ◌^◌, ◌||◌, ◌&&◌, ◌∷◌, ℕ, Bool, Err, List, [], None, Ok, Option, Result, Some, if◌then◌else◌, length, nat_le, nat_lt, not, true}
 use Rattle.std.specs.List.{filter}
 use Rattle.hex.specs.Hex.{decode_of}
@@ -18,7 +18,7 @@ and_then (Err e) step = Err e
 abbrev pub is_blank : ℕ → Bool
 is_blank b = (b == 32) || (b == 9) || (b == 13) || (b == 10)
 
--- the bytes, or the refusal of what is no hexadecimal text
+-- the bytes, or the refusal of text that is not hexadecimal
 abbrev pub or_hex_text : Result (List ℕ) FromHexError → Result (List ℕ) ToolError
 or_hex_text (Ok bytes) = Ok bytes
 or_hex_text (Err e) = Err HexText
@@ -41,7 +41,7 @@ abbrev pub may_be_gaps : ℕ → List (ℕ × ℕ) → ℕ → Bool
 may_be_gaps low [] n = true
 may_be_gaps low (gap ∷ gaps) n = nat_le low gap.0 && nat_lt gap.0 gap.1 && nat_le gap.1 n && may_be_gaps gap.1 gaps n
 
--- the first so many bits of the bytes, with these gaps: at most 2^36 bits, and no more than the bytes hold
+-- the first `bits` bits of the bytes, with these gaps: at most 2^36 bits, and no more than the bytes hold
 abbrev pub first_bits : ℕ → List (ℕ × ℕ) → List ℕ → Result Signal ToolError
 first_bits bits gaps bytes =
     if nat_lt (2 ^ 36) bits then Err TooLong

@@ -1,4 +1,5 @@
--- What an input says, as contracts see it: this project's rule. Two values of `Input` are equal where they say the same.
+-- The fields of an input, as contracts see them: this project's rule. Two values of `Input` are equal if they
+-- say the same.
 use Rattle.std.specs.Prelude.{ℕ, ◌==◌, Bool, List, Option}
 use Rattle.std.specs.Bool.{beq}
 use Rattle.std.specs.Cmp.{IsEquivalence, and_equiv, bool_eq_equiv, nat_eq_equiv, on_equiv}

@@ -1,4 +1,4 @@
--- What the bodies of this crate cite, and no contract of a public function.
+-- Specs that only the bodies of this crate cite, and no contract of a public function.
 pub mod RowWriter
 pub mod Rows
 pub mod Streams

@@ -1,5 +1,5 @@
--- Laws of jobs, over the definitions alone: what is listed of groups that were encoded, and which texts are that of a list, or a part of it.
--- The functions of `laws` promise them. This project's rules.
+-- Laws of jobs, over only the definitions: the listing of groups that were encoded, and which texts are that
+-- of a list, or a part of it. The functions of `laws` promise them. This project's rules.
 use Rattle.std.specs.Prelude.{◌≡◌, ◌≤◌, ◌*◌, ◌^◌, ◌++◌, ◌∷◌, ℕ, Bool, IfOk, List, [], None, Ok, Option, Result, false, length, true}
 use Rattle.rds_stream.specs.Recording.{length_of}
 use Rattle.rds_sync.specs.Sent.{group_sent, items_sent, totals_sent}
@@ -56,18 +56,19 @@ EncodedGroupsAreTaken = (hex : Bool) (settings : Settings) (plan : PlanOf) (line
 
 -- ---- lists, streams and totals
 
--- the bytes themselves, so many of their bits, with these gaps
+-- the bytes themselves, as many of their bits as are claimed, with these gaps
 abbrev pub stream_input : Option ℕ → List (ℕ × ℕ) → Input
 stream_input bits gaps = record { hex = false; bits = bits; gaps = gaps }
 
--- what is made of a stream that is followed is what a list makes of its bytes, by any plan whose cuts fit them: its text, or its refusal
+-- following a stream has the outcome of a list of its bytes, by any plan whose cuts fit them: its text, or
+-- its refusal
 abbrev pub StreamsAreListed : Type 0
 StreamsAreListed = (settings : Settings) (plan : PlanOf) (bits : Option ℕ) (gaps : List (ℕ × ℕ)) (held : List ℕ)
     → plan_of settings ≡ Ok plan
     → IfOk (recording_of (stream_input bits gaps) held) (λ recording. cuts_bits plan.cuts (length_of recording) ≡ true)
     → listed (record { rules = plan.rules; gaps = gaps }) bits held ≡ outcome (job.List (stream_input bits gaps) settings) held
 
--- a list ends with the totals: its other rows come before them, and it is refused where they are
+-- a list ends with the totals: its other rows come before them, and it is refused if they are
 abbrev pub ListsEndWithTotals : Type 0
 ListsEndWithTotals = (input : Input) (settings : Settings) (held : List ℕ)
     → (rows : List ℕ) × (outcome (job.List input settings) held ≡ and_then (outcome (job.Totals input settings) held) (λ totals. Ok (rows ++ totals)))

@@ -53,12 +53,12 @@ block_text (Read Lost) = codes "lost"
 block_text (Read (Valid offset info)) = word_text offset info
 block_text (Read (Corrected offset info burst)) = word_text offset info ++ 126 ∷ hex_digits 7 burst
 
--- a group's type, where it is known
+-- a group's type, if it is known
 abbrev pub kind_text : Option ℕ → List ℕ
 kind_text None = dash
 kind_text (Some kind) = decimal kind
 
--- a group's version, where it is known, and whether its blocks are in conflict over it
+-- a group's version, if it is known, and whether its blocks are in conflict over it
 abbrev pub version_text : Version → Bool → List ℕ
 version_text A false = codes "A"
 version_text A true = codes "A!"

@@ -1,5 +1,6 @@
--- What a job makes of the bytes that a reader held, this project's rule: the text that is written, or the first refusal that
--- applies. `transcribe` promises it, by `IsTranscribed`, and `follow` how it is written.
+-- The outcome of a job over the bytes that a reader held, this project's rule: the text that is written, or
+-- the first refusal that applies. `transcribe` promises it, by `IsTranscribed`, and `follow` how it is
+-- written.
 use Rattle.std.specs.Prelude.{◌≡◌, ◌⊎◌, ℕ, Err, List, Ok, Option, Result}
 use Rattle.std.specs.Io.KnownBytes.{Appends}
 use Rattle.rds_rows.specs.Writes.{AppendsPrefix}
@@ -24,7 +25,7 @@ use Rattle.rds_tool.specs.declared.task.Task.TheVariants as task
 abbrev pub list_text : RuleNumbers → Signal → List ℕ
 list_text rules recording = report_text (report_items recording rules) (totals_of (report_items recording rules))
 
--- the listing of its totals alone
+-- the listing of only its totals
 abbrev pub totals_list : RuleNumbers → Signal → List ℕ
 totals_list rules recording = totals_text (totals_of (report_items recording rules))
 
@@ -47,12 +48,12 @@ outcome job held = and_then (task_of job) (λ task. text_of_task task held)
 abbrev pub IsOutside : ToolError → Type 0
 IsOutside e = (e ≡ OutOfMemory) ⊎ ((e ≡ NoWorker) ⊎ ((e ≡ Read) ⊎ ((e ≡ Write) ⊎ (e ≡ TooManyTurns))))
 
--- the whole text was added to what the writer held; where the outcome is a refusal, this can't be
+-- the whole text was added to the writer's bytes; if the outcome is a refusal, this can't be
 abbrev pub Writes : Option (List ℕ) → Option (List ℕ) → Result (List ℕ) ToolError → Type 0
 Writes old new (Ok text) = Appends old new text
 Writes old new (Err e) = ⊥
 
--- a prefix of the text was added to what the writer held
+-- a prefix of the text was added to the writer's bytes
 abbrev pub WritesPrefix : Option (List ℕ) → Option (List ℕ) → Result (List ℕ) ToolError → Type 0
 WritesPrefix old new (Ok text) = AppendsPrefix old new text
 WritesPrefix old new (Err e) = ⊥

@@ -1,5 +1,5 @@
--- What settings say of a synchroniser and its crew, once they are in their ranges: this project's rule. `Plan::of` answers it
--- or refuses, and so does `transcribe`.
+-- The plan of settings, for a synchroniser and its crew, once they are in their ranges: this project's rule.
+-- `Plan::of` answers it or refuses, and so does `transcribe`.
 use Rattle.std.specs.Prelude.{◌≡◌, ◌≤◌, ◌||◌, ℕ, Err, Ok, Result, if◌then◌else◌, nat_lt, true}
 use Rattle.rds_stream.specs.Recording.{Signal, length_of}
 use Rattle.rds_sync.specs.Rules.{RuleNumbers}
@@ -27,11 +27,11 @@ pub record IsPlan (plan : PlanOf) : Type 0 where
 abbrev pub AreWorkers : ℕ → Type 0
 AreWorkers workers = (1 ≤ workers) × (workers ≤ 256)
 
--- so many workers, if they are
+-- this number of workers, if it is in the range
 abbrev pub workers_of : ℕ → Result ℕ ToolError
 workers_of workers = if nat_lt workers 1 || nat_lt 256 workers then Err CrewRange else Ok workers
 
--- what is wrong with the crew that is asked for, if anything: its workers, and then its pieces
+-- the fault of the crew that is asked for, if there is one: of its workers, and then of its pieces
 abbrev pub crew_of : Settings → Result (Unit {0}) ToolError
 crew_of settings =
     and_then (workers_of settings.workers) (λ _.

@@ -1,5 +1,5 @@
--- The numbers and names of the refusals, which of them a refusal of a layer below is, and when want of memory or of threads is
--- one: this project's rule. `ToolError::number` and `name` answer the first two.
+-- The numbers and names of the refusals; which of them a refusal of a layer below is; when refused memory or
+-- a refused thread is one: this project's rule. `ToolError::number` and `name` answer the first two.
 use Rattle.std.specs.Prelude.{◌≡◌, ◌⊎◌, ℕ, Err, List, Result, codes}
 use Rattle.rds_crew.specs.declared.error.CrewError.{CrewError}
 use Rattle.rds_crew.specs.declared.error.CrewError.TheVariants as crew
@@ -79,14 +79,14 @@ abbrev pub of_rows : RowsError → ToolError
 of_rows rows.OutOfMemory = OutOfMemory
 of_rows rows.Write = Write
 
--- memory was refused, or the error is that of what was wanted
+-- memory was refused, or the error is that of the wanted result
 abbrev pub IsMemoryOrErrOf : {T : Type 0} → Result T ToolError → ToolError → Type 0
 IsMemoryOrErrOf wanted error = (error ≡ OutOfMemory) ⊎ (wanted ≡ Err error)
 
--- the same, or a thread was not started, where there may be some
+-- the same, or a thread was not started, if there may be some
 abbrev pub IsShortageOrErrOf : {T : Type 0} → Type 0 → Result T ToolError → ToolError → Type 0
 IsShortageOrErrOf threads wanted error = (error ≡ OutOfMemory) ⊎ (((error ≡ NoWorker) × threads) ⊎ (wanted ≡ Err error))
 
--- memory was refused, which it may be in this case alone
+-- memory was refused, which it may be only in this case
 abbrev pub IsMemoryWhere : Type 0 → ToolError → Type 0
 IsMemoryWhere may_be error = (error ≡ OutOfMemory) × may_be

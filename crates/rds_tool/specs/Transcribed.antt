@@ -1,5 +1,5 @@
--- What a transcription promises of its reader, its writer and its answer. `transcribe` and `transcribe_gated` cite it, and a
--- caller relies on its fields as on clauses.
+-- The promises of a transcription, about its reader, its writer and its answer. `transcribe` and
+-- `transcribe_gated` cite it, and a caller relies on its fields as on clauses.
 use Rattle.std.specs.Prelude.{◌<◌, ◌≡◌, ◌≢◌, ◌≤◌, ◌⊎◌, ◌↔◌, ℕ, Err, IfErr, IfSome, IsErrOf, List, OnOk, Result, length, true}
 use Rattle.std.specs.Io.KnownBytes.{Consumes, IsAtEnd}
 use Rattle.rds_rows.specs.declared.sink.Sink.{Ghosts as Sink}
@@ -11,10 +11,10 @@ use Rattle.rds_tool.specs.declared.error.ToolError.{ToolError}
 use Rattle.rds_tool.specs.declared.error.ToolError.TheVariants.{NoWorker, Read, TooManyTurns, Write}
 use Rattle.rds_tool.specs.declared.job.Job.{Job}
 
--- the answer to a job, where the reader was `reader` and is now `reader'`, and the writer likewise
+-- the answer to a job, if the reader was `reader` and is now `reader'`, and the writer likewise
 pub record IsTranscribed {R W : Type 0} (source : Source R) (sink : Sink W) (job : Job) (reader reader' : R) (writer writer' : W)
     (result : Result (Unit {0}) ToolError) : Type 0 where
-  -- where it is Ok, the whole input was read, and the text that the job makes of it was written
+  -- if it is Ok, the whole input was read, and the text that the job makes of it was written
   pub end : OnOk result (IsAtEnd (source.remaining reader'))
   pub ok : OnOk result (IfSome (source.remaining reader) (λ held. Writes (sink.contents writer) (sink.contents writer') (outcome job held)))
   -- at every device: the writer took the text of the bytes that the reader gave, the reader had answered its end, and the
@@ -23,8 +23,8 @@ pub record IsTranscribed {R W : Type 0} (source : Source R) (sink : Sink W) (job
       (λ bytes. Writes (sink.contents writer) (sink.contents writer') (outcome job bytes)))
   pub ended : OnOk result (source.has_ended reader' ≡ true)
   pub flushed : OnOk result (sink.is_flushed writer' ≡ true)
-  -- a refusal for a device's sake comes exactly where one failed, one for the number of reads only where as many bytes
-  -- were read, one for a thread's only where there may be some, and another is that of the job
+  -- a refusal for a device's sake comes exactly if one failed; one for the number of reads only if as many
+  -- bytes were read; one for a thread's only if there may be some; another is that of the job
   pub read : IsErrOf result Read ↔ (source.failed reader < source.failed reader')
   pub write : IsErrOf result Write ↔ (sink.failed writer < sink.failed writer')
   pub turns : IsErrOf result TooManyTurns
@@ -38,7 +38,7 @@ pub record IsTranscribed {R W : Type 0} (source : Source R) (sink : Sink W) (job
       (λ bytes. (outcome job bytes ≡ Err error) × ((task_of job ≡ Err error) ⊎ (source.has_ended reader' ≡ true))))
   -- settings out of their range are refused as such before anything is read
   pub settings : IfErr (task_of job) (λ error. (result ≡ Err error) × (reader' ≡ reader))
-  -- what the writer has after a refusal
+  -- the writer's contents after a refusal
   pub untouched : IfErr result (λ error. error ≢ Write → writer' ≡ writer)
   pub prefix : IsErrOf result Write
       → IfSome (source.remaining reader) (λ held. WritesPrefix (sink.contents writer) (sink.contents writer') (outcome job held))

@@ -1,4 +1,4 @@
-//! A job done by the caller alone: no thread is started and none is waited for, so each call ends.
+//! A job done in the calling thread only: no thread is started and none is waited for, so each call ends.
 ghost use Rattle.std.specs.Prelude.{◌<◌, ◌^◌, ◌≡◌, ◌≢◌, ◌⊎◌, ◌↔◌, IfErr, IfOk, IsErrOf, IsOkUnless, Ok, OnOk, true};
 ghost use Rattle.std.specs.Io.KnownBytes.{Appends};
 ghost use Rattle.rds_rows.specs.Writes.{AppendsPrefix};
@@ -25,8 +25,9 @@ use rds_stream::{Counted, Recording};
 use rds_sync::{Rules, Spans, State, Totals, finish, laws, run_report};
 use std::alloc::Global;
 
-/// [`transcribe`](crate::transcribe) by the caller alone, however many workers the job asks for: what is written is the
-/// same. Nothing here waits for a thread, so the call ends if those of the reader and the writer do.
+/// [`transcribe`](crate::transcribe) in the calling thread only, however many workers the job asks for: the
+/// text that is written is the same. Nothing here waits for a thread, so the call ends if those of the reader
+/// and the writer do.
 pub fn transcribe_alone<S: Source, K: Sink>(
     alloc: Global,
     reader: &mut S,
@@ -45,7 +46,7 @@ pub fn transcribe_alone<S: Source, K: Sink>(
 }
 
 impl<'a> Task<'a> {
-    /// What the task writes of the bytes that a reader held.
+    /// The text that the task writes for the bytes that a reader held.
     fn single(self, alloc: Global, held: Vec<u8>) -> Result<Single<'a>, ToolError>
         ensures ok { IfOk result (λ text. text_of_task self.entry held.items ≡ Ok (bytes_of_single text)) }
         ensures refused { IfErr result (IsMemoryOrErrOf (text_of_task self.entry held.items)) }
@@ -151,7 +152,7 @@ fn blocks_of<'a>(alloc: Global, hex: bool, lines: &[u8]) -> Result<Single<'a>, T
 }
 
 impl Single<'_> {
-    /// Writes the whole text and flushes. Where memory is refused, nothing was written.
+    /// Writes the whole text and flushes. If memory is refused, nothing was written.
     fn write_to<K: Sink>(&self, alloc: Global, writer: &mut K) -> Result<(), ToolError>
         requires { K.failed writer.old < 2 ^ 63 }
         ensures ok { OnOk result (Appends (K.contents writer.old) (K.contents writer.new) (bytes_of_single self.now)) }

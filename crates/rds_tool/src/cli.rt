@@ -1,4 +1,4 @@
-//! A command line, as what it asks for.
+//! From a command line to the job or stream that it asks for.
 ghost use Rattle.std.specs.Prelude.{◌≡◌, ◌≢◌, ◌⊎◌, [], IfErr, IfOk, IsErrAnd, OnOk, map, string_bytes};
 ghost use Rattle.clap.specs.Kinds.{FailsBy};
 ghost use Rattle.clap.specs.Values.{kind_of};
@@ -15,12 +15,13 @@ use std::alloc::Global;
 
 const BAD_LOSS: &str = "bad --loss or --of: --of needs --share, and --loss excludes it\n";
 
-/// What a command line asks for: a job, or to follow a stream. The words begin with the program's name.
+/// Answers the request of a command line: a job, or to follow a stream. The words begin with the program's
+/// name.
 ///
-/// Else the answer is help or the version where that was asked for, or a fault where `clap` finds one in the
-/// words or neither a job nor a stream has their entries. Once `clap` finds no fault, gaps that spell none are answered by the text `bad --gaps`
-/// and a line feed, and else `--loss` beside `--share`, or `--of` without it, by a text that begins with
-/// `bad --loss or --of`. Each can be want of memory instead.
+/// Else the answer is help or the version if that was asked for, or a fault. A fault comes if `clap` finds
+/// one in the words, or neither a job nor a stream has their entries. If `clap` finds no fault but `--gaps`
+/// cannot be parsed, the text is `bad --gaps` and a line feed. Else, for `--loss` beside `--share`, or `--of`
+/// without it, the text begins with `bad --loss or --of`. If memory is refused, the fault says so instead.
 pub fn asked_of(alloc: Global, words: &[&str]) -> Result<Asked, CliFault>
     ensures entries { IfOk result (IsAskedOf (entries_of (map (λ word. word.now) words.now))) }
     ensures faultless { OnOk result (faults_of (map (λ word. word.now) words.now) ≡ []) }
@@ -43,7 +44,7 @@ pub fn asked_of(alloc: Global, words: &[&str]) -> Result<Asked, CliFault>
     }
 }
 
-/// What `clap` makes of the words.
+/// The entries that `clap` reads from the words.
 fn matches_of<'a>(alloc: Global, words: &'a [&'a str]) -> Result<ArgMatches<'a>, clap::Error>
     ensures entries { IfOk result (λ matches. subcommand_rows_of matches
         ≡ entries_of (map (λ word. word.now) words.entry.now)) }
@@ -52,7 +53,7 @@ fn matches_of<'a>(alloc: Global, words: &'a [&'a str]) -> Result<ArgMatches<'a>,
     rds_command(alloc)?.try_get_matches_from(words)
 }
 
-/// What is shown for an error of `clap`.
+/// The text that is shown for an error of `clap`.
 fn fault_of(alloc: Global, error: &clap::Error) -> CliFault
     ensures help { result.kind ≡ FaultKind.Help → kind_of error.now ≡ ErrorKind.DisplayHelp }
     ensures version { result.kind ≡ FaultKind.Version → kind_of error.now ≡ ErrorKind.DisplayVersion }
@@ -71,7 +72,7 @@ fn fault_of(alloc: Global, error: &clap::Error) -> CliFault
     }
 }
 
-/// What is shown where the words are parsed and yet ask for nothing.
+/// The text that is shown if the words are parsed and yet ask for nothing.
 fn no_job(alloc: Global, why: NoJob) -> CliFault
     ensures kind { (result.kind ≡ FaultKind.Memory) ⊎ ((result.kind ≡ FaultKind.Words) × (why ≢ NoJob.Memory)) }
     ensures gaps { why ≡ NoJob.Gaps → SaysBadGaps result }

@@ -10,10 +10,10 @@ use std::snapshot::Snapshot;
 
 /// A reader that counts its failures and tells its history.
 ///
-/// An implementor says by `given` which bytes it gave, and by `remaining` which are still to come, or `None` where no
-/// contract can name them, as for a file or a pipe.
+/// An implementor says by `given` which bytes it gave, and by `remaining` which are still to come. That is
+/// `None` if no contract can name them, as for a file or a pipe.
 pub trait Source {
-    /// The bytes that reads will give from here on, where they are known.
+    /// The bytes that reads will give from here on, if they are known.
     ghost remaining: { Self → Option (List ℕ) };
 
     /// The bytes that reads have given so far.
@@ -41,7 +41,8 @@ pub trait Source {
         ensures { result ≡ failed self.now };
 }
 
-/// A source over a reader of std, which knows the bytes to come where that reader does, and those that came at any reader.
+/// A source over a reader of std, which knows the bytes to come if that reader does, and those that came at
+/// any reader.
 ///
 /// Each error of the reader is a failure, an interruption too.
 #[derive(Drop)]
@@ -100,8 +101,8 @@ impl<R: Read> Source for FromRead<R> {
     }
 }
 
-/// A sink over a writer of std. Its contents are the bytes that the writer held at first, where that writer knows them, and
-/// then those that it took since. They are the writer's own bytes where it knows them.
+/// A sink over a writer of std. Its contents are the bytes that the writer held at first, if that writer
+/// knows them, and then those that it took since. They are the writer's own bytes if it knows them.
 ///
 /// Each error of the writer is a failure, an interruption too, and so is a write that takes no byte of
 /// some.

@@ -40,7 +40,7 @@ fn text_of_lines(alloc: Global, hex: bool, lines: &[&[u8]]) -> Result<Vec<u8>, T
     Ok(text)
 }
 
-/// What is written for one line.
+/// Writes the text for one line.
 fn push_line(text: &mut Vec<u8>, hex: bool, line: &[u8]) -> Result<(), ToolError>
     ensures ok { OnOk result ((more : List ℕ) × (line_text hex line.now ≡ Ok more) × (text.new.items ≡ text.old.items ++ more)) }
     ensures refused { IfErr result (IsMemoryOrErrOf (line_text hex line.now)) }

@@ -20,20 +20,22 @@ const CHUNK: usize = 65_536;
 
 /// Reads all bytes of the reader, does the job, writes the whole text and flushes.
 ///
-/// Where a list is asked for and the answer is `Ok`, the bytes written are the listing of the report that one decoder
-/// gives, reading bit by bit from the first: for every recording, all rules, every cutting and 1 to 256 workers, in
-/// whatever order their threads ended. The bytes are those that the reader gave and that the writer took, at every
-/// device. The listing and the report are defined over whole locks, with no word of pieces or workers.
+/// If a list is asked for and the answer is `Ok`, the bytes written are the listing of the report of one
+/// decoder. That decoder reads bit by bit from the first. This holds for every recording, all rules, every
+/// cutting and 1 to 256 workers, in whatever order their threads ended. The bytes are those that the reader
+/// gave and that the writer took, at every device. The listing and the report are defined over whole locks,
+/// with no word of pieces or workers.
 ///
-/// Refusals come in this order: those of the settings (`BurstRange`, `ReachRange`, `LossRange` or by the share
-/// `ShareRange`, `CrewRange`, and `BadCutting` for no piece), before anything is read, those of the reader (`Read`,
-/// `TooManyTurns`), those of the job and the bytes (`HexText`, `TooLong`, `BitsPastBytes`, `BadGaps`, `BadCutting`, or
-/// `GroupText`), `NoWorker`, where more than one worker is asked for and the system refused to start a thread, and those
-/// of the writer (`Write`). `OutOfMemory` may come wherever memory is taken. The rows of a list are made by as many
-/// threads as well, part by part while they are written, and without a thread that the system refuses: the items are
-/// decoded again where their rows are made, or only there by one worker, so that the recording is held until then. All
-/// room that can be refused and all threads are taken before the first byte is written, and no thread outlives the call.
-/// Reader and writer have counted fewer than 2^63 failures before. Each promise is a field of `IsTranscribed`
+/// Refusals come in this order: those of the settings (`BurstRange`, `ReachRange`, `LossRange` or by the
+/// share `ShareRange`, `CrewRange`, and `BadCutting` for no piece), before anything is read; those of the
+/// reader (`Read`, `TooManyTurns`); those of the job and the bytes (`HexText`, `TooLong`, `BitsPastBytes`,
+/// `BadGaps`, `BadCutting`, or `GroupText`); `NoWorker`, if more than one worker is asked for and the system
+/// refused to start a thread; and those of the writer (`Write`). `OutOfMemory` may come wherever memory is
+/// taken. The rows of a list are made by as many threads as well, part by part while they are written. A
+/// thread that the system refuses is done without. The items are decoded again when their rows are made, or
+/// by one worker only then, so that the recording is held until then. All room that can be refused and all
+/// threads are taken before the first byte is written, and no thread outlives the call. Reader and writer
+/// have counted fewer than 2^63 failures before. Each promise is a field of `IsTranscribed`
 /// (`specs/Transcribed.antt`).
 pub fn transcribe<R: Threads + Wait + Sync, S: Source, K: Sink>(
     rt: &R,
@@ -64,8 +66,9 @@ fn is_for_one(job: &Job) -> bool {
     }
 }
 
-/// [`transcribe`] with a gate, which the crew of a list or of totals calls round each piece and each join. A list by one
-/// worker, where no cut is asked for by its place, has no crew: its rows are written while it is decoded, in one piece.
+/// [`transcribe`] with a gate, which the crew of a list or of totals calls round each piece and each join. A
+/// list by one worker, if no cut is asked for by its place, has no crew: its rows are written while it is
+/// decoded, in one piece.
 pub fn transcribe_gated<R: Threads + Wait + Sync, S: Source, K: Sink, G: Gate + Sync>(
     rt: &R,
     alloc: Global,

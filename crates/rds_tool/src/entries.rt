@@ -1,4 +1,4 @@
-//! The entries of a parsed command line, as what they ask for.
+//! From the entries of a parsed command line to the job or stream that they ask for.
 ghost use Rattle.std.specs.Prelude.{◌≡◌, ◌⊎◌, IfErr, IfNone, IfOk, IfSome, List, None, Option, Some, codes, false, ℕ};
 ghost use Rattle.clap.specs.Words.{found_of, one_of, rows_of, subcommand_rows_of};
 ghost use Rattle.rds_sync.specs.declared.loss.Loss.{Loss};
@@ -14,7 +14,7 @@ use clap::parser::ValueSource;
 use rds_sync::{Loss, RuleNumbers};
 use std::alloc::Global;
 
-/// What a parsed command line asks for, or why that is nothing.
+/// The job or stream that a parsed command line asks for, or why there is none.
 pub fn asked_in(alloc: Global, matches: &ArgMatches<'_>) -> Result<Asked, NoJob>
     ensures asked { IfOk result (IsAskedOf (subcommand_rows_of matches.now)) }
     ensures none { IfErr result (GivesNothing (subcommand_rows_of matches.now)) }
@@ -57,7 +57,7 @@ fn asked_by(alloc: Global, name: &str, entries: &ArgMatches<'_>) -> Result<Asked
     })
 }
 
-/// The gaps are looked at first, and then the rule of loss: what is wrong with either is said.
+/// The gaps are looked at first, and then the rule of loss: a fault of either is named.
 fn ruled_in(alloc: Global, entries: &ArgMatches<'_>) -> Result<(Input, Settings), NoJob>
     ensures ruled { IfOk result (λ ruled. IsInput (rows_of (found_of entries.now)) ruled.0
         × AreSettings (rows_of (found_of entries.now)) ruled.1) }
@@ -164,7 +164,7 @@ fn is_given(entries: &ArgMatches<'_>, name: &str) -> bool
     }
 }
 
-/// The rule of loss: by the share, where there is one, or else by the number in a row.
+/// The rule of loss: by the share, if there is one, or else by the number in a row.
 fn loss_in(entries: &ArgMatches<'_>) -> Option<Loss>
     ensures loss { IfSome result (SpellsLoss (rows_of (found_of entries.now))) }
     ensures none { IfNone result ((loss : Loss) → SpellsLoss (rows_of (found_of entries.now)) loss → ⊥) }

@@ -59,7 +59,7 @@ pub enum ToolError {
     /// The share is not 1 ≤ bad ≤ of ≤ 64.
     #[error("the share is not 1 to 64 bad blocks of as many or more, up to 64")]
     ShareRange,
-    /// The gaps don't lie in order among the bits, or one of them has no place.
+    /// A gap is empty, out of order or past the end.
     #[error("the gaps are none that the recording may have")]
     BadGaps,
 }

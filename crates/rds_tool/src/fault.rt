@@ -17,12 +17,12 @@ pub enum FaultKind {
     Memory,
 }
 
-/// What to show in place of doing what was asked for.
+/// The text to show instead of doing a job.
 #[derive(Debug, Drop)]
 pub struct CliFault {
-    /// Whether that is what was asked for, or why the words were refused.
+    /// Whether that text was asked for, or why the words were refused.
     pub kind: FaultKind,
-    /// The text to show, its line ends included. It is empty where memory was refused.
+    /// The text to show, its line ends included. It is empty if memory was refused.
     pub text: String,
 }
 

@@ -67,7 +67,7 @@ impl Field {
         }
     }
 
-    /// The same, and the burst that was taken off.
+    /// The same, and the burst that was corrected.
     #[inline(always)]
     fn of_corrected(offset: Offset, info: u16, burst: u32) -> Field
         ensures { result ≡ word_text offset info ++ 126 ∷ hex_digits 7 burst }

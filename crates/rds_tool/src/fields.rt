@@ -99,7 +99,7 @@ fn push_group<P: Pen>(pen: &mut P, group: &Group) -> Result<(), ToolError>
     pen.push_row(fields.as_slice())
 }
 
-/// A group's type, where it is known.
+/// A group's type, if it is known.
 fn kind_digits(kind: Option<u8>, digits: &mut Buffer) -> &[u8]
     ensures value { result.now ≡ kind_text kind }
     ensures plain { IsPlain result.now }

@@ -27,23 +27,23 @@ use std::alloc::Global;
 /// How many bytes a read asks for at most.
 const CHUNK: usize = 65_536;
 
-/// How many bytes of rows a byte of a sound station gives: a group of 13 bytes has a row of some 50.
+/// How many bytes of rows one byte of a sound station gives: a group of 13 bytes has a row of some 50.
 const ROWS_A_BYTE: usize = 4;
 
-/// Follows a stream by these rules, from the reader's next byte to its end, the highest bit of a byte first: after each
-/// read it writes and flushes the rows that are complete, and at the end of input the rest of the listing. What was
-/// written then is, byte by byte, what a list makes of all that was read. That rows are written so is this project's
-/// rule.
+/// Follows a stream by these rules, from the reader's next byte to its end, the highest bit of a byte first:
+/// after each read it writes and flushes the rows that are complete, and at the end of input the rest of the
+/// listing. The text that was written then is, byte by byte, that of a list of all bytes that were read. That
+/// rows are written so is this project's rule.
 ///
-/// With `bits` the stream ends behind so many, in the middle of a byte too: no byte behind theirs is read. The gaps are
-/// those of [`Input`](crate::Input). A read that gives less than was asked for is decoded as it is, so no row waits for bits
-/// behind it. Of a stream no more is kept than the last read.
+/// With `bits` the stream ends after that number of bits, in the middle of a byte too: no byte after theirs
+/// is read. The gaps are those of [`Input`](crate::Input). A read that gives less than was asked for is
+/// decoded as it is, so no row waits for bits after it. Of a stream no more is kept than the last read.
 ///
-/// Refusals: `TooLong` past 2^36 bits, before anything is read where `bits` says so, `BitsPastBytes` where the input ends
-/// before `bits`, `BadGaps`, before anything is read where no recording may have such gaps, and else at the end, `Read` and
-/// `Write` where a device failed, and `OutOfMemory`. None takes back what was written: whole rows of all that was read but the
-/// last read, and, where the writer failed, a beginning of what comes next. Reader and writer have counted fewer than 2^63
-/// failures before.
+/// Refusals: `TooLong` past 2^36 bits, before anything is read if `bits` says so; `BitsPastBytes` if the
+/// input ends before `bits`; `BadGaps`, before anything is read if no recording may have such gaps, and else
+/// at the end; `Read` and `Write` if a device failed; and `OutOfMemory`. None takes back the text that was
+/// written: whole rows of all bytes that were read but the last read, and, if the writer failed, a beginning
+/// of the text that comes next. Reader and writer have counted fewer than 2^63 failures before.
 pub fn follow<S: Source, K: Sink>(
     alloc: Global,
     reader: &mut S,
@@ -55,13 +55,13 @@ pub fn follow<S: Source, K: Sink>(
     requires reads { S.failed reader.old < 2 ^ 63 }
     requires writes { K.failed writer.old < 2 ^ 63 }
 
-    // As much was read as counts, and what a list makes of it was written.
+    // Just the bytes that count were read, and the text that a list makes of them was written.
     ensures end { OnOk result (IsReadAsFar bits (S.remaining reader.old) (S.remaining reader.new)) }
     ensures ok { OnOk result (IfSome (S.remaining reader.old) (λ held. Writes (K.contents writer.old) (K.contents writer.new)
         (listed (record { rules = rules.now; gaps = gaps.now }) bits held))) }
 
-    // A refusal for a device's sake comes exactly where it failed, one for the length only where so much was claimed or read,
-    // or so little, and one for the gaps only where the recording has none such.
+    // A refusal for a device's sake comes exactly if it failed. One for the length comes only if too much was
+    // claimed or read, or too little was read. One for the gaps comes only if the recording can't have them.
     ensures read { IsErrOf result ToolError.Read ↔ (S.failed reader.old < S.failed reader.new) }
     ensures write { IsErrOf result ToolError.Write ↔ (K.failed writer.old < K.failed writer.new) }
     ensures too_long { IsErrOf result ToolError.TooLong → IsTooLong bits (S.remaining reader.old) (S.remaining reader.new) }
@@ -70,7 +70,7 @@ pub fn follow<S: Source, K: Sink>(
         ⊎ IfSome (S.remaining reader.old) (λ held. AreGaps (claimed bits held) gaps.now → ⊥) }
     ensures refused { IfErr result MayBreakOff }
 
-    // What the writer has after a refusal.
+    // The writer's contents after a refusal.
     ensures between { IfErr result (λ error. error ≢ ToolError.Write → StopsBetweenRows (record { rules = rules.now; gaps = gaps.now }) bits
         (S.remaining reader.old) (S.remaining reader.new) (K.contents writer.old) (K.contents writer.new)) }
     ensures within { IsErrOf result ToolError.Write → StopsInRows (record { rules = rules.now; gaps = gaps.now }) bits
@@ -139,8 +139,8 @@ fn follow_bytes<'r, S: Source, K: Sink>(
     Ok(live)
 }
 
-/// A decoder that has heard nothing yet, of a stream that may have so many bits and these gaps, with room for a read and for
-/// the items that are complete at once.
+/// A decoder that has heard nothing yet, of a stream that may have `bits` bits and these gaps. There is room
+/// for a read and for the items that are complete at once.
 fn begin<'r>(
     alloc: Global,
     rules: &'r Rules,
@@ -173,7 +173,7 @@ fn check_claim(bits: Option<u64>) -> Result<(), ToolError>
     }
 }
 
-/// How many bytes the next read may ask for: none where no whole byte is left of the bits that count.
+/// How many bytes the next read may ask for: none if no whole byte is left of the bits that count.
 fn room_before_end(bits: Option<u64>, place: u64) -> usize
     requires { IsPlaceOf bits place }
     ensures few { result ≤ 65536 }
@@ -186,7 +186,7 @@ fn room_before_end(bits: Option<u64>, place: u64) -> usize
     }
 }
 
-/// How many bits are left behind the place, where so many are claimed.
+/// How many of the claimed bits are left after the place.
 fn bits_left(bits: Option<u64>, place: u64) -> u64
     requires { IsPlaceOf bits place }
     ensures { result ≡ the_bits_left bits place }
@@ -197,7 +197,7 @@ fn bits_left(bits: Option<u64>, place: u64) -> u64
     }
 }
 
-/// One read of so many bytes at most, and none where that is 0. Answers how many bytes it gave.
+/// One read of at most `room` bytes, and none if that is 0. Answers how many bytes it gave.
 fn read_once<S: Source>(reader: &mut S, buf: &mut [u8], room: usize) -> Result<usize, ToolError>
     requires count { S.failed reader.old < 2 ^ 63 }
     requires room { 0 < length buf.old }
@@ -222,7 +222,8 @@ fn read_once<S: Source>(reader: &mut S, buf: &mut [u8], room: usize) -> Result<u
     }
 }
 
-/// Reads the byte of the bits that are left, where there are some. Answers how many bytes it gave, which hold them.
+/// Reads the byte of the bits that are left, if there are some. Answers how many bytes it gave, which hold
+/// them.
 fn read_last<S: Source>(reader: &mut S, last: &mut [u8], left: u64) -> Result<usize, ToolError>
     requires count { S.failed reader.old < 2 ^ 63 }
     requires room { length last.old ≡ 1 }
@@ -342,8 +343,8 @@ fn push_rows(
     Ok(count)
 }
 
-/// The rest of a listing: the rows that so many bits of these bytes complete, of the group in progress behind them, if there
-/// is one, and of the totals.
+/// The rest of a listing: the rows that the first `bits` bits of these bytes complete, that of the group in
+/// progress after them, if any, and those of the totals.
 fn rows_of_rest(
     alloc: Global,
     live: Live<'_>,
@@ -380,7 +381,8 @@ fn rows_to_end(alloc: Global, items: &[Item], end: &StreamEnd) -> Result<Vec<u8>
     text_of_rows(rows)
 }
 
-/// The same, behind the rows that stand: at the end are the row of the group in progress, if there is one, and those of the totals.
+/// The same, after the rows already there: at the end are the row of the group in progress, if there is one,
+/// and those of the totals.
 fn push_to_end(rows: &mut CsvRows, items: &[Item], end: &StreamEnd) -> Result<(), ToolError>
     requires { IsBetween rows.old }
     ensures between { OnOk result (IsBetween rows.new) }

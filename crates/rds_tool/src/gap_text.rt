@@ -10,7 +10,7 @@ use std::alloc::{AllocError, Global};
 /// The most digits of a place: two more than the longest recording needs.
 const MOST_DIGITS: usize = 12;
 
-/// The gaps that a text spells: pairs `from-to`, with a comma between each two. None where it spells none.
+/// The gaps that a text spells: pairs `from-to`, with a comma between each two. None if it spells none.
 pub fn gaps_of(alloc: Global, text: &str) -> Result<Option<Vec<(u64, u64)>>, AllocError>
     ensures { IfOk result (λ gaps. option_map (λ g. g.items) gaps ≡ the_gaps_of text.now) }
 {

@@ -1,4 +1,4 @@
-//! From the bytes that a reader held to the recording that they stand for.
+//! From the bytes that a reader held to the recording that they denote.
 ghost use Rattle.std.specs.Prelude.{◌≡◌, IfErr, IfOk, Ok};
 ghost use Rattle.rds_tool.specs.Input.{decoded, first_bits as the_first_bits, is_blank as blank, recording_of as the_recording_of};
 ghost use Rattle.rds_tool.specs.Refusals.{IsMemoryOrErrOf};
@@ -36,7 +36,7 @@ pub fn recording_of(alloc: Global, input: Input, held: Vec<u8>) -> Result<Record
     first_bits(bytes, bits.unwrap_or(all), gaps)
 }
 
-/// So many of the first bits, with these gaps.
+/// The first `bits` bits, with these gaps.
 fn first_bits(bytes: Vec<u8>, bits: u64, gaps: Vec<(u64, u64)>) -> Result<Recording, ToolError>
     ensures { result ≡ the_first_bits bits gaps.items bytes.items }
 {

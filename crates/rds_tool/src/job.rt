@@ -1,4 +1,4 @@
-//! What is asked for.
+//! Jobs, and the other requests of a command line.
 ghost use Rattle.std.specs.Cmp.{partial_equiv_from_equiv};
 ghost use Rattle.rds_tool.specs.InputOf.{says_same, says_same_equiv};
 
@@ -14,9 +14,9 @@ pub struct Input {
     /// How many bits the recording has; without it, all those of its bytes. More than 2^36 is refused as `TooLong`, more
     /// than the bytes hold as `BitsPastBytes`.
     pub bits: Option<u64>,
-    /// The gaps in the recording: ranges of places whose bits mean nothing, each from its first number to before its second.
-    /// Each has a place, lies below the number of bits, and begins at or after the end of the one before it. Anything else is
-    /// refused as `BadGaps`.
+    /// The gaps in the recording: ranges of places whose bits mean nothing, each from its first number to
+    /// before its second. Each has a place, is below the number of bits, and begins at or after the end of
+    /// the one before it. Anything else is refused as `BadGaps`.
     pub gaps: Vec<(u64, u64)>,
 }
 
@@ -45,10 +45,11 @@ impl Eq for Input {
 /// Where a recording is cut into pieces. The listing doesn't depend on it.
 #[derive(Debug, PartialEq, Eq, Drop)]
 pub enum Cuts {
-    /// At most so many pieces, of one length but for the last. `Even(0)` is refused as `BadCutting`.
+    /// At most this number of pieces, of one length but for the last. `Even(0)` is refused as `BadCutting`.
     Even(u64),
-    /// The places of the cuts: a cut at place p lies before bit p. They rise strictly, above 0 and below the number of
-    /// bits, so a recording of at most one bit has none. Anything else is refused as `BadCutting`.
+    /// The places of the cuts: a cut at place p is just before bit p. They rise strictly, above 0 and below
+    /// the number of bits, so a recording of at most one bit has none. Anything else is refused as
+    /// `BadCutting`.
     At(Vec<u64>),
 }
 
@@ -60,8 +61,8 @@ pub struct Settings {
     pub burst: u32,
     /// How many blocks back an acquiring block looks for another that fits it: 1 to 8.
     pub reach: u32,
-    /// When a lock is lost: after 1 to 64 blocks in a row that are not valid, or where `bad` of the last `of` are not, with
-    /// 1 ≤ bad ≤ of ≤ 64.
+    /// When a lock is lost: after 1 to 64 blocks in a row that are not valid, or when `bad` of the last `of`
+    /// are not, with 1 ≤ bad ≤ of ≤ 64.
     pub loss: Loss,
     /// By how many threads at most the pieces are decoded, and the rows of a list made: 1 to 256. The listing doesn't depend
     /// on it.
@@ -70,15 +71,15 @@ pub struct Settings {
     pub cuts: Cuts,
 }
 
-/// What is to be made of the bytes that a reader holds.
+/// The task for the bytes that a reader holds.
 #[derive(Debug, PartialEq, Eq, Drop)]
 pub enum Job {
-    /// A row for each valid window of a recording: its place and its offset. The rows are made by so many threads at most,
-    /// 1 to 256 as [`Settings::workers`], and don't depend on it.
+    /// A row for each valid window of a recording: its place and its offset. The rows are made by at most
+    /// this number of threads, 1 to 256 as for [`Settings::workers`], and don't depend on it.
     Scan(Input, u32),
     /// A row for each item of the recording's report, in the order of the bits that complete them, and then its twelve totals.
     List(Input, Settings),
-    /// The twelve totals alone.
+    /// Only the twelve totals.
     Totals(Input, Settings),
     /// The blocks of groups that are given as lines of sixteen hexadecimal digits, four words each;
     /// spaces, tabs and carriage returns don't count, and empty lines are skipped. A group is 13 bytes,
@@ -86,12 +87,12 @@ pub enum Job {
     Encode { hex: bool },
 }
 
-/// What a command line asks for.
+/// The request of a command line.
 #[derive(Debug, PartialEq, Eq, Drop)]
 pub enum Asked {
-    /// A job, and whether the program is to tell how far it is. What the job makes doesn't depend on it.
+    /// A job, and whether the program is to tell how far it is. The job's text doesn't depend on it.
     Job { job: Job, progress: bool },
-    /// To follow a stream by these rules, each in the range that [`Settings`] has for it. What comes is the bytes themselves,
-    /// so `hex` is off.
+    /// To follow a stream by these rules, each in the range that [`Settings`] has for it. The input is the
+    /// bytes themselves, so `hex` is off.
     Follow(Input, RuleNumbers),
 }

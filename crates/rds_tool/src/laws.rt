@@ -1,5 +1,5 @@
-//! The laws of jobs, over the definitions alone. Each function here does nothing: its contract is a law,
-//! which the check of this crate proves, and which a proof above it may cite.
+//! The laws of jobs, over only the definitions. Each function here does nothing: its contract is a law, which
+//! the check of this crate proves, and which a proof above it may cite.
 
 ghost use Rattle.rds_tool.specs.Laws.{EncodedGroupsAreListed, EncodedGroupsAreTaken, ListsEndWithTotals, StreamsAreListed};
 
@@ -16,12 +16,12 @@ pub fn encoded_groups_are_listed()
     laws::packed_groups_are_sent();
 }
 
-/// Following a stream makes of its bytes what a list makes of them, by any plan.
+/// Following a stream makes the same text of its bytes as a list, by any plan.
 pub fn streams_are_listed()
     ensures { StreamsAreListed }
 {}
 
-/// The totals alone are the end of the list.
+/// The text of only the totals is the end of the list.
 pub fn lists_end_with_totals()
     ensures { ListsEndWithTotals }
 {}

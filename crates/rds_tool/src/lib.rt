@@ -1,8 +1,9 @@
-//! The tool behind the program `rds`: words ask for a job, and a job makes text of what a reader holds.
+//! The library of the program `rds`: words ask for a job, and a job makes text of the bytes that a reader
+//! holds.
 //!
-//! A job lists the valid windows of a recording, the items of its report, or the totals alone, or encodes groups. It is
-//! told which bits the recording has and which gaps are in them, by which rules it is decoded, in which pieces, and by
-//! how many workers.
+//! A job lists the valid windows of a recording, the items of its report, or only the totals, or encodes
+//! groups. It is told which bits the recording has and which gaps are in them. It is also told by which rules
+//! it is decoded, in which pieces, and by how many workers.
 //!
 //! # Example
 //!
@@ -16,72 +17,74 @@
 //!
 //! # What there is
 //!
-//! - [`asked_of`]: what a command line asks for, a [`Job`] or to follow a stream, or a [`CliFault`].
-//! - [`Job`], of [`Input`], [`Settings`], [`Cuts`] and [`Loss`]: what is asked for.
-//! - [`transcribe`]: reads all bytes of a [`Source`], works, by threads where there are pieces and workers for them,
-//!   and writes the whole text to a [`Sink`]. [`transcribe_gated`] is the same with a gate, by which a caller hears of
-//!   the workers. [`transcribe_alone`] starts no thread and waits for none.
+//! - [`asked_of`]: the request of a command line, a [`Job`] or to follow a stream, or a [`CliFault`].
+//! - [`Job`], made of [`Input`], [`Settings`], [`Cuts`] and [`Loss`]: the job that is asked for.
+//! - [`transcribe`]: reads all bytes of a [`Source`], works, by threads if there are pieces and workers for
+//!   them, and writes the whole text to a [`Sink`]. [`transcribe_gated`] is the same with a gate, by which a
+//!   caller hears of the workers. [`transcribe_alone`] starts no thread and waits for none.
 //! - [`follow`]: the same listing of a stream, row by row as its bytes come.
 //! - [`FromRead`] and [`ToWrite`]: a source and a sink of a reader and a writer of std.
 //! - [`ToolError`]: the refusals 1 to 16.
 //!
 //! # What callers may rely on
 //!
-//! - Where `transcribe` answers `Ok`, the bytes that the writer took are the text that the job makes of the bytes that the
-//!   reader gave, the reader had answered its end, and the last call of the writer was a flush that succeeded. That holds
-//!   at every reader and writer. If the reader tells the bytes to come, as one over memory does, they are those. Of a `List`
-//!   the text is the listing of the report of the recording, lock by lock, for every cutting and any number of workers;
-//!   `specs/Outcome.antt` says it for each job.
-//! - Each refusal is a [`ToolError`] and comes where it should: `Read` and `Write` exactly where a call of the device
-//!   failed, settings out of their range before anything is read, `NoWorker` only where more than one worker is asked
-//!   for. `TooManyTurns` comes only after 16,777,216 bytes were given, and any other but `OutOfMemory` exactly where the
-//!   job and the bytes given call for it: `BadGaps`, for gaps that are empty, out of order or past the bits, after
-//!   `TooLong` and `BitsPastBytes`, and before `BadCutting`.
+//! - If `transcribe` answers `Ok`, the bytes that the writer took are the text that the job makes of the
+//!   bytes that the reader gave. The reader had answered its end, and the last call of the writer was a flush
+//!   that succeeded. That holds at every reader and writer. If the reader tells the bytes to come, as one
+//!   over memory does, they are those. Of a `List` the text is the listing of the report of the recording,
+//!   lock by lock, for every cutting and any number of workers; `specs/Outcome.antt` says it for each job.
+//! - Each refusal is a [`ToolError`] and comes when it should: `Read` and `Write` exactly if a call of the
+//!   device failed, settings out of their range before anything is read, `NoWorker` only if more than one
+//!   worker is asked for. `TooManyTurns` comes only after 16,777,216 bytes were given, and any other but
+//!   `OutOfMemory` exactly if the job and the bytes given call for it: `BadGaps`, for gaps that are empty,
+//!   out of order or past the bits, after `TooLong` and `BitsPastBytes`, and before `BadCutting`.
 //! - After any refusal but `Write` the writer is as it was; after `Write` it took a prefix of the text.
-//! - Where `follow` answers `Ok`, the bytes that the writer took are the listing of those that the reader gave, and the last
-//!   call was a flush that succeeded. Whenever it is refused, the rows of all that was given but the last read were taken,
-//!   each once. Where a read fails, the rows of all bytes before it were taken and flushed.
-//! - Where `asked_of` answers `Ok`, what is asked for holds the entries that `clap` read, defaults too, and its gaps are
-//!   the pairs that `--gaps` spells. Where it answers a fault, it is help or the version that was asked for, or `clap`
+//! - If `follow` answers `Ok`, the bytes that the writer took are the listing of those that the reader gave.
+//!   The last call was a flush that succeeded. Whenever it is refused, the rows of all that was given but the
+//!   last read were taken, each once. If a read fails, the rows of all bytes before it were taken and
+//!   flushed.
+//! - If `asked_of` answers `Ok`, the request holds the entries that `clap` read, defaults too, and its gaps
+//!   are the pairs that `--gaps` spells. If it answers a fault, help or the version was asked for, or `clap`
 //!   finds a fault in the words, or neither a job nor a stream has their entries, or memory was refused.
 //!
 //! # What it leaves to others
 //!
-//! What a block, a recording and a report are is said below, in `rds_code`, `rds_stream` and `rds_sync`. No contract
-//! says when memory or a thread is refused, that workers run at the same time, that a [`ToWrite`] flushes its writer
-//! (std says nothing of what a flush does), what a file or a pipe holds, or what the texts of help, version and faults
-//! are: these are for tests.
+//! The crates `rds_code`, `rds_stream` and `rds_sync` say what a block, a recording and a report are. No
+//! contract says when memory or a thread is refused, or that workers run at the same time. None says that a
+//! [`ToWrite`] flushes its writer: std does not define the effect of a flush. Nor does one say which bytes a
+//! file or a pipe holds, or which texts help, version and faults have. These are for tests.
 #![tactic(auto)]
 
-// In the order of reading: the command line, a job on its way from a reader to a writer, its rows, and what has another way.
-mod cli; // A command line, as what it asks for.
+// In the order of reading: the command line, a job on its way from a reader to a writer, its rows, and the
+// jobs that go another way.
+mod cli; // From a command line to its request.
 mod commands; // The commands and their options.
 mod help; // Their texts.
-mod entries; // What a parsed command line holds.
+mod entries; // The entries of a parsed command line.
 mod fault; // Why it asks for nothing.
 mod gap_text; // Gaps as a command line names them.
-mod job; // What is asked for.
+mod job; // The jobs that can be asked for.
 mod engine; // From a reader to a writer.
-mod alone; // The same by the caller alone.
+mod alone; // The same in the calling thread only.
 mod devices; // The two ends of that.
-mod task; // A job whose settings were looked at, and what it writes.
-mod making; // From a job to its task, and on to what that writes.
+mod task; // A job whose settings were looked at, and the text that it writes.
+mod making; // From a job to its task, and on to its text.
 mod plan; // Rules, workers and pieces.
 mod input; // From bytes to a recording.
 mod one_pass; // A list by one worker, written while it is decoded.
-mod text; // What a task writes.
+mod text; // The text that a task writes.
 mod listing_rows; // The rows of a report, from any on.
 mod window_rows; // Those of a scan.
 mod listing; // The rows of a list of items.
 mod fields; // The fields of each row.
 mod field; // Those that are put together on the stack.
-mod pen; // What a row is written with.
+mod pen; // Writers of rows of plain fields.
 mod rows; // Rows that `csv` writes.
 mod line; // A row on the stack.
 mod encode; // Groups from lines of digits.
 mod following; // From a reader to a writer, as the bytes come.
 mod error; // Why a transcription is refused.
-pub mod laws; // What holds of jobs and what they write.
+pub mod laws; // The laws of jobs and their texts.
 
 pub use alone::transcribe_alone;
 pub use cli::asked_of;

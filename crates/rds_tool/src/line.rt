@@ -5,7 +5,7 @@ use crate::ToolError;
 use crate::pen::Pen;
 use std::marker::Model;
 
-/// How many bytes the longest row has: eight fields of at most 20 bytes, each with one byte behind it.
+/// How many bytes the longest row has: eight fields of at most 20 bytes, each with one byte after it.
 pub const LONGEST_ROW: usize = 168;
 
 /// A row, joined without `csv`. Clauses see its bytes.

@@ -15,7 +15,7 @@ use std::alloc::Global;
 /// How many bytes the row of a whole group has, of a recording of a day or so.
 const USUAL_ROW: usize = 49;
 
-/// How many items are decoded at once where their rows are made again.
+/// How many items are decoded at once when their rows are made again.
 const PART: usize = 256;
 
 /// The rows of valid windows.
@@ -31,7 +31,7 @@ pub fn window_rows(alloc: Global, windows: &[(u64, Offset)]) -> Result<Vec<u8>, 
     text_of_rows(rows)
 }
 
-/// What items are made from: the recording that they name, and the rules.
+/// The source of items: the recording that they name, and the rules.
 #[derive(Clone, Copy)]
 pub struct Heard<'a> {
     pub recording: &'a Recording,
@@ -51,7 +51,8 @@ impl<'a> Heard<'a> {
     }
 }
 
-/// The rows of the items from one number up to another, in the memory of `spare`, or in more where that is too little.
+/// The rows of the items from one number up to another, in the memory of `spare`, or in more if that is too
+/// little.
 pub fn item_rows<'a>(
     alloc: Global,
     spare: Vec<u8>,
@@ -109,7 +110,7 @@ pub fn rows_of_items(alloc: Global, items: &[Item]) -> Result<Vec<u8>, ToolError
     text_of_rows(rows)
 }
 
-/// The rows of these items, behind those that stand.
+/// Appends the rows of these items.
 pub fn push_items(rows: &mut CsvRows, items: &[Item]) -> Result<(), ToolError>
     requires between { IsBetween rows.old }
     ensures between { OnOk result (IsBetween rows.new) }
@@ -144,7 +145,7 @@ pub fn named_rows(alloc: Global, totals: &[(&'static str, u64)]) -> Result<Vec<u
     text_of_rows(rows)
 }
 
-/// A row for each of these totals, behind those that stand.
+/// Appends a row for each of these totals.
 pub fn push_named(rows: &mut CsvRows, totals: &[(&'static str, u64)]) -> Result<(), ToolError>
     requires between { IsBetween rows.old }
     requires plain { All (λ total. IsPlain total.0.now) totals.now }

@@ -31,8 +31,8 @@ pub struct ListingRows<'a> {
 impl<'a> ListingRows<'a> {
     ghost use Rattle.rds_tool.specs.Inside.Rows.{rows_of_report};
 
-    /// The rows of this report of what was heard. Takes memory for an index of its items. Refuses more rows than can be
-    /// numbered, as want of memory.
+    /// The rows of this report of the bits that were heard. Takes memory for an index of its items. More rows
+    /// than can be numbered are refused as if memory were refused.
     pub fn new(
         alloc: Global,
         heard: Heard<'a>,
@@ -75,8 +75,8 @@ impl<'a> ListingRows<'a> {
         }
     }
 
-    /// The same rows, joined without `csv`: it answers an error only where memory is refused for them, and a row that is
-    /// asked for here can't be refused.
+    /// The same rows, joined without `csv`: it answers an error only if memory is refused for them, and a row
+    /// that is asked for here can't be refused.
     fn fill_joined(&self, from: usize, to: usize, sheet: &mut Sheet)
         requires order { from ≤ to }
         requires inside { to ≤ length self.now.items.list }

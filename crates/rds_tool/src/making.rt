@@ -1,4 +1,4 @@
-//! From a job to its task, and on to what that makes of the bytes that a reader held.
+//! From a job to its task, and on to the text that it makes of the bytes that a reader held.
 ghost use Rattle.std.specs.Prelude.{◌<◌, ◌≡◌, Err, IfErr, IfOk, Ok, true};
 ghost use Rattle.rds_tool.specs.Cuts.{cuts_any};
 ghost use Rattle.rds_tool.specs.Listing.{report_text, totals_text};
@@ -46,7 +46,7 @@ impl<'a> Task<'a> {
         }
     }
 
-    /// What the task writes of the bytes that a reader held. A crew calls the gate.
+    /// The text that the task writes for the bytes that a reader held. A crew calls the gate.
     pub fn text<R: Threads + Wait + Sync, G: Gate + Sync>(
         self,
         rt: &R,
@@ -127,8 +127,8 @@ fn report_of<'a, R: Threads + Wait, G: Gate + Sync>(
     Ok(Text::Listing(listing))
 }
 
-/// The report of the recording that the bytes give. Its items are decoded again where their rows are made, so the
-/// recording goes with it.
+/// The report of the recording that the bytes give. Its items are decoded again when their rows are made, so
+/// the recording goes with it.
 fn listing_of<'a, R: Threads + Wait, G: Gate + Sync>(
     rt: &R,
     alloc: Global,

@@ -1,4 +1,4 @@
-//! A report that is written while it is decoded, by one worker.
+//! A report that one worker decodes and writes at the same time.
 ghost use Rattle.std.specs.Prelude.{◌+◌, ◌++◌, ◌*◌, ◌<◌, ◌^◌, ◌≡◌, ◌≤◌, ◌↔◌, [], IfOk, IsErrOf, OnErr, OnOk, length, vec_capacity};
 ghost use Rattle.std.specs.Io.KnownBytes.{Appends};
 ghost use Rattle.std.specs.List.{flat_map};
@@ -152,8 +152,8 @@ fn write_part<K: Sink>(
     }
 }
 
-/// Writes the last rows: of the group in progress, where the run ended so and there is one, and of all totals, these being
-/// those of the items before.
+/// Writes the last rows: of the group in progress, if the run ended so and there is one, and of all totals,
+/// these being those of the items before.
 fn write_end<K: Sink>(
     alloc: Global,
     recording: &Recording,
@@ -184,7 +184,7 @@ fn write_end<K: Sink>(
     write_totals(alloc, &all, sheet, writer)
 }
 
-/// The group in progress, where the run ended so and there is one.
+/// The group in progress, if the run ended so and there is one.
 fn group_at_end(recording: &Recording, rules: &Rules, end: State) -> Option<Group>
     requires { IsLawful rules.now (length_of recording.now) end }
     ensures { group_item result ≡ items_of_end recording.now rules.now end }
@@ -230,7 +230,7 @@ fn write_totals<K: Sink>(
     }
 }
 
-/// The rows of these items, joined without `csv`, which answers an error where memory is refused for them.
+/// The rows of these items, joined without `csv`, which answers an error if memory is refused for them.
 fn fill_joined(items: &[Item], sheet: &mut Sheet)
     requires room { length items.now ≤ left_of sheet.old }
     requires longest { (size_of sheet.old).1 ≡ 168 }

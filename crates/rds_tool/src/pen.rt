@@ -1,4 +1,4 @@
-//! What a row of plain fields is written with.
+//! Writers of rows of plain fields.
 ghost use Rattle.std.specs.Prelude.{◌+◌, ◌++◌, ◌≡◌, ◌≤◌, IfErr, List, OnOk, length, map, ℕ};
 ghost use Rattle.std.specs.List.{AllByRecursion};
 ghost use Rattle.rds_tool.specs.Listing.{row};
@@ -7,9 +7,9 @@ ghost use Rattle.rds_tool.specs.Refusals.{IsMemoryWhere};
 
 use crate::ToolError;
 
-/// What rows are written with: `csv`, or one that is never refused.
+/// A writer of rows: `csv`, or one that is never refused.
 pub trait Pen {
-    /// What was written.
+    /// The text that was written.
     ghost text: { Self → List ℕ };
 
     /// It can write a row.

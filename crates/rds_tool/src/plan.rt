@@ -22,7 +22,7 @@ use std::thread::Threads;
 impl Workers {
     ghost use Rattle.rds_tool.specs.Plans.{workers_of};
 
-    /// So many workers, or `CrewRange` where they are not 1 to 256.
+    /// This number of workers, or `CrewRange` if it is not 1 to 256.
     pub fn of(workers: u32) -> Result<Workers, ToolError>
         ensures { result ≡ workers_of workers }
     {
@@ -152,7 +152,7 @@ pub fn check_cuts(alloc: Global, plan: &Plan<'_>, recording: &Recording) -> Resu
     check_places(alloc, plan.cuts, recording.len())
 }
 
-/// Refuses cuts at places that so many bits don't have. Cuts into pieces of one length fit any number of bits.
+/// Refuses cuts at places that `len` bits don't have. Cuts into pieces of one length fit any number of bits.
 fn check_places(alloc: Global, cuts: &Cuts, len: u64) -> Result<(), ToolError>
     ensures fits { OnOk result (cuts_bits cuts.now len ≡ true) }
     ensures refused { IfErr result (λ error. (error ≡ ToolError.OutOfMemory)
@@ -167,7 +167,7 @@ fn check_places(alloc: Global, cuts: &Cuts, len: u64) -> Result<(), ToolError>
     }
 }
 
-/// The cutting of so many bits.
+/// The cutting of `len` bits.
 fn cutting_of(alloc: Global, cuts: &Cuts, len: u64) -> Result<Cutting, ToolError>
     requires { has_pieces cuts.now ≡ true }
     ensures cutting { IfOk result (λ cutting. IsCutting len cutting) }
@@ -181,7 +181,7 @@ fn cutting_of(alloc: Global, cuts: &Cuts, len: u64) -> Result<Cutting, ToolError
     }
 }
 
-/// The cutting of so many bits at these inner cuts.
+/// The cutting of `len` bits at these inner cuts.
 fn cutting_at(alloc: Global, cuts: &[u64], len: u64) -> Result<Cutting, ToolError>
     ensures cutting { IfOk result (λ cutting. IsCutting len cutting) }
     ensures fits { OnOk result (are_inner len cuts.now ≡ true) }

@@ -10,7 +10,7 @@ use std::alloc::Global;
 /// A writer of rows into memory.
 pub type CsvRows = Writer<Vec<u8>>;
 
-/// No row yet, and room for so many bytes of rows. There may be more bytes than that.
+/// No row yet, and room for `room` bytes of rows. There may be more bytes than that.
 pub fn rows_in_room(alloc: Global, room: usize) -> Result<CsvRows, ToolError>
     ensures between { IfOk result IsBetween }
     ensures text { IfOk result (λ rows. text_of rows ≡ []) }
@@ -19,7 +19,7 @@ pub fn rows_in_room(alloc: Global, room: usize) -> Result<CsvRows, ToolError>
     rows_over(Vec::new(alloc), room)
 }
 
-/// The same, in the memory of this vector, which takes more where it has not room enough.
+/// The same, in the memory of this vector, which takes more if it has not room enough.
 pub fn rows_over(spare: Vec<u8>, room: usize) -> Result<CsvRows, ToolError>
     requires { spare.items ≡ [] }
     ensures between { IfOk result IsBetween }

@@ -1,4 +1,4 @@
-//! A job whose settings were looked at, and what it writes.
+//! A job whose settings were looked at, and the text that it writes.
 ghost use Rattle.std.specs.Prelude.{◌≡◌};
 
 use crate::{Cuts, Input};
@@ -48,7 +48,7 @@ pub enum Task<'a> {
     Encode { hex: bool },
 }
 
-/// A text that is made, or what one is spelled from while it is written.
+/// A text that is made, or the source that one is spelled from while it is written.
 #[derive(Drop)]
 pub enum Text<'a> {
     Whole(Vec<u8>),
@@ -69,7 +69,7 @@ pub enum Single<'a> {
     Windows(Recording),
 }
 
-/// A report and what its items are made from.
+/// A report and the source of its items.
 #[derive(Drop)]
 pub struct Listing<'a> {
     pub recording: Recording,

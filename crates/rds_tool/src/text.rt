@@ -1,4 +1,4 @@
-//! What a task writes.
+//! The text that a task writes.
 ghost use Rattle.std.specs.Prelude.{◌<◌, ◌≤◌, ◌^◌, ◌≡◌, ◌≢◌, ◌↔◌, ◌⊎◌, IfErr, IsErrOf, IsOkUnless, Ok, OnErr, OnOk, true};
 ghost use Rattle.std.specs.Io.KnownBytes.{Appends, Keeps};
 ghost use Rattle.rds_rows.specs.Writes.{AppendsPrefix};
@@ -27,7 +27,7 @@ pub const PLACES: usize = 32_768;
 const ALL_PLACES: usize = 524_288;
 
 impl Text<'_> {
-    /// Writes the whole text and flushes. Where memory is refused, nothing was written.
+    /// Writes the whole text and flushes. If memory is refused, nothing was written.
     pub fn write_to<R: Threads + Wait + Sync, K: Sink>(
         &self,
         rt: &R,

@@ -17,8 +17,8 @@ use std::alloc::Global;
 /// The last bit of a recording's first window.
 const FIRST_WINDOW: u64 = 25;
 
-/// The rows of the valid windows of a recording: row i is that of the window at place i, where it is valid, and else it has
-/// no byte. So the rows from one number up to another are those of the windows at these places.
+/// The rows of the valid windows of a recording: row i is that of the window at place i, if it is valid, and
+/// else it has no byte. So the rows from one number up to another are those of the windows at these places.
 #[derive(Drop)]
 pub struct WindowRows<'a> {
     pub alloc: Global,
@@ -69,7 +69,7 @@ impl WindowRows<'_> {
         line
     }
 
-    /// The offset of the window at a place, where it is valid.
+    /// The offset of the window at a place, if it is valid.
     fn offset_at(&self, place: u64) -> Option<Offset>
         requires { place < length_of self.now.recording.now }
         ensures { result ≡ off self.now.recording.now place }

@@ -161,9 +161,9 @@ pub refused_so : {T E : Type 0} (answer : Result T E) (P : E → Type 0) → IsE
 refused_so (Ok job) P h = absurd h
 refused_so (Err e) P h = (tt, h)
 
--- ---- what is shown
+-- ---- the texts that are shown
 
--- where a fault is found there is no job
+-- if a fault is found there is no job
 pub never_ok : {T E : Type 0} (k : ErrorKind) (answer : Result T E) → OnOk answer (k ∷ [] ≡ []) → OnOk answer ⊥
 never_ok k (Ok job) h = let no : k ∷ [] ≡ [] = h in cc
 never_ok k (Err fault) h = tt

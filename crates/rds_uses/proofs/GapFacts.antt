@@ -1,4 +1,4 @@
--- What is heard where a gap is touched, and where none is.
+-- What is heard if a gap is touched, and if none is.
 use Rattle.std.proofs.Common.{◌≡◌, ℕ, ◌≤◌, Bool, true, false, Option, Some, None, refl, ap, ◌∙◌, inl, inr}
 use Rattle.std.proofs.lemmas.Bool.{cases_lt, le-ltb, lt-ltb}
 use Rattle.rds_stream.specs.Recording.{Signal, window, touched, heard, offset_heard, off}

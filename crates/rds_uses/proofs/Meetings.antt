@@ -1,4 +1,4 @@
--- A run from Searching is in the guess's state at once, and what that spares.
+-- A run from Searching is in the guess's state at once, and the reads that that spares.
 use Rattle.std.proofs.Common.{◌≡◌, ℕ, ◌+◌, ◌-◌, ◌*◌, ◌<◌, ◌≤◌, ◌⊎◌, List, [], ◌∷◌, Option, Some, None, Result, Ok, Err, length, refl, ap, inl, inr, arith}
 use Rattle.std.proofs.lemmas.Bool.{cases_lt}
 use Rattle.std.specs.Result.{OnErr}
@@ -11,7 +11,7 @@ use Rattle.rds_pieces.specs.Meeting.{IsMeeting, MeetAt, distance}
 use Rattle.rds_pieces.specs.RunOf.{RunOf, FollowEachOther}
 use Rattle.rds_pieces.specs.Seams.{IsSumOfReads, seam_reads}
 
--- a fact, where the answer is a refusal
+-- a fact, if the answer is a refusal
 pub where_refused : {T E P : Type 0} (r : Result T E) → P → OnErr r P
 where_refused (Ok value) fact = tt
 where_refused (Err e) fact = fact

@@ -1,4 +1,4 @@
--- What jobs make of the bits of bytes.
+-- The outcomes of jobs over the bits of bytes.
 use Rattle.std.proofs.Common.{◌≡◌, ℕ, ◌*◌, ◌^◌, ◌≤◌, List, [], Bool, true, false, Option, IfOk, IfSome, OnOk, None, Some, Result, Ok, Err, cond, length, refl, sym, ap, ap₂, arith, subst, ◌++◌, ◌∷◌, ◌∙◌}
 use Rattle.std.proofs.lemmas.Bool.Decides.{nat_tests}
 use Rattle.std.proofs.lemmas.List.{append-nil}
@@ -29,7 +29,7 @@ is_text text = Ok text
 pub all_bits-few : (bytes : List ℕ) → 8 * length bytes ≤ 2 ^ 36 → recording_of plain bytes ≡ Ok (all_bits bytes)
 all_bits-few bytes few = grind (arith, nat_tests)
 
--- what is so of a text is so of it where there is one
+-- a property of any text holds of it if there is one
 pub if-some : {A : Type 0} {P Q : A → Type 0} (found : Option A) → ((a : A) → P a → Q a) → IfSome found P → IfSome found Q
 if-some (Some a) also is = also a is
 if-some None also is = is
@@ -135,7 +135,7 @@ module _ (bytes new : List ℕ) (few : 8 * length bytes ≤ 2 ^ 36) where
   scanned (job.Encode hex) by is = absurd by
 
 module _ (bytes : List ℕ) (few : 8 * length bytes ≤ 2 ^ 36) (gaps : List (ℕ × ℕ)) where
-  -- the bytes themselves with gaps, and what they stand for
+  -- the bytes themselves with gaps, and the recording that they denote
   abbrev pub gapped : Input
   gapped = record { hex = false; bits = None; gaps = gaps }
 
@@ -151,12 +151,12 @@ module _ (bytes : List ℕ) (few : 8 * length bytes ≤ 2 ^ 36) (gaps : List (�
   scanned_with_gaps new lawful is =
       scan-text gapped recorded bytes new (few_with_gaps lawful) (workers_of 4) is
 
--- where something was written there is a text
+-- if something was written there is a text
 pub has_text : (out : Result (List ℕ) ToolError) (old new : Option (List ℕ)) → Writes old new out → (text : List ℕ) × (out ≡ Ok text)
 has_text (Ok text) old new is = (text, refl)
 has_text (Err e) old new is = absurd is
 
--- where nothing was refused, what follows of that is so
+-- if nothing was refused, what follows from that is so
 pub unless_refused : {P : Type 0} (result : Result (Unit {0}) ToolError) → result_err result ≡ None → OnOk result P → P
 unless_refused (Ok done) none is = is
 unless_refused (Err e) none is = cc none

@@ -1,4 +1,5 @@
--- On sound signal from a piece's first place on, a run meets the guess within 416 bits, where ten bad blocks lose a lock.
+-- On sound signal from a piece's first place on, a run meets the guess within 416 bits, if ten bad blocks
+-- lose a lock.
 use Rattle.std.proofs.Common.{◌≡◌, ◌⊎◌, ℕ, ◌+◌, ◌-◌, ◌*◌, ◌<◌, ◌≤◌, Option, Some, None, ap, inl, inr, arith}
 use Rattle.std.proofs.lemmas.Bool.{cases_lt}
 use Rattle.std.proofs.lemmas.Nat.{mul-le}

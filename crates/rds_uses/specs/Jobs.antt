@@ -34,7 +34,8 @@ abbrev pub IsTotalsBy : Job → RuleNumbers → Type 0
 IsTotalsBy (job.Totals input settings) rules = (input ≡ plain) × (rules_of settings ≡ Ok rules)
 IsTotalsBy other rules = ⊥
 
--- it asks for the listing of a stream, of so many bits and with these gaps, by a plan with these rules and pieces of one length
+-- it asks for the listing of a stream, of the bits claimed and with these gaps. The plan has these rules and
+-- pieces of one length
 pub record IsListOfStream (asked : Job) (rules : RuleNumbers) (bits : Option ℕ) (gaps : List (ℕ × ℕ)) : Type 0 where
   pub settings : Settings
   pub plan : PlanOf

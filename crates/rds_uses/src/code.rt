@@ -1,4 +1,5 @@
-//! What a user of `rds_code` relies on: remainders, offsets, bursts, and blocks as they are sent and read.
+//! Facts that a user of `rds_code` relies on: remainders, offsets, bursts, and blocks as they are sent and
+//! read.
 ghost use Rattle.std.specs.Prelude.{◌≡◌, ◌≢◌, ℕ, ◌+◌, ◌<◌, ◌≤◌, ◌^◌, ◌↔◌, ◌∷◌, [], IsTrue, IfOk, IfSome, None, Some, Contains, bit_xor, codes, slice_index, true};
 ghost use Rattle.std.specs.Int.Count.{ones};
 ghost use Rattle.rds_code.specs.declared.offset.Offset.{Offset as AnOffset};
@@ -116,7 +117,7 @@ pub fn shows(burst: Burst) -> bool
     rem26(burst.pattern()) != 0
 }
 
-/// Two bursts are one where their remainders are.
+/// Two bursts are one if their remainders are.
 pub fn told_apart(one: Burst, other: Burst) -> bool
     requires { rem one ≡ rem other }
     ensures { result ≡ true }
@@ -126,7 +127,7 @@ pub fn told_apart(one: Burst, other: Burst) -> bool
     one == other
 }
 
-/// Each burst stands in the list of bursts.
+/// Each burst is in the list of bursts.
 pub fn listed(burst: Burst) -> u32
     ensures { Contains (bursts 5) result }
 {
@@ -159,7 +160,7 @@ pub fn found_again(table: &BurstTable, burst: Burst) -> Option<Burst>
     table.find(rem26(burst.pattern()), limit)
 }
 
-/// What the table finds has the remainder that was asked for, and the span.
+/// The burst that the table finds has the remainder that was asked for, and the span.
 pub fn found_as_asked(table: &BurstTable, remainder: u16, limit: BurstLimit) -> bool
     requires remainder { remainder < 1024 }
     ensures { result ≡ true }
@@ -214,7 +215,7 @@ pub fn limit_of_three() -> Option<u8>
     }
 }
 
-/// Block 1 comes behind block 4, and there is no block 5.
+/// Block 1 comes after block 4, and there is no block 5.
 pub fn number_behind_last() -> Option<u8>
     ensures { result ≡ Some 1 }
 {
@@ -253,7 +254,8 @@ pub fn read_as_sent()
     laws::blocks_are_read_as_sent();
 }
 
-/// Block 1, 2 or 4 that is sent, damaged by one burst within the limit, and read: what was sent, and the burst.
+/// Block 1, 2 or 4 that is sent, damaged by one burst within the limit, and read: the word that was sent, and
+/// the burst.
 pub fn damaged_and_read(
     table: &BurstTable,
     info: u16,
@@ -271,7 +273,7 @@ pub fn damaged_and_read(
     read_block(table, block, offset.number(), Wanted::Either, limit)
 }
 
-/// Block 3 of version A likewise, where C alone is wanted.
+/// Block 3 of version A likewise, if only C is wanted.
 pub fn damaged_third_and_read(
     table: &BurstTable,
     info: u16,
@@ -297,7 +299,7 @@ pub fn taken_for_other_version(info: u16, burst: Burst) -> Option<Offset>
     offset_of(rem26(block))
 }
 
-/// A window is corrected only where one pair alone of an offset and a burst fits.
+/// A window is corrected only if exactly one pair of an offset and a burst fits.
 pub fn corrected_by_one_pair(
     table: &BurstTable,
     w: u32,
@@ -335,7 +337,7 @@ pub fn read_by_the_rule(
     read_block(table, w, number, wanted, limit)
 }
 
-/// A group that is sent and read, block by block: block 3 has C' where the version bit is set.
+/// A group that is sent and read, block by block: block 3 has C' if the version bit is set.
 pub fn group_sent_and_read(table: &BurstTable, words: [u16; 4], limit: BurstLimit) -> [Reading; 4]
     ensures { result ≡ Valid A (slice_index words 0) ∷ Valid B (slice_index words 1)
         ∷ Valid (third_offset (slice_index words 1)) (slice_index words 2) ∷ Valid D (slice_index words 3) ∷ [] }

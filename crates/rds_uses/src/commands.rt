@@ -1,4 +1,4 @@
-//! What the program relies on when it reads its command line.
+//! Facts that the program relies on when it reads its command line.
 ghost use Rattle.std.specs.Prelude.{◌≡◌, ◌⊎◌, ◌++◌, ◌∷◌, [], IfErr, IfOk, None, OnOk, codes, false, string_bytes, true};
 ghost use Rattle.rds_sync.specs.declared.loss.Loss.TheVariants.{Share};
 ghost use Rattle.rds_tool.specs.declared.job.Input.{Input as AnInput};
@@ -21,8 +21,8 @@ static HELP_OF_LIST: [&str; 3] = ["rds", "list", "--help"];
 
 static VERSION: [&str; 2] = ["rds", "--version"];
 
-/// `rds scan --hex` asks for a scan of digits by four workers, whose progress is not told: where memory is not refused it
-/// is that, and nothing else.
+/// `rds scan --hex` asks for a scan of digits by four workers, whose progress is not told: if memory is not
+/// refused it is that, and nothing else.
 pub fn scan_of_digits(alloc: Global) -> Result<Asked, CliFault>
     ensures job { IfOk result (λ asked. (input : AnInput) × (asked ≡ Asked.Job (AJob.Scan input 4) false) × (input.hex ≡ true)) }
     ensures fault { IfErr result (λ fault. fault.kind ≡ FaultKind.Memory) }
@@ -80,7 +80,7 @@ pub fn version(alloc: Global) -> Result<Asked, CliFault>
     asked_of(alloc, VERSION.as_slice())
 }
 
-/// Where memory was refused there is nothing to be shown but that.
+/// If memory was refused there is nothing to be shown but that.
 pub fn nothing_to_show(alloc: Global, words: &[&str]) -> bool
     ensures { result ≡ true }
 {

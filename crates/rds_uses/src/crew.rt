@@ -1,4 +1,5 @@
-//! What a user of `rds_crew` relies on: the report of a crew is that of one decoder, and each refusal has its cause.
+//! Facts that a user of `rds_crew` relies on: the report of a crew is that of one decoder, and each refusal
+//! has its cause.
 ghost use Rattle.std.specs.Prelude.{◌≡◌, ◌≤◌, ◌⊎◌, IfErr, IsOkUnless, IfOk, IsErrOf, length};
 ghost use Rattle.rds_stream.specs.Recording.{length_of};
 ghost use Rattle.rds_crew.specs.declared.error.CrewError.TheVariants.{CrewRange, NoWorker, OutOfMemory};
@@ -15,8 +16,8 @@ use std::alloc::Global;
 use std::sync::Wait;
 use std::thread::Threads;
 
-/// The report of a recording by four workers, however it is cut: that of one decoder. No thread is asked for where there is
-/// one piece: memory alone can be in want.
+/// The report of a recording by four workers, however it is cut: that of one decoder. No thread is asked for
+/// if there is one piece: only memory can be refused.
 pub fn decoded_by_four<R: Threads + Wait + Sync>(
     rt: &R,
     alloc: Global,

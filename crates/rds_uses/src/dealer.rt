@@ -1,4 +1,5 @@
-//! What a user of a dealer relies on: each number is drawn once, by whichever seat, and all are finished in the end.
+//! Facts that a user of a dealer relies on: each number is drawn once, by whichever seat, and all are
+//! finished in the end.
 ghost use Rattle.std.specs.Prelude.{◌≡◌, ◌+◌, ◌<◌, ◌≤◌, ◌^◌, All, IfErr, IfSome, IsErrOf, None, Some, false, length, true};
 ghost use Rattle.rds_crew.specs.declared.deal.Event.TheVariants.{Draw, Progress};
 ghost use Rattle.rds_crew.specs.declared.error.CrewError.TheVariants.{CrewRange, OutOfMemory};
@@ -21,7 +22,7 @@ pub fn with_one_seat(alloc: Global, pieces: u64) -> Option<(Dealer, Seat)>
     Some((dealer, seat))
 }
 
-/// For 256 seats nothing but memory can be in want.
+/// For 256 seats nothing but memory can be refused.
 pub fn with_all_seats(alloc: Global) -> Option<CrewError>
     ensures { IfSome result (λ error. error ≡ OutOfMemory) }
 {
@@ -69,7 +70,7 @@ pub fn draw_and_finish(dealer: &Dealer, seat: Seat) -> (bool, Seat)
     }
 }
 
-/// What a seat that has not ended is after a draw: its own event, and no more.
+/// The view of a seat that has not ended, after a draw: its own event, and no more.
 pub fn seat_after_draw(dealer: &Dealer, seat: Seat) -> (Option<u64>, Seat)
     requires own { IsOf dealer.now seat }
     requires empty { seat.view.held ≡ None }
@@ -92,7 +93,7 @@ pub fn still_ended(dealer: &Dealer, seat: Seat) -> (bool, Seat)
 
 // ---- progress
 
-/// Progress is no less than what the seat finished, and no less than it was told before.
+/// Progress is no less than the number that the seat finished, and no less than it was told before.
 pub fn progress_rises(dealer: &Dealer, seat: Seat) -> bool
     requires { IsOf dealer.now seat }
     ensures { result ≡ true }
@@ -114,7 +115,7 @@ pub fn left_while_held(dealer: &Dealer, seat: Seat, pieces: u64, held: u64) -> u
     pieces - done
 }
 
-/// What a seat is after it asked: its own event, and no more.
+/// The view of a seat after it asked: its own event, and no more.
 pub fn seat_after_progress(dealer: &Dealer, seat: Seat) -> (u64, Seat)
     requires { IsOf dealer.now seat }
     ensures { result.1 ≡ seat_after seat (Progress result.0) }
@@ -122,9 +123,9 @@ pub fn seat_after_progress(dealer: &Dealer, seat: Seat) -> (u64, Seat)
     dealer.progress(seat)
 }
 
-// ---- what a seat says of itself
+// ---- the calls by which a seat tells its state
 
-/// It holds what it drew.
+/// It holds the number that it drew.
 pub fn holds_what_it_drew(dealer: &Dealer, seat: Seat) -> bool
     requires own { IsOf dealer.now seat }
     requires empty { seat.view.held ≡ None }
@@ -134,7 +135,7 @@ pub fn holds_what_it_drew(dealer: &Dealer, seat: Seat) -> bool
     seat.holding() == number
 }
 
-/// It has ended exactly where it got no number.
+/// It has ended exactly if it got no number.
 pub fn ended_without_number(dealer: &Dealer, seat: Seat) -> bool
     requires own { IsOf dealer.now seat }
     requires empty { seat.view.held ≡ None }
@@ -145,7 +146,7 @@ pub fn ended_without_number(dealer: &Dealer, seat: Seat) -> bool
     seat.ended() == number.is_none()
 }
 
-/// It was told what it was answered last.
+/// The count that it was told is its last answer.
 pub fn told_as_answered(dealer: &Dealer, seat: Seat) -> bool
     requires { IsOf dealer.now seat }
     ensures { result ≡ true }
@@ -156,7 +157,8 @@ pub fn told_as_answered(dealer: &Dealer, seat: Seat) -> bool
 
 // ---- the end
 
-/// Once all seats are back, each number was drawn once and is finished, and what they did is a run of the core.
+/// Once all seats are back, each number was drawn once and is finished, and their events are a run of the
+/// core.
 pub fn closed(dealer: Dealer, seats: Vec<Seat>) -> bool
     requires all { length seats.items ≡ dealer.seats }
     requires own { All (IsOf dealer) seats.items }

@@ -24,7 +24,7 @@ pub fn decoded(alloc: Global, bytes: Vec<u8>, pieces: u64) -> Option<Report>
     in_pieces(alloc, &recording, &rules, pieces).ok()
 }
 
-/// The report of a recording in so many even pieces.
+/// The report of a recording in this number of even pieces.
 fn in_pieces(
     alloc: Global,
     recording: &Recording,

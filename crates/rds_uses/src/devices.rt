@@ -1,4 +1,4 @@
-//! What a user of a source or a sink relies on, whatever is behind it.
+//! Facts that a user of a source or a sink relies on, whatever device it reads or writes.
 ghost use Rattle.std.specs.Prelude.{◌≡◌, ◌<◌, ◌≤◌, ◌^◌, IfOk, length, take, true};
 ghost use Rattle.std.specs.Io.KnownBytes.{Appends, IsAtEnd, Keeps};
 
@@ -69,7 +69,7 @@ pub fn counts_failed_write<K: Sink>(writer: &mut K, bytes: &[u8]) -> bool
     }
 }
 
-/// A flush writes nothing more, and is counted where it fails.
+/// A flush writes nothing more, and is counted if it fails.
 pub fn flushed<K: Sink>(writer: &mut K) -> bool
     requires { K.failed writer.old < 2 ^ 63 }
     ensures counted { result ≡ true }

@@ -1,4 +1,4 @@
-//! What a user relies on of gaps: which are taken, and that nothing is read where one is touched.
+//! Facts about gaps that a user relies on: which are taken, and that nothing is read where one is touched.
 ghost use Rattle.std.specs.Prelude.{◌≡◌, ◌+◌, ◌*◌, ◌<◌, ◌≤◌, ◌^◌, [], None, Some, Err, true, false, vec_len};
 ghost use Rattle.rds_code.specs.Reading.{reading};
 ghost use Rattle.rds_code.specs.declared.reading.Reading.TheVariants.{Lost};
@@ -14,10 +14,10 @@ use rds_sync::{Group, Rules, State, Step, advance, laws};
 
 // ---- which gaps are taken
 
-/// What comes back where gaps are refused: why, the bytes and the gaps.
+/// The answer if gaps are refused: why, the bytes and the gaps.
 type Refused = (StreamError, Vec<u8>, Vec<(u64, u64)>);
 
-/// So many of the first bits of the bytes, with gaps that lie among them.
+/// The first `bits` bits of the bytes, with gaps that are among them.
 pub fn recorded_with_gaps(bytes: Vec<u8>, bits: u64, gaps: Vec<(u64, u64)>) -> Option<Recording>
     requires few { bits ≤ 2 ^ 36 }
     requires held { bits ≤ 8 * vec_len bytes }
@@ -27,8 +27,8 @@ pub fn recorded_with_gaps(bytes: Vec<u8>, bits: u64, gaps: Vec<(u64, u64)>) -> O
     Recording::with_gaps(bytes, bits, gaps).ok()
 }
 
-/// More bits than a recording may have are refused as such, whatever the gaps, then more than the bytes hold, and then gaps
-/// that do not lie among the bits in order. The bytes and the gaps come back.
+/// More bits than a recording may have are refused as such, whatever the gaps. Next come more bits than the
+/// bytes hold, and then gaps that are not among the bits in order. The bytes and the gaps come back.
 pub fn refused_in_order(
     bytes: Vec<u8>,
     bits: u64,
@@ -42,7 +42,7 @@ pub fn refused_in_order(
     Recording::with_gaps(bytes, bits, gaps)
 }
 
-// ---- what is read where a gap is touched, and where none is
+// ---- reading where a gap is touched, and where none is
 
 /// A window that touches a gap has no offset.
 pub fn offset_in_gap(recording: &Recording, place: u64) -> Option<Offset>
@@ -99,7 +99,8 @@ pub fn read_back_and_forth(reader: &mut Reader<'_>, place: u64, before: u64) -> 
     reader.window(place) == one
 }
 
-/// The offset of what a tape hears is that of the place, in a gap and outside; a window is counted either way.
+/// The offset of the window that a tape hears is that of the place, in a gap and outside; a window is counted
+/// either way.
 pub fn offset_on_tape(recording: &Recording, place: u64) -> (Option<Offset>, u64)
     requires first { 25 ≤ place }
     requires last { place < length_of recording.now }
@@ -111,7 +112,7 @@ pub fn offset_on_tape(recording: &Recording, place: u64) -> (Option<Offset>, u64
     (offset_heard(heard), tape.reads())
 }
 
-// ---- what a synchroniser makes of it
+// ---- synchronisers and gaps
 
 /// A place whose window touches a gap does not acquire: the search goes on, and gives nothing.
 pub fn nothing_acquired_in_gap<T: Tape>(tape: &mut T, rules: &Rules, place: u64, to: u64) -> Step

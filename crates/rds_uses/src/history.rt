@@ -1,5 +1,5 @@
-//! What a user of `rds_tool` relies on at every device: the bytes that a reader gave and those that a writer took, standard
-//! input and output too, of which no contract names the bytes to come.
+//! Facts that a user of `rds_tool` relies on at every device: the bytes that a reader gave and those that a
+//! writer took, standard input and output too, of which no contract names the bytes to come.
 ghost use Rattle.std.specs.Prelude.{◌++◌, ◌<◌, ◌^◌, ◌≡◌, ◌≢◌, ◌⊎◌, [], IfErr, IsErrOf, List, Ok, OnOk, true, ℕ};
 ghost use Rattle.std.specs.Io.KnownBytes.{Appends};
 ghost use Rattle.rds_tool.specs.Ends.{given_by, has_ended, is_flushed, taken_by};
@@ -43,7 +43,8 @@ pub fn input_to_output<R: Threads + Wait + Sync>(rt: &HostRuntime, crew: &R, job
     }
 }
 
-/// Between any devices: what is written is the outcome of what was read, and a refusal is the job's or that of what was read.
+/// Between any devices: the text that is written is the outcome of the bytes that were read, and a refusal is
+/// the job's or that of these bytes.
 pub fn heard<R: Threads + Wait + Sync, S: Source, K: Sink>(
     rt: &R,
     alloc: Global,
@@ -81,8 +82,8 @@ pub fn heard_alone<S: Source, K: Sink>(
     transcribe_alone(alloc, reader, writer, job)
 }
 
-/// A stream at any devices: what is written is the listing of what was read, up to the end or the last bit that counts. Where a
-/// read fails, the rows of all bytes before it were taken and flushed.
+/// A stream at any devices: the text that is written is the listing of the bytes that were read, up to the
+/// end or the last bit that counts. If a read fails, the rows of all bytes before it were taken and flushed.
 pub fn heard_live<S: Source, K: Sink>(
     alloc: Global,
     reader: &mut S,

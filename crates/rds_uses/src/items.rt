@@ -1,4 +1,4 @@
-//! What a user of lists of items relies on, and of their totals.
+//! Facts that a user of lists of items, and of their totals, relies on.
 ghost use Rattle.std.specs.Prelude.{◌≡◌, ◌-◌, ◌+◌, ◌≤◌, ◌^◌, ◌++◌, [], IsOkUnless, IfOk, IfSome, None, OnOk, Some, drop, false, length, slice_get, slice_range, take, true, vec_capacity};
 ghost use Rattle.rds_stream.specs.Recording.{length_of};
 ghost use Rattle.rds_sync.specs.Counting.{IsAtMost, IsRest, plus};
@@ -34,7 +34,7 @@ pub fn last_of(items: &Items, recording: &Recording, rules: &Rules) -> Option<It
     items.get(recording, rules, items.len() - 1)
 }
 
-/// Behind its last item a list has none.
+/// After its last item a list has none.
 pub fn none_behind(items: &Items, recording: &Recording, rules: &Rules) -> Option<Item>
     requires source { items.now.source ≡ recording.now }
     requires rules { items.now.rules ≡ rules.now }
@@ -75,7 +75,7 @@ pub fn joined(one: Items, other: Items) -> Result<Items, AllocError>
     Ok(items)
 }
 
-/// Where there was no memory for another list, the first stays as it was.
+/// If there was no memory for another list, the first stays as it was.
 pub fn appended_or_same(items: &mut Items, other: Items) -> bool
     requires source { other.source ≡ items.old.source }
     requires rules { other.rules ≡ items.old.rules }
@@ -204,7 +204,8 @@ pub fn closed_or_same(items: &mut Items, state: State) -> bool
 
 // ---- items by parts
 
-/// The items of a run over a recording, where there is room for one more in the part: then all of them are in it.
+/// The items of a run over a recording, if there is room for one more in the part: then all of them are in
+/// it.
 pub fn run_in_a_part(recording: &Recording, rules: &Rules, part: &mut Vec<Item>) -> bool
     ensures { result ≡ true → part.new.items
         ≡ (run_of recording.now rules.now Searching 0 (length_of recording.now)).1 }
@@ -214,7 +215,7 @@ pub fn run_in_a_part(recording: &Recording, rules: &Rules, part: &mut Vec<Item>)
     part.len() < part.capacity()
 }
 
-/// Behind a part that was filled a run ends as it would have, and the part has the room that it had.
+/// After a part that was filled a run ends as it would have, and the part has the room that it had.
 pub fn end_behind_a_part(decoder: Decoder<'_>, part: &mut Vec<Item>) -> State
     ensures end { result ≡ decoder.entry.end }
     ensures room { vec_capacity part.new ≡ vec_capacity part.old }
@@ -224,7 +225,7 @@ pub fn end_behind_a_part(decoder: Decoder<'_>, part: &mut Vec<Item>) -> State
     decoder.end_state()
 }
 
-/// The items of a list, where there is room for one more in the part, which keeps its room.
+/// The items of a list, if there is room for one more in the part, which keeps its room.
 pub fn list_in_a_part(items: ItemIter<'_>, part: &mut Vec<Item>) -> bool
     ensures all { result ≡ true → part.new.items ≡ items.entry }
     ensures room { vec_capacity part.new ≡ vec_capacity part.old }
@@ -304,7 +305,7 @@ pub fn totals_of_rest(items: &[Item], first: usize) -> Totals
     Totals::of_items(items).less(Totals::of_items(&items[..first]))
 }
 
-/// What is left of totals is no more than they are: it may be added to them.
+/// The rest of totals is no more than they are: it may be added to them.
 pub fn rest_and_all(all: Totals, part: Totals) -> Totals
     requires small { IsAtMost (2 ^ 62) all }
     requires part { (rest : TheTotals) × IsRest part all rest }

@@ -1,4 +1,5 @@
-//! What a user gets of numbers that are kept between calls: only those that a call can have left are gone on with.
+//! Promises to a user about numbers that are kept between calls: a call goes on only with numbers that a call
+//! can have left.
 ghost use Rattle.std.specs.Prelude.{◌≡◌, ◌≢◌, false};
 
 use rds_abi::{RdsRules, RdsState, RdsStream, RdsTotals, finish, run};

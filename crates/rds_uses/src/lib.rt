@@ -1,22 +1,22 @@
-//! Proved callers of the libraries: what each of their claims gives a user, in plain words.
+//! Proved callers of the libraries: the use of each of their claims, in plain words.
 //!
-//! No program runs these functions. Each is a call or a few, and is proved from the contracts of what it calls alone.
-//! So a clause that goes, or that grows too weak for a user, is missed here, and the check fails. `docs/PROOFS.md`
-//! names the caller of each claim.
+//! No program runs these functions. Each is a call or a few, and is proved only from the contracts of the
+//! functions that it calls. So a clause that goes, or that grows too weak for a user, is missed here, and the
+//! check fails. `docs/PROOFS.md` names the caller of each claim.
 //!
-//! # Which file holds what
+//! # The files
 //!
-//! In the order of the crates, each after those that it stands on:
+//! In the order of the crates, each after those that it depends on:
 //!
 //! | Crate | File | Callers of |
 //! |---|---|---|
 //! | `rds_code` | [`code`] | remainders, offsets, bursts, blocks as they are sent and read |
 //! | `rds_stream` | [`stream`] | recordings, their windows, scans, planes and tapes |
-//! | | [`gaps`] | gaps in recordings, and what is read where one is touched, in `rds_sync` too |
-//! | `rds_sync` | [`loss`] | what bad blocks do to a lock, by either rule |
+//! | | [`gaps`] | gaps in recordings, and reading where one is touched, in `rds_sync` too |
+//! | `rds_sync` | [`loss`] | the effect of bad blocks on a lock, by either rule |
 //! | | [`sync`] | rules, lawful states, steps, runs, their items one after the other, and reports |
 //! | | [`items`] | lists of items of a recording, and their totals |
-//! | `rds_live` | [`live`] | streams, chunk by chunk, and what `follow` of `rds_tool` writes of one |
+//! | `rds_live` | [`live`] | streams, chunk by chunk, and the text that `follow` of `rds_tool` writes for one |
 //! | | [`live_numbers`] | decoders of streams that are made of any lawful numbers |
 //! | `rds_abi` | [`library`] | the calls for C |
 //! | | [`kept`] | numbers that C keeps between calls |
@@ -25,8 +25,8 @@
 //! | `rds_crew` | [`dealer`] | numbers that are dealt to seats |
 //! | | [`crew`] | the reports of crews |
 //! | `rds_tool` | [`commands`] | the command line as a job |
-//! | | [`devices`] | sources and sinks, whatever is behind them |
-//! | | [`tool`] | what is written of the bytes that a reader holds, and each refusal by its cause |
+//! | | [`devices`] | sources and sinks over any device |
+//! | | [`tool`] | the text that is written for the bytes that a reader holds, and each refusal by its cause |
 //! | | [`history`] | the same of the bytes that a reader gave and a writer took, standard input and output too |
 //! | several | [`sent`] | laws of groups that were sent: encoded, damaged, decoded, listed |
 //! | each | [`refusals`] | numbers and names, which all crates share |

@@ -1,4 +1,4 @@
-//! What a user gets of the calls for C.
+//! Promises of the calls for C to a user.
 ghost use Rattle.std.specs.Prelude.{◌≡◌, ◌≢◌, ◌++◌, ◌+◌, ◌*◌, ◌^◌, ◌<◌, ◌⊎◌, ℕ, List, [], ◌∷◌, IfErr, IfOk, IfSome, None, OnOk, length, map, take, true};
 ghost use Rattle.rds_code.specs.Remainder.{rem};
 ghost use Rattle.rds_sync.specs.Report.{report_items};
@@ -23,7 +23,7 @@ pub fn groups_of(alloc: Global, bytes: &[u8], bits: u64, rules: RdsRules) -> Res
     Ok(totals(alloc, bytes, bits, &[], rules)?.groups)
 }
 
-/// Rules that correct six bits are refused as such, whatever else is asked, or for want of memory.
+/// Rules that correct six bits are refused as such, whatever else is asked, or because memory was refused.
 pub fn six_bits_refused(alloc: Global, bytes: &[u8], reach: u32) -> Option<Refusal>
     ensures refused { result ≢ None }
     ensures why { IfSome result (λ refusal. (refusal ≡ Refusal.BurstRange) ⊎ (refusal ≡ Refusal.OutOfMemory)) }
@@ -46,7 +46,7 @@ pub struct Counts {
     pub end: u64,
 }
 
-/// A recording in two ranges, and what its end closes: together the items of the whole.
+/// A recording in two ranges, and the items that its end closes: together the items of the whole.
 pub fn in_two_ranges(
     alloc: Global,
     bytes: &[u8],
@@ -95,7 +95,8 @@ pub fn in_two_ranges(
     Ok(counts)
 }
 
-/// Takes all of the next bytes of a stream, or says that there is too little room for what they complete.
+/// Takes all of the next bytes of a stream, or says that there is too little room for the items that they
+/// complete.
 fn push_all(
     alloc: Global,
     bytes: &[u8],
@@ -171,8 +172,8 @@ pub fn goes_on_in_little_room(
     Ok(taken)
 }
 
-/// A stream in two chunks, between which it is kept as numbers alone, and what its end closes: together the items of the
-/// report of all its bytes, and that report's totals.
+/// A stream in two chunks, between which it is kept only as numbers, and the items that its end closes:
+/// together the items of the report of all its bytes, and that report's totals.
 pub fn in_two_chunks(
     alloc: Global,
     early: &[u8],
@@ -224,8 +225,8 @@ pub fn in_two_chunks(
     Ok((counts, totals))
 }
 
-/// A stream that ends inside a byte: its first chunk, and the first `bits` bits of what follows. Together these give the
-/// items of the report of so many bits, and its totals.
+/// A stream that ends inside a byte: its first chunk, and the first `bits` bits of the bytes that follow.
+/// Together these give the items of the report of all these bits, and its totals.
 pub fn ended_inside_a_byte(
     alloc: Global,
     early: &[u8],
@@ -271,7 +272,7 @@ pub fn ended_inside_a_byte(
     Ok((counts, totals))
 }
 
-/// What is kept of a stream are the same numbers, whether it came in two chunks or in one.
+/// The numbers that are kept of a stream are the same, whether it came in two chunks or in one.
 pub fn kept_alike(
     alloc: Global,
     early: &[u8],
@@ -293,7 +294,7 @@ pub fn kept_alike(
     Ok((cut, whole))
 }
 
-/// A list that fits is written, and what stands behind it is as it was.
+/// A list that fits is written, and the room after it is as it was.
 pub fn last_is_kept(
     alloc: Global,
     bytes: &[u8],

@@ -1,4 +1,4 @@
-//! What a user gets of the decoder of a stream, and of following one from a reader to a writer.
+//! Promises to a user of the decoder of a stream, and of following one from a reader to a writer.
 ghost use Rattle.std.specs.Prelude.{◌≡◌, ◌++◌, [], List, ℕ, IfOk, IsOkUnless, OnOk};
 ghost use Rattle.rds_sync.specs.Advance.{group_item};
 ghost use Rattle.rds_sync.specs.Totals.{totals_of};
@@ -14,8 +14,8 @@ use std::alloc::Global;
 /// How many items a byte may complete, at most.
 const ITEMS_A_BYTE: usize = 16;
 
-/// A decoder made anew of what another tells, by the same rules and gaps: it knows the same, and so has heard the same
-/// bytes. Only want of memory refuses it.
+/// A decoder made anew of the numbers that another tells, by the same rules and gaps: it knows the same, and
+/// so has heard the same bytes. It fails only if memory is refused.
 pub fn anew<'r>(
     alloc: Global,
     live: &Live<'_>,
@@ -37,8 +37,8 @@ pub fn anew<'r>(
     )
 }
 
-/// Two halves of a stream, between which nothing is left of the decoder but its numbers, are the whole: what each gives, and
-/// what the end gives, are its report.
+/// Two halves of a stream, between which nothing is left of the decoder but its numbers, are the whole: the
+/// items that each gives, and those that the end gives, are its report.
 pub fn in_two_sittings<'r>(
     alloc: Global,
     rules: &'r Rules,
@@ -57,7 +57,8 @@ pub fn in_two_sittings<'r>(
     Ok((one, other, end))
 }
 
-/// What the rest of a stream gives, and its end, by a decoder made anew of what this one tells.
+/// The items of the rest of a stream, and of its end, by a decoder made anew of the numbers that this one
+/// tells.
 fn second_sitting(
     alloc: Global,
     live: &Live<'_>,
@@ -78,7 +79,7 @@ fn second_sitting(
     Ok((items, again.finish()))
 }
 
-/// Bytes one by one are the whole: the decoder is what it is after all of them at once.
+/// Bytes one by one are the whole: the decoder is the same as after all of them at once.
 pub fn one_by_one<'r>(
     alloc: Global,
     rules: &'r Rules,
@@ -103,7 +104,7 @@ fn take_one_by_one(alloc: Global, live: &mut Live<'_>, bytes: &[u8]) -> Result<(
     Ok(())
 }
 
-/// Takes the next chunk of a stream, and puts the items that it completes behind those before.
+/// Takes the next chunk of a stream, and appends the items that it completes.
 fn put_next(
     alloc: Global,
     live: &mut Live<'_>,
@@ -120,7 +121,7 @@ fn put_next(
     Ok(())
 }
 
-/// Ends a stream, and puts the group in progress behind its items.
+/// Ends a stream, and appends the group in progress to its items.
 fn close(live: Live<'_>, items: &mut Vec<Item>) -> Result<(), StreamError>
     ensures { IfOk result (λ _. (bytes : List ℕ) → HasHeard live.entry bytes
         → items.old.items ≡ complete live.entry.terms bytes → items.new.items ≡ report_of live.entry.terms bytes) }
@@ -131,8 +132,8 @@ fn close(live: Live<'_>, items: &mut Vec<Item>) -> Result<(), StreamError>
     Ok(())
 }
 
-/// The items of a stream that is cut at these places of its bytes, as far as they lie in order in it: whatever they are, those of
-/// its report.
+/// The items of a stream that is cut at these places of its bytes, as far as they are in order and inside it:
+/// whatever they are, those of its report.
 pub fn cut_at(
     alloc: Global,
     rules: &Rules,
@@ -194,7 +195,7 @@ pub fn states<'r>(one: &Live<'r>, other: &Live<'r>) -> (State, State)
     (one.state(), other.state())
 }
 
-/// A stream that was followed from memory to memory: what was written is the listing of its bytes.
+/// A stream that was followed from memory to memory: the text that was written is the listing of its bytes.
 pub fn followed(alloc: Global, rules: &Rules, bytes: &[u8]) -> Result<Vec<u8>, ToolError>
     ensures { IfOk result (λ text. text.items ≡ list_text rules.now (signal_of [] bytes.now)) }
 {

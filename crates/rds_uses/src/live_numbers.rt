@@ -29,7 +29,7 @@ pub fn stay_alike(
     Ok(())
 }
 
-/// Bytes in two chunks give what they give at once, whatever numbers the decoder is made of.
+/// Bytes in two chunks give the same as at once, whatever numbers the decoder is made of.
 pub fn in_two_chunks(
     alloc: Global,
     live: &mut Live<'_>,

@@ -1,4 +1,5 @@
-//! What a user of a rule of loss relies on: what is kept of bad blocks says when a lock is lost, as its blocks do.
+//! Facts that a user of a rule of loss relies on: the history that is kept of bad blocks says when a lock is
+//! lost, as its blocks do.
 ghost use Rattle.std.specs.Prelude.{◌≡◌, ℕ, ◌≤◌, Bool, if◌then◌else◌};
 ghost use Rattle.std.specs.Int.{bit_at};
 ghost use Rattle.rds_sync.specs.declared.loss.Loss.TheVariants.{Share};
@@ -6,7 +7,7 @@ ghost use Rattle.rds_sync.specs.Loss.{bad_at, loses};
 
 use rds_sync::{Loss, laws};
 
-/// A lock is lost where the mask that is kept of its last blocks has too many ones.
+/// A lock is lost if the mask that is kept of its last blocks has too many ones.
 pub fn lost_by_mask(bad: u32, of: u32, mask: u64) -> bool
     ensures { (is_good : ℕ → Bool) (k : ℕ) → bad_at is_good (Share bad of) k ≡ mask
         → loses (Share bad of) is_good k ≡ result }

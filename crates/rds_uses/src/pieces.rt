@@ -1,4 +1,5 @@
-//! What a user of `rds_pieces` relies on: cuttings, guesses, seams, joins, and the report that is stitched of them.
+//! Facts that a user of `rds_pieces` relies on: cuttings, guesses, seams, joins, and the report that is
+//! stitched of them.
 ghost use Rattle.std.specs.Prelude.{◌≡◌, ℕ, ◌+◌, ◌-◌, ◌*◌, ◌<◌, ◌≤◌, ◌^◌, ◌++◌, ◌∷◌, [], IfOk, IsOkUnless, OnErr, OnOk, Some, length, slice_index, true};
 ghost use Rattle.rds_stream.specs.Recording.{length_of};
 ghost use Rattle.rds_sync.specs.declared.state.State.TheVariants.{Searching};
@@ -30,7 +31,7 @@ use std::snapshot::Snapshot;
 
 // ---- cuttings
 
-/// Places that are a cutting of so many bits are taken as they are.
+/// Places that are a cutting of `len` bits are taken as they are.
 pub fn taken_cutting(places: Vec<u64>, len: u64) -> Option<Cutting>
     requires { IsCutting len places.items }
     ensures { result ≡ Some places.items }
@@ -182,7 +183,8 @@ pub fn totals_of_guess(run: &PieceRun) -> Totals
 
 // ---- seams
 
-/// A seam goes on where the run before it stopped: both together are one run, from the first bit to the piece's end.
+/// A seam goes on where the run before it stopped: both together are one run, from the first bit to the
+/// piece's end.
 pub fn carried_on<'a>(
     alloc: Global,
     recording: &'a Recording,
@@ -226,7 +228,8 @@ pub fn met_at_once<T: Tape>(
     seam(alloc, tape, rules, State::Searching, run)
 }
 
-/// What any seam costs, refused memory or not: no more windows than its piece has places for; the tape is of the same bits.
+/// The cost of any seam, refused memory or not: no more windows than its piece has places for; the tape is of
+/// the same bits.
 pub fn cost_of_seam<T: Tape>(
     alloc: Global,
     tape: &mut T,
@@ -338,7 +341,7 @@ pub fn join_on_sound_signal<T: Tape>(
     join_runs(alloc, tape, rules, left, right)
 }
 
-/// What any join costs, refused memory or not: no more windows than the right run has places for.
+/// The cost of any join, refused memory or not: no more windows than the right run has places for.
 pub fn cost_of_join<T: Tape>(
     alloc: Global,
     tape: &mut T,
@@ -411,8 +414,8 @@ fn guesses(
     Ok(runs)
 }
 
-/// A recording in one piece is stitched at the cost of one seam that meets at once, and of its end; it costs no more where
-/// it is refused memory.
+/// A recording in one piece is stitched at the cost of one seam that meets at once, and of its end; it costs
+/// no more if it is refused memory.
 pub fn cost_of_one_piece<T: Tape>(
     alloc: Global,
     tape: &mut T,
@@ -429,7 +432,7 @@ pub fn cost_of_one_piece<T: Tape>(
     stitch(alloc, tape, rules, runs)
 }
 
-/// Runs stay in a row where one run stands for two neighbours.
+/// Runs stay in a row if one run replaces two neighbours.
 pub fn row_after_join(
     recording: &Recording,
     rules: &Rules,
@@ -488,7 +491,7 @@ fn two_guesses<W: Work>(alloc: Global, work: &W) -> Result<(PieceRun, PieceRun),
     Ok((left, right))
 }
 
-/// What a work names, as a caller sees it.
+/// The recording, rules and cutting that a work names, as a caller sees it.
 pub fn names_of_work<W: Work>(work: &W) -> (Snapshot<Recording>, Loss, u64)
     ensures source { result.0.value ≡ W.recording work.now }
     ensures rules { result.1 ≡ (W.rule_set work.now).loss }
@@ -497,7 +500,7 @@ pub fn names_of_work<W: Work>(work: &W) -> (Snapshot<Recording>, Loss, u64)
     (work.source(), work.rules().loss(), work.cutting().pieces())
 }
 
-/// The work over a recording names what it was given.
+/// The work over a recording names the parts that it was given.
 pub fn work_of_recording(recording: &Recording, rules: &Rules, cutting: &Cutting) -> bool
     requires { IsCutting (length_of recording.now) cutting.now }
     ensures { result ≡ true }

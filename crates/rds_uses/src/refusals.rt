@@ -1,4 +1,4 @@
-//! What a user relies on who prints refusals: each has one number and one name, in every crate.
+//! Facts that a user who prints refusals relies on: each has one number and one name, in every crate.
 ghost use Rattle.std.specs.Prelude.{◌≡◌, ◌↔◌, All, IsTrue, codes, true};
 
 use rds_code::CodeError;
@@ -8,7 +8,7 @@ use rds_stream::StreamError;
 use rds_sync::SyncError;
 use rds_tool::ToolError;
 
-/// Want of memory has number 8, whichever crate was in want.
+/// `OutOfMemory` has number 8 in each crate.
 pub fn numbers_of_memory() -> [u8; 6]
     ensures { All (λ number. number ≡ 8) result }
 {

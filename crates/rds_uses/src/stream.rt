@@ -1,4 +1,4 @@
-//! What a user of `rds_stream` relies on: bits from bytes, windows, scans, planes and tapes.
+//! Facts that a user of `rds_stream` relies on: bits from bytes, windows, scans, planes and tapes.
 ghost use Rattle.std.specs.Prelude.{◌≡◌, ℕ, ◌+◌, ◌-◌, ◌*◌, ◌<◌, ◌≤◌, ◌^◌, IfSome, None, Some, Err, if◌then◌else◌, slice_index, true, vec_len};
 ghost use Rattle.std.specs.Int.{bit_at};
 ghost use Rattle.rds_code.specs.Remainder.{rem};
@@ -16,7 +16,7 @@ use std::snapshot::Snapshot;
 
 // ---- recordings
 
-/// So many of the first bits of the bytes, where these hold as many, and 2^36 at most.
+/// The first `bits` bits of the bytes, if these hold as many, and 2^36 at most.
 pub fn recorded(bytes: Vec<u8>, bits: u64) -> Option<Recording>
     requires few { bits ≤ 2 ^ 36 }
     requires held { bits ≤ 8 * vec_len bytes }
@@ -53,14 +53,14 @@ pub fn last_bit(recording: &Recording) -> bool
     recording.bit(recording.len() - 1)
 }
 
-/// How many bits there would be after so many more.
+/// How many bits there would be with `more` bits added.
 pub fn len_with(recording: &Recording, more: u32) -> u64
     ensures { result ≡ length_of recording.now + more }
 {
     recording.len() + u64::from(more)
 }
 
-/// The offset of a place is that of what is heard there.
+/// The offset of a place is that of the window heard there.
 pub fn offsets_agree(recording: &Recording, place: u64) -> bool
     requires first { 25 ≤ place }
     requires last { place < length_of recording.now }
@@ -78,7 +78,7 @@ pub fn stored_remainder(recording: &Recording, place: u64) -> u16
     rem26(recording.window(place))
 }
 
-/// What is heard at the first place that has a window, as it is read from a tape.
+/// The window heard at the first place that has one, as it is read from a tape.
 pub fn windows_agree(recording: &Recording) -> bool
     requires { 26 ≤ length_of recording.now }
     ensures { result ≡ true }
@@ -87,7 +87,7 @@ pub fn windows_agree(recording: &Recording) -> bool
     tape.window(FIRST_WINDOW) == Reader::new(recording).window(FIRST_WINDOW)
 }
 
-/// What is heard of four blocks in a row is what is heard of each of them, in whichever order.
+/// Four blocks in a row are heard as each of them is by itself, in whichever order.
 pub fn heard_in_a_row(reader: &mut Reader<'_>, place: u64) -> bool
     requires first { 25 ≤ place }
     requires last { place + 78 < length_of reader.old }
@@ -102,7 +102,7 @@ pub fn heard_in_a_row(reader: &mut Reader<'_>, place: u64) -> bool
         && hears(reader, place, one)
 }
 
-/// What is heard at a place is what was told of it.
+/// Whether the reader hears at a place what was told of it.
 fn hears(reader: &mut Reader<'_>, place: u64, told: Option<u32>) -> bool
     requires first { 25 ≤ place }
     requires last { place < length_of reader.old }
@@ -136,14 +136,14 @@ pub fn all_valid(alloc: Global, recording: &Recording) -> Option<Vec<(u64, Offse
     scan(alloc, recording, 0, recording.len()).ok()
 }
 
-/// A scan is refused for want of memory alone.
+/// A scan fails only if memory is refused.
 pub fn refusal_of_scan(alloc: Global, recording: &Recording) -> Option<StreamError>
     ensures { IfSome result (λ error. error ≡ OutOfMemory) }
 {
     scan(alloc, recording, 0, recording.len()).err()
 }
 
-/// The first valid window of a recording, with its offset, where there is one.
+/// The first valid window of a recording, with its offset, if there is one.
 pub fn first_valid(recording: &Recording) -> Option<(u64, Offset)>
     ensures some { IfSome result (λ found. off recording.now found.0 ≡ Some found.1) }
     ensures first { IfSome result (λ found. NoneValid recording.now 0 found.0) }
@@ -152,7 +152,7 @@ pub fn first_valid(recording: &Recording) -> Option<(u64, Offset)>
     ValidWindows::new(recording, 0, recording.len()).next()
 }
 
-/// How far the second valid window lies behind the first: they come by rising place, within the recording.
+/// How far the second valid window is after the first: they come by rising place, within the recording.
 pub fn distance_of_first_two(recording: &Recording) -> Option<u64>
     ensures after { IfSome result (λ distance. 0 < distance) }
     ensures within { IfSome result (λ distance. distance < length_of recording.now) }
@@ -192,7 +192,7 @@ pub fn last_offset<T: Tape>(tape: &mut T) -> Option<Offset>
     offset_heard(tape.window(tape.len() - 1))
 }
 
-/// What a caller sees of the count: one more after a window.
+/// The count, as a caller sees it: one more after a window.
 pub fn seen_to_count<T: Tape>(tape: &mut T) -> bool
     requires some { 26 ≤ length_of (T.signal tape.old) }
     requires room { T.reads_made tape.old < 2 ^ 63 }
@@ -203,7 +203,7 @@ pub fn seen_to_count<T: Tape>(tape: &mut T) -> bool
     tape.reads() == before + 1
 }
 
-/// How many bits a tape would have after so many more.
+/// How many bits a tape would have with `more` bits added.
 pub fn tape_len_with<T: Tape>(tape: &T, more: u32) -> u64
     ensures { result ≡ length_of (T.signal tape.now) + more }
 {
@@ -217,7 +217,7 @@ pub fn recording_of<T: Tape>(tape: &T) -> Snapshot<Recording>
     tape.source()
 }
 
-/// How many bits there are where a reader reads.
+/// How many bits the recording of a reader has.
 pub fn len_of_read(reader: &Reader<'_>) -> u64
     ensures { result ≡ length_of reader.now }
 {

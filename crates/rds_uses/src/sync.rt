@@ -1,5 +1,5 @@
-//! What a user of `rds_sync` relies on: rules, lawful states, steps over a tape, runs over a range and their items, and
-//! reports.
+//! Facts that a user of `rds_sync` relies on: rules, lawful states, steps over a tape, runs over a range and
+//! their items, and reports.
 ghost use Rattle.std.specs.Prelude.{◌≡◌, ◌≢◌, ℕ, ◌+◌, ◌-◌, ◌*◌, ◌<◌, ◌≤◌, ◌^◌, ◌++◌, ◌↔◌, [], IsTrue, IfOk, IsOkUnless, IsErrOf, None, Some, slice_get, true};
 ghost use Rattle.rds_stream.specs.Recording.{length_of};
 ghost use Rattle.rds_sync.specs.declared.item.Block.{Block as ABlock};
@@ -30,7 +30,7 @@ use std::snapshot::Snapshot;
 
 // ---- rules
 
-/// The rules that the program takes where none are given: nothing but memory can be in want.
+/// The rules that the program takes if none are given: nothing but memory can be refused.
 pub fn usual_rules(alloc: Global) -> Result<Rules, SyncError>
     ensures rules { IfOk result (λ rules. rules ≡ record { burst = 2; reach = 3; loss = Run 10 }) }
     ensures refused { IsOkUnless result OutOfMemory }
@@ -45,7 +45,7 @@ pub fn usual_rules(alloc: Global) -> Result<Rules, SyncError>
     )
 }
 
-/// The same by their numbers alone.
+/// The same by only their numbers.
 pub fn counted_rules(alloc: Global) -> Result<Rules, SyncError>
     ensures rules { IfOk result (λ rules. rules ≡ record { burst = 2; reach = 3; loss = Run 10 }) }
     ensures refused { IsOkUnless result OutOfMemory }
@@ -53,7 +53,7 @@ pub fn counted_rules(alloc: Global) -> Result<Rules, SyncError>
     Rules::new(alloc, 2, 3, 10)
 }
 
-/// Rules that lose a lock where 10 of the last 12 blocks are bad.
+/// Rules that lose a lock when 10 of the last 12 blocks are bad.
 pub fn shared_rules(alloc: Global) -> Result<Rules, SyncError>
     ensures rules { IfOk result (λ rules. rules ≡ record { burst = 2; reach = 3; loss = Share 10 12 }) }
     ensures refused { IsOkUnless result OutOfMemory }
@@ -61,7 +61,7 @@ pub fn shared_rules(alloc: Global) -> Result<Rules, SyncError>
     Rules::with_share(alloc, 2, 3, 10, 12)
 }
 
-/// What rules were made of, they are made of again: nothing but memory can be in want.
+/// Rules are made again of the numbers that they were made of: nothing but memory can be refused.
 pub fn same_rules(alloc: Global, rules: &Rules) -> Result<Rules, SyncError>
     ensures rules { IfOk result (λ made. made ≡ rules.now) }
     ensures refused { IsOkUnless result OutOfMemory }
@@ -240,7 +240,7 @@ pub fn two_steps<T: Tape>(
     (second.place, second.state)
 }
 
-/// What a step finds is what the run over its bits gives.
+/// A step finds the items that the run over its bits gives.
 pub fn found_by_step<T: Tape>(tape: &mut T, rules: &Rules, place: u64, to: u64) -> Step
     requires before { place < to }
     requires within { to ≤ length_of (T.signal tape.old) }
@@ -261,7 +261,7 @@ pub fn search_one_bit<T: Tape>(tape: &mut T, rules: &Rules, place: u64, to: u64)
     advance(tape, rules, State::Searching, place, to).place
 }
 
-/// Where a search has come to the end there is no group in progress.
+/// If a search has come to the end there is no group in progress.
 pub fn no_group_after_search<T: Tape>(tape: &mut T, rules: &Rules) -> Option<Group>
     requires { T.reads_made tape.old + 16 ≤ 2 ^ 63 }
     ensures { result ≡ None }
@@ -281,7 +281,8 @@ pub fn cost_of_end<T: Tape>(tape: &mut T, rules: &Rules, state: State) -> Option
 
 // ---- runs over a range
 
-/// A stretch moves on and stays in the range, and finds what the run over its bits gives; its reader can go on.
+/// A stretch moves on and stays in the range, and finds the items that the run over its bits gives; its
+/// reader can go on.
 pub fn one_stretch(reader: &mut Reader<'_>, rules: &Rules, place: u64, to: u64) -> Step
     requires before { place < to }
     requires within { to ≤ length_of reader.old }
@@ -374,7 +375,7 @@ pub fn end_of_stretch(
     stretch(reader, rules, state, place, to).place
 }
 
-/// What a stretch finds, its last bit alone gives.
+/// Only the last bit of a stretch gives the items that the stretch finds.
 pub fn found_by_last_bit(
     reader: &mut Reader<'_>,
     rules: &Rules,
@@ -538,7 +539,7 @@ pub fn nothing_at_first<'a>(recording: &'a Recording, rules: &'a Rules) -> Decod
     Decoder::new(recording, rules, State::Searching, 0, 51)
 }
 
-/// Where a bit leads to another state, with no group in progress, it gives an item.
+/// If a bit leads to another state, with no group in progress, it gives an item.
 pub fn item_of_change(recording: &Recording, rules: &Rules, state: State, place: u64)
     requires lawful { IsLawful rules.now place state }
     requires change { step recording.now rules.now place state ≢ state }
@@ -563,7 +564,8 @@ pub fn collected_items(
     Ok(items)
 }
 
-/// The totals of what a run from a state that a caller has tested gives, and the state that it ends in.
+/// The totals of the items that a run from a state that a caller has tested gives, and the state that it ends
+/// in.
 pub fn totals_of_run(
     alloc: Global,
     recording: &Recording,

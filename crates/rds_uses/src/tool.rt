@@ -1,4 +1,5 @@
-//! What a user of `rds_tool` relies on: what is written, what is left as it was, and each refusal by its cause.
+//! Facts that a user of `rds_tool` relies on: the text that is written, the devices that stay as they were,
+//! and each refusal by its cause.
 ghost use Rattle.std.specs.Prelude.{◌≡◌, ◌≢◌, ℕ, ◌*◌, ◌<◌, ◌≤◌, ◌^◌, ◌++◌, ◌⊎◌, ◌↔◌, List, Err, IfErr, IfSome, IsErrOf, None, Ok, OnOk, false, length, true};
 ghost use Rattle.std.specs.Io.KnownBytes.{Consumes, IsAtEnd};
 ghost use Rattle.rds_stream.specs.Recording.{bits_of};
@@ -22,7 +23,7 @@ use std::alloc::Global;
 use std::sync::Wait;
 use std::thread::Threads;
 
-// ---- what is written
+// ---- the text that is written
 
 /// The listing of the bytes of a recording: the rows of the items of its locks, and those of their totals, whoever
 /// works and however the recording is cut.
@@ -41,7 +42,7 @@ pub fn listing<R: Threads + Wait + Sync>(
     written(rt, alloc, bytes, job)
 }
 
-/// The totals of the bytes of a recording alone.
+/// Only the totals of the bytes of a recording.
 pub fn totals<R: Threads + Wait + Sync>(
     rt: &R,
     alloc: Global,
@@ -71,7 +72,7 @@ pub fn windows<R: Threads + Wait + Sync>(
     written(rt, alloc, bytes, job)
 }
 
-/// The rows of the valid windows where there are gaps: of those that touch none.
+/// The rows of the valid windows if there are gaps: of those that touch none.
 pub fn windows_with_gaps<R: Threads + Wait + Sync>(
     rt: &R,
     alloc: Global,
@@ -105,7 +106,7 @@ pub fn encoded<R: Threads + Wait + Sync>(
     written(rt, alloc, lines, job)
 }
 
-/// What a job writes of bytes, where nothing is refused: its outcome.
+/// The text that a job writes for bytes, if nothing is refused: its outcome.
 pub(crate) fn written<R: Threads + Wait + Sync>(
     rt: &R,
     alloc: Global,
@@ -121,7 +122,7 @@ pub(crate) fn written<R: Threads + Wait + Sync>(
     }
 }
 
-/// The listing where a gate hears of the workers: the same.
+/// The listing if a gate hears of the workers: the same.
 pub fn gated_listing<R: Threads + Wait + Sync, G: Gate + Sync>(
     rt: &R,
     alloc: Global,
@@ -142,9 +143,9 @@ pub fn gated_listing<R: Threads + Wait + Sync, G: Gate + Sync>(
     }
 }
 
-/// With a gate too: the reader is at its end after success; a failed call of either device is what is answered; 13 comes
-/// only where 16,777,216 bytes or more were read, 14 only where threads are asked for, and any other refusal where the job
-/// and the bytes call for it.
+/// With a gate too: the reader is at its end after success; a failed call of either device is answered; 13
+/// comes only if 16,777,216 bytes or more were read; 14 only if threads are asked for; any other refusal if
+/// the job and the bytes call for it.
 pub fn gated_causes<R: Threads + Wait + Sync, S: Source, K: Sink, G: Gate + Sync>(
     rt: &R,
     alloc: Global,
@@ -187,7 +188,7 @@ pub fn gated_remains<R: Threads + Wait + Sync, S: Source, K: Sink, G: Gate + Syn
     transcribe_gated(rt, alloc, reader, writer, job, gate)
 }
 
-/// A text that grows: by the whole outcome, by a prefix of it where the writer fails, and else not at all.
+/// A text that grows: by the whole outcome, by a prefix of it if the writer fails, and else not at all.
 pub fn appended<R: Threads + Wait + Sync>(
     rt: &R,
     alloc: Global,
@@ -208,7 +209,7 @@ pub fn appended<R: Threads + Wait + Sync>(
 
 // ---- when the answer is a refusal
 
-/// Where the answer is `Ok` nothing is left to be read.
+/// If the answer is `Ok` nothing is left to be read.
 pub fn all_read<R: Threads + Wait + Sync, S: Source, K: Sink>(
     rt: &R,
     alloc: Global,
@@ -223,7 +224,7 @@ pub fn all_read<R: Threads + Wait + Sync, S: Source, K: Sink>(
     transcribe(rt, alloc, reader, writer, job).is_ok()
 }
 
-/// The reader is blamed exactly where it has counted a failure.
+/// The reader is blamed exactly if it has counted a failure.
 pub fn reader_blamed<R: Threads + Wait + Sync, S: Source, K: Sink>(
     rt: &R,
     alloc: Global,
@@ -261,8 +262,8 @@ pub fn writer_blamed<R: Threads + Wait + Sync, S: Source, K: Sink>(
     }
 }
 
-/// Fewer than 16,777,216 bytes that are scanned are refused for want of memory or by a device alone: they have an end,
-/// they are a recording, and a scan by four goes on without a thread that is not started.
+/// A scan of fewer than 16,777,216 bytes fails only by refused memory or by a device: they have an end, they
+/// are a recording, and a scan by four goes on without a thread that is not started.
 pub fn few_causes<R: Threads + Wait + Sync>(
     rt: &R,
     alloc: Global,
@@ -276,7 +277,7 @@ pub fn few_causes<R: Threads + Wait + Sync>(
     refusal_of_scan(rt, alloc, bytes, job)
 }
 
-/// The refusal of a scan of fewer than 16,777,216 bytes: want of memory, that of a device, or the outcome.
+/// The refusal of a scan of fewer than 16,777,216 bytes: refused memory, that of a device, or the outcome.
 fn refusal_of_scan<R: Threads + Wait + Sync>(
     rt: &R,
     alloc: Global,
@@ -293,7 +294,7 @@ fn refusal_of_scan<R: Threads + Wait + Sync>(
     transcribe(rt, alloc, &mut FromRead::new(bytes), &mut writer, job).err()
 }
 
-/// Gaps that the recording can't have are refused, and as such, where memory and the devices do not fail.
+/// Gaps that the recording can't have are refused, and as such, if memory and the devices do not fail.
 pub fn bad_gaps<R: Threads + Wait + Sync>(
     rt: &R,
     alloc: Global,

@@ -52,7 +52,8 @@ second_number_once = refl
 pub third_number_never : sum_by (times_of 2) views ≡ once_below 2 (min 4 2)
 third_number_never = refl
 
--- taken back, the second first: what it was told last is the other's word, and its numbers and its events come first
+-- taken back, the second first: the count that it was told last is the other's, and its numbers and its
+-- events come first
 pub both_seats : pooled second_seat first_seat
     ≡ record { pieces = 2; share = 2; drawn = 1 ∷ 0 ∷ []; held = None; ended = 2; finished = 2; told = 2; log = second_seat.log ++ first_seat.log }
 both_seats = refl

@@ -1,5 +1,5 @@
--- What the workers of a dealer promise and hand back. The thread of each promises it (`DrawPromise`), and `make_all` gathers it; no
--- public call cites it.
+-- The promises and results of the workers of a dealer. The thread of each promises it (`DrawPromise`), and
+-- `make_all` gathers it; no public call cites it.
 use Rattle.std.specs.Prelude.{◌≡◌, ℕ, ◌<◌, All, Vec, map}
 use Rattle.std.specs.Global.{Global}
 use Rattle.std.specs.declared.thread.PromisedHandle.{PromisedHandle}
@@ -13,6 +13,6 @@ pub record IsDrawn {X : Type 0} (f : ℕ → X) (dealer : DealerValue) (drawn : 
   pub within : All (λ j. j < dealer.name.pieces) drawn.0.view.drawn
   pub made : drawn.1.items ≡ map (λ j. (j, f j)) drawn.0.view.drawn
 
--- the thread promises what is drawn of these parts from this dealer
+-- the thread promises the parts of these that it draws from this dealer
 abbrev pub IsWorkerOf : {T P : Type 0} → P → DealerValue → PromisedHandle T (DrawPromise P) → Type 0
 IsWorkerOf parts dealer thread = (thread.promise.parts.value ≡ parts) × (thread.promise.dealer.value ≡ dealer)

@@ -1,4 +1,4 @@
--- The zero group three times, cut after the first: what a join takes of both guesses.
+-- The zero group three times, cut after the first: the items that a join takes from both guesses.
 use Rattle.std.specs.Prelude.{◌≡◌, ◌==◌, ◌++◌, List, drop, length, refl}
 use Rattle.std.proofs.Common.{ap}
 use Rattle.std.proofs.lemmas.Bool.{false≢true, leb-true}

@@ -94,7 +94,7 @@ met_at_the_end = record {
 pub not_the_second : IsMeeting three_bits (rules_of 2 3 1) (Locked (lock_of 1 4 0 1)) Searching 0 3 (Some 3) → ⊥
 not_the_second met = met.least 2 (leb-true 3 3 refl) met_inside.here
 
--- in the range's first bit alone they do not meet
+-- in a range of only the first bit they do not meet
 pub none : IsMeeting three_bits (rules_of 2 3 1) (Locked (lock_of 1 4 0 1)) Searching 0 1 None
 none zero met = not_at_0 1 met
 none (suc zero) met = not_at_1 1 met

@@ -1,4 +1,5 @@
--- What seams may read: each of reach + 2 windows for each place up to the meeting, and as many once more.
+-- How many windows seams may read: each reach + 2 windows for each place up to the meeting, and as many once
+-- more.
 use Rattle.std.specs.Prelude.{◌≡◌, [], ◌∷◌, None, Some, refl}
 use Rattle.std.proofs.Math.Nat.{not-le_of_lt}
 use Rattle.std.proofs.lemmas.Bool.{leb-true}

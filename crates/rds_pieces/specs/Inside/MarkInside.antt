@@ -1,4 +1,4 @@
--- What a walk over marks keeps of the next one. Its type does, and `mark_after` promises it.
+-- The invariant of the next mark of a walk over marks. Its type keeps it, and `mark_after` promises it.
 use Rattle.std.specs.Prelude.{ℕ, ◌*◌, ◌≤◌}
 use Rattle.rds_pieces.specs.declared.mark.Mark.{Mark}
 use Rattle.rds_sync.specs.Lawful.{IsLawful}

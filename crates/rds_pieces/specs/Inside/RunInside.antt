@@ -1,4 +1,4 @@
--- What the type of a piece's run keeps. Its calls tell it of the guess.
+-- The invariant of the type of a piece's run. Its calls tell it of the guess.
 use Rattle.std.specs.Prelude.{◌≡◌, ◌-◌, ◌^◌, ◌≤◌}
 use Rattle.rds_stream.specs.Recording.{length_of}
 use Rattle.rds_sync.specs.declared.report.Report.{Report}

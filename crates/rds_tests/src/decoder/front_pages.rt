@@ -1,4 +1,4 @@
-//! The examples of the front pages of `rds_code` and `rds_stream`, and what comes out of them.
+//! The examples of the front pages of `rds_code` and `rds_stream`, and their results.
 use crate::decoder::samples::zero_bytes;
 use rds_code::{
     BlockNumber, BurstLimit, BurstTable, Offset, Reading, Wanted, encode_block, is_block,

@@ -1,4 +1,4 @@
-//! Where the true state meets the guess behind a cut, at each place of a group.
+//! Where the true state meets the guess of the piece after a cut, at each place of a group.
 ghost use Rattle.std.specs.Prelude.{◌≡◌, ◌<◌, IfOk};
 
 use crate::decoder::samples::Sample;
@@ -42,7 +42,7 @@ fn run_over(sample: &Sample, from: u64, to: u64) -> Decoder<'_> {
     Decoder::new(&sample.recording, &sample.rules, State::Searching, from, to)
 }
 
-/// Whether the true run meets the guess behind a cut at a place.
+/// Whether the true run meets the guess after a cut at a place.
 fn meets_at(alloc: Global, sample: &Sample, cut: u64, place: u64) -> bool {
     let state = run_over(sample, 0, cut).end_state();
     match guess_from(alloc, sample, cut) {
@@ -63,7 +63,7 @@ fn acquires_the_second(sample: &Sample, cut: u64) -> bool {
     )
 }
 
-/// Whether the guess behind a cut acquires there, and is met behind that group.
+/// Whether the guess after a cut acquires there, and is met right after that group.
 fn is_met_behind_its_group(alloc: Global, sample: &Sample, cut: u64) -> bool {
     acquires_the_second(sample, cut) && meets_at(alloc, sample, cut, 208)
 }
@@ -122,8 +122,8 @@ fn station(alloc: Global) -> Result<Sample, AllocError> {
     Sample::of(station_bytes(alloc)?, 312, 2, Loss::Run(10))
 }
 
-/// Where the seam at a cut has to meet: while the decoder searches, at the cut itself; else behind the group of the first
-/// block that ends there or later, which the guess acquires.
+/// Where the seam at a cut has to meet: while the decoder searches, at the cut itself; else right after the
+/// group of the first block that ends there or later, which the guess acquires.
 fn met_by_rule(cut: u64) -> u64
     requires { cut < 312 }
 {
@@ -144,7 +144,7 @@ fn first_unruly_cut(alloc: Global, sample: &Sample) -> u64 {
     208
 }
 
-/// That of the station, or 0 where there is no memory for it.
+/// That of the station, or 0 if there is no memory for it.
 fn first_unruly_cut_of_station(alloc: Global) -> u64 {
     match station(alloc) {
         Ok(sample) => first_unruly_cut(alloc, &sample),

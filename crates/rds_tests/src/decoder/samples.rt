@@ -1,5 +1,5 @@
-//! What the tests decode: recordings, the rules that they are read by, and cuttings of them. Recordings and rules that
-//! cannot be made are refused as for want of memory.
+//! The samples that the tests decode: recordings, the rules that they are read by, and cuttings of them.
+//! Recordings and rules that cannot be made are refused as if memory were refused.
 ghost use Rattle.std.specs.Prelude.{◌≡◌, IfOk};
 ghost use Rattle.rds_stream.specs.Recording.{length_of};
 ghost use Rattle.rds_pieces.specs.Cutting.{IsCutting};
@@ -14,7 +14,7 @@ const ZERO_GROUP: [u8; 13] = [
     0x00, 0x00, 0x3F, 0x00, 0x00, 0x19, 0x80, 0x00, 0x05, 0xA0, 0x00, 0x01, 0xB4,
 ];
 
-/// The bytes of zero groups sent one after the other, at least so many bits.
+/// The bytes of zero groups sent one after the other, at least `bits` bits.
 pub fn zero_bytes(alloc: Global, bits: u64) -> Result<Vec<u8>, AllocError> {
     let mut bytes = Vec::new(alloc);
     for _ in 0..bits.div_ceil(104) {
@@ -48,7 +48,7 @@ impl Sample {
         }
     }
 
-    /// So many zero groups, one after the other, whose lock is lost so.
+    /// `groups` zero groups, one after the other, whose lock is lost by this rule.
     pub fn of_groups(alloc: Global, groups: u8, loss: Loss) -> Result<Sample, AllocError> {
         let bits = 104 * u64::from(groups);
         Sample::of(zero_bytes(alloc, bits)?, bits, 2, loss)

@@ -40,7 +40,8 @@ impl Rows for Counted<'_> {
     }
 }
 
-/// Takes a byte a write, and waits before each until so many parts were made, and refuses the write after so many bytes.
+/// Takes one byte per write, waits before each until `parts` parts were made, and refuses the write after
+/// `after` bytes.
 #[derive(Drop)]
 struct Patient<'a> {
     held: Vec<u8>,
@@ -52,7 +53,7 @@ struct Patient<'a> {
 }
 
 impl Patient<'_> {
-    /// Whether so many parts were made before the last turn.
+    /// Whether `parts` parts were made before the last turn.
     fn waited(&self) -> bool {
         for _ in 0..MOST_TURNS {
             if self.rows.made.load(Ordering::SeqCst) >= self.parts {
@@ -62,7 +63,7 @@ impl Patient<'_> {
         false
     }
 
-    /// Whether it failed once, and has so many bytes of this text.
+    /// Whether it failed once, and has the first `after` bytes of this text.
     fn has_failed_at(&self, after: usize, text: &[u8]) -> bool {
         let held = self.held.as_slice();
         self.failures == 1 && held.len() == after && text.starts_with(held)
@@ -101,7 +102,8 @@ impl Sink for Patient<'_> {
     }
 }
 
-/// Whether a writer that waits until two parts a worker are made, and then fails after so many bytes, has these alone.
+/// Whether a writer that waits until two parts per worker are made, and then fails after `after` bytes, has
+/// only these.
 fn leaves<R: Sync + Threads + Wait>(
     rt: &R,
     alloc: Global,
@@ -146,7 +148,7 @@ fn first_wrong<R: Sync + Threads + Wait>(
     13
 }
 
-/// That of four parts a worker, or 0 where there is no memory for them.
+/// That of four parts per worker, or 0 if there is no memory for them.
 fn first_wrong_of_four<R: Sync + Threads + Wait>(rt: &R, alloc: Global, workers: u32) -> usize
     requires some { 0 < workers }
     requires few { workers ≤ 256 }

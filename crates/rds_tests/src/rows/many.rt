@@ -1,5 +1,5 @@
-//! Many runs of small parts, with writers that fail where a number drawn says: 100,000 of them, in eight tests, since one that
-//! shares its processors with many other programs waits long for each thread's turn.
+//! Many runs of small parts, with writers that fail at a place that is drawn: 100,000 of them, in eight
+//! tests, since one that shares its processors with many other programs waits long for each thread's turn.
 ghost use Rattle.std.specs.Prelude.{◌<◌, ◌≤◌};
 
 use crate::rows::stored::Known;
@@ -18,7 +18,7 @@ const FEW_ROWS: usize = 12;
 /// Rows enough for 256 threads with a part each.
 const MANY_ROWS: usize = 256;
 
-/// One run of so many has up to 256 workers, since each is a thread to start.
+/// One run of this many has up to 256 workers, since each is a thread to start.
 const FEW_OF: u64 = 500;
 
 /// Numbers drawn, one after the other.
@@ -50,7 +50,7 @@ impl Drawn {
     }
 }
 
-/// Whether so many workers write the rows as they are, or a beginning of them where the writer failed.
+/// Whether `workers` workers write the rows as they are, or a beginning of them if the writer failed.
 fn are_written<R: Sync + Threads + Wait>(
     rt: &R,
     alloc: Global,

@@ -9,7 +9,7 @@ fn spare_room(alloc: Global, sheet: &mut Sheet) -> usize {
     sheet.spare(alloc).capacity()
 }
 
-/// Whether a sheet gives back the memory in which two rows come, once and only after they are taken off.
+/// Whether a sheet gives back the memory in which two rows come, once and only after the sheet is cleared.
 fn comes_back(alloc: Global, sheet: &mut Sheet) -> bool
     requires { IsBlank (2, 3) sheet.old }
 {

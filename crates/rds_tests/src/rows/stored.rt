@@ -15,7 +15,7 @@ pub struct Stored {
 }
 
 impl Stored {
-    /// So many rows, from row 0 on.
+    /// `count` rows, from row 0 on.
     pub fn new(alloc: Global, count: usize) -> Result<Stored, AllocError> {
         let mut rows = Vec::with_capacity(alloc, count)?;
         for k in 0..count {
@@ -42,7 +42,7 @@ pub struct Known {
 }
 
 impl Known {
-    /// So many rows, from row 0 on.
+    /// `count` rows, from row 0 on.
     pub fn new(alloc: Global, count: usize) -> Result<Known, AllocError> {
         let rows = Stored::new(alloc, count)?;
         let text = rows.text(alloc)?;

@@ -8,7 +8,7 @@ use std::alloc::Global;
 use std::sync::Wait;
 use std::thread::Threads;
 
-/// Whether a writer has this text, and was handed so many bytes or more at a time but for the last.
+/// Whether a writer has this text, and was handed `large` bytes or more at a time but for the last.
 fn has_all(writer: &SlowWriter, text: &[u8], large: usize) -> bool
     requires { 0 < large }
 {
@@ -19,7 +19,7 @@ fn has_all(writer: &SlowWriter, text: &[u8], large: usize) -> bool
 /// How many rows there are.
 const ROWS: usize = 200_000;
 
-/// Whether so many workers write the rows so.
+/// Whether `workers` workers write the rows so.
 fn are_written<R: Sync + Threads + Wait>(
     rt: &R,
     alloc: Global,
@@ -52,13 +52,15 @@ fn many_are_written<R: Sync + Threads + Wait>(rt: &R, alloc: Global) -> bool {
     }
 }
 
-// A write has 64 KiB, or the bytes of a part of the longest rows: of 4,096, or of 256 where there are 256 workers.
+// A write has 64 KiB, or the bytes of a part of the longest rows: of 4,096, or of 256 if there are 256
+// workers.
 #[test]
 fn many_rows_go_in_large_writes(rt: HostRuntime) {
     assert!(rt; many_are_written(&rt, rt.alloc()));
 }
 
-/// Whether so many workers write the rows in parts of so many, 64 KiB or more at a time but for the last.
+/// Whether `workers` workers write the rows in parts of `most` rows, 64 KiB or more at a time but for the
+/// last.
 fn are_written_in_parts<R: Sync + Threads + Wait>(
     rt: &R,
     alloc: Global,
@@ -75,7 +77,7 @@ fn are_written_in_parts<R: Sync + Threads + Wait>(
     result.is_ok() && has_all(&writer, known.text.as_slice(), 65_536)
 }
 
-/// The first of these sizes in parts of which one worker or three do not write the rows so, or 0 where all do.
+/// The first of these sizes in parts of which one worker or three do not write the rows so, or 0 if all do.
 fn first_small<R: Sync + Threads + Wait>(rt: &R, alloc: Global, known: &Known) -> usize {
     for most in [10_923, 16_384, 20_000, 21_846, 30_000, 50_000, ROWS] {
         if !are_written_in_parts(rt, alloc, known, 1, most)
@@ -87,7 +89,7 @@ fn first_small<R: Sync + Threads + Wait>(rt: &R, alloc: Global, known: &Known) -
     0
 }
 
-/// That of many rows. Where there is no memory for them it is the first.
+/// That of many rows. If there is no memory for them it is the first.
 fn first_small_of_many<R: Sync + Threads + Wait>(rt: &R, alloc: Global) -> usize {
     match Known::new(alloc, ROWS) {
         Ok(known) => first_small(rt, alloc, &known),

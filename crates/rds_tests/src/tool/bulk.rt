@@ -9,7 +9,7 @@ use std::thread::Threads;
 /// A line of 64 zeros.
 const LINE: &[u8] = b"0000000000000000000000000000000000000000000000000000000000000000\n";
 
-/// So many lines of zeros, and then a zero group: a recording of four bits a digit.
+/// `lines` lines of zeros, and then a zero group: a recording of four bits per digit.
 fn digits(alloc: Global, lines: usize) -> Result<Vec<u8>, AllocError> {
     let mut digits = Vec::new(alloc);
     for _ in 0..lines {
@@ -34,7 +34,7 @@ fn has_the_windows<R: Threads + Wait + Sync>(rt: &R, alloc: Global, digits: &[u8
 
 const ROWS: &[u8] = b"4194329,A\n4194355,B\n4194381,C\n4194400,B\n4194407,D\n";
 
-// The windows of the group end 4,194,304 bits after those of the group alone, and no other is valid.
+// The windows of the group end 4,194,304 bits after those of the group by itself, and no other is valid.
 #[test]
 fn a_million_digits_are_scanned(rt: HostRuntime) {
     assert!(rt; is_scanned(&rt, rt.alloc()));

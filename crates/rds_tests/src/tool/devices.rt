@@ -1,4 +1,5 @@
-//! A reader over memory that gives as little as it is told and fails on demand, a writer that withholds, and what a job gives.
+//! A reader over memory that gives as little as it is told and fails on demand; a writer that withholds; the
+//! text that a job gives.
 ghost use Rattle.std.specs.Prelude.{◌^◌, ◌<◌, ◌≡◌, Some};
 
 use crate::tool::jobs::Scan;
@@ -75,7 +76,7 @@ impl Source for SlowReader<'_> {
     }
 }
 
-/// A writer of std that hands on what was written only where it is flushed.
+/// A writer of std that hands on its bytes only when it is flushed.
 #[derive(Drop)]
 pub struct Withholding {
     pub held: Vec<u8>,
@@ -161,7 +162,7 @@ pub fn gives_for<R: Threads + Wait + Sync, G: Gate + Sync>(
     gives(rt, alloc, job, &mut reader, gate, Ok(wanted))
 }
 
-/// What a scan of an input in memory answers to this writer of std, how often that failed, and the writer.
+/// The answer of a scan of an input in memory to this writer of std, how often that failed, and the writer.
 pub fn written_to<R: Threads + Wait + Sync, W: Write>(
     rt: &R,
     alloc: Global,
@@ -176,7 +177,7 @@ pub fn written_to<R: Threads + Wait + Sync, W: Write>(
     (answer, failures, writer.into_inner())
 }
 
-/// Whether this answer with this text is what was wanted.
+/// Whether this answer with this text is the wanted one.
 pub fn is_answer(
     answer: Result<(), ToolError>,
     text: &[u8],

@@ -1,5 +1,6 @@
-//! What readers and writers of std are handed. No contract says it: one that gives or takes a byte a call has all
-//! clauses too, but would end at 16,777,216 bytes, and go through a call of the system for each.
+//! The buffers that readers and writers of std are handed. No contract says it: one that gives or takes one
+//! byte per call has all clauses too. But it would end at 16,777,216 bytes, and go through a call of the
+//! system for each.
 use crate::tool::devices::{SlowReader, scan_gives, written_to};
 use crate::tool::jobs::Scan;
 use rds_tool::{FromRead, ToolError};
@@ -9,7 +10,7 @@ use std::io::{Read, Write};
 use std::sync::Wait;
 use std::thread::Threads;
 
-/// What a reader notes: how often it was read, and the sizes of the buffers that it was handed.
+/// The notes of a reader: how often it was read, and the sizes of the buffers that it was handed.
 #[derive(Drop)]
 struct Reads {
     count: u64,
@@ -142,7 +143,7 @@ fn is_scanned<R: Sync + Threads + Wait>(rt: &R, alloc: Global, noted: Noted<'_>)
     scan_gives(rt, alloc, Scan::Bytes, &mut reader, Ok(ROWS))
 }
 
-/// Whether a reader that gives so many of these bytes a read is answered so.
+/// Whether a reader that gives `step` of these bytes per read is answered so.
 fn is_read_by<R: Sync + Threads + Wait>(
     rt: &R,
     alloc: Global,
@@ -154,7 +155,7 @@ fn is_read_by<R: Sync + Threads + Wait>(
     scan_gives(rt, alloc, Scan::Bytes, &mut reader, wanted)
 }
 
-/// Whether these bytes are too many by a byte a read, and read by two and by all at once.
+/// Whether these bytes are too many at one byte per read, and are read at two per read and all at once.
 fn is_read_but_by_one<R: Sync + Threads + Wait>(rt: &R, alloc: Global, bytes: &[u8]) -> bool {
     is_read_by(rt, alloc, bytes, 1, Err(ToolError::TooManyTurns))
         && is_read_by(rt, alloc, bytes, 2, Ok(ROWS))
@@ -183,7 +184,7 @@ fn a_writer_of_std_is_handed_all_that_is_left(rt: HostRuntime) {
     assert!(rt; under.writes == 1 && under.first == 26 && under.flushes == 1);
 }
 
-/// What a writer that takes so many bytes a call notes of the scan of a zero group.
+/// The notes of a writer that takes `step` bytes per call, from the scan of a zero group.
 fn written<R: Sync + Threads + Wait>(rt: &R, alloc: Global, step: usize) -> Notes {
     let notes = Notes::new(alloc, step, false);
     let digits = b"00003f000019800005a00001b4";
@@ -195,7 +196,7 @@ fn a_failing_flush_is_a_refusal_of_an_empty_text_too(rt: HostRuntime) {
     assert!(rt; is_refused_unflushed(&rt, rt.alloc()));
 }
 
-/// Whether a scan that writes nothing is refused where the flush fails, which is asked for once.
+/// Whether a scan that writes nothing is refused if the flush fails, which is asked for once.
 fn is_refused_unflushed<R: Sync + Threads + Wait>(rt: &R, alloc: Global) -> bool {
     let notes = Notes::new(alloc, 1, true);
     let (answer, _failures, under) = written_to(rt, alloc, Scan::Nothing, b"", notes);

@@ -1,4 +1,4 @@
-//! Devices that withhold what they are given, or have no end.
+//! Devices that withhold the bytes that they are given, or have no end.
 ghost use Rattle.std.specs.Prelude.{◌≤◌, length};
 
 use crate::tool::devices::{SlowReader, Withholding, scan_gives, written_to};
@@ -12,14 +12,15 @@ const ZERO_GROUP: &[u8] = b"00003f000019800005a00001b4";
 
 const ROWS: &[u8] = b"25,A\n51,B\n77,C\n96,B\n103,D\n";
 
-// No contract of std says what a flush does, so none of ours can: a writer that waits for it tells.
+// No contract of std defines the effect of a flush, so none of ours can: a writer that waits for it tells.
 #[test]
 fn a_flush_reaches_the_writer_of_std(rt: HostRuntime) {
     assert!(rt; hands_on(&rt, rt.alloc(), false, Ok(()), 26));
     assert!(rt; hands_on(&rt, rt.alloc(), true, Err(ToolError::Write), 0));
 }
 
-/// Whether a scan to a writer of std that waits for its flush is answered so, and so many bytes are handed on.
+/// Whether a scan to a writer of std that waits for its flush is answered so, and this number of bytes is
+/// handed on.
 fn hands_on<R: Threads + Wait + Sync>(
     rt: &R,
     alloc: Global,
@@ -35,7 +36,7 @@ fn hands_on<R: Threads + Wait + Sync>(
         && under.handed_on == handed_on
 }
 
-// A byte a read has to end within 16,777,216 reads; a read that gives all that it may takes 64 KiB.
+// One byte per read has to end within 16,777,216 reads; a read that gives all that it may takes 64 KiB.
 #[test]
 fn a_reader_without_an_end_is_left(rt: HostRuntime) {
     assert!(rt; long_reader_is_left(&rt, rt.alloc()));
@@ -65,7 +66,7 @@ fn is_left_in_time<R: Threads + Wait + Sync>(rt: &R, alloc: Global, bytes: &[u8]
         && is_read(rt, alloc, bytes, usize::MAX, Ok(b""), 257)
 }
 
-/// Whether a reader that gives so many of these bytes a read is answered so, after so many reads of 64 KiB.
+/// Whether a reader that gives `step` of these bytes per read is answered so, after `reads` reads of 64 KiB.
 fn is_read<R: Threads + Wait + Sync>(
     rt: &R,
     alloc: Global,

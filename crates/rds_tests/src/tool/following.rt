@@ -29,7 +29,8 @@ fn rows_of(bytes: u8) -> &'static str {
     }
 }
 
-/// Whether the rows that the first `bytes` bytes complete, one a read, are flushed before the next read, which fails.
+/// Whether the rows that the first `bytes` bytes complete, one per read, are flushed before the next read,
+/// which fails.
 fn are_flushed_after(alloc: Global, rules: &Rules, bytes: u8) -> bool {
     let mut reader = SlowReader::new(&GROUPS, 1, u64::from(bytes) + 1);
     let mut writer = ToWrite::new(Withholding::new(alloc, false));

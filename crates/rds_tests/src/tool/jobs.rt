@@ -11,7 +11,7 @@ pub fn ungapped(alloc: Global, hex: bool, bits: Option<u64>) -> Input {
     }
 }
 
-/// What a scan reads.
+/// The input of a scan.
 #[derive(Clone, Copy)]
 pub enum Scan {
     /// All bits of hexadecimal text.

@@ -19,7 +19,7 @@ const TOTALS: &str =
     total,lost,0,-,-,-,-,-\ntotal,bits,0,-,-,-,-,-\ntotal,groups,8000,-,-,-,-,-\n\
     total,complete,7999,-,-,-,-,-\ntotal,acquired,1,-,-,-,-,-\ntotal,losses,0,-,-,-,-,-\n";
 
-/// Puts their list behind a text: block 2 of the first acquires, and each group is whole from then on.
+/// Appends their list to a text: block 2 of the first acquires, and each group is whole from then on.
 fn push_list(text: &mut String) -> Result<(), AllocError> {
     text.push_str("acquired,51,2,-,-,-,-,-\ngroup,26,0,A,none,B:0000,C:0000,D:0000\n")?;
     for group in 1..GROUPS {
@@ -29,7 +29,8 @@ fn push_list(text: &mut String) -> Result<(), AllocError> {
     text.push_str(TOTALS)
 }
 
-/// Puts their scan behind a text: the four blocks, a window within the last two, and between two groups one more.
+/// Appends their scan to a text: the four blocks, a window within the last two, and between two groups one
+/// more.
 fn push_scan(text: &mut String) -> Result<(), AllocError> {
     text.push_str("25,A\n51,B\n77,C\n96,B\n103,D\n")?;
     for group in 1..GROUPS {
@@ -38,7 +39,8 @@ fn push_scan(text: &mut String) -> Result<(), AllocError> {
     Ok(())
 }
 
-/// The window before the blocks of a group that comes behind another, and its own: how far behind its first bit they end.
+/// The window before the blocks of a group that follows another, and its own: how far after its first bit
+/// they end.
 static WINDOWS: [(u8, &'static str); 6] = [
     (19, "B"),
     (25, "A"),
@@ -48,7 +50,7 @@ static WINDOWS: [(u8, &'static str); 6] = [
     (103, "D"),
 ];
 
-/// Puts the windows of a group that begins there behind a text, and the one before it.
+/// Appends to a text the windows of a group that begins at `from`, and the one before it.
 fn push_windows(text: &mut String, from: u64) -> Result<(), AllocError>
     requires { from < 2 ^ 32 }
 {
@@ -66,7 +68,7 @@ enum Long {
     Scan(u32),
 }
 
-/// The jobs, each by one worker and by several.
+/// The jobs, each with one worker and with several.
 static JOBS: [Long; 4] = [Long::List(1), Long::List(3), Long::Scan(1), Long::Scan(3)];
 
 impl Long {

@@ -11,7 +11,7 @@ use std::thread::Threads;
 /// Burst, reach and the rule of loss.
 type Rules = (u32, u32, Loss);
 
-/// A recording, and what a list and totals of it write, by whatever crew.
+/// A recording, and the texts that a list and totals of it write, by whatever crew.
 pub struct Sample {
     /// The recording, in hexadecimal digits.
     digits: &'static str,
@@ -65,7 +65,7 @@ pub static A_LOSS: Sample = sample!(
 );
 
 impl Sample {
-    /// Whether its list and its totals are its texts, in such pieces and by so many workers.
+    /// Whether its list and its totals are its texts, in such pieces and by `workers` workers.
     pub fn is_given<R: Threads + Wait + Sync>(
         &self,
         rt: &R,
@@ -130,7 +130,7 @@ impl Sample {
     }
 }
 
-/// What is written of a sample.
+/// The text that is written for a sample.
 #[derive(Clone, Copy)]
 pub enum Rows {
     OfList,

@@ -12,7 +12,7 @@ use std::thread::Threads;
 /// The turns after which a worker no longer waits for the others.
 const MOST_TURNS: u64 = 1_000_000_000;
 
-/// A gate at which each piece waits until so many are begun, and notes a miss where they never are.
+/// A gate at which each piece waits until `wanted` are begun, and notes a miss if they never are.
 #[derive(Drop)]
 struct Barrier {
     wanted: u64,
@@ -44,7 +44,8 @@ impl Gate for Barrier {
     fn done(&self, _j: u64, _run: &PieceRun) {}
 }
 
-/// Whether so many workers list the two groups in these pieces, with so many of them begun before the first is done.
+/// Whether `workers` workers list the two groups in these pieces, and begin `at_once` of them before the
+/// first is done.
 fn work_at_once<R: Sync + Threads + Wait>(
     rt: &R,
     alloc: Global,

@@ -1,4 +1,5 @@
--- Words of command lines: the command, the text of each option's entry, and what `clap` finds wrong with them.
+-- Words of command lines: the command, the text of each option's entry, and the faults that `clap` finds in
+-- them.
 use Rattle.std.specs.Prelude.{◌≡◌, List, None, Option, Some, [], ◌∷◌, codes, map, refl}
 use Rattle.std.specs.Option.{option_map}
 use Rattle.clap.specs.Takes.{flags_pass, walk_passes}
@@ -84,7 +85,7 @@ pub no_fault : faults_of each_option ≡ []
 unfolding walked bundle_met flags_pass walk_passes flags_fault walk_fault defaults_fault
 no_fault = refl
 
--- these words behind the name of the program have just these faults
+-- these words after the name of the program have just these faults
 abbrev pub HaveFaults : List (List Text × List ErrorKind) → Type 0
 HaveFaults rows = map (λ row. faults_of (codes "rds" ∷ row.0)) rows ≡ map (λ row. row.1) rows
 

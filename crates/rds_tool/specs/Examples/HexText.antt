@@ -1,5 +1,5 @@
--- Hexadecimal input: digits of either case, two a byte, among which space, tab, carriage return and line feed don't
--- count.
+-- Hexadecimal input: digits of either case, two per byte, among which space, tab, carriage return and line
+-- feed don't count.
 use Rattle.std.specs.Prelude.{◌≡◌, [], ◌∷◌, ◌++◌, Err, Ok, codes, refl}
 use Rattle.hex.specs.Hex.{decode_pairs}
 use Rattle.rds_tool.specs.Input.{decoded}

@@ -1,4 +1,4 @@
--- What words ask for, and what may be answered where they ask for help, have a fault, or ask for a job.
+-- The jobs that words ask for, and the answers allowed if they ask for help, have a fault, or ask for a job.
 use Rattle.std.specs.Prelude.{◌≡◌, Bool, List, None, Option, Some, [], ◌∷◌, codes, false, is_some, length, nat_eq, refl, slice_index, true}
 use Rattle.std.proofs.Common.{ap, inl, inr, sym}
 use Rattle.std.proofs.lemmas.Bool.{false≢true, leb-true}
@@ -78,7 +78,7 @@ for_loss_beside_share = codes "rds" ∷ codes "list" ∷ codes "--share" ∷ cod
 abbrev pub for_of_without_share : List Text
 for_of_without_share = codes "rds" ∷ codes "totals" ∷ codes "--of=64" ∷ []
 
--- what stands there by default does not count, and the same number given does
+-- a default does not count, and the same number given does
 pub defaults_alone : mixed_by (codes "rds" ∷ codes "list" ∷ []) ≡ Some false
 unfolding walked
 defaults_alone = refl
@@ -121,7 +121,7 @@ nothing_by_both (Follow input rules) is = false≢true (sym (ap begins_with_l is
 abbrev pub totals_job : Job
 totals_job = Totals (hex_bits 0) (settings_of 1 4 5 7 6)
 
--- with its progress, which is told where the words ask for that alone
+-- with its progress, which is told only if the words ask for it
 pub totals : IsAskedOf (entries_of each_option) (AskedJob totals_job true)
 unfolding walked
 totals = (
@@ -158,7 +158,7 @@ ten = ((leb-true 1 2 refl, (leb-true 2 10 refl, (leb-true 1 10 refl, tt))), leb-
 pub four : Spells 32 (Some (codes "4")) 4
 four = ((leb-true 1 1 refl, (leb-true 5 10 refl, tt)), leb-true 5 4294967296 refl, refl)
 
--- by four workers, where the words say no number
+-- by four workers, if the words say no number
 pub scan : IsAskedOf (entries_of (codes "rds" ∷ codes "scan" ∷ [])) (AskedJob (Scan raw_input 4) false)
 unfolding walked
 scan = ((refl, record { hex = no_flag; bits = refl; gaps = refl }, four), no_flag)
@@ -297,7 +297,7 @@ no_help (inr other) = other
 pub no_job : MayAnswer [] None Words
 no_job = inr (refl, λ asked is. is)
 
--- where there is a job, neither help nor a refusal of the words may be answered
+-- if there is a job, neither help nor a refusal of the words may be answered
 pub not_help : MayAnswer (faults_of each_option) (entries_of each_option) Help → ⊥
 unfolding walked bundle_met flags_pass walk_passes flags_fault walk_fault defaults_fault
 not_help among = among

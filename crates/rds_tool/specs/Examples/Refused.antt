@@ -1,4 +1,4 @@
--- What a job refuses, in the order of looking: its settings, its text, its bits, its cuts.
+-- The refusals of a job, in the order of looking: its settings, its text, its bits, its cuts.
 use Rattle.std.specs.Prelude.{◌≡◌, List, [], ◌∷◌, Err, ℕ, codes, false, map, refl}
 use Rattle.std.specs.Global.{Vec}
 use Rattle.hex.specs.Hex.{decode_pairs}

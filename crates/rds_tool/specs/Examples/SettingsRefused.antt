@@ -28,7 +28,7 @@ whole_share = refl
 abbrev pub AreRefused : List (Settings × ToolError) → Type 0
 AreRefused rows = map (λ row. plan_of row.0) rows ≡ map (λ row. Err row.1) rows
 
--- past one end alone
+-- past only one end
 pub past_an_end : AreRefused (
     (settings_of 6 3 10 4 16, BurstRange)
     ∷ (settings_of 2 0 10 4 16, ReachRange)

@@ -17,7 +17,7 @@ hex_input = record { hex = true; bits = None; gaps = [] }
 abbrev pub raw_input : Input
 raw_input = record { hex = false; bits = None; gaps = [] }
 
--- so many bits of hexadecimal text, and of bytes as they are
+-- the first `bits` bits of hexadecimal text, and of bytes as they are
 abbrev pub hex_bits : ℕ → Input
 hex_bits bits = record { hex = true; bits = Some bits; gaps = [] }
 
@@ -29,7 +29,7 @@ abbrev pub settings_of : ℕ → ℕ → ℕ → ℕ → ℕ → Settings
 settings_of burst reach loss workers pieces =
     record { burst = burst; reach = reach; loss = Run loss; workers = workers; cuts = Even pieces }
 
--- the same, where a lock is lost by a share of the last blocks
+-- the same, if a lock is lost by a share of the last blocks
 abbrev pub share_settings : ℕ → ℕ → ℕ → ℕ → Settings
 share_settings burst bad of workers =
     record { burst = burst; reach = 3; loss = Share bad of; workers = workers; cuts = Even 16 }
@@ -37,6 +37,6 @@ share_settings burst bad of workers =
 abbrev pub default_settings : Settings
 default_settings = settings_of 2 3 10 4 16
 
--- the default rules, with so many workers and cut so
+-- the default rules, with this number of workers and these cuts
 abbrev pub cut_settings : ℕ → Cuts → Settings
 cut_settings workers cuts = record { burst = 2; reach = 3; loss = Run 10; workers = workers; cuts = cuts }

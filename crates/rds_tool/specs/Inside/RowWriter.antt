@@ -8,7 +8,7 @@ use Rattle.csv.specs.declared.writer.Writer.{Writer}
 abbrev pub text_of : {Z : Type 0} → Writer (Vec ℕ Z) → List ℕ
 text_of rows = (writer_under rows).items ++ writer_pending rows
 
--- it has the defaults of `csv`, and no field of a row stands yet
+-- it has the defaults of `csv`, and no field of a row is written yet
 pub record IsBetween {W : Type 0} (rows : Writer W) : Type 0 where
   pub setup : writer_setup rows ≡ default_writer
   pub fields : fields_written rows ≡ 0

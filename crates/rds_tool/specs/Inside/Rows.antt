@@ -12,7 +12,7 @@ use Rattle.rds_tool.specs.Listing.{item_row, named_totals, total_row, window_row
 abbrev pub rows_of_report : List Item → Totals → List (List ℕ)
 rows_of_report items totals = map item_row items ++ map total_row (named_totals totals)
 
--- the row of a window, where there is one
+-- the row of a window, if there is one
 abbrev pub row_where : Option (ℕ × Offset) → List ℕ
 row_where None = []
 row_where (Some window) = window_row window

@@ -12,7 +12,7 @@ pub record IsFollowed (terms : Terms) (bits : Option ℕ) (live : LiveOf) (from 
   pub short : 8 * length heard ≤ 2 ^ 36
   pub all_count : AllCount bits heard
 
--- how many bits are left, where so many are claimed
+-- how many of the claimed bits are left, 0 if none are claimed
 abbrev pub bits_left : Option ℕ → ℕ → ℕ
 bits_left None place = 0
 bits_left (Some bits) place = bits - place
@@ -22,7 +22,7 @@ abbrev pub IsNearEnd : Option ℕ → ℕ → Option (List ℕ) → Type 0
 IsNearEnd None place to = IsAtEnd to
 IsNearEnd (Some bits) place to = (bits < place + 8) ⊎ IsAtEnd to
 
--- the same, where the reader's last answer tells the end
+-- the same, if the reader's last answer tells the end
 abbrev pub IsNearAnswer : Option ℕ → ℕ → Bool → Type 0
 IsNearAnswer None place ended = ended ≡ true
 IsNearAnswer (Some bits) place ended = (bits < place + 8) ⊎ (ended ≡ true)

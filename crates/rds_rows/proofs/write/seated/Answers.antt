@@ -9,7 +9,7 @@ use Rattle.rds_rows.proofs.write.seated.Given.{Over}
 use Rattle.rds_rows.proofs.write.seated.Goals.{After-by_pool}
 use Rattle.rds_rows.proofs.write.seated.Goals as goal
 
--- the parts, one behind the other, are all rows
+-- the parts, one after the other, are all rows
 whole : (g : Over) (c : After-by_pool g) → first_parts g.J.Named.part c.args.plan.parts ≡ concat (g.T.Rows.rows c.args.rows.now)
 whole g c =
     ap (λ part. first_parts part c.args.plan.parts) c.requires.named.1 ∙ all_rows (g.T.Rows.rows c.args.rows.now) g.J.Named.size.0 c.args.plan.parts c.requires.parts

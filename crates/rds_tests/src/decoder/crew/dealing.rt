@@ -1,4 +1,4 @@
-//! Dealers and their seats: what each call answers, to one thread and to many.
+//! Dealers and their seats: the answer of each call, to one thread and to many.
 ghost use Rattle.std.specs.Prelude.{◌≡◌, None};
 ghost use Rattle.rds_crew.specs.Seats.{IsFresh, IsOf, HasRested};
 
@@ -61,7 +61,8 @@ fn two_draws_that_were_finished_are_closed_as_two_of_each(rt: HostRuntime) {
     assert!(rt; are_dealt(&rt, rt.alloc(), 2, 1) && are_dealt(&rt, rt.alloc(), 2, 2));
 }
 
-/// Whether the seat of a dealer of one piece tells what it holds, has finished and was told.
+/// Whether the seat of a dealer of one piece tells the number that it holds, and how many it has finished and
+/// was told.
 fn tells_its_steps(dealer: &Dealer, seat: Seat) -> bool
     requires { IsFresh dealer.now seat }
 {
@@ -78,7 +79,7 @@ fn holds(seat: &Seat, j: u64) -> bool {
     seat.holding() == Some(j) && seat.finished() == 0 && !seat.ended()
 }
 
-/// Whether a seat has finished one piece, and was told that so many are: one.
+/// Whether a seat has finished one piece, and was told that one is finished.
 fn has_done_one(seat: &Seat, done: u64) -> bool {
     done == 1 && seat.told() == 1 && seat.finished() == 1
 }
@@ -105,7 +106,7 @@ fn a_dealer_of_no_pieces_is_drawn_from_twice(rt: HostRuntime) {
     assert!(rt; one_seat_does(rt.alloc(), 0));
 }
 
-/// Whether the one seat of a dealer tells its steps over its one piece, or ends where it has none.
+/// Whether the one seat of a dealer tells its steps over its one piece, or ends if it has none.
 fn one_seat_does(alloc: Global, pieces: u32) -> bool {
     let Ok((dealer, mut seats)) = Dealer::new(alloc, u64::from(pieces), 1) else {
         return false;

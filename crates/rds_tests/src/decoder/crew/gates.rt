@@ -1,5 +1,5 @@
-//! What gates and works see of a crew at its work. No contract says it: neither that workers run at the same time,
-//! nor when a gate is called, nor whose runs make the report.
+//! The calls that a crew makes of gates and works. No contract says it: neither that workers run at the same
+//! time, nor when a gate is called, nor whose runs make the report.
 ghost use Rattle.rds_stream.specs.Recording.{length_of};
 ghost use Rattle.rds_pieces.specs.Cutting.{IsCutting};
 
@@ -16,7 +16,7 @@ use std::thread::Threads;
 /// The turns after which a worker no longer waits for others.
 const MOST_TURNS: u64 = 1_000_000_000;
 
-/// What one worker waits for: that others come, so many of them.
+/// One worker waits here until `wanted` others have come.
 #[derive(Drop)]
 pub struct Meeting {
     wanted: u64,
@@ -85,7 +85,7 @@ impl<R: Wait> Gate for Watch<'_, R> {
 /// The cut between two zero groups.
 const HALVES: &[u64] = &[104];
 
-/// What one worker does with two pieces, in order.
+/// The events of one worker with two pieces, in order.
 static EVENTS: [Event; 10] = [
     Event::Begun(0),
     Event::Guessed(0),
@@ -99,7 +99,7 @@ static EVENTS: [Event; 10] = [
     Event::Reported,
 ];
 
-/// Has a crew of so many workers make a work's report: whether it did.
+/// Has a crew of `workers` workers make a work's report: whether it did.
 fn decode<R: Threads + Wait, W: Work + Sync, G: Gate + Sync>(
     rt: &R,
     alloc: Global,
@@ -131,7 +131,7 @@ fn note_cut<'a, R: Sync + Threads + Wait, G: Gate + Sync>(
     decode(journal.rt, alloc, &work, workers, gate)
 }
 
-/// Has a crew decode so many zero groups, cut so, by such a work.
+/// Has a crew decode `groups` zero groups, cut so, by such a work.
 pub fn note_groups<R: Sync + Threads + Wait, G: Gate + Sync>(
     alloc: Global,
     groups: u8,
@@ -179,7 +179,7 @@ fn others_come<R: Sync + Threads + Wait>(rt: &R, alloc: Global) -> bool {
     note_groups(alloc, 2, &[52, 104, 156], 2, &journal, &gate) && !gate.others.was_missed()
 }
 
-// Fixed shares would miss: there piece 2 waits behind piece 0.
+// Fixed shares would miss: there piece 2 waits until piece 0 is done.
 #[test]
 fn a_worker_makes_all_else_while_another_is_held_back(rt: HostRuntime) {
     assert!(rt; others_come(&rt, rt.alloc()));
@@ -213,7 +213,7 @@ fn two_workers_run_at_the_same_time_and_their_runs_make_the_report(rt: HostRunti
     assert!(rt; two_workers_meet(&rt, rt.alloc()));
 }
 
-/// Whether one worker does in order what it has to with two pieces.
+/// Whether one worker does its steps with two pieces in order.
 fn one_worker_is_seen<R: Sync + Threads + Wait>(rt: &R, alloc: Global) -> bool {
     let journal = Journal::new(rt, alloc);
     note_groups(alloc, 2, HALVES, 1, &journal, &journal) && journal.has(0, &EVENTS)

@@ -1,4 +1,4 @@
-//! A gate and a work that keep what a crew does.
+//! A gate and a work that keep the events of a crew.
 use rds_crew::Gate;
 use rds_pieces::{Cutting, PieceError, PieceRun, RecordingWork, Work};
 use rds_stream::Recording;
@@ -7,7 +7,7 @@ use std::alloc::Global;
 use std::snapshot::Snapshot;
 use std::sync::{Mutex, Wait};
 
-/// What a crew does.
+/// An event of a crew.
 #[derive(Clone, Copy, PartialEq, Eq)]
 pub enum Event {
     Begun(u64),
@@ -21,7 +21,7 @@ pub enum Event {
     Reported,
 }
 
-/// What a run shows of itself.
+/// The parts of a run that it shows.
 #[derive(Clone, Copy, PartialEq, Eq)]
 struct Shown {
     from: u64,
@@ -41,8 +41,8 @@ impl Shown {
     }
 }
 
-/// A gate that keeps what happens, in order, and the runs: those that it is shown, that are joined, and that a report
-/// is made of, each beside its event.
+/// A gate that keeps the events, in order, and the runs: those that it is shown, that are joined, and that a
+/// report is made of, each beside its event.
 #[derive(Drop)]
 pub struct Journal<'a, R> {
     pub rt: &'a R,
@@ -69,7 +69,7 @@ impl<'a, R: Wait> Journal<'a, R> {
         let _kept = self.runs.lock(self.rt).push((event, Shown::of(run)));
     }
 
-    /// Whether that is what happened from event `first` on.
+    /// Whether these are the events from event `first` on.
     pub fn has(&self, first: usize, events: &[Event]) -> bool {
         self.events.lock(self.rt).as_slice().get(first..) == Some(events)
     }

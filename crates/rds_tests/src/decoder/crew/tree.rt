@@ -45,7 +45,7 @@ fn the_joins_of_a_level_are_made_at_the_same_time(rt: HostRuntime) {
 /// The cuts between five zero groups.
 const BETWEEN: &[u64] = &[104, 208, 312, 416];
 
-/// What comes after the 15 events of the guesses of five pieces of a group each, by one worker.
+/// The events after the 15 of the guesses of five pieces of a group each, by one worker.
 static LEVELS: [Event; 13] = [
     Event::JoinBegun(1, 0),
     Event::Joined(0, 208),

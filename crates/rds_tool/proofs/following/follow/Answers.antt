@@ -20,7 +20,7 @@ early_is_any e (inr (inr (inl write))) = inr (inr (inl write))
 early_is_any e (inr (inr (inr (inl long)))) = inr (inr (inr (inl long)))
 early_is_any e (inr (inr (inr (inr gaps)))) = inr (inr (inr (inr (inr gaps))))
 
--- want of the last bits, and of memory for the last rows, may break it off too
+-- missing last bits, and refused memory for the last rows, may break it off too
 last_is_any : (e : ToolError) → (e ≡ Read) ⊎ (e ≡ BitsPastBytes) → MayBreakOff e
 last_is_any e (inl read) = inr (inl read)
 last_is_any e (inr short) = inr (inr (inr (inr (inl short))))

@@ -7,7 +7,7 @@ use Rattle.rds_tool.specs.Listing.{item_row}
 use Rattle.rds_tool.proofs.Followed.{has_rows}
 use Rattle.rds_tool.proofs.following.push_rows.Goals as goal
 
--- the rows of the items that come next stand behind those that were pushed before
+-- the rows of the items that come next are after those that were pushed before
 pushed : (terms : Terms) (before bytes written old new : List ℕ) (items slice : List Item) → complete terms (before ++ bytes) ≡ complete terms before ++ items
     → slice ≡ items → new ≡ old ++ flat_map item_row slice → rows_so_far terms before ≡ written ++ old → rows_so_far terms (before ++ bytes) ≡ written ++ new
 pushed terms before bytes written old new items slice more same is so_far =

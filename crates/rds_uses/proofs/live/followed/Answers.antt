@@ -11,7 +11,7 @@ use Rattle.rds_tool.specs.Outcome.{Writes, list_text}
 use Rattle.rds_uses.proofs.Outcomes.{given_back}
 use Rattle.rds_uses.proofs.live.followed.Goals as goal
 
--- where something was written, this was not refused
+-- if something was written, this was not refused
 not_refused : (p : Bool) (e : ToolError) (rest : Result Signal ToolError) (rules : RuleNumbers) (text : List ℕ)
     → Writes (Some []) (Some text) (and_then (if p then Err e else rest) (λ recording. Ok (list_text rules recording)))
     → Writes (Some []) (Some text) (and_then rest (λ recording. Ok (list_text rules recording)))
