@@ -72,7 +72,7 @@ enum {
     RDS_BLOCK_RANGE = 67,     /* a word of more than 26 bits */
     RDS_OFFSET_RANGE = 68,    /* an offset that is none of RDS_A to RDS_C_OR_CX */
     RDS_NO_REFUSAL = 69,      /* no refusal has this number */
-    RDS_BAD_POINTER = 70,     /* a pointer that cannot be what is required of it */
+    RDS_BAD_POINTER = 70,     /* a pointer that does not meet its requirement */
     RDS_RESERVED_FIELD = 71   /* a reserved field of the rules is not 0 */
 };
 
@@ -156,7 +156,7 @@ typedef struct rds_stream_t {
     uint64_t place;      /* how many bits were heard, which is the place of the next */
     rds_state_t state;   /* the state after them */
     rds_totals_t totals; /* of the items that are complete */
-    uint8_t tail[32];    /* the last 30 bytes that were heard, or all, and zeros behind them */
+    uint8_t tail[32];    /* the last 30 bytes that were heard, or all, then zeros */
     uint64_t reserved;   /* always 0 */
 } rds_stream_t;
 

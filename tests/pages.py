@@ -373,7 +373,7 @@ TURNS = re.compile(
     re.I,
 )
 # How many are left where other things than words are changed now. These only shrink.
-TURNS_LEFT = {"lib/rds.h": 11, "help": 2}
+TURNS_LEFT = {"help": 2}
 
 
 def compare_words(program, pages):

@@ -131,7 +131,7 @@ def facts(structs, reasons):
     sizes = {name: layout_of(name, structs)[0] for name in structs}
     at_once = number_in("crates/rds_live/src/room.rt", r"AT_ONCE: usize = (\d+);")
     kept = number_in("crates/rds_abi/src/following.rt", r"MOST_KEPT: u64 = (\d+);")
-    most_bits = number_in("crates/rds_abi/src/asked.rt", r"MOST_BITS: u64 = 1 << (\d+);")
+    most_bits = number_in("crates/rds_stream/src/packed.rt", r"MOST_BITS: u64 = 1 << (\d+);")
     ranges = {number: [int(it) for it in re.findall(r"\d+", said)] for number, said in reasons.items()}
     burst, reach, loss, word = ranges[1][-1], ranges[2], ranges[3], ranges[67][0]
     # two items a bit at most, which the law runs_give_few_items says

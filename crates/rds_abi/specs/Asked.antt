@@ -64,7 +64,7 @@ RefusesRules rules other = ⊥
 abbrev pub AreReserved : RdsRules → Type 0
 AreReserved rules = rules.reserved ≡ replicate 4 0
 
--- what is refused of rules as C has them: a reserved field first
+-- refusals of rules as C has them: a reserved field first
 abbrev pub RefusesGiven : RdsRules → Refusal → Type 0
 RefusesGiven rules ReservedField = AreReserved rules → ⊥
 RefusesGiven rules refusal = AreReserved rules × RefusesRules (rules_of rules) refusal

@@ -59,7 +59,7 @@ rules_in_c rules = record {
   reserved = replicate 4 0;
 }
 
--- and as such numbers: by the first a stream is known, and the order of bytes; behind the tail stand zeros; so equal streams are
+-- and as such numbers: by the first a stream is known, and the order of bytes; zeros follow the tail; so equal streams are
 -- equal numbers
 abbrev pub stream_in_c : LiveOf → RdsStream
 stream_in_c live = record {

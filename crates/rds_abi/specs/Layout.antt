@@ -1,4 +1,4 @@
--- How totals, blocks and items lie in C: plain numbers alone. Each call that writes some cites it. This project's rules.
+-- The layout of totals, blocks and items in C: plain numbers only. Each call that writes some cites it. This project's rules.
 use Rattle.std.specs.Prelude.{ℕ, [], ◌∷◌, map, replicate, Option, None, Some, if◌then◌else◌}
 use Rattle.rds_code.specs.declared.offset.Offset.{Offset}
 use Rattle.rds_code.specs.declared.offset.Offset.TheVariants as offset

@@ -47,7 +47,7 @@ fn lock_of(rules: &Rules, s: RdsState, place: u64) -> Option<State>
     }
 }
 
-/// Whether the numbers name this rule of loss, and nothing else stands behind it.
+/// Whether the numbers name this rule of loss, and nothing else.
 fn is_by(loss: Loss, s: RdsState) -> bool
     ensures { (result ≡ true) ↔ ((s.loss ≡ (the_loss_in_c loss).0) × (s.of ≡ (the_loss_in_c loss).1) × (s.reserved ≡ 0)) }
 {
