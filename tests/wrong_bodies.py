@@ -17,6 +17,8 @@ the function behind it under another name, with the same contract and the same p
 
 An edit with a line `equal: WHY` leaves the meaning as it was: it may be refused by lines, and by no goal.
 
+It fails, too, where an edit of must-fail/ cannot be made, of which `rt ci` only warns.
+
 With --right the right bodies are tried in the same way, in the place of the wrong ones, and none may be refused. With --cut each
 crate is checked as its edits of must-fail/ cut it, without what they make wrong: it must be proved. With --beside
 what `rt ci` says is written to LOG meanwhile, with a line 'proofs: ended' behind it: each crate waits until those that it
@@ -246,16 +248,36 @@ def build(crates):
             sys.exit(f"{it} is not proved: no wrong body is tried above it")
 
 
+def pairs_of(crate, file):
+    """The pairs of an edit of must-fail/: a file of the crate, the text that goes, and what comes in its place."""
+    path, old = "", ""
+    for it in read(f"{CRATES}/{crate}/must-fail/{file}").splitlines():
+        key, _, said = it.partition(": ")
+        if key == "new":
+            yield path, old, said
+        path = said if key == "file" else path
+        old = said
+
+
+def check_pairs(crate):
+    """Fails where an edit of must-fail/ cannot be made: `rt ci` only warns of that."""
+    for file in sorted(os.listdir(f"{CRATES}/{crate}/must-fail")):
+        texts = {}
+        for path, old, new in pairs_of(crate, file):
+            text = texts.get(path) or read(f"{CRATES}/{crate}/{path}")
+            if text.count(old) != 1:
+                sys.exit(f"{crate}/must-fail/{file}: the text stands {text.count(old)} times in {path}, and not once: {old}")
+            texts[path] = text.replace(old, new)
+        if not texts:
+            sys.exit(f"{crate}/must-fail/{file}: it changes nothing")
+
+
 def cut(folder, crate):
     """Leaves out of a copy what the crate's edits of must-fail/ leave out: modules, by `#[cfg(test)]`, and files, by a comment over each."""
     for file in sorted(os.listdir(f"{CRATES}/{crate}/must-fail")):
-        path, old = "", ""
-        for it in read(f"{CRATES}/{crate}/must-fail/{file}").splitlines():
-            key, _, said = it.partition(": ")
-            path = f"{folder}/{crate}/{said}" if key == "file" else path
-            if key == "new" and said in (f"#[cfg(test)] {old}", f"{{-{old[2:]}", f"{old} -}}"):
-                write(path, read(path).replace(old, said))
-            old = said
+        for path, old, new in pairs_of(crate, file):
+            if new in (f"#[cfg(test)] {old}", f"{{-{old[2:]}", f"{old} -}}"):
+                write(f"{folder}/{crate}/{path}", read(f"{folder}/{crate}/{path}").replace(old, new))
 
 
 def is_cut_proved(crate):
@@ -277,7 +299,7 @@ def is_cut_proved(crate):
 
 
 def try_cuts(names):
-    crates = [it for it in LIBRARIES if it in (names or LIBRARIES)]
+    crates = [it for it in [*LIBRARIES, EXPORTED] if it in (names or [*LIBRARIES, EXPORTED])]
     build(crates)
     with ThreadPoolExecutor(len(os.sched_getaffinity(0))) as pool:
         return 0 if all(list(pool.map(is_cut_proved, crates))) else 1
@@ -354,6 +376,8 @@ def tried(crates, are_right, log):
 
 def main(names, are_right, log):
     told = told_of()
+    for it in (it for it in os.listdir(CRATES) if os.path.isdir(f"{CRATES}/{it}/must-fail")):
+        check_pairs(it)
     crates = [it for it in [*LIBRARIES, EXPORTED, CALLERS, PROGRAM] if os.path.isdir(f"{CRATES}/{it}/wrong")]
     if unknown := [it for it in names if it not in crates]:
         sys.exit(f"there are no wrong bodies of {', '.join(unknown)}")
