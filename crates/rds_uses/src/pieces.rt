@@ -23,7 +23,8 @@ use rds_pieces::{
 };
 use rds_stream::{Counted, Recording, Tape};
 use rds_sync::{
-    Decoder, ItemIter, Items, Report, Rules, State, SyncError, Totals, laws as laws_of_runs, run,
+    Decoder, ItemIter, Items, Loss, Report, Rules, State, SyncError, Totals, laws as laws_of_runs,
+    run,
 };
 use std::alloc::{AllocError, Global};
 use std::slice;

@@ -187,7 +187,7 @@ pub fn tested_run(
     if !state.is_lawful(rules, 0) {
         return Ok(true);
     }
-    let (end, _codes) = run_codes(alloc, recording, rules, state, 0, recording.len())?;
+    let (end, _items) = run(alloc, recording, rules, state, 0, recording.len())?;
     Ok(end.is_lawful(rules, recording.len()))
 }
 
@@ -513,7 +513,7 @@ pub fn nothing_while_waiting(
     requires bad { IsLawfulBad rules.now.loss bad }
     requires order { from ≤ due }
     requires soon { due ≤ from + 25 }
-    requires whole { 25 ≤ due }
+    requires whole { 77 ≤ due }
     requires within { due < length_of recording.now }
     ensures { result ≡ None }
 {
