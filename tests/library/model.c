@@ -363,5 +363,6 @@ bool model_is_lawful(const rds_rules_t *rules, uint64_t place, const struct know
         return false;
     if (state->number == 1 ? state->first != 1 : state->first < 1 || state->first >= state->number || state->number > 4)
         return false;
-    return state->due >= 26 * blocks + 25;
+    /* nothing acquires before place 51, so no block is due before 77 */
+    return state->due >= 77 && state->due >= 26 * blocks + 25;
 }
