@@ -118,6 +118,9 @@ fi
 # said COMMAND..: what it says of the sample
 said() { "$@" <"$sample"; }
 wanted='7691 valid, 1923 groups'
+sed -n 's/^ \*     //p' lib/rds.h >"$work/header.c"
+tried 'the program of rds.h' "${CC:-cc}" -std=c11 "${strict[@]}" -o "$work/header" "$work/header.c" "$library/librds.a"
+same 'what it says' "$wanted" "$(said "$work/header")"
 install=(make -s -o build/lib/librds.so.0 install-lib "DESTDIR=$work/root" PREFIX=/usr)
 if has pkg-config make; then
   if [ "$library" = "$(realpath build/lib)" ]; then

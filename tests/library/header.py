@@ -139,15 +139,15 @@ def facts(structs, reasons):
     group_bits = 4 * word
     yield from ((rf"{text}: (\d+) bytes", [sizes[name]]) for text, name in (
         ("The twelve totals of a report", "RdsTotals"), ("A block", "RdsBlock"), ("An item of a report", "RdsItem"),
-        ("The numbers of a decoder's rules", "RdsRules"), ("What a run knows between two bits", "RdsState"),
-        ("What is known of a stream between two chunks", "RdsStream"), ("The information words of a group's four blocks", "RdsWords")))
+        ("The numbers of a decoder's rules", "RdsRules"), ("The state of a run between two bits", "RdsState"),
+        ("The state of a stream between two chunks", "RdsStream"), ("The information words of a group's four blocks", "RdsWords")))
     yield r"A gap in a recording.*?before end\. (\d+) bytes", [sizes["RdsGap"]]
     yield r"The (\d+) bits of a group as it is sent, the first bit highest: (\d+) bytes", [group_bits, sizes["RdsPacked"]]
     yield r"the same (\d+) bytes are left", [sizes["RdsStream"]]
     yield r"the last (\d+) bytes that were heard", [kept]
-    yield r"items\[ROOM\]; +// (\d+) are enough", [per_byte]
+    yield r"items\[(\d+)\]; +// room for (\d+) is always enough", [per_byte] * 2
+    yield r"&stream, items, (\d+), &taken", [per_byte]
     yield r"completes at most (\d+) items: room for (\d+) is never too little, and count is at most (\d+) times taken", [per_byte] * 3
-    yield r"do not fit \((\d+)\)", [64]
     yield r"items that (\d+) bytes may complete", [at_once]
     yield r"(\d+)\^(\d+) bits", [2, most_bits]
     yield r'such as "(\d+)\.(\d+)\.(\d+)"', three_of(re.search(r"^Version: (.*)$", text_of(f"{TOP}/lib/rds.pc.in"), re.M)[1])
@@ -155,36 +155,33 @@ def facts(structs, reasons):
     yield r"hears up to (\d+) bits before", [word * reach[1] + word - 1]
     yield r"gaps of the range and of the (\d+) bits before it", [number_in("crates/rds_abi/src/part.rt", r"HEARD_BEFORE: u64 = (\d+);")]
     yield r"word of (?:more than )?(\d+) bits", [word]
+    yield r"(\d+)-bit word", [word]
     yield r"code, below (\d+)\.", [1 << 10]
     yield r"burst is above (\d+)", [burst]
     yield r"is corrected, in bits: (\d+) to (\d+)", [0, burst]
     yield r"up to limit bits, (\d+) to (\d+)", [0, burst]
     yield r"the span of their burst: (\d+) to (\d+) bits", [1, burst]
     yield r"reach is not (\d+) to (\d+)", reach
-    yield r"partner is looked for while acquiring: (\d+) to (\d+)", reach
+    yield r"at most so far apart in blocks: (\d+) to (\d+)", reach
     yield r"loss is not (\d+) to (\d+)", loss
-    yield r"bad blocks a lock is lost: (\d+) to (\d+)", loss
+    yield r"how many bad blocks lose sync: (\d+) to (\d+)", loss
     yield r"loss is (\d+) or above of, or of above (\d+)", [0, ranges[15][1]]
     yield r"last blocks: loss to (\d+)", [ranges[15][1]]
-    yield r"the number of the next block, (\d+) to (\d+), or (\d+) where", [1, 4, 0]
-    yield r"its block, (\d+) to (\d+); of a group its type, (\d+) to (\d+), or (\d+) where unknown", [1, 4, 0, 15, 255]
+    yield r"the number of the next block, (\d+) to (\d+), or (\d+) without sync", [1, 4, 0]
+    yield r"its block, (\d+) to (\d+); of a group its type, (\d+) to (\d+), or (\d+) if unknown", [1, 4, 0, 15, 255]
     yield r"RDS_VERSION_UNKNOWN; else (\d+)", [0]
     yield r"(\d+) for a group whose blocks (\d+) and (\d+) name", [1, 2, 3]
     yield r"(\d+) times the first number, (\d+) times", [1 << 16, 1 << 8]
     yield r"the library's own from (\d+) on", [min(number for number in reasons if number > 60)]
-    yield r"too little room \((\d+)\)", [64]
-    yield r"can have left are refused \((\d+)\)", [65]
-    yield r"by another it is refused \((\d+)\)", [65]
-    yield r"differ in any of that are refused \((\d+)\)", [65]
     yield r"whether there is one, (\d+)(?: \*)? or (\d+)", [1, 0]
 
 
 def refusal_lists():
-    """The order of refusals at each function, as rds_abi's docs have it too."""
+    """The order of errors at each function, as rds_abi's docs have it too."""
     yield "rds_totals", [71, 1, 2, 3, 15, 5, 4, 16, 8]
     yield "rds_items", [64]
     yield "rds_run", [66, 65, 64]
-    yield "rds_push", [71, 1, 2, 3, 15, 16, 65, 5, 36, 64, 8]
+    yield "rds_push", [71, 1, 2, 3, 15, 16, 65, 5, 64, 8]
     yield "rds_finish", [5]
     yield "rds_finish_with", [4, 5]
     yield "rds_remainder", [67]
@@ -193,9 +190,10 @@ def refusal_lists():
     yield "rds_refusal_name", [69, 64]
 
 
-# Numbers that say what they are by themselves, such as a place from 0, or an array of 16 * CHUNK.
-PLAIN = [r"from 0\b", r"stream = \{0\}", r"fread\(bytes, 1, CHUNK, stdin\)\) > 0\)", r"return 1;", r"NULL, 0, &rules", r"k = 0;", r"at = 0;", r"items, 1, &count", r"returns 0, or", r"all 0 where",
-         r", or 0\b", r"\b0 none", r"always 0\b", r"has to be 0\b", r"the rules is not 0\b", r"at place 0\b", r"with a 0 behind it", r"the 0 behind it", r"^ \* 0 where", r"\b0 where these"]
+# Numbers that say what they are by themselves, such as a place from 0.
+PLAIN = [r"from 0\b", r"bytes\[4096\]", r"fread\(bytes, 1, sizeof bytes, stdin\)\) > 0\)", r"items\[0\] to items\[count - 1\]", r"return 1;",
+         r"NULL, 0, &rules", r"at = 0;", r"items, 1, &count", r"returns 0, or", r"if p_len is 0\b", r"all 0 (?:if|without|before)", r"; or 0\b",
+         r", or 0\b", r"\b0 none", r"always 0\b", r"has to be 0\b", r"the rules is not 0\b", r"at place 0\b", r"\b0 if these"]
 
 
 def compare_comments(faults, text, structs):
@@ -203,12 +201,12 @@ def compare_comments(faults, text, structs):
     comments = re.findall(r"/\*(.*?)\*/", text, re.S)
     page = "\n\n".join(re.sub(r"\s*\n \* ?", " ", it) for it in comments)
     functions = re.findall(r"/\*((?:(?!\*/).)*)\*/\s*(?:RDS_MUST_USE\s+)?\w+ (rds_\w+)\(", text, re.S)
-    lists = {name: re.sub(r"\s*\n \* ?", " ", comment).partition("Refusals: ")[2].replace("2^", "") for comment, name in functions}
-    got = {name: [int(it) for it in re.findall(r"\d+", text)] for name, text in lists.items()}
+    lists = {name: re.sub(r"\s*\n \* ?", " ", comment).partition(" Errors")[2] for comment, name in functions}
+    numbers_of = definitions()
+    got = {name: [numbers_of.get(it) for it in re.findall(r"\bRDS_\w+", text)] for name, text in lists.items()}
     wanted = dict(refusal_lists())
     for name, numbers in wanted.items():
-        faults.same(f"refusals of {name}", numbers, got.get(name))
-    page = re.sub(r"(?<=[.] )Refusals: .*", "", page)
+        faults.same(f"errors of {name}", numbers, got.get(name))
     for pattern, numbers in facts(structs, reasons):
         found = re.findall(pattern, page)
         if not found:
@@ -246,7 +244,7 @@ def main():
     print(f"{len(numbers)} numbers changed, {len(unseen)} not noticed")
     for it in unseen:
         print(f"  {text[max(0, it.start() - 40) : it.end() + 20]!r}")
-    return bool(faults or unseen) or len(numbers) < 150
+    return bool(faults or unseen) or len(numbers) < 140
 
 
 if __name__ == "__main__":
