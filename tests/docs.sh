@@ -88,7 +88,7 @@ output=docs/OUTPUT.md
 planted $output 's/^| `acquired` |/| `locked` |/' "$output, rows"
 planted $output 's/^| `bits` |/| `bit` |/' "$output, totals"
 planted rds.1 '/^\.Cm encode$/,/^\.Nm$/s/^\.Op Fl -hex$/.Op Fl -bits/' 'rds.1, options of encode'
-planted rds.1 's/^bits, 0 to 5; 2 where/bits, 0 to 5; 1 where/' 'rds.1, default of --burst'
+planted rds.1 's/^bits, 0 to 5; default 2/bits, 0 to 5; default 1/' 'rds.1, default of --burst'
 planted rds.1 's/threads, 1 to 256;/threads, 1 to 255;/' 'rds.1, range of --workers'
 planted rds.1 's/^\.It 12 GroupText/.It 12 LineText/' 'rds.1, refusals'
 planted rds.1 's/^\.It Li lost$/.It Li loss/' 'rds.1, rows'

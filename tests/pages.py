@@ -128,7 +128,7 @@ def compare_options(program, manual, using):
         text, entry = program.every_option.get(name, ""), manual.said.get(name, "")
         default = number_in(r"\[default: (\d+)\]", text)
         same(f"docs/USING.md, default of --{name}", default, number_in(r"default (\d+)", values))
-        same(f"rds.1, default of --{name}", default, number_in(r"(\d+) where it is not given", entry))
+        same(f"rds.1, default of --{name}", default, number_in(r"default (\d+)", entry))
         # what a share may be depends on another option, and is told in words
         if name != "share" and span_in(text):
             same(f"docs/USING.md, range of --{name}", span_in(text), span_in(values))
