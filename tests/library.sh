@@ -63,7 +63,7 @@ same 'what librds.a needs' 'free malloc memcpy memmove memset realloc' "$(nm -u 
 # Programs of version 0.2: compiled against its header, linked with a library that had its names and did nothing, run with this one.
 earlier=$work/earlier
 mkdir "$earlier"
-cp tests/library/rds-0.2.h "$earlier/rds.h"
+cp tests/library/rds_0_2.h "$earlier/rds.h"
 { echo '#include "rds.h"'; awk '/^(uint|const).*\(/ {on = 1} on {end = sub(/;$/, " { return 0; }"); print} end {on = end = 0}' "$earlier/rds.h"; } \
   >"$earlier/stub.c"
 echo 'RDS_0.2 { global: rds_*; local: *; };' >"$earlier/stub.map"

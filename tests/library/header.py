@@ -126,7 +126,7 @@ def compare_versions(faults, text, library, program):
 
 # ---- what programs were compiled against
 
-EARLIER = f"{TOP}/tests/library/rds-0.2.h"
+EARLIER = f"{TOP}/tests/library/rds_0_2.h"
 
 
 def declared(text):
