@@ -1,6 +1,6 @@
 //! The forms of each task, over a whole recording.
 use crate::sample::Heard;
-use rds_code::{offset_of, plain, rem26};
+use rds_code::{offset_of, plain};
 use rds_pieces::{Cutting, speculate};
 use rds_stream::{Recording, ValidWindows, scan};
 use rds_sync::{Decoder, Rules, State, Totals, decode_plain};
@@ -9,10 +9,6 @@ use std::alloc::Global;
 /// A form of a task.
 #[derive(Clone, Copy)]
 pub enum Form {
-    /// The remainders of as many blocks as the recording has bits, which it does not read: by tables.
-    Tables,
-    /// Those by long division.
-    Division,
     /// The valid windows, as a list.
     Scan,
     /// Those one after the other.
@@ -30,14 +26,18 @@ pub enum Form {
 }
 
 impl Form {
+    /// The forms that find the valid windows.
+    pub const WINDOWS: [Form; 4] = [Form::Scan, Form::Windows, Form::Places, Form::DividedPlaces];
+
+    /// The forms that find the valid blocks.
+    pub const BLOCKS: [Form; 3] = [Form::Report, Form::Guess, Form::Items];
+
     pub fn name(self) -> &'static str {
         match self {
-            Form::Tables => "remainders by tables",
-            Form::Division => "by long division",
             Form::Scan => "windows as a list",
             Form::Windows => "one after the other",
             Form::Places => "place by place",
-            Form::DividedPlaces => "places by long division",
+            Form::DividedPlaces => "by long division",
             Form::Report => "one decoder",
             Form::Guess => "a guess",
             Form::Items => "item by item",
@@ -48,8 +48,6 @@ impl Form {
     pub fn find(self, alloc: Global, heard: &Heard) -> Option<u64> {
         let (recording, rules) = (&heard.recording, &heard.rules);
         match self {
-            Form::Tables => Some(by_tables(recording.len())),
-            Form::Division => Some(by_division(recording.len())),
             Form::Scan => listed(alloc, recording),
             Form::Windows => Some(one_after_the_other(recording)),
             Form::Places => Some(place_by_place(recording)),
@@ -59,23 +57,6 @@ impl Form {
             Form::Items => Some(item_by_item(recording, rules)),
         }
     }
-}
-
-/// The sum of the remainders, which all have to be found for it.
-fn by_tables(blocks: u64) -> u64 {
-    let mut found = 0u64;
-    for block in 0..blocks {
-        found = found.wrapping_add(rem26((block % (1 << 26)) as u32) as u64);
-    }
-    found
-}
-
-fn by_division(blocks: u64) -> u64 {
-    let mut found = 0u64;
-    for block in 0..blocks {
-        found = found.wrapping_add(plain::rem26((block % (1 << 26)) as u32) as u64);
-    }
-    found
 }
 
 fn listed(alloc: Global, recording: &Recording) -> Option<u64> {

@@ -32,56 +32,41 @@ static FORMS: [Form; 5] = [
     Form::Items,
 ];
 
-/// Times each form over three sizes of each sample: an error if one keeps growing faster than that.
+/// Times each form over three sizes of each sample: an error if its time keeps growing faster than that.
 pub fn check(rt: &HostRuntime) -> Result<()> {
     for sample in &SAMPLES {
-        attempt(rt, *sample)?;
+        check_sample(rt, *sample)?;
     }
     Ok(())
 }
 
-fn attempt(rt: &HostRuntime, sample: Sample) -> Result<()> {
+fn check_sample(rt: &HostRuntime, sample: Sample) -> Result<()> {
+    for form in &FORMS {
+        attempt(rt, *form, sample)?;
+    }
+    Ok(())
+}
+
+fn attempt(rt: &HostRuntime, form: Form, sample: Sample) -> Result<()> {
     for _ in 0..ATTEMPTS {
-        if grow_as_the_recording(rt, sample)? {
+        if grows_as_its_recording(rt, form, sample)? {
             return Ok(());
         }
     }
     bail!("the time of a form grows faster than its recording")
 }
 
-/// Whether the time of no form is too long for that over the size before.
-fn grow_as_the_recording(rt: &HostRuntime, sample: Sample) -> Result<bool> {
-    let small = times(rt, sample, BITS)?;
-    let middle = times(rt, sample, 4 * BITS)?;
-    let large = times(rt, sample, 16 * BITS)?;
-    let mut all = true;
-    for (k, form) in FORMS.iter().enumerate() {
-        println!(rt;
-            "{:<24} {}, {} and {} ns",
-            form.name(),
-            small[k],
-            middle[k],
-            large[k]
-        )?;
-        all = all && is_slow_growth(small[k], middle[k]) && is_slow_growth(middle[k], large[k]);
-    }
-    Ok(all)
+/// Shows a form's times: whether none is too long for that over the size before.
+fn grows_as_its_recording(rt: &HostRuntime, form: Form, sample: Sample) -> Result<bool> {
+    let small = time_over(rt, form, sample, BITS)?;
+    let middle = time_over(rt, form, sample, 4 * BITS)?;
+    let large = time_over(rt, form, sample, 16 * BITS)?;
+    println!(rt; "{:<20} {small}, {middle} and {large} ns", form.name())?;
+    Ok(middle <= small.saturating_mul(MOST) && large <= middle.saturating_mul(MOST))
 }
 
-fn is_slow_growth(before: u64, after: u64) -> bool {
-    after <= before.saturating_mul(MOST)
-}
-
-/// The times of the forms over about `bits` bits of a sample.
-fn times(rt: &HostRuntime, sample: Sample, bits: u64) -> Result<[u64; 5]> {
+/// The time of a form over about `bits` bits of a sample.
+fn time_over(rt: &HostRuntime, form: Form, sample: Sample, bits: u64) -> Result<u64> {
     let heard = Heard::of(rt.alloc(), sample, bits)?;
-    times_over(rt, &heard)
-}
-
-fn times_over(rt: &HostRuntime, heard: &Heard) -> Result<[u64; 5]> {
-    let mut times = [0u64; 5];
-    for (time, form) in times.iter_mut().zip(&FORMS) {
-        *time = least_time(rt, *form, heard)?.0;
-    }
-    Ok(times)
+    Ok(least_time(rt, form, &heard)?.0)
 }

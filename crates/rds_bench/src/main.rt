@@ -13,39 +13,30 @@ mod standards;
 mod timing;
 mod two_guesses;
 
-use anyhow::{Context, Result};
+use anyhow::Result;
 use forms::Form;
 use sample::Sample;
 use std::env;
 
-const USAGE: &str = "usage: rds_bench MEASUREMENT [BITS [SAMPLE]]
-       rds_bench --check    short recordings: an error if a slow form takes the place of a fast one, or time grows too fast
-       rds_bench --calls    calls that a crew is made of, each by itself, and once more if it is refused
-
-  remainder  the remainder by tables, and by long division
-  scan       the valid windows: a list, one after the other, place by place, by long division
-  run        the valid blocks: of the report of one decoder, of a guess of one piece, of the items one by one
-
-BITS is the length of the recording, by default 100000000. SAMPLE is its content: 'station', a station's groups as they
-were sent (the default), 'damaged', with one bit of about 500 wrong, 'worst', with blocks 2 and 4 of each group
-uncorrectable, 'losing', two groups of a station and four of noise by turns, or 'noise'.
+const USAGE: &str = "usage: rds_bench scan     the valid windows of noise, in four ways
+       rds_bench run      the valid blocks of a station, of damaged groups and of noise, in three ways
+       rds_bench --check  an error if a slow form takes the place of a fast one, or time grows too fast
+       rds_bench --calls  calls that a crew is made of, each by itself, and once more if it is refused
 ";
-
-/// The length of a recording by default.
-const BITS: u64 = 100_000_000;
 
 fn main(rt: HostRuntime) -> Result<()> {
     let words: Vec<String> = env::args(&rt)?.skip(1).collect(rt.alloc())?;
-    run(&rt, words.as_slice())
+    run(&rt, words.first().map(String::as_str))
 }
 
-/// Does as these words ask.
-fn run(rt: &HostRuntime, words: &[String]) -> Result<()> {
-    match words.first().map(String::as_str) {
+/// Does as this word asks.
+fn run(rt: &HostRuntime, word: Option<&str>) -> Result<()> {
+    match word {
         Some("--check") => check(rt),
         Some("--calls") => calls::show(rt),
-        Some(name) => measure(rt, name, words),
-        None => show_usage(rt),
+        Some("scan") => timing::show(rt, &Form::WINDOWS, Sample::Noise),
+        Some("run") => measure_runs(rt),
+        _ => show_usage(rt),
     }
 }
 
@@ -54,37 +45,11 @@ fn check(rt: &HostRuntime) -> Result<()> {
     growth::check(rt)
 }
 
-/// Makes the measurement of this name, as the words after it ask.
-fn measure(rt: &HostRuntime, name: &str, words: &[String]) -> Result<()> {
-    let forms = forms_of(name);
-    if forms.is_empty() {
-        return show_usage(rt);
+fn measure_runs(rt: &HostRuntime) -> Result<()> {
+    for sample in &[Sample::Station, Sample::FAIR, Sample::Noise] {
+        timing::show(rt, &Form::BLOCKS, *sample)?;
     }
-    timing::show(rt, forms, sample_in(words.get(2))?, bits_in(words.get(1))?)
-}
-
-/// The forms that a measurement compares. A word that names none has none.
-fn forms_of(name: &str) -> &'static [Form] {
-    match name {
-        "remainder" => &[Form::Tables, Form::Division],
-        "scan" => &[Form::Scan, Form::Windows, Form::Places, Form::DividedPlaces],
-        "run" => &[Form::Report, Form::Guess, Form::Items],
-        _ => &[],
-    }
-}
-
-fn bits_in(word: Option<&String>) -> Result<u64> {
-    match word {
-        Some(text) => text.parse::<u64>().context("BITS is no number"),
-        None => Ok(BITS),
-    }
-}
-
-fn sample_in(word: Option<&String>) -> Result<Sample> {
-    match word {
-        Some(name) => Sample::named(name).context("SAMPLE is no sample"),
-        None => Ok(Sample::Station),
-    }
+    Ok(())
 }
 
 fn show_usage(rt: &HostRuntime) -> Result<()> {

@@ -23,25 +23,13 @@ pub enum Sample {
 
 impl Sample {
     /// A station with one bit of about 500 turned, as in fair reception.
-    const FAIR: Sample = Sample::Damaged(63);
+    pub const FAIR: Sample = Sample::Damaged(63);
 
     /// After how many bad blocks in a row the lock is lost when this is decoded.
     fn loss(self) -> u32 {
         match self {
             Sample::Worst => 1,
             _ => 10,
-        }
-    }
-
-    /// The sample of this name.
-    pub fn named(name: &str) -> Option<Sample> {
-        match name {
-            "station" => Some(Sample::Station),
-            "damaged" => Some(Sample::FAIR),
-            "worst" => Some(Sample::Worst),
-            "losing" => Some(Sample::Losing),
-            "noise" => Some(Sample::Noise),
-            _ => None,
         }
     }
 
@@ -128,10 +116,7 @@ fn push_group(bytes: &mut Vec<u8>, words: [u16; 4]) -> Result<(), AllocError> {
         | (second as u128) << 52
         | (third as u128) << 26
         | fourth as u128;
-    for k in 0..13u32 {
-        bytes.push((packed >> (96 - 8 * k) & 255) as u8)?;
-    }
-    Ok(())
+    bytes.extend_from_slice(&packed.to_be_bytes()[3..])
 }
 
 /// The bits of blocks 2 and 4 that are turned in a group of thirteen bytes: three of each, which are no burst.

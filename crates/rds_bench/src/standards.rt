@@ -1,7 +1,7 @@
 //! Whether each slow form still takes longer than the fast one, so that it has not taken its place.
 use crate::forms::Form;
 use crate::sample::{Heard, Sample};
-use crate::timing::{hundredths, least_time};
+use crate::timing::{least_time, percent};
 use anyhow::{Result, bail};
 
 /// The length of each recording: some milliseconds a form.
@@ -17,14 +17,14 @@ struct Pair {
     fast: Form,
 }
 
-const DIVISION: Pair = Pair {
-    slow: Form::Division,
-    fast: Form::Tables,
+const LISTED: Pair = Pair {
+    slow: Form::Places,
+    fast: Form::Scan,
 };
 
-const DIVIDED_PLACES: Pair = Pair {
+const DIVIDED: Pair = Pair {
     slow: Form::DividedPlaces,
-    fast: Form::Scan,
+    fast: Form::Places,
 };
 
 const PLACES: Pair = Pair {
@@ -40,9 +40,9 @@ const ITEMS: Pair = Pair {
 /// The pairs, each with the sample of its task, and how many hundredths of the fast form's time the slow one takes at
 /// least. If a run searches most of the time, both do the same.
 static STANDARDS: [(Pair, Sample, u64); 9] = [
-    (DIVISION, Sample::Noise, 400),
-    (DIVIDED_PLACES, Sample::Noise, 1000),
+    (LISTED, Sample::Noise, 300),
     (PLACES, Sample::Noise, 300),
+    (DIVIDED, Sample::Noise, 150),
     // Of the bits none, 0.0005, 0.003, 0.01 and 0.03 are wrong.
     (ITEMS, Sample::Station, 111),
     (ITEMS, Sample::Damaged(250), 111),
@@ -81,9 +81,9 @@ fn ratio(rt: &HostRuntime, pair: Pair, heard: &Heard) -> Result<u64> {
     if found != same {
         bail!("the two forms find {found} and {same}");
     }
-    let ratio = hundredths(slow, fast);
+    let ratio = percent(slow, fast);
     println!(rt;
-        "{:<24} {ratio} % of the time of '{}'",
+        "{:<20} {ratio} % of the time of '{}'",
         pair.slow.name(),
         pair.fast.name()
     )?;

@@ -24,41 +24,37 @@ fn nanos_since(rt: &HostRuntime, start: Instant) -> Result<u64> {
     Ok(u64::try_from(start.elapsed(rt)?.as_nanos()).unwrap_or(u64::MAX))
 }
 
-/// Shows the time of each of these forms over as many bits of a sample.
-pub fn show(rt: &HostRuntime, forms: &[Form], sample: Sample, bits: u64) -> Result<()> {
-    let heard = Heard::of(rt.alloc(), sample, bits)?;
+/// The length of the recordings that are not compared with a bound.
+const BITS: u64 = 100_000_000;
+
+/// Shows the time of each of these forms over a sample.
+pub fn show(rt: &HostRuntime, forms: &[Form], sample: Sample) -> Result<()> {
+    let heard = Heard::of(rt.alloc(), sample, BITS)?;
     show_over(rt, forms, &heard)
 }
 
 fn show_over(rt: &HostRuntime, forms: &[Form], heard: &Heard) -> Result<()> {
-    let mut first = None;
+    let mut first = 0u64;
     for form in forms {
         let (nanos, found) = least_time(rt, *form, heard)?;
-        let of_first = hundredths(nanos, *first.get_or_insert(nanos));
-        let of_a_bit = hundredths(nanos, heard.recording.len());
-        show_row(rt, form.name(), of_a_bit, of_first, found)?;
+        first = if first == 0 { nanos } else { first };
+        show_row(rt, form.name(), nanos, percent(nanos, first), found)?;
     }
     Ok(())
 }
 
 /// How many hundredths of a number another one is.
-pub fn hundredths(of: u64, whole: u64) -> u64 {
+pub fn percent(of: u64, whole: u64) -> u64 {
     of.saturating_mul(100) / whole.max(1)
 }
 
-/// Shows a form's time, in hundredths of a nanosecond per bit and of the first form's time.
 fn show_row(
     rt: &HostRuntime,
     name: &str,
-    of_a_bit: u64,
+    nanos: u64,
     of_first: u64,
     found: u64,
 ) -> Result<(), io::Error> {
-    println!(rt;
-        "{name:<24} {}.{:02} ns per bit, {}.{:02} times the first, count {found}",
-        of_a_bit / 100,
-        of_a_bit % 100,
-        of_first / 100,
-        of_first % 100
-    )
+    let picoseconds = nanos / (BITS / 1000);
+    println!(rt; "{name:<20} {picoseconds} ps per bit, {of_first} % of the first, count {found}")
 }
