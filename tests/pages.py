@@ -432,7 +432,7 @@ def main():
     compare_claims()
     compare_maps()
     compare_glossary()
-    compare_links(pages)
+    compare_links(pages + [f"monitor/{name}" for name in sorted(os.listdir("monitor")) if name.endswith(".md")])
     compare_commands(program, pages)
     compare_sentences(pages)
     compare_length(pages)
