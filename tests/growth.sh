@@ -73,14 +73,17 @@ spend() {
     fi
 }
 
+# The program of the jobs, or one that calls the library.
+program=$rds
+
 # measure SIZE WORDS..: the least time of the job of this size so far, into least[SIZE]
 measure() {
     local size=$1 before=${least[$1 / 4]:-60000}
-    spend $((most * before)) "$input.$size" "$rds" "${@:2}"
+    spend $((most * before)) "$input.$size" "$program" "${@:2}"
     ((spent > ${least[size]:-spent})) || least[size]=$spent
 }
 
-# words_of SIZE WORDS..: the words of the job of this size, a line each; PIECES and GAPS grow as the input does
+# words_of SIZE WORDS..: the words of the job of this size, a line each; PIECES, GAPS and COUNT grow as the input does, to a million
 words_of() {
     local size=$1 word
     shift
@@ -88,6 +91,7 @@ words_of() {
         case $word in
             PIECES) echo $((16 * size)) ;;
             GAPS) gaps $((300 * size)) ;;
+            COUNT) echo $((62500 * size)) ;;
             *) echo "$word" ;;
         esac
     done
@@ -188,6 +192,11 @@ if [ -n "$library" ]; then
     beside 4 cat station.16 ./run 16384 beside "${one[@]}"
     beside 8 cat station.16 ./run 4096 beside "${one[@]}"
     beside 2 cat station.16 ./push 65536 10000 beside "${one[@]}" --gaps "$many"
+    # a million gaps: over the whole stream, and at each call for a few bytes
+    program=./push
+    job station 65536 COUNT
+    head -c 16384 station.1 >few
+    beside 4 cat few ./push 64 1000000 beside ./push 64 1000000 look
 else
     echo 'skipped: calls of the library, which is not given'
 fi

@@ -173,6 +173,11 @@ class Group:
     version: Optional[str]
     conflict: bool
 
+    @property
+    def words(self) -> Tuple[Optional[int], ...]:
+        """The information words of the four blocks, if they are known."""
+        return tuple(it.info for it in self.blocks)
+
 
 @dataclass(frozen=True)
 class Loss:
