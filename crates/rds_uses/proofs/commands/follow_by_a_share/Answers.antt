@@ -7,4 +7,4 @@ pub returns : goal.returns
 returns c =
     let words_are : map (λ word. word.now) c.as_slice.result.now ≡ follow_by_a_share = search rules in
     let entries = c.asked_of.ensures.entries in
-    IfOk-weaker c.asked_of.result _ _ has_the_share (rw words_are at entries)
+    IfOk-weaker c.asked_of.result _ _ (λ asked is. has_the_share asked.request is.request) (rw words_are at entries)

@@ -7,7 +7,7 @@ pub returns-clause-job : goal.returns-clause-job
 returns-clause-job c =
     let words_are : map (λ word. word.now) c.as_slice.result.now ≡ scan_of_digits = search rules in
     let entries = c.asked_of.ensures.entries in
-    IfOk-weaker c.asked_of.result _ _ is_scan (rw words_are at entries)
+    IfOk-weaker c.asked_of.result _ _ (λ asked is. is_scan asked.request is.request) (rw words_are at entries)
 
 pub returns-clause-fault : goal.returns-clause-fault
 returns-clause-fault c =

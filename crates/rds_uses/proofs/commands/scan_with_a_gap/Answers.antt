@@ -7,4 +7,4 @@ pub returns : goal.returns
 returns c =
     let words_are : map (λ word. word.now) c.as_slice.result.now ≡ scan_with_a_gap = search rules in
     let entries = c.asked_of.ensures.entries in
-    IfOk-weaker c.asked_of.result _ _ has_the_gap (rw words_are at entries)
+    IfOk-weaker c.asked_of.result _ _ (λ asked is. has_the_gap asked.request is.request) (rw words_are at entries)
