@@ -392,6 +392,7 @@ line_of() {
 for _ in 1 2 3 4 5 6 7 8; do cat "$here/../examples/station.bin"; done >"$work/stations"
 share='written [0-9]+ MB, rows of [1-9][0-9]? % of the bits, [0-9]+ s left'
 line_of 'the pieces of a list are told' 'decoded [12] of 2 pieces, [0-9]+ s left' list --pieces 2 --workers 2
+line_of 'the pieces of a list by one worker are told' 'decoded [12] of 2 pieces, [0-9]+ s left' list --pieces 2 --workers 1
 line_of 'the share of the rows of a list is told' "$share" list --workers 1
 line_of 'the share of the rows of a scan is told' "$share" scan --workers 2
 line_of 'the share of so many bits is told' "$share" scan --bits 1500000
