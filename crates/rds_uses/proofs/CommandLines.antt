@@ -21,6 +21,11 @@ use Rattle.rds_tool.specs.declared.job.Job.TheVariants as job
 use Rattle.rds_tool.specs.declared.job.Request.{Request}
 use Rattle.rds_tool.specs.declared.job.Request.TheVariants as request
 
+-- the request of what is asked
+pub request_of : (entries : Option (Text × List Row)) (given : Asked) → IsAskedOf entries given → IsRequestOf entries given.request
+request_of None given is = is
+request_of (Some entries) given is = is.request
+
 -- ---- a scan of digits
 
 abbrev pub scan_of_digits : List Text
