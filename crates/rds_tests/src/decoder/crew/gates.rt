@@ -140,7 +140,7 @@ pub fn note_groups<R: Sync + Threads + Wait, G: Gate + Sync>(
     journal: &Journal<'_, R>,
     gate: &G,
 ) -> bool {
-    match Sample::of_groups(alloc, groups, Loss::Run(10)) {
+    match Sample::of_groups(alloc, groups, 3, Loss::Run(10)) {
         Ok(sample) => note_cut(alloc, &sample, cuts, workers, journal, gate),
         Err(_) => false,
     }
