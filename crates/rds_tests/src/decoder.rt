@@ -10,7 +10,7 @@
 //! - `samples`: the recordings that they decode.
 
 mod convergence;
-mod crew;
+pub mod crew;
 mod cuttings;
 mod front_pages;
 mod meetings;

@@ -57,14 +57,15 @@ fn a_report_of_two_guesses_costs_little_more_than_their_seam(rt: HostRuntime) {
     assert!(rt; is_stitched_within(rt.alloc(), 4, 3_867) && is_stitched_within(rt.alloc(), 3, 103));
 }
 
-/// A million zero bytes, in which no window is valid.
-fn silence(alloc: Global) -> Result<Sample, AllocError> {
+/// Zero bytes, in which no window is valid.
+fn silence(alloc: Global, bytes: u32) -> Result<Sample, AllocError> {
     let numbers = RuleNumbers {
         burst: 2,
         reach: 3,
         loss: Loss::Run(10),
     };
-    Sample::of(vec![in alloc; 0u8; 1_000_000]?, 8_000_000, numbers)
+    let zeros = vec![in alloc; 0u8; bytes as usize]?;
+    Sample::of(zeros, 8 * u64::from(bytes), numbers)
 }
 
 /// Whether a search meets a guess at its first place, and reads nothing.
@@ -106,7 +107,7 @@ fn is_silent(alloc: Global, sample: &Sample) -> Result<bool, PieceError> {
 
 /// Whether a million zero bytes are.
 fn silence_costs_nothing(alloc: Global) -> bool {
-    match silence(alloc) {
+    match silence(alloc, 1_000_000) {
         Ok(sample) => matches!(is_silent(alloc, &sample), Ok(true)),
         Err(_) => false,
     }
