@@ -175,6 +175,8 @@ check 'scan of hexadecimal text' 0 "$rows" '' "$zero" scan --hex
 check 'scan of bytes' 0 "$rows" '' "$zero_bytes" scan
 check 'scan of upper case on lines' 0 "$rows" '' '00\n00\n3F\n00\n00\n19\n80\n00\n05\nA0\n00\n01\nB4\n' scan --hex
 check 'scan of two groups' 0 "${rows}123,B\n129,A\n155,B\n181,C\n200,B\n207,D\n" '' "$zero$zero" scan --hex
+# 1,048,576 digits, and then a group
+check 'scan of a million digits' 0 '4194329,A\n4194355,B\n4194381,C\n4194400,B\n4194407,D\n' '' "$(printf %01048576d 0)$zero" scan --hex
 check 'scan of 25 bits' 0 '' '' "$zero" scan --hex --bits 25
 check 'scan of 104 bits of more' 0 "$rows" '' "$zero$zero" scan --bits 104 --hex
 for workers in 1 2 256; do
