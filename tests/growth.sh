@@ -6,8 +6,8 @@
 # that goes over it once more for each acquisition, gap, piece or row takes sixteen times. No time is compared with a number
 # of seconds. Other programs disturb a measurement: the least time of a size counts, and a job has failed where it grows
 # so in fifteen attempts.
-# Then it compares jobs that do the same in two ways: a stream and a list, both with ten thousand gaps too, many workers and one, a reader
-# that is slow and a file, calls of the library for C and a list.
+# Then it compares jobs that do the same in two ways: a stream and a list, both with ten thousand gaps too, a reader
+# that is slow and a file, many workers and one, many gaps and none, calls of the library for C and a list.
 # The last line is 'N passed, M failed', and the exit status says whether all passed.
 
 usage='usage: tests/growth.sh PATH-TO-RDS [LIBRARY-FOLDER]'
@@ -174,6 +174,11 @@ beside 2 cat station.16 "$rds" list --progress beside "$rds" list
 beside 2 slowly station.16 "$rds" list beside "$rds" list
 # a recording whose rows are one part
 beside 3 cat station.1 "$rds" list --workers 4 beside "${one[@]}"
+for input in damaged hiss; do beside 3 cat $input.16 "$rds" totals --workers 4 beside "$rds" totals --workers 1; done
+beside 3 cat worst.16 "$rds" totals --loss 1 --workers 4 beside "$rds" totals --loss 1 --workers 1
+far=$(gaps 4900 1000 5)
+beside 3 cat station.4 "$rds" list --workers 1 --gaps "$far" beside "${one[@]}"
+beside 3 cat hiss.4 "$rds" scan --workers 1 --gaps "$far" beside "$rds" scan --workers 1
 if [ -n "$library" ]; then
     PATH=$all_tools ${CC:-cc} -O2 -I"$library" -o push "$here/push.c" "$library/librds.a" || exit 1
     beside 2 cat station.16 ./push 65536 0 beside "${one[@]}"
