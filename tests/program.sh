@@ -355,6 +355,19 @@ for signal in INT TERM; do
     exec 9>&-
     if cmp -s "$work/out" "$work/complete"; then pass; else fail "rows of a stream that is ended by $signal"; fi
 done
+# Ctrl-C comes to all of a pipeline: a stream that ignores it ends with its input, and with its totals.
+(trap '' INT TERM && exec "$(realpath "$1")" follow) <"$work/air" >"$work/out" 2>"$work/err" &
+exec 9>"$work/air"
+cat "$work/begun" >&9
+for _ in $(seq 100); do
+    [ "$(wc -l <"$work/out")" -lt "$(wc -l <"$work/complete")" ] || break
+    sleep 0.05
+done
+kill -INT $!
+kill -TERM $!
+exec 9>&-
+wait $!
+judge 'a stream that ignores signals' 0 $? "$("$rds" list <"$work/begun")\n" ''
 # A reader that goes away ends it while the stream goes on.
 { while cat "$here/../examples/station.bin" 2>/dev/null; do :; done | timeout 20 "$rds" follow 2>"$work/err"; echo "${PIPESTATUS[1]}" >"$work/status"; } \
     | head -n 1 >"$work/out"
@@ -474,6 +487,11 @@ if [ -c /dev/full ]; then
         judge "$words into full output" 1 $? '' 'refused 10 Write\n'
     done
 fi
+# A file may have a block: the system ends the program by SIGXFSZ (25), and if that is ignored, writing fails.
+{ (ulimit -f 1 && exec "$rds" list <"$here/../examples/station.bin" >"$work/out" 2>"$work/err"); } 2>/dev/null
+judge 'past a file-size limit' 153 $? '*acquired,51,2,' ''
+(trap '' XFSZ && ulimit -f 1 && exec "$rds" list <"$here/../examples/station.bin" >"$work/out" 2>"$work/err")
+judge 'past a file-size limit, without the signal' 1 $? '*acquired,51,2,' 'refused 10 Write\n'
 : >"$work/out"
 "$rds" --help >&- 2>"$work/err"
 judge 'help into closed output' 1 $? '' 'refused 10 Write\n'
