@@ -101,7 +101,7 @@ def test_words_and_their_limits() -> None:
 
 def test_places_and_gaps(station: bytes) -> None:
     for bits, number in ((200001, 4), (2**64 - 1, 5)):
-        for call in (librds.totals, librds.items_array, lambda *it: list(librds.decode(*it))):
+        for call in (librds.totals, librds.items_array, lambda *it: list(librds.items(*it))):
             with pytest.raises(librds.Refused) as error:
                 call(station, bits)
             assert error.value.number == number
@@ -120,7 +120,7 @@ def test_memory_is_by_the_bytes() -> None:
     code = (
         "import resource, librds; resource.setrlimit(resource.RLIMIT_AS, (1 << 30,) * 2)\n"
         "try: librds.items_array(b'x', 2**36)\nexcept librds.Refused as it: print(it.number)\n"
-        "try: list(librds.decode(b'x', 2**36))\nexcept librds.Refused as it: print(it.number)"
+        "try: list(librds.items(b'x', 2**36))\nexcept librds.Refused as it: print(it.number)"
     )
     done = subprocess.run([sys.executable, "-c", code], capture_output=True, text=True)
     assert done.stdout == "4\n4\n", done.stderr

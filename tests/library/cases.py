@@ -34,7 +34,7 @@ def item_text(librds, item):
     if isinstance(item, librds.Loss):
         return f"lost {item.place}"
     blocks = ", ".join(block_text(it.kind, it.offset, it.info, it.burst) for it in item.blocks)
-    return f"group {item.place} {-1 if item.type is None else item.type} {item.version or '?'}{'!' * item.conflict}, {blocks}"
+    return f"group {item.place} {-1 if item.group_type is None else item.group_type} {item.version or '?'}{'!' * item.conflict}, {blocks}"
 
 
 def row_text(row):
@@ -57,7 +57,7 @@ def by_librds(call, words):
             if call == "totals":
                 t = librds.totals(data, bits, gaps, rules)
                 return " ".join(map(str, [t.valid, *t.bursts, t.lost, t.bits, t.groups, t.complete, t.acquired, t.losses]))
-            items = [item_text(librds, it) for it in librds.decode(data, bits, gaps, rules)]
+            items = [item_text(librds, it) for it in librds.items(data, bits, gaps, rules)]
             assert items == [row_text(it) for it in librds.items_array(data, bits, gaps, rules)]
             return "; ".join([str(len(items)), *items])
         if call == "remainder":

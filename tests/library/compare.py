@@ -53,7 +53,7 @@ def row(item):
         return f"acquired,{item.place},{item.number},-,-,-,-,-\n"
     if isinstance(item, librds.Loss):
         return f"lost,{item.place},-,-,-,-,-,-\n"
-    kind = "-" if item.type is None else item.type
+    kind = "-" if item.group_type is None else item.group_type
     blocks = ",".join(map(block_text, item.blocks))
     return f"group,{item.place},{kind},{item.version or '?'}{'!' * item.conflict},{blocks}\n"
 
@@ -63,7 +63,7 @@ def by_python(asked):
     numbers = [t.valid, *t.bursts, t.lost, t.bits, t.groups, t.complete, t.acquired, t.losses]
     names = "valid burst1 burst2 burst3 burst4 burst5 lost bits groups complete acquired losses".split()
     totals = "".join(f"total,{name},{number},-,-,-,-,-\n" for name, number in zip(names, numbers))
-    return "".join(map(row, librds.decode(*asked))) + totals
+    return "".join(map(row, librds.items(*asked))) + totals
 
 
 def by_stream(r, data, bits, gaps, rules):
@@ -97,7 +97,7 @@ def main():
             it.write(data)
         numbers = [bits, rules.burst, rules.reach, rules.loss, rules.of, *(place for gap in gaps for place in gap)]
         wrong = [] if by_python(asked) == wanted else ["librds of Python"]
-        if by_stream(random.Random(seed), *asked) != (list(librds.decode(*asked)), librds.totals(*asked), True):
+        if by_stream(random.Random(seed), *asked) != (list(librds.items(*asked)), librds.totals(*asked), True):
             wrong.append("a stream by librds of Python")
         for other in others:
             got = subprocess.run([other, path, *map(str, numbers)], capture_output=True, timeout=60)

@@ -1,6 +1,6 @@
 """The proved decoder of Radio Data System bits, through librds.
 
-    for item in librds.decode(open("station.bin", "rb").read()):
+    for item in librds.items(open("station.bin", "rb").read()):
         print(item)
 
 Bits are packed into bytes, most significant bit first; a place is the position of a bit, from 0. A `Follower` decodes
@@ -48,7 +48,7 @@ __all__ = [
     "Loss",
     "Follower",
     "totals",
-    "decode",
+    "items",
     "ITEM",
     "items_array",
     "remainder",
@@ -169,7 +169,7 @@ class Group:
 
     place: int
     blocks: Tuple[Block, ...]
-    type: Optional[int]
+    group_type: Optional[int]
     version: Optional[str]
     conflict: bool
 
@@ -350,12 +350,12 @@ def _items(rooms: Callable[[int], tuple[Any, Any]], asked: _Asked) -> Any:
     )
 
 
-def decode(data: Buffer, bits: Optional[int] = None, gaps: Gaps = (), rules: Rules = Rules()) -> Iterator[Item]:
+def items(data: Buffer, bits: Optional[int] = None, gaps: Gaps = (), rules: Rules = Rules()) -> Iterator[Item]:
     """The items of a recording, in order of place: `Acquired`, `Group` and `Loss`.
 
-        for item in librds.decode(data, gaps=[(104, 130)], rules=librds.Rules(burst=0)):
+        for item in librds.items(data, gaps=[(104, 130)], rules=librds.Rules(burst=0)):
             if isinstance(item, librds.Group):
-                print(item.place, item.type, item.version)
+                print(item.place, item.group_type, item.version)
     """
     return map(_item, _items(_object_room, _Asked(data, bits, gaps, rules)))
 
@@ -380,7 +380,7 @@ def items_array(data: Buffer, bits: Optional[int] = None, gaps: Gaps = (), rules
 
 class Follower:
     """A stream that is decoded chunk by chunk. However it is cut, the items of all chunks and the group at the end are
-    those that `decode` gives for the whole.
+    those that `items` gives for the whole.
 
         follower = librds.Follower()
         for chunk in chunks:

@@ -28,7 +28,7 @@ fn item_text(item: Item) -> String {
         Item::Acquired { place, number } => format!("acquired {place} {number}"),
         Item::Loss { place } => format!("lost {place}"),
         Item::Group(group) => {
-            let kind = group.kind.map_or(-1, i32::from);
+            let kind = group.group_type.map_or(-1, i32::from);
             let version = match group.version {
                 Some(Version::A) => "A",
                 Some(Version::B) => "B",

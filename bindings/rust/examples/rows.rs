@@ -23,15 +23,15 @@ fn row(item: Item) -> String {
     match item {
         Item::Acquired { place, number } => format!("acquired,{place},{number},-,-,-,-,-"),
         Item::Loss { place } => format!("lost,{place},-,-,-,-,-,-"),
-        Item::Group(Group { place, blocks, kind, version, conflict }) => {
-            let kind = kind.map_or("-".into(), |kind| kind.to_string());
+        Item::Group(Group { place, blocks, group_type, version, conflict }) => {
+            let group_type = group_type.map_or("-".into(), |group_type| group_type.to_string());
             let version = match version {
                 Some(Version::A) => "A",
                 Some(Version::B) => "B",
                 None => "?",
             };
             let mark = if conflict { "!" } else { "" };
-            format!("group,{place},{kind},{version}{mark},{}", blocks.map(spelled).join(","))
+            format!("group,{place},{group_type},{version}{mark},{}", blocks.map(spelled).join(","))
         }
     }
 }

@@ -7,7 +7,7 @@
 //! let recording = rds::Recording::of(&groups);
 //! for item in rds::items(&recording, &rds::Rules::default())? {
 //!     if let rds::Item::Group(group) = item {
-//!         println!("at {}: type {:?} {:?}, {:?}", group.place, group.kind, group.version, group.blocks);
+//!         println!("at {}: type {:?} {:?}, {:?}", group.place, group.group_type, group.version, group.blocks);
 //!     }
 //! }
 //! let totals = rds::totals(&recording, &rds::Rules::default())?;
@@ -255,7 +255,7 @@ pub struct Group {
     /// Its four blocks.
     pub blocks: [Block; 4],
     /// The group type, 0 to 15, if it is known.
-    pub kind: Option<u8>,
+    pub group_type: Option<u8>,
     /// Its version, if it is known.
     pub version: Option<Version>,
     /// Whether blocks 2 and 3 name different versions.
@@ -302,7 +302,7 @@ fn item_of(item: &RdsItem) -> Item {
         _ => Item::Group(Group {
             place: item.place,
             blocks: item.blocks.map(block_of),
-            kind: (item.number != 255).then_some(item.number),
+            group_type: (item.number != 255).then_some(item.number),
             version: match item.version {
                 1 => Some(Version::A),
                 2 => Some(Version::B),
