@@ -118,7 +118,7 @@ help_begins 'Decodes and encodes Radio Data System bits, standard input to stand
 help_begins 'List each position where a 26-bit window matches an offset word' scan
 help_begins 'List sync acquisitions, groups and sync losses, then the totals' list
 help_begins 'List a stream as it comes, each row once it is complete' follow
-help_begins 'Count valid, corrected and uncorrectable blocks, groups and sync losses' totals
+help_begins 'Count valid, corrected and uncorrectable blocks, groups, sync losses' totals
 help_begins 'Encode groups, given as lines of four hex words' encode
 check 'help of scan on its rows' 0 "*Writes a row 'POSITION,OFFSET' for each 26-bit window" '' '' scan --help
 check 'help of list on its rows' 0 '*Writes rows of eight fields in order of completion' '' '' list --help
@@ -141,7 +141,7 @@ for command in scan list follow totals encode; do
     check "a file among the words of $command" 2 '' "*Usage: rds $command [OPTIONS] < INPUT > OUTPUT" '' "$command" file.bin
 done
 check 'a file for a command' 2 '' '*Usage: rds <COMMAND> [OPTIONS] < INPUT > OUTPUT' '' file.bin
-check 'an example beside a usage error' 2 '' '*Example: rds list < recording.bin > listing.csv' '' list file.bin
+check 'an example beside a usage error' 2 '' '*Use < FILE, not FILE. Example: rds list < recording.bin > listing.csv' '' list file.bin
 check 'a flag twice' 2 '' '*--hex' '' scan --hex --hex
 check 'bits above 2^40' 2 '' '*1099511627777' '' scan --bits 1099511627777
 check 'bits that are no number' 2 '' '*--bits' '' scan --bits ten

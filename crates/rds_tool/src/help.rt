@@ -11,7 +11,7 @@ pub const RDS: &str =
 /// and in usage errors.
 pub const RDS_USAGE: &str = "rds <COMMAND> [OPTIONS] < INPUT > OUTPUT
 
-Example: rds list < recording.bin > listing.csv";
+Use < FILE, not FILE. Example: rds list < recording.bin > listing.csv";
 
 pub const RDS_AFTER: &str =
     "The input is packed bits, MSB first, after differential decoding; with --hex it
@@ -45,7 +45,7 @@ pub const SCAN: &str = "List each position where a 26-bit window matches an offs
 
 pub const SCAN_USAGE: &str = "rds scan [OPTIONS] < INPUT > OUTPUT
 
-Example: rds scan < recording.bin > windows.csv";
+Use < FILE, not FILE. Example: rds scan < recording.bin > windows.csv";
 
 pub const SCAN_AFTER: &str =
     "Writes a row 'POSITION,OFFSET' for each 26-bit window that matches an offset
@@ -58,7 +58,7 @@ pub const LIST: &str = "List sync acquisitions, groups and sync losses, then the
 
 pub const LIST_USAGE: &str = "rds list [OPTIONS] < INPUT > OUTPUT
 
-Example: rds list < recording.bin > listing.csv";
+Use < FILE, not FILE. Example: rds list < recording.bin > listing.csv";
 
 pub const LIST_AFTER: &str =
     "Writes rows of eight fields in order of completion, so 'acquired' precedes its
@@ -98,11 +98,11 @@ with the stream.
 
 'rds --help' lists the errors.";
 
-pub const TOTALS: &str = "Count valid, corrected and uncorrectable blocks, groups and sync losses";
+pub const TOTALS: &str = "Count valid, corrected and uncorrectable blocks, groups, sync losses";
 
 pub const TOTALS_USAGE: &str = "rds totals [OPTIONS] < INPUT > OUTPUT
 
-Example: rds totals < recording.bin";
+Use < FILE, not FILE. Example: rds totals < recording.bin";
 
 pub const TOTALS_AFTER: &str =
     "Writes twelve rows 'total,NAME,VALUE', each followed by five fields '-':
@@ -122,7 +122,7 @@ pub const ENCODE: &str = "Encode groups, given as lines of four hex words";
 
 pub const ENCODE_USAGE: &str = "rds encode [OPTIONS] < INPUT > OUTPUT
 
-Example: rds encode < groups.txt > bits.bin";
+Use < FILE, not FILE. Example: rds encode < groups.txt > bits.bin";
 
 pub const ENCODE_AFTER: &str =
     "Each line has 16 hex digits of either case: the information words of blocks 1 to
