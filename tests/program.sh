@@ -90,11 +90,11 @@ Options:
       --reach <N>    Acquire sync by two valid blocks, in sequence, at most N
                      blocks apart, 1 to 8 [default: 3]
       --loss <N>     Drop sync after N consecutive bad blocks, 1 to 64; a
-                     corrected block is bad [default: 10]
+                     corrected block is bad; ignored with --share [default: 10]
       --share <N>    Instead of --loss: drop sync when N of the last blocks are
                      bad, 1 to the value of --of
       --of <N>       How many of the last blocks --share looks at,
-                     1 to 64 [default: 64]
+                     1 to 64; ignored without --share [default: 64]
       --pieces <N>   Cut the recording into at most N pieces, 1 or more; the
                      output stays the same [default: 16]
       --workers <N>  Use at most N threads, 1 to 256; the output stays

@@ -149,13 +149,13 @@ pub const REACH: &str = "Acquire sync by two valid blocks, in sequence, at most 
 blocks apart, 1 to 8";
 
 pub const LOSS: &str = "Drop sync after N consecutive bad blocks, 1 to 64; a
-corrected block is bad";
+corrected block is bad; ignored with --share";
 
 pub const SHARE: &str = "Instead of --loss: drop sync when N of the last blocks are
 bad, 1 to the value of --of";
 
 pub const OF: &str = "How many of the last blocks --share looks at,
-1 to 64";
+1 to 64; ignored without --share";
 
 pub const PIECES: &str = "Cut the recording into at most N pieces, 1 or more; the
 output stays the same";
