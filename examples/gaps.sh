@@ -1,13 +1,12 @@
 #!/bin/sh
-# A log of dropped samples as the option --gaps, from lines `start length` on standard input, in bits from 0:
+# Turns a log of dropped samples into the option --gaps. The log has lines `start length`, in bits from 0:
 #   gaps=$(examples/gaps.sh < dropped.log) && rds list $gaps < recording.bin > listing.csv
-# A gap is of bits that are in the recording and mean nothing: the receiver wrote as many as it dropped, of any value. Where it
-# wrote none, there is nothing to mark, and a gap would take good bits away: what stands at the place is what was received
-# after the drop. Such a recording is decoded without --gaps, like one with a bit slip: synchronism is lost and acquired
-# again, and every time after the drop is early by its length.
-# Lines may stand in any order, and those that overlap or follow one another are one gap. Nothing is written where nothing
-# was dropped. Fails where a line is no such pair: `&&` then keeps rds from listing without the gaps. A system takes about
-# 131,000 characters in one word, some 6,000 gaps.
+# A gap marks filler: bits that the receiver wrote instead of the ones that it dropped. If it wrote none, there is nothing to mark,
+# and a gap would hide good bits. Decode such a recording without --gaps: sync is lost and acquired again, and every time after
+# the drop is early by its length.
+# Lines may be in any order, and those that overlap or touch become one gap. If nothing was dropped, nothing is written. If a line is
+# no such pair, the script fails, and `&&` keeps rds from listing without the gaps. An argument has at most about 131,000
+# characters, some 6,000 gaps.
 # Needs awk.
 [ $# = 0 ] || { echo 'usage: gaps.sh < LOG' >&2; exit 2; }
 lines=$(sort -n) || exit 1

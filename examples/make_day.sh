@@ -11,7 +11,7 @@
 exec perl -e '
   use strict;
   my ($file, $hours, $seed) = @ARGV;
-  # The shell line below names both by the environment, since any byte may stand in their names.
+  # The shell line below gets both names from the environment, since a name may have any byte.
   my $rds = $ENV{RDS} //= "rds";
   $ENV{SENT} = "$file.sent";
   END { unlink $ENV{SENT} if $ENV{SENT} }

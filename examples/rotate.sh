@@ -1,10 +1,10 @@
 #!/bin/sh
-# The rows of `rds follow` on standard input into files by the hour, in a folder that is made where it is not there:
+# Writes the rows of `rds follow` into a file per hour, in a folder that it makes if necessary:
 #   receiver | rds follow | examples/rotate.sh listings
-# A row goes into the file of the hour in UTC in which it comes, such as listings/2026-11-24T15Z.csv, and whole: no group is lost
-# where an hour ends, and the files one behind the other are the listing, which the rows of the totals end. A file that is there
-# already is added to. --by takes another name, as `date` spells it, from which names have to come in order: --by %Y-%m-%d is a
-# file a day. Where a row can't be written it ends in status 1, and `rds follow` after it.
+# A row goes into the file of the hour in UTC in which it comes, such as listings/2026-11-24T15Z.csv. Rows stay whole, so no group is
+# lost between two files. The files in order are the listing, which ends with the totals. A file that exists is appended to.
+# --by takes another name, as `date` spells it, whose names have to sort by time: --by %Y-%m-%d is a file per day. If a row can't
+# be written, it ends in status 1, and `rds follow` after it.
 # Needs date.
 usage='usage: rotate.sh [--by FORMAT] FOLDER < LISTING'
 by=%Y-%m-%dT%HZ

@@ -42,9 +42,9 @@ fi
 
 copy=$work/copy
 mkdir "$copy" || exit 1
-cp -r README.md CHANGELOG.md Makefile crates.txt rds.1 completions docs examples lib packaging tests "$copy" || exit 1
+cp -r README.md CHANGELOG.md Makefile crates.txt rds.1 completions docs examples lib monitor packaging tests "$copy" || exit 1
 # these are looked at, and never changed
-PATH=$all_tools ln -s "$(realpath crates)" "$(realpath monitor)" "$(realpath bindings)" "$copy" || exit 1
+PATH=$all_tools ln -s "$(realpath crates)" "$(realpath bindings)" "$copy" || exit 1
 
 # planted FILE EDIT TEXT: once sed made the edit in the file of the copy, TEXT is found there
 planted() {
@@ -88,7 +88,7 @@ output=docs/OUTPUT.md
 planted $output 's/^| `acquired` |/| `locked` |/' "$output, rows"
 planted $output 's/^| `bits` |/| `bit` |/' "$output, totals"
 planted rds.1 '/^\.Cm encode$/,/^\.Nm$/s/^\.Op Fl -hex$/.Op Fl -bits/' 'rds.1, options of encode'
-planted rds.1 's/^bits, 0 to 5; 2 where/bits, 0 to 5; 1 where/' 'rds.1, default of --burst'
+planted rds.1 's/^bits, 0 to 5; default 2/bits, 0 to 5; default 1/' 'rds.1, default of --burst'
 planted rds.1 's/threads, 1 to 256;/threads, 1 to 255;/' 'rds.1, range of --workers'
 planted rds.1 's/^\.It 12 GroupText/.It 12 LineText/' 'rds.1, refusals'
 planted rds.1 's/^\.It Li lost$/.It Li loss/' 'rds.1, rows'
@@ -132,7 +132,9 @@ planted tests/listings.sums '1d' "$testing, sums of listings.sh"
 planted tests/refusals.sh '/^job .*--burst 5/d' "$testing, jobs of refusals.sh"
 planted README.md 's|(docs/USING.md)|(docs/USAGE.md)|' 'README.md: the link docs/USAGE.md leads nowhere'
 planted README.md 's|USING.md#a-stream|USING.md#a-river|' 'README.md: the link docs/USING.md#a-river names no heading'
+planted monitor/WATCHING.md 's|docs/PERFORMANCE.md#|docs/SPEED.md#|' 'monitor/WATCHING.md: the link ../docs/SPEED.md#a-watch-of-thirty-stations leads nowhere'
 unlinked docs/NEW.md
+unlinked monitor/NEW.md
 planted docs/RECIPES.md 's|examples/gaps.sh|examples/holes.sh|' 'docs/RECIPES.md: there is no examples/holes.sh'
 planted README.md 's/make install  /make instal   /' 'README.md: there is no target instal'
 planted $using 's/^`follow` writes and flushes each row/& of the listing, which has the acquisitions and the groups and the losses of the stream as far as it was heard by then,/' \

@@ -6,8 +6,8 @@
 # that goes over it once more for each acquisition, gap, piece or row takes sixteen times. No time is compared with a number
 # of seconds. Other programs disturb a measurement: the least time of a size counts, and a job has failed where it grows
 # so in fifteen attempts.
-# Then it compares jobs that do the same in two ways: a stream and a list, both with ten thousand gaps too, many workers and one, a reader
-# that is slow and a file, calls of the library for C and a list.
+# Then it compares jobs that do the same in two ways: a stream and a list, both with ten thousand gaps too, a reader
+# that is slow and a file, many workers and one, many gaps and none, calls of the library for C and a list.
 # The last line is 'N passed, M failed', and the exit status says whether all passed.
 
 usage='usage: tests/growth.sh PATH-TO-RDS [LIBRARY-FOLDER]'
@@ -73,14 +73,17 @@ spend() {
     fi
 }
 
+# The program of the jobs, or one that calls the library.
+program=$rds
+
 # measure SIZE WORDS..: the least time of the job of this size so far, into least[SIZE]
 measure() {
     local size=$1 before=${least[$1 / 4]:-60000}
-    spend $((most * before)) "$input.$size" "$rds" "${@:2}"
+    spend $((most * before)) "$input.$size" "$program" "${@:2}"
     ((spent > ${least[size]:-spent})) || least[size]=$spent
 }
 
-# words_of SIZE WORDS..: the words of the job of this size, a line each; PIECES and GAPS grow as the input does
+# words_of SIZE WORDS..: the words of the job of this size, a line each; PIECES, GAPS and COUNT grow as the input does, to a million
 words_of() {
     local size=$1 word
     shift
@@ -88,6 +91,7 @@ words_of() {
         case $word in
             PIECES) echo $((16 * size)) ;;
             GAPS) gaps $((300 * size)) ;;
+            COUNT) echo $((62500 * size)) ;;
             *) echo "$word" ;;
         esac
     done
@@ -174,6 +178,11 @@ beside 2 cat station.16 "$rds" list --progress beside "$rds" list
 beside 2 slowly station.16 "$rds" list beside "$rds" list
 # a recording whose rows are one part
 beside 3 cat station.1 "$rds" list --workers 4 beside "${one[@]}"
+for input in damaged hiss; do beside 3 cat $input.16 "$rds" totals --workers 4 beside "$rds" totals --workers 1; done
+beside 3 cat worst.16 "$rds" totals --loss 1 --workers 4 beside "$rds" totals --loss 1 --workers 1
+far=$(gaps 4900 1000 5)
+beside 3 cat station.4 "$rds" list --workers 1 --gaps "$far" beside "${one[@]}"
+beside 3 cat hiss.4 "$rds" scan --workers 1 --gaps "$far" beside "$rds" scan --workers 1
 if [ -n "$library" ]; then
     PATH=$all_tools ${CC:-cc} -O2 -I"$library" -o push "$here/push.c" "$library/librds.a" || exit 1
     beside 2 cat station.16 ./push 65536 0 beside "${one[@]}"
@@ -183,6 +192,11 @@ if [ -n "$library" ]; then
     beside 4 cat station.16 ./run 16384 beside "${one[@]}"
     beside 8 cat station.16 ./run 4096 beside "${one[@]}"
     beside 2 cat station.16 ./push 65536 10000 beside "${one[@]}" --gaps "$many"
+    # a million gaps: over the whole stream, and at each call for a few bytes
+    program=./push
+    job station 65536 COUNT
+    head -c 16384 station.1 >few
+    beside 4 cat few ./push 64 1000000 beside ./push 64 1000000 look
 else
     echo 'skipped: calls of the library, which is not given'
 fi

@@ -60,10 +60,21 @@ same 'what librds.so.0 shows' "$declared" "$(nm -D --defined-only "$library/libr
 same 'what librds.a shows' "$declared" "$(nm --defined-only -g "$library/librds.a" | awk 'NF == 3 {print $3}' | sort)"
 same 'what librds.a needs' 'free malloc memcpy memmove memset realloc' "$(nm -u "$library/librds.a" | awk 'NF == 2 {print $2}' | sort | tr '\n' ' ' | sed 's/ $//')"
 
-# What programs that were linked with this so.0 rely on: names, calls and structs. Written by
-# abidw --no-corpus-path --no-comp-dir-path --no-show-locs build/lib/librds.so.0 > tests/library/librds.so.0.abi
+# Programs of version 0.2: compiled against its header, linked with a library that had its names and did nothing, run with this one.
+earlier=$work/earlier
+mkdir "$earlier"
+cp tests/library/rds_0_2.h "$earlier/rds.h"
+{ echo '#include "rds.h"'; awk '/^(uint|const).*\(/ {on = 1} on {end = sub(/;$/, " { return 0; }"); print} end {on = end = 0}' "$earlier/rds.h"; } \
+  >"$earlier/stub.c"
+echo 'RDS_0.2 { global: rds_*; local: *; };' >"$earlier/stub.map"
+tried 'the library that does nothing' "${CC:-cc}" -std=c11 -g -fPIC -Wall -Werror -shared -Wl,-soname,librds.so.0 "-Wl,--version-script=$earlier/stub.map" \
+  -o "$earlier/librds.so.0" "$earlier/stub.c"
+for it in rows cases; do
+  tried "$it of 0.2" "${CC:-cc}" -std=c11 -D_DEFAULT_SOURCE "-I$earlier" "${strict[@]}" -o "$work/$it-0.2" "tests/library/$it.c" "$earlier/librds.so.0" \
+    "-Wl,-rpath,$library"
+done
 if has abidiff; then
-  tried 'the names, calls and structs of so.0' abidiff tests/library/librds.so.0.abi "$library/librds.so.0"
+  tried 'the names, calls and structs of so.0' abidiff --no-added-syms "$earlier/librds.so.0" "$library/librds.so.0"
 fi
 
 tried 'every number of the header' tests/library/header.py "$library" "$program"
@@ -89,8 +100,11 @@ tried 'the stack that calls take' "$work/stack" "$sample"
 # One table of calls with their answers, for C, Python, Rust and the second decoder.
 table=tests/library/cases.txt
 answered() { timeout 60 "$@" <"$table"; }
-same 'the calls of the table by C' "$(cat "$table")" "$(sed 's/ = .*//' "$table" | timeout 60 "$work/cases")"
-rows=("$work/rows")
+in_c() { sed 's/ = .*//' "$table" | timeout 60 "$@"; }
+same 'the calls of the table by C' "$(cat "$table")" "$(in_c "$work/cases")"
+same 'the calls of the table by a program of 0.2' "$(cat "$table")" "$(in_c "$work/cases-0.2")"
+if [ "$(cat "$table")" = "$(in_c env "LD_LIBRARY_PATH=$earlier" "$work/cases-0.2")" ]; then fail 'a program of 0.2 runs without the library'; else pass; fi
+rows=("$work/rows-0.2")
 if has cargo; then
   export RDS_LIB_DIR=$library CARGO_TARGET_DIR=$work/cargo
   tried 'the crate for Rust, and its tests' cargo test --quiet --offline --manifest-path bindings/rust/Cargo.toml

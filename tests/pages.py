@@ -128,7 +128,7 @@ def compare_options(program, manual, using):
         text, entry = program.every_option.get(name, ""), manual.said.get(name, "")
         default = number_in(r"\[default: (\d+)\]", text)
         same(f"docs/USING.md, default of --{name}", default, number_in(r"default (\d+)", values))
-        same(f"rds.1, default of --{name}", default, number_in(r"(\d+) where it is not given", entry))
+        same(f"rds.1, default of --{name}", default, number_in(r"default (\d+)", entry))
         # what a share may be depends on another option, and is told in words
         if name != "share" and span_in(text):
             same(f"docs/USING.md, range of --{name}", span_in(text), span_in(values))
@@ -432,7 +432,7 @@ def main():
     compare_claims()
     compare_maps()
     compare_glossary()
-    compare_links(pages)
+    compare_links(pages + [f"monitor/{name}" for name in sorted(os.listdir("monitor")) if name.endswith(".md")])
     compare_commands(program, pages)
     compare_sentences(pages)
     compare_length(pages)

@@ -165,16 +165,6 @@ for gaps in '' 5 a-b 5- '1-2,' ',1-2' 1-2,,3-4 1-2-3 +1-2 '1-2, 3-4' '1-2;3-4' 0
     check "gaps '$gaps' of a list" 2 '' 'bad --gaps\n' '' list --hex --gaps="$gaps" --burst 6
     check "gaps '$gaps' of a stream" 2 '' 'bad --gaps\n' '' follow --gaps="$gaps" --of 3
 done
-# Options of both rules of loss, a default's own number too: the words are no command line, though the parser takes them.
-bad_loss='bad --loss or --of: --of needs --share, and --loss excludes it\n'
-for words in '--share 2 --loss 10' '--loss 0 --share 2 --of 3' '--of 64' '--loss 10 --of 3' '--of 0 --burst 6' '--of 3 --gaps 1-2'; do
-    check "list of $words" 2 '' "$bad_loss" '' list --hex $words
-    check "totals of $words" 2 '' "$bad_loss" '' totals $words
-done
-check 'two losses of a stream' 2 '' "$bad_loss" '' follow --share 2 --loss 10
-check 'of without a share of a stream' 2 '' "$bad_loss" '' follow --of 3
-check 'bad gaps before a bad loss' 2 '' 'bad --gaps\n' '' list --of 3 --gaps 5
-check 'a fault of the parser before a bad loss' 2 '' '*--reach' '' list --of 3 --reach three
 check 'a gap that begins with a hyphen' 2 '' '*unexpected argument' '' scan --gaps -5
 check 'a fault of the parser before bad gaps' 2 '' '*--bits' '' scan --gaps 5 --bits ten
 check 'gaps twice' 2 '' '*--gaps' '' scan --gaps 1-2 --gaps 3-4
@@ -186,6 +176,8 @@ check 'scan of hexadecimal text' 0 "$rows" '' "$zero" scan --hex
 check 'scan of bytes' 0 "$rows" '' "$zero_bytes" scan
 check 'scan of upper case on lines' 0 "$rows" '' '00\n00\n3F\n00\n00\n19\n80\n00\n05\nA0\n00\n01\nB4\n' scan --hex
 check 'scan of two groups' 0 "${rows}123,B\n129,A\n155,B\n181,C\n200,B\n207,D\n" '' "$zero$zero" scan --hex
+# 1,048,576 digits, and then a group
+check 'scan of a million digits' 0 '4194329,A\n4194355,B\n4194381,C\n4194400,B\n4194407,D\n' '' "$(printf %01048576d 0)$zero" scan --hex
 check 'scan of 25 bits' 0 '' '' "$zero" scan --hex --bits 25
 check 'scan of 104 bits of more' 0 "$rows" '' "$zero$zero" scan --bits 104 --hex
 for workers in 1 2 256; do
@@ -246,6 +238,21 @@ done
 check 'list of two bad blocks that never stand together' 0 \
     "${first}group,104,0,A,lost,B:0000,lost,D:0000\n$(totals 5 0 0 0 0 0 2 0 2 0 1 0)" '' "$two_bad" list --hex --share 2 --of 2
 check 'totals by a share of the default' 0 "$(totals 5 0 0 0 0 0 2 0 3 0 2 1)" '' "$two_bad" totals --hex --share 2
+# An option that the rule of loss leaves out is ignored, whatever its number, and one line warns of it.
+ignored_loss='rds: --loss is ignored with --share\n'
+ignored_of='rds: --of is ignored without --share\n'
+by_one="${first}group,104,-,?,lost,none,none,none\nlost,129,-,-,-,-,-,-\nacquired,155,2,-,-,-,-,-\ngroup,130,0,A,none,B:0000,C:0000,D:0000\n$(totals 6 0 0 0 0 0 1 0 3 0 2 1)"
+for loss in 3 10 0 65; do
+    check "list by a share beside a loss of $loss" 0 "$two_of_three" "$ignored_loss" "$two_bad" list --hex --share 2 --of 3 --loss $loss
+done
+check 'totals by a share beside a loss' 0 "$(totals 5 0 0 0 0 0 2 0 3 0 2 1)" "$ignored_loss" "$two_bad" totals --hex --loss 10 --share 2
+for of in 3 64 0; do
+    check "list without a share, of $of" 0 "$by_one" "$ignored_of" "$one_bad" list --hex --loss 1 --of $of
+done
+check 'totals without a share, of 64' 0 "$(totals 6 0 0 0 0 0 1 0 3 0 2 1)" "$ignored_of" "$one_bad" totals --hex --loss 1 --of 64
+check 'an option that is ignored before a refusal' 1 '' "${ignored_loss}refused 15 ShareRange\n" '' list --share 0 --loss 3
+check 'bad gaps, and an option that is ignored' 2 '' 'bad --gaps\n' '' list --of 3 --gaps 5
+check 'a fault of the parser, and an option that is ignored' 2 '' '*--reach' '' list --of 3 --reach three
 check 'list of version B' 0 \
     "${acquired}group,26,0,B,none,B:0800,Cx:0000,D:0000\n$(totals 3 0 0 0 0 0 0 0 1 0 1 0)" '' \
     00003f02002c10000d400001b4 list --hex
@@ -293,6 +300,8 @@ check 'a stream of nothing' 0 "$(totals 0 0 0 0 0 0 0 0 0 0 0 0)" '' '' follow
 check 'a stream of a byte' 0 "$(totals 0 0 0 0 0 0 0 0 0 0 0 0)" '' '\x00' follow
 check 'a stream that ends in a group' 0 "${acquired}group,26,0,A,none,B:0000,C:0000,none\n$(totals 2 0 0 0 0 0 0 0 1 0 1 0)" '' \
     '\x00\x00\x3f\x00\x00\x19\x80\x00\x05\xa0\x00\x01' follow
+check 'a stream by a share beside a loss' 0 "${first}$(totals 3 0 0 0 0 0 0 0 1 0 1 0)" "$ignored_loss" "$zero_bytes" follow --share 2 --loss 10
+check 'a stream without a share, of 3' 0 "${first}$(totals 3 0 0 0 0 0 0 0 1 0 1 0)" "$ignored_of" "$zero_bytes" follow --of 3
 check 'a stream of 25 bits' 0 "$(totals 0 0 0 0 0 0 0 0 0 0 0 0)" '' "$zero_bytes" follow --bits 25
 check 'a stream of no bits' 0 "$(totals 0 0 0 0 0 0 0 0 0 0 0 0)" '' "$zero_bytes" follow --bits 0
 check 'a stream of a group but its last bit' 0 \
@@ -356,6 +365,19 @@ for signal in INT TERM; do
     exec 9>&-
     if cmp -s "$work/out" "$work/complete"; then pass; else fail "rows of a stream that is ended by $signal"; fi
 done
+# Ctrl-C comes to all of a pipeline: a stream that ignores it ends with its input, and with its totals.
+(trap '' INT TERM && exec "$(realpath "$1")" follow) <"$work/air" >"$work/out" 2>"$work/err" &
+exec 9>"$work/air"
+cat "$work/begun" >&9
+for _ in $(seq 100); do
+    [ "$(wc -l <"$work/out")" -lt "$(wc -l <"$work/complete")" ] || break
+    sleep 0.05
+done
+kill -INT $!
+kill -TERM $!
+exec 9>&-
+wait $!
+judge 'a stream that ignores signals' 0 $? "$("$rds" list <"$work/begun")\n" ''
 # A reader that goes away ends it while the stream goes on.
 { while cat "$here/../examples/station.bin" 2>/dev/null; do :; done | timeout 20 "$rds" follow 2>"$work/err"; echo "${PIPESTATUS[1]}" >"$work/status"; } \
     | head -n 1 >"$work/out"
@@ -386,6 +408,7 @@ line_of() {
 for _ in 1 2 3 4 5 6 7 8; do cat "$here/../examples/station.bin"; done >"$work/stations"
 share='written [0-9]+ MB, rows of [1-9][0-9]? % of the bits, [0-9]+ s left'
 line_of 'the pieces of a list are told' 'decoded [12] of 2 pieces, [0-9]+ s left' list --pieces 2 --workers 2
+line_of 'the pieces of a list by one worker are told' 'decoded [12] of 2 pieces, [0-9]+ s left' list --pieces 2 --workers 1
 line_of 'the share of the rows of a list is told' "$share" list --workers 1
 line_of 'the share of the rows of a scan is told' "$share" scan --workers 2
 line_of 'the share of so many bits is told' "$share" scan --bits 1500000
@@ -475,6 +498,11 @@ if [ -c /dev/full ]; then
         judge "$words into full output" 1 $? '' 'refused 10 Write\n'
     done
 fi
+# A file may have a block: the system ends the program by SIGXFSZ (25), and if that is ignored, writing fails.
+{ (ulimit -f 1 && exec "$rds" list <"$here/../examples/station.bin" >"$work/out" 2>"$work/err"); } 2>/dev/null
+judge 'past a file-size limit' 153 $? '*acquired,51,2,' ''
+(trap '' XFSZ && ulimit -f 1 && exec "$rds" list <"$here/../examples/station.bin" >"$work/out" 2>"$work/err")
+judge 'past a file-size limit, without the signal' 1 $? '*acquired,51,2,' 'refused 10 Write\n'
 : >"$work/out"
 "$rds" --help >&- 2>"$work/err"
 judge 'help into closed output' 1 $? '' 'refused 10 Write\n'

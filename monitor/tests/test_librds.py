@@ -50,6 +50,14 @@ def test_a_group_is_four_words_of_16_bits() -> None:
         librds.encode([(1, 2, 3, 4.0)])
 
 
+def test_the_words_of_a_group() -> None:
+    sent = librds.encode([GROUP] * 3)
+    groups = [it.words for it in librds.decode(sent) if isinstance(it, librds.Group)]
+    assert groups == [GROUP] * 3
+    (first, *_) = [it.words for it in librds.decode(sent, gaps=[(30, 31)]) if isinstance(it, librds.Group)]
+    assert first != GROUP and None in first
+
+
 @pytest.mark.parametrize(
     "rules, number",
     [

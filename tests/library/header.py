@@ -3,8 +3,9 @@
 
 Enumerators are compared with the definitions of rds_abi, the default rules with the program's help, sizes in comments with the structs,
 and every other number in a comment with the place that it comes from. A number that no line below names is a fault. The versions of
-the header, the library, pkg-config, the bindings and the program are one, and each function has the symbol version of rds.map.
-Then each number of the header is changed in turn, which has to be noticed.
+the header, the library, pkg-config, the bindings and the program are one, and each function has the symbol version of rds.map. All that an
+earlier header of this so.0 declares is still declared.
+Then each number of the header is changed in turn, and each declaration of the earlier one, which has to be noticed.
 """
 
 import ctypes
@@ -16,7 +17,7 @@ import sys
 
 sys.path.insert(0, os.path.dirname(os.path.abspath(__file__)))
 
-from layout import TOP, layout_of, of_crates, of_header_text, refusals_of_crate, text_of  # noqa: E402
+from layout import TOP, layout_of, listed, of_crates, of_header_text, refusals_of_crate, text_of, without_comments, words  # noqa: E402
 
 SAID = {}
 
@@ -121,6 +122,37 @@ def compare_versions(faults, text, library, program):
     version_text = ctypes.CDLL(f"{library}/librds.so.0").rds_version_text
     version_text.restype = ctypes.c_char_p
     faults.same("rds_version_text", ".".join(map(str, parts)), version_text().decode())
+
+
+# ---- what programs were compiled against
+
+EARLIER = f"{TOP}/tests/library/rds_0_2.h"
+
+
+def declared(text):
+    """What a header declares, but for its version: names of parameters and structs' tags are no part of it."""
+    structs, functions = of_header_text(text)
+    text = without_comments(text)
+    yield from structs.items()
+    yield from functions.items()
+    yield from map(words, re.findall(r"^const char \*.*;$", text, re.M))
+    yield from (it for body in re.findall(r"enum \{(.*?)\}", text, re.S) for it in listed(body))
+    yield from (words(it) for it in re.findall(r"^#define (RDS_.* .*)$", text, re.M) if not re.match("RDS_(VERSION|MUST_USE) ", it))
+
+
+def compare_with_earlier(faults, text):
+    now = [*declared(text)]
+    faults.extend(f"no longer declared: {it}" for it in declared(text_of(EARLIER)) if it not in now)
+
+
+def unseen_in_earlier():
+    """Types, names and numbers of the earlier header that a later one could change unnoticed."""
+    text = re.sub("#define RDS_(VERSION|MUST_USE).*", "", without_comments(text_of(EARLIER)))
+    for it in re.finditer(r"const |(?<!struct )\b(?:\w+_t|rds_\w+(?=\()|RDS_\w+(?= =)|\d\w*)\b", text):
+        faults = Faults()
+        compare_with_earlier(faults, text[: it.start()] + ("" if it[0] == "const " else f"{it[0]}1") + text[it.end() :])
+        if not faults:
+            yield text[max(0, it.start() - 40) : it.end() + 20]
 
 
 # ---- numbers in comments
@@ -230,6 +262,7 @@ def faults_of(text, library, program):
         compare_macros(faults, text, program)
         compare_versions(faults, text, library, program)
         compare_comments(faults, text, structs)
+        compare_with_earlier(faults, text)
     return faults
 
 
@@ -240,10 +273,11 @@ def main():
     print("\n".join(faults) or f"{len(definitions())} enumerators, as they are defined")
     numbers = list(re.finditer(r"(?<![\w])(?:0x)?\d+\b", text))
     changed = (f"{text[: it.start()]}{it[0]}1{text[it.end() :]}" for it in numbers)
-    unseen = [it for it, other in zip(numbers, changed) if not faults_of(other, library, program)]
+    unseen = [text[max(0, it.start() - 40) : it.end() + 20] for it, other in zip(numbers, changed) if not faults_of(other, library, program)]
+    unseen += unseen_in_earlier()
     print(f"{len(numbers)} numbers changed, {len(unseen)} not noticed")
     for it in unseen:
-        print(f"  {text[max(0, it.start() - 40) : it.end() + 20]!r}")
+        print(f"  {it!r}")
     return bool(faults or unseen) or len(numbers) < 140
 
 

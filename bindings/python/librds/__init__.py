@@ -3,9 +3,19 @@
     for item in librds.decode(open("station.bin", "rb").read()):
         print(item)
 
-Bits are packed into bytes, most significant bit first; a place is the number of a bit, from 0. A `Follower` decodes a
-stream. `items_array` and `Follower.push_array` give rows of a numpy array in place of objects. An error of the library
-is a `Refused`, with the number and name that the program prints too. Calls of several threads run at the same time.
+Bits are packed into bytes, most significant bit first; a place is the position of a bit, from 0. A `Follower` decodes
+a stream. `items_array` and `Follower.push_array` give rows of a numpy array instead of objects. Calls of several
+threads run at the same time.
+
+Arguments that several calls share:
+
+    data   the packed bytes: `bytes`, `bytearray`, `memoryview` or an array of bytes
+    bits   the recording is the first `bits` bits of `data`; by default all
+    gaps   places whose bits are ignored: pairs (begin, end), in order, `end` after the last place of the gap
+    rules  the decoder's `Rules`
+
+An error of the library raises `Refused`, with the number and name that the program prints too. A wrong Python object
+raises `TypeError` or `ValueError`, and a place or `bits` that is negative or above 2^64 - 1 raises `OverflowError`.
 """
 
 from __future__ import annotations
@@ -79,7 +89,7 @@ _REASONS = {
 
 class Refused(ValueError):
     """An error of the library: its `number`, which never changes its meaning, its `name`, such as "TooLong", and the
-    `reason`."""
+    `reason` in words."""
 
     def __init__(self, number: int):
         room = (ctypes.c_uint8 * 16)()
@@ -94,9 +104,12 @@ class Refused(ValueError):
 
 @dataclass(frozen=True)
 class Rules:
-    """A decoder's rules: correct bursts of up to `burst` bits, 0 to 5; acquire sync by two valid blocks at most `reach`
-    blocks apart, 1 to 8; drop it after `loss` bad blocks in a row, 1 to 64, or, with `of`, after `loss` bad ones among
-    the last `of`.
+    """A decoder's rules. The defaults are the program's.
+
+    burst  correct error bursts of up to so many bits, 0 to 5
+    reach  sync needs two valid blocks, in sequence, at most so far apart in blocks, 1 to 8
+    loss   drop sync after this number of bad blocks, 1 to 64
+    of     0 if these are in a row, else among how many of the last blocks, `loss` to 64
     """
 
     burst: int = 2
@@ -160,6 +173,11 @@ class Group:
     version: Optional[str]
     conflict: bool
 
+    @property
+    def words(self) -> Tuple[Optional[int], ...]:
+        """The information words of the four blocks, if they are known."""
+        return tuple(it.info for it in self.blocks)
+
 
 @dataclass(frozen=True)
 class Loss:
@@ -215,7 +233,7 @@ class _Asked:
         return (*self.bytes, self.bits, *self.terms)
 
     def behind(self, count: int) -> Any:
-        """The bytes behind so many."""
+        """The bytes after the first `count`."""
         start = ctypes.cast(self.bytes[0], ctypes.c_void_p).value or 0
         return ctypes.cast(start + count, ctypes.POINTER(ctypes.c_uint8))
 
@@ -314,8 +332,11 @@ def _totals(found: RdsTotals) -> Totals:
 
 
 def totals(data: Buffer, bits: Optional[int] = None, gaps: Gaps = (), rules: Rules = Rules()) -> Totals:
-    """The totals of a recording: of its first `bits` bits, by default all. The bits at the places `gaps`, each (begin,
-    end), mean nothing."""
+    """The totals of a recording.
+
+        found = librds.totals(open("station.bin", "rb").read())
+        print(found.valid, found.groups)
+    """
     found = RdsTotals()
     _check(_library.rds_totals(*_Asked(data, bits, gaps, rules).recording(), found))
     return _totals(found)
@@ -330,12 +351,20 @@ def _items(rooms: Callable[[int], tuple[Any, Any]], asked: _Asked) -> Any:
 
 
 def decode(data: Buffer, bits: Optional[int] = None, gaps: Gaps = (), rules: Rules = Rules()) -> Iterator[Item]:
-    """The items of a recording, in order of place: `Acquired`, `Group` and `Loss`."""
+    """The items of a recording, in order of place: `Acquired`, `Group` and `Loss`.
+
+        for item in librds.decode(data, gaps=[(104, 130)], rules=librds.Rules(burst=0)):
+            if isinstance(item, librds.Group):
+                print(item.place, item.type, item.version)
+    """
     return map(_item, _items(_object_room, _Asked(data, bits, gaps, rules)))
 
 
 def items_array(data: Buffer, bits: Optional[int] = None, gaps: Gaps = (), rules: Rules = Rules()) -> NDArray[Any]:
-    """The same as a numpy array of the dtype `ITEM`, a row per item, which pandas.DataFrame takes.
+    """The same as a numpy array of the dtype `ITEM`, a row per item, which pandas.DataFrame takes. It needs numpy.
+
+        rows = librds.items_array(data)
+        programmes = rows["info1"][(rows["what"] == 2) & (rows["kind1"] == librds.Kind.VALID)]
 
     `what` is 1 for an acquisition, 2 for a group and 3 for a loss. `number` is the number of the block that acquired,
     or the group type, 255 if it is not known. `version` is 1 for A, 2 for B and 3 if it is not known. For block N of a
@@ -351,7 +380,7 @@ def items_array(data: Buffer, bits: Optional[int] = None, gaps: Gaps = (), rules
 
 class Follower:
     """A stream that is decoded chunk by chunk. However it is cut, the items of all chunks and the group at the end are
-    those that `decode` gives of the whole.
+    those that `decode` gives for the whole.
 
         follower = librds.Follower()
         for chunk in chunks:
@@ -359,9 +388,9 @@ class Follower:
                 print(item)
         group, totals = follower.finish()
 
-    Gaps are places in the stream, and may lie ahead. `stream` continues a stream from the bytes that another Follower
-    with the same rules and gaps gave of it. Threads may share a Follower: each call is made whole before the next one
-    begins.
+    Gaps are places in the stream, and may be later than all bytes so far. `stream` continues the stream of another
+    Follower with the same rules and gaps: it is that one's property `stream`. If its bytes are of no stream, or other
+    rules wrote them, the error is `Refused` 65. Threads may share a Follower: their calls run one after the other.
     """
 
     def __init__(self, rules: Rules = Rules(), gaps: Gaps = (), stream: bytes = bytes(256)):
@@ -375,7 +404,8 @@ class Follower:
         return Follower, (self._rules, self._gaps, self.stream)
 
     def push(self, data: Buffer) -> list[Item]:
-        """The items that the next bytes complete. After an error the stream is unchanged."""
+        """The items that the next bytes complete. Past 2^36 bits it raises `Refused` 5. On error the stream is unchanged.
+        """
         return [_item(it) for part in self._push(_object_room, data) for it in part]
 
     def push_array(self, data: Buffer) -> NDArray[Any]:
@@ -390,7 +420,7 @@ class Follower:
 
     def finish(self) -> tuple[Optional[Group], Totals]:
         """The group in progress, as far as it was read, and the totals of everything heard, if the stream ended here.
-        The stream can go on."""
+        The stream can continue."""
         items, found = self._finish(_object_room, b"", None)
         group = _item(items[0]) if items else None
         assert group is None or isinstance(group, Group)
@@ -399,7 +429,7 @@ class Follower:
     def finish_with(self, data: Buffer, bits: Optional[int] = None) -> tuple[list[Item], Totals]:
         """The items that the first `bits` bits of these bytes complete, by default all, then the group in progress, and
         the totals of everything heard and of these bits, if the stream ended with them: inside a byte, for example. The
-        stream can go on.
+        stream can continue.
         """
         items, found = self._finish(_object_room, data, bits)
         return [_item(it) for it in items], found
@@ -439,13 +469,13 @@ class Follower:
 
     @property
     def place(self) -> int:
-        """How many bits were heard."""
+        """The number of bits heard."""
         with self._lock:
             return int(self._stream.place)
 
     @property
     def stream(self) -> bytes:
-        """What is known of the stream: numbers, which may be stored, and are equal if the same bytes were heard."""
+        """The state of the stream, 256 bytes. They can be stored, and are equal if the same bytes were heard."""
         with self._lock:
             return bytes(self._stream)
 
@@ -454,15 +484,21 @@ class Follower:
 
 
 def remainder(word: int) -> int:
-    """The remainder of a 26-bit word by the generator of the block code, below 1024."""
+    """The remainder of a 26-bit word by the generator of the block code, below 1024. A longer word is `Refused` 67.
+
+    librds.remainder(0x400) == 0x1B9
+    """
     found = ctypes.c_uint16()
     _check(_library.rds_remainder(_within(word, 2**32 - 1), found))
     return found.value
 
 
 def correct(word: int, offset: str, limit: int = 2) -> Block:
-    """A 26-bit word read as the block with this offset, "A" to "D" or "C or C'", with a burst of up to `limit` bits
-    corrected."""
+    """A 26-bit word read as the block with this offset, "A" to "D" or "C or C'". A burst of up to `limit` bits, 0 to 5,
+    is corrected if exactly one fits.
+
+    librds.correct(0x9580C8, "A", 1) == librds.Block(librds.Kind.CORRECTED, "A", 0x2540, 0x8000)
+    """
     found = RdsBlock()
     _check(_library.rds_correct(_within(word, 2**32 - 1), _NUMBERS.get(offset, 0), _within(limit, 255), found))
     return _block(found)
@@ -476,7 +512,10 @@ def _words(group: Sequence[int]) -> RdsWords:
 
 
 def encode(groups: Iterable[Sequence[int]]) -> bytes:
-    """The bits of groups as they are sent, from the information words of their four blocks: 13 bytes per group."""
+    """The bits of groups as they are sent, from the information words of their four blocks: 13 bytes per group.
+
+    librds.encode([(0x1234, 0x2540, 0x5244, 0x5320)]).hex() == "12341a89501ac52449594c83fb"
+    """
     words = [_words(group) for group in groups]
     room = (RdsPacked * max(1, len(words)))()
     _check(_library.rds_encode((RdsWords * max(1, len(words)))(*words), len(words), room, len(words)))

@@ -7,9 +7,9 @@
 pub struct RdsTotals {
     /// Valid blocks.
     pub valid: u64,
-    /// Corrected blocks, by the span of their burst: 1 to 5 bits.
+    /// Corrected blocks, by burst length: 1 to 5 bits.
     pub bursts: [u64; 5],
-    /// Blocks that were read and are neither valid nor corrected.
+    /// Uncorrectable blocks.
     pub lost: u64,
     /// Bits corrected.
     pub bits: u64,
@@ -17,7 +17,7 @@ pub struct RdsTotals {
     pub groups: u64,
     /// Groups of which all four blocks are valid or corrected.
     pub complete: u64,
-    /// Acquisitions of block synchronism.
+    /// Acquisitions of block sync.
     pub acquired: u64,
     /// Losses of it.
     pub losses: u64,
@@ -63,7 +63,7 @@ pub struct RdsRules {
     pub reserved: [u32; 4],
 }
 
-/// What a run knows between two bits.
+/// The state of a run between two bits.
 #[repr(C)]
 #[derive(Clone, Copy, Debug, Default, PartialEq, Eq, Hash)]
 pub struct RdsState {
@@ -76,8 +76,7 @@ pub struct RdsState {
     pub reserved: u64,
 }
 
-/// What is known of a stream between two chunks: numbers alone. However the same bytes were cut, by the same rules and gaps these
-/// are the same.
+/// The state of a stream between two chunks: numbers. However the same bytes were cut, by the same rules and gaps these are the same.
 #[repr(C)]
 #[derive(Clone, Copy, Debug, Default, PartialEq, Eq, Hash)]
 pub struct RdsStream {

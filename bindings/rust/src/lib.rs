@@ -1,6 +1,6 @@
 //! The proved decoder of Radio Data System bits, through librds.
 //!
-//! Bits are handed over as bytes, the first bit of a byte highest; a place is the number of a bit, from 0.
+//! Bits are packed into bytes, most significant bit first; a place is the position of a bit, from 0.
 //!
 //! ```
 //! let groups = rds::encode(&[[0xD393, 0x0548, 0xE100, 0x5041]; 3])?;
@@ -16,7 +16,7 @@
 //! ```
 //!
 //! A [`Follower`] decodes a stream chunk by chunk, and [`read`] decodes one from a reader. An error is a [`Refused`]: it has the number and
-//! the name that the program prints.
+//! the name that the program prints. Calls of several threads run at the same time.
 
 #![deny(missing_docs)]
 
@@ -34,17 +34,17 @@ pub use ffi::RdsTotals as Totals;
 
 const SMALL_ROOM: u8 = 64;
 
-/// A refusal.
+/// An error of the library.
 #[derive(Clone, Debug, PartialEq, Eq, Hash)]
 pub struct Refused {
     /// Its number, which never changes its meaning.
     pub number: u8,
-    /// Its name, as `TooLong`.
+    /// Its name, such as `TooLong`.
     pub name: String,
 }
 
 impl Refused {
-    /// What is the matter, in words.
+    /// The reason in words.
     pub fn reason(&self) -> &'static str {
         REASONS.iter().find(|it| it.0 == self.number).map_or("", |it| it.1)
     }
@@ -78,7 +78,7 @@ impl fmt::Display for Refused {
 
 impl std::error::Error for Refused {}
 
-/// The name of the refusal of this number.
+/// The error of this number.
 fn refused(number: u8) -> Refused {
     let mut room = [0u8; 16];
     // SAFETY: the room is ours, and as long as is said.
@@ -94,7 +94,7 @@ fn check(number: u8) -> Result<(), Refused> {
     }
 }
 
-/// Bits with the gaps in them.
+/// A recording: bits, and the gaps in them.
 ///
 /// ```
 /// # let bytes = [0u8; 100];
@@ -102,16 +102,16 @@ fn check(number: u8) -> Result<(), Refused> {
 /// ```
 #[derive(Clone, Debug, PartialEq, Eq, Hash)]
 pub struct Recording<'a> {
-    /// The bytes, the first bit of each highest.
+    /// The packed bytes, most significant bit first.
     pub bytes: &'a [u8],
-    /// How many of their bits belong to it, from the first on: at most 2^36.
+    /// The recording is the first `bits` bits of the bytes: at most 2^36.
     pub bits: u64,
-    /// Places whose bits mean nothing, in order.
+    /// Places whose bits are ignored, in order. None may be empty, overlap another or go past the end.
     pub gaps: Vec<Range<u64>>,
 }
 
 impl<'a> Recording<'a> {
-    /// All bits of these bytes, the highest bit of a byte first.
+    /// All bits of these bytes, without gaps.
     pub fn of(bytes: &'a [u8]) -> Recording<'a> {
         Recording { bytes, bits: 8 * bytes.len() as u64, gaps: Vec::new() }
     }
@@ -125,28 +125,28 @@ fn gaps_of(gaps: &[Range<u64>]) -> Vec<RdsGap> {
     gaps.iter().map(|gap| RdsGap { begin: gap.start, end: gap.end }).collect()
 }
 
-/// When a lock is lost.
+/// When sync is lost. A corrected block counts as bad.
 #[derive(Clone, Copy, Debug, PartialEq, Eq, Hash)]
 pub enum LossRule {
-    /// After so many bad blocks in a row: 1 to 64.
+    /// After this number of bad blocks in a row: 1 to 64.
     Run(u32),
     /// If `bad` of the last `of` blocks are bad: 1 ≤ bad ≤ of ≤ 64.
     Share {
-        /// How many bad blocks lose the lock.
+        /// How many bad blocks lose sync.
         bad: u32,
         /// Among how many of the last blocks.
         of: u32,
     },
 }
 
-/// The numbers of a decoder's rules. The default is the program's, where no option says otherwise.
+/// The numbers of a decoder's rules. The default is the program's.
 #[derive(Clone, Copy, Debug, PartialEq, Eq, Hash)]
 pub struct Rules {
     /// The longest burst that is corrected, in bits: 0 to 5.
     pub burst: u32,
-    /// How many blocks back a partner is looked for while acquiring: 1 to 8.
+    /// Sync needs two valid blocks, in sequence, at most so far apart in blocks: 1 to 8.
     pub reach: u32,
-    /// When a lock is lost.
+    /// When sync is lost.
     pub loss: LossRule,
 }
 
@@ -173,9 +173,9 @@ impl Rules {
 pub enum Block {
     /// It was not read: the group was cut off by an acquisition, a loss or the end.
     Missing,
-    /// It was read, and is neither valid nor corrected.
+    /// It is uncorrectable, or touches a gap.
     Lost,
-    /// It has the remainder of its offset.
+    /// It is valid: its remainder is its offset word.
     Valid {
         /// The offset.
         offset: Offset,
@@ -194,7 +194,7 @@ pub enum Block {
 }
 
 impl Block {
-    /// The information word, where the block is valid or corrected.
+    /// The information word, if the block is valid or corrected.
     pub fn info(&self) -> Option<u16> {
         match *self {
             Block::Valid { info, .. } | Block::Corrected { info, .. } => Some(info),
@@ -254,9 +254,9 @@ pub struct Group {
     pub place: u64,
     /// Its four blocks.
     pub blocks: [Block; 4],
-    /// The group type, 0 to 15, where it is known.
+    /// The group type, 0 to 15, if it is known.
     pub kind: Option<u8>,
-    /// Its version, where it is known.
+    /// Its version, if it is known.
     pub version: Option<Version>,
     /// Whether blocks 2 and 3 name different versions.
     pub conflict: bool,
@@ -314,6 +314,16 @@ fn item_of(item: &RdsItem) -> Item {
 }
 
 /// The totals of a recording.
+///
+/// Errors: 1, 2, 3 and 15 if rules are out of range, 5 and 4 if there are too many bits, 16 if gaps are not as required, and 8 if the
+/// system gave no memory.
+///
+/// ```
+/// let bytes = rds::encode(&[[0xD393, 0x0548, 0xE100, 0x5041]; 3])?;
+/// let totals = rds::totals(&rds::Recording::of(&bytes), &rds::Rules::default())?;
+/// assert_eq!((totals.valid, totals.groups), (11, 3));
+/// # Ok::<(), rds::Refused>(())
+/// ```
 pub fn totals(recording: &Recording<'_>, rules: &Rules) -> Result<Totals, Refused> {
     let (bytes, gaps, rules) = (recording.bytes, recording.gaps(), rules.numbers());
     let mut found = RdsTotals::default();
@@ -324,7 +334,14 @@ pub fn totals(recording: &Recording<'_>, rules: &Rules) -> Result<Totals, Refuse
     Ok(found)
 }
 
-/// The items of a recording, in order of place.
+/// The items of a recording, in order of place. The errors are those of [`totals`].
+///
+/// ```
+/// let bytes = rds::encode(&[[0xD393, 0x0548, 0xE100, 0x5041]; 3])?;
+/// let mut items = rds::items(&rds::Recording::of(&bytes), &rds::Rules::default())?;
+/// assert_eq!(items.next(), Some(rds::Item::Acquired { place: 51, number: 2 }));
+/// # Ok::<(), rds::Refused>(())
+/// ```
 pub fn items(recording: &Recording<'_>, rules: &Rules) -> Result<impl ExactSizeIterator<Item = Item>, Refused> {
     let (bytes, gaps, rules) = (recording.bytes, recording.gaps(), rules.numbers());
     let mut count = 64.max(8 * bytes.len() as u64 / 80);
@@ -354,7 +371,7 @@ pub fn items(recording: &Recording<'_>, rules: &Rules) -> Result<impl ExactSizeI
 
 /// A stream that is followed chunk by chunk.
 ///
-/// However it is cut, the items of all chunks and the group at the end are those that [`items`] gives of the whole.
+/// However it is cut, the items of all chunks and the group at the end are those that [`items`] gives for the whole.
 ///
 /// ```
 /// let mut follower = rds::Follower::new(&rds::Rules::default(), &[])?;
@@ -375,19 +392,21 @@ pub struct Follower {
 }
 
 impl Follower {
-    /// Nothing was heard yet. The gaps are told by their places in the stream, and may lie ahead.
+    /// A new stream. The gaps are places in the stream, and may be later than all bytes so far.
     pub fn new(rules: &Rules, gaps: &[Range<u64>]) -> Result<Follower, Refused> {
         Follower::resume(rules, gaps, RdsStream::default())
     }
 
-    /// Goes on from what [`stream`](Follower::stream) told of a stream that was followed by the same rules and gaps.
+    /// Continues a stream from its [`stream`](Follower::stream), by the same rules and gaps. Numbers of no stream, or by other rules, are
+    /// error 65.
     pub fn resume(rules: &Rules, gaps: &[Range<u64>], stream: RdsStream) -> Result<Follower, Refused> {
         let follower = Follower { rules: rules.numbers(), gaps: gaps_of(gaps), stream };
         follower.finish()?;
         Ok(follower)
     }
 
-    /// Takes the next bytes, any number of them, and gives the items that they complete. Refused, it has heard nothing.
+    /// Takes the next bytes, any number of them, and gives the items that they complete. Past 2^36 bits it is error 5. On error the stream
+    /// is unchanged.
     pub fn push(&mut self, bytes: &[u8]) -> Result<impl ExactSizeIterator<Item = Item>, Refused> {
         let (mut stream, mut rest, mut found) = (self.stream, bytes, Vec::new());
         loop {
@@ -419,8 +438,8 @@ impl Follower {
         }
     }
 
-    /// The group in progress, as far as it was read, and the totals of all that was heard, if the stream ended here. It
-    /// can be gone on with.
+    /// The group in progress, as far as it was read, and the totals of everything heard, if the stream ended here. It can
+    /// continue.
     pub fn finish(&self) -> Result<(Option<Group>, Totals), Refused> {
         let (mut group, mut count, mut totals) = (RdsItem::default(), 0, RdsTotals::default());
         // SAFETY: as in `totals`; the room is that of one item.
@@ -443,8 +462,8 @@ impl Follower {
         Ok((group, totals))
     }
 
-    /// The items that the first `bits` bits of these bytes complete, with the group in progress behind them, and the totals of all
-    /// that was heard and of these bits, if the stream ended with them: inside a byte, say. It can be gone on with.
+    /// The items that the first `bits` bits of these bytes complete, followed by the group in progress, and the totals of everything
+    /// heard and of these bits, if the stream ended with them: inside a byte, for example. It can continue.
     pub fn finish_with(&self, bytes: &[u8], bits: u64) -> Result<(impl ExactSizeIterator<Item = Item>, Totals), Refused> {
         let (mut count, mut totals) = (8 + bytes.len() as u64 / 4, RdsTotals::default());
         loop {
@@ -473,18 +492,23 @@ impl Follower {
         }
     }
 
-    /// How many bits were heard.
+    /// The number of bits heard.
     pub fn place(&self) -> u64 {
         self.stream.place
     }
 
-    /// What is known of the stream: numbers alone, which may be stored, compared and hashed.
+    /// The state of the stream: numbers, which can be stored, compared and hashed.
     pub fn stream(&self) -> &RdsStream {
         &self.stream
     }
 }
 
-/// The remainder of a word of 26 bits by the generator of the block code, below 1024.
+/// The remainder of a 26-bit word by the generator of the block code, below 1024. A longer word is error 67.
+///
+/// ```
+/// assert_eq!(rds::remainder(0x400)?, 0x1B9);
+/// # Ok::<(), rds::Refused>(())
+/// ```
 pub fn remainder(word: u32) -> Result<u16, Refused> {
     let mut found = 0;
     // SAFETY: what is written is ours.
@@ -492,7 +516,14 @@ pub fn remainder(word: u32) -> Result<u16, Refused> {
     Ok(found)
 }
 
-/// A word of 26 bits read as the block with this offset; a burst of up to `limit` bits, 0 to 5, is taken off where one alone fits.
+/// A 26-bit word read as the block with this offset. A burst of up to `limit` bits, 0 to 5, is corrected if exactly one fits. A longer
+/// word is error 67, a higher limit error 1.
+///
+/// ```
+/// let block = rds::correct(0x095_80C8, rds::Offset::A, 1)?;
+/// assert_eq!(block, rds::Block::Corrected { offset: rds::Offset::A, info: 0x2540, burst: 0x8000 });
+/// # Ok::<(), rds::Refused>(())
+/// ```
 pub fn correct(word: u32, offset: Offset, limit: u8) -> Result<Block, Refused> {
     read_as(word, offset as u8 + 1, limit)
 }
@@ -509,7 +540,12 @@ fn read_as(word: u32, offset: u8, limit: u8) -> Result<Block, Refused> {
     Ok(block_of(found))
 }
 
-/// The bits of groups as they are sent, of the information words of their four blocks: 13 bytes a group.
+/// The bits of groups as they are sent, from the information words of their four blocks: 13 bytes per group.
+///
+/// ```
+/// assert_eq!(rds::encode(&[[0x1234, 0x2540, 0x5244, 0x5320]])?[..4], [0x12, 0x34, 0x1A, 0x89]);
+/// # Ok::<(), rds::Refused>(())
+/// ```
 pub fn encode(groups: &[[u16; 4]]) -> Result<Vec<u8>, Refused> {
     let words: Vec<RdsWords> = groups.iter().map(|&words| RdsWords { words }).collect();
     let mut room = vec![RdsPacked { bytes: [0; 13] }; words.len()];

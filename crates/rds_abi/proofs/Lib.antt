@@ -4,3 +4,4 @@ pub mod GapLists
 pub mod PartRuns
 pub mod NearStreams
 pub mod Fitting
+pub mod Exclusion

@@ -5,4 +5,5 @@ pub mod Blocks
 pub mod Names
 pub mod Going
 pub mod Following
+pub mod Exclusion
 pub mod Examples

@@ -9,7 +9,7 @@
 //! - [`run`] and [`finish_run`]: the same from range to range, by an [`RdsState`] that the caller keeps.
 //! - [`push`], and [`finish`] or [`finish_with`]: a stream chunk by chunk, by an [`RdsStream`] that the caller keeps.
 //! - [`remainder`], [`correct`] and [`encode`]: single blocks and groups.
-//! - [`Refusal`]: why a call is refused, with its number and name.
+//! - [`Refusal`]: why a call is refused, with its number and name. By [`laws`] no two reasons hold at once.
 //! - [`RdsTotals`], [`RdsItem`], [`RdsBlock`], [`RdsGap`], [`RdsRules`], [`RdsWords`], [`RdsPacked`]: the
 //!   structs of C.
 //!
@@ -34,6 +34,7 @@ mod blocks; // Single blocks.
 mod groups; // Groups to bytes.
 mod names; // Names and the version.
 mod refusal; // Why a call is refused.
+pub mod laws; // The refusals exclude each other.
 
 pub use blocks::{correct, remainder};
 pub use following::{finish, finish_with, push};

@@ -113,15 +113,8 @@ fn push_calls(
 }
 
 fn push_row(text: &mut String, call: &str, found: Found) -> Result<(), AllocError> {
-    let Found {
-        items,
-        valid,
-        reads,
-    } = found;
-    writeln!(
-        text,
-        "{call} {items} items, {valid} valid blocks, {reads} windows"
-    )
+    let (valid, reads) = found;
+    writeln!(text, "{call} {valid} valid blocks, {reads} windows")
 }
 
 /// The two pieces of the recording with a cut at place 190.

@@ -1,96 +1,116 @@
-//! Forms that several measurements time, over a whole recording. Each answers a number that depends on its
-//! result.
-ghost use Rattle.std.specs.Prelude.{◌≤◌};
-ghost use Rattle.rds_stream.specs.Recording.{length_of};
-ghost use Rattle.rds_pieces.specs.Cutting.{IsCutting};
-
-use anyhow::Result;
-use rds_crew::{Gate, OpenGate, decode_crew};
-use rds_pieces::{Cutting, RecordingWork, Work, speculate};
+//! The forms of each task, over a whole recording.
+use crate::sample::Heard;
+use rds_code::{offset_of, plain};
+use rds_pieces::{Cutting, speculate};
 use rds_stream::{Recording, ValidWindows, scan};
 use rds_sync::{Decoder, Rules, State, Totals, decode_plain};
 use std::alloc::Global;
-use std::sync::Wait;
-use std::thread::Threads;
 
-/// How many windows are valid, found one after the other.
-pub fn windows(recording: &Recording) -> u64 {
+/// A form of a task.
+#[derive(Clone, Copy)]
+pub enum Form {
+    /// The valid windows, as a list.
+    Scan,
+    /// Those one after the other.
+    Windows,
+    /// Those place by place, each remainder by tables.
+    Places,
+    /// Those place by place, each remainder by long division.
+    DividedPlaces,
+    /// The valid blocks, by the report of one decoder.
+    Report,
+    /// Those by the guess of a piece, which is the whole recording.
+    Guess,
+    /// Those item by item.
+    Items,
+}
+
+impl Form {
+    /// The forms that find the valid windows.
+    pub const WINDOWS: [Form; 4] = [Form::Scan, Form::Windows, Form::Places, Form::DividedPlaces];
+
+    /// The forms that find the valid blocks.
+    pub const BLOCKS: [Form; 3] = [Form::Report, Form::Guess, Form::Items];
+
+    pub fn name(self) -> &'static str {
+        match self {
+            Form::Scan => "windows as a list",
+            Form::Windows => "one after the other",
+            Form::Places => "place by place",
+            Form::DividedPlaces => "by long division",
+            Form::Report => "one decoder",
+            Form::Guess => "a guess",
+            Form::Items => "item by item",
+        }
+    }
+
+    /// Does the task. Answers a number that depends on its whole result, or none if memory is refused.
+    pub fn find(self, alloc: Global, heard: &Heard) -> Option<u64> {
+        let (recording, rules) = (&heard.recording, &heard.rules);
+        match self {
+            Form::Scan => listed(alloc, recording),
+            Form::Windows => Some(one_after_the_other(recording)),
+            Form::Places => Some(place_by_place(recording)),
+            Form::DividedPlaces => Some(by_divided_places(recording)),
+            Form::Report => reported(alloc, recording, rules),
+            Form::Guess => guessed(alloc, recording, rules),
+            Form::Items => Some(item_by_item(recording, rules)),
+        }
+    }
+}
+
+fn listed(alloc: Global, recording: &Recording) -> Option<u64> {
+    match scan(alloc, recording, 0, recording.len()) {
+        Ok(windows) => Some(windows.len() as u64),
+        Err(_) => None,
+    }
+}
+
+fn one_after_the_other(recording: &Recording) -> u64 {
     ValidWindows::new(recording, 0, recording.len()).count() as u64
 }
 
-/// How many the list of them has.
-pub fn listed_windows(alloc: Global, recording: &Recording) -> Result<u64> {
-    Ok(scan(alloc, recording, 0, recording.len())?.len() as u64)
+fn place_by_place(recording: &Recording) -> u64 {
+    let mut found = 0u64;
+    for place in 25..recording.len() {
+        found = found.wrapping_add(u64::from(recording.offset(place).is_some()));
+    }
+    found
 }
 
-/// How many valid blocks the report of one decoder counts.
-pub fn one_decoder(alloc: Global, recording: &Recording, rules: &Rules) -> Result<u64> {
-    Ok(decode_plain(alloc, recording, rules)?.totals.valid)
+fn by_divided_places(recording: &Recording) -> u64 {
+    let mut found = 0u64;
+    for place in 25..recording.len() {
+        let offset = offset_of(plain::rem26(recording.window(place)));
+        found = found.wrapping_add(u64::from(offset.is_some()));
+    }
+    found
 }
 
-/// How many the items of a run have, one by one.
-pub fn item_by_item(recording: &Recording, rules: &Rules) -> u64 {
+fn reported(alloc: Global, recording: &Recording, rules: &Rules) -> Option<u64> {
+    match decode_plain(alloc, recording, rules) {
+        Ok(report) => Some(report.totals.valid),
+        Err(_) => None,
+    }
+}
+
+fn guessed(alloc: Global, recording: &Recording, rules: &Rules) -> Option<u64> {
+    let Ok(cutting) = Cutting::even(alloc, recording.len(), 1) else {
+        return None;
+    };
+    if cutting.pieces() == 0 {
+        return Some(0);
+    }
+    match speculate(alloc, recording, rules, &cutting, 0) {
+        Ok(run) => Some(run.totals().valid),
+        Err(_) => None,
+    }
+}
+
+fn item_by_item(recording: &Recording, rules: &Rules) -> u64 {
     let mut valid = 0u64;
     for item in Decoder::new(recording, rules, State::Searching, 0, recording.len()) {
         valid = valid.saturating_add(Totals::of_item(&item).valid);
     }
     valid
-}
-
-/// How many the guess of the recording in one piece counts.
-pub fn one_guess(alloc: Global, recording: &Recording, rules: &Rules) -> Result<u64> {
-    let cutting = Cutting::even(alloc, recording.len(), 1)?;
-    first_guess(alloc, recording, rules, &cutting)
-}
-
-/// How many that of its first piece counts.
-fn first_guess(
-    alloc: Global,
-    recording: &Recording,
-    rules: &Rules,
-    cutting: &Cutting,
-) -> Result<u64>
-    requires { IsCutting (length_of recording.now) cutting.now }
-{
-    if cutting.pieces() == 0 {
-        return Ok(0);
-    }
-    Ok(
-        speculate(alloc, recording, rules, cutting, 0)?
-            .totals()
-            .valid,
-    )
-}
-
-/// How many the report counts, made from `pieces` pieces by `workers` workers.
-pub fn crew<T: Threads + Wait>(
-    threads: &T,
-    alloc: Global,
-    recording: &Recording,
-    rules: &Rules,
-    pieces: u64,
-    workers: u32,
-) -> Result<u64>
-    requires { 1 ≤ pieces }
-{
-    let cutting = Cutting::even(alloc, recording.len(), pieces)?;
-    let work = RecordingWork::new(recording, rules, &cutting);
-    crew_of(threads, alloc, &work, workers, &OpenGate)
-}
-
-/// How many that of a work counts, if a gate hears of the workers.
-pub fn crew_of<T: Threads + Wait, W: Work + Sync, G: Gate + Sync>(
-    threads: &T,
-    alloc: Global,
-    work: &W,
-    workers: u32,
-    gate: &G,
-) -> Result<u64>
-    requires { IsCutting (length_of (W.recording work.now)) (W.places work.now) }
-{
-    Ok(
-        decode_crew(threads, alloc, work, workers, gate)?
-            .totals
-            .valid,
-    )
 }

@@ -1,7 +1,8 @@
 //! Recordings that are made up, the same in each run.
-use anyhow::Result;
+use anyhow::{Result, bail};
 use rds_code::encode_group;
 use rds_stream::Recording;
+use rds_sync::Rules;
 use std::alloc::{AllocError, Global};
 
 /// The content of a recording.
@@ -18,56 +19,56 @@ pub enum Sample {
     Losing,
     /// Noise: a window of it is valid about once in two hundred places.
     Noise,
-    /// A station that is tuned in late: a sixteenth of noise, then the station's groups.
-    Late,
-    /// Groups of zero words, in which a block that is no group's is valid too: a guess may lock on that false phase.
-    Zeros,
 }
 
 impl Sample {
     /// A station with one bit of about 500 turned, as in fair reception.
-    const FAIR: Sample = Sample::Damaged(63);
+    pub const FAIR: Sample = Sample::Damaged(63);
 
     /// After how many bad blocks in a row the lock is lost when this is decoded.
-    pub fn loss(self) -> u32 {
+    fn loss(self) -> u32 {
         match self {
             Sample::Worst => 1,
             _ => 10,
         }
     }
 
-    /// The sample of this name.
-    pub fn named(name: &str) -> Option<Sample> {
-        match name {
-            "station" => Some(Sample::Station),
-            "damaged" => Some(Sample::FAIR),
-            "worst" => Some(Sample::Worst),
-            "losing" => Some(Sample::Losing),
-            "noise" => Some(Sample::Noise),
-            "late" => Some(Sample::Late),
-            "zeros" => Some(Sample::Zeros),
-            _ => None,
-        }
-    }
-
     /// About `bits` bits of it, as bytes: for a station as many as whole groups fit into.
-    pub fn bytes(self, alloc: Global, bits: u64) -> Result<Vec<u8>, AllocError> {
+    fn bytes(self, alloc: Global, bits: u64) -> Result<Vec<u8>, AllocError> {
         match self {
             Sample::Station => station(alloc, bits),
             Sample::Damaged(one_of) => Ok(damaged(station(alloc, bits)?, one_of)),
             Sample::Worst => Ok(past_mending(station(alloc, bits)?)),
             Sample::Losing => losing(alloc, bits),
             Sample::Noise => noise(alloc, bits),
-            Sample::Late => late(alloc, bits),
-            Sample::Zeros => zeros(alloc, bits),
         }
     }
+}
 
-    /// The recording of these bytes.
-    pub fn recording(self, alloc: Global, bits: u64) -> Result<Recording> {
-        let bytes = self.bytes(alloc, bits)?;
-        let held = (bytes.len() as u64).saturating_mul(8);
-        Ok(Recording::from_bytes(bytes, held).map_err(|refused| refused.0)?)
+/// A recording, and the rules that it is decoded by.
+#[derive(Drop)]
+pub struct Heard {
+    pub recording: Recording,
+    pub rules: Rules,
+}
+
+impl Heard {
+    /// About `bits` bits of a sample, and its rules.
+    pub fn of(alloc: Global, sample: Sample, bits: u64) -> Result<Heard> {
+        let bytes = sample.bytes(alloc, bits)?;
+        Heard::of_bytes(bytes, sample.loss())
+    }
+
+    fn of_bytes(bytes: Vec<u8>, loss: u32) -> Result<Heard> {
+        let alloc = *bytes.allocator();
+        let bits = (bytes.len() as u64).saturating_mul(8);
+        match (
+            Recording::from_bytes(bytes, bits),
+            Rules::new(alloc, 2, 3, loss),
+        ) {
+            (Ok(recording), Ok(rules)) => Ok(Heard { recording, rules }),
+            _ => bail!("the recording or its rules are refused"),
+        }
     }
 }
 
@@ -108,14 +109,6 @@ fn station(alloc: Global, bits: u64) -> Result<Vec<u8>, AllocError> {
     Ok(bytes)
 }
 
-fn zeros(alloc: Global, bits: u64) -> Result<Vec<u8>, AllocError> {
-    let mut bytes = Vec::new(alloc);
-    for _ in 0..bits / 104 {
-        push_group(&mut bytes, [0; 4])?;
-    }
-    Ok(bytes)
-}
-
 /// Appends the group of these words, thirteen bytes.
 fn push_group(bytes: &mut Vec<u8>, words: [u16; 4]) -> Result<(), AllocError> {
     let [first, second, third, fourth] = encode_group(words);
@@ -123,17 +116,7 @@ fn push_group(bytes: &mut Vec<u8>, words: [u16; 4]) -> Result<(), AllocError> {
         | (second as u128) << 52
         | (third as u128) << 26
         | fourth as u128;
-    for k in 0..13u32 {
-        bytes.push((packed >> (96 - 8 * k) & 255) as u8)?;
-    }
-    Ok(())
-}
-
-fn late(alloc: Global, bits: u64) -> Result<Vec<u8>, AllocError> {
-    let mut bytes = noise(alloc, bits / 16)?;
-    let mut rest = station(alloc, bits - bits / 16)?;
-    bytes.append(&mut rest)?;
-    Ok(bytes)
+    bytes.extend_from_slice(&packed.to_be_bytes()[3..])
 }
 
 /// The bits of blocks 2 and 4 that are turned in a group of thirteen bytes: three of each, which are no burst.

@@ -7,30 +7,11 @@ ghost use Rattle.rds_pieces.specs.RunOf.{FollowEachOther, run_at};
 
 use rds_pieces::{Cutting, PieceError, PieceRun, join_runs, laws, speculate, stitch};
 use rds_stream::{Counted, Recording, Tape};
-use rds_sync::{Rules, Totals};
+use rds_sync::Rules;
 use std::alloc::Global;
 
-/// The counts that a call found, and how many windows it read.
-#[derive(Clone, Copy)]
-pub struct Found {
-    pub items: u64,
-    pub valid: u64,
-    pub reads: u64,
-}
-
-impl Found {
-    /// The items and the valid blocks that these totals count.
-    fn of_totals(totals: &Totals, reads: u64) -> Found {
-        Found {
-            items: totals
-                .acquired
-                .saturating_add(totals.groups)
-                .saturating_add(totals.losses),
-            valid: totals.valid,
-            reads,
-        }
-    }
-}
+/// How many valid blocks a call found, and how many windows it read.
+pub type Found = (u64, u64);
 
 /// The counts that a join of the two guesses finds. It is made once more if it is refused.
 pub fn joined(
@@ -78,7 +59,7 @@ fn join_once(
 {
     let mut tape = Counted::new(recording);
     let run = join_runs(alloc, &mut tape, rules, left, right)?;
-    Ok(Found::of_totals(&run.totals(), tape.reads()))
+    Ok((run.totals().valid, tape.reads()))
 }
 
 /// The counts of the report stitched of the two guesses.
@@ -109,8 +90,10 @@ fn guesses_in_order(
     ensures { IfOk result (λ runs. FollowEachOther recording.now rules.now 0 (length_of recording.now) runs.items) }
 {
     laws::pieces_follow();
-    let (left, right) = two_guesses(alloc, recording, rules, cutting)?;
-    Ok(vec![in alloc; left, right]?)
+    let mut runs = Vec::with_capacity(alloc, 2)?;
+    runs.push(speculate(alloc, recording, rules, cutting, 0)?)?;
+    runs.push(speculate(alloc, recording, rules, cutting, 1)?)?;
+    Ok(runs)
 }
 
 fn stitch_once(
@@ -123,9 +106,5 @@ fn stitch_once(
 {
     let mut tape = Counted::new(recording);
     let report = stitch(alloc, &mut tape, rules, runs)?;
-    Ok(Found {
-        items: report.items.len() as u64,
-        valid: report.totals.valid,
-        reads: tape.reads(),
-    })
+    Ok((report.totals.valid, tape.reads()))
 }

@@ -20,14 +20,18 @@ use std::alloc::{AllocError, Global};
 use std::marker::Model;
 use std::snapshot::Snapshot;
 
-/// How many items a short span of a run has, or a few more: to reach one of them, at most this many are
+/// How many items a short span of a run has at least: to reach one of them, those before it in the span are
 /// decoded.
-const SPAN_ITEMS: u64 = 256;
+pub(crate) const SPAN_ITEMS: u64 = 256;
+
+/// How many places a span covers at least, unless its run ends: so spans take few bytes per byte of the
+/// recording, however close its items are.
+pub(crate) const SPAN_PLACES: u64 = 4096;
 
 /// Into how many spans a list cuts the run that it is given.
 #[derive(Clone, Copy, Debug, PartialEq, Eq)]
 pub enum Spans {
-    /// Some hundred items each: any item is near.
+    /// Some hundred items each, over some thousand places: any item is near.
     Short,
     /// One for the whole run, which costs nothing: for a list that is read from its first item on, or not at
     /// all.
@@ -35,7 +39,7 @@ pub enum Spans {
 }
 
 impl Spans {
-    /// With how many items a run has one span.
+    /// With how many items a run may end a span.
     fn most_in_one(self) -> u64 {
         match self {
             Spans::Short => SPAN_ITEMS,
@@ -91,7 +95,7 @@ impl Items {
         Items { cut, ..self }
     }
 
-    /// With how many items a run that is appended has one span.
+    /// With how many items a run that is appended may end a span.
     pub(crate) fn most_in_one(&self) -> u64 {
         self.cut.most_in_one()
     }
@@ -216,8 +220,8 @@ impl Items {
         Ok(())
     }
 
-    /// Appends the items of `other`, which is of the same recording by the same rules. Its spans are moved. Refused
-    /// memory, it leaves the list as it was.
+    /// Appends the items of `other`, which is of the same recording by the same rules. Its spans are copied, or
+    /// moved to a list that has none. Refused memory, it leaves the list as it was.
     pub fn append(&mut self, other: Items) -> Result<(), AllocError>
         requires source { other.source ≡ self.old.source }
         requires rules { other.rules ≡ self.old.rules }
@@ -228,7 +232,7 @@ impl Items {
         let Some(len) = self.len.checked_add(other.len) else {
             return Err(AllocError);
         };
-        self.spans.extend_from_slice(&other.spans)?;
+        append_spans(&mut self.spans, other.spans)?;
         self.len = len;
         Ok(())
     }
@@ -250,6 +254,18 @@ impl Items {
         self.len = len;
         Ok(())
     }
+}
+
+/// Appends these spans, and moves them if there are none yet. Refused memory, it appends none.
+fn append_spans(spans: &mut Vec<Span>, more: Vec<Span>) -> Result<(), AllocError>
+    ensures ok { OnOk result (spans.new.items ≡ spans.old.items ++ more.items) }
+    ensures refused { OnErr result (spans.new.items ≡ spans.old.items) }
+{
+    if spans.is_empty() {
+        *spans = more;
+        return Ok(());
+    }
+    spans.extend_from_slice(&more)
 }
 
 /// Appends copies of these spans, of the first of which `left` items are passed over. Refused memory, it appends none.

@@ -13,7 +13,7 @@ ghost use Rattle.rds_sync.specs.declared.state.State.TheVariants.{Searching};
 
 use crate::count_run::count_stretch;
 use crate::counts::Counts;
-use crate::items::{Items, Spans};
+use crate::items::{Items, SPAN_ITEMS, SPAN_PLACES, Spans};
 use crate::report::Report;
 use crate::rules::Rules;
 use crate::state::State;
@@ -178,14 +178,18 @@ impl Tally {
         self.end_long_span()
     }
 
-    /// How many items may have been counted before they are added to the totals.
+    /// How many items may have been counted before they are added to the totals: as many as the span in
+    /// progress lacks, or once it has them, but covers too few places, as many again.
     fn most(&self) -> u64
         ensures { result ≤ 3000 }
     {
-        (self.items.len() as u64)
-            .saturating_add(self.items.most_in_one())
-            .saturating_sub(self.added)
-            .min(MOST_COUNTED)
+        let open = self.added.saturating_sub(self.items.len() as u64);
+        let lacks = self.items.most_in_one().saturating_sub(open);
+        if lacks == 0 {
+            SPAN_ITEMS
+        } else {
+            lacks.min(MOST_COUNTED)
+        }
     }
 
     /// Ends the span in progress if it is long enough.
@@ -193,7 +197,8 @@ impl Tally {
         ensures same { self.new ≡ self.old }
     {
         let items = (self.added + self.counts.items()) as usize - self.items.len();
-        if items as u64 >= self.items.most_in_one() {
+        let is_long = self.place - self.start_place >= SPAN_PLACES;
+        if is_long && items as u64 >= self.items.most_in_one() {
             self.items
                 .push_span(self.start_state, self.start_place, self.place, items)?;
             self.start_place = self.place;

@@ -31,8 +31,6 @@ pub struct CliFault {
 pub enum NoJob {
     /// `--gaps` spells no gaps.
     Gaps,
-    /// `--loss` was given beside `--share`, or `--of` without it.
-    Loss,
     /// Another entry is none that a job or a stream has.
     Entries,
     /// A growth of memory was refused.

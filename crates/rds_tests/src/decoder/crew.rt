@@ -1,5 +1,5 @@
 //! Tests of `rds_crew`.
 mod dealing;
-mod gates;
-mod journal;
+pub mod gates;
+pub mod journal;
 mod tree;

@@ -1,15 +1,15 @@
-//! Where the true state meets the guess of the piece after a cut, at each place of a group.
+//! Where a run meets the guess of the piece after a cut, and how many windows are read up to there.
 ghost use Rattle.std.specs.Prelude.{◌≡◌, ◌<◌, IfOk};
 
 use crate::decoder::samples::Sample;
 use rds_code::encode_group;
 use rds_pieces::{PieceError, PieceRun, seam, speculate};
-use rds_stream::Counted;
-use rds_sync::{Decoder, Item, Loss, State};
+use rds_stream::{Counted, Tape};
+use rds_sync::{Decoder, Item, Lock, Loss, RuleNumbers, State};
 use std::alloc::{AllocError, Global};
 
 /// The guess of the second of two pieces, cut there.
-fn guess_from(alloc: Global, sample: &Sample, cut: u64) -> Result<PieceRun, PieceError>
+pub fn guess_from(alloc: Global, sample: &Sample, cut: u64) -> Result<PieceRun, PieceError>
     ensures source { IfOk result (λ guess. guess.source ≡ sample.now.recording) }
     ensures rules { IfOk result (λ guess. guess.rules ≡ sample.now.rules) }
 {
@@ -20,8 +20,17 @@ fn guess_from(alloc: Global, sample: &Sample, cut: u64) -> Result<PieceRun, Piec
     speculate(alloc, &sample.recording, &sample.rules, &cutting, 1)
 }
 
-/// Whether the run from that state meets a guess at a place.
-fn meets_from(alloc: Global, sample: &Sample, guess: &PieceRun, state: State, place: u64) -> bool
+/// Where a run has to meet a guess, if at all, and how many windows may be read up to there.
+type Meeting = (Option<u64>, u64);
+
+/// Whether the run from that state meets a guess so.
+fn meets_from(
+    alloc: Global,
+    sample: &Sample,
+    guess: &PieceRun,
+    state: State,
+    wanted: Meeting,
+) -> bool
     requires source { guess.now.source ≡ sample.now.recording }
     requires rules { guess.now.rules ≡ sample.now.rules }
 {
@@ -30,7 +39,15 @@ fn meets_from(alloc: Global, sample: &Sample, guess: &PieceRun, state: State, pl
     }
     let mut tape = Counted::new(&sample.recording);
     match seam(alloc, &mut tape, &sample.rules, state, guess) {
-        Ok(seam) => seam.met_at == Some(place),
+        Ok(seam) => seam.met_at == wanted.0 && tape.reads() <= wanted.1,
+        Err(_) => false,
+    }
+}
+
+/// Whether the run from that state meets the guess after a cut so.
+fn meets_after(alloc: Global, sample: &Sample, cut: u64, state: State, wanted: Meeting) -> bool {
+    match guess_from(alloc, sample, cut) {
+        Ok(guess) => meets_from(alloc, sample, &guess, state, wanted),
         Err(_) => false,
     }
 }
@@ -42,57 +59,94 @@ fn run_over(sample: &Sample, from: u64, to: u64) -> Decoder<'_> {
     Decoder::new(&sample.recording, &sample.rules, State::Searching, from, to)
 }
 
-/// Whether the true run meets the guess after a cut at a place.
-fn meets_at(alloc: Global, sample: &Sample, cut: u64, place: u64) -> bool {
+/// Whether the true run meets the guess after a cut so.
+fn meets_at(alloc: Global, sample: &Sample, cut: u64, wanted: Meeting) -> bool {
     let state = run_over(sample, 0, cut).end_state();
-    match guess_from(alloc, sample, cut) {
-        Ok(guess) => meets_from(alloc, sample, &guess, state, place),
-        Err(_) => false,
+    meets_after(alloc, sample, cut, state, wanted)
+}
+
+/// Zero groups that are cut: how many, the reach, the rule of loss, and where.
+type Cut = (u8, u32, Loss, u64);
+
+/// Whether the true run meets the guess after that cut so, or the run from this lock does.
+fn is_met(alloc: Global, zeros: Cut, lock: Option<Lock>, wanted: Meeting) -> bool {
+    let (groups, reach, loss, cut) = zeros;
+    match (Sample::of_groups(alloc, groups, reach, loss), lock) {
+        (Ok(sample), Some(lock)) => meets_after(alloc, &sample, cut, State::Locked(lock), wanted),
+        (Ok(sample), None) => meets_at(alloc, &sample, cut, wanted),
+        (Err(_), _) => false,
     }
 }
 
-/// Whether the run from a cut on first acquires at block 1 of the second of two zero groups.
-fn acquires_the_second(sample: &Sample, cut: u64) -> bool {
-    let first = run_over(sample, cut, 208).next();
-    matches!(
-        first,
-        Some(Item::Acquired {
-            place: 129,
-            number: 1
-        })
-    )
-}
+/// A lock on the false phase of zero groups, ten places after a cut at 190.
+const FALSE_LOCK: Lock = Lock {
+    due: 200,
+    number: 1,
+    bad: 0,
+    first: 1,
+};
 
-/// Whether the guess after a cut acquires there, and is met right after that group.
-fn is_met_behind_its_group(alloc: Global, sample: &Sample, cut: u64) -> bool {
-    acquires_the_second(sample, cut) && meets_at(alloc, sample, cut, 208)
-}
-
-/// Whether that of two zero groups is, whose lock is lost so.
-fn is_met_in_two_groups(alloc: Global, loss: Loss, cut: u64) -> bool {
-    match Sample::of_groups(alloc, 2, loss) {
-        Ok(sample) => is_met_behind_its_group(alloc, &sample, cut),
-        Err(_) => false,
-    }
-}
-
-/// Rules of loss, and cuts between the groups, in the middle of block 1, and before its last bit.
-static CUT_OFF: [(Loss, u64); 6] = [
-    (Loss::Run(10), 104),
-    (Loss::Run(10), 116),
-    (Loss::Run(10), 129),
-    (Loss::Share { bad: 2, of: 4 }, 104),
-    (Loss::Share { bad: 2, of: 4 }, 116),
-    (Loss::Share { bad: 2, of: 4 }, 129),
+/// Seams over zero groups: the cut, the lock before it if it is not that of the true run, and the meeting.
+static SEAMS: [(Cut, Option<Lock>, Meeting); 10] = [
+    // The guess locks on a false phase: by a reach of four for good.
+    ((8, 4, Loss::Run(10), 190), None, (None, 3_858)),
+    ((8, 3, Loss::Run(10), 190), None, (Some(208), 95)),
+    // The run is on the false phase: it loses its lock at 434, and acquires at 441; or loses it at once.
+    (
+        (8, 3, Loss::Run(10), 190),
+        Some(FALSE_LOCK),
+        (Some(520), 1_655),
+    ),
+    ((8, 3, Loss::Run(1), 190), Some(FALSE_LOCK), (Some(201), 60)),
+    // Cut between the groups, in the middle of block 1, and before its last bit.
+    ((2, 3, Loss::Run(10), 104), None, (Some(208), 525)),
+    ((2, 3, Loss::Run(10), 116), None, (Some(208), 465)),
+    ((2, 3, Loss::Run(10), 129), None, (Some(208), 400)),
+    (
+        (2, 3, Loss::Share { bad: 2, of: 4 }, 104),
+        None,
+        (Some(208), 525),
+    ),
+    (
+        (2, 3, Loss::Share { bad: 2, of: 4 }, 116),
+        None,
+        (Some(208), 465),
+    ),
+    (
+        (2, 3, Loss::Share { bad: 2, of: 4 }, 129),
+        None,
+        (Some(208), 400),
+    ),
 ];
 
 #[test]
-fn a_guess_cut_off_in_a_group_acquires_its_next_block_and_is_met_behind_the_group(rt: HostRuntime) {
-    for &(loss, cut) in &CUT_OFF {
-        assert!(rt;
-            is_met_in_two_groups(rt.alloc(), loss, cut),
-            "a cut at {cut}"
-        );
+fn a_run_over_zero_groups_meets_the_guess_where_their_phases_agree(rt: HostRuntime) {
+    for (k, &(cut, lock, wanted)) in SEAMS.iter().enumerate() {
+        assert!(rt; is_met(rt.alloc(), cut, lock, wanted), "seam {k}");
+    }
+}
+
+/// Whether the guess after a cut first acquires at block 1 of the second of two zero groups.
+fn acquires_the_second(alloc: Global, cut: u64) -> bool {
+    match Sample::of_groups(alloc, 2, 3, Loss::Run(10)) {
+        Ok(sample) => {
+            let first = run_over(&sample, cut, 208).next();
+            matches!(
+                first,
+                Some(Item::Acquired {
+                    place: 129,
+                    number: 1
+                })
+            )
+        }
+        Err(_) => false,
+    }
+}
+
+#[test]
+fn a_guess_cut_off_in_a_block_acquires_it(rt: HostRuntime) {
+    for cut in [104, 116, 129] {
+        assert!(rt; acquires_the_second(rt.alloc(), cut), "a cut at {cut}");
     }
 }
 
@@ -119,7 +173,12 @@ fn station_bytes(alloc: Global) -> Result<Vec<u8>, AllocError> {
 
 /// Those groups, read by the default rules.
 fn station(alloc: Global) -> Result<Sample, AllocError> {
-    Sample::of(station_bytes(alloc)?, 312, 2, Loss::Run(10))
+    let numbers = RuleNumbers {
+        burst: 2,
+        reach: 3,
+        loss: Loss::Run(10),
+    };
+    Sample::of(station_bytes(alloc)?, 312, numbers)
 }
 
 /// Where the seam at a cut has to meet: while the decoder searches, at the cut itself; else right after the
@@ -137,7 +196,7 @@ fn met_by_rule(cut: u64) -> u64
 /// The first cut below 208 whose seam meets elsewhere, or 208.
 fn first_unruly_cut(alloc: Global, sample: &Sample) -> u64 {
     for cut in 1..208u64 {
-        if !meets_at(alloc, sample, cut, met_by_rule(cut)) {
+        if !meets_at(alloc, sample, cut, (Some(met_by_rule(cut)), u64::MAX)) {
             return cut;
         }
     }

@@ -31,13 +31,8 @@ pub struct Sample {
 }
 
 impl Sample {
-    /// The first bits of these bytes, read with a reach of 3, by this longest burst, and by a lock that is lost so.
-    pub fn of(bytes: Vec<u8>, bits: u64, burst: u32, loss: Loss) -> Result<Sample, AllocError> {
-        let numbers = RuleNumbers {
-            burst,
-            reach: 3,
-            loss,
-        };
+    /// The first bits of these bytes, read by rules of these numbers.
+    pub fn of(bytes: Vec<u8>, bits: u64, numbers: RuleNumbers) -> Result<Sample, AllocError> {
         let alloc = *bytes.allocator();
         match (
             Recording::from_bytes(bytes, bits),
@@ -48,10 +43,20 @@ impl Sample {
         }
     }
 
-    /// `groups` zero groups, one after the other, whose lock is lost by this rule.
-    pub fn of_groups(alloc: Global, groups: u8, loss: Loss) -> Result<Sample, AllocError> {
+    /// `groups` zero groups, one after the other, read with this reach, whose lock is lost by this rule.
+    pub fn of_groups(
+        alloc: Global,
+        groups: u8,
+        reach: u32,
+        loss: Loss,
+    ) -> Result<Sample, AllocError> {
         let bits = 104 * u64::from(groups);
-        Sample::of(zero_bytes(alloc, bits)?, bits, 2, loss)
+        let numbers = RuleNumbers {
+            burst: 2,
+            reach,
+            loss,
+        };
+        Sample::of(zero_bytes(alloc, bits)?, bits, numbers)
     }
 
     /// Its recording, cut at these places inside it.

@@ -1,10 +1,9 @@
 //! Devices that withhold the bytes that they are given, or have no end.
-ghost use Rattle.std.specs.Prelude.{◌≤◌, length};
-
 use crate::tool::devices::{SlowReader, Withholding, scan_gives, written_to};
 use crate::tool::jobs::Scan;
-use rds_tool::ToolError;
-use std::alloc::Global;
+use crate::writer::{Failure, SlowWriter};
+use rds_tool::{FromRead, ToolError, transcribe};
+use std::alloc::{AllocError, Global};
 use std::sync::Wait;
 use std::thread::Threads;
 
@@ -36,34 +35,45 @@ fn hands_on<R: Threads + Wait + Sync>(
         && under.handed_on == handed_on
 }
 
+/// Whether a scan that writes nothing is refused if the flush fails.
+fn is_refused_unflushed<R: Threads + Wait + Sync>(rt: &R, alloc: Global) -> bool {
+    let withholding = Withholding::new(alloc, true);
+    let (answer, failures, under) = written_to(rt, alloc, Scan::Nothing, b"", withholding);
+    answer == Err(ToolError::Write) && failures == 1 && under.held.is_empty()
+}
+
+#[test]
+fn a_failing_flush_is_a_refusal_of_an_empty_text_too(rt: HostRuntime) {
+    assert!(rt; is_refused_unflushed(&rt, rt.alloc()));
+}
+
 // One byte per read has to end within 16,777,216 reads; a read that gives all that it may takes 64 KiB.
 #[test]
 fn a_reader_without_an_end_is_left(rt: HostRuntime) {
     assert!(rt; long_reader_is_left(&rt, rt.alloc()));
 }
 
-/// Whether there is memory for 16,777,216 bytes, and a reader of them is left in time.
+/// Zero bytes.
+fn zeros(alloc: Global, count: usize) -> Result<Vec<u8>, AllocError> {
+    vec![in alloc; 0u8; count]
+}
+
+/// Whether there is memory for 17,000,000 bytes, and a reader of them is left in time.
 fn long_reader_is_left<R: Threads + Wait + Sync>(rt: &R, alloc: Global) -> bool {
-    match vec![in alloc; 0u8; 16_777_216] {
+    match zeros(alloc, 17_000_000) {
         Ok(zeros) => is_left_in_time(rt, alloc, zeros.as_slice()),
         Err(_) => false,
     }
 }
 
-/// Whether that holds of a reader of these 16,777,216 bytes.
-fn is_left_in_time<R: Threads + Wait + Sync>(rt: &R, alloc: Global, bytes: &[u8]) -> bool
-    requires { 1 ≤ length bytes.now }
-{
-    is_read(rt, alloc, &bytes[1..], 1, Ok(b""), 16_777_216)
-        && is_read(
-            rt,
-            alloc,
-            bytes,
-            1,
-            Err(ToolError::TooManyTurns),
-            16_777_216,
-        )
-        && is_read(rt, alloc, bytes, usize::MAX, Ok(b""), 257)
+/// Whether that holds of a reader of these bytes, and of one of 16,777,215 and of 16,777,216 of them.
+fn is_left_in_time<R: Threads + Wait + Sync>(rt: &R, alloc: Global, bytes: &[u8]) -> bool {
+    let (Some(few), Some(many)) = (bytes.get(..16_777_215), bytes.get(..16_777_216)) else {
+        return false;
+    };
+    is_read(rt, alloc, few, 1, Ok(b""), 16_777_216)
+        && is_read(rt, alloc, many, 1, Err(ToolError::TooManyTurns), 16_777_216)
+        && is_read(rt, alloc, bytes, usize::MAX, Ok(b""), 261)
 }
 
 /// Whether a reader that gives `step` of these bytes per read is answered so, after `reads` reads of 64 KiB.
@@ -78,4 +88,46 @@ fn is_read<R: Threads + Wait + Sync>(
     let mut reader = SlowReader::new(bytes, step, 0);
     let is_given = scan_gives(rt, alloc, Scan::Nothing, &mut reader, wanted);
     is_given && reader.reads == reads && reader.least_buffer == 65_536
+}
+
+/// Whether the scan of a zero group is refused whose reader gives a digit per read and fails at that read.
+fn is_unread<R: Threads + Wait + Sync>(rt: &R, alloc: Global, at: u64) -> bool {
+    let mut reader = SlowReader::new(ZERO_GROUP, 1, at);
+    scan_gives(rt, alloc, Scan::Digits, &mut reader, Err(ToolError::Read))
+}
+
+#[test]
+fn a_reader_may_fail_at_each_read(rt: HostRuntime) {
+    for at in 1..28u64 {
+        assert!(rt; is_unread(&rt, rt.alloc(), at), "read {at}");
+    }
+}
+
+/// Whether that scan is refused whose writer takes a byte per write and fails so, and this number of bytes is left.
+fn is_cut_off<R: Threads + Wait + Sync>(
+    rt: &R,
+    alloc: Global,
+    failure: Failure,
+    left: usize,
+) -> bool {
+    let mut reader = FromRead::new(ZERO_GROUP);
+    let mut writer = SlowWriter::new(alloc, 1, failure);
+    let answer = transcribe(
+        rt,
+        alloc,
+        &mut reader,
+        &mut writer,
+        &Scan::Digits.job(alloc),
+    );
+    answer == Err(ToolError::Write) && ROWS.get(..left) == Some(writer.held.as_slice())
+}
+
+#[test]
+fn a_writer_may_fail_at_each_write(rt: HostRuntime) {
+    for left in 0..26u8 {
+        let at = u64::from(left) + 1;
+        let is_refused = is_cut_off(&rt, rt.alloc(), Failure::Refuses(at), usize::from(left));
+        let is_untaken = is_cut_off(&rt, rt.alloc(), Failure::TakesNone(at), usize::from(left));
+        assert!(rt; is_refused && is_untaken, "write {at}");
+    }
 }

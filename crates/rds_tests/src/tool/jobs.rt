@@ -16,8 +16,6 @@ pub fn ungapped(alloc: Global, hex: bool, bits: Option<u64>) -> Input {
 pub enum Scan {
     /// All bits of hexadecimal text.
     Digits,
-    /// All bits of bytes.
-    Bytes,
     /// No bits: it reads its whole input and writes nothing.
     Nothing,
 }
@@ -26,7 +24,6 @@ impl Scan {
     pub fn job(self, alloc: Global) -> Job {
         let (hex, bits) = match self {
             Scan::Digits => (true, None),
-            Scan::Bytes => (false, None),
             Scan::Nothing => (false, Some(0)),
         };
         Job::Scan(ungapped(alloc, hex, bits), 4)

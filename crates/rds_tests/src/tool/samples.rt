@@ -51,6 +51,44 @@ pub static TWO_GROUPS: Sample = sample!(
     7 0 0 0 0 0 0 0 2 1 1 0
 );
 
+/// Eight of them, read with a reach of three: a guess that is cut off at 190 locks on their own phase.
+pub static EIGHT_GROUPS: Sample = sample!(
+    "00003f000019800005a00001b4 00003f000019800005a00001b4 \
+     00003f000019800005a00001b4 00003f000019800005a00001b4 \
+     00003f000019800005a00001b4 00003f000019800005a00001b4 \
+     00003f000019800005a00001b4 00003f000019800005a00001b4",
+    (2, 3, Run(10)),
+    "acquired,51,2,-,-,-,-,-\n\
+     group,26,0,A,none,B:0000,C:0000,D:0000\n\
+     group,104,0,A,A:0000,B:0000,C:0000,D:0000\n\
+     group,208,0,A,A:0000,B:0000,C:0000,D:0000\n\
+     group,312,0,A,A:0000,B:0000,C:0000,D:0000\n\
+     group,416,0,A,A:0000,B:0000,C:0000,D:0000\n\
+     group,520,0,A,A:0000,B:0000,C:0000,D:0000\n\
+     group,624,0,A,A:0000,B:0000,C:0000,D:0000\n\
+     group,728,0,A,A:0000,B:0000,C:0000,D:0000\n",
+    31 0 0 0 0 0 0 0 8 7 1 0
+);
+
+/// The same with a reach of four: that guess locks on a false phase, and stays on it.
+pub static EIGHT_BY_FOUR: Sample = sample!(
+    "00003f000019800005a00001b4 00003f000019800005a00001b4 \
+     00003f000019800005a00001b4 00003f000019800005a00001b4 \
+     00003f000019800005a00001b4 00003f000019800005a00001b4 \
+     00003f000019800005a00001b4 00003f000019800005a00001b4",
+    (2, 4, Run(10)),
+    "acquired,51,2,-,-,-,-,-\n\
+     group,26,0,A,none,B:0000,C:0000,D:0000\n\
+     group,104,0,A,A:0000,B:0000,C:0000,D:0000\n\
+     group,208,0,A,A:0000,B:0000,C:0000,D:0000\n\
+     group,312,0,A,A:0000,B:0000,C:0000,D:0000\n\
+     group,416,0,A,A:0000,B:0000,C:0000,D:0000\n\
+     group,520,0,A,A:0000,B:0000,C:0000,D:0000\n\
+     group,624,0,A,A:0000,B:0000,C:0000,D:0000\n\
+     group,728,0,A,A:0000,B:0000,C:0000,D:0000\n",
+    31 0 0 0 0 0 0 0 8 7 1 0
+);
+
 /// Two groups, block 1 of the second damaged: by a loss of 1 the lock is lost there, and acquired again.
 pub static A_LOSS: Sample = sample!(
     "00003f000019800005a00001b4 000037400019800005a00001b4",
@@ -75,6 +113,21 @@ impl Sample {
     ) -> bool {
         self.is_written(rt, alloc, Rows::OfList, workers, pieces, &OpenGate)
             && self.is_written(rt, alloc, Rows::OfTotals, workers, pieces, &OpenGate)
+    }
+
+    /// The first of these crews that does not give them, or as many as there are.
+    pub fn first_wrong<R: Threads + Wait + Sync>(
+        &self,
+        rt: &R,
+        alloc: Global,
+        crews: &[(u32, Pieces<'_>)],
+    ) -> usize {
+        for (k, &(workers, pieces)) in crews.iter().enumerate() {
+            if !self.is_given(rt, alloc, workers, pieces) {
+                return k;
+            }
+        }
+        crews.len()
     }
 
     /// Whether there is memory for the job, and it writes its text, at this gate.

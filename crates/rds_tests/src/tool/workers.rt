@@ -1,7 +1,9 @@
 //! How many workers there are at once: as many as are asked for and have pieces. No contract says that any two run at
 //! the same time.
+use crate::decoder::crew::gates::Watch;
+use crate::decoder::crew::journal::Journal;
 use crate::tool::samples::Pieces::{At, Even};
-use crate::tool::samples::{A_LOSS, Pieces, Rows, TWO_GROUPS};
+use crate::tool::samples::{A_LOSS, EIGHT_BY_FOUR, EIGHT_GROUPS, Pieces, Rows, TWO_GROUPS};
 use rds_crew::Gate;
 use rds_pieces::PieceRun;
 use std::alloc::Global;
@@ -87,4 +89,51 @@ fn each_number_of_workers_gives_the_same_bytes(rt: HostRuntime) {
             "{workers} workers"
         );
     }
+}
+
+/// Crews that list two groups: cut at each place, into few pieces, and within the first window and its neighbours.
+static OF_TWO: [(u32, Pieces<'static>); 9] = [
+    (1, Even(208)),
+    (2, Even(208)),
+    (256, Even(208)),
+    (2, Even(3)),
+    (2, Even(5)),
+    (2, At(&[1])),
+    (2, At(&[25])),
+    (2, At(&[26])),
+    (2, At(&[51])),
+];
+
+/// Those that list eight: cut where a guess may lock on a false phase, and into few pieces.
+static OF_EIGHT: [(u32, Pieces<'static>); 5] = [
+    (1, At(&[190])),
+    (2, At(&[190])),
+    (256, At(&[190])),
+    (2, Even(3)),
+    (2, Even(5)),
+];
+
+#[test]
+fn each_cut_gives_the_same_bytes(rt: HostRuntime) {
+    let crew = TWO_GROUPS.first_wrong(&rt, rt.alloc(), &OF_TWO);
+    assert!(rt; crew == 9, "crew {crew} of two groups");
+    let crew = EIGHT_GROUPS.first_wrong(&rt, rt.alloc(), &OF_EIGHT);
+    assert!(rt; crew == 5, "crew {crew} of eight groups");
+    let crew = EIGHT_BY_FOUR.first_wrong(&rt, rt.alloc(), &OF_EIGHT);
+    assert!(rt;
+        crew == 5,
+        "crew {crew} of eight groups with a reach of four"
+    );
+}
+
+/// Whether a gate hears two workers make the halves of two groups for a list, one beside the other.
+fn both_are_heard<R: Sync + Threads + Wait>(rt: &R, alloc: Global) -> bool {
+    let journal = Journal::new(rt, alloc);
+    let watch = Watch::new(&journal);
+    TWO_GROUPS.is_written(rt, alloc, Rows::OfList, 2, At(&[104]), &watch) && watch.heard_both()
+}
+
+#[test]
+fn the_gate_of_a_list_hears_of_each_piece(rt: HostRuntime) {
+    assert!(rt; both_are_heard(&rt, rt.alloc()));
 }

@@ -1,5 +1,5 @@
 //! Dealers and their seats: the answer of each call, to one thread and to many.
-ghost use Rattle.std.specs.Prelude.{◌≡◌, None};
+ghost use Rattle.std.specs.Prelude.{◌≡◌, All, IfSome, None, Some, length};
 ghost use Rattle.rds_crew.specs.Seats.{IsFresh, IsOf, HasRested};
 
 use rds_crew::{Dealer, Seat};
@@ -84,36 +84,147 @@ fn has_done_one(seat: &Seat, done: u64) -> bool {
     done == 1 && seat.told() == 1 && seat.finished() == 1
 }
 
-/// Whether a seat that holds none gets none, and once more none.
-fn ends(dealer: &Dealer, seat: Seat) -> bool
-    requires own { IsOf dealer.now seat }
-    requires empty { seat.view.held ≡ None }
-{
-    let (None, seat) = dealer.draw(seat) else {
-        return false;
-    };
-    let (again, seat) = dealer.draw(seat);
-    again.is_none() && seat.ended() && seat.holding().is_none()
-}
-
 #[test]
 fn a_seat_tells_what_it_holds_and_has_done(rt: HostRuntime) {
-    assert!(rt; one_seat_does(rt.alloc(), 1));
+    assert!(rt; one_seat_does(rt.alloc()));
+}
+
+/// Whether the one seat of a dealer of one piece tells its steps.
+fn one_seat_does(alloc: Global) -> bool {
+    let Ok((dealer, mut seats)) = Dealer::new(alloc, 1, 1) else {
+        return false;
+    };
+    match seats.pop() {
+        Some(seat) => tells_its_steps(&dealer, seat),
+        None => false,
+    }
+}
+
+/// The seat of a dealer of no pieces, which gets none, and once more none.
+fn twice_without_piece(dealer: &Dealer, seat: Seat) -> Option<Seat>
+    requires { IsFresh dealer.now seat }
+    ensures own { IfSome result (λ seat. IsOf dealer.now seat) }
+    ensures rested { IfSome result (λ seat. HasRested seat) }
+{
+    let (first, seat) = dealer.draw(seat);
+    if first.is_some() {
+        return None;
+    }
+    let (second, seat) = dealer.draw(seat);
+    let has_ended = second.is_none() && seat.ended() && seat.holding().is_none();
+    if has_ended { Some(seat) } else { None }
+}
+
+/// Whether a dealer of no pieces and one seat is closed with none drawn and none finished.
+fn is_closed_without_piece(alloc: Global) -> bool {
+    let Ok((dealer, mut seats)) = Dealer::new(alloc, 0, 1) else {
+        return false;
+    };
+    let Some(seat) = seats.pop() else {
+        return false;
+    };
+    match twice_without_piece(&dealer, seat) {
+        Some(seat) => seats.push(seat).is_ok() && is_closed_with(dealer, seats, 0),
+        None => false,
+    }
+}
+
+/// Whether a dealer is closed with that number drawn and finished.
+fn is_closed_with(dealer: Dealer, seats: Vec<Seat>, all: u64) -> bool
+    requires all { length seats.items ≡ dealer.seats }
+    requires own { All (IsOf dealer) seats.items }
+    requires rested { All HasRested seats.items }
+{
+    let closed = dealer.close(seats);
+    closed.drawn == all && closed.finished == all
 }
 
 #[test]
 fn a_dealer_of_no_pieces_is_drawn_from_twice(rt: HostRuntime) {
-    assert!(rt; one_seat_does(rt.alloc(), 0));
+    assert!(rt; is_closed_without_piece(rt.alloc()));
 }
 
-/// Whether the one seat of a dealer tells its steps over its one piece, or ends if it has none.
-fn one_seat_does(alloc: Global, pieces: u32) -> bool {
-    let Ok((dealer, mut seats)) = Dealer::new(alloc, u64::from(pieces), 1) else {
+/// Two seats, after the first draws 0 and the second draws 1.
+fn both_draw(dealer: &Dealer, one: Seat, other: Seat) -> Option<(Seat, Seat)>
+    requires one { IsFresh dealer.now one }
+    requires other { IsFresh dealer.now other }
+    ensures own { IfSome result (λ seats. IsOf dealer.now seats.0 × IsOf dealer.now seats.1) }
+    ensures held { IfSome result (λ seats. (seats.0.view.held ≡ Some 0) × (seats.1.view.held ≡ Some 1)) }
+{
+    let (first, one) = dealer.draw(one);
+    let (second, other) = dealer.draw(other);
+    if first == Some(0) && second == Some(1) {
+        Some((one, other))
+    } else {
+        None
+    }
+}
+
+/// Those, after each finished its piece, and progress was first 0, then 1, then 2.
+fn both_finish(dealer: &Dealer, one: Seat, other: Seat) -> Option<(Seat, Seat)>
+    requires own { IsOf dealer.now one × IsOf dealer.now other }
+    requires held { (one.view.held ≡ Some 0) × (other.view.held ≡ Some 1) }
+    ensures own { IfSome result (λ seats. IsOf dealer.now seats.0 × IsOf dealer.now seats.1) }
+    ensures empty { IfSome result (λ seats. (seats.0.view.held ≡ None) × (seats.1.view.held ≡ None)) }
+{
+    let (none, other) = dealer.progress(other);
+    let one = dealer.finish(one, 0);
+    let (first, other) = dealer.progress(other);
+    let other = dealer.finish(other, 1);
+    let (both, one) = dealer.progress(one);
+    if none == 0 && first == 1 && both == 2 {
+        Some((one, other))
+    } else {
+        None
+    }
+}
+
+/// Those, after neither drew anything more.
+fn both_end(dealer: &Dealer, one: Seat, other: Seat) -> Option<(Seat, Seat)>
+    requires own { IsOf dealer.now one × IsOf dealer.now other }
+    requires empty { (one.view.held ≡ None) × (other.view.held ≡ None) }
+    ensures own { IfSome result (λ seats. IsOf dealer.now seats.0 × IsOf dealer.now seats.1) }
+    ensures rested { IfSome result (λ seats. HasRested seats.0 × HasRested seats.1) }
+{
+    let (first, one) = dealer.draw(one);
+    let (second, other) = dealer.draw(other);
+    if first.is_none() && second.is_none() {
+        Some((one, other))
+    } else {
+        None
+    }
+}
+
+/// Two new seats, after all of that.
+fn take_turns(dealer: &Dealer, one: Seat, other: Seat) -> Option<(Seat, Seat)>
+    requires one { IsFresh dealer.now one }
+    requires other { IsFresh dealer.now other }
+    ensures own { IfSome result (λ seats. IsOf dealer.now seats.0 × IsOf dealer.now seats.1) }
+    ensures rested { IfSome result (λ seats. HasRested seats.0 × HasRested seats.1) }
+{
+    let (one, other) = both_draw(dealer, one, other)?;
+    let (one, other) = both_finish(dealer, one, other)?;
+    both_end(dealer, one, other)
+}
+
+/// Whether two seats of a dealer of two pieces take turns so, and it is closed with both drawn and finished.
+fn two_seats_take_turns(alloc: Global) -> bool {
+    let Ok((dealer, mut seats)) = Dealer::new(alloc, 2, 2) else {
         return false;
     };
-    match seats.pop() {
-        Some(seat) if pieces == 0 => ends(&dealer, seat),
-        Some(seat) => tells_its_steps(&dealer, seat),
+    let (Some(one), Some(other)) = (seats.pop(), seats.pop()) else {
+        return false;
+    };
+    match take_turns(&dealer, one, other) {
+        Some((one, other)) => match vec![in alloc; one, other] {
+            Ok(seats) => is_closed_with(dealer, seats, 2),
+            Err(_) => false,
+        },
         None => false,
     }
+}
+
+#[test]
+fn progress_of_two_seats_rises_with_each_finish(rt: HostRuntime) {
+    assert!(rt; two_seats_take_turns(rt.alloc()));
 }

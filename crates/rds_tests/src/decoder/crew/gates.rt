@@ -7,7 +7,7 @@ use crate::decoder::crew::journal::{Event, Journal, Noted};
 use crate::decoder::samples::Sample;
 use rds_crew::{Gate, decode_crew};
 use rds_pieces::{PieceRun, RecordingWork, Work};
-use rds_sync::Loss;
+use rds_sync::{Loss, Totals};
 use std::alloc::Global;
 use std::sync::Wait;
 use std::sync::atomic::{AtomicU64, Ordering};
@@ -54,9 +54,25 @@ impl Meeting {
 
 /// A journal at which piece 0 waits until piece 1 is begun.
 #[derive(Drop)]
-struct Watch<'a, R> {
+pub struct Watch<'a, R> {
     journal: &'a Journal<'a, R>,
     second: Meeting,
+}
+
+impl<'a, R: Wait> Watch<'a, R> {
+    pub fn new(journal: &'a Journal<'a, R>) -> Watch<'a, R> {
+        Watch {
+            journal,
+            second: Meeting::of(1),
+        }
+    }
+
+    /// Whether piece 1 was begun in time, and two workers were heard to be done with the halves of two groups.
+    pub fn heard_both(&self) -> bool {
+        !self.second.was_missed()
+            && self.journal.is_over(Event::Done(0), (0, 104))
+            && self.journal.is_over(Event::Done(1), (104, 208))
+    }
 }
 
 impl<R: Wait> Gate for Watch<'_, R> {
@@ -99,17 +115,35 @@ static EVENTS: [Event; 10] = [
     Event::Reported,
 ];
 
-/// Has a crew of `workers` workers make a work's report: whether it did.
+/// Has a crew of `workers` workers make a work's report: its totals, if it did.
 fn decode<R: Threads + Wait, W: Work + Sync, G: Gate + Sync>(
     rt: &R,
     alloc: Global,
     work: &W,
     workers: u32,
     gate: &G,
-) -> bool
+) -> Option<Totals>
     requires { IsCutting (length_of (W.recording work.now)) (W.places work.now) }
 {
-    decode_crew(rt, alloc, work, workers, gate).is_ok()
+    match decode_crew(rt, alloc, work, workers, gate) {
+        Ok(report) => Some(report.totals),
+        Err(_) => None,
+    }
+}
+
+/// The totals of zero groups: the first is acquired at its block 2, and all others are complete.
+fn totals_of_zeros(groups: u8) -> Totals {
+    let groups = u64::from(groups);
+    Totals {
+        valid: (4 * groups).saturating_sub(1),
+        bursts: [0; 5],
+        lost: 0,
+        bits: 0,
+        groups,
+        complete: groups.saturating_sub(1),
+        acquired: 1,
+        losses: 0,
+    }
 }
 
 /// Has a crew decode a sample, cut so, by a work that notes its calls.
@@ -120,9 +154,9 @@ fn note_cut<'a, R: Sync + Threads + Wait, G: Gate + Sync>(
     workers: u32,
     journal: &'a Journal<'a, R>,
     gate: &G,
-) -> bool {
+) -> Option<Totals> {
     let Ok(cutting) = sample.cut(alloc, cuts) else {
-        return false;
+        return None;
     };
     let work = Noted {
         journal,
@@ -131,7 +165,7 @@ fn note_cut<'a, R: Sync + Threads + Wait, G: Gate + Sync>(
     decode(journal.rt, alloc, &work, workers, gate)
 }
 
-/// Has a crew decode `groups` zero groups, cut so, by such a work.
+/// Has a crew decode `groups` zero groups, cut so, by such a work: whether the report counts them.
 pub fn note_groups<R: Sync + Threads + Wait, G: Gate + Sync>(
     alloc: Global,
     groups: u8,
@@ -140,8 +174,11 @@ pub fn note_groups<R: Sync + Threads + Wait, G: Gate + Sync>(
     journal: &Journal<'_, R>,
     gate: &G,
 ) -> bool {
-    match Sample::of_groups(alloc, groups, Loss::Run(10)) {
-        Ok(sample) => note_cut(alloc, &sample, cuts, workers, journal, gate),
+    match Sample::of_groups(alloc, groups, 3, Loss::Run(10)) {
+        Ok(sample) => {
+            let totals = note_cut(alloc, &sample, cuts, workers, journal, gate);
+            totals == Some(totals_of_zeros(groups))
+        }
         Err(_) => false,
     }
 }
@@ -185,24 +222,20 @@ fn a_worker_makes_all_else_while_another_is_held_back(rt: HostRuntime) {
     assert!(rt; others_come(&rt, rt.alloc()));
 }
 
-/// Whether each event happened once, over the range that it has to be, and the workers' runs make the report.
+/// Whether each event happened once, and the workers' runs make the report.
 fn shows_both_workers<R: Wait>(journal: &Journal<'_, R>) -> bool {
     journal.has_each_once(&EVENTS)
-        && journal.is_over(Event::Done(0), (0, 104))
-        && journal.is_over(Event::Done(1), (104, 208))
         && journal.has_runs_of(Event::Joined(0, 208), &[Event::Done(0), Event::Done(1)])
         && journal.is_over(Event::Reported, (0, 208))
+        && journal.has_runs_of(Event::Reported, &[Event::JoinDone(1, 0)])
 }
 
 /// Whether two workers meet at two pieces, and the journal shows both.
 fn two_workers_meet<R: Sync + Threads + Wait>(rt: &R, alloc: Global) -> bool {
     let journal = Journal::new(rt, alloc);
-    let watch = Watch {
-        journal: &journal,
-        second: Meeting::of(1),
-    };
+    let watch = Watch::new(&journal);
     note_groups(alloc, 2, HALVES, 2, &journal, &watch)
-        && !watch.second.was_missed()
+        && watch.heard_both()
         && shows_both_workers(&journal)
 }
 

@@ -26,6 +26,7 @@ pub enum Event {
 struct Shown {
     from: u64,
     to: u64,
+    items: usize,
     totals: Totals,
     end_state: State,
 }
@@ -35,6 +36,7 @@ impl Shown {
         Shown {
             from: run.from(),
             to: run.to(),
+            items: run.list().len(),
             totals: run.totals(),
             end_state: run.end_state(),
         }
@@ -155,8 +157,9 @@ impl<R: Wait> Gate for Journal<'_, R> {
         self.keep(Event::JoinBegun(level, m));
     }
 
-    fn join_done(&self, level: u32, m: u64, _run: &PieceRun) {
+    fn join_done(&self, level: u32, m: u64, run: &PieceRun) {
         self.keep(Event::JoinDone(level, m));
+        self.keep_run(Event::JoinDone(level, m), run);
     }
 }
 

@@ -82,6 +82,7 @@ fn shows_all_joins<R: Wait>(journal: &Journal<'_, R>) -> bool {
     journal.has(15, &LEVELS)
         && journal.has_runs_of(Event::Joined(0, 208), &[Event::Done(0), Event::Done(1)])
         && journal.has_runs_of(Event::Joined(208, 416), &[Event::Done(2), Event::Done(3)])
+        && journal.has_runs_of(Event::Reported, &[Event::JoinDone(3, 0)])
 }
 
 /// Whether one worker makes all joins of five pieces so.

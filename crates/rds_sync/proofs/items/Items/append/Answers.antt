@@ -16,8 +16,8 @@ invariant_of-self-2 c =
     let source = ap (λ (items : ItemsOf). items.source) c.other.view_is ∙ c.requires.source ∙ sym (ap (λ (items : ItemsOf). items.source) c.self.view_is) in
     let rules = ap (λ (items : ItemsOf). items.rules) c.other.view_is ∙ c.requires.rules ∙ sym (ap (λ (items : ItemsOf). items.rules) c.self.view_is) in
     let theirs = over _ _ _ _ o.spans.items o.len source rules c.other.invariant in
-    spans-behind b s.rules s.spans.items o.spans.items c.extend_from_slice.new.self.items s.len o.len c.in-Some.len c.self.invariant theirs.all
-    (c.in_ok-extend_from_slice.ensures.items ∙ ap (λ (spans : List Span). s.spans.items ++ spans) c.deref.ensures.value)
+    spans-behind b s.rules s.spans.items o.spans.items c.append_spans.new.spans.items s.len o.len c.in-Some.len c.self.invariant theirs.all
+    c.in_ok-append_spans.ensures.ok
     (omega (arith, c.in-Some.ensures)) theirs.count
 
 pub returns-clause-ok : goal.returns-clause-ok
@@ -30,7 +30,7 @@ returns-clause-ok c =
     let theirs : items_in b s.rules o.spans.items ≡ c.args.other.list =
     ap₂ (λ (signal : Signal) (numbers : RuleNumbers). items_in signal numbers o.spans.items) (sym source) (sym rules) ∙ ap (λ (items : ItemsOf). items.list) c.other.view_is in
     ap (λ (spans : List Span). listed b s.rules (items_in b s.rules spans))
-    (c.in_ok-extend_from_slice.ensures.items ∙ ap (λ (spans : List Span). s.spans.items ++ spans) c.deref.ensures.value)
+    c.in_ok-append_spans.ensures.ok
     ∙ ap (λ (is : List Item). listed b s.rules is) (items_in-append b s.rules s.spans.items o.spans.items
     ∙ ap (λ (is : List Item). items_in b s.rules s.spans.items ++ is) theirs)
     ∙ ap (λ (items : ItemsOf). listed items.source items.rules (items.list ++ c.args.other.list)) c.self.view_is

@@ -1,0 +1,141 @@
+"""The commands of README.md, as they are printed there: the session, each task of the table, and the live pipe.
+
+The `make` commands and the programs of the library have tests of their own (tests/package.sh, tests/library.sh).
+"""
+
+from __future__ import annotations
+
+import json
+import os
+import re
+import signal
+import subprocess
+import time
+from pathlib import Path
+from typing import Callable, Dict, List
+
+import pytest
+
+from conftest import PROGRAM, STATION, TOP, rds
+from modulator import mpx, stored
+
+TEXT = (TOP / "README.md").read_text(encoding="utf-8")
+PATIENCE = 60.0
+D3 = os.environ.get("RDS_D3", "/usr/share/javascript/d3/d3.min.js")
+
+
+def section(title: str) -> str:
+    return TEXT.split(f"\n## {title}\n", 1)[1].split("\n## ", 1)[0]
+
+
+def block(text: str) -> List[str]:
+    """The lines of the first indented block."""
+    return [it[4:] for it in re.search(r"(?:^    .*\n)+", text, re.M)[0].splitlines()]  # type: ignore[index]
+
+
+# The command of each task, with a text that its output or its file has.
+TASKS: Dict[str, str] = {
+    "rds-monitor info bits.bin": "PAXOLIDU",
+    "rds-monitor errors bits.bin": "begin_s,end_s,sent,valid,",
+    "rds-monitor report bits.bin > page.html": "</html>",
+    "rds-monitor outages bits.bin": "begin_s,end_s,length_s,",
+    "rds-monitor check --pi D393 bits.bin": "RDS OK",
+    "rds-monitor json bits.bin": '"value":"D393"',
+    "rds-monitor groups bits.bin": "D393 0549 E100 584F",
+    "rds encode < groups.txt > bits.bin": "",
+}
+WATCH = "rds-monitor watch stations.toml"
+
+
+@pytest.fixture
+def folder(tmp_path: Path) -> Path:
+    """A folder with the files that the commands name, and a PATH with the program and a receiver."""
+    (tmp_path / "bin").mkdir()
+    (tmp_path / "bin" / "rds").symlink_to(os.path.realpath(PROGRAM))
+    (tmp_path / "bin" / "rds-monitor").symlink_to(TOP / "monitor" / "rds-monitor")
+    (tmp_path / "bits.bin").write_bytes(STATION.read_bytes())
+    (tmp_path / "groups.txt").write_text("D393 0549 E100 584F\nD393 054A C4E1 4C49\n")
+    return tmp_path
+
+
+def started(folder: Path, command: str) -> "subprocess.Popen[str]":
+    path = os.pathsep.join([str(folder / "bin"), os.environ["PATH"]])
+    return subprocess.Popen(
+        ["bash", "-o", "pipefail", "-c", command], cwd=folder, env={**os.environ, "PATH": path}, stdin=subprocess.DEVNULL,
+        stdout=subprocess.PIPE, stderr=subprocess.PIPE, text=True, start_new_session=True,
+    )
+
+
+@pytest.fixture
+def done(folder: Path) -> Callable[[str], str]:
+    """The output of a command that has to succeed."""
+
+    def run(command: str) -> str:
+        process = started(folder, command)
+        try:
+            out, error = process.communicate(timeout=PATIENCE)
+        finally:
+            if process.poll() is None:
+                os.killpg(process.pid, signal.SIGKILL)
+        assert process.returncode == 0, error
+        return out
+
+    return run
+
+
+def test_each_task_is_tried() -> None:
+    found = re.findall(r"^\|[^|]*\| `([^`]+)` \|$", section("Common tasks"), re.M)
+    assert set(found) == {*TASKS, WATCH}
+
+
+@pytest.mark.parametrize("command", TASKS)
+def test_a_task(command: str, folder: Path, done: Callable[[str], str]) -> None:
+    if " report " in command:
+        pytest.importorskip("jinja2")
+        if not os.path.exists(D3):
+            pytest.skip("needs libjs-d3")
+    groups = (folder / "groups.txt").read_text()
+    out = done(command)
+    file = command.partition("> ")[2]
+    assert TASKS[command] in (out if not file else (folder / file).read_bytes().decode("latin-1"))
+    if file == "bits.bin":
+        assert (folder / file).read_bytes() == rds("encode", data=groups.encode())
+
+
+def test_a_watch(folder: Path) -> None:
+    words = json.dumps(["sh", "-c", f"cat '{STATION}'; sleep 600"])
+    (folder / "stations.toml").write_text(f'folder = "{folder}"\n[[station]]\nname = "Alpha"\ncommand = {words}\n')
+    process = started(folder, f"exec {WATCH}")
+    try:
+        end = time.monotonic() + PATIENCE
+        while not (folder / "pages" / "index.html").exists():
+            assert time.monotonic() < end and process.poll() is None
+            time.sleep(0.05)
+        process.terminate()
+        assert process.wait(PATIENCE) == 0
+    finally:
+        if process.poll() is None:
+            os.killpg(process.pid, signal.SIGKILL)
+            process.wait()
+
+
+def test_the_session(folder: Path, done: Callable[[str], str]) -> None:
+    """The lines after a `$` are its output."""
+    (folder / "examples").symlink_to(TOP / "examples")
+    prompt, *rows = block(section("Try it").split("first:\n", 1)[1])
+    assert prompt.startswith("$ ") and len(rows) == 4
+    assert done(prompt[2:]).splitlines() == rows
+
+
+def test_the_live_pipe(folder: Path, done: Callable[[str], str]) -> None:
+    """Ten seconds of the station as a receiver's MPX, given by a program of the receiver's name."""
+    command = "\n".join(block(section("Live, from an RTL-SDR")))
+    rate = int(re.search(r"--rate (\d+)", command)[1])  # type: ignore[index]
+    assert command.startswith(f"rtl_fm -M fm -l 0 -A std -p 0 -s {rate // 1000}k ") and " --raw s16 " in command
+    (folder / "mpx.s16").write_bytes(stored(mpx(STATION.read_bytes()[: 10 * 1188 // 8], rate), "s16"))
+    receiver = folder / "bin" / "rtl_fm"
+    receiver.write_text(f"#!/bin/sh\nexec cat '{folder / 'mpx.s16'}'\n")
+    receiver.chmod(0o755)
+    told = [json.loads(line) for line in done(command).splitlines()]
+    assert [it["value"] for it in told if it.get("item") == "pi"] == ["D393"]
+    assert any(it.get("item") == "ps" and it["value"] == "PAXOLIDU" for it in told)
