@@ -79,27 +79,27 @@ done
 # Each option stands beside its own meaning, and each command is told of.
 cat >"$work/options" <<'END'
 Options:
-      --hex          Read hexadecimal digits of either case; spaces, tabs and
-                     line ends don't count
+      --hex          The input is hex digits of either case; blanks and line
+                     ends are ignored
       --bits <N>     Length of the recording in bits, 0 to 68719476736
                      [default: all bits of the input]
-      --gaps <TEXT>  Places whose bits mean nothing, as FROM-TO,FROM-TO and so
-                     on, in order; TO is the first place after a gap
-      --burst <N>    Correct bursts of errors of up to N bits,
+      --gaps <TEXT>  Ignore the bits at these positions: FROM-TO,FROM-TO and so
+                     on, in order; TO is the first position after a gap
+      --burst <N>    Correct error bursts of up to N bits,
                      0 to 5 [default: 2]
-      --reach <N>    Acquire by two valid blocks at most N blocks apart,
-                     1 to 8 [default: 3]
-      --loss <N>     Lose synchronism after N bad blocks in a row, 1 to 64;
-                     ignored with --share [default: 10]
-      --share <N>    Lose synchronism when N of the last blocks are bad,
-                     1 to 64
-      --of <N>       Look at the last N blocks for --share, 1 to 64;
-                     ignored without it [default: 64]
-      --pieces <N>   Cut the recording into up to N pieces, 1 or more; the
+      --reach <N>    Acquire sync by two valid blocks, in sequence, at most N
+                     blocks apart, 1 to 8 [default: 3]
+      --loss <N>     Drop sync after N consecutive bad blocks, 1 to 64; a
+                     corrected block is bad; ignored with --share [default: 10]
+      --share <N>    Instead of --loss: drop sync when N of the last blocks are
+                     bad, 1 to the value of --of
+      --of <N>       How many of the last blocks --share looks at,
+                     1 to 64; ignored without --share [default: 64]
+      --pieces <N>   Cut the recording into at most N pieces, 1 or more; the
                      output stays the same [default: 16]
-      --workers <N>  Work by up to N threads, 1 to 256; the output stays
+      --workers <N>  Use at most N threads, 1 to 256; the output stays
                      the same [default: 4]
-      --progress     Tell on standard error how far the work is
+      --progress     Show progress in one line on standard error
   -h, --help         Print help
 END
 for words in 'list --help' 'help totals'; do
@@ -107,24 +107,24 @@ for words in 'list --help' 'help totals'; do
     judge "options in the help by $words" 0 "${PIPESTATUS[0]}" "$(cat "$work/options")\n" ''
 done
 check 'help of follow on --bits' 0 '*--bits <N>     Length of the recording in bits' '' '' follow --help
-check 'help of follow on --burst' 0 '*--burst <N>    Correct bursts of errors of up to N bits' '' '' follow --help
-check 'help of follow on --of' 0 '*--of <N>       Look at the last N blocks' '' '' follow --help
-check 'help of scan on --workers' 0 '*--workers <N>  Work by up to N threads' '' '' scan --help
-check 'help of scan on --progress' 0 '*--progress     Tell on standard error' '' '' scan --help
+check 'help of follow on --burst' 0 '*--burst <N>    Correct error bursts of up to N bits' '' '' follow --help
+check 'help of follow on --of' 0 '*--of <N>       How many of the last blocks' '' '' follow --help
+check 'help of scan on --workers' 0 '*--workers <N>  Use at most N threads' '' '' scan --help
+check 'help of scan on --progress' 0 '*--progress     Show progress in one line' '' '' scan --help
 check 'help of scan on --bits' 0 '*--bits <N>     Length of the recording in bits' '' '' help scan
-check 'help of scan on --gaps' 0 '*--gaps <TEXT>  Places whose bits mean nothing' '' '' help scan
+check 'help of scan on --gaps' 0 '*--gaps <TEXT>  Ignore the bits at these positions' '' '' help scan
 check 'help of encode on --hex' 0 '*--hex   Write each group as a line of 26 lower-case' '' '' encode --help
 help_begins 'Decodes and encodes Radio Data System bits, standard input to standard output'
-help_begins 'List each place at which 26 bits have an offset word as remainder' scan
-help_begins 'List acquisitions, groups and losses of synchronism, then the totals' list
+help_begins 'List each position where a 26-bit window matches an offset word' scan
+help_begins 'List sync acquisitions, groups and sync losses, then the totals' list
 help_begins 'List a stream as it comes, each row once it is complete' follow
-help_begins 'Count valid, corrected and lost blocks, groups, losses of synchronism' totals
-help_begins 'Encode groups that are given as lines of hexadecimal words' encode
-check 'help of scan on its rows' 0 "*Writes a row 'PLACE,OFFSET' for each 26 bits in a row" '' '' scan --help
-check 'help of list on its rows' 0 '*Writes rows of eight fields, in the order of the bit that completes' '' '' list --help
+help_begins 'Count valid, corrected and uncorrectable blocks, groups, sync losses' totals
+help_begins 'Encode groups, given as lines of four hex words' encode
+check 'help of scan on its rows' 0 "*Writes a row 'POSITION,OFFSET' for each 26-bit window" '' '' scan --help
+check 'help of list on its rows' 0 '*Writes rows of eight fields in order of completion' '' '' list --help
 check 'help of follow on its rows' 0 "*the rows of 'rds list'" '' '' follow --help
 check 'help of totals on its rows' 0 "*Writes twelve rows 'total,NAME,VALUE'" '' '' totals --help
-check 'help of encode on its lines' 0 '*Each line has 16 hexadecimal digits of either case' '' '' encode --help
+check 'help of encode on its lines' 0 '*Each line has 16 hex digits of either case' '' '' encode --help
 for command in '' scan list follow totals encode; do
     "$rds" $command --help 2>"$work/err" </dev/null | grep -E '.{81}' >"$work/out"
     judge "help of ${command:-rds} fits 80 columns" 0 "${PIPESTATUS[0]}" '' ''
@@ -141,6 +141,7 @@ for command in scan list follow totals encode; do
     check "a file among the words of $command" 2 '' "*Usage: rds $command [OPTIONS] < INPUT > OUTPUT" '' "$command" file.bin
 done
 check 'a file for a command' 2 '' '*Usage: rds <COMMAND> [OPTIONS] < INPUT > OUTPUT' '' file.bin
+check 'an example beside a usage error' 2 '' '*Use < FILE, not FILE. Example: rds list < recording.bin > listing.csv' '' list file.bin
 check 'a flag twice' 2 '' '*--hex' '' scan --hex --hex
 check 'bits above 2^40' 2 '' '*1099511627777' '' scan --bits 1099511627777
 check 'bits that are no number' 2 '' '*--bits' '' scan --bits ten
