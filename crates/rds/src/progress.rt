@@ -155,7 +155,7 @@ impl Gate for Progress<'_> {
     }
 }
 
-/// A reader or a writer whose bytes are told of.
+/// A reader or a writer whose bytes are counted.
 #[derive(Drop)]
 pub struct Told<'a, D> {
     device: D,

@@ -1,5 +1,5 @@
--- What a caller asks for: bytes, how many bits of them, the gaps in these, and the numbers of rules; what is refused of it, and
--- what is found in it. `totals` and `items` cite it, and by way of `Going` and `Following` the other calls of a decoder. This
+-- A caller's request: bytes, how many bits of them, the gaps in these, and the numbers of rules; its errors, and
+-- its results. `totals` and `items` cite it, and by way of `Going` and `Following` the other calls of a decoder. This
 -- project's rules.
 use Rattle.std.specs.Prelude.{◌≡◌, ℕ, ◌*◌, ◌^◌, ◌<◌, ◌≤◌, ◌⊎◌, ◌==◌, ◌++◌, List, drop, length, map, replicate, if◌then◌else◌, ⊤}
 use Rattle.rds_stream.specs.Recording.{AreGaps, Signal, bits_of}
@@ -112,6 +112,6 @@ totals_asked a = totals_in_c (totals_of (report_items (recording_of a.bytes a.bi
 abbrev pub IsFilled : List RdsItem → List RdsItem → List RdsItem → Type 0
 IsFilled items old new = new ≡ items ++ drop (length items) old
 
--- the items are refused because the room is too small, and their number is told
+-- the room is too small for the items, and count is their number
 abbrev pub IsTooMuch : List RdsItem → ℕ → Refusal → ℕ → Type 0
 IsTooMuch items room refusal count = (refusal ≡ SmallRoom) × (room < length items) × (count ≡ length items)

@@ -1,4 +1,4 @@
--- A stream that is followed chunk by chunk, from what the caller keeps of it as plain numbers. `push`, `finish` and `finish_with` cite
+-- A stream that is followed chunk by chunk, from the plain numbers that the caller keeps of it. `push`, `finish` and `finish_with` cite
 -- it. This project's rules.
 use Rattle.std.specs.Prelude.{◌≡◌, ℕ, ◌+◌, ◌-◌, ◌*◌, ◌/◌, ◌^◌, ◌<◌, ◌≤◌, ◌⊎◌, ◌++◌, List, [], length, map, min, replicate, take, ⊤}
 use Rattle.rds_stream.specs.Recording.{AreGaps}
@@ -86,7 +86,7 @@ unheard = record {
   reserved = 0;
 }
 
--- the numbers around what is known of a stream are those that a call writes
+-- the numbers around the state of a stream are those that a call writes
 abbrev pub IsNamed : RuleNumbers → RdsStream → Type 0
 IsNamed rules s =
     (s.magic ≡ 0x31534452) × (s.version ≡ 1) × (s.rules ≡ rules_in_c rules) × (s.totals.reserved ≡ replicate 4 0) × (s.reserved ≡ 0)
@@ -191,6 +191,6 @@ abbrev pub AreWritten : (List Item → Type 0) → List RdsItem → List RdsItem
 AreWritten wanted old new count =
     (items : List Item) × wanted items × IsFilled (map item_in_c items) old new × (count ≡ length items)
 
--- there are more of them than there is room for, and their number is told
+-- there are more of them than there is room for, and count is their number
 abbrev pub AreTooMany : (List Item → Type 0) → ℕ → Refusal → ℕ → Type 0
 AreTooMany wanted room refusal count = (items : List Item) × wanted items × IsTooMuch (map item_in_c items) room refusal count

@@ -30,7 +30,7 @@ loss_in_c (Share bad of) = (bad, of)
 abbrev pub searching_in_c : RdsState
 searching_in_c = record { due = 0; bad = 0; number = 0; first = 0; loss = 0; of = 0; reserved = 0 }
 
--- and a state by rules as such numbers: all 0 where no block is known, and else with the rule of loss that its bad blocks were
+-- and a state by rules as such numbers: all 0 without sync, and else with the rule of loss that its bad blocks were
 -- counted by
 abbrev pub state_in_c : RuleNumbers → State → RdsState
 state_in_c rules Searching = searching_in_c

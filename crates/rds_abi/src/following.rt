@@ -146,7 +146,7 @@ fn is_unheard(stream: &RdsStream) -> bool
     *stream == RdsStream::UNHEARD
 }
 
-/// Whether the numbers around what is known of the stream are those that a call writes by these rules.
+/// Whether the numbers around the state of the stream are those that a call writes by these rules.
 fn is_named(rules: &Rules, stream: &RdsStream) -> bool
     ensures { (result ≡ true) ↔ IsNamed rules.now stream.now }
 {
@@ -237,7 +237,7 @@ fn fill_room(room: &mut [RdsItem], items: &[Item])
 /// Takes as many of the next bytes of a stream, the highest bit of a byte first, as there is room for the
 /// items that they complete. It writes these to the beginning of `room`, how many they are to `count`, the
 /// stream after them to `stream`, and how many bytes it took to `taken`. The others are to be offered again.
-/// The bytes may be any number, none too, and the gaps are told by their places in the stream.
+/// The bytes may be any number, none too. The gaps are places in the stream.
 ///
 /// It takes all bytes, or the items of one byte more would not fit. A byte completes at most 16 items, so room for 16 is never
 /// too little.
@@ -446,7 +446,7 @@ fn take_piece(
 /// `count` how many groups these are, one or none. It writes to `totals` those of the report of all that was
 /// heard. The stream is left as it is, and can be continued.
 ///
-/// Refuses as [`push`] does, but for `TooLong`.
+/// Refuses as [`push`] does, except `TooLong`.
 pub fn finish(
     alloc: Global,
     gaps: &[RdsGap],

@@ -65,7 +65,7 @@ pub(crate) fn loss_in_c(loss: Loss) -> (u32, u32)
     }
 }
 
-/// A search, or none where its numbers are not all 0.
+/// A search, or none if its numbers are not all 0.
 fn search_of(s: RdsState) -> Option<State>
     requires { s.number ≡ 0 }
     ensures some { IfSome result (λ state. (state ≡ Searching) × (s ≡ searching_in_c)) }

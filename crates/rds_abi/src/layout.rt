@@ -124,7 +124,7 @@ pub struct RdsItem {
     pub unused: u32,
 }
 
-/// What a run knows between two bits: 40 bytes, all 0 where no block is known.
+/// The state of a run between two bits: 40 bytes, all 0 without sync.
 #[repr(C)]
 #[derive(Clone, Copy, Debug, PartialEq, Eq)]
 pub struct RdsState {
@@ -158,7 +158,7 @@ impl RdsState {
     };
 }
 
-/// What is known of a stream between two chunks: 256 bytes, all 0 where nothing was heard yet.
+/// The state of a stream between two chunks: 256 bytes, all 0 before the first call.
 #[repr(C)]
 #[derive(Clone, Copy, Debug, PartialEq, Eq)]
 pub struct RdsStream {

@@ -7,7 +7,7 @@
 //! # What callers may rely on
 //!
 //! - After 0 the results are written, and nothing else.
-//! - After any other number nothing that was lent has changed, but for the count that a `SmallRoom` tells.
+//! - After any other number the arguments are unchanged, except the count that a `SmallRoom` tells.
 #![tactic(auto)]
 
 // In the order of reading, as the calls of `rds_abi`.

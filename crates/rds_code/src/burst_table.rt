@@ -35,7 +35,7 @@ impl BurstTable {
     ghost use Rattle.rds_code.specs.Remainder.{rem};
     ghost use Rattle.rds_code.specs.Bursts.{IsBurst};
 
-    /// The table, in one growth of 4,096 bytes. Its type keeps what it holds. Fails only with `OutOfMemory`.
+    /// The table, in one growth of 4,096 bytes. Its type keeps its contents. Fails only with `OutOfMemory`.
     pub fn new(alloc: Global) -> Result<BurstTable, CodeError> {
         let mut patterns = no_bursts(alloc)?;
         enter_all(&mut patterns);

@@ -36,7 +36,7 @@ pub record IsPartHeard (whole part : Signal) (d from : ℕ) : Type 0 where
   pub heard_same : (i : ℕ) → 25 ≤ i → i < length_of part → heard part i ≡ heard whole (i + d)
   pub early : (d ≡ 0) ⊎ (most_behind ≤ from)
 
--- a run over a part is the run over the whole there, but for the places
+-- a run over a part is the run over the whole there, except for the places
 abbrev pub RunsMove : Type 0
 RunsMove = (whole part : Signal) (rules : RuleNumbers) (d : ℕ) (s : State) (from bits : ℕ)
     → IsLoss rules.loss → rules.reach ≤ farthest_reach → IsLawful rules from s

@@ -15,7 +15,7 @@ pub fn runs_move()
     laws::steps_are_lawful();
 }
 
-/// The group in progress at the end of a part is that at the end of the whole, but for the places.
+/// The group in progress at the end of a part is that at the end of the whole, except for the places.
 pub fn ends_move()
     ensures { EndsMove }
 {}

@@ -54,7 +54,7 @@
 //! - A refused call has heard nothing: the same bytes can be offered again. `take` refuses only `TooLong`
 //!   (5), past 2^36 bits in all, and `take_all` `OutOfMemory` (8) too.
 //! - All memory that a stream needs is taken at its beginning: `take`, `finish` and `finish_with` take none.
-//! - Both rules of loss are followed, and gaps that are told beforehand ([`Live::with_gaps`]).
+//! - It follows both rules of loss, and gaps that are known beforehand ([`Live::with_gaps`]).
 //! - A decoder that is made of the numbers of another is equal to that one, and so has heard the same bytes.
 //!   It is refused if no stream may have its gaps, if no decoder has its numbers, or if memory is refused.
 //!   The numbers of a decoder are refused only if memory is.

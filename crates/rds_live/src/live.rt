@@ -26,7 +26,7 @@ use rds_sync::{Decoder, Group, Item, Rules, State, Totals, finish, laws};
 use std::alloc::{AllocError, Global};
 use std::marker::Model;
 
-/// How many items a byte may complete: two a bit.
+/// How many items a byte may complete: two per bit.
 const ITEMS_A_BYTE: usize = 16;
 
 /// Room for as many items as [`Live::take`] completes at once, whatever it is handed.

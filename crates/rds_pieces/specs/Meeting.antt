@@ -23,6 +23,6 @@ module _ (b : Signal) (rules : RuleNumbers) (s t : State) (from to : ℕ) where
   abbrev pub IsMeeting : Option ℕ → Type 0
   IsMeeting met = MatchOption met ((q : ℕ) → ¬ MeetAt q) MeetFirstAt
 
--- how far the meeting is from the range's first place, or its end where there is no meeting
+-- how far the meeting, or the range's end if there is none, is from the range's first place
 abbrev pub distance : ℕ → ℕ → Option ℕ → ℕ
 distance from to met = elim met [ None ↦ to - from | Some p ↦ p - from ]

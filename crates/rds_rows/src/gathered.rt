@@ -7,7 +7,7 @@ use crate::hand::Hand;
 use crate::sink::Failed;
 use std::alloc::{AllocError, Global};
 
-/// How many bytes a write has at least, but for the last. If a part of the longest rows has fewer, it is as
+/// How many bytes a write has at least, except the last. If a part of the longest rows has fewer, it is as
 /// many as that.
 const LARGE: usize = 65_536;
 

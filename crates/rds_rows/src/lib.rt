@@ -4,7 +4,7 @@
 //! caller writes the parts one after the other and gives the sheets back. All sheets are taken and all
 //! threads started before the first byte is written, and both live through all parts: the room is bounded
 //! however many rows there are, and no part waits for more than its own sheet. Small parts are gathered: a
-//! write has 64 KiB or more, but for the last, or as many bytes as a part of the longest rows if fewer.
+//! write has 64 KiB or more, except the last, or as many bytes as a part of the longest rows if fewer.
 //!
 //! # Example
 //!

@@ -1,4 +1,4 @@
-//! How what was heard at a place is read: a window, or nothing.
+//! How a place that was heard is read: a window, or nothing.
 ghost use Rattle.std.specs.Prelude.{◌≡◌, ◌<◌, ◌≤◌, ◌^◌, IfSome};
 ghost use Rattle.rds_stream.specs.Recording.{offset_heard, reading_heard};
 

@@ -51,7 +51,7 @@ sound_blocks (Share bad of) j = max ((j + 1) * bad) of + 6
 abbrev pub sound_bits : Loss → ℕ → ℕ
 sound_bits loss j = 26 * sound_blocks loss j
 
--- An example, two bits a character: by the rule Run 1, where one bad block loses a lock, and for j = 1, a sound range has
+-- An example, two bits per character: by the rule Run 1, by which one bad block loses a lock, and for j = 1, a sound range has
 -- (1 + 1) * 1 + 6 = 8 blocks, 208 bits. A digit is the end of a block of the sequence, and its number: from p on, with c = 3.
 --
 --     s     p                                                                last                             s + 208

@@ -72,7 +72,7 @@ abbrev pub ItemsMarkChanges : Type 0
 ItemsMarkChanges = (b : Signal) (rules : RuleNumbers) (place : ℕ) (s : State) → IsLawful rules place s
     → (items_at b rules place s ≢ []) ↔ ((step b rules place s ≢ s) × ((s ≡ Searching) ⊎ IsBetweenGroups (step b rules place s)))
 
--- a run gives at most two items a bit
+-- a run gives at most two items per bit
 abbrev pub RunsGiveFewItems : Type 0
 RunsGiveFewItems = (b : Signal) (rules : RuleNumbers) (s : State) (from to : ℕ) → from ≤ to
     → length (run b rules s from (to - from)).1 ≤ 2 * (to - from)

@@ -1,4 +1,4 @@
--- A run that goes on: where it is, and the items that it gave. `Tally` is said to be that. This project's rule.
+-- A run that goes on: where it is, and the items that it gave. `Tally` cites it. This project's rule.
 use Rattle.std.specs.Prelude.{ℕ, ◌-◌, List, [], ◌++◌}
 use Rattle.rds_stream.specs.Recording.{Signal}
 use Rattle.rds_sync.specs.declared.item.Item.{Item}

@@ -149,7 +149,7 @@ fn next_in<'a>(
     (None, rest)
 }
 
-/// The items of the run from `state` over the places from `from` to before `to`, but for the first `passed`.
+/// The items of the run from `state` over the places from `from` to before `to`, except the first `passed`.
 fn decoder_past<'a>(
     recording: &'a Recording,
     rules: &'a Rules,

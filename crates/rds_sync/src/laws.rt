@@ -63,7 +63,7 @@ pub fn items_mark_changes()
     ensures { ItemsMarkChanges }
 {}
 
-/// A run gives at most two items a bit.
+/// A run gives at most two items per bit.
 pub fn runs_give_few_items()
     ensures { RunsGiveFewItems }
 {}

@@ -10,7 +10,7 @@ use crate::state::State;
 /// Consecutive items, named by the run or the end that gives them.
 #[derive(Clone, Copy)]
 pub(crate) enum Span {
-    /// The items of the run from `state` over the places from `place` to before `to`, but for the first `passed`: `items`
+    /// The items of the run from `state` over the places from `place` to before `to`, except the first `passed`: `items`
     /// items.
     Run {
         place: u64,
@@ -40,7 +40,7 @@ impl Span {
         }
     }
 
-    /// The same items, but for the first `n`, if there are more than these.
+    /// The same items, except the first `n`, if there are more than these.
     pub fn past(self, n: usize) -> Option<Span>
         ensures { IfSome result (λ rest. (b : Signal) (rules : RuleNumbers) → IsSpan b rules self
             → n < length (items_of b rules self) → IsPast b rules self n rest) }

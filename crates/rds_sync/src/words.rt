@@ -1,4 +1,4 @@
-//! How the blocks of a group came out, as a word of 16 bits: four bits a block, block 1 lowest.
+//! How the blocks of a group came out, as a 16-bit word: four bits per block, block 1 lowest.
 
 ghost use Rattle.std.specs.Prelude.{◌≡◌, ◌≤◌, ◌<◌, map};
 ghost use Rattle.rds_sync.specs.Inside.Outcomes.{outcome_of, was_valid, has_info};

@@ -15,7 +15,7 @@ pub enum Failure {
     TakesNone(u64),
 }
 
-/// Takes at most `step` bytes a write, and fails as it is told.
+/// Takes at most `step` bytes per write, and fails on demand.
 #[derive(Drop)]
 pub struct SlowWriter {
     pub held: Vec<u8>,

@@ -73,7 +73,7 @@ abbrev pub MayBreakEarly : ToolError → Type 0
 MayBreakEarly e = (e ≡ OutOfMemory) ⊎ ((e ≡ Read) ⊎ ((e ≡ Write) ⊎ ((e ≡ TooLong) ⊎ (e ≡ BadGaps))))
 
 module _ (terms : Terms) (bits : Option ℕ) (from to old new : Option (List ℕ)) where
-  -- the rows of all that was read, but for the last read at most, were written: whole rows, each once
+  -- the rows of all reads, except at most the last, were written: whole rows, each once
   abbrev pub StopsBetweenRows : Type 0
   StopsBetweenRows =
       (heard : List ℕ) × (last : List ℕ) × (length last ≤ most_read) × AllCount bits heard

@@ -8,7 +8,7 @@ use crate::ToolError;
 use rds_code::encode_group;
 use std::alloc::{AllocError, Global};
 
-/// The text of the groups that lines of digits spell, 13 bytes a group, or with `hex` a line of 26
+/// The text of the groups that lines of digits spell, 13 bytes per group, or with `hex` a line of 26
 /// digits. The first faulty line is refused.
 pub fn encode_lines(alloc: Global, hex: bool, held: &[u8]) -> Result<Vec<u8>, ToolError>
     ensures ok { IfOk result (λ text. encoded_text hex held.now ≡ Ok text.items) }

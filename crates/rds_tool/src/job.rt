@@ -47,7 +47,7 @@ impl Eq for Input {
 /// Where a recording is cut into pieces. The listing doesn't depend on it.
 #[derive(Debug, PartialEq, Eq, Drop)]
 pub enum Cuts {
-    /// At most this number of pieces, of one length but for the last. `Even(0)` is refused as `BadCutting`.
+    /// At most this number of pieces, of equal length except the last. `Even(0)` is refused as `BadCutting`.
     Even(u64),
     /// The places of the cuts: a cut at place p is just before bit p. They rise strictly, above 0 and below
     /// the number of bits, so a recording of at most one bit has none. Anything else is refused as

@@ -54,7 +54,7 @@ pub fn offset_in_gap(recording: &Recording, place: u64) -> Option<Offset>
     recording.offset(place)
 }
 
-/// Whether a window touches a gap is told: then it is not heard, and else it is the window as it is stored.
+/// A window that touches a gap is known, and is not heard. Any other is heard as it is stored.
 pub fn heard_or_touched(recording: &Recording, place: u64) -> bool
     requires first { 25 ≤ place }
     requires last { place < length_of recording.now }

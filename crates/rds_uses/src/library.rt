@@ -316,7 +316,7 @@ pub fn group_in_bytes(words: RdsWords, room: &mut [RdsPacked]) -> bool
     encode(&[words], room).is_ok()
 }
 
-/// The remainder of a word that fits is told.
+/// The remainder of a word that fits is answered.
 pub fn told_remainder(word: u32) -> u16
     requires { word < 2 ^ 26 }
     ensures { result ≡ rem word }

@@ -325,7 +325,7 @@ pub fn decoded_after_sound_range(
 
 // ---- a longer recording
 
-/// A longer recording has all items of the recording that it begins with, but for the group at its end, and then more. No total
+/// A longer recording has all items of the recording that it begins with, except the group at its end, and then more. No total
 /// is less.
 pub fn decoded_before_and_after(
     alloc: Global,

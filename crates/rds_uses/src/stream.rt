@@ -102,7 +102,7 @@ pub fn heard_in_a_row(reader: &mut Reader<'_>, place: u64) -> bool
         && hears(reader, place, one)
 }
 
-/// Whether the reader hears at a place what was told of it.
+/// Whether the reader hears this at a place.
 fn hears(reader: &mut Reader<'_>, place: u64, told: Option<u32>) -> bool
     requires first { 25 ≤ place }
     requires last { place < length_of reader.old }

@@ -1,5 +1,5 @@
--- Two pieces and two seats, one call after the other: the first seat draws 0, the second draws 1 and is told that
--- none is finished, the first finishes, the second is told so and finishes, the first is told of both, and both end.
+-- Two pieces and two seats, one call after the other: the first seat draws 0, the second draws 1 and learns that
+-- none is finished, the first finishes, the second learns this and finishes, the first learns of both, and both end.
 use Rattle.std.specs.Prelude.{◌≡◌, ◌+◌, List, [], ◌∷◌, ◌++◌, min, Some, None, refl, sum_by}
 use Rattle.rds_crew.specs.declared.deal.View.{View}
 use Rattle.rds_crew.specs.declared.deal.Event.{Event}

@@ -4,7 +4,7 @@ use Rattle.rds_pieces.specs.declared.mark.Mark.{Mark}
 use Rattle.rds_sync.specs.Lawful.{IsLawful}
 use Rattle.rds_sync.specs.Rules.{RuleNumbers}
 
--- the mark of a run, before place `to`, with at most two items a bit before it
+-- the mark of a run, before place `to`, with at most two items per bit before it
 pub record IsMarkIn (rules : RuleNumbers) (to : ℕ) (mark : Mark) : Type 0 where
   pub lawful : IsLawful rules mark.place mark.state
   pub inside : mark.place ≤ to

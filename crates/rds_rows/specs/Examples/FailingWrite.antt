@@ -1,4 +1,4 @@
--- Four parts by two threads at two seats, where the write of part 1 fails while a thread sleeps.
+-- Four parts by two threads at two seats: the write of part 1 fails while a thread sleeps.
 use Rattle.std.specs.Prelude.{◌≡◌, true, List, [], ◌∷◌, refl}
 use Rattle.std.proofs.Common.{ap, lit<, lit≤}
 use Rattle.std.proofs.lemmas.Bool.{false≢true}

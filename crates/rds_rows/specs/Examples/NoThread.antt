@@ -1,4 +1,4 @@
--- Two parts where no thread could be started: the caller makes them.
+-- Two parts, when no thread could be started: the caller makes them.
 use Rattle.std.specs.Prelude.{◌≡◌, List, [], ◌∷◌, refl}
 use Rattle.std.proofs.Common.{lit<}
 use Rattle.rds_rows.specs.Pool.{Event, Runs, Setup, close, join, make_alone, over, played, stop, write}

@@ -1,4 +1,4 @@
--- Eight zero groups: a sound range of 260 bits, where one bad block loses a lock and three rivals have one place modulo 26.
+-- Eight zero groups: a sound range of 260 bits, if one bad block loses a lock and three rivals have one place modulo 26.
 use Rattle.std.specs.Prelude.{◌≡◌, ◌≢◌, ℕ, ◌+◌, ◌-◌, ◌*◌, ◌/◌, ◌%◌, ◌<◌, ◌≤◌, ◌⊎◌, ◌==◌, ◌&&◌, ◌||◌, not, Bool, true, false, List, [], ◌∷◌, length, Option, Some, None, is_some, refl}
 use Rattle.std.specs.List.{filter, list_all, range_with_len}
 use Rattle.std.proofs.Common.{sym, subst, ◌∙◌, inl, inr, get_or, arith}

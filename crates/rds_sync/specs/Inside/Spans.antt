@@ -30,7 +30,7 @@ module _ (b : Signal) (rules : RuleNumbers) where
       × (passed + items ≡ length (run b rules state place (to - place)).1)
   IsSpan (End state) = IsLawful rules (length_of b) state
 
-  -- a span of the items of another but for the first n
+  -- a span of the items of another, except the first n
   pub record IsPast (span : Span) (n : ℕ) (rest : Span) : Type 0 where
     pub is_span : IsSpan rest
     pub items : items_of rest ≡ drop n (items_of span)

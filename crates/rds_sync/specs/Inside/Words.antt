@@ -1,4 +1,4 @@
--- How the four blocks of a group came out, as a word of 16 bits: four bits a block, block 1 lowest. Cited by the bodies below `Tally`,
+-- How the four blocks of a group came out, as a 16-bit word: four bits per block, block 1 lowest. Cited by the bodies below `Tally`,
 -- `run_report` and `Decoder::fill`, and by no public call. This project's rule.
 use Rattle.std.specs.Prelude.{◌≡◌, ℕ, ◌+◌, ◌*◌, ◌/◌, ◌%◌, ◌≤◌, min, List, [], ◌∷◌, length, ⊤, slice_index_or}
 use Rattle.std.specs.List.{All}

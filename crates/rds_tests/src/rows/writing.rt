@@ -8,7 +8,7 @@ use std::alloc::Global;
 use std::sync::Wait;
 use std::thread::Threads;
 
-/// Whether a writer has this text, and was handed `large` bytes or more at a time but for the last.
+/// Whether a writer has this text, and was handed `large` bytes or more at a time, except the last.
 fn has_all(writer: &SlowWriter, text: &[u8], large: usize) -> bool
     requires { 0 < large }
 {
@@ -59,7 +59,7 @@ fn many_rows_go_in_large_writes(rt: HostRuntime) {
     assert!(rt; many_are_written(&rt, rt.alloc()));
 }
 
-/// Whether `workers` workers write the rows in parts of `most` rows, 64 KiB or more at a time but for the
+/// Whether `workers` workers write the rows in parts of `most` rows, 64 KiB or more at a time except the
 /// last.
 fn are_written_in_parts<R: Sync + Threads + Wait>(
     rt: &R,

@@ -14,7 +14,7 @@ use std::io::Write;
 use std::sync::Wait;
 use std::thread::Threads;
 
-/// Gives at most `step` bytes a read, and fails at read number `fails_at`, from 1; at 0 it never fails.
+/// Gives at most `step` bytes per read, and fails at read number `fails_at`, from 1; at 0 it never fails.
 #[derive(Drop)]
 pub struct SlowReader<'a> {
     pub left: &'a [u8],
