@@ -12,10 +12,15 @@ use crate::promise::{DrawPromise, Drawn, Worker};
 use crate::seat::Seat;
 use crate::slots::{empty_slots, fill, values_of};
 use rds_pieces::PieceError;
+use core::thread::Stack;
 use std::alloc::Global;
 use std::sync::Wait;
 use std::thread;
 use std::thread::{Scope, Threads};
+
+/// The stack of a worker's thread, in bytes. It uses less than a tenth of it; the system's default, often 8 MB
+/// of address space each, would let many workers fail under a limit.
+const STACK_BYTES: usize = 262_144;
 
 /// All parts, in the order of their numbers. They are dealt to as many threads as there are workers or parts,
 /// whichever is less; if that is one, the calling thread makes them all.
@@ -198,7 +203,8 @@ fn start<'s, E, P: Parts + Sync>(
             × IsFresh dealer.now seat }
         ensures { IfOk result (IsDrawn (P.made_of parts.entry.now) dealer.entry.now) }
     { draw_all(alloc, parts, dealer, seat) };
-    match scope.spawn_with(promise, draws) {
+    let stack = Stack::new().stack_size(STACK_BYTES);
+    match stack.spawn_scoped_with(scope, promise, draws) {
         Ok(thread) => Ok(thread),
         Err(_) => Err(CrewError::NoWorker),
     }

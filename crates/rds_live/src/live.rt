@@ -273,7 +273,7 @@ impl<'r> Live<'r> {
         self.room.listen(self.gaps, before);
         let state = moved_back(self.state, before);
         let end = fill_from(self.room.recording(), self.rules, state, from, to, items);
-        self.totals = self.totals.plus(Totals::of_items(items));
+        self.totals = self.totals.plus(Totals::of(items));
         move_on(items.as_mut_slice(), before);
         self.room.keep_last();
         self.place = before + to;
@@ -437,7 +437,7 @@ impl<'r> Live<'r> {
         let part = room.into_recording(gaps, before, from + bits);
         let state = moved_back(state, before);
         let end = fill_from(&part, rules, state, from, from + bits, items);
-        let totals = totals.plus(Totals::of_items(items));
+        let totals = totals.plus(Totals::of(items));
         move_on(items.as_mut_slice(), before);
         let group = moved_end(&part, rules, end, before);
         Ok(ended(totals, group))

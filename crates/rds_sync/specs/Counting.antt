@@ -1,5 +1,5 @@
 -- How totals are added: the sum of two, their difference, and bounds under which no sum is too great. Cited
--- by `Totals::of_end`, `of_items`, `of_item`, `plus` and `less`, by `run_report` and `Tally::report`, and by
+-- by `Totals::of_end`, `of`, `of_item`, `plus` and `less`, by `run_report` and `Tally::report`, and by
 -- the law `totals_join`.
 use Rattle.std.specs.Prelude.{◌≡◌, ℕ, ◌+◌, ◌^◌, ◌<◌, ◌≤◌, List, [], ◌∷◌, ◌++◌, length, slice_index}
 use Rattle.rds_sync.specs.declared.item.Item.{Item}

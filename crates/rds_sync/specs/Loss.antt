@@ -7,6 +7,7 @@
 -- sync for lost.
 use Rattle.std.specs.Prelude.{ℕ, zero, suc, List, ◌+◌, ◌-◌, ◌*◌, ◌%◌, ◌^◌, ◌<◌, ◌≤◌, min, Bool, not, ◌&&◌, nat_le, if◌then◌else◌, count_by, count_ones}
 use Rattle.std.specs.List.{list_all, range_with_len}
+use Rattle.rds_sync.specs.declared.loss.Bad.{Bad}
 use Rattle.rds_sync.specs.declared.loss.Loss.{Loss}
 use Rattle.rds_sync.specs.declared.loss.Loss.TheVariants.{Run, Share}
 
@@ -36,6 +37,11 @@ are_too_many (Share bad of) mask = nat_le bad (count_ones mask)
 abbrev pub IsLawfulBad : Loss → ℕ → Type 0
 IsLawfulBad (Run n) row = row < n
 IsLawfulBad (Share bad of) mask = (mask < 2 ^ of) × (count_ones mask < bad)
+
+-- the same number, by the kind of its rule
+abbrev pub bad_by : Loss → ℕ → Bad
+bad_by (Run n) row = Bad.Run row
+bad_by (Share bad of) mask = Bad.Mask mask
 
 -- the last `of` blocks up to block k, or as many as there are: block 0 is none of them
 abbrev pub last_blocks : ℕ → ℕ → List ℕ

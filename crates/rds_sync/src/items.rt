@@ -137,6 +137,22 @@ impl Items {
         self.range(rec, rules, 0, self.len)
     }
 
+    /// The same items, collected. They take 64 bytes each and more: most callers need only the iterator.
+    pub fn to_vec(
+        &self,
+        alloc: Global,
+        rec: &Recording,
+        rules: &Rules,
+    ) -> Result<Vec<Item>, AllocError>
+        requires source { self.now.source ≡ rec.now }
+        requires rules { self.now.rules ≡ rules.now }
+        ensures { IfOk result (λ items. items.items ≡ self.now.list) }
+    {
+        let mut items = Vec::with_capacity(alloc, self.len)?;
+        self.iter(rec, rules).fill(&mut items);
+        Ok(items)
+    }
+
     /// The items number `from` to `to` - 1 in order, of the recording and by the rules that they are of. The
     /// spans before them are passed over, and the items before them in their first span are decoded too. To
     /// read many parts of a long list, take those of [`indexed`](Items::indexed).

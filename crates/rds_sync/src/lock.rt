@@ -4,13 +4,13 @@
 ghost use Rattle.std.specs.Prelude.{◌≡◌, ◌≤◌, ◌<◌, ◌+◌, ◌^◌, ◌↔◌, IsTrue, true};
 ghost use Rattle.rds_sync.specs.Lawful.{IsLawfulLock};
 ghost use Rattle.rds_sync.specs.Inside.Due.{IsAfter};
-ghost use Rattle.rds_sync.specs.Loss.{IsLawfulBad};
+ghost use Rattle.rds_sync.specs.Loss.{IsLawfulBad, bad_by};
 ghost use Rattle.rds_sync.specs.Ranges.{IsLossInRange};
 ghost use Rattle.rds_sync.specs.Rules.{RuleNumbers};
 ghost use Rattle.rds_sync.specs.Step.{lock_after};
 
 use crate::due::Due;
-use crate::loss::Loss;
+use crate::loss::{Bad, Loss};
 use crate::rules::Rules;
 use rds_code::BLOCK_BITS;
 use rds_stream::FIRST_WINDOW;
@@ -53,6 +53,18 @@ impl Lock {
             number: number % 4 + 1,
             bad,
             first: if number == 4 { 1 } else { first },
+        }
+    }
+
+    /// The history of bad blocks, as this rule of loss has it.
+    pub fn bad_by(self, loss: Loss) -> Bad
+        requires range { IsLossInRange loss }
+        requires lawful { IsLawfulBad loss self.bad }
+        ensures { result ≡ bad_by loss self.bad }
+    {
+        match loss {
+            Loss::Run(_) => Bad::Run(self.bad as u8),
+            Loss::Share { .. } => Bad::Mask(self.bad),
         }
     }
 

@@ -18,6 +18,15 @@ pub enum Loss {
     Share { bad: u32, of: u32 },
 }
 
+/// The history of bad blocks of a lock, by the kind of its rule.
+#[derive(Clone, Copy, Debug, PartialEq, Eq)]
+pub enum Bad {
+    /// By `Loss::Run`: how many were bad in a row.
+    Run(u8),
+    /// By `Loss::Share`: a mask of the last ones, in which 1 is a bad one and the newest is the lowest bit.
+    Mask(u64),
+}
+
 /// History of a fresh lock: 0 under both rules.
 pub(crate) const NONE_BAD: u64 = 0;
 

@@ -58,10 +58,10 @@ impl Totals {
         }
     }
 
-    /// The totals of these items, of which there are at most 2^37. Of groups of four valid blocks, acquisitions and losses,
+    /// The totals of these items, of which there are at most 2^40. Of groups of four valid blocks, acquisitions and losses,
     /// as most items are, it only counts how many there are.
-    pub fn of_items(items: &[Item]) -> Totals
-        requires { length items.now ≤ 2 ^ 37 }
+    pub fn of(items: &[Item]) -> Totals
+        requires { length items.now ≤ 2 ^ 40 }
         ensures value { result ≡ totals_of items.now }
         ensures small { IsAtMost (2 ^ 10 * length items.now) result }
     {
@@ -82,7 +82,7 @@ impl Totals {
 
     /// The totals of `whole` groups of four valid blocks, `acquired` acquisitions and `losses` losses.
     fn told(whole: u64, acquired: u64, losses: u64) -> Totals
-        requires { whole + acquired + losses ≤ 2 ^ 37 }
+        requires { whole + acquired + losses ≤ 2 ^ 40 }
         ensures value { result ≡ told whole acquired losses }
         ensures small { IsAtMost (2 ^ 10 * (whole + acquired + losses)) result }
     {

@@ -166,7 +166,7 @@ module _ (all done left part shown rest : List Item) (first : all ≡ done ++ le
       let c : length shown ≡ length part = ap (λ (xs : List Item). length xs) same in
       omega (arith, a, b, c, length-append done left, length-append part rest)
 
-  pub few_shown : length shown ≤ 2 ^ 37
+  pub few_shown : length shown ≤ 2 ^ 40
   few_shown = omega (arith, parted, few)
 
   pub counts_fit : 2 ^ 10 * length done + 2 ^ 10 * length shown < 2 ^ 64

@@ -121,7 +121,7 @@ fn write_items<K: Sink>(
             return Ok(totals);
         }
         let part = items.as_slice();
-        totals = totals.plus(Totals::of_items(part));
+        totals = totals.plus(Totals::of(part));
         write_part(alloc, part, sheet, writer)?;
     }
 }
@@ -179,7 +179,7 @@ fn write_end<K: Sink>(
 {
     take_end(items, group_at_end(recording, rules, end));
     let part = items.as_slice();
-    let all = totals.plus(Totals::of_items(part));
+    let all = totals.plus(Totals::of(part));
     write_part(alloc, part, sheet, writer)?;
     write_totals(alloc, &all, sheet, writer)
 }

@@ -240,7 +240,7 @@ pub fn totals_of_parts(one: &[Item], other: &[Item]) -> Totals
     requires { length one.now + length other.now ≤ 2 ^ 37 }
     ensures { result ≡ plus (totals_of one.now) (totals_of other.now) }
 {
-    Totals::of_items(one).plus(Totals::of_items(other))
+    Totals::of(one).plus(Totals::of(other))
 }
 
 // ---- totals
@@ -302,7 +302,7 @@ pub fn totals_of_rest(items: &[Item], first: usize) -> Totals
     ensures { result ≡ totals_of (drop first items.now) }
 {
     laws::totals_join();
-    Totals::of_items(items).less(Totals::of_items(&items[..first]))
+    Totals::of(items).less(Totals::of(&items[..first]))
 }
 
 /// The rest of totals is no more than they are: it may be added to them.
@@ -320,7 +320,7 @@ pub fn totals_of_three(items: &[Item], first: usize) -> Totals
     requires few { length items.now ≤ 2 ^ 37 }
     ensures { result ≡ plus (plus (totals_of items.now) (totals_of items.now)) (totals_of (take first items.now)) }
 {
-    Totals::of_items(items)
-        .plus(Totals::of_items(items))
-        .plus(Totals::of_items(&items[..first]))
+    Totals::of(items)
+        .plus(Totals::of(items))
+        .plus(Totals::of(&items[..first]))
 }

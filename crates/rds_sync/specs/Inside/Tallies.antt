@@ -1,5 +1,5 @@
 -- The totals of single blocks, and of items that need no look at their blocks: whole groups, acquisitions and
--- losses. Cited by the bodies below `Totals::of_item` and `of_items`, and by no public call.
+-- losses. Cited by the bodies below `Totals::of_item` and `of`, and by no public call.
 use Rattle.std.specs.Prelude.{ℕ, ◌*◌, [], ◌∷◌, if◌then◌else◌}
 use Rattle.rds_sync.specs.declared.item.Block.{Block}
 use Rattle.rds_sync.specs.declared.totals.Totals.{Totals}

@@ -34,8 +34,8 @@ returns-then-is_empty-clause-small g c =
     let before = c.parts.invariant.done in
     at_most_more (2 ^ 10 * length before.done) (2 ^ 47) _ (few_done _ before.done c.parts.decoder.items before.parted c.requires.few) before.small
 
-pub of_items-requires : goal.of_items-requires
-of_items-requires g c =
+pub of-requires : goal.of-requires
+of-requires g c =
     few_shown c.args.decoder.now.items c.parts.invariant.done.done c.parts.decoder.items c.fill.new.part.items c.as_slice-part.result.now c.fill.new.self.items
     c.parts.invariant.done.parted c.fill.ensures.items c.as_slice-part.ensures.value c.requires.few
 
@@ -45,7 +45,7 @@ plus-totals-requires g c =
     let fit =
     counts_fit c.args.decoder.now.items before.done c.parts.decoder.items c.fill.new.part.items c.as_slice-part.result.now c.fill.new.self.items
     before.parted c.fill.ensures.items c.as_slice-part.ensures.value c.requires.few in
-    (2 ^ 10 * length before.done, 2 ^ 10 * length c.as_slice-part.result.now, fit, before.small, c.of_items.ensures.small)
+    (2 ^ 10 * length before.done, 2 ^ 10 * length c.as_slice-part.result.now, fit, before.small, c.of.ensures.small)
 
 pub parts-smaller : goal.parts-smaller
 parts-smaller g c =
@@ -67,8 +67,8 @@ parts-preserved g c =
             (more_rows before.done part c.as_slice-part.result.now same)
             (Appends-trans _ _ _ _ _ before.written c.in_ok-write_part.ensures.ok);
         counted = c.plus-totals.ensures.value
-            ∙ two_parts c.totals_join.ensures before.done part _ _ before.counted (c.of_items.ensures.value ∙ ap (λ (xs : List Item). totals_of xs) same);
-        small = subst (λ (n : ℕ). IsAtMost n c.plus-totals.result) bound (c.plus-totals.ensures.small _ _ before.small c.of_items.ensures.small);
+            ∙ two_parts c.totals_join.ensures before.done part _ _ before.counted (c.of.ensures.value ∙ ap (λ (xs : List Item). totals_of xs) same);
+        small = subst (λ (n : ℕ). IsAtMost n c.plus-totals.result) bound (c.plus-totals.ensures.small _ _ before.small c.of.ensures.small);
       };
       end = c.fill.ensures.end ∙ c.parts.invariant.end;
       room = c.fill.ensures.room ∙ c.parts.invariant.room;

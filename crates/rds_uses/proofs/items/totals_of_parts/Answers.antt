@@ -6,6 +6,6 @@ plus-requires c = (
   2 ^ 10 * length c.args.one.now,
   2 ^ 10 * length c.args.other.now,
   omega (arith, c.requires),
-  c.of_items.ensures.small,
-  c.of_items-2.ensures.small,
+  c.of.ensures.small,
+  c.of-2.ensures.small,
 )

@@ -5,8 +5,8 @@ use Rattle.rds_uses.proofs.items.totals_of_rest.Goals as goal
 
 pub less-requires : goal.less-requires
 less-requires c =
-    (totals_of (drop c.args.first c.args.items.now), rw (c.of_items.ensures.value, c.of_items-2.ensures.value) (totals_rest c.args.items.now c.args.first c.totals_join.ensures))
+    (totals_of (drop c.args.first c.args.items.now), rw (c.of.ensures.value, c.of-2.ensures.value) (totals_rest c.args.items.now c.args.first c.totals_join.ensures))
 
 pub returns : goal.returns
 returns c =
-    c.less.ensures.value _ (rw (c.of_items.ensures.value, c.of_items-2.ensures.value) (totals_rest c.args.items.now c.args.first c.totals_join.ensures))
+    c.less.ensures.value _ (rw (c.of.ensures.value, c.of-2.ensures.value) (totals_rest c.args.items.now c.args.first c.totals_join.ensures))

@@ -9,6 +9,6 @@ plus-requires-2 c =
       most + most,
       2 ^ 10 * length (take c.args.first items),
       omega (arith, c.requires.few, length-take c.args.first items),
-      c.plus.ensures.small most most c.of_items.ensures.small c.of_items-2.ensures.small,
-      c.of_items-3.ensures.small,
+      c.plus.ensures.small most most c.of.ensures.small c.of-2.ensures.small,
+      c.of-3.ensures.small,
     )

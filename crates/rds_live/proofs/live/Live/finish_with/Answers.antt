@@ -50,7 +50,7 @@ plus-totals-requires c =
       2 ^ 10 * length c.deref.result.now,
       omega (arith, ap length c.deref.ensures.value, c.fill_from-end.ensures.few, c.requires.few, live.limit),
       live.small,
-      c.of_items.ensures.small,
+      c.of.ensures.small,
     )
 
 pub ended-requires : goal.ended-requires
@@ -58,7 +58,7 @@ ended-requires c =
     let live = c.self.invariant.0 in
     at-most-more (2 ^ 11 * c.self.inside.place + 2 ^ 10 * length c.deref.result.now) (2 ^ 47) c.plus-totals.result
     (omega (arith, ap length c.deref.ensures.value, c.fill_from-end.ensures.few, c.if-bits-self.false, live.limit))
-    (c.plus-totals.ensures.small (2 ^ 11 * c.self.inside.place) (2 ^ 10 * length c.deref.result.now) live.small c.of_items.ensures.small)
+    (c.plus-totals.ensures.small (2 ^ 11 * c.self.inside.place) (2 ^ 10 * length c.deref.result.now) live.small c.of.ensures.small)
 
 pub moved_end-group-requires-clause-lawful : goal.moved_end-group-requires-clause-lawful
 moved_end-group-requires-clause-lawful c =
@@ -155,7 +155,7 @@ module _ (c : After-ended) where
       c.ended.ensures.totals
       ∙ ap₂ (λ (t : Totals) (items : List Item). plus t (totals_of items))
       (c.plus-totals.ensures.value ∙ ap (λ (t : Totals). plus c.self.inside.totals t)
-      (c.of_items.ensures.value ∙ ap (λ (items : List Item). totals_of items) (c.deref.ensures.value ∙ found_are ∙ ap (λ (r : State × List Item). r.1) found_is)
+      (c.of.ensures.value ∙ ap (λ (items : List Item). totals_of items) (c.deref.ensures.value ∙ found_are ∙ ap (λ (r : State × List Item). r.1) found_is)
       ∙ count-next live c.args.bytes.now c.args.bits c.totals_join.ensures))
       (sym (ap group_item c.ended.ensures.group) ∙ closed_is)
 
@@ -197,8 +197,8 @@ module _ (c : After-ended) where
         (totals-to terms c.reach.ensures.range c.self.invariant.0.gaps before more c.args.bits held tail c.self.inside.place from at local part
         c.runs_join.ensures c.runs_move.ensures c.ends_move.ensures c.runs_are_reports.ensures last c.move_on.new.items (group_item c.moved_end-group.result) c.fill_from-end.result
         given_are end_is end_lawful c.moved_end-group.ensures
-        c.totals_join.ensures c.self.inside.totals c.of_items.result c.plus-totals.result c.ended.result.totals
-        (ap (λ (l : LiveOf). l.totals) heard) (c.of_items.ensures.value ∙ ap (λ (items : List Item). totals_of items) (c.deref.ensures.value ∙ found_are)) c.plus-totals.ensures.value c.ended.ensures.totals
+        c.totals_join.ensures c.self.inside.totals c.of.result c.plus-totals.result c.ended.result.totals
+        (ap (λ (l : LiveOf). l.totals) heard) (c.of.ensures.value ∙ ap (λ (items : List Item). totals_of items) (c.deref.ensures.value ∙ found_are)) c.plus-totals.ensures.value c.ended.ensures.totals
         ∙ ap (λ (items : List Item). totals_of items) report_is)
 
 pub returns-clause-items : goal.returns-clause-items

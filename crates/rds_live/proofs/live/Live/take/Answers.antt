@@ -32,7 +32,7 @@ plus-self-inside-requires c =
       2 ^ 10 * length c.deref.result.now,
       omega (arith, ap length c.deref.ensures.value, c.fill_from-end.ensures.few, c.min-count.ensures, live.limit),
       live.small,
-      c.of_items.ensures.small,
+      c.of.ensures.small,
     )
 
 -- the facts once the bytes that are taken were decoded, after those that are kept of the bytes heard before
@@ -119,7 +119,7 @@ module _ (c : After-moved_on-self-inside) where
       (omega (arith, known.kept, known.whole, from_is, few))
       (c.moved_on-self-inside.ensures ∙ ap₂ (λ (d : ℕ) (s : State). moved_state d s) there_is (c.fill_from-end.ensures.state ∙ ap (λ (r : State × List Item). r.0) (run_is ∙ found_is)))
       (c.plus-self-inside.ensures.value ∙ ap (λ (t : Totals). plus c.self.inside.totals t)
-      (c.of_items.ensures.value ∙ ap (λ (items : List Item). totals_of items) (c.deref.ensures.value ∙ found_are ∙ ap (λ (r : State × List Item). r.1) found_is)
+      (c.of.ensures.value ∙ ap (λ (items : List Item). totals_of items) (c.deref.ensures.value ∙ found_are ∙ ap (λ (r : State × List Item). r.1) found_is)
       ∙ count-next live more (8 * length more) c.totals_join.ensures))
 
   module _ (before : List ℕ) (h : HasHeard c.args.self.now before) where
@@ -138,10 +138,10 @@ module _ (c : After-moved_on-self-inside) where
     heard_after =
         heard-after terms c.reach.ensures.range c.self.invariant.0.gaps c.runs_join.ensures c.runs_move.ensures before more tail c.self.inside.place from at local part ready
         c.keep_last.new.self.bytes (at + (from + 8 * c.min-count.result)) c.fill_from-end.result c.moved_on-self-inside.result
-        c.totals_join.ensures c.self.inside.totals c.of_items.result c.plus-self-inside.result
+        c.totals_join.ensures c.self.inside.totals c.of.result c.plus-self-inside.result
         (c.keep_last.ensures.bytes ∙ ap last_bytes bytes_are) (omega (arith, long))
         (c.fill_from-end.ensures.state ∙ ap (λ (r : State × List Item). r.0) run_is) c.moved_on-self-inside.ensures
-        (ap (λ (l : LiveOf). l.totals) heard) (c.of_items.ensures.value ∙ ap (λ (items : List Item). totals_of items) (c.deref.ensures.value ∙ found_are)) c.plus-self-inside.ensures.value
+        (ap (λ (l : LiveOf). l.totals) heard) (c.of.ensures.value ∙ ap (λ (items : List Item). totals_of items) (c.deref.ensures.value ∙ found_are)) c.plus-self-inside.ensures.value
 
     complete_after : complete c.args.self.now.terms (before ++ more) ≡ complete c.args.self.now.terms before ++ (with_items c.fill_from-end.new.items c.move_on.new.items).items
     complete_after =
@@ -185,7 +185,7 @@ invariant_of-self c =
             c.moved_on-self-inside.ensures c.fill_from-end.ensures.lawful (omega arith);
         small = at-most-more (2 ^ 11 * c.self.inside.place + 2 ^ 10 * length c.deref.result.now) (2 ^ 11 * (c.self.inside.place - from + (from + 8 * count))) c.plus-self-inside.result
             (omega (arith, ap length c.deref.ensures.value, c.fill_from-end.ensures.few, live.kept, live.whole, from_is))
-            (c.plus-self-inside.ensures.small (2 ^ 11 * c.self.inside.place) (2 ^ 10 * length c.deref.result.now) live.small c.of_items.ensures.small);
+            (c.plus-self-inside.ensures.small (2 ^ 11 * c.self.inside.place) (2 ^ 10 * length c.deref.result.now) live.small c.of.ensures.small);
         gaps = live.gaps;
       },
       omega (arith, c.keep_last.ensures.slots, c.listen.ensures.slots, c.push.ensures.slots, c.self.invariant.1),

@@ -4,7 +4,7 @@ use Rattle.rds_sync.specs.declared.totals.Totals.{Totals}
 use Rattle.rds_sync.specs.Counting.{IsAtMost, plus}
 use Rattle.rds_sync.specs.Totals.{totals_of}
 use Rattle.rds_sync.specs.Inside.Tallies.{told}
-use Rattle.rds_sync.proofs.totals.Totals.of_items.Given as goal
+use Rattle.rds_sync.proofs.totals.Totals.of.Given as goal
 
 -- of the first n items the common ones were counted, and the totals of the rest added up
 pub record HasCounted (items : List Item) (n whole acquired losses : ℕ) (totals : Totals) : Type 0 where

@@ -6,8 +6,8 @@ use Rattle.rds_sync.specs.Totals.{totals_of}
 use Rattle.rds_sync.specs.Inside.Tallies.{told}
 use Rattle.rds_sync.proofs.TallyLemmas.{acquired_told, loss_told, whole_next, acquired_next, loss_next, other_next}
 use Rattle.rds_sync.proofs.TotalsLemmas.{IsAtMost-more}
-use Rattle.rds_sync.proofs.totals.Totals.of_items.Goals as goal
-use Rattle.rds_sync.proofs.totals.Totals.of_items.Goals.{in-Acquired, in-LostLock, in-Group, in-Group-2}
+use Rattle.rds_sync.proofs.totals.Totals.of.Goals as goal
+use Rattle.rds_sync.proofs.totals.Totals.of.Goals.{in-Acquired, in-LostLock, in-Group, in-Group-2}
 
 pub loop-item-preserved : goal.loop-item-preserved
 loop-item-preserved c =

@@ -1,0 +1,15 @@
+use Rattle.std.proofs.Common.{◌≡◌, ◌-◌, sym, subst}
+use Rattle.rds_sync.specs.declared.state.State.{State}
+use Rattle.rds_sync.specs.Convergence.{IsConverged}
+use Rattle.rds_sync.specs.Step.{run}
+use Rattle.rds_sync.proofs.collected.run.Goals as goal
+
+pub returns-clause-converged : goal.returns-clause-converged
+returns-clause-converged c =
+    let b = c.args.rec.now in
+    let rules = c.args.rules.now in
+    let from = c.args.from in
+    let to = c.args.to in
+    let same : c.end_state.result ≡ (run b rules c.args.state from (to - from)).0 = cc in
+    subst (λ (t : State). IsConverged b rules from to t) (sym same)
+    (c.runs_converge.ensures.converge b rules c.reach.ensures.range.some_loss c.reach.ensures.range.some_reach from to c.args.state c.requires.lawful)
