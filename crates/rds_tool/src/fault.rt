@@ -27,7 +27,7 @@ pub struct CliFault {
 }
 
 /// Why entries ask for nothing.
-#[derive(Clone, Copy, Debug, PartialEq, Eq)]
+#[derive(Clone, Copy)]
 pub enum NoJob {
     /// `--gaps` spells no gaps.
     Gaps,
