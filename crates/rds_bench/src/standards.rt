@@ -38,18 +38,18 @@ const ITEMS: Pair = Pair {
 };
 
 /// The pairs, each with the sample of its task, and how many hundredths of the fast form's time the slow one takes at
-/// least. If a run searches most of the time, both do the same.
+/// least.
 static STANDARDS: [(Pair, Sample, u64); 9] = [
-    (LISTED, Sample::Noise, 300),
-    (PLACES, Sample::Noise, 300),
-    (DIVIDED, Sample::Noise, 150),
+    (LISTED, Sample::Noise, 250),
+    (PLACES, Sample::Noise, 250),
+    (DIVIDED, Sample::Noise, 200),
     // Of the bits none, 0.0005, 0.003, 0.01 and 0.03 are wrong.
-    (ITEMS, Sample::Station, 111),
-    (ITEMS, Sample::Damaged(250), 111),
-    (ITEMS, Sample::Damaged(42), 111),
-    (ITEMS, Sample::Damaged(12), 111),
-    (ITEMS, Sample::Damaged(4), 111),
-    (ITEMS, Sample::Worst, 50),
+    (ITEMS, Sample::Station, 150),
+    (ITEMS, Sample::Damaged(250), 150),
+    (ITEMS, Sample::Damaged(42), 150),
+    (ITEMS, Sample::Damaged(12), 150),
+    (ITEMS, Sample::Damaged(4), 150),
+    (ITEMS, Sample::Worst, 100),
 ];
 
 /// Compares the forms: an error if a slow one keeps taking too little beside the fast one.

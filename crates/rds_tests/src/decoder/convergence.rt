@@ -46,9 +46,12 @@ fn met(alloc: Global, sample: &Sample, guess: &PieceRun, within: u64, state: Sta
         return 0;
     }
     let mut tape = Counted::new(&sample.recording);
-    match seam(alloc, &mut tape, &sample.rules, state, guess) {
-        Ok(seam) => u64::from(seam.met_at.is_some_and(|place| place - from <= within)),
-        Err(_) => 0,
+    let Ok(seam) = seam(alloc, &mut tape, &sample.rules, state, guess) else {
+        return 0;
+    };
+    match seam.met_at {
+        Some(place) if place <= from.saturating_add(within) => 1,
+        _ => 0,
     }
 }
 

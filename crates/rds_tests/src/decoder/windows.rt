@@ -2,17 +2,11 @@
 ghost use Rattle.std.specs.Prelude.{◌≤◌};
 ghost use Rattle.rds_stream.specs.Recording.{length_of};
 
-use crate::decoder::samples::zero_bytes;
+use crate::decoder::samples::Sample;
 use rds_code::{Offset, offset_of, plain};
-use rds_stream::{Counted, Recording, StreamError, Tape, scan};
+use rds_stream::{Counted, Recording, Tape, scan};
+use rds_sync::Loss;
 use std::alloc::{AllocError, Global};
-
-fn five_groups(alloc: Global) -> Result<Recording, StreamError> {
-    match Recording::from_bytes(zero_bytes(alloc, 520)?, 520) {
-        Ok(recording) => Ok(recording),
-        Err((error, _bytes)) => Err(error),
-    }
-}
 
 /// The valid windows of a range, each divided by itself.
 fn divided(
@@ -72,8 +66,10 @@ fn is_counted(recording: &Recording) -> bool {
 
 /// Whether all of that holds of the five groups.
 fn are_found(alloc: Global) -> bool {
-    match five_groups(alloc) {
-        Ok(recording) => first_wrong(alloc, &recording) == 301 && is_counted(&recording),
+    match Sample::of_groups(alloc, 5, 3, Loss::Run(10)) {
+        Ok(groups) => {
+            first_wrong(alloc, &groups.recording) == 301 && is_counted(&groups.recording)
+        }
         Err(_) => false,
     }
 }

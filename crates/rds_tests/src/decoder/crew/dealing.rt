@@ -216,10 +216,9 @@ fn two_seats_take_turns(alloc: Global) -> bool {
         return false;
     };
     match take_turns(&dealer, one, other) {
-        Some((one, other)) => match vec![in alloc; one, other] {
-            Ok(seats) => is_closed_with(dealer, seats, 2),
-            Err(_) => false,
-        },
+        Some((one, other)) => {
+            seats.push(one).is_ok() && seats.push(other).is_ok() && is_closed_with(dealer, seats, 2)
+        }
         None => false,
     }
 }
