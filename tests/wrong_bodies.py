@@ -273,11 +273,10 @@ def check_pairs(crate):
 
 
 def cut(folder, crate):
-    """Leaves out of a copy what the crate's edits of must-fail/ leave out: modules, by `#[cfg(test)]`, and files, by a comment over each."""
+    """Leaves out of a copy what the crate's edits of must-fail/ leave out: all pairs of an edit but the first, which makes it wrong."""
     for file in sorted(os.listdir(f"{CRATES}/{crate}/must-fail")):
-        for path, old, new in pairs_of(crate, file):
-            if new in (f"#[cfg(test)] {old}", f"{{-{old[2:]}", f"{old} -}}"):
-                write(f"{folder}/{crate}/{path}", read(f"{folder}/{crate}/{path}").replace(old, new))
+        for path, old, new in [*pairs_of(crate, file)][1:]:
+            write(f"{folder}/{crate}/{path}", read(f"{folder}/{crate}/{path}").replace(old, new))
 
 
 def is_cut_proved(crate):
