@@ -8,6 +8,7 @@ import sys
 from pathlib import Path
 from typing import Any, Callable, Iterable, Sequence
 
+import forked
 import pytest
 from hypothesis import HealthCheck, settings
 
@@ -37,7 +38,9 @@ def encode(groups: Iterable[Sequence[int]]) -> bytes:
 
 
 def monitor(*words: Any, data: bytes = b"", **options: Any) -> "subprocess.CompletedProcess[bytes]":
-    """The command, in a process of its own."""
+    """The command, in a process of its own; in another environment, in one that has imported nothing yet."""
+    if "env" not in options:
+        return forked.run(*words, data=data, **options)
     return subprocess.run(
         [sys.executable, "-m", "rds_monitor", *map(str, words)], input=data, capture_output=True, **options
     )

@@ -5,6 +5,7 @@ from __future__ import annotations
 import io
 import sys
 from typing import Any, Tuple
+from unittest import mock
 
 from rds_monitor.cli import main
 
@@ -16,7 +17,9 @@ def run(*words: Any, data: bytes = b"") -> Tuple[int, str, str]:
     sys.stdin = io.TextIOWrapper(io.BufferedReader(io.BytesIO(data)))  # type: ignore[arg-type]
     sys.stdout, sys.stderr = io.TextIOWrapper(out, encoding="ascii"), io.TextIOWrapper(error, encoding="utf-8")
     try:
-        status = main([str(word) for word in words])
+        # What a command sets for signals would hold for all tests after it.
+        with mock.patch("signal.signal"):
+            status = main([str(word) for word in words])
     except SystemExit as ended:
         status = int(ended.code or 0)
     finally:

@@ -11,6 +11,7 @@ from __future__ import annotations
 
 import struct
 import sys
+from functools import lru_cache
 from typing import Any, Optional, Sequence, Tuple
 
 import numpy
@@ -32,20 +33,23 @@ def chips_of(bits: Array) -> Array:
     return numpy.column_stack([signs, -signs]).ravel()
 
 
-def shape(x: Array) -> Array:
-    """The impulse response of cos(pi f td / 4), |f| < 2 / td, at x chips from its middle; 1 in the middle."""
-    pole = numpy.abs(numpy.abs(x) - 0.25) < 1e-9
-    x = numpy.where(pole, 0, x)
-    return numpy.where(pole, numpy.pi / 4, numpy.cos(2 * numpy.pi * x) / (1 - 16 * x * x))
-
-
 def baseband(chips: Array, times: Array) -> Array:
-    """The shaped chips at times in chips, by power 1."""
+    """The chips at times in chips, by power 1. Each has the impulse response of cos(pi f td / 4), |f| < 2 / td, which is
+    cos(2 pi x) / (1 - 16 x^2) at x chips from its middle."""
     first = numpy.floor(times).astype(int)
+    within = times - first
     padded = numpy.concatenate([numpy.zeros(REACH), chips, numpy.zeros(REACH + 1)])
-    signal = numpy.zeros(times.size)
+    # The cosine is the same for all chips. At a quarter of a chip the response is pi / 4.
+    total, at_poles = numpy.zeros(times.size), numpy.zeros(times.size)
     for k in range(-REACH + 1, REACH + 1):
-        signal += padded[first + k + REACH] * shape(times - first - k)
+        chip = numpy.take(padded[k + REACH :], first)
+        below = 1 - 16 * (within - k) ** 2
+        if k in (0, 1):
+            poles = numpy.nonzero(numpy.abs(below) < 1e-8)
+            at_poles[poles] += numpy.pi / 4 * chip[poles]
+            below[poles] = numpy.inf
+        total += chip / below
+    signal = numpy.cos(2 * numpy.pi * within) * total + at_poles
     result: Array = signal / numpy.sqrt(numpy.mean(signal**2))
     return result
 
@@ -67,6 +71,7 @@ def audio(random: numpy.random.Generator, times: Array, rate: int) -> Array:
     return result
 
 
+@lru_cache(maxsize=8)
 def mpx(data: bytes, rate: int = 192000, snr: float = 30, carrier_offset: float = 0, clock_offset: float = 0,
         phase: float = 0, flip: Optional[float] = None, stereo: bool = True, seed: int = 1) -> Array:
     """The MPX of packed bits. Offsets are in Hz of the 57 kHz and in parts in a million of the bits, `phase` is in
@@ -83,6 +88,8 @@ def mpx(data: bytes, rate: int = 192000, snr: float = 30, carrier_offset: float 
     if stereo:
         signal += PILOT_LEVEL * numpy.sin(2 * numpy.pi * PILOT_HZ * times)
     result: Array = signal if flip is None else numpy.where(times < flip, signal, -signal)
+    # Several tests have it.
+    result.setflags(write=False)
     return result
 
 

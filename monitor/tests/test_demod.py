@@ -137,7 +137,7 @@ def test_lock_of_a_part() -> None:
 
 @pytest.mark.parametrize("rate,offset", [(240000, 0.0), (250000, 20000.0), (1024000, 0.0), (1200000, 250000.0)])
 def test_iq(rate: int, offset: float) -> None:
-    groups = GROUPS[:12]
+    groups = GROUPS[:8]
     signal = iq(mpx(encode(groups), rate, snr=40), rate, cnr=40, offset=offset)
     found, receiver = received(signal, rate, offset=offset)
     assert found == groups[1:]
@@ -344,7 +344,7 @@ def test_no_more_reports_than_asked_for(signal: Array) -> None:
 
 @pytest.mark.parametrize("rate,said", [(192000, 171000), (171000, 250000), (228500, 240000)])
 def test_a_wrong_rate_is_told(rate: int, said: int) -> None:
-    data = stored(mpx(encode(words(6, 60)), rate), "s16")
+    data = stored(mpx(encode(words(6, 30)), rate), "s16")
     done = monitor("demod", "--raw", "s16", "--rate", said, data=data)
     assert done.returncode == 1
     assert f"no RDS at {said} samples per second, but at {rate}: use --rate {rate}" in done.stderr.decode()

@@ -51,11 +51,9 @@ def test_a_group_is_four_words_of_16_bits() -> None:
 
 
 def test_the_words_of_a_group() -> None:
-    sent = librds.encode([GROUP] * 3)
-    groups = [it.words for it in librds.decode(sent) if isinstance(it, librds.Group)]
-    assert groups == [GROUP] * 3
-    (first, *_) = [it.words for it in librds.decode(sent, gaps=[(30, 31)]) if isinstance(it, librds.Group)]
-    assert first != GROUP and None in first
+    """Sync is acquired on a block 2, so the first group lacks its block 1."""
+    groups = [it.words for it in librds.decode(librds.encode([GROUP] * 3)) if isinstance(it, librds.Group)]
+    assert groups == [(None, *GROUP[1:]), GROUP, GROUP]
 
 
 @pytest.mark.parametrize(

@@ -326,3 +326,23 @@ pub fn told_remainder(word: u32) -> u16
         Err(_) => unreachable!(),
     }
 }
+
+/// Two calls for one recording that are both refused have the same reason, unless memory was refused.
+pub fn refused_alike(
+    alloc: Global,
+    bytes: &[u8],
+    bits: u64,
+    gaps: &[RdsGap],
+    rules: RdsRules,
+) -> Option<(Refusal, Refusal)>
+    ensures { IfSome result (λ reasons.
+        (reasons.0 ≡ Refusal.OutOfMemory) ⊎ (reasons.1 ≡ Refusal.OutOfMemory) ⊎ (reasons.0 ≡ reasons.1)) }
+{
+    rds_abi::laws::reasons_exclude_each_other();
+    let first = totals(alloc, bytes, bits, gaps, rules);
+    let again = totals(alloc, bytes, bits, gaps, rules);
+    match (first, again) {
+        (Err(first), Err(again)) => Some((first, again)),
+        _ => None,
+    }
+}
