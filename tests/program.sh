@@ -521,6 +521,11 @@ for workers in 1 4 4 4 4 4 4 4 4; do
     (ulimit -s 192 && exec "$rds" list --workers "$workers" <"$station" >"$work/out" 2>"$work/err")
     judge "a stack of 192 KiB, $workers workers" 0 $? '*acquired,51,2,' ''
 done
+# The stacks of 64 workers are small: the system's default of 8 MB each would not fit.
+for command in totals list; do
+    (ulimit -s 8192 -v 380000 && exec "$rds" "$command" --workers 64 --pieces 64 <"$station" >"$work/out" 2>"$work/err")
+    judge "$command by 64 workers in 380 MB of address space" 0 $? '*total,valid,' ''
+done
 not_blocking='import os, subprocess, sys
 read, write = os.pipe()
 os.set_blocking(write if sys.argv[1] == "output" else read, False)
