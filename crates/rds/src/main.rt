@@ -5,8 +5,9 @@
 //! standard error names the refusal, and one warns of an option that is ignored.
 #![tactic(auto)]
 
-ghost use Rattle.std.specs.Prelude.{◌≡◌};
+ghost use Rattle.std.specs.Prelude.{◌≡◌, IfOk, map, string_bytes};
 ghost use Rattle.std.specs.Process.{exit_status};
+ghost use Rattle.rds_tool.specs.CommandLine.{IsAskedOf, entries_of};
 ghost use Rattle.rds.specs.Session.{Answers, EndsWith, status_of};
 
 mod progress; // How far a job is.
@@ -14,6 +15,7 @@ mod session; // Jobs and streams from standard input to standard output.
 
 use crate::session::{Session, do_asked};
 use rds_tool::{Asked, CliFault, FaultKind, Ignored, ToolError, asked_of};
+use std::alloc::{AllocError, Global};
 use std::env;
 use std::io::ErrorKind;
 use std::process::ExitCode;
@@ -76,14 +78,24 @@ fn given_words(rt: &HostRuntime) -> Result<Vec<String>, FaultKind> {
     }
 }
 
-fn asked_by(rt: &HostRuntime, given: &[String]) -> Result<Asked, CliFault> {
-    let mut words = Vec::new(rt.alloc());
-    for word in given {
-        if words.push(word.as_str()).is_err() {
-            return Err(fault(rt, FaultKind::Memory));
-        }
+/// The request of these words.
+fn asked_by(rt: &HostRuntime, given: &[String]) -> Result<Asked, CliFault>
+    ensures { IfOk result (IsAskedOf (entries_of (map string_bytes given.now))) }
+{
+    match words_of(rt.alloc(), given) {
+        Ok(words) => asked_of(rt.alloc(), words.as_slice()),
+        Err(_) => Err(fault(rt, FaultKind::Memory)),
     }
-    asked_of(rt.alloc(), words.as_slice())
+}
+
+fn words_of(alloc: Global, given: &[String]) -> Result<Vec<&str>, AllocError>
+    ensures { IfOk result (λ words. map (λ word. word.now) words.items ≡ map string_bytes given.now) }
+{
+    let mut words = Vec::new(alloc);
+    for word in given {
+        words.push(word.as_str())?;
+    }
+    Ok(words)
 }
 
 /// Why there are no words: some are not valid UTF-8, or there is no memory for them.

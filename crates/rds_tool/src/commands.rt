@@ -247,17 +247,9 @@ fn with_option<'a>(command: Made<'a>, option: Arg<'a>) -> Made<'a>
 fn with_command<'a>(top: Made<'a>, command: Made<'a>) -> Made<'a>
     ensures { (above below : App) → Makes top.entry above → Makes command.entry below → Makes result (with_subcommand above below.top) }
 {
-    match command {
-        Ok(command) => with_made_command(top, command),
-        Err(error) => Err(error),
-    }
-}
-
-fn with_made_command<'a>(top: Made<'a>, command: Command<'a>) -> Made<'a>
-    ensures { (above below : App) → Makes top.entry above → ReadsAs command.entry below → Makes result (with_subcommand above below.top) }
-{
-    match top {
-        Ok(top) => top.subcommand(command),
-        Err(error) => Err(error),
+    match (top, command) {
+        (Ok(top), Ok(command)) => top.subcommand(command),
+        (Err(error), _) => Err(error),
+        (_, Err(error)) => Err(error),
     }
 }
