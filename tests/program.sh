@@ -82,19 +82,19 @@ Options:
       --hex          Read hexadecimal digits of either case; spaces, tabs and
                      line ends don't count
       --bits <N>     Length of the recording in bits, 0 to 68719476736
-                     [default: all of the input]
+                     [default: all bits of the input]
       --gaps <TEXT>  Places whose bits mean nothing, as FROM-TO,FROM-TO and so
                      on, in order; TO is the first place after a gap
       --burst <N>    Correct bursts of errors of up to N bits,
                      0 to 5 [default: 2]
-      --reach <N>    Acquire where a block that fits lies up to N blocks back,
+      --reach <N>    Acquire by two valid blocks at most N blocks apart,
                      1 to 8 [default: 3]
-      --loss <N>     Lose synchronism after N blocks in a row that aren't
-                     valid, 1 to 64 [default: 10]
-      --share <N>    Lose synchronism where N of the last blocks aren't valid,
-                     1 to 64; not beside --loss
-      --of <N>       Look at the last N blocks; with --share alone,
-                     at most 64 [default: 64]
+      --loss <N>     Lose synchronism after N bad blocks in a row, 1 to 64;
+                     ignored with --share [default: 10]
+      --share <N>    Lose synchronism when N of the last blocks are bad,
+                     1 to 64
+      --of <N>       Look at the last N blocks for --share, 1 to 64;
+                     ignored without it [default: 64]
       --pieces <N>   Cut the recording into up to N pieces, 1 or more; the
                      output stays the same [default: 16]
       --workers <N>  Work by up to N threads, 1 to 256; the output stays
@@ -164,16 +164,6 @@ for gaps in '' 5 a-b 5- '1-2,' ',1-2' 1-2,,3-4 1-2-3 +1-2 '1-2, 3-4' '1-2;3-4' 0
     check "gaps '$gaps' of a list" 2 '' 'bad --gaps\n' '' list --hex --gaps="$gaps" --burst 6
     check "gaps '$gaps' of a stream" 2 '' 'bad --gaps\n' '' follow --gaps="$gaps" --of 3
 done
-# Options of both rules of loss, a default's own number too: the words are no command line, though the parser takes them.
-bad_loss='bad --loss or --of: --of needs --share, and --loss excludes it\n'
-for words in '--share 2 --loss 10' '--loss 0 --share 2 --of 3' '--of 64' '--loss 10 --of 3' '--of 0 --burst 6' '--of 3 --gaps 1-2'; do
-    check "list of $words" 2 '' "$bad_loss" '' list --hex $words
-    check "totals of $words" 2 '' "$bad_loss" '' totals $words
-done
-check 'two losses of a stream' 2 '' "$bad_loss" '' follow --share 2 --loss 10
-check 'of without a share of a stream' 2 '' "$bad_loss" '' follow --of 3
-check 'bad gaps before a bad loss' 2 '' 'bad --gaps\n' '' list --of 3 --gaps 5
-check 'a fault of the parser before a bad loss' 2 '' '*--reach' '' list --of 3 --reach three
 check 'a gap that begins with a hyphen' 2 '' '*unexpected argument' '' scan --gaps -5
 check 'a fault of the parser before bad gaps' 2 '' '*--bits' '' scan --gaps 5 --bits ten
 check 'gaps twice' 2 '' '*--gaps' '' scan --gaps 1-2 --gaps 3-4
@@ -247,6 +237,21 @@ done
 check 'list of two bad blocks that never stand together' 0 \
     "${first}group,104,0,A,lost,B:0000,lost,D:0000\n$(totals 5 0 0 0 0 0 2 0 2 0 1 0)" '' "$two_bad" list --hex --share 2 --of 2
 check 'totals by a share of the default' 0 "$(totals 5 0 0 0 0 0 2 0 3 0 2 1)" '' "$two_bad" totals --hex --share 2
+# An option that the rule of loss leaves out is ignored, whatever its number, and one line warns of it.
+ignored_loss='rds: --loss is ignored with --share\n'
+ignored_of='rds: --of is ignored without --share\n'
+by_one="${first}group,104,-,?,lost,none,none,none\nlost,129,-,-,-,-,-,-\nacquired,155,2,-,-,-,-,-\ngroup,130,0,A,none,B:0000,C:0000,D:0000\n$(totals 6 0 0 0 0 0 1 0 3 0 2 1)"
+for loss in 3 10 0 65; do
+    check "list by a share beside a loss of $loss" 0 "$two_of_three" "$ignored_loss" "$two_bad" list --hex --share 2 --of 3 --loss $loss
+done
+check 'totals by a share beside a loss' 0 "$(totals 5 0 0 0 0 0 2 0 3 0 2 1)" "$ignored_loss" "$two_bad" totals --hex --loss 10 --share 2
+for of in 3 64 0; do
+    check "list without a share, of $of" 0 "$by_one" "$ignored_of" "$one_bad" list --hex --loss 1 --of $of
+done
+check 'totals without a share, of 64' 0 "$(totals 6 0 0 0 0 0 1 0 3 0 2 1)" "$ignored_of" "$one_bad" totals --hex --loss 1 --of 64
+check 'an option that is ignored before a refusal' 1 '' "${ignored_loss}refused 15 ShareRange\n" '' list --share 0 --loss 3
+check 'bad gaps, and an option that is ignored' 2 '' 'bad --gaps\n' '' list --of 3 --gaps 5
+check 'a fault of the parser, and an option that is ignored' 2 '' '*--reach' '' list --of 3 --reach three
 check 'list of version B' 0 \
     "${acquired}group,26,0,B,none,B:0800,Cx:0000,D:0000\n$(totals 3 0 0 0 0 0 0 0 1 0 1 0)" '' \
     00003f02002c10000d400001b4 list --hex
@@ -294,6 +299,8 @@ check 'a stream of nothing' 0 "$(totals 0 0 0 0 0 0 0 0 0 0 0 0)" '' '' follow
 check 'a stream of a byte' 0 "$(totals 0 0 0 0 0 0 0 0 0 0 0 0)" '' '\x00' follow
 check 'a stream that ends in a group' 0 "${acquired}group,26,0,A,none,B:0000,C:0000,none\n$(totals 2 0 0 0 0 0 0 0 1 0 1 0)" '' \
     '\x00\x00\x3f\x00\x00\x19\x80\x00\x05\xa0\x00\x01' follow
+check 'a stream by a share beside a loss' 0 "${first}$(totals 3 0 0 0 0 0 0 0 1 0 1 0)" "$ignored_loss" "$zero_bytes" follow --share 2 --loss 10
+check 'a stream without a share, of 3' 0 "${first}$(totals 3 0 0 0 0 0 0 0 1 0 1 0)" "$ignored_of" "$zero_bytes" follow --of 3
 check 'a stream of 25 bits' 0 "$(totals 0 0 0 0 0 0 0 0 0 0 0 0)" '' "$zero_bytes" follow --bits 25
 check 'a stream of no bits' 0 "$(totals 0 0 0 0 0 0 0 0 0 0 0 0)" '' "$zero_bytes" follow --bits 0
 check 'a stream of a group but its last bit' 0 \
@@ -387,6 +394,7 @@ line_of() {
 for _ in 1 2 3 4 5 6 7 8; do cat "$here/../examples/station.bin"; done >"$work/stations"
 share='written [0-9]+ MB, rows of [1-9][0-9]? % of the bits, [0-9]+ s left'
 line_of 'the pieces of a list are told' 'decoded [12] of 2 pieces, [0-9]+ s left' list --pieces 2 --workers 2
+line_of 'the pieces of a list by one worker are told' 'decoded [12] of 2 pieces, [0-9]+ s left' list --pieces 2 --workers 1
 line_of 'the share of the rows of a list is told' "$share" list --workers 1
 line_of 'the share of the rows of a scan is told' "$share" scan --workers 2
 line_of 'the share of so many bits is told' "$share" scan --bits 1500000

@@ -14,8 +14,9 @@ use Rattle.rds_tool.specs.declared.fault.CliFault.{CliFault}
 use Rattle.rds_tool.specs.declared.fault.FaultKind.{FaultKind}
 use Rattle.rds_tool.specs.declared.fault.FaultKind.TheVariants.{Help, Memory, Version, Words}
 use Rattle.rds_tool.specs.declared.job.Asked.{Asked}
-use Rattle.rds_tool.specs.declared.job.Asked.TheVariants.{Follow, Job as Work}
 use Rattle.rds_tool.specs.declared.job.Job.{Job}
+use Rattle.rds_tool.specs.declared.job.Request.{Request}
+use Rattle.rds_tool.specs.declared.job.Request.TheVariants.{Follow, Job as Work}
 use Rattle.rds.specs.declared.session.Session.{Session}
 
 -- rules are refused by this error: the number that it names is out of its range
@@ -68,7 +69,7 @@ HasFollowed terms bits s =
     terms bits
 
 -- the command line's request was done
-abbrev pub DoesAsked : Asked → Session → Type 0
+abbrev pub DoesAsked : Request → Session → Type 0
 DoesAsked (Work job progress) s = HasDone job s
 DoesAsked (Follow input rules) s = HasFollowed (record { rules = rules; gaps = input.gaps }) input.bits s
 
@@ -87,6 +88,6 @@ EndsWith Memory status = status ≡ 1
 -- the request was done, and the exit status is that of its answer; or there is no request, and the status says why
 abbrev pub Answers : Result Asked CliFault → Option Session → ℕ → Type 0
 Answers (Ok asked) None status = ⊥
-Answers (Ok asked) (Some s) status = DoesAsked asked s × (status ≡ status_of s.answer)
+Answers (Ok asked) (Some s) status = DoesAsked asked.request s × (status ≡ status_of s.answer)
 Answers (Err fault) None status = EndsWith fault.kind status
 Answers (Err fault) (Some s) status = ⊥

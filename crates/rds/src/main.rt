@@ -2,7 +2,7 @@
 //!
 //! The words of the command line ask for a job or a stream, and that becomes an exit status: 0 if the text
 //! was written, or help or the version was asked for; 2 for a usage error; 1 for a refusal. One line on
-//! standard error names the refusal.
+//! standard error names the refusal, and one warns of an option that is ignored.
 #![tactic(auto)]
 
 ghost use Rattle.std.specs.Prelude.{◌≡◌};
@@ -13,7 +13,7 @@ mod progress; // How far a job is.
 mod session; // Jobs and streams from standard input to standard output.
 
 use crate::session::{Session, do_asked};
-use rds_tool::{Asked, CliFault, FaultKind, ToolError, asked_of};
+use rds_tool::{Asked, CliFault, FaultKind, Ignored, ToolError, asked_of};
 use std::env;
 use std::io::ErrorKind;
 use std::process::ExitCode;
@@ -39,7 +39,8 @@ fn do_as_asked<R: Threads + Wait + Sync>(rt: &HostRuntime, crew: &R) -> Ended
 {
     match asked_for(rt) {
         Ok(asked) => {
-            let session = do_asked(rt, crew, &asked);
+            warn(rt, asked.ignored);
+            let session = do_asked(rt, crew, &asked.request);
             let code = exit(rt, &session.answer);
             Ended {
                 asked: Ok(asked),
@@ -97,6 +98,14 @@ fn fault(rt: &HostRuntime, kind: FaultKind) -> CliFault {
             kind: FaultKind::Memory,
             text: String::new(rt.alloc()),
         },
+    }
+}
+
+/// Warns of an option that is ignored.
+fn warn(rt: &HostRuntime, ignored: Option<Ignored>) {
+    if let Some(option) = ignored {
+        let warning = option.warning();
+        let _ = eprintln!(rt; "rds: {warning}");
     }
 }
 

@@ -10,7 +10,7 @@ ghost use Rattle.rds_tool.specs.Refusals.{of_sync};
 use crate::progress::{Progress, Told};
 use rds_sync::{Rules, SyncError};
 use rds_tool::{
-    Asked, FromRead, Input, Job, RuleNumbers, ToWrite, ToolError, follow, transcribe,
+    FromRead, Input, Job, Request, RuleNumbers, ToWrite, ToolError, follow, transcribe,
     transcribe_gated,
 };
 use std::rt::{Stdin, Stdout};
@@ -26,12 +26,12 @@ pub struct Session {
 }
 
 /// Does a job, or follows a stream.
-pub fn do_asked<R: Threads + Wait + Sync>(rt: &HostRuntime, crew: &R, asked: &Asked) -> Session
-    ensures { DoesAsked asked.now result }
+pub fn do_asked<R: Threads + Wait + Sync>(rt: &HostRuntime, crew: &R, request: &Request) -> Session
+    ensures { DoesAsked request.now result }
 {
-    match asked {
-        Asked::Job { job, progress } => run(rt, crew, job, *progress),
-        Asked::Follow(input, rules) => run_stream(rt, input, *rules),
+    match request {
+        Request::Job { job, progress } => run(rt, crew, job, *progress),
+        Request::Follow(input, rules) => run_stream(rt, input, *rules),
     }
 }
 

@@ -17,7 +17,10 @@ use std::alloc::{AllocError, Global};
 use std::sync::Wait;
 use std::sync::atomic::{AtomicUsize, Ordering};
 use std::thread;
-use std::thread::Threads;
+use std::thread::{Builder, Threads};
+
+/// The bytes of stack of a thread that makes rows. The system's default is 8 MiB, which many threads may not have.
+const STACK: usize = 1 << 20;
 
 /// A seat for each sheet: the first for part 0, and so on.
 pub(crate) fn seats_of<J: Named>(
@@ -202,7 +205,11 @@ pub(crate) fn by_pool<
             let mut is_alone = true;
             for _ in 0..threads {
                 let draws = move || make_parts(rt, rows, seats, dealer, parts);
-                if scope.spawn(draws).is_ok() {
+                if Builder::new()
+                    .stack_size(STACK)
+                    .spawn_scoped(scope, draws)
+                    .is_ok()
+                {
                     is_alone = false;
                 }
             }

@@ -1,5 +1,4 @@
 -- What the typed getters read, by the rows of a parse.
-use Rattle.std.proofs.lemmas.Bool.{false≢true}
 use Rattle.std.proofs.Common.{◌≡◌, ◌≢◌, ◌⊎◌, inl, inr, arith, slice_index, ◌∙◌, ℕ, List, [], Bor, Option, Some, None, Result, Ok, Err, sym, subst, refl, codes, Bool, ap}
 use Rattle.std.specs.Global.{Vec}
 use Rattle.std.specs.Option.{ok_or, option_map}
@@ -17,13 +16,14 @@ use Rattle.clap.proofs.WalkLemmas.{find_row, first_value-rows, one_text-rows}
 use Rattle.clap.specs.declared.parser.matches.ValueSource.{ValueSource}
 use Rattle.rds_sync.specs.declared.loss.Loss.{Loss}
 use Rattle.rds_sync.specs.declared.loss.Loss.TheVariants.{Run, Share}
-use Rattle.rds_tool.specs.CommandLine.{FitNoInput, FitNoRules, FitNoSettings, FitNoStream, GivesNoRuled, GivesNoRules, GivesNothing, IsAsked, IsFlag, MaySpell, Reports, gaps_asked_for, gaps_spelled, is_given, is_of_words, Spells, SpellsLoss}
+use Rattle.rds_tool.specs.CommandLine.{FitNoInput, FitNoStream, GivesNoRuled, GivesNothing, IsFlag, IsJob, IsRequest, MaySpell, Reports, gaps_asked_for, gaps_spelled, is_given, is_of_words, Spells, SpellsLoss}
 use Rattle.rds_tool.specs.GapText.{gaps_of}
 use Rattle.rds_tool.specs.declared.fault.NoJob.{NoJob}
-use Rattle.rds_tool.specs.declared.fault.NoJob.TheVariants.{Entries, Gaps, Loss as BadLoss, Memory}
-use Rattle.rds_tool.specs.declared.job.Asked.{Asked}
-use Rattle.rds_tool.specs.declared.job.Asked.TheVariants.{Job as AskedJob, Follow}
+use Rattle.rds_tool.specs.declared.fault.NoJob.TheVariants.{Entries, Gaps, Memory}
+use Rattle.rds_tool.specs.declared.job.Job.{Job}
 use Rattle.rds_tool.specs.declared.job.Job.TheVariants.{Encode, List as ListJob, Scan, Totals}
+use Rattle.rds_tool.specs.declared.job.Request.{Request}
+use Rattle.rds_tool.specs.declared.job.Request.TheVariants.{Job as AskedJob, Follow}
 
 -- the way in which the unsigned types of std read a number of this many binary digits
 abbrev pub reads_unsigned : ℕ → Text → Result ℕ ParseIntError → Type 0
@@ -143,13 +143,6 @@ pub no_share : (rows : List Row) → ((share : Option ℕ) → MaySpell 32 (one_
 no_share rows h (Run row) s = h None s.0
 no_share rows h (Share bad of) s = h (Some bad) s.0
 
--- no rules, no settings
-pub without_rules : (rows : List Row) (why : NoJob) → GivesNoRules rows (FitNoRules rows) why → GivesNoRules rows (FitNoSettings rows) why
-without_rules rows BadLoss none = none
-without_rules rows Entries none = (none.0, λ settings are. none.1 _ are.rules)
-without_rules rows Gaps none = none
-without_rules rows Memory none = none
-
 first_is : (name word : Text) (b : ℕ) → name ≡ word → slice_index word 0 ≡ b → slice_index name 0 ≡ b
 first_is name word b p q = ap (λ (t : Text). slice_index t 0) p ∙ q
 
@@ -158,7 +151,7 @@ not_both : (name one other : Text) (a b : ℕ) → name ≡ one → name ≡ oth
 not_both name one other a b p q is is_other differ = differ (sym (first_is name one a p is) ∙ first_is name other b q is_other)
 
 -- no input and settings: a command that makes a report asks for nothing
-no_report : (name : Text) (rows : List Row) → Reports name → FitNoInput rows → (asked : Asked) → IsAsked name rows asked → ⊥
+no_report : (name : Text) (rows : List Row) → Reports name → FitNoInput rows → (request : Request) → IsRequest name rows request → ⊥
 no_report name rows reports none (AskedJob (ListJob input settings) progress) h = none input settings h.0.1 h.0.2
 no_report name rows reports none (AskedJob (Totals input settings) progress) h = none input settings h.0.1 h.0.2
 no_report name rows (inl p) none (AskedJob (Scan input workers) progress) h = not_both name (codes "list") (codes "scan") 108 115 p h.0.0 refl refl (omega arith)
@@ -172,22 +165,23 @@ no_report name rows (inr p) none (Follow stream following) h = not_both name (co
 pub without_ruled : (name : Text) (rows : List Row) (why : NoJob) → Reports name → GivesNoRuled rows (FitNoInput rows) why → GivesNothing (Some (name, rows)) why
 without_ruled name rows Memory reports none = tt
 without_ruled name rows Gaps reports none = (inr (inr reports), none)
-without_ruled name rows BadLoss reports none = ((λ bad. none.0 bad.1), (inr reports, none.1))
-without_ruled name rows Entries reports none =
-    ((λ bad. none.0 bad.1), (λ bad. false≢true (sym none.1 ∙ bad.1)), no_report name rows reports none.2)
+without_ruled name rows Entries reports none = ((λ bad. none.0 bad.1), no_report name rows reports none.1)
 
 module _ (name : Text) (rows : List Row) (follows : name ≡ codes "follow") where
+  -- to follow a stream is no job
+  pub no_job : (job : Job) → IsJob name rows job → ⊥
+  no_job (Scan input workers) h = not_both name (codes "follow") (codes "scan") 102 115 follows h.0 refl refl (omega arith)
+  no_job (ListJob input settings) h = not_both name (codes "follow") (codes "list") 102 108 follows h.0 refl refl (omega arith)
+  no_job (Totals input settings) h = not_both name (codes "follow") (codes "totals") 102 116 follows h.0 refl refl (omega arith)
+  no_job (Encode hex) h = not_both name (codes "follow") (codes "encode") 102 101 follows h.0 refl refl (omega arith)
+
   -- no input and rules: one that follows a stream asks for nothing
-  no_stream : FitNoStream rows → (asked : Asked) → IsAsked name rows asked → ⊥
+  no_stream : FitNoStream rows → (request : Request) → IsRequest name rows request → ⊥
   no_stream none (Follow input rules) h = none input rules h.1 h.2
-  no_stream none (AskedJob (Scan input workers) progress) h = not_both name (codes "follow") (codes "scan") 102 115 follows h.0.0 refl refl (omega arith)
-  no_stream none (AskedJob (ListJob input settings) progress) h = not_both name (codes "follow") (codes "list") 102 108 follows h.0.0 refl refl (omega arith)
-  no_stream none (AskedJob (Totals input settings) progress) h = not_both name (codes "follow") (codes "totals") 102 116 follows h.0.0 refl refl (omega arith)
-  no_stream none (AskedJob (Encode hex) progress) h = not_both name (codes "follow") (codes "encode") 102 101 follows h.0.0 refl refl (omega arith)
+  no_stream none (AskedJob job progress) h = no_job job h.0
 
   -- why there is no input with rules is why it does so
   pub without_stream : (why : NoJob) → GivesNoRuled rows (FitNoStream rows) why → GivesNothing (Some (name, rows)) why
   without_stream Memory none = tt
   without_stream Gaps none = (inr (inl follows), none)
-  without_stream BadLoss none = ((λ bad. none.0 bad.1), (inl follows, none.1))
-  without_stream Entries none = ((λ bad. none.0 bad.1), (λ bad. false≢true (sym none.1 ∙ bad.1)), no_stream none.2)
+  without_stream Entries none = ((λ bad. none.0 bad.1), no_stream none.1)

@@ -22,11 +22,14 @@ use Rattle.rds_tool.specs.declared.fault.FaultKind.TheVariants.{Help, Memory, Ve
 use Rattle.rds_tool.specs.declared.fault.NoJob.{NoJob}
 use Rattle.rds_tool.specs.declared.fault.NoJob.TheVariants as no
 use Rattle.rds_tool.specs.declared.job.Asked.{Asked}
-use Rattle.rds_tool.specs.declared.job.Asked.TheVariants.{Job as AskedJob, Follow}
 use Rattle.rds_tool.specs.declared.job.Cuts.{Cuts}
 use Rattle.rds_tool.specs.declared.job.Cuts.TheVariants.{At, Even}
+use Rattle.rds_tool.specs.declared.job.Ignored.{Ignored}
+use Rattle.rds_tool.specs.declared.job.Ignored.TheVariants as ignored
 use Rattle.rds_tool.specs.declared.job.Input.{Input}
 use Rattle.rds_tool.specs.declared.job.Job.{Job}
+use Rattle.rds_tool.specs.declared.job.Request.{Request}
+use Rattle.rds_tool.specs.declared.job.Request.TheVariants.{Job as AskedJob, Follow}
 use Rattle.rds_tool.specs.declared.job.Settings.{Settings}
 use Rattle.rds_tool.specs.declared.job.Job.TheVariants.{Encode, List as ListJob, Scan, Totals}
 
@@ -169,13 +172,20 @@ is_of_words other = false
 abbrev pub is_given : Text → List Row → Bool
 is_given name rows = is_of_words (option_and_then (λ row. row.source) (find (λ row. bytes_eq row.id name) rows))
 
--- the words give an option that the rule of loss leaves out: `--loss` beside `--share`, or `--of` without it
-abbrev pub mixes_losses : List Row → Bool
-mixes_losses rows = if is_given (codes "share") rows then is_given (codes "loss") rows else is_given (codes "of") rows
+-- the option that the words give and the rule of loss leaves out: `--loss` beside `--share`, or `--of` without it
+abbrev pub ignored_by : List Row → Option Ignored
+ignored_by rows =
+    if is_given (codes "share") rows
+    then (if is_given (codes "loss") rows then Some ignored.Loss else None)
+    else (if is_given (codes "of") rows then Some ignored.Of else None)
+
+-- the warning of it
+abbrev pub warning_of : Ignored → Text
+warning_of ignored.Loss = codes "--loss is ignored with --share"
+warning_of ignored.Of = codes "--of is ignored without --share"
 
 -- the numbers of a synchroniser's rules that the entries give
 pub record AreRules (rows : List Row) (rules : RuleNumbers) : Type 0 where
-  pub one_rule : mixes_losses rows ≡ false
   pub burst : Spells 32 (one_of (codes "burst") rows) rules.burst
   pub reach : Spells 32 (one_of (codes "reach") rows) rules.reach
   pub loss : SpellsLoss rows rules.loss
@@ -193,10 +203,28 @@ IsJob name rows (ListJob input settings) = (name ≡ codes "list") × IsInput ro
 IsJob name rows (Totals input settings) = (name ≡ codes "totals") × IsInput rows input × AreSettings rows settings
 IsJob name rows (Encode hex) = (name ≡ codes "encode") × IsFlag (one_of (codes "hex") rows) hex
 
+abbrev pub IsJobOf : Option (Text × List Row) → Job → Type 0
+IsJobOf None job = ⊥
+IsJobOf (Some entries) job = IsJob entries.0 entries.1 job
+
 -- the job or stream that a command and its entries ask for
-abbrev pub IsAsked : Text → List Row → Asked → Type 0
-IsAsked name rows (AskedJob job progress) = IsJob name rows job × IsFlag (one_of (codes "progress") rows) progress
-IsAsked name rows (Follow input rules) = (name ≡ codes "follow") × IsInput rows input × AreRules rows rules
+abbrev pub IsRequest : Text → List Row → Request → Type 0
+IsRequest name rows (AskedJob job progress) = IsJob name rows job × IsFlag (one_of (codes "progress") rows) progress
+IsRequest name rows (Follow input rules) = (name ≡ codes "follow") × IsInput rows input × AreRules rows rules
+
+abbrev pub IsRequestOf : Option (Text × List Row) → Request → Type 0
+IsRequestOf None request = ⊥
+IsRequestOf (Some entries) request = IsRequest entries.0 entries.1 request
+
+-- a stream is asked for
+abbrev pub IsFollow : Request → Type 0
+IsFollow (AskedJob job progress) = ⊥
+IsFollow (Follow input rules) = ⊤
+
+-- that, and the option that they give in vain
+pub record IsAsked (name : Text) (rows : List Row) (asked : Asked) : Type 0 where
+  pub request : IsRequest name rows asked.request
+  pub ignored : asked.ignored ≡ ignored_by rows
 
 abbrev pub IsAskedOf : Option (Text × List Row) → Asked → Type 0
 IsAskedOf None asked = ⊥
@@ -221,17 +249,6 @@ abbrev pub HasBadGaps : Option (Text × List Row) → Type 0
 HasBadGaps None = ⊥
 HasBadGaps (Some entries) = ReadsBits entries.0 × (gaps_asked_for entries.1 ≡ None)
 
--- the command uses a rule of loss, and the words give options of it that do not go together
-abbrev pub HasBadLoss : Option (Text × List Row) → Type 0
-HasBadLoss None = ⊥
-HasBadLoss (Some entries) = Synchronises entries.0 × (mixes_losses entries.1 ≡ true)
-
--- the entries give no rules, for that reason, or else nothing that uses rules has these entries
-abbrev pub GivesNoRules : List Row → Type 0 → NoJob → Type 0
-GivesNoRules rows none_fit no.Loss = mixes_losses rows ≡ true
-GivesNoRules rows none_fit no.Entries = (mixes_losses rows ≡ false) × none_fit
-GivesNoRules rows none_fit other = ⊥
-
 -- no rules, no settings, and no input with settings or with rules have these entries
 abbrev pub FitNoRules : List Row → Type 0
 FitNoRules rows = (rules : RuleNumbers) → AreRules rows rules → ⊥
@@ -245,33 +262,37 @@ FitNoInput rows = (input : Input) (settings : Settings) → IsInput rows input �
 abbrev pub FitNoStream : List Row → Type 0
 FitNoStream rows = (input : Input) (rules : RuleNumbers) → IsInput rows input → AreRules rows rules → ⊥
 
--- nor is there an input that goes with them; gaps that aren't any come first, and then the rule of loss
+-- nor is there an input that goes with them; gaps that aren't any come first
 abbrev pub GivesNoRuled : List Row → Type 0 → NoJob → Type 0
 GivesNoRuled rows none_fit no.Memory = ⊤
 GivesNoRuled rows none_fit no.Gaps = gaps_asked_for rows ≡ None
-GivesNoRuled rows none_fit no.Loss = (gaps_asked_for rows ≢ None) × (mixes_losses rows ≡ true)
-GivesNoRuled rows none_fit no.Entries = (gaps_asked_for rows ≢ None) × (mixes_losses rows ≡ false) × none_fit
+GivesNoRuled rows none_fit no.Entries = (gaps_asked_for rows ≢ None) × none_fit
 
 -- nothing that can be asked for has them
 abbrev pub GivesNothing : Option (Text × List Row) → NoJob → Type 0
 GivesNothing entries no.Memory = ⊤
 GivesNothing entries no.Gaps = HasBadGaps entries
-GivesNothing entries no.Loss = (HasBadGaps entries → ⊥) × HasBadLoss entries
-GivesNothing entries no.Entries = (HasBadGaps entries → ⊥) × (HasBadLoss entries → ⊥) × ((asked : Asked) → IsAskedOf entries asked → ⊥)
+GivesNothing entries no.Entries = (HasBadGaps entries → ⊥) × ((request : Request) → IsRequestOf entries request → ⊥)
 
 -- the kind is a fault of the words: nothing to be shown was asked for, and memory is not at fault
 abbrev pub IsFault : ErrorKind → Type 0
 IsFault k = (k ≢ kind.DisplayHelp) × (k ≢ kind.DisplayVersion) × (k ≢ kind.OutOfMemory)
 
--- the kind of answer that these faults and entries allow: help or the version if it was asked for; a refusal
--- of the words if they have a fault, or have none and yet nothing to be asked for has their entries; `Memory`
--- in any case
+-- the kind of answer that these faults allow: help or the version if it was asked for; a refusal of the words
+-- if they have a fault, or have none and yet nothing fits them; `Memory` in any case
+abbrev pub MayRefuse : Kinds → Type 0 → FaultKind → Type 0
+MayRefuse faults none_fits Help = IsAmong kind.DisplayHelp faults
+MayRefuse faults none_fits Version = IsAmong kind.DisplayVersion faults
+MayRefuse faults none_fits Words = ((k : ErrorKind) × IsFault k × IsAmong k faults) ⊎ ((faults ≡ []) × none_fits)
+MayRefuse faults none_fits Memory = ⊤
+
+-- the same if neither a job nor a stream has these entries
 abbrev pub MayAnswer : Kinds → Option (Text × List Row) → FaultKind → Type 0
-MayAnswer faults entries Help = IsAmong kind.DisplayHelp faults
-MayAnswer faults entries Version = IsAmong kind.DisplayVersion faults
-MayAnswer faults entries Words = ((k : ErrorKind) × IsFault k × IsAmong k faults)
-    ⊎ ((faults ≡ []) × ((asked : Asked) → IsAskedOf entries asked → ⊥))
-MayAnswer faults entries Memory = ⊤
+MayAnswer faults entries answer = MayRefuse faults ((request : Request) → IsRequestOf entries request → ⊥) answer
+
+-- and if no job has them
+abbrev pub MayAnswerNoJob : Kinds → Option (Text × List Row) → FaultKind → Type 0
+MayAnswerNoJob faults entries answer = MayRefuse faults ((job : Job) → IsJobOf entries job → ⊥) answer
 
 -- the text that is shown if the gaps can't be parsed
 abbrev pub bad_gaps_text : Text
@@ -280,11 +301,3 @@ bad_gaps_text = codes "bad --gaps" ++ 10 ∷ []
 -- that, or memory was refused
 abbrev pub SaysBadGaps : CliFault → Type 0
 SaysBadGaps fault = (fault.kind ≡ Memory) ⊎ ((fault.kind ≡ Words) × (string_bytes fault.text ≡ bad_gaps_text))
-
--- the text that is shown if options of a rule of loss do not go together
-abbrev pub bad_loss_text : Text
-bad_loss_text = codes "bad --loss or --of: --of needs --share, and --loss excludes it" ++ 10 ∷ []
-
--- that, or memory was refused
-abbrev pub SaysBadLoss : CliFault → Type 0
-SaysBadLoss fault = (fault.kind ≡ Memory) ⊎ ((fault.kind ≡ Words) × (string_bytes fault.text ≡ bad_loss_text))

@@ -1,27 +1,24 @@
 //! From a command line to the job or stream that it asks for.
-ghost use Rattle.std.specs.Prelude.{◌≡◌, ◌≢◌, ◌⊎◌, [], IfErr, IfOk, IsErrAnd, OnOk, map, string_bytes};
+ghost use Rattle.std.specs.Prelude.{◌≡◌, ◌≢◌, ◌⊎◌, [], Bool, IfErr, IfOk, IsErrAnd, OnOk, map, string_bytes};
 ghost use Rattle.clap.specs.Kinds.{FailsBy};
 ghost use Rattle.clap.specs.Values.{kind_of};
 ghost use Rattle.clap.specs.Words.{subcommand_rows_of};
-ghost use Rattle.rds_tool.specs.CommandLine.{HasBadGaps, HasBadLoss, IsAskedOf, IsFault, MayAnswer, SaysBadGaps, SaysBadLoss, entries_of, faults_of};
+ghost use Rattle.rds_tool.specs.CommandLine.{HasBadGaps, IsAskedOf, IsFault, IsFollow, IsJobOf, MayAnswer, MayAnswerNoJob, SaysBadGaps, entries_of, faults_of};
 
-use crate::Asked;
 use crate::commands::rds_command;
 use crate::entries::asked_in;
 use crate::fault::{CliFault, FaultKind, NoJob};
+use crate::{Asked, Job, Request};
 use clap::ArgMatches;
 use clap::error::ErrorKind;
 use std::alloc::Global;
 
-const BAD_LOSS: &str = "bad --loss or --of: --of needs --share, and --loss excludes it\n";
-
-/// Answers the request of a command line: a job, or to follow a stream. The words begin with the program's
-/// name.
+/// Answers the request of a command line: a job, or to follow a stream, and the option that is ignored, if there
+/// is one: `--loss` beside `--share`, or `--of` without it. The words begin with the program's name.
 ///
 /// Else the answer is help or the version if that was asked for, or a fault. A fault comes if `clap` finds
 /// one in the words, or neither a job nor a stream has their entries. If `clap` finds no fault but `--gaps`
-/// cannot be parsed, the text is `bad --gaps` and a line feed. Else, for `--loss` beside `--share`, or `--of`
-/// without it, the text begins with `bad --loss or --of`. If memory is refused, the fault says so instead.
+/// cannot be parsed, the text is `bad --gaps` and a line feed. If memory is refused, the fault says so instead.
 pub fn asked_of(alloc: Global, words: &[&str]) -> Result<Asked, CliFault>
     ensures entries { IfOk result (IsAskedOf (entries_of (map (λ word. word.now) words.now))) }
     ensures faultless { OnOk result (faults_of (map (λ word. word.now) words.now) ≡ []) }
@@ -29,9 +26,6 @@ pub fn asked_of(alloc: Global, words: &[&str]) -> Result<Asked, CliFault>
         (entries_of (map (λ word. word.now) words.now)) fault.kind) }
     ensures gaps { faults_of (map (λ word. word.now) words.now) ≡ []
         → HasBadGaps (entries_of (map (λ word. word.now) words.now)) → IsErrAnd result SaysBadGaps }
-    ensures loss { faults_of (map (λ word. word.now) words.now) ≡ []
-        → HasBadLoss (entries_of (map (λ word. word.now) words.now))
-        → (HasBadGaps (entries_of (map (λ word. word.now) words.now)) → ⊥) → IsErrAnd result SaysBadLoss }
     ensures memory { IfErr result (λ fault. fault.kind ≡ FaultKind.Memory → string_bytes fault.text ≡ []) }
 {
     let matches = match matches_of(alloc, words) {
@@ -41,6 +35,36 @@ pub fn asked_of(alloc: Global, words: &[&str]) -> Result<Asked, CliFault>
     match asked_in(alloc, &matches) {
         Ok(asked) => Ok(asked),
         Err(why) => Err(no_job(alloc, why)),
+    }
+}
+
+/// Answers the job of a command line, as [`asked_of`] does, with no word of progress or of an option that is
+/// ignored. A stream is no job: words that ask to follow one are a fault.
+pub fn job_of(alloc: Global, words: &[&str]) -> Result<Job, CliFault>
+    ensures entries { IfOk result (IsJobOf (entries_of (map (λ word. word.now) words.now))) }
+    ensures faultless { OnOk result (faults_of (map (λ word. word.now) words.now) ≡ []) }
+    ensures refused { IfErr result (λ fault. MayAnswerNoJob (faults_of (map (λ word. word.now) words.now))
+        (entries_of (map (λ word. word.now) words.now)) fault.kind) }
+    ensures gaps { faults_of (map (λ word. word.now) words.now) ≡ []
+        → HasBadGaps (entries_of (map (λ word. word.now) words.now)) → IsErrAnd result SaysBadGaps }
+    ensures memory { IfErr result (λ fault. fault.kind ≡ FaultKind.Memory → string_bytes fault.text ≡ []) }
+{
+    match asked_of(alloc, words) {
+        Ok(asked) => job_in(alloc, asked.request),
+        Err(fault) => Err(fault),
+    }
+}
+
+/// The job that is asked for.
+fn job_in(alloc: Global, request: Request) -> Result<Job, CliFault>
+    ensures job { IfOk result (λ job. (progress : Bool) × (request ≡ Request.Job job progress)) }
+    ensures stream { IfErr result (λ fault. IsFollow request
+        × ((fault.kind ≡ FaultKind.Memory) ⊎ (fault.kind ≡ FaultKind.Words))) }
+    ensures memory { IfErr result (λ fault. fault.kind ≡ FaultKind.Memory → string_bytes fault.text ≡ []) }
+{
+    match request {
+        Request::Job { job, progress: _ } => Ok(job),
+        Request::Follow(_, _) => Err(words_fault(alloc, "error: a stream is no job\n")),
     }
 }
 
@@ -76,15 +100,20 @@ fn fault_of(alloc: Global, error: &clap::Error) -> CliFault
 fn no_job(alloc: Global, why: NoJob) -> CliFault
     ensures kind { (result.kind ≡ FaultKind.Memory) ⊎ ((result.kind ≡ FaultKind.Words) × (why ≢ NoJob.Memory)) }
     ensures gaps { why ≡ NoJob.Gaps → SaysBadGaps result }
-    ensures loss { why ≡ NoJob.Loss → SaysBadLoss result }
     ensures memory { result.kind ≡ FaultKind.Memory → string_bytes result.text ≡ [] }
 {
-    let text = match why {
-        NoJob::Gaps => "bad --gaps\n",
-        NoJob::Loss => BAD_LOSS,
-        NoJob::Entries => "error: these words ask for nothing\n",
-        NoJob::Memory => return out_of_memory(alloc),
-    };
+    match why {
+        NoJob::Gaps => words_fault(alloc, "bad --gaps\n"),
+        NoJob::Entries => words_fault(alloc, "error: these words ask for nothing\n"),
+        NoJob::Memory => out_of_memory(alloc),
+    }
+}
+
+/// A fault of the words, with the text that is shown.
+fn words_fault(alloc: Global, text: &str) -> CliFault
+    ensures kind { (result.kind ≡ FaultKind.Memory) ⊎ ((result.kind ≡ FaultKind.Words) × (string_bytes result.text ≡ text.now)) }
+    ensures memory { result.kind ≡ FaultKind.Memory → string_bytes result.text ≡ [] }
+{
     match text.to_string(alloc) {
         Ok(text) => CliFault {
             kind: FaultKind::Words,

@@ -66,9 +66,9 @@ fn is_for_one(job: &Job) -> bool {
     }
 }
 
-/// [`transcribe`] with a gate, which the crew of a list or of totals calls round each piece and each join. A
-/// list by one worker, if no cut is asked for by its place, has no crew: its rows are written while it is
-/// decoded, in one piece.
+/// [`transcribe`] with a gate, which the crew of a list or of totals calls round each piece and each join, also
+/// if there is one worker. If the gate wants no calls and no cut is asked for by its place, a list by one worker
+/// has no crew: its rows are written while it is decoded, in one piece.
 pub fn transcribe_gated<R: Threads + Wait + Sync, S: Source, K: Sink, G: Gate + Sync>(
     rt: &R,
     alloc: Global,

@@ -4,11 +4,11 @@ ghost use Rattle.clap.specs.Words.{found_of, one_of, rows_of, subcommand_rows_of
 ghost use Rattle.rds_sync.specs.declared.loss.Loss.{Loss};
 ghost use Rattle.rds_tool.specs.declared.job.Cuts.{Cuts};
 ghost use Rattle.rds_tool.specs.declared.job.Input.{Input};
-ghost use Rattle.rds_tool.specs.CommandLine.{AreRules, AreSettings, FitNoInput, FitNoRules, FitNoSettings, FitNoStream, GivesNoRuled, GivesNoRules, GivesNothing, IsAsked, IsAskedOf, IsFlag, IsInput, MaySpell, Spells, SpellsLoss, SpellsPieces, gaps_asked_for, is_given as the_words_give, mixes_losses as the_mixing_of_losses};
+ghost use Rattle.rds_tool.specs.CommandLine.{AreRules, AreSettings, FitNoInput, FitNoRules, FitNoSettings, FitNoStream, GivesNoRuled, GivesNothing, IsAskedOf, IsFlag, IsInput, IsRequest, MaySpell, Spells, SpellsLoss, SpellsPieces, gaps_asked_for, ignored_by, is_given as the_words_give};
 
 use crate::fault::NoJob;
 use crate::gap_text::gaps_of;
-use crate::{Asked, Cuts, Input, Job, Settings};
+use crate::{Asked, Cuts, Ignored, Input, Job, Request, Settings};
 use clap::ArgMatches;
 use clap::parser::ValueSource;
 use rds_sync::{Loss, RuleNumbers};
@@ -20,11 +20,15 @@ pub fn asked_in(alloc: Global, matches: &ArgMatches<'_>) -> Result<Asked, NoJob>
     ensures none { IfErr result (GivesNothing (subcommand_rows_of matches.now)) }
 {
     let (name, entries) = matches.subcommand().ok_or(NoJob::Entries)?;
-    asked_by(alloc, name, entries)
+    let request = request_by(alloc, name, entries)?;
+    Ok(Asked {
+        request,
+        ignored: ignored_in(entries),
+    })
 }
 
-fn asked_by(alloc: Global, name: &str, entries: &ArgMatches<'_>) -> Result<Asked, NoJob>
-    ensures asked { IfOk result (IsAsked name.now (rows_of (found_of entries.now))) }
+fn request_by(alloc: Global, name: &str, entries: &ArgMatches<'_>) -> Result<Request, NoJob>
+    ensures request { IfOk result (IsRequest name.now (rows_of (found_of entries.now))) }
     ensures none { IfErr result (GivesNothing (Some (name.now, rows_of (found_of entries.now)))) }
 {
     let job = match name {
@@ -47,24 +51,24 @@ fn asked_by(alloc: Global, name: &str, entries: &ArgMatches<'_>) -> Result<Asked
         },
         "follow" => {
             let (input, rules) = stream_in(alloc, entries)?;
-            return Ok(Asked::Follow(input, rules));
+            return Ok(Request::Follow(input, rules));
         }
         _ => return Err(NoJob::Entries),
     };
-    Ok(Asked::Job {
+    Ok(Request::Job {
         job,
         progress: flag_in(entries, "progress"),
     })
 }
 
-/// The gaps are looked at first, and then the rule of loss: a fault of either is named.
+/// The gaps are looked at first: a fault of them is named.
 fn ruled_in(alloc: Global, entries: &ArgMatches<'_>) -> Result<(Input, Settings), NoJob>
     ensures ruled { IfOk result (λ ruled. IsInput (rows_of (found_of entries.now)) ruled.0
         × AreSettings (rows_of (found_of entries.now)) ruled.1) }
     ensures none { IfErr result (GivesNoRuled (rows_of (found_of entries.now)) (FitNoInput (rows_of (found_of entries.now)))) }
 {
     let gaps = gaps_in(alloc, entries)?;
-    let settings = settings_in(entries)?;
+    let settings = settings_in(entries).ok_or(NoJob::Entries)?;
     let input = input_in(entries, gaps).ok_or(NoJob::Entries)?;
     Ok((input, settings))
 }
@@ -76,7 +80,7 @@ fn stream_in(alloc: Global, entries: &ArgMatches<'_>) -> Result<(Input, RuleNumb
     ensures none { IfErr result (GivesNoRuled (rows_of (found_of entries.now)) (FitNoStream (rows_of (found_of entries.now)))) }
 {
     let gaps = gaps_in(alloc, entries)?;
-    let rules = rules_in(entries)?;
+    let rules = rules_in(entries).ok_or(NoJob::Entries)?;
     let input = input_in(entries, gaps).ok_or(NoJob::Entries)?;
     Ok((input, rules))
 }
@@ -104,35 +108,22 @@ fn gaps_in(alloc: Global, entries: &ArgMatches<'_>) -> Result<Vec<(u64, u64)>, N
     }
 }
 
-fn settings_in(entries: &ArgMatches<'_>) -> Result<Settings, NoJob>
-    ensures settings { IfOk result (AreSettings (rows_of (found_of entries.now))) }
-    ensures none { IfErr result (GivesNoRules (rows_of (found_of entries.now)) (FitNoSettings (rows_of (found_of entries.now)))) }
+fn settings_in(entries: &ArgMatches<'_>) -> Option<Settings>
+    ensures settings { IfSome result (AreSettings (rows_of (found_of entries.now))) }
+    ensures none { IfNone result (FitNoSettings (rows_of (found_of entries.now))) }
 {
     let rules = rules_in(entries)?;
-    let workers = number_in(entries, "workers").ok_or(NoJob::Entries)?;
-    let cuts = cuts_in(entries).ok_or(NoJob::Entries)?;
-    Ok(Settings {
+    Some(Settings {
         burst: rules.burst,
         reach: rules.reach,
         loss: rules.loss,
-        workers,
-        cuts,
+        workers: number_in(entries, "workers")?,
+        cuts: cuts_in(entries)?,
     })
 }
 
-fn rules_in(entries: &ArgMatches<'_>) -> Result<RuleNumbers, NoJob>
-    ensures rules { IfOk result (AreRules (rows_of (found_of entries.now))) }
-    ensures none { IfErr result (GivesNoRules (rows_of (found_of entries.now)) (FitNoRules (rows_of (found_of entries.now)))) }
-{
-    if mixes_losses(entries) {
-        return Err(NoJob::Loss);
-    }
-    numbers_in(entries).ok_or(NoJob::Entries)
-}
-
-fn numbers_in(entries: &ArgMatches<'_>) -> Option<RuleNumbers>
-    ensures rules { the_mixing_of_losses (rows_of (found_of entries.now)) ≡ false
-        → IfSome result (AreRules (rows_of (found_of entries.now))) }
+fn rules_in(entries: &ArgMatches<'_>) -> Option<RuleNumbers>
+    ensures rules { IfSome result (AreRules (rows_of (found_of entries.now))) }
     ensures none { IfNone result (FitNoRules (rows_of (found_of entries.now))) }
 {
     Some(RuleNumbers {
@@ -142,14 +133,14 @@ fn numbers_in(entries: &ArgMatches<'_>) -> Option<RuleNumbers>
     })
 }
 
-/// Whether the words give an option of the rule of loss that is not asked for.
-fn mixes_losses(entries: &ArgMatches<'_>) -> bool
-    ensures { result ≡ the_mixing_of_losses (rows_of (found_of entries.now)) }
+/// The option that the rule of loss leaves out, if the words give it.
+fn ignored_in(entries: &ArgMatches<'_>) -> Option<Ignored>
+    ensures { result ≡ ignored_by (rows_of (found_of entries.now)) }
 {
     if is_given(entries, "share") {
-        is_given(entries, "loss")
+        is_given(entries, "loss").then_some(Ignored::Loss)
     } else {
-        is_given(entries, "of")
+        is_given(entries, "of").then_some(Ignored::Of)
     }
 }
 

@@ -27,12 +27,10 @@ pub struct CliFault {
 }
 
 /// Why entries ask for nothing.
-#[derive(Clone, Copy, Debug, PartialEq, Eq)]
+#[derive(Clone, Copy)]
 pub enum NoJob {
     /// `--gaps` spells no gaps.
     Gaps,
-    /// `--loss` was given beside `--share`, or `--of` without it.
-    Loss,
     /// Another entry is none that a job or a stream has.
     Entries,
     /// A growth of memory was refused.

@@ -15,9 +15,9 @@ pub const RDS_AFTER: &str =
 bit of the first byte. A block is 26 bits and is named by the place of its last
 bit.
 
-Exit status: 0 where the text was written, or help or the version was asked for,
-2 where the words aren't a command line, 1 for a refusal. A refusal writes
-nothing, but for 10, and one line 'refused NUMBER NAME' goes to standard error:
+Exit status: 0 if the output is complete, or help or the version was requested,
+2 for a usage error, 1 for an error. After an error nothing was written, except
+after 10, and standard error has one line 'refused NUMBER NAME':
 
    1 BurstRange     --burst is above 5
    2 ReachRange     --reach is not 1 to 8
@@ -35,8 +35,7 @@ nothing, but for 10, and one line 'refused NUMBER NAME' goes to standard error:
   13 TooManyTurns   16777216 reads gave bytes and no end had come
   14 NoWorker       a thread wasn't started
   15 ShareRange     --share is 0 or above --of, or --of is above 64
-  16 BadGaps        --gaps are not in order, go past the recording, or one of
-                    them has no place";
+  16 BadGaps        a gap is empty, out of order, or past the end";
 
 pub const SCAN: &str = "List each place at which 26 bits have an offset word as remainder";
 
@@ -47,16 +46,15 @@ pub const SCAN_AFTER: &str =
 offset word and that touch no gap, by rising place. PLACE is that of the last of
 them, from 0; OFFSET is A, B, C, Cx (C') or D.
 
-'rds --help' lists the refusals.";
+'rds --help' lists the errors.";
 
 pub const LIST: &str = "List acquisitions, groups and losses of synchronism, then the totals";
 
 pub const LIST_USAGE: &str = "rds list [OPTIONS] < INPUT > OUTPUT";
 
 pub const LIST_AFTER: &str =
-    "Writes rows of eight fields, in the order of the bit that completes what they
-tell: an acquisition stands above its group, whose place is less. A field that
-says nothing is '-'.
+    "Writes rows of eight fields, in the order of the bit that completes them. So an
+acquisition precedes its group, whose place is less. An empty field is '-'.
 
   acquired,PLACE,NUMBER  synchronism was acquired by the block at PLACE, read as
                          block NUMBER, 1 to 4
@@ -65,18 +63,18 @@ says nothing is '-'.
   lost,PLACE             synchronism was lost at the block at PLACE
   total,NAME,VALUE       the twelve totals, as 'rds totals' writes them
 
-TYPE is 0 to 15, or '-' where block 2 isn't known. VERSION is A, B or ?; with
-'!' block 3 is valid and block 2 names the other version. A block is one of
+TYPE is 0 to 15, or '-' if block 2 isn't known. VERSION is A, B or ?; with '!'
+block 3 is valid and block 2 names the other version. A block is one of
 
-  none            it lies before the acquiring block, or wasn't reached
-  lost            it was read and is neither valid nor corrected; so is each
-                  block that touches a gap
+  none            not read: before the acquiring block, or past the end
+  lost            read, and neither valid nor corrected; so is each block that
+                  touches a gap
   B:2540          valid, with its offset and its information word
   C:0000~0008000  corrected, with the bits of the block that were inverted
 
 with hexadecimal digits after ':' and '~'.
 
-'rds --help' lists the refusals.";
+'rds --help' lists the errors.";
 
 pub const FOLLOW: &str = "List a stream as it comes, each row once it is complete";
 
@@ -88,7 +86,7 @@ the rows of 'rds list'. The end of the input, or of the bits that are asked for,
 closes the last group, and the totals follow: in all, what 'rds list' writes of
 the same bytes. Memory doesn't grow with the stream.
 
-'rds --help' lists the refusals.";
+'rds --help' lists the errors.";
 
 pub const TOTALS: &str = "Count valid, corrected and lost blocks, groups, losses of synchronism";
 
@@ -106,7 +104,7 @@ pub const TOTALS_AFTER: &str =
   acquired           how often synchronism was acquired
   losses             how often it was lost
 
-'rds --help' lists the refusals.";
+'rds --help' lists the errors.";
 
 pub const ENCODE: &str = "Encode groups that are given as lines of hexadecimal words";
 
@@ -118,7 +116,7 @@ blocks 1 to 4. Spaces, tabs and carriage returns don't count, and empty lines
 are skipped. Block 3 gets C or C' by the version bit, bit 11 of the second word.
 The blocks of a group are written as 13 bytes.
 
-'rds --help' lists the refusals.";
+'rds --help' lists the errors.";
 
 pub const HEX_INPUT: &str = "Read hexadecimal digits of either case; spaces, tabs and
 line ends don't count";
@@ -127,7 +125,7 @@ pub const HEX_OUTPUT: &str = "Write each group as a line of 26 lower-case hexade
 digits";
 
 pub const BITS: &str = "Length of the recording in bits, 0 to 68719476736
-[default: all of the input]";
+[default: all bits of the input]";
 
 pub const GAPS: &str = "Places whose bits mean nothing, as FROM-TO,FROM-TO and so
 on, in order; TO is the first place after a gap";
@@ -135,17 +133,17 @@ on, in order; TO is the first place after a gap";
 pub const BURST: &str = "Correct bursts of errors of up to N bits,
 0 to 5";
 
-pub const REACH: &str = "Acquire where a block that fits lies up to N blocks back,
+pub const REACH: &str = "Acquire by two valid blocks at most N blocks apart,
 1 to 8";
 
-pub const LOSS: &str = "Lose synchronism after N blocks in a row that aren't
-valid, 1 to 64";
+pub const LOSS: &str = "Lose synchronism after N bad blocks in a row, 1 to 64;
+ignored with --share";
 
-pub const SHARE: &str = "Lose synchronism where N of the last blocks aren't valid,
-1 to 64; not beside --loss";
+pub const SHARE: &str = "Lose synchronism when N of the last blocks are bad,
+1 to 64";
 
-pub const OF: &str = "Look at the last N blocks; with --share alone,
-at most 64";
+pub const OF: &str = "Look at the last N blocks for --share, 1 to 64;
+ignored without it";
 
 pub const PIECES: &str = "Cut the recording into up to N pieces, 1 or more; the
 output stays the same";

@@ -1,5 +1,7 @@
 //! Jobs, and the other requests of a command line.
+ghost use Rattle.std.specs.Prelude.{◌≡◌};
 ghost use Rattle.std.specs.Cmp.{partial_equiv_from_equiv};
+ghost use Rattle.rds_tool.specs.CommandLine.{warning_of};
 ghost use Rattle.rds_tool.specs.InputOf.{says_same, says_same_equiv};
 
 use rds_sync::{Loss, RuleNumbers};
@@ -87,12 +89,41 @@ pub enum Job {
     Encode { hex: bool },
 }
 
-/// The request of a command line.
+/// The request of a command line, and the option that it gives in vain.
 #[derive(Debug, PartialEq, Eq, Drop)]
-pub enum Asked {
+pub struct Asked {
+    pub request: Request,
+    /// The option that is ignored, of which the program warns.
+    pub ignored: Option<Ignored>,
+}
+
+/// A job, or a stream.
+#[derive(Debug, PartialEq, Eq, Drop)]
+pub enum Request {
     /// A job, and whether the program is to tell how far it is. The job's text doesn't depend on it.
     Job { job: Job, progress: bool },
     /// To follow a stream by these rules, each in the range that [`Settings`] has for it. The input is the
     /// bytes themselves, so `hex` is off.
     Follow(Input, RuleNumbers),
+}
+
+/// An option of the rule of loss that the rule asked for leaves out.
+#[derive(Clone, Copy, Debug, PartialEq, Eq)]
+pub enum Ignored {
+    /// `--loss` beside `--share`.
+    Loss,
+    /// `--of` without `--share`.
+    Of,
+}
+
+impl Ignored {
+    /// The warning of it.
+    pub fn warning(self) -> &'static str
+        ensures { result.now ≡ warning_of self }
+    {
+        match self {
+            Ignored::Loss => "--loss is ignored with --share",
+            Ignored::Of => "--of is ignored without --share",
+        }
+    }
 }

@@ -17,7 +17,8 @@
 //!
 //! # What there is
 //!
-//! - [`asked_of`]: the request of a command line, a [`Job`] or to follow a stream, or a [`CliFault`].
+//! - [`asked_of`]: the request of a command line, a [`Job`] or to follow a stream, with the option that is
+//!   ignored; or a [`CliFault`]. [`job_of`]: only the job.
 //! - [`Job`], made of [`Input`], [`Settings`], [`Cuts`] and [`Loss`]: the job that is asked for.
 //! - [`transcribe`]: reads all bytes of a [`Source`], works, by threads if there are pieces and workers for
 //!   them, and writes the whole text to a [`Sink`]. [`transcribe_gated`] is the same with a gate, by which a
@@ -87,12 +88,12 @@ mod error; // Why a transcription is refused.
 pub mod laws; // The laws of jobs and their texts.
 
 pub use alone::transcribe_alone;
-pub use cli::asked_of;
+pub use cli::{asked_of, job_of};
 pub use devices::{FromRead, Source, ToWrite};
 pub use engine::{transcribe, transcribe_gated};
 pub use error::ToolError;
 pub use fault::{CliFault, FaultKind};
 pub use following::follow;
-pub use job::{Asked, Cuts, Input, Job, Settings};
+pub use job::{Asked, Cuts, Ignored, Input, Job, Request, Settings};
 pub use rds_rows::{Failed, Sink, write_all};
 pub use rds_sync::{Loss, RuleNumbers};

@@ -59,7 +59,9 @@ impl<'a> Task<'a> {
     {
         match self {
             Task::Scan(input, workers) => windows_of(alloc, input, workers, held),
-            Task::List(input, plan) if plan.is_for_one() => one_pass_of(alloc, input, plan, held),
+            Task::List(input, plan) if plan.is_for_one() && !gate.wants_calls() => {
+                one_pass_of(alloc, input, plan, held)
+            }
             Task::List(input, plan) => report_of(rt, alloc, input, plan, held, gate),
             Task::Totals(input, plan) => rows_of_totals(rt, alloc, input, &plan, held, gate),
             Task::Encode { hex } => blocks_of(alloc, hex, held.as_slice()),

@@ -1,5 +1,5 @@
 -- Command lines as `clap` reads them.
-use Rattle.std.proofs.Common.{◌≡◌, ◌≢◌, ◌⊎◌, ap₂, sym, ℕ, Bool, List, [], ◌∷◌, OnOk, IfErr, IsErrAnd, Option, Result, Ok, Err, Some, None, codes, true, false, refl, ap, inl, inr, slice_index, arith}
+use Rattle.std.proofs.Common.{◌≡◌, ◌≢◌, ◌⊎◌, ap₂, sym, ℕ, Bool, List, [], ◌∷◌, OnOk, IfErr, IfOk, IsErrAnd, Option, Result, Ok, Err, Some, None, codes, true, false, refl, ap, inl, inr, slice_index, arith}
 use Rattle.std.proofs.lemmas.Bool.{leb-true}
 use Rattle.clap.specs.Faults.{defaults_fault, flags_fault, walk_fault}
 use Rattle.clap.specs.Takes.{flags_pass, walk_passes}
@@ -10,13 +10,21 @@ use Rattle.clap.specs.declared.error.kind.ErrorKind.TheVariants as kind
 use Rattle.rds_sync.specs.Rules.{RuleNumbers}
 use Rattle.rds_sync.specs.declared.loss.Loss.{Loss}
 use Rattle.rds_sync.specs.declared.loss.Loss.TheVariants.{Run, Share}
-use Rattle.rds_tool.specs.CommandLine.{AreRules, HasBadGaps, HasBadLoss, IsAskedOf, IsInput, MayAnswer, Spells, entries_of, faults_of}
+use Rattle.rds_tool.specs.CommandLine.{AreRules, HasBadGaps, IsAskedOf, IsInput, IsJobOf, IsRequestOf, MayAnswer, MayAnswerNoJob, Spells, entries_of, faults_of}
 use Rattle.rds_tool.specs.declared.fault.FaultKind.{FaultKind}
 use Rattle.rds_tool.specs.declared.fault.FaultKind.TheVariants.{Help, Memory, Version, Words}
 use Rattle.rds_tool.specs.declared.job.Input.{Input}
 use Rattle.rds_tool.specs.declared.job.Asked.{Asked}
-use Rattle.rds_tool.specs.declared.job.Asked.TheVariants as asked
+use Rattle.rds_tool.specs.declared.job.Ignored.TheVariants as ignored
+use Rattle.rds_tool.specs.declared.job.Job.{Job}
 use Rattle.rds_tool.specs.declared.job.Job.TheVariants as job
+use Rattle.rds_tool.specs.declared.job.Request.{Request}
+use Rattle.rds_tool.specs.declared.job.Request.TheVariants as request
+
+-- the request of what is asked
+pub request_of : (entries : Option (Text × List Row)) (given : Asked) → IsAskedOf entries given → IsRequestOf entries given.request
+request_of None given is = is
+request_of (Some entries) given is = is.request
 
 -- ---- a scan of digits
 
@@ -31,14 +39,21 @@ no_faults = refl
 other_name : (one other : Text) → one ≡ other → slice_index one 0 ≢ slice_index other 0 → ⊥
 other_name one other is differ = differ (ap (λ (t : Text). slice_index t 0) is)
 
-pub is_scan : (given : Asked) → IsAskedOf (entries_of scan_of_digits) given → (input : Input) × (given ≡ asked.Job (job.Scan input 4) false) × (input.hex ≡ true)
+pub is_scan : (given : Request) → IsRequestOf (entries_of scan_of_digits) given → (input : Input) × (given ≡ request.Job (job.Scan input 4) false) × (input.hex ≡ true)
 unfolding walked
-is_scan (asked.Job (job.Scan input workers) progress) is =
-    (input, ap₂ (λ n. asked.Job (job.Scan input n)) is.0.2.2 (is.1.2 refl), let input_is = is.0.1 in input_is.hex.1 refl)
-is_scan (asked.Job (job.List input settings) progress) is = absurd (other_name (codes "scan") (codes "list") is.0.0 (omega arith))
-is_scan (asked.Job (job.Totals input settings) progress) is = absurd (other_name (codes "scan") (codes "totals") is.0.0 (omega arith))
-is_scan (asked.Job (job.Encode hex) progress) is = absurd (other_name (codes "scan") (codes "encode") is.0.0 (omega arith))
-is_scan (asked.Follow input rules) is = absurd (other_name (codes "scan") (codes "follow") is.0 (omega arith))
+is_scan (request.Job (job.Scan input workers) progress) is =
+    (input, ap₂ (λ n. request.Job (job.Scan input n)) is.0.2.2 (is.1.2 refl), let input_is = is.0.1 in input_is.hex.1 refl)
+is_scan (request.Job (job.List input settings) progress) is = absurd (other_name (codes "scan") (codes "list") is.0.0 (omega arith))
+is_scan (request.Job (job.Totals input settings) progress) is = absurd (other_name (codes "scan") (codes "totals") is.0.0 (omega arith))
+is_scan (request.Job (job.Encode hex) progress) is = absurd (other_name (codes "scan") (codes "encode") is.0.0 (omega arith))
+is_scan (request.Follow input rules) is = absurd (other_name (codes "scan") (codes "follow") is.0 (omega arith))
+
+pub is_job_of_digits : (given : Job) → IsJobOf (entries_of scan_of_digits) given → (input : Input) × (given ≡ job.Scan input 4) × (input.hex ≡ true)
+unfolding walked
+is_job_of_digits (job.Scan input workers) is = (input, ap (job.Scan input) is.2.2, let input_is = is.1 in input_is.hex.1 refl)
+is_job_of_digits (job.List input settings) is = absurd (other_name (codes "scan") (codes "list") is.0 (omega arith))
+is_job_of_digits (job.Totals input settings) is = absurd (other_name (codes "scan") (codes "totals") is.0 (omega arith))
+is_job_of_digits (job.Encode hex) is = absurd (other_name (codes "scan") (codes "encode") is.0 (omega arith))
 
 abbrev first_digit : Option Text → ℕ
 first_digit None = 0
@@ -50,7 +65,7 @@ true_is_not_false same = omega (arith, ap first_digit same)
 four : Spells 32 (Some (codes "4")) 4
 four = ((leb-true 1 1 refl, (leb-true 5 10 refl, tt)), leb-true 5 4294967296 refl, refl)
 
-a_job : IsAskedOf (entries_of scan_of_digits) (asked.Job (job.Scan (record { hex = true; bits = None; gaps = [] }) 4) false)
+a_job : IsRequestOf (entries_of scan_of_digits) (request.Job (job.Scan (record { hex = true; bits = None; gaps = [] }) 4) false)
 unfolding walked
 a_job =
     let is_given : Some (codes "true") ≡ None → true ≡ false = λ none. cc in
@@ -71,18 +86,18 @@ only_memory Words (inr none) = absurd (none.1 _ a_job)
 abbrev pub scan_with_a_gap : List Text
 scan_with_a_gap = codes "rds" ∷ codes "scan" ∷ codes "--gaps" ∷ codes "104-105" ∷ []
 
-pub has_the_gap : (given : Asked) → IsAskedOf (entries_of scan_with_a_gap) given
-    → (input : Input) × (given ≡ asked.Job (job.Scan input 4) false) × (input.gaps ≡ (104, 105) ∷ [])
+pub has_the_gap : (given : Request) → IsRequestOf (entries_of scan_with_a_gap) given
+    → (input : Input) × (given ≡ request.Job (job.Scan input 4) false) × (input.gaps ≡ (104, 105) ∷ [])
 unfolding walked
-has_the_gap (asked.Job (job.Scan input workers) progress) is = (
+has_the_gap (request.Job (job.Scan input workers) progress) is = (
   input,
-  ap₂ (λ n. asked.Job (job.Scan input n)) is.0.2.2 (is.1.2 refl),
+  ap₂ (λ n. request.Job (job.Scan input n)) is.0.2.2 (is.1.2 refl),
   let input_is = is.0.1 in let some : Some ((104, 105) ∷ []) ≡ Some input.gaps = input_is.gaps in cc,
 )
-has_the_gap (asked.Job (job.List input settings) progress) is = absurd (other_name (codes "scan") (codes "list") is.0.0 (omega arith))
-has_the_gap (asked.Job (job.Totals input settings) progress) is = absurd (other_name (codes "scan") (codes "totals") is.0.0 (omega arith))
-has_the_gap (asked.Job (job.Encode hex) progress) is = absurd (other_name (codes "scan") (codes "encode") is.0.0 (omega arith))
-has_the_gap (asked.Follow input rules) is = absurd (other_name (codes "scan") (codes "follow") is.0 (omega arith))
+has_the_gap (request.Job (job.List input settings) progress) is = absurd (other_name (codes "scan") (codes "list") is.0.0 (omega arith))
+has_the_gap (request.Job (job.Totals input settings) progress) is = absurd (other_name (codes "scan") (codes "totals") is.0.0 (omega arith))
+has_the_gap (request.Job (job.Encode hex) progress) is = absurd (other_name (codes "scan") (codes "encode") is.0.0 (omega arith))
+has_the_gap (request.Follow input rules) is = absurd (other_name (codes "scan") (codes "follow") is.0 (omega arith))
 
 abbrev pub scan_with_bad_gaps : List Text
 scan_with_bad_gaps = codes "rds" ∷ codes "scan" ∷ codes "--gaps" ∷ codes "5" ∷ []
@@ -100,17 +115,9 @@ has_bad_gaps = (inl refl, refl)
 abbrev pub list_by_two_losses : List Text
 list_by_two_losses = codes "rds" ∷ codes "list" ∷ codes "--share" ∷ codes "2" ∷ codes "--loss" ∷ codes "10" ∷ []
 
-pub no_fault_of_losses : faults_of list_by_two_losses ≡ []
-unfolding walked bundle_met flags_pass walk_passes flags_fault walk_fault defaults_fault
-no_fault_of_losses = refl
-
-pub has_bad_loss : HasBadLoss (entries_of list_by_two_losses)
+pub ignores_the_loss : (given : Asked) → IsAskedOf (entries_of list_by_two_losses) given → given.ignored ≡ Some ignored.Loss
 unfolding walked
-has_bad_loss = (inr (inl refl), refl)
-
-pub has_good_gaps : HasBadGaps (entries_of list_by_two_losses) → ⊥
-unfolding walked
-has_good_gaps bad = let no : (let none : List (ℕ × ℕ) = [] in Some none) ≡ None = bad.1 in cc
+ignores_the_loss given is = is.ignored
 
 -- ---- a stream
 
@@ -148,13 +155,35 @@ the_input hex None gaps are =
     let same : [] ≡ gaps = cc in
     rw (flag.0 refl, sym same) refl
 
-pub has_the_share : (given : Asked) → IsAskedOf (entries_of follow_by_a_share) given → given ≡ asked.Follow all_of_it by_share
+pub has_the_share : (given : Request) → IsRequestOf (entries_of follow_by_a_share) given → given ≡ request.Follow all_of_it by_share
 unfolding walked
-has_the_share (asked.Follow input rules) is = ap₂ asked.Follow (the_input input.hex input.bits input.gaps is.1) (the_rules rules.burst rules.reach rules.loss is.2)
-has_the_share (asked.Job (job.Scan input workers) progress) is = absurd (other_name (codes "follow") (codes "scan") is.0.0 (omega arith))
-has_the_share (asked.Job (job.List input settings) progress) is = absurd (other_name (codes "follow") (codes "list") is.0.0 (omega arith))
-has_the_share (asked.Job (job.Totals input settings) progress) is = absurd (other_name (codes "follow") (codes "totals") is.0.0 (omega arith))
-has_the_share (asked.Job (job.Encode hex) progress) is = absurd (other_name (codes "follow") (codes "encode") is.0.0 (omega arith))
+has_the_share (request.Follow input rules) is = ap₂ request.Follow (the_input input.hex input.bits input.gaps is.1) (the_rules rules.burst rules.reach rules.loss is.2)
+has_the_share (request.Job (job.Scan input workers) progress) is = absurd (other_name (codes "follow") (codes "scan") is.0.0 (omega arith))
+has_the_share (request.Job (job.List input settings) progress) is = absurd (other_name (codes "follow") (codes "list") is.0.0 (omega arith))
+has_the_share (request.Job (job.Totals input settings) progress) is = absurd (other_name (codes "follow") (codes "totals") is.0.0 (omega arith))
+has_the_share (request.Job (job.Encode hex) progress) is = absurd (other_name (codes "follow") (codes "encode") is.0.0 (omega arith))
+
+no_fault_of_stream : faults_of follow_by_a_share ≡ []
+unfolding walked bundle_met flags_pass walk_passes flags_fault walk_fault defaults_fault
+no_fault_of_stream = refl
+
+pub no_job_of_stream : (given : Job) → IsJobOf (entries_of follow_by_a_share) given → ⊥
+unfolding walked
+no_job_of_stream (job.Scan input workers) is = other_name (codes "follow") (codes "scan") is.0 (omega arith)
+no_job_of_stream (job.List input settings) is = other_name (codes "follow") (codes "list") is.0 (omega arith)
+no_job_of_stream (job.Totals input settings) is = other_name (codes "follow") (codes "totals") is.0 (omega arith)
+no_job_of_stream (job.Encode hex) is = other_name (codes "follow") (codes "encode") is.0 (omega arith)
+
+pub words_or_memory : (answer : FaultKind) → MayAnswerNoJob (faults_of follow_by_a_share) (entries_of follow_by_a_share) answer → (answer ≡ Words) ⊎ (answer ≡ Memory)
+words_or_memory Words may = inl refl
+words_or_memory Memory may = inr refl
+words_or_memory Help may = absurd (rw no_fault_of_stream at may)
+words_or_memory Version may = absurd (rw no_fault_of_stream at may)
+
+-- what is never answered
+pub never : {T E : Type 0} (answer : Result T E) → IfOk answer (λ x. ⊥) → OnOk answer ⊥
+never (Ok x) h = absurd h
+never (Err e) h = tt
 
 -- a refusal that says so is one
 pub refused_so : {T E : Type 0} (answer : Result T E) (P : E → Type 0) → IsErrAnd answer P → OnOk answer ⊥ × IfErr answer P

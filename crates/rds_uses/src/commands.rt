@@ -1,10 +1,10 @@
 //! Facts that the program relies on when it reads its command line.
-ghost use Rattle.std.specs.Prelude.{◌≡◌, ◌⊎◌, ◌++◌, ◌∷◌, [], IfErr, IfOk, None, OnOk, codes, false, string_bytes, true};
+ghost use Rattle.std.specs.Prelude.{◌≡◌, ◌⊎◌, ◌++◌, ◌∷◌, [], IfErr, IfOk, None, OnOk, Some, codes, false, string_bytes, true};
 ghost use Rattle.rds_sync.specs.declared.loss.Loss.TheVariants.{Share};
 ghost use Rattle.rds_tool.specs.declared.job.Input.{Input as AnInput};
 ghost use Rattle.rds_tool.specs.declared.job.Job.TheVariants as AJob;
 
-use rds_tool::{Asked, CliFault, FaultKind, asked_of};
+use rds_tool::{Asked, CliFault, FaultKind, Ignored, Job, Request, asked_of, job_of};
 use std::alloc::Global;
 
 static SCAN_OF_DIGITS: [&str; 3] = ["rds", "scan", "--hex"];
@@ -24,15 +24,22 @@ static VERSION: [&str; 2] = ["rds", "--version"];
 /// `rds scan --hex` asks for a scan of digits by four workers, whose progress is not told: if memory is not
 /// refused it is that, and nothing else.
 pub fn scan_of_digits(alloc: Global) -> Result<Asked, CliFault>
-    ensures job { IfOk result (λ asked. (input : AnInput) × (asked ≡ Asked.Job (AJob.Scan input 4) false) × (input.hex ≡ true)) }
+    ensures job { IfOk result (λ asked. (input : AnInput) × (asked.request ≡ Request.Job (AJob.Scan input 4) false) × (input.hex ≡ true)) }
     ensures fault { IfErr result (λ fault. fault.kind ≡ FaultKind.Memory) }
 {
     asked_of(alloc, SCAN_OF_DIGITS.as_slice())
 }
 
+/// The same words give the same job.
+pub fn job_of_digits(alloc: Global) -> Result<Job, CliFault>
+    ensures { IfOk result (λ job. (input : AnInput) × (job ≡ AJob.Scan input 4) × (input.hex ≡ true)) }
+{
+    job_of(alloc, SCAN_OF_DIGITS.as_slice())
+}
+
 /// `rds scan --gaps 104-105` asks for a scan with this gap.
 pub fn scan_with_a_gap(alloc: Global) -> Result<Asked, CliFault>
-    ensures { IfOk result (λ asked. (input : AnInput) × (asked ≡ Asked.Job (AJob.Scan input 4) false) × (input.gaps ≡ (104, 105) ∷ [])) }
+    ensures { IfOk result (λ asked. (input : AnInput) × (asked.request ≡ Request.Job (AJob.Scan input 4) false) × (input.gaps ≡ (104, 105) ∷ [])) }
 {
     asked_of(alloc, SCAN_WITH_A_GAP.as_slice())
 }
@@ -46,22 +53,27 @@ pub fn scan_with_bad_gaps(alloc: Global) -> Result<Asked, CliFault>
     asked_of(alloc, SCAN_WITH_BAD_GAPS.as_slice())
 }
 
-/// `rds list --share 2 --loss 10` asks for nothing, though 10 is the default: it is told that one excludes the other, or memory was
-/// refused.
-pub fn list_by_two_losses(alloc: Global) -> Result<Asked, CliFault>
-    ensures no_job { OnOk result ⊥ }
-    ensures told { IfErr result (λ fault. (fault.kind ≡ FaultKind.Memory) ⊎ ((fault.kind ≡ FaultKind.Words)
-        × (string_bytes fault.text ≡ codes "bad --loss or --of: --of needs --share, and --loss excludes it" ++ 10 ∷ []))) }
+/// `rds list --share 2 --loss 10` warns of the loss, though 10 is the default.
+pub fn list_with_a_warning(alloc: Global) -> Result<Asked, CliFault>
+    ensures { IfOk result (λ asked. asked.ignored ≡ Some Ignored.Loss) }
 {
     asked_of(alloc, LIST_BY_TWO_LOSSES.as_slice())
 }
 
 /// `rds follow --of 3 --share 2` asks for a stream to be followed, to its end and without gaps, that loses a lock by this share.
 pub fn follow_by_a_share(alloc: Global) -> Result<Asked, CliFault>
-    ensures { IfOk result (λ asked. asked ≡ Asked.Follow (record { hex = false; bits = None; gaps = [] })
+    ensures { IfOk result (λ asked. asked.request ≡ Request.Follow (record { hex = false; bits = None; gaps = [] })
         (record { burst = 2; reach = 3; loss = Share 2 3 })) }
 {
     asked_of(alloc, FOLLOW_BY_A_SHARE.as_slice())
+}
+
+/// To follow a stream is no job, and no words were wrong but for that.
+pub fn stream_is_no_job(alloc: Global) -> Result<Job, CliFault>
+    ensures no_job { OnOk result ⊥ }
+    ensures fault { IfErr result (λ fault. (fault.kind ≡ FaultKind.Words) ⊎ (fault.kind ≡ FaultKind.Memory)) }
+{
+    job_of(alloc, FOLLOW_BY_A_SHARE.as_slice())
 }
 
 /// `rds list --help` asks for nothing else: help is shown, or memory was refused.

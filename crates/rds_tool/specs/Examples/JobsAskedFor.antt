@@ -12,12 +12,14 @@ use Rattle.clap.specs.declared.error.kind.ErrorKind.TheVariants as kind
 use Rattle.rds_sync.specs.Rules.{RuleNumbers}
 use Rattle.rds_sync.specs.declared.loss.Loss.{Loss}
 use Rattle.rds_sync.specs.declared.loss.Loss.TheVariants.{Run, Share}
-use Rattle.rds_tool.specs.CommandLine.{HasBadGaps, HasBadLoss, IsAskedOf, IsFlag, MayAnswer, Spells, SpellsLoss, entries_of, faults_of, mixes_losses}
+use Rattle.rds_tool.specs.CommandLine.{HasBadGaps, IsFlag, IsRequestOf, MayAnswer, Spells, SpellsLoss, entries_of, faults_of, ignored_by}
 use Rattle.rds_tool.specs.declared.fault.FaultKind.TheVariants.{Help, Memory, Version, Words}
-use Rattle.rds_tool.specs.declared.job.Asked.{Asked}
-use Rattle.rds_tool.specs.declared.job.Asked.TheVariants.{Job as AskedJob, Follow}
+use Rattle.rds_tool.specs.declared.job.Ignored.{Ignored}
+use Rattle.rds_tool.specs.declared.job.Ignored.TheVariants as ignored
 use Rattle.rds_tool.specs.declared.job.Job.{Job}
 use Rattle.rds_tool.specs.declared.job.Job.TheVariants.{Encode, List as ListJob, Scan, Totals}
+use Rattle.rds_tool.specs.declared.job.Request.{Request}
+use Rattle.rds_tool.specs.declared.job.Request.TheVariants.{Job as AskedJob, Follow}
 use Rattle.rds_tool.specs.Examples.CommandLines.{each_option}
 use Rattle.rds_tool.specs.Examples.Words.{hex_bits, raw_input, settings_of}
 
@@ -68,53 +70,42 @@ pub not_in_a_row : GiveLoss for_share (Run 10) → ⊥
 unfolding walked
 not_in_a_row (none, ten) = false≢true (sym (ap is_some none))
 
--- whether they mix two
-abbrev pub mixed_by : List Text → Option Bool
-mixed_by words = option_map (λ entries. mixes_losses entries.1) (entries_of words)
+-- the option that they give in vain
+abbrev pub ignored_of : List Text → Option (Option Ignored)
+ignored_of words = option_map (λ entries. ignored_by entries.1) (entries_of words)
+
+-- a default does not count, and the same number given does
+pub defaults_alone : ignored_of (codes "rds" ∷ codes "list" ∷ []) ≡ Some None
+unfolding walked
+defaults_alone = refl
+
+pub a_share_alone : ignored_of for_share ≡ Some None
+unfolding walked
+a_share_alone = refl
+
+pub a_share_of : ignored_of (codes "rds" ∷ codes "list" ∷ codes "--of" ∷ codes "3" ∷ codes "--share" ∷ codes "2" ∷ []) ≡ Some None
+unfolding walked
+a_share_of = refl
+
+pub a_loss_alone : ignored_of (codes "rds" ∷ codes "list" ∷ codes "--loss" ∷ codes "5" ∷ []) ≡ Some None
+unfolding walked
+a_loss_alone = refl
 
 abbrev pub for_loss_beside_share : List Text
 for_loss_beside_share = codes "rds" ∷ codes "list" ∷ codes "--share" ∷ codes "2" ∷ codes "--loss" ∷ codes "10" ∷ []
 
-abbrev pub for_of_without_share : List Text
-for_of_without_share = codes "rds" ∷ codes "totals" ∷ codes "--of=64" ∷ []
-
--- a default does not count, and the same number given does
-pub defaults_alone : mixed_by (codes "rds" ∷ codes "list" ∷ []) ≡ Some false
+pub a_loss_beside_a_share : ignored_of for_loss_beside_share ≡ Some (Some ignored.Loss)
 unfolding walked
-defaults_alone = refl
+a_loss_beside_a_share = refl
 
-pub a_share_alone : mixed_by for_share ≡ Some false
+pub an_of_without_a_share : ignored_of (codes "rds" ∷ codes "totals" ∷ codes "--of=64" ∷ []) ≡ Some (Some ignored.Of)
 unfolding walked
-a_share_alone = refl
+an_of_without_a_share = refl
 
-pub a_share_of : mixed_by (codes "rds" ∷ codes "list" ∷ codes "--of" ∷ codes "3" ∷ codes "--share" ∷ codes "2" ∷ []) ≡ Some false
+-- with both, only the last options of the rule asked for count
+pub by_the_share : GiveLoss for_loss_beside_share (Share 2 64)
 unfolding walked
-a_share_of = refl
-
-pub a_loss_alone : mixed_by (codes "rds" ∷ codes "list" ∷ codes "--loss" ∷ codes "5" ∷ []) ≡ Some false
-unfolding walked
-a_loss_alone = refl
-
-pub a_loss_beside_a_share : HasBadLoss (entries_of for_loss_beside_share)
-unfolding walked
-a_loss_beside_a_share = (inr (inl refl), refl)
-
-pub an_of_without_a_share : HasBadLoss (entries_of for_of_without_share)
-unfolding walked
-an_of_without_a_share = (inr (inr refl), refl)
-
--- such words ask for nothing, though they have no other fault
-pub no_fault_of_loss : faults_of for_loss_beside_share ≡ []
-unfolding walked bundle_met flags_pass walk_passes flags_fault walk_fault defaults_fault
-no_fault_of_loss = refl
-
-pub nothing_by_both : (asked : Asked) → IsAskedOf (entries_of for_loss_beside_share) asked → ⊥
-unfolding walked
-nothing_by_both (AskedJob (Scan input workers) progress) is = false≢true (sym (ap begins_with_l is.0.0))
-nothing_by_both (AskedJob (ListJob input settings) progress) is = let by = is.0.2 in false≢true (sym by.rules.one_rule)
-nothing_by_both (AskedJob (Totals input settings) progress) is = false≢true (sym (ap begins_with_l is.0.0))
-nothing_by_both (AskedJob (Encode hex) progress) is = false≢true (sym (ap begins_with_l is.0.0))
-nothing_by_both (Follow input rules) is = false≢true (sym (ap begins_with_l is.0))
+by_the_share = share
 
 -- ---- jobs
 
@@ -122,7 +113,7 @@ abbrev pub totals_job : Job
 totals_job = Totals (hex_bits 0) (settings_of 1 4 5 7 6)
 
 -- with its progress, which is told only if the words ask for it
-pub totals : IsAskedOf (entries_of each_option) (AskedJob totals_job true)
+pub totals : IsRequestOf (entries_of each_option) (AskedJob totals_job true)
 unfolding walked
 totals = (
   (
@@ -130,7 +121,6 @@ totals = (
     (record { hex = flag; bits = zero_bits; gaps = refl }),
     (record {
       rules = record {
-        one_rule = refl;
         burst = ((leb-true 1 1 refl, (leb-true 2 10 refl, tt)), leb-true 2 4294967296 refl, refl);
         reach = ((leb-true 1 1 refl, (leb-true 5 10 refl, tt)), leb-true 5 4294967296 refl, refl);
         loss = (refl, ((leb-true 1 1 refl, (leb-true 6 10 refl, tt)), leb-true 6 4294967296 refl, refl));
@@ -159,21 +149,21 @@ pub four : Spells 32 (Some (codes "4")) 4
 four = ((leb-true 1 1 refl, (leb-true 5 10 refl, tt)), leb-true 5 4294967296 refl, refl)
 
 -- by four workers, if the words say no number
-pub scan : IsAskedOf (entries_of (codes "rds" ∷ codes "scan" ∷ [])) (AskedJob (Scan raw_input 4) false)
+pub scan : IsRequestOf (entries_of (codes "rds" ∷ codes "scan" ∷ [])) (AskedJob (Scan raw_input 4) false)
 unfolding walked
 scan = ((refl, record { hex = no_flag; bits = refl; gaps = refl }, four), no_flag)
 
-pub scan_by_seven : IsAskedOf (entries_of (codes "rds" ∷ codes "scan" ∷ codes "--workers" ∷ codes "+7" ∷ [])) (AskedJob (Scan raw_input 7) false)
+pub scan_by_seven : IsRequestOf (entries_of (codes "rds" ∷ codes "scan" ∷ codes "--workers" ∷ codes "+7" ∷ [])) (AskedJob (Scan raw_input 7) false)
 unfolding walked
 scan_by_seven = ((refl, record { hex = no_flag; bits = refl; gaps = refl }, plus_seven), no_flag)
 
-pub scan_with_gaps : IsAskedOf (entries_of (codes "rds" ∷ codes "scan" ∷ codes "--gaps" ∷ codes "104-105,120-130" ∷ []))
+pub scan_with_gaps : IsRequestOf (entries_of (codes "rds" ∷ codes "scan" ∷ codes "--gaps" ∷ codes "104-105,120-130" ∷ []))
     (AskedJob (Scan (record raw_input { gaps = (104, 105) ∷ (120, 130) ∷ [] }) 4) false)
 unfolding walked
 scan_with_gaps = ((refl, record { hex = no_flag; bits = refl; gaps = refl }, four), no_flag)
 
 -- to encode is never told of: the command has no such option
-pub encode : IsAskedOf (entries_of (codes "rds" ∷ codes "encode" ∷ codes "--hex" ∷ [])) (AskedJob (Encode true) false)
+pub encode : IsRequestOf (entries_of (codes "rds" ∷ codes "encode" ∷ codes "--hex" ∷ [])) (AskedJob (Encode true) false)
 unfolding walked
 encode = ((refl, flag), not_told)
 
@@ -181,9 +171,9 @@ encode = ((refl, flag), not_told)
 abbrev pub default_rules : RuleNumbers
 default_rules = record { burst = 2; reach = 3; loss = Run 10 }
 
-pub follow : IsAskedOf (entries_of (codes "rds" ∷ codes "follow" ∷ [])) (Follow raw_input default_rules)
+pub follow : IsRequestOf (entries_of (codes "rds" ∷ codes "follow" ∷ [])) (Follow raw_input default_rules)
 unfolding walked
-follow = (refl, record { hex = not_told; bits = refl; gaps = refl }, record { one_rule = refl; burst = two; reach = three; loss = (refl, ten) })
+follow = (refl, record { hex = not_told; bits = refl; gaps = refl }, record { burst = two; reach = three; loss = (refl, ten) })
 
 -- ---- gaps that are none
 
@@ -209,7 +199,7 @@ pub no_fault_of_gaps : faults_of for_bad_gaps ≡ []
 unfolding walked bundle_met flags_pass walk_passes flags_fault walk_fault defaults_fault
 no_fault_of_gaps = refl
 
-pub nothing_by_bad_gaps : (asked : Asked) → IsAskedOf (entries_of for_bad_gaps) asked → ⊥
+pub nothing_by_bad_gaps : (request : Request) → IsRequestOf (entries_of for_bad_gaps) request → ⊥
 unfolding walked
 nothing_by_bad_gaps (AskedJob (Scan input workers) progress) is = let input_is = is.0.1 in false≢true (ap is_some input_is.gaps)
 nothing_by_bad_gaps (AskedJob (ListJob input settings) progress) is = let input_is = is.0.1 in false≢true (ap is_some input_is.gaps)
@@ -295,7 +285,7 @@ no_help (inr other) = other
 
 -- words without a fault, of which nothing to be asked for has the entries
 pub no_job : MayAnswer [] None Words
-no_job = inr (refl, λ asked is. is)
+no_job = inr (refl, λ request is. is)
 
 -- if there is a job, neither help nor a refusal of the words may be answered
 pub not_help : MayAnswer (faults_of each_option) (entries_of each_option) Help → ⊥

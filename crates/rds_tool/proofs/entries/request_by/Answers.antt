@@ -3,7 +3,7 @@ use Rattle.clap.specs.Words.{found_of, rows_of}
 use Rattle.rds_tool.specs.CommandLine.{GivesNothing}
 use Rattle.rds_tool.proofs.Getters.{without_ruled, without_stream}
 use Rattle.rds_tool.proofs.Passing.{passes}
-use Rattle.rds_tool.proofs.entries.asked_by.Goals as goal
+use Rattle.rds_tool.proofs.entries.request_by.Goals as goal
 
 pub returns-in_err-input-in-list-clause-none : goal.returns-in_err-input-in-list-clause-none
 returns-in_err-input-in-list-clause-none c =
