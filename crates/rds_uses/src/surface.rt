@@ -21,7 +21,8 @@ use rds_sync::{
     decode_plain, finish, run,
 };
 use rds_tool::{
-    Failed, FromRead, Job, Sink, Source, ToWrite, ToolError, transcribe, transcribe_gated,
+    CliFault, Failed, FaultKind, FromRead, Job, Sink, Source, ToWrite, ToolError, job_of,
+    transcribe, transcribe_gated,
 };
 use std::alloc::Global;
 use std::io::{Read, Write};
@@ -398,6 +399,14 @@ pub fn flush<K: Sink>(writer: &mut K) -> Result<(), Failed>
 
 pub fn devices<R: Read, W: Write>(reader: R, writer: W) -> (FromRead<R>, ToWrite<W>) {
     (FromRead::new(reader), ToWrite::new(writer))
+}
+
+pub fn job(alloc: Global, words: &[&str]) -> Result<Job, CliFault> {
+    job_of(alloc, words)
+}
+
+pub fn fault(fault: CliFault) -> (FaultKind, String) {
+    (fault.kind, fault.text)
 }
 
 pub fn transcripts<R: Threads + Wait + Sync, S: Source, K: Sink>(
