@@ -3,6 +3,8 @@
 ghost use Rattle.std.specs.Prelude.{◌≡◌, ◌+◌, ◌<◌, ◌≤◌, ◌^◌, All, None, Some, length};
 ghost use Rattle.rds_stream.specs.Recording.{length_of};
 ghost use Rattle.rds_sync.specs.Lawful.{IsLawful};
+ghost use Rattle.rds_sync.specs.Loss.{IsLawfulBad};
+ghost use Rattle.rds_sync.specs.Ranges.{IsLossInRange};
 ghost use Rattle.rds_pieces.specs.Cutting.{IsCutting, pieces_of};
 ghost use Rattle.rds_pieces.specs.Joining.{AreNeighbours};
 ghost use Rattle.rds_pieces.specs.RunOf.{FollowEachOther};
@@ -17,14 +19,14 @@ use rds_pieces::{
 };
 use rds_stream::{Counted, Recording, StreamError, Tape, planes, scan};
 use rds_sync::{
-    Block, Group, Item, Loss, Report, Rules, State, Step, SyncError, Totals, Version, advance,
-    decode_plain, finish, run,
+    Bad, Block, Group, Item, Items, Lock, Loss, Report, Rules, State, Step, SyncError, Totals,
+    Version, advance, decode_plain, finish, run,
 };
 use rds_tool::{
     CliFault, Failed, FaultKind, FromRead, Job, Sink, Source, ToWrite, ToolError, job_of,
     transcribe, transcribe_gated,
 };
-use std::alloc::Global;
+use std::alloc::{AllocError, Global};
 use std::io::{Read, Write};
 use std::snapshot::Snapshot;
 use std::sync::Wait;
@@ -198,6 +200,31 @@ pub fn counts(totals: Totals) -> ([u64; 7], [u64; 5]) {
         [valid, lost, bits, groups, complete, acquired, losses],
         bursts,
     )
+}
+
+pub fn totals(items: &[Item]) -> Totals
+    requires { length items.now ≤ 2 ^ 40 }
+{
+    Totals::of(items)
+}
+
+pub fn items(
+    alloc: Global,
+    items: &Items,
+    recording: &Recording,
+    rules: &Rules,
+) -> Result<Vec<Item>, AllocError>
+    requires source { items.now.source ≡ recording.now }
+    requires rules { items.now.rules ≡ rules.now }
+{
+    items.to_vec(alloc, recording, rules)
+}
+
+pub fn bad(lock: Lock, loss: Loss) -> Bad
+    requires range { IsLossInRange loss }
+    requires lawful { IsLawfulBad loss lock.bad }
+{
+    lock.bad_by(loss)
 }
 
 pub fn report(alloc: Global, recording: &Recording, rules: &Rules) -> Result<Report, SyncError> {
