@@ -52,7 +52,7 @@ def test_a_group_is_four_words_of_16_bits() -> None:
 
 def test_the_words_of_a_group() -> None:
     """Sync is acquired on a block 2, so the first group lacks its block 1."""
-    groups = [it.words for it in librds.decode(librds.encode([GROUP] * 3)) if isinstance(it, librds.Group)]
+    groups = [it.words for it in librds.items(librds.encode([GROUP] * 3)) if isinstance(it, librds.Group)]
     assert groups == [(None, *GROUP[1:]), GROUP, GROUP]
 
 
