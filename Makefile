@@ -87,6 +87,7 @@ wrong-bodies:
 # Those of the flags that make hands on say how many lanes there are: the scripts have lanes of their own.
 built: proofs
 	+$(MAKE) --no-print-directory archives
+	tests/front_pages.py
 	MAKEFLAGS= make --no-print-directory -j $$(nproc) -O $(SCRIPTS)
 
 # The scripts over what is built; those that take longest come first.

@@ -262,11 +262,9 @@ def machines(tmp_path: Path) -> Iterator[List[str]]:
     sshd = shutil.which("sshd") or "/usr/sbin/sshd"
     if not os.path.exists(sshd) or not shutil.which("ssh"):
         pytest.skip("openssh is not installed")
-    # sshd wants this empty folder, which Debian makes when the service starts.
-    separation = Path("/run/sshd")
-    made = os.geteuid() == 0 and not separation.exists()
-    if made:
-        separation.mkdir()
+    # sshd wants this empty folder, which Debian makes when the service starts. It stays, since another test may need it.
+    if os.geteuid() == 0:
+        Path("/run/sshd").mkdir(exist_ok=True)
     folder = tmp_path / "ssh"
     folder.mkdir(mode=0o700)
     for key in ("host", "user"):
@@ -296,8 +294,6 @@ def machines(tmp_path: Path) -> Iterator[List[str]]:
         for server in servers:
             server.terminate()
             server.wait()
-        if made:
-            separation.rmdir()
 
 
 @pytest.mark.parametrize("shared", [True, False])

@@ -21,7 +21,7 @@
 //! ```text
 //! // A dealer of one number, and a seat for each thread.
 //! let (dealer, mut seats) = Dealer::new(alloc, 1, 1)?;
-//! let seat = seats.pop().expect(&rt, "one seat");
+//! let Some(seat) = seats.pop() else { unreachable!() };
 //! let (number, seat) = dealer.draw(seat); // Some(0): the seat holds it
 //! let seat = dealer.finish(seat, 0);
 //! let (none, seat) = dealer.draw(seat); // None: it has ended

@@ -9,17 +9,29 @@
 //! # Example
 //!
 //! ```text
-//! impl Rows for Squares {
-//!     ghost rows = { λ squares. squares_text squares.count };
-//!     ..
+//! // A thousand empty lines.
+//! struct Lines;
+//!
+//! impl Rows for Lines {
+//!     ghost rows = { λ _. replicate 1000 (10 ∷ []) };
+//!     ghost longest = { λ _. 1 };
+//!
+//!     fn len(&self) -> usize {
+//!         1000
+//!     }
+//!
+//!     fn longest_row(&self) -> usize {
+//!         1
+//!     }
+//!
 //!     fn fill(&self, from: usize, to: usize, sheet: &mut Sheet) {
-//!         for i in from..to {
-//!             sheet.push(row_of(i).as_slice());
+//!         for _ in from..to {
+//!             sheet.push(b"\n");
 //!         }
 //!     }
 //! }
 //!
-//! write_rows(&rt, alloc, &Squares { count: 1000 }, 4, &mut writer)?;
+//! write_rows(&rt, alloc, &Lines, 4, &mut writer)?;
 //! ```
 //!
 //! # What there is

@@ -15,12 +15,13 @@ use rds_code::{
 };
 use rds_crew::{Closed, CrewError, Dealer, Gate, OpenGate, Seat, decode_crew};
 use rds_pieces::{
-    Cutting, PieceError, PieceRun, RecordingWork, Seam, Work, join_runs, seam, speculate, stitch,
+    Cutting, Marks, PieceError, PieceRun, RecordingWork, Seam, Work, join_runs, seam, speculate,
+    stitch,
 };
 use rds_stream::{Counted, Recording, StreamError, Tape, planes, scan};
 use rds_sync::{
-    Bad, Block, Group, Item, Items, Lock, Loss, Report, Rules, State, Step, SyncError, Totals,
-    Version, advance, decode_plain, finish, run,
+    Bad, Block, Group, Item, ItemIter, Items, Lock, Loss, Report, Rules, State, Step, SyncError,
+    Totals, Version, advance, decode_plain, finish, run,
 };
 use rds_tool::{
     CliFault, Failed, FaultKind, FromRead, Job, Sink, Source, ToWrite, ToolError, job_of,
@@ -264,6 +265,17 @@ pub fn guesses(
 
 pub fn ranges(run: &PieceRun) -> (u64, u64, State) {
     (run.from(), run.to(), run.end_state())
+}
+
+pub fn contents<'a>(
+    run: &'a PieceRun,
+    recording: &'a Recording,
+    rules: &'a Rules,
+) -> (ItemIter<'a>, Marks<'a>)
+    requires source { run.now.source ≡ recording.now }
+    requires rules { run.now.rules ≡ rules.now }
+{
+    (run.items(recording, rules), run.marks(recording, rules))
 }
 
 pub fn seams<T: Tape>(
