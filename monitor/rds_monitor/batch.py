@@ -205,7 +205,9 @@ class Batch:
     def name(self, recording: Recording, fault: str) -> None:
         self.bad += 1
         clear = "\r\x1b[K" if self._shows else ""
-        print(f"{clear}rds-monitor batch: {told(recording.path)}: {told(fault)}", file=sys.stderr, flush=True)
+        # In one write, since GNU parallel writes to the same stream.
+        sys.stderr.write(f"{clear}rds-monitor batch: {told(recording.path)}: {told(fault)}\n")
+        sys.stderr.flush()
 
     def finish(self) -> None:
         if self._shows:
