@@ -36,7 +36,7 @@ static LAWS: [Law; 2] = [
 /// The numbers of a lock: those of the next block, and of the first block of its group.
 static NUMBERS: [(u8, u8); 7] = [(1, 1), (2, 1), (3, 1), (3, 2), (4, 1), (4, 2), (4, 3)];
 
-/// 1 if the run from a lawful state meets a guess within so many bits, or 0.
+/// 1 if the run from a lawful state meets a guess at most `within` bits past its start, or 0.
 fn met(alloc: Global, sample: &Sample, guess: &PieceRun, within: u64, state: State) -> u64
     requires source { guess.now.source ≡ sample.now.recording }
     requires rules { guess.now.rules ≡ sample.now.rules }

@@ -44,7 +44,7 @@ fn stitched_at(alloc: Global, sample: &Sample) -> Result<(usize, u64), PieceErro
     stitched(alloc, sample, &cutting)
 }
 
-/// Whether the report of the eight groups, whose first is acquired, is stitched by so many windows at most.
+/// Whether the report of the eight groups, whose first is acquired, is stitched by at most `most` windows.
 fn is_stitched_within(alloc: Global, reach: u32, most: u64) -> bool {
     match stitched_of_groups(alloc, reach) {
         Ok((items, reads)) => items == 9 && reads <= most,
