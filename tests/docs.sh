@@ -14,8 +14,8 @@ rds=$(realpath "$1")
 needs cat cmp cp find grep python3 sed sort
 cd "$here/.." || exit 1
 
-# pages [FOLDER]: compares the pages, of the folder or of this one; python may need more tools
-pages() { PATH=$all_tools python3 "$here/pages.py" "$rds" "$@" > "$work/said"; }
+# pages: compares the pages as they are; python may need more tools
+pages() { PATH=$all_tools python3 "$here/pages.py" "$rds" > "$work/said"; }
 
 # ---- the pages as they are
 
@@ -46,12 +46,28 @@ cp -r README.md CHANGELOG.md Makefile crates.txt rds.1 completions docs examples
 # these are looked at, and never changed
 PATH=$all_tools ln -s "$(realpath crates)" "$(realpath bindings)" "$copy" || exit 1
 
+# One process compares the copy each time.
+coproc copies { PATH=$all_tools exec python3 "$here/pages.py" "$rds" --copies; }
+exec {to_copies}>&"${copies[1]}" {of_copies}<&"${copies[0]}" {copies[1]}>&- {copies[0]}<&-
+comparing=$!
+
+# pages_of_copy: compares the pages of the copy; 0 if nothing differs, and 1 if something does
+pages_of_copy() {
+    local status
+    printf '%s\t%s\n' "$copy" "$work/said" >&"$to_copies"
+    read -r -t "$LIMIT" status <&"$of_copies" || broken "$here/pages.py" 'no answer'
+    return "$status"
+}
+
+# Nothing differs in the copy as it is.
+if pages_of_copy; then pass; else fail 'the pages of the copy differ'; fi
+
 # planted FILE EDIT TEXT: once sed made the edit in the file of the copy, TEXT is found there
 planted() {
     sed -e "$2" "$1" > "$copy/$1" || exit 1
     if cmp -s "$1" "$copy/$1"; then
         fail "$1: the edit $2 changes nothing"
-    elif pages "$copy"; then
+    elif pages_of_copy; then
         fail "$1: the edit $2 is not found"
     elif grep -qF -e "$3" "$work/said"; then
         pass
@@ -65,7 +81,7 @@ planted() {
 # unlinked PAGE: a page that is new in the copy, and that nothing links, is found
 unlinked() {
     echo '# A page' > "$copy/$1" || exit 1
-    if pages "$copy"; then
+    if pages_of_copy; then
         fail "$1: a page that nothing links is not found"
     elif grep -qF -e "$1: no link leads here" "$work/said"; then
         pass
@@ -157,5 +173,7 @@ else
 fi
 planted docs/RECIPES.md 's/rds list --gaps/rds list --gap/' 'docs/RECIPES.md: rds list has no option --gap'
 planted docs/RECIPES.md 's/rds list </rds lists </' 'docs/RECIPES.md: rds has no command lists'
+exec {to_copies}>&-
+wait "$comparing" || fail 'the comparison of copies ends otherwise than it should'
 
 finish

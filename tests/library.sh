@@ -12,7 +12,8 @@ usage='usage: tests/library.sh FOLDER PATH-TO-RDS [FOLDER-FOR-ARM64]'
 check_programs "${2:-}"
 [ -f "$1/librds.so.0" ] || misused
 library=$(realpath "$1")
-limit_time "$(realpath "$2")"
+built=$(realpath "$2")
+limit_time "$built"
 program=$limited
 for_arm64=$(realpath -m "${3:-none}")
 cd "$here/.." || exit 1
@@ -77,17 +78,6 @@ if has abidiff; then
   tried 'the names, calls and structs of so.0' abidiff --no-added-syms "$earlier/librds.so.0" "$library/librds.so.0"
 fi
 
-tried 'every number of the header' tests/library/header.py "$library" "$program"
-mkdir "$work/border"
-tried 'every pointer of every function' tests/library/border.py "$library" "$work/border"
-
-# A wrong declaration is found: a result of another type, fields that changed places, a constant pointer.
-for wrong in 's/^uint8_t rds_items/uint32_t rds_items/' 's/uint64_t lost; /uint64_t lots; /' \
-  's/const rds_state_t \*state/rds_state_t *state/'; do
-  sed "$wrong" lib/rds.h >"$work/rds.h"
-  if cmp -s lib/rds.h "$work/rds.h" || tests/library/layout.py "$work/rds.h" "$work" >/dev/null; then fail "not found: $wrong"; else pass; fi
-done
-
 # ---- what is decoded
 
 make_program() {
@@ -106,16 +96,16 @@ same 'the calls of the table by a program of 0.2' "$(cat "$table")" "$(in_c "$wo
 if [ "$(cat "$table")" = "$(in_c env "LD_LIBRARY_PATH=$earlier" "$work/cases-0.2")" ]; then fail 'a program of 0.2 runs without the library'; else pass; fi
 rows=("$work/rows-0.2")
 if has cargo; then
-  export RDS_LIB_DIR=$library CARGO_TARGET_DIR=$work/cargo
+  export RDS_LIB_DIR=$library CARGO_TARGET_DIR=$work/cargo CARGO_INCREMENTAL=0 CARGO_PROFILE_DEV_DEBUG=0
   tried 'the crate for Rust, and its tests' cargo test --quiet --offline --manifest-path bindings/rust/Cargo.toml
   tried 'its documentation, without the library' env -u RDS_LIB_DIR PKG_CONFIG_LIBDIR=/ \
     cargo doc --quiet --offline --no-deps --manifest-path bindings/rust/Cargo.toml
   tried 'a relative RDS_LIB_DIR' sh -c 'cd "$1/.." && RDS_LIB_DIR=${1##*/} cargo build --quiet --offline --examples --manifest-path "$2"' \
     sh "$library" "$PWD/bindings/rust/Cargo.toml"
-  tried 'programs in Rust' cargo build --quiet --offline --release --examples --manifest-path bindings/rust/Cargo.toml
+  tried 'programs in Rust' cargo build --quiet --offline --examples --manifest-path bindings/rust/Cargo.toml
   same 'the calls of the table by Rust' "$(grep -v '^name ' "$table")" \
-    "$(grep -v '^name ' "$table" | timeout 60 "$work/cargo/release/examples/cases")"
-  rows+=("$work/cargo/release/examples/rows")
+    "$(grep -v '^name ' "$table" | timeout 60 "$work/cargo/debug/examples/cases")"
+  rows+=("$work/cargo/debug/examples/rows")
 fi
 if has python3; then
   export RDS_LIBRARY=$library/librds.so.0
@@ -125,7 +115,8 @@ if has python3; then
   else
     echo 'skipped: the tests that need numpy'
   fi
-  TMPDIR=$work tried "$count random recordings" python3 -B tests/library/compare.py "$count" "$program" "${rows[@]}"
+  # it has a limit of its own for each call
+  TMPDIR=$work tried "$count random recordings" python3 -B tests/library/compare.py "$count" "$built" "${rows[@]}"
 fi
 # ---- what is shown to users
 
@@ -166,8 +157,13 @@ if has python3 objdump; then
   if python3 -c 'import ensurepip, venv' 2>/dev/null; then
     mkdir "$work/wheel"
     tried 'a wheel' bindings/python/make_wheel.py "$library/librds.so.0" "$work/wheel"
-    tried 'a fresh environment' python3 -m venv "$work/venv"
-    tried 'installing the wheel' "$work/venv/bin/pip" install --quiet --no-index --no-deps "$work/wheel"/*.whl
+    tried 'a fresh environment' python3 -m venv --without-pip "$work/venv"
+    # pip of 22.3 or later installs into another environment; else it has to be in there
+    install=(install --quiet --no-index --no-deps "$work/wheel"/*.whl)
+    if ! python3 -m pip --python "$work/venv/bin/python" "${install[@]}" >"$work/said" 2>&1; then
+      tried 'pip in it' "$work/venv/bin/python" -m ensurepip
+      tried 'installing the wheel' "$work/venv/bin/python" -m pip "${install[@]}"
+    fi
     same 'the program in Python, over the wheel' "$wanted" "$(said env -u RDS_LIBRARY "$work/venv/bin/python" -I -B "$work/readme.py")"
   else
     echo 'skipped: the wheel, which needs python3-venv'
@@ -180,6 +176,19 @@ if has cargo; then
     >"$work/readme_rs/Cargo.toml"
   same 'the program in Rust' "$wanted" "$(said cargo run --quiet --offline --manifest-path "$work/readme_rs/Cargo.toml")"
 fi
+
+# ---- what is declared, number by number and pointer by pointer
+
+tried 'every number of the header' tests/library/header.py "$library" "$program"
+mkdir "$work/border"
+tried 'every pointer of every function' tests/library/border.py "$library" "$work/border"
+
+# A wrong declaration is found: a result of another type, fields that changed places, a constant pointer.
+for wrong in 's/^uint8_t rds_items/uint32_t rds_items/' 's/uint64_t lost; /uint64_t lots; /' \
+  's/const rds_state_t \*state/rds_state_t *state/'; do
+  sed "$wrong" lib/rds.h >"$work/rds.h"
+  if cmp -s lib/rds.h "$work/rds.h" || tests/library/layout.py "$work/rds.h" "$work" >/dev/null; then fail "not found: $wrong"; else pass; fi
+done
 
 # ---- what may go wrong
 

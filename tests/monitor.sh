@@ -1,8 +1,8 @@
 #!/usr/bin/env bash
 # rds-monitor and the Python module: tests/monitor.sh PATH-TO-RDS LIBRARY-FOLDER
 #
-# The types are checked by mypy and the names by pyflakes, then pytest runs monitor/tests over the program and the library. The installed
-# command runs, too. What a tool is missing for is skipped, by name. The last line is 'N passed, M failed', and the exit status says whether all passed.
+# pytest runs monitor/tests over the program and the library, and the installed command runs. Then mypy checks the types, and pyflakes
+# the names. What a tool is missing for is skipped, by name. The last line is 'N passed, M failed', and the exit status says whether all passed.
 
 usage='usage: tests/monitor.sh PATH-TO-RDS LIBRARY-FOLDER'
 # shellcheck source-path=SCRIPTDIR source=common.sh
@@ -31,8 +31,6 @@ has() {
   done
 }
 
-if has mypy; then tried 'types' "$python" -m mypy --strict --cache-dir "$work/mypy" monitor/rds_monitor bindings/python/librds; fi
-if has pyflakes; then tried 'names' "$python" -m pyflakes monitor bindings/python; fi
 if has numpy pytest hypothesis; then
   workers=()
   if has xdist; then workers=(-n "$(nproc)" --dist loadgroup); fi
@@ -43,6 +41,8 @@ if has numpy pytest hypothesis; then
   tried 'installing' make -s install-monitor "DESTDIR=$work/root" PREFIX=/usr ZSH_COMPLETIONS=/usr/share/zsh/vendor-completions
   tried 'the installed command' "$work/root/usr/bin/rds-monitor" errors examples/station.bin
 fi
+if has mypy; then tried 'types' "$python" -m mypy --strict --cache-dir /dev/null monitor/rds_monitor bindings/python/librds; fi
+if has pyflakes; then tried 'names' "$python" -m pyflakes monitor bindings/python; fi
 if command -v mandoc > /dev/null; then tried 'the form of the man page' mandoc -T lint -W warning monitor/rds-monitor.1; fi
 
 finish

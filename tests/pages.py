@@ -1,7 +1,8 @@
 #!/usr/bin/env python3
-"""Compares what is written twice, and prints a line for each difference: tests/pages.py PATH-TO-RDS [FOLDER]
+"""Compares what is written twice, and prints a line for each difference: tests/pages.py PATH-TO-RDS [--copies]
 
-FOLDER is the project's, or a copy of it. The options, refusals and rows of the program's help are compared with the manual page,
+With `--copies` it compares copies of the project. Each line of its input names one and a file for the differences, with a tab between
+them, and the answer is a line with the exit status. What texts had before is not computed anew. The options, refusals and rows of the program's help are compared with the manual page,
 docs/USING.md, docs/OUTPUT.md and completion; numbers of a page with the tree; links, the commands that a page shows, the files
 and functions that docs/ARCHITECTURE.md names, the contracts of docs/PROOFS.md with their callers and lemmas, and the maps of tests/ and
 examples/ with the files. Pages have no sentence of more than 35 words and 24,000 words together, no page is without a link from README.md,
@@ -14,6 +15,10 @@ import subprocess
 import sys
 
 faults = []
+
+
+# Several of these are called once more for each copy, of which most texts are the same.
+of_text = functools.cache
 
 
 def read(path):
@@ -74,6 +79,10 @@ class Program:
         entries = re.split(r"\n(?=  +-)", "\n" + between(text, "Options:\n", "\n\n"))[1:]
         parted = (re.match(r" *(?:-\w, )?--([a-z]+)(?: <\w+>)?([\s\S]*)", entry) for entry in entries)
         return {entry[1]: one_line(entry[2]) for entry in parted if entry[1] != "help"}
+
+
+# A program says the same each time.
+program_of = functools.cache(Program)
 
 
 class Manual:
@@ -218,23 +227,27 @@ def file_of(place, crate):
     return next((start + place for start in starts if os.path.exists(start + place)), None)
 
 
+@of_text
 def named_in(text):
     """The functions, types and constants that a text defines."""
     pattern = r"\b(?:fn|struct|enum|trait|type|def|class|(?:const|static)(?! fn)) (\w+)|^(\w+)\(\)"
     return {word or script for word, script in re.findall(pattern, text, re.M)}
 
 
-@functools.cache
 def defined_in(path):
     """What a file defines; what stands in an impl also as `Type::function`."""
-    text = read(path)
+    return defined_by(read(path))
+
+
+@of_text
+def defined_by(text):
     parts = re.findall(r"^(?:pub(?:\(crate\))? )?(?:impl|trait)\b([^{;]*)\{([\s\S]*?)^\}", text, re.M)
     of_types = {f"{it}::{own}" for head, body in parts for it in re.findall(r"\w+", head) for own in named_in(body)}
     return named_in(text) | of_types
 
 
 def places_in(text):
-    """Each place that a text names, with the crate named last before it and the names that stand beside it."""
+    """Each place that a text names, with the crate named last before it and the names beside it."""
     crate = ""
     for token in re.finditer(r"`([^`]+)`", text):
         named = token[1].partition("/")[0]
@@ -268,12 +281,18 @@ def compare_places(page):
     same(f"{page}, lines of the drawing", sum("/src/" in it for it in "".join(drawing).splitlines()), len(lines))
 
 
+@functools.cache
+def lemmas_in(folder):
+    """The files of lemmas of all crates; copies share the folder."""
+    return {name for crate in os.listdir(folder) for _, _, names in os.walk(f"{folder}/{crate}/proofs") for name in names}
+
+
 def compare_claims():
     """The contracts that docs/PROOFS.md names, and the callers and the files of lemmas of each in tests/claims.tsv."""
     table = [line.split("\t") for line in read("tests/claims.tsv").splitlines()[1:]]
     rows = re.findall(r"^\| (?!Claim)[^|]* \| ([^|]*) \|$", between(read("docs/PROOFS.md"), "\n## What is proved\n", "\n## "), re.M)
     same("tests/claims.tsv, contracts", set(rows), {row[0] for row in table})
-    lemmas = {name for crate in os.listdir("crates") for _, _, names in os.walk(f"crates/{crate}/proofs") for name in names}
+    lemmas = lemmas_in(os.path.realpath("crates"))
     for _, callers, files in table:
         for name, row in re.findall(r"(\w+): ((?:`\w+`(?:, )?)+)", callers):
             path = f"crates/rds_uses/src/{name}.rt"
@@ -337,6 +356,13 @@ def compare_links(pages):
 LONGEST_SENTENCE = 35
 
 
+@of_text
+def long_sentences_of(text):
+    """The sentences of a page that are too long: how many words each has, and its beginning."""
+    counted = ((len(it.split()), it[:60]) for it in sentences_of(text))
+    return [it for it in counted if it[0] > LONGEST_SENTENCE]
+
+
 def sentences_of(text):
     """The sentences of a page, without its code, and links by their text."""
     text = re.sub(r"^```[\s\S]*?^```|^    .*$", "", text, flags=re.M)
@@ -349,10 +375,7 @@ def sentences_of(text):
 
 def compare_sentences(pages):
     for page in pages:
-        for sentence in sentences_of(read(page)):
-            count = len(sentence.split())
-            if count > LONGEST_SENTENCE:
-                faults.append(f"{page}: a sentence of {count} words: {sentence[:60]}")
+        faults.extend(f"{page}: a sentence of {count} words: {begin}" for count, begin in long_sentences_of(read(page)))
 
 
 # The most words of all pages together, as `wc -w` counts them.
@@ -376,36 +399,50 @@ TURNS = re.compile(
 TURNS_LEFT = {"help": 2}
 
 
+@of_text
+def turns_of(text):
+    """The turns of phrase of a page."""
+    text = re.sub(r"^#.*$|\]\([^)\s]*\)", "", text, flags=re.M)  # headings may be questions
+    return [turn[1] for turn in TURNS.finditer(one_line(text))]
+
+
 def compare_words(program, pages):
     texts = {page: read(page) for page in pages + ["rds.1", "lib/rds.h"]}
     texts["help"] = "\n".join([program.help, *program.helps.values()])
     for name, text in texts.items():
-        text = re.sub(r"^#.*$|\]\([^)\s]*\)", "", text, flags=re.M)  # headings may be questions
-        found = [turn[1] for turn in TURNS.finditer(one_line(text))]
+        found = turns_of(text)
         if len(found) > TURNS_LEFT.get(name, 0):
             faults.append(f"{name}: {len(found)} turns of phrase, at most {TURNS_LEFT.get(name, 0)}: {', '.join(found)}")
 
 
-def commands_of(page):
-    """The lines of code of a page, and what stands in backquotes."""
-    text = read(page)
-    if page == "rds.1":
+@of_text
+def commands_of(text, is_manual):
+    """The lines of code of a page, and what stands in backquotes; of the manual page all lines."""
+    if is_manual:
         return text.replace("$EXAMPLES/", "examples/").splitlines()
     return re.findall(r"^    (?:\$ )?(\S.*)$", text, re.M) + re.findall(r"`([^`\n]+)`", text)
+
+
+@of_text
+def shown_in(text, is_manual):
+    """The scripts, the targets of make, and the commands of rds with their words that a page shows."""
+    lines = commands_of(text, is_manual)
+    patterns = (
+        r"(?<![\w/.])((?:examples|tests|lib|packaging)/[\w/]+\.\w+)",
+        r"^make ([a-z-]+)",
+        r"(?:^|[|;(] *|until )rds ([a-z]+)\b([^|<>;()]*)",
+    )
+    return [[it for line in lines for it in re.findall(pattern, line)] for pattern in patterns]
 
 
 def compare_commands(program, pages):
     targets = set(re.findall(r"^([a-z-]+)(?: [a-z-]+)*:", read("Makefile"), re.M))
     for page in pages + ["rds.1"]:
-        for line in commands_of(page):
-            for script in re.findall(r"(?<![\w/.])((?:examples|tests|lib|packaging)/[\w/]+\.\w+)", line):
-                if not os.path.exists(script):
-                    faults.append(f"{page}: there is no {script}")
-            for target in re.findall(r"^make ([a-z-]+)", line):
-                if target not in targets:
-                    faults.append(f"{page}: there is no target {target}")
-            for command, words in re.findall(r"(?:^|[|;(] *|until )rds ([a-z]+)\b([^|<>;()]*)", line):
-                check_words(program, page, command, words)
+        scripts, called, commands = shown_in(read(page), page == "rds.1")
+        faults.extend(f"{page}: there is no {it}" for it in scripts if not os.path.exists(it))
+        faults.extend(f"{page}: there is no target {it}" for it in called if it not in targets)
+        for command, words in commands:
+            check_words(program, page, command, words)
 
 
 def check_words(program, page, command, words):
@@ -416,12 +453,9 @@ def check_words(program, page, command, words):
             faults.append(f"{page}: rds {command} has no option --{name}")
 
 
-def main():
-    if len(sys.argv) not in (2, 3):
-        sys.exit("usage: tests/pages.py PATH-TO-RDS [FOLDER]")
-    program = Program(os.path.realpath(sys.argv[1]))
-    os.chdir(sys.argv[2] if len(sys.argv) == 3 else os.path.dirname(os.path.dirname(os.path.realpath(__file__))))
-    manual, using = Manual(), Using()
+def compare(rds):
+    """Compares the texts of this folder."""
+    program, manual, using = program_of(rds), Manual(), Using()
     pages = ["README.md", "CHANGELOG.md", "examples/README.md", "tests/README.md"]
     pages += sorted(f"docs/{name}" for name in os.listdir("docs"))
     compare_options(program, manual, using)
@@ -437,8 +471,35 @@ def main():
     compare_sentences(pages)
     compare_length(pages)
     compare_words(program, pages)
+
+
+def compare_copies(rds):
+    """Compares the copies that standard input names."""
+    top = os.getcwd()
+    for line in sys.stdin:
+        folder, said = line.rstrip("\n").split("\t")
+        faults.clear()
+        os.chdir(folder)
+        try:
+            compare(rds)
+        except Exception as fault:  # a text without a part that it must have, or a program that fails
+            faults.append(f"{type(fault).__name__}: {fault}")
+        os.chdir(top)
+        with open(said, "w", encoding="utf-8") as file:
+            file.write("".join(f"{it}\n" for it in faults))
+        print(1 if faults else 0, flush=True)
+
+
+def main():
+    if len(sys.argv) not in (2, 3) or sys.argv[2:] not in ([], ["--copies"]):
+        sys.exit("usage: tests/pages.py PATH-TO-RDS [--copies]")
+    rds = os.path.realpath(sys.argv[1])
+    os.chdir(os.path.dirname(os.path.dirname(os.path.realpath(__file__))))
+    if sys.argv[2:]:
+        return compare_copies(rds)
+    compare(rds)
     print("".join(f"{it}\n" for it in faults), end="")
-    sys.exit(1 if faults else 0)
+    return 1 if faults else 0
 
 
-main()
+sys.exit(main())

@@ -14,7 +14,7 @@ import bisect
 import re
 import sys
 from dataclasses import dataclass
-from functools import cached_property, lru_cache
+from functools import lru_cache
 
 import numpy as np
 
@@ -85,16 +85,17 @@ def bursts(limit):
 
 
 @lru_cache
-def corrections(limit, wanted):
-    """For each remainder the burst and the offset of the one pair that fits, or 0 and 0."""
-    pairs = {}
-    for offset in (C, CX) if wanted == C_OR_CX else (wanted,):
-        for burst in bursts(limit):
-            pairs.setdefault(remainder(burst) ^ WORDS[offset], []).append((burst, offset))
-    found = np.zeros((1024, 2), np.int64)
-    for rest, fitting in pairs.items():
-        if len(fitting) == 1:
-            found[rest] = fitting[0]
+def corrections(limit):
+    """For each offset to be tried and each remainder the burst and the offset of the one pair that fits, or 0 and 0."""
+    found = np.zeros((C_OR_CX + 1, 1024, 2), np.int64)
+    for wanted in (A, B, C, CX, D, C_OR_CX):
+        pairs = {}
+        for offset in (C, CX) if wanted == C_OR_CX else (wanted,):
+            for burst in bursts(limit):
+                pairs.setdefault(remainder(burst) ^ WORDS[offset], []).append((burst, offset))
+        for rest, fitting in pairs.items():
+            if len(fitting) == 1:
+                found[wanted, rest] = fitting[0]
     return found
 
 
@@ -166,10 +167,7 @@ class Recording:
 
     def read(self, places, wanted, limit):
         """How the blocks at these places come out, for these offsets to be tried: their offsets (0 where lost), bursts and words."""
-        offsets, burst = np.zeros(len(places), np.int64), np.zeros(len(places), np.int64)
-        for code in (A, B, C, CX, D, C_OR_CX):
-            these = np.flatnonzero(wanted == code)
-            burst[these], offsets[these] = corrections(limit, code)[self.remainders[places[these]]].T
+        burst, offsets = corrections(limit)[wanted, self.remainders[places]].T.copy()
         is_valid = self.numbers[places] == np.where(wanted == C_OR_CX, 3, NUMBERS[wanted % C_OR_CX])
         burst[is_valid] = 0
         offsets[is_valid] = self.offsets[places[is_valid]]
@@ -200,7 +198,7 @@ class Read:
     burst: int
     word: int
 
-    @cached_property
+    @property
     def text(self):
         if not self.offset:
             return "lost"
@@ -316,6 +314,7 @@ def encoded(lines, is_hex):
     return b"".join(packed(it).hex().encode() + b"\n" if is_hex else packed(it) for it in groups)
 
 
+@lru_cache
 def arguments():
     """The parser of the command line."""
     parser = argparse.ArgumentParser(description=__doc__.split("\n")[0])

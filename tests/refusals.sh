@@ -32,11 +32,12 @@ run() {
 
 # is_refusal NAME..: whether the last run, whose status is given first, answered with one of these refusals
 is_refusal() {
-    local status=$1 name
+    local status=$1 name said
     shift
     [ "$status" = 1 ] || return 1
+    mapfile said <"$work/err"
     for name in "$@"; do
-        [ "$(cat "$work/err")" = "refused $name" ] && return 0
+        [ "${said[*]}" = "refused $name"$'\n' ] && return 0
     done
     return 1
 }
@@ -75,7 +76,7 @@ each() {
     shift
     count=$(calls_of "$call" "$@") || exit 1
     tried[$call]=$((tried[$call] + count))
-    for at in $(seq "$count"); do
+    for ((at = 1; at <= count; at++)); do
         for on in '' 1; do
             if [ -n "$on" ]; then export REFUSE_ON=1; else unset REFUSE_ON; fi
             run "$call" "$at" "$@"
@@ -138,11 +139,12 @@ job '1234 2540 5244 5320\n   \n\n0000080000000000' encode
 # two groups encoded as digits, and the list of these
 job '1234 2540 5244 5320\n0000 0800 0000 0000\n' encode --hex
 job '12341a89501ac52449594c83fb\n00003f02002c10000d400001b4\n' list --hex --pieces 2 --workers 2
-# rows for three threads
-for _ in 1 2 3 4 5 6 7; do cat "$here/../examples/station.bin"; done >"$work/in"
+# rows for three threads, each of which makes several parts of them
+for _ in 1 2 3; do cat "$here/../examples/station.bin"; done >"$work/in"
+all_of scan --workers 3
+for _ in 1 2 3 4; do cat "$here/../examples/station.bin"; done >>"$work/in"
 all_of list --pieces 2 --workers 3
 rows=$((rows + $(calls_of thread list --pieces 2 --workers 1)))
-all_of scan --workers 3
 # a stream of three reads and the end, and one that ends in a group
 cat "$here/../examples/station.bin" "$here/../examples/station.bin" >>"$work/in"
 all_of follow

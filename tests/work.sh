@@ -117,18 +117,6 @@ make_refuse
 # station COUNT: a station's groups, so many times over
 station() { for _ in $(seq "$1"); do cat "$here/../examples/station.bin"; done; }
 
-: >empty
-station 1 >sample
-station 160 >station
-words 17 200000 >noise
-words 19 160000 >words
-station 40 | od -An -v -tx1 >digits
-# a byte of every 64 spoilt
-station 40 | od -An -v -tx1 | awk 'NR % 4 == 0 { $2 = "ff" } 1' >damaged
-# groups of version B, whose block 3 has the programme of block 1
-words 23 300000 | awk '{ print "d393" substr($0, 5, 1) "8" substr($0, 7, 2) "d393" substr($0, 13) }' | "$limited" encode >version_b
-
-
 # wrong SHARE: a station's groups with about that share of their bits turned, one of a byte at most
 wrong() {
     station 40 | od -An -v -tx1 | awk -v share="$1" -v x=41 '
@@ -145,18 +133,34 @@ wrong() {
             print
         }' | as_bytes
 }
-for share in 0.0005 0.003 0.01 0.03; do wrong $share >wrong$share; done
-words 47 150000 | "$limited" encode --hex | past_mending | as_bytes >worst
-# A sixteenth and a thousandth of it are bits that put each next guess on the next phase.
-for plan in short_locks three_phases; do
-    PATH=$all_tools python3 "$here/worst_inputs.py" $plan 2005250 >$plan || exit 1
-done
+
+# make_input NAME: writes an input of a job; of the last two a sixteenth and a thousandth are bits that put each next guess on the
+# next phase
+make_input() {
+    case $1 in
+        empty) : ;;
+        sample) station 1 ;;
+        station) station 160 ;;
+        noise) words 17 200000 ;;
+        words) words 19 160000 ;;
+        digits) station 40 | od -An -v -tx1 ;;
+        # a byte of every 64 spoilt
+        damaged) station 40 | od -An -v -tx1 | awk 'NR % 4 == 0 { $2 = "ff" } 1' ;;
+        # groups of version B, whose block 3 has the programme of block 1
+        version_b) words 23 300000 | awk '{ print "d393" substr($0, 5, 1) "8" substr($0, 7, 2) "d393" substr($0, 13) }' | "$limited" encode ;;
+        wrong*) wrong "${1#wrong}" ;;
+        worst) words 47 150000 | "$limited" encode --hex | past_mending | as_bytes ;;
+        short_locks | three_phases) PATH=$all_tools python3 "$here/worst_inputs.py" "$1" 2005250 ;;
+        *) return 1 ;;
+    esac >"$1"
+}
 
 # ---- what a job takes
 
 # count INPUT WORDS..: the counts of the job, into $allocations, $bytes, $peak, $reads, $writes and $threads
 count() {
     local input=$1 name number words
+    [ -e "$input" ] || make_input "$input" || exit 1
     mapfile -t words < <(for name in "${@:2}"; do word "$name"; done)
     rm -f counts
     REFUSE_COUNT="$work/counts" LD_PRELOAD="$work/refuse.so" "$rds" "${words[@]}" <"$input" >out 2>err || exit 1
