@@ -35,7 +35,7 @@ import tempfile
 import time
 from concurrent.futures import ThreadPoolExecutor
 from dataclasses import dataclass, replace
-from threading import Semaphore
+from threading import Condition
 
 from holes import (
     CALLERS, EXPORTED, LIBRARIES, PROGRAM, RT, TOP, below, built, checked, copied, functions_of, is_built, over, read, words, write
@@ -334,10 +334,30 @@ def wait_for(crates, where, proofs):
         time.sleep(1)
 
 
-def in_turn(free, *what):
-    """Tries the wrong bodies of a crate when a processor is free for that."""
-    with free:
-        return try_all(*what)
+class Lanes:
+    """The processors that are left to wrong bodies. Of the crates that wait for one, the dearest comes first, so that it is not
+    alone at the end: as a rule one with many edits, which stands on many others."""
+
+    def __init__(self, free):
+        self.free, self.waiting, self.changed = free, {}, Condition()
+
+    def open(self, count):
+        with self.changed:
+            self.free += count
+            self.changed.notify_all()
+
+    def try_in_turn(self, room, crate, *how):
+        """Tries the wrong bodies of a crate when it has its turn."""
+        with self.changed:
+            self.waiting[crate] = (1 + len(below(crate))) * len(os.listdir(f"{CRATES}/{crate}/wrong"))
+            self.changed.wait_for(lambda: self.free and crate == max(self.waiting, key=self.waiting.get))
+            del self.waiting[crate]
+            self.free -= 1
+            self.changed.notify_all()
+        try:
+            return try_all(room, crate, *how)
+        finally:
+            self.open(1)
 
 
 def tried(crates, are_right, log):
@@ -346,10 +366,8 @@ def tried(crates, are_right, log):
     with tempfile.TemporaryDirectory(prefix="wrong-bodies-") as room, ThreadPoolExecutor(len(crates) + 1) as pool:
         if not log:
             build(crates)
-            free = Semaphore(lanes)
-            # Those that take longest come first.
-            crates.sort(key=lambda it: len(os.listdir(f"{CRATES}/{it}/wrong")), reverse=True)
-            return sum(pool.map(lambda it: in_turn(free, room, it, built, told, are_right), crates), [])
+            free = Lanes(lanes)
+            return sum(pool.map(lambda it: free.try_in_turn(room, it, built, told, are_right), crates), [])
 
         def where(crate):
             return f"{room}/built/{crate}.rlib"
@@ -358,19 +376,17 @@ def tried(crates, are_right, log):
             try:
                 follow(log, where)
             finally:
-                for _ in range(lanes - half):
-                    free.release()
+                free.open(lanes - half)
 
         def wait_and_try(crate):
             wait_for(below(crate), where, proofs)
-            return in_turn(free, room, crate, where, told, are_right)
+            return free.try_in_turn(room, crate, where, told, are_right)
 
         os.mkdir(f"{room}/built")
         half = max(lanes // 2, 1)
-        free = Semaphore(half)
+        free = Lanes(half)
         proofs = pool.submit(follow_to_end)
-        # Those that wait for the fewest come first.
-        return sum(pool.map(wait_and_try, sorted(crates, key=lambda it: len(below(it)))), [])
+        return sum(pool.map(wait_and_try, crates), [])
 
 
 def main(names, are_right, log):

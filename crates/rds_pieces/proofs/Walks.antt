@@ -192,4 +192,4 @@ pub step_moves : (b : Signal) (rules : RuleNumbers) (to : ℕ) (own guess own2 g
 step_moves b rules to own guess own2 guess2 reads (inl (first, hopped, stays)) one two =
     let m = hopped.hop.moved in let e = ap (λ (t : TallyOf). t.place) stays in omega (arith, m, e, one, two)
 step_moves b rules to own guess own2 guess2 reads (inr (not_first, hopped, stays)) one two =
-    let m = hopped.hop.moved in let e = ap (λ (t : TallyOf). t.place) stays in omega (arith, m, e, one, two)
+    let m = hopped.hop.moved in let e = ap (λ (t : TallyOf). t.place) stays in omega (arith, m, e, two, one)

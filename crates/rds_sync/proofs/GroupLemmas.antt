@@ -279,9 +279,9 @@ module _ (b : Signal) (rules : RuleNumbers) (f x p : ℕ) where
     };
     kind = refl;
     version = version_is_read second third third_number;
-    conflict = (conflict_says second third, says_conflict second third third_number);
     complete = (
       complete_says (block_at b rules f x p Either 1) second third (block_at b rules f x p Either 4),
       says_complete (block_at b rules f x p Either 1) second third (block_at b rules f x p Either 4),
     );
+    conflict = (conflict_says second third, says_conflict second third third_number);
   }

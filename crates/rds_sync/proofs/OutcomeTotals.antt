@@ -82,5 +82,4 @@ group-tells g =
     (sum_by-cons (λ (item : Item). one_if (is_complete item)) (Group g) []
     ∙ add-zero (one_if (is_complete (Group g)))
     ∙ ap one_if (all-through (λ b. is_some (info_of b)) has_info outcome_of info_is g.blocks))
-    refl
-    refl
+    refl refl

@@ -358,4 +358,4 @@ damaged_groups_are_listed laws b rules g groups loss reach few long h whole1 who
     let rest = damaged_listed laws b rules few 104 _ groups h.1 keep.1.1 in
     let bits : 104 + 104 * n ≡ length_of b = omega (arith, long) in
     let whole = ap (λ (m : ℕ). run b rules Searching 0 m) (sym bits) ∙ run-then b rules Searching _ _ _ _ 0 104 (104 * n) first rest in
-    sym (run_is_report b rules loss) ∙ ap (λ (r : State × List Item). r.1 ++ items_of_end b rules r.0) whole ∙ append-nil items
+    sym (run_is_report b rules loss) ∙ ap (λ (ends : State × List Item). ends.1 ++ items_of_end b rules ends.0) whole ∙ append-nil items

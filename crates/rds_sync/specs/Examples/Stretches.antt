@@ -88,7 +88,6 @@ pub to_the_group : IsStretch b default_rules (Locked (lock_of 77 3 0 2)) 52 104 
 unfolding acquired has_number group rem window touched heard off
 to_the_group = record {
   forward = leb-true 53 104 refl;
-  limit = leb-true 104 104 refl;
   state = refl;
   items = refl;
   quiet = refl;
@@ -100,4 +99,5 @@ to_the_group = record {
     enough_bits = leb-true 25 129 refl;
     in_order = inl (refl, refl);
   };
+  limit = leb-true 104 104 refl;
 }
