@@ -6,7 +6,7 @@ ghost use Rattle.rds_sync.specs.Totals.{totals_of};
 ghost use Rattle.rds_live.specs.Live.{HasHeard, report_at, report_of};
 ghost use Rattle.rds_abi.specs.Asked.{asked, items_asked, recording_of, rules_of};
 ghost use Rattle.rds_abi.specs.Blocks.{packed};
-ghost use Rattle.rds_abi.specs.Following.{AreCompleted, AreWritten, stream_in_c, stream_of, terms_of};
+ghost use Rattle.rds_abi.specs.Stream.{AreCompleted, AreWritten, stream_in_c, stream_of, terms_of};
 ghost use Rattle.rds_abi.specs.Layout.{item_in_c, totals_in_c};
 
 use rds_abi::{
