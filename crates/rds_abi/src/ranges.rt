@@ -49,7 +49,8 @@ fn lock_of(rules: &Rules, s: RdsState, place: u64) -> Option<State>
 
 /// Whether the numbers name this rule of loss, and nothing else.
 fn is_by(loss: Loss, s: RdsState) -> bool
-    ensures { (result ≡ true) ↔ ((s.loss ≡ (the_loss_in_c loss).0) × (s.of ≡ (the_loss_in_c loss).1) × (s.reserved ≡ 0)) }
+    ensures { (result ≡ true)
+        ↔ ((s.loss ≡ (the_loss_in_c loss).0) × (s.of ≡ (the_loss_in_c loss).1) × (s.reserved ≡ 0)) }
 {
     let (bad, of) = loss_in_c(loss);
     s.loss == bad && s.of == of && s.reserved == 0
@@ -95,7 +96,8 @@ pub(crate) fn state_of(rules: &Rules, s: RdsState, place: u64) -> Option<State>
 /// A state by these rules, for C.
 pub(crate) fn state_in_c(rules: &Rules, state: State) -> RdsState
     ensures value { result ≡ the_state_in_c rules.now state }
-    ensures says { (rules : RuleNumbers) (place : ℕ) → IsLawfulState rules place state → the_state_of result ≡ state }
+    ensures says { (rules : RuleNumbers) (place : ℕ) → IsLawfulState rules place state
+        → the_state_of result ≡ state }
 {
     match state {
         State::Searching => RdsState::SEARCHING,
@@ -122,7 +124,8 @@ fn state_at(rules: &Rules, bits: u64, range: (u64, u64), s: RdsState) -> Result<
     ensures within { IfOk result (λ _. range.1 ≤ bits) }
     ensures refused { IfErr result (λ refusal.
         ((refusal ≡ PlaceRange) × ((range.1 < range.0) ⊎ (bits < range.1)))
-        ⊎ ((refusal ≡ UnlawfulState) × (range.0 ≤ range.1) × (range.1 ≤ bits) × (IsLeftState rules.now range.0 s → ⊥))) }
+        ⊎ ((refusal ≡ UnlawfulState) × (range.0 ≤ range.1) × (range.1 ≤ bits)
+        × (IsLeftState rules.now range.0 s → ⊥))) }
 {
     let (from, to) = range;
     if to < from || bits < to {
@@ -156,9 +159,11 @@ fn start_of(
     ensures begins { IfOk result (λ start. start.part.before ≤ range.0) }
     ensures len { IfOk result (λ start. length_of start.part.recording ≡ range.1 - start.part.before) }
     ensures heard { IfOk result (λ start. (place : ℕ) → range.0 - start.part.before ≤ place
-        → IsPartHeard (the_recording_of bytes.now bits gaps.now) start.part.recording start.part.before place) }
+        → IsPartHeard (the_recording_of bytes.now bits gaps.now)
+        start.part.recording start.part.before place) }
     ensures state { IfOk result (λ start. moved_state start.part.before start.state ≡ the_state_of state) }
-    ensures begin { IfOk result (λ start. IsLawfulState start.rules (range.0 - start.part.before) start.state) }
+    ensures begin { IfOk result
+        (λ start. IsLawfulState start.rules (range.0 - start.part.before) start.state) }
     ensures lawful { IfOk result (λ _. IsRun (asked bytes.now bits gaps.now rules) range.0 range.1 state) }
     ensures refused { IfErr result (RefusesRun (asked bytes.now bits gaps.now rules) range.0 range.1 state) }
 {
@@ -188,18 +193,26 @@ pub fn run(
     room: &mut [RdsItem],
     count: &mut u64,
 ) -> Result<(), Refusal>
-    ensures filled { OnOk result (IsFilled (items_of_run (asked bytes.now bits gaps.now rules) range.0 range.1 state.old) room.old room.new) }
-    ensures count { OnOk result (count.new ≡ length (items_of_run (asked bytes.now bits gaps.now rules) range.0 range.1 state.old)) }
+    ensures filled { OnOk result
+        (IsFilled (items_of_run (asked bytes.now bits gaps.now rules) range.0 range.1 state.old)
+        room.old room.new) }
+    ensures count { OnOk result
+        (count.new ≡ length (items_of_run (asked bytes.now bits gaps.now rules) range.0 range.1 state.old)) }
     ensures state { OnOk result (the_state_of state.new
         ≡ (run_asked (asked bytes.now bits gaps.now rules) range.0 range.1 state.old).0) }
-    ensures laid { OnOk result (state.new ≡ the_state_in_c (the_rules_of rules) (run_asked (asked bytes.now bits gaps.now rules) range.0 range.1 state.old).0) }
+    ensures laid { OnOk result
+        (state.new
+        ≡ the_state_in_c (the_rules_of rules)
+        (run_asked (asked bytes.now bits gaps.now rules) range.0 range.1 state.old).0) }
     ensures next { OnOk result (IsLeftState (the_rules_of rules) range.1 state.new) }
     ensures lawful { OnOk result (IsRun (asked bytes.now bits gaps.now rules) range.0 range.1 state.old) }
     ensures untouched { OnErr result ((room.new ≡ room.old) × (state.new ≡ state.old)) }
     ensures refused { IfErr result (λ refusal.
         (IsRun (asked bytes.now bits gaps.now rules) range.0 range.1 state.old
-        × IsTooMuch (items_of_run (asked bytes.now bits gaps.now rules) range.0 range.1 state.old) (length room.old) refusal count.new)
-        ⊎ (RefusesRun (asked bytes.now bits gaps.now rules) range.0 range.1 state.old refusal × (count.new ≡ count.old))) }
+        × IsTooMuch (items_of_run (asked bytes.now bits gaps.now rules) range.0 range.1 state.old)
+        (length room.old) refusal count.new)
+        ⊎ (RefusesRun (asked bytes.now bits gaps.now rules) range.0 range.1 state.old refusal
+        × (count.new ≡ count.old))) }
 {
     let start = start_of(alloc, bytes, bits, gaps, rules, range, *state)?;
     runs_move();
@@ -220,14 +233,31 @@ fn go_on(
     requires limit { range.1 ≤ 2 ^ 36 }
     requires len { length_of start.now.part.recording ≡ range.1 - start.now.part.before }
     requires begin { IsLawfulState start.now.rules (range.0 - start.now.part.before) start.now.state }
-    ensures filled { OnOk result (IsFilled (map item_in_c (run_in_part start.now.part.recording start.now.rules start.now.state start.now.part.before range.0 range.1).1) room.old room.new) }
-    ensures count { OnOk result (count.new ≡ length (run_in_part start.now.part.recording start.now.rules start.now.state start.now.part.before range.0 range.1).1) }
-    ensures laid { OnOk result (state.new ≡ the_state_in_c start.now.rules (run_in_part start.now.part.recording start.now.rules start.now.state start.now.part.before range.0 range.1).0) }
-    ensures state { OnOk result (the_state_of state.new ≡ (run_in_part start.now.part.recording start.now.rules start.now.state start.now.part.before range.0 range.1).0) }
+    ensures filled { OnOk result
+        (IsFilled
+        (map item_in_c
+        (run_in_part start.now.part.recording start.now.rules start.now.state start.now.part.before
+        range.0 range.1).1) room.old room.new) }
+    ensures count { OnOk result
+        (count.new
+        ≡ length (run_in_part start.now.part.recording start.now.rules start.now.state
+        start.now.part.before range.0 range.1).1) }
+    ensures laid { OnOk result
+        (state.new
+        ≡ the_state_in_c start.now.rules
+        (run_in_part start.now.part.recording start.now.rules start.now.state start.now.part.before
+        range.0 range.1).0) }
+    ensures state { OnOk result
+        (the_state_of state.new
+        ≡ (run_in_part start.now.part.recording start.now.rules start.now.state start.now.part.before
+        range.0 range.1).0) }
     ensures next { OnOk result (IsLeftState start.now.rules range.1 state.new) }
     ensures untouched { OnErr result ((room.new ≡ room.old) × (state.new ≡ state.old)) }
     ensures refused { IfErr result (λ refusal.
-        IsTooMuch (map item_in_c (run_in_part start.now.part.recording start.now.rules start.now.state start.now.part.before range.0 range.1).1) (length room.old) refusal count.new
+        IsTooMuch
+        (map item_in_c
+        (run_in_part start.now.part.recording start.now.rules start.now.state start.now.part.before
+        range.0 range.1).1) (length room.old) refusal count.new
         ⊎ ((refusal ≡ OutOfMemory) × (count.new ≡ count.old))) }
 {
     let before = start.part.before;
@@ -249,8 +279,12 @@ fn counted(alloc: Global, start: &Start, from: u64, to: u64) -> Result<(State, u
     requires lawful { IsLawfulState start.now.rules from start.now.state }
     requires order { from ≤ to }
     requires within { to ≤ length_of start.now.part.recording }
-    ensures state { IfOk result (λ end. end.0 ≡ (the_run start.now.part.recording start.now.rules start.now.state from (to - from)).0) }
-    ensures count { IfOk result (λ end. end.1 ≡ length (the_run start.now.part.recording start.now.rules start.now.state from (to - from)).1) }
+    ensures state { IfOk result
+        (λ end. end.0
+        ≡ (the_run start.now.part.recording start.now.rules start.now.state from (to - from)).0) }
+    ensures count { IfOk result
+        (λ end. end.1
+        ≡ length (the_run start.now.part.recording start.now.rules start.now.state from (to - from)).1) }
     ensures lawful { IfOk result (λ end. IsLawfulState start.now.rules to end.0) }
     ensures refused { IsOkUnless result OutOfMemory }
 {
@@ -306,7 +340,8 @@ pub(crate) fn write_end(
     ensures filled { OnOk result (IsFilled (map item_in_c (group_item group)) room.old room.new) }
     ensures count { count.new ≡ length (group_item group) }
     ensures untouched { OnErr result (room.new ≡ room.old) }
-    ensures refused { IfErr result (λ refusal. (refusal ≡ SmallRoom) × (length room.old < length (group_item group))) }
+    ensures refused { IfErr result
+        (λ refusal. (refusal ≡ SmallRoom) × (length room.old < length (group_item group))) }
 {
     *count = u64::from(group.is_some());
     if let Some(group) = group {
@@ -332,14 +367,18 @@ pub fn finish_run(
     room: &mut [RdsItem],
     count: &mut u64,
 ) -> Result<(), Refusal>
-    ensures filled { OnOk result (IsFilled (items_at_end (asked bytes.now bits gaps.now rules) state) room.old room.new) }
-    ensures count { OnOk result (count.new ≡ length (items_at_end (asked bytes.now bits gaps.now rules) state)) }
+    ensures filled { OnOk result
+        (IsFilled (items_at_end (asked bytes.now bits gaps.now rules) state) room.old room.new) }
+    ensures count { OnOk result
+        (count.new ≡ length (items_at_end (asked bytes.now bits gaps.now rules) state)) }
     ensures lawful { OnOk result (IsRun (asked bytes.now bits gaps.now rules) bits bits state) }
     ensures untouched { OnErr result (room.new ≡ room.old) }
     ensures refused { IfErr result (λ refusal.
         (IsRun (asked bytes.now bits gaps.now rules) bits bits state
-        × IsTooMuch (items_at_end (asked bytes.now bits gaps.now rules) state) (length room.old) refusal count.new)
-        ⊎ (RefusesRun (asked bytes.now bits gaps.now rules) bits bits state refusal × (count.new ≡ count.old))) }
+        × IsTooMuch (items_at_end (asked bytes.now bits gaps.now rules) state) (length room.old)
+        refusal count.new)
+        ⊎ (RefusesRun (asked bytes.now bits gaps.now rules) bits bits state refusal
+        × (count.new ≡ count.old))) }
 {
     let start = start_of(alloc, bytes, bits, gaps, rules, (bits, bits), state)?;
     ends_move();
@@ -351,7 +390,9 @@ pub fn finish_run(
 fn end_of(start: &Start) -> Option<Group>
     requires begin { IsLawfulState start.now.rules (length_of start.now.part.recording) start.now.state }
     requires limit { start.now.part.before ≤ 2 ^ 36 }
-    ensures { group_item result ≡ moved_items start.now.part.before (items_of_end start.now.part.recording start.now.rules start.now.state) }
+    ensures { group_item result
+        ≡ moved_items start.now.part.before
+        (items_of_end start.now.part.recording start.now.rules start.now.state) }
 {
     let tape = &mut Counted::new(&start.part.recording);
     prove!(start.part.recording.len() <= MOST_BITS);

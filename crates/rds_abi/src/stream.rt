@@ -260,26 +260,45 @@ pub fn push(
     taken: &mut u64,
     count: &mut u64,
 ) -> Result<(), Refusal>
-    ensures heard { OnOk result ((before : List ℕ) → HasHeard (the_stream_of (terms_of rules gaps.now) stream.old) before
-        → HasHeard (the_stream_of (terms_of rules gaps.now) stream.new) (before ++ take taken.new bytes.now)) }
-    ensures laid { OnOk result (stream.new ≡ the_stream_in_c (the_stream_of (terms_of rules gaps.now) stream.new)) }
-    ensures items { OnOk result (AreWritten (AreCompleted (terms_of rules gaps.now) stream.old (take taken.new bytes.now)) room.old room.new count.new) }
-    ensures most { OnOk result (IsMostTaken (the_stream_of (terms_of rules gaps.now) stream.old) bytes.now (length room.old) taken.new) }
+    ensures heard { OnOk result
+        ((before : List ℕ) → HasHeard (the_stream_of (terms_of rules gaps.now) stream.old) before
+        → HasHeard (the_stream_of (terms_of rules gaps.now) stream.new)
+        (before ++ take taken.new bytes.now)) }
+    ensures laid { OnOk result
+        (stream.new ≡ the_stream_in_c (the_stream_of (terms_of rules gaps.now) stream.new)) }
+    ensures items { OnOk result
+        (AreWritten (AreCompleted (terms_of rules gaps.now) stream.old (take taken.new bytes.now))
+        room.old room.new count.new) }
+    ensures most { OnOk result
+        (IsMostTaken (the_stream_of (terms_of rules gaps.now) stream.old) bytes.now (length room.old)
+        taken.new) }
     ensures few { OnOk result (count.new ≤ 16 * taken.new) }
     ensures next { OnOk result (IsFollowed rules gaps.now stream.new) }
-    ensures lawful { OnOk result (IsFollowed rules gaps.now stream.old × (place_after stream.old bytes.now ≤ 2 ^ 36)) }
-    ensures untouched { OnErr result ((room.new ≡ room.old) × (stream.new ≡ stream.old) × (taken.new ≡ taken.old)) }
+    ensures lawful { OnOk result
+        (IsFollowed rules gaps.now stream.old × (place_after stream.old bytes.now ≤ 2 ^ 36)) }
+    ensures untouched { OnErr result
+        ((room.new ≡ room.old) × (stream.new ≡ stream.old) × (taken.new ≡ taken.old)) }
     ensures refused { IfErr result (λ refusal.
         (IsFollowed rules gaps.now stream.old × (place_after stream.old bytes.now ≤ 2 ^ 36)
-        × IsTooMuch (map item_in_c (completed (the_stream_of (terms_of rules gaps.now) stream.old) (take 1 bytes.now))) (length room.old) refusal count.new)
+        × IsTooMuch
+        (map item_in_c
+        (completed (the_stream_of (terms_of rules gaps.now) stream.old) (take 1 bytes.now)))
+        (length room.old) refusal count.new)
         ⊎ (RefusesPush rules gaps.now stream.old bytes.now refusal × (count.new ≡ count.old))) }
     ensures roomy { IfErr result (λ refusal. refusal ≡ SmallRoom → length room.old < 16) }
 
     // The same of numbers that are lawful and of no stream.
     ensures after { OnOk result (the_stream_of (terms_of rules gaps.now) stream.new
         ≡ live_next (the_stream_of (terms_of rules gaps.now) stream.old) (take taken.new bytes.now)) }
-    ensures filled { OnOk result (IsFilled (map item_in_c (completed (the_stream_of (terms_of rules gaps.now) stream.old) (take taken.new bytes.now))) room.old room.new) }
-    ensures count { OnOk result (count.new ≡ length (completed (the_stream_of (terms_of rules gaps.now) stream.old) (take taken.new bytes.now))) }
+    ensures filled { OnOk result
+        (IsFilled
+        (map item_in_c
+        (completed (the_stream_of (terms_of rules gaps.now) stream.old) (take taken.new bytes.now)))
+        room.old room.new) }
+    ensures count { OnOk result
+        (count.new
+        ≡ length (completed (the_stream_of (terms_of rules gaps.now) stream.old)
+        (take taken.new bytes.now))) }
 {
     let kept = kept_of(stream);
     let len = kept + MOST_BYTES.min(bytes.len() as u64);
@@ -304,17 +323,25 @@ fn go_on(
     requires range { IsInRange told.now.rules }
     ensures laid { OnOk result (stream.new ≡ the_stream_in_c (the_stream_of told.now stream.new)) }
     ensures within { OnOk result (taken.new ≤ length bytes.now) }
-    ensures after { OnOk result (the_stream_of told.now stream.new ≡ live_next (the_stream_of told.now stream.old) (take taken.new bytes.now)) }
-    ensures filled { OnOk result (IsFilled (map item_in_c (completed (the_stream_of told.now stream.old) (take taken.new bytes.now))) room.old room.new) }
-    ensures count { OnOk result (count.new ≡ length (completed (the_stream_of told.now stream.old) (take taken.new bytes.now))) }
-    ensures most { OnOk result (IsMostTaken (the_stream_of told.now stream.old) bytes.now (length room.old) taken.new) }
+    ensures after { OnOk result
+        (the_stream_of told.now stream.new
+        ≡ live_next (the_stream_of told.now stream.old) (take taken.new bytes.now)) }
+    ensures filled { OnOk result
+        (IsFilled (map item_in_c (completed (the_stream_of told.now stream.old) (take taken.new bytes.now)))
+        room.old room.new) }
+    ensures count { OnOk result
+        (count.new ≡ length (completed (the_stream_of told.now stream.old) (take taken.new bytes.now))) }
+    ensures most { OnOk result
+        (IsMostTaken (the_stream_of told.now stream.old) bytes.now (length room.old) taken.new) }
     ensures next { OnOk result (IsLeft told.now stream.new) }
     ensures lawful { OnOk result (IsLeft told.now stream.old) }
     ensures fits { OnOk result (place_after stream.old bytes.now ≤ 2 ^ 36) }
-    ensures untouched { OnErr result ((room.new ≡ room.old) × (stream.new ≡ stream.old) × (taken.new ≡ taken.old)) }
+    ensures untouched { OnErr result
+        ((room.new ≡ room.old) × (stream.new ≡ stream.old) × (taken.new ≡ taken.old)) }
     ensures refused { IfErr result (λ refusal.
         (IsLeft told.now stream.old × (place_after stream.old bytes.now ≤ 2 ^ 36)
-        × IsTooMuch (map item_in_c (completed (the_stream_of told.now stream.old) (take 1 bytes.now))) (length room.old) refusal count.new)
+        × IsTooMuch (map item_in_c (completed (the_stream_of told.now stream.old) (take 1 bytes.now)))
+        (length room.old) refusal count.new)
         ⊎ ((RefusesStream told.now stream.old refusal
         ⊎ (IsLeft told.now stream.old × (2 ^ 36 < place_after stream.old bytes.now) × (refusal ≡ TooLong)))
         × (count.new ≡ count.old))) }
@@ -361,13 +388,16 @@ fn take_fitting(
     requires range { IsInRange live.old.terms.rules }
     requires lawful { IsLive live.old }
     ensures within { IfOk result (λ fit. fit.taken ≤ length bytes.now) }
-    ensures after { IfOk result (λ fit. the_stream_of live.old.terms stream.new ≡ live_next live.old (take fit.taken bytes.now)) }
+    ensures after { IfOk result
+        (λ fit. the_stream_of live.old.terms stream.new ≡ live_next live.old (take fit.taken bytes.now)) }
     ensures laid { OnOk result (stream.new ≡ the_stream_in_c (the_stream_of live.old.terms stream.new)) }
     ensures live { OnOk result (IsLive (the_stream_of live.old.terms stream.new)) }
-    ensures filled { IfOk result (λ fit. IsFilled (map item_in_c (completed live.old (take fit.taken bytes.now))) room.old room.new) }
+    ensures filled { IfOk result
+        (λ fit. IsFilled (map item_in_c (completed live.old (take fit.taken bytes.now))) room.old room.new) }
     ensures count { IfOk result (λ fit. fit.count ≡ length (completed live.old (take fit.taken bytes.now))) }
     ensures most { IfOk result (λ fit. IsMostTaken live.old bytes.now (length room.old) fit.taken) }
-    ensures small { IfErr result (λ needed. length room.old < length (completed live.old (take 1 bytes.now))) }
+    ensures small { IfErr result
+        (λ needed. length room.old < length (completed live.old (take 1 bytes.now))) }
     ensures needed { IfErr result (λ needed. needed ≡ length (completed live.old (take 1 bytes.now))) }
     ensures untouched { OnErr result ((room.new ≡ room.old) × (stream.new ≡ stream.old)) }
 {
@@ -416,11 +446,13 @@ fn take_piece(
     ensures laid { OnOk result (stream.new ≡ the_stream_in_c live.new) }
     ensures says { OnOk result (the_stream_of live.new.terms stream.new ≡ live.new) }
     ensures live { OnOk result (IsLive live.new) }
-    ensures filled { IfOk result (λ fit. IsFilled (map item_in_c (completed live.old (take fit.taken bytes.now))) room.old room.new) }
+    ensures filled { IfOk result
+        (λ fit. IsFilled (map item_in_c (completed live.old (take fit.taken bytes.now))) room.old room.new) }
     ensures count { IfOk result (λ fit. fit.count ≡ length (completed live.old (take fit.taken bytes.now))) }
     ensures room { IfOk result (λ fit. fit.count ≤ length room.old) }
     ensures some { IfErr result (λ needed. 0 < length bytes.now) }
-    ensures small { IfErr result (λ needed. length room.old < length (completed live.old (take 1 bytes.now))) }
+    ensures small { IfErr result
+        (λ needed. length room.old < length (completed live.old (take 1 bytes.now))) }
     ensures needed { IfErr result (λ needed. needed ≡ length (completed live.old (take 1 bytes.now))) }
     ensures untouched { OnErr result ((room.new ≡ room.old) × (stream.new ≡ stream.old)) }
 {
@@ -456,8 +488,10 @@ pub fn finish(
     count: &mut u64,
     totals: &mut RdsTotals,
 ) -> Result<(), Refusal>
-    ensures items { OnOk result (AreWritten (AreClosed (terms_of rules gaps.now) stream.now) room.old room.new count.new) }
-    ensures totals { OnOk result ((bytes : List ℕ) → HasHeard (the_stream_of (terms_of rules gaps.now) stream.now) bytes
+    ensures items { OnOk result
+        (AreWritten (AreClosed (terms_of rules gaps.now) stream.now) room.old room.new count.new) }
+    ensures totals { OnOk result
+        ((bytes : List ℕ) → HasHeard (the_stream_of (terms_of rules gaps.now) stream.now) bytes
         → totals.new ≡ totals_in_c (totals_of (report_of (terms_of rules gaps.now) bytes))) }
     ensures lawful { OnOk result (IsFollowed rules gaps.now stream.now) }
     ensures untouched { OnErr result ((room.new ≡ room.old) × (totals.new ≡ totals.old)) }
@@ -515,14 +549,21 @@ pub fn finish_with(
     count: &mut u64,
     totals: &mut RdsTotals,
 ) -> Result<(), Refusal>
-    ensures items { OnOk result (AreWritten (AreLeft (terms_of rules gaps.now) stream.now bytes.now bits) room.old room.new count.new) }
-    ensures totals { OnOk result ((before : List ℕ) → HasHeard (the_stream_of (terms_of rules gaps.now) stream.now) before
-        → totals.new ≡ totals_in_c (totals_of (report_at (terms_of rules gaps.now) (before ++ bytes.now) (8 * length before + bits)))) }
+    ensures items { OnOk result
+        (AreWritten (AreLeft (terms_of rules gaps.now) stream.now bytes.now bits)
+        room.old room.new count.new) }
+    ensures totals { OnOk result
+        ((before : List ℕ) → HasHeard (the_stream_of (terms_of rules gaps.now) stream.now) before
+        → totals.new
+        ≡ totals_in_c
+        (totals_of
+        (report_at (terms_of rules gaps.now) (before ++ bytes.now) (8 * length before + bits)))) }
     ensures lawful { OnOk result (IsFollowed rules gaps.now stream.now × AreLast stream.now bytes.now bits) }
     ensures untouched { OnErr result ((room.new ≡ room.old) × (totals.new ≡ totals.old)) }
     ensures refused { IfErr result (λ refusal.
         (IsFollowed rules gaps.now stream.now × AreLast stream.now bytes.now bits
-        × AreTooMany (AreLeft (terms_of rules gaps.now) stream.now bytes.now bits) (length room.old) refusal count.new)
+        × AreTooMany (AreLeft (terms_of rules gaps.now) stream.now bytes.now bits) (length room.old)
+        refusal count.new)
         ⊎ (RefusesEnd rules gaps.now stream.now bytes.now bits refusal × (count.new ≡ count.old))) }
 {
     let (items, found) = left_of(alloc, bytes, bits, gaps, rules, stream)?;
@@ -542,9 +583,12 @@ fn left_of(
     stream: &RdsStream,
 ) -> Result<(Vec<Item>, Totals), Refusal>
     ensures items { IfOk result (λ r. AreLeft (terms_of rules gaps.now) stream.now bytes.now bits r.0.items) }
-    ensures totals { IfOk result (λ r. (before : List ℕ) → HasHeard (the_stream_of (terms_of rules gaps.now) stream.now) before
-        → r.1 ≡ totals_of (report_at (terms_of rules gaps.now) (before ++ bytes.now) (8 * length before + bits))) }
-    ensures lawful { IfOk result (λ _. IsFollowed rules gaps.now stream.now × AreLast stream.now bytes.now bits) }
+    ensures totals { IfOk result
+        (λ r. (before : List ℕ) → HasHeard (the_stream_of (terms_of rules gaps.now) stream.now) before
+        → r.1 ≡ totals_of
+        (report_at (terms_of rules gaps.now) (before ++ bytes.now) (8 * length before + bits))) }
+    ensures lawful { IfOk result
+        (λ _. IsFollowed rules gaps.now stream.now × AreLast stream.now bytes.now bits) }
     ensures refused { IfErr result (RefusesEnd rules gaps.now stream.now bytes.now bits) }
 {
     let told = told_of(alloc, rules, gaps)?;
@@ -602,7 +646,8 @@ fn ended(
 ) -> Result<(Vec<Item>, Totals), StreamError>
     requires { bits ≤ 8 * length bytes.now }
     ensures items { IfOk result (λ r. (before : List ℕ) → HasHeard live.entry before
-        → complete live.entry.terms before ++ r.0.items ≡ report_at live.entry.terms (before ++ bytes.now) (8 * length before + bits)) }
+        → complete live.entry.terms before ++ r.0.items
+        ≡ report_at live.entry.terms (before ++ bytes.now) (8 * length before + bits)) }
     ensures totals { IfOk result (λ r. (before : List ℕ) → HasHeard live.entry before
         → r.1 ≡ totals_of (report_at live.entry.terms (before ++ bytes.now) (8 * length before + bits))) }
 {
@@ -626,7 +671,8 @@ fn push_last(
     requires few { bits ≤ 8 }
     ensures items { OnOk result ((before : List ℕ) (given : List Item) → HasHeard live.entry before
         → complete live.entry.terms before ≡ given ++ items.old.items
-        → given ++ items.new.items ≡ report_at live.entry.terms (before ++ rest.now) (8 * length before + bits)) }
+        → given ++ items.new.items
+        ≡ report_at live.entry.terms (before ++ rest.now) (8 * length before + bits)) }
     ensures totals { IfOk result (λ totals. (before : List ℕ) → HasHeard live.entry before
         → totals ≡ totals_of (report_at live.entry.terms (before ++ rest.now) (8 * length before + bits))) }
 {
@@ -647,7 +693,8 @@ fn push_with(
     requires room { 16 ≤ vec_capacity last.old }
     ensures items { OnOk result ((before : List ℕ) (given : List Item) → HasHeard live.entry before
         → complete live.entry.terms before ≡ given ++ items.old.items
-        → given ++ items.new.items ≡ report_at live.entry.terms (before ++ rest.now) (8 * length before + bits)) }
+        → given ++ items.new.items
+        ≡ report_at live.entry.terms (before ++ rest.now) (8 * length before + bits)) }
     ensures totals { IfOk result (λ totals. (before : List ℕ) → HasHeard live.entry before
         → totals ≡ totals_of (report_at live.entry.terms (before ++ rest.now) (8 * length before + bits))) }
 {

@@ -23,17 +23,25 @@ pub extern "C" fn rds_run(
     room: &mut [RdsItem],
     count: &mut u64,
 ) -> u8
-    ensures filled { result ≡ 0 → IsFilled (items_of_run (asked bytes.now bits gaps.now rules.now) from to state.old) room.old room.new }
-    ensures count { result ≡ 0 → count.new ≡ length (items_of_run (asked bytes.now bits gaps.now rules.now) from to state.old) }
+    ensures filled { result ≡ 0
+        → IsFilled (items_of_run (asked bytes.now bits gaps.now rules.now) from to state.old)
+        room.old room.new }
+    ensures count { result ≡ 0
+        → count.new ≡ length (items_of_run (asked bytes.now bits gaps.now rules.now) from to state.old) }
     ensures state { result ≡ 0 → state_of state.new
         ≡ (run_asked (asked bytes.now bits gaps.now rules.now) from to state.old).0 }
-    ensures laid { result ≡ 0 → state.new ≡ state_in_c (rules_of rules.now) (run_asked (asked bytes.now bits gaps.now rules.now) from to state.old).0 }
+    ensures laid { result ≡ 0
+        → state.new
+        ≡ state_in_c (rules_of rules.now)
+        (run_asked (asked bytes.now bits gaps.now rules.now) from to state.old).0 }
     ensures next { result ≡ 0 → IsLeftState (rules_of rules.now) to state.new }
     ensures lawful { result ≡ 0 → IsRun (asked bytes.now bits gaps.now rules.now) from to state.old }
     ensures refused { result ≢ 0 → RefusedBy (λ refusal.
         (IsRun (asked bytes.now bits gaps.now rules.now) from to state.old
-        × IsTooMuch (items_of_run (asked bytes.now bits gaps.now rules.now) from to state.old) (length room.old) refusal count.new)
-        ⊎ (RefusesRun (asked bytes.now bits gaps.now rules.now) from to state.old refusal × (count.new ≡ count.old))) result }
+        × IsTooMuch (items_of_run (asked bytes.now bits gaps.now rules.now) from to state.old)
+        (length room.old) refusal count.new)
+        ⊎ (RefusesRun (asked bytes.now bits gaps.now rules.now) from to state.old refusal
+        × (count.new ≡ count.old))) result }
     ensures untouched { result ≢ 0 → (room.new ≡ room.old) × (state.new ≡ state.old) }
 {
     match run(
@@ -66,13 +74,17 @@ pub extern "C" fn rds_finish_run(
     room: &mut [RdsItem],
     count: &mut u64,
 ) -> u8
-    ensures filled { result ≡ 0 → IsFilled (items_at_end (asked bytes.now bits gaps.now rules.now) state.now) room.old room.new }
-    ensures count { result ≡ 0 → count.new ≡ length (items_at_end (asked bytes.now bits gaps.now rules.now) state.now) }
+    ensures filled { result ≡ 0
+        → IsFilled (items_at_end (asked bytes.now bits gaps.now rules.now) state.now) room.old room.new }
+    ensures count { result ≡ 0
+        → count.new ≡ length (items_at_end (asked bytes.now bits gaps.now rules.now) state.now) }
     ensures lawful { result ≡ 0 → IsRun (asked bytes.now bits gaps.now rules.now) bits bits state.now }
     ensures refused { result ≢ 0 → RefusedBy (λ refusal.
         (IsRun (asked bytes.now bits gaps.now rules.now) bits bits state.now
-        × IsTooMuch (items_at_end (asked bytes.now bits gaps.now rules.now) state.now) (length room.old) refusal count.new)
-        ⊎ (RefusesRun (asked bytes.now bits gaps.now rules.now) bits bits state.now refusal × (count.new ≡ count.old))) result }
+        × IsTooMuch (items_at_end (asked bytes.now bits gaps.now rules.now) state.now) (length room.old)
+        refusal count.new)
+        ⊎ (RefusesRun (asked bytes.now bits gaps.now rules.now) bits bits state.now refusal
+        × (count.new ≡ count.old))) result }
     ensures untouched { result ≢ 0 → room.new ≡ room.old }
 {
     match finish_run(alloc, bytes, bits, gaps, *rules, *state, room, count) {

@@ -59,7 +59,8 @@ pub extern "C" fn rds_correct(
 pub extern "C" fn rds_encode(groups: &[RdsWords], room: &mut [RdsPacked]) -> u8
     ensures packed { result ≡ 0 → room.new ≡ map packed groups.now ++ drop (length groups.now) room.old }
     ensures lawful { result ≡ 0 → length groups.now ≤ length room.old }
-    ensures refused { result ≢ 0 → RefusedBy (λ refusal. (refusal ≡ SmallRoom) × (length room.old < length groups.now)) result }
+    ensures refused { result ≢ 0
+        → RefusedBy (λ refusal. (refusal ≡ SmallRoom) × (length room.old < length groups.now)) result }
     ensures untouched { result ≢ 0 → room.new ≡ room.old }
 {
     match encode(groups, room) {

@@ -28,26 +28,43 @@ pub extern "C" fn rds_push(
     taken: &mut u64,
     count: &mut u64,
 ) -> u8
-    ensures heard { result ≡ 0 → (before : List ℕ) → HasHeard (stream_of (terms_of rules.now gaps.now) stream.old) before
+    ensures heard { result ≡ 0 → (before : List ℕ)
+        → HasHeard (stream_of (terms_of rules.now gaps.now) stream.old) before
         → HasHeard (stream_of (terms_of rules.now gaps.now) stream.new) (before ++ take taken.new bytes.now) }
-    ensures laid { result ≡ 0 → stream.new ≡ stream_in_c (stream_of (terms_of rules.now gaps.now) stream.new) }
-    ensures items { result ≡ 0 → AreWritten (AreCompleted (terms_of rules.now gaps.now) stream.old (take taken.new bytes.now)) room.old room.new count.new }
-    ensures most { result ≡ 0 → IsMostTaken (stream_of (terms_of rules.now gaps.now) stream.old) bytes.now (length room.old) taken.new }
+    ensures laid { result ≡ 0
+        → stream.new ≡ stream_in_c (stream_of (terms_of rules.now gaps.now) stream.new) }
+    ensures items { result ≡ 0
+        → AreWritten (AreCompleted (terms_of rules.now gaps.now) stream.old (take taken.new bytes.now))
+        room.old room.new count.new }
+    ensures most { result ≡ 0
+        → IsMostTaken (stream_of (terms_of rules.now gaps.now) stream.old) bytes.now (length room.old)
+        taken.new }
     ensures few { result ≡ 0 → count.new ≤ 16 * taken.new }
     ensures next { result ≡ 0 → IsFollowed rules.now gaps.now stream.new }
-    ensures lawful { result ≡ 0 → IsFollowed rules.now gaps.now stream.old × (place_after stream.old bytes.now ≤ 2 ^ 36) }
+    ensures lawful { result ≡ 0
+        → IsFollowed rules.now gaps.now stream.old × (place_after stream.old bytes.now ≤ 2 ^ 36) }
     ensures refused { result ≢ 0 → RefusedBy (λ refusal.
         (IsFollowed rules.now gaps.now stream.old × (place_after stream.old bytes.now ≤ 2 ^ 36)
-        × IsTooMuch (map item_in_c (completed (stream_of (terms_of rules.now gaps.now) stream.old) (take 1 bytes.now))) (length room.old) refusal count.new)
+        × IsTooMuch
+        (map item_in_c
+        (completed (stream_of (terms_of rules.now gaps.now) stream.old) (take 1 bytes.now)))
+        (length room.old) refusal count.new)
         ⊎ (RefusesPush rules.now gaps.now stream.old bytes.now refusal × (count.new ≡ count.old))) result }
     ensures roomy { 16 ≤ length room.old → result ≢ number_of SmallRoom }
-    ensures untouched { result ≢ 0 → (room.new ≡ room.old) × (stream.new ≡ stream.old) × (taken.new ≡ taken.old) }
+    ensures untouched { result ≢ 0
+        → (room.new ≡ room.old) × (stream.new ≡ stream.old) × (taken.new ≡ taken.old) }
 
     // The same of numbers that are lawful and of no stream.
     ensures after { result ≡ 0 → stream_of (terms_of rules.now gaps.now) stream.new
         ≡ live_next (stream_of (terms_of rules.now gaps.now) stream.old) (take taken.new bytes.now) }
-    ensures filled { result ≡ 0 → IsFilled (map item_in_c (completed (stream_of (terms_of rules.now gaps.now) stream.old) (take taken.new bytes.now))) room.old room.new }
-    ensures count { result ≡ 0 → count.new ≡ length (completed (stream_of (terms_of rules.now gaps.now) stream.old) (take taken.new bytes.now)) }
+    ensures filled { result ≡ 0
+        → IsFilled
+        (map item_in_c
+        (completed (stream_of (terms_of rules.now gaps.now) stream.old) (take taken.new bytes.now)))
+        room.old room.new }
+    ensures count { result ≡ 0
+        → count.new
+        ≡ length (completed (stream_of (terms_of rules.now gaps.now) stream.old) (take taken.new bytes.now)) }
 {
     match push(alloc, bytes, gaps, *rules, stream, room, taken, count) {
         Ok(()) => 0,
@@ -68,8 +85,10 @@ pub extern "C" fn rds_finish(
     count: &mut u64,
     totals: &mut RdsTotals,
 ) -> u8
-    ensures items { result ≡ 0 → AreWritten (AreClosed (terms_of rules.now gaps.now) stream.now) room.old room.new count.new }
-    ensures totals { result ≡ 0 → (bytes : List ℕ) → HasHeard (stream_of (terms_of rules.now gaps.now) stream.now) bytes
+    ensures items { result ≡ 0
+        → AreWritten (AreClosed (terms_of rules.now gaps.now) stream.now) room.old room.new count.new }
+    ensures totals { result ≡ 0 → (bytes : List ℕ)
+        → HasHeard (stream_of (terms_of rules.now gaps.now) stream.now) bytes
         → totals.new ≡ totals_in_c (totals_of (report_of (terms_of rules.now gaps.now) bytes)) }
     ensures lawful { result ≡ 0 → IsFollowed rules.now gaps.now stream.now }
     ensures refused { result ≢ 0 → RefusedBy (λ refusal.
@@ -100,14 +119,23 @@ pub extern "C" fn rds_finish_with(
     count: &mut u64,
     totals: &mut RdsTotals,
 ) -> u8
-    ensures items { result ≡ 0 → AreWritten (AreLeft (terms_of rules.now gaps.now) stream.now bytes.now bits) room.old room.new count.new }
-    ensures totals { result ≡ 0 → (before : List ℕ) → HasHeard (stream_of (terms_of rules.now gaps.now) stream.now) before
-        → totals.new ≡ totals_in_c (totals_of (report_at (terms_of rules.now gaps.now) (before ++ bytes.now) (8 * length before + bits))) }
-    ensures lawful { result ≡ 0 → IsFollowed rules.now gaps.now stream.now × AreLast stream.now bytes.now bits }
+    ensures items { result ≡ 0
+        → AreWritten (AreLeft (terms_of rules.now gaps.now) stream.now bytes.now bits)
+        room.old room.new count.new }
+    ensures totals { result ≡ 0 → (before : List ℕ)
+        → HasHeard (stream_of (terms_of rules.now gaps.now) stream.now) before
+        → totals.new
+        ≡ totals_in_c
+        (totals_of
+        (report_at (terms_of rules.now gaps.now) (before ++ bytes.now) (8 * length before + bits))) }
+    ensures lawful { result ≡ 0
+        → IsFollowed rules.now gaps.now stream.now × AreLast stream.now bytes.now bits }
     ensures refused { result ≢ 0 → RefusedBy (λ refusal.
         (IsFollowed rules.now gaps.now stream.now × AreLast stream.now bytes.now bits
-        × AreTooMany (AreLeft (terms_of rules.now gaps.now) stream.now bytes.now bits) (length room.old) refusal count.new)
-        ⊎ (RefusesEnd rules.now gaps.now stream.now bytes.now bits refusal × (count.new ≡ count.old))) result }
+        × AreTooMany (AreLeft (terms_of rules.now gaps.now) stream.now bytes.now bits) (length room.old)
+        refusal count.new)
+        ⊎ (RefusesEnd rules.now gaps.now stream.now bytes.now bits refusal × (count.new ≡ count.old)))
+        result }
     ensures untouched { result ≢ 0 → (room.new ≡ room.old) × (totals.new ≡ totals.old) }
 {
     match finish_with(
